@@ -1,0 +1,83 @@
+-- The sum over a site's neighbours: monotone, additive, and the same on both sides of a product.
+use Rattle.std.proofs.Common.{ℕ, ◌≡◌, ◌+◌, ◌*◌, ◌<◌, ◌≤◌, refl, sym, ◌∙◌, ap, arith, List, [], ◌∷◌, All, sum_by}
+use Rattle.std.proofs.lemmas.List.Sums.{sum_by-cons}
+use Rattle.std.proofs.lemmas.List.Elements.{All-head, All-tail}
+use Rattle.sand_model.specs.Grid.{Grid, sites, neighbours}
+use Rattle.sand_model.specs.Sand.{total, tally, flow, one_at}
+use Rattle.sand_model.proofs.Totals.{total_same, total-add, total-scale, total-zero, total_swap, total-one_at, one_at_comm}
+use Rattle.sand_model.proofs.Neighbours.{neighbours_mutual, neighbours_below}
+
+sum_by_below_le : (n : ℕ) (u v : ℕ → ℕ) → ((j : ℕ) → j < n → u j ≤ v j) → (xs : List ℕ) → All (λ j. j < n) xs → sum_by u xs ≤ sum_by v xs
+sum_by_below_le n u v le [] below = omega arith
+sum_by_below_le n u v le (x ∷ xs) below =
+    let rest = sum_by_below_le n u v le xs (All-tail (λ j. j < n) x xs below) in
+    let here = le x (All-head (λ j. j < n) x xs below) in
+    rw (sum_by-cons u x xs, sum_by-cons v x xs) (omega arith)
+
+sum_by-add : (u v : ℕ → ℕ) (xs : List ℕ) → sum_by (λ j. u j + v j) xs ≡ sum_by u xs + sum_by v xs
+sum_by-add u v [] = refl
+sum_by-add u v (x ∷ xs) =
+    let rest = sum_by-add u v xs in
+    rw (sum_by-cons (λ j. u j + v j) x xs, sum_by-cons u x xs, sum_by-cons v x xs) (omega arith)
+
+sum_by-scale : (c : ℕ) (u : ℕ → ℕ) (xs : List ℕ) → sum_by (λ j. c * u j) xs ≡ c * sum_by u xs
+sum_by-scale c u [] = omega arith
+sum_by-scale c u (x ∷ xs) =
+    let rest = sum_by-scale c u xs in
+    rw (sum_by-cons (λ j. c * u j) x xs, sum_by-cons u x xs) (omega arith)
+
+-- a sum over a list of sites, as a sum over all sites
+sum_by_spread : (n : ℕ) (u : ℕ → ℕ) (xs : List ℕ) → All (λ j. j < n) xs → sum_by u xs ≡ total n (λ j. u j * tally xs j)
+sum_by_spread n u [] below = sym (total_same n (λ j. u j * 0) (λ j. 0) (λ j l. omega arith) ∙ total-zero n)
+sum_by_spread n u (x ∷ xs) below =
+    let rest = sum_by_spread n u xs (All-tail (λ j. j < n) x xs below) in
+    let here = total-one_at n x u (All-head (λ j. j < n) x xs below) in
+    let both = total-add n (λ j. u j * one_at x j) (λ j. u j * tally xs j) in
+    let cons : total n (λ j. u j * tally (x ∷ xs) j) ≡ total n (λ j. u j * one_at x j + u j * tally xs j) =
+    total_same n (λ j. u j * tally (x ∷ xs) j) (λ j. u j * one_at x j + u j * tally xs j)
+    (λ j l. let c = sum_by-cons (λ k. one_at k j) x xs in rw c (omega arith)) in
+    sum_by-cons u x xs ∙ (omega arith)
+
+pub flow_le : (g : Grid) (u v : ℕ → ℕ) → ((j : ℕ) → j < sites g → u j ≤ v j) → (i : ℕ) → i < sites g → flow g u i ≤ flow g v i
+unfolding flow
+flow_le g u v le i l = sum_by_below_le (sites g) u v le (neighbours g i) (neighbours_below g i l)
+
+pub flow_same : (g : Grid) (u v : ℕ → ℕ) → ((j : ℕ) → j < sites g → u j ≡ v j) → (i : ℕ) → i < sites g → flow g u i ≡ flow g v i
+flow_same g u v same i l =
+    let up = flow_le g u v (λ j m. let e = same j m in omega arith) i l in
+    let down = flow_le g v u (λ j m. let e = same j m in omega arith) i l in
+    omega arith
+
+pub flow-add : (g : Grid) (u v : ℕ → ℕ) (i : ℕ) → flow g (λ j. u j + v j) i ≡ flow g u i + flow g v i
+unfolding flow
+flow-add g u v i = sum_by-add u v (neighbours g i)
+
+pub flow-scale : (g : Grid) (c : ℕ) (u : ℕ → ℕ) (i : ℕ) → flow g (λ j. c * u j) i ≡ c * flow g u i
+unfolding flow
+flow-scale g c u i = sum_by-scale c u (neighbours g i)
+
+flow_spread : (g : Grid) (u : ℕ → ℕ) (i : ℕ) → i < sites g → flow g u i ≡ total (sites g) (λ j. u j * tally (neighbours g i) j)
+unfolding flow
+flow_spread g u i l = sum_by_spread (sites g) u (neighbours g i) (neighbours_below g i l)
+
+-- the sums of f * flow u and of u * flow f are one
+pub flow_self_adjoint : (g : Grid) (f u : ℕ → ℕ) → total (sites g) (λ i. f i * flow g u i) ≡ total (sites g) (λ i. u i * flow g f i)
+flow_self_adjoint g f u =
+    total_same (sites g) (λ i. f i * flow g u i) (λ i. total (sites g) (λ j. f i * (u j * tally (neighbours g i) j)))
+    (λ i l. ap (λ k. f i * k) (flow_spread g u i l) ∙ sym (total-scale (sites g) (f i) (λ j. u j * tally (neighbours g i) j)))
+    ∙ total_swap (sites g) (sites g) (λ i j. f i * (u j * tally (neighbours g i) j))
+    ∙ total_same (sites g) (λ j. total (sites g) (λ i. f i * (u j * tally (neighbours g i) j))) (λ j. u j * flow g f j)
+    (λ j m.
+    total_same (sites g) (λ i. f i * (u j * tally (neighbours g i) j)) (λ i. u j * (f i * tally (neighbours g j) i))
+    (λ i l. let both = neighbours_mutual g i j l m in rw both (omega arith))
+    ∙ total-scale (sites g) (u j) (λ i. f i * tally (neighbours g j) i)
+    ∙ ap (λ k. u j * k) (sym (flow_spread g f j m)))
+
+flow_mutual : (g : Grid) (i j : ℕ) → i < sites g → j < sites g → flow g (λ k. one_at k j) i ≡ flow g (λ k. one_at k i) j
+unfolding flow
+flow_mutual g i j li lj = neighbours_mutual g i j li lj
+
+-- what one toppling at i brings to j is what j's place is among the neighbours of i
+pub flow-one_at : (g : Grid) (i j : ℕ) → i < sites g → j < sites g → flow g (one_at i) j ≡ flow g (λ k. one_at k j) i
+flow-one_at g i j li lj =
+    flow_same g (one_at i) (λ k. one_at k i) (λ k m. one_at_comm i k) j lj ∙ flow_mutual g j i lj li

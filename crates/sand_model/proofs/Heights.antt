@@ -1,0 +1,76 @@
+-- Lists of heights, one for each site.
+use Rattle.std.proofs.Common.{ℕ, zero, suc, ◌≡◌, ◌+◌, ◌-◌, ◌*◌, ◌<◌, ◌≤◌, refl, sym, ◌∙◌, ap, arith, List, [], ◌∷◌, length, sum, Option, None, get_or, ⊎_elim}
+use Rattle.std.proofs.Math.ListN.{set}
+use Rattle.std.proofs.lemmas.Bool.{cases_eq, eq-eqb}
+use Rattle.std.proofs.lemmas.List.{get_or-set_same, get_or-set_other}
+use Rattle.std.proofs.lemmas.List.Sums.{sum_by-cons}
+use Rattle.sand_model.specs.Grid.{Grid, sites, places, missing}
+use Rattle.sand_model.specs.Sand.{total, one_at, value_at, grains, lost, IsToppled}
+use Rattle.sand_model.proofs.Totals.{total_same, total-scale, total-one_at, one_at_other}
+use Rattle.sand_model.proofs.Neighbours.{flow_four}
+use Rattle.sand_model.proofs.Flow.{flow-one_at, flow-scale}
+use Rattle.sand_model.proofs.Sandpile.{laplacian_sum}
+
+total-first : (n : ℕ) (f : ℕ → ℕ) → total (suc n) f ≡ f 0 + total n (λ i. f (suc i))
+unfolding total
+total-first zero f = omega arith
+total-first (suc n) f = let rest = total-first n f in omega arith
+
+-- the sum of a list is the sum over its places
+pub sum_is_total : (xs : List ℕ) → sum xs ≡ total (length xs) (λ i. get_or xs i 0)
+unfolding total
+sum_is_total [] = refl
+sum_is_total (x ∷ xs) =
+    sum_by-cons (λ y. y) x xs ∙ ap (λ k. x + k) (sum_is_total xs) ∙ sym (total-first (length xs) (λ i. get_or (x ∷ xs) i 0))
+
+pub sum_is_grains : (g : Grid) (xs : List ℕ) → length xs ≡ sites g → sum xs ≡ grains g (λ i. get_or xs i 0)
+sum_is_grains g xs e = sum_is_total xs ∙ ap (λ n. total n (λ i. get_or xs i 0)) e
+
+pub lost_at : (g : Grid) (i t : ℕ) → i < sites g → lost g (λ j. t * one_at i j) ≡ t * missing g i
+lost_at g i t l =
+    total_same (sites g) (λ j. missing g j * (t * one_at i j)) (λ j. t * (missing g j * one_at i j)) (λ j m. omega arith)
+    ∙ total-scale (sites g) t (λ j. missing g j * one_at i j)
+    ∙ ap (λ k. t * k) (total-one_at (sites g) i (missing g) l)
+
+-- the heights after a site gave t to each of its places
+pub spread_toppled : (g : Grid) (i t : ℕ) (h k : List ℕ) (ps : List (Option ℕ)) → ps ≡ places g i → i < sites g → length h ≡ sites g → 4 * t ≤ get_or h i 0 → ((j : ℕ) → get_or k j 0 ≡ get_or (set h i (get_or h i 0 - 4 * t)) j 0 + t * value_at (λ m. one_at m j) (get_or ps 0 None) + t * value_at (λ m. one_at m j) (get_or ps 1 None) + t * value_at (λ m. one_at m j) (get_or ps 2 None) + t * value_at (λ m. one_at m j) (get_or ps 3 None)) → IsToppled g (λ j. get_or h j 0) (λ j. t * one_at i j) (λ j. get_or k j 0)
+spread_toppled g i t h k ps e l len high after = record {
+  balance = λ j m.
+      let four = flow_four g (λ q. one_at q j) i in
+      let turned = flow-one_at g i j l m in
+      let scaled = flow-scale g t (one_at i) j in
+      let here = rw e at after j in
+      let parts = ap (λ q. t * q) (turned ∙ four) in
+      ⊎_elim
+      (λ (same : i ≡ j).
+      let own : one_at i j ≡ 1 = rw (eq-eqb i j same) in
+      let times = ap (λ q. t * q) own in
+      let inside : i < length h = omega arith in
+      let set_here : get_or (set h i (get_or h i 0 - 4 * t)) j 0 ≡ get_or h i 0 - 4 * t = rw (← same) (get_or-set_same h i (get_or h i 0 - 4 * t) 0 inside) in
+      let height = ap (λ q. get_or h q 0) same in
+      omega arith)
+      (λ (ne : i ≡ j → ⊥).
+      let none = one_at_other i j ne in
+      let times = ap (λ q. t * q) none in
+      let kept = get_or-set_other h i j (get_or h i 0 - 4 * t) 0 (λ q. ne (sym q)) in
+      omega arith)
+      (cases_eq i j);
+}
+
+-- one toppling is one time the toppling of one site
+pub toppled_once : (g : Grid) (i : ℕ) (h k : List ℕ) → IsToppled g (λ j. get_or h j 0) (λ j. 1 * one_at i j) (λ j. get_or k j 0) → IsToppled g (λ j. get_or h j 0) (one_at i) (λ j. get_or k j 0)
+toppled_once g i h k done = record {
+  balance = λ j l.
+      let e = done.balance j l in
+      let around = flow-scale g 1 (one_at i) j in
+      omega arith;
+}
+
+-- the grains that one toppling leaves
+pub spread_sum : (g : Grid) (i : ℕ) (h k : List ℕ) → i < sites g → length h ≡ sites g → length k ≡ sites g → IsToppled g (λ j. get_or h j 0) (one_at i) (λ j. get_or k j 0) → sum k + missing g i ≡ sum h
+spread_sum g i h k l lh lk done =
+    let all = laplacian_sum g (λ j. get_or h j 0) (one_at i) (λ j. get_or k j 0) done in
+    let before = sum_is_grains g h lh in
+    let after = sum_is_grains g k lk in
+    let out = total-one_at (sites g) i (missing g) l in
+    omega arith

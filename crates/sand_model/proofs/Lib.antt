@@ -1,0 +1,6 @@
+pub mod Totals
+pub mod Neighbours
+pub mod Flow
+pub mod Sandpile
+pub mod Heights
+pub mod IntegerFlow

@@ -1,0 +1,18 @@
+use Rattle.std.proofs.Common.{drop, length, arith, sum, ap}
+use Rattle.std.proofs.lemmas.List.{take_at}
+use Rattle.sand_model.proofs.pile.topple.Goals as goal
+
+pub overflow_sub-pile : goal.overflow_sub-pile
+overflow_sub-pile c = omega (arith, c.pile.invariant.1, c.spread.ensures.total, ap sum c.deref_mut.ensures.value)
+
+pub invariant_of-pile : goal.invariant_of-pile
+invariant_of-pile c =
+    let back = take_at c.spread.new.heights (drop (length c.spread.new.heights) c.pile.inside.heights.items) c.pile.inside.heights.len (omega (arith, c.deref_mut.ensures.len)) in
+    rw back (
+      record {
+        grid = c.pile.invariant.0.grid;
+        one_each = omega (arith, ap length c.deref_mut.ensures.value, c.pile.invariant.0.one_each);
+        limit = omega (arith, c.spread.ensures.total, c.pile.invariant.0.limit, ap sum c.deref_mut.ensures.value);
+      },
+      omega (arith, c.pile.invariant.1, c.spread.ensures.total, ap sum c.deref_mut.ensures.value),
+    )

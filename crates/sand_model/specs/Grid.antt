@@ -1,0 +1,72 @@
+-- The sites of a grid, and which of them are neighbours.
+-- Source: Bak, Tang and Wiesenfeld 1987 (open edges); the cylinder joins the west and the east end of each row.
+use Rattle.std.specs.Prelude.{ℕ, Bool, true, false, ◌≡◌, ◌+◌, ◌-◌, ◌*◌, ◌/◌, ◌%◌, ◌≤◌, List, [], ◌∷◌, Option, Some, None, Result, Ok, Err, nat_lt, nat_le, if◌then◌else◌, length, ◌&&◌}
+use Rattle.std.specs.List.{filter_map}
+use Rattle.sand_model.specs.declared.shape.Edge.{Edge}
+use Rattle.sand_model.specs.declared.shape.Edge.TheVariants.{Open, Cylinder}
+use Rattle.sand_model.specs.declared.faults.ShapeFault.{ShapeFault}
+use Rattle.sand_model.specs.declared.faults.ShapeFault.TheVariants.{Side, Narrow}
+
+-- a grid of sites, numbered row by row from the north-west corner
+pub record Grid : Type 0 where
+  pub width : ℕ
+  pub height : ℕ
+  pub edge : Edge
+
+-- whether the west and the east end of a row are neighbours
+abbrev pub joins : Edge → Bool
+joins Open = false
+joins Cylinder = true
+
+abbrev pub sites : Grid → ℕ
+sites g = g.width * g.height
+
+-- each side is from 1 to 256, and a cylinder is at least 3 wide
+pub record IsGrid (g : Grid) : Type 0 where
+  pub some_width : 1 ≤ g.width
+  pub width_limit : g.width ≤ 256
+  pub some_height : 1 ≤ g.height
+  pub height_limit : g.height ≤ 256
+  pub wide : joins g.edge ≡ true → 3 ≤ g.width
+
+abbrev pub is_side : ℕ → Bool
+is_side n = nat_le 1 n && nat_le n 256
+
+-- the grid with these sides and this edge, or the fault that it would have
+abbrev pub grid_of : ℕ → ℕ → Edge → Result Grid ShapeFault
+grid_of w h edge = if is_side w && is_side h then (if joins edge && nat_lt w 3 then Err Narrow else Ok (record { width = w; height = h; edge = edge })) else Err Side
+
+abbrev pub column : Grid → ℕ → ℕ
+column g i = i % g.width
+
+abbrev pub row : Grid → ℕ → ℕ
+row g i = i / g.width
+
+-- the site in column x and row y
+abbrev pub site_at : Grid → ℕ → ℕ → Option ℕ
+site_at g x y = if nat_lt x g.width && nat_lt y g.height then Some (y * g.width + x) else None
+
+-- the places round a site, where they are in the grid
+unfoldable pub north : Grid → ℕ → Option ℕ
+north g i = if nat_lt 0 (row g i) then Some (i - g.width) else None
+
+unfoldable pub west : Grid → ℕ → Option ℕ
+west g i = if nat_lt 0 (column g i) then Some (i - 1) else (if joins g.edge then Some (i + (g.width - 1)) else None)
+
+unfoldable pub east : Grid → ℕ → Option ℕ
+east g i = if nat_lt (column g i + 1) g.width then Some (i + 1) else (if joins g.edge then Some (i - (g.width - 1)) else None)
+
+unfoldable pub south : Grid → ℕ → Option ℕ
+south g i = if nat_lt (row g i + 1) g.height then Some (i + g.width) else None
+
+-- the four places round a site, in the order in which they are named
+abbrev pub places : Grid → ℕ → List (Option ℕ)
+places g i = north g i ∷ west g i ∷ east g i ∷ south g i ∷ []
+
+-- the neighbours of a site: those of its places that are in the grid
+unfoldable pub neighbours : Grid → ℕ → List ℕ
+neighbours g i = filter_map (λ p. p) (places g i)
+
+-- how many of a site's places are outside the grid, in the sink
+unfoldable pub missing : Grid → ℕ → ℕ
+missing g i = 4 - length (neighbours g i)

@@ -1,0 +1,51 @@
+-- The laws of toppling, over all grids and all piles.
+use Rattle.std.specs.Prelude.{ℕ, ℤ, pos, ◌≡◌, ◌+◌, ◌*◌, ◌<◌, ◌≤◌, ◌↔◌, ◌+ℤ◌, ◌-ℤ◌, ◌*ℤ◌, ◌≤ℤ◌, List, [], ◌∷◌}
+use Rattle.sand_model.specs.Grid.{Grid, sites, missing}
+use Rattle.sand_model.specs.Sand.{flow, tally, one_at, IsToppled, Stabilises, IsSettled, grains, lost, weight}
+use Rattle.sand_model.specs.Integers.{laplacian, total_over, whole, IsEquivalent}
+
+-- after each site toppled u times, the site i may topple: s - Lu is 4 or more there
+pub record MayTopple (g : Grid) (s u : ℕ → ℕ) (i : ℕ) : Type 0 where
+  pub site : i < sites g
+  pub high : 4 * u i + 4 ≤ s i + flow g u i
+
+-- the sites of the list topple one after another, and each may when its turn comes
+abbrev pub AreLegal : Grid → (ℕ → ℕ) → (ℕ → ℕ) → List ℕ → Type 0
+AreLegal g s u [] = Unit {0}
+AreLegal g s u (i ∷ order) = MayTopple g s u i × AreLegal g s (λ j. u j + one_at i j) order
+
+-- legal topplings stay at or below whatever stabilises the pile
+abbrev pub LeastAction : Type 0
+LeastAction = (g : Grid) (s w : ℕ → ℕ) (order : List ℕ) → AreLegal g s (λ j. 0) order → Stabilises g s w → (i : ℕ) → i < sites g → tally order i ≤ w i
+
+-- one toppling lowers the weight by 2 at least
+abbrev pub WeightFalls : Type 0
+WeightFalls = (g : Grid) (s t : ℕ → ℕ) (i : ℕ) → i < sites g → IsToppled g s (one_at i) t → weight g t + 2 ≤ weight g s
+
+-- the grains before are the grains after and the grains lost
+abbrev pub LaplacianSum : Type 0
+LaplacianSum = (g : Grid) (s u t : ℕ → ℕ) → IsToppled g s u t → grains g s ≡ grains g t + lost g u
+
+-- the same over the whole numbers, for every u, legal or not
+abbrev pub LaplacianSumOverIntegers : Type 0
+LaplacianSumOverIntegers = (g : Grid) (s u : ℕ → ℤ) → total_over (sites g) s ≡ total_over (sites g) (λ i. s i -ℤ laplacian g u i) +ℤ total_over (sites g) (λ i. pos (missing g i) *ℤ u i)
+
+-- settling in two parts is settling at once, and the odometers add
+abbrev pub Abelian : Type 0
+Abelian = (g : Grid) (a b u t v r : ℕ → ℕ) → IsSettled g a u t → IsSettled g (λ i. t i + b i) v r → IsSettled g (λ i. a i + b i) (λ i. u i + v i) r
+
+-- a pile has one odometer and one settled pile
+abbrev pub SettledOnce : Type 0
+SettledOnce = (g : Grid) (s u v t r : ℕ → ℕ) → IsSettled g s u t → IsSettled g s v r → (i : ℕ) → i < sites g → (u i ≡ v i) × (t i ≡ r i)
+
+-- t = s - Lu over the whole numbers
+abbrev pub ToppledOverIntegers : Type 0
+ToppledOverIntegers = (g : Grid) (s u t : ℕ → ℕ) → IsToppled g s u t ↔ ((i : ℕ) → i < sites g → pos (t i) ≡ pos (s i) -ℤ laplacian g (whole u) i)
+
+-- s - Lu ≤ 3 over the whole numbers
+abbrev pub StabilisesOverIntegers : Type 0
+StabilisesOverIntegers = (g : Grid) (s u : ℕ → ℕ) → Stabilises g s u ↔ ((i : ℕ) → i < sites g → (pos (s i) -ℤ laplacian g (whole u) i) ≤ℤ pos 3)
+
+-- a pile and its settled pile are equivalent
+abbrev pub SettledIsEquivalent : Type 0
+SettledIsEquivalent = (g : Grid) (s u t : ℕ → ℕ) → IsSettled g s u t → IsEquivalent g (whole s) (whole t)

@@ -1,0 +1,6 @@
+pub mod Grid
+pub mod Sand
+pub mod Integers
+pub mod Piles
+pub mod Laws
+pub mod Faults

@@ -1,0 +1,18 @@
+-- What contracts see of a pile: its grid, and the list of its heights by site.
+use Rattle.std.specs.Prelude.{ℕ, ◌≡◌, ◌≤◌, List, length, sum, slice_index}
+use Rattle.sand_model.specs.declared.pile.TheConstants.{GRAIN_LIMIT}
+use Rattle.sand_model.specs.Grid.{Grid, IsGrid, sites}
+
+pub record PileView : Type 0 where
+  pub grid : Grid
+  pub heights : List ℕ
+
+-- the height of each site
+abbrev pub height_of : PileView → ℕ → ℕ
+height_of p = slice_index p.heights
+
+-- one height for each site, and no more grains than the limit
+pub record IsPile (p : PileView) : Type 0 where
+  pub grid : IsGrid p.grid
+  pub one_each : length p.heights ≡ sites p.grid
+  pub limit : sum p.heights ≤ GRAIN_LIMIT

@@ -1,0 +1,66 @@
+-- Numbers over the sites of a grid: topplings, what stabilises, the least odometer.
+-- Sources: Dhar 1990 (the toppling matrix), and for the least odometer the least action principle of chip-firing
+-- (Fey, Levine and Peres 2010). A list of heights is read as its numbers by site, and is 0 past its end.
+use Rattle.std.specs.Prelude.{ℕ, zero, suc, ◌≡◌, ◌+◌, ◌-◌, ◌*◌, ◌<◌, ◌≤◌, List, sum_by, count_by, ◌==◌, if◌then◌else◌, Option, Some, None}
+use Rattle.sand_model.specs.Grid.{Grid, sites, neighbours, missing, row}
+
+-- the sum of f over the numbers below n
+unfoldable pub total : ℕ → (ℕ → ℕ) → ℕ
+total zero f = 0
+total (suc n) f = total n f + f n
+
+-- how often a site stands in a list of sites
+abbrev pub tally : List ℕ → ℕ → ℕ
+tally history i = count_by (λ j. j == i) history
+
+-- 1 at the site k, and 0 elsewhere
+abbrev pub one_at : ℕ → ℕ → ℕ
+one_at k j = if k == j then 1 else 0
+
+-- u at a place, and 0 in the sink
+abbrev pub value_at : (ℕ → ℕ) → Option ℕ → ℕ
+value_at u None = 0
+value_at u (Some i) = u i
+
+-- the sum of u over the neighbours of a site: what it gains when each of them topples u times
+unfoldable pub flow : Grid → (ℕ → ℕ) → ℕ → ℕ
+flow g u i = sum_by u (neighbours g i)
+
+-- no site may topple
+pub record IsStable (g : Grid) (s : ℕ → ℕ) : Type 0 where
+  pub low : (i : ℕ) → i < sites g → s i ≤ 3
+
+-- toppling each site u times turns s into t: t = s - Lu, where (Lu)(i) = 4 * u(i) - flow u i
+pub record IsToppled (g : Grid) (s u t : ℕ → ℕ) : Type 0 where
+  pub balance : (i : ℕ) → i < sites g → t i + 4 * u i ≡ s i + flow g u i
+
+-- s - Lu is at most 3 at each site; it may be negative somewhere, and no legal topplings need lead there
+pub record Stabilises (g : Grid) (s u : ℕ → ℕ) : Type 0 where
+  pub at_most_three : (i : ℕ) → i < sites g → s i + flow g u i ≤ 4 * u i + 3
+
+-- u is the least that stabilises s
+pub record IsLeast (g : Grid) (s u : ℕ → ℕ) : Type 0 where
+  pub stabilises : Stabilises g s u
+  pub least : (w : ℕ → ℕ) → Stabilises g s w → (i : ℕ) → i < sites g → u i ≤ w i
+
+-- t is the settled pile of s, and u is its odometer
+pub record IsSettled (g : Grid) (s u t : ℕ → ℕ) : Type 0 where
+  pub toppled : IsToppled g s u t
+  pub odometer : IsLeast g s u
+
+abbrev pub grains : Grid → (ℕ → ℕ) → ℕ
+grains g s = total (sites g) s
+
+abbrev pub topplings : Grid → (ℕ → ℕ) → ℕ
+topplings g u = total (sites g) u
+
+-- the grains that fall into the sink
+abbrev pub lost : Grid → (ℕ → ℕ) → ℕ
+lost g u = total (sites g) (λ i. missing g i * u i)
+
+-- what a grain weighs: (y + 1) * (height - y), in row y
+unfoldable pub grain_weight : Grid → ℕ → ℕ
+grain_weight g i = (row g i + 1) * (g.height - row g i)
+
+abbrev pub weight : Grid → (ℕ → ℕ) → ℕ
+weight g s = total (sites g) (λ i. s i * grain_weight g i)

@@ -1,0 +1,70 @@
+//! Why a shape, a pile or a toppling was refused, with the number of each fault.
+
+use std::alloc::AllocError;
+use thiserror::Error;
+
+/// Why a shape was not made.
+#[derive(Clone, Copy, Debug, PartialEq, Eq, Error)]
+pub enum ShapeFault {
+    #[error("width or height outside 1 to 256")]
+    Side,
+    #[error("a cylinder of width below 3")]
+    Narrow,
+}
+
+/// Why a pile was not made or not changed.
+#[derive(Debug, Drop, Error)]
+pub enum PileFault {
+    #[error("wrong number of heights")]
+    Length,
+    #[error("more grains than the limit")]
+    TooManyGrains,
+    #[error(transparent)]
+    Memory(AllocError),
+}
+
+/// Why a site did not topple.
+#[derive(Clone, Copy, Debug, PartialEq, Eq, Error)]
+pub enum ToppleFault {
+    #[error("height below 4")]
+    TooLow,
+}
+
+impl ShapeFault {
+    ghost use Rattle.std.specs.Prelude.{◌≡◌};
+    ghost use Rattle.sand_model.specs.Faults.{shape_fault_number};
+
+    pub fn number(self) -> u32
+        ensures { result ≡ shape_fault_number self }
+    {
+        match self {
+            ShapeFault::Side => 1,
+            ShapeFault::Narrow => 24,
+        }
+    }
+}
+
+impl PileFault {
+    ghost use Rattle.std.specs.Prelude.{◌≡◌};
+    ghost use Rattle.sand_model.specs.Faults.{pile_fault_number};
+
+    pub fn number(&self) -> u32
+        ensures { result ≡ pile_fault_number self.now }
+    {
+        match self {
+            PileFault::Length => 2,
+            PileFault::TooManyGrains => 3,
+            PileFault::Memory(_) => 4,
+        }
+    }
+}
+
+impl ToppleFault {
+    ghost use Rattle.std.specs.Prelude.{◌≡◌};
+
+    pub fn number(self) -> u32
+        ensures { result ≡ 5 }
+    {
+        5
+    }
+}

@@ -1,0 +1,204 @@
+//! Piles of grains on the sites of a grid, and the toppling of one site.
+
+ghost use Rattle.std.specs.Prelude.{◌≡◌, ◌≢◌, ℕ, ◌+◌, ◌*◌, ◌<◌, ◌≤◌, ◌↔◌, length, sum, slice_index, slice_set, IfOk, IfErr, IsErr, OnErr, OnOk, IfSome, IsTrue, All};
+ghost use Rattle.sand_model.specs.Grid.{sites, missing};
+ghost use Rattle.sand_model.specs.Sand.{IsToppled, IsStable, one_at, value_at};
+ghost use Rattle.sand_model.specs.Piles.{IsPile, height_of};
+
+use crate::faults::{PileFault, ToppleFault};
+use crate::shape::Shape;
+use std::alloc::Global;
+use std::marker::Model;
+
+/// The most grains that a pile holds, 2^40 - 1.
+pub const GRAIN_LIMIT: u64 = 1_099_511_627_775;
+
+/// The height at which a site may topple: it then loses as many grains.
+pub const TOPPLING_HEIGHT: u64 = 4;
+
+/// A pile: a height for each site of a shape, with at most `GRAIN_LIMIT` grains in all.
+#[derive(Debug, Drop)]
+pub struct Pile {
+    shape: Shape,
+    grains: u64,
+    heights: Vec<u64>,
+}
+
+impl Model for Pile {
+    ghost use Rattle.std.specs.Prelude.{◌≡◌, sum};
+    ghost use Rattle.sand_model.specs.Piles.{PileView, IsPile};
+
+    ghost Value = { PileView };
+
+    ghost view = { λ p. record { grid = p.shape; heights = p.heights.items } };
+
+    ghost invariant = { λ p. IsPile (record { grid = p.shape; heights = p.heights.items }) × (p.grains ≡ sum p.heights.items) };
+}
+
+impl Pile {
+    ghost use Rattle.std.specs.Prelude.{IsOkUnless, alloc_error};
+
+    /// A pile with these heights, by site. Refuses a list of another length than the shape has sites (Length), then
+    /// more grains than the limit (TooManyGrains), then Memory.
+    pub fn new(alloc: Global, shape: Shape, heights: &[u64]) -> Result<Pile, PileFault>
+        ensures made { IfOk result (λ p. p ≡ record { grid = shape; heights = heights.now }) }
+        ensures length { (result ≡ Err PileFault.Length) ↔ (length heights.now ≢ sites shape) }
+        ensures limit { (result ≡ Err PileFault.TooManyGrains) ↔ ((length heights.now ≡ sites shape) × (GRAIN_LIMIT < sum heights.now)) }
+    {
+        if heights.len() != shape.sites() {
+            return Err(PileFault::Length);
+        }
+        let mut grains: u64 = 0;
+        for height in heights {
+            if *height > GRAIN_LIMIT - grains {
+                return Err(PileFault::TooManyGrains);
+            }
+            grains += *height;
+        }
+        let heights = Vec::from_slice(alloc, heights).map_err(PileFault::Memory)?;
+        Ok(Pile {
+            shape,
+            grains,
+            heights,
+        })
+    }
+
+    /// A pile of the list itself.
+    pub fn from_vec(shape: Shape, heights: Vec<u64>) -> Pile
+        requires one_each { length heights.items ≡ sites shape }
+        requires limit { sum heights.items ≤ GRAIN_LIMIT }
+        ensures { result ≡ record { grid = shape; heights = heights.items } }
+    {
+        let mut grains: u64 = 0;
+        for height in &heights {
+            grains += *height;
+        }
+        let _ = shape.sites();
+        Pile {
+            shape,
+            grains,
+            heights,
+        }
+    }
+
+    pub fn shape(&self) -> Shape
+        ensures value { result ≡ self.now.grid }
+        ensures pile { IsPile self.now }
+    {
+        self.shape
+    }
+
+    pub fn height(&self, site: usize) -> u64
+        requires { site < sites self.now.grid }
+        ensures { result ≡ height_of self.now site }
+    {
+        self.heights[site]
+    }
+
+    /// The heights by site.
+    pub fn heights(&self) -> &[u64]
+        ensures value { result.now ≡ self.now.heights }
+        ensures pile { IsPile self.now }
+    {
+        self.heights.as_slice()
+    }
+
+    /// The sum of the heights.
+    pub fn grains(&self) -> u64
+        ensures value { result ≡ sum self.now.heights }
+        ensures pile { IsPile self.now }
+    {
+        self.grains
+    }
+
+    /// Whether no site may topple.
+    pub fn is_stable(&self) -> bool
+        ensures { IsTrue result ↔ IsStable self.now.grid (height_of self.now) }
+    {
+        are_low(self.heights.as_slice())
+    }
+
+    pub fn copy(&self, alloc: Global) -> Result<Pile, PileFault>
+        ensures made { IfOk result (λ p. p ≡ self.now) }
+        ensures memory { IsOkUnless result (PileFault.Memory alloc_error) }
+    {
+        let heights = Vec::from_slice(alloc, self.heights.as_slice()).map_err(PileFault::Memory)?;
+        Ok(Pile {
+            shape: self.shape,
+            grains: self.grains,
+            heights,
+        })
+    }
+
+    /// Adds one grain at a site. Refuses where the pile has as many grains as the limit (TooManyGrains), and then
+    /// leaves the pile as it was.
+    pub fn add_grain(&mut self, site: usize) -> Result<(), PileFault>
+        requires { site < sites self.old.grid }
+        ensures ok { OnOk result (self.new ≡ record self.old { heights = slice_set self.old.heights site (height_of self.old site + 1) }) }
+        ensures limit { IsErr result ↔ (sum self.old.heights ≡ GRAIN_LIMIT) }
+        ensures fault { IfErr result (λ e. e ≡ PileFault.TooManyGrains) }
+        ensures unchanged { OnErr result (self.new ≡ self.old) }
+    {
+        if self.grains == GRAIN_LIMIT {
+            return Err(PileFault::TooManyGrains);
+        }
+        self.heights[site] += 1;
+        self.grains += 1;
+        Ok(())
+    }
+}
+
+// Whether each height is at most 3.
+fn are_low(heights: &[u64]) -> bool
+    ensures { IsTrue result ↔ All (λ h. h ≤ 3) heights.now }
+{
+    heights.iter().all(|height| *height < TOPPLING_HEIGHT)
+}
+
+// Adds a grain at a place, where that is in the grid.
+fn give(heights: &mut [u64], place: Option<usize>)
+    requires inside { IfSome place (λ j. j < length heights.old) }
+    requires room { sum heights.old + 1 ≤ GRAIN_LIMIT }
+    ensures each { (j : ℕ) → slice_index heights.new j ≡ slice_index heights.old j + value_at (λ k. one_at k j) place }
+    ensures total { sum heights.new ≤ sum heights.old + 1 }
+{
+    if let Some(j) = place {
+        heights[j] += 1;
+    }
+}
+
+// Takes 4 grains from a site, and gives one to each of its places.
+fn spread(shape: Shape, heights: &mut [u64], site: usize)
+    requires one_each { length heights.old ≡ sites shape }
+    requires site { site < sites shape }
+    requires high { 4 ≤ slice_index heights.old site }
+    requires limit { sum heights.old ≤ GRAIN_LIMIT }
+    ensures toppled { IsToppled shape (slice_index heights.old) (one_at site) (slice_index heights.new) }
+    ensures total { sum heights.new + missing shape site ≡ sum heights.old }
+{
+    let [north, west, east, south] = shape.neighbours(site);
+    heights[site] -= TOPPLING_HEIGHT;
+    give(heights, north);
+    give(heights, west);
+    give(heights, east);
+    give(heights, south);
+}
+
+/// Topples a site once, and answers the grains lost, 0 to 4. Refuses a height below 4 (TooLow), and then leaves the
+/// pile as it was.
+pub fn topple(pile: &mut Pile, site: usize) -> Result<u8, ToppleFault>
+    requires { site < sites pile.old.grid }
+    ensures shape { pile.new.grid ≡ pile.old.grid }
+    ensures low { IsErr result ↔ (height_of pile.old site < 4) }
+    ensures unchanged { OnErr result (pile.new ≡ pile.old) }
+    ensures toppled { OnOk result (IsToppled pile.old.grid (height_of pile.old) (one_at site) (height_of pile.new)) }
+    ensures lost { IfOk result (λ n. n ≡ missing pile.old.grid site) }
+{
+    if pile.heights[site] < TOPPLING_HEIGHT {
+        return Err(ToppleFault::TooLow);
+    }
+    let lost = pile.shape.missing(site);
+    spread(pile.shape, &mut pile.heights, site);
+    pile.grains -= u64::from(lost);
+    Ok(lost)
+}

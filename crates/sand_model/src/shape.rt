@@ -1,0 +1,195 @@
+//! The shape of a grid: its sides, its edge, its sites and their neighbours.
+//!
+//! Sites are numbered row by row from the north-west corner: the site in column `x` and row `y` is `y * width + x`.
+
+ghost use Rattle.std.specs.Prelude.{◌≡◌, ◌<◌};
+ghost use Rattle.sand_model.specs.Grid.{IsGrid, grid_of, sites, column, row, north, west, east, south, places, missing, site_at};
+ghost use Rattle.sand_model.specs.declared.shape.Edge.TheVariants.{Open};
+
+use crate::faults::ShapeFault;
+use std::marker::Model;
+
+/// The greatest width and the greatest height of a shape.
+pub const SIDE_LIMIT: usize = 256;
+
+/// The least width of a cylinder.
+pub const CYLINDER_WIDTH: usize = 3;
+
+/// What lies west of a row's first site and east of its last.
+#[derive(Clone, Copy, Debug, PartialEq, Eq)]
+pub enum Edge {
+    /// The sink.
+    Open,
+    /// The other end of the row: the grid goes round, and only its north and its south are open.
+    Cylinder,
+}
+
+/// A rectangular grid of sites.
+#[derive(Clone, Copy, Debug, PartialEq, Eq)]
+pub struct Shape {
+    width: usize,
+    height: usize,
+    edge: Edge,
+}
+
+impl Model for Shape {
+    ghost use Rattle.sand_model.specs.Grid.{Grid, IsGrid};
+
+    ghost Value = { Grid };
+
+    ghost view = { λ s. record { width = s.width; height = s.height; edge = s.edge } };
+
+    ghost invariant = { λ s. IsGrid (record { width = s.width; height = s.height; edge = s.edge }) };
+
+    ghost inverse = { λ g. record { width = g.width; height = g.height; edge = g.edge } };
+}
+
+impl Shape {
+    /// A grid with open edges. Refuses sides outside 1 to 256 (Side).
+    pub fn new(w: usize, h: usize) -> Result<Shape, ShapeFault>
+        ensures { result ≡ grid_of w h Open }
+    {
+        Shape::with_edge(w, h, Edge::Open)
+    }
+
+    /// A grid with this edge. Refuses sides outside 1 to 256 (Side), then a cylinder less than 3 wide (Narrow).
+    pub fn with_edge(w: usize, h: usize, edge: Edge) -> Result<Shape, ShapeFault>
+        ensures { result ≡ grid_of w h edge }
+    {
+        if w < 1 || w > SIDE_LIMIT || h < 1 || h > SIDE_LIMIT {
+            return Err(ShapeFault::Side);
+        }
+        if edge == Edge::Cylinder && w < CYLINDER_WIDTH {
+            return Err(ShapeFault::Narrow);
+        }
+        Ok(Shape {
+            width: w,
+            height: h,
+            edge,
+        })
+    }
+
+    pub fn width(self) -> usize
+        ensures value { result ≡ self.width }
+        ensures sides { IsGrid self }
+    {
+        self.width
+    }
+
+    pub fn height(self) -> usize
+        ensures value { result ≡ self.height }
+        ensures sides { IsGrid self }
+    {
+        self.height
+    }
+
+    pub fn edge(self) -> Edge
+        ensures value { result ≡ self.edge }
+        ensures sides { IsGrid self }
+    {
+        self.edge
+    }
+
+    /// The number of sites.
+    pub fn sites(self) -> usize
+        ensures value { result ≡ sites self }
+        ensures sides { IsGrid self }
+    {
+        self.width * self.height
+    }
+
+    /// The site in column `x` and row `y`, where that is in the grid.
+    pub fn site(self, x: usize, y: usize) -> Option<usize>
+        ensures { result ≡ site_at self x y }
+    {
+        if x < self.width && y < self.height {
+            Some(y * self.width + x)
+        } else {
+            None
+        }
+    }
+
+    /// The column and the row of a site.
+    pub fn place(self, site: usize) -> (usize, usize)
+        requires { site < sites self }
+        ensures { result ≡ (column self site, row self site) }
+    {
+        (site % self.width, site / self.width)
+    }
+
+    #[tactic(auto, unfolding(crate::specs::Grid::north))]
+    fn north(self, site: usize) -> Option<usize>
+        requires { site < sites self }
+        ensures { result ≡ north self site }
+    {
+        if site / self.width > 0 {
+            Some(site - self.width)
+        } else {
+            None
+        }
+    }
+
+    #[tactic(auto, unfolding(crate::specs::Grid::west))]
+    fn west(self, site: usize) -> Option<usize>
+        requires { site < sites self }
+        ensures { result ≡ west self site }
+    {
+        if site % self.width > 0 {
+            return Some(site - 1);
+        }
+        match self.edge {
+            Edge::Open => None,
+            Edge::Cylinder => Some(site + (self.width - 1)),
+        }
+    }
+
+    #[tactic(auto, unfolding(crate::specs::Grid::east))]
+    fn east(self, site: usize) -> Option<usize>
+        requires { site < sites self }
+        ensures { result ≡ east self site }
+    {
+        if site % self.width + 1 < self.width {
+            return Some(site + 1);
+        }
+        match self.edge {
+            Edge::Open => None,
+            Edge::Cylinder => Some(site - (self.width - 1)),
+        }
+    }
+
+    #[tactic(auto, unfolding(crate::specs::Grid::south))]
+    fn south(self, site: usize) -> Option<usize>
+        requires { site < sites self }
+        ensures { result ≡ south self site }
+    {
+        if site / self.width + 1 < self.height {
+            Some(site + self.width)
+        } else {
+            None
+        }
+    }
+
+    /// The places north, west, east and south of a site, in that order. A place outside the grid is None.
+    pub fn neighbours(self, site: usize) -> [Option<usize>; 4]
+        requires { site < sites self }
+        ensures { result ≡ places self site }
+    {
+        [
+            self.north(site),
+            self.west(site),
+            self.east(site),
+            self.south(site),
+        ]
+    }
+
+    /// How many of a site's four places are outside the grid: the grains lost when it topples once.
+    pub fn missing(self, site: usize) -> u8
+        requires { site < sites self }
+        ensures { result ≡ missing self site }
+    {
+        self.neighbours(site)
+            .iter()
+            .filter(|place| place.is_none())
+            .count() as u8
+    }
+}
