@@ -27,7 +27,7 @@ sum_by-scale c u (x ∷ xs) =
     rw (sum_by-cons (λ j. c * u j) x xs, sum_by-cons u x xs) (omega arith)
 
 -- a sum over a list of sites, as a sum over all sites
-sum_by_spread : (n : ℕ) (u : ℕ → ℕ) (xs : List ℕ) → All (λ j. j < n) xs → sum_by u xs ≡ total n (λ j. u j * tally xs j)
+pub sum_by_spread : (n : ℕ) (u : ℕ → ℕ) (xs : List ℕ) → All (λ j. j < n) xs → sum_by u xs ≡ total n (λ j. u j * tally xs j)
 sum_by_spread n u [] below = sym (total_same n (λ j. u j * 0) (λ j. 0) (λ j l. omega arith) ∙ total-zero n)
 sum_by_spread n u (x ∷ xs) below =
     let rest = sum_by_spread n u xs (All-tail (λ j. j < n) x xs below) in

@@ -4,3 +4,5 @@ pub mod Flow
 pub mod Sandpile
 pub mod Heights
 pub mod IntegerFlow
+pub mod Tallies
+pub mod Bounds

@@ -84,11 +84,11 @@ balance_total g f s u t done =
     let turned = flow_self_adjoint g f u in
     omega arith
 
-sum_by_ones : (xs : List ℕ) → sum_by (λ j. 1) xs ≡ length xs
+pub sum_by_ones : (xs : List ℕ) → sum_by (λ j. 1) xs ≡ length xs
 sum_by_ones [] = refl
 sum_by_ones (x ∷ xs) = let rest = sum_by_ones xs in rw (sum_by-cons (λ j. 1) x xs) (omega arith)
 
-flow_ones : (g : Grid) (i : ℕ) → flow g (λ j. 1) i + missing g i ≡ 4
+pub flow_ones : (g : Grid) (i : ℕ) → flow g (λ j. 1) i + missing g i ≡ 4
 unfolding flow missing
 flow_ones g i =
     let few = neighbours_at_most_four g i in

@@ -1,0 +1,77 @@
+-- What bounds the topplings of a pile: its weight, and so its grains.
+use Rattle.std.proofs.Common.{ℕ, zero, suc, ◌≡◌, ◌+◌, ◌-◌, ◌*◌, ◌^◌, ◌<◌, ◌≤◌, ap, arith, ⊎_elim}
+use Rattle.std.proofs.lemmas.Bool.{cases_lt}
+use Rattle.std.proofs.lemmas.Nat.{mul-le, div-add-mod', div_below}
+use Rattle.std.proofs.Math.Nat.{mul-le-mul_left}
+use Rattle.sand_model.specs.declared.pile.TheConstants.{GRAIN_LIMIT}
+use Rattle.sand_model.specs.Grid.{Grid, IsGrid, sites, row}
+use Rattle.sand_model.specs.Sand.{total, IsToppled, grains, topplings, weight, grain_weight}
+use Rattle.sand_model.proofs.Totals.{total_le, total-scale}
+use Rattle.sand_model.proofs.Neighbours.{some_width}
+use Rattle.sand_model.proofs.Sandpile.{weight_after, grain_weight_is}
+
+product_ordered : (a d : ℕ) → a + (a + d) ≤ 257 → a * (a + d) ≤ 16512
+product_ordered a d small =
+    let square = mul-le (a + (a + d)) (a + (a + d)) 257 257 small small in
+    omega arith
+
+product_bound : (a b : ℕ) → a + b ≤ 257 → a * b ≤ 16512
+product_bound a b small =
+    ⊎_elim
+    (λ (less : a < b). let e : b ≡ a + (b - a) = omega arith in rw e (product_ordered a (b - a) (omega arith)))
+    (λ (more : b ≤ a). let e : a ≡ b + (a - b) = omega arith in let least = product_ordered b (a - b) (omega arith) in let turned = ap (λ m. m * b) e in let other = ap (λ m. b * m) e in omega arith)
+    (cases_lt a b)
+
+-- no grain weighs more
+grain_weight_bound : (g : Grid) (i : ℕ) → IsGrid g → i < sites g → grain_weight g i ≤ 16512
+grain_weight_bound g i sides l =
+    let pos = some_width g.width g.height i l in
+    let parts = div-add-mod' i g.width in
+    let inside : row g i < g.height = div_below i g.width g.height pos (omega arith) in
+    let limit = sides.height_limit in
+    rw grain_weight_is (product_bound (row g i + 1) (g.height - row g i) (omega arith))
+
+pub weight_bound : (g : Grid) (s : ℕ → ℕ) → IsGrid g → weight g s ≤ 16512 * grains g s
+weight_bound g s sides =
+    let each = total_le (sites g) (λ i. s i * grain_weight g i) (λ i. 16512 * s i)
+    (λ i l. let e = mul-le-mul_left (s i) (grain_weight_bound g i sides l) in omega arith) in
+    let scaled = total-scale (sites g) 16512 s in
+    omega arith
+
+-- topplings are at most half the weight, whether legal or not, as long as no height falls below 0
+pub topplings_bound : (g : Grid) (s u t : ℕ → ℕ) → IsGrid g → grains g s ≤ GRAIN_LIMIT → IsToppled g s u t → topplings g u < 2 ^ 54
+topplings_bound g s u t sides few done =
+    let falls = weight_after g s u t done in
+    let start = weight_bound g s sides in
+    omega arith
+
+-- one number is at most the sum of all
+pub at_most_total : (n : ℕ) (f : ℕ → ℕ) (i : ℕ) → i < n → f i ≤ total n f
+unfolding total
+at_most_total zero f i l = absurd (omega arith)
+at_most_total (suc n) f i l =
+    ⊎_elim (λ (less : i < n). let below = at_most_total n f i less in omega arith)
+    (λ (last : n ≤ i). let e : i ≡ n = omega arith in let same = ap f e in omega arith)
+    (cases_lt i n)
+
+at_most_all : (n : ℕ) (f : ℕ → ℕ) → ((i : ℕ) → i < n → f i ≤ 1) → total n f ≤ n
+unfolding total
+at_most_all zero f few = omega arith
+at_most_all (suc n) f few =
+    let below = at_most_all n f (λ i m. few i (omega arith)) in
+    let last = few n (omega arith) in
+    omega arith
+
+-- numbers of at most 1, one of which is 0, are fewer than all in sum
+pub fewer_than_all : (n : ℕ) (f : ℕ → ℕ) (j : ℕ) → ((i : ℕ) → i < n → f i ≤ 1) → j < n → f j ≡ 0 → total n f < n
+unfolding total
+fewer_than_all zero f j few l none = absurd (omega arith)
+fewer_than_all (suc n) f j few l none =
+    let last = few n (omega arith) in
+    ⊎_elim (λ (less : j < n). let below = fewer_than_all n f j (λ i m. few i (omega arith)) less none in omega arith)
+    (λ (here : n ≤ j).
+    let e : j ≡ n = omega arith in
+    let same = ap f e in
+    let below = at_most_all n f (λ i m. few i (omega arith)) in
+    omega arith)
+    (cases_lt j n)

@@ -1,0 +1,4 @@
+pub mod Lists
+pub mod Queue
+pub mod Underway
+pub mod Records

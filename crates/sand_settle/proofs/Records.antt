@@ -1,0 +1,45 @@
+-- What a drained pile has of the settled record.
+use Rattle.std.proofs.Common.{ℕ, ◌≡◌, ◌+◌, ◌-◌, ◌*◌, ◌^◌, ◌<◌, ◌≤◌, ◌∙◌, subst, arith, List, length, sum, get_or}
+use Rattle.sand_model.specs.Grid.{Grid, sites}
+use Rattle.sand_model.specs.Sand.{IsSettled, lost, weight}
+use Rattle.sand_model.specs.Piles.{PileView, IsPile}
+use Rattle.sand_model.proofs.Sandpile.{laplacian_sum, weight_after}
+use Rattle.sand_model.proofs.Heights.{sum_is_grains}
+use Rattle.sand_model.proofs.Bounds.{topplings_bound}
+use Rattle.sand_settle.specs.Settling.{SettledView, IsRecord}
+
+-- the same grid and the same start, under other names
+pub settled_for : (g k : Grid) (h s u t : List ℕ) → g ≡ k → h ≡ s → IsSettled g (λ j. get_or h j 0) (λ j. get_or u j 0) (λ j. get_or t j 0) → IsSettled k (λ j. get_or s j 0) (λ j. get_or u j 0) (λ j. get_or t j 0)
+settled_for g k h s u t grids starts done =
+    let P : Grid → Type 0 = λ q. IsSettled q (λ j. get_or h j 0) (λ j. get_or u j 0) (λ j. get_or t j 0) in
+    let Q : List ℕ → Type 0 = λ q. IsSettled k (λ j. get_or q j 0) (λ j. get_or u j 0) (λ j. get_or t j 0) in
+    subst Q starts (subst P grids done)
+
+pub sum_bound : (start : PileView) (u h : List ℕ) → IsPile start → length u ≡ sites start.grid → IsSettled start.grid (λ j. get_or start.heights j 0) (λ j. get_or u j 0) (λ j. get_or h j 0) → sum u < 2 ^ 54
+sum_bound start u h pile counts done =
+    let all = topplings_bound start.grid (λ j. get_or start.heights j 0) (λ j. get_or u j 0) (λ j. get_or h j 0) pile.grid (let e = sum_is_grains start.grid start.heights pile.one_each in let limit = pile.limit in omega arith) done.toppled in
+    let sum_is = sum_is_grains start.grid u counts in
+    omega arith
+
+pub half_weight : (start : PileView) (u h : List ℕ) → length u ≡ sites start.grid → IsSettled start.grid (λ j. get_or start.heights j 0) (λ j. get_or u j 0) (λ j. get_or h j 0) → 2 * sum u ≤ weight start.grid (λ j. get_or start.heights j 0)
+half_weight start u h counts done =
+    let all = weight_after start.grid (λ j. get_or start.heights j 0) (λ j. get_or u j 0) (λ j. get_or h j 0) done.toppled in
+    let sum_is = sum_is_grains start.grid u counts in
+    omega arith
+
+pub grains_left : (start : PileView) (u h : List ℕ) → IsPile start → length h ≡ sites start.grid → IsSettled start.grid (λ j. get_or start.heights j 0) (λ j. get_or u j 0) (λ j. get_or h j 0) → sum start.heights ≡ sum h + lost start.grid (λ j. get_or u j 0)
+grains_left start u h pile heights done =
+    let all = laplacian_sum start.grid (λ j. get_or start.heights j 0) (λ j. get_or u j 0) (λ j. get_or h j 0) done.toppled in
+    let before = sum_is_grains start.grid start.heights pile.one_each in
+    let after = sum_is_grains start.grid h heights in
+    omega arith
+
+pub record_is : (start : PileView) (r : SettledView) → IsPile start → r.pile.grid ≡ start.grid → length r.pile.heights ≡ sites start.grid → length r.odometer ≡ sites start.grid → IsSettled start.grid (λ j. get_or start.heights j 0) (λ j. get_or r.odometer j 0) (λ j. get_or r.pile.heights j 0) → r.topplings ≡ sum r.odometer → r.lost ≡ sum start.heights - sum r.pile.heights → IsRecord start.grid (λ j. get_or start.heights j 0) r
+record_is start r pile same heights counts done all gone = record {
+  grid = same;
+  heights_each = heights;
+  odometer_each = counts;
+  settled = done;
+  all_topplings = all ∙ sum_is_grains start.grid r.odometer counts;
+  all_lost = let left = grains_left start r.odometer r.pile.heights pile heights done in omega arith;
+}
