@@ -135,6 +135,28 @@ fn sum_of(counts: &[u64]) -> u64
     counts.iter().sum()
 }
 
+// The settled record of a pile, from what it settled to and how often each site toppled.
+fn record_of(pile: &Pile, heights: Vec<u64>, odometer: Vec<u64>) -> Settled
+    requires heights_each { length heights.items ≡ sites pile.now.grid }
+    requires odometer_each { length odometer.items ≡ sites pile.now.grid }
+    requires settled { IsSettled pile.now.grid (height_of pile.now) (slice_index odometer.items) (slice_index heights.items) }
+    requires limit { sum heights.items ≤ sum pile.now.heights }
+    ensures record { IsRecord pile.now.grid (height_of pile.now) result }
+    ensures half { 2 * result.topplings ≤ weight pile.now.grid (height_of pile.now) }
+    ensures bound { result.topplings < 2 ^ 54 }
+{
+    let before = pile.grains();
+    let topplings = sum_of(&odometer);
+    let settled = Pile::from_vec(pile.shape(), heights);
+    let lost = before - settled.grains();
+    Settled {
+        pile: settled,
+        odometer,
+        topplings,
+        lost,
+    }
+}
+
 /// The settled record of a pile: its settled pile, its least odometer, the grains lost and the topplings. Refuses want
 /// of memory alone, and finds it before the first toppling.
 pub fn settle(alloc: Global, pile: &Pile) -> Result<Settled, SettleFault>
@@ -148,13 +170,5 @@ pub fn settle(alloc: Global, pile: &Pile) -> Result<Settled, SettleFault>
     let mut toppled = Vec::with_capacity(alloc, shape.sites())?;
     let mut queue = queue_of(alloc, pile.heights())?;
     drain(shape, &mut heights, &mut odometer, &mut toppled, &mut queue);
-    let topplings = sum_of(&odometer);
-    let settled = Pile::from_vec(shape, heights);
-    let lost = pile.grains() - settled.grains();
-    Ok(Settled {
-        pile: settled,
-        odometer,
-        topplings,
-        lost,
-    })
+    Ok(record_of(pile, heights, odometer))
 }
