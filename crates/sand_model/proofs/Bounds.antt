@@ -54,7 +54,7 @@ at_most_total (suc n) f i l =
     (λ (last : n ≤ i). let e : i ≡ n = omega arith in let same = ap f e in omega arith)
     (cases_lt i n)
 
-at_most_all : (n : ℕ) (f : ℕ → ℕ) → ((i : ℕ) → i < n → f i ≤ 1) → total n f ≤ n
+pub at_most_all : (n : ℕ) (f : ℕ → ℕ) → ((i : ℕ) → i < n → f i ≤ 1) → total n f ≤ n
 unfolding total
 at_most_all zero f few = omega arith
 at_most_all (suc n) f few =

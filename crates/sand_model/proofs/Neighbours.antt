@@ -52,13 +52,13 @@ pub some_width : (w h i : ℕ) → i < w * h → 0 < w
 some_width zero h i l = absurd (omega arith)
 some_width (suc w) h i l = omega arith
 
-row_above : (w i : ℕ) → 0 < w → (0 < i / w → w ≤ i) × (w ≤ i → 0 < i / w)
+pub row_above : (w i : ℕ) → 0 < w → (0 < i / w → w ≤ i) × (w ≤ i → 0 < i / w)
 row_above w i pos = (
   (λ up. ⊎_elim (λ (less : i < w). let none : i / w < 1 = div_below i w 1 pos (omega arith) in absurd (omega arith)) (λ (le : w ≤ i). le) (cases_lt i w)),
   (λ le. le-div 1 i w pos (omega arith)),
 )
 
-row_below : (w h j : ℕ) → 0 < w → (j / w + 1 < h → j + w < w * h) × (j + w < w * h → j / w + 1 < h)
+pub row_below : (w h j : ℕ) → 0 < w → (j / w + 1 < h → j + w < w * h) × (j + w < w * h → j / w + 1 < h)
 row_below w zero j pos = ((λ l. absurd (omega arith)), (λ l. absurd (omega arith)))
 row_below w (suc m) j pos = (
   (λ l. ⊎_elim (λ (less : j < m * w). omega arith) (λ (le : m * w ≤ j). let far : m ≤ j / w = le-div m j w pos le in absurd (omega arith)) (cases_lt j (m * w))),

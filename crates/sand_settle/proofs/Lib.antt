@@ -2,3 +2,4 @@ pub mod Lists
 pub mod Queue
 pub mod Underway
 pub mod Records
+pub mod Borders

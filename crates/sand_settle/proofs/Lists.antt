@@ -1,11 +1,11 @@
 -- A list of the sites that pass a test, as the test changes at one site.
-use Rattle.std.proofs.Common.{ℕ, Bool, true, false, ◌≡◌, ◌≢◌, ◌+◌, ◌<◌, ◌≤◌, refl, sym, ◌∙◌, ap, arith, List, [], ◌∷◌, ◌++◌, length, ⊎_elim, ltb, ◌&&◌, subst}
+use Rattle.std.proofs.Common.{ℕ, Bool, true, false, ◌≡◌, ◌≢◌, ◌+◌, ◌<◌, ◌≤◌, refl, sym, ◌∙◌, ap, arith, List, [], ◌∷◌, ◌++◌, length, ⊎_elim, ltb, cond, ◌&&◌, subst}
 use Rattle.std.proofs.lemmas.Bool.{cases_eq, cases_lt, cases_Bool, lt-ltb, le-ltb}
 use Rattle.std.proofs.lemmas.List.Elements.{All-head, All-tail, All-push}
 use Rattle.sand_model.specs.Sand.{total, tally, one_at}
 use Rattle.sand_model.proofs.Totals.{total_same, one_at_same, one_at_other}
 use Rattle.sand_model.proofs.Tallies.{tally-cons, tally-push, total-tally}
-use Rattle.sand_model.proofs.Bounds.{fewer_than_all}
+use Rattle.sand_model.proofs.Bounds.{fewer_than_all, at_most_all}
 use Rattle.sand_settle.specs.Lists.{Lists, one_if}
 
 bit_small : (b : Bool) → one_if b ≤ 1
@@ -18,6 +18,14 @@ lists_same n p q xs same before = record {
   inside = before.inside;
   each = λ j l. before.each j l ∙ ap one_if (same j l);
 }
+
+-- it has no more than all
+pub lists_length : (n : ℕ) (p : ℕ → Bool) (xs : List ℕ) → Lists n p xs → length xs ≤ n
+lists_length n p xs all =
+    let sum = total-tally n xs all.inside in
+    let each : total n (tally xs) ≡ total n (λ j. one_if (p j)) = total_same n (tally xs) (λ j. one_if (p j)) all.each in
+    let few = at_most_all n (λ j. one_if (p j)) (λ j m. bit_small (p j)) in
+    omega arith
 
 -- there is room for a site that is not in it
 pub lists_room : (n : ℕ) (p : ℕ → Bool) (xs : List ℕ) (i : ℕ) → Lists n p xs → i < n → p i ≡ false → length xs < n
@@ -111,11 +119,11 @@ below_next test k j ne =
 pub filled_none : (n : ℕ) (test : ℕ → Bool) → Lists n (λ j. ltb j 0 && test j) []
 filled_none n test = lists_empty n (λ j. ltb j 0 && test j) (λ j l. rw (le-ltb j 0 (omega arith)) refl)
 
-pub filled_more : (n : ℕ) (test : ℕ → Bool) (xs : List ℕ) (k : ℕ) → Lists n (λ j. ltb j k && test j) xs → k < n → test k ≡ true → Lists n (λ j. ltb j (k + 1) && test j) (xs ++ k ∷ [])
+filled_more : (n : ℕ) (test : ℕ → Bool) (xs : List ℕ) (k : ℕ) → Lists n (λ j. ltb j k && test j) xs → k < n → test k ≡ true → Lists n (λ j. ltb j (k + 1) && test j) (xs ++ k ∷ [])
 filled_more n test xs k all l passes =
     lists_push n (λ j. ltb j k && test j) (λ j. ltb j (k + 1) && test j) xs k all l (rw (le-ltb k k (omega arith)) refl) (rw (lt-ltb k (k + 1) (omega arith)) passes) (λ j m ne. below_next test k j ne)
 
-pub filled_same : (n : ℕ) (test : ℕ → Bool) (xs : List ℕ) (k : ℕ) → Lists n (λ j. ltb j k && test j) xs → test k ≡ false → Lists n (λ j. ltb j (k + 1) && test j) xs
+filled_same : (n : ℕ) (test : ℕ → Bool) (xs : List ℕ) (k : ℕ) → Lists n (λ j. ltb j k && test j) xs → test k ≡ false → Lists n (λ j. ltb j (k + 1) && test j) xs
 filled_same n test xs k all fails =
     lists_same n (λ j. ltb j k && test j) (λ j. ltb j (k + 1) && test j) xs
     (λ j m.
@@ -124,8 +132,11 @@ filled_same n test xs k all fails =
     (cases_eq j k))
     all
 
-pub filled_room : (n : ℕ) (test : ℕ → Bool) (xs : List ℕ) (k : ℕ) → Lists n (λ j. ltb j k && test j) xs → k < n → length xs < n
-filled_room n test xs k all l = lists_room n (λ j. ltb j k && test j) xs k all l (rw (le-ltb k k (omega arith)) refl)
+pub filled_next : (n : ℕ) (test : ℕ → Bool) (xs : List ℕ) (k : ℕ) → Lists n (λ j. ltb j k && test j) xs → k < n → Lists n (λ j. ltb j (k + 1) && test j) (cond (test k) (xs ++ k ∷ []) xs)
+filled_next n test xs k all l =
+    ⊎_elim (λ (passes : test k ≡ true). rw passes (filled_more n test xs k all l passes))
+    (λ (fails : test k ≡ false). rw fails (filled_same n test xs k all fails))
+    (cases_Bool (test k))
 
 pub filled_all : (n : ℕ) (test : ℕ → Bool) (xs : List ℕ) → Lists n (λ j. ltb j n && test j) xs → Lists n test xs
 filled_all n test xs all = lists_same n (λ j. ltb j n && test j) test xs (λ j l. rw (lt-ltb j n l) refl) all

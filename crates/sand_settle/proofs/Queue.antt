@@ -1,10 +1,10 @@
 -- The list of the sites whose number passes a test, as one number is written.
-use Rattle.std.proofs.Common.{ℕ, Bool, true, false, ◌≡◌, ◌≢◌, ◌<◌, ◌≤◌, sym, ◌∙◌, ap, arith, List, [], ◌∷◌, ◌++◌, length, get_or, ⊎_elim}
+use Rattle.std.proofs.Common.{ℕ, Bool, true, false, ◌≡◌, ◌≢◌, ◌+◌, ◌-◌, ◌*◌, ◌/◌, ◌<◌, ◌≤◌, refl, sym, ◌∙◌, ap, subst, add-one, drop-cons, drop, arith, List, [], ◌∷◌, ◌++◌, length, get_or, append_assoc, length-append, cond, ltb, leb, eqb, ◌&&◌, ⊎_elim}
 use Rattle.std.proofs.Math.ListN.{set}
-use Rattle.std.proofs.lemmas.Bool.{cases_eq, leb-true, leb-false}
+use Rattle.std.proofs.lemmas.Bool.{cases_eq, cases_lt, lt-leb, le-leb, lt-ltb, le-ltb, leb-true, leb-false, eq-eqb, ne_eqb}
 use Rattle.std.proofs.lemmas.List.{get_or-set_same, get_or-set_other}
-use Rattle.sand_settle.specs.Lists.{Lists, may_topple}
-use Rattle.sand_settle.proofs.Lists.{lists_same, lists_push, lists_pop, lists_passes, lists_none}
+use Rattle.sand_settle.specs.Lists.{Lists, may_topple, has_toppled}
+use Rattle.sand_settle.proofs.Lists.{lists_length, lists_same, lists_push, lists_pop, lists_of, lists_first, lists_passes, lists_none}
 
 others_kept : (test : ℕ → Bool) (h : List ℕ) (i v j : ℕ) → j ≢ i → test (get_or h j 0) ≡ test (get_or (set h i v) j 0)
 others_kept test h i v j ne = ap test (sym (get_or-set_other h i j v 0 ne))
@@ -38,3 +38,48 @@ front_is_high n s xs i all = leb-true 4 (s i) (lists_passes n (may_topple s) xs 
 
 pub all_low : (n : ℕ) (s : ℕ → ℕ) → Lists n (may_topple s) [] → (i : ℕ) → i < n → s i ≤ 3
 all_low n s all i l = let low = leb-false 4 (s i) (lists_none n (may_topple s) all i l) in omega arith
+
+-- the queue after a site has got grains, and joined it if it may topple from now on
+pub queued : (h rest next : List ℕ) (i v : ℕ) → i < length h → get_or h i 0 ≤ v → Lists (length h) (may_topple (λ j. get_or h j 0)) (rest ++ next) → Lists (length h) (may_topple (λ j. get_or (set h i v) j 0)) (rest ++ cond (ltb (get_or h i 0) 4 && leb 4 v) (next ++ i ∷ []) next)
+queued h rest next i v inside more all =
+    ⊎_elim
+    (λ (low : get_or h i 0 < 4).
+    ⊎_elim
+    (λ (still : v < 4). rw (lt-ltb (get_or h i 0) 4 low, lt-leb 4 v still) (stays (leb 4) h (rest ++ next) i v all inside (lt-leb 4 (get_or h i 0) low ∙ sym (lt-leb 4 v still))))
+    (λ (now : 4 ≤ v). rw (lt-ltb (get_or h i 0) 4 low, le-leb 4 v now, ← append_assoc rest next (i ∷ [])) (joins (leb 4) h (rest ++ next) i v all inside (lt-leb 4 (get_or h i 0) low) (le-leb 4 v now)))
+    (cases_lt v 4))
+    (λ (high : 4 ≤ get_or h i 0). rw (le-ltb (get_or h i 0) 4 high) (stays (leb 4) h (rest ++ next) i v all inside (le-leb 4 (get_or h i 0) high ∙ sym (le-leb 4 v (omega arith)))))
+    (cases_lt (get_or h i 0) 4)
+
+-- the sites that have toppled after one more has, which joins them at its first toppling
+pub noted : (u toppled : List ℕ) (i k : ℕ) → i < length u → 0 < k → Lists (length u) (has_toppled (λ j. get_or u j 0)) toppled → Lists (length u) (has_toppled (λ j. get_or (set u i (get_or u i 0 + k)) j 0)) (cond (eqb (get_or u i 0) 0) (toppled ++ i ∷ []) toppled)
+noted u toppled i k inside some all =
+    let now : ltb 0 (get_or u i 0 + k) ≡ true = lt-ltb 0 (get_or u i 0 + k) (omega arith) in
+    ⊎_elim
+    (λ (none : get_or u i 0 ≡ 0). rw (eq-eqb (get_or u i 0) 0 none) (joins (ltb 0) u toppled i (get_or u i 0 + k) all inside (le-ltb 0 (get_or u i 0) (omega arith)) now))
+    (λ (before : get_or u i 0 ≡ 0 → ⊥). let was : 0 < get_or u i 0 = grind arith in rw (ne_eqb (get_or u i 0) 0 before) (stays (ltb 0) u toppled i (get_or u i 0 + k) all inside (lt-ltb 0 (get_or u i 0) was ∙ sym now)))
+    (cases_eq (get_or u i 0) 0)
+
+-- there is room for one more, whether it joins or not
+pub queue_room : (n : ℕ) (test : ℕ → Bool) (rest next : List ℕ) → Lists n test (rest ++ next) → length next ≤ n
+queue_room n test rest next all = let whole = lists_length n test (rest ++ next) all in omega (arith, length-append rest next)
+
+-- the site i whose turn it is, and those behind it
+pub turn_of : (n : ℕ) (test : ℕ → Bool) (wave next : List ℕ) (turn i : ℕ) → i ≡ get_or wave turn 0 → turn < length wave → Lists n test (drop turn wave ++ next) → Lists n test (i ∷ (drop (turn + 1) wave ++ next))
+turn_of n test wave next turn i e l all =
+    let first : drop turn wave ≡ i ∷ drop (turn + 1) wave = rw (e, add-one, drop-cons wave turn 0) refl in
+    let P : List ℕ → Type 0 = λ xs. Lists n test (xs ++ next) in
+    subst P first all
+
+pub turn_inside : (n : ℕ) (test : ℕ → Bool) (wave next : List ℕ) (turn i : ℕ) → i ≡ get_or wave turn 0 → turn < length wave → Lists n test (drop turn wave ++ next) → i < n
+turn_inside n test wave next turn i e l all = lists_first n test (drop (turn + 1) wave ++ next) i (turn_of n test wave next turn i e l all)
+
+pub turn_high : (n : ℕ) (s : ℕ → ℕ) (wave next : List ℕ) (turn i : ℕ) → i ≡ get_or wave turn 0 → turn < length wave → Lists n (may_topple s) (drop turn wave ++ next) → 4 ≤ s i
+turn_high n s wave next turn i e l all = front_is_high n s (drop (turn + 1) wave ++ next) i (turn_of n (may_topple s) wave next turn i e l all)
+
+-- once the site whose turn it is has given its grains away, those behind it and the next wave wait
+pub others_wait : (n : ℕ) (h wave next : List ℕ) (turn i : ℕ) → n ≡ length h → i ≡ get_or wave turn 0 → turn < length wave → Lists n (may_topple (λ j. get_or h j 0)) (drop turn wave ++ next) → Lists (length h) (may_topple (λ j. get_or (set h i (get_or h i 0 - 4 * (get_or h i 0 / 4))) j 0)) (drop (turn + 1) wave ++ next)
+others_wait n h wave next turn i all_sites e l all =
+    let now = lists_of n (length h) (may_topple (λ j. get_or h j 0)) (i ∷ (drop (turn + 1) wave ++ next)) all_sites (turn_of n (may_topple (λ j. get_or h j 0)) wave next turn i e l all) in
+    let rest = get_or h i 0 - 4 * (get_or h i 0 / 4) in
+    leaves (leb 4) h (drop (turn + 1) wave ++ next) i rest now (lists_first (length h) (may_topple (λ j. get_or h j 0)) (drop (turn + 1) wave ++ next) i now) (lt-leb 4 rest (omega arith))

@@ -1,20 +1,17 @@
--- A pile that is being settled: toppled by u so far, and u is at most what stabilises the start.
+-- A pile that is being settled, turn by turn.
 use Rattle.std.proofs.Common.{ℕ, ◌≡◌, ◌+◌, ◌*◌, ◌^◌, ◌<◌, ◌≤◌, sym, ap, arith, List, length, sum, get_or, ⊎_elim}
 use Rattle.std.proofs.lemmas.Bool.{cases_eq}
 use Rattle.std.proofs.Math.ListN.{set}
 use Rattle.std.proofs.lemmas.List.{get_or-set_same, get_or-set_other}
 use Rattle.sand_model.specs.declared.pile.TheConstants.{GRAIN_LIMIT}
 use Rattle.sand_model.specs.Grid.{Grid, IsGrid, sites}
-use Rattle.sand_model.specs.Sand.{one_at, IsToppled, Stabilises, IsSettled, topplings, weight}
-use Rattle.sand_model.proofs.Totals.{total-one_at, one_at_same, one_at_other}
+use Rattle.sand_model.specs.Sand.{one_at, IsToppled, IsSettled, topplings, weight}
+use Rattle.sand_model.proofs.Totals.{total_same, total-add, total-zero, total-one_at, one_at_same, one_at_other}
 use Rattle.sand_model.proofs.Flow.{flow_same, flow-add, flow-scale}
 use Rattle.sand_model.proofs.Sandpile.{least_action, weight_after, laplacian_sum}
 use Rattle.sand_model.proofs.Heights.{sum_is_grains}
-use Rattle.sand_model.proofs.Bounds.{topplings_bound, at_most_total}
-
-pub record IsUnderway (g : Grid) (s u t : ℕ → ℕ) : Type 0 where
-  pub toppled : IsToppled g s u t
-  pub bounded : (w : ℕ → ℕ) → Stabilises g s w → (i : ℕ) → i < sites g → u i ≤ w i
+use Rattle.sand_model.proofs.Bounds.{weight_bound, at_most_total}
+use Rattle.sand_settle.specs.Underway.{IsUnderway, Advances}
 
 pub underway_start : (g : Grid) (s u : ℕ → ℕ) → ((i : ℕ) → i < sites g → u i ≡ 0) → IsUnderway g s u s
 underway_start g s u none = record {
@@ -78,21 +75,6 @@ weight_step g i k t r l done =
     let count = topplings_at g i k l in
     omega arith
 
--- toppling makes no grains
-pub grains_step : (g : Grid) (u : ℕ → ℕ) (h v : List ℕ) → length h ≡ sites g → length v ≡ sites g → IsToppled g (λ j. get_or h j 0) u (λ j. get_or v j 0) → sum v ≤ sum h
-grains_step g u h v lh lv done =
-    let all = laplacian_sum g (λ j. get_or h j 0) u (λ j. get_or v j 0) done in
-    let before = sum_is_grains g h lh in
-    let after = sum_is_grains g v lv in
-    omega arith
-
--- how often one site has toppled, while it is underway
-pub count_bound : (g : Grid) (s : List ℕ) (u t : ℕ → ℕ) (i : ℕ) → IsGrid g → length s ≡ sites g → sum s ≤ GRAIN_LIMIT → i < sites g → IsUnderway g (λ j. get_or s j 0) u t → u i < 2 ^ 54
-count_bound g s u t i sides one_each limit l done =
-    let all = topplings_bound g (λ j. get_or s j 0) u t sides (let e = sum_is_grains g s one_each in omega arith) done.toppled in
-    let part = at_most_total (sites g) u i l in
-    omega arith
-
 -- the counts after k more topplings of the site i
 pub counted : (i k : ℕ) (u v : List ℕ) → i < length u → v ≡ set u i (get_or u i 0 + k) → (j : ℕ) → get_or v j 0 ≡ get_or u j 0 + k * one_at i j
 counted i k u v inside e j =
@@ -108,3 +90,60 @@ counted i k u v inside e j =
     let kept = get_or-set_other u i j (get_or u i 0 + k) 0 (λ q. ne (sym q)) in
     omega arith)
     (cases_eq i j))
+
+-- ---- from one moment to a later one
+
+pub advance_none : (g : Grid) (u t : ℕ → ℕ) → Advances g u t u t
+advance_none g u t = record {
+  underway = λ s before. before;
+  weight_pays = omega arith;
+  grains_fall = omega arith;
+}
+
+pub advance_more : (g : Grid) (u t v r w q : ℕ → ℕ) → Advances g u t v r → Advances g v r w q → Advances g u t w q
+advance_more g u t v r w q first second = record {
+  underway = λ s before. second.underway s (first.underway s before);
+  weight_pays = let one = first.weight_pays in let two = second.weight_pays in omega arith;
+  grains_fall = let one = first.grains_fall in let two = second.grains_fall in omega arith;
+}
+
+topplings_more : (g : Grid) (v w : ℕ → ℕ) (i k : ℕ) → i < sites g → ((j : ℕ) → j < sites g → w j ≡ v j + k * one_at i j) → topplings g w ≡ topplings g v + k
+topplings_more g v w i k l counts =
+    let same = total_same (sites g) w (λ j. v j + k * one_at i j) counts in
+    let both = total-add (sites g) v (λ j. k * one_at i j) in
+    let here = topplings_at g i k l in
+    omega arith
+
+-- k legal topplings of the site i
+pub advance_turn : (g : Grid) (v r w q : ℕ → ℕ) (i k : ℕ) → i < sites g → 4 * k ≤ r i → ((j : ℕ) → j < sites g → w j ≡ v j + k * one_at i j) → IsToppled g r (λ j. k * one_at i j) q → Advances g v r w q
+advance_turn g v r w q i k l high counts done = record {
+  underway = λ s before. underway_step g s v r w q i k l high before counts done;
+  weight_pays = let count = topplings_more g v w i k l counts in let falls = weight_step g i k r q l done in omega arith;
+  grains_fall = let all = laplacian_sum g r (λ j. k * one_at i j) q done in omega arith;
+}
+
+pub turn_counts : (g : Grid) (v w : ℕ → ℕ) (i k : ℕ) → i < sites g → ((j : ℕ) → j < sites g → w j ≡ v j + k * one_at i j) → 0 < k → topplings g v + 1 ≤ topplings g w
+turn_counts g v w i k l counts some = let count = topplings_more g v w i k l counts in omega arith
+
+-- what has been counted stays small, and so do the grains
+pub counts_small : (g : Grid) (u t v r : ℕ → ℕ) (i : ℕ) → Advances g u t v r → 2 * topplings g u + weight g t < 2 ^ 55 → i < sites g → v i < 2 ^ 54
+counts_small g u t v r i advances few l =
+    let part = at_most_total (sites g) v i l in
+    let pays = advances.weight_pays in
+    omega arith
+
+pub sum_falls : (g : Grid) (u v : ℕ → ℕ) (h k : List ℕ) → length h ≡ sites g → length k ≡ sites g → Advances g u (λ j. get_or h j 0) v (λ j. get_or k j 0) → sum k ≤ sum h
+sum_falls g u v h k lh lk advances =
+    let before = sum_is_grains g h lh in
+    let after = sum_is_grains g k lk in
+    let falls = advances.grains_fall in
+    omega arith
+
+-- a whole settling begins with few topplings to come
+pub few_at_first : (g : Grid) (u : ℕ → ℕ) (h : List ℕ) → IsGrid g → length h ≡ sites g → sum h ≤ GRAIN_LIMIT → ((i : ℕ) → u i ≡ 0) → 2 * topplings g u + weight g (λ j. get_or h j 0) < 2 ^ 55
+few_at_first g u h sides each limit none =
+    let heavy = weight_bound g (λ j. get_or h j 0) sides in
+    let grains_are = sum_is_grains g h each in
+    let zeros = total_same (sites g) u (λ j. 0) (λ j l. none j) in
+    let nothing = total-zero (sites g) in
+    omega arith

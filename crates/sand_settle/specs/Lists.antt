@@ -7,6 +7,11 @@ abbrev pub one_if : Bool → ℕ
 one_if true = 1
 one_if false = 0
 
+-- what contracts see of a list of sites with room made beforehand
+pub record ListView : Type 0 where
+  pub sites : List ℕ
+  pub room : ℕ
+
 -- xs has each number below n that passes the test, once, and no other
 pub record Lists (n : ℕ) (test : ℕ → Bool) (xs : List ℕ) : Type 0 where
   pub inside : All (λ j. j < n) xs

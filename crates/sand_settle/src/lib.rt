@@ -2,8 +2,10 @@
 #![tactic(auto)]
 
 mod faults;
+mod lattice;
 mod settled;
 mod settling;
+mod site_list;
 
 pub use faults::SettleFault;
 pub use settled::Settled;

@@ -1,131 +1,170 @@
 //! Settling: toppling until no site may topple.
 //!
-//! A queue holds the sites that may topple, each once, and no other. The site at its front topples as often as its
-//! height allows, and each neighbour that this brings to 4 or more joins the queue. A site leaves the queue as it
-//! topples and joins it as it passes 4, so the queue never holds more than all sites, and nothing grows while sand
-//! topples.
+//! Sand topples in waves. A wave lists the sites that may topple, each once, and no other; one after another each
+//! topples as often as its height allows, and each neighbour that this brings to 4 or more joins the next wave, at the
+//! end of the queue that the two make. A site leaves the queue as it topples and joins it as it passes 4, so the queue
+//! never holds more than all sites, and nothing grows while sand topples.
 //!
-//! - It ends, since each turn lowers the weight of the pile by 2 at least.
-//! - No site topples more often than in any `w` that stabilises the start: each turn is a legal toppling, so this is
-//!   least action (`sand_model::laws`), and it holds from turn to turn.
+//! - It ends, since each toppling lowers the weight of the pile by 2 at least.
+//! - No site topples more often than in any `w` that stabilises the start: each toppling is legal, so this is least
+//!   action (`sand_model::laws`), and it holds from turn to turn (`IsUnderway`).
 //! - At the end the queue is empty, so no site may topple: what has toppled stabilises the start, and is the least.
 
-ghost use Rattle.std.specs.Prelude.{◌≡◌, ◌≢◌, ℕ, ◌+◌, ◌*◌, ◌/◌, ◌^◌, ◌<◌, ◌≤◌, [], ◌∷◌, length, sum, slice_index, slice_set, IfOk, IsOkUnless, IfSome, vec_len, vec_capacity, alloc_error};
-ghost use Rattle.std.specs.VecDeque.{deque_len, deque_capacity};
-ghost use Rattle.sand_model.specs.Grid.{IsGrid, sites};
-ghost use Rattle.sand_model.specs.Sand.{IsToppled, IsSettled, one_at, value_at, weight};
+ghost use Rattle.std.specs.Prelude.{◌≡◌, ℕ, ◌+◌, ◌*◌, ◌/◌, ◌^◌, ◌<◌, ◌≤◌, List, [], ◌++◌, length, sum, drop, slice_index, slice_set, IfOk, IfSome};
+ghost use Rattle.sand_model.specs.Grid.{sites};
+ghost use Rattle.sand_model.specs.Sand.{IsToppled, IsSettled, one_at, value_at, topplings, weight};
 ghost use Rattle.sand_model.specs.Piles.{height_of};
 ghost use Rattle.sand_settle.specs.Settling.{IsRecord};
 ghost use Rattle.sand_settle.specs.Lists.{Lists, may_topple, has_toppled};
+ghost use Rattle.sand_settle.specs.Underway.{Advances};
 
 use crate::faults::SettleFault;
+use crate::lattice::Lattice;
 use crate::settled::Settled;
-use sand_model::{GRAIN_LIMIT, Pile, Shape, TOPPLING_HEIGHT};
-use std::alloc::{AllocError, Global};
-use std::collections::VecDeque;
+use crate::site_list::SiteList;
+use sand_model::{GRAIN_LIMIT, Pile, TOPPLING_HEIGHT};
+use std::alloc::Global;
+use std::mem;
 
-// Gives grains to a place, where that is in the grid, and queues its site where that may topple from now on.
+// Gives grains to a place, where that is in the grid, and lists its site for the next wave where that may topple from
+// now on.
 #[inline(always)]
-fn deliver(heights: &mut [u64], queue: &mut VecDeque<usize>, place: Option<usize>, times: u64)
+fn deliver(heights: &mut [u64], next: &mut SiteList, place: Option<usize>, times: u64)
     requires inside { IfSome place (λ j. j < length heights.old) }
     requires limit { sum heights.old + times ≤ GRAIN_LIMIT }
-    requires queued { Lists (length heights.old) (may_topple (slice_index heights.old)) queue.old.items }
-    requires room { length heights.old ≤ deque_capacity queue.old }
+    requires small { length heights.old ≤ 65536 }
+    requires room { length next.old.sites < next.old.room }
     ensures each { (j : ℕ) → slice_index heights.new j ≡ slice_index heights.old j + times * value_at (λ k. one_at k j) place }
     ensures total { sum heights.new ≤ sum heights.old + times }
-    ensures queued { Lists (length heights.old) (may_topple (slice_index heights.new)) queue.new.items }
-    ensures capacity { deque_capacity queue.new ≡ deque_capacity queue.old }
+    ensures room { next.new.room ≡ next.old.room }
+
+    // Whatever sites stand before those of the next wave.
+    ensures waiting { (n : ℕ) (rest : List ℕ) → n ≡ length heights.old → Lists n (may_topple (slice_index heights.old)) (rest ++ next.old.sites) → Lists n (may_topple (slice_index heights.new)) (rest ++ next.new.sites) }
 {
     if let Some(site) = place {
         let before = heights[site];
-        heights[site] = before + times;
-        if before < TOPPLING_HEIGHT && before + times >= TOPPLING_HEIGHT {
-            queue.push_back_reserved(site);
-        }
+        let after = before + times;
+        heights[site] = after;
+        let joins = (before < TOPPLING_HEIGHT) & (after >= TOPPLING_HEIGHT);
+        next.push_if(site, joins);
     }
 }
 
-// Topples a site that has left the queue as often as its height allows.
+// Topples the site whose turn it is as often as its height allows, and answers how often.
 #[inline(always)]
-fn relax(shape: Shape, heights: &mut [u64], queue: &mut VecDeque<usize>, site: usize) -> u64
-    requires one_each { length heights.old ≡ sites shape }
-    requires site { site < sites shape }
+fn relax(
+    lattice: &Lattice,
+    heights: &mut [u64],
+    wave: &SiteList,
+    turn: usize,
+    next: &mut SiteList,
+) -> u64
+    requires one_each { length heights.old ≡ sites lattice.now }
     requires limit { sum heights.old ≤ GRAIN_LIMIT }
-    requires queued { Lists (sites shape) (may_topple (slice_index heights.old)) (site ∷ queue.old.items) }
-    requires room { sites shape ≤ deque_capacity queue.old }
-    ensures times { result ≡ slice_index heights.old site / 4 }
-    ensures toppled { IsToppled shape (slice_index heights.old) (λ j. result * one_at site j) (slice_index heights.new) }
-    ensures queued { Lists (sites shape) (may_topple (slice_index heights.new)) queue.new.items }
-    ensures capacity { deque_capacity queue.new ≡ deque_capacity queue.old }
+    requires turn { turn < length wave.now.sites }
+    requires waiting { Lists (sites lattice.now) (may_topple (slice_index heights.old)) (drop turn wave.now.sites ++ next.old.sites) }
+    requires room { sites lattice.now < next.old.room }
+    ensures times { result ≡ slice_index heights.old (slice_index wave.now.sites turn) / 4 }
+    ensures toppled { IsToppled lattice.now (slice_index heights.old) (λ j. result * one_at (slice_index wave.now.sites turn) j) (slice_index heights.new) }
+    ensures waiting { Lists (sites lattice.now) (may_topple (slice_index heights.new)) (drop (turn + 1) wave.now.sites ++ next.new.sites) }
+    ensures room { next.new.room ≡ next.old.room }
 {
-    let [north, west, east, south] = shape.neighbours(site);
+    let site = wave.site(turn);
+    let [north, west, east, south] = lattice.neighbours(site);
     let times = heights[site] / TOPPLING_HEIGHT;
     heights[site] -= TOPPLING_HEIGHT * times;
-    deliver(heights, queue, north, times);
-    deliver(heights, queue, west, times);
-    deliver(heights, queue, east, times);
-    deliver(heights, queue, south, times);
+    deliver(heights, next, north, times);
+    deliver(heights, next, west, times);
+    deliver(heights, next, east, times);
+    deliver(heights, next, south, times);
     times
 }
 
 // Counts the topplings of a site, and notes it at its first.
 #[inline(always)]
-fn count(counts: &mut [u64], toppled: &mut Vec<usize>, site: usize, times: u64)
+fn count(counts: &mut [u64], toppled: &mut SiteList, site: usize, times: u64)
     requires site { site < length counts.old }
     requires some { 0 < times }
     requires fits { slice_index counts.old site + times < 2 ^ 64 }
-    requires noted { Lists (length counts.old) (has_toppled (slice_index counts.old)) toppled.old.items }
-    requires room { length counts.old ≤ vec_capacity toppled.old }
+    requires small { length counts.old ≤ 65536 }
+    requires noted { Lists (length counts.old) (has_toppled (slice_index counts.old)) toppled.old.sites }
+    requires room { length counts.old < toppled.old.room }
     ensures counted { counts.new ≡ slice_set counts.old site (slice_index counts.old site + times) }
-    ensures noted { Lists (length counts.old) (has_toppled (slice_index counts.new)) toppled.new.items }
-    ensures capacity { vec_capacity toppled.new ≡ vec_capacity toppled.old }
+    ensures noted { Lists (length counts.old) (has_toppled (slice_index counts.new)) toppled.new.sites }
+    ensures room { toppled.new.room ≡ toppled.old.room }
 {
     let before = counts[site];
     counts[site] = before + times;
-    if before == 0 {
-        toppled.push_reserved(site);
-    }
+    toppled.push_if(site, before == 0);
 }
 
-// Topples until no site may topple: counts how often each site does, and notes the sites that do.
-pub(crate) fn drain(
-    shape: Shape,
+// Topples each site of a wave in turn, and lists the next wave.
+fn topple_wave(
+    lattice: &Lattice,
     heights: &mut [u64],
     counts: &mut [u64],
-    toppled: &mut Vec<usize>,
-    queue: &mut VecDeque<usize>,
+    toppled: &mut SiteList,
+    wave: &SiteList,
+    next: &mut SiteList,
 )
-    requires one_each { (length heights.old ≡ sites shape) × (length counts.old ≡ sites shape) }
+    requires one_each { (length heights.old ≡ sites lattice.now) × (length counts.old ≡ sites lattice.now) }
     requires limit { sum heights.old ≤ GRAIN_LIMIT }
-    requires uncounted { (j : ℕ) → slice_index counts.old j ≡ 0 }
-    requires unnoted { toppled.old.items ≡ [] }
-    requires queued { Lists (sites shape) (may_topple (slice_index heights.old)) queue.old.items }
-    requires room { (sites shape ≤ vec_capacity toppled.old) × (sites shape ≤ deque_capacity queue.old) }
-    ensures settled { IsSettled shape (slice_index heights.old) (slice_index counts.new) (slice_index heights.new) }
-    ensures limit { sum heights.new ≤ sum heights.old }
-    ensures noted { Lists (sites shape) (has_toppled (slice_index counts.new)) toppled.new.items }
-    ensures emptied { queue.new.items ≡ [] }
-    ensures capacity { (vec_capacity toppled.new ≡ vec_capacity toppled.old) × (deque_capacity queue.new ≡ deque_capacity queue.old) }
+    requires few { 2 * topplings lattice.now (slice_index counts.old) + weight lattice.now (slice_index heights.old) < 2 ^ 55 }
+    requires waiting { Lists (sites lattice.now) (may_topple (slice_index heights.old)) (wave.now.sites ++ next.old.sites) }
+    requires noted { Lists (sites lattice.now) (has_toppled (slice_index counts.old)) toppled.old.sites }
+    requires room { (sites lattice.now < next.old.room) × (sites lattice.now < toppled.old.room) }
+    ensures advances { Advances lattice.now (slice_index counts.old) (slice_index heights.old) (slice_index counts.new) (slice_index heights.new) }
+    ensures each_topples { topplings lattice.now (slice_index counts.old) + length wave.now.sites ≤ topplings lattice.now (slice_index counts.new) }
+    ensures waiting { Lists (sites lattice.now) (may_topple (slice_index heights.new)) next.new.sites }
+    ensures noted { Lists (sites lattice.now) (has_toppled (slice_index counts.new)) toppled.new.sites }
+    ensures room { (next.new.room ≡ next.old.room) × (toppled.new.room ≡ toppled.old.room) }
 {
-    let _ = shape.sites();
-    while let Some(site) = queue.pop_front() {
-        let times = relax(shape, heights, queue, site);
-        count(counts, toppled, site, times);
+    let _ = lattice.shape();
+    for turn in 0..wave.len() {
+        let times = relax(lattice, heights, wave, turn, next);
+        count(counts, toppled, wave.site(turn), times);
     }
 }
 
-// The sites that may topple, with room for all sites.
-fn queue_of(alloc: Global, heights: &[u64]) -> Result<VecDeque<usize>, AllocError>
-    ensures queued { IfOk result (λ q. Lists (length heights.now) (may_topple (slice_index heights.now)) q.items) }
-    ensures room { IfOk result (λ q. deque_capacity q ≡ length heights.now) }
+// Topples until no site may topple: counts how often each site does, and lists the sites that do.
+pub(crate) fn drain(
+    lattice: &Lattice,
+    heights: &mut [u64],
+    counts: &mut [u64],
+    toppled: &mut SiteList,
+    wave: &mut SiteList,
+    next: &mut SiteList,
+)
+    requires one_each { (length heights.old ≡ sites lattice.now) × (length counts.old ≡ sites lattice.now) }
+    requires limit { sum heights.old ≤ GRAIN_LIMIT }
+    requires uncounted { (j : ℕ) → slice_index counts.old j ≡ 0 }
+    requires unnoted { toppled.old.sites ≡ [] }
+    requires waiting { Lists (sites lattice.now) (may_topple (slice_index heights.old)) wave.old.sites }
+    requires room { (sites lattice.now < toppled.old.room) × (sites lattice.now < wave.old.room) × (sites lattice.now < next.old.room) }
+    ensures settled { IsSettled lattice.now (slice_index heights.old) (slice_index counts.new) (slice_index heights.new) }
+    ensures limit { sum heights.new ≤ sum heights.old }
+    ensures noted { Lists (sites lattice.now) (has_toppled (slice_index counts.new)) toppled.new.sites }
+    ensures room { (sites lattice.now < toppled.new.room) × (sites lattice.now < wave.new.room) × (sites lattice.now < next.new.room) }
 {
-    let mut queue = VecDeque::with_capacity(alloc, heights.len())?;
-    for (site, height) in heights.iter().enumerate() {
-        if *height >= TOPPLING_HEIGHT {
-            queue.push_back_reserved(site);
-        }
+    let _ = lattice.shape();
+    'waves: while wave.len() > 0 {
+        next.clear();
+        topple_wave(lattice, heights, counts, toppled, wave, next);
+        mem::swap(wave, next);
     }
-    Ok(queue)
+}
+
+// Lists the sites that may topple.
+fn list_unstable(heights: &[u64], wave: &mut SiteList)
+    requires small { length heights.now ≤ 65536 }
+    requires room { length heights.now < wave.old.room }
+    ensures waiting { Lists (length heights.now) (may_topple (slice_index heights.now)) wave.new.sites }
+    ensures room { wave.new.room ≡ wave.old.room }
+{
+    wave.clear();
+    for (site, height) in heights.iter().enumerate() {
+        wave.push_if(site, *height >= TOPPLING_HEIGHT);
+    }
 }
 
 fn sum_of(counts: &[u64]) -> u64
@@ -164,11 +203,21 @@ pub fn settle(alloc: Global, pile: &Pile) -> Result<Settled, SettleFault>
     ensures half { IfOk result (λ r. 2 * r.topplings ≤ weight pile.now.grid (height_of pile.now)) }
     ensures bound { IfOk result (λ r. r.topplings < 2 ^ 54) }
 {
-    let shape = pile.shape();
+    let lattice = Lattice::new(alloc, pile.shape())?;
+    let room = pile.shape().sites() + 1;
     let mut heights = Vec::from_slice(alloc, pile.heights())?;
-    let mut odometer = vec![in alloc; 0u64; shape.sites()]?;
-    let mut toppled = Vec::with_capacity(alloc, shape.sites())?;
-    let mut queue = queue_of(alloc, pile.heights())?;
-    drain(shape, &mut heights, &mut odometer, &mut toppled, &mut queue);
+    let mut odometer = vec![in alloc; 0u64; pile.shape().sites()]?;
+    let mut toppled = SiteList::new(alloc, room)?;
+    let mut wave = SiteList::new(alloc, room)?;
+    let mut next = SiteList::new(alloc, room)?;
+    list_unstable(pile.heights(), &mut wave);
+    drain(
+        &lattice,
+        &mut heights,
+        &mut odometer,
+        &mut toppled,
+        &mut wave,
+        &mut next,
+    );
     Ok(record_of(pile, heights, odometer))
 }

@@ -1,9 +1,15 @@
-use Rattle.std.proofs.Common.{arith, refl, slice_index_or}
-use Rattle.sand_settle.specs.Lists.{has_toppled}
-use Rattle.sand_settle.proofs.Lists.{lists_room}
+use Rattle.std.proofs.Common.{ap, arith}
+use Rattle.sand_settle.specs.Lists.{ListView}
+use Rattle.sand_settle.proofs.Lists.{lists_length}
+use Rattle.sand_settle.proofs.Queue.{noted}
 use Rattle.sand_settle.proofs.settling.count.Goals as goal
 
-pub push_reserved-requires : goal.push_reserved-requires
-push_reserved-requires c =
-    let room = lists_room _ (has_toppled (λ j. slice_index_or c.args.counts.now j 0)) c.args.toppled.now.items c.args.site c.requires.noted c.requires.site (rw c.if-before-eq0.true refl) in
-    omega (arith, c.args.toppled.now.ok.0, room, c.requires.room)
+pub push_if-requires-clause-room : goal.push_if-requires-clause-room
+push_if-requires-clause-room c =
+    let few = lists_length _ _ _ c.requires.noted in
+    omega (arith, c.requires.room)
+
+pub returns-clause-noted : goal.returns-clause-noted
+returns-clause-noted c =
+    rw (ap (λ (l : ListView). l.sites) c.push_if.ensures)
+    (noted c.args.counts.now c.args.toppled.now.sites c.args.site c.args.times c.requires.site c.requires.some c.requires.noted)

@@ -1,18 +1,12 @@
-use Rattle.std.proofs.Common.{◌<◌, arith, slice_index_or, nat_le, length}
-use Rattle.std.proofs.lemmas.Bool.{le-leb, lt-leb}
-use Rattle.sand_settle.specs.Lists.{may_topple}
-use Rattle.sand_settle.proofs.Lists.{lists_room}
-use Rattle.sand_settle.proofs.Queue.{joins}
+use Rattle.std.proofs.Common.{◌<◌, ◌+◌, ap, arith, length, get_or}
+use Rattle.sand_settle.specs.Lists.{ListView}
+use Rattle.sand_settle.proofs.Lists.{lists_of}
+use Rattle.sand_settle.proofs.Queue.{queued}
 use Rattle.sand_settle.proofs.settling.deliver.Goals as goal
 
-pub push_back_reserved-requires : goal.push_back_reserved-requires
-push_back_reserved-requires c =
+pub returns-in-Some-clause-waiting : goal.returns-in-Some-clause-waiting
+returns-in-Some-clause-waiting c n rest each all =
     let inside : c.in-Some.site < length c.args.heights.now = rw c.in-Some.is at c.requires.inside in
-    let room = lists_room _ (may_topple (λ j. slice_index_or c.args.heights.now j 0)) c.args.queue.now.items c.in-Some.site c.requires.queued inside (lt-leb 4 _ c.if-before-lt-TOPPLING_HEIGHT.true) in
-    omega (arith, c.args.queue.now.ok.0, room, c.requires.room)
-
-pub returns-then-before-times-ge-TOPPLING_HEIGHT-clause-queued : goal.returns-then-before-times-ge-TOPPLING_HEIGHT-clause-queued
-returns-then-before-times-ge-TOPPLING_HEIGHT-clause-queued c =
-    let inside : c.in-Some.site < length c.args.heights.now = rw c.in-Some.is at c.requires.inside in
-    rw c.push_back_reserved.ensures.items
-    (joins (nat_le 4) c.args.heights.now c.args.queue.now.items c.in-Some.site _ c.requires.queued inside (lt-leb 4 _ c.if-before-lt-TOPPLING_HEIGHT.true) (le-leb 4 _ c.if-before-times-ge-TOPPLING_HEIGHT.true))
+    rw (each, ap (λ (l : ListView). l.sites) c.push_if.ensures)
+    (queued c.args.heights.now rest c.args.next.now.sites c.in-Some.site (get_or c.args.heights.now c.in-Some.site 0 + c.args.times) inside (omega arith)
+    (lists_of n (length c.args.heights.now) _ _ each all))

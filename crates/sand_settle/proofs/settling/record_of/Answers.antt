@@ -1,6 +1,6 @@
-use Rattle.std.proofs.Common.{◌≡◌, ◌∙◌, ◌+◌, ◌≤◌, ◌^◌, ap, arith, length, sum, get_or}
+use Rattle.std.proofs.Common.{◌∙◌, ap, arith, length, sum}
 use Rattle.sand_model.specs.Piles.{PileView}
-use Rattle.sand_settle.proofs.Records.{sum_bound, half_weight, grains_left, record_is}
+use Rattle.sand_settle.proofs.Records.{sum_bound, half_weight, record_is}
 use Rattle.sand_settle.proofs.settling.record_of.Goals as goal
 
 pub sum_of-topplings-requires : goal.sum_of-topplings-requires

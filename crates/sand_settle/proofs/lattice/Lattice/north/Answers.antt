@@ -1,0 +1,9 @@
+use Rattle.std.proofs.Common.{ap, arith}
+use Rattle.sand_model.specs.Grid.{Grid}
+use Rattle.sand_settle.proofs.Borders.{nothing_north}
+use Rattle.sand_settle.proofs.lattice.Lattice.north.Goals as goal
+
+pub returns-else-site-self : goal.returns-else-site-self
+returns-else-site-self c =
+    let width = ap (λ (g : Grid). g.width) c.self.view_is in
+    nothing_north c.args.self.now c.args.site c.requires (omega (arith, width, c.self.invariant.1))

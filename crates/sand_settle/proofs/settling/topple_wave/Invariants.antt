@@ -1,0 +1,18 @@
+use Rattle.std.proofs.Common.{◌≡◌, ◌+◌, ◌≤◌, ◌++◌, length, drop, get_or}
+use Rattle.sand_model.specs.Grid.{sites}
+use Rattle.sand_model.specs.Sand.{topplings}
+use Rattle.sand_settle.specs.Lists.{Lists, may_topple, has_toppled}
+use Rattle.sand_settle.specs.Underway.{Advances}
+use Rattle.sand_settle.proofs.settling.topple_wave.Given as goal
+
+abbrev pub invariant-loop-turn : goal.invariant-loop-turn
+invariant-loop-turn l = record {
+  heights_each : length l.heights ≡ sites l.lattice;
+  counts_each : length l.counts ≡ sites l.lattice;
+  advances : Advances l.lattice (λ j. get_or l.initial.counts j 0) (λ j. get_or l.initial.heights j 0) (λ j. get_or l.counts j 0) (λ j. get_or l.heights j 0);
+  each_topples : topplings l.lattice (λ j. get_or l.initial.counts j 0) + l.turn ≤ topplings l.lattice (λ j. get_or l.counts j 0);
+  waiting : Lists (sites l.lattice) (may_topple (λ j. get_or l.heights j 0)) (drop l.turn l.wave.sites ++ l.next.sites);
+  noted : Lists (sites l.lattice) (has_toppled (λ j. get_or l.counts j 0)) l.toppled.sites;
+  next_room : l.next.room ≡ l.initial.next.room;
+  toppled_room : l.toppled.room ≡ l.initial.toppled.room;
+}

@@ -1,0 +1,137 @@
+//! A grid whose neighbours are found without a division.
+
+ghost use Rattle.std.specs.Prelude.{◌≡◌, ℕ, ◌%◌, ◌<◌, ◌≤◌, IfOk, length, slice_index, vec_len};
+ghost use Rattle.sand_model.specs.Grid.{IsGrid, sites, column, north, west, east, south, places};
+ghost use Rattle.sand_settle.specs.Columns.{AreColumns};
+
+use sand_model::{Edge, Shape};
+use std::alloc::{AllocError, Global};
+use std::marker::Model;
+
+/// A shape, with the column of each site at hand.
+#[derive(Debug, Drop)]
+pub(crate) struct Lattice {
+    width: usize,
+    end: usize,
+    is_cylinder: bool,
+    shape: Shape,
+    columns: Vec<u8>,
+}
+
+impl Model for Lattice {
+    ghost use Rattle.std.specs.Prelude.{◌≡◌};
+    ghost use Rattle.sand_model.specs.Grid.{Grid, IsGrid, sites, joins};
+    ghost use Rattle.sand_settle.specs.Columns.{AreColumns};
+
+    ghost Value = { Grid };
+
+    ghost view = { λ l. l.shape };
+
+    ghost invariant = { λ l. IsGrid l.shape × (l.width ≡ l.shape.width) × (l.end ≡ sites l.shape) × (l.is_cylinder ≡ joins l.shape.edge) × AreColumns l.shape l.columns.items };
+}
+
+// The columns of all sites, by site.
+fn columns_of(alloc: Global, shape: Shape) -> Result<Vec<u8>, AllocError>
+    ensures { IfOk result (λ v. AreColumns shape v.items) }
+{
+    let width = shape.width();
+    let mut columns = Vec::with_capacity(alloc, shape.sites())?;
+    for site in 0..shape.sites() {
+        columns.push_reserved((site % width) as u8);
+    }
+    Ok(columns)
+}
+
+impl Lattice {
+    pub(crate) fn new(alloc: Global, shape: Shape) -> Result<Lattice, AllocError>
+        ensures { IfOk result (λ l. l ≡ shape) }
+    {
+        let columns = columns_of(alloc, shape)?;
+        Ok(Lattice {
+            width: shape.width(),
+            end: shape.sites(),
+            is_cylinder: shape.edge() == Edge::Cylinder,
+            shape,
+            columns,
+        })
+    }
+
+    pub(crate) fn shape(&self) -> Shape
+        ensures value { result ≡ self.now }
+        ensures sides { IsGrid self.now }
+    {
+        self.shape
+    }
+
+    #[inline(always)]
+    #[tactic(auto, unfolding(sand_model::specs::Grid::north))]
+    fn north(&self, site: usize) -> Option<usize>
+        requires { site < sites self.now }
+        ensures { result ≡ north self.now site }
+    {
+        if site >= self.width {
+            Some(site - self.width)
+        } else {
+            None
+        }
+    }
+
+    #[inline(always)]
+    #[tactic(auto, unfolding(sand_model::specs::Grid::west))]
+    fn west(&self, site: usize) -> Option<usize>
+        requires { site < sites self.now }
+        ensures { result ≡ west self.now site }
+    {
+        if self.columns[site] > 0 {
+            Some(site - 1)
+        } else if self.is_cylinder {
+            Some(site + (self.width - 1))
+        } else {
+            None
+        }
+    }
+
+    #[inline(always)]
+    #[tactic(auto, unfolding(sand_model::specs::Grid::east))]
+    fn east(&self, site: usize) -> Option<usize>
+        requires { site < sites self.now }
+        ensures { result ≡ east self.now site }
+    {
+        if usize::from(self.columns[site]) + 1 < self.width {
+            Some(site + 1)
+        } else if self.is_cylinder {
+            Some(site - (self.width - 1))
+        } else {
+            None
+        }
+    }
+
+    #[inline(always)]
+    #[tactic(auto, unfolding(sand_model::specs::Grid::south))]
+    fn south(&self, site: usize) -> Option<usize>
+        requires { site < sites self.now }
+        ensures { result ≡ south self.now site }
+    {
+        if site + self.width < self.end {
+            Some(site + self.width)
+        } else {
+            None
+        }
+    }
+
+    /// The places north, west, east and south of a site, in that order.
+    #[inline(always)]
+    pub(crate) fn neighbours(&self, site: usize) -> [Option<usize>; 4]
+        requires { site < sites self.now }
+        ensures places { result ≡ places self.now site }
+        ensures sides { IsGrid self.now }
+    {
+        let _ = &self.shape;
+        [
+            self.north(site),
+            self.west(site),
+            self.east(site),
+            self.south(site),
+        ]
+    }
+}
