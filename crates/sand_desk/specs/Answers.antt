@@ -1,0 +1,16 @@
+-- What the readings and the texts answer, with the program's faults.
+use Rattle.std.specs.Prelude.{ℕ, ◌≡◌, List, Result, Ok, Err, IsOk}
+use Rattle.sand_text.specs.declared.fault.TextFault.{TextFault}
+use Rattle.sand_desk.specs.declared.faults.DeskFault.{DeskFault}
+use Rattle.sand_desk.specs.declared.faults.DeskFault.TheVariants as desk
+use Rattle.sand_desk.specs.Faults.{of_text}
+
+-- the reading has this fault; memory runs out only where the text has none
+abbrev pub Fails : {A : Type 0} → DeskFault → Result A TextFault → Type 0
+Fails desk.Memory read = IsOk read
+Fails fault read = (why : TextFault) × (read ≡ Err why) × (fault ≡ of_text why)
+
+-- the answer is the reading
+abbrev pub Reads : {A : Type 0} → Result A DeskFault → Result A TextFault → Type 0
+Reads (Ok value) read = read ≡ Ok value
+Reads (Err fault) read = Fails fault read

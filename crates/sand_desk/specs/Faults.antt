@@ -1,0 +1,100 @@
+-- The faults of the program: numbers, names, lines and exit statuses.
+use Rattle.std.specs.Prelude.{ℕ, List, [], ◌++◌, codes, decimal}
+use Rattle.clap.specs.Words.{kind_of}
+use Rattle.clap.specs.declared.error.kind.ErrorKind.{ErrorKind}
+use Rattle.clap.specs.declared.error.kind.ErrorKind.TheVariants as kind
+use Rattle.sand_text.specs.declared.fault.TextFault.{TextFault}
+use Rattle.sand_text.specs.declared.fault.TextFault.TheVariants as text
+use Rattle.sand_text.specs.declared.fault.ReadFault.{ReadFault}
+use Rattle.sand_text.specs.declared.fault.ReadFault.TheVariants as read
+use Rattle.sand_text.specs.declared.fault.StreamFault.{StreamFault}
+use Rattle.sand_text.specs.declared.fault.StreamFault.TheVariants as stream
+use Rattle.sand_words.specs.declared.fault.WordsFault.{WordsFault}
+use Rattle.sand_words.specs.declared.fault.WordsFault.TheVariants as words
+use Rattle.sand_desk.specs.declared.faults.DeskFault.{DeskFault}
+use Rattle.sand_desk.specs.declared.faults.DeskFault.TheVariants.{Side, Length, TooManyGrains, Memory, Text, TooLarge, Read, Write, TooLong, Usage, Narrow}
+
+abbrev pub number_of : DeskFault → ℕ
+number_of Side = 1
+number_of Length = 2
+number_of TooManyGrains = 3
+number_of Memory = 4
+number_of (Text place) = 18
+number_of (TooLarge place) = 19
+number_of Read = 20
+number_of (Write sent) = 21
+number_of TooLong = 22
+number_of (Usage error) = 23
+number_of Narrow = 24
+
+abbrev pub name_of : DeskFault → List ℕ
+name_of Side = codes "Side"
+name_of Length = codes "Length"
+name_of TooManyGrains = codes "TooManyGrains"
+name_of Memory = codes "Memory"
+name_of (Text place) = codes "Text"
+name_of (TooLarge place) = codes "TooLarge"
+name_of Read = codes "Read"
+name_of (Write sent) = codes "Write"
+name_of TooLong = codes "TooLong"
+name_of (Usage error) = codes "Usage"
+name_of Narrow = codes "Narrow"
+
+-- where in the input, or after how many bytes of the output
+abbrev pub place_of : DeskFault → List ℕ
+place_of Side = []
+place_of Length = []
+place_of TooManyGrains = []
+place_of Memory = []
+place_of (Text place) = codes " at " ++ decimal place
+place_of (TooLarge place) = codes " at " ++ decimal place
+place_of Read = []
+place_of (Write sent) = codes " after " ++ decimal sent
+place_of TooLong = []
+place_of (Usage error) = []
+place_of Narrow = []
+
+-- the line that tells a fault
+abbrev pub fault_line : DeskFault → List ℕ
+fault_line fault = codes "fault " ++ decimal (number_of fault) ++ codes " " ++ name_of fault ++ place_of fault ++ codes "\n"
+
+-- help is no misuse
+abbrev pub usage_status : ErrorKind → ℕ
+usage_status kind.DisplayHelp = 0
+usage_status kind.DisplayVersion = 0
+usage_status _ = 2
+
+abbrev pub status_of : DeskFault → ℕ
+status_of Side = 1
+status_of Length = 1
+status_of TooManyGrains = 1
+status_of Memory = 1
+status_of (Text place) = 1
+status_of (TooLarge place) = 1
+status_of Read = 1
+status_of (Write sent) = 1
+status_of TooLong = 1
+status_of (Usage error) = usage_status (kind_of error)
+status_of Narrow = 1
+
+abbrev pub of_text : TextFault → DeskFault
+of_text (text.Text place) = Text place
+of_text (text.TooLarge place) = TooLarge place
+of_text text.Side = Side
+of_text text.Narrow = Narrow
+of_text text.Length = Length
+of_text text.TooManyGrains = TooManyGrains
+
+abbrev pub of_read : ReadFault → DeskFault
+of_read read.Memory = Memory
+of_read (read.Text fault) = of_text fault
+
+abbrev pub of_stream : StreamFault → DeskFault
+of_stream stream.Memory = Memory
+of_stream stream.Read = Read
+of_stream (stream.Write sent) = Write sent
+of_stream stream.TooLong = TooLong
+
+abbrev pub of_words : WordsFault → DeskFault
+of_words words.Memory = Memory
+of_words (words.Usage error) = Usage error

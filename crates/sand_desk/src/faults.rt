@@ -1,0 +1,223 @@
+//! Why a command ended before its text was written: the fault, its number and name, its line and the exit status.
+
+ghost use Rattle.std.specs.Prelude.{◌≡◌, ◌≢◌, ℕ, ◌+◌, ◌<◌, ◌≤◌, List, [], ◌++◌, length, take, codes, decimal, OnOk, IfErr};
+ghost use Rattle.std.specs.Io.KnownBytes.{Appends};
+ghost use Rattle.arrayvec.specs.ArrayString.{array_string_len};
+ghost use Rattle.sand_desk.specs.Faults.{number_of, name_of, status_of, fault_line, place_of, of_text, of_read, of_stream, of_words};
+ghost use Rattle.sand_desk.specs.declared.faults.DeskFault.TheVariants as desk;
+
+use arrayvec::ArrayString;
+use clap::error::ErrorKind;
+use itoa::Buffer;
+use sand_settle::SettleFault;
+use sand_text::{ReadFault, StreamFault, TextFault, write_text};
+use sand_words::WordsFault;
+use std::alloc::AllocError;
+use std::io::Write;
+use thiserror::Error;
+
+/// Why a command ended before its text was written.
+#[derive(Debug, Drop, Error)]
+pub enum DeskFault {
+    #[error("width or height outside 1 to 256")]
+    Side,
+    #[error("wrong number of heights")]
+    Length,
+    #[error("more grains than the limit")]
+    TooManyGrains,
+    #[error("out of memory")]
+    Memory,
+    /// A byte that stands in no text of a pile, with its offset; or fewer than two numbers, with the text's length.
+    #[error("not the text of a pile, at byte {0}")]
+    Text(usize),
+    /// A number over the grain limit, with the offset of its first byte.
+    #[error("a number over the limit, at byte {0}")]
+    TooLarge(usize),
+    #[error("the reader failed")]
+    Read,
+    /// The writer failed after it took so many bytes.
+    #[error("the writer failed after {0} bytes")]
+    Write(usize),
+    #[error("more input than the limit")]
+    TooLong,
+    /// The command line was refused, or it asks for help.
+    #[error("{0}")]
+    Usage(clap::Error),
+    #[error("a cylinder of width below 3")]
+    Narrow,
+}
+
+impl DeskFault {
+    pub fn number(&self) -> u32
+        ensures { result ≡ number_of self.now }
+    {
+        match self {
+            DeskFault::Side => 1,
+            DeskFault::Length => 2,
+            DeskFault::TooManyGrains => 3,
+            DeskFault::Memory => 4,
+            DeskFault::Text(_) => 18,
+            DeskFault::TooLarge(_) => 19,
+            DeskFault::Read => 20,
+            DeskFault::Write(_) => 21,
+            DeskFault::TooLong => 22,
+            DeskFault::Usage(_) => 23,
+            DeskFault::Narrow => 24,
+        }
+    }
+}
+
+impl From<TextFault> for DeskFault {
+    ghost from_gives = { λ fault e. e ≡ of_text fault };
+
+    fn from(fault: TextFault) -> DeskFault {
+        match fault {
+            TextFault::Text(place) => DeskFault::Text(place),
+            TextFault::TooLarge(place) => DeskFault::TooLarge(place),
+            TextFault::Side => DeskFault::Side,
+            TextFault::Narrow => DeskFault::Narrow,
+            TextFault::Length => DeskFault::Length,
+            TextFault::TooManyGrains => DeskFault::TooManyGrains,
+        }
+    }
+}
+
+impl From<ReadFault> for DeskFault {
+    ghost from_gives = { λ fault e. e ≡ of_read fault };
+
+    fn from(fault: ReadFault) -> DeskFault {
+        match fault {
+            ReadFault::Memory => DeskFault::Memory,
+            ReadFault::Text(fault) => DeskFault::from(fault),
+        }
+    }
+}
+
+impl From<StreamFault> for DeskFault {
+    ghost from_gives = { λ fault e. e ≡ of_stream fault };
+
+    fn from(fault: StreamFault) -> DeskFault {
+        match fault {
+            StreamFault::Memory => DeskFault::Memory,
+            StreamFault::Read => DeskFault::Read,
+            StreamFault::Write(sent) => DeskFault::Write(sent),
+            StreamFault::TooLong => DeskFault::TooLong,
+        }
+    }
+}
+
+impl From<WordsFault> for DeskFault {
+    ghost from_gives = { λ fault e. e ≡ of_words fault };
+
+    fn from(fault: WordsFault) -> DeskFault {
+        match fault {
+            WordsFault::Memory => DeskFault::Memory,
+            WordsFault::Usage(error) => DeskFault::Usage(error),
+        }
+    }
+}
+
+impl From<SettleFault> for DeskFault {
+    ghost from_gives = { λ _ e. e ≡ desk.Memory };
+
+    fn from(_refused: SettleFault) -> DeskFault {
+        DeskFault::Memory
+    }
+}
+
+impl From<AllocError> for DeskFault {
+    ghost from_gives = { λ _ e. e ≡ desk.Memory };
+
+    fn from(_refused: AllocError) -> DeskFault {
+        DeskFault::Memory
+    }
+}
+
+/// The exit status of a program that ends with this fault: 2 for misuse, 0 for a call for help, else 1.
+pub fn status(fault: &DeskFault) -> u8
+    ensures { result ≡ status_of fault.now }
+{
+    match fault {
+        DeskFault::Usage(error) => match error.kind() {
+            ErrorKind::DisplayHelp | ErrorKind::DisplayVersion => 0,
+            _ => 2,
+        },
+        _ => 1,
+    }
+}
+
+fn name(fault: &DeskFault) -> &'static str
+    ensures name { result.now ≡ name_of fault.now }
+    ensures short { length result.now ≤ 16 }
+{
+    match fault {
+        DeskFault::Side => "Side",
+        DeskFault::Length => "Length",
+        DeskFault::TooManyGrains => "TooManyGrains",
+        DeskFault::Memory => "Memory",
+        DeskFault::Text(_) => "Text",
+        DeskFault::TooLarge(_) => "TooLarge",
+        DeskFault::Read => "Read",
+        DeskFault::Write(_) => "Write",
+        DeskFault::TooLong => "TooLong",
+        DeskFault::Usage(_) => "Usage",
+        DeskFault::Narrow => "Narrow",
+    }
+}
+
+/// The most bytes that the line of a fault may have.
+const LINE_ROOM: usize = 64;
+
+fn push(line: &mut ArrayString<LINE_ROOM>, part: &str)
+    requires { array_string_len line.old + length part.now ≤ LINE_ROOM }
+    ensures { line.new.bytes ≡ line.old.bytes ++ part.now }
+{
+    let _ = line.try_push_str(part);
+}
+
+// Where in the input the fault is, or after how many bytes of the output.
+fn push_place(line: &mut ArrayString<LINE_ROOM>, fault: &DeskFault)
+    requires { array_string_len line.old ≤ 34 }
+    ensures place { line.new.bytes ≡ line.old.bytes ++ place_of fault.now }
+    ensures room { array_string_len line.new ≤ 63 }
+{
+    let mut buffer = Buffer::new();
+    match fault {
+        DeskFault::Text(place) | DeskFault::TooLarge(place) => {
+            push(line, " at ");
+            push(line, buffer.format(*place));
+        }
+        DeskFault::Write(sent) => {
+            push(line, " after ");
+            push(line, buffer.format(*sent));
+        }
+        _ => (),
+    }
+}
+
+// The line that tells a fault.
+fn line_of(fault: &DeskFault) -> ArrayString<LINE_ROOM>
+    ensures { result.bytes ≡ fault_line fault.now }
+{
+    let mut line = ArrayString::new();
+    let mut buffer = Buffer::new();
+    push(&mut line, "fault ");
+    push(&mut line, buffer.format(fault.number()));
+    push(&mut line, " ");
+    push(&mut line, name(fault));
+    push_place(&mut line, fault);
+    push(&mut line, "\n");
+    line
+}
+
+/// Writes the line of a fault, as `fault 18 Text at 6` and a newline. It takes no memory. Refuses a writer that fails,
+/// with how many of the line's first bytes it took (Write).
+pub fn write_fault<W: Write>(fault: &DeskFault, writer: &mut W) -> Result<(), DeskFault>
+    requires { number_of fault.now ≢ 23 }
+    ensures ok { OnOk result (Appends (W.contents writer.old) (W.contents writer.new) (fault_line fault.now)) }
+    ensures err { IfErr result (λ e. (sent : ℕ) × (e ≡ DeskFault.Write sent) × (sent ≤ length (fault_line fault.now))
+        × Appends (W.contents writer.old) (W.contents writer.new) (take sent (fault_line fault.now))) }
+{
+    write_text(writer, line_of(fault).as_str().as_bytes())?;
+    Ok(())
+}

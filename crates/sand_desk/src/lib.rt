@@ -1,0 +1,13 @@
+//! The program's commands: from words and bytes to bytes.
+//!
+//! `commands` asks `sand_words` for the task that the words name, reads the input, does the task and writes its text.
+//! `texts` has the readings and the texts of `sand_text`, and `faults` the one fault type of it all.
+#![tactic(auto)]
+
+mod commands;
+mod faults;
+mod texts;
+
+pub use commands::run_command;
+pub use faults::{DeskFault, status, write_fault};
+pub use texts::{pile_text, read_pile, settle_text};

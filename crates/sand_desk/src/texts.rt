@@ -1,0 +1,37 @@
+//! The readings and the texts of `sand_text`, with the program's faults.
+
+ghost use Rattle.std.specs.Prelude.{◌≡◌, IfOk, IsOkUnless};
+ghost use Rattle.sand_text.specs.Reading.{pile_of};
+ghost use Rattle.sand_text.specs.Texts.{text_of, settle_text_of};
+ghost use Rattle.sand_desk.specs.Answers.{Reads};
+
+use crate::faults::DeskFault;
+use sand_model::Pile;
+use sand_settle::Settled;
+use std::alloc::Global;
+
+/// The pile that a text holds. Every fault of the text is found before anything grows, and want of memory comes last.
+pub fn read_pile(alloc: Global, text: &[u8]) -> Result<Pile, DeskFault>
+    ensures { Reads result (pile_of text.now) }
+{
+    let pile = sand_text::read_pile(alloc, text)?;
+    Ok(pile)
+}
+
+/// The text of a pile.
+pub fn pile_text(alloc: Global, pile: &Pile) -> Result<Vec<u8>, DeskFault>
+    ensures text { IfOk result (λ text. text.items ≡ text_of pile.now) }
+    ensures memory { IsOkUnless result DeskFault.Memory }
+{
+    let text = sand_text::pile_text(alloc, pile)?;
+    Ok(text)
+}
+
+/// The text of a settled pile: the pile, its odometer, the grains lost and the topplings.
+pub fn settle_text(alloc: Global, settled: &Settled) -> Result<Vec<u8>, DeskFault>
+    ensures text { IfOk result (λ text. text.items ≡ settle_text_of settled.now) }
+    ensures memory { IsOkUnless result DeskFault.Memory }
+{
+    let text = sand_text::settle_text(alloc, settled)?;
+    Ok(text)
+}

@@ -1,0 +1,199 @@
+-- What is written of a pile is read as the same pile.
+use Rattle.std.proofs.Common.{◌≡◌, ℕ, zero, suc, ◌+◌, ◌*◌, ◌<◌, ◌≤◌, ◌^◌, List, [], ◌∷◌, ◌++◌, length, take, drop, get_or, None, decimal, refl, sym, ◌∙◌, ap, arith, append_assoc, length-drop, zero-mul, suc-mul, mul_comm, ◌&&◌, ltb, eq-eqb, not, true, false, cond, eqb, sum, min}
+use Rattle.std.specs.Prelude.{Ok}
+use Rattle.std.specs.Bool.{if◌then◌else◌, ◌==◌}
+use Rattle.std.specs.List.{slice_split, All}
+use Rattle.std.specs.Str.Parse.{digits_value}
+use Rattle.std.specs.Int.{IsInRange}
+use Rattle.std.proofs.lemmas.List.Splits.{slice_split_at}
+use Rattle.std.proofs.lemmas.Str.Parse.{digit_at}
+use Rattle.std.proofs.lemmas.List.{get_or_default, take-append-drop, take_all}
+use Rattle.std.proofs.lemmas.List.Sums.{position_or_len_is, get_or-le-sum_by}
+use Rattle.std.proofs.lemmas.Fmt.{decimal_is_IsNumeral, decimal_nonempty}
+use Rattle.std.proofs.lemmas.Bool.Decides.{nat_tests}
+use Rattle.std.proofs.lemmas.Grind.{pieces}
+use Rattle.sand_model.specs.declared.pile.TheConstants.{GRAIN_LIMIT}
+use Rattle.sand_model.specs.declared.shape.Edge.{Edge}
+use Rattle.sand_model.specs.declared.shape.Edge.TheVariants.{Open, Cylinder}
+use Rattle.sand_model.specs.Grid.{Grid, IsGrid, grid_of, joins, is_side, sites}
+use Rattle.sand_model.specs.Piles.{PileView, IsPile}
+use Rattle.sand_text.specs.declared.words.Word.{Word}
+use Rattle.sand_text.specs.declared.words.Word.TheVariants.{Number, Letter}
+use Rattle.sand_text.specs.Bytes.{is_digit, is_other, is_space, digits_len}
+use Rattle.sand_text.specs.Words.{word_of, words_from, words_at, words, first_strange, first_large, edge_behind, numbers}
+use Rattle.sand_text.specs.Texts.{row_text, rows_text, edge_text, text_of}
+use Rattle.sand_text.specs.Reading.{pile_of}
+use Rattle.sand_text.proofs.Cuts.{one_part}
+
+-- ---- a number
+
+in_digits : (b : ℕ) → IsInRange 48 57 b → is_digit b ≡ true
+in_digits b h = grind (arith, nat_tests, h.0, h.1)
+
+digit_in : (n : ℕ) → n < 2 ^ 64 → (k d : ℕ) → k < length (decimal n) → is_digit (get_or (decimal n) k d) ≡ true
+digit_in n h k d lt = in_digits (get_or (decimal n) k d) (rw (get_or_default (decimal n) k 0 d lt) at (digit_at (decimal n) k (decimal_is_IsNumeral n h).0.1 lt))
+
+digit_no_space : (b : ℕ) → is_digit b ≡ true → is_space b ≡ false
+digit_no_space b e = grind (arith, nat_tests)
+
+no_space : (n : ℕ) → n < 2 ^ 64 → All (λ b. is_space b ≡ false) (decimal n)
+no_space n h = λ k d lt. digit_no_space (get_or (decimal n) k d) (digit_in n h k d lt)
+
+-- the digits of a number are a word that is the number
+number_word : (at n : ℕ) → n ≤ GRAIN_LIMIT → word_of at (decimal n) ≡ Number at n
+unfolding word_of
+number_word at n le =
+    let fits : n < 2 ^ 64 = omega arith in
+    let all : digits_len (decimal n) ≡ length (decimal n) = position_or_len_is is_other (decimal n) (length (decimal n)) 0 (omega arith) (λ k lt. ap not (digit_in n fits k 0 lt)) (λ lt. absurd (omega arith)) in
+    let test : eqb (digits_len (decimal n)) (length (decimal n)) ≡ true = eq-eqb _ _ all in
+    let value : digits_value 10 (decimal n) ≡ n = (decimal_is_IsNumeral n fits).1 in
+    let small : min n (GRAIN_LIMIT + 1) ≡ n = omega arith in
+    rw (test, value, small) refl
+
+-- a number and white space behind it
+number_first : (at n y : ℕ) (rest : List ℕ) → n ≤ GRAIN_LIMIT → is_space y ≡ true → words_at at (decimal n ++ y ∷ rest) ≡ Number at n ∷ words_at (at + length (decimal n) + 1) rest
+number_first at n y rest le e =
+    let fits : n < 2 ^ 64 = omega arith in
+    let cut = slice_split_at is_space (decimal n) y rest (no_space n fits) e in
+    let one = one_part at (length (decimal n)) (decimal n) (slice_split is_space rest) refl (decimal_nonempty n fits) in
+    ap (words_from at) cut ∙ (one ∙ rw (number_word at n le) refl)
+
+-- ---- rows of numbers
+
+-- the words of numbers, each with one byte behind it
+abbrev number_words : ℕ → List ℕ → List Word
+number_words at [] = []
+number_words at (n ∷ ns) = Number at n ∷ number_words (at + length (decimal n) + 1) ns
+
+-- the place behind these numbers
+abbrev behind : ℕ → List ℕ → ℕ
+behind at [] = at
+behind at (n ∷ ns) = behind (at + length (decimal n) + 1) ns
+
+number_words-append : (at : ℕ) (xs ys : List ℕ) → number_words at (xs ++ ys) ≡ number_words at xs ++ number_words (behind at xs) ys
+number_words-append at [] ys = refl
+number_words-append at (x ∷ xs) ys = ap (λ ws. Number at x ∷ ws) (number_words-append (at + length (decimal x) + 1) xs ys)
+
+separators : (n : ℕ) → is_space (if n == 0 then 10 else 32) ≡ true
+separators n = elim (n == 0) as (λ v. is_space (cond v 10 32) ≡ true) [ true ↦ refl | false ↦ refl ]
+
+row_again : (at : ℕ) (ns rest : List ℕ) → All (λ n. n ≤ GRAIN_LIMIT) ns → words_at at (row_text ns ++ rest) ≡ number_words at ns ++ words_at (behind at ns) rest
+unfolding row_text
+row_again at [] rest h = refl
+row_again at (n ∷ ns) rest h =
+    let more = row_again (at + length (decimal n) + 1) ns rest (λ k d lt. h (suc k) d (omega arith)) in
+    ap (words_at at) (append_assoc (decimal n) ((if length ns == 0 then 10 else 32) ∷ row_text ns) rest) ∙ (number_first at n (if length ns == 0 then 10 else 32) (row_text ns ++ rest) (h 0 0 (omega arith)) (separators (length ns)) ∙ ap (λ ws. Number at n ∷ ws) more)
+
+empty : (ns : List ℕ) → length ns ≡ 0 → ns ≡ []
+empty [] e = refl
+empty (n ∷ ns) e = absurd (omega arith)
+
+rows_again : (at n w : ℕ) (ns : List ℕ) → All (λ n. n ≤ GRAIN_LIMIT) ns → length ns ≡ n * w → words_at at (rows_text n w ns) ≡ number_words at ns
+unfolding rows_text words_from
+rows_again at zero w ns h e = ap (number_words at) (sym (empty ns (e ∙ zero-mul w)))
+rows_again at (suc n) w ns h e =
+    let m : suc n * w ≡ n * w + w = suc-mul n w in
+    let front : All (λ n. n ≤ GRAIN_LIMIT) (take w ns) = search (pieces, arith) in
+    let back : All (λ n. n ≤ GRAIN_LIMIT) (drop w ns) = search (pieces, arith) in
+    let first = row_again at (take w ns) (rows_text n w (drop w ns)) front in
+    let others = rows_again (behind at (take w ns)) n w (drop w ns) back (omega (arith, length-drop w ns)) in
+    first ∙ (ap (λ ws. number_words at (take w ns) ++ ws) others ∙ (sym (number_words-append at (take w ns) (drop w ns)) ∙ ap (number_words at) (take-append-drop w ns)))
+
+-- ---- what the words of numbers say
+
+none_strange : (spared : List ℕ) (n at : ℕ) (ns : List ℕ) → first_strange spared n (number_words at ns) ≡ None
+unfolding first_strange
+none_strange spared n at [] = refl
+none_strange spared n at (x ∷ xs) = none_strange spared (n + 1) (at + length (decimal x) + 1) xs
+
+not_large : (n : ℕ) → n ≤ GRAIN_LIMIT → ltb GRAIN_LIMIT n ≡ false
+not_large n le = grind (arith, nat_tests)
+
+none_large : (at : ℕ) (ns : List ℕ) → All (λ n. n ≤ GRAIN_LIMIT) ns → first_large (number_words at ns) ≡ None
+unfolding first_large
+none_large at [] h = refl
+none_large at (x ∷ xs) h = rw (not_large x (h 0 0 (omega arith))) (none_large (at + length (decimal x) + 1) xs (λ k d lt. h (suc k) d (omega arith)))
+
+no_letter : (k n at : ℕ) (ns : List ℕ) → edge_behind k n (number_words at ns) ≡ Open
+unfolding edge_behind
+no_letter k n at [] = refl
+no_letter k n at (x ∷ xs) = no_letter k (n + 1) (at + length (decimal x) + 1) xs
+
+same_numbers : (at : ℕ) (ns : List ℕ) → numbers (number_words at ns) ≡ ns
+same_numbers at [] = refl
+same_numbers at (x ∷ xs) = ap (λ l. x ∷ l) (same_numbers (at + length (decimal x) + 1) xs)
+
+-- ---- the whole text
+
+-- the words behind the sides
+abbrev tail_words : Edge → ℕ → List ℕ → List Word
+tail_words Open at ns = number_words at ns
+tail_words Cylinder at ns = Letter at ∷ number_words (at + 1 + 1) ns
+
+-- the words of a pile's text
+abbrev pile_words : PileView → List Word
+pile_words p =
+    let second : ℕ = 0 + length (decimal p.grid.width) + 1 in
+    Number 0 p.grid.width ∷ Number second p.grid.height ∷ tail_words p.grid.edge (second + length (decimal p.grid.height) + 1) p.heights
+
+heights_small : (p : PileView) → IsPile p → All (λ n. n ≤ GRAIN_LIMIT) p.heights
+heights_small p h = λ k d lt. let b = get_or-le-sum_by (λ x. x) p.heights k d lt in omega (arith, b, h.limit)
+
+tail_again : (e : Edge) (at h w : ℕ) (ns : List ℕ) → h ≤ GRAIN_LIMIT → All (λ n. n ≤ GRAIN_LIMIT) ns → length ns ≡ h * w → words_at at (decimal h ++ (edge_text e ++ rows_text h w ns)) ≡ Number at h ∷ tail_words e (at + length (decimal h) + 1) ns
+unfolding words_from word_of
+tail_again Open at h w ns le small len =
+    number_first at h 10 (rows_text h w ns) le refl ∙ ap (λ ws. Number at h ∷ ws) (rows_again (at + length (decimal h) + 1) h w ns small len)
+tail_again Cylinder at h w ns le small len =
+    let next : ℕ = at + length (decimal h) + 1 in
+    number_first at h 32 (99 ∷ 10 ∷ rows_text h w ns) le refl ∙ ap (λ ws. Number at h ∷ Letter next ∷ ws) (rows_again (next + 1 + 1) h w ns small len)
+
+words_again : (p : PileView) → IsPile p → words (text_of p) ≡ pile_words p
+words_again p h =
+    let w = p.grid.width in
+    let rows = rows_text p.grid.height w p.heights in
+    let width_small : w ≤ GRAIN_LIMIT = omega (arith, h.grid.width_limit) in
+    let height_small : p.grid.height ≤ GRAIN_LIMIT = omega (arith, h.grid.height_limit) in
+    let cut : text_of p ≡ decimal w ++ 32 ∷ (decimal p.grid.height ++ (edge_text p.grid.edge ++ rows)) = simp append_assoc in
+    ap words cut ∙ (number_first 0 w 32 (decimal p.grid.height ++ (edge_text p.grid.edge ++ rows)) width_small refl ∙ ap (λ ws. Number 0 w ∷ ws) (tail_again p.grid.edge (0 + length (decimal w) + 1) p.grid.height w p.heights height_small (heights_small p h) (h.one_each ∙ mul_comm w p.grid.height)))
+
+tail_plain : (e : Edge) (at : ℕ) (ns : List ℕ) → first_strange (2 ∷ []) 2 (tail_words e at ns) ≡ None
+unfolding first_strange
+tail_plain Open at ns = none_strange (2 ∷ []) 2 at ns
+tail_plain Cylinder at ns = none_strange [] 2 (at + 1 + 1) ns
+
+tail_small : (e : Edge) (at : ℕ) (ns : List ℕ) → All (λ n. n ≤ GRAIN_LIMIT) ns → first_large (tail_words e at ns) ≡ None
+unfolding first_large
+tail_small Open at ns h = none_large at ns h
+tail_small Cylinder at ns h = none_large (at + 1 + 1) ns h
+
+tail_edge : (e : Edge) (at : ℕ) (ns : List ℕ) → edge_behind 2 2 (tail_words e at ns) ≡ e
+unfolding edge_behind
+tail_edge Open at ns = no_letter 2 2 at ns
+tail_edge Cylinder at ns = refl
+
+tail_numbers : (e : Edge) (at : ℕ) (ns : List ℕ) → numbers (tail_words e at ns) ≡ ns
+tail_numbers Open at ns = same_numbers at ns
+tail_numbers Cylinder at ns = same_numbers (at + 1 + 1) ns
+
+wide_enough : (e : Edge) (w : ℕ) → (joins e ≡ true → 3 ≤ w) → (joins e && ltb w 3) ≡ false
+wide_enough Open w h = refl
+wide_enough Cylinder w h = let wide : 3 ≤ w = h refl in grind (arith, nat_tests)
+
+-- a grid is made of its own sides
+grid_again : (g : Grid) → IsGrid g → grid_of g.width g.height g.edge ≡ Ok g
+grid_again g h =
+    let sides : (is_side g.width && is_side g.height) ≡ true = grind (arith, nat_tests, h.some_width, h.width_limit, h.some_height, h.height_limit) in
+    let wide : (joins g.edge && ltb g.width 3) ≡ false = wide_enough g.edge g.width h.wide in
+    rw (sides, wide) refl
+
+pub again : (p : PileView) → IsPile p → pile_of (text_of p) ≡ Ok p
+unfolding pile_of first_strange first_large edge_behind
+again p h =
+    let small = heights_small p h in
+    let at : ℕ = 0 + length (decimal p.grid.width) + 1 + length (decimal p.grid.height) + 1 in
+    let width_small = not_large p.grid.width (omega (arith, h.grid.width_limit)) in
+    let height_small = not_large p.grid.height (omega (arith, h.grid.height_limit)) in
+    let test : eqb (length p.heights) (sites p.grid) ≡ true = eq-eqb _ _ h.one_each in
+    let all : take (sites p.grid) p.heights ≡ p.heights = take_all (sites p.grid) p.heights (omega (arith, h.one_each)) in
+    let few : ltb GRAIN_LIMIT (sum p.heights) ≡ false = not_large (sum p.heights) h.limit in
+    rw (words_again p h, tail_plain p.grid.edge at p.heights, width_small, height_small, tail_small p.grid.edge at p.heights small, tail_edge p.grid.edge at p.heights, tail_numbers p.grid.edge at p.heights, grid_again p.grid h.grid, test, all, few) refl

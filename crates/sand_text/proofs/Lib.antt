@@ -1,0 +1,10 @@
+pub mod Again
+pub mod Cuts
+pub mod DigitRuns
+pub mod Lengths
+pub mod Readings
+pub mod RowSteps
+pub mod Spans
+pub mod StrangeBytes
+pub mod Streams
+pub mod Surveying

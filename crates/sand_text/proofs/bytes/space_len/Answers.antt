@@ -1,0 +1,7 @@
+use Rattle.std.proofs.Common.{not}
+use Rattle.sand_text.specs.Bytes.{is_space}
+use Rattle.sand_text.proofs.Cuts.{unwrap_position}
+use Rattle.sand_text.proofs.bytes.space_len.Goals as goal
+
+pub returns-clause-first : goal.returns-clause-first
+returns-clause-first c = let e = unwrap_position (λ b. not (is_space b)) c.args.text.now in cc

@@ -1,0 +1,12 @@
+use Rattle.std.proofs.Common.{arith, append_assoc, append-nil, ◌∙◌, sym}
+use Rattle.sand_text.proofs.RowSteps.{row_text-next, row_text-end}
+use Rattle.sand_text.proofs.rows.push_row.Goals as goal
+
+pub loop-place-preserved : goal.loop-place-preserved
+loop-place-preserved c =
+    let next = row_text-next c.args.numbers.now c.loop-place.place (omega arith) in
+    let grown = rw next at c.loop-place.invariant in
+    rw (c.in_ok-push.ensures.items, c.in_ok-push_number.ensures, c.separator.ensures, append_assoc, append_assoc) grown
+
+pub returns : goal.returns
+returns c = let none = row_text-end c.args.numbers.now c.loop-place.place (omega arith) in sym (append-nil _) ∙ rw none at c.loop-place.invariant

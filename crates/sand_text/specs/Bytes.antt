@@ -1,0 +1,30 @@
+-- The bytes of a text, and the value of digits.
+use Rattle.std.specs.Prelude.{ℕ, ◌+◌, List, Bool, not, ◌&&◌, ◌||◌, ◌==◌, nat_le, min, length, slice_index}
+use Rattle.std.specs.List.{position_or_len}
+use Rattle.sand_model.specs.declared.pile.TheConstants.{GRAIN_LIMIT}
+
+abbrev pub is_digit : ℕ → Bool
+is_digit b = nat_le 48 b && nat_le b 57
+
+abbrev pub is_other : ℕ → Bool
+is_other b = not (is_digit b)
+
+-- white space
+abbrev pub is_space : ℕ → Bool
+is_space b = (b == 9) || (b == 10) || (b == 13) || (b == 32)
+
+-- how many digits stand at the front
+abbrev pub digits_len : List ℕ → ℕ
+digits_len bytes = position_or_len is_other bytes
+
+-- how many bytes stand before the first white space
+abbrev pub word_len : List ℕ → ℕ
+word_len text = position_or_len is_space text
+
+-- the letter `c` alone
+abbrev pub is_letter : List ℕ → Bool
+is_letter word = length word == 1 && slice_index word 0 == 99
+
+-- a value, or one over the grain limit where it is larger
+abbrev pub capped : ℕ → ℕ
+capped value = min value (GRAIN_LIMIT + 1)

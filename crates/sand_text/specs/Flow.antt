@@ -1,0 +1,25 @@
+-- What the loops over a stream say of a reader. Where its bytes are not known, they say nothing of them.
+use Rattle.std.specs.Prelude.{◌≡◌, ℕ, ◌≤◌, List, [], length, drop, Option, Some, None}
+use Rattle.sand_text.specs.declared.fault.StreamFault.{StreamFault}
+use Rattle.sand_text.specs.declared.fault.StreamFault.TheVariants.{Memory, Read, Write, TooLong}
+
+-- the reader gave all its bytes, these, and none is left
+abbrev pub GivesAll : Option (List ℕ) → Option (List ℕ) → List ℕ → Type 0
+GivesAll None new bytes = Unit {0}
+GivesAll (Some all) new bytes = (bytes ≡ all) × (new ≡ Some [])
+
+-- the reader had n bytes at least, and gave n of them
+abbrev pub IsFurther : Option (List ℕ) → Option (List ℕ) → ℕ → Type 0
+IsFurther None new n = Unit {0}
+IsFurther (Some all) new n = (n ≤ length all) × (new ≡ Some (drop n all))
+
+-- the reader gave some bytes, at most so many
+abbrev pub IsFurtherByAtMost : Option (List ℕ) → Option (List ℕ) → ℕ → Type 0
+IsFurtherByAtMost old new most = (n : ℕ) × (n ≤ most) × IsFurther old new n
+
+-- the faults that reading may have
+abbrev pub IsOfReading : StreamFault → Type 0
+IsOfReading Memory = Unit {0}
+IsOfReading Read = Unit {0}
+IsOfReading TooLong = Unit {0}
+IsOfReading (Write sent) = ⊥

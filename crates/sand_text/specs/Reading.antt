@@ -1,0 +1,69 @@
+-- What a text of a pile means: the pile, or the first fault.
+use Rattle.std.specs.Prelude.{◌≡◌, ℕ, List, [], ◌∷◌, Bool, true, ◌==◌, nat_lt, nat_le, length, take, drop, sum, Option, Some, None, Result, Ok, Err, IsOk, if◌then◌else◌}
+use Rattle.sand_model.specs.declared.pile.TheConstants.{GRAIN_LIMIT}
+use Rattle.sand_model.specs.declared.shape.Edge.{Edge}
+use Rattle.sand_model.specs.declared.faults.ShapeFault.{ShapeFault}
+use Rattle.sand_model.specs.declared.faults.ShapeFault.TheVariants as shape_faults
+use Rattle.sand_model.specs.Grid.{Grid, grid_of, sites}
+use Rattle.sand_model.specs.Piles.{PileView}
+use Rattle.sand_text.specs.declared.fault.TextFault.{TextFault}
+use Rattle.sand_text.specs.declared.fault.TextFault.TheVariants.{Text, TooLarge, Side, Narrow, Length, TooManyGrains}
+use Rattle.sand_text.specs.declared.fault.ReadFault.{ReadFault}
+use Rattle.sand_text.specs.declared.fault.ReadFault.TheVariants as faults
+use Rattle.sand_text.specs.declared.words.Word.{Word}
+use Rattle.sand_text.specs.Words.{words, first_strange, first_large, edge_behind, numbers}
+
+infixl 10 ◌>>=◌
+abbrev pub ◌>>=◌ : {A B : Type 0} → Result A TextFault → (A → Result B TextFault) → Result B TextFault
+(Ok x) >>= f = f x
+(Err e) >>= f = Err e
+
+-- the fault at this place, if there is one, before all others
+abbrev pub unless_at : {A : Type 0} → Option ℕ → (ℕ → TextFault) → Result A TextFault → Result A TextFault
+unless_at None fault read = read
+unless_at (Some at) fault read = Err (fault at)
+
+-- the words of a text with no strange byte and no number over the limit, where letters are spared behind these counts of numbers
+abbrev pub plain_words : List ℕ → List ℕ → Result (List Word) TextFault
+plain_words spared text = let ws = words text in unless_at (first_strange spared 0 ws) Text (unless_at (first_large ws) TooLarge (Ok ws))
+
+abbrev pub of_shape : ShapeFault → TextFault
+of_shape shape_faults.Side = Side
+of_shape shape_faults.Narrow = Narrow
+
+-- how many numbers follow, against how many heights are wanted: no more where the pile is the last in its text
+abbrev pub is_count : Bool → ℕ → ℕ → Bool
+is_count last count wanted = if last then count == wanted else nat_le wanted count
+
+-- the pile on this grid whose heights are the first of these numbers, and the numbers behind them
+abbrev pub filled : Bool → Result Grid ShapeFault → List ℕ → Result (PileView × List ℕ) TextFault
+filled last (Err fault) ns = Err (of_shape fault)
+filled last (Ok g) ns = if is_count last (length ns) (sites g)
+    then (if nat_lt GRAIN_LIMIT (sum (take (sites g) ns)) then Err TooManyGrains else Ok (record { grid = g; heights = take (sites g) ns }, drop (sites g) ns))
+    else Err Length
+
+-- the pile with this edge at the front of these numbers, and the numbers behind it; end is the length of the text
+abbrev pub pile_at : Edge → Bool → ℕ → List ℕ → Result (PileView × List ℕ) TextFault
+pile_at edge last end [] = Err (Text end)
+pile_at edge last end (w ∷ []) = Err (Text end)
+pile_at edge last end (w ∷ h ∷ ns) = filled last (grid_of w h edge) ns
+
+-- the pile that a text holds: a letter is spared behind the second number
+unfoldable pub pile_of : List ℕ → Result PileView TextFault
+pile_of text = do
+  ws ← plain_words (2 ∷ []) text
+  pile ← pile_at (edge_behind 2 0 ws) true (length text) (numbers ws)
+  Ok pile.0
+
+-- A reader answers what the text means. Memory runs out only where the text has no fault.
+abbrev pub Fails : ReadFault → Result PileView TextFault → Type 0
+Fails faults.Memory read = IsOk read
+Fails (faults.Text fault) read = read ≡ Err fault
+
+abbrev pub Reads : Result PileView ReadFault → Result PileView TextFault → Type 0
+Reads (Ok pile) read = read ≡ Ok pile
+Reads (Err fault) read = Fails fault read
+
+-- the numbers behind the first two
+abbrev pub heights_in : List ℕ → List ℕ
+heights_in text = drop 2 (numbers (words text))

@@ -1,0 +1,38 @@
+-- The one text in which a pile is written, and that of a settled pile.
+use Rattle.std.specs.Prelude.{ℕ, zero, suc, List, [], ◌∷◌, ◌++◌, length, take, drop, decimal, codes, ◌==◌, if◌then◌else◌}
+use Rattle.sand_model.specs.declared.shape.Edge.{Edge}
+use Rattle.sand_model.specs.declared.shape.Edge.TheVariants.{Open, Cylinder}
+use Rattle.sand_model.specs.Grid.{Grid}
+use Rattle.sand_model.specs.Piles.{PileView}
+use Rattle.sand_settle.specs.Settling.{SettledView}
+
+-- numbers with a space between two, and a line end behind the last
+unfoldable pub row_text : List ℕ → List ℕ
+row_text [] = []
+row_text (n ∷ ns) = decimal n ++ (if length ns == 0 then 10 else 32) ∷ row_text ns
+
+-- so many rows of so many numbers
+unfoldable pub rows_text : ℕ → ℕ → List ℕ → List ℕ
+rows_text zero width ns = []
+rows_text (suc height) width ns = row_text (take width ns) ++ rows_text height width (drop width ns)
+
+-- a number for each site, by grid rows
+abbrev pub sites_text : Grid → List ℕ → List ℕ
+sites_text g ns = rows_text g.height g.width ns
+
+-- what stands behind the sides in the first line
+abbrev pub edge_text : Edge → List ℕ
+edge_text Open = codes "\n"
+edge_text Cylinder = codes " c\n"
+
+-- the first line: width, height, and the letter of a cylinder
+abbrev pub shape_text : Grid → List ℕ
+shape_text g = decimal g.width ++ codes " " ++ decimal g.height ++ edge_text g.edge
+
+abbrev pub text_of : PileView → List ℕ
+text_of p = shape_text p.grid ++ sites_text p.grid p.heights
+
+-- the pile, how often each site toppled, and the sums
+abbrev pub settle_text_of : SettledView → List ℕ
+settle_text_of r = text_of r.pile ++ codes "odometer\n" ++ sites_text r.pile.grid r.odometer
+    ++ codes "lost " ++ decimal r.lost ++ codes "\ntopplings " ++ decimal r.topplings ++ codes "\n"

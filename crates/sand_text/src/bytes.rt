@@ -1,0 +1,84 @@
+//! What stands at the front of a text: white space, or a word.
+//!
+//! A word's length, its digits and their value are found in one walk over its bytes. The value grows digit by digit and
+//! stops at one over the grain limit, so it never leaves its type.
+
+ghost use Rattle.std.specs.Prelude.{◌≡◌, ℕ, ◌+◌, ◌*◌, ◌<◌, ◌≤◌, length, take, not, position, true};
+ghost use Rattle.std.specs.List.{position_or_len};
+ghost use Rattle.std.specs.Char.{digit_value};
+ghost use Rattle.std.specs.Str.Parse.{digits_value};
+ghost use Rattle.sand_text.specs.Bytes.{is_digit, is_space, digits_len, word_len, capped};
+
+use sand_model::GRAIN_LIMIT;
+
+/// What stands in a text up to its first white space.
+#[derive(Clone, Copy)]
+pub(crate) struct Span {
+    /// How many bytes.
+    pub len: usize,
+    /// How many of them are digits before the first that isn't one.
+    pub digits: usize,
+    /// The value of these digits, or one over the grain limit where it is larger.
+    pub value: u64,
+}
+
+fn is_digit(byte: u8) -> bool
+    ensures { result ≡ is_digit byte }
+{
+    byte.is_ascii_digit()
+}
+
+fn is_space(byte: u8) -> bool
+    ensures { result ≡ is_space byte }
+{
+    matches!(byte, b'\t' | b'\n' | b'\r' | b' ')
+}
+
+// The value that one more digit makes of a value.
+fn grown(value: u64, digit: u8) -> u64
+    requires small { value ≤ GRAIN_LIMIT + 1 }
+    requires digit { is_digit digit ≡ true }
+    ensures { result ≡ capped (value * 10 + digit_value digit) }
+{
+    (value * 10 + u64::from(digit - b'0')).min(GRAIN_LIMIT + 1)
+}
+
+// Where the first byte stands that is no white space.
+fn word_start(text: &[u8]) -> Option<usize>
+    ensures { result ≡ position (λ b. not (is_space b)) text.now }
+{
+    text.iter().position(|byte| !is_space(*byte))
+}
+
+/// How many bytes of white space stand at the front.
+pub(crate) fn space_len(text: &[u8]) -> usize
+    ensures first { result ≡ position_or_len (λ b. not (is_space b)) text.now }
+    ensures within { result ≤ length text.now }
+{
+    word_start(text).unwrap_or(text.len())
+}
+
+/// What stands at the front of a text up to its first white space.
+pub(crate) fn span_of(text: &[u8]) -> Span
+    ensures len { result.len ≡ word_len text.now }
+    ensures within { result.len ≤ length text.now }
+    ensures digits { result.digits ≡ digits_len (take result.len text.now) }
+    ensures value { result.value ≡ capped (digits_value 10 (take result.digits text.now)) }
+{
+    let mut digits = 0;
+    let mut value = 0;
+    for (len, byte) in text.iter().enumerate() {
+        if is_space(*byte) {
+            return Span { len, digits, value };
+        }
+        if is_digit(*byte) && digits == len {
+            digits += 1;
+            value = grown(value, *byte);
+        }
+    }
+    Span {
+        len: text.len(),
+        digits,
+        value,
+    }
+}

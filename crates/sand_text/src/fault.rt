@@ -1,0 +1,88 @@
+//! Why a text was not read, and why a stream ended early.
+
+ghost use Rattle.std.specs.Prelude.{◌≡◌};
+ghost use Rattle.sand_text.specs.declared.fault.ReadFault.TheVariants as read_faults;
+ghost use Rattle.sand_text.specs.declared.fault.StreamFault.TheVariants as stream_faults;
+
+use sand_model::ShapeFault;
+use std::alloc::AllocError;
+use thiserror::Error;
+
+/// What is wrong with a text.
+#[derive(Clone, Copy, Debug, PartialEq, Eq, Error)]
+pub enum TextFault {
+    /// A byte that stands in no text of a pile, with its offset; or fewer than two numbers, with the text's length.
+    #[error("not the text of a pile, at byte {0}")]
+    Text(usize),
+    /// A number over the grain limit, with the offset of its first byte.
+    #[error("a number over the limit, at byte {0}")]
+    TooLarge(usize),
+    #[error("width or height outside 1 to 256")]
+    Side,
+    #[error("a cylinder of width below 3")]
+    Narrow,
+    #[error("wrong number of heights")]
+    Length,
+    #[error("more grains than the limit")]
+    TooManyGrains,
+}
+
+/// Why a text was not read.
+#[derive(Clone, Copy, Debug, PartialEq, Eq, Error)]
+pub enum ReadFault {
+    #[error("out of memory")]
+    Memory,
+    #[error("{0}")]
+    Text(TextFault),
+}
+
+/// Why a reader was not read to its end, or a writer did not take a whole text.
+#[derive(Clone, Copy, Debug, PartialEq, Eq, Error)]
+pub enum StreamFault {
+    #[error("out of memory")]
+    Memory,
+    #[error("the reader failed")]
+    Read,
+    /// The writer failed after it took so many bytes.
+    #[error("the writer failed after {0} bytes")]
+    Write(usize),
+    #[error("more input than the limit")]
+    TooLong,
+}
+
+impl From<ShapeFault> for TextFault {
+    ghost use Rattle.sand_text.specs.Reading.{of_shape};
+
+    ghost from_gives = { λ fault e. e ≡ of_shape fault };
+
+    fn from(fault: ShapeFault) -> TextFault {
+        match fault {
+            ShapeFault::Side => TextFault::Side,
+            ShapeFault::Narrow => TextFault::Narrow,
+        }
+    }
+}
+
+impl From<TextFault> for ReadFault {
+    ghost from_gives = { λ fault e. e ≡ read_faults.Text fault };
+
+    fn from(fault: TextFault) -> ReadFault {
+        ReadFault::Text(fault)
+    }
+}
+
+impl From<AllocError> for ReadFault {
+    ghost from_gives = { λ _ e. e ≡ read_faults.Memory };
+
+    fn from(_refused: AllocError) -> ReadFault {
+        ReadFault::Memory
+    }
+}
+
+impl From<AllocError> for StreamFault {
+    ghost from_gives = { λ _ e. e ≡ stream_faults.Memory };
+
+    fn from(_refused: AllocError) -> StreamFault {
+        StreamFault::Memory
+    }
+}

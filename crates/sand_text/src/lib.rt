@@ -1,0 +1,19 @@
+//! Piles as text, and the loops that read and write texts.
+#![tactic(auto)]
+
+mod bytes;
+mod fault;
+mod flow;
+mod laws;
+mod numbers;
+mod piles;
+mod rows;
+mod words;
+
+pub use fault::{ReadFault, StreamFault, TextFault};
+pub use flow::{INPUT_LIMIT, read_all, write_text};
+pub use laws::{numbers_are_runs, read_again, strange_byte};
+pub use piles::{pile_text, read_pile, settle_text};
+
+#[cfg(test)]
+mod tests;

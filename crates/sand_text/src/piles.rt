@@ -1,0 +1,61 @@
+//! A pile from its text, the text of a pile, and that of a settled pile.
+
+ghost use Rattle.std.specs.Prelude.{◌≡◌, ◌++◌, OnOk, IfOk};
+ghost use Rattle.sand_text.specs.Reading.{Reads, pile_of};
+ghost use Rattle.sand_text.specs.Texts.{shape_text, text_of, settle_text_of};
+
+use crate::fault::ReadFault;
+use crate::numbers::{heights_in, shape_of};
+use crate::rows::{push_number, push_sites};
+use sand_model::{Edge, Pile, Shape};
+use sand_settle::Settled;
+use std::alloc::{AllocError, Global};
+
+/// The pile that a text holds, or its first fault. Every fault but want of memory is found before anything grows.
+pub fn read_pile(alloc: Global, text: &[u8]) -> Result<Pile, ReadFault>
+    ensures { Reads result (pile_of text.now) }
+{
+    let shape = shape_of(text)?;
+    let heights = heights_in(alloc, text, shape.sites())?;
+    Ok(Pile::from_vec(shape, heights))
+}
+
+// Writes the first line of a pile's text.
+fn push_shape(text: &mut Vec<u8>, shape: Shape) -> Result<(), AllocError>
+    ensures { OnOk result (text.new.items ≡ text.old.items ++ shape_text shape) }
+{
+    push_number(text, shape.width() as u64)?;
+    text.extend_from_slice(b" ")?;
+    push_number(text, shape.height() as u64)?;
+    match shape.edge() {
+        Edge::Open => text.extend_from_slice(b"\n")?,
+        Edge::Cylinder => text.extend_from_slice(b" c\n")?,
+    }
+    Ok(())
+}
+
+/// The text of a pile: its sides, with a `c` for a cylinder, and a line of heights for each grid row.
+pub fn pile_text(alloc: Global, pile: &Pile) -> Result<Vec<u8>, AllocError>
+    ensures { IfOk result (λ text. text.items ≡ text_of pile.now) }
+{
+    let mut text = Vec::new(alloc);
+    push_shape(&mut text, pile.shape())?;
+    push_sites(&mut text, pile.shape(), pile.heights())?;
+    Ok(text)
+}
+
+/// The text of a settled pile: the pile's text, how often each site toppled, by grid rows, and the grains lost and the
+/// topplings in all.
+pub fn settle_text(alloc: Global, settled: &Settled) -> Result<Vec<u8>, AllocError>
+    ensures { IfOk result (λ text. text.items ≡ settle_text_of settled.now) }
+{
+    let mut text = pile_text(alloc, settled.pile())?;
+    text.extend_from_slice(b"odometer\n")?;
+    push_sites(&mut text, settled.pile().shape(), settled.odometers())?;
+    text.extend_from_slice(b"lost ")?;
+    push_number(&mut text, settled.lost())?;
+    text.extend_from_slice(b"\ntopplings ")?;
+    push_number(&mut text, settled.topplings())?;
+    text.extend_from_slice(b"\n")?;
+    Ok(text)
+}

@@ -1,0 +1,54 @@
+//! Writing numbers, and rows of them, at the end of a text.
+
+ghost use Rattle.std.specs.Prelude.{◌≡◌, ◌++◌, ◌+◌, ◌<◌, ◌==◌, length, decimal, OnOk, if◌then◌else◌};
+ghost use Rattle.sand_model.specs.Grid.{sites};
+ghost use Rattle.sand_text.specs.Texts.{row_text, sites_text};
+
+use itoa::Buffer;
+use sand_model::Shape;
+use std::alloc::AllocError;
+
+/// Writes a number in decimal, without leading zeros.
+pub(crate) fn push_number(text: &mut Vec<u8>, number: u64) -> Result<(), AllocError>
+    ensures { OnOk result (text.new.items ≡ text.old.items ++ decimal number) }
+{
+    let mut buffer = Buffer::new();
+    text.extend_from_slice(buffer.format(number).as_bytes())
+}
+
+// The byte behind the number at a place of a row.
+fn separator(place: usize, count: usize) -> u8
+    requires { place < count }
+    ensures { result ≡ (if place + 1 == count then 10 else 32) }
+{
+    if place + 1 == count { b'\n' } else { b' ' }
+}
+
+// Writes numbers with a space between two, and a line end behind the last.
+fn push_row(text: &mut Vec<u8>, numbers: &[u64]) -> Result<(), AllocError>
+    ensures { OnOk result (text.new.items ≡ text.old.items ++ row_text numbers.now) }
+{
+    for (place, number) in numbers.iter().enumerate() {
+        push_number(text, *number)?;
+        text.push(separator(place, numbers.len()))?;
+    }
+    Ok(())
+}
+
+/// Writes a number for each site, by grid rows.
+pub(crate) fn push_sites(
+    text: &mut Vec<u8>,
+    shape: Shape,
+    numbers: &[u64],
+) -> Result<(), AllocError>
+    requires { length numbers.now ≡ sites shape }
+    ensures { OnOk result (text.new.items ≡ text.old.items ++ sites_text shape numbers.now) }
+{
+    let mut rest = numbers;
+    'rows: for _ in 0..shape.height() {
+        let (row, after) = rest.split_at(shape.width());
+        push_row(text, row)?;
+        rest = after;
+    }
+    Ok(())
+}

@@ -1,0 +1,4 @@
+//! The rows of the formats, and streams that fail.
+
+mod reading;
+mod streams;

@@ -1,0 +1,73 @@
+//! A command that is run over memory.
+
+use sand_desk::{DeskFault, run_command, write_fault};
+use std::alloc::{AllocError, Global};
+use std::io::{Read, Write};
+use std::test::Fail;
+use std::thread::Threads;
+
+// Words of the command line, the program's name first.
+pub(crate) fn words_of(alloc: Global, line: &str) -> Result<Vec<String>, AllocError> {
+    let mut words = Vec::new(alloc);
+    for word in line.split_whitespace() {
+        words.push(String::from_str(alloc, word)?)?;
+    }
+    Ok(words)
+}
+
+/// How a command ended.
+#[derive(Drop)]
+pub(crate) struct Ending {
+    pub(crate) is_usage: bool,
+    /// The line of the fault, empty where there is none.
+    pub(crate) line: Vec<u8>,
+}
+
+// How it ended, told as the program tells it.
+pub(crate) fn ending_of(alloc: Global, answer: Result<(), DeskFault>) -> Result<Ending, Fail> {
+    let mut line = Vec::new(alloc);
+    let mut is_usage = false;
+    if let Err(fault) = answer {
+        if fault.number() == 23 {
+            is_usage = true;
+        } else {
+            write_fault(&fault, &mut line).map_err(|_| "no line")?;
+        }
+    }
+    Ok(Ending { is_usage, line })
+}
+
+// Runs a command line over any reader and writer.
+pub(crate) fn run<T: Threads + Sync, R: Read, W: Write>(
+    rt: &T,
+    alloc: Global,
+    line: &str,
+    reader: &mut R,
+    writer: &mut W,
+) -> Result<Ending, Fail> {
+    let words = words_of(alloc, line)?;
+    if words.is_empty() {
+        return Err("no words".into());
+    }
+    ending_of(
+        alloc,
+        run_command(rt, alloc, words.as_slice(), reader, writer),
+    )
+}
+
+// What a command line writes for an input, followed by the line of its fault.
+pub(crate) fn written<T: Threads + Sync>(
+    rt: &T,
+    alloc: Global,
+    line: &str,
+    input: &[u8],
+) -> Result<Vec<u8>, Fail> {
+    let mut reader = input;
+    let mut text = Vec::new(alloc);
+    let ending = run(rt, alloc, line, &mut reader, &mut text)?;
+    if ending.is_usage {
+        text.extend_from_slice(b"usage")?;
+    }
+    text.extend_from_slice(ending.line.as_slice())?;
+    Ok(text)
+}

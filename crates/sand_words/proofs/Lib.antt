@@ -1,0 +1,4 @@
+pub mod Entering
+pub mod Free
+pub mod Taken
+mod Examples

@@ -1,0 +1,40 @@
+//! Why the words ask for no task.
+
+ghost use Rattle.std.specs.Prelude.{◌≡◌};
+ghost use Rattle.sand_words.specs.Fault.{IsFaultOf};
+
+use clap::error::ErrorKind;
+use std::alloc::AllocError;
+use thiserror::Error;
+
+/// Why the words ask for no task.
+#[derive(Debug, Drop, Error)]
+pub enum WordsFault {
+    /// Memory ran out.
+    #[error("out of memory")]
+    Memory,
+    /// The words were refused, or they ask for help.
+    #[error("{0}")]
+    Usage(clap::Error),
+}
+
+impl From<AllocError> for WordsFault {
+    ghost use Rattle.sand_words.specs.declared.fault.WordsFault.TheVariants.{Memory};
+
+    ghost from_gives = { λ _ f. f ≡ Memory };
+
+    fn from(_error: AllocError) -> WordsFault {
+        WordsFault::Memory
+    }
+}
+
+impl From<clap::Error> for WordsFault {
+    ghost from_gives = { IsFaultOf };
+
+    fn from(error: clap::Error) -> WordsFault {
+        match error.kind() {
+            ErrorKind::OutOfMemory => WordsFault::Memory,
+            _ => WordsFault::Usage(error),
+        }
+    }
+}

@@ -1,0 +1,11 @@
+//! What the words of the command line ask for.
+#![tactic(auto)]
+
+mod fault;
+mod words;
+
+pub use fault::WordsFault;
+pub use words::{Task, task_of};
+
+#[cfg(test)]
+mod tests;

@@ -1,0 +1,67 @@
+//! The program `sandpile`: hands its words, its standard input and its standard output to `sand_desk`, and tells how
+//! that ended by a line on the standard error and by its exit status.
+#![tactic(auto)]
+
+ghost use Rattle.std.specs.Prelude.{◌≡◌, ◌<◌, false, length};
+
+use sand_desk::{DeskFault, run_command, status, write_fault};
+use std::io::Write;
+use std::process::ExitCode;
+use std::rt::Env;
+use std::{env, io};
+
+fn main(rt: HostRuntime) -> ExitCode {
+    let alloc = rt.alloc();
+    let words = match words_of(&rt) {
+        Ok(words) => words,
+        Err(error) if error.kind() == io::ErrorKind::OutOfMemory => {
+            return end(&rt, &mut rt.stderr(), &DeskFault::Memory);
+        }
+        Err(_) => {
+            let _ = rt.eprintln("error: an argument is not text");
+            return ExitCode::from(2);
+        }
+    };
+    if is_nothing(words.as_slice()) {
+        return ExitCode::from(2);
+    }
+    match run_command(
+        &rt,
+        alloc,
+        words.as_slice(),
+        &mut rt.stdin(),
+        &mut rt.stdout(),
+    ) {
+        Ok(()) => ExitCode::SUCCESS,
+        Err(fault) => end(&rt, &mut rt.stderr(), &fault),
+    }
+}
+
+fn words_of(rt: &(impl Env + AllocGlobal)) -> io::Result<Vec<String>> {
+    let words = env::args(rt)?.collect(rt.alloc())?;
+    Ok(words)
+}
+
+// A program that is started without any word has none here, or one empty word, which today's kernels make of none.
+fn is_nothing(words: &[String]) -> bool
+    ensures { result ≡ false → 0 < length words.now }
+{
+    match words {
+        [] => true,
+        [only] => only.is_empty(),
+        _ => false,
+    }
+}
+
+// Tells a fault, and answers its status.
+fn end<R: Print + Eprint, W: Write>(rt: &R, errors: &mut W, fault: &DeskFault) -> ExitCode {
+    match fault {
+        DeskFault::Usage(error) => {
+            let _ = error.print(rt);
+        }
+        _ => {
+            let _ = write_fault(fault, errors);
+        }
+    }
+    ExitCode::from(status(fault))
+}
