@@ -6,6 +6,8 @@ mod commands;
 #[cfg(test)]
 mod faults;
 #[cfg(test)]
+mod model;
+#[cfg(test)]
 mod runs;
 #[cfg(test)]
 mod streams;
