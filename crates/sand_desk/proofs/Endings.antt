@@ -57,6 +57,8 @@ work_ends asked left left' held task input desk.TooManyGrains read found = fault
 work_ends asked left left' held task input (desk.Text place) read found = faulty asked left left' held task input (desk.Text place) read found
 work_ends asked left left' held task input (desk.TooLarge place) read found = faulty asked left left' held task input (desk.TooLarge place) read found
 work_ends asked left left' held task input desk.Narrow read found = faulty asked left left' held task input desk.Narrow read found
+work_ends asked left left' held task input desk.Full read found = faulty asked left left' held task input desk.Full read found
+work_ends asked left left' held task input (desk.NoSite index) read found = faulty asked left left' held task input (desk.NoSite index) read found
 
 -- the writer failed
 pub writing_ends : (asked : Option Task) (left left' held held' : Option (List ℕ)) (task : Task) (input text : List ℕ) (f : StreamFault) → IsRead asked left left' task input → IsTextOf task input text

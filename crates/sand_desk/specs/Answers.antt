@@ -10,7 +10,7 @@ abbrev pub Fails : {A : Type 0} → DeskFault → Result A TextFault → Type 0
 Fails desk.Memory read = IsOk read
 Fails fault read = (why : TextFault) × (read ≡ Err why) × (fault ≡ of_text why)
 
--- the answer is the reading
-abbrev pub Reads : {A : Type 0} → Result A DeskFault → Result A TextFault → Type 0
-Reads (Ok value) read = read ≡ Ok value
-Reads (Err fault) read = Fails fault read
+-- the answer, as it is seen, is the reading
+abbrev pub ReadsAs : {A B : Type 0} → (A → B) → Result A DeskFault → Result B TextFault → Type 0
+ReadsAs view (Ok value) read = read ≡ Ok (view value)
+ReadsAs view (Err fault) read = Fails fault read

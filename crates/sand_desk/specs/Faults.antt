@@ -9,10 +9,12 @@ use Rattle.sand_text.specs.declared.fault.ReadFault.{ReadFault}
 use Rattle.sand_text.specs.declared.fault.ReadFault.TheVariants as read
 use Rattle.sand_text.specs.declared.fault.StreamFault.{StreamFault}
 use Rattle.sand_text.specs.declared.fault.StreamFault.TheVariants as stream
+use Rattle.sand_settle.specs.declared.faults.OneFault.{OneFault}
+use Rattle.sand_settle.specs.declared.faults.OneFault.TheVariants as one
 use Rattle.sand_words.specs.declared.fault.WordsFault.{WordsFault}
 use Rattle.sand_words.specs.declared.fault.WordsFault.TheVariants as words
 use Rattle.sand_desk.specs.declared.faults.DeskFault.{DeskFault}
-use Rattle.sand_desk.specs.declared.faults.DeskFault.TheVariants.{Side, Length, TooManyGrains, Memory, Text, TooLarge, Read, Write, TooLong, Usage, Narrow}
+use Rattle.sand_desk.specs.declared.faults.DeskFault.TheVariants.{Side, Length, TooManyGrains, Memory, Text, TooLarge, Read, Write, TooLong, Usage, Narrow, Full, NoSite}
 
 abbrev pub number_of : DeskFault → ℕ
 number_of Side = 1
@@ -26,6 +28,8 @@ number_of (Write sent) = 21
 number_of TooLong = 22
 number_of (Usage error) = 23
 number_of Narrow = 24
+number_of Full = 6
+number_of (NoSite index) = 25
 
 abbrev pub name_of : DeskFault → List ℕ
 name_of Side = codes "Side"
@@ -39,6 +43,8 @@ name_of (Write sent) = codes "Write"
 name_of TooLong = codes "TooLong"
 name_of (Usage error) = codes "Usage"
 name_of Narrow = codes "Narrow"
+name_of Full = codes "Full"
+name_of (NoSite index) = codes "NoSite"
 
 -- where in the input, or after how many bytes of the output
 abbrev pub place_of : DeskFault → List ℕ
@@ -53,6 +59,8 @@ place_of (Write sent) = codes " after " ++ decimal sent
 place_of TooLong = []
 place_of (Usage error) = []
 place_of Narrow = []
+place_of Full = []
+place_of (NoSite index) = codes " at " ++ decimal index
 
 -- the line that tells a fault
 abbrev pub fault_line : DeskFault → List ℕ
@@ -76,6 +84,8 @@ status_of (Write sent) = 1
 status_of TooLong = 1
 status_of (Usage error) = usage_status (kind_of error)
 status_of Narrow = 1
+status_of Full = 1
+status_of (NoSite index) = 1
 
 abbrev pub of_text : TextFault → DeskFault
 of_text (text.Text place) = Text place
@@ -84,6 +94,7 @@ of_text text.Side = Side
 of_text text.Narrow = Narrow
 of_text text.Length = Length
 of_text text.TooManyGrains = TooManyGrains
+of_text (text.NoSite index) = NoSite index
 
 abbrev pub of_read : ReadFault → DeskFault
 of_read read.Memory = Memory
@@ -98,3 +109,7 @@ of_stream stream.TooLong = TooLong
 abbrev pub of_words : WordsFault → DeskFault
 of_words words.Memory = Memory
 of_words (words.Usage error) = Usage error
+
+abbrev pub of_one : OneFault → DeskFault
+of_one one.Full = Full
+of_one (one.Memory refused) = Memory

@@ -3,13 +3,13 @@
 ghost use Rattle.std.specs.Prelude.{◌≡◌, ◌≢◌, ℕ, ◌+◌, ◌<◌, ◌≤◌, List, [], ◌++◌, length, take, codes, decimal, OnOk, IfErr};
 ghost use Rattle.std.specs.Io.KnownBytes.{Appends};
 ghost use Rattle.arrayvec.specs.ArrayString.{array_string_len};
-ghost use Rattle.sand_desk.specs.Faults.{number_of, name_of, status_of, fault_line, place_of, of_text, of_read, of_stream, of_words};
+ghost use Rattle.sand_desk.specs.Faults.{number_of, name_of, status_of, fault_line, place_of, of_text, of_read, of_stream, of_words, of_one};
 ghost use Rattle.sand_desk.specs.declared.faults.DeskFault.TheVariants as desk;
 
 use arrayvec::ArrayString;
 use clap::error::ErrorKind;
 use itoa::Buffer;
-use sand_settle::SettleFault;
+use sand_settle::{OneFault, SettleFault};
 use sand_text::{ReadFault, StreamFault, TextFault, write_text};
 use sand_words::WordsFault;
 use std::alloc::AllocError;
@@ -45,6 +45,11 @@ pub enum DeskFault {
     Usage(clap::Error),
     #[error("a cylinder of width below 3")]
     Narrow,
+    #[error("one drop more would exceed the grain limit")]
+    Full,
+    /// A drop at a site that the grid hasn't got, with its index among the drops.
+    #[error("no such site, at drop {0}")]
+    NoSite(usize),
 }
 
 impl DeskFault {
@@ -63,6 +68,8 @@ impl DeskFault {
             DeskFault::TooLong => 22,
             DeskFault::Usage(_) => 23,
             DeskFault::Narrow => 24,
+            DeskFault::Full => 6,
+            DeskFault::NoSite(_) => 25,
         }
     }
 }
@@ -78,6 +85,7 @@ impl From<TextFault> for DeskFault {
             TextFault::Narrow => DeskFault::Narrow,
             TextFault::Length => DeskFault::Length,
             TextFault::TooManyGrains => DeskFault::TooManyGrains,
+            TextFault::NoSite(index) => DeskFault::NoSite(index),
         }
     }
 }
@@ -125,6 +133,17 @@ impl From<SettleFault> for DeskFault {
     }
 }
 
+impl From<OneFault> for DeskFault {
+    ghost from_gives = { λ fault e. e ≡ of_one fault };
+
+    fn from(fault: OneFault) -> DeskFault {
+        match fault {
+            OneFault::Full => DeskFault::Full,
+            OneFault::Memory(_) => DeskFault::Memory,
+        }
+    }
+}
+
 impl From<AllocError> for DeskFault {
     ghost from_gives = { λ _ e. e ≡ desk.Memory };
 
@@ -162,6 +181,8 @@ fn name(fault: &DeskFault) -> &'static str
         DeskFault::TooLong => "TooLong",
         DeskFault::Usage(_) => "Usage",
         DeskFault::Narrow => "Narrow",
+        DeskFault::Full => "Full",
+        DeskFault::NoSite(_) => "NoSite",
     }
 }
 
@@ -183,7 +204,7 @@ fn push_place(line: &mut ArrayString<LINE_ROOM>, fault: &DeskFault)
 {
     let mut buffer = Buffer::new();
     match fault {
-        DeskFault::Text(place) | DeskFault::TooLarge(place) => {
+        DeskFault::Text(place) | DeskFault::TooLarge(place) | DeskFault::NoSite(place) => {
             push(line, " at ");
             push(line, buffer.format(*place));
         }

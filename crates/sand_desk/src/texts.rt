@@ -1,18 +1,19 @@
 //! The readings and the texts of `sand_text`, with the program's faults.
 
 ghost use Rattle.std.specs.Prelude.{◌≡◌, IfOk, IsOkUnless};
-ghost use Rattle.sand_text.specs.Reading.{pile_of};
+ghost use Rattle.sand_text.specs.Reading.{pile_of, drops_of};
 ghost use Rattle.sand_text.specs.Texts.{text_of, settle_text_of};
-ghost use Rattle.sand_desk.specs.Answers.{Reads};
+ghost use Rattle.sand_text.specs.Tables.{table_text_of};
+ghost use Rattle.sand_desk.specs.Answers.{ReadsAs};
 
 use crate::faults::DeskFault;
 use sand_model::Pile;
-use sand_settle::Settled;
+use sand_settle::{Avalanche, Settled};
 use std::alloc::Global;
 
 /// The pile that a text holds. Every fault of the text is found before anything grows, and want of memory comes last.
 pub fn read_pile(alloc: Global, text: &[u8]) -> Result<Pile, DeskFault>
-    ensures { Reads result (pile_of text.now) }
+    ensures { ReadsAs (λ pile. pile) result (pile_of text.now) }
 {
     let pile = sand_text::read_pile(alloc, text)?;
     Ok(pile)
@@ -33,5 +34,23 @@ pub fn settle_text(alloc: Global, settled: &Settled) -> Result<Vec<u8>, DeskFaul
     ensures memory { IsOkUnless result DeskFault.Memory }
 {
     let text = sand_text::settle_text(alloc, settled)?;
+    Ok(text)
+}
+
+/// The pile that a text holds and the sites of the drops behind it. Every fault of the text is found before anything
+/// grows, and want of memory comes last.
+pub fn read_drops(alloc: Global, text: &[u8]) -> Result<(Pile, Vec<usize>), DeskFault>
+    ensures { ReadsAs (λ (pile, drops). (pile, drops.items)) result (drops_of text.now) }
+{
+    let read = sand_text::read_drops(alloc, text)?;
+    Ok(read)
+}
+
+/// The table of drops: a first line that names the columns, then for each drop its number and its avalanche.
+pub fn table_text(alloc: Global, rows: &[(u64, Avalanche)]) -> Result<Vec<u8>, DeskFault>
+    ensures text { IfOk result (λ text. text.items ≡ table_text_of rows.now) }
+    ensures memory { IsOkUnless result DeskFault.Memory }
+{
+    let text = sand_text::table_text(alloc, rows)?;
     Ok(text)
 }

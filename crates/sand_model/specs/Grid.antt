@@ -1,6 +1,7 @@
 -- The sites of a grid, and which of them are neighbours.
 -- Source: Bak, Tang and Wiesenfeld 1987 (open edges); the cylinder joins the west and the east end of each row.
-use Rattle.std.specs.Prelude.{ℕ, Bool, true, false, ◌≡◌, ◌+◌, ◌-◌, ◌*◌, ◌/◌, ◌%◌, ◌≤◌, List, [], ◌∷◌, Option, Some, None, Result, Ok, Err, nat_lt, nat_le, if◌then◌else◌, length, ◌&&◌}
+use Rattle.std.specs.Prelude.{ℕ, Bool, true, false, ◌≡◌, ◌+◌, ◌-◌, ◌*◌, ◌/◌, ◌%◌, ◌≤◌, List, [], ◌∷◌, Option, Some, None, Result, Ok, Err, nat_lt, nat_le, if◌then◌else◌, length, ◌&&◌, min}
+use Rattle.std.specs.Int.{abs_diff}
 use Rattle.std.specs.List.{filter_map}
 use Rattle.sand_model.specs.declared.shape.Edge.{Edge}
 use Rattle.sand_model.specs.declared.shape.Edge.TheVariants.{Open, Cylinder}
@@ -70,3 +71,11 @@ neighbours g i = filter_map (λ p. p) (places g i)
 -- how many of a site's places are outside the grid, in the sink
 unfoldable pub missing : Grid → ℕ → ℕ
 missing g i = 4 - length (neighbours g i)
+
+-- how many columns lie between two sites, on a cylinder the shorter way round
+abbrev pub columns_apart : Grid → ℕ → ℕ → ℕ
+columns_apart g i j = let across = abs_diff (column g i) (column g j) in if joins g.edge then min across (g.width - across) else across
+
+-- |dx| + |dy| between two sites
+unfoldable pub distance : Grid → ℕ → ℕ → ℕ
+distance g i j = columns_apart g i j + abs_diff (row g i) (row g j)

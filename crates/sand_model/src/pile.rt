@@ -81,6 +81,30 @@ impl Pile {
         }
     }
 
+    /// A pile of the list itself, whose sum is at hand: no height is looked at.
+    pub fn from_counted(shape: Shape, heights: Vec<u64>, grains: u64) -> Pile
+        requires one_each { length heights.items ≡ sites shape }
+        requires limit { sum heights.items ≤ GRAIN_LIMIT }
+        requires counted { grains ≡ sum heights.items }
+        ensures { result ≡ record { grid = shape; heights = heights.items } }
+    {
+        let _ = shape.sites();
+        Pile {
+            shape,
+            grains,
+            heights,
+        }
+    }
+
+    /// The shape, and the list of the heights itself: no height is looked at.
+    pub fn into_parts(self) -> (Shape, Vec<u64>)
+        ensures shape { result.0 ≡ self.grid }
+        ensures heights { result.1.items ≡ self.heights }
+        ensures pile { IsPile self }
+    {
+        (self.shape, self.heights)
+    }
+
     pub fn shape(&self) -> Shape
         ensures value { result ≡ self.now.grid }
         ensures pile { IsPile self.now }

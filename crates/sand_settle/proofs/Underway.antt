@@ -65,7 +65,7 @@ underway_end g s u t done stable = record {
   };
 }
 
-topplings_at : (g : Grid) (i k : ℕ) → i < sites g → topplings g (λ j. k * one_at i j) ≡ k
+pub topplings_at : (g : Grid) (i k : ℕ) → i < sites g → topplings g (λ j. k * one_at i j) ≡ k
 topplings_at g i k l = total-one_at (sites g) i (λ j. k) l
 
 -- what k topplings of one site leave of the weight
@@ -107,7 +107,7 @@ advance_more g u t v r w q first second = record {
   grains_fall = let one = first.grains_fall in let two = second.grains_fall in omega arith;
 }
 
-topplings_more : (g : Grid) (v w : ℕ → ℕ) (i k : ℕ) → i < sites g → ((j : ℕ) → j < sites g → w j ≡ v j + k * one_at i j) → topplings g w ≡ topplings g v + k
+pub topplings_more : (g : Grid) (v w : ℕ → ℕ) (i k : ℕ) → i < sites g → ((j : ℕ) → j < sites g → w j ≡ v j + k * one_at i j) → topplings g w ≡ topplings g v + k
 topplings_more g v w i k l counts =
     let same = total_same (sites g) w (λ j. v j + k * one_at i j) counts in
     let both = total-add (sites g) v (λ j. k * one_at i j) in

@@ -1,7 +1,11 @@
--- The columns of all sites, by site.
+-- The columns and the rows of all sites, by site.
 use Rattle.std.specs.Prelude.{ℕ, ◌≡◌, ◌<◌, List, length, slice_index}
-use Rattle.sand_model.specs.Grid.{Grid, sites, column}
+use Rattle.sand_model.specs.Grid.{Grid, sites, column, row}
 
 pub record AreColumns (g : Grid) (columns : List ℕ) : Type 0 where
   pub one_each : length columns ≡ sites g
   pub each : (i : ℕ) → i < sites g → slice_index columns i ≡ column g i
+
+pub record AreRows (g : Grid) (rows : List ℕ) : Type 0 where
+  pub one_each : length rows ≡ sites g
+  pub each : (i : ℕ) → i < sites g → slice_index rows i ≡ row g i

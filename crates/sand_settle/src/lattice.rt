@@ -1,14 +1,14 @@
-//! A grid whose neighbours are found without a division.
+//! A grid whose neighbours and distances are found without a division.
 
 ghost use Rattle.std.specs.Prelude.{◌≡◌, ℕ, ◌%◌, ◌<◌, ◌≤◌, IfOk, length, slice_index, vec_len};
-ghost use Rattle.sand_model.specs.Grid.{IsGrid, sites, column, north, west, east, south, places};
-ghost use Rattle.sand_settle.specs.Columns.{AreColumns};
+ghost use Rattle.sand_model.specs.Grid.{IsGrid, sites, column, row, north, west, east, south, places, missing, distance};
+ghost use Rattle.sand_settle.specs.Columns.{AreColumns, AreRows};
 
 use sand_model::{Edge, Shape};
 use std::alloc::{AllocError, Global};
 use std::marker::Model;
 
-/// A shape, with the column of each site at hand.
+/// A shape, with the column and the row of each site at hand.
 #[derive(Debug, Drop)]
 pub(crate) struct Lattice {
     width: usize,
@@ -16,18 +16,19 @@ pub(crate) struct Lattice {
     is_cylinder: bool,
     shape: Shape,
     columns: Vec<u8>,
+    rows: Vec<u8>,
 }
 
 impl Model for Lattice {
     ghost use Rattle.std.specs.Prelude.{◌≡◌};
     ghost use Rattle.sand_model.specs.Grid.{Grid, IsGrid, sites, joins};
-    ghost use Rattle.sand_settle.specs.Columns.{AreColumns};
+    ghost use Rattle.sand_settle.specs.Columns.{AreColumns, AreRows};
 
     ghost Value = { Grid };
 
     ghost view = { λ l. l.shape };
 
-    ghost invariant = { λ l. IsGrid l.shape × (l.width ≡ l.shape.width) × (l.end ≡ sites l.shape) × (l.is_cylinder ≡ joins l.shape.edge) × AreColumns l.shape l.columns.items };
+    ghost invariant = { λ l. IsGrid l.shape × (l.width ≡ l.shape.width) × (l.end ≡ sites l.shape) × (l.is_cylinder ≡ joins l.shape.edge) × AreColumns l.shape l.columns.items × AreRows l.shape l.rows.items };
 }
 
 // The columns of all sites, by site.
@@ -42,17 +43,31 @@ fn columns_of(alloc: Global, shape: Shape) -> Result<Vec<u8>, AllocError>
     Ok(columns)
 }
 
+// The rows of all sites, by site.
+fn rows_of(alloc: Global, shape: Shape) -> Result<Vec<u8>, AllocError>
+    ensures { IfOk result (λ v. AreRows shape v.items) }
+{
+    let width = shape.width();
+    let mut rows = Vec::with_capacity(alloc, shape.sites())?;
+    for site in 0..shape.sites() {
+        rows.push_reserved((site / width) as u8);
+    }
+    Ok(rows)
+}
+
 impl Lattice {
     pub(crate) fn new(alloc: Global, shape: Shape) -> Result<Lattice, AllocError>
         ensures { IfOk result (λ l. l ≡ shape) }
     {
         let columns = columns_of(alloc, shape)?;
+        let rows = rows_of(alloc, shape)?;
         Ok(Lattice {
             width: shape.width(),
             end: shape.sites(),
             is_cylinder: shape.edge() == Edge::Cylinder,
             shape,
             columns,
+            rows,
         })
     }
 
@@ -133,5 +148,34 @@ impl Lattice {
             self.east(site),
             self.south(site),
         ]
+    }
+
+    /// How many of a site's four places are outside the grid: the grains lost when it topples once.
+    #[inline(always)]
+    pub(crate) fn missing(&self, site: usize) -> u64
+        requires { site < sites self.now }
+        ensures { result ≡ missing self.now site }
+    {
+        self.neighbours(site)
+            .iter()
+            .filter(|place| place.is_none())
+            .count() as u64
+    }
+
+    /// How many columns and rows lie between two sites, on a cylinder the shorter way round.
+    #[inline(always)]
+    #[tactic(auto, unfolding(sand_model::specs::Grid::distance))]
+    pub(crate) fn distance(&self, from: usize, to: usize) -> u32
+        requires from { from < sites self.now }
+        requires to { to < sites self.now }
+        ensures { result ≡ distance self.now from to }
+    {
+        let across = usize::from(self.columns[from].abs_diff(self.columns[to]));
+        let down = usize::from(self.rows[from].abs_diff(self.rows[to]));
+        if self.is_cylinder {
+            (across.min(self.width - across) + down) as u32
+        } else {
+            (across + down) as u32
+        }
     }
 }

@@ -1,12 +1,20 @@
 //! Settling a pile of sand on one thread.
 #![tactic(auto)]
 
+mod avalanche;
 mod faults;
 mod lattice;
+pub mod laws;
+mod one_pile;
 mod settled;
 mod settling;
 mod site_list;
+#[cfg(test)]
+mod tests;
+mod workspace;
 
-pub use faults::SettleFault;
+pub use avalanche::Avalanche;
+pub use faults::{OneFault, SettleFault};
+pub use one_pile::OnePile;
 pub use settled::Settled;
 pub use settling::settle;

@@ -22,7 +22,7 @@ use Rattle.sand_text.specs.declared.words.Word.TheVariants.{Number, Letter}
 use Rattle.sand_text.specs.Bytes.{is_digit, is_other, is_space, digits_len}
 use Rattle.sand_text.specs.Words.{word_of, words_from, words_at, words, first_strange, first_large, edge_behind, numbers}
 use Rattle.sand_text.specs.Texts.{row_text, rows_text, edge_text, text_of}
-use Rattle.sand_text.specs.Reading.{pile_of}
+use Rattle.sand_text.specs.Reading.{front_of, pile_of}
 use Rattle.sand_text.proofs.Cuts.{one_part}
 
 -- ---- a number
@@ -187,7 +187,7 @@ grid_again g h =
     rw (sides, wide) refl
 
 pub again : (p : PileView) → IsPile p → pile_of (text_of p) ≡ Ok p
-unfolding pile_of first_strange first_large edge_behind
+unfolding pile_of front_of first_strange first_large edge_behind
 again p h =
     let small = heights_small p h in
     let at : ℕ = 0 + length (decimal p.grid.width) + 1 + length (decimal p.grid.height) + 1 in

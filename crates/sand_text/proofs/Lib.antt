@@ -2,9 +2,11 @@ pub mod Again
 pub mod Cuts
 pub mod DigitRuns
 pub mod Lengths
+pub mod Noting
 pub mod Readings
 pub mod RowSteps
 pub mod Spans
 pub mod StrangeBytes
 pub mod Streams
 pub mod Surveying
+pub mod TableSteps

@@ -1,10 +1,10 @@
 -- One more word of a survey.
-use Rattle.std.proofs.Common.{◌≡◌, ◌≢◌, ℕ, suc, ◌+◌, ◌-◌, ◌<◌, List, [], ◌∷◌, true, false, length, take, drop, get_or, eqb, ltb, refl, sym, ◌∙◌, ap, arith, inl, inr, drop-cons, length-drop, Option, Some, None, Bool, nat_lt, sum, subst}
+use Rattle.std.proofs.Common.{◌≡◌, ◌≢◌, ℕ, suc, ◌+◌, ◌-◌, ◌<◌, ◌≤◌, ◌++◌, nat_le, List, [], ◌∷◌, true, false, length, take, drop, get_or, eqb, ltb, refl, sym, ◌∙◌, ap, arith, inl, inr, drop-cons, length-drop, Option, Some, None, Bool, nat_lt, sum, subst}
 use Rattle.std.specs.Bool.{if◌then◌else◌, ◌==◌}
 use Rattle.std.proofs.lemmas.Bool.{cases_lt, cases_eq}
 use Rattle.std.proofs.lemmas.Bool.Decides.{nat_tests}
-use Rattle.std.proofs.lemmas.List.{get_or-drop}
-use Rattle.std.proofs.lemmas.List.Sums.{sum_by_more}
+use Rattle.std.proofs.lemmas.List.{take_all, drop_all}
+use Rattle.std.specs.List.{position}
 use Rattle.sand_model.specs.declared.pile.TheConstants.{GRAIN_LIMIT}
 use Rattle.sand_model.specs.declared.shape.Edge.{Edge}
 use Rattle.sand_model.specs.declared.shape.Edge.TheVariants.{Open, Cylinder}
@@ -13,7 +13,8 @@ use Rattle.sand_text.specs.declared.words.Word.{Word}
 use Rattle.sand_text.specs.declared.words.Word.TheVariants.{Number, Letter, Strange}
 use Rattle.sand_text.specs.Bytes.{capped}
 use Rattle.sand_text.specs.Words.{first_strange, first_large, edge_behind, numbers}
-use Rattle.sand_text.specs.Surveys.{IsUnderway, place_or, still_spared}
+use Rattle.sand_text.specs.Surveys.{IsUnderway, place_or, still_spared, sites_of, grains_with, if_no_site, noted}
+use Rattle.sand_text.proofs.Noting.{sum_push, no_site_push, noted-next, length-noted, noted-none}
 
 -- the number at a place, and what is left behind it
 next_of : (ns rest : List ℕ) (k v : ℕ) → drop k ns ≡ v ∷ rest → (k < length ns) × (get_or ns k 0 ≡ v) × (drop (k + 1) ns ≡ rest)
@@ -30,20 +31,54 @@ large_next None false start later = refl
 large_next (Some at) true start later = refl
 large_next (Some at) false start later = refl
 
--- the sum with one height more
-sum_next : (ns : List ℕ) (k v g more : ℕ) → k < length ns → get_or ns k 0 ≡ v → g ≡ capped (sum (take (k - 2) (drop 2 ns))) → more ≡ (if nat_lt k 2 then g else capped (g + v)) → more ≡ capped (sum (take (k + 1 - 2) (drop 2 ns)))
-sum_next ns k v g more lt here so_far step = elim (cases_lt k 2) [
+-- the same sides make as many sites
+same_sites : (s t : Survey) → t.width ≡ s.width → t.height ≡ s.height → sites_of t ≡ sites_of s
+same_sites s t width height = rw (width, height) refl
+
+take-nil : (n : ℕ) → take {A = ℕ} n [] ≡ []
+take-nil n = take_all n [] (omega arith)
+
+drop-nil : (n : ℕ) → drop {A = ℕ} n [] ≡ []
+drop-nil n = drop_all n [] (omega arith)
+
+-- what a survey says of the numbers behind the sides
+abbrev IsBehind : List Word → Survey → Type 0
+IsBehind ws s = (s.grains ≡ capped (sum (take (sites_of s) (noted s.count ws)))) × (s.no_site ≡ position (nat_le (sites_of s)) (drop (sites_of s) (noted s.count ws)))
+
+-- one side more, and no number behind the sides
+side_next : (ws : List Word) (s t : Survey) → s.count < 2 → t.count ≡ s.count + 1 → IsBehind ws s → t.grains ≡ s.grains → t.no_site ≡ s.no_site → IsBehind ws t
+side_next ws s t low count so_far grains no_site =
+    let before : noted s.count ws ≡ [] = noted-none ws s.count (omega arith) in
+    let after : noted t.count ws ≡ [] = noted-none ws t.count (omega arith) in
+    (grains ∙ (rw (before, take-nil (sites_of s)) at so_far.0 ∙ rw (after, take-nil (sites_of t)) refl), no_site ∙ (rw (before, drop-nil (sites_of s)) at so_far.1 ∙ rw (after, drop-nil (sites_of t)) refl))
+
+-- one number more behind the sides
+behind_next : (ws : List Word) (s t : Survey) (value : ℕ) → 2 ≤ s.count → s.count < length (numbers ws) → get_or (numbers ws) s.count 0 ≡ value → t.count ≡ s.count + 1 → sites_of t ≡ sites_of s → IsBehind ws s → t.grains ≡ grains_with s (s.count - 2) value → t.no_site ≡ place_or s.no_site (if_no_site s (s.count - 2) value) → IsBehind ws t
+behind_next ws s t value high lt here count same so_far grains no_site =
+    let next : noted t.count ws ≡ noted s.count ws ++ value ∷ [] = ap (λ n. noted n ws) count ∙ noted-next ws s.count value high lt here in
+    let len = length-noted ws s.count (omega arith) in
+    let sums = rw len at (sum_push (sites_of s) value s.grains (noted s.count ws) so_far.0) in
+    let sites = rw len at (no_site_push (sites_of s) value s.no_site (noted s.count ws) so_far.1) in
+    (rw (next, same) (grains ∙ sums), rw (next, same) (no_site ∙ sites))
+
+-- a number, as a side or behind the sides
+noted_step : (ws rest : List Word) (s t : Survey) (start value : ℕ) → IsUnderway ws (Number start value ∷ rest) s
+    → t.count ≡ s.count + 1
+    → t.width ≡ (if s.count == 0 then value else s.width)
+    → t.height ≡ (if s.count == 1 then value else s.height)
+    → t.grains ≡ (if nat_lt s.count 2 then s.grains else grains_with s (s.count - 2) value)
+    → t.no_site ≡ (if nat_lt s.count 2 then s.no_site else place_or s.no_site (if_no_site s (s.count - 2) value))
+    → IsBehind ws t
+noted_step ws rest s t start value h count width height grains no_site = elim (cases_lt s.count 2) [
   | inl low ↦
-      let same : k + 1 - 2 ≡ k - 2 = omega arith in
-      let test : ltb k 2 ≡ true = grind (arith, nat_tests) in
-      rw same (rw test at step ∙ so_far)
+      let test : ltb s.count 2 ≡ true = grind (arith, nat_tests) in
+      side_next ws s t low count (h.grains, h.no_site) (rw test at grains) (rw test at no_site)
   | inr high ↦
-      let test : ltb k 2 ≡ false = grind (arith, nat_tests) in
-      let place : k + 1 - 2 ≡ k - 2 + 1 = omega arith in
-      let height : get_or (drop 2 ns) (k - 2) 0 ≡ v = get_or-drop 2 ns (k - 2) 0 ∙ (ap (λ n. get_or ns n 0) (omega arith) ∙ here) in
-      let total = sum_by_more (λ x. x) (drop 2 ns) (k - 2) 0 (omega (arith, length-drop 2 ns)) in
-      let grown = rw test at step in
-      rw place (omega arith)
+      let test : ltb s.count 2 ≡ false = grind (arith, nat_tests) in
+      let not_first : eqb s.count 0 ≡ false = grind (arith, nat_tests) in
+      let not_second : eqb s.count 1 ≡ false = grind (arith, nat_tests) in
+      let next = next_of (numbers ws) (numbers rest) s.count value h.left in
+      behind_next ws s t value high next.0 next.1 count (same_sites s t (rw not_first at width) (rw not_second at height)) (h.grains, h.no_site) (rw test at grains) (rw test at no_site)
 ]
 
 -- a number
@@ -52,12 +87,14 @@ pub note_step : (ws rest : List Word) (s t : Survey) (start value : ℕ) → IsU
     → t.width ≡ (if s.count == 0 then value else s.width)
     → t.height ≡ (if s.count == 1 then value else s.height)
     → t.edge ≡ s.edge
-    → t.grains ≡ (if nat_lt s.count 2 then s.grains else capped (s.grains + value))
+    → t.grains ≡ (if nat_lt s.count 2 then s.grains else grains_with s (s.count - 2) value)
+    → t.no_site ≡ (if nat_lt s.count 2 then s.no_site else place_or s.no_site (if_no_site s (s.count - 2) value))
     → t.large ≡ place_or s.large (if nat_lt GRAIN_LIMIT value then Some start else None)
     → IsUnderway ws rest t
 unfolding first_strange first_large edge_behind
-note_step ws rest s t start value h count width height edge grains large =
+note_step ws rest s t start value h count width height edge grains no_site large =
     let next = next_of (numbers ws) (numbers rest) s.count value h.left in
+    let behind = noted_step ws rest s t start value h count width height grains no_site in
     record {
       plain = rw (edge, count) h.plain;
       edge = rw (edge, count) h.edge;
@@ -72,7 +109,8 @@ note_step ws rest s t start value h count width height edge grains large =
         | inl e ↦ let test : eqb s.count 1 ≡ true = grind (arith, nat_tests) in rw test at height ∙ (sym next.1 ∙ ap (λ n. get_or (numbers ws) n 0) e)
         | inr ne ↦ let test : eqb s.count 1 ≡ false = grind (arith, nat_tests) in rw test at height ∙ h.height (omega arith)
       ];
-      grains = rw count (sum_next (numbers ws) s.count value s.grains t.grains next.0 next.1 h.grains grains);
+      grains = behind.0;
+      no_site = behind.1;
     }
 
 -- how many numbers there were before one more
@@ -91,6 +129,7 @@ spare_step ws rest s t at h two is_open is = rw is (record {
   width = h.width;
   height = h.height;
   grains = h.grains;
+  no_site = h.no_site;
 })
 
 letter_first : (e : Edge) (n at : ℕ) (rest : List Word) → ((n ≡ 2) × (e ≡ Open) → ⊥) → first_strange (still_spared e) n (Letter at ∷ rest) ≡ Some at

@@ -4,5 +4,6 @@ pub mod Laws
 pub mod Left
 pub mod Reading
 pub mod Surveys
+pub mod Tables
 pub mod Texts
 pub mod Words

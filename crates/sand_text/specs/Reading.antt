@@ -1,5 +1,5 @@
--- What a text of a pile means: the pile, or the first fault.
-use Rattle.std.specs.Prelude.{◌≡◌, ℕ, List, [], ◌∷◌, Bool, true, ◌==◌, nat_lt, nat_le, length, take, drop, sum, Option, Some, None, Result, Ok, Err, IsOk, if◌then◌else◌}
+-- What a text of a pile, or of a pile and drops, means: what it holds, or the first fault.
+use Rattle.std.specs.Prelude.{◌≡◌, ℕ, List, [], ◌∷◌, Bool, true, false, ◌==◌, nat_lt, nat_le, length, take, drop, sum, position, Option, Some, None, Result, Ok, Err, IsOk, if◌then◌else◌}
 use Rattle.sand_model.specs.declared.pile.TheConstants.{GRAIN_LIMIT}
 use Rattle.sand_model.specs.declared.shape.Edge.{Edge}
 use Rattle.sand_model.specs.declared.faults.ShapeFault.{ShapeFault}
@@ -7,7 +7,7 @@ use Rattle.sand_model.specs.declared.faults.ShapeFault.TheVariants as shape_faul
 use Rattle.sand_model.specs.Grid.{Grid, grid_of, sites}
 use Rattle.sand_model.specs.Piles.{PileView}
 use Rattle.sand_text.specs.declared.fault.TextFault.{TextFault}
-use Rattle.sand_text.specs.declared.fault.TextFault.TheVariants.{Text, TooLarge, Side, Narrow, Length, TooManyGrains}
+use Rattle.sand_text.specs.declared.fault.TextFault.TheVariants.{Text, TooLarge, Side, Narrow, Length, TooManyGrains, NoSite}
 use Rattle.sand_text.specs.declared.fault.ReadFault.{ReadFault}
 use Rattle.sand_text.specs.declared.fault.ReadFault.TheVariants as faults
 use Rattle.sand_text.specs.declared.words.Word.{Word}
@@ -48,22 +48,42 @@ pile_at edge last end [] = Err (Text end)
 pile_at edge last end (w ∷ []) = Err (Text end)
 pile_at edge last end (w ∷ h ∷ ns) = filled last (grid_of w h edge) ns
 
--- the pile that a text holds: a letter is spared behind the second number
+-- the pile at the front of a text, and the numbers behind it: a letter is spared behind the second number
+unfoldable pub front_of : Bool → List ℕ → Result (PileView × List ℕ) TextFault
+front_of last text = do
+  ws ← plain_words (2 ∷ []) text
+  pile_at (edge_behind 2 0 ws) last (length text) (numbers ws)
+
+-- the pile that a text holds
 unfoldable pub pile_of : List ℕ → Result PileView TextFault
 pile_of text = do
-  ws ← plain_words (2 ∷ []) text
-  pile ← pile_at (edge_behind 2 0 ws) true (length text) (numbers ws)
-  Ok pile.0
+  front ← front_of true text
+  Ok front.0
+
+-- these numbers, where each is a site of the grid; else the fault names the first that is none, by its index
+abbrev pub sites_among : Grid → List ℕ → Result (List ℕ) TextFault
+sites_among g ns = unless_at (position (nat_le (sites g)) ns) NoSite (Ok ns)
+
+-- the pile that a text holds, and the sites behind it
+unfoldable pub drops_of : List ℕ → Result (PileView × List ℕ) TextFault
+drops_of text = do
+  front ← front_of false text
+  drops ← sites_among front.0.grid front.1
+  Ok (front.0, drops)
 
 -- A reader answers what the text means. Memory runs out only where the text has no fault.
-abbrev pub Fails : ReadFault → Result PileView TextFault → Type 0
+abbrev pub Fails : {A : Type 0} → ReadFault → Result A TextFault → Type 0
 Fails faults.Memory read = IsOk read
 Fails (faults.Text fault) read = read ≡ Err fault
 
+-- the same of a value that is seen by its view
+abbrev pub ReadsAs : {V A : Type 0} → (V → A) → Result V ReadFault → Result A TextFault → Type 0
+ReadsAs view (Ok value) read = read ≡ Ok (view value)
+ReadsAs view (Err fault) read = Fails fault read
+
 abbrev pub Reads : Result PileView ReadFault → Result PileView TextFault → Type 0
-Reads (Ok pile) read = read ≡ Ok pile
-Reads (Err fault) read = Fails fault read
+Reads result read = ReadsAs (λ pile. pile) result read
 
 -- the numbers behind the first two
-abbrev pub heights_in : List ℕ → List ℕ
-heights_in text = drop 2 (numbers (words text))
+abbrev pub behind_sides : List ℕ → List ℕ
+behind_sides text = drop 2 (numbers (words text))

@@ -25,6 +25,9 @@ pub enum TextFault {
     Length,
     #[error("more grains than the limit")]
     TooManyGrains,
+    /// A drop on a site that the grid doesn't have, with its index among the drops, from 0.
+    #[error("drop {0} is on no site of the grid")]
+    NoSite(usize),
 }
 
 /// Why a text was not read.

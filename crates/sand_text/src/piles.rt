@@ -5,7 +5,7 @@ ghost use Rattle.sand_text.specs.Reading.{Reads, pile_of};
 ghost use Rattle.sand_text.specs.Texts.{shape_text, text_of, settle_text_of};
 
 use crate::fault::ReadFault;
-use crate::numbers::{heights_in, shape_of};
+use crate::numbers::{heights_and_drops, shape_of};
 use crate::rows::{push_number, push_sites};
 use sand_model::{Edge, Pile, Shape};
 use sand_settle::Settled;
@@ -16,7 +16,7 @@ pub fn read_pile(alloc: Global, text: &[u8]) -> Result<Pile, ReadFault>
     ensures { Reads result (pile_of text.now) }
 {
     let shape = shape_of(text)?;
-    let heights = heights_in(alloc, text, shape.sites())?;
+    let (heights, _) = heights_and_drops(alloc, text, shape.sites(), 0)?;
     Ok(Pile::from_vec(shape, heights))
 }
 

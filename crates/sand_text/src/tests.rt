@@ -1,4 +1,5 @@
 //! The rows of the formats, and streams that fail.
 
+mod dropping;
 mod reading;
 mod streams;

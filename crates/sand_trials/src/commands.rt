@@ -142,3 +142,51 @@ fn prefixes_of_a_pile(rt: HostRuntime) -> Result<(), Fail> {
     }
     Ok(())
 }
+
+const DROPPED: [Row; 4] = [
+    (
+        "sandpile drops",
+        "3 3\n3 3 3\n3 3 3\n3 3 3\n4 0\n",
+        "number site size area reach lost\n0 4 10 9 2 12\n1 0 0 0 0 0\n3 3\n2 3 1\n3 0 3\n1 3 1\nlost 12\ntopplings 10\n",
+    ),
+    (
+        "sandpile drops",
+        "1 1\n7\n",
+        "number site size area reach lost\n1 1\n3\nlost 4\ntopplings 1\n",
+    ),
+    (
+        "sandpile drops",
+        "4 1 c\n3 3 3 3\n0\n",
+        "number site size area reach lost\n0 0 4 4 2 8\n4 1 c\n2 1 1 1\nlost 8\ntopplings 4\n",
+    ),
+    (
+        "sandpile drops",
+        "2 1\n0 0\n1 1 1 1 0\n",
+        "number site size area reach lost\n0 1 0 0 0 0\n1 1 0 0 0 0\n2 1 0 0 0 0\n3 1 1 1 0 3\n4 0 0 0 0 0\n2 1\n2 0\nlost 3\ntopplings 1\n",
+    ),
+];
+
+const NOT_DROPPED: [Row; 5] = [
+    ("sandpile drops", "1 1\n0 0 1", "fault 25 NoSite at 1\n"),
+    ("sandpile drops", "1 1\n1099511627775 0", "fault 6 Full\n"),
+    (
+        "sandpile drops",
+        "2 1\n1099511627775 1 7",
+        "fault 3 TooManyGrains\n",
+    ),
+    ("sandpile drops", "2 1\n3", "fault 2 Length\n"),
+    ("sandpile drops 4", "1 1\n0 0", "usage"),
+];
+
+#[test]
+fn drops_byte_by_byte(rt: HostRuntime) -> Result<(), Fail> {
+    for (line, input, want) in DROPPED {
+        let text = written(&rt, rt.alloc(), line, input.as_bytes())?;
+        assert_eq!(rt; text.as_slice(), want.as_bytes(), "{line} of {input}");
+    }
+    for (line, input, want) in NOT_DROPPED {
+        let text = written(&rt, rt.alloc(), line, input.as_bytes())?;
+        assert_eq!(rt; text.as_slice(), want.as_bytes(), "{line} of {input}");
+    }
+    Ok(())
+}

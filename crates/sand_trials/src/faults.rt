@@ -22,6 +22,8 @@ fn the_line_of_each_fault(rt: HostRuntime) -> Result<(), Fail> {
         ),
         (DeskFault::TooLong, 22, "fault 22 TooLong\n"),
         (DeskFault::Narrow, 24, "fault 24 Narrow\n"),
+        (DeskFault::Full, 6, "fault 6 Full\n"),
+        (DeskFault::NoSite(1), 25, "fault 25 NoSite at 1\n"),
     ] {
         let mut line = Vec::new(alloc);
         assert!(rt; fault.number() != 23);

@@ -5,12 +5,16 @@ use Rattle.clap.specs.declared.error.kind.ErrorKind.TheVariants.{DisplayHelp, In
 use Rattle.clap.proofs.OnLiterals.{clap_on_literals}
 use Rattle.sand_words.specs.Line.{command_line}
 use Rattle.sand_words.specs.Asked.{asked, faults}
-use Rattle.sand_words.specs.declared.words.Task.TheVariants.{Settle}
+use Rattle.sand_words.specs.declared.words.Task.TheVariants.{Settle, Drops}
 
 -- `sandpile settle` asks to settle, whatever the program's name
 settle_asks : (program : Text) → asked (program ∷ codes "settle" ∷ []) ≡ Some Settle
 unfolding command_line clap_on_literals
 settle_asks program = refl
+
+drops_asks : (program : Text) → asked (program ∷ codes "drops" ∷ []) ≡ Some Drops
+unfolding command_line clap_on_literals
+drops_asks program = refl
 
 -- with no word, and with the program's name alone, a command is missing
 no_word : faults [] ≡ MissingSubcommand ∷ []

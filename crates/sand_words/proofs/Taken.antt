@@ -52,7 +52,10 @@ each_names_task : (p : Text × List Text) → Each (λ s. answers_to p.0 (label_
 unfolding command_line
 each_names_task p = (
   λ answers own passes. refl,
-  (λ answers own passes. absurd (help_is_not_own p.0 own (answers_by_name p.0 (codes "help") answers)), tt),
+  (
+    λ answers own passes. refl,
+    (λ answers own passes. absurd (help_is_not_own p.0 own (answers_by_name p.0 (codes "help") answers)), tt),
+  ),
 )
 
 wants_command : (built command_line).top.subcommand_required ≡ true

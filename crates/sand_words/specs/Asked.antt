@@ -4,11 +4,11 @@ use Rattle.std.specs.Str.{bytes_eq}
 use Rattle.clap.specs.Words.{Kinds, Row, Text, fault_of, subcommand_of}
 use Rattle.sand_words.specs.Line.{command_line}
 use Rattle.sand_words.specs.declared.words.Task.{Task}
-use Rattle.sand_words.specs.declared.words.Task.TheVariants.{Settle}
+use Rattle.sand_words.specs.declared.words.Task.TheVariants.{Settle, Drops}
 
 -- the task of a command's name and its matches
 abbrev pub task_named : Text × List Row → Option Task
-task_named p = if bytes_eq p.0 (codes "settle") then Some Settle else None
+task_named p = if bytes_eq p.0 (codes "settle") then Some Settle else if bytes_eq p.0 (codes "drops") then Some Drops else None
 
 -- the kinds of error that clap gives at the words: none where the command line takes them
 abbrev pub faults : List Text → Kinds

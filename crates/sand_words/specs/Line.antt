@@ -1,16 +1,20 @@
 -- The command line that is read, as clap's model has it.
-use Rattle.std.specs.Prelude.{codes, true}
-use Rattle.clap.specs.Words.{App, new_app, with_subcommand}
+use Rattle.std.specs.Prelude.{[], ◌∷◌, codes, fold, true}
+use Rattle.clap.specs.Words.{App, Text, new_app, with_subcommand}
 use Rattle.clap.specs.Simple.{on_top}
 
 -- `Command::subcommand_required`: words that name no command are refused
 abbrev pub requiring_subcommand : App → App
 requiring_subcommand line = on_top (λ s. record s { subcommand_required = true }) line
 
--- the command `settle`, which has no options
-abbrev pub settle_line : App
-settle_line = new_app (codes "settle")
+-- a command with no options
+abbrev pub bare_line : Text → App
+bare_line name = new_app name
 
--- `sandpile`, which wants a command: `settle`
+-- the line with one command more
+abbrev pub or_command : App → App → App
+or_command line command = with_subcommand line command.top
+
+-- `sandpile`, which wants one of its commands
 unfoldable pub command_line : App
-command_line = with_subcommand (requiring_subcommand (new_app (codes "sandpile"))) settle_line.top
+command_line = fold or_command (requiring_subcommand (new_app (codes "sandpile"))) (bare_line (codes "settle") ∷ bare_line (codes "drops") ∷ [])

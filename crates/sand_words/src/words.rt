@@ -3,7 +3,7 @@
 ghost use Rattle.std.specs.Prelude.{◌≡◌, IfErr, IfOk, Some, None, false, map, option_and_then, string_bytes};
 ghost use Rattle.clap.specs.Words.{app_of, subcommand_rows_of};
 ghost use Rattle.clap.specs.declared.builder.command.Command.TheViews.{out-Command};
-ghost use Rattle.sand_words.specs.Line.{command_line, settle_line};
+ghost use Rattle.sand_words.specs.Line.{bare_line, command_line};
 ghost use Rattle.sand_words.specs.Asked.{asked, faults, task_named};
 ghost use Rattle.sand_words.specs.Fault.{IsOfKinds, IsUsage};
 
@@ -14,23 +14,29 @@ use std::alloc::{AllocError, Global};
 /// What is to be done.
 #[derive(Clone, Copy, Debug, PartialEq, Eq)]
 pub enum Task {
+    /// Settles a pile.
     Settle,
+    /// Drops grains on a pile, one after another.
+    Drops,
 }
 
-fn settle_line<'a>(alloc: Global) -> Command<'a>
-    ensures line { app_of result ≡ settle_line }
+fn bare_line<'a>(alloc: Global, name: &'a str, about: &'a str) -> Command<'a>
+    ensures line { app_of result ≡ bare_line name.entry.now }
     ensures local { (out-Command result).has_globals ≡ false }
 {
-    Command::new(alloc, "settle").about("Settles a pile of sand")
+    Command::new(alloc, name).about(about)
 }
 
 fn command_line<'a>(alloc: Global) -> Result<Command<'a>, AllocError>
     ensures { IfOk result (λ c. app_of c ≡ command_line) }
 {
+    let settle = bare_line(alloc, "settle", "Settles a pile of sand");
+    let drops = bare_line(alloc, "drops", "Drops grains on a pile, one after another");
     Command::new(alloc, "sandpile")
         .about("Settles piles of sand on a grid")
         .subcommand_required(true)
-        .subcommand(settle_line(alloc))
+        .subcommand(settle)?
+        .subcommand(drops)
 }
 
 fn chosen(matches: &ArgMatches<'_>) -> Option<Task>
@@ -38,6 +44,7 @@ fn chosen(matches: &ArgMatches<'_>) -> Option<Task>
 {
     match matches.subcommand() {
         Some(("settle", _)) => Some(Task::Settle),
+        Some(("drops", _)) => Some(Task::Drops),
         _ => None,
     }
 }

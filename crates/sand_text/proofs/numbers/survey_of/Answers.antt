@@ -28,7 +28,7 @@ loop-word-preserved-in-Number c =
     let ws = words c.args.text.now in
     let here = at_word ws _ (words_left c.next.new.self) c.loop-word.survey c.in-Some.word (Number c.in-Number.start c.in-Number.value) c.in-Some.ensures.steps c.in-Number.is c.loop-word.invariant in
     let note = c.note.ensures in
-    note_step ws (words_left c.next.new.self) c.loop-word.survey c.note.new.self c.in-Number.start c.in-Number.value here note.count note.width note.height note.edge note.grains note.large
+    note_step ws (words_left c.next.new.self) c.loop-word.survey c.note.new.self c.in-Number.start c.in-Number.value here note.count note.width note.height note.edge note.grains note.no_site note.large
 
 pub returns-then-not-spare : goal.returns-then-not-spare
 returns-then-not-spare c =

@@ -1,8 +1,9 @@
-use Rattle.std.proofs.Common.{◌≡◌, ◌∙◌, ap, ap₂, codes}
+use Rattle.std.proofs.Common.{◌≡◌, ◌∙◌, ap, codes}
 use Rattle.std.proofs.lemmas.Result.{IfOk-weaker}
-use Rattle.clap.specs.Words.{App, app_of, new_app, with_subcommand}
+use Rattle.clap.specs.Words.{app_of, new_app}
 use Rattle.clap.specs.Simple.{app_of_fields}
 use Rattle.sand_words.specs.Line.{command_line, requiring_subcommand}
+use Rattle.sand_words.proofs.Lines.{one_more}
 use Rattle.sand_words.proofs.words.command_line.Goals as goal
 
 pub returns : goal.returns
@@ -11,5 +12,5 @@ returns c =
     let about_is : app_of c.about.result ≡ new_app (codes "sandpile") = ap app_of_fields c.about.ensures ∙ c.new.ensures.app in
     let top_is : app_of c.subcommand_required.result ≡ requiring_subcommand (new_app (codes "sandpile")) =
     ap app_of_fields c.subcommand_required.ensures ∙ ap requiring_subcommand about_is in
-    IfOk-weaker c.subcommand.result _ _ (λ r h. h.shape c.settle_line.ensures.local
-    ∙ ap₂ with_subcommand top_is (ap (λ (a : App). a.top) c.settle_line.ensures.line)) c.subcommand.ensures
+    let with_settle = one_more c.in_ok-subcommand.ensures top_is c.bare_line-settle.ensures.line c.bare_line-settle.ensures.local in
+    IfOk-weaker c.subcommand-2.result _ _ (λ r h. one_more h with_settle c.bare_line-drops.ensures.line c.bare_line-drops.ensures.local) c.subcommand-2.ensures

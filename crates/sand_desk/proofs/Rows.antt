@@ -1,0 +1,15 @@
+-- The table of drops, as one drop more is noted.
+use Rattle.std.proofs.Common.{◌≡◌, ℕ, List, [], ◌∷◌, ◌++◌, refl, sym, ap, subst}
+use Rattle.sand_settle.specs.declared.avalanche.Avalanche.{Avalanche}
+use Rattle.sand_settle.specs.Avalanches.{IsAvalanche}
+use Rattle.sand_settle.specs.Drops.{OneView, grid_of_one, topplings_between, Drops}
+use Rattle.sand_desk.specs.Commands.{AreRows}
+
+pub rows_push : (v u w : OneView) (sites : List ℕ) (rows : List (ℕ × Avalanche)) (site : ℕ) (a : Avalanche) → AreRows v sites rows u → Drops u site w → IsAvalanche (grid_of_one u) site (topplings_between u.settled w.settled) a
+    → AreRows v (sites ++ site ∷ []) (rows ++ (u.number, a) ∷ []) w
+rows_push v u w [] rows site a (none, same) drop is =
+    let P : OneView → Type 0 = λ x. AreRows x (site ∷ []) (rows ++ (u.number, a) ∷ []) w in
+    let Q : List (ℕ × Avalanche) → Type 0 = λ xs. AreRows u (site ∷ []) (xs ++ (u.number, a) ∷ []) w in
+    subst P (sym same) (subst Q (sym none) (w, a, [], drop, is, refl, (refl, refl)))
+rows_push v u w (x ∷ xs) rows site a (m, b, others, first, its, e, rest) drop is =
+    (m, b, others ++ (u.number, a) ∷ [], first, its, ap (λ l. l ++ (u.number, a) ∷ []) e, rows_push m u w xs others site a rest drop is)

@@ -1,0 +1,10 @@
+pub mod Sets
+pub mod Listing
+pub mod Spreading
+pub mod Settling
+pub mod Stabilised
+pub mod Uniqueness
+pub mod Classes
+pub mod Members
+pub mod Orders
+pub mod Results

@@ -1,0 +1,173 @@
+-- The members of the group: what settles from high piles is recurrent, and so is what settles from a recurrent pile
+-- with more grains; the settled piles of a + b, d and 2d - c are the sum, the identity and the inverse.
+use Rattle.std.proofs.Common.{ℕ, zero, suc, ◌≡◌, ◌+◌, ◌-◌, ◌*◌, ◌<◌, ◌≤◌, ap, arith, ⊎_elim}
+use Rattle.std.specs.Prelude.{ℤ, pos, ◌+ℤ◌, ◌-ℤ◌}
+use Rattle.std.proofs.lemmas.Int.{ints}
+use Rattle.std.proofs.lemmas.Bool.{cases_lt}
+use Rattle.std.proofs.Math.Nat.{mul-le-mul_left}
+use Rattle.sand_model.specs.Grid.{Grid, sites}
+use Rattle.sand_model.specs.Sand.{total, IsSettled}
+use Rattle.sand_model.specs.Integers.{whole, IsEquivalent}
+use Rattle.sand_model.proofs.Sandpile.{settled_in_parts}
+use Rattle.sand_model.proofs.IntegerFlow.{above, below, parts, settled_equivalent}
+use Rattle.sand_group.specs.Recurrence.{IsRecurrent}
+use Rattle.sand_group.specs.Group.{IsSurplus, Represents, IsSum, IsIdentity, IsInverse}
+use Rattle.sand_group.proofs.Settling.{settles}
+use Rattle.sand_group.proofs.Stabilised.{settled_stable, settled_recurrent}
+use Rattle.sand_group.proofs.Uniqueness.{recurrent_unique}
+use Rattle.sand_group.proofs.Classes.{equivalent_sym, equivalent_add, equivalent_same, equivalent_times, equivalent_trans}
+
+-- ---- the same heights
+
+-- what settles is a matter of the heights at the sites alone
+pub settled_from : (g : Grid) (s r u t : ℕ → ℕ) → IsSettled g s u t → ((i : ℕ) → i < sites g → r i ≡ s i) → IsSettled g r u t
+settled_from g s r u t done same = record {
+  toppled = record { balance = λ i l. let e = done.toppled.balance i l in let h = same i l in omega arith };
+  odometer = record {
+    stabilises = record { at_most_three = λ i l. let e = done.odometer.stabilises.at_most_three i l in let h = same i l in omega arith };
+    least = λ w stable i l. done.odometer.least w (record { at_most_three = λ j m. let e = stable.at_most_three j m in let h = same j m in omega arith }) i l;
+  };
+}
+
+pub settled_to : (g : Grid) (s u t r : ℕ → ℕ) → IsSettled g s u t → ((i : ℕ) → i < sites g → r i ≡ t i) → IsSettled g s u r
+settled_to g s u t r done same = record {
+  toppled = record { balance = λ i l. let e = done.toppled.balance i l in let h = same i l in omega arith };
+  odometer = done.odometer;
+}
+
+-- ---- recurrent piles
+
+-- what settles from heights of 3 and more is recurrent
+pub high_recurrent : (g : Grid) (s u t : ℕ → ℕ) → IsSettled g s u t → ((i : ℕ) → i < sites g → 3 ≤ s i) → IsRecurrent g t
+high_recurrent g s u t done high =
+    settled_recurrent g (λ i. s i - 3) u t (settled_from g s (λ i. 3 + (s i - 3)) u t done (λ i l. let h = high i l in omega arith))
+
+-- a pile that is 3 or more at each site and equivalent to all 0
+pub surplus_high : (g : Grid) (d : ℕ → ℕ) → IsSurplus g d → (i : ℕ) → i < sites g → 3 ≤ d i
+surplus_high g d is i l =
+    let e = is.difference i l in
+    let low = (settled_stable g (λ j. 6) is.odometer is.rest is.settled).low i l in
+    omega arith
+
+pub surplus_at_most_six : (g : Grid) (d : ℕ → ℕ) → IsSurplus g d → (i : ℕ) → i < sites g → d i ≤ 6
+surplus_at_most_six g d is i l = let e = is.difference i l in omega arith
+
+pub surplus_is_none : (g : Grid) (d : ℕ → ℕ) → IsSurplus g d → IsEquivalent g (whole d) (λ i. pos 0)
+surplus_is_none g d is =
+    equivalent_same g (whole (λ i. 6)) (whole is.rest) (whole d) (λ i. pos 0) (settled_equivalent g (λ i. 6) is.odometer is.rest is.settled)
+    (λ i l. let e = is.difference i l in omega (arith, ints))
+
+-- there is such a pile
+some_surplus : (g : Grid) → (d : ℕ → ℕ) × IsSurplus g d
+some_surplus g =
+    let full = settles g (λ i. 6) in (
+      λ i. 6 - full.1 i,
+      record {
+        odometer = full.0;
+        rest = full.1;
+        settled = full.2;
+        difference = λ i l. let low = (settled_stable g (λ j. 6) full.0 full.1 full.2).low i l in omega arith;
+      },
+    )
+
+-- a recurrent pile is what some heights of 3 and more settle to
+pub recurrent_from_full : (g : Grid) (c : ℕ → ℕ) → IsRecurrent g c → (a : ℕ → ℕ) × (u : ℕ → ℕ) × IsSettled g (λ i. 3 + a i) u c
+recurrent_from_full g c recurrent =
+    let d = some_surplus g in
+    let done = settles g (λ i. 3 + (c i + (d.0 i - 3))) in
+    let again = settled_recurrent g (λ i. c i + (d.0 i - 3)) done.0 done.1 done.2 in
+    let none = surplus_is_none g d.0 d.1 in
+    let back = settled_equivalent g (λ i. 3 + (c i + (d.0 i - 3))) done.0 done.1 done.2 in
+    let start : IsEquivalent g (whole c) (whole (λ i. 3 + (c i + (d.0 i - 3)))) =
+    equivalent_same g (λ i. pos 0) (whole d.0) (whole c) (whole (λ i. 3 + (c i + (d.0 i - 3)))) (equivalent_sym g (whole d.0) (λ i. pos 0) none)
+    (λ i l. let high = surplus_high g d.0 d.1 i l in omega (arith, ints)) in
+    let class = equivalent_trans g (whole c) (whole (λ i. 3 + (c i + (d.0 i - 3)))) (whole done.1) start back in
+    (λ i. c i + (d.0 i - 3), done.0, settled_to g (λ i. 3 + (c i + (d.0 i - 3))) done.0 done.1 c done.2 (recurrent_unique g c done.1 recurrent again class))
+
+-- more grains on a recurrent pile settle to a recurrent pile
+pub recurrent_plus : (g : Grid) (a b u r : ℕ → ℕ) → IsRecurrent g a → IsSettled g (λ i. a i + b i) u r → IsRecurrent g r
+recurrent_plus g a b u r recurrent done =
+    let full = recurrent_from_full g a recurrent in
+    let both = settled_in_parts g (λ i. 3 + full.0 i) b full.1 a u r full.2 done in
+    high_recurrent g (λ i. (3 + full.0 i) + b i) (λ i. full.1 i + u i) r both (λ i l. omega arith)
+
+-- ---- the operations
+
+pub sum_is_settled : (g : Grid) (a b u r : ℕ → ℕ) → IsRecurrent g a → IsSettled g (λ i. a i + b i) u r → IsSum g a b r
+sum_is_settled g a b u r recurrent done = record {
+  recurrent = recurrent_plus g a b u r recurrent done;
+  equivalent = equivalent_sym g (whole (λ i. a i + b i)) (whole r) (settled_equivalent g (λ i. a i + b i) u r done);
+}
+
+pub identity_is_settled : (g : Grid) (d u e : ℕ → ℕ) → IsSurplus g d → IsSettled g d u e → IsIdentity g e
+identity_is_settled g d u e is done = record {
+  recurrent = high_recurrent g d u e done (surplus_high g d is);
+  equivalent = equivalent_trans g (whole e) (whole d) (λ i. pos 0) (equivalent_sym g (whole d) (whole e) (settled_equivalent g d u e done)) (surplus_is_none g d is);
+}
+
+pub inverse_is_settled : (g : Grid) (c d u r : ℕ → ℕ) → IsRecurrent g c → IsSurplus g d → IsSettled g (λ i. 2 * d i - c i) u r → IsInverse g c r
+inverse_is_settled g c d u r recurrent is done =
+    let none = surplus_is_none g d is in
+    let twice = equivalent_add g (whole d) (λ i. pos 0) (whole d) (λ i. pos 0) none none in
+    record {
+      recurrent = high_recurrent g (λ i. 2 * d i - c i) u r done (λ i l. let high = surplus_high g d is i l in let low = recurrent.stable.low i l in omega arith);
+      equivalent =
+          equivalent_trans g (whole r) (whole (λ i. 2 * d i - c i)) (λ i. pos 0 -ℤ pos (c i))
+          (equivalent_sym g (whole (λ i. 2 * d i - c i)) (whole r) (settled_equivalent g (λ i. 2 * d i - c i) u r done))
+          (equivalent_same g (λ i. pos (d i) +ℤ pos (d i)) (λ i. pos 0 +ℤ pos 0) (whole (λ i. 2 * d i - c i)) (λ i. pos 0 -ℤ pos (c i)) twice
+          (λ i l. let high = surplus_high g d is i l in let low = recurrent.stable.low i l in omega (arith, ints)));
+    }
+
+-- ---- each class has one
+
+term_in_total : (n : ℕ) (f : ℕ → ℕ) (i : ℕ) → i < n → f i ≤ total n f
+unfolding total
+term_in_total zero f i l = absurd (omega arith)
+term_in_total (suc n) f i l =
+    ⊎_elim (λ (less : i < n). let rest = term_in_total n f i less in omega arith)
+    (λ (last : n ≤ i). let e : i ≡ n = omega arith in let same = ap f e in omega arith)
+    (cases_lt i n)
+
+-- x and enough times d are 3 or more everywhere, and what they settle to is recurrent
+pub class_has_one : (g : Grid) (x : ℕ → ℤ) → (c : ℕ → ℕ) × Represents g x c
+class_has_one g x =
+    let d = some_surplus g in
+    let k = total (sites g) (λ i. below (x i)) + 1 in
+    let s : ℕ → ℕ = λ i. above (x i) + k * d.0 i - below (x i) in
+    let enough : (i : ℕ) → i < sites g → below (x i) + 3 ≤ k * d.0 i = λ i l.
+    (let most = term_in_total (sites g) (λ j. below (x j)) i l in
+    let product = mul-le-mul_left k (surplus_high g d.0 d.1 i l) in
+    omega arith) in
+    let done = settles g s in
+    let none = equivalent_times g d.0 k (surplus_is_none g d.0 d.1) in
+    let start : IsEquivalent g (whole s) x =
+    equivalent_same g (λ i. pos (k * d.0 i)) (λ i. pos 0) (whole s) x none
+    (λ i l. let high = enough i l in let is = parts (x i) in omega (arith, ints)) in (
+      done.1,
+      record {
+        recurrent = high_recurrent g s done.0 done.1 done.2 (λ i l. let high = enough i l in omega arith);
+        equivalent = equivalent_trans g (whole done.1) (whole s) x (equivalent_sym g (whole s) (whole done.1) (settled_equivalent g s done.0 done.1 done.2)) start;
+      },
+    )
+
+-- ---- the laws of the group
+
+pub represented_once : (g : Grid) (x : ℕ → ℤ) (c d : ℕ → ℕ) → Represents g x c → Represents g x d → (i : ℕ) → i < sites g → c i ≡ d i
+represented_once g x c d one two =
+    recurrent_unique g c d one.recurrent two.recurrent (equivalent_trans g (whole c) x (whole d) one.equivalent (equivalent_sym g (whole d) x two.equivalent))
+
+-- a sum with the identity is the pile itself
+pub identity_neutral : (g : Grid) (c e u r : ℕ → ℕ) → IsRecurrent g c → IsIdentity g e → IsSettled g (λ i. c i + e i) u r → (i : ℕ) → i < sites g → r i ≡ c i
+identity_neutral g c e u r recurrent identity done =
+    let class = (sum_is_settled g c e u r recurrent done).equivalent in
+    let none : IsEquivalent g (λ i. pos (c i + e i)) (whole c) = equivalent_same g (whole e) (λ i. pos 0) (λ i. pos (c i + e i)) (whole c) identity.equivalent (λ i l. omega (arith, ints)) in
+    recurrent_unique g r c (recurrent_plus g c e u r recurrent done) recurrent (equivalent_trans g (whole r) (λ i. pos (c i + e i)) (whole c) class none)
+
+-- a sum with the inverse is the identity
+pub inverse_cancels : (g : Grid) (c v u r : ℕ → ℕ) → IsRecurrent g c → IsInverse g c v → IsSettled g (λ i. c i + v i) u r → IsIdentity g r
+inverse_cancels g c v u r recurrent inverse done = record {
+  recurrent = recurrent_plus g c v u r recurrent done;
+  equivalent =
+      equivalent_trans g (whole r) (λ i. pos (c i + v i)) (λ i. pos 0) ((sum_is_settled g c v u r recurrent done).equivalent)
+      (equivalent_same g (whole v) (λ i. pos 0 -ℤ pos (c i)) (λ i. pos (c i + v i)) (λ i. pos 0) inverse.equivalent (λ i l. omega (arith, ints)));
+}

@@ -1,0 +1,63 @@
+-- How many neighbours of a site are in a set.
+use Rattle.std.proofs.Common.{ℕ, Bool, true, false, cond, ◌≡◌, ◌<◌, ◌≤◌, refl, arith, Option, Some, None, count_by, ⊎_elim}
+use Rattle.std.proofs.lemmas.Bool.{cases_Bool}
+use Rattle.sand_model.specs.Grid.{Grid, sites, neighbours, north, west, east, south}
+use Rattle.sand_model.specs.Sand.{flow, value_at}
+use Rattle.sand_model.proofs.Flow.{flow_le}
+use Rattle.sand_model.proofs.Neighbours.{flow_four}
+
+abbrev pub one_if : Bool → ℕ
+one_if b = cond b 1 0
+
+-- 1 at the sites of a set, and 0 elsewhere
+abbrev pub indicator : (ℕ → Bool) → ℕ → ℕ
+indicator set j = one_if (set j)
+
+pub at_most_one : (b : Bool) → cond b 1 0 ≤ 1
+at_most_one true = omega arith
+at_most_one false = omega arith
+
+pub count_is_flow : (g : Grid) (set : ℕ → Bool) (i : ℕ) → count_by set (neighbours g i) ≡ flow g (indicator set) i
+unfolding flow
+count_is_flow g set i = refl
+
+-- a set within another has no more of the neighbours
+pub count_within : (g : Grid) (set other : ℕ → Bool) (i : ℕ) → i < sites g → ((j : ℕ) → j < sites g → set j ≡ true → other j ≡ true) → count_by set (neighbours g i) ≤ count_by other (neighbours g i)
+unfolding flow
+count_within g set other i l within =
+    flow_le g (indicator set) (indicator other)
+    (λ j m.
+    ⊎_elim (λ (yes : set j ≡ true). let also = within j m yes in rw (yes, also) (omega arith))
+    (λ (no : set j ≡ false). rw no (omega arith))
+    (cases_Bool (set j))) i l
+
+place_at_most_one : (set : ℕ → Bool) (p : Option ℕ) → value_at (indicator set) p ≤ 1
+place_at_most_one set None = omega arith
+place_at_most_one set (Some j) = at_most_one (set j)
+
+pub flow_at_most_four : (g : Grid) (set : ℕ → Bool) (i : ℕ) → flow g (indicator set) i ≤ 4
+flow_at_most_four g set i =
+    let four = flow_four g (indicator set) i in
+    let n = place_at_most_one set (north g i) in
+    let w = place_at_most_one set (west g i) in
+    let e = place_at_most_one set (east g i) in
+    let s = place_at_most_one set (south g i) in
+    omega arith
+
+one_in_set : (b : Bool) → 1 ≤ cond b 1 0 → b ≡ true
+one_in_set true l = refl
+one_in_set false l = absurd (omega arith)
+
+north_in_set : (set : ℕ → Bool) (p : Option ℕ) → 1 ≤ value_at (indicator set) p → (j : ℕ) × (p ≡ Some j) × (set j ≡ true)
+north_in_set set None l = absurd (omega arith)
+north_in_set set (Some j) l = (j, refl, one_in_set (set j) l)
+
+-- where all four neighbours of a site are in a set, there is a neighbour in the north
+pub north_of_four : (g : Grid) (set : ℕ → Bool) (i : ℕ) → 4 ≤ flow g (indicator set) i → (j : ℕ) × (north g i ≡ Some j) × (set j ≡ true)
+north_of_four g set i l =
+    let four = flow_four g (indicator set) i in
+    let n = place_at_most_one set (north g i) in
+    let w = place_at_most_one set (west g i) in
+    let e = place_at_most_one set (east g i) in
+    let s = place_at_most_one set (south g i) in
+    north_in_set set (north g i) (omega arith)

@@ -1,0 +1,17 @@
+use Rattle.std.proofs.Common.{◌≡◌, ◌-◌, ◌≤◌, [], length, slice_index, take, vec_len, vec_capacity}
+use Rattle.sand_model.specs.Grid.{sites}
+use Rattle.sand_group.specs.Fire.{ListsBurning, BurnAfter, CountsUnburnt}
+use Rattle.sand_group.proofs.burning.burn_out.Given as goal
+
+abbrev pub invariant-loop-head : goal.invariant-loop-head
+invariant-loop-head l = record {
+  one_each : length l.unburnt.items ≡ sites l.shape;
+  head : l.head ≤ vec_len l.burnt;
+  counts : CountsUnburnt l.shape (take l.head l.burnt.items) (slice_index l.unburnt.items);
+  all : ListsBurning (sites l.shape) l.heights l.unburnt.items l.burnt.items;
+  room : sites l.shape ≤ vec_capacity l.burnt;
+  in_turn : BurnAfter l.shape (slice_index l.heights) [] (take l.head l.burnt.items);
+}
+
+abbrev pub decreases-loop-head : goal.decreases-loop-head
+decreases-loop-head l = sites l.shape - l.head

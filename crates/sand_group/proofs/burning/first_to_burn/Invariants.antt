@@ -1,0 +1,9 @@
+use Rattle.std.proofs.Common.{◌≤◌, length, vec_capacity}
+use Rattle.sand_group.specs.Fire.{ListsBurning}
+use Rattle.sand_group.proofs.burning.first_to_burn.Given as goal
+
+abbrev pub invariant-loop-site : goal.invariant-loop-site
+invariant-loop-site l = record {
+  all : ListsBurning l.site l.heights l.unburnt l.burnt.items;
+  room : length l.heights ≤ vec_capacity l.burnt;
+}

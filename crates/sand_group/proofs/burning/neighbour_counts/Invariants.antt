@@ -1,0 +1,9 @@
+use Rattle.std.proofs.Common.{ℕ, ◌≡◌, ◌+◌, ◌<◌, length, slice_index}
+use Rattle.sand_model.specs.Grid.{missing}
+use Rattle.sand_group.proofs.burning.neighbour_counts.Given as goal
+
+abbrev pub invariant-loop-site : goal.invariant-loop-site
+invariant-loop-site l = record {
+  one_each : length l.counts.items ≡ l.site;
+  counts : (k : ℕ) → k < l.site → slice_index l.counts.items k + missing l.shape k ≡ 4;
+}

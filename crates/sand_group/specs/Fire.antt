@@ -1,0 +1,33 @@
+-- What holds while a fire spreads over a pile, for the functions of the burning test.
+use Rattle.std.specs.Prelude.{ℕ, Bool, ◌≡◌, ◌<◌, ◌≤◌, List, [], ◌∷◌, ◌++◌, count_by, nat_eq, nat_lt, nat_le, ◌&&◌, not, slice_index, if◌then◌else◌}
+use Rattle.sand_model.specs.Grid.{Grid, sites, neighbours}
+use Rattle.sand_model.specs.Sand.{tally}
+
+-- the list has each number below n that passes the test, once, and no other
+pub record Lists (n : ℕ) (test : ℕ → Bool) (list : List ℕ) : Type 0 where
+  pub each : (i : ℕ) → tally list i ≡ (if nat_lt i n && test i then 1 else 0)
+
+-- whether a site may burn, with so many unburnt neighbours at each site
+abbrev pub may_burn : (ℕ → ℕ) → (ℕ → ℕ) → ℕ → Bool
+may_burn s unburnt i = nat_le (unburnt i) (s i)
+
+-- the list has each of the first n sites that may burn, once, and no other
+abbrev pub ListsBurning : ℕ → List ℕ → List ℕ → List ℕ → Type 0
+ListsBurning n heights unburnt = Lists n (may_burn (slice_index heights) (slice_index unburnt))
+
+-- the list has each of the first n sites that may not burn, once, and no other
+abbrev pub ListsUnburnt : ℕ → List ℕ → List ℕ → List ℕ → Type 0
+ListsUnburnt n heights unburnt = Lists n (λ i. not (may_burn (slice_index heights) (slice_index unburnt) i))
+
+-- whether a site does not stand in a list of sites
+abbrev pub is_out : List ℕ → ℕ → Bool
+is_out xs i = nat_eq (tally xs i) 0
+
+-- each height is at least the number of the site's neighbours that did not burn before it
+abbrev pub BurnAfter : Grid → (ℕ → ℕ) → List ℕ → List ℕ → Type 0
+BurnAfter g s before [] = Unit {0}
+BurnAfter g s before (i ∷ later) = (count_by (is_out before) (neighbours g i) ≤ s i) × BurnAfter g s (before ++ i ∷ []) later
+
+-- for each site the number of its neighbours that are not in the list
+pub record CountsUnburnt (g : Grid) (burnt : List ℕ) (unburnt : ℕ → ℕ) : Type 0 where
+  pub each : (i : ℕ) → i < sites g → unburnt i ≡ count_by (is_out burnt) (neighbours g i)

@@ -1,0 +1,51 @@
+-- The laws of recurrent piles and of their group, over all grids.
+use Rattle.std.specs.Prelude.{ℕ, ℤ, ◌≡◌, ◌+◌, ◌-◌, ◌*◌, ◌<◌, ◌↔◌, List}
+use Rattle.sand_model.specs.Grid.{Grid, IsGrid, sites}
+use Rattle.sand_model.specs.Sand.{IsStable, IsSettled}
+use Rattle.sand_model.specs.Integers.{whole, IsEquivalent}
+use Rattle.sand_group.specs.Recurrence.{IsRecurrent, IsBurningOrder}
+use Rattle.sand_group.specs.Group.{IsSurplus, Represents, IsSum, IsIdentity, IsInverse}
+
+-- the burning test: a stable pile is recurrent exactly where all its sites burn in some order
+abbrev pub BurningDecides : Type 0
+BurningDecides = (g : Grid) (s : ℕ → ℕ) → IsGrid g → IsStable g s → IsRecurrent g s ↔ ((order : List ℕ) × IsBurningOrder g s order)
+
+-- the recurrent piles are those that settle from 3 grains or more at each site
+abbrev pub RecurrentFromFull : Type 0
+RecurrentFromFull = (g : Grid) (c : ℕ → ℕ) → IsRecurrent g c ↔ ((a : ℕ → ℕ) × (u : ℕ → ℕ) × IsSettled g (λ i. 3 + a i) u c)
+
+-- more grains on a recurrent pile settle to a recurrent pile
+abbrev pub StaysRecurrent : Type 0
+StaysRecurrent = (g : Grid) (c a u t : ℕ → ℕ) → IsRecurrent g c → IsSettled g (λ i. c i + a i) u t → IsRecurrent g t
+
+-- each class of equivalent piles has a recurrent pile
+abbrev pub EachClassHasOne : Type 0
+EachClassHasOne = (g : Grid) (x : ℕ → ℤ) → (c : ℕ → ℕ) × Represents g x c
+
+-- two equivalent recurrent piles are equal
+abbrev pub RecurrentOnce : Type 0
+RecurrentOnce = (g : Grid) (c e : ℕ → ℕ) → IsRecurrent g c → IsRecurrent g e → IsEquivalent g (whole c) (whole e) → (i : ℕ) → i < sites g → c i ≡ e i
+
+-- so each class has one recurrent pile alone: there is one sum, one identity and one inverse
+abbrev pub RepresentedOnce : Type 0
+RepresentedOnce = (g : Grid) (x : ℕ → ℤ) (c e : ℕ → ℕ) → Represents g x c → Represents g x e → (i : ℕ) → i < sites g → c i ≡ e i
+
+-- the sum of a and b is what a + b settles to
+abbrev pub SumIsSettled : Type 0
+SumIsSettled = (g : Grid) (a b u c : ℕ → ℕ) → IsRecurrent g a → IsRecurrent g b → IsSettled g (λ i. a i + b i) u c → IsSum g a b c
+
+-- the identity is what d settles to
+abbrev pub IdentityIsSettled : Type 0
+IdentityIsSettled = (g : Grid) (d u e : ℕ → ℕ) → IsSurplus g d → IsSettled g d u e → IsIdentity g e
+
+-- the inverse of c is what 2d - c settles to
+abbrev pub InverseIsSettled : Type 0
+InverseIsSettled = (g : Grid) (c d u v : ℕ → ℕ) → IsRecurrent g c → IsSurplus g d → IsSettled g (λ i. 2 * d i - c i) u v → IsInverse g c v
+
+-- c and the identity settle to c
+abbrev pub IdentityIsNeutral : Type 0
+IdentityIsNeutral = (g : Grid) (c e u t : ℕ → ℕ) → IsRecurrent g c → IsIdentity g e → IsSettled g (λ i. c i + e i) u t → (i : ℕ) → i < sites g → t i ≡ c i
+
+-- c and its inverse settle to the identity
+abbrev pub InverseCancels : Type 0
+InverseCancels = (g : Grid) (c v u t : ℕ → ℕ) → IsRecurrent g c → IsInverse g c v → IsSettled g (λ i. c i + v i) u t → IsIdentity g t

@@ -1,0 +1,6 @@
+pub mod Recurrence
+pub mod Fire
+pub mod Burned
+pub mod Group
+pub mod Faults
+pub mod Laws

@@ -1,0 +1,38 @@
+-- Forbidden sets, recurrent piles and burning orders.
+-- Source: Dhar 1990 (forbidden sets and the burning test). A set of sites is a test, true at its sites.
+use Rattle.std.specs.Prelude.{ℕ, Bool, ◌≡◌, ◌<◌, ◌≤◌, List, [], ◌∷◌, All, IsTrue, count_by, nat_lt}
+use Rattle.std.specs.List.Sorted.{IsStrictlyIncreasing}
+use Rattle.sand_model.specs.Grid.{Grid, sites, neighbours}
+use Rattle.sand_model.specs.Sand.{tally, IsStable}
+
+-- a set of sites that is not empty, where each height is below the number of the site's neighbours in the set
+pub record IsForbidden (g : Grid) (s : ℕ → ℕ) (set : ℕ → Bool) : Type 0 where
+  pub some : (i : ℕ) × (i < sites g) × IsTrue (set i)
+  pub low : (i : ℕ) → i < sites g → IsTrue (set i) → s i < count_by set (neighbours g i)
+
+-- stable, and no set is forbidden
+pub record IsRecurrent (g : Grid) (s : ℕ → ℕ) : Type 0 where
+  pub stable : IsStable g s
+  pub none : (set : ℕ → Bool) → ¬ IsForbidden g s set
+
+-- whether a site stands in a list of sites
+abbrev pub is_in : List ℕ → ℕ → Bool
+is_in xs i = nat_lt 0 (tally xs i)
+
+-- the height of each site of the list is at least the number of its neighbours that come later
+abbrev pub BurnInTurn : Grid → (ℕ → ℕ) → List ℕ → Type 0
+BurnInTurn g s [] = Unit {0}
+BurnInTurn g s (i ∷ later) = (count_by (is_in later) (neighbours g i) ≤ s i) × BurnInTurn g s later
+
+-- all sites, each once, and each burns in its turn
+pub record IsBurningOrder (g : Grid) (s : ℕ → ℕ) (order : List ℕ) : Type 0 where
+  pub only_sites : All (λ i. i < sites g) order
+  pub each_once : (i : ℕ) → i < sites g → tally order i ≡ 1
+  pub in_turn : BurnInTurn g s order
+
+-- the sites of a forbidden set that includes every forbidden set, ascending, each once
+pub record IsGreatestForbidden (g : Grid) (s : ℕ → ℕ) (set : List ℕ) : Type 0 where
+  pub only_sites : All (λ i. i < sites g) set
+  pub ascending : IsStrictlyIncreasing set
+  pub forbidden : IsForbidden g s (is_in set)
+  pub greatest : (other : ℕ → Bool) → IsForbidden g s other → (i : ℕ) → i < sites g → IsTrue (other i) → IsTrue (is_in set i)

@@ -1,0 +1,171 @@
+//! The burning test: whether a stable pile is recurrent.
+//!
+//! A site burns where its height is at least the number of its neighbours that do not burn yet. No site of a forbidden
+//! set ever burns: the first of them to burn would have all of its neighbours in the set still unburnt, and its height
+//! is below their number. The sites that stay unburnt are themselves a forbidden set, or there are none. So they are
+//! the greatest forbidden set, and a pile is recurrent exactly where all sites burn.
+//!
+//! The list of burnt sites is itself the queue: a site is appended when its height reaches the number of its unburnt
+//! neighbours, which happens once, and a head walks over the list and takes one from the numbers of the neighbours of
+//! each site. Each site is walked over once, so the test takes time in proportion to the sites.
+
+ghost use Rattle.std.specs.Prelude.{◌≡◌, ℕ, ◌+◌, ◌<◌, ◌≤◌, ◌↔◌, [], length, slice_index, vec_len, vec_capacity, take, IfSome, IfOk, IsOkUnless, OnOk, alloc_error};
+ghost use Rattle.std.specs.List.Sorted.{IsStrictlyIncreasing};
+ghost use Rattle.sand_model.specs.Grid.{sites, neighbours};
+ghost use Rattle.sand_model.specs.Sand.{IsStable, tally, one_at, value_at};
+ghost use Rattle.sand_model.specs.Piles.{height_of};
+ghost use Rattle.sand_group.specs.Fire.{ListsBurning, ListsUnburnt, BurnAfter, CountsUnburnt};
+ghost use Rattle.sand_group.specs.Burned.{IsBurned};
+
+use crate::faults::GroupFault;
+use sand_model::{Pile, Shape};
+use std::alloc::{AllocError, Global};
+
+/// What the burning test found.
+#[derive(Debug, Drop)]
+pub enum Burned {
+    /// A burning order: all sites, each once, the height of each at least the number of its neighbours that come later.
+    Recurrent(Vec<usize>),
+    /// The sites of the greatest forbidden set, which includes every other, ascending.
+    Forbidden(Vec<usize>),
+}
+
+// For each site the number of its neighbours, none of which has burnt yet.
+fn neighbour_counts(alloc: Global, shape: Shape) -> Result<Vec<u8>, AllocError>
+    ensures one_each { IfOk result (λ v. length v.items ≡ sites shape) }
+    ensures counts { IfOk result (λ v. CountsUnburnt shape [] (slice_index v.items)) }
+{
+    let mut counts = Vec::with_capacity(alloc, shape.sites())?;
+    for site in 0..shape.sites() {
+        counts.push(4 - shape.missing(site))?;
+    }
+    Ok(counts)
+}
+
+// The sites that may burn at once, ascending, with room for all sites.
+fn first_to_burn(alloc: Global, heights: &[u64], unburnt: &[u8]) -> Result<Vec<usize>, AllocError>
+    requires one_each { length unburnt.now ≡ length heights.now }
+    ensures all { IfOk result (λ v. ListsBurning (length heights.now) heights.now unburnt.now v.items) }
+    ensures room { IfOk result (λ v. length heights.now ≤ vec_capacity v) }
+{
+    let mut burnt = Vec::with_capacity(alloc, heights.len())?;
+    for site in 0..heights.len() {
+        if heights[site] >= u64::from(unburnt[site]) {
+            burnt.push(site)?;
+        }
+    }
+    Ok(burnt)
+}
+
+// Takes one from the number of unburnt neighbours of the site at a place, and lets the site burn where that number
+// has come down to its height.
+fn note_burnt_neighbour(
+    heights: &[u64],
+    unburnt: &mut Vec<u8>,
+    burnt: &mut Vec<usize>,
+    place: Option<usize>,
+)
+    requires one_each { length unburnt.old.items ≡ length heights.now }
+    requires inside { IfSome place (λ j. j < length heights.now) }
+    requires unburnt { IfSome place (λ j. 0 < slice_index unburnt.old.items j) }
+    requires all { ListsBurning (length heights.now) heights.now unburnt.old.items burnt.old.items }
+    requires room { length heights.now ≤ vec_capacity burnt.old }
+    ensures one_each { length unburnt.new.items ≡ length heights.now }
+    ensures one_less { (j : ℕ) → slice_index unburnt.new.items j + value_at (λ k. one_at k j) place
+        ≡ slice_index unburnt.old.items j }
+    ensures all { ListsBurning (length heights.now) heights.now unburnt.new.items burnt.new.items }
+    ensures room { length heights.now ≤ vec_capacity burnt.new }
+    ensures kept { take (vec_len burnt.old) burnt.new.items ≡ burnt.old.items }
+{
+    if let Some(site) = place {
+        unburnt[site] -= 1;
+        if heights[site] == u64::from(unburnt[site]) {
+            burnt.push(site).unwrap();
+        }
+    }
+}
+
+// Takes one from the numbers of unburnt neighbours all round a burnt site, and lets those neighbours burn that now may.
+fn spread_fire(
+    shape: Shape,
+    heights: &[u64],
+    unburnt: &mut Vec<u8>,
+    burnt: &mut Vec<usize>,
+    site: usize,
+)
+    requires site { site < sites shape }
+    requires heights_each { length heights.now ≡ sites shape }
+    requires one_each { length unburnt.old.items ≡ sites shape }
+    requires unburnt { (j : ℕ) → j < sites shape → tally (neighbours shape site) j ≤ slice_index unburnt.old.items j }
+    requires all { ListsBurning (sites shape) heights.now unburnt.old.items burnt.old.items }
+    requires room { sites shape ≤ vec_capacity burnt.old }
+    ensures one_each { length unburnt.new.items ≡ sites shape }
+    ensures fewer { (j : ℕ) → slice_index unburnt.new.items j + tally (neighbours shape site) j
+        ≡ slice_index unburnt.old.items j }
+    ensures all { ListsBurning (sites shape) heights.now unburnt.new.items burnt.new.items }
+    ensures room { sites shape ≤ vec_capacity burnt.new }
+    ensures kept { take (vec_len burnt.old) burnt.new.items ≡ burnt.old.items }
+{
+    let [north, west, east, south] = shape.neighbours(site);
+    note_burnt_neighbour(heights, unburnt, burnt, north);
+    note_burnt_neighbour(heights, unburnt, burnt, west);
+    note_burnt_neighbour(heights, unburnt, burnt, east);
+    note_burnt_neighbour(heights, unburnt, burnt, south);
+}
+
+// Lets the fire spread from the sites that may burn at once, until no other may.
+fn burn_out(shape: Shape, heights: &[u64], unburnt: &mut Vec<u8>, burnt: &mut Vec<usize>)
+    requires heights_each { length heights.now ≡ sites shape }
+    requires one_each { length unburnt.old.items ≡ sites shape }
+    requires counts { CountsUnburnt shape [] (slice_index unburnt.old.items) }
+    requires all { ListsBurning (sites shape) heights.now unburnt.old.items burnt.old.items }
+    requires room { sites shape ≤ vec_capacity burnt.old }
+    ensures one_each { length unburnt.new.items ≡ sites shape }
+    ensures counts { CountsUnburnt shape burnt.new.items (slice_index unburnt.new.items) }
+    ensures all { ListsBurning (sites shape) heights.now unburnt.new.items burnt.new.items }
+    ensures in_turn { BurnAfter shape (slice_index heights.now) [] burnt.new.items }
+{
+    let mut head = 0;
+    while head < burnt.len() {
+        let site = burnt[head];
+        spread_fire(shape, heights, unburnt, burnt, site);
+        head += 1;
+    }
+}
+
+// The sites that may not burn, ascending.
+fn left_over(alloc: Global, heights: &[u64], unburnt: &[u8]) -> Result<Vec<usize>, AllocError>
+    requires one_each { length unburnt.now ≡ length heights.now }
+    ensures all { IfOk result (λ v. ListsUnburnt (length heights.now) heights.now unburnt.now v.items) }
+    ensures ascending { IfOk result (λ v. IsStrictlyIncreasing v.items) }
+{
+    let mut left = Vec::new(alloc);
+    for site in 0..heights.len() {
+        if heights[site] < u64::from(unburnt[site]) {
+            left.push(site)?;
+        }
+    }
+    Ok(left)
+}
+
+/// The burning test of a stable pile. Refuses a height over 3 (Unstable), then Memory. Takes time in proportion to
+/// the sites.
+pub fn burn(alloc: Global, pile: &Pile) -> Result<Burned, GroupFault>
+    ensures unstable { (result ≡ Err GroupFault.Unstable) ↔ ¬ IsStable pile.now.grid (height_of pile.now) }
+    ensures memory { IsStable pile.now.grid (height_of pile.now) → IsOkUnless result (GroupFault.Memory alloc_error) }
+    ensures burned { IfOk result (IsBurned pile.now.grid (height_of pile.now)) }
+{
+    if !pile.is_stable() {
+        return Err(GroupFault::Unstable);
+    }
+    let shape = pile.shape();
+    let heights = pile.heights();
+    let mut unburnt = neighbour_counts(alloc, shape)?;
+    let mut burnt = first_to_burn(alloc, heights, &unburnt)?;
+    burn_out(shape, heights, &mut unburnt, &mut burnt);
+    if burnt.len() == shape.sites() {
+        return Ok(Burned::Recurrent(burnt));
+    }
+    let left = left_over(alloc, heights, &unburnt)?;
+    Ok(Burned::Forbidden(left))
+}

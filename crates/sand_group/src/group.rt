@@ -1,0 +1,198 @@
+//! The group of recurrent piles: the sum of two is what they settle to together.
+//!
+//! With m the pile of all 3, d = 2m - settled(2m) is equivalent to all 0, and 3 or more at each site, since a settled
+//! pile is at most 3. What settles from 3 or more at each site is recurrent, so settled(d) is the recurrent pile
+//! equivalent to all 0, and settled(2d - c) the one equivalent to -c.
+
+ghost use Rattle.std.specs.Prelude.{◌≡◌, ◌≢◌, ℕ, ◌+◌, ◌-◌, ◌*◌, ◌<◌, ◌≤◌, ◌↔◌, ◌⊎◌, All, length, slice_index, sum, IfOk, IfErr, IsOkUnless, OnOk, alloc_error};
+ghost use Rattle.sand_model.specs.declared.pile.TheConstants.{GRAIN_LIMIT};
+ghost use Rattle.sand_model.specs.Grid.{sites};
+ghost use Rattle.sand_model.specs.Sand.{IsStable, one_at};
+ghost use Rattle.sand_model.specs.Piles.{height_of};
+ghost use Rattle.sand_group.specs.Recurrence.{IsRecurrent};
+ghost use Rattle.sand_group.specs.Group.{IsSettledPile, IsSurplus, IsSum, IsIdentity, IsInverse};
+
+use crate::burning::{Burned, burn};
+use crate::faults::GroupFault;
+use sand_model::{Pile, Shape};
+use sand_settle::settle;
+use std::alloc::{AllocError, Global};
+use std::marker::Model;
+
+/// A recurrent pile: it is stable, and no set of its sites is forbidden.
+#[derive(Debug, Drop)]
+pub struct Recurrent {
+    pile: Pile,
+}
+
+impl Model for Recurrent {
+    ghost use Rattle.sand_model.specs.Piles.{PileView, height_of};
+    ghost use Rattle.sand_group.specs.Recurrence.{IsRecurrent};
+
+    ghost Value = { PileView };
+
+    ghost view = { λ c. c.pile };
+
+    ghost invariant = { λ c. IsRecurrent c.pile.grid (height_of c.pile) };
+}
+
+impl Recurrent {
+    /// A recurrent pile with the same heights. Refuses a height over 3 (Unstable), then a pile with a forbidden set
+    /// (NotRecurrent), then Memory.
+    pub fn from_pile(alloc: Global, pile: &Pile) -> Result<Recurrent, GroupFault>
+        ensures made { IfOk result (λ c. c ≡ pile.now) }
+        ensures recurrent { OnOk result (IsRecurrent pile.now.grid (height_of pile.now)) }
+        ensures unstable { (result ≡ Err GroupFault.Unstable) ↔ ¬ IsStable pile.now.grid (height_of pile.now) }
+        ensures not_recurrent { result ≡ Err GroupFault.NotRecurrent → ¬ IsRecurrent pile.now.grid (height_of pile.now) }
+        ensures faults { IsStable pile.now.grid (height_of pile.now)
+            → IfErr result (λ e. (e ≡ GroupFault.NotRecurrent) ⊎ (e ≡ GroupFault.Memory alloc_error)) }
+    {
+        if let Burned::Forbidden(_) = burn(alloc, pile)? {
+            return Err(GroupFault::NotRecurrent);
+        }
+        Ok(Recurrent {
+            pile: copy_of(alloc, pile)?,
+        })
+    }
+
+    pub fn pile(&self) -> &Pile
+        ensures value { result.now ≡ self.now }
+        ensures recurrent { IsRecurrent self.now.grid (height_of self.now) }
+    {
+        &self.pile
+    }
+}
+
+// A copy of a pile.
+fn copy_of(alloc: Global, pile: &Pile) -> Result<Pile, AllocError>
+    ensures { IfOk result (λ p. p ≡ pile.now) }
+{
+    let heights = Vec::from_slice(alloc, pile.heights())?;
+    Ok(Pile::from_vec(pile.shape(), heights))
+}
+
+// What a list of heights settles to.
+fn settled(alloc: Global, shape: Shape, heights: Vec<u64>) -> Result<Pile, GroupFault>
+    requires one_each { length heights.items ≡ sites shape }
+    requires low { All (λ h. h ≤ 12) heights.items }
+    ensures settled { IfOk result (IsSettledPile shape (slice_index heights.items)) }
+    ensures memory { IsOkUnless result (GroupFault.Memory alloc_error) }
+{
+    prove_eq!(heights.len(), shape.sites());
+    let settled = settle(alloc, &Pile::from_vec(shape, heights))?;
+    Ok(copy_of(alloc, settled.pile())?)
+}
+
+// The sums of two lists of heights, by site.
+fn sums(alloc: Global, a: &[u64], b: &[u64]) -> Result<Vec<u64>, AllocError>
+    requires same_length { length a.now ≡ length b.now }
+    requires low_a { All (λ h. h ≤ 3) a.now }
+    requires low_b { All (λ h. h ≤ 3) b.now }
+    ensures one_each { IfOk result (λ v. length v.items ≡ length a.now) }
+    ensures sums { IfOk result (λ v. (i : ℕ) → i < length a.now
+        → slice_index v.items i ≡ slice_index a.now i + slice_index b.now i) }
+{
+    let mut sums = Vec::with_capacity(alloc, a.len())?;
+    for (site, height) in a.iter().enumerate() {
+        sums.push(*height + b[site])?;
+    }
+    Ok(sums)
+}
+
+// Six less the heights of a list, by site.
+fn six_less(alloc: Global, heights: &[u64]) -> Result<Vec<u64>, AllocError>
+    requires { All (λ h. h ≤ 3) heights.now }
+    ensures one_each { IfOk result (λ v. length v.items ≡ length heights.now) }
+    ensures rests { IfOk result (λ v. (i : ℕ) → i < length heights.now
+        → slice_index v.items i + slice_index heights.now i ≡ 6) }
+{
+    heights.iter().map(|height| 6 - *height).collect(alloc)
+}
+
+// Twice the one list of heights less the other, by site.
+fn twice_less(alloc: Global, twice: &[u64], less: &[u64]) -> Result<Vec<u64>, AllocError>
+    requires same_length { length less.now ≡ length twice.now }
+    requires high { All (λ h. 3 ≤ h) twice.now }
+    requires most { All (λ h. h ≤ 6) twice.now }
+    requires low { All (λ h. h ≤ 3) less.now }
+    ensures one_each { IfOk result (λ v. length v.items ≡ length less.now) }
+    ensures differences { IfOk result (λ v. (i : ℕ) → i < length less.now
+        → slice_index v.items i ≡ 2 * slice_index twice.now i - slice_index less.now i) }
+{
+    let mut differences = Vec::with_capacity(alloc, less.len())?;
+    for (site, height) in less.iter().enumerate() {
+        differences.push(2 * twice[site] - *height)?;
+    }
+    Ok(differences)
+}
+
+// d = 2m - settled(2m), m the pile of all 3.
+fn surplus(alloc: Global, shape: Shape) -> Result<Vec<u64>, GroupFault>
+    ensures one_each { IfOk result (λ v. length v.items ≡ sites shape) }
+    ensures surplus { IfOk result (λ v. IsSurplus shape (slice_index v.items)) }
+    ensures memory { IsOkUnless result (GroupFault.Memory alloc_error) }
+{
+    let twice = vec![in alloc; 6u64; shape.sites()]?;
+    let rest = settled(alloc, shape, twice)?;
+    Ok(six_less(alloc, rest.heights())?)
+}
+
+/// The sum of two recurrent piles: what their grains settle to together. Refuses piles of different shapes (Shapes),
+/// then Memory.
+pub fn add(alloc: Global, a: &Recurrent, b: &Recurrent) -> Result<Recurrent, GroupFault>
+    ensures shapes { (result ≡ Err GroupFault.Shapes) ↔ (a.now.grid ≢ b.now.grid) }
+    ensures memory { a.now.grid ≡ b.now.grid → IsOkUnless result (GroupFault.Memory alloc_error) }
+    ensures settled { IfOk result (IsSettledPile a.now.grid (λ i. height_of a.now i + height_of b.now i)) }
+    ensures sum { IfOk result (λ c. IsSum a.now.grid (height_of a.now) (height_of b.now) (height_of c)) }
+{
+    let shape = a.pile.shape();
+    if shape != b.pile.shape() {
+        return Err(GroupFault::Shapes);
+    }
+    let heights = sums(alloc, a.pile.heights(), b.pile.heights())?;
+    Ok(Recurrent {
+        pile: settled(alloc, shape, heights)?,
+    })
+}
+
+/// The identity of the group of a shape: what d settles to. Refuses want of memory alone.
+pub fn identity(alloc: Global, shape: Shape) -> Result<Recurrent, GroupFault>
+    ensures memory { IsOkUnless result (GroupFault.Memory alloc_error) }
+    ensures settled { IfOk result (λ e. (d : ℕ → ℕ) × IsSurplus shape d × IsSettledPile shape d e) }
+    ensures identity { IfOk result (λ e. IsIdentity shape (height_of e)) }
+{
+    let heights = surplus(alloc, shape)?;
+    Ok(Recurrent {
+        pile: settled(alloc, shape, heights)?,
+    })
+}
+
+/// The inverse of a recurrent pile: what 2d - c settles to. Refuses want of memory alone.
+pub fn inverse(alloc: Global, c: &Recurrent) -> Result<Recurrent, GroupFault>
+    ensures memory { IsOkUnless result (GroupFault.Memory alloc_error) }
+    ensures settled { IfOk result (λ v. (d : ℕ → ℕ) × IsSurplus c.now.grid d
+        × IsSettledPile c.now.grid (λ i. 2 * d i - height_of c.now i) v) }
+    ensures inverse { IfOk result (λ v. IsInverse c.now.grid (height_of c.now) (height_of v)) }
+{
+    let shape = c.pile.shape();
+    let surplus = surplus(alloc, shape)?;
+    let heights = twice_less(alloc, &surplus, c.pile.heights())?;
+    Ok(Recurrent {
+        pile: settled(alloc, shape, heights)?,
+    })
+}
+
+/// What a recurrent pile settles to with one grain more at a site. Refuses want of memory alone.
+pub fn act(alloc: Global, c: &Recurrent, site: usize) -> Result<Recurrent, GroupFault>
+    requires { site < sites c.now.grid }
+    ensures memory { IsOkUnless result (GroupFault.Memory alloc_error) }
+    ensures settled { IfOk result (IsSettledPile c.now.grid (λ i. height_of c.now i + one_at site i)) }
+    ensures recurrent { IfOk result (λ t. IsRecurrent t.grid (height_of t)) }
+{
+    let shape = c.pile.shape();
+    let mut heights = Vec::from_slice(alloc, c.pile.heights())?;
+    heights[site] += 1;
+    Ok(Recurrent {
+        pile: settled(alloc, shape, heights)?,
+    })
+}

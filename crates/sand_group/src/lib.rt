@@ -1,0 +1,16 @@
+//! The burning test, and the group of recurrent piles.
+//!
+//! The definitions stand in `specs/`: `Recurrence` (forbidden sets, recurrent piles, burning orders), `Group` (sums,
+//! the identity, inverses) and `Laws`.
+#![tactic(auto)]
+
+mod burning;
+mod faults;
+mod group;
+pub mod laws;
+#[cfg(test)]
+mod tests;
+
+pub use burning::{Burned, burn};
+pub use faults::GroupFault;
+pub use group::{Recurrent, act, add, identity, inverse};

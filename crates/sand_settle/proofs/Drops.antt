@@ -1,0 +1,376 @@
+-- One drop more on a settled pile, and what a list of drops leads to.
+use Rattle.std.proofs.Common.{ℕ, ◌≡◌, ◌≢◌, ◌+◌, ◌-◌, ◌*◌, ◌<◌, ◌≤◌, ◌^◌, refl, sym, ◌∙◌, ap, subst, arith, List, [], ◌∷◌, ◌++◌, length, sum, get_or, append_assoc, ⊎_elim, Option, Some}
+use Rattle.std.proofs.Math.ListN.{set}
+use Rattle.std.proofs.lemmas.Bool.{cases_eq}
+use Rattle.std.proofs.lemmas.List.{length-append, append-nil, length-set, get_or_default}
+use Rattle.std.proofs.lemmas.List.Elements.{All-push}
+use Rattle.sand_model.specs.declared.pile.TheConstants.{GRAIN_LIMIT}
+use Rattle.sand_model.specs.Grid.{Grid, IsGrid, sites}
+use Rattle.sand_model.specs.Sand.{tally, one_at, IsStable, IsToppled, IsSettled, grains, topplings, lost, weight, grain_weight}
+use Rattle.sand_model.specs.Piles.{PileView, IsPile}
+use Rattle.sand_model.proofs.Totals.{total-add, total_same}
+use Rattle.sand_model.proofs.Tallies.{tally-push}
+use Rattle.sand_model.proofs.Flow.{flow_same}
+use Rattle.sand_model.proofs.Sandpile.{laplacian_sum, weight_after, settled_in_parts}
+use Rattle.sand_model.proofs.Heights.{sum_is_grains}
+use Rattle.sand_model.proofs.Bounds.{weight_bound, topplings_bound}
+use Rattle.sand_settle.specs.Settling.{SettledView, IsRecord}
+use Rattle.sand_settle.specs.Drops.{OneView, IsAfter, topplings_between, TakesGrain, Drops, DropsAll, IsPaid, settled_in, one_view, IsOnePile}
+use Rattle.sand_settle.proofs.Underway.{topplings_at, counted, underway_start, underway_end}
+use Rattle.sand_settle.specs.declared.avalanche.Avalanche.{Avalanche}
+use Rattle.sand_settle.specs.Avalanches.{IsAvalanche}
+use Rattle.sand_settle.proofs.Collected.{lost_sum, avalanche_same}
+
+-- the three are read at the sites alone
+pub settled_same : (g : Grid) (s s' u u' t t' : ℕ → ℕ) → ((i : ℕ) → i < sites g → s i ≡ s' i) → ((i : ℕ) → i < sites g → u i ≡ u' i) → ((i : ℕ) → i < sites g → t i ≡ t' i) → IsSettled g s u t → IsSettled g s' u' t'
+settled_same g s s' u u' t t' starts counts piles done = record {
+  toppled = record {
+    balance = λ i l.
+        let e = done.toppled.balance i l in
+        let a = starts i l in
+        let b = counts i l in
+        let c = piles i l in
+        let around = flow_same g u u' counts i l in
+        omega arith;
+  };
+  odometer = record {
+    stabilises = record {
+      at_most_three = λ i l.
+          let e = done.odometer.stabilises.at_most_three i l in
+          let a = starts i l in
+          let b = counts i l in
+          let around = flow_same g u u' counts i l in
+          omega arith;
+    };
+    least = λ w stable i l.
+        let le = done.odometer.least w (record { at_most_three = λ j m. let e = stable.at_most_three j m in let a = starts j m in omega arith }) i l in
+        let b = counts i l in
+        omega arith;
+  };
+}
+
+-- a pile in which no site may topple is its own settled pile
+pub settled_already : (g : Grid) (s u : ℕ → ℕ) → ((i : ℕ) → i < sites g → s i ≤ 3) → ((i : ℕ) → i < sites g → u i ≡ 0) → IsSettled g s u s
+settled_already g s u low none = underway_end g s u s (underway_start g s u none) low
+
+pub settled_is_stable : (g : Grid) (s u t : ℕ → ℕ) → IsSettled g s u t → IsStable g t
+settled_is_stable g s u t done = record {
+  low = λ i l.
+      let e = done.toppled.balance i l in
+      let stable = done.odometer.stabilises.at_most_three i l in
+      omega arith;
+}
+
+-- the grains that lie on a settled pile or were lost are those of its start
+pub grains_kept : (g : Grid) (s : ℕ → ℕ) (r : SettledView) → IsRecord g s r → sum r.pile.heights + r.lost ≡ grains g s
+grains_kept g s r done =
+    let all = laplacian_sum g s (λ j. get_or r.odometer j 0) (λ j. get_or r.pile.heights j 0) done.settled.toppled in
+    let after = sum_is_grains g r.pile.heights done.heights_each in
+    let gone = done.all_lost in
+    omega arith
+
+-- ---- the record of a start
+
+paid_here : (s : ℕ → ℕ) (r : SettledView) → IsGrid r.pile.grid → grains r.pile.grid s ≤ GRAIN_LIMIT → IsRecord r.pile.grid s r → IsPaid r
+paid_here s r sides few done =
+    let kept = grains_kept r.pile.grid s r done in
+    record {
+      sides = sides;
+      heights_each = done.heights_each;
+      odometer_each = done.odometer_each;
+      stable = settled_is_stable r.pile.grid s (λ j. get_or r.odometer j 0) (λ j. get_or r.pile.heights j 0) done.settled;
+      limit = omega arith;
+      all_topplings = done.all_topplings;
+      paid =
+          let falls = weight_after r.pile.grid s (λ j. get_or r.odometer j 0) (λ j. get_or r.pile.heights j 0) done.settled.toppled in
+          let start = weight_bound r.pile.grid s sides in
+          let all = done.all_topplings in
+          omega arith;
+    }
+
+paid_record : (g : Grid) (s : ℕ → ℕ) (r : SettledView) → IsGrid g → grains g s ≤ GRAIN_LIMIT → IsRecord g s r → IsPaid r
+paid_record g s r sides few done =
+    let P : Grid → Type 0 = λ h. IsGrid h → grains h s ≤ GRAIN_LIMIT → IsRecord h s r → IsPaid r in
+    subst P done.grid (paid_here s r) sides few done
+
+pub paid_start : (start : PileView) (r : SettledView) → IsPile start → IsRecord start.grid (λ j. get_or start.heights j 0) r → IsPaid r
+paid_start start r pile done =
+    paid_record start.grid (λ j. get_or start.heights j 0) r pile.grid (let e = sum_is_grains start.grid start.heights pile.one_each in let limit = pile.limit in omega arith) done
+
+pub after_start : (start : PileView) (r : SettledView) → IsPile start → IsRecord start.grid (λ j. get_or start.heights j 0) r → IsAfter start [] (record { settled = r; number = 0; grains = sum r.pile.heights + r.lost })
+after_start start r pile done = record {
+  start_pile = pile;
+  all_sites = λ k d l. absurd (omega arith);
+  limit = let limit = pile.limit in omega arith;
+  settled = record {
+    grid = done.grid;
+    heights_each = done.heights_each;
+    odometer_each = done.odometer_each;
+    settled = settled_same start.grid (λ j. get_or start.heights j 0) (λ j. get_or start.heights j 0 + tally [] j) (λ j. get_or r.odometer j 0) (λ j. get_or r.odometer j 0) (λ j. get_or r.pile.heights j 0) (λ j. get_or r.pile.heights j 0)
+        (λ i l. omega arith) (λ i l. refl) (λ i l. refl) done.settled;
+    all_topplings = done.all_topplings;
+    all_lost = done.all_lost;
+  };
+  number = refl;
+  grains =
+      let kept = grains_kept start.grid (λ j. get_or start.heights j 0) r done in
+      let e = sum_is_grains start.grid start.heights pile.one_each in
+      omega arith;
+}
+
+-- ---- a grain more
+
+one_grain : (g : Grid) (site : ℕ) → site < sites g → grains g (one_at site) ≡ 1
+one_grain g site l = total_same (sites g) (one_at site) (λ j. 1 * one_at site j) (λ j m. omega arith) ∙ topplings_at g site 1 l
+
+weight-add : (g : Grid) (a b : ℕ → ℕ) → weight g (λ j. a j + b j) ≡ weight g a + weight g b
+weight-add g a b =
+    total_same (sites g) (λ i. (a i + b i) * grain_weight g i) (λ i. a i * grain_weight g i + b i * grain_weight g i) (λ i l. omega arith)
+    ∙ total-add (sites g) (λ i. a i * grain_weight g i) (λ i. b i * grain_weight g i)
+
+-- the grains of a list before are those after, and those lost
+pub sum_left : (g : Grid) (h k : List ℕ) (v : ℕ → ℕ) → length h ≡ sites g → length k ≡ sites g → IsToppled g (λ j. get_or h j 0) v (λ j. get_or k j 0) → sum h ≡ sum k + lost g v
+sum_left g h k v before after done =
+    let all = laplacian_sum g (λ j. get_or h j 0) v (λ j. get_or k j 0) done in
+    let first = sum_is_grains g h before in
+    let last = sum_is_grains g k after in
+    omega arith
+
+pub grains_after : (r q : SettledView) (site : ℕ) → IsPaid r → site < sites r.pile.grid → TakesGrain r site q → sum q.pile.heights + q.lost ≡ sum r.pile.heights + r.lost + 1
+grains_after r q site paid inside taken =
+    let all = laplacian_sum r.pile.grid (λ j. get_or r.pile.heights j 0 + one_at site j) (topplings_between r q) (λ j. get_or q.pile.heights j 0) taken.settled.toppled in
+    let both = total-add (sites r.pile.grid) (λ j. get_or r.pile.heights j 0) (one_at site) in
+    let one = one_grain r.pile.grid site inside in
+    let first = sum_is_grains r.pile.grid r.pile.heights paid.heights_each in
+    let last = sum_is_grains r.pile.grid q.pile.heights taken.heights_each in
+    let gone = taken.more_lost in
+    omega arith
+
+topplings_after : (r q : SettledView) (site : ℕ) → IsPaid r → TakesGrain r site q → q.topplings ≡ topplings r.pile.grid (λ j. get_or q.odometer j 0)
+topplings_after r q site paid taken =
+    let same = total_same (sites r.pile.grid) (λ j. get_or q.odometer j 0) (λ j. get_or r.odometer j 0 + topplings_between r q j) (λ j l. let rises = taken.never_falls j in omega arith) in
+    let both = total-add (sites r.pile.grid) (λ j. get_or r.odometer j 0) (topplings_between r q) in
+    let before = paid.all_topplings in
+    let more = taken.more_topplings in
+    omega arith
+
+weight_left : (r q : SettledView) (site : ℕ) → IsPaid r → site < sites r.pile.grid → TakesGrain r site q → 2 * q.topplings + weight r.pile.grid (λ j. get_or q.pile.heights j 0) ≤ 16512 * (sum q.pile.heights + q.lost)
+weight_left r q site paid inside taken =
+    let falls = weight_after r.pile.grid (λ j. get_or r.pile.heights j 0 + one_at site j) (topplings_between r q) (λ j. get_or q.pile.heights j 0) taken.settled.toppled in
+    let both = weight-add r.pile.grid (λ j. get_or r.pile.heights j 0) (one_at site) in
+    let one = weight_bound r.pile.grid (one_at site) paid.sides in
+    let grain = one_grain r.pile.grid site inside in
+    let more = taken.more_topplings in
+    let before = paid.paid in
+    let grains' = grains_after r q site paid inside taken in
+    omega arith
+
+pub paid_after : (r q : SettledView) (site : ℕ) → IsPaid r → site < sites r.pile.grid → sum r.pile.heights + r.lost < GRAIN_LIMIT → TakesGrain r site q → IsPaid q
+paid_after r q site paid inside room taken =
+    let same = taken.grid in
+    record {
+      sides = rw same paid.sides;
+      heights_each = rw same taken.heights_each;
+      odometer_each = rw same taken.odometer_each;
+      stable = rw same (settled_is_stable r.pile.grid (λ j. get_or r.pile.heights j 0 + one_at site j) (topplings_between r q) (λ j. get_or q.pile.heights j 0) taken.settled);
+      limit = let e = grains_after r q site paid inside taken in omega arith;
+      all_topplings = rw same (topplings_after r q site paid taken);
+      paid = rw same (weight_left r q site paid inside taken);
+    }
+
+-- ---- from a start and its drops to one drop more
+
+-- the record of the start and the grains so far is that of one grain more
+record_after : (g : Grid) (s : ℕ → ℕ) (history : List ℕ) (site : ℕ) (r q : SettledView) → IsRecord g (λ j. s j + tally history j) r → TakesGrain r site q → IsRecord g (λ j. s j + tally (history ++ site ∷ []) j) q
+record_after g s history site r q before taken =
+    let P : Grid → Type 0 = λ h. IsSettled h (λ j. get_or r.pile.heights j 0 + one_at site j) (topplings_between r q) (λ j. get_or q.pile.heights j 0) in
+    let here = subst P before.grid taken.settled in
+    let counts : (j : ℕ) → get_or q.odometer j 0 ≡ get_or r.odometer j 0 + topplings_between r q j = λ j. let rises = taken.never_falls j in omega arith in
+    record {
+      grid = taken.grid ∙ before.grid;
+      heights_each = taken.heights_each ∙ ap sites before.grid;
+      odometer_each = taken.odometer_each ∙ ap sites before.grid;
+      settled = settled_same g (λ j. s j + tally history j + one_at site j) (λ j. s j + tally (history ++ site ∷ []) j) (λ j. get_or r.odometer j 0 + topplings_between r q j) (λ j. get_or q.odometer j 0) (λ j. get_or q.pile.heights j 0) (λ j. get_or q.pile.heights j 0)
+          (λ i l. let e = tally-push history site i in omega arith) (λ i l. sym (counts i)) (λ i l. refl)
+          (settled_in_parts g (λ j. s j + tally history j) (one_at site) (λ j. get_or r.odometer j 0) (λ j. get_or r.pile.heights j 0) (topplings_between r q) (λ j. get_or q.pile.heights j 0) before.settled here);
+      all_topplings =
+          let same = total_same (sites g) (λ j. get_or q.odometer j 0) (λ j. get_or r.odometer j 0 + topplings_between r q j) (λ j l. counts j) in
+          let both = total-add (sites g) (λ j. get_or r.odometer j 0) (topplings_between r q) in
+          let old = before.all_topplings in
+          let more = taken.more_topplings ∙ ap (λ h. r.topplings + topplings h (topplings_between r q)) before.grid in
+          omega arith;
+      all_lost =
+          let both = lost_sum g (λ j. get_or r.odometer j 0) (topplings_between r q) (λ j. get_or q.odometer j 0) (λ j l. counts j) in
+          let old = before.all_lost in
+          let more = taken.more_lost ∙ ap (λ h. r.lost + lost h (topplings_between r q)) before.grid in
+          omega arith;
+    }
+
+pub after_drop : (start : PileView) (history : List ℕ) (site : ℕ) (v w : OneView) → Drops v site w → IsAfter start history v → IsAfter start (history ++ site ∷ []) w
+after_drop start history site v w drop after =
+    let longer = length-append history (site ∷ []) in
+    let room = drop.room in
+    let old = after.grains in
+    let sites_are = ap sites after.settled.grid in
+    record {
+      start_pile = after.start_pile;
+      all_sites = All-push (λ j. j < sites start.grid) history site after.all_sites (let l = drop.inside in omega arith);
+      limit = omega arith;
+      settled = record_after start.grid (λ j. get_or start.heights j 0) history site v.settled w.settled after.settled drop.settled;
+      number = let more = drop.number in let e = after.number in omega arith;
+      grains = let more = drop.grains in omega arith;
+    }
+
+all_after : (start : PileView) (past history : List ℕ) (v w : OneView) → IsAfter start past v → DropsAll v history w → IsAfter start (past ++ history) w
+all_after start past [] v w after same =
+    let P : OneView → Type 0 = λ u. IsAfter start past u in
+    rw append-nil (subst P same after)
+all_after start past (site ∷ history) v w after (u, first, rest) =
+    let P : List ℕ → Type 0 = λ h. IsAfter start h w in
+    subst P (append_assoc past (site ∷ []) history) (all_after start (past ++ site ∷ []) history u w (after_drop start past site v u first after) rest)
+
+pub drops_add_up : (start : PileView) (history : List ℕ) (v w : OneView) → IsAfter start [] v → DropsAll v history w → IsAfter start history w
+drops_add_up start history v w after drops = all_after start [] history v w after drops
+
+-- ---- what a settling adds to an odometer
+
+-- a settling has few topplings and loses few grains
+pub small_settling : (g : Grid) (h u : List ℕ) (t : ℕ → ℕ) → IsGrid g → length h ≡ sites g → sum h ≤ GRAIN_LIMIT → IsSettled g (λ j. get_or h j 0) (λ j. get_or u j 0) t → (topplings g (λ j. get_or u j 0) < 2 ^ 54) × (lost g (λ j. get_or u j 0) < 2 ^ 54)
+small_settling g h u t sides each limit done =
+    let e = sum_is_grains g h each in
+    let all = laplacian_sum g (λ j. get_or h j 0) (λ j. get_or u j 0) t done.toppled in
+    (topplings_bound g (λ j. get_or h j 0) (λ j. get_or u j 0) t sides (omega arith) done.toppled, omega arith)
+
+-- how often a site toppled is what its place in the odometer has grown by
+pub settled_between : (g k : Grid) (h u old new t : List ℕ) → g ≡ k → ((j : ℕ) → get_or new j 0 ≡ get_or old j 0 + get_or u j 0) → IsSettled g (λ j. get_or h j 0) (λ j. get_or u j 0) (λ j. get_or t j 0) → IsSettled k (λ j. get_or h j 0) (λ j. get_or new j 0 - get_or old j 0) (λ j. get_or t j 0)
+settled_between g k h u old new t same counts done =
+    let P : Grid → Type 0 = λ q. IsSettled q (λ j. get_or h j 0) (λ j. get_or new j 0 - get_or old j 0) (λ j. get_or t j 0) in
+    subst P same
+    (settled_same g (λ j. get_or h j 0) (λ j. get_or h j 0) (λ j. get_or u j 0) (λ j. get_or new j 0 - get_or old j 0) (λ j. get_or t j 0) (λ j. get_or t j 0)
+    (λ i l. refl) (λ i l. let e = counts i in omega arith) (λ i l. refl) done)
+
+pub avalanche_between : (g k : Grid) (site : ℕ) (u old new : List ℕ) (a : Avalanche) → g ≡ k → ((j : ℕ) → get_or new j 0 ≡ get_or old j 0 + get_or u j 0) → IsAvalanche g site (λ j. get_or u j 0) a → IsAvalanche k site (λ j. get_or new j 0 - get_or old j 0) a
+avalanche_between g k site u old new a same counts done =
+    let P : Grid → Type 0 = λ q. IsAvalanche q site (λ j. get_or new j 0 - get_or old j 0) a in
+    subst P same (avalanche_same g site (λ j. get_or u j 0) (λ j. get_or new j 0 - get_or old j 0) a (λ j l. let e = counts j in omega arith) done)
+
+-- a grain that topples nothing
+pub settled_calm : (g : Grid) (h u : List ℕ) (site : ℕ) → get_or h site 0 < 4 → ((j : ℕ) → j < sites g → j ≢ site → get_or h j 0 ≤ 3) → IsSettled g (λ j. get_or h j 0) (λ j. get_or u j 0 - get_or u j 0) (λ j. get_or h j 0)
+settled_calm g h u site low others =
+    settled_already g (λ j. get_or h j 0) (λ j. get_or u j 0 - get_or u j 0)
+    (λ j l.
+    ⊎_elim (λ (e : j ≡ site). let same = ap (λ k. get_or h k 0) e in omega arith)
+    (λ (ne : j ≡ site → ⊥). others j l ne)
+    (cases_eq j site))
+    (λ j l. omega arith)
+
+-- ---- a drop in the code
+
+-- the height of a site is one more than it was
+pub raised : (items heights h : List ℕ) (site now : ℕ) → items ≡ heights → site < length heights → now ≡ get_or items site now → h ≡ set items site (now + 1) → h ≡ set heights site (get_or heights site 0 + 1)
+raised items heights h site now same inside is written =
+    let P : List ℕ → Type 0 = λ xs. now ≡ get_or xs site now → h ≡ set xs site (now + 1) → h ≡ set heights site (get_or heights site 0 + 1) in
+    subst P (sym same)
+    (λ value list. let first : now ≡ get_or heights site 0 = value ∙ get_or_default heights site now 0 inside in list ∙ ap (λ m. set heights site (m + 1)) first)
+    is written
+
+-- the record r is left with the heights k and the odometer new, once a grain at the site has set off the avalanche a
+pub record Pours (r : SettledView) (site : ℕ) (k new : List ℕ) (a : Avalanche) : Type 0 where
+  pub paid : IsPaid r
+  pub inside : site < sites r.pile.grid
+  pub room : sum r.pile.heights + r.lost < GRAIN_LIMIT
+  pub heights_each : length k ≡ sites r.pile.grid
+  pub odometer_each : length new ≡ sites r.pile.grid
+  pub never_falls : (j : ℕ) → get_or r.odometer j 0 ≤ get_or new j 0
+  pub settled : IsSettled r.pile.grid (λ j. get_or r.pile.heights j 0 + one_at site j) (λ j. get_or new j 0 - get_or r.odometer j 0) (λ j. get_or k j 0)
+  pub avalanche : IsAvalanche r.pile.grid site (λ j. get_or new j 0 - get_or r.odometer j 0) a
+
+pub pours : (r : SettledView) (site : ℕ) (g : Grid) (h k old new : List ℕ) (a : Avalanche) → IsPaid r → site < sites r.pile.grid → sum r.pile.heights + r.lost < GRAIN_LIMIT → g ≡ r.pile.grid → h ≡ set r.pile.heights site (get_or r.pile.heights site 0 + 1) → old ≡ r.odometer → length k ≡ length h → length new ≡ length old → ((j : ℕ) → get_or old j 0 ≤ get_or new j 0) → IsSettled g (λ j. get_or h j 0) (λ j. get_or new j 0 - get_or old j 0) (λ j. get_or k j 0) → IsAvalanche g site (λ j. get_or new j 0 - get_or old j 0) a → Pours r site k new a
+pours r site g h k old new a paid inside room grids list same heights counts rises done set_off =
+    let P : Grid → Type 0 = λ q. IsSettled q (λ j. get_or h j 0) (λ j. get_or new j 0 - get_or old j 0) (λ j. get_or k j 0) in
+    let Q : List ℕ → Type 0 = λ u. IsSettled r.pile.grid (λ j. get_or h j 0) (λ j. get_or new j 0 - get_or u j 0) (λ j. get_or k j 0) in
+    let R : Grid → Type 0 = λ q. IsAvalanche q site (λ j. get_or new j 0 - get_or old j 0) a in
+    let S : List ℕ → Type 0 = λ u. IsAvalanche r.pile.grid site (λ j. get_or new j 0 - get_or u j 0) a in
+    let T : List ℕ → Type 0 = λ u. (j : ℕ) → get_or u j 0 ≤ get_or new j 0 in
+    let site_there : site < length r.pile.heights = let e = paid.heights_each in omega arith in
+    record {
+      paid = paid;
+      inside = inside;
+      room = room;
+      heights_each = heights ∙ ap length list ∙ length-set r.pile.heights site (get_or r.pile.heights site 0 + 1) ∙ paid.heights_each;
+      odometer_each = counts ∙ ap length same ∙ paid.odometer_each;
+      never_falls = subst T same rises;
+      settled = settled_same r.pile.grid (λ j. get_or h j 0) (λ j. get_or r.pile.heights j 0 + one_at site j) (λ j. get_or new j 0 - get_or r.odometer j 0) (λ j. get_or new j 0 - get_or r.odometer j 0) (λ j. get_or k j 0) (λ j. get_or k j 0)
+          (λ j l. let e = counted site 1 r.pile.heights h site_there list j in omega arith) (λ j l. refl) (λ j l. refl)
+          (subst Q same (subst P grids done));
+      avalanche = subst S same (subst R grids set_off);
+    }
+
+-- the grains that are left, with those lost, are those before and the one
+pub poured_sum : (r : SettledView) (site : ℕ) (k new : List ℕ) (a : Avalanche) → Pours r site k new a → sum k + a.lost ≡ sum r.pile.heights + 1
+poured_sum r site k new a all =
+    let falls = laplacian_sum r.pile.grid (λ j. get_or r.pile.heights j 0 + one_at site j) (λ j. get_or new j 0 - get_or r.odometer j 0) (λ j. get_or k j 0) all.settled.toppled in
+    let both = total-add (sites r.pile.grid) (λ j. get_or r.pile.heights j 0) (one_at site) in
+    let one = one_grain r.pile.grid site all.inside in
+    let first = sum_is_grains r.pile.grid r.pile.heights all.paid.heights_each in
+    let last = sum_is_grains r.pile.grid k all.heights_each in
+    let gone = all.avalanche.all_lost in
+    omega arith
+
+pub poured_size : (r : SettledView) (site : ℕ) (k new : List ℕ) (a : Avalanche) → Pours r site k new a → r.topplings + a.size < 2 ^ 64
+poured_size r site k new a all =
+    let both = total-add (sites r.pile.grid) (λ j. get_or r.pile.heights j 0) (one_at site) in
+    let one = one_grain r.pile.grid site all.inside in
+    let first = sum_is_grains r.pile.grid r.pile.heights all.paid.heights_each in
+    let room = all.room in
+    let few = topplings_bound r.pile.grid (λ j. get_or r.pile.heights j 0 + one_at site j) (λ j. get_or new j 0 - get_or r.odometer j 0) (λ j. get_or k j 0) all.paid.sides (omega arith) all.settled.toppled in
+    let before = all.paid.paid in
+    let size = all.avalanche.size in
+    omega arith
+
+pub poured_record : (r : SettledView) (site : ℕ) (k new : List ℕ) (a : Avalanche) (q : SettledView) → Pours r site k new a → q.pile.grid ≡ r.pile.grid → q.pile.heights ≡ k → q.odometer ≡ new → q.topplings ≡ r.topplings + a.size → q.lost ≡ r.lost + a.lost → TakesGrain r site q
+poured_record r site k new a q all grid heights counts more gone =
+    let P : List ℕ → Type 0 = λ u. (j : ℕ) → get_or r.odometer j 0 ≤ get_or u j 0 in
+    let Q : List ℕ → Type 0 = λ u. IsSettled r.pile.grid (λ j. get_or r.pile.heights j 0 + one_at site j) (λ j. get_or u j 0 - get_or r.odometer j 0) (λ j. get_or k j 0) in
+    let R : List ℕ → Type 0 = λ h. IsSettled r.pile.grid (λ j. get_or r.pile.heights j 0 + one_at site j) (topplings_between r q) (λ j. get_or h j 0) in
+    record {
+      grid = grid;
+      heights_each = ap length heights ∙ all.heights_each;
+      odometer_each = ap length counts ∙ all.odometer_each;
+      never_falls = subst P (sym counts) all.never_falls;
+      settled = subst R (sym heights) (subst Q (sym counts) all.settled);
+      more_topplings = more ∙ ap (λ m. r.topplings + m) all.avalanche.size ∙ ap (λ u. r.topplings + topplings r.pile.grid (λ j. get_or u j 0 - get_or r.odometer j 0)) (sym counts);
+      more_lost = gone ∙ ap (λ m. r.lost + m) all.avalanche.all_lost ∙ ap (λ u. r.lost + lost r.pile.grid (λ j. get_or u j 0 - get_or r.odometer j 0)) (sym counts);
+    }
+
+pub poured_avalanche : (r : SettledView) (site : ℕ) (k new u : List ℕ) (a : Avalanche) → Pours r site k new a → u ≡ new → IsAvalanche r.pile.grid site (λ j. get_or u j 0 - get_or r.odometer j 0) a
+poured_avalanche r site k new u a all counts =
+    let P : List ℕ → Type 0 = λ w. IsAvalanche r.pile.grid site (λ j. get_or w j 0 - get_or r.odometer j 0) a in
+    subst P (sym counts) all.avalanche
+
+-- ---- the pile of one thread after a drop
+
+pub kept_after : (o : Option SettledView) (w : Option Grid) (number : ℕ) (site : ℕ) (r q : SettledView) (g : Grid) → IsOnePile o w number → o ≡ Some r → site < sites r.pile.grid → sum r.pile.heights + r.lost < GRAIN_LIMIT → TakesGrain r site q → g ≡ r.pile.grid → IsOnePile (Some q) (Some g) (number + 1)
+kept_after o w number site r q g before there inside room taken same =
+    let is = ap settled_in there in
+    let paid = rw is at before.paid in
+    let few = rw is at before.few in
+    record {
+      there = refl;
+      paid = paid_after r q site paid inside room taken;
+      few = let more = grains_after r q site paid inside taken in omega arith;
+      room = same ∙ sym taken.grid;
+    }
+
+pub drops_from : (o : Option SettledView) (w : Option Grid) (number : ℕ) (site : ℕ) (r q : SettledView) (v : OneView) → IsOnePile o w number → one_view o number ≡ v → o ≡ Some r → site < sites r.pile.grid → sum r.pile.heights + r.lost < GRAIN_LIMIT → TakesGrain r site q → Drops v site (one_view (Some q) (number + 1))
+drops_from o w number site r q v before seen there inside room taken =
+    let paid = rw (ap settled_in there) at before.paid in
+    let P : OneView → Type 0 = λ u. Drops u site (one_view (Some q) (number + 1)) in
+    subst P (ap (λ p. one_view p number) (sym there) ∙ seen)
+    (record {
+      inside = inside;
+      room = room;
+      settled = taken;
+      number = refl;
+      grains = grains_after r q site paid inside taken;
+    })

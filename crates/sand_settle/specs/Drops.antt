@@ -1,0 +1,81 @@
+-- What contracts see of the pile of one thread, and what makes it the settled record of its start and its drops.
+-- Source: chip-firing; settling in two parts is settling at once, so drops may settle one after another (Dhar 1990).
+use Rattle.std.specs.Prelude.{ℕ, Option, Some, None, IsSome, IfSome, ◌≡◌, ◌+◌, ◌-◌, ◌*◌, ◌<◌, ◌≤◌, List, [], ◌∷◌, All, length, sum}
+use Rattle.sand_model.specs.declared.pile.TheConstants.{GRAIN_LIMIT}
+use Rattle.sand_model.specs.declared.shape.Edge.TheVariants.{Open}
+use Rattle.sand_model.specs.Grid.{Grid, IsGrid, sites}
+use Rattle.sand_model.specs.Sand.{IsStable, IsSettled, one_at, tally, topplings, lost, weight}
+use Rattle.sand_model.specs.Piles.{PileView, IsPile, height_of}
+use Rattle.sand_settle.specs.Settling.{SettledView, IsRecord, odometer_of}
+
+-- the settled record since the start, how many drops there were, and the grains of the start and the drops
+pub record OneView : Type 0 where
+  pub settled : SettledView
+  pub number : ℕ
+  pub grains : ℕ
+
+-- the grid of the pile
+abbrev pub grid_of_one : OneView → Grid
+grid_of_one v = v.settled.pile.grid
+
+-- v is what this start and these drops lead to: the settled record of the start and the tally of the drops
+pub record IsAfter (start : PileView) (history : List ℕ) (v : OneView) : Type 0 where
+  pub start_pile : IsPile start
+  pub all_sites : All (λ j. j < sites start.grid) history
+  pub limit : sum start.heights + length history ≤ GRAIN_LIMIT
+  pub settled : IsRecord start.grid (λ j. height_of start j + tally history j) v.settled
+  pub number : v.number ≡ length history
+  pub grains : v.grains ≡ sum start.heights + length history
+
+-- how often each site toppled between two settled records
+abbrev pub topplings_between : SettledView → SettledView → ℕ → ℕ
+topplings_between r q j = odometer_of q j - odometer_of r j
+
+-- a grain dropped at a site of the settled pile of r, and what toppled then, lead to q
+pub record TakesGrain (r : SettledView) (site : ℕ) (q : SettledView) : Type 0 where
+  pub grid : q.pile.grid ≡ r.pile.grid
+  pub heights_each : length q.pile.heights ≡ sites r.pile.grid
+  pub odometer_each : length q.odometer ≡ sites r.pile.grid
+  pub never_falls : (j : ℕ) → odometer_of r j ≤ odometer_of q j
+  pub settled : IsSettled r.pile.grid (λ j. height_of r.pile j + one_at site j) (topplings_between r q) (height_of q.pile)
+  pub more_topplings : q.topplings ≡ r.topplings + topplings r.pile.grid (topplings_between r q)
+  pub more_lost : q.lost ≡ r.lost + lost r.pile.grid (topplings_between r q)
+
+-- a drop at a site leads from v to w
+pub record Drops (v : OneView) (site : ℕ) (w : OneView) : Type 0 where
+  pub inside : site < sites (grid_of_one v)
+  pub room : v.grains < GRAIN_LIMIT
+  pub settled : TakesGrain v.settled site w.settled
+  pub number : w.number ≡ v.number + 1
+  pub grains : w.grains ≡ v.grains + 1
+
+-- drops at the sites of a list, one after another, lead from v to w
+abbrev pub DropsAll : OneView → List ℕ → OneView → Type 0
+DropsAll v [] w = v ≡ w
+DropsAll v (site ∷ history) w = (u : OneView) × Drops v site u × DropsAll u history w
+
+-- what one settled record has of itself: its sums are right and small, however it came about
+pub record IsPaid (r : SettledView) : Type 0 where
+  pub sides : IsGrid r.pile.grid
+  pub heights_each : length r.pile.heights ≡ sites r.pile.grid
+  pub odometer_each : length r.odometer ≡ sites r.pile.grid
+  pub stable : IsStable r.pile.grid (height_of r.pile)
+  pub limit : sum r.pile.heights + r.lost ≤ GRAIN_LIMIT
+  pub all_topplings : r.topplings ≡ topplings r.pile.grid (odometer_of r)
+  pub paid : 2 * r.topplings + weight r.pile.grid (height_of r.pile) ≤ 16512 * (sum r.pile.heights + r.lost)
+
+-- the settled record where it is there, as it is between two calls
+abbrev pub settled_in : Option SettledView → SettledView
+settled_in (Some r) = r
+settled_in None = record { pile = record { grid = record { width = 0; height = 0; edge = Open }; heights = [] }; odometer = []; topplings = 0; lost = 0 }
+
+-- what is there is seen with the grains that lie on the pile or were lost
+abbrev pub one_view : Option SettledView → ℕ → OneView
+one_view settled number = let r = settled_in settled in record { settled = r; number = number; grains = sum r.pile.heights + r.lost }
+
+-- the record is there and right, each drop brought a grain, and a workspace is one for the grid
+pub record IsOnePile (settled : Option SettledView) (workspace : Option Grid) (number : ℕ) : Type 0 where
+  pub there : IsSome settled
+  pub paid : IsPaid (settled_in settled)
+  pub few : number ≤ sum (settled_in settled).pile.heights + (settled_in settled).lost
+  pub room : IfSome workspace (λ g. g ≡ (settled_in settled).pile.grid)

@@ -1,0 +1,197 @@
+//! The pile of one thread: grains are dropped on it one after another, and each settles before the next.
+//!
+//! The pile is taken apart, its list of heights topples in place, and it is put back with the grains that are left, which
+//! are known without a sum. So a drop costs work in proportion to the sites that topple in it, and from the second drop
+//! on no memory. That the record is the same as if all grains had lain on the start together is
+//! `laws::drops_add_up`; that no count outgrows its number follows from the weight, of which a grain has 16,512 at most
+//! and a toppling takes 2 (`IsPaid`).
+
+ghost use Rattle.std.specs.Prelude.{◌≡◌, ℕ, ◌+◌, ◌^◌, ◌<◌, ◌≤◌, ◌↔◌, List, [], ◌∷◌, ◌++◌, length, sum, IfOk, OnOk, OnErr, IsTrue, IsOkUnless, alloc_error};
+ghost use Rattle.sand_model.specs.Grid.{sites};
+ghost use Rattle.sand_model.specs.Piles.{PileView, IsPile, height_of};
+ghost use Rattle.sand_settle.specs.Settling.{odometer_of};
+ghost use Rattle.sand_settle.specs.Avalanches.{IsAvalanche};
+ghost use Rattle.sand_settle.specs.Drops.{grid_of_one, topplings_between, IsAfter, Drops, TakesGrain, IsPaid};
+
+use crate::avalanche::Avalanche;
+use crate::faults::OneFault;
+use crate::settled::Settled;
+use crate::settling::settle;
+use crate::workspace::Workspace;
+use sand_model::{GRAIN_LIMIT, Pile};
+use std::alloc::Global;
+use std::marker::Model;
+
+/// A pile on which one thread drops grains, one after another, with all that toppled since its start.
+#[derive(Debug, Drop)]
+pub struct OnePile {
+    // Taken out while a grain drops, and there between two calls.
+    settled: Option<Settled>,
+    // Made at the first drop.
+    workspace: Option<Workspace>,
+    number: u64,
+}
+
+impl Model for OnePile {
+    ghost use Rattle.sand_settle.specs.Drops.{OneView, one_view, IsOnePile};
+
+    ghost Value = { OneView };
+
+    ghost view = { λ p. one_view p.settled p.number };
+
+    ghost invariant = { λ p. IsOnePile p.settled p.workspace p.number };
+}
+
+// Drops a grain on a settled pile, lets it settle, and adds what toppled to the record.
+fn drop_grain(workspace: &mut Workspace, settled: Settled, site: usize) -> (Settled, Avalanche)
+    requires site { site < sites settled.pile.grid }
+    requires room { workspace.old ≡ settled.pile.grid }
+    requires paid { IsPaid settled }
+    requires limit { sum settled.pile.heights + settled.lost < GRAIN_LIMIT }
+    ensures room { workspace.new ≡ workspace.old }
+    ensures taken { TakesGrain settled site result.0 }
+    ensures avalanche { IsAvalanche settled.pile.grid site (topplings_between settled result.0) result.1 }
+{
+    let Settled {
+        pile,
+        mut odometer,
+        topplings,
+        lost,
+    } = settled;
+    let grains = pile.grains() + 1;
+    let (shape, mut heights) = pile.into_parts();
+    heights[site] += 1;
+    let avalanche = workspace.settle_at(&mut heights, &mut odometer, site);
+    let record = Settled {
+        pile: Pile::from_counted(shape, heights, grains - avalanche.lost),
+        odometer,
+        topplings: topplings + avalanche.size,
+        lost: lost + avalanche.lost,
+    };
+    (record, avalanche)
+}
+
+impl OnePile {
+    /// The settled start, before any drop. Refuses want of memory alone.
+    pub fn new(alloc: Global, start: &Pile) -> Result<OnePile, OneFault>
+        ensures settled { IfOk result (λ v. IsAfter start.now [] v) }
+        ensures memory { IsOkUnless result (OneFault.Memory alloc_error) }
+    {
+        let settled = settle(alloc, start)?;
+        let _ = start.grains();
+        Ok(OnePile {
+            settled: Some(settled),
+            workspace: None,
+            number: 0,
+        })
+    }
+
+    /// Drops a grain at a site and lets it topple. Answers the number of the drop, of which the first is 0, and its
+    /// avalanche. Refuses a grain above the limit on those of the start and of all drops (Full), then want of memory
+    /// (Memory), and then leaves all as it was; from the second drop on it asks for none.
+    pub fn drop_at(&mut self, alloc: Global, site: usize) -> Result<(u64, Avalanche), OneFault>
+        requires { site < sites (grid_of_one self.old) }
+        ensures number { IfOk result (λ r. r.0 ≡ self.old.number) }
+        ensures avalanche { IfOk result (λ r. IsAvalanche (grid_of_one self.old) site (topplings_between self.old.settled self.new.settled) r.1) }
+
+        // From where it was, and from whatever start and drops lead there.
+        ensures drops { OnOk result (Drops self.old site self.new) }
+        ensures after { OnOk result ((start : PileView) (history : List ℕ) → IsAfter start history self.old → IsAfter start (history ++ site ∷ []) self.new) }
+
+        ensures full { (result ≡ Err OneFault.Full) ↔ (self.old.grains ≡ GRAIN_LIMIT) }
+        ensures err { OnErr result (self.new ≡ self.old) }
+    {
+        if self.is_full() {
+            return Err(OneFault::Full);
+        }
+        let mut workspace = self.take_workspace(alloc)?;
+        let number = self.number;
+        let settled = self.settled.take().unwrap();
+        let (record, avalanche) = drop_grain(&mut workspace, settled, site);
+        self.settled = Some(record);
+        self.workspace = Some(workspace);
+        self.number = number + 1;
+        Ok((number, avalanche))
+    }
+
+    // Whether one grain more would exceed the limit.
+    fn is_full(&self) -> bool
+        ensures full { IsTrue result ↔ (self.now.grains ≡ GRAIN_LIMIT) }
+        ensures limit { self.now.grains ≤ GRAIN_LIMIT }
+    {
+        let settled = self.settled();
+        settled.pile().grains() + settled.lost() == GRAIN_LIMIT
+    }
+
+    // The workspace of the last drop, or a new one.
+    fn take_workspace(&mut self, alloc: Global) -> Result<Workspace, OneFault>
+        ensures grid { IfOk result (λ w. w ≡ grid_of_one self.old) }
+        ensures memory { IsOkUnless result (OneFault.Memory alloc_error) }
+        ensures unchanged { self.new ≡ self.old }
+    {
+        match self.workspace.take() {
+            Some(workspace) => Ok(workspace),
+            None => Workspace::new(alloc, self.pile().shape()).map_err(OneFault::Memory),
+        }
+    }
+
+    fn settled(&self) -> &Settled
+        ensures value { result.now ≡ self.now.settled }
+        ensures paid { IsPaid self.now.settled }
+        ensures grains { self.now.grains ≡ sum self.now.settled.pile.heights + self.now.settled.lost }
+    {
+        self.settled.as_ref().unwrap()
+    }
+
+    /// How many drops there were.
+    pub fn tally(&self) -> u64
+        ensures { result ≡ self.now.number }
+    {
+        self.number
+    }
+
+    /// The settled pile.
+    pub fn pile(&self) -> &Pile
+        ensures { result.now ≡ self.now.settled.pile }
+    {
+        self.settled().pile()
+    }
+
+    pub fn height(&self, site: usize) -> u64
+        requires { site < sites (grid_of_one self.now) }
+        ensures { result ≡ height_of self.now.settled.pile site }
+    {
+        self.pile().height(site)
+    }
+
+    /// How often a site toppled since the start, its settling included.
+    pub fn odometer(&self, site: usize) -> u64
+        requires { site < sites (grid_of_one self.now) }
+        ensures { result ≡ odometer_of self.now.settled site }
+    {
+        self.settled().odometer(site)
+    }
+
+    /// How often each site toppled since the start, its settling included, by site.
+    pub fn odometers(&self) -> &[u64]
+        ensures value { result.now ≡ self.now.settled.odometer }
+        ensures one_each { length self.now.settled.odometer ≡ sites (grid_of_one self.now) }
+    {
+        self.settled().odometers()
+    }
+
+    /// How many topplings there were since the start, its settling included.
+    pub fn topplings(&self) -> u64
+        ensures value { result ≡ self.now.settled.topplings }
+        ensures bound { result < 2 ^ 54 }
+    {
+        self.settled().topplings()
+    }
+
+    /// How many grains fell into the sink since the start, its settling included.
+    pub fn lost(&self) -> u64
+        ensures { result ≡ self.now.settled.lost }
+    {
+        self.settled().lost()
+    }
+}

@@ -1,0 +1,43 @@
+//! The table of the avalanches that drops set off.
+
+ghost use Rattle.std.specs.Prelude.{◌≡◌, ◌++◌, IfOk, OnOk};
+ghost use Rattle.sand_text.specs.Tables.{entry_text, table_text_of};
+
+use crate::rows::push_row;
+use sand_settle::Avalanche;
+use std::alloc::{AllocError, Global};
+
+// Writes the line of a drop: its number, and what it set off.
+fn push_entry(text: &mut Vec<u8>, number: u64, avalanche: Avalanche) -> Result<(), AllocError>
+    ensures { OnOk result (text.new.items ≡ text.old.items ++ entry_text (number, avalanche)) }
+{
+    let Avalanche {
+        site,
+        size,
+        area,
+        reach,
+        lost,
+    } = avalanche;
+    let fields = [
+        number,
+        site as u64,
+        size,
+        u64::from(area),
+        u64::from(reach),
+        lost,
+    ];
+    push_row(text, &fields)
+}
+
+/// The table of a run of drops: a first line that names the columns, and a line for each drop, with its number and what
+/// it set off.
+pub fn table_text(alloc: Global, rows: &[(u64, Avalanche)]) -> Result<Vec<u8>, AllocError>
+    ensures { IfOk result (λ text. text.items ≡ table_text_of rows.now) }
+{
+    let mut text = Vec::new(alloc);
+    text.extend_from_slice(b"number site size area reach lost\n")?;
+    for (number, avalanche) in rows {
+        push_entry(&mut text, *number, *avalanche)?;
+    }
+    Ok(text)
+}
