@@ -1,5 +1,5 @@
 -- How a command ends, from how its reading, its work or its writing ended.
-use Rattle.std.proofs.Common.{◌≡◌, ◌≢◌, ◌+◌, ◌≤◌, ℕ, List, [], length, take, refl, sym, subst, ap}
+use Rattle.std.proofs.Common.{◌≡◌, ◌+◌, ◌≤◌, ℕ, List, true, length, take, refl, sym, subst}
 use Rattle.std.specs.Prelude.{Option, Some, None}
 use Rattle.std.specs.Io.KnownBytes.{Appends, Keeps}
 use Rattle.sand_text.specs.declared.flow.TheConstants.{INPUT_LIMIT}
@@ -10,30 +10,32 @@ use Rattle.sand_words.specs.declared.words.Task.{Task}
 use Rattle.sand_desk.specs.declared.faults.DeskFault.{DeskFault}
 use Rattle.sand_desk.specs.declared.faults.DeskFault.TheVariants as desk
 use Rattle.sand_desk.specs.Faults.{of_stream}
-use Rattle.sand_desk.specs.Commands.{IsTextOf, IsFaultOf, Finds, IsRead, IsFaulty, IsStopped, IsFlooded, IsCutShort, EndsBy}
+use Rattle.sand_desk.specs.Commands.{reads_input, IsTextOf, IsFaultOf, Finds, IsRead, IsFaulty, EndsBy}
 
 keeps : (held : Option (List ℕ)) → Keeps held held
 keeps None = tt
 keeps (Some bytes) = refl
 
 -- the reading failed
-pub reading_ends : (asked : Option Task) (left left' held : Option (List ℕ)) (task : Task) (f : StreamFault) → asked ≡ Some task → IsOfReading f
+pub reading_ends : (asked : Option Task) (left left' held : Option (List ℕ)) (task : Task) (f : StreamFault) → asked ≡ Some task → reads_input task ≡ true → IsOfReading f
     → (f ≡ stream.TooLong → IsFurther left left' (INPUT_LIMIT + 1)) → ((f ≡ stream.TooLong → ⊥) → IsFurtherByAtMost left left' INPUT_LIMIT)
     → EndsBy asked left left' held held (of_stream f)
-reading_ends asked left left' held task stream.Memory e kind flooded stopped = keeps held
-reading_ends asked left left' held task stream.Read e kind flooded stopped = record {
+reading_ends asked left left' held task stream.Memory e reads kind flooded stopped = keeps held
+reading_ends asked left left' held task stream.Read e reads kind flooded stopped = record {
   task = task;
   is_asked = e;
+  reads = reads;
   further = stopped (λ q. cc);
   unwritten = keeps held;
 }
-reading_ends asked left left' held task stream.TooLong e kind flooded stopped = record {
+reading_ends asked left left' held task stream.TooLong e reads kind flooded stopped = record {
   task = task;
   is_asked = e;
+  reads = reads;
   further = flooded refl;
   unwritten = keeps held;
 }
-reading_ends asked left left' held task (stream.Write sent) e kind flooded stopped = absurd kind
+reading_ends asked left left' held task (stream.Write sent) e reads kind flooded stopped = absurd kind
 
 faulty : (asked : Option Task) (left left' held : Option (List ℕ)) (task : Task) (input : List ℕ) (fault : DeskFault) → IsRead asked left left' task input → IsFaultOf task input fault → IsFaulty asked left left' held held fault
 faulty asked left left' held task input fault read found = record {
@@ -58,6 +60,9 @@ work_ends asked left left' held task input (desk.Text place) read found = faulty
 work_ends asked left left' held task input (desk.TooLarge place) read found = faulty asked left left' held task input (desk.TooLarge place) read found
 work_ends asked left left' held task input desk.Narrow read found = faulty asked left left' held task input desk.Narrow read found
 work_ends asked left left' held task input desk.Full read found = faulty asked left left' held task input desk.Full read found
+work_ends asked left left' held task input desk.Unstable read found = faulty asked left left' held task input desk.Unstable read found
+work_ends asked left left' held task input desk.NotRecurrent read found = faulty asked left left' held task input desk.NotRecurrent read found
+work_ends asked left left' held task input desk.Shapes read found = faulty asked left left' held task input desk.Shapes read found
 work_ends asked left left' held task input (desk.NoSite index) read found = faulty asked left left' held task input (desk.NoSite index) read found
 
 -- the writer failed

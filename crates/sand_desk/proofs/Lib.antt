@@ -1,3 +1,4 @@
 pub mod Endings
 pub mod Rows
 pub mod DropSites
+pub mod Unfit

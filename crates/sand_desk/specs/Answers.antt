@@ -1,5 +1,5 @@
 -- What the readings and the texts answer, with the program's faults.
-use Rattle.std.specs.Prelude.{ℕ, ◌≡◌, List, Result, Ok, Err, IsOk}
+use Rattle.std.specs.Prelude.{◌≡◌, Result, Ok, Err, IsOk}
 use Rattle.sand_text.specs.declared.fault.TextFault.{TextFault}
 use Rattle.sand_desk.specs.declared.faults.DeskFault.{DeskFault}
 use Rattle.sand_desk.specs.declared.faults.DeskFault.TheVariants as desk

@@ -1,78 +1,44 @@
--- What a command does: the text that it writes for an input, or the fault that it finds there.
-use Rattle.std.specs.Prelude.{ℕ, ◌≡◌, ◌+◌, ◌<◌, ◌≤◌, List, [], ◌∷◌, ◌++◌, length, take, sum, codes, decimal, Option, Some, None, Result, Ok, Err}
+-- What a command does: the text that it writes for an input, the fault that it finds there, and how it ends.
+use Rattle.std.specs.Prelude.{ℕ, ⊤, ◌≡◌, ◌↔◌, ◌+◌, ◌<◌, ◌≤◌, Bool, true, false, List, [], length, take, Option, Some, None, Result, Err}
 use Rattle.std.specs.Io.KnownBytes.{Appends, Keeps}
+use Rattle.sand_model.specs.declared.faults.ShapeFault.{ShapeFault}
 use Rattle.sand_model.specs.declared.pile.TheConstants.{GRAIN_LIMIT}
-use Rattle.sand_model.specs.Piles.{PileView, height_of}
-use Rattle.sand_settle.specs.Settling.{SettledView, IsRecord}
-use Rattle.sand_settle.specs.declared.avalanche.Avalanche.{Avalanche}
-use Rattle.sand_settle.specs.Avalanches.{IsAvalanche}
-use Rattle.sand_settle.specs.Drops.{OneView, grid_of_one, topplings_between, IsAfter, Drops}
+use Rattle.sand_model.specs.Grid.{grid_of}
 use Rattle.sand_text.specs.declared.fault.TextFault.{TextFault}
 use Rattle.sand_text.specs.declared.flow.TheConstants.{INPUT_LIMIT}
 use Rattle.sand_text.specs.Flow.{GivesAll, IsFurther, IsFurtherByAtMost}
-use Rattle.sand_text.specs.Reading.{pile_of, drops_of}
-use Rattle.sand_text.specs.Texts.{settle_text_of, text_of}
-use Rattle.sand_text.specs.Tables.{table_text_of}
+use Rattle.sand_text.specs.Reading.{pile_of, drops_of, two_of}
+use Rattle.clap.specs.Words.{Text, kind_of}
+use Rattle.clap.specs.declared.error.kind.ErrorKind.TheVariants.{DisplayHelp}
+use Rattle.sand_words.specs.Asked.{AskForHelp}
 use Rattle.sand_words.specs.declared.words.Task.{Task}
 use Rattle.sand_words.specs.declared.words.Task.TheVariants as task
 use Rattle.sand_desk.specs.declared.faults.DeskFault.{DeskFault}
 use Rattle.sand_desk.specs.declared.faults.DeskFault.TheVariants as desk
-use Rattle.sand_desk.specs.Faults.{of_text}
+use Rattle.sand_desk.specs.Dropping.{IsDropsText, IsOverfull}
+use Rattle.sand_desk.specs.Faults.{of_shape, of_text}
+use Rattle.sand_desk.specs.Group.{edge_of, IsBurnText, IsIdentityText, IsSumText, IsInverseText, IsUnstable, IsUnfitPile, IsUnfitPair, IsMismatch}
+use Rattle.sand_desk.specs.Settling.{IsSettleText}
 
--- the text of the settled record of the pile that the input holds
-pub record IsSettleText (input text : List ℕ) : Type 0 where
-  pub pile : PileView
-  pub settled : SettledView
-  pub read : pile_of input ≡ Ok pile
-  pub record_of : IsRecord pile.grid (height_of pile) settled
-  pub written : text ≡ settle_text_of settled
-
--- the drops at these sites lead from v to w, and each row has the number of its drop and its avalanche
-abbrev pub AreRows : OneView → List ℕ → List (ℕ × Avalanche) → OneView → Type 0
-AreRows v [] rows w = (rows ≡ []) × (v ≡ w)
-AreRows v (site ∷ sites) rows w = (u : OneView) × (avalanche : Avalanche) × (others : List (ℕ × Avalanche))
-    × Drops v site u × IsAvalanche (grid_of_one v) site (topplings_between v.settled u.settled) avalanche
-    × (rows ≡ (v.number, avalanche) ∷ others) × AreRows u sites others w
-
--- a line that names a sum
-abbrev pub sum_line : List ℕ → ℕ → List ℕ
-sum_line name n = name ++ decimal n ++ codes "\n"
-
--- the table of the drops, the pile that they leave, and the sums since the start
-abbrev pub drops_text_of : List (ℕ × Avalanche) → OneView → List ℕ
-drops_text_of rows last = table_text_of rows ++ text_of last.settled.pile
-    ++ sum_line (codes "lost ") last.settled.lost ++ sum_line (codes "topplings ") last.settled.topplings
-
--- the text of the drops that the input holds, on the settled pile that it holds
-pub record IsDropsText (input text : List ℕ) : Type 0 where
-  pub pile : PileView
-  pub sites : List ℕ
-  pub first : OneView
-  pub last : OneView
-  pub rows : List (ℕ × Avalanche)
-  pub read : drops_of input ≡ Ok (pile, sites)
-  pub start : IsAfter pile [] first
-  pub dropped : AreRows first sites rows last
-  pub end : IsAfter pile sites last
-  pub written : text ≡ drops_text_of rows last
+-- whether a task reads an input
+abbrev pub reads_input : Task → Bool
+reads_input (task.Identity width height cylinder pgm) = false
+reads_input _ = true
 
 -- the text that a task writes for an input
 abbrev pub IsTextOf : Task → List ℕ → List ℕ → Type 0
-IsTextOf task.Settle input text = IsSettleText input text
+IsTextOf (task.Settle pgm) input text = IsSettleText pgm input text
+IsTextOf task.Burn input text = IsBurnText input text
+IsTextOf (task.Identity width height cylinder pgm) input text = IsIdentityText width height cylinder pgm text
 IsTextOf task.Drops input text = IsDropsText input text
+IsTextOf (task.Add pgm) input text = IsSumText pgm input text
+IsTextOf (task.Inverse pgm) input text = IsInverseText pgm input text
 
 -- the input doesn't hold what the task wants
 pub record IsUnreadable {A : Type 0} (reading : Result A TextFault) (fault : DeskFault) : Type 0 where
   pub why : TextFault
   pub read : reading ≡ Err why
   pub told : fault ≡ of_text why
-
--- the grains of the pile and of the drops exceed the limit
-pub record IsOverfull (input : List ℕ) : Type 0 where
-  pub pile : PileView
-  pub sites : List ℕ
-  pub read : drops_of input ≡ Ok (pile, sites)
-  pub over : GRAIN_LIMIT < sum pile.heights + length sites
 
 -- a drop was refused: there were more grains with all drops than the limit, or memory ran out
 abbrev pub IsDropFault : ℕ → DeskFault → Type 0
@@ -84,10 +50,38 @@ abbrev pub IsDropsFault : List ℕ → DeskFault → Type 0
 IsDropsFault input desk.Full = IsOverfull input
 IsDropsFault input fault = IsUnreadable (drops_of input) fault
 
+-- the burning test refuses a pile that isn't stable
+abbrev pub IsBurnFault : List ℕ → DeskFault → Type 0
+IsBurnFault input desk.Unstable = IsUnstable input
+IsBurnFault input fault = IsUnreadable (pile_of input) fault
+
+-- the grid has no such shape
+pub record IsShapeless (width height : ℕ) (cylinder : Bool) (fault : DeskFault) : Type 0 where
+  pub why : ShapeFault
+  pub unmade : grid_of width height (edge_of cylinder) ≡ Err why
+  pub told : fault ≡ of_shape why
+
+-- a sum wants two recurrent piles of one shape: the first pile's fault comes before the second's
+abbrev pub IsSumFault : List ℕ → DeskFault → Type 0
+IsSumFault input desk.Unstable = IsUnfitPair input desk.Unstable
+IsSumFault input desk.NotRecurrent = IsUnfitPair input desk.NotRecurrent
+IsSumFault input desk.Shapes = IsMismatch input
+IsSumFault input fault = IsUnreadable (two_of input) fault
+
+-- an inverse wants a recurrent pile
+abbrev pub IsInverseFault : List ℕ → DeskFault → Type 0
+IsInverseFault input desk.Unstable = IsUnfitPile input desk.Unstable
+IsInverseFault input desk.NotRecurrent = IsUnfitPile input desk.NotRecurrent
+IsInverseFault input fault = IsUnreadable (pile_of input) fault
+
 -- the fault that a task finds in an input
 abbrev pub IsFaultOf : Task → List ℕ → DeskFault → Type 0
-IsFaultOf task.Settle input fault = IsUnreadable (pile_of input) fault
+IsFaultOf (task.Settle pgm) input fault = IsUnreadable (pile_of input) fault
+IsFaultOf task.Burn input fault = IsBurnFault input fault
+IsFaultOf (task.Identity width height cylinder pgm) input fault = IsShapeless width height cylinder fault
 IsFaultOf task.Drops input fault = IsDropsFault input fault
+IsFaultOf (task.Add pgm) input fault = IsSumFault input fault
+IsFaultOf (task.Inverse pgm) input fault = IsInverseFault input fault
 
 -- a fault that a task finds in its input, or want of memory; no fault of the words or of a stream
 abbrev pub Finds : (DeskFault → Type 0) → DeskFault → Type 0
@@ -98,10 +92,15 @@ Finds IsFault desk.TooLong = ⊥
 Finds IsFault (desk.Write sent) = ⊥
 Finds IsFault fault = IsFault fault
 
--- a task was asked for, and the reader gave all its bytes as the input, within the limit
+-- the reader gave all its bytes as the input; or none is wanted, and the reader is as it was
+abbrev pub Takes : Bool → Option (List ℕ) → Option (List ℕ) → List ℕ → Type 0
+Takes true left left' input = GivesAll left left' input
+Takes false left left' input = Keeps left left' × (input ≡ [])
+
+-- a task was asked for, and its input was taken, within the limit
 pub record IsRead (asked : Option Task) (left left' : Option (List ℕ)) (task : Task) (input : List ℕ) : Type 0 where
   pub is_asked : asked ≡ Some task
-  pub all : GivesAll left left' input
+  pub all : Takes (reads_input task) left left' input
   pub within : length input ≤ INPUT_LIMIT
 
 -- the command was done: the writer took the text of the task for the whole input
@@ -135,6 +134,7 @@ pub record IsFaulty (asked : Option Task) (left left' held held' : Option (List 
 pub record IsStopped (asked : Option Task) (left left' held held' : Option (List ℕ)) : Type 0 where
   pub task : Task
   pub is_asked : asked ≡ Some task
+  pub reads : reads_input task ≡ true
   pub further : IsFurtherByAtMost left left' INPUT_LIMIT
   pub unwritten : Keeps held held'
 
@@ -142,6 +142,7 @@ pub record IsStopped (asked : Option Task) (left left' held held' : Option (List
 pub record IsFlooded (asked : Option Task) (left left' held held' : Option (List ℕ)) : Type 0 where
   pub task : Task
   pub is_asked : asked ≡ Some task
+  pub reads : reads_input task ≡ true
   pub further : IsFurther left left' (INPUT_LIMIT + 1)
   pub unwritten : Keeps held held'
 
@@ -150,6 +151,11 @@ pub record IsMisuse (asked : Option Task) (left left' held held' : Option (List 
   pub unasked : asked ≡ None
   pub unread : Keeps left left'
   pub unwritten : Keeps held held'
+
+-- a fault of the words shows help exactly where the words ask for help and for nothing else
+abbrev pub HelpsIfAsked : List Text → DeskFault → Type 0
+HelpsIfAsked words (desk.Usage error) = (kind_of error ≡ DisplayHelp) ↔ AskForHelp words
+HelpsIfAsked words fault = ⊤
 
 -- how a command ends by each fault; memory may run out anywhere before the text is written
 abbrev pub EndsBy : Option Task → Option (List ℕ) → Option (List ℕ) → Option (List ℕ) → Option (List ℕ) → DeskFault → Type 0

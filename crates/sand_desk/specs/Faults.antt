@@ -11,16 +11,24 @@ use Rattle.sand_text.specs.declared.fault.StreamFault.{StreamFault}
 use Rattle.sand_text.specs.declared.fault.StreamFault.TheVariants as stream
 use Rattle.sand_settle.specs.declared.faults.OneFault.{OneFault}
 use Rattle.sand_settle.specs.declared.faults.OneFault.TheVariants as one
+use Rattle.sand_group.specs.declared.faults.GroupFault.{GroupFault}
+use Rattle.sand_group.specs.declared.faults.GroupFault.TheVariants as group
+use Rattle.sand_model.specs.declared.faults.ShapeFault.{ShapeFault}
+use Rattle.sand_model.specs.declared.faults.ShapeFault.TheVariants as shape
 use Rattle.sand_words.specs.declared.fault.WordsFault.{WordsFault}
 use Rattle.sand_words.specs.declared.fault.WordsFault.TheVariants as words
 use Rattle.sand_desk.specs.declared.faults.DeskFault.{DeskFault}
-use Rattle.sand_desk.specs.declared.faults.DeskFault.TheVariants.{Side, Length, TooManyGrains, Memory, Text, TooLarge, Read, Write, TooLong, Usage, Narrow, Full, NoSite}
+use Rattle.sand_desk.specs.declared.faults.DeskFault.TheVariants.{Side, Length, TooManyGrains, Memory, Full, Unstable, NotRecurrent, Shapes, Text, TooLarge, Read, Write, TooLong, Usage, Narrow, NoSite}
 
 abbrev pub number_of : DeskFault → ℕ
 number_of Side = 1
 number_of Length = 2
 number_of TooManyGrains = 3
 number_of Memory = 4
+number_of Full = 6
+number_of Unstable = 7
+number_of NotRecurrent = 8
+number_of Shapes = 9
 number_of (Text place) = 18
 number_of (TooLarge place) = 19
 number_of Read = 20
@@ -28,7 +36,6 @@ number_of (Write sent) = 21
 number_of TooLong = 22
 number_of (Usage error) = 23
 number_of Narrow = 24
-number_of Full = 6
 number_of (NoSite index) = 25
 
 abbrev pub name_of : DeskFault → List ℕ
@@ -36,6 +43,10 @@ name_of Side = codes "Side"
 name_of Length = codes "Length"
 name_of TooManyGrains = codes "TooManyGrains"
 name_of Memory = codes "Memory"
+name_of Full = codes "Full"
+name_of Unstable = codes "Unstable"
+name_of NotRecurrent = codes "NotRecurrent"
+name_of Shapes = codes "Shapes"
 name_of (Text place) = codes "Text"
 name_of (TooLarge place) = codes "TooLarge"
 name_of Read = codes "Read"
@@ -43,7 +54,6 @@ name_of (Write sent) = codes "Write"
 name_of TooLong = codes "TooLong"
 name_of (Usage error) = codes "Usage"
 name_of Narrow = codes "Narrow"
-name_of Full = codes "Full"
 name_of (NoSite index) = codes "NoSite"
 
 -- where in the input, or after how many bytes of the output
@@ -52,6 +62,10 @@ place_of Side = []
 place_of Length = []
 place_of TooManyGrains = []
 place_of Memory = []
+place_of Full = []
+place_of Unstable = []
+place_of NotRecurrent = []
+place_of Shapes = []
 place_of (Text place) = codes " at " ++ decimal place
 place_of (TooLarge place) = codes " at " ++ decimal place
 place_of Read = []
@@ -59,7 +73,6 @@ place_of (Write sent) = codes " after " ++ decimal sent
 place_of TooLong = []
 place_of (Usage error) = []
 place_of Narrow = []
-place_of Full = []
 place_of (NoSite index) = codes " at " ++ decimal index
 
 -- the line that tells a fault
@@ -77,6 +90,10 @@ status_of Side = 1
 status_of Length = 1
 status_of TooManyGrains = 1
 status_of Memory = 1
+status_of Full = 1
+status_of Unstable = 1
+status_of NotRecurrent = 1
+status_of Shapes = 1
 status_of (Text place) = 1
 status_of (TooLarge place) = 1
 status_of Read = 1
@@ -84,7 +101,6 @@ status_of (Write sent) = 1
 status_of TooLong = 1
 status_of (Usage error) = usage_status (kind_of error)
 status_of Narrow = 1
-status_of Full = 1
 status_of (NoSite index) = 1
 
 abbrev pub of_text : TextFault → DeskFault
@@ -113,3 +129,13 @@ of_words (words.Usage error) = Usage error
 abbrev pub of_one : OneFault → DeskFault
 of_one one.Full = Full
 of_one (one.Memory refused) = Memory
+
+abbrev pub of_group : GroupFault → DeskFault
+of_group group.Unstable = Unstable
+of_group group.NotRecurrent = NotRecurrent
+of_group group.Shapes = Shapes
+of_group (group.Memory refused) = Memory
+
+abbrev pub of_shape : ShapeFault → DeskFault
+of_shape shape.Side = Side
+of_shape shape.Narrow = Narrow

@@ -1,3 +1,6 @@
-pub mod Faults
 pub mod Answers
 pub mod Commands
+pub mod Dropping
+pub mod Faults
+pub mod Group
+pub mod Settling

@@ -3,12 +3,14 @@
 ghost use Rattle.std.specs.Prelude.{◌≡◌, ◌≢◌, ℕ, ◌+◌, ◌<◌, ◌≤◌, List, [], ◌++◌, length, take, codes, decimal, OnOk, IfErr};
 ghost use Rattle.std.specs.Io.KnownBytes.{Appends};
 ghost use Rattle.arrayvec.specs.ArrayString.{array_string_len};
-ghost use Rattle.sand_desk.specs.Faults.{number_of, name_of, status_of, fault_line, place_of, of_text, of_read, of_stream, of_words, of_one};
+ghost use Rattle.sand_desk.specs.Faults.{number_of, name_of, status_of, fault_line, place_of, of_text, of_read, of_stream, of_words, of_one, of_group, of_shape};
 ghost use Rattle.sand_desk.specs.declared.faults.DeskFault.TheVariants as desk;
 
 use arrayvec::ArrayString;
 use clap::error::ErrorKind;
 use itoa::Buffer;
+use sand_group::GroupFault;
+use sand_model::ShapeFault;
 use sand_settle::{OneFault, SettleFault};
 use sand_text::{ReadFault, StreamFault, TextFault, write_text};
 use sand_words::WordsFault;
@@ -27,6 +29,14 @@ pub enum DeskFault {
     TooManyGrains,
     #[error("out of memory")]
     Memory,
+    #[error("one drop more would exceed the grain limit")]
+    Full,
+    #[error("a height over 3")]
+    Unstable,
+    #[error("a forbidden set exists")]
+    NotRecurrent,
+    #[error("two piles of different shapes")]
+    Shapes,
     /// A byte that stands in no text of a pile, with its offset; or fewer than two numbers, with the text's length.
     #[error("not the text of a pile, at byte {0}")]
     Text(usize),
@@ -45,8 +55,6 @@ pub enum DeskFault {
     Usage(clap::Error),
     #[error("a cylinder of width below 3")]
     Narrow,
-    #[error("one drop more would exceed the grain limit")]
-    Full,
     /// A drop at a site that the grid hasn't got, with its index among the drops.
     #[error("no such site, at drop {0}")]
     NoSite(usize),
@@ -61,6 +69,10 @@ impl DeskFault {
             DeskFault::Length => 2,
             DeskFault::TooManyGrains => 3,
             DeskFault::Memory => 4,
+            DeskFault::Full => 6,
+            DeskFault::Unstable => 7,
+            DeskFault::NotRecurrent => 8,
+            DeskFault::Shapes => 9,
             DeskFault::Text(_) => 18,
             DeskFault::TooLarge(_) => 19,
             DeskFault::Read => 20,
@@ -68,7 +80,6 @@ impl DeskFault {
             DeskFault::TooLong => 22,
             DeskFault::Usage(_) => 23,
             DeskFault::Narrow => 24,
-            DeskFault::Full => 6,
             DeskFault::NoSite(_) => 25,
         }
     }
@@ -144,6 +155,30 @@ impl From<OneFault> for DeskFault {
     }
 }
 
+impl From<GroupFault> for DeskFault {
+    ghost from_gives = { λ fault e. e ≡ of_group fault };
+
+    fn from(fault: GroupFault) -> DeskFault {
+        match fault {
+            GroupFault::Unstable => DeskFault::Unstable,
+            GroupFault::NotRecurrent => DeskFault::NotRecurrent,
+            GroupFault::Shapes => DeskFault::Shapes,
+            GroupFault::Memory(_) => DeskFault::Memory,
+        }
+    }
+}
+
+impl From<ShapeFault> for DeskFault {
+    ghost from_gives = { λ fault e. e ≡ of_shape fault };
+
+    fn from(fault: ShapeFault) -> DeskFault {
+        match fault {
+            ShapeFault::Side => DeskFault::Side,
+            ShapeFault::Narrow => DeskFault::Narrow,
+        }
+    }
+}
+
 impl From<AllocError> for DeskFault {
     ghost from_gives = { λ _ e. e ≡ desk.Memory };
 
@@ -174,6 +209,10 @@ fn name(fault: &DeskFault) -> &'static str
         DeskFault::Length => "Length",
         DeskFault::TooManyGrains => "TooManyGrains",
         DeskFault::Memory => "Memory",
+        DeskFault::Full => "Full",
+        DeskFault::Unstable => "Unstable",
+        DeskFault::NotRecurrent => "NotRecurrent",
+        DeskFault::Shapes => "Shapes",
         DeskFault::Text(_) => "Text",
         DeskFault::TooLarge(_) => "TooLarge",
         DeskFault::Read => "Read",
@@ -181,7 +220,6 @@ fn name(fault: &DeskFault) -> &'static str
         DeskFault::TooLong => "TooLong",
         DeskFault::Usage(_) => "Usage",
         DeskFault::Narrow => "Narrow",
-        DeskFault::Full => "Full",
         DeskFault::NoSite(_) => "NoSite",
     }
 }

@@ -5,9 +5,14 @@
 #![tactic(auto)]
 
 mod commands;
+mod dropping;
 mod faults;
+mod group;
+mod settling;
 mod texts;
 
 pub use commands::run_command;
 pub use faults::{DeskFault, status, write_fault};
-pub use texts::{pile_text, read_pile, settle_text};
+pub use texts::{
+    burn_text, pgm_text, pile_text, read_drops, read_pile, read_two, settle_text, table_text,
+};

@@ -1,13 +1,18 @@
 //! The readings and the texts of `sand_text`, with the program's faults.
 
 ghost use Rattle.std.specs.Prelude.{◌≡◌, IfOk, IsOkUnless};
-ghost use Rattle.sand_text.specs.Reading.{pile_of, drops_of};
+ghost use Rattle.sand_model.specs.Sand.{IsStable};
+ghost use Rattle.sand_model.specs.Piles.{height_of};
+ghost use Rattle.sand_text.specs.Burning.{AreSitesOf, burn_text_of};
+ghost use Rattle.sand_text.specs.Pictures.{pgm_text_of};
+ghost use Rattle.sand_text.specs.Reading.{pile_of, drops_of, two_of};
 ghost use Rattle.sand_text.specs.Texts.{text_of, settle_text_of};
 ghost use Rattle.sand_text.specs.Tables.{table_text_of};
 ghost use Rattle.sand_desk.specs.Answers.{ReadsAs};
 
 use crate::faults::DeskFault;
-use sand_model::Pile;
+use sand_group::Burned;
+use sand_model::{Pile, Shape};
 use sand_settle::{Avalanche, Settled};
 use std::alloc::Global;
 
@@ -34,6 +39,36 @@ pub fn settle_text(alloc: Global, settled: &Settled) -> Result<Vec<u8>, DeskFaul
     ensures memory { IsOkUnless result DeskFault.Memory }
 {
     let text = sand_text::settle_text(alloc, settled)?;
+    Ok(text)
+}
+
+/// The picture of a stable pile, as plain PGM.
+pub fn pgm_text(alloc: Global, pile: &Pile) -> Result<Vec<u8>, DeskFault>
+    requires { IsStable pile.now.grid (height_of pile.now) }
+    ensures text { IfOk result (λ text. text.items ≡ pgm_text_of pile.now) }
+    ensures memory { IsOkUnless result DeskFault.Memory }
+{
+    let text = sand_text::pgm_text(alloc, pile)?;
+    Ok(text)
+}
+
+/// The two piles that a text holds, one after the other. Every fault of the text is found before anything grows, and want
+/// of memory comes last.
+pub fn read_two(alloc: Global, text: &[u8]) -> Result<(Pile, Pile), DeskFault>
+    ensures { ReadsAs (λ piles. piles) result (two_of text.now) }
+{
+    let piles = sand_text::read_two(alloc, text)?;
+    Ok(piles)
+}
+
+/// The text of what the burning test found on a grid of this shape: that the pile is recurrent, or the sites of its
+/// greatest forbidden set.
+pub fn burn_text(alloc: Global, shape: Shape, burned: &Burned) -> Result<Vec<u8>, DeskFault>
+    requires { AreSitesOf shape burned.now }
+    ensures text { IfOk result (λ text. text.items ≡ burn_text_of shape burned.now) }
+    ensures memory { IsOkUnless result DeskFault.Memory }
+{
+    let text = sand_text::burn_text(alloc, shape, burned)?;
     Ok(text)
 }
 

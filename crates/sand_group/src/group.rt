@@ -141,6 +141,7 @@ fn surplus(alloc: Global, shape: Shape) -> Result<Vec<u64>, GroupFault>
 /// then Memory.
 pub fn add(alloc: Global, a: &Recurrent, b: &Recurrent) -> Result<Recurrent, GroupFault>
     ensures shapes { (result ≡ Err GroupFault.Shapes) ↔ (a.now.grid ≢ b.now.grid) }
+    ensures one_shape { OnOk result (a.now.grid ≡ b.now.grid) }
     ensures memory { a.now.grid ≡ b.now.grid → IsOkUnless result (GroupFault.Memory alloc_error) }
     ensures settled { IfOk result (IsSettledPile a.now.grid (λ i. height_of a.now i + height_of b.now i)) }
     ensures sum { IfOk result (λ c. IsSum a.now.grid (height_of a.now) (height_of b.now) (height_of c)) }

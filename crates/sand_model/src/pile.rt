@@ -73,12 +73,7 @@ impl Pile {
         for height in &heights {
             grains += *height;
         }
-        let _ = shape.sites();
-        Pile {
-            shape,
-            grains,
-            heights,
-        }
+        Pile::from_counted(shape, heights, grains)
     }
 
     /// A pile of the list itself, whose sum is at hand: no height is looked at.

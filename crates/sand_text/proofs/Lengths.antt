@@ -48,11 +48,14 @@ by_cut s at (x ∷ xs) = elim (s x) as (λ v. count_words at (cond v ([] ∷ sli
   | false ↦ let h = by_cut s at xs in let more = one_byte at x (slice_split s xs) in omega arith
 ]
 
-pub words-le-bytes : (at : ℕ) (bs : List ℕ) → length (words_at at bs) ≤ length bs
+words-le-bytes : (at : ℕ) (bs : List ℕ) → length (words_at at bs) ≤ length bs
 words-le-bytes at bs = by_cut is_space at bs
 
-pub numbers-le-words : (ws : List Word) → length (numbers ws) ≤ length ws
+numbers-le-words : (ws : List Word) → length (numbers ws) ≤ length ws
 numbers-le-words [] = omega arith
 numbers-le-words (Number at value ∷ ws) = let h = numbers-le-words ws in omega arith
 numbers-le-words (Letter at ∷ ws) = let h = numbers-le-words ws in omega arith
 numbers-le-words (Strange at ∷ ws) = let h = numbers-le-words ws in omega arith
+
+pub few_numbers : (at : ℕ) (bs : List ℕ) → length (numbers (words_at at bs)) ≤ length bs
+few_numbers at bs = omega (arith, numbers-le-words (words_at at bs), words-le-bytes at bs)

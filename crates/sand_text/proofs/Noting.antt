@@ -7,10 +7,11 @@ use Rattle.std.proofs.lemmas.Bool.Decides.{nat_tests}
 use Rattle.std.proofs.lemmas.List.{get_or-drop, take_all, drop_all, take-append-le, drop-append-le, length_push, take_more, length-take-le}
 use Rattle.std.proofs.lemmas.List.Sums.{sum_by_push, prefix_len-le-length}
 use Rattle.std.proofs.lemmas.List.Folds.{position_or_len_push}
+use Rattle.std.specs.Option.{option_or}
 use Rattle.sand_text.specs.declared.words.Word.{Word}
 use Rattle.sand_text.specs.Bytes.{capped}
 use Rattle.sand_text.specs.Words.{numbers}
-use Rattle.sand_text.specs.Surveys.{place_or, noted}
+use Rattle.sand_text.specs.Surveys.{noted}
 
 -- the sum of the heights
 pub sum_push : (room value g : ℕ) (ns : List ℕ) → g ≡ capped (sum (take room ns)) → (if nat_lt (length ns) room then capped (g + value) else g) ≡ capped (sum (take room (ns ++ value ∷ [])))
@@ -38,7 +39,7 @@ found_last false count next more is len =
     rw test refl
 
 -- the first place at which a test passes
-found_push : (b : Bool) (first count next more : ℕ) → first ≤ count → next ≡ cond (eqb first count) (count + cond b 0 1) first → more ≡ count + 1 → cond (nat_lt next more) (Some next) None ≡ place_or (cond (nat_lt first count) (Some first) None) (if b then Some count else None)
+found_push : (b : Bool) (first count next more : ℕ) → first ≤ count → next ≡ cond (eqb first count) (count + cond b 0 1) first → more ≡ count + 1 → cond (nat_lt next more) (Some next) None ≡ option_or (cond (nat_lt first count) (Some first) None) (if b then Some count else None)
 found_push b first count next more le is len = elim (cases_lt first count) [
   | inl lt ↦
       let other : eqb first count ≡ false = grind (arith, nat_tests) in
@@ -52,11 +53,11 @@ found_push b first count next more le is len = elim (cases_lt first count) [
       rw none (found_last b count next more (rw all at is) len)
 ]
 
-position_push : (p : ℕ → Bool) (ns : List ℕ) (y : ℕ) → position p (ns ++ y ∷ []) ≡ place_or (position p ns) (if p y then Some (length ns) else None)
+position_push : (p : ℕ → Bool) (ns : List ℕ) (y : ℕ) → position p (ns ++ y ∷ []) ≡ option_or (position p ns) (if p y then Some (length ns) else None)
 position_push p ns y = found_push (p y) (position_or_len p ns) (length ns) (position_or_len p (ns ++ y ∷ [])) (length (ns ++ y ∷ [])) (prefix_len-le-length (λ x. not (p x)) ns) (position_or_len_push p ns y) (length_push ns y)
 
 -- the first drop on no site
-pub no_site_push : (room value : ℕ) (a : Option ℕ) (ns : List ℕ) → a ≡ position (nat_le room) (drop room ns) → place_or a (if nat_lt (length ns) room then None else (if nat_le room value then Some (length ns - room) else None)) ≡ position (nat_le room) (drop room (ns ++ value ∷ []))
+pub no_site_push : (room value : ℕ) (a : Option ℕ) (ns : List ℕ) → a ≡ position (nat_le room) (drop room ns) → option_or a (if nat_lt (length ns) room then None else (if nat_le room value then Some (length ns - room) else None)) ≡ position (nat_le room) (drop room (ns ++ value ∷ []))
 no_site_push room value a ns h = elim (cases_lt (length ns) room) [
   | inl low ↦
       let test : ltb (length ns) room ≡ true = grind (arith, nat_tests) in

@@ -1,177 +1,102 @@
--- What a survey of all words says of a text.
-use Rattle.std.proofs.Common.{◌≡◌, ◌≢◌, ℕ, ◌-◌, ◌*◌, ◌<◌, ◌≤◌, List, [], ◌∷◌, Bool, true, false, length, take, drop, get_or, eqb, ltb, leb, refl, sym, ◌∙◌, ap, arith, length-drop, Option, Some, None, sum, eq-eqb, ◌&&◌}
+-- What the survey of all words says of a text: the pile that it holds, or the pile and the drops.
+use Rattle.std.proofs.Common.{◌≡◌, ℕ, ◌-◌, List, [], ◌∷◌, Bool, true, false, length, take, drop, refl, sym, ◌∙◌, arith, length-drop, Option, Some, None, nat_le}
+use Rattle.std.specs.List.{position}
 use Rattle.std.specs.Prelude.{Result, Ok, Err}
-use Rattle.std.specs.Bool.{if◌then◌else◌}
-use Rattle.std.proofs.Math.Nat.{mul-le-mul}
-use Rattle.std.proofs.lemmas.Bool.Decides.{nat_tests}
-use Rattle.std.proofs.lemmas.List.{take_all}
-use Rattle.sand_model.specs.declared.pile.TheConstants.{GRAIN_LIMIT}
-use Rattle.sand_model.specs.declared.shape.Edge.{Edge}
-use Rattle.sand_model.specs.declared.shape.Edge.TheVariants.{Open, Cylinder}
-use Rattle.sand_model.specs.declared.faults.ShapeFault.{ShapeFault}
-use Rattle.sand_model.specs.declared.faults.ShapeFault.TheVariants.{Side, Narrow}
-use Rattle.sand_model.specs.Grid.{Grid, grid_of, is_side, joins, sites}
+use Rattle.std.proofs.lemmas.List.{length-take-le, take_all}
+use Rattle.std.specs.Option.{option_or}
+use Rattle.sand_model.specs.Grid.{Grid, sites}
+use Rattle.sand_model.specs.Piles.{PileView}
 use Rattle.sand_text.specs.declared.fault.TextFault.{TextFault}
-use Rattle.sand_text.specs.declared.fault.TextFault.TheVariants.{Text, TooLarge, Length, TooManyGrains, NoSite}
-use Rattle.sand_text.specs.declared.numbers.Survey.{Survey}
+use Rattle.sand_text.specs.declared.fault.TextFault.TheVariants.{TooLarge, NoSite}
+use Rattle.sand_text.specs.declared.survey.Survey.{Survey}
 use Rattle.sand_text.specs.declared.words.Word.{Word}
 use Rattle.sand_text.specs.Words.{words, first_strange, first_large, edge_behind, numbers}
-use Rattle.sand_text.specs.Reading.{front_of, pile_of, drops_of, pile_at, filled, of_shape, behind_sides}
-use Rattle.sand_text.specs.Surveys.{IsUnderway, IsSized, place_or, edge_or, sites_of, noted}
+use Rattle.sand_text.specs.Reading.{front_of, pile_of, drops_of, pile_at, plain_words, sites_among, heights_on, behind_heights, ◌>>=◌}
+use Rattle.sand_text.specs.Surveys.{IsUnderway, IsShaped, IsStrangeAt, sites_of, noted, pile_among}
+use Rattle.sand_text.proofs.Shapes.{count_at_end}
 
-pub strange_text : (text : List ℕ) (at : ℕ) → first_strange (2 ∷ []) 0 (words text) ≡ Some at → (last : Bool) → front_of last text ≡ Err (Text at)
-unfolding front_of
-strange_text text at e last = rw e refl
+-- ---- the words
 
-or_none : (a : Option ℕ) → place_or a None ≡ a
+or_none : (a : Option ℕ) → option_or a None ≡ a
 or_none None = refl
 or_none (Some at) = refl
 
-or_open : (e : Edge) → edge_or e Open ≡ e
-or_open Open = refl
-or_open Cylinder = refl
-
--- what a survey of all words says
-plain : (ws : List Word) (s : Survey) → IsUnderway ws [] s → first_strange (2 ∷ []) 0 ws ≡ None
+-- no word is strange
+none_strange : (ws : List Word) (s : Survey) → IsUnderway ws [] s → first_strange (2 ∷ []) 0 ws ≡ None
 unfolding first_strange
-plain ws s h = sym h.plain
+none_strange ws s h = sym (h.plain [] (λ k d lt. absurd (omega arith)))
 
-large : (ws : List Word) (s : Survey) → IsUnderway ws [] s → first_large ws ≡ s.large
+pub large_is : (ws : List Word) (s : Survey) → IsUnderway ws [] s → first_large ws ≡ s.large
 unfolding first_large
-large ws s h = sym h.large ∙ or_none s.large
+large_is ws s h = sym h.large ∙ or_none s.large
 
-edge : (ws : List Word) (s : Survey) → IsUnderway ws [] s → edge_behind 2 0 ws ≡ s.edge
-unfolding edge_behind
-edge ws s h = sym h.edge ∙ or_open s.edge
+pub strange_text : (text : List ℕ) (s : Survey) (e : TextFault) → IsStrangeAt (words text) s e → plain_words (2 ∷ []) text ≡ Err e
+strange_text text s e h = let first = h.strange [] (λ k d lt. absurd (omega arith)) in rw (first, h.is) refl
 
-pub count : (ws : List Word) (s : Survey) → IsUnderway ws [] s → length (numbers ws) ≡ s.count
-count ws s h = omega (arith, h.within, length-drop s.count (numbers ws), ap length h.left)
+pub large_text : (text : List ℕ) (s : Survey) (at : ℕ) → IsUnderway (words text) [] s → s.large ≡ Some at → plain_words (2 ∷ []) text ≡ Err (TooLarge at)
+large_text text s at h e = rw (none_strange (words text) s h, large_is (words text) s h, e) refl
 
-pub large_text : (text : List ℕ) (s : Survey) (at : ℕ) → IsUnderway (words text) [] s → s.large ≡ Some at → (last : Bool) → front_of last text ≡ Err (TooLarge at)
+pub plain_text : (text : List ℕ) (s : Survey) → IsUnderway (words text) [] s → s.large ≡ None → plain_words (2 ∷ []) text ≡ Ok (words text)
+plain_text text s h e = rw (none_strange (words text) s h, large_is (words text) s h, e) refl
+
+-- ---- the pile at the front
+
+faulty_front : (last : Bool) (text : List ℕ) (e : TextFault) → plain_words (2 ∷ []) text ≡ Err e → front_of last text ≡ Err e
 unfolding front_of
-large_text text s at h e last = rw (plain (words text) s h, large (words text) s h, e) refl
+faulty_front last text e is = rw is refl
 
--- the pile at the front of the numbers
-counted : (text : List ℕ) (s : Survey) (last : Bool) → IsUnderway (words text) [] s → s.large ≡ None → front_of last text ≡ pile_at s.edge last (length text) (numbers (words text))
+front_is : (last : Bool) (text : List ℕ) (front : Result (PileView × List ℕ) TextFault) → plain_words (2 ∷ []) text ≡ Ok (words text) → pile_at (edge_behind 2 0 (words text)) last (length text) (numbers (words text)) ≡ front → front_of last text ≡ front
 unfolding front_of
-counted text s last h e = rw (plain (words text) s h, large (words text) s h, e, edge (words text) s h) refl
+front_is last text front plain is = rw plain is
 
-few : (e : Edge) (last : Bool) (end : ℕ) (ns : List ℕ) → length ns < 2 → pile_at e last end ns ≡ Err (Text end)
-few e last end [] lt = refl
-few e last end (w ∷ []) lt = refl
-few e last end (w ∷ h ∷ ns) lt = absurd (omega arith)
-
-pub short_text : (text : List ℕ) (s : Survey) → IsUnderway (words text) [] s → s.large ≡ None → s.count < 2 → (last : Bool) → front_of last text ≡ Err (Text (length text))
-short_text text s h e lt last = counted text s last h e ∙ few s.edge last (length text) (numbers (words text)) (omega (arith, count (words text) s h))
-
-many : (e : Edge) (last : Bool) (end : ℕ) (ns : List ℕ) → 2 ≤ length ns → pile_at e last end ns ≡ filled last (grid_of (get_or ns 0 0) (get_or ns 1 0) e) (drop 2 ns)
-many e last end [] lt = absurd (omega arith)
-many e last end (w ∷ []) lt = absurd (omega arith)
-many e last end (w ∷ h ∷ ns) lt = refl
-
--- the sides, and the numbers behind them
-sized : (text : List ℕ) (s : Survey) (grid : Result Grid ShapeFault) (last : Bool) → IsUnderway (words text) [] s → s.large ≡ None → 2 ≤ s.count → grid ≡ grid_of s.width s.height s.edge → front_of last text ≡ filled last grid (behind_sides text)
-sized text s grid last h e le is =
-    let ns = numbers (words text) in
-    let sides : grid ≡ grid_of (get_or ns 0 0) (get_or ns 1 0) s.edge = is ∙ (ap (λ w. grid_of w s.height s.edge) (h.width (omega arith)) ∙ ap (λ x. grid_of (get_or ns 0 0) x s.edge) (h.height (omega arith))) in
-    counted text s last h e ∙ (many s.edge last (length text) ns (omega (arith, count (words text) s h)) ∙ ap (λ g. filled last g (behind_sides text)) (sym sides))
-
-pub no_shape : (text : List ℕ) (s : Survey) (fault : ShapeFault) → IsUnderway (words text) [] s → s.large ≡ None → 2 ≤ s.count → Err fault ≡ grid_of s.width s.height s.edge → (last : Bool) → front_of last text ≡ Err (of_shape fault)
-no_shape text s fault h e le is last = sized text s (Err fault) last h e le is
-
--- a grid that is made has the sides that it is made of
-made_of : (some narrow : Bool) (w h : ℕ) (e : Edge) (g : Grid) → Ok g ≡ (if some then (if narrow then Err Narrow else Ok (record { width = w; height = h; edge = e })) else Err Side) → (some ≡ true) × (g.width ≡ w) × (g.height ≡ h)
-made_of true true w h e g is = absurd (cc)
-made_of true false w h e g is =
-    let same : g ≡ record { width = w; height = h; edge = e } = cc in
-    (refl, ap (λ (x : Grid). x.width) same, ap (λ (x : Grid). x.height) same)
-made_of false narrow w h e g is = absurd (cc)
-
--- the sides of a grid are so small that the number of its sites fits
-fitting : (s : Survey) (g : Grid) → Ok g ≡ grid_of s.width s.height s.edge → sites_of s ≡ sites g
-fitting s g is =
-    let made = made_of (is_side s.width && is_side s.height) (joins s.edge && ltb s.width 3) s.width s.height s.edge g is in
-    let some = made.0 in
-    let width : s.width ≤ 256 = grind (arith, nat_tests) in
-    let height : s.height ≤ 256 = grind (arith, nat_tests) in
-    let few : s.width * s.height ≤ 256 * 256 = mul-le-mul width height in
-    let same : sites g ≡ s.width * s.height = rw (made.1, made.2) refl in
-    omega arith
-
-pub sized_text : (text : List ℕ) (s : Survey) (g : Grid) → IsUnderway (words text) [] s → s.large ≡ None → 2 ≤ s.count → Ok g ≡ grid_of s.width s.height s.edge → IsSized text s g
-sized_text text s g h e le is =
-    let room = fitting s g is in
-    let len = count (words text) s h in
-    let behind : length (behind_sides text) ≡ s.count - 2 = omega (arith, length-drop 2 (numbers (words text))) in
-    let all : noted s.count (words text) ≡ behind_sides text = take_all (s.count - 2) (behind_sides text) (omega arith) in
-    record {
-      front = λ last. sized text s (Ok g) last h e le is;
-      count = omega arith;
-      grains = rw (room, all) at h.grains;
-      no_site = rw (room, all) at h.no_site;
-    }
+-- the heights of a pile are as many as its sites
+pub one_each : (last : Bool) (end : ℕ) (ws : List Word) (s : Survey) (g : Grid) → IsShaped last end ws s g → length (take (sites g) (drop 2 (numbers ws))) ≡ sites g
+one_each last end ws s g h = length-take-le (sites g) (drop 2 (numbers ws)) (omega (arith, h.enough, length-drop 2 (numbers ws)))
 
 -- ---- a pile alone
 
-pub faulty_pile : (text : List ℕ) (e : TextFault) → front_of true text ≡ Err e → pile_of text ≡ Err e
+pub faulty_pile : (text : List ℕ) (e : TextFault) → plain_words (2 ∷ []) text ≡ Err e → pile_of text ≡ Err e
 unfolding pile_of
-faulty_pile text e is = rw is refl
+faulty_pile text e is = rw (faulty_front true text e is) refl
 
-pub wrong_count : (text : List ℕ) (s : Survey) (g : Grid) → IsSized text s g → s.count - 2 ≢ sites g → pile_of text ≡ Err Length
+pub misshapen_pile : (text : List ℕ) (e : TextFault) → plain_words (2 ∷ []) text ≡ Ok (words text) → pile_at (edge_behind 2 0 (words text)) true (length text) (numbers (words text)) ≡ Err e → pile_of text ≡ Err e
 unfolding pile_of
-wrong_count text s g h other =
-    let len = h.count in
-    let test : eqb (length (behind_sides text)) (sites g) ≡ false = grind (arith, nat_tests) in
-    rw (h.front true, test) refl
+misshapen_pile text e plain is = rw (front_is true text (Err e) plain is) refl
 
-pub one_each : (text : List ℕ) (s : Survey) (g : Grid) → IsSized text s g → s.count - 2 ≡ sites g → length (behind_sides text) ≡ sites g
-one_each text s g h e = let len = h.count in omega arith
-
-over : (text : List ℕ) (s : Survey) (g : Grid) → IsSized text s g → GRAIN_LIMIT < s.grains → ltb GRAIN_LIMIT (sum (take (sites g) (behind_sides text))) ≡ true
-over text s g h more = let grains = h.grains in grind (arith, nat_tests)
-
-pub few_enough : (text : List ℕ) (s : Survey) (g : Grid) → IsSized text s g → s.grains ≤ GRAIN_LIMIT → sum (take (sites g) (behind_sides text)) ≤ GRAIN_LIMIT
-few_enough text s g h within = let grains = h.grains in omega arith
-
-not_over : (text : List ℕ) (s : Survey) (g : Grid) → IsSized text s g → s.grains ≤ GRAIN_LIMIT → ltb GRAIN_LIMIT (sum (take (sites g) (behind_sides text))) ≡ false
-not_over text s g h within = let total = few_enough text s g h within in grind (arith, nat_tests)
-
-pub too_many : (text : List ℕ) (s : Survey) (g : Grid) → IsSized text s g → s.count - 2 ≡ sites g → GRAIN_LIMIT < s.grains → pile_of text ≡ Err TooManyGrains
+pub good_pile : (text : List ℕ) (s : Survey) (g : Grid) → plain_words (2 ∷ []) text ≡ Ok (words text) → IsShaped true (length text) (words text) s g → pile_of text ≡ Ok (record { grid = g; heights = heights_on g text })
 unfolding pile_of
-too_many text s g h same more =
-    let test : eqb (length (behind_sides text)) (sites g) ≡ true = eq-eqb _ _ (one_each text s g h same) in
-    rw (h.front true, test, over text s g h more) refl
-
-pub good_text : (text : List ℕ) (s : Survey) (g : Grid) → IsSized text s g → s.count - 2 ≡ sites g → s.grains ≤ GRAIN_LIMIT → pile_of text ≡ Ok (record { grid = g; heights = take (sites g) (behind_sides text) })
-unfolding pile_of
-good_text text s g h same within =
-    let test : eqb (length (behind_sides text)) (sites g) ≡ true = eq-eqb _ _ (one_each text s g h same) in
-    rw (h.front true, test, not_over text s g h within) refl
+good_pile text s g plain h = rw (front_is true text (Ok (pile_among g (numbers (words text)))) plain h.read) refl
 
 -- ---- a pile and drops
 
-pub faulty_drops : (text : List ℕ) (e : TextFault) → front_of false text ≡ Err e → drops_of text ≡ Err e
+pub faulty_drops : (text : List ℕ) (e : TextFault) → plain_words (2 ∷ []) text ≡ Err e → drops_of text ≡ Err e
 unfolding drops_of
-faulty_drops text e is = rw is refl
+faulty_drops text e is = rw (faulty_front false text e is) refl
 
-pub too_short : (text : List ℕ) (s : Survey) (g : Grid) → IsSized text s g → s.count - 2 < sites g → drops_of text ≡ Err Length
+pub misshapen_drops : (text : List ℕ) (e : TextFault) → plain_words (2 ∷ []) text ≡ Ok (words text) → pile_at (edge_behind 2 0 (words text)) false (length text) (numbers (words text)) ≡ Err e → drops_of text ≡ Err e
 unfolding drops_of
-too_short text s g h less =
-    let len = h.count in
-    let test : leb (sites g) (length (behind_sides text)) ≡ false = grind (arith, nat_tests) in
-    rw (h.front false, test) refl
+misshapen_drops text e plain is = rw (front_is false text (Err e) plain is) refl
 
-enough : (text : List ℕ) (s : Survey) (g : Grid) → IsSized text s g → sites g ≤ s.count - 2 → leb (sites g) (length (behind_sides text)) ≡ true
-enough text s g h le = let len = h.count in grind (arith, nat_tests)
-
-pub too_many_before : (text : List ℕ) (s : Survey) (g : Grid) → IsSized text s g → sites g ≤ s.count - 2 → GRAIN_LIMIT < s.grains → drops_of text ≡ Err TooManyGrains
+with_drops : (text : List ℕ) (s : Survey) (g : Grid) → plain_words (2 ∷ []) text ≡ Ok (words text) → IsShaped false (length text) (words text) s g → drops_of text ≡ (sites_among g (behind_heights g text) >>= λ drops. Ok (record { grid = g; heights = heights_on g text }, drops))
 unfolding drops_of
-too_many_before text s g h le more = rw (h.front false, enough text s g h le, over text s g h more) refl
+with_drops text s g plain h = rw (front_is false text (Ok (pile_among g (numbers (words text)))) plain h.read) refl
 
-pub no_such_site : (text : List ℕ) (s : Survey) (g : Grid) (index : ℕ) → IsSized text s g → sites g ≤ s.count - 2 → s.grains ≤ GRAIN_LIMIT → s.no_site ≡ Some index → drops_of text ≡ Err (NoSite index)
-unfolding drops_of
-no_such_site text s g index h le within is = rw (h.front false, enough text s g h le, not_over text s g h within, sym h.no_site ∙ is) refl
+-- the first drop on no site
+no_site_is : (ws : List Word) (s : Survey) (g : Grid) → IsUnderway ws [] s → sites_of s ≡ sites g → s.no_site ≡ position (nat_le (sites g)) (drop (sites g) (drop 2 (numbers ws)))
+no_site_is ws s g h room =
+    let all : noted s.count ws ≡ drop 2 (numbers ws) = take_all (s.count - 2) (drop 2 (numbers ws)) (omega (arith, count_at_end ws s h, length-drop 2 (numbers ws))) in
+    rw (room, all) at h.no_site
 
-pub good_drops : (text : List ℕ) (s : Survey) (g : Grid) → IsSized text s g → sites g ≤ s.count - 2 → s.grains ≤ GRAIN_LIMIT → s.no_site ≡ None → drops_of text ≡ Ok (record { grid = g; heights = take (sites g) (behind_sides text) }, drop (sites g) (behind_sides text))
-unfolding drops_of
-good_drops text s g h le within is = rw (h.front false, enough text s g h le, not_over text s g h within, sym h.no_site ∙ is) refl
+pub no_such_site : (text : List ℕ) (s : Survey) (g : Grid) (index : ℕ) → plain_words (2 ∷ []) text ≡ Ok (words text) → IsUnderway (words text) [] s → IsShaped false (length text) (words text) s g → s.no_site ≡ Some index → drops_of text ≡ Err (NoSite index)
+no_such_site text s g index plain h shaped is =
+    let first = sym (no_site_is (words text) s g h shaped.room) ∙ is in
+    with_drops text s g plain shaped ∙ rw first refl
+
+pub good_drops : (text : List ℕ) (s : Survey) (g : Grid) → plain_words (2 ∷ []) text ≡ Ok (words text) → IsUnderway (words text) [] s → IsShaped false (length text) (words text) s g → s.no_site ≡ None → drops_of text ≡ Ok (record { grid = g; heights = heights_on g text }, behind_heights g text)
+good_drops text s g plain h shaped is =
+    let first = sym (no_site_is (words text) s g h shaped.room) ∙ is in
+    with_drops text s g plain shaped ∙ rw first refl
+
+-- how many drops there are
+pub drop_count : (end : ℕ) (ws : List Word) (s : Survey) (g : Grid) → IsUnderway ws [] s → IsShaped false end ws s g → length (drop (sites g) (drop 2 (numbers ws))) ≡ s.count - 2 - sites g
+drop_count end ws s g h shaped = omega (arith, count_at_end ws s h, length-drop 2 (numbers ws), length-drop (sites g) (drop 2 (numbers ws)))

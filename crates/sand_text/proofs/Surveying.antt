@@ -1,31 +1,26 @@
 -- One more word of a survey.
-use Rattle.std.proofs.Common.{◌≡◌, ◌≢◌, ℕ, suc, ◌+◌, ◌-◌, ◌<◌, ◌≤◌, ◌++◌, nat_le, List, [], ◌∷◌, true, false, length, take, drop, get_or, eqb, ltb, refl, sym, ◌∙◌, ap, arith, inl, inr, drop-cons, length-drop, Option, Some, None, Bool, nat_lt, sum, subst}
+use Rattle.std.proofs.Common.{◌≡◌, ◌≢◌, ℕ, suc, ◌+◌, ◌-◌, ◌<◌, ◌≤◌, ◌++◌, nat_le, List, [], ◌∷◌, true, false, length, take, drop, get_or, eqb, ltb, refl, sym, ◌∙◌, ap, arith, inl, inr, Option, Some, None, Bool, not, nat_lt, sum, subst}
 use Rattle.std.specs.Bool.{if◌then◌else◌, ◌==◌}
 use Rattle.std.proofs.lemmas.Bool.{cases_lt, cases_eq}
 use Rattle.std.proofs.lemmas.Bool.Decides.{nat_tests}
 use Rattle.std.proofs.lemmas.List.{take_all, drop_all}
-use Rattle.std.specs.List.{position}
+use Rattle.std.specs.List.{All, filter, position}
+use Rattle.std.proofs.lemmas.List.Folds.{list_any_none}
+use Rattle.std.specs.Option.{option_or}
 use Rattle.sand_model.specs.declared.pile.TheConstants.{GRAIN_LIMIT}
 use Rattle.sand_model.specs.declared.shape.Edge.{Edge}
 use Rattle.sand_model.specs.declared.shape.Edge.TheVariants.{Open, Cylinder}
-use Rattle.sand_text.specs.declared.numbers.Survey.{Survey}
+use Rattle.sand_text.specs.declared.fault.TextFault.TheVariants.{Text}
+use Rattle.sand_text.specs.declared.survey.Survey.{Survey}
 use Rattle.sand_text.specs.declared.words.Word.{Word}
 use Rattle.sand_text.specs.declared.words.Word.TheVariants.{Number, Letter, Strange}
 use Rattle.sand_text.specs.Bytes.{capped}
 use Rattle.sand_text.specs.Words.{first_strange, first_large, edge_behind, numbers}
-use Rattle.sand_text.specs.Surveys.{IsUnderway, place_or, still_spared, sites_of, grains_with, if_no_site, noted}
+use Rattle.sand_text.specs.Surveys.{IsUnderway, IsStrangeAt, still_spared, sites_of, grains_with, if_no_site, noted}
+use Rattle.sand_text.proofs.Taking.{next_of}
 use Rattle.sand_text.proofs.Noting.{sum_push, no_site_push, noted-next, length-noted, noted-none}
 
--- the number at a place, and what is left behind it
-next_of : (ns rest : List ℕ) (k v : ℕ) → drop k ns ≡ v ∷ rest → (k < length ns) × (get_or ns k 0 ≡ v) × (drop (k + 1) ns ≡ rest)
-next_of ns rest k v e =
-    let lt : k < length ns = omega (arith, length-drop k ns, ap length e) in
-    let first = drop-cons ns k 0 lt in
-    let one : k + 1 ≡ suc k = omega arith in
-    let places : drop (k + 1) ns ≡ drop (suc k) ns = ap (λ n. drop n ns) one in
-    (lt, cc, cc)
-
-large_next : (a : Option ℕ) (b : Bool) (start : ℕ) (later : Option ℕ) → place_or (place_or a (if b then Some start else None)) later ≡ place_or a (if b then Some start else later)
+large_next : (a : Option ℕ) (b : Bool) (start : ℕ) (later : Option ℕ) → option_or (option_or a (if b then Some start else None)) later ≡ option_or a (if b then Some start else later)
 large_next None true start later = refl
 large_next None false start later = refl
 large_next (Some at) true start later = refl
@@ -53,7 +48,7 @@ side_next ws s t low count so_far grains no_site =
     (grains ∙ (rw (before, take-nil (sites_of s)) at so_far.0 ∙ rw (after, take-nil (sites_of t)) refl), no_site ∙ (rw (before, drop-nil (sites_of s)) at so_far.1 ∙ rw (after, drop-nil (sites_of t)) refl))
 
 -- one number more behind the sides
-behind_next : (ws : List Word) (s t : Survey) (value : ℕ) → 2 ≤ s.count → s.count < length (numbers ws) → get_or (numbers ws) s.count 0 ≡ value → t.count ≡ s.count + 1 → sites_of t ≡ sites_of s → IsBehind ws s → t.grains ≡ grains_with s (s.count - 2) value → t.no_site ≡ place_or s.no_site (if_no_site s (s.count - 2) value) → IsBehind ws t
+behind_next : (ws : List Word) (s t : Survey) (value : ℕ) → 2 ≤ s.count → s.count < length (numbers ws) → get_or (numbers ws) s.count 0 ≡ value → t.count ≡ s.count + 1 → sites_of t ≡ sites_of s → IsBehind ws s → t.grains ≡ grains_with s (s.count - 2) value → t.no_site ≡ option_or s.no_site (if_no_site s (s.count - 2) value) → IsBehind ws t
 behind_next ws s t value high lt here count same so_far grains no_site =
     let next : noted t.count ws ≡ noted s.count ws ++ value ∷ [] = ap (λ n. noted n ws) count ∙ noted-next ws s.count value high lt here in
     let len = length-noted ws s.count (omega arith) in
@@ -67,7 +62,7 @@ noted_step : (ws rest : List Word) (s t : Survey) (start value : ℕ) → IsUnde
     → t.width ≡ (if s.count == 0 then value else s.width)
     → t.height ≡ (if s.count == 1 then value else s.height)
     → t.grains ≡ (if nat_lt s.count 2 then s.grains else grains_with s (s.count - 2) value)
-    → t.no_site ≡ (if nat_lt s.count 2 then s.no_site else place_or s.no_site (if_no_site s (s.count - 2) value))
+    → t.no_site ≡ (if nat_lt s.count 2 then s.no_site else option_or s.no_site (if_no_site s (s.count - 2) value))
     → IsBehind ws t
 noted_step ws rest s t start value h count width height grains no_site = elim (cases_lt s.count 2) [
   | inl low ↦
@@ -81,6 +76,10 @@ noted_step ws rest s t start value h count width height grains no_site = elim (c
       behind_next ws s t value high next.0 next.1 count (same_sites s t (rw not_first at width) (rw not_second at height)) (h.grains, h.no_site) (rw test at grains) (rw test at no_site)
 ]
 
+-- counts of numbers that are still to come
+sooner : (n m : ℕ) (more : List ℕ) → n ≤ m → All (λ k. m < k) more → All (λ k. n < k) more
+sooner n m more le later = λ k d lt. omega (arith, later k d lt)
+
 -- a number
 pub note_step : (ws rest : List Word) (s t : Survey) (start value : ℕ) → IsUnderway ws (Number start value ∷ rest) s
     → t.count ≡ s.count + 1
@@ -88,16 +87,18 @@ pub note_step : (ws rest : List Word) (s t : Survey) (start value : ℕ) → IsU
     → t.height ≡ (if s.count == 1 then value else s.height)
     → t.edge ≡ s.edge
     → t.grains ≡ (if nat_lt s.count 2 then s.grains else grains_with s (s.count - 2) value)
-    → t.no_site ≡ (if nat_lt s.count 2 then s.no_site else place_or s.no_site (if_no_site s (s.count - 2) value))
-    → t.large ≡ place_or s.large (if nat_lt GRAIN_LIMIT value then Some start else None)
+    → t.no_site ≡ (if nat_lt s.count 2 then s.no_site else option_or s.no_site (if_no_site s (s.count - 2) value))
+    → t.large ≡ option_or s.large (if nat_lt GRAIN_LIMIT value then Some start else None)
     → IsUnderway ws rest t
 unfolding first_strange first_large edge_behind
 note_step ws rest s t start value h count width height edge grains no_site large =
     let next = next_of (numbers ws) (numbers rest) s.count value h.left in
     let behind = noted_step ws rest s t start value h count width height grains no_site in
     record {
-      plain = rw (edge, count) h.plain;
+      plain = λ more later. rw (edge, count) (h.plain more (sooner s.count t.count more (omega arith) later));
+      bare = λ is_open. rw count (h.bare (sym edge ∙ is_open));
       edge = rw (edge, count) h.edge;
+      later_edge = λ k lt. rw count (h.later_edge k (omega arith));
       large = rw large (large_next s.large (nat_lt GRAIN_LIMIT value) start (first_large rest) ∙ h.large);
       within = omega (arith, next.0);
       left = rw count next.2;
@@ -113,16 +114,30 @@ note_step ws rest s t start value h count width height edge grains no_site large
       no_site = behind.1;
     }
 
--- how many numbers there were before one more
-pub room_for_number : (ws rest : List Word) (s : Survey) (start value : ℕ) → IsUnderway ws (Number start value ∷ rest) s → s.count < length (numbers ws)
-room_for_number ws rest s start value h = (next_of (numbers ws) (numbers rest) s.count value h.left).0
+-- the letter behind n numbers is not one of those that are spared behind more numbers
+others : (n : ℕ) (more : List ℕ) → All (λ k. n < k) more → All (λ k. (k == n) ≡ false) more
+others n more later = λ k d lt. let behind = later k d lt in grind (arith, nat_tests)
+
+kept : (n : ℕ) (more : List ℕ) → All (λ k. n < k) more → filter (λ k. not (k == n)) more ≡ more
+kept n [] later = refl
+kept n (k ∷ more) later =
+    let behind : n < k = later 0 0 (omega arith) in
+    let test : eqb k n ≡ false = grind (arith, nat_tests) in
+    let rest = kept n more (λ i d lt. later (suc i) d (omega arith)) in
+    rw (test, rest) refl
 
 -- a letter that is spared
 pub spare_step : (ws rest : List Word) (s t : Survey) (at : ℕ) → IsUnderway ws (Letter at ∷ rest) s → s.count ≡ 2 → s.edge ≡ Open → t ≡ record s { edge = Cylinder } → IsUnderway ws rest t
 unfolding first_strange first_large edge_behind
 spare_step ws rest s t at h two is_open is = rw is (record {
-  plain = rw two (rw (is_open, two) at h.plain);
+  plain = λ more later.
+      let spared = rw (is_open, two) at (h.plain more later) in
+      rw two (rw (kept s.count more later) at spared);
+  bare = λ closed. absurd (cc);
   edge = rw (is_open, two) at h.edge;
+  later_edge = λ k lt.
+      let test : eqb k 2 ≡ false = grind (arith, nat_tests) in
+      rw two (rw (two, test) at (h.later_edge k lt));
   large = h.large;
   within = h.within;
   left = h.left;
@@ -132,27 +147,38 @@ spare_step ws rest s t at h two is_open is = rw is (record {
   no_site = h.no_site;
 })
 
-letter_first : (e : Edge) (n at : ℕ) (rest : List Word) → ((n ≡ 2) × (e ≡ Open) → ⊥) → first_strange (still_spared e) n (Letter at ∷ rest) ≡ Some at
+letter_first : (e : Edge) (n at : ℕ) (rest : List Word) (more : List ℕ) → ((n ≡ 2) × (e ≡ Open) → ⊥) → All (λ k. n < k) more → first_strange (still_spared e more) n (Letter at ∷ rest) ≡ Some at
 unfolding first_strange
-letter_first Open n at rest not_spared =
+letter_first Open n at rest more not_spared later =
     let other : n ≢ 2 = λ two. not_spared (two, refl) in
     let test : eqb 2 n ≡ false = grind (arith, nat_tests) in
-    rw test refl
-letter_first Cylinder n at rest not_spared = refl
+    rw (test, list_any_none (λ k. k == n) more (others n more later)) refl
+letter_first Cylinder n at rest more not_spared later = rw (list_any_none (λ k. k == n) more (others n more later)) refl
 
 -- a letter that is not spared
-pub strange_letter : (ws rest : List Word) (s : Survey) (at : ℕ) → IsUnderway ws (Letter at ∷ rest) s → ((s.count ≡ 2) × (s.edge ≡ Open) → ⊥) → first_strange (2 ∷ []) 0 ws ≡ Some at
+pub strange_letter : (ws rest : List Word) (s : Survey) (at : ℕ) → IsUnderway ws (Letter at ∷ rest) s → ((s.count ≡ 2) × (s.edge ≡ Open) → ⊥) → IsStrangeAt ws s (Text at)
 unfolding first_strange
-strange_letter ws rest s at h not_spared = sym h.plain ∙ letter_first s.edge s.count at rest not_spared
+strange_letter ws rest s at h not_spared = record {
+  at = at;
+  is = refl;
+  strange = λ more later. sym (h.plain more later) ∙ letter_first s.edge s.count at rest more not_spared later;
+  bare = λ is_open. sym (h.bare is_open);
+}
 
 -- a strange word
-pub strange_word : (ws rest : List Word) (s : Survey) (at : ℕ) → IsUnderway ws (Strange at ∷ rest) s → first_strange (2 ∷ []) 0 ws ≡ Some at
+pub strange_word : (ws rest : List Word) (s : Survey) (at : ℕ) → IsUnderway ws (Strange at ∷ rest) s → IsStrangeAt ws s (Text at)
 unfolding first_strange
-strange_word ws rest s at h = sym h.plain
+strange_word ws rest s at h = record {
+  at = at;
+  is = refl;
+  strange = λ more later. sym (h.plain more later);
+  bare = λ is_open. sym (h.bare is_open);
+}
 
 -- the word that the walk comes to
-pub at_word : (ws left rest : List Word) (s : Survey) (w v : Word) → left ≡ w ∷ rest → w ≡ v → IsUnderway ws left s → IsUnderway ws (v ∷ rest) s
-at_word ws left rest s w v e f h = let P : List Word → Type 0 = λ l. IsUnderway ws l s in subst P (e ∙ ap (λ x. x ∷ rest) f) h
+pub at_word : (ws rest : List Word) (s : Survey) (w v : Word) → w ≡ v → IsUnderway ws (w ∷ rest) s → IsUnderway ws (v ∷ rest) s
+at_word ws rest s w v e h = let P : Word → Type 0 = λ x. IsUnderway ws (x ∷ rest) s in subst P e h
 
-pub at_end : (ws left : List Word) (s : Survey) → left ≡ [] → IsUnderway ws left s → IsUnderway ws [] s
-at_end ws left s e h = let P : List Word → Type 0 = λ l. IsUnderway ws l s in subst P e h
+-- the words that are left
+pub at_words : (ws left rest : List Word) (s : Survey) → left ≡ rest → IsUnderway ws left s → IsUnderway ws rest s
+at_words ws left rest s e h = let P : List Word → Type 0 = λ l. IsUnderway ws l s in subst P e h

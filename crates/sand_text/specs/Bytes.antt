@@ -1,6 +1,7 @@
 -- The bytes of a text, and the value of digits.
-use Rattle.std.specs.Prelude.{ℕ, ◌+◌, List, Bool, not, ◌&&◌, ◌||◌, ◌==◌, nat_le, min, length, slice_index}
-use Rattle.std.specs.List.{position_or_len}
+use Rattle.std.specs.Prelude.{ℕ, ◌+◌, List, Bool, not, ◌&&◌, ◌||◌, ◌==◌, nat_le, nat_lt, min, length, slice_index}
+use Rattle.std.specs.List.{list_any, position_or_len, slice_split}
+use Rattle.std.specs.Str.Parse.{digits_value}
 use Rattle.sand_model.specs.declared.pile.TheConstants.{GRAIN_LIMIT}
 
 abbrev pub is_digit : ℕ → Bool
@@ -28,3 +29,7 @@ is_letter word = length word == 1 && slice_index word 0 == 99
 -- a value, or one over the grain limit where it is larger
 abbrev pub capped : ℕ → ℕ
 capped value = min value (GRAIN_LIMIT + 1)
+
+-- whether a run of digits, wherever it stands in a text, is a number over the limit
+abbrev pub has_large : List ℕ → Bool
+has_large text = list_any (λ run. nat_lt GRAIN_LIMIT (digits_value 10 run)) (slice_split is_other text)

@@ -1,7 +1,9 @@
+pub mod Burning
 pub mod Bytes
 pub mod Flow
 pub mod Laws
 pub mod Left
+pub mod Pictures
 pub mod Reading
 pub mod Surveys
 pub mod Tables

@@ -1,16 +1,17 @@
 -- What a text of a pile, or of a pile and drops, means: what it holds, or the first fault.
-use Rattle.std.specs.Prelude.{◌≡◌, ℕ, List, [], ◌∷◌, Bool, true, false, ◌==◌, nat_lt, nat_le, length, take, drop, sum, position, Option, Some, None, Result, Ok, Err, IsOk, if◌then◌else◌}
+use Rattle.std.specs.Prelude.{◌≡◌, ℕ, ◌+◌, ◌*◌, List, [], ◌∷◌, Bool, true, false, ◌==◌, ◌&&◌, nat_lt, nat_le, length, take, drop, sum, position, Option, Some, None, Result, Ok, Err, IsOk, if◌then◌else◌}
 use Rattle.sand_model.specs.declared.pile.TheConstants.{GRAIN_LIMIT}
 use Rattle.sand_model.specs.declared.shape.Edge.{Edge}
 use Rattle.sand_model.specs.declared.faults.ShapeFault.{ShapeFault}
 use Rattle.sand_model.specs.declared.faults.ShapeFault.TheVariants as shape_faults
-use Rattle.sand_model.specs.Grid.{Grid, grid_of, sites}
+use Rattle.sand_model.specs.Grid.{Grid, grid_of, is_side, sites}
 use Rattle.sand_model.specs.Piles.{PileView}
 use Rattle.sand_text.specs.declared.fault.TextFault.{TextFault}
 use Rattle.sand_text.specs.declared.fault.TextFault.TheVariants.{Text, TooLarge, Side, Narrow, Length, TooManyGrains, NoSite}
 use Rattle.sand_text.specs.declared.fault.ReadFault.{ReadFault}
 use Rattle.sand_text.specs.declared.fault.ReadFault.TheVariants as faults
 use Rattle.sand_text.specs.declared.words.Word.{Word}
+use Rattle.sand_text.specs.Bytes.{has_large}
 use Rattle.sand_text.specs.Words.{words, first_strange, first_large, edge_behind, numbers}
 
 infixl 10 ◌>>=◌
@@ -71,6 +72,26 @@ drops_of text = do
   drops ← sites_among front.0.grid front.1
   Ok (front.0, drops)
 
+-- behind how many numbers the second pile of a text may have its letter: behind the first pile and two sides more; where
+-- the first sides are out of range, or a number of the text is over the limit, it may have none
+abbrev pub second_letter : Bool → List ℕ → List ℕ
+second_letter true ns = []
+second_letter false [] = []
+second_letter false (w ∷ []) = []
+second_letter false (w ∷ h ∷ ns) = if is_side w && is_side h then (w * h + 4) ∷ [] else []
+
+-- behind how many numbers the letters of two piles are spared
+abbrev pub two_letters : List ℕ → List ℕ
+two_letters text = 2 ∷ second_letter (has_large text) (numbers (words text))
+
+-- the two piles that a text holds, one after the other
+unfoldable pub two_of : List ℕ → Result (PileView × PileView) TextFault
+two_of text = do
+  ws ← plain_words (two_letters text) text
+  first ← pile_at (edge_behind 2 0 ws) false (length text) (numbers ws)
+  second ← pile_at (edge_behind (sites first.0.grid + 4) 0 ws) true (length text) first.1
+  Ok (first.0, second.0)
+
 -- A reader answers what the text means. Memory runs out only where the text has no fault.
 abbrev pub Fails : {A : Type 0} → ReadFault → Result A TextFault → Type 0
 Fails faults.Memory read = IsOk read
@@ -84,6 +105,18 @@ ReadsAs view (Err fault) read = Fails fault read
 abbrev pub Reads : Result PileView ReadFault → Result PileView TextFault → Type 0
 Reads result read = ReadsAs (λ pile. pile) result read
 
--- the numbers behind the first two
-abbrev pub behind_sides : List ℕ → List ℕ
-behind_sides text = drop 2 (numbers (words text))
+-- the heights of the pile on this grid at the front of a text
+abbrev pub heights_on : Grid → List ℕ → List ℕ
+heights_on g text = take (sites g) (drop 2 (numbers (words text)))
+
+-- the numbers behind the pile on this grid at the front of a text
+abbrev pub behind_heights : Grid → List ℕ → List ℕ
+behind_heights g text = drop (sites g) (drop 2 (numbers (words text)))
+
+-- the heights of the pile on the second grid, behind the pile on the first
+abbrev pub heights_behind : Grid → Grid → List ℕ → List ℕ
+heights_behind g h text = take (sites h) (drop 2 (behind_heights g text))
+
+-- behind how many of its own numbers the second pile of a text has its letter spared
+abbrev pub second_spared : List ℕ → List ℕ
+second_spared text = if has_large text then [] else 2 ∷ []

@@ -3,11 +3,11 @@
 //! A word's length, its digits and their value are found in one walk over its bytes. The value grows digit by digit and
 //! stops at one over the grain limit, so it never leaves its type.
 
-ghost use Rattle.std.specs.Prelude.{◌≡◌, ℕ, ◌+◌, ◌*◌, ◌<◌, ◌≤◌, length, take, not, position, true};
+ghost use Rattle.std.specs.Prelude.{◌≡◌, ℕ, ◌+◌, ◌*◌, ◌<◌, ◌≤◌, length, take, not, position, true, if◌then◌else◌};
 ghost use Rattle.std.specs.List.{position_or_len};
 ghost use Rattle.std.specs.Char.{digit_value};
 ghost use Rattle.std.specs.Str.Parse.{digits_value};
-ghost use Rattle.sand_text.specs.Bytes.{is_digit, is_space, digits_len, word_len, capped};
+ghost use Rattle.sand_text.specs.Bytes.{is_digit, is_space, digits_len, word_len, capped, has_large};
 
 use sand_model::GRAIN_LIMIT;
 
@@ -81,4 +81,30 @@ pub(crate) fn span_of(text: &[u8]) -> Span
         digits,
         value,
     }
+}
+
+// The value of the run of digits that ends with a byte, where the bytes before it end one of this value.
+fn run_value(value: u64, byte: u8) -> u64
+    requires { value ≤ GRAIN_LIMIT }
+    ensures { result ≡ (if is_digit byte then capped (value * 10 + digit_value byte) else 0) }
+{
+    if is_digit(byte) {
+        grown(value, byte)
+    } else {
+        0
+    }
+}
+
+/// Whether a run of digits, wherever it stands in a text, is a number over the grain limit.
+pub(crate) fn has_large(text: &[u8]) -> bool
+    ensures { result ≡ has_large text.now }
+{
+    let mut value = 0;
+    for byte in text {
+        value = run_value(value, *byte);
+        if value > GRAIN_LIMIT {
+            return true;
+        }
+    }
+    false
 }

@@ -1,23 +1,30 @@
 //! Piles, drops and tables as text, and the loops that read and write texts.
 #![tactic(auto)]
 
+mod burning;
 mod bytes;
 mod drops;
 mod fault;
 mod flow;
 mod laws;
 mod numbers;
+mod pictures;
 mod piles;
 mod rows;
+mod survey;
 mod tables;
+mod two_piles;
 mod words;
 
+pub use burning::burn_text;
 pub use drops::read_drops;
 pub use fault::{ReadFault, StreamFault, TextFault};
 pub use flow::{INPUT_LIMIT, read_all, write_text};
 pub use laws::{numbers_are_runs, read_again, strange_byte};
+pub use pictures::{no_long_line, pgm_text};
 pub use piles::{pile_text, read_pile, settle_text};
 pub use tables::table_text;
+pub use two_piles::read_two;
 
 #[cfg(test)]
 mod tests;

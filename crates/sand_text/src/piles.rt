@@ -1,23 +1,40 @@
 //! A pile from its text, the text of a pile, and that of a settled pile.
 
-ghost use Rattle.std.specs.Prelude.{◌≡◌, ◌++◌, OnOk, IfOk};
-ghost use Rattle.sand_text.specs.Reading.{Reads, pile_of};
+ghost use Rattle.std.specs.Prelude.{◌≡◌, ◌+◌, ◌≤◌, ◌++◌, length, sum, OnOk, IfOk, IfErr};
+ghost use Rattle.sand_model.specs.declared.pile.TheConstants.{GRAIN_LIMIT};
+ghost use Rattle.sand_model.specs.Grid.{sites};
+ghost use Rattle.sand_text.specs.Words.{words, numbers};
+ghost use Rattle.sand_text.specs.Reading.{Reads, pile_of, heights_on};
 ghost use Rattle.sand_text.specs.Texts.{shape_text, text_of, settle_text_of};
 
-use crate::fault::ReadFault;
-use crate::numbers::{heights_and_drops, shape_of};
+use crate::fault::{ReadFault, TextFault};
+use crate::numbers::Numbers;
 use crate::rows::{push_number, push_sites};
+use crate::survey::plain_survey;
 use sand_model::{Edge, Pile, Shape};
 use sand_settle::Settled;
 use std::alloc::{AllocError, Global};
+
+// The shape and the grains of the pile that a text holds, where the text has no fault.
+fn shape_of(text: &[u8]) -> Result<(Shape, u64), TextFault>
+    ensures pile { IfOk result (λ (g, _). pile_of text.now ≡ Ok (record { grid = g; heights = heights_on g text.now })) }
+    ensures enough { IfOk result (λ (g, _). 2 + sites g ≤ length (numbers (words text.now))) }
+    ensures one_each { IfOk result (λ (g, _). length (heights_on g text.now) ≡ sites g) }
+    ensures grains { IfOk result (λ (g, grains). (grains ≡ sum (heights_on g text.now)) × (grains ≤ GRAIN_LIMIT)) }
+    ensures err { IfErr result (λ e. pile_of text.now ≡ Err e) }
+{
+    let survey = plain_survey(text)?;
+    let shape = survey.shape(true, text.len())?;
+    Ok((shape, survey.grains))
+}
 
 /// The pile that a text holds, or its first fault. Every fault but want of memory is found before anything grows.
 pub fn read_pile(alloc: Global, text: &[u8]) -> Result<Pile, ReadFault>
     ensures { Reads result (pile_of text.now) }
 {
-    let shape = shape_of(text)?;
-    let (heights, _) = heights_and_drops(alloc, text, shape.sites(), 0)?;
-    Ok(Pile::from_vec(shape, heights))
+    let (shape, grains) = shape_of(text)?;
+    let heights = Numbers::new(text).next_heights(alloc, shape.sites())?;
+    Ok(Pile::from_counted(shape, heights, grains))
 }
 
 // Writes the first line of a pile's text.

@@ -24,7 +24,7 @@ pub(crate) enum Word {
 pub(crate) struct Words<'a> {
     at: usize,
     rest: &'a [u8],
-    ghost room: { at + length rest.now < 2 ^ 64 },
+    ghost room: { at + length rest.now < 2 ^ 63 },
 }
 
 // What a word at a place is, by its span.

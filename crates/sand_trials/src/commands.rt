@@ -1,10 +1,7 @@
 //! What each command writes, byte by byte, and what it refuses.
 
-use crate::runs::written;
+use crate::runs::{Row, holds, written};
 use std::test::Fail;
-
-// A command line, its input, and what it writes or the line of its fault.
-type Row = (&'static str, &'static str, &'static str);
 
 const SETTLED: [Row; 10] = [
     (
@@ -107,19 +104,12 @@ const REFUSED: [Row; 23] = [
 
 #[test]
 fn settled_piles_byte_by_byte(rt: HostRuntime) -> Result<(), Fail> {
-    for (line, input, want) in SETTLED {
-        let text = written(&rt, rt.alloc(), line, input.as_bytes())?;
-        assert_eq!(rt; text.as_slice(), want.as_bytes(), "{line} of {input}");
-    }
-    Ok(())
+    holds(&rt, rt.alloc(), &SETTLED)
 }
 
 #[test]
 fn refusals_in_their_order(rt: HostRuntime) -> Result<(), Fail> {
-    for (line, input, want) in REFUSED {
-        let text = written(&rt, rt.alloc(), line, input.as_bytes())?;
-        assert_eq!(rt; text.as_slice(), want.as_bytes(), "{line} of {input}");
-    }
+    holds(&rt, rt.alloc(), &REFUSED)?;
     let text = written(&rt, rt.alloc(), "sandpile settle", &[255])?;
     assert_eq!(rt; text.as_slice(), b"fault 18 Text at 0\n".as_slice());
     Ok(())
@@ -180,13 +170,6 @@ const NOT_DROPPED: [Row; 5] = [
 
 #[test]
 fn drops_byte_by_byte(rt: HostRuntime) -> Result<(), Fail> {
-    for (line, input, want) in DROPPED {
-        let text = written(&rt, rt.alloc(), line, input.as_bytes())?;
-        assert_eq!(rt; text.as_slice(), want.as_bytes(), "{line} of {input}");
-    }
-    for (line, input, want) in NOT_DROPPED {
-        let text = written(&rt, rt.alloc(), line, input.as_bytes())?;
-        assert_eq!(rt; text.as_slice(), want.as_bytes(), "{line} of {input}");
-    }
-    Ok(())
+    holds(&rt, rt.alloc(), &DROPPED)?;
+    holds(&rt, rt.alloc(), &NOT_DROPPED)
 }

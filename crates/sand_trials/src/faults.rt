@@ -12,6 +12,10 @@ fn the_line_of_each_fault(rt: HostRuntime) -> Result<(), Fail> {
         (DeskFault::Length, 2, "fault 2 Length\n"),
         (DeskFault::TooManyGrains, 3, "fault 3 TooManyGrains\n"),
         (DeskFault::Memory, 4, "fault 4 Memory\n"),
+        (DeskFault::Full, 6, "fault 6 Full\n"),
+        (DeskFault::Unstable, 7, "fault 7 Unstable\n"),
+        (DeskFault::NotRecurrent, 8, "fault 8 NotRecurrent\n"),
+        (DeskFault::Shapes, 9, "fault 9 Shapes\n"),
         (DeskFault::Text(6), 18, "fault 18 Text at 6\n"),
         (DeskFault::TooLarge(0), 19, "fault 19 TooLarge at 0\n"),
         (DeskFault::Read, 20, "fault 20 Read\n"),
@@ -22,7 +26,6 @@ fn the_line_of_each_fault(rt: HostRuntime) -> Result<(), Fail> {
         ),
         (DeskFault::TooLong, 22, "fault 22 TooLong\n"),
         (DeskFault::Narrow, 24, "fault 24 Narrow\n"),
-        (DeskFault::Full, 6, "fault 6 Full\n"),
         (DeskFault::NoSite(1), 25, "fault 25 NoSite at 1\n"),
     ] {
         let mut line = Vec::new(alloc);
@@ -52,9 +55,20 @@ fn misuse_and_help(rt: HostRuntime) -> Result<(), Fail> {
     for (line, want) in [
         ("sandpile", 2),
         ("sandpile topple", 2),
+        ("sandpile help", 2),
         ("sandpile settle --pgn", 2),
+        ("sandpile burn --pgm", 2),
+        ("sandpile drops --pgm", 2),
+        ("sandpile identity --width 3", 2),
+        ("sandpile identity --width 257 --height 1", 2),
+        ("sandpile identity --width 1 --height 0", 2),
         ("sandpile --help", 0),
         ("sandpile settle --help", 0),
+        ("sandpile burn --help", 0),
+        ("sandpile identity --help", 0),
+        ("sandpile drops --help", 0),
+        ("sandpile add --help", 0),
+        ("sandpile inverse --help", 0),
     ] {
         let words = words_of(alloc, line)?;
         assert!(rt; !words.is_empty());

@@ -1,4 +1,6 @@
 //! Tests that cross crates: whole commands over memory, and over readers and writers that stop.
+//!
+//! `stopping` has these readers and writers. They are no tests themselves: each tells its bytes, and is proved to.
 #![tactic(auto)]
 
 #[cfg(test)]
@@ -6,8 +8,15 @@ mod commands;
 #[cfg(test)]
 mod faults;
 #[cfg(test)]
+mod group;
+#[cfg(test)]
 mod model;
 #[cfg(test)]
+mod pictures;
+#[cfg(test)]
 mod runs;
+pub mod stopping;
 #[cfg(test)]
 mod streams;
+#[cfg(test)]
+mod texts;

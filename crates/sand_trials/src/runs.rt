@@ -3,6 +3,7 @@
 use sand_desk::{DeskFault, run_command, write_fault};
 use std::alloc::{AllocError, Global};
 use std::io::{Read, Write};
+use std::process::Abort;
 use std::test::Fail;
 use std::thread::Threads;
 
@@ -53,6 +54,22 @@ pub(crate) fn run<T: Threads + Sync, R: Read, W: Write>(
         alloc,
         run_command(rt, alloc, words.as_slice(), reader, writer),
     )
+}
+
+// A command line, its input, and what it writes or the line of its fault.
+pub(crate) type Row = (&'static str, &'static str, &'static str);
+
+// Whether each row is what its command line writes.
+pub(crate) fn holds<T: Threads + Sync + Abort>(
+    rt: &T,
+    alloc: Global,
+    rows: &[Row],
+) -> Result<(), Fail> {
+    for (line, input, want) in rows {
+        let text = written(rt, alloc, line, input.as_bytes())?;
+        assert_eq!(rt; text.as_slice(), want.as_bytes(), "{line} of {input}");
+    }
+    Ok(())
 }
 
 // What a command line writes for an input, followed by the line of its fault.

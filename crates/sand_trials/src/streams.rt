@@ -1,81 +1,12 @@
-//! Readers and writers that stop.
+//! Commands over readers and writers that stop.
 
 use crate::runs::run;
-use std::io;
-use std::io::{ErrorKind, Read, Write};
+use crate::stopping::{Cut, Endless, Failing, Sluggish};
 use std::test::Fail;
 
 const PILE: &[u8] = b"3 1\n0 4 0\n";
 
 const SETTLED: &[u8] = b"3 1\n1 0 1\nodometer\n0 1 0\nlost 2\ntopplings 1\n";
-
-/// Takes one byte a call, and stops after so many.
-#[derive(Drop)]
-struct Sluggish {
-    taken: Vec<u8>,
-    room: usize,
-    /// Whether it answers 0 bytes then, in place of an error.
-    is_full: bool,
-    flushes: bool,
-}
-
-impl Write for Sluggish {
-    fn write(&mut self, bytes: &[u8]) -> io::Result<usize> {
-        let Some(first) = bytes.first() else {
-            return Ok(0);
-        };
-        if self.taken.len() >= self.room {
-            return if self.is_full {
-                Ok(0)
-            } else {
-                Err(io::Error::from(ErrorKind::Other))
-            };
-        }
-        self.taken.push(*first)?;
-        Ok(1)
-    }
-
-    fn flush(&mut self) -> io::Result<()> {
-        if self.flushes {
-            Ok(())
-        } else {
-            Err(io::Error::from(ErrorKind::Other))
-        }
-    }
-}
-
-/// Gives one byte a call, and fails after so many.
-#[derive(Drop)]
-struct Failing<'a> {
-    bytes: &'a [u8],
-}
-
-impl Read for Failing<'_> {
-    fn read(&mut self, room: &mut [u8]) -> io::Result<usize> {
-        let (Some(slot), [first, rest @ ..]) = (room.first_mut(), self.bytes) else {
-            return Err(io::Error::from(ErrorKind::Other));
-        };
-        *slot = *first;
-        self.bytes = rest;
-        Ok(1)
-    }
-}
-
-/// Gives spaces without end, and counts them.
-#[derive(Drop)]
-struct Endless {
-    given: usize,
-}
-
-impl Read for Endless {
-    fn read(&mut self, room: &mut [u8]) -> io::Result<usize> {
-        for slot in room.iter_mut() {
-            *slot = b' ';
-        }
-        self.given = self.given.saturating_add(room.len());
-        Ok(room.len())
-    }
-}
 
 #[test]
 fn a_writer_that_stops(rt: HostRuntime) -> Result<(), Fail> {
@@ -125,13 +56,19 @@ fn a_reader_that_fails(rt: HostRuntime) -> Result<(), Fail> {
         let mut reader = Failing {
             bytes: &PILE[..len],
         };
+        let mut cut = Cut {
+            bytes: &PILE[..len],
+        };
         let mut text = Vec::new(alloc);
-        let ending = run(&rt, alloc, "sandpile settle", &mut reader, &mut text)?;
-        assert_eq!(rt;
-            ending.line.as_slice(),
-            b"fault 20 Read\n".as_slice(),
-            "after {len}"
-        );
+        let slow = run(&rt, alloc, "sandpile settle", &mut reader, &mut text)?;
+        let fast = run(&rt, alloc, "sandpile settle", &mut cut, &mut text)?;
+        for ending in [slow, fast] {
+            assert_eq!(rt;
+                ending.line.as_slice(),
+                b"fault 20 Read\n".as_slice(),
+                "after {len}"
+            );
+        }
         assert!(rt; text.is_empty());
     }
     Ok(())

@@ -1,20 +1,22 @@
 -- What the definitions say of some words that are written out.
-use Rattle.std.proofs.Common.{◌≡◌, [], ◌∷◌, Some, refl, codes}
+use Rattle.std.proofs.Common.{◌≡◌, [], ◌∷◌, Some, codes, false, refl, true}
 use Rattle.clap.specs.Words.{Text}
-use Rattle.clap.specs.declared.error.kind.ErrorKind.TheVariants.{DisplayHelp, InvalidSubcommand, MissingSubcommand, UnknownArgument}
+use Rattle.clap.specs.declared.error.kind.ErrorKind.TheVariants.{DisplayHelp, InvalidSubcommand, MissingRequiredArgument, MissingSubcommand, UnknownArgument, ValueValidation}
 use Rattle.clap.proofs.OnLiterals.{clap_on_literals}
 use Rattle.sand_words.specs.Line.{command_line}
 use Rattle.sand_words.specs.Asked.{asked, faults}
-use Rattle.sand_words.specs.declared.words.Task.TheVariants.{Settle, Drops}
+use Rattle.sand_words.specs.declared.words.Task.TheVariants.{Identity, Settle}
 
 -- `sandpile settle` asks to settle, whatever the program's name
-settle_asks : (program : Text) → asked (program ∷ codes "settle" ∷ []) ≡ Some Settle
+settle_asks : (program : Text) → asked (program ∷ codes "settle" ∷ []) ≡ Some (Settle false)
 unfolding command_line clap_on_literals
 settle_asks program = refl
 
-drops_asks : (program : Text) → asked (program ∷ codes "drops" ∷ []) ≡ Some Drops
+-- options may come in any order, and a number may be written after `=`
+identity_asks : (program : Text)
+    → asked (program ∷ codes "identity" ∷ codes "--pgm" ∷ codes "--height" ∷ codes "256" ∷ codes "--width=3" ∷ []) ≡ Some (Identity 3 256 false true)
 unfolding command_line clap_on_literals
-drops_asks program = refl
+identity_asks program = refl
 
 -- with no word, and with the program's name alone, a command is missing
 no_word : faults [] ≡ MissingSubcommand ∷ []
@@ -29,6 +31,25 @@ no_command program = refl
 long_help : (program : Text) → faults (program ∷ codes "--help" ∷ []) ≡ DisplayHelp ∷ []
 unfolding command_line clap_on_literals
 long_help program = refl
+
+-- also where a side is missing
+identity_help : (program : Text) → faults (program ∷ codes "identity" ∷ codes "-h" ∷ []) ≡ DisplayHelp ∷ []
+unfolding command_line clap_on_literals
+identity_help program = refl
+
+-- the word `help` is no command
+help_word : (program : Text) → faults (program ∷ codes "help" ∷ []) ≡ UnknownArgument ∷ InvalidSubcommand ∷ []
+unfolding command_line clap_on_literals
+help_word program = refl
+
+-- a side out of range is refused, and so is a grid with one side
+side_257 : (program : Text) → faults (program ∷ codes "identity" ∷ codes "--width" ∷ codes "257" ∷ codes "--height" ∷ codes "2" ∷ []) ≡ ValueValidation ∷ []
+unfolding command_line clap_on_literals
+side_257 program = refl
+
+one_side : (program : Text) → faults (program ∷ codes "identity" ∷ codes "--width" ∷ codes "3" ∷ []) ≡ MissingRequiredArgument ∷ []
+unfolding command_line clap_on_literals
+one_side program = refl
 
 -- a word that is no command is refused, and so is a word after the command
 unknown_command : (program : Text) → faults (program ∷ codes "topple" ∷ []) ≡ UnknownArgument ∷ InvalidSubcommand ∷ []

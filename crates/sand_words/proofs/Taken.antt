@@ -1,18 +1,22 @@
 -- What a parse of the command line gives, from what clap says of it.
-use Rattle.std.proofs.Common.{◌≡◌, ◌∙◌, true, false, List, [], ◌∷◌, Option, Some, None, is_some, ⊎_elim, refl, sym, ap, subst, codes}
+use Rattle.std.proofs.Common.{◌≡◌, ◌↔◌, ◌∙◌, inl, inr, true, false, List, [], ◌∷◌, Option, Some, None, ⊎_elim, refl, sym, ap, subst}
 use Rattle.std.specs.Prelude.{option_and_then, option_map}
 use Rattle.clap.specs.Words.{App, HasKind, HasMatchesOf, IsAmong, Kinds, Text, fault_of, is_simple, is_simple_and_free, kind_of, subcommand_of, subcommand_rows_of, built}
 use Rattle.clap.specs.Simple.{Shape, argument_words, entered, label_of, rows_at}
 use Rattle.clap.specs.Walk.{answers_to, nothing_held}
 use Rattle.clap.specs.Faults.{level_fault}
 use Rattle.clap.specs.declared.error.Error.{Error}
+use Rattle.clap.specs.declared.error.kind.ErrorKind.TheVariants.{DisplayHelp}
 use Rattle.clap.specs.declared.parser.matches.ArgMatches.{ArgMatches}
 use Rattle.sand_words.specs.Line.{command_line}
-use Rattle.sand_words.specs.Asked.{asked, faults, task_named, unless}
-use Rattle.sand_words.specs.Fault.{IsFaultOf, IsOfKinds, IsUsage}
+use Rattle.sand_words.specs.Asked.{AskForHelp, asked, faults, task_named, unless}
+use Rattle.sand_words.specs.Fault.{IsFaultOf, IsOfKinds, IsUsage, ShowsHelp}
 use Rattle.sand_words.specs.declared.fault.WordsFault.{WordsFault}
 use Rattle.sand_words.specs.declared.fault.WordsFault.TheVariants.{Memory, Usage}
-use Rattle.sand_words.proofs.Entering.{Each, EntersOwn, IsOwn, answers_by_name, enters_own, help_is_not_own, of_found}
+use Rattle.sand_words.proofs.Each.{Each, of_found}
+use Rattle.sand_words.proofs.Entering.{Enters, enters}
+use Rattle.sand_words.proofs.HelpAlone.{help_alone}
+use Rattle.sand_words.proofs.Sides.{IsSound, identity_is_sound}
 use Rattle.sand_words.proofs.Free.{line_is_free, line_is_simple}
 
 -- a parse that succeeds does so on words that have no fault
@@ -40,21 +44,39 @@ refused_ask_nothing words (Usage error) h usage = go (faults words) h
     go [] k = absurd k
     go (x ∷ xs) k = refl
 
+-- words that are refused are answered with help exactly where they ask for it
+pub shows_help : (words : List Text) (f : WordsFault) → IsOfKinds (faults words) f → IsUsage f → ShowsHelp f ↔ AskForHelp words
+shows_help words Memory h usage = absurd usage
+shows_help words (Usage error) h usage = (shown, asked_for)
+  where
+    shown : kind_of error ≡ DisplayHelp → AskForHelp words
+    shown is = help_alone words (subst (λ k. IsAmong k (faults words)) is h)
+
+    only : IsAmong (kind_of error) (DisplayHelp ∷ []) → kind_of error ≡ DisplayHelp
+    only (inl is) = is
+    only (inr none) = absurd none
+
+    asked_for : AskForHelp words → kind_of error ≡ DisplayHelp
+    asked_for alone = only (subst (IsAmong (kind_of error)) alone h)
+
 -- words with no fault ask for what they name
 pub taken_ask : (words : List Text) → faults words ≡ [] → asked words ≡ option_and_then task_named (subcommand_of command_line words)
 taken_ask words none = ap (λ kinds. unless kinds (option_and_then task_named (subcommand_of command_line words))) none
 
--- a command of the line's own that passes names a task
+-- a command that passes names a task, whose sides are in range
 abbrev NamesTask : Text × List Text → Shape → Type 0
-NamesTask p s = IsOwn p.0 → level_fault s [] nothing_held p.1 false [] ≡ [] → is_some (task_named (rows_at s p.1)) ≡ true
+NamesTask p s = level_fault s [] nothing_held p.1 false [] ≡ [] → IsSound (task_named (rows_at s p.1))
 
 each_names_task : (p : Text × List Text) → Each (λ s. answers_to p.0 (label_of s) ≡ true → NamesTask p s) (built command_line).subs
 unfolding command_line
 each_names_task p = (
-  λ answers own passes. refl,
+  λ answers passes. (_, refl, tt),
   (
-    λ answers own passes. refl,
-    (λ answers own passes. absurd (help_is_not_own p.0 own (answers_by_name p.0 (codes "help") answers)), tt),
+    λ answers passes. (_, refl, tt),
+    (
+      λ answers passes. identity_is_sound p.1 passes,
+      (λ answers passes. (_, refl, tt), (λ answers passes. (_, refl, tt), (λ answers passes. (_, refl, tt), tt))),
+    ),
   ),
 )
 
@@ -62,16 +84,12 @@ wants_command : (built command_line).top.subcommand_required ≡ true
 unfolding command_line
 wants_command = refl
 
-has_help : (built command_line).top.disable_help_subcommand ≡ false
-unfolding command_line
-has_help = refl
-
--- words with no fault ask for a task
-pub asks_for_some : (words : List Text) → faults words ≡ [] → is_some (option_and_then task_named (subcommand_of command_line words)) ≡ true
-asks_for_some words none = go _ (enters_own (built command_line) (argument_words command_line words) wants_command has_help none)
+-- words with no fault ask for a task, whose sides are in range
+pub taken_are_sound : (words : List Text) → faults words ≡ [] → IsSound (option_and_then task_named (subcommand_of command_line words))
+taken_are_sound words none = go _ (enters (built command_line) (argument_words command_line words) wants_command none)
   where
-    go : (o : Option (Text × List Text)) → EntersOwn (built command_line) o → is_some (option_and_then task_named (entered (built command_line) o)) ≡ true
+    go : (o : Option (Text × List Text)) → Enters (built command_line) o → IsSound (option_and_then task_named (entered (built command_line) o))
     go None h = absurd h
-    go (Some p) (own, (s, found, passes)) =
-        ap (λ f. is_some (option_and_then task_named (option_map (λ x. rows_at x p.1) f))) found
-        ∙ of_found (λ x. answers_to p.0 (label_of x)) (NamesTask p) (built command_line).subs s (each_names_task p) found own passes
+    go (Some p) (s, found, passes) =
+        let sound = of_found (λ x. answers_to p.0 (label_of x)) (NamesTask p) (built command_line).subs s (each_names_task p) found passes in
+        (sound.0, ap (λ f. option_and_then task_named (option_map (λ x. rows_at x p.1) f)) found ∙ sound.1, sound.2)

@@ -2,7 +2,7 @@
 use Rattle.std.specs.Prelude.{◌≡◌, ◌≢◌, ⊤}
 use Rattle.clap.specs.Words.{IsAmong, Kinds, kind_of}
 use Rattle.clap.specs.declared.error.Error.{Error}
-use Rattle.clap.specs.declared.error.kind.ErrorKind.TheVariants.{OutOfMemory}
+use Rattle.clap.specs.declared.error.kind.ErrorKind.TheVariants.{DisplayHelp, OutOfMemory}
 use Rattle.sand_words.specs.declared.fault.WordsFault.{WordsFault}
 use Rattle.sand_words.specs.declared.fault.WordsFault.TheVariants.{Memory, Usage}
 
@@ -10,6 +10,11 @@ use Rattle.sand_words.specs.declared.fault.WordsFault.TheVariants.{Memory, Usage
 abbrev pub IsUsage : WordsFault → Type 0
 IsUsage Memory = ⊥
 IsUsage (Usage error) = ⊤
+
+-- the fault shows help
+abbrev pub ShowsHelp : WordsFault → Type 0
+ShowsHelp Memory = ⊥
+ShowsHelp (Usage error) = kind_of error ≡ DisplayHelp
 
 -- memory ran out, or clap's error has one of the kinds
 abbrev pub IsOfKinds : Kinds → WordsFault → Type 0

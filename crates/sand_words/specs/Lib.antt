@@ -1,3 +1,5 @@
 pub mod Line
-pub mod Fault
+pub mod Options
 pub mod Asked
+pub mod Fault
+pub mod Spelling

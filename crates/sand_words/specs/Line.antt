@@ -1,15 +1,42 @@
--- The command line that is read, as clap's model has it.
-use Rattle.std.specs.Prelude.{[], ◌∷◌, codes, fold, true}
-use Rattle.clap.specs.Words.{App, Text, new_app, with_subcommand}
+-- The command line that is taken, as clap's model has it.
+use Rattle.std.specs.Prelude.{ℕ, [], ◌∷◌, Some, codes, fold, true}
+use Rattle.clap.specs.Words.{App, Rule, Text, new_app, new_rule, with_rule, with_subcommand}
 use Rattle.clap.specs.Simple.{on_top}
+use Rattle.clap.specs.declared.builder.action.ArgAction.TheVariants.{Set, SetTrue}
+use Rattle.clap.specs.declared.builder.value_parser.ValueParser.TheVariants as parser
 
--- `Command::subcommand_required`: words that name no command are refused
-abbrev pub requiring_subcommand : App → App
-requiring_subcommand line = on_top (λ s. record s { subcommand_required = true }) line
+-- an option that is there or not
+abbrev pub flag : Text → Rule
+flag name = record (new_rule name) { long = Some name; action = Some SetTrue }
+
+-- an option with a whole number from `least` to `most`
+abbrev pub number : Text → ℕ → ℕ → Rule
+number name least most = record (new_rule name) {
+  long = Some name;
+  action = Some Set;
+  parser = Some (parser.Unsigned least most);
+}
+
+-- a side of a grid, which must be given
+abbrev pub side : Text → Rule
+side name = record (number name 1 256) { required = true }
 
 -- a command with no options
 abbrev pub bare_line : Text → App
 bare_line name = new_app name
+
+-- a command with `--pgm` alone
+abbrev pub pgm_line : Text → App
+pgm_line name = with_rule (bare_line name) (flag (codes "pgm"))
+
+-- `identity`, with the sides and the edge of the grid
+abbrev pub identity_line : App
+identity_line = fold with_rule (bare_line (codes "identity"))
+    (side (codes "width") ∷ side (codes "height") ∷ flag (codes "cylinder") ∷ flag (codes "pgm") ∷ [])
+
+-- words that name no command are refused, and `help` names none
+abbrev pub wanting_command : App → App
+wanting_command line = on_top (λ s. record s { subcommand_required = true; disable_help_subcommand = true }) line
 
 -- the line with one command more
 abbrev pub or_command : App → App → App
@@ -17,4 +44,7 @@ or_command line command = with_subcommand line command.top
 
 -- `sandpile`, which wants one of its commands
 unfoldable pub command_line : App
-command_line = fold or_command (requiring_subcommand (new_app (codes "sandpile"))) (bare_line (codes "settle") ∷ bare_line (codes "drops") ∷ [])
+command_line = fold or_command (wanting_command (bare_line (codes "sandpile"))) (
+    pgm_line (codes "settle") ∷ bare_line (codes "burn") ∷ identity_line
+    ∷ bare_line (codes "drops") ∷ pgm_line (codes "add") ∷ pgm_line (codes "inverse") ∷ []
+    )

@@ -2,6 +2,9 @@
 #![tactic(auto)]
 
 mod fault;
+mod help;
+mod line;
+mod options;
 mod words;
 
 pub use fault::WordsFault;

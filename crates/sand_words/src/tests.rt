@@ -1,36 +1,216 @@
 use crate::{Task, WordsFault, task_of};
 use std::test::Fail;
 
-// What the words come to: a task, or whether the error's text goes to the standard error.
-fn outcome(rt: &HostRuntime, words: &[&str]) -> Result<Result<Task, bool>, Fail> {
+// What the words of a line come to: a task, or clap's text and whether that is for the standard error.
+#[derive(Debug, Drop, PartialEq)]
+enum Answer {
+    Asked(Task),
+    Told(bool, String),
+}
+
+fn answer_to(rt: &HostRuntime, line: &str) -> Result<Answer, Fail> {
     let alloc = rt.alloc();
-    let mut owned = Vec::new(alloc);
-    for word in words {
-        owned.push(String::from_str(alloc, word)?)?;
+    let mut words = Vec::new(alloc);
+    for word in line.split(' ') {
+        words.push(String::from_str(alloc, word)?)?;
     }
-    match task_of(alloc, owned.as_slice()) {
-        Ok(task) => Ok(Ok(task)),
-        Err(WordsFault::Usage(error)) => Ok(Err(error.use_stderr())),
+    match task_of(alloc, words.as_slice()) {
+        Ok(task) => Ok(Answer::Asked(task)),
+        Err(WordsFault::Usage(error)) => Ok(Answer::Told(
+            error.use_stderr(),
+            format!(in alloc; "{error}")?,
+        )),
         Err(WordsFault::Memory) => Err("memory".into()),
     }
 }
 
 #[test]
-fn settles(rt: HostRuntime) -> Result<(), Fail> {
-    assert!(rt; outcome(&rt, &["sandpile", "settle"])? == Ok(Task::Settle));
+fn asks(rt: HostRuntime) -> Result<(), Fail> {
+    let rows = [
+        ("sandpile settle", Task::Settle { pgm: false }),
+        ("sandpile settle --pgm", Task::Settle { pgm: true }),
+        ("sandpile burn", Task::Burn),
+        ("sandpile drops", Task::Drops),
+        ("sandpile add", Task::Add { pgm: false }),
+        ("sandpile add --pgm", Task::Add { pgm: true }),
+        ("sandpile inverse", Task::Inverse { pgm: false }),
+        ("sandpile inverse --pgm", Task::Inverse { pgm: true }),
+        (" burn", Task::Burn),
+        ("settle burn", Task::Burn),
+    ];
+    for (line, task) in rows {
+        assert_eq!(rt; answer_to(&rt, line)?, Answer::Asked(task), "{line}");
+    }
     Ok(())
 }
 
 #[test]
-fn refuses_other_words(rt: HostRuntime) -> Result<(), Fail> {
-    assert!(rt; outcome(&rt, &["sandpile"])? == Err(true));
-    assert!(rt; outcome(&rt, &["sandpile", "topple"])? == Err(true));
-    assert!(rt; outcome(&rt, &["sandpile", "settle", "twice"])? == Err(true));
+fn asks_for_identities(rt: HostRuntime) -> Result<(), Fail> {
+    let rows = [
+        ("--width 3 --height 2", 3, 2, false, false),
+        ("--height 2 --width 3", 3, 2, false, false),
+        ("--width=1 --height=256", 1, 256, false, false),
+        ("--width 256 --height 1 --cylinder", 256, 1, true, false),
+        ("--pgm --width 3 --height 2", 3, 2, false, true),
+        ("--cylinder --height 007 --pgm --width +3", 3, 7, true, true),
+    ];
+    for (options, width, height, cylinder, pgm) in rows {
+        let line = format!(in rt.alloc(); "sandpile identity {options}")?;
+        let task = Task::Identity {
+            width,
+            height,
+            cylinder,
+            pgm,
+        };
+        assert_eq!(rt;
+            answer_to(&rt, line.as_str())?,
+            Answer::Asked(task),
+            "{options}"
+        );
+    }
     Ok(())
 }
 
 #[test]
-fn shows_help(rt: HostRuntime) -> Result<(), Fail> {
-    assert!(rt; outcome(&rt, &["sandpile", "--help"])? == Err(false));
+fn tells_misuse(rt: HostRuntime) -> Result<(), Fail> {
+    let rows = [
+        "",
+        "sandpile",
+        "sandpile help",
+        "sandpile --version",
+        "sandpile topple",
+        "sandpile Settle",
+        "sandpile --pgm settle",
+        "sandpile settle twice",
+        "sandpile settle --pgm --pgm",
+        "sandpile settle --pgm=yes",
+        "sandpile settle --cylinder",
+        "sandpile burn --pgm",
+        "sandpile drops --pgm",
+        "sandpile identity",
+        "sandpile identity --width 3",
+        "sandpile identity --height 2",
+        "sandpile identity --width 3 --height",
+        "sandpile identity --width 0 --height 2",
+        "sandpile identity --width 3 --height 0",
+        "sandpile identity --width 257 --height 2",
+        "sandpile identity --width 3 --height 257",
+        "sandpile identity --width x --height 2",
+        "sandpile identity --width 3 --height -2",
+        "sandpile identity --width 3 --height 2.5",
+        "sandpile identity --width  --height 2",
+        "sandpile identity --width 3 --height 2 --width 3",
+        "sandpile identity --width 18446744073709551617 --height 2",
+    ];
+    for line in rows {
+        assert!(rt;
+            matches!(answer_to(&rt, line)?, Answer::Told(true, _)),
+            "{line}"
+        );
+    }
+    assert!(rt;
+        matches!(task_of(rt.alloc(), &[]), Err(WordsFault::Usage(error)) if error.use_stderr())
+    );
+    Ok(())
+}
+
+// The text of a call for help, which goes to the standard output.
+fn help(rt: &HostRuntime, line: &str) -> Result<String, Fail> {
+    match answer_to(rt, line)? {
+        Answer::Told(false, text) => Ok(text),
+        _ => Err("no help".into()),
+    }
+}
+
+#[test]
+fn helps(rt: HostRuntime) -> Result<(), Fail> {
+    let rows = [
+        (
+            "settle ",
+            "'3 1  0 4 0' | sandpile settle\n  3 1\n  1 0 1\n  odometer\n  0 1 0\n  lost 2\n  topplings 1\n",
+        ),
+        (
+            "burn ",
+            "'2 1  0 0' | sandpile burn\n  forbidden 2\n  0 0\n  1 0\n",
+        ),
+        (
+            "identity ",
+            "$ sandpile identity --width 2 --height 2\n  2 2\n  2 2\n  2 2\n",
+        ),
+        (
+            "drops ",
+            "'3 3  3 3 3  3 3 3  3 3 3  4 0' | sandpile drops\n  number site size area reach lost\n  0 4 10 9 2 12\n  1 0 0 0 0 0\n  3 3\n  2 3 1\n  3 0 3\n  1 3 1\n  lost 12\n  topplings 10\n",
+        ),
+        (
+            "add ",
+            "'2 1  3 1  2 1  3 3' | sandpile add\n  2 1\n  3 1\n",
+        ),
+        ("inverse ", "'2 1  3 1' | sandpile inverse\n  2 1\n  0 2\n"),
+        ("", "'3 1  0 4 0' | sandpile settle\n  3 1\n  1 0 1\n"),
+    ];
+    let parts = [
+        "\n\nInput: ",
+        "\n\nOutput: ",
+        "\n\nLimits: width and height from 1 to 256",
+        "\n\nExample:",
+    ];
+    for (command, example) in rows {
+        let long = format!(in rt.alloc(); "sandpile {command}--help")?;
+        let short = format!(in rt.alloc(); "sandpile {command}-h")?;
+        let text = help(&rt, long.as_str())?;
+        assert_eq!(rt; help(&rt, short.as_str())?, text, "{command}");
+        assert!(rt; text.contains(example), "{command}: {text}");
+        for part in parts {
+            assert!(rt; text.contains(part), "{command} {part}: {text}");
+        }
+    }
+    Ok(())
+}
+
+#[test]
+fn lists_the_commands(rt: HostRuntime) -> Result<(), Fail> {
+    let text = help(&rt, "sandpile --help")?;
+    for command in ["settle", "burn", "identity", "drops", "add", "inverse"] {
+        let line = format!(in rt.alloc(); "\n  {command} ")?;
+        assert!(rt; text.contains(line.as_str()), "{command}: {text}");
+    }
+    Ok(())
+}
+
+#[test]
+fn help_of_settle(rt: HostRuntime) -> Result<(), Fail> {
+    assert_eq!(rt;
+        help(&rt, "sandpile settle --help")?.as_str(),
+        "\
+Settles a pile: topples sites until each holds at most 3 grains
+
+Usage: sandpile settle [OPTIONS]
+
+Options:
+      --pgm   Write a picture (plain PGM), not text
+  -h, --help  Print help
+
+Input: a pile, as numbers with white space between: its width, its height, and
+  the grains of each site, row by row. A letter c behind the height makes it a
+  cylinder, whose rows go round.
+
+Output: the settled pile; the line 'odometer', and how often each site toppled;
+  'lost N', the grains that left the grid; 'topplings N', all topplings. With
+  --pgm only a picture of the settled pile.
+
+Limits: width and height from 1 to 256, a cylinder at least 3 wide; at most
+  1,099,511,627,775 grains; at most 1,048,576 bytes of input.
+
+Example:
+
+  $ echo '3 1  0 4 0' | sandpile settle
+  3 1
+  1 0 1
+  odometer
+  0 1 0
+  lost 2
+  topplings 1
+"
+    );
     Ok(())
 }

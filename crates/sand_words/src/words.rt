@@ -1,59 +1,89 @@
 //! What the words of the command line ask for.
 
-ghost use Rattle.std.specs.Prelude.{◌≡◌, IfErr, IfOk, Some, None, false, map, option_and_then, string_bytes};
-ghost use Rattle.clap.specs.Words.{app_of, subcommand_rows_of};
-ghost use Rattle.clap.specs.declared.builder.command.Command.TheViews.{out-Command};
-ghost use Rattle.sand_words.specs.Line.{bare_line, command_line};
-ghost use Rattle.sand_words.specs.Asked.{asked, faults, task_named};
-ghost use Rattle.sand_words.specs.Fault.{IsOfKinds, IsUsage};
+ghost use Rattle.std.specs.Prelude.{◌≡◌, ◌↔◌, IfErr, IfOk, Some, None, map, option_and_then, string_bytes};
+ghost use Rattle.clap.specs.Words.{found_of, rows_of, subcommand_rows_of};
+ghost use Rattle.sand_words.specs.Asked.{AskForHelp, HasSides, asked, faults, identity_of, task_named};
+ghost use Rattle.sand_words.specs.Spelling.{Heeds};
+ghost use Rattle.sand_words.specs.Fault.{IsOfKinds, IsUsage, ShowsHelp};
 
 use crate::fault::WordsFault;
-use clap::{ArgMatches, Command};
-use std::alloc::{AllocError, Global};
+use crate::line::command_line;
+use crate::options::{flag_in, number_in};
+use clap::ArgMatches;
+use std::alloc::Global;
 
-/// What is to be done.
+/// What is to be done. `pgm` asks for a picture in place of text.
 #[derive(Clone, Copy, Debug, PartialEq, Eq)]
 pub enum Task {
     /// Settles a pile.
-    Settle,
+    Settle {
+        pgm: bool,
+    },
+    /// Tests whether a pile is recurrent.
+    Burn,
+    /// Writes the identity of a grid, which has sides from 1 to 256. Its rows go round on a cylinder.
+    Identity {
+        width: usize,
+        height: usize,
+        cylinder: bool,
+        pgm: bool,
+    },
     /// Drops grains on a pile, one after another.
     Drops,
+    /// Adds two recurrent piles.
+    Add {
+        pgm: bool,
+    },
+    /// Writes the inverse of a recurrent pile.
+    Inverse {
+        pgm: bool,
+    },
 }
 
-fn bare_line<'a>(alloc: Global, name: &'a str, about: &'a str) -> Command<'a>
-    ensures line { app_of result ≡ bare_line name.entry.now }
-    ensures local { (out-Command result).has_globals ≡ false }
+fn identity_of(options: &ArgMatches<'_>) -> Option<Task>
+    ensures { result ≡ identity_of (rows_of (found_of options.now)) }
 {
-    Command::new(alloc, name).about(about)
+    let width = number_in(options, "width")?;
+    let height = number_in(options, "height")?;
+    Some(Task::Identity {
+        width,
+        height,
+        cylinder: flag_in(options, "cylinder"),
+        pgm: flag_in(options, "pgm"),
+    })
 }
 
-fn command_line<'a>(alloc: Global) -> Result<Command<'a>, AllocError>
-    ensures { IfOk result (λ c. app_of c ≡ command_line) }
+fn task_named(name: &str, options: &ArgMatches<'_>) -> Option<Task>
+    ensures { result ≡ task_named (name.now, rows_of (found_of options.now)) }
 {
-    let settle = bare_line(alloc, "settle", "Settles a pile of sand");
-    let drops = bare_line(alloc, "drops", "Drops grains on a pile, one after another");
-    Command::new(alloc, "sandpile")
-        .about("Settles piles of sand on a grid")
-        .subcommand_required(true)
-        .subcommand(settle)?
-        .subcommand(drops)
+    let pgm = flag_in(options, "pgm");
+    match name {
+        "settle" => Some(Task::Settle { pgm }),
+        "burn" => Some(Task::Burn),
+        "identity" => identity_of(options),
+        "drops" => Some(Task::Drops),
+        "add" => Some(Task::Add { pgm }),
+        "inverse" => Some(Task::Inverse { pgm }),
+        _ => None,
+    }
 }
 
 fn chosen(matches: &ArgMatches<'_>) -> Option<Task>
     ensures { result ≡ option_and_then task_named (subcommand_rows_of matches.now) }
 {
-    match matches.subcommand() {
-        Some(("settle", _)) => Some(Task::Settle),
-        Some(("drops", _)) => Some(Task::Drops),
-        _ => None,
-    }
+    let (name, options) = matches.subcommand()?;
+    task_named(name, options)
 }
 
-/// The task that the words ask for. The first word is the program's name.
+/// The task that the words ask for. The first word is the program's name. Refuses words that the command line doesn't
+/// take, and those that ask for help (Usage), and want of memory (Memory).
 pub fn task_of<'a>(alloc: Global, words: &'a [String]) -> Result<Task, WordsFault>
     ensures ok { IfOk result (λ t. asked (map string_bytes words.now) ≡ Some t) }
+    ensures spelled { Heeds (map string_bytes words.now) result }
+    ensures sides { IfOk result HasSides }
     ensures refused { IfErr result (λ e. IsUsage e → asked (map string_bytes words.now) ≡ None) }
     ensures kind { IfErr result (IsOfKinds (faults (map string_bytes words.now))) }
+    ensures help { IfErr result (λ e. IsUsage e → (ShowsHelp e ↔ AskForHelp (map string_bytes words.now))) }
 {
     let command = command_line(alloc)?;
     let matches = command.try_get_matches_from(words)?;

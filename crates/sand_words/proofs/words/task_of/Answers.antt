@@ -1,28 +1,47 @@
-use Rattle.std.proofs.Common.{◌∙◌, is_some, sym, ap, true≢false}
+use Rattle.std.proofs.Common.{◌≡◌, ◌∙◌, None, Some, ap, subst, sym}
 use Rattle.std.specs.Prelude.{option_and_then}
 use Rattle.std.proofs.lemmas.Result.{err_from_is_err_and}
-use Rattle.sand_words.specs.Asked.{task_named}
-use Rattle.sand_words.proofs.Taken.{asks_for_some, fails_by_kind, names, refused_ask_nothing, taken, taken_ask}
+use Rattle.sand_words.specs.Asked.{HasSides, task_named}
+use Rattle.sand_words.proofs.Spelled.{heeds_by_fault, heeds_by_task}
+use Rattle.sand_words.proofs.Taken.{fails_by_kind, names, refused_ask_nothing, shows_help, taken, taken_are_sound, taken_ask}
 use Rattle.sand_words.proofs.words.task_of.Goals as goal
 
-pub returns-in_err-matches-clause-refused : goal.returns-in_err-matches-clause-refused
-returns-in_err-matches-clause-refused c =
-    let p = err_from_is_err_and c.from_residual-in_err-matches.result c.from_residual-in_err-matches.ensures.1 in
-    rw p.1 (refused_ask_nothing _ p.0 (fails_by_kind _ _ _ p.0 c.in_ok-command.ensures c.in_err-matches.ensures.kinds p.2))
-
-pub returns-in_err-matches-clause-kind : goal.returns-in_err-matches-clause-kind
-returns-in_err-matches-clause-kind c =
-    let p = err_from_is_err_and c.from_residual-in_err-matches.result c.from_residual-in_err-matches.ensures.1 in
-    rw p.1 (fails_by_kind _ _ _ p.0 c.in_ok-command.ensures c.in_err-matches.ensures.kinds p.2)
+pub returns-in_err-matches : goal.returns-in_err-matches
+returns-in_err-matches c =
+    let fault = err_from_is_err_and c.from_residual-in_err-matches.result c.from_residual-in_err-matches.ensures.1 in
+    let kinds = fails_by_kind _ _ _ fault.0 c.in_ok-command.ensures c.in_err-matches.ensures.kinds fault.2 in
+    let nothing = refused_ask_nothing _ fault.0 kinds in
+    rw fault.1 (record {
+      ok = tt;
+      spelled = heeds_by_fault _ fault.0 nothing;
+      sides = tt;
+      refused = nothing;
+      kind = kinds;
+      help = shows_help _ fault.0 kinds;
+    })
 
 pub unreachable-requires : goal.unreachable-requires
 unreachable-requires c =
     let none = taken _ _ c.in_ok-command.ensures c.in_ok-matches.ensures.kinds in
     let named = names _ _ _ c.in_ok-command.ensures c.in_ok-matches.ensures.matches in
-    true≢false (sym (asks_for_some _ none) ∙ ap is_some (sym (ap (option_and_then task_named) named) ∙ (sym c.chosen.ensures ∙ c.in-None.is)))
+    let sound = taken_are_sound _ none in
+    let bad : None ≡ Some sound.0 = sym c.in-None.is ∙ (c.chosen.ensures ∙ (ap (option_and_then task_named) named ∙ sound.1)) in
+    cc
 
-pub returns-clause-ok : goal.returns-clause-ok
-returns-clause-ok c =
+pub returns : goal.returns
+returns c =
     let none = taken _ _ c.in_ok-command.ensures c.in_ok-matches.ensures.kinds in
     let named = names _ _ _ c.in_ok-command.ensures c.in_ok-matches.ensures.matches in
-    taken_ask _ none ∙ (sym (ap (option_and_then task_named) named) ∙ (sym c.chosen.ensures ∙ c.in-Some.is))
+    let sound = taken_are_sound _ none in
+    let chosen_is = sym (ap (option_and_then task_named) named) ∙ (sym c.chosen.ensures ∙ c.in-Some.is) in
+    let same : Some sound.0 ≡ Some c.in-Some.task = sym sound.1 ∙ chosen_is in
+    let task_is : sound.0 ≡ c.in-Some.task = cc in
+    let is = taken_ask _ none ∙ chosen_is in
+    record {
+      ok = is;
+      spelled = heeds_by_task _ _ is;
+      sides = subst HasSides task_is sound.2;
+      refused = tt;
+      kind = tt;
+      help = tt;
+    }

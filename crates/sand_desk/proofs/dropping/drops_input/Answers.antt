@@ -1,0 +1,28 @@
+use Rattle.std.proofs.Common.{◌<◌, All, sym, subst}
+use Rattle.std.proofs.lemmas.Result.{IfOk-weaker}
+use Rattle.sand_model.specs.Grid.{Grid, sites}
+use Rattle.sand_desk.proofs.DropSites.{drops_inside}
+use Rattle.sand_desk.proofs.dropping.drops_input.Goals as goal
+
+pub drop_all-requires : goal.drop_all-requires
+drop_all-requires c =
+    let inside = drops_inside c.args.input.now c.in_ok-start.start c.in_ok-start.drops.items c.in_ok-start.ensures in
+    let P : Grid → Type 0 = λ g. All (λ j. j < sites g) c.in_ok-start.drops.items in
+    rw c.as_slice.ensures.value (subst P (sym c.in_ok-pile.ensures.settled.settled.grid) inside)
+
+pub returns-clause-text : goal.returns-clause-text
+returns-clause-text c =
+    IfOk-weaker c.drops_text.result _ _
+    (λ text written. record {
+      pile = c.in_ok-start.start;
+      sites = c.in_ok-start.drops.items;
+      first = c.in_ok-pile.pile;
+      last = c.drop_all.new.pile;
+      rows = c.in_ok-rows.rows.items;
+      read = c.in_ok-start.ensures;
+      start = c.in_ok-pile.ensures.settled;
+      dropped = rw c.as_slice.ensures.value at c.in_ok-rows.ensures.rows;
+      end = rw c.as_slice.ensures.value at (c.in_ok-rows.ensures.after c.in_ok-start.start c.in_ok-pile.ensures.settled);
+      written = rw c.as_slice-2.ensures.value at written;
+    })
+    c.drops_text.ensures.text

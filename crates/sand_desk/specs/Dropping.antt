@@ -1,0 +1,46 @@
+-- What `drops` writes.
+use Rattle.std.specs.Prelude.{ℕ, ◌≡◌, ◌+◌, ◌<◌, List, [], ◌∷◌, ◌++◌, length, sum, codes, decimal, Ok}
+use Rattle.sand_model.specs.declared.pile.TheConstants.{GRAIN_LIMIT}
+use Rattle.sand_model.specs.Piles.{PileView}
+use Rattle.sand_settle.specs.declared.avalanche.Avalanche.{Avalanche}
+use Rattle.sand_settle.specs.Avalanches.{IsAvalanche}
+use Rattle.sand_settle.specs.Drops.{OneView, grid_of_one, topplings_between, IsAfter, Drops}
+use Rattle.sand_text.specs.Reading.{drops_of}
+use Rattle.sand_text.specs.Tables.{table_text_of}
+use Rattle.sand_text.specs.Texts.{text_of}
+
+-- the drops at these sites lead from v to w, and each row has the number of its drop and its avalanche
+abbrev pub AreRows : OneView → List ℕ → List (ℕ × Avalanche) → OneView → Type 0
+AreRows v [] rows w = (rows ≡ []) × (v ≡ w)
+AreRows v (site ∷ sites) rows w = (u : OneView) × (avalanche : Avalanche) × (others : List (ℕ × Avalanche))
+    × Drops v site u × IsAvalanche (grid_of_one v) site (topplings_between v.settled u.settled) avalanche
+    × (rows ≡ (v.number, avalanche) ∷ others) × AreRows u sites others w
+
+-- a line that names a sum
+abbrev pub sum_line : List ℕ → ℕ → List ℕ
+sum_line name n = name ++ decimal n ++ codes "\n"
+
+-- the table of the drops, the pile that they leave, and the sums since the start
+abbrev pub drops_text_of : List (ℕ × Avalanche) → OneView → List ℕ
+drops_text_of rows last = table_text_of rows ++ text_of last.settled.pile
+    ++ sum_line (codes "lost ") last.settled.lost ++ sum_line (codes "topplings ") last.settled.topplings
+
+-- the text of the drops that the input holds, on the settled pile that it holds
+pub record IsDropsText (input text : List ℕ) : Type 0 where
+  pub pile : PileView
+  pub sites : List ℕ
+  pub first : OneView
+  pub last : OneView
+  pub rows : List (ℕ × Avalanche)
+  pub read : drops_of input ≡ Ok (pile, sites)
+  pub start : IsAfter pile [] first
+  pub dropped : AreRows first sites rows last
+  pub end : IsAfter pile sites last
+  pub written : text ≡ drops_text_of rows last
+
+-- the grains of the pile and of the drops exceed the limit
+pub record IsOverfull (input : List ℕ) : Type 0 where
+  pub pile : PileView
+  pub sites : List ℕ
+  pub read : drops_of input ≡ Ok (pile, sites)
+  pub over : GRAIN_LIMIT < sum pile.heights + length sites

@@ -1,0 +1,98 @@
+-- What `burn`, `identity`, `add` and `inverse` write, and why they refuse a pile.
+use Rattle.std.specs.Prelude.{ℕ, ◌≡◌, ◌≢◌, ◌⊎◌, Bool, true, false, List, length, Ok}
+use Rattle.sand_model.specs.declared.shape.Edge.{Edge}
+use Rattle.sand_model.specs.declared.shape.Edge.TheVariants.{Open, Cylinder}
+use Rattle.sand_model.specs.Grid.{Grid, grid_of, sites}
+use Rattle.sand_model.specs.Piles.{PileView, height_of}
+use Rattle.sand_model.specs.Sand.{IsStable}
+use Rattle.sand_group.specs.declared.burning.Burned.{Burned}
+use Rattle.sand_group.specs.Burned.{IsBurned}
+use Rattle.sand_group.specs.Group.{IsSum, IsIdentity, IsInverse}
+use Rattle.sand_group.specs.Recurrence.{IsRecurrent}
+use Rattle.sand_text.specs.Burning.{burn_text_of}
+use Rattle.sand_text.specs.Reading.{pile_of, two_of}
+use Rattle.sand_desk.specs.declared.faults.DeskFault.{DeskFault}
+use Rattle.sand_desk.specs.declared.faults.DeskFault.TheVariants as desk
+use Rattle.sand_desk.specs.Settling.{pile_or_picture}
+
+-- ---- the texts
+
+-- what the burning test finds in the pile that the input holds, which is stable
+pub record IsBurnText (input text : List ℕ) : Type 0 where
+  pub pile : PileView
+  pub burned : Burned
+  pub read : pile_of input ≡ Ok pile
+  pub stable : IsStable pile.grid (height_of pile)
+  pub found : IsBurned pile.grid (height_of pile) burned
+  pub written : text ≡ burn_text_of pile.grid burned
+
+abbrev pub edge_of : Bool → Edge
+edge_of false = Open
+edge_of true = Cylinder
+
+-- the one pile on this grid whose heights are of this kind, as text or as a picture
+pub record IsPileText (g : Grid) (IsWanted : (ℕ → ℕ) → Type 0) (pgm : Bool) (text : List ℕ) : Type 0 where
+  pub pile : PileView
+  pub grid : pile.grid ≡ g
+  pub one_each : length pile.heights ≡ sites g
+  pub wanted : IsWanted (height_of pile)
+  pub written : text ≡ pile_or_picture pgm pile
+
+-- the identity of the group on the grid of these sides
+pub record IsIdentityText (width height : ℕ) (cylinder pgm : Bool) (text : List ℕ) : Type 0 where
+  pub grid : Grid
+  pub made : grid_of width height (edge_of cylinder) ≡ Ok grid
+  pub answer : IsPileText grid (IsIdentity grid) pgm text
+
+-- the sum of the two piles that the input holds, which are recurrent and of one shape
+pub record IsSumText (pgm : Bool) (input text : List ℕ) : Type 0 where
+  pub first : PileView
+  pub second : PileView
+  pub read : two_of input ≡ Ok (first, second)
+  pub first_recurrent : IsRecurrent first.grid (height_of first)
+  pub second_recurrent : IsRecurrent second.grid (height_of second)
+  pub one_shape : first.grid ≡ second.grid
+  pub answer : IsPileText first.grid (IsSum first.grid (height_of first) (height_of second)) pgm text
+
+-- the inverse of the pile that the input holds, which is recurrent
+pub record IsInverseText (pgm : Bool) (input text : List ℕ) : Type 0 where
+  pub pile : PileView
+  pub read : pile_of input ≡ Ok pile
+  pub recurrent : IsRecurrent pile.grid (height_of pile)
+  pub answer : IsPileText pile.grid (IsInverse pile.grid (height_of pile)) pgm text
+
+-- ---- the refusals
+
+-- why a pile isn't recurrent: a height is over 3; or none is, and a set is forbidden
+abbrev pub IsUnfit : PileView → DeskFault → Type 0
+IsUnfit pile desk.Unstable = ¬ IsStable pile.grid (height_of pile)
+IsUnfit pile desk.NotRecurrent = IsStable pile.grid (height_of pile) × ¬ IsRecurrent pile.grid (height_of pile)
+IsUnfit pile fault = ⊥
+
+-- the pile that the input holds isn't stable
+pub record IsUnstable (input : List ℕ) : Type 0 where
+  pub pile : PileView
+  pub read : pile_of input ≡ Ok pile
+  pub high : ¬ IsStable pile.grid (height_of pile)
+
+-- the pile that the input holds isn't recurrent
+pub record IsUnfitPile (input : List ℕ) (fault : DeskFault) : Type 0 where
+  pub pile : PileView
+  pub read : pile_of input ≡ Ok pile
+  pub unfit : IsUnfit pile fault
+
+-- the first of the two piles that the input holds isn't recurrent, or it is and the second isn't
+pub record IsUnfitPair (input : List ℕ) (fault : DeskFault) : Type 0 where
+  pub first : PileView
+  pub second : PileView
+  pub read : two_of input ≡ Ok (first, second)
+  pub unfit : IsUnfit first fault ⊎ (IsRecurrent first.grid (height_of first) × IsUnfit second fault)
+
+-- the two piles that the input holds are recurrent, and of different shapes
+pub record IsMismatch (input : List ℕ) : Type 0 where
+  pub first : PileView
+  pub second : PileView
+  pub read : two_of input ≡ Ok (first, second)
+  pub first_recurrent : IsRecurrent first.grid (height_of first)
+  pub second_recurrent : IsRecurrent second.grid (height_of second)
+  pub differ : first.grid ≢ second.grid

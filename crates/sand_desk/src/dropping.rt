@@ -1,0 +1,71 @@
+//! The command `drops`.
+
+ghost use Rattle.std.specs.Prelude.{◌≡◌, ◌+◌, ◌<◌, [], ◌++◌, length, All, IfOk, IfErr, OnOk, IsOkUnless};
+ghost use Rattle.sand_model.specs.Grid.{sites};
+ghost use Rattle.sand_model.specs.Piles.{PileView};
+ghost use Rattle.sand_settle.specs.Drops.{grid_of_one, IsAfter};
+ghost use Rattle.sand_desk.specs.Commands.{IsDropFault, IsDropsFault, Finds};
+ghost use Rattle.sand_desk.specs.Dropping.{AreRows, IsDropsText, drops_text_of, sum_line};
+
+use crate::faults::DeskFault;
+use crate::texts::{pile_text, read_drops, table_text};
+use itoa::Buffer;
+use sand_settle::{Avalanche, OnePile};
+use std::alloc::{AllocError, Global};
+
+// Drops a grain at each site in turn, and notes each drop's number and avalanche.
+fn drop_all(
+    alloc: Global,
+    pile: &mut OnePile,
+    drops: &[usize],
+) -> Result<Vec<(u64, Avalanche)>, DeskFault>
+    requires { All (λ site. site < sites (grid_of_one pile.old)) drops.now }
+    ensures rows { IfOk result (λ rows. AreRows pile.old drops.now rows.items pile.new) }
+    ensures after { OnOk result ((start : PileView) → IsAfter start [] pile.old → IsAfter start drops.now pile.new) }
+    ensures fault { IfErr result (IsDropFault (pile.old.grains + length drops.now)) }
+{
+    let mut rows = Vec::with_capacity(alloc, drops.len())?;
+    for site in drops {
+        let row = pile.drop_at(alloc, *site)?;
+        rows.push_reserved(row);
+    }
+    Ok(rows)
+}
+
+// Writes a line that names a sum.
+fn push_sum(text: &mut Vec<u8>, name: &str, sum: u64) -> Result<(), AllocError>
+    ensures { OnOk result (text.new.items ≡ text.old.items ++ sum_line name.now sum) }
+{
+    let mut buffer = Buffer::new();
+    text.extend_from_slice(name.as_bytes())?;
+    text.extend_from_slice(buffer.format(sum).as_bytes())?;
+    text.extend_from_slice(b"\n")
+}
+
+// The table of the drops, the pile that they leave, and the sums since the start.
+fn drops_text(
+    alloc: Global,
+    rows: &[(u64, Avalanche)],
+    pile: &OnePile,
+) -> Result<Vec<u8>, DeskFault>
+    ensures text { IfOk result (λ text. text.items ≡ drops_text_of rows.now pile.now) }
+    ensures memory { IsOkUnless result DeskFault.Memory }
+{
+    let mut text = table_text(alloc, rows)?;
+    let heights = pile_text(alloc, pile.pile())?;
+    text.extend_from_slice(heights.as_slice())?;
+    push_sum(&mut text, "lost ", pile.lost())?;
+    push_sum(&mut text, "topplings ", pile.topplings())?;
+    Ok(text)
+}
+
+/// The text of the drops that the input holds, on the settled pile that it holds.
+pub(crate) fn drops_input(alloc: Global, input: &[u8]) -> Result<Vec<u8>, DeskFault>
+    ensures text { IfOk result (λ text. IsDropsText input.now text.items) }
+    ensures fault { IfErr result (Finds (IsDropsFault input.now)) }
+{
+    let (start, drops) = read_drops(alloc, input)?;
+    let mut pile = OnePile::new(alloc, &start)?;
+    let rows = drop_all(alloc, &mut pile, drops.as_slice())?;
+    drops_text(alloc, rows.as_slice(), &pile)
+}

@@ -1,0 +1,84 @@
+//! The commands of the group of recurrent piles: `burn`, `identity`, `add` and `inverse`.
+
+ghost use Rattle.std.specs.Prelude.{◌≡◌, IfOk, IfErr, IsOkUnless};
+ghost use Rattle.sand_model.specs.Piles.{height_of};
+ghost use Rattle.sand_model.specs.Sand.{IsStable};
+ghost use Rattle.sand_desk.specs.Commands.{IsBurnFault, IsShapeless, IsSumFault, IsInverseFault, Finds};
+ghost use Rattle.sand_desk.specs.Group.{IsBurnText, IsIdentityText, IsSumText, IsInverseText, edge_of};
+ghost use Rattle.sand_desk.specs.Settling.{pile_or_picture};
+
+use crate::faults::DeskFault;
+use crate::texts::{burn_text, pgm_text, pile_text, read_pile, read_two};
+use sand_group::{Recurrent, add, burn, identity, inverse};
+use sand_model::{Edge, Pile, Shape};
+use std::alloc::Global;
+
+// The text of a stable pile, or its picture.
+fn pile_or_picture(alloc: Global, pile: &Pile, pgm: bool) -> Result<Vec<u8>, DeskFault>
+    requires { IsStable pile.now.grid (height_of pile.now) }
+    ensures text { IfOk result (λ text. text.items ≡ pile_or_picture pgm pile.now) }
+    ensures memory { IsOkUnless result DeskFault.Memory }
+{
+    if pgm {
+        pgm_text(alloc, pile)
+    } else {
+        pile_text(alloc, pile)
+    }
+}
+
+/// What the burning test finds in the pile that the input holds. Refuses a pile that isn't stable (Unstable).
+pub(crate) fn burn_input(alloc: Global, input: &[u8]) -> Result<Vec<u8>, DeskFault>
+    ensures text { IfOk result (λ text. IsBurnText input.now text.items) }
+    ensures fault { IfErr result (Finds (IsBurnFault input.now)) }
+{
+    let pile = read_pile(alloc, input)?;
+    let burned = burn(alloc, &pile)?;
+    burn_text(alloc, pile.shape(), &burned)
+}
+
+fn edge_of(cylinder: bool) -> Edge
+    ensures { result ≡ edge_of cylinder }
+{
+    if cylinder { Edge::Cylinder } else { Edge::Open }
+}
+
+/// The identity of the group on a grid, as text or as a picture. Refuses a shape that there isn't (Side, Narrow).
+pub(crate) fn identity_text(
+    alloc: Global,
+    width: usize,
+    height: usize,
+    cylinder: bool,
+    pgm: bool,
+) -> Result<Vec<u8>, DeskFault>
+    ensures text { IfOk result (λ text. IsIdentityText width height cylinder pgm text.items) }
+    ensures fault { IfErr result (Finds (IsShapeless width height cylinder)) }
+{
+    let shape = Shape::with_edge(width, height, edge_of(cylinder))?;
+    let neutral = identity(alloc, shape)?;
+    pile_or_picture(alloc, neutral.pile(), pgm)
+}
+
+/// The sum of the two piles that the input holds, as text or as a picture. Refuses the first pile, then the second, where
+/// it isn't recurrent (Unstable, NotRecurrent), then two shapes (Shapes).
+pub(crate) fn sum_input(alloc: Global, input: &[u8], pgm: bool) -> Result<Vec<u8>, DeskFault>
+    ensures text { IfOk result (λ text. IsSumText pgm input.now text.items) }
+    ensures fault { IfErr result (Finds (IsSumFault input.now)) }
+{
+    let (first, second) = read_two(alloc, input)?;
+    let first = Recurrent::from_pile(alloc, &first)?;
+    let second = Recurrent::from_pile(alloc, &second)?;
+    let sum = add(alloc, &first, &second)?;
+    pile_or_picture(alloc, sum.pile(), pgm)
+}
+
+/// The inverse of the pile that the input holds, as text or as a picture. Refuses a pile that isn't recurrent (Unstable,
+/// NotRecurrent).
+pub(crate) fn inverse_input(alloc: Global, input: &[u8], pgm: bool) -> Result<Vec<u8>, DeskFault>
+    ensures text { IfOk result (λ text. IsInverseText pgm input.now text.items) }
+    ensures fault { IfErr result (Finds (IsInverseFault input.now)) }
+{
+    let pile = read_pile(alloc, input)?;
+    let recurrent = Recurrent::from_pile(alloc, &pile)?;
+    let inverse = inverse(alloc, &recurrent)?;
+    pile_or_picture(alloc, inverse.pile(), pgm)
+}

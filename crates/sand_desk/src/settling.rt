@@ -1,0 +1,27 @@
+//! The command `settle`.
+
+ghost use Rattle.std.specs.Prelude.{◌≡◌, IfOk, IfErr, IsOkUnless};
+ghost use Rattle.sand_model.specs.Piles.{height_of};
+ghost use Rattle.sand_model.specs.Sand.{IsStable};
+ghost use Rattle.sand_text.specs.Reading.{pile_of};
+ghost use Rattle.sand_desk.specs.Commands.{IsUnreadable, Finds};
+ghost use Rattle.sand_desk.specs.Settling.{IsSettleText};
+
+use crate::faults::DeskFault;
+use crate::texts::{pgm_text, read_pile, settle_text};
+use sand_settle::settle;
+use std::alloc::Global;
+
+/// The settled record of the pile that the input holds, as text, or its pile as a picture.
+pub(crate) fn settle_input(alloc: Global, input: &[u8], pgm: bool) -> Result<Vec<u8>, DeskFault>
+    ensures text { IfOk result (λ text. IsSettleText pgm input.now text.items) }
+    ensures fault { IfErr result (Finds (IsUnreadable (pile_of input.now))) }
+{
+    let pile = read_pile(alloc, input)?;
+    let settled = settle(alloc, &pile)?;
+    if pgm {
+        pgm_text(alloc, settled.pile())
+    } else {
+        settle_text(alloc, &settled)
+    }
+}

@@ -1,0 +1,21 @@
+use Rattle.std.proofs.Common.{arith, sym, ◌∙◌}
+use Rattle.sand_text.proofs.Large.{large_start, one_byte, found_large, none_large}
+use Rattle.sand_text.proofs.bytes.has_large.Goals as goal
+
+pub loop-byte-init : goal.loop-byte-init
+loop-byte-init c = record {
+  so_far = large_start c.args.text.now;
+  small = omega arith;
+}
+
+pub loop-byte-preserved : goal.loop-byte-preserved
+loop-byte-preserved c = record {
+  so_far = one_byte c.args.text.now c.loop-byte.byte-index c.loop-byte.value c.run_value-value.result c.loop-byte-test.true c.loop-byte.invariant.small c.run_value-value.ensures c.if-value-gt-GRAIN_LIMIT.false ∙ c.loop-byte.invariant.so_far;
+  small = c.if-value-gt-GRAIN_LIMIT.false;
+}
+
+pub returns-then-value-gt-GRAIN_LIMIT : goal.returns-then-value-gt-GRAIN_LIMIT
+returns-then-value-gt-GRAIN_LIMIT c = sym (found_large c.args.text.now c.loop-byte.byte-index c.loop-byte.value c.run_value-value.result c.loop-byte-test.true c.run_value-value.ensures c.if-value-gt-GRAIN_LIMIT.true) ∙ c.loop-byte.invariant.so_far
+
+pub returns : goal.returns
+returns c = sym (none_large c.args.text.now c.loop-byte.byte-index c.loop-byte.value (omega arith) c.loop-byte.invariant.small) ∙ c.loop-byte.invariant.so_far

@@ -1,0 +1,20 @@
+-- The one text in which the answer of the burning test is written.
+use Rattle.std.specs.Prelude.{ℕ, List, ◌++◌, All, ◌<◌, length, decimal, codes}
+use Rattle.std.specs.List.{flat_map}
+use Rattle.sand_model.specs.Grid.{Grid, column, row, sites}
+use Rattle.sand_group.specs.declared.burning.Burned.{Burned}
+use Rattle.sand_group.specs.declared.burning.Burned.TheVariants.{Recurrent, Forbidden}
+
+-- the line of a site: its column and its row
+abbrev pub place_text : Grid → ℕ → List ℕ
+place_text g i = decimal (column g i) ++ codes " " ++ decimal (row g i) ++ codes "\n"
+
+-- one word for a recurrent pile; else how many sites the forbidden set has, and a line for each
+abbrev pub burn_text_of : Grid → Burned → List ℕ
+burn_text_of g (Recurrent order) = codes "recurrent\n"
+burn_text_of g (Forbidden set) = codes "forbidden " ++ decimal (length set.items) ++ codes "\n" ++ flat_map (place_text g) set.items
+
+-- the sites of an answer are sites of the grid
+abbrev pub AreSitesOf : Grid → Burned → Type 0
+AreSitesOf g (Recurrent order) = All (λ i. i < sites g) order.items
+AreSitesOf g (Forbidden set) = All (λ i. i < sites g) set.items

@@ -1,0 +1,191 @@
+//! What the words of a text say of a pile: its sides, its edge, the sum of its heights, and where the faults stand.
+//!
+//! A survey keeps what the faults need and no list, so each fault is found before anything grows.
+
+ghost use Rattle.std.specs.Prelude.{◌≡◌, ℕ, ◌+◌, ◌-◌, ◌^◌, List, [], ◌∷◌, Bool, ◌<◌, ◌≤◌, ◌↔◌, ◌==◌, nat_lt, IsTrue, IfOk, IfErr, OnOk, if◌then◌else◌};
+ghost use Rattle.std.specs.Option.{option_or};
+ghost use Rattle.sand_text.specs.Words.{words, edge_behind, numbers};
+ghost use Rattle.sand_text.specs.Reading.{is_count, pile_at, plain_words};
+ghost use Rattle.sand_text.specs.Surveys.{IsUnderway, IsStrangeAt, IsFull, IsEnd, IsShaped, edge_with, sites_of, grains_with, if_no_site};
+
+use crate::fault::TextFault;
+use crate::words::{Word, Words};
+use sand_model::{Edge, GRAIN_LIMIT, SIDE_LIMIT, Shape};
+
+/// What the words of a pile's text say so far, where none is strange.
+#[derive(Clone, Copy)]
+pub(crate) struct Survey {
+    /// How many numbers there are.
+    pub count: usize,
+    /// The first number.
+    pub width: u64,
+    /// The second number.
+    pub height: u64,
+    /// A cylinder where a letter stands behind the second number.
+    pub edge: Edge,
+    /// The sum of the heights, or one over the grain limit where it is larger.
+    pub grains: u64,
+    /// Where the first number begins that is over the limit.
+    pub large: Option<usize>,
+    /// The index of the first drop, among the drops, that is on no site.
+    pub no_site: Option<usize>,
+}
+
+// Whether so many numbers are the heights that are wanted: no more where the pile is the last in its text.
+fn is_count(last: bool, count: usize, wanted: usize) -> bool
+    ensures { result ≡ is_count last count wanted }
+{
+    if last {
+        count == wanted
+    } else {
+        wanted <= count
+    }
+}
+
+impl Survey {
+    pub(crate) fn new() -> Survey
+        ensures underway { (ws : List Word) → IsUnderway ws ws result }
+        ensures empty { (result.count ≡ 0) × (result.edge ≡ Edge.Open) }
+    {
+        Survey {
+            count: 0,
+            width: 0,
+            height: 0,
+            edge: Edge::Open,
+            grains: 0,
+            large: None,
+            no_site: None,
+        }
+    }
+
+    // How many sites the sides make.
+    fn sites(&self) -> usize
+        ensures { result ≡ sites_of self.now }
+    {
+        self.width.saturating_mul(self.height) as usize
+    }
+
+    // Takes the number at a place behind the sides: a height, or the site of a drop behind the heights.
+    fn note_behind(&mut self, place: usize, value: u64)
+        ensures { self.new ≡ record self.old { grains = grains_with self.old place value; no_site = option_or self.old.no_site (if_no_site self.old place value) } }
+    {
+        let sites = self.sites();
+        if place < sites {
+            self.grains = self.grains.saturating_add(value).min(GRAIN_LIMIT + 1);
+        } else if value as usize >= sites && self.no_site.is_none() {
+            self.no_site = Some(place - sites);
+        }
+    }
+
+    // Takes a number that begins at a place.
+    fn note(&mut self, start: usize, value: u64)
+        requires { self.old.count < 2 ^ 63 }
+        ensures count { self.new.count ≡ self.old.count + 1 }
+        ensures width { self.new.width ≡ (if self.old.count == 0 then value else self.old.width) }
+        ensures height { self.new.height ≡ (if self.old.count == 1 then value else self.old.height) }
+        ensures edge { self.new.edge ≡ self.old.edge }
+        ensures grains { self.new.grains ≡ (if nat_lt self.old.count 2 then self.old.grains else grains_with self.old (self.old.count - 2) value) }
+        ensures no_site { self.new.no_site ≡ (if nat_lt self.old.count 2 then self.old.no_site else option_or self.old.no_site (if_no_site self.old (self.old.count - 2) value)) }
+        ensures large { self.new.large ≡ option_or self.old.large (if nat_lt GRAIN_LIMIT value then Some start else None) }
+    {
+        match self.count {
+            0 => self.width = value,
+            1 => self.height = value,
+            _ => self.note_behind(self.count - 2, value),
+        }
+        if value > GRAIN_LIMIT && self.large.is_none() {
+            self.large = Some(start);
+        }
+        self.count += 1;
+    }
+
+    // Takes a letter where it is spared, and says whether it is.
+    fn spare(&mut self) -> bool
+        ensures spared { IsTrue result ↔ ((self.old.count ≡ 2) × (self.old.edge ≡ Edge.Open)) }
+        ensures edge { self.new ≡ record self.old { edge = (if result then Edge.Cylinder else self.old.edge) } }
+    {
+        if self.count != 2 || self.edge != Edge::Open {
+            return false;
+        }
+        self.edge = Edge::Cylinder;
+        true
+    }
+
+    /// Takes a word. Refuses a strange one (Text).
+    pub(crate) fn take(&mut self, word: Word) -> Result<(), TextFault>
+        requires { self.old.count < 2 ^ 63 }
+        ensures taken { OnOk result ((ws rest : List Word) → IsUnderway ws (word ∷ rest) self.old → IsUnderway ws rest self.new) }
+        ensures strange { IfErr result (λ e. (ws rest : List Word) → IsUnderway ws (word ∷ rest) self.old → IsStrangeAt ws self.old e) }
+        ensures edge { OnOk result (self.new.edge ≡ edge_with self.old.edge word) }
+        ensures count { OnOk result (self.new.count ≤ self.old.count + 1) }
+    {
+        match word {
+            Word::Number { start, value } => self.note(start, value),
+            Word::Letter(at) => {
+                if !self.spare() {
+                    return Err(TextFault::Text(at));
+                }
+            }
+            Word::Strange(at) => return Err(TextFault::Text(at)),
+        }
+        Ok(())
+    }
+
+    /// Whether the sides are in range, and a height for each site stands behind them.
+    pub(crate) fn is_full(&self) -> bool
+        ensures { IsTrue result ↔ IsFull self.now }
+    {
+        let most = SIDE_LIMIT as u64;
+        let sides = 1..=most;
+        sides.contains(&self.width)
+            && sides.contains(&self.height)
+            && self.count as u64 == self.width * self.height + 2
+    }
+
+    /// The shape of the pile that was surveyed, in a text of so many bytes, or the first of the faults that come behind
+    /// strange bytes and numbers over the limit: fewer than two numbers (Text), Side, Narrow, Length, TooManyGrains.
+    /// Only where the pile is not the last in its text may more numbers follow than it has sites.
+    pub(crate) fn shape(&self, last: bool, end: usize) -> Result<Shape, TextFault>
+        ensures ok { IfOk result (λ g. (ws rest : List Word) → IsUnderway ws rest self.now → IsEnd last rest self.now → IsShaped last end ws self.now g) }
+        ensures err { IfErr result (λ e. (ws rest : List Word) → IsUnderway ws rest self.now → IsEnd last rest self.now
+            → pile_at (edge_behind 2 0 ws) last end (numbers ws) ≡ Err e) }
+    {
+        if self.count < 2 {
+            return Err(TextFault::Text(end));
+        }
+        let shape = Shape::with_edge(self.width as usize, self.height as usize, self.edge)?;
+        if !is_count(last, self.count - 2, shape.sites()) {
+            return Err(TextFault::Length);
+        }
+        if self.grains > GRAIN_LIMIT {
+            return Err(TextFault::TooManyGrains);
+        }
+        Ok(shape)
+    }
+}
+
+// The survey of all words of a text, or its first strange byte as the fault.
+fn survey_of(text: &[u8]) -> Result<Survey, TextFault>
+    ensures ok { IfOk result (IsUnderway (words text.now) []) }
+    ensures err { IfErr result (λ e. plain_words (2 ∷ []) text.now ≡ Err e) }
+{
+    let mut survey = Survey::new();
+    for word in Words::new(text) {
+        survey.take(word)?;
+    }
+    Ok(survey)
+}
+
+/// The survey of a text in which no byte is strange and no number over the limit; else the first such byte (Text), or the
+/// first such number (TooLarge).
+pub(crate) fn plain_survey(text: &[u8]) -> Result<Survey, TextFault>
+    ensures ok { IfOk result (IsUnderway (words text.now) []) }
+    ensures plain { IfOk result (λ s. plain_words (2 ∷ []) text.now ≡ Ok (words text.now)) }
+    ensures err { IfErr result (λ e. plain_words (2 ∷ []) text.now ≡ Err e) }
+{
+    let survey = survey_of(text)?;
+    match survey.large {
+        Some(at) => Err(TextFault::TooLarge(at)),
+        None => Ok(survey),
+    }
+}

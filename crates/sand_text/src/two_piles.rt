@@ -1,0 +1,110 @@
+//! Two piles from one text, one after the other.
+//!
+//! One walk over the words surveys the first pile until it is full, and then the second. Where the second may have its
+//! letter the words before it decide, but for one thing: in a text with a number over the limit, wherever that stands, it
+//! may have none. So at a letter the text is looked through for such a number.
+
+ghost use Rattle.std.specs.Prelude.{◌≡◌, ◌+◌, ◌≤◌, List, [], ◌∷◌, Bool, length, take, drop, sum, None, IfOk, IfErr};
+ghost use Rattle.sand_model.specs.declared.pile.TheConstants.{GRAIN_LIMIT};
+ghost use Rattle.sand_model.specs.Grid.{sites};
+ghost use Rattle.sand_text.specs.declared.words.Word.{Word};
+ghost use Rattle.sand_text.specs.Words.{words, first_strange, numbers};
+ghost use Rattle.sand_text.specs.Left.{words_left};
+ghost use Rattle.sand_text.specs.Bytes.{has_large};
+ghost use Rattle.sand_text.specs.Reading.{ReadsAs, plain_words, second_letter, second_spared, two_letters, two_of, heights_on, behind_heights, heights_behind};
+ghost use Rattle.sand_text.specs.Surveys.{IsUnderway, IsFront, IsFirstStrange, barred_at};
+
+use crate::bytes::has_large;
+use crate::fault::{ReadFault, TextFault};
+use crate::numbers::Numbers;
+use crate::survey::Survey;
+use crate::words::{Word, Words};
+use sand_model::{Pile, Shape};
+use std::alloc::Global;
+
+// The survey of the first pile. The words behind it are left.
+fn first_survey(words: &mut Words<'_>) -> Result<Survey, TextFault>
+    ensures ok { IfOk result (IsFront (words_left words.old) (words_left words.new)) }
+    ensures err { IfErr result (λ e. (over : Bool) → IsFirstStrange (2 ∷ second_letter over (numbers (words_left words.old))) (words_left words.old) e) }
+{
+    let mut survey = Survey::new();
+    'pile: while !survey.is_full() {
+        let Some(word) = words.next() else {
+            break;
+        };
+        survey.take(word)?;
+    }
+    Ok(survey)
+}
+
+// Where a letter stands that the second pile may not have, since a number of the text is over the limit.
+fn barred_at(word: Word, text: &[u8]) -> Option<usize>
+    ensures { result ≡ barred_at (has_large text.now) word }
+{
+    match word {
+        Word::Letter(at) if has_large(text) => Some(at),
+        _ => None,
+    }
+}
+
+// The survey of the second pile, of which these are all words.
+fn second_survey(words: Words<'_>, text: &[u8]) -> Result<Survey, TextFault>
+    ensures ok { IfOk result (IsUnderway (words_left words.entry) []) }
+    ensures plain { IfOk result (λ s. first_strange (second_spared text.now) 0 (words_left words.entry) ≡ None) }
+    ensures err { IfErr result (IsFirstStrange (second_spared text.now) (words_left words.entry)) }
+{
+    let mut survey = Survey::new();
+    for word in words {
+        if let Some(at) = barred_at(word, text) {
+            return Err(TextFault::Text(at));
+        }
+        survey.take(word)?;
+    }
+    Ok(survey)
+}
+
+// The surveys of the two piles of a text in which no byte is strange and no number over the limit; else the first such byte
+// (Text), or the first such number (TooLarge).
+fn two_surveys(text: &[u8]) -> Result<(Survey, Survey), TextFault>
+    ensures piles { IfOk result (λ (first, second). (rest : List Word) × IsFront (words text.now) rest first × IsUnderway rest [] second) }
+    ensures plain { IfOk result (λ _. plain_words (two_letters text.now) text.now ≡ Ok (words text.now)) }
+    ensures err { IfErr result (λ e. plain_words (two_letters text.now) text.now ≡ Err e) }
+{
+    let mut words = Words::new(text);
+    let first = first_survey(&mut words)?;
+    let second = second_survey(words, text)?;
+    match first.large.or(second.large) {
+        Some(at) => Err(TextFault::TooLarge(at)),
+        None => Ok((first, second)),
+    }
+}
+
+// The shapes and the grains of the two piles that a text holds, where the text has no fault.
+fn shapes_of(text: &[u8]) -> Result<((Shape, u64), (Shape, u64)), TextFault>
+    ensures piles { IfOk result (λ ((g, _), (h, _)). two_of text.now ≡ Ok (record { grid = g; heights = heights_on g text.now }, record { grid = h; heights = heights_behind g h text.now })) }
+    ensures enough { IfOk result (λ ((g, _), (h, _)). (2 + sites g ≤ length (numbers (words text.now))) × (2 + sites h ≤ length (behind_heights g text.now))) }
+    ensures one_each { IfOk result (λ ((g, _), (h, _)). (length (heights_on g text.now) ≡ sites g) × (length (heights_behind g h text.now) ≡ sites h)) }
+    ensures grains { IfOk result (λ ((g, n), (h, m)). (n ≡ sum (heights_on g text.now)) × (m ≡ sum (heights_behind g h text.now))) }
+    ensures limit { IfOk result (λ ((_, n), (_, m)). (n ≤ GRAIN_LIMIT) × (m ≤ GRAIN_LIMIT)) }
+    ensures err { IfErr result (λ e. two_of text.now ≡ Err e) }
+{
+    let (first, second) = two_surveys(text)?;
+    let first_shape = first.shape(false, text.len())?;
+    let second_shape = second.shape(true, text.len())?;
+    Ok(((first_shape, first.grains), (second_shape, second.grains)))
+}
+
+/// The two piles that a text holds, one after the other, or its first fault. Every fault but want of memory is found before
+/// anything grows.
+pub fn read_two(alloc: Global, text: &[u8]) -> Result<(Pile, Pile), ReadFault>
+    ensures { ReadsAs (λ piles. piles) result (two_of text.now) }
+{
+    let ((first, first_grains), (second, second_grains)) = shapes_of(text)?;
+    let mut numbers = Numbers::new(text);
+    let first_heights = numbers.next_heights(alloc, first.sites())?;
+    let second_heights = numbers.next_heights(alloc, second.sites())?;
+    Ok((
+        Pile::from_counted(first, first_heights, first_grains),
+        Pile::from_counted(second, second_heights, second_grains),
+    ))
+}

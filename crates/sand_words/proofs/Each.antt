@@ -1,0 +1,32 @@
+-- What holds of each element of a list.
+use Rattle.std.proofs.Common.{◌≡◌, Bool, true, false, cond, List, [], ◌∷◌, ◌++◌, Some, refl, subst}
+use Rattle.std.specs.Prelude.{IfSome, ⊤, find}
+
+-- P of each element
+abbrev pub Each : {X : Type 0} → (X → Type 0) → List X → Type 0
+Each P [] = ⊤
+Each P (x ∷ xs) = P x × Each P xs
+
+pub each_append : {X : Type 0} (P : X → Type 0) (xs ys : List X) → Each P xs → Each P ys → Each P (xs ++ ys)
+each_append P [] ys h k = k
+each_append P (x ∷ xs) ys h k = (h.0, each_append P xs ys h.1 k)
+
+-- what holds of each element holds of the one that is found
+pub each_found : {X : Type 0} (test : X → Bool) (P : X → Type 0) (xs : List X) → Each P xs → IfSome (find test xs) P
+each_found test P [] each = tt
+each_found test P (x ∷ xs) each = go (each_found test P xs each.1) (test x)
+  where
+    go : IfSome (find test xs) P → (b : Bool) → IfSome (cond b (Some x) (find test xs)) P
+    go later true = each.0
+    go later false = later
+
+-- what holds of each element that passes the test holds of the one that is found
+pub of_found : {X : Type 0} (test : X → Bool) (P : X → Type 0) (xs : List X) (s : X) → Each (λ x. test x ≡ true → P x) xs → find test xs ≡ Some s → P s
+of_found test P [] s each e = cc
+of_found test P (x ∷ xs) s each e = go (λ f. of_found test P xs s each.1 f) (test x) refl e
+  where
+    go : (find test xs ≡ Some s → P s) → (b : Bool) → test x ≡ b → cond b (Some x) (find test xs) ≡ Some s → P s
+    go later true t f =
+        let same : x ≡ s = cc in
+        subst P same (each.0 t)
+    go later false t f = later f

@@ -1,0 +1,23 @@
+-- What the options of a command say.
+use Rattle.std.specs.Prelude.{ℕ, Bool, false, List, Option, Some, None, if◌then◌else◌, codes, option_and_then}
+use Rattle.std.specs.Option.{option_map_or}
+use Rattle.std.specs.Str.{bytes_eq}
+use Rattle.std.specs.Str.Parse.{digits_value, without_leading_plus}
+use Rattle.clap.specs.Words.{Row, Text, one_of}
+use Rattle.clap.specs.ValueTests.{is_unsigned_in}
+
+-- whether the flag is there
+abbrev pub flag_in : Text → List Row → Bool
+flag_in name options = option_map_or (λ text. bytes_eq text (codes "true")) (one_of name options) false
+
+-- the value of decimal digits, which may have a plus before them
+abbrev pub value_of : Text → ℕ
+value_of text = digits_value 10 (without_leading_plus text)
+
+-- the number that the text writes, where it is a `usize`
+abbrev pub number_of : Text → Option ℕ
+number_of text = if is_unsigned_in 0 18446744073709551615 text then Some (value_of text) else None
+
+-- the number that the option carries
+abbrev pub number_in : Text → List Row → Option ℕ
+number_in name options = option_and_then number_of (one_of name options)

@@ -1,0 +1,28 @@
+-- The words that spell a task, written out by hand.
+use Rattle.std.specs.Prelude.{◌≡◌, Bool, List, [], ◌∷◌, ◌++◌, MatchResult, Result, if◌then◌else◌, codes, decimal}
+use Rattle.clap.specs.Words.{Text}
+use Rattle.sand_words.specs.Asked.{HasSides}
+use Rattle.sand_words.specs.declared.fault.WordsFault.{WordsFault}
+use Rattle.sand_words.specs.declared.fault.WordsFault.TheVariants.{Memory}
+use Rattle.sand_words.specs.declared.words.Task.{Task}
+use Rattle.sand_words.specs.declared.words.Task.TheVariants.{Add, Burn, Drops, Identity, Inverse, Settle}
+
+-- a flag, where it is wanted
+abbrev pub flag_words : Text → Bool → List Text
+flag_words flag wanted = if wanted then flag ∷ [] else []
+
+-- what stands behind the program's name
+abbrev pub words_of : Task → List Text
+words_of (Settle pgm) = codes "settle" ∷ flag_words (codes "--pgm") pgm
+words_of Burn = codes "burn" ∷ []
+words_of (Identity width height cylinder pgm) =
+    codes "identity" ∷ codes "--width" ∷ decimal width ∷ codes "--height" ∷ decimal height
+    ∷ (flag_words (codes "--cylinder") cylinder ++ flag_words (codes "--pgm") pgm)
+words_of Drops = codes "drops" ∷ []
+words_of (Add pgm) = codes "add" ∷ flag_words (codes "--pgm") pgm
+words_of (Inverse pgm) = codes "inverse" ∷ flag_words (codes "--pgm") pgm
+
+-- words that spell a task, whatever the program's name, are answered with that task, but for want of memory
+abbrev pub Heeds : List Text → Result Task WordsFault → Type 0
+Heeds words answer = (program : Text) (task : Task) → HasSides task → words ≡ program ∷ words_of task
+    → MatchResult answer (λ t. t ≡ task) (λ fault. fault ≡ Memory)

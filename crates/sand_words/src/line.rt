@@ -1,0 +1,92 @@
+//! The command line that is taken, made by clap's builders.
+
+ghost use Rattle.std.specs.Prelude.{◌≡◌, IfOk, codes, false};
+ghost use Rattle.clap.specs.Words.{app_of, rule_of};
+ghost use Rattle.clap.specs.declared.builder.command.Command.TheViews.{out-Command};
+ghost use Rattle.sand_words.specs.Line.{bare_line, command_line, flag, identity_line, number, pgm_line, side};
+
+use crate::help::{self, Help};
+use clap::builder::ValueParser;
+use clap::{Arg, ArgAction, Command};
+use std::alloc::{AllocError, Global};
+
+// An option that is there or not.
+fn flag<'a>(alloc: Global, name: &'a str, about: &'static str) -> Arg<'a>
+    ensures rule { rule_of result ≡ flag name.entry.now }
+    ensures local { result.global ≡ false }
+{
+    Arg::new(alloc, name)
+        .long(name)
+        .action(ArgAction::SetTrue)
+        .help(about)
+}
+
+// An option with a whole number from `least` to `most`.
+fn number<'a>(alloc: Global, name: &'a str, least: u64, most: u64, about: &'static str) -> Arg<'a>
+    ensures rule { rule_of result ≡ number name.entry.now least most }
+    ensures local { result.global ≡ false }
+{
+    Arg::new(alloc, name)
+        .long(name)
+        .action(ArgAction::Set)
+        .value_parser(ValueParser::unsigned(least, most))
+        .help(about)
+}
+
+// A side of a grid, which must be given.
+fn side<'a>(alloc: Global, name: &'a str, about: &'static str) -> Arg<'a>
+    ensures rule { rule_of result ≡ side name.entry.now }
+    ensures local { result.global ≡ false }
+{
+    number(alloc, name, 1, 256, about).required(true)
+}
+
+fn pgm<'a>(alloc: Global) -> Arg<'a>
+    ensures rule { rule_of result ≡ flag (codes "pgm") }
+    ensures local { result.global ≡ false }
+{
+    flag(alloc, "pgm", "Write a picture (plain PGM), not text")
+}
+
+fn bare_line<'a>(alloc: Global, name: &'a str, help: Help) -> Command<'a>
+    ensures line { app_of result ≡ bare_line name.entry.now }
+    ensures local { (out-Command result).has_globals ≡ false }
+{
+    Command::new(alloc, name)
+        .about(help.about)
+        .after_help(help.details)
+}
+
+fn pgm_line<'a>(alloc: Global, name: &'a str, help: Help) -> Result<Command<'a>, AllocError>
+    ensures line { IfOk result (λ c. app_of c ≡ pgm_line name.entry.now) }
+    ensures local { IfOk result (λ c. (out-Command c).has_globals ≡ false) }
+{
+    bare_line(alloc, name, help).arg(pgm(alloc))
+}
+
+fn identity_line<'a>(alloc: Global) -> Result<Command<'a>, AllocError>
+    ensures line { IfOk result (λ c. app_of c ≡ identity_line) }
+    ensures local { IfOk result (λ c. (out-Command c).has_globals ≡ false) }
+{
+    let cylinder = flag(alloc, "cylinder", "Let the rows go round");
+    bare_line(alloc, "identity", help::IDENTITY)
+        .arg(side(alloc, "width", "Sites in a row, from 1 to 256"))?
+        .arg(side(alloc, "height", "Rows, from 1 to 256"))?
+        .arg(cylinder)?
+        .arg(pgm(alloc))
+}
+
+/// The command line of `sandpile`.
+pub(crate) fn command_line<'a>(alloc: Global) -> Result<Command<'a>, AllocError>
+    ensures { IfOk result (λ c. app_of c ≡ command_line) }
+{
+    bare_line(alloc, "sandpile", help::PROGRAM)
+        .subcommand_required(true)
+        .disable_help_subcommand(true)
+        .subcommand(pgm_line(alloc, "settle", help::SETTLE)?)?
+        .subcommand(bare_line(alloc, "burn", help::BURN))?
+        .subcommand(identity_line(alloc)?)?
+        .subcommand(bare_line(alloc, "drops", help::DROPS))?
+        .subcommand(pgm_line(alloc, "add", help::ADD)?)?
+        .subcommand(pgm_line(alloc, "inverse", help::INVERSE)?)
+}
