@@ -1,46 +1,28 @@
 -- The members of the group: what settles from high piles is recurrent, and so is what settles from a recurrent pile
 -- with more grains; the settled piles of a + b, d and 2d - c are the sum, the identity and the inverse.
-use Rattle.std.proofs.Common.{ℕ, zero, suc, ◌≡◌, ◌+◌, ◌-◌, ◌*◌, ◌<◌, ◌≤◌, ap, arith, ⊎_elim}
+use Rattle.std.proofs.Common.{ℕ, ◌≡◌, ◌+◌, ◌-◌, ◌*◌, ◌<◌, ◌≤◌, refl, sym, arith}
 use Rattle.std.specs.Prelude.{ℤ, pos, ◌+ℤ◌, ◌-ℤ◌}
 use Rattle.std.proofs.lemmas.Int.{ints}
-use Rattle.std.proofs.lemmas.Bool.{cases_lt}
 use Rattle.std.proofs.Math.Nat.{mul-le-mul_left}
 use Rattle.sand_model.specs.Grid.{Grid, sites}
 use Rattle.sand_model.specs.Sand.{total, IsSettled}
 use Rattle.sand_model.specs.Integers.{whole, IsEquivalent}
-use Rattle.sand_model.proofs.Sandpile.{settled_in_parts}
+use Rattle.sand_model.proofs.Sandpile.{settled_in_parts, settled_same, settled_stable}
+use Rattle.sand_model.proofs.Bounds.{at_most_total}
 use Rattle.sand_model.proofs.IntegerFlow.{above, below, parts, settled_equivalent}
 use Rattle.sand_group.specs.Recurrence.{IsRecurrent}
 use Rattle.sand_group.specs.Group.{IsSurplus, Represents, IsSum, IsIdentity, IsInverse}
 use Rattle.sand_group.proofs.Settling.{settles}
-use Rattle.sand_group.proofs.Stabilised.{settled_stable, settled_recurrent}
+use Rattle.sand_group.proofs.Stabilised.{settled_recurrent}
 use Rattle.sand_group.proofs.Uniqueness.{recurrent_unique}
 use Rattle.sand_group.proofs.Classes.{equivalent_sym, equivalent_add, equivalent_same, equivalent_times, equivalent_trans}
-
--- ---- the same heights
-
--- what settles is a matter of the heights at the sites alone
-pub settled_from : (g : Grid) (s r u t : ℕ → ℕ) → IsSettled g s u t → ((i : ℕ) → i < sites g → r i ≡ s i) → IsSettled g r u t
-settled_from g s r u t done same = record {
-  toppled = record { balance = λ i l. let e = done.toppled.balance i l in let h = same i l in omega arith };
-  odometer = record {
-    stabilises = record { at_most_three = λ i l. let e = done.odometer.stabilises.at_most_three i l in let h = same i l in omega arith };
-    least = λ w stable i l. done.odometer.least w (record { at_most_three = λ j m. let e = stable.at_most_three j m in let h = same j m in omega arith }) i l;
-  };
-}
-
-pub settled_to : (g : Grid) (s u t r : ℕ → ℕ) → IsSettled g s u t → ((i : ℕ) → i < sites g → r i ≡ t i) → IsSettled g s u r
-settled_to g s u t r done same = record {
-  toppled = record { balance = λ i l. let e = done.toppled.balance i l in let h = same i l in omega arith };
-  odometer = done.odometer;
-}
 
 -- ---- recurrent piles
 
 -- what settles from heights of 3 and more is recurrent
 pub high_recurrent : (g : Grid) (s u t : ℕ → ℕ) → IsSettled g s u t → ((i : ℕ) → i < sites g → 3 ≤ s i) → IsRecurrent g t
 high_recurrent g s u t done high =
-    settled_recurrent g (λ i. s i - 3) u t (settled_from g s (λ i. 3 + (s i - 3)) u t done (λ i l. let h = high i l in omega arith))
+    settled_recurrent g (λ i. s i - 3) u t (settled_same g s (λ i. 3 + (s i - 3)) u u t t (λ i l. let h = high i l in omega arith) (λ i l. refl) (λ i l. refl) done)
 
 -- a pile that is 3 or more at each site and equivalent to all 0
 pub surplus_high : (g : Grid) (d : ℕ → ℕ) → IsSurplus g d → (i : ℕ) → i < sites g → 3 ≤ d i
@@ -82,7 +64,7 @@ recurrent_from_full g c recurrent =
     equivalent_same g (λ i. pos 0) (whole d.0) (whole c) (whole (λ i. 3 + (c i + (d.0 i - 3)))) (equivalent_sym g (whole d.0) (λ i. pos 0) none)
     (λ i l. let high = surplus_high g d.0 d.1 i l in omega (arith, ints)) in
     let class = equivalent_trans g (whole c) (whole (λ i. 3 + (c i + (d.0 i - 3)))) (whole done.1) start back in
-    (λ i. c i + (d.0 i - 3), done.0, settled_to g (λ i. 3 + (c i + (d.0 i - 3))) done.0 done.1 c done.2 (recurrent_unique g c done.1 recurrent again class))
+    (λ i. c i + (d.0 i - 3), done.0, settled_same g (λ i. 3 + (c i + (d.0 i - 3))) (λ i. 3 + (c i + (d.0 i - 3))) done.0 done.0 done.1 c (λ i l. refl) (λ i l. refl) (λ i l. sym (recurrent_unique g c done.1 recurrent again class i l)) done.2)
 
 -- more grains on a recurrent pile settle to a recurrent pile
 pub recurrent_plus : (g : Grid) (a b u r : ℕ → ℕ) → IsRecurrent g a → IsSettled g (λ i. a i + b i) u r → IsRecurrent g r
@@ -120,14 +102,6 @@ inverse_is_settled g c d u r recurrent is done =
 
 -- ---- each class has one
 
-term_in_total : (n : ℕ) (f : ℕ → ℕ) (i : ℕ) → i < n → f i ≤ total n f
-unfolding total
-term_in_total zero f i l = absurd (omega arith)
-term_in_total (suc n) f i l =
-    ⊎_elim (λ (less : i < n). let rest = term_in_total n f i less in omega arith)
-    (λ (last : n ≤ i). let e : i ≡ n = omega arith in let same = ap f e in omega arith)
-    (cases_lt i n)
-
 -- x and enough times d are 3 or more everywhere, and what they settle to is recurrent
 pub class_has_one : (g : Grid) (x : ℕ → ℤ) → (c : ℕ → ℕ) × Represents g x c
 class_has_one g x =
@@ -135,7 +109,7 @@ class_has_one g x =
     let k = total (sites g) (λ i. below (x i)) + 1 in
     let s : ℕ → ℕ = λ i. above (x i) + k * d.0 i - below (x i) in
     let enough : (i : ℕ) → i < sites g → below (x i) + 3 ≤ k * d.0 i = λ i l.
-    (let most = term_in_total (sites g) (λ j. below (x j)) i l in
+    (let most = at_most_total (sites g) (λ j. below (x j)) i l in
     let product = mul-le-mul_left k (surplus_high g d.0 d.1 i l) in
     omega arith) in
     let done = settles g s in

@@ -13,9 +13,10 @@ use Rattle.sand_model.proofs.Totals.{total_same, total-add, total-one_at, one_at
 use Rattle.sand_model.proofs.Neighbours.{flow_four, some_width}
 use Rattle.sand_model.proofs.Flow.{flow_same, flow-add}
 use Rattle.sand_model.proofs.Tallies.{tally-cons}
-use Rattle.sand_group.specs.Recurrence.{IsForbidden, IsRecurrent, is_in, BurnInTurn, IsBurningOrder}
-use Rattle.sand_group.proofs.Sets.{indicator, at_most_one, count_within}
-use Rattle.sand_group.proofs.Listing.{all_or_one}
+use Rattle.sand_model.proofs.Lists.{at_most_one, all_or_one}
+use Rattle.sand_group.specs.Recurrence.{IsRecurrent, is_in, BurnInTurn, IsBurningOrder}
+use Rattle.sand_model.specs.Forbidden.{IsForbidden}
+use Rattle.sand_group.proofs.Sets.{indicator, count_within}
 
 -- ---- no site is its own neighbour
 

@@ -1,25 +1,25 @@
 -- What the operations of the group make, from the lists of heights that they settle.
-use Rattle.std.proofs.Common.{ℕ, ◌≡◌, ◌+◌, ◌-◌, ◌*◌, ◌<◌, ◌≤◌, sym, ◌∙◌, ap, arith, List, length, sum, get_or, replicate, All, ⊎_elim}
+use Rattle.std.proofs.Common.{ℕ, ◌≡◌, ◌+◌, ◌-◌, ◌*◌, ◌<◌, ◌≤◌, refl, sym, ◌∙◌, ap, arith, List, length, sum, get_or, replicate, All, ⊎_elim}
 use Rattle.std.proofs.Math.ListN.{set}
-use Rattle.std.proofs.lemmas.Bool.{cases_eq, cases_lt}
-use Rattle.std.proofs.lemmas.Nat.{mul-le}
-use Rattle.std.proofs.lemmas.List.{get_or-replicate, get_or-set_same, get_or-set_other, get_or_read, get_or_past}
+use Rattle.std.proofs.lemmas.Bool.{cases_lt}
+use Rattle.std.proofs.lemmas.List.{get_or-replicate, get_or_read, get_or_past}
 use Rattle.std.proofs.lemmas.List.Sums.{sum_by-le}
 use Rattle.std.proofs.lemmas.List.Elements.{All-from_get_or, All-get_or}
 use Rattle.sand_model.specs.declared.pile.TheConstants.{GRAIN_LIMIT}
 use Rattle.sand_model.specs.Grid.{Grid, IsGrid, sites}
 use Rattle.sand_model.specs.Sand.{IsStable, one_at}
 use Rattle.sand_model.specs.Piles.{PileView, IsPile, height_of}
-use Rattle.sand_model.proofs.Totals.{one_at_same, one_at_other}
+use Rattle.sand_model.proofs.Sandpile.{settled_same}
+use Rattle.sand_model.proofs.Bounds.{sites_limit}
+use Rattle.sand_model.proofs.Heights.{get_or-written}
 use Rattle.sand_group.specs.Recurrence.{IsRecurrent}
 use Rattle.sand_group.specs.Group.{IsSettledPile, IsSurplus}
-use Rattle.sand_group.proofs.Members.{settled_from}
 
 -- heights of 12 at most are far below the limit in all
 pub within_limit : (g : Grid) (heights : List ℕ) → IsGrid g → length heights ≡ sites g → All (λ h. h ≤ 12) heights → sum heights ≤ GRAIN_LIMIT
 within_limit g heights grid len low =
     let all = sum_by-le (λ h. h) 12 heights low in
-    let area = mul-le g.width g.height 256 256 grid.width_limit grid.height_limit in
+    let area = sites_limit g grid in
     omega arith
 
 -- the heights of a stable pile, one by one
@@ -29,12 +29,12 @@ low_heights p heights is same stable =
 
 -- ---- what settles
 
-pub settled_same : (g h : Grid) (s r : ℕ → ℕ) (p : PileView) → IsSettledPile g s p → h ≡ g → ((i : ℕ) → i < sites g → r i ≡ s i) → IsSettledPile h r p
-settled_same g h s r p done same equal = rw same (record {
+pile_settles : (g h : Grid) (s r : ℕ → ℕ) (p : PileView) → IsSettledPile g s p → h ≡ g → ((i : ℕ) → i < sites g → r i ≡ s i) → IsSettledPile h r p
+pile_settles g h s r p done same equal = rw same (record {
   grid = done.grid;
   one_each = done.one_each;
   odometer = done.odometer;
-  settled = settled_from g s r done.odometer (height_of p) done.settled equal;
+  settled = settled_same g s r done.odometer done.odometer (height_of p) (height_of p) (λ i l. sym (equal i l)) (λ i l. refl) (λ i l. refl) done.settled;
 })
 
 pub recurrent_there : (g : Grid) (s : ℕ → ℕ) (p : PileView) → IsSettledPile g s p → IsRecurrent g (height_of p) → IsRecurrent p.grid (height_of p)
@@ -56,7 +56,7 @@ sums_low a b v same low_a low_b sums =
 pub sum_settles : (g : Grid) (a b p : PileView) (ha hb v : List ℕ) → g ≡ a.grid → IsPile a → ha ≡ a.heights → hb ≡ b.heights → ((i : ℕ) → i < length ha → get_or v i 0 ≡ get_or ha i 0 + get_or hb i 0) → IsSettledPile g (λ i. get_or v i 0) p → IsSettledPile a.grid (λ i. height_of a i + height_of b i) p
 sum_settles g a b p ha hb v grid is same_a same_b sums done =
     let each : length ha ≡ sites g = ap length same_a ∙ is.one_each ∙ sym (ap sites grid) in
-    settled_same g a.grid (λ i. get_or v i 0) (λ i. height_of a i + height_of b i) p done (sym grid)
+    pile_settles g a.grid (λ i. get_or v i 0) (λ i. height_of a i + height_of b i) p done (sym grid)
     (λ i l. let e = sums i (omega arith) in let p = ap (λ (xs : List ℕ). get_or xs i 0) same_a in let q = ap (λ (xs : List ℕ). get_or xs i 0) same_b in omega arith)
 
 -- ---- d, and what 2d - c settles to
@@ -65,7 +65,7 @@ pub surplus_is : (g : Grid) (twice v h : List ℕ) (p : PileView) → twice ≡ 
 surplus_is g twice v h p full done same rests = record {
   odometer = done.odometer;
   rest = height_of p;
-  settled = settled_from g (λ i. get_or twice i 0) (λ i. 6) done.odometer (height_of p) done.settled (λ i l. let each = get_or-replicate (sites g) i 6 0 l in rw full (sym each));
+  settled = settled_same g (λ i. get_or twice i 0) (λ i. 6) done.odometer done.odometer (height_of p) (height_of p) (λ i l. rw full (get_or-replicate (sites g) i 6 0 l)) (λ i l. refl) (λ i l. refl) done.settled;
   difference = λ i l.
       let each : length h ≡ sites g = ap length same ∙ done.one_each in
       let e = rests i (omega arith) in
@@ -79,7 +79,7 @@ surplus_there g h d e is = rw (← e) is
 pub difference_settles : (g : Grid) (c p : PileView) (hc hd d v : List ℕ) → g ≡ c.grid → IsPile c → hc ≡ c.heights → hd ≡ d → ((i : ℕ) → i < length hc → get_or v i 0 ≡ 2 * get_or hd i 0 - get_or hc i 0) → IsSettledPile g (λ i. get_or v i 0) p → IsSettledPile c.grid (λ i. 2 * get_or d i 0 - height_of c i) p
 difference_settles g c p hc hd d v grid is same same_d differences done =
     let each : length hc ≡ sites g = ap length same ∙ is.one_each ∙ sym (ap sites grid) in
-    settled_same g c.grid (λ i. get_or v i 0) (λ i. 2 * get_or d i 0 - height_of c i) p done (sym grid)
+    pile_settles g c.grid (λ i. get_or v i 0) (λ i. 2 * get_or d i 0 - height_of c i) p done (sym grid)
     (λ i l. let e = differences i (omega arith) in let here = ap (λ (xs : List ℕ). get_or xs i 0) same in let from = ap (λ (xs : List ℕ). get_or xs i 0) same_d in omega arith)
 
 -- ---- one grain more
@@ -88,19 +88,9 @@ pub grain_settles : (g : Grid) (c p : PileView) (h : List ℕ) (site x : ℕ) �
 grain_settles g c p h site x grid is same inside read done =
     let each : length h ≡ sites c.grid = ap length same ∙ is.one_each in
     let start = get_or_read h site x (omega arith) read 0 in
-    settled_same g c.grid (λ i. get_or (set h site (x + 1)) i 0) (λ i. height_of c i + one_at site i) p done (sym grid)
+    pile_settles g c.grid (λ i. get_or (set h site (x + 1)) i 0) (λ i. height_of c i + one_at site i) p done (sym grid)
     (λ i l.
     let here = ap (λ (xs : List ℕ). get_or xs i 0) same in
-    ⊎_elim
-    (λ (e : site ≡ i).
-    let one = one_at_same site in
-    let at = get_or-set_same h site (x + 1) 0 (omega arith) in
-    let there = ap (λ k. get_or h k 0) e in
-    let same_one = ap (one_at site) e in
-    let same_set = ap (λ k. get_or (set h site (x + 1)) k 0) e in
+    let was = ap (λ k. k * one_at site i) start in
+    let written = get_or-written h site (x + 1) i (omega arith) in
     omega arith)
-    (λ (ne : site ≡ i → ⊥).
-    let none = one_at_other site i ne in
-    let kept = get_or-set_other h site i (x + 1) 0 (λ q. ne (sym q)) in
-    omega arith)
-    (cases_eq site i))

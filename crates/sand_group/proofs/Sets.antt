@@ -1,21 +1,16 @@
 -- How many neighbours of a site are in a set.
-use Rattle.std.proofs.Common.{ℕ, Bool, true, false, cond, ◌≡◌, ◌<◌, ◌≤◌, refl, arith, Option, Some, None, count_by, ⊎_elim}
+use Rattle.std.proofs.Common.{ℕ, Bool, true, false, ◌≡◌, ◌<◌, ◌≤◌, refl, arith, Option, Some, None, count_by, ⊎_elim}
 use Rattle.std.proofs.lemmas.Bool.{cases_Bool}
 use Rattle.sand_model.specs.Grid.{Grid, sites, neighbours, north, west, east, south}
 use Rattle.sand_model.specs.Sand.{flow, value_at}
+use Rattle.sand_model.specs.Lists.{one_if}
 use Rattle.sand_model.proofs.Flow.{flow_le}
 use Rattle.sand_model.proofs.Neighbours.{flow_four}
-
-abbrev pub one_if : Bool → ℕ
-one_if b = cond b 1 0
+use Rattle.sand_model.proofs.Lists.{at_most_one}
 
 -- 1 at the sites of a set, and 0 elsewhere
 abbrev pub indicator : (ℕ → Bool) → ℕ → ℕ
 indicator set j = one_if (set j)
-
-pub at_most_one : (b : Bool) → cond b 1 0 ≤ 1
-at_most_one true = omega arith
-at_most_one false = omega arith
 
 pub count_is_flow : (g : Grid) (set : ℕ → Bool) (i : ℕ) → count_by set (neighbours g i) ≡ flow g (indicator set) i
 unfolding flow
@@ -44,7 +39,7 @@ flow_at_most_four g set i =
     let s = place_at_most_one set (south g i) in
     omega arith
 
-one_in_set : (b : Bool) → 1 ≤ cond b 1 0 → b ≡ true
+one_in_set : (b : Bool) → 1 ≤ one_if b → b ≡ true
 one_in_set true l = refl
 one_in_set false l = absurd (omega arith)
 

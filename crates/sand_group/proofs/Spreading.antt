@@ -1,20 +1,23 @@
 -- What a fire leaves: no site of a forbidden set burns, and the order in which the others burn is a burning order.
 use Rattle.std.proofs.Common.{Option, Some, None, IfSome, get_or, take, not, ℕ, Bool, true, ◌≡◌, ◌+◌, ◌<◌, ◌≤◌, refl, sym, ◌∙◌, ap, arith, List, [], ◌∷◌, ◌++◌, length, All, count_by, append_assoc, append-nil, ⊎_elim}
-use Rattle.std.proofs.lemmas.Bool.{cases_eq, eq-eqb, ne_eqb, ltb-true, leb-false, not-true}
+use Rattle.std.proofs.lemmas.Bool.{cases_eq, ltb-true, leb-false, not-true}
 use Rattle.std.proofs.lemmas.List.{get_or_push, get_or_append_left, take-take, take_more, length-take}
 use Rattle.std.specs.List.Sorted.{IsStrictlyIncreasing}
-use Rattle.std.proofs.lemmas.List.Sums.{sum_by-cons}
 use Rattle.std.proofs.lemmas.List.Elements.{All-head, All-tail}
 use Rattle.sand_model.specs.Grid.{Grid, sites, neighbours, missing, places}
 use Rattle.sand_model.specs.Sand.{flow, tally, one_at, value_at, IsStable}
+use Rattle.sand_model.specs.Lists.{Lists}
 use Rattle.sand_model.proofs.Totals.{one_at_same, one_at_other}
 use Rattle.sand_model.proofs.Neighbours.{neighbours_mutual, neighbours_at_most_four, flow_four}
 use Rattle.sand_model.proofs.Flow.{flow_same, flow-add}
-use Rattle.sand_group.specs.Recurrence.{IsForbidden, IsRecurrent, is_in, BurnInTurn, IsBurningOrder, IsGreatestForbidden}
-use Rattle.sand_group.specs.Fire.{Lists, may_burn, is_out, BurnAfter, CountsUnburnt}
-use Rattle.sand_group.proofs.Sets.{indicator, count_within}
-use Rattle.sand_group.proofs.Listing.{listed, at_most_once, lists_below, lists_all, lists_leave, is_in_listing, is_out_of_listing}
+use Rattle.sand_model.proofs.Sandpile.{sum_by_ones}
 use Rattle.sand_model.proofs.Tallies.{tally-push, tally-cons}
+use Rattle.sand_model.proofs.Lists.{listed, at_most_once, lists_below, lists_all, lists_leave}
+use Rattle.sand_group.specs.Recurrence.{IsRecurrent, is_in, BurnInTurn, IsBurningOrder, IsGreatestForbidden}
+use Rattle.sand_model.specs.Forbidden.{IsForbidden}
+use Rattle.sand_group.specs.Fire.{may_burn, is_out, BurnAfter, CountsUnburnt}
+use Rattle.sand_group.proofs.Sets.{indicator, count_within}
+use Rattle.sand_group.proofs.Listing.{is_out-none, is_out-some, is_in_listing, is_out_of_listing}
 
 -- one more site burns
 pub burn_after_push : (g : Grid) (s : ℕ → ℕ) (before xs : List ℕ) (i : ℕ) → BurnAfter g s before xs → count_by (is_out (before ++ xs)) (neighbours g i) ≤ s i → BurnAfter g s before (xs ++ i ∷ [])
@@ -29,7 +32,7 @@ forbidden_unburnt g s set before (x ∷ xs) bad below none burnt j in' =
     let out : (k : ℕ) → set k ≡ true → x ≡ k → ⊥ = λ k here e.
     (let caught : set x ≡ true = ap set e ∙ here in
     let low = bad.low x site caught in
-    let fewer = count_within g set (is_out before) x site (λ m l yes. eq-eqb (tally before m) 0 (none m yes)) in
+    let fewer = count_within g set (is_out before) x site (λ m l yes. is_out-none before m (none m yes)) in
     let high = burnt.0 in
     omega arith) in
     let after : (k : ℕ) → set k ≡ true → tally (before ++ x ∷ []) k ≡ 0 = λ k here.
@@ -48,7 +51,7 @@ in_turn g s before [] below once burnt = tt
 in_turn g s before (x ∷ xs) below once burnt = (
   (let site = All-head (λ i. i < sites g) x xs below in
       let fewer = count_within g (is_in xs) (is_out before) x site
-      (λ m l yes. let some = ltb-true 0 (tally xs m) yes in let cons = tally-cons x xs m in let few = once m in eq-eqb (tally before m) 0 (omega arith)) in
+      (λ m l yes. let some = ltb-true 0 (tally xs m) yes in let cons = tally-cons x xs m in let few = once m in is_out-none before m (omega arith)) in
       let high = burnt.0 in
       omega arith),
   in_turn g s (before ++ x ∷ []) xs (All-tail (λ i. i < sites g) x xs below)
@@ -68,8 +71,8 @@ split_out g burnt i j l fresh =
     (λ (e : k ≡ i).
     let one = one_at_same i in
     let here = tally-push burnt i i in
-    let was = eq-eqb (tally burnt i) 0 fresh in
-    let now = ne_eqb (tally (burnt ++ i ∷ []) i) 0 (λ none. omega arith) in
+    let was = is_out-none burnt i fresh in
+    let now = is_out-some (burnt ++ i ∷ []) i (omega arith) in
     rw (e, was, now, one) refl)
     (λ (ne : k ≡ i → ⊥).
     let zero = one_at_other k i ne in
@@ -98,10 +101,6 @@ counts_more g burnt before after i counts l fresh fewer = record {
 
 -- ---- before the fire
 
-count_all : (xs : List ℕ) → count_by (is_out []) xs ≡ length xs
-count_all [] = refl
-count_all (x ∷ xs) = let rest = count_all xs in let cons = sum_by-cons (indicator (is_out [])) x xs in omega arith
-
 pub missing_at_most_four : (g : Grid) (i : ℕ) → missing g i ≤ 4
 unfolding missing
 missing_at_most_four g i = omega arith
@@ -113,7 +112,7 @@ counts_none g unburnt full = record {
   each = λ i l.
       let e = full i l in
       let few = neighbours_at_most_four g i in
-      let all = count_all (neighbours g i) in
+      let all = sum_by_ones (neighbours g i) in
       omega arith;
 }
 
@@ -184,5 +183,5 @@ burned_forbidden g s unburnt burnt left counts list order short rest rises =
       };
       greatest = λ other bad i l here.
           let none = forbidden_unburnt g s other [] burnt bad (lists_below (sites g) (may_burn s unburnt) burnt list) (λ j in'. refl) order i here in
-          member i l ∙ sym (out i l) ∙ eq-eqb (tally burnt i) 0 none;
+          member i l ∙ sym (out i l) ∙ is_out-none burnt i none;
     }

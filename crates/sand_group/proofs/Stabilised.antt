@@ -4,41 +4,25 @@
 -- If each site of F toppled, toppling each of them once less also stabilises m + a, against leastness.
 -- A site of F that did not topple has height 3 still: all four of its neighbours are in F, and none of them toppled.
 -- Its northern neighbour is another such site; but there is no endless way north.
-use Rattle.std.proofs.Common.{ℕ, zero, suc, Bool, true, false, cond, ◌≡◌, ◌+◌, ◌-◌, ◌/◌, ◌<◌, ◌≤◌, refl, ap, arith, Some, None, ⊎_elim}
+use Rattle.std.proofs.Common.{ℕ, zero, suc, Bool, true, false, ◌≡◌, ◌+◌, ◌-◌, ◌<◌, ◌≤◌, refl, ap, arith, Some, ⊎_elim}
 use Rattle.std.proofs.lemmas.Bool.{cases_lt, cases_Bool, ltb-true}
-use Rattle.std.proofs.lemmas.Nat.{div_below}
 use Rattle.sand_model.specs.Grid.{Grid, sites, north}
-use Rattle.sand_model.specs.Sand.{flow, value_at, IsStable, IsToppled, Stabilises, IsSettled}
+use Rattle.sand_model.specs.Sand.{flow, value_at, IsToppled, Stabilises, IsSettled}
 use Rattle.sand_model.proofs.Flow.{flow_same, flow-add}
-use Rattle.sand_model.proofs.Neighbours.{flow_four, some_width}
-use Rattle.sand_group.specs.Recurrence.{IsForbidden, IsRecurrent}
+use Rattle.sand_model.proofs.Sandpile.{settled_stable}
+use Rattle.sand_model.proofs.Neighbours.{flow_four, some_width, some_from, row_above}
+use Rattle.sand_group.specs.Recurrence.{IsRecurrent}
+use Rattle.sand_model.specs.Forbidden.{IsForbidden}
 use Rattle.sand_group.proofs.Sets.{indicator, count_is_flow, flow_at_most_four, north_of_four}
-
--- what settles is stable
-pub settled_stable : (g : Grid) (s u t : ℕ → ℕ) → IsSettled g s u t → IsStable g t
-settled_stable g s u t done = record {
-  low = λ i l.
-      let e = done.toppled.balance i l in
-      let most = done.odometer.stabilises.at_most_three i l in
-      omega arith;
-}
-
-cond_north : (b : Bool) (m k : ℕ) → cond b (Some m) None ≡ Some k → (b ≡ true) × (m ≡ k)
-cond_north true m k e = (refl, cc)
-cond_north false m k e = absurd cc
-
-in_first_row : (i w : ℕ) → 0 < w → 0 < i / w → w ≤ i
-in_first_row i w l up =
-    ⊎_elim (λ (less : i < w). let none : i / w < 1 = div_below i w 1 l (omega arith) in absurd (omega arith)) (λ (le : w ≤ i). le) (cases_lt i w)
 
 -- the northern neighbour is a site with a smaller number
 north_before : (g : Grid) (i j : ℕ) → i < sites g → north g i ≡ Some j → j < i
 unfolding north
 north_before g i j l e =
-    let at = cond_north _ (i - g.width) j e in
+    let at = some_from _ (i - g.width) j e in
     let width = some_width g.width g.height i l in
     let up = ltb-true _ _ at.0 in
-    let row = in_first_row i g.width width up in
+    let row = (row_above g.width i width).0 up in
     omega arith
 
 north_flow : (g : Grid) (u : ℕ → ℕ) (i j : ℕ) → north g i ≡ Some j → u j ≤ flow g u i

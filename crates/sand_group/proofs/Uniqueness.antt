@@ -12,7 +12,8 @@ use Rattle.sand_model.specs.Sand.{flow, IsStable}
 use Rattle.sand_model.specs.Integers.{laplacian, whole, IsEquivalent}
 use Rattle.sand_model.proofs.Flow.{flow_le, flow_same, flow-add, flow-scale}
 use Rattle.sand_model.proofs.IntegerFlow.{above, below, laplacian-parts}
-use Rattle.sand_group.specs.Recurrence.{IsForbidden, IsRecurrent}
+use Rattle.sand_group.specs.Recurrence.{IsRecurrent}
+use Rattle.sand_model.specs.Forbidden.{IsForbidden}
 use Rattle.sand_group.proofs.Sets.{count_is_flow, flow_at_most_four}
 
 -- how far z is above 0, and how far below

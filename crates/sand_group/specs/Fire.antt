@@ -1,11 +1,8 @@
 -- What holds while a fire spreads over a pile, for the functions of the burning test.
-use Rattle.std.specs.Prelude.{ℕ, Bool, ◌≡◌, ◌<◌, ◌≤◌, List, [], ◌∷◌, ◌++◌, count_by, nat_eq, nat_lt, nat_le, ◌&&◌, not, slice_index, if◌then◌else◌}
+use Rattle.std.specs.Prelude.{ℕ, Bool, ◌≡◌, ◌<◌, ◌≤◌, List, [], ◌∷◌, ◌++◌, count_by, nat_le, not, slice_index}
 use Rattle.sand_model.specs.Grid.{Grid, sites, neighbours}
-use Rattle.sand_model.specs.Sand.{tally}
-
--- the list has each number below n that passes the test, once, and no other
-pub record Lists (n : ℕ) (test : ℕ → Bool) (list : List ℕ) : Type 0 where
-  pub each : (i : ℕ) → tally list i ≡ (if nat_lt i n && test i then 1 else 0)
+use Rattle.sand_model.specs.Lists.{Lists}
+use Rattle.sand_group.specs.Recurrence.{is_in}
 
 -- whether a site may burn, with so many unburnt neighbours at each site
 abbrev pub may_burn : (ℕ → ℕ) → (ℕ → ℕ) → ℕ → Bool
@@ -21,7 +18,7 @@ ListsUnburnt n heights unburnt = Lists n (λ i. not (may_burn (slice_index heigh
 
 -- whether a site does not stand in a list of sites
 abbrev pub is_out : List ℕ → ℕ → Bool
-is_out xs i = nat_eq (tally xs i) 0
+is_out xs i = not (is_in xs i)
 
 -- each height is at least the number of the site's neighbours that did not burn before it
 abbrev pub BurnAfter : Grid → (ℕ → ℕ) → List ℕ → List ℕ → Type 0

@@ -1,14 +1,10 @@
--- Forbidden sets, recurrent piles and burning orders.
--- Source: Dhar 1990 (forbidden sets and the burning test). A set of sites is a test, true at its sites.
+-- Recurrent piles and burning orders.
+-- Source: Dhar 1990 (forbidden sets and the burning test).
 use Rattle.std.specs.Prelude.{ℕ, Bool, ◌≡◌, ◌<◌, ◌≤◌, List, [], ◌∷◌, All, IsTrue, count_by, nat_lt}
 use Rattle.std.specs.List.Sorted.{IsStrictlyIncreasing}
+use Rattle.sand_model.specs.Forbidden.{IsForbidden}
 use Rattle.sand_model.specs.Grid.{Grid, sites, neighbours}
 use Rattle.sand_model.specs.Sand.{tally, IsStable}
-
--- a set of sites that is not empty, where each height is below the number of the site's neighbours in the set
-pub record IsForbidden (g : Grid) (s : ℕ → ℕ) (set : ℕ → Bool) : Type 0 where
-  pub some : (i : ℕ) × (i < sites g) × IsTrue (set i)
-  pub low : (i : ℕ) → i < sites g → IsTrue (set i) → s i < count_by set (neighbours g i)
 
 -- stable, and no set is forbidden
 pub record IsRecurrent (g : Grid) (s : ℕ → ℕ) : Type 0 where

@@ -50,9 +50,11 @@ impl Recurrent {
         if let Burned::Forbidden(_) = burn(alloc, pile)? {
             return Err(GroupFault::NotRecurrent);
         }
-        Ok(Recurrent {
-            pile: copy_of(alloc, pile)?,
-        })
+        match pile.copy(alloc) {
+            Ok(pile) => Ok(Recurrent { pile }),
+            // A copy fails for want of memory alone.
+            Err(_) => Err(GroupFault::Memory(AllocError)),
+        }
     }
 
     pub fn pile(&self) -> &Pile
@@ -61,14 +63,6 @@ impl Recurrent {
     {
         &self.pile
     }
-}
-
-// A copy of a pile.
-fn copy_of(alloc: Global, pile: &Pile) -> Result<Pile, AllocError>
-    ensures { IfOk result (λ p. p ≡ pile.now) }
-{
-    let heights = Vec::from_slice(alloc, pile.heights())?;
-    Ok(Pile::from_vec(pile.shape(), heights))
 }
 
 // What a list of heights settles to.
@@ -80,7 +74,7 @@ fn settled(alloc: Global, shape: Shape, heights: Vec<u64>) -> Result<Pile, Group
 {
     prove_eq!(heights.len(), shape.sites());
     let settled = settle(alloc, &Pile::from_vec(shape, heights))?;
-    Ok(copy_of(alloc, settled.pile())?)
+    Ok(settled.into_pile())
 }
 
 // The sums of two lists of heights, by site.

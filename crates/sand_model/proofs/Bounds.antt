@@ -1,4 +1,4 @@
--- What bounds the topplings of a pile: its weight, and so its grains.
+-- How many sites a grid has, and what bounds the topplings of a pile: its weight, and so its grains.
 use Rattle.std.proofs.Common.{ℕ, zero, suc, ◌≡◌, ◌+◌, ◌-◌, ◌*◌, ◌^◌, ◌<◌, ◌≤◌, ap, arith, ⊎_elim}
 use Rattle.std.proofs.lemmas.Bool.{cases_lt}
 use Rattle.std.proofs.lemmas.Nat.{mul-le, div-add-mod', div_below}
@@ -6,9 +6,12 @@ use Rattle.std.proofs.Math.Nat.{mul-le-mul_left}
 use Rattle.sand_model.specs.declared.pile.TheConstants.{GRAIN_LIMIT}
 use Rattle.sand_model.specs.Grid.{Grid, IsGrid, sites, row}
 use Rattle.sand_model.specs.Sand.{total, IsToppled, grains, topplings, weight, grain_weight}
-use Rattle.sand_model.proofs.Totals.{total_le, total-scale}
+use Rattle.sand_model.proofs.Totals.{total_le, total-scale, total-ones}
 use Rattle.sand_model.proofs.Neighbours.{some_width}
 use Rattle.sand_model.proofs.Sandpile.{weight_after, grain_weight_is}
+
+pub sites_limit : (g : Grid) → IsGrid g → sites g ≤ 65536
+sites_limit g sides = let product = mul-le g.width g.height 256 256 sides.width_limit sides.height_limit in omega arith
 
 product_ordered : (a d : ℕ) → a + (a + d) ≤ 257 → a * (a + d) ≤ 16512
 product_ordered a d small =
@@ -55,11 +58,9 @@ at_most_total (suc n) f i l =
     (cases_lt i n)
 
 pub at_most_all : (n : ℕ) (f : ℕ → ℕ) → ((i : ℕ) → i < n → f i ≤ 1) → total n f ≤ n
-unfolding total
-at_most_all zero f few = omega arith
-at_most_all (suc n) f few =
-    let below = at_most_all n f (λ i m. few i (omega arith)) in
-    let last = few n (omega arith) in
+at_most_all n f few =
+    let le = total_le n f (λ i. 1) few in
+    let ones = total-ones n in
     omega arith
 
 -- numbers of at most 1, one of which is 0, are fewer than all in sum

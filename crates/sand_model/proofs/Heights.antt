@@ -26,6 +26,29 @@ sum_is_total (x ∷ xs) =
 pub sum_is_grains : (g : Grid) (xs : List ℕ) → length xs ≡ sites g → sum xs ≡ grains g (λ i. get_or xs i 0)
 sum_is_grains g xs e = sum_is_total xs ∙ ap (λ n. total n (λ i. get_or xs i 0)) e
 
+-- a number that is written, seen from each place
+pub get_or-written : (u : List ℕ) (i v j : ℕ) → i < length u → get_or (set u i v) j 0 + get_or u i 0 * one_at i j ≡ get_or u j 0 + v * one_at i j
+get_or-written u i v j inside =
+    ⊎_elim
+    (λ (same : i ≡ j).
+    let one : one_at i j ≡ 1 = rw (eq-eqb i j same) in
+    let old = ap (λ k. get_or u i 0 * k) one in
+    let new = ap (λ k. v * k) one in
+    let here : get_or (set u i v) j 0 ≡ v = rw (← same) (get_or-set_same u i v 0 inside) in
+    let there = ap (λ k. get_or u k 0) same in
+    omega arith)
+    (λ (ne : i ≡ j → ⊥).
+    let none = one_at_other i j ne in
+    let old = ap (λ k. get_or u i 0 * k) none in
+    let new = ap (λ k. v * k) none in
+    let kept = get_or-set_other u i j v 0 (λ e. ne (sym e)) in
+    omega arith)
+    (cases_eq i j)
+
+-- a number that k is added to
+pub counted : (i k : ℕ) (u v : List ℕ) → i < length u → v ≡ set u i (get_or u i 0 + k) → (j : ℕ) → get_or v j 0 ≡ get_or u j 0 + k * one_at i j
+counted i k u v inside e j = let all = get_or-written u i (get_or u i 0 + k) j inside in rw e (omega arith)
+
 pub lost_at : (g : Grid) (i t : ℕ) → i < sites g → lost g (λ j. t * one_at i j) ≡ t * missing g i
 lost_at g i t l =
     total_same (sites g) (λ j. missing g j * (t * one_at i j)) (λ j. t * (missing g j * one_at i j)) (λ j m. omega arith)
@@ -41,20 +64,10 @@ spread_toppled g i t h k ps e l len high after = record {
       let scaled = flow-scale g t (one_at i) j in
       let here = rw e at after j in
       let parts = ap (λ q. t * q) (turned ∙ four) in
-      ⊎_elim
-      (λ (same : i ≡ j).
-      let own : one_at i j ≡ 1 = rw (eq-eqb i j same) in
-      let times = ap (λ q. t * q) own in
-      let inside : i < length h = omega arith in
-      let set_here : get_or (set h i (get_or h i 0 - 4 * t)) j 0 ≡ get_or h i 0 - 4 * t = rw (← same) (get_or-set_same h i (get_or h i 0 - 4 * t) 0 inside) in
-      let height = ap (λ q. get_or h q 0) same in
-      omega arith)
-      (λ (ne : i ≡ j → ⊥).
-      let none = one_at_other i j ne in
-      let times = ap (λ q. t * q) none in
-      let kept = get_or-set_other h i j (get_or h i 0 - 4 * t) 0 (λ q. ne (sym q)) in
-      omega arith)
-      (cases_eq i j);
+      let rest : get_or h i 0 - 4 * t + 4 * t ≡ get_or h i 0 = omega arith in
+      let taken = ap (λ q. q * one_at i j) rest in
+      let written = get_or-written h i (get_or h i 0 - 4 * t) j (omega arith) in
+      omega arith;
 }
 
 -- one toppling is one time the toppling of one site
@@ -66,11 +79,17 @@ toppled_once g i h k done = record {
       omega arith;
 }
 
+-- the grains of a list before are those after, and those lost
+pub sum_left : (g : Grid) (h k : List ℕ) (v : ℕ → ℕ) → length h ≡ sites g → length k ≡ sites g → IsToppled g (λ j. get_or h j 0) v (λ j. get_or k j 0) → sum h ≡ sum k + lost g v
+sum_left g h k v before after done =
+    let all = laplacian_sum g (λ j. get_or h j 0) v (λ j. get_or k j 0) done in
+    let first = sum_is_grains g h before in
+    let last = sum_is_grains g k after in
+    omega arith
+
 -- the grains that one toppling leaves
 pub spread_sum : (g : Grid) (i : ℕ) (h k : List ℕ) → i < sites g → length h ≡ sites g → length k ≡ sites g → IsToppled g (λ j. get_or h j 0) (one_at i) (λ j. get_or k j 0) → sum k + missing g i ≡ sum h
 spread_sum g i h k l lh lk done =
-    let all = laplacian_sum g (λ j. get_or h j 0) (one_at i) (λ j. get_or k j 0) done in
-    let before = sum_is_grains g h lh in
-    let after = sum_is_grains g k lk in
+    let left = sum_left g h k (one_at i) lh lk done in
     let out = total-one_at (sites g) i (missing g) l in
     omega arith

@@ -6,3 +6,6 @@ pub mod Heights
 pub mod IntegerFlow
 pub mod Tallies
 pub mod Bounds
+pub mod Lists
+pub mod Underway
+pub mod Tight

@@ -29,19 +29,14 @@ pub cond_same : (b : Bool) (n : ℕ) → cond b n n ≡ n
 cond_same true n = refl
 cond_same false n = refl
 
-length-somes : (ps : List (Option ℕ)) → length (filter_map (λ q. q) ps) ≤ length ps
-length-somes [] = omega arith
-length-somes (None ∷ ps) = let below = length-somes ps in omega arith
-length-somes (Some i ∷ ps) = let below = length-somes ps in omega arith
-
-pub neighbours_at_most_four : (g : Grid) (i : ℕ) → length (neighbours g i) ≤ 4
-unfolding neighbours
-neighbours_at_most_four g i = length-somes (places g i)
-
 somes_and_nones : (ps : List (Option ℕ)) → length (filter_map (λ q. q) ps) + count_by is_none ps ≡ length ps
 somes_and_nones [] = refl
 somes_and_nones (None ∷ ps) = let below = somes_and_nones ps in rw (sum_by-cons (λ p. cond (is_none p) 1 0) None ps) (omega arith)
 somes_and_nones (Some i ∷ ps) = let below = somes_and_nones ps in rw (sum_by-cons (λ p. cond (is_none p) 1 0) (Some i) ps) (omega arith)
+
+pub neighbours_at_most_four : (g : Grid) (i : ℕ) → length (neighbours g i) ≤ 4
+unfolding neighbours
+neighbours_at_most_four g i = let all = somes_and_nones (places g i) in omega arith
 
 pub missing_is : (g : Grid) (i : ℕ) → missing g i ≡ count_by is_none (places g i)
 unfolding missing neighbours
@@ -209,7 +204,7 @@ somes_below : (n : ℕ) (p : Option ℕ) (ps : List (Option ℕ)) → ((k : ℕ)
 somes_below n None ps here rest = rest
 somes_below n (Some k) ps here rest = All-cons (λ j. j < n) k (filter_map (λ q. q) ps) (here k refl) rest
 
-some_from : (b : Bool) (m k : ℕ) → cond b (Some m) None ≡ Some k → (b ≡ true) × (m ≡ k)
+pub some_from : (b : Bool) (m k : ℕ) → cond b (Some m) None ≡ Some k → (b ≡ true) × (m ≡ k)
 some_from true m k e = (refl, cc)
 some_from false m k e = absurd cc
 

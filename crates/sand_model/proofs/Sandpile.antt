@@ -6,7 +6,7 @@ use Rattle.std.proofs.lemmas.List.Sums.{sum_by-cons}
 use Rattle.std.proofs.Math.Nat.{mul-le-mul_left}
 use Rattle.sand_model.specs.Grid.{Grid, joins, sites, neighbours, missing, row, north, west, east, south}
 use Rattle.sand_model.specs.Laws.{MayTopple, AreLegal}
-use Rattle.sand_model.specs.Sand.{total, tally, flow, IsToppled, Stabilises, IsLeast, IsSettled, grains, topplings, lost, weight, grain_weight, value_at, one_at}
+use Rattle.sand_model.specs.Sand.{total, tally, flow, IsStable, IsToppled, Stabilises, IsLeast, IsSettled, grains, topplings, lost, weight, grain_weight, value_at, one_at}
 use Rattle.sand_model.proofs.Totals.{total-one_at, one_at_same, one_at_other, total_same, total_le, total-add, total-scale}
 use Rattle.sand_model.proofs.Neighbours.{neighbours_at_most_four, flow_four, some_width}
 use Rattle.sand_model.proofs.Flow.{flow_le, flow_same, flow-add, flow_self_adjoint}
@@ -70,6 +70,43 @@ settled_unique g s u v t r a b i l =
     let one = a.toppled.balance i l in
     let two = b.toppled.balance i l in
     omega arith
+
+-- what settles is stable
+pub settled_stable : (g : Grid) (s u t : ℕ → ℕ) → IsSettled g s u t → IsStable g t
+settled_stable g s u t done = record {
+  low = λ i l.
+      let e = done.toppled.balance i l in
+      let most = done.odometer.stabilises.at_most_three i l in
+      omega arith;
+}
+
+-- what settles is a matter of the numbers at the sites alone
+pub settled_same : (g : Grid) (s s' u u' t t' : ℕ → ℕ) → ((i : ℕ) → i < sites g → s i ≡ s' i) → ((i : ℕ) → i < sites g → u i ≡ u' i) → ((i : ℕ) → i < sites g → t i ≡ t' i) → IsSettled g s u t → IsSettled g s' u' t'
+settled_same g s s' u u' t t' starts counts piles done = record {
+  toppled = record {
+    balance = λ i l.
+        let e = done.toppled.balance i l in
+        let a = starts i l in
+        let b = counts i l in
+        let c = piles i l in
+        let around = flow_same g u u' counts i l in
+        omega arith;
+  };
+  odometer = record {
+    stabilises = record {
+      at_most_three = λ i l.
+          let e = done.odometer.stabilises.at_most_three i l in
+          let a = starts i l in
+          let b = counts i l in
+          let around = flow_same g u u' counts i l in
+          omega arith;
+    };
+    least = λ w stable i l.
+        let le = done.odometer.least w (record { at_most_three = λ j m. let e = stable.at_most_three j m in let a = starts j m in omega arith }) i l in
+        let b = counts i l in
+        omega arith;
+  };
+}
 
 -- ---- sums
 

@@ -34,6 +34,11 @@ unfolding total
 total-zero zero = refl
 total-zero (suc n) = let below = total-zero n in omega arith
 
+pub total-ones : (n : ℕ) → total n (λ i. 1) ≡ n
+unfolding total
+total-ones zero = refl
+total-ones (suc n) = let below = total-ones n in omega arith
+
 pub total_swap : (n m : ℕ) (f : ℕ → ℕ → ℕ) → total n (λ i. total m (λ j. f i j)) ≡ total m (λ j. total n (λ i. f i j))
 unfolding total
 total_swap zero m f = sym (total-zero m)

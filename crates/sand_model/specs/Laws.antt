@@ -1,7 +1,8 @@
 -- The laws of toppling, over all grids and all piles.
 use Rattle.std.specs.Prelude.{ℕ, ℤ, pos, ◌≡◌, ◌+◌, ◌*◌, ◌<◌, ◌≤◌, ◌↔◌, ◌+ℤ◌, ◌-ℤ◌, ◌*ℤ◌, ◌≤ℤ◌, List, [], ◌∷◌}
 use Rattle.sand_model.specs.Grid.{Grid, sites, missing}
-use Rattle.sand_model.specs.Sand.{flow, tally, one_at, IsToppled, Stabilises, IsSettled, grains, lost, weight}
+use Rattle.sand_model.specs.Forbidden.{IsTight}
+use Rattle.sand_model.specs.Sand.{flow, tally, one_at, IsStable, IsToppled, Stabilises, IsSettled, grains, lost, weight}
 use Rattle.sand_model.specs.Integers.{laplacian, total_over, whole, IsEquivalent}
 
 -- after each site toppled u times, the site i may topple: s - Lu is 4 or more there
@@ -37,6 +38,10 @@ Abelian = (g : Grid) (a b u t v r : ℕ → ℕ) → IsSettled g a u t → IsSet
 -- a pile has one odometer and one settled pile
 abbrev pub SettledOnce : Type 0
 SettledOnce = (g : Grid) (s u v t r : ℕ → ℕ) → IsSettled g s u t → IsSettled g s v r → (i : ℕ) → i < sites g → (u i ≡ v i) × (t i ≡ r i)
+
+-- toppling to 3 at most, with no forbidden set of sites that have all toppled, is settling
+abbrev pub LeastIfTight : Type 0
+LeastIfTight = (g : Grid) (s u t : ℕ → ℕ) → IsToppled g s u t → IsStable g t → IsTight g t u → IsSettled g s u t
 
 -- t = s - Lu over the whole numbers
 abbrev pub ToppledOverIntegers : Type 0

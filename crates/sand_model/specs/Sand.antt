@@ -38,6 +38,11 @@ pub record IsToppled (g : Grid) (s u t : ℕ → ℕ) : Type 0 where
 pub record Stabilises (g : Grid) (s u : ℕ → ℕ) : Type 0 where
   pub at_most_three : (i : ℕ) → i < sites g → s i + flow g u i ≤ 4 * u i + 3
 
+-- from the start s each site toppled u times so far, which left t, and u is at most whatever stabilises s
+pub record IsUnderway (g : Grid) (s u t : ℕ → ℕ) : Type 0 where
+  pub toppled : IsToppled g s u t
+  pub bounded : (w : ℕ → ℕ) → Stabilises g s w → (i : ℕ) → i < sites g → u i ≤ w i
+
 -- u is the least that stabilises s
 pub record IsLeast (g : Grid) (s u : ℕ → ℕ) : Type 0 where
   pub stabilises : Stabilises g s u

@@ -7,10 +7,17 @@
 //! **The weight.** A grain in row `y` weighs `(y + 1) * (height - y)`, which is concave in `y` and 0 just outside the
 //! grid, so a toppling loses 2 of it at least. So topplings number at most half the weight, and settling ends.
 //!
+//! **Nothing to take back.** Let toppling each site `u` times turn `s` into `t`, which is 3 at most everywhere, and let
+//! no set of sites that have all toppled be forbidden in `t`. Then `u` is the least that stabilises `s`. For take any `w`
+//! that stabilises `s`, and suppose that `u` exceeds it somewhere. The sites where it exceeds `w` the most have all
+//! toppled. Going from `u` to `w` takes from each of them as many topplings as from any of its neighbours, and more than
+//! from those outside the set; since `w` leaves 3 at most there, `t` is below the number of neighbours in the set. So the
+//! set is forbidden, and there is none. (Friedrich and Levine 2010.)
+//!
 //! **The two worlds.** Definitions are over the natural numbers, without subtraction. Over the whole numbers they are
 //! the `s - Lu` and the `s - Lu <= 3` of the textbooks.
 
-ghost use Rattle.sand_model.specs.Laws.{LeastAction, WeightFalls, LaplacianSum, LaplacianSumOverIntegers, Abelian, SettledOnce, ToppledOverIntegers, StabilisesOverIntegers, SettledIsEquivalent};
+ghost use Rattle.sand_model.specs.Laws.{LeastAction, WeightFalls, LaplacianSum, LaplacianSumOverIntegers, Abelian, SettledOnce, LeastIfTight, ToppledOverIntegers, StabilisesOverIntegers, SettledIsEquivalent};
 
 /// Legal topplings stay at or below whatever stabilises the pile.
 pub fn least_action()
@@ -36,6 +43,11 @@ pub fn abelian()
 /// A pile has one odometer and one settled pile.
 pub fn settled_once()
     ensures { SettledOnce }
+{}
+
+/// What topples to 3 at most, with no forbidden set of sites that have toppled, is settled.
+pub fn least_if_tight()
+    ensures { LeastIfTight }
 {}
 
 /// The definitions over the natural numbers are those over the whole numbers.

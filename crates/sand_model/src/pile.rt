@@ -83,7 +83,7 @@ impl Pile {
         requires counted { grains ≡ sum heights.items }
         ensures { result ≡ record { grid = shape; heights = heights.items } }
     {
-        let _ = shape.sites();
+        prove_eq!(heights.len(), shape.sites());
         Pile {
             shape,
             grains,

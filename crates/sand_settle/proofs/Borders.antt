@@ -1,8 +1,7 @@
--- The first and the last row, told by the number of a site, and how many sites there are at most.
+-- The first and the last row, told by the number of a site.
 use Rattle.std.proofs.Common.{ℕ, ◌≡◌, ◌+◌, ◌/◌, ◌<◌, ◌≤◌, refl, arith, None, ⊎_elim}
 use Rattle.std.proofs.lemmas.Bool.{le-ltb, cases_lt}
-use Rattle.std.proofs.lemmas.Nat.{mul-le}
-use Rattle.sand_model.specs.Grid.{Grid, IsGrid, sites, north, south}
+use Rattle.sand_model.specs.Grid.{Grid, sites, north, south}
 use Rattle.sand_model.proofs.Neighbours.{some_width, row_above, row_below}
 
 pub nothing_north : (g : Grid) (i : ℕ) → i < sites g → i < g.width → None ≡ north g i
@@ -22,6 +21,3 @@ nothing_south g i inside last =
     ⊎_elim (λ (down : i / g.width + 1 < g.height). let near = below.0 down in absurd (omega arith))
     (λ (bottom : g.height ≤ i / g.width + 1). rw (le-ltb (i / g.width + 1) g.height bottom) refl)
     (cases_lt (i / g.width + 1) g.height)
-
-pub sites_limit : (g : Grid) → IsGrid g → sites g ≤ 65536
-sites_limit g sides = let product = mul-le g.width g.height 256 256 sides.width_limit sides.height_limit in omega arith

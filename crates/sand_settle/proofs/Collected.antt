@@ -1,17 +1,17 @@
 -- An avalanche that is read from the counts, site by site.
-use Rattle.std.proofs.Common.{ℕ, ◌≡◌, ◌+◌, ◌*◌, ◌<◌, ◌≤◌, refl, sym, ◌∙◌, ap, subst, arith, List, [], ◌∷◌, length, get_or, drop, add-one, drop-cons, max, ⊎_elim, ltb}
+use Rattle.std.proofs.Common.{ℕ, ◌≡◌, ◌+◌, ◌*◌, ◌<◌, ◌≤◌, refl, sym, ◌∙◌, ap, subst, arith, List, [], ◌∷◌, length, get_or, drop, max, ⊎_elim, ltb}
 use Rattle.std.proofs.lemmas.Bool.{cases_eq, cases_lt, ltb-true, ltb-false}
 use Rattle.std.proofs.Math.ListN.{set}
-use Rattle.std.proofs.lemmas.List.{get_or-set_same, get_or-set_other, get_or_past}
+use Rattle.std.proofs.lemmas.List.{get_or_past, drop_more}
 use Rattle.sand_model.specs.Grid.{Grid, sites, missing, distance}
-use Rattle.sand_model.specs.Sand.{tally, one_at, topplings, lost}
+use Rattle.sand_model.specs.Sand.{one_at, topplings, lost}
+use Rattle.sand_model.specs.Lists.{Lists, one_if}
 use Rattle.sand_model.proofs.Totals.{total_same, total-add, total-zero, one_at_same, one_at_other}
-use Rattle.sand_model.proofs.Tallies.{total-tally}
-use Rattle.sand_model.proofs.Heights.{lost_at}
+use Rattle.sand_model.proofs.Heights.{lost_at, get_or-written}
+use Rattle.sand_model.proofs.Lists.{length-listing, front_below, front_passes, none_passes}
 use Rattle.sand_settle.specs.declared.avalanche.Avalanche.{Avalanche}
-use Rattle.sand_settle.specs.Lists.{Lists, one_if, has_toppled}
-use Rattle.sand_settle.specs.Avalanches.{IsAvalanche, IsReached, area_of}
-use Rattle.sand_settle.proofs.Lists.{lists_first, lists_passes, lists_none}
+use Rattle.sand_settle.specs.Lists.{has_toppled}
+use Rattle.sand_settle.specs.Avalanches.{IsAvalanche, IsReached}
 use Rattle.sand_settle.proofs.Queue.{leaves}
 use Rattle.sand_settle.proofs.Underway.{topplings_more}
 
@@ -68,10 +68,6 @@ collects_more g site before now next a b i k all l some none counts size gone re
           (cases_lt a.reach (distance g site i));
     }
 
-pub area_is_length : (g : Grid) (v : ℕ → ℕ) (xs : List ℕ) → Lists (sites g) (has_toppled v) xs → length xs ≡ area_of g v
-area_is_length g v xs all =
-    sym (total-tally (sites g) xs all.inside) ∙ total_same (sites g) (tally xs) (λ j. one_if (has_toppled v j)) all.each
-
 pub no_topplings : (g : Grid) (v : ℕ → ℕ) → ((j : ℕ) → j < sites g → v j ≡ 0) → topplings g v ≡ 0
 no_topplings g v none = total_same (sites g) v (λ j. 0) none ∙ total-zero (sites g)
 
@@ -83,7 +79,7 @@ pub collects_all : (g : Grid) (site : ℕ) (before now : ℕ → ℕ) (a : Avala
 collects_all g site before now a xs all none listed area origin = record {
   origin = origin;
   size = let e = all.size in let zero' = no_topplings g now none in omega arith;
-  area = area ∙ area_is_length g before xs listed;
+  area = area ∙ length-listing (sites g) (has_toppled before) xs listed;
   within = λ j l some. all.within j l (let e = none j l in omega arith);
   reached = all.reached;
   all_lost = let e = all.all_lost in let zero' = nothing_lost g now none in omega arith;
@@ -115,15 +111,15 @@ avalanche_none g site v a none calm = record {
 
 pub rest_of : (n : ℕ) (u xs : List ℕ) (turn i : ℕ) → i ≡ get_or xs turn 0 → turn < length xs → Lists n (has_toppled (λ j. get_or u j 0)) (drop turn xs) → Lists n (has_toppled (λ j. get_or u j 0)) (i ∷ drop (turn + 1) xs)
 rest_of n u xs turn i e l all =
-    let first : drop turn xs ≡ i ∷ drop (turn + 1) xs = rw (e, add-one, drop-cons xs turn 0) refl in
+    let first : drop turn xs ≡ i ∷ drop (turn + 1) xs = rw (e, drop_more xs turn 0) refl in
     let P : List ℕ → Type 0 = λ ys. Lists n (has_toppled (λ j. get_or u j 0)) ys in
     subst P first all
 
 pub rest_inside : (n : ℕ) (u xs : List ℕ) (turn i : ℕ) → i ≡ get_or xs turn 0 → turn < length xs → Lists n (has_toppled (λ j. get_or u j 0)) (drop turn xs) → i < n
-rest_inside n u xs turn i e l all = lists_first n (has_toppled (λ j. get_or u j 0)) (drop (turn + 1) xs) i (rest_of n u xs turn i e l all)
+rest_inside n u xs turn i e l all = front_below n (has_toppled (λ j. get_or u j 0)) (drop (turn + 1) xs) i (rest_of n u xs turn i e l all)
 
 pub rest_some : (n : ℕ) (u xs : List ℕ) (turn i : ℕ) → i ≡ get_or xs turn 0 → turn < length xs → Lists n (has_toppled (λ j. get_or u j 0)) (drop turn xs) → 0 < get_or u i 0
-rest_some n u xs turn i e l all = ltb-true 0 (get_or u i 0) (lists_passes n (has_toppled (λ j. get_or u j 0)) (drop (turn + 1) xs) i (rest_of n u xs turn i e l all))
+rest_some n u xs turn i e l all = ltb-true 0 (get_or u i 0) (front_passes n (has_toppled (λ j. get_or u j 0)) (drop (turn + 1) xs) i (rest_of n u xs turn i e l all))
 
 pub rest_more : (n : ℕ) (u xs : List ℕ) (turn i : ℕ) → length u ≡ n → i ≡ get_or xs turn 0 → turn < length xs → Lists n (has_toppled (λ j. get_or u j 0)) (drop turn xs) → Lists n (has_toppled (λ j. get_or (set u i 0) j 0)) (drop (turn + 1) xs)
 rest_more n u xs turn i each e l all =
@@ -132,24 +128,12 @@ rest_more n u xs turn i each e l all =
 
 -- a count that is taken away
 pub cleared : (i : ℕ) (u : List ℕ) → i < length u → (j : ℕ) → get_or u j 0 ≡ get_or (set u i 0) j 0 + get_or u i 0 * one_at i j
-cleared i u inside j =
-    ⊎_elim
-    (λ (same : i ≡ j).
-    let one = ap (λ m. get_or u i 0 * m) (one_at_same i) in
-    let at = ap (λ m. get_or u i 0 * one_at i m) same in
-    let here : get_or (set u i 0) j 0 ≡ 0 = rw (← same) (get_or-set_same u i 0 0 inside) in
-    let old = ap (λ m. get_or u m 0) same in
-    omega arith)
-    (λ (ne : i ≡ j → ⊥).
-    let none = ap (λ m. get_or u i 0 * m) (one_at_other i j ne) in
-    let kept = get_or-set_other u i j 0 0 (λ q. ne (sym q)) in
-    omega arith)
-    (cases_eq i j)
+cleared i u inside j = let all = get_or-written u i 0 j inside in omega arith
 
 -- what is counted nowhere in the grid is counted nowhere
 pub none_anywhere : (n : ℕ) (u : List ℕ) → length u ≡ n → Lists n (has_toppled (λ j. get_or u j 0)) [] → (j : ℕ) → get_or u j 0 ≡ 0
 none_anywhere n u each all j =
     ⊎_elim
-    (λ (inside : j < n). let none = ltb-false 0 (get_or u j 0) (lists_none n (has_toppled (λ j. get_or u j 0)) all j inside) in omega arith)
+    (λ (inside : j < n). let none = ltb-false 0 (get_or u j 0) (none_passes n (has_toppled (λ j. get_or u j 0)) all j inside) in omega arith)
     (λ (past : n ≤ j). get_or_past u j 0 (omega arith))
     (cases_lt j n)

@@ -6,60 +6,24 @@ use Rattle.std.proofs.lemmas.List.{length-append, append-nil, length-set, get_or
 use Rattle.std.proofs.lemmas.List.Elements.{All-push}
 use Rattle.sand_model.specs.declared.pile.TheConstants.{GRAIN_LIMIT}
 use Rattle.sand_model.specs.Grid.{Grid, IsGrid, sites}
-use Rattle.sand_model.specs.Sand.{tally, one_at, IsStable, IsToppled, IsSettled, grains, topplings, lost, weight, grain_weight}
+use Rattle.sand_model.specs.Sand.{tally, one_at, IsSettled, grains, topplings, lost, weight, grain_weight}
 use Rattle.sand_model.specs.Piles.{PileView, IsPile}
 use Rattle.sand_model.proofs.Totals.{total-add, total_same}
 use Rattle.sand_model.proofs.Tallies.{tally-push}
-use Rattle.sand_model.proofs.Flow.{flow_same}
-use Rattle.sand_model.proofs.Sandpile.{laplacian_sum, weight_after, settled_in_parts}
-use Rattle.sand_model.proofs.Heights.{sum_is_grains}
+use Rattle.sand_model.proofs.Sandpile.{laplacian_sum, weight_after, settled_in_parts, settled_same, settled_stable}
+use Rattle.sand_model.proofs.Heights.{sum_is_grains, counted}
 use Rattle.sand_model.proofs.Bounds.{weight_bound, topplings_bound}
+use Rattle.sand_model.proofs.Underway.{underway_start, underway_end}
 use Rattle.sand_settle.specs.Settling.{SettledView, IsRecord}
 use Rattle.sand_settle.specs.Drops.{OneView, IsAfter, topplings_between, TakesGrain, Drops, DropsAll, IsPaid, settled_in, one_view, IsOnePile}
-use Rattle.sand_settle.proofs.Underway.{topplings_at, counted, underway_start, underway_end}
+use Rattle.sand_settle.proofs.Underway.{topplings_at}
 use Rattle.sand_settle.specs.declared.avalanche.Avalanche.{Avalanche}
 use Rattle.sand_settle.specs.Avalanches.{IsAvalanche}
 use Rattle.sand_settle.proofs.Collected.{lost_sum, avalanche_same}
 
--- the three are read at the sites alone
-pub settled_same : (g : Grid) (s s' u u' t t' : ℕ → ℕ) → ((i : ℕ) → i < sites g → s i ≡ s' i) → ((i : ℕ) → i < sites g → u i ≡ u' i) → ((i : ℕ) → i < sites g → t i ≡ t' i) → IsSettled g s u t → IsSettled g s' u' t'
-settled_same g s s' u u' t t' starts counts piles done = record {
-  toppled = record {
-    balance = λ i l.
-        let e = done.toppled.balance i l in
-        let a = starts i l in
-        let b = counts i l in
-        let c = piles i l in
-        let around = flow_same g u u' counts i l in
-        omega arith;
-  };
-  odometer = record {
-    stabilises = record {
-      at_most_three = λ i l.
-          let e = done.odometer.stabilises.at_most_three i l in
-          let a = starts i l in
-          let b = counts i l in
-          let around = flow_same g u u' counts i l in
-          omega arith;
-    };
-    least = λ w stable i l.
-        let le = done.odometer.least w (record { at_most_three = λ j m. let e = stable.at_most_three j m in let a = starts j m in omega arith }) i l in
-        let b = counts i l in
-        omega arith;
-  };
-}
-
 -- a pile in which no site may topple is its own settled pile
 pub settled_already : (g : Grid) (s u : ℕ → ℕ) → ((i : ℕ) → i < sites g → s i ≤ 3) → ((i : ℕ) → i < sites g → u i ≡ 0) → IsSettled g s u s
 settled_already g s u low none = underway_end g s u s (underway_start g s u none) low
-
-pub settled_is_stable : (g : Grid) (s u t : ℕ → ℕ) → IsSettled g s u t → IsStable g t
-settled_is_stable g s u t done = record {
-  low = λ i l.
-      let e = done.toppled.balance i l in
-      let stable = done.odometer.stabilises.at_most_three i l in
-      omega arith;
-}
 
 -- the grains that lie on a settled pile or were lost are those of its start
 pub grains_kept : (g : Grid) (s : ℕ → ℕ) (r : SettledView) → IsRecord g s r → sum r.pile.heights + r.lost ≡ grains g s
@@ -78,7 +42,7 @@ paid_here s r sides few done =
       sides = sides;
       heights_each = done.heights_each;
       odometer_each = done.odometer_each;
-      stable = settled_is_stable r.pile.grid s (λ j. get_or r.odometer j 0) (λ j. get_or r.pile.heights j 0) done.settled;
+      stable = settled_stable r.pile.grid s (λ j. get_or r.odometer j 0) (λ j. get_or r.pile.heights j 0) done.settled;
       limit = omega arith;
       all_topplings = done.all_topplings;
       paid =
@@ -128,14 +92,6 @@ weight-add g a b =
     total_same (sites g) (λ i. (a i + b i) * grain_weight g i) (λ i. a i * grain_weight g i + b i * grain_weight g i) (λ i l. omega arith)
     ∙ total-add (sites g) (λ i. a i * grain_weight g i) (λ i. b i * grain_weight g i)
 
--- the grains of a list before are those after, and those lost
-pub sum_left : (g : Grid) (h k : List ℕ) (v : ℕ → ℕ) → length h ≡ sites g → length k ≡ sites g → IsToppled g (λ j. get_or h j 0) v (λ j. get_or k j 0) → sum h ≡ sum k + lost g v
-sum_left g h k v before after done =
-    let all = laplacian_sum g (λ j. get_or h j 0) v (λ j. get_or k j 0) done in
-    let first = sum_is_grains g h before in
-    let last = sum_is_grains g k after in
-    omega arith
-
 pub grains_after : (r q : SettledView) (site : ℕ) → IsPaid r → site < sites r.pile.grid → TakesGrain r site q → sum q.pile.heights + q.lost ≡ sum r.pile.heights + r.lost + 1
 grains_after r q site paid inside taken =
     let all = laplacian_sum r.pile.grid (λ j. get_or r.pile.heights j 0 + one_at site j) (topplings_between r q) (λ j. get_or q.pile.heights j 0) taken.settled.toppled in
@@ -172,7 +128,7 @@ paid_after r q site paid inside room taken =
       sides = rw same paid.sides;
       heights_each = rw same taken.heights_each;
       odometer_each = rw same taken.odometer_each;
-      stable = rw same (settled_is_stable r.pile.grid (λ j. get_or r.pile.heights j 0 + one_at site j) (topplings_between r q) (λ j. get_or q.pile.heights j 0) taken.settled);
+      stable = rw same (settled_stable r.pile.grid (λ j. get_or r.pile.heights j 0 + one_at site j) (topplings_between r q) (λ j. get_or q.pile.heights j 0) taken.settled);
       limit = let e = grains_after r q site paid inside taken in omega arith;
       all_topplings = rw same (topplings_after r q site paid taken);
       paid = rw same (weight_left r q site paid inside taken);

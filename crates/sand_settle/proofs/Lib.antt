@@ -1,4 +1,3 @@
-pub mod Lists
 pub mod Queue
 pub mod Underway
 pub mod Records

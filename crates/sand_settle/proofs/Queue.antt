@@ -1,10 +1,11 @@
 -- The list of the sites whose number passes a test, as one number is written.
-use Rattle.std.proofs.Common.{ℕ, Bool, true, false, ◌≡◌, ◌≢◌, ◌+◌, ◌-◌, ◌*◌, ◌/◌, ◌<◌, ◌≤◌, refl, sym, ◌∙◌, ap, subst, add-one, drop-cons, drop, arith, List, [], ◌∷◌, ◌++◌, length, get_or, append_assoc, length-append, cond, ltb, leb, eqb, ◌&&◌, ⊎_elim}
+use Rattle.std.proofs.Common.{ℕ, Bool, true, false, ◌≡◌, ◌≢◌, ◌+◌, ◌-◌, ◌*◌, ◌/◌, ◌<◌, ◌≤◌, refl, sym, ◌∙◌, ap, subst, drop, arith, List, [], ◌∷◌, ◌++◌, length, get_or, append_assoc, length-append, cond, ltb, leb, eqb, ◌&&◌, ⊎_elim}
 use Rattle.std.proofs.Math.ListN.{set}
 use Rattle.std.proofs.lemmas.Bool.{cases_eq, cases_lt, lt-leb, le-leb, lt-ltb, le-ltb, leb-true, leb-false, eq-eqb, ne_eqb}
-use Rattle.std.proofs.lemmas.List.{get_or-set_same, get_or-set_other}
-use Rattle.sand_settle.specs.Lists.{Lists, may_topple, has_toppled}
-use Rattle.sand_settle.proofs.Lists.{lists_length, lists_same, lists_push, lists_pop, lists_of, lists_first, lists_passes, lists_none}
+use Rattle.std.proofs.lemmas.List.{get_or-set_same, get_or-set_other, drop_more}
+use Rattle.sand_model.specs.Lists.{Lists}
+use Rattle.sand_model.proofs.Lists.{lists_length, lists_same, lists_push, lists_pop, lists_of, front_below, front_passes, none_passes}
+use Rattle.sand_settle.specs.Lists.{may_topple, has_toppled}
 
 others_kept : (test : ℕ → Bool) (h : List ℕ) (i v j : ℕ) → j ≢ i → test (get_or h j 0) ≡ test (get_or (set h i v) j 0)
 others_kept test h i v j ne = ap test (sym (get_or-set_other h i j v 0 ne))
@@ -34,10 +35,10 @@ stays test h xs i v all l same =
 
 -- what is at the front may topple, and where the queue is empty nothing may
 pub front_is_high : (n : ℕ) (s : ℕ → ℕ) (xs : List ℕ) (i : ℕ) → Lists n (may_topple s) (i ∷ xs) → 4 ≤ s i
-front_is_high n s xs i all = leb-true 4 (s i) (lists_passes n (may_topple s) xs i all)
+front_is_high n s xs i all = leb-true 4 (s i) (front_passes n (may_topple s) xs i all)
 
 pub all_low : (n : ℕ) (s : ℕ → ℕ) → Lists n (may_topple s) [] → (i : ℕ) → i < n → s i ≤ 3
-all_low n s all i l = let low = leb-false 4 (s i) (lists_none n (may_topple s) all i l) in omega arith
+all_low n s all i l = let low = leb-false 4 (s i) (none_passes n (may_topple s) all i l) in omega arith
 
 -- the queue after a site has got grains, and joined it if it may topple from now on
 pub queued : (h rest next : List ℕ) (i v : ℕ) → i < length h → get_or h i 0 ≤ v → Lists (length h) (may_topple (λ j. get_or h j 0)) (rest ++ next) → Lists (length h) (may_topple (λ j. get_or (set h i v) j 0)) (rest ++ cond (ltb (get_or h i 0) 4 && leb 4 v) (next ++ i ∷ []) next)
@@ -67,12 +68,12 @@ queue_room n test rest next all = let whole = lists_length n test (rest ++ next)
 -- the site i whose turn it is, and those behind it
 pub turn_of : (n : ℕ) (test : ℕ → Bool) (wave next : List ℕ) (turn i : ℕ) → i ≡ get_or wave turn 0 → turn < length wave → Lists n test (drop turn wave ++ next) → Lists n test (i ∷ (drop (turn + 1) wave ++ next))
 turn_of n test wave next turn i e l all =
-    let first : drop turn wave ≡ i ∷ drop (turn + 1) wave = rw (e, add-one, drop-cons wave turn 0) refl in
+    let first : drop turn wave ≡ i ∷ drop (turn + 1) wave = rw (e, drop_more wave turn 0) refl in
     let P : List ℕ → Type 0 = λ xs. Lists n test (xs ++ next) in
     subst P first all
 
 pub turn_inside : (n : ℕ) (test : ℕ → Bool) (wave next : List ℕ) (turn i : ℕ) → i ≡ get_or wave turn 0 → turn < length wave → Lists n test (drop turn wave ++ next) → i < n
-turn_inside n test wave next turn i e l all = lists_first n test (drop (turn + 1) wave ++ next) i (turn_of n test wave next turn i e l all)
+turn_inside n test wave next turn i e l all = front_below n test (drop (turn + 1) wave ++ next) i (turn_of n test wave next turn i e l all)
 
 pub turn_high : (n : ℕ) (s : ℕ → ℕ) (wave next : List ℕ) (turn i : ℕ) → i ≡ get_or wave turn 0 → turn < length wave → Lists n (may_topple s) (drop turn wave ++ next) → 4 ≤ s i
 turn_high n s wave next turn i e l all = front_is_high n s (drop (turn + 1) wave ++ next) i (turn_of n (may_topple s) wave next turn i e l all)
@@ -82,4 +83,4 @@ pub others_wait : (n : ℕ) (h wave next : List ℕ) (turn i : ℕ) → n ≡ le
 others_wait n h wave next turn i all_sites e l all =
     let now = lists_of n (length h) (may_topple (λ j. get_or h j 0)) (i ∷ (drop (turn + 1) wave ++ next)) all_sites (turn_of n (may_topple (λ j. get_or h j 0)) wave next turn i e l all) in
     let rest = get_or h i 0 - 4 * (get_or h i 0 / 4) in
-    leaves (leb 4) h (drop (turn + 1) wave ++ next) i rest now (lists_first (length h) (may_topple (λ j. get_or h j 0)) (drop (turn + 1) wave ++ next) i now) (lt-leb 4 rest (omega arith))
+    leaves (leb 4) h (drop (turn + 1) wave ++ next) i rest now (front_below (length h) (may_topple (λ j. get_or h j 0)) (drop (turn + 1) wave ++ next) i now) (lt-leb 4 rest (omega arith))

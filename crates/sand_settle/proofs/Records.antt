@@ -1,10 +1,10 @@
 -- What a drained pile has of the settled record.
-use Rattle.std.proofs.Common.{ℕ, ◌≡◌, ◌+◌, ◌-◌, ◌*◌, ◌^◌, ◌<◌, ◌≤◌, ◌∙◌, subst, arith, List, length, sum, get_or}
+use Rattle.std.proofs.Common.{ℕ, ◌≡◌, ◌-◌, ◌*◌, ◌^◌, ◌<◌, ◌≤◌, ◌∙◌, subst, arith, List, length, sum, get_or}
 use Rattle.sand_model.specs.Grid.{Grid, sites}
-use Rattle.sand_model.specs.Sand.{IsSettled, lost, weight}
+use Rattle.sand_model.specs.Sand.{IsSettled, weight}
 use Rattle.sand_model.specs.Piles.{PileView, IsPile}
-use Rattle.sand_model.proofs.Sandpile.{laplacian_sum, weight_after}
-use Rattle.sand_model.proofs.Heights.{sum_is_grains}
+use Rattle.sand_model.proofs.Sandpile.{weight_after}
+use Rattle.sand_model.proofs.Heights.{sum_is_grains, sum_left}
 use Rattle.sand_model.proofs.Bounds.{topplings_bound}
 use Rattle.sand_settle.specs.Settling.{SettledView, IsRecord}
 
@@ -27,13 +27,6 @@ half_weight start u h counts done =
     let sum_is = sum_is_grains start.grid u counts in
     omega arith
 
-pub grains_left : (start : PileView) (u h : List ℕ) → IsPile start → length h ≡ sites start.grid → IsSettled start.grid (λ j. get_or start.heights j 0) (λ j. get_or u j 0) (λ j. get_or h j 0) → sum start.heights ≡ sum h + lost start.grid (λ j. get_or u j 0)
-grains_left start u h pile heights done =
-    let all = laplacian_sum start.grid (λ j. get_or start.heights j 0) (λ j. get_or u j 0) (λ j. get_or h j 0) done.toppled in
-    let before = sum_is_grains start.grid start.heights pile.one_each in
-    let after = sum_is_grains start.grid h heights in
-    omega arith
-
 pub record_is : (start : PileView) (r : SettledView) → IsPile start → r.pile.grid ≡ start.grid → length r.pile.heights ≡ sites start.grid → length r.odometer ≡ sites start.grid → IsSettled start.grid (λ j. get_or start.heights j 0) (λ j. get_or r.odometer j 0) (λ j. get_or r.pile.heights j 0) → r.topplings ≡ sum r.odometer → r.lost ≡ sum start.heights - sum r.pile.heights → IsRecord start.grid (λ j. get_or start.heights j 0) r
 record_is start r pile same heights counts done all gone = record {
   grid = same;
@@ -41,5 +34,5 @@ record_is start r pile same heights counts done all gone = record {
   odometer_each = counts;
   settled = done;
   all_topplings = all ∙ sum_is_grains start.grid r.odometer counts;
-  all_lost = let left = grains_left start r.odometer r.pile.heights pile heights done in omega arith;
+  all_lost = let left = sum_left start.grid start.heights r.pile.heights (λ j. get_or r.odometer j 0) pile.one_each heights done.toppled in omega arith;
 }

@@ -3,7 +3,8 @@
 use Rattle.std.specs.Prelude.{ℕ, ◌≡◌, ◌<◌, ◌≤◌}
 use Rattle.sand_model.specs.Grid.{Grid, sites, distance}
 use Rattle.sand_model.specs.Sand.{total, topplings, lost}
-use Rattle.sand_settle.specs.Lists.{one_if, has_toppled}
+use Rattle.sand_model.specs.Lists.{one_if}
+use Rattle.sand_settle.specs.Lists.{has_toppled}
 use Rattle.sand_settle.specs.declared.avalanche.Avalanche.{Avalanche}
 
 -- how many sites topple

@@ -7,7 +7,8 @@
 ghost use Rattle.std.specs.Prelude.{◌≡◌, ℕ, ◌+◌, ◌^◌, ◌<◌, length, slice_index};
 ghost use Rattle.sand_model.specs.Grid.{sites};
 ghost use Rattle.sand_model.specs.Sand.{topplings, lost};
-ghost use Rattle.sand_settle.specs.Lists.{Lists, has_toppled};
+ghost use Rattle.sand_model.specs.Lists.{Lists};
+ghost use Rattle.sand_settle.specs.Lists.{has_toppled};
 ghost use Rattle.sand_settle.specs.Avalanches.{IsAvalanche};
 
 use crate::lattice::Lattice;
@@ -65,6 +66,7 @@ pub(crate) fn collect(
     ensures odometer { (j : ℕ) → slice_index odometer.new j ≡ slice_index odometer.old j + slice_index counts.old j }
     ensures uncounted { (j : ℕ) → slice_index counts.new j ≡ 0 }
 {
+    // The sides are at most 256, so the number of the sites that toppled fits 32 bits.
     let _ = lattice.shape();
     let mut avalanche = begun(site, toppled.len() as u32);
     for turn in 0..toppled.len() {

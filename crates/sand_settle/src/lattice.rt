@@ -141,6 +141,7 @@ impl Lattice {
         ensures places { result ≡ places self.now site }
         ensures sides { IsGrid self.now }
     {
+        // The sides are at most 256, so a caller may count on at most 65,536 sites.
         let _ = &self.shape;
         [
             self.north(site),

@@ -2,6 +2,7 @@
 #![tactic(auto)]
 
 mod avalanche;
+mod choice;
 mod faults;
 mod lattice;
 pub mod laws;

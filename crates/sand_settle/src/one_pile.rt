@@ -78,6 +78,7 @@ impl OnePile {
         ensures memory { IsOkUnless result (OneFault.Memory alloc_error) }
     {
         let settled = settle(alloc, start)?;
+        // The start's grains are within the limit, and so are those that lie on the settled pile or were lost.
         let _ = start.grains();
         Ok(OnePile {
             settled: Some(settled),

@@ -36,6 +36,13 @@ impl Settled {
         &self.pile
     }
 
+    /// The settled pile itself: no height is copied.
+    pub fn into_pile(self) -> Pile
+        ensures { result ≡ self.pile }
+    {
+        self.pile
+    }
+
     /// How often a site toppled.
     pub fn odometer(&self, site: usize) -> u64
         requires { site < sites self.now.pile.grid }

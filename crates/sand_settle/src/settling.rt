@@ -10,14 +10,16 @@
 //!   action (`sand_model::laws`), and it holds from turn to turn (`IsUnderway`).
 //! - At the end the queue is empty, so no site may topple: what has toppled stabilises the start, and is the least.
 
-ghost use Rattle.std.specs.Prelude.{◌≡◌, ℕ, ◌+◌, ◌*◌, ◌/◌, ◌^◌, ◌<◌, ◌≤◌, List, [], ◌++◌, length, sum, drop, slice_index, slice_set, IfOk, IfSome};
+ghost use Rattle.std.specs.Prelude.{◌≡◌, ℕ, ◌+◌, ◌*◌, ◌/◌, ◌^◌, ◌<◌, ◌≤◌, List, [], ◌++◌, length, sum, drop, slice_index, slice_set, IfOk, IfSome, IsTrue, IsSome, replicate};
 ghost use Rattle.sand_model.specs.Grid.{sites};
 ghost use Rattle.sand_model.specs.Sand.{IsToppled, IsSettled, one_at, value_at, topplings, weight};
+ghost use Rattle.sand_model.specs.Lists.{Lists};
 ghost use Rattle.sand_model.specs.Piles.{height_of};
 ghost use Rattle.sand_settle.specs.Settling.{IsRecord};
-ghost use Rattle.sand_settle.specs.Lists.{Lists, may_topple, has_toppled};
+ghost use Rattle.sand_settle.specs.Lists.{may_topple, has_toppled};
 ghost use Rattle.sand_settle.specs.Underway.{Advances};
 
+use crate::choice::{Queue, Rest, settle_by_any};
 use crate::faults::SettleFault;
 use crate::lattice::Lattice;
 use crate::settled::Settled;
@@ -119,11 +121,50 @@ fn topple_wave(
     ensures noted { Lists (sites lattice.now) (has_toppled (slice_index counts.new)) toppled.new.sites }
     ensures room { (next.new.room ≡ next.old.room) × (toppled.new.room ≡ toppled.old.room) }
 {
+    // The sides are at most 256, so each site that topples can be noted by 32 bits.
     let _ = lattice.shape();
     for turn in 0..wave.len() {
         let times = relax(lattice, heights, wave, turn, next);
         count(counts, toppled, wave.site(turn), times);
     }
+}
+
+// Topples until no site may topple, and says so; or stops where more sites had their turn than `turns`, after the wave in
+// which that came about. Counts how often each site topples, and lists the sites that do.
+pub(crate) fn drain_within(
+    lattice: &Lattice,
+    heights: &mut [u64],
+    counts: &mut [u64],
+    toppled: &mut SiteList,
+    wave: &mut SiteList,
+    next: &mut SiteList,
+    turns: u64,
+) -> bool
+    requires one_each { (length heights.old ≡ sites lattice.now) × (length counts.old ≡ sites lattice.now) }
+    requires limit { sum heights.old ≤ GRAIN_LIMIT }
+    requires uncounted { (j : ℕ) → slice_index counts.old j ≡ 0 }
+    requires unnoted { toppled.old.sites ≡ [] }
+    requires waiting { Lists (sites lattice.now) (may_topple (slice_index heights.old)) wave.old.sites }
+    requires room { (sites lattice.now < toppled.old.room) × (sites lattice.now < wave.old.room) × (sites lattice.now < next.old.room) }
+    ensures settled { IsTrue result → IsSettled lattice.now (slice_index heights.old) (slice_index counts.new) (slice_index heights.new) }
+    ensures ends { 2 ^ 54 ≤ turns → IsTrue result }
+    ensures limit { sum heights.new ≤ sum heights.old }
+    ensures noted { Lists (sites lattice.now) (has_toppled (slice_index counts.new)) toppled.new.sites }
+    ensures room { (sites lattice.now < toppled.new.room) × (sites lattice.now < wave.new.room) × (sites lattice.now < next.new.room) }
+{
+    // The sides are at most 256, so the weight is below 2^55, and the topplings to come are at most half of it.
+    let _ = lattice.shape();
+    let mut left = turns;
+    'waves: while wave.len() > 0 {
+        if left == 0 {
+            return false;
+        }
+        left = left.saturating_sub(wave.len() as u64);
+        next.clear();
+        topple_wave(lattice, heights, counts, toppled, wave, next);
+        mem::swap(wave, next);
+    }
+    true
 }
 
 // Topples until no site may topple: counts how often each site does, and lists the sites that do.
@@ -146,16 +187,11 @@ pub(crate) fn drain(
     ensures noted { Lists (sites lattice.now) (has_toppled (slice_index counts.new)) toppled.new.sites }
     ensures room { (sites lattice.now < toppled.new.room) × (sites lattice.now < wave.new.room) × (sites lattice.now < next.new.room) }
 {
-    let _ = lattice.shape();
-    'waves: while wave.len() > 0 {
-        next.clear();
-        topple_wave(lattice, heights, counts, toppled, wave, next);
-        mem::swap(wave, next);
-    }
+    let _ = drain_within(lattice, heights, counts, toppled, wave, next, u64::MAX);
 }
 
 // Lists the sites that may topple.
-fn list_unstable(heights: &[u64], wave: &mut SiteList)
+pub(crate) fn list_unstable(heights: &[u64], wave: &mut SiteList)
     requires small { length heights.now ≤ 65536 }
     requires room { length heights.now < wave.old.room }
     ensures waiting { Lists (length heights.now) (may_topple (slice_index heights.now)) wave.new.sites }
@@ -203,21 +239,10 @@ pub fn settle(alloc: Global, pile: &Pile) -> Result<Settled, SettleFault>
     ensures half { IfOk result (λ r. 2 * r.topplings ≤ weight pile.now.grid (height_of pile.now)) }
     ensures bound { IfOk result (λ r. r.topplings < 2 ^ 54) }
 {
-    let lattice = Lattice::new(alloc, pile.shape())?;
-    let room = pile.shape().sites() + 1;
-    let mut heights = Vec::from_slice(alloc, pile.heights())?;
-    let mut odometer = vec![in alloc; 0u64; pile.shape().sites()]?;
-    let mut toppled = SiteList::new(alloc, room)?;
-    let mut wave = SiteList::new(alloc, room)?;
-    let mut next = SiteList::new(alloc, room)?;
-    list_unstable(pile.heights(), &mut wave);
-    drain(
-        &lattice,
-        &mut heights,
-        &mut odometer,
-        &mut toppled,
-        &mut wave,
-        &mut next,
-    );
+    let mut queue = Queue::new(alloc, pile)?;
+    let first = Rest::of(alloc, pile)?;
+    let again = Rest::of(alloc, pile)?;
+    let rest = settle_by_any(alloc, pile, &mut queue, first, again);
+    let Rest { heights, odometer } = rest;
     Ok(record_of(pile, heights, odometer))
 }

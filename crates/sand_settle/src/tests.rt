@@ -98,6 +98,8 @@ fn settles_as_worked_out(rt: HostRuntime) -> Result<(), Fail> {
         assert_eq!(rt; record.odometers(), example.odometer);
         assert_eq!(rt; record.lost(), example.lost);
         assert_eq!(rt; record.topplings(), example.topplings);
+        let settled = record.into_pile();
+        assert_eq!(rt; settled.heights(), example.settled);
     }
     Ok(())
 }

@@ -93,6 +93,7 @@ impl Workspace {
         ensures avalanche { IsAvalanche self.old site (λ j. slice_index odometer.new j - slice_index odometer.old j) result }
         ensures never_falls { (j : ℕ) → slice_index odometer.old j ≤ slice_index odometer.new j }
     {
+        // The sides are at most 256, so one drop sets off fewer than 2^54 topplings.
         let _ = self.lattice.shape();
         self.toppled.clear();
         self.wave.clear();

@@ -1,7 +1,7 @@
 use Rattle.std.proofs.Common.{◌<◌, [], arith, length, take, slice_index, vec_len}
 use Rattle.std.proofs.lemmas.Bool.{leb-true}
 use Rattle.sand_model.specs.Grid.{sites}
-use Rattle.sand_group.proofs.Listing.{lists_few, read_below, fresh_read, read_passes}
+use Rattle.sand_model.proofs.Lists.{lists_length, read_below, read_fresh, read_passes}
 use Rattle.sand_group.proofs.Spreading.{enough_left, counts_more, burn_after_push, head_taken, kept_longer}
 use Rattle.sand_group.proofs.burning.burn_out.Goals as goal
 
@@ -13,19 +13,19 @@ pub spread_fire-requires-clause-unburnt : goal.spread_fire-requires-clause-unbur
 spread_fire-requires-clause-unburnt c j m =
     let l : c.loop-head.head < length c.loop-head.burnt.items = omega (arith, c.loop-head.burnt.ok) in
     let inside = read_below (sites c.args.shape) _ c.loop-head.burnt.items c.loop-head.head c.index-site.result.now c.loop-head.invariant.all l c.index-site.ensures in
-    let fresh = fresh_read (sites c.args.shape) _ c.loop-head.burnt.items c.loop-head.head c.index-site.result.now c.loop-head.invariant.all l c.index-site.ensures in
+    let fresh = read_fresh (sites c.args.shape) _ c.loop-head.burnt.items c.loop-head.head c.index-site.result.now c.loop-head.invariant.all l c.index-site.ensures in
     enough_left c.args.shape _ _ c.index-site.result.now j c.loop-head.invariant.counts inside m fresh
 
 pub loop-head-smaller : goal.loop-head-smaller
 loop-head-smaller c =
-    let few = lists_few (sites c.args.shape) _ c.loop-head.burnt.items c.loop-head.invariant.all in
+    let few = lists_length (sites c.args.shape) _ c.loop-head.burnt.items c.loop-head.invariant.all in
     omega (arith, few, c.loop-head.burnt.ok)
 
 pub loop-head-preserved : goal.loop-head-preserved
 loop-head-preserved c =
     let l : c.loop-head.head < length c.loop-head.burnt.items = omega (arith, c.loop-head.burnt.ok) in
     let inside = read_below (sites c.args.shape) _ c.loop-head.burnt.items c.loop-head.head c.index-site.result.now c.loop-head.invariant.all l c.index-site.ensures in
-    let fresh = fresh_read (sites c.args.shape) _ c.loop-head.burnt.items c.loop-head.head c.index-site.result.now c.loop-head.invariant.all l c.index-site.ensures in
+    let fresh = read_fresh (sites c.args.shape) _ c.loop-head.burnt.items c.loop-head.head c.index-site.result.now c.loop-head.invariant.all l c.index-site.ensures in
     let len = c.loop-head.burnt.ok in
     let taken = head_taken c.loop-head.burnt.items c.spread_fire.new.burnt.items (vec_len c.loop-head.burnt) c.loop-head.head c.index-site.result.now (omega arith) (omega arith) c.index-site.ensures c.spread_fire.ensures.kept in
     let longer = kept_longer c.loop-head.burnt.items c.spread_fire.new.burnt.items (vec_len c.loop-head.burnt) (omega arith) c.spread_fire.ensures.kept in

@@ -1,8 +1,8 @@
 use Rattle.std.proofs.Common.{◌≡◌, ◌-◌, slice_index, get_or, length, arith}
 use Rattle.std.proofs.lemmas.Bool.{lt-leb}
 use Rattle.std.proofs.lemmas.List.{get_or_read, get_or-set_same}
+use Rattle.sand_model.proofs.Lists.{lists_room}
 use Rattle.sand_group.specs.Fire.{may_burn}
-use Rattle.sand_group.proofs.Listing.{lists_room}
 use Rattle.sand_group.proofs.burning.note_burnt_neighbour.Goals as goal
 
 pub unwrap-requires : goal.unwrap-requires

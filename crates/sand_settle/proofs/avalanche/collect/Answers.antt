@@ -2,10 +2,9 @@ use Rattle.std.proofs.Common.{ℕ, ◌≡◌, ◌+◌, ◌*◌, ◌<◌, ◌∙�
 use Rattle.std.proofs.Math.ListN.{set}
 use Rattle.std.proofs.lemmas.List.{get_or-set_same, drop_all}
 use Rattle.sand_model.specs.Grid.{sites, missing}
-use Rattle.sand_model.proofs.Bounds.{at_most_total}
-use Rattle.sand_settle.proofs.Lists.{lists_length}
-use Rattle.sand_settle.proofs.Borders.{sites_limit}
-use Rattle.sand_settle.proofs.Underway.{counted}
+use Rattle.sand_model.proofs.Heights.{counted}
+use Rattle.sand_model.proofs.Bounds.{at_most_total, sites_limit}
+use Rattle.sand_model.proofs.Lists.{lists_length}
 use Rattle.sand_settle.proofs.Collected.{rest_inside, rest_some, rest_more, cleared, none_anywhere, collects_more, collects_all}
 use Rattle.sand_settle.proofs.avalanche.collect.Goals as goal
 
@@ -14,6 +13,19 @@ overflow_cast-len c =
     let few = lists_length _ _ _ c.requires.noted in
     let small = sites_limit c.args.lattice.now c.shape.ensures.sides in
     omega (arith, c.len.ensures.value)
+
+pub offset_bounds-counts-place : goal.offset_bounds-counts-place
+offset_bounds-counts-place c =
+    let turn : c.loop-turn.turn < length c.args.toppled.now.sites = omega (arith, c.len-turn-end.ensures.value) in
+    let inside = rest_inside (sites c.args.lattice.now) c.loop-turn.counts c.args.toppled.now.sites c.loop-turn.turn c.site-place.result c.site-place.ensures turn c.loop-turn.invariant.noted in
+    let small = sites_limit c.args.lattice.now c.shape.ensures.sides in
+    omega arith
+
+pub bounds-counts-place : goal.bounds-counts-place
+bounds-counts-place c =
+    let turn : c.loop-turn.turn < length c.args.toppled.now.sites = omega (arith, c.len-turn-end.ensures.value) in
+    let inside = rest_inside (sites c.args.lattice.now) c.loop-turn.counts c.args.toppled.now.sites c.loop-turn.turn c.site-place.result c.site-place.ensures turn c.loop-turn.invariant.noted in
+    omega (arith, c.loop-turn.auto.counts, c.requires.one_each.0)
 
 pub overflow_add-odometer : goal.overflow_add-odometer
 overflow_add-odometer c =

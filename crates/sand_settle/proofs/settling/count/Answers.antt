@@ -1,6 +1,6 @@
 use Rattle.std.proofs.Common.{ap, arith}
 use Rattle.sand_settle.specs.Lists.{ListView}
-use Rattle.sand_settle.proofs.Lists.{lists_length}
+use Rattle.sand_model.proofs.Lists.{lists_length}
 use Rattle.sand_settle.proofs.Queue.{noted}
 use Rattle.sand_settle.proofs.settling.count.Goals as goal
 

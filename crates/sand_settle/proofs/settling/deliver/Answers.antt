@@ -1,6 +1,6 @@
 use Rattle.std.proofs.Common.{◌<◌, ◌+◌, ap, arith, length, get_or}
 use Rattle.sand_settle.specs.Lists.{ListView}
-use Rattle.sand_settle.proofs.Lists.{lists_of}
+use Rattle.sand_model.proofs.Lists.{lists_of}
 use Rattle.sand_settle.proofs.Queue.{queued}
 use Rattle.sand_settle.proofs.settling.deliver.Goals as goal
 

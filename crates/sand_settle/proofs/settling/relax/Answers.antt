@@ -3,9 +3,24 @@ use Rattle.std.proofs.lemmas.List.{length-set}
 use Rattle.sand_model.specs.Grid.{sites}
 use Rattle.sand_model.proofs.Neighbours.{place_inside}
 use Rattle.sand_model.proofs.Heights.{spread_toppled}
-use Rattle.sand_settle.proofs.Lists.{lists_of}
+use Rattle.sand_model.proofs.Bounds.{sites_limit}
+use Rattle.sand_model.proofs.Lists.{lists_of}
 use Rattle.sand_settle.proofs.Queue.{turn_inside, others_wait, queue_room}
 use Rattle.sand_settle.proofs.settling.relax.Goals as goal
+
+pub neighbours-requires : goal.neighbours-requires
+neighbours-requires c = turn_inside (sites c.args.lattice.now) _ c.args.wave.now.sites c.args.next.now.sites c.args.turn c.site-site.result c.site-site.ensures c.requires.turn c.requires.waiting
+
+pub offset_bounds-heights-site : goal.offset_bounds-heights-site
+offset_bounds-heights-site c =
+    let inside = turn_inside (sites c.args.lattice.now) _ c.args.wave.now.sites c.args.next.now.sites c.args.turn c.site-site.result c.site-site.ensures c.requires.turn c.requires.waiting in
+    let small = sites_limit c.args.lattice.now c.neighbours.ensures.sides in
+    omega arith
+
+pub bounds-heights-site : goal.bounds-heights-site
+bounds-heights-site c =
+    let inside = turn_inside (sites c.args.lattice.now) _ c.args.wave.now.sites c.args.next.now.sites c.args.turn c.site-site.result c.site-site.ensures c.requires.turn c.requires.waiting in
+    omega (arith, c.requires.one_each)
 
 pub deliver-requires-clause-inside : goal.deliver-requires-clause-inside
 deliver-requires-clause-inside c =

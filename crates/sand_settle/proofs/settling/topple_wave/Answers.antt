@@ -3,9 +3,10 @@ use Rattle.std.proofs.lemmas.List.Sums.{get_or-le-sum_by}
 use Rattle.sand_model.specs.Grid.{sites}
 use Rattle.sand_model.specs.Sand.{one_at}
 use Rattle.sand_settle.specs.Lists.{has_toppled}
-use Rattle.sand_settle.proofs.Lists.{lists_of}
+use Rattle.sand_model.proofs.Heights.{counted}
+use Rattle.sand_model.proofs.Lists.{lists_of}
 use Rattle.sand_settle.proofs.Queue.{turn_inside, turn_high}
-use Rattle.sand_settle.proofs.Underway.{advance_more, advance_turn, turn_counts, counts_small, sum_falls, counted}
+use Rattle.sand_settle.proofs.Underway.{advance_more, advance_turn, turn_counts, counts_small, sum_falls}
 use Rattle.sand_settle.proofs.settling.topple_wave.Goals as goal
 
 pub relax-times-requires-clause-limit : goal.relax-times-requires-clause-limit

@@ -1,7 +1,8 @@
 use Rattle.std.proofs.Common.{◌≡◌, ◌+◌, ◌≤◌, ◌++◌, length, drop, get_or}
 use Rattle.sand_model.specs.Grid.{sites}
 use Rattle.sand_model.specs.Sand.{topplings}
-use Rattle.sand_settle.specs.Lists.{Lists, may_topple, has_toppled}
+use Rattle.sand_model.specs.Lists.{Lists}
+use Rattle.sand_settle.specs.Lists.{may_topple, has_toppled}
 use Rattle.sand_settle.specs.Underway.{Advances}
 use Rattle.sand_settle.proofs.settling.topple_wave.Given as goal
 

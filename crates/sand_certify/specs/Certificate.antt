@@ -1,0 +1,37 @@
+-- What shows that counts are the least odometer of a pile.
+-- Sources: Fey, Levine and Peres 2010 (least action), Friedrich and Levine 2010 (nothing can be untoppled), Dhar 1990
+-- (burning).
+use Rattle.std.specs.Prelude.{ℕ, ◌≡◌, ◌+◌, ◌*◌, ◌<◌, ◌≤◌, List, All, length, slice_index, count_by, nat_le}
+use Rattle.sand_certify.specs.declared.certificate.TheConstants.{COUNT_LIMIT}
+use Rattle.sand_model.specs.Grid.{Grid, sites, neighbours}
+use Rattle.sand_model.specs.Sand.{flow}
+
+-- how many neighbours of a site have a turn that is no earlier than its own
+abbrev pub no_earlier : Grid → (ℕ → ℕ) → ℕ → ℕ
+no_earlier g turn i = count_by (λ j. nat_le (turn i) (turn j)) (neighbours g i)
+
+-- each site that has toppled burns at its turn, when its neighbours of earlier turns have burnt
+pub record BurnInTurns (g : Grid) (t u turn : ℕ → ℕ) : Type 0 where
+  pub each : (i : ℕ) → i < sites g → 0 < u i → no_earlier g turn i ≤ t i
+
+-- s - Lu is from 0 to 3 at the site i, and i burns at its turn if it has toppled
+pub record IsShownAt (g : Grid) (s u turn : ℕ → ℕ) (i : ℕ) : Type 0 where
+  pub not_negative : 4 * u i ≤ s i + flow g u i
+  pub at_most_three : s i + flow g u i ≤ 4 * u i + 3
+  pub burns : 0 < u i → 4 * u i + no_earlier g turn i ≤ s i + flow g u i
+
+-- each site is shown
+pub record IsShown (g : Grid) (s u turn : ℕ → ℕ) : Type 0 where
+  pub each : (i : ℕ) → i < sites g → IsShownAt g s u turn i
+
+-- counts and turns that show how often each site topples
+pub record IsCertificate (g : Grid) (s : ℕ → ℕ) (counts turns : List ℕ) : Type 0 where
+  pub counts_each : length counts ≡ sites g
+  pub turns_each : length turns ≡ sites g
+  pub few : All (λ n. n < COUNT_LIMIT) counts
+  pub shown : IsShown g s (slice_index counts) (slice_index turns)
+
+-- the site i is shown, and s - Lu is h there
+pub record IsLeftAt (g : Grid) (s u turn : ℕ → ℕ) (i h : ℕ) : Type 0 where
+  pub shown : IsShownAt g s u turn i
+  pub balance : h + 4 * u i ≡ s i + flow g u i

@@ -1,0 +1,14 @@
+-- Why a certificate is a proof, over all grids and all piles.
+use Rattle.std.specs.Prelude.{ℕ, List, slice_index}
+use Rattle.sand_model.specs.Grid.{Grid}
+use Rattle.sand_model.specs.Sand.{IsToppled, IsSettled}
+use Rattle.sand_model.specs.Forbidden.{IsTight}
+use Rattle.sand_certify.specs.Certificate.{BurnInTurns, IsCertificate}
+
+-- where each site that has toppled burns at its turn, no set of such sites is forbidden
+abbrev pub TightIfBurning : Type 0
+TightIfBurning = (g : Grid) (t u turn : ℕ → ℕ) → BurnInTurns g t u turn → IsTight g t u
+
+-- a certificate shows the odometer
+abbrev pub SettledIfShown : Type 0
+SettledIfShown = (g : Grid) (s t : ℕ → ℕ) (counts turns : List ℕ) → IsCertificate g s counts turns → IsToppled g s (slice_index counts) t → IsSettled g s (slice_index counts) t

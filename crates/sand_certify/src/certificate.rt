@@ -1,0 +1,167 @@
+//! The certifier: whether claimed counts and turns show how often each site of a pile topples.
+//!
+//! Site by site, in 64-bit numbers that cannot overflow since each count is below `COUNT_LIMIT`, it computes the height
+//! t = s - Lu that the counts u leave, and looks at three things: t is not negative, t is 3 at most, and where the
+//! site has toppled, t is no less than the number of its neighbours whose turn is not earlier. Where all sites pass, the
+//! counts are the least odometer (`laws`). It takes one pass over the grid.
+
+ghost use Rattle.std.specs.Prelude.{◌≡◌, ℕ, ◌+◌, ◌*◌, ◌<◌, ◌≤◌, ◌↔◌, List, length, slice_index, nat_le, if◌then◌else◌, IfOk, IfSome, IsTrue, IsSome, MatchOption, All};
+ghost use Rattle.sand_model.specs.Grid.{sites, places};
+ghost use Rattle.sand_model.specs.Sand.{flow, value_at, IsSettled};
+ghost use Rattle.sand_model.specs.Piles.{height_of};
+ghost use Rattle.sand_certify.specs.Certificate.{no_earlier, IsShownAt, IsLeftAt, IsShown, IsCertificate};
+
+use crate::walk::Walk;
+use sand_model::{GRAIN_LIMIT, Pile, Shape};
+use std::alloc::{AllocError, Global};
+
+/// What each count is below, 2^54: no site of a pile topples so often, and no sum of counts here overflows.
+pub const COUNT_LIMIT: u64 = 18_014_398_509_481_984;
+
+// The number at a place, and 0 in the sink.
+#[inline(always)]
+fn value(values: &[u64], place: Option<usize>) -> u64
+    requires { IfSome place (λ j. j < length values.now) }
+    ensures { result ≡ value_at (slice_index values.now) place }
+{
+    match place {
+        Some(site) => values[site],
+        None => 0,
+    }
+}
+
+// The sum of the counts of a site's neighbours.
+#[inline(always)]
+fn inflow(shape: Shape, counts: &[u64], site: usize, around: [Option<usize>; 4]) -> u64
+    requires one_each { length counts.now ≡ sites shape }
+    requires site { site < sites shape }
+    requires around { around ≡ places shape site }
+    requires few { (j : ℕ) → slice_index counts.now j < COUNT_LIMIT }
+    ensures value { result ≡ flow shape (slice_index counts.now) site }
+    ensures below { result < 4 * COUNT_LIMIT }
+{
+    let [north, west, east, south] = around;
+    let up = value(counts, north);
+    let left = value(counts, west);
+    let right = value(counts, east);
+    let down = value(counts, south);
+    prove!(up < COUNT_LIMIT && left < COUNT_LIMIT && right < COUNT_LIMIT && down < COUNT_LIMIT);
+    up + left + right + down
+}
+
+// 1 where the turn at a place is not earlier than this one, and 0 elsewhere and in the sink.
+#[inline(always)]
+fn is_no_earlier(turns: &[u32], turn: u32, place: Option<usize>) -> u64
+    requires { IfSome place (λ j. j < length turns.now) }
+    ensures { result ≡ value_at (λ j. if nat_le turn (slice_index turns.now j) then 1 else 0) place }
+{
+    match place {
+        Some(site) => u64::from(turns[site] >= turn),
+        None => 0,
+    }
+}
+
+// How many neighbours of a site have a turn that is no earlier than its own.
+#[inline(always)]
+fn unburnt(shape: Shape, turns: &[u32], site: usize, around: [Option<usize>; 4]) -> u64
+    requires one_each { length turns.now ≡ sites shape }
+    requires site { site < sites shape }
+    requires around { around ≡ places shape site }
+    ensures { result ≡ no_earlier shape (slice_index turns.now) site }
+{
+    let [north, west, east, south] = around;
+    let turn = turns[site];
+    let up = is_no_earlier(turns, turn, north);
+    let left = is_no_earlier(turns, turn, west);
+    let right = is_no_earlier(turns, turn, east);
+    let down = is_no_earlier(turns, turn, south);
+    up + left + right + down
+}
+
+// The height that the counts leave at a site, where that is shown there.
+#[inline(always)]
+fn height_left(
+    shape: Shape,
+    start: &[u64],
+    counts: &[u64],
+    turns: &[u32],
+    site: usize,
+    around: [Option<usize>; 4],
+) -> Option<u64>
+    requires starts_each { length start.now ≡ sites shape }
+    requires counts_each { length counts.now ≡ sites shape }
+    requires turns_each { length turns.now ≡ sites shape }
+    requires site { site < sites shape }
+    requires around { around ≡ places shape site }
+    requires few { (j : ℕ) → slice_index counts.now j < COUNT_LIMIT }
+    requires low { slice_index start.now site ≤ GRAIN_LIMIT }
+    ensures { MatchOption result
+        (¬ IsShownAt shape (slice_index start.now) (slice_index counts.now) (slice_index turns.now) site)
+        (λ height. IsLeftAt shape (slice_index start.now) (slice_index counts.now) (slice_index turns.now) site height) }
+{
+    let before = start[site] + inflow(shape, counts, site, around);
+    let taken = 4 * counts[site];
+    if before < taken || before - taken > 3 {
+        return None;
+    }
+    let height = before - taken;
+    if counts[site] > 0 && height < unburnt(shape, turns, site, around) {
+        return None;
+    }
+    Some(height)
+}
+
+// Whether each count is below the limit.
+fn are_few(counts: &[u64]) -> bool
+    ensures { IsTrue result ↔ All (λ n. n < COUNT_LIMIT) counts.now }
+{
+    counts.iter().all(|count| *count < COUNT_LIMIT)
+}
+
+// The heights that the counts leave at all sites, where each site is shown.
+fn heights_left(
+    alloc: Global,
+    shape: Shape,
+    start: &[u64],
+    counts: &[u64],
+    turns: &[u32],
+) -> Result<Option<Vec<u64>>, AllocError>
+    requires starts_each { length start.now ≡ sites shape }
+    requires counts_each { length counts.now ≡ sites shape }
+    requires turns_each { length turns.now ≡ sites shape }
+    requires few { (j : ℕ) → slice_index counts.now j < COUNT_LIMIT }
+    requires low { (j : ℕ) → slice_index start.now j ≤ GRAIN_LIMIT }
+    ensures exactly { IfOk result (λ o. IsSome o ↔ IsShown shape (slice_index start.now) (slice_index counts.now) (slice_index turns.now)) }
+    ensures one_each { IfOk result (λ o. IfSome o (λ heights. length heights.items ≡ sites shape)) }
+    ensures settled { IfOk result (λ o. IfSome o (λ heights. IsSettled shape (slice_index start.now) (slice_index counts.now) (slice_index heights.items))) }
+{
+    let mut walk = Walk::new(shape);
+    let mut heights = Vec::with_capacity(alloc, shape.sites())?;
+    for site in 0..shape.sites() {
+        let Some(height) = height_left(shape, start, counts, turns, site, walk.places()) else {
+            return Ok(None);
+        };
+        heights.push_reserved(height);
+        walk.step();
+    }
+    Ok(Some(heights))
+}
+
+/// What toppling each site of a pile as often as `counts` says leaves, where `counts` and `turns`, by site, are a
+/// certificate of it: then the counts are the pile's odometer. None where they are not, and Memory as an error.
+pub fn certified(
+    alloc: Global,
+    pile: &Pile,
+    counts: &[u64],
+    turns: &[u32],
+) -> Result<Option<Vec<u64>>, AllocError>
+    ensures exactly { IfOk result (λ o. IsSome o ↔ IsCertificate pile.now.grid (height_of pile.now) counts.now turns.now) }
+    ensures one_each { IfOk result (λ o. IfSome o (λ heights. length heights.items ≡ sites pile.now.grid)) }
+    ensures settled { IfOk result (λ o. IfSome o (λ heights. IsSettled pile.now.grid (height_of pile.now) (slice_index counts.now) (slice_index heights.items))) }
+{
+    let shape = pile.shape();
+    if counts.len() != shape.sites() || turns.len() != shape.sites() || !are_few(counts) {
+        return Ok(None);
+    }
+    heights_left(alloc, shape, pile.heights(), counts, turns)
+}

@@ -1,0 +1,308 @@
+//! Burning what has toppled, and taking back what does not burn.
+//!
+//! A site burns when its height is at least the number of its neighbours that have toppled and do not burn yet. What
+//! does not burn is the greatest set of sites that have toppled and is forbidden, and each of its sites can be
+//! untoppled once: the heights stay 3 at most. Where all burns nothing can be untoppled, and the order is the proof.
+//!
+//! The grid has an edge all round here, so that a site's neighbours need no test and no division. In the edge of a
+//! row that goes round stand the marks of its other end, and `home` says whose they are.
+
+ghost use Rattle.std.specs.Prelude.{◌≤◌, ◌<◌, length};
+
+use crate::field::{Field, LEVEL};
+use crate::frame::{Frame, run, run_mut};
+use std::alloc::{AllocError, Global};
+
+// Marks of cells: burnt or never toppled, toppled, and in the queue.
+const AWAY: u8 = 0;
+
+const TOPPLED: u8 = 1;
+
+const QUEUED: u8 = 2;
+
+/// A fire over a grid with an edge all round.
+#[derive(Drop)]
+pub(crate) struct Fire {
+    frame: Frame,
+    stride: usize,
+    marks: Vec<u8>,
+    /// `LEVEL` above how far a height is above the number of neighbours that are marked.
+    room: Vec<u8>,
+    /// Whose mark a cell has.
+    home: Vec<u32>,
+    /// The cells that burn, one after another.
+    order: Vec<u32>,
+    ghost narrow: { stride ≤ 258 },
+}
+
+// The four cells round each cell of a row: above, west, east and below.
+#[derive(Clone, Copy)]
+struct Around<'a> {
+    above: &'a [u8],
+    west: &'a [u8],
+    east: &'a [u8],
+    below: &'a [u8],
+}
+
+impl Around<'_> {
+    fn cells(self) -> usize
+        ensures above { result ≤ length self.entry.above.now }
+        ensures west { result ≤ length self.entry.west.now }
+        ensures east { result ≤ length self.entry.east.now }
+        ensures below { result ≤ length self.entry.below.now }
+    {
+        self.above
+            .len()
+            .min(self.west.len())
+            .min(self.east.len())
+            .min(self.below.len())
+    }
+}
+
+// The cells round those of a row that begins at `first`.
+fn around_row(marks: &[u8], first: usize, width: usize, stride: usize) -> Around<'_> {
+    Around {
+        above: run(marks, first.wrapping_sub(stride), width),
+        west: run(marks, first.wrapping_sub(1), width),
+        east: run(marks, first.wrapping_add(1), width),
+        below: run(marks, first.wrapping_add(stride), width),
+    }
+}
+
+// Marks the sites of a row that have toppled, and answers how many.
+fn mark_row(marks: &mut [u8], counts: &[i64]) -> u32 {
+    let mut found = 0u32;
+    for x in 0..marks.len().min(counts.len()) {
+        let has_toppled = counts[x] > 0;
+        marks[x] = u8::from(has_toppled);
+        found = found.wrapping_add(u32::from(has_toppled));
+    }
+    found
+}
+
+fn set_room(room: &mut [u8], heights: &[u8], around: Around) {
+    let cells = room.len().min(heights.len()).min(around.cells());
+    for x in 0..cells {
+        let ends = around.above[x].wrapping_add(around.below[x]);
+        let sides = around.west[x].wrapping_add(around.east[x]);
+        room[x] = heights[x].wrapping_sub(ends).wrapping_sub(sides);
+    }
+}
+
+fn untopple_row(heights: &mut [u8], marks: &[u8], around: Around) {
+    let cells = heights.len().min(marks.len()).min(around.cells());
+    for x in 0..cells {
+        let ends = around.above[x].wrapping_add(around.below[x]);
+        let sides = around.west[x].wrapping_add(around.east[x]);
+        let back = marks[x] << 2;
+        heights[x] = heights[x]
+            .wrapping_add(back)
+            .wrapping_sub(ends)
+            .wrapping_sub(sides);
+    }
+}
+
+fn lower_row(counts: &mut [i64], marks: &[u8]) {
+    for x in 0..counts.len().min(marks.len()) {
+        counts[x] = counts[x].wrapping_sub(i64::from(marks[x]));
+    }
+}
+
+impl Fire {
+    pub(crate) fn new(alloc: Global, frame: Frame) -> Result<Fire, AllocError> {
+        let stride = frame.width + 2;
+        let cells = stride * (frame.height + 2);
+        let mut home = Vec::with_capacity(alloc, cells)?;
+        for _ in 0..frame.height + 2 {
+            let from = home.len();
+            for x in 0..stride {
+                let column = if !frame.goes_round {
+                    x
+                } else if x == 0 {
+                    frame.width
+                } else if x == frame.width + 1 {
+                    1
+                } else {
+                    x
+                };
+                home.push((from.wrapping_add(column) & 0xff_ffff) as u32)?;
+            }
+        }
+        Ok(Fire {
+            frame,
+            stride,
+            marks: vec![in alloc; AWAY; cells]?,
+            room: vec![in alloc; 0u8; cells]?,
+            home,
+            order: Vec::with_capacity(alloc, frame.sites())?,
+        })
+    }
+
+    // The cell of the first column of a row.
+    fn first_of(&self, y: usize) -> usize
+        requires { y < 256 }
+        ensures { result ≤ 66564 }
+    {
+        (y + 1) * self.stride + 1
+    }
+
+    // The edge of each row that goes round gets the marks of its other end.
+    fn join_ends(&mut self) {
+        if !self.frame.goes_round {
+            return;
+        }
+        let width = self.frame.width;
+        for y in 0..self.frame.height {
+            let first = self.first_of(y);
+            let row = run_mut(&mut self.marks, first.wrapping_sub(1), width + 2);
+            if row.len() >= width + 2 {
+                row[0] = row[width];
+                row[width + 1] = row[1];
+            }
+        }
+    }
+
+    // Marks the sites that have toppled, and answers how many.
+    fn mark(&mut self, counts: &[i64]) -> u32 {
+        let width = self.frame.width;
+        let mut found = 0u32;
+        for y in 0..self.frame.height {
+            let first = self.first_of(y);
+            let row = run_mut(&mut self.marks, first, width);
+            found = found.wrapping_add(mark_row(row, run(counts, y.wrapping_mul(width), width)));
+        }
+        self.join_ends();
+        found
+    }
+
+    // How far each height is above the number of neighbours that have toppled.
+    fn find_room(&mut self, field: &Field) {
+        let width = self.frame.width;
+        for y in 0..self.frame.height {
+            let first = self.first_of(y);
+            let around = around_row(&self.marks, first, width, self.stride);
+            set_room(run_mut(&mut self.room, first, width), field.row(y), around);
+        }
+    }
+
+    // A neighbour of this cell burns; where that lets its site burn, the site joins the queue.
+    #[inline(always)]
+    fn warm(&mut self, at: usize) -> Result<(), AllocError> {
+        if at >= self.home.len() {
+            return Ok(());
+        }
+        let at = self.home[at] as usize;
+        if at >= self.room.len() || at >= self.marks.len() {
+            return Ok(());
+        }
+        let room = self.room[at].wrapping_add(1);
+        self.room[at] = room;
+        if self.marks[at] == TOPPLED && room >= LEVEL {
+            self.marks[at] = QUEUED;
+            self.order.push((at & 0xff_ffff) as u32)?;
+        }
+        Ok(())
+    }
+
+    // Queues the sites that burn at once.
+    fn kindle(&mut self) -> Result<(), AllocError> {
+        self.order.clear();
+        for y in 0..self.frame.height {
+            let first = self.first_of(y);
+            for at in first..first + self.frame.width {
+                let is_cell = at < self.room.len() && at < self.marks.len();
+                if is_cell && self.marks[at] == TOPPLED && self.room[at] >= LEVEL {
+                    self.marks[at] = QUEUED;
+                    self.order.push((at & 0xff_ffff) as u32)?;
+                }
+            }
+        }
+        Ok(())
+    }
+
+    // Burns all that burns; the rest keeps its mark.
+    fn burn_out(&mut self) -> Result<(), AllocError> {
+        self.kindle()?;
+        for turn in 0..self.frame.sites() {
+            if turn >= self.order.len() {
+                break;
+            }
+            let at = self.order[turn] as usize;
+            if at < self.marks.len() {
+                self.marks[at] = AWAY;
+            }
+            self.warm(at.wrapping_sub(self.stride))?;
+            self.warm(at.wrapping_sub(1))?;
+            self.warm(at.wrapping_add(1))?;
+            self.warm(at.wrapping_add(self.stride))?;
+        }
+        Ok(())
+    }
+
+    // Takes one toppling back at each site that keeps its mark.
+    fn untopple(&mut self, field: &mut Field, counts: &mut [i64]) {
+        self.join_ends();
+        let width = self.frame.width;
+        for y in 0..self.frame.height {
+            let first = self.first_of(y);
+            let marks = run(&self.marks, first, width);
+            lower_row(run_mut(counts, y.wrapping_mul(width), width), marks);
+            let from = y.wrapping_mul(field.stride);
+            untopple_row(
+                run_mut(&mut field.heights, from, width),
+                marks,
+                around_row(&self.marks, first, width, self.stride),
+            );
+        }
+    }
+
+    /// Takes back topplings, the greatest set that can be at a time and at most so often, and says whether none is left
+    /// that can be. The field is stable, and stays so.
+    pub(crate) fn take_back(
+        &mut self,
+        field: &mut Field,
+        counts: &mut [i64],
+        times: usize,
+    ) -> Result<bool, AllocError> {
+        for _ in 0..times {
+            let toppled = self.mark(counts);
+            self.find_room(field);
+            self.burn_out()?;
+            if toppled as usize <= self.order.len() {
+                return Ok(true);
+            }
+            self.untopple(field, counts);
+        }
+        Ok(false)
+    }
+
+    /// By site 1 where the last fire left it, and 0 elsewhere.
+    pub(crate) fn unburnt(&self, alloc: Global) -> Result<Vec<f64>, AllocError> {
+        let mut left = Vec::with_capacity(alloc, self.frame.sites())?;
+        for y in 0..self.frame.height {
+            for mark in run(&self.marks, self.first_of(y), self.frame.width) {
+                left.push(f64::from(*mark))?;
+            }
+        }
+        Ok(left)
+    }
+
+    /// By site the turn at which it burns, from 1 on, or 0 where it does not.
+    pub(crate) fn turns(&self, alloc: Global) -> Result<Vec<u32>, AllocError> {
+        let mut turns = vec![in alloc; 0u32; self.frame.sites()]?;
+        let mut turn = 0u32;
+        for at in &self.order {
+            turn = turn.wrapping_add(1);
+            let at = *at as usize;
+            if self.stride > 0 {
+                let row = (at / self.stride).saturating_sub(1);
+                let column = (at % self.stride).saturating_sub(1);
+                let site = row.wrapping_mul(self.frame.width).wrapping_add(column);
+                if site < turns.len() {
+                    turns[site] = turn;
+                }
+            }
+        }
+        Ok(turns)
+    }
+}

@@ -1,0 +1,42 @@
+//! The grid at one of the sizes, and parts of lists that stand for its rows.
+
+ghost use Rattle.std.specs.Prelude.{◌≤◌, ◌*◌, ◌≡◌};
+
+/// The sides of a grid, and whether its rows go round.
+#[derive(Clone, Copy)]
+pub(crate) struct Frame {
+    pub(crate) width: usize,
+    pub(crate) height: usize,
+    pub(crate) goes_round: bool,
+    ghost narrow: { width ≤ 256 },
+    ghost short: { height ≤ 256 },
+}
+
+impl Frame {
+    pub(crate) fn sites(self) -> usize
+        ensures value { result ≡ self.width * self.height }
+        ensures few { result ≤ 65536 }
+    {
+        self.width * self.height
+    }
+}
+
+/// So many items from a place on, or none where they are not all there.
+#[inline(always)]
+pub(crate) fn run<T>(all: &[T], from: usize, count: usize) -> &[T] {
+    if from <= all.len() && count <= all.len() - from {
+        &all[from..from + count]
+    } else {
+        &all[..0]
+    }
+}
+
+/// The same, to be written.
+#[inline(always)]
+pub(crate) fn run_mut<T>(all: &mut [T], from: usize, count: usize) -> &mut [T] {
+    if from <= all.len() && count <= all.len() - from {
+        &mut all[from..from + count]
+    } else {
+        &mut all[..0]
+    }
+}

@@ -1,0 +1,33 @@
+//! A guess of how often each site of a pile topples, made in a blink and, so far as anyone has seen, right.
+//!
+//! Nothing here is claimed to be right: each function is proved to be safe and to return, and that is all. A wrong
+//! guess costs time and never an answer: who uses it has it certified (`sand_certify`), and else settles by toppling.
+//!
+//! The method is that of Friedrich and Levine 2010, "Fast simulation of large-scale growth models": where the settled
+//! heights t were known, the counts u would solve Lu = s - t. On a scale of some sites t has a density that is nearly
+//! that of a pile of half the size with the same grains a site. So:
+//!
+//! 1. `levels`: piles of half the size, and again, until they are small. The smallest is guessed from a constant.
+//! 2. `solver`: Lu = s - density is solved in floating point, directly: waves along x, elimination along y.
+//! 3. `repair`: the rounded counts are made right, by toppling what is unstable (in bytes: `sweeps`, then
+//!    `singles`) and taking back what toppled without need (`burning`). Here all numbers are exact.
+//! 4. `density`: the local means of what is left tell the density for the pile of twice the size.
+#![tactic(auto)]
+
+mod burning;
+mod claim;
+mod density;
+mod field;
+mod frame;
+mod levels;
+mod product;
+mod repair;
+mod residual;
+mod singles;
+mod solver;
+mod sweeps;
+#[cfg(test)]
+mod tests;
+mod waves;
+
+pub use claim::{Claim, guessed};

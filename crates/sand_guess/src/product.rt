@@ -1,0 +1,106 @@
+//! Products of matrices, four rows and four columns at a time.
+//!
+//! A right factor lies in blocks of four columns, each block row by row, so that a block stays at hand while all rows
+//! of the left factor pass it. Sizes are multiples of four.
+
+ghost use Rattle.std.specs.Prelude.{◌≤◌, ◌<◌};
+
+use crate::frame::{run, run_mut};
+use std::alloc::{AllocError, Global};
+use std::simd::prelude::*;
+
+/// How many columns a block has, and how many rows go at a time.
+pub(crate) const BLOCK: usize = 4;
+
+// Four rows times a block.
+#[inline(always)]
+fn four_rows(rows: [&[f64]; 4], block: &[f64]) -> [f64x4; 4] {
+    let [p, q, r, s] = rows;
+    let cells = p
+        .len()
+        .min(q.len())
+        .min(r.len())
+        .min(s.len())
+        .min(block.len() / BLOCK);
+    let mut a = f64x4::splat(0.0);
+    let mut b = f64x4::splat(0.0);
+    let mut c = f64x4::splat(0.0);
+    let mut d = f64x4::splat(0.0);
+    for k in 0..cells {
+        let lanes = f64x4::from_slice(&block[BLOCK * k..]);
+        a += lanes * f64x4::splat(p[k]);
+        b += lanes * f64x4::splat(q[k]);
+        c += lanes * f64x4::splat(r[k]);
+        d += lanes * f64x4::splat(s[k]);
+    }
+    [a, b, c, d]
+}
+
+#[inline(always)]
+fn store(out: &mut [f64], at: usize, lanes: f64x4) {
+    let place = run_mut(out, at, BLOCK);
+    if place.len() >= BLOCK {
+        lanes.copy_to_slice(place);
+    }
+}
+
+// All rows times the block that begins at `column`.
+fn times_block(source: &[f64], columns: usize, block: &[f64], column: usize, out: &mut [f64]) {
+    let mut from = 0usize;
+    for _ in 0..source.len() / BLOCK {
+        let second = from.wrapping_add(columns);
+        let third = second.wrapping_add(columns);
+        let fourth = third.wrapping_add(columns);
+        if run(source, fourth, columns).len() < columns {
+            break;
+        }
+        let rows = [
+            run(source, from, columns),
+            run(source, second, columns),
+            run(source, third, columns),
+            run(source, fourth, columns),
+        ];
+        let [a, b, c, d] = four_rows(rows, block);
+        store(out, from.wrapping_add(column), a);
+        store(out, second.wrapping_add(column), b);
+        store(out, third.wrapping_add(column), c);
+        store(out, fourth.wrapping_add(column), d);
+        from = fourth.wrapping_add(columns);
+    }
+}
+
+/// The rows of `source` times a matrix in blocks, both with so many columns.
+pub(crate) fn multiply(source: &[f64], columns: usize, blocks: &[f64], out: &mut [f64]) {
+    let size = columns.wrapping_mul(BLOCK);
+    let mut from = 0usize;
+    for block in 0..columns / BLOCK {
+        times_block(source, columns, run(blocks, from, size), BLOCK * block, out);
+        from = from.wrapping_add(size);
+    }
+}
+
+/// A list of rows of `width` numbers as a matrix of so many columns in blocks, filled up with zeros; or, where it is
+/// turned, with its rows as columns.
+pub(crate) fn in_blocks(
+    alloc: Global,
+    values: &[f64],
+    width: usize,
+    columns: usize,
+    is_turned: bool,
+) -> Result<Vec<f64>, AllocError>
+    requires { columns ≤ 512 }
+{
+    let mut blocks = Vec::new(alloc);
+    for block in 0..columns / BLOCK {
+        for k in 0..columns {
+            for lane in 0..BLOCK {
+                let x = BLOCK * block + lane;
+                let (row, column) = if is_turned { (x, k) } else { (k, x) };
+                let at = row.wrapping_mul(width).wrapping_add(column);
+                let is_inside = row < width && column < width && at < values.len();
+                blocks.push(if is_inside { values[at] } else { 0.0 })?;
+            }
+        }
+    }
+    Ok(blocks)
+}

@@ -1,0 +1,146 @@
+//! Making counts right: from any counts that come near, to those that topple no site without need and leave none
+//! unstable.
+
+ghost use Rattle.std.specs.Prelude.{◌≤◌, ◌<◌};
+
+use crate::burning::Fire;
+use crate::field::Field;
+use crate::frame::Frame;
+use crate::levels::Level;
+use crate::residual::{smooth, subtract};
+use crate::solver::Solver;
+use std::alloc::{AllocError, Global};
+use std::num::{nearest_i64_to_f64, saturating_f64_to_i64};
+
+// How often Lu = r is solved for what is left, and how often heights are evened out after each, before a guess is given
+// up. Nearly always the first solve does.
+const SOLVES: usize = 3;
+
+const EVENINGS: usize = 30;
+
+// How often sweeps and single topplings follow one another, and how often counts are lowered.
+const TRIALS: usize = 10;
+
+// How often topplings are taken back before all counts are lowered, and by what density they are at first.
+const MOST_TAKEN_BACK: usize = 8;
+
+const FIRST_LOWERING: f64 = 0.02;
+
+/// Counts under repair, with room for what the repair needs.
+#[derive(Drop)]
+pub(crate) struct Repair {
+    pub(crate) counts: Vec<i64>,
+    pub(crate) field: Field,
+    pub(crate) fire: Fire,
+    left: Vec<i64>,
+    wave: Vec<u32>,
+    next: Vec<u32>,
+}
+
+// Adds what is nearest to each number, and keeps counts from 0 on.
+fn add_rounded(counts: &mut [i64], numbers: &[f64], factor: f64) {
+    for at in 0..counts.len().min(numbers.len()) {
+        let twice = saturating_f64_to_i64(2.0 * factor * numbers[at]);
+        counts[at] = counts[at].wrapping_add(twice.wrapping_add(1) >> 1).max(0);
+    }
+}
+
+impl Repair {
+    pub(crate) fn new(alloc: Global, frame: Frame) -> Result<Repair, AllocError> {
+        Ok(Repair {
+            counts: vec![in alloc; 0i64; frame.sites()]?,
+            field: Field::new(alloc, frame)?,
+            fire: Fire::new(alloc, frame)?,
+            left: vec![in alloc; 0i64; frame.sites()]?,
+            wave: Vec::new(alloc),
+            next: Vec::new(alloc),
+        })
+    }
+
+    // Computes the heights anew, and says whether they fit.
+    fn look(&mut self, level: &Level) -> bool {
+        subtract(level.frame, &level.start, &self.counts, &mut self.left);
+        self.field.put(&self.left)
+    }
+
+    /// Counts that leave heights near the expected ones; says whether they do so near enough.
+    pub(crate) fn begin(
+        &mut self,
+        alloc: Global,
+        level: &Level,
+        solver: &Solver,
+        expected: &[f64],
+        excess: f64,
+    ) -> Result<bool, AllocError> {
+        for _ in 0..SOLVES {
+            subtract(level.frame, &level.start, &self.counts, &mut self.left);
+            let mut rest = Vec::new(alloc);
+            for at in 0..self.left.len().min(expected.len()) {
+                rest.push(nearest_i64_to_f64(self.left[at]) - expected[at] - excess)?;
+            }
+            solver.solve(alloc, &mut rest)?;
+            add_rounded(&mut self.counts, &rest, 1.0);
+            if self.look(level) {
+                return Ok(true);
+            }
+            for _ in 0..EVENINGS {
+                smooth(level.frame, &level.start, &mut self.counts);
+                if self.look(level) {
+                    return Ok(true);
+                }
+            }
+        }
+        Ok(false)
+    }
+
+    // Topples until no site may topple. Says whether it came to that.
+    fn relax(&mut self, level: &Level) -> Result<bool, AllocError> {
+        for _ in 0..TRIALS {
+            if !self.look(level) {
+                smooth(level.frame, &level.start, &mut self.counts);
+            } else if self.field.is_stable() {
+                return Ok(true);
+            } else {
+                self.field.sweep(&mut self.counts);
+                if self.look(level) {
+                    let Repair {
+                        counts,
+                        field,
+                        wave,
+                        next,
+                        ..
+                    } = self;
+                    field.topple_each(counts, wave, next)?;
+                }
+            }
+        }
+        Ok(false)
+    }
+
+    /// Makes the counts right, and says whether it came to an end. Where topplings have to be taken back over and over,
+    /// counts are lowered by what a lower density would have made of them where the last fire left sites.
+    pub(crate) fn finish(
+        &mut self,
+        alloc: Global,
+        level: &Level,
+        solver: &Solver,
+    ) -> Result<bool, AllocError> {
+        let mut density = FIRST_LOWERING;
+        for _ in 0..TRIALS {
+            if !self.relax(level)? {
+                return Ok(false);
+            }
+            if self
+                .fire
+                .take_back(&mut self.field, &mut self.counts, MOST_TAKEN_BACK)?
+            {
+                return Ok(true);
+            }
+            let mut lower = self.fire.unburnt(alloc)?;
+            solver.solve(alloc, &mut lower)?;
+            add_rounded(&mut self.counts, &lower, -density);
+            density *= 2.0;
+        }
+        Ok(false)
+    }
+}

@@ -1,0 +1,91 @@
+-- What topples to 3 at most, with no forbidden set of sites that have toppled, is settled.
+use Rattle.std.proofs.Common.{ℕ, zero, suc, Bool, cond, eqb, ◌≡◌, ◌+◌, ◌-◌, ◌*◌, ◌<◌, ◌≤◌, refl, ap, arith, count_by, ⊎_elim}
+use Rattle.std.proofs.lemmas.Bool.{cases_eq, cases_lt, eq-eqb, ne_eqb, eqb-true}
+use Rattle.std.proofs.Math.Nat.{mul-le-mul_left}
+use Rattle.sand_model.specs.Forbidden.{IsForbidden, IsTight}
+use Rattle.sand_model.specs.Grid.{Grid, sites, neighbours}
+use Rattle.sand_model.specs.Sand.{flow, IsStable, IsToppled, Stabilises, IsSettled}
+use Rattle.sand_model.proofs.Flow.{flow_le, flow_same, flow-add, flow-scale}
+use Rattle.sand_model.proofs.Sandpile.{flow_ones}
+
+-- 1 at the sites of a set, and 0 elsewhere
+abbrev pub indicator : (ℕ → Bool) → ℕ → ℕ
+indicator set j = cond (set j) 1 0
+
+pub count_is_flow : (g : Grid) (set : ℕ → Bool) (i : ℕ) → count_by set (neighbours g i) ≡ flow g (indicator set) i
+unfolding flow
+count_is_flow g set i = refl
+
+-- a site where p is greatest
+greatest : (n : ℕ) (p : ℕ → ℕ) → 0 < n → (k : ℕ) × (k < n) × ((i : ℕ) → i < n → p i ≤ p k)
+greatest zero p l = absurd (omega arith)
+greatest (suc zero) p l = (0, omega arith, λ i m. let e : i ≡ 0 = omega arith in let same = ap p e in omega arith)
+greatest (suc (suc n)) p l =
+    let before = greatest (suc n) p (omega arith) in
+    ⊎_elim
+    (λ (less : p before.0 < p (suc n)). (
+      suc n,
+      omega arith,
+      λ i m.
+          ⊎_elim (λ (low : i < suc n). let le = before.2 i low in omega arith)
+          (λ (last : suc n ≤ i). let e : i ≡ suc n = omega arith in let same = ap p e in omega arith)
+          (cases_lt i (suc n)),
+    ))
+    (λ (more : p (suc n) ≤ p before.0). (
+      before.0,
+      (let l = before.1 in omega arith),
+      λ i m.
+          ⊎_elim (λ (low : i < suc n). before.2 i low)
+          (λ (last : suc n ≤ i). let e : i ≡ suc n = omega arith in let same = ap p e in omega arith)
+          (cases_lt i (suc n)),
+    ))
+    (cases_lt (p before.0) (p (suc n)))
+
+-- where p topplings too many were made and q too few, the sites of the greatest p are forbidden
+top_is_forbidden : (g : Grid) (t p q : ℕ → ℕ) (k : ℕ) → ((i : ℕ) → i < sites g → t i + 4 * p i + flow g q i ≤ 3 + 4 * q i + flow g p i) → ((i : ℕ) → 0 < p i → q i ≡ 0) → k < sites g → ((i : ℕ) → i < sites g → p i ≤ p k) → 0 < p k → IsForbidden g t (λ i. eqb (p i) (p k))
+top_is_forbidden g t p q k balance apart inside top some = record {
+  some = (k, inside, eq-eqb (p k) (p k) refl);
+  low = λ i l in'.
+      let at : p i ≡ p k = eqb-true (p i) (p k) in' in
+      let none = apart i (omega arith) in
+      let e = balance i l in
+      let most = flow_le g p (λ j. (p k - 1) * 1 + cond (eqb (p j) (p k)) 1 0)
+      (λ j m. let le = top j m in ⊎_elim (λ (same : p j ≡ p k). let test = eq-eqb (p j) (p k) same in rw test (omega arith)) (λ (ne : p j ≡ p k → ⊥). let test = ne_eqb (p j) (p k) ne in rw test (let strict : p j < p k = grind arith in omega arith)) (cases_eq (p j) (p k))) i l in
+      let split = flow-add g (λ j. (p k - 1) * 1) (λ j. cond (eqb (p j) (p k)) 1 0) i in
+      let scaled = flow-scale g (p k - 1) (λ j. 1) i in
+      let four = flow_ones g i in
+      let deg : flow g (λ j. 1) i ≤ 4 = omega arith in
+      let product = mul-le-mul_left (p k - 1) deg in
+      rw (count_is_flow g (λ j. eqb (p j) (p k)) i) (omega arith);
+}
+
+excess : (g : Grid) (s u w t : ℕ → ℕ) → IsToppled g s u t → Stabilises g s w → (i : ℕ) → i < sites g → t i + 4 * (u i - w i) + flow g (λ j. w j - u j) i ≤ 3 + 4 * (w i - u i) + flow g (λ j. u j - w j) i
+excess g s u w t done stable i l =
+    let one = done.balance i l in
+    let two = stable.at_most_three i l in
+    let up = flow-add g u (λ j. w j - u j) i in
+    let down = flow-add g w (λ j. u j - w j) i in
+    let same = flow_same g (λ j. u j + (w j - u j)) (λ j. w j + (u j - w j)) (λ j m. omega arith) i l in
+    omega arith
+
+-- u exceeds nothing that stabilises s
+never_above : (g : Grid) (s u w t : ℕ → ℕ) → IsToppled g s u t → IsTight g t u → Stabilises g s w → (i : ℕ) → i < sites g → u i ≤ w i
+never_above g s u w t done tight stable i l =
+    let top = greatest (sites g) (λ j. u j - w j) (omega arith) in
+    let le = top.2 i l in
+    ⊎_elim
+    (λ (some : 0 < u top.0 - w top.0).
+    absurd (tight.none (λ j. eqb (u j - w j) (u top.0 - w top.0))
+    (top_is_forbidden g t (λ j. u j - w j) (λ j. w j - u j) top.0 (excess g s u w t done stable) (λ j m. omega arith) top.1 top.2 some)
+    (λ j m in'. let at : u j - w j ≡ u top.0 - w top.0 = eqb-true (u j - w j) (u top.0 - w top.0) in' in omega arith)))
+    (λ (none : u top.0 - w top.0 ≤ 0). omega arith)
+    (cases_lt 0 (u top.0 - w top.0))
+
+pub settled_if_tight : (g : Grid) (s u t : ℕ → ℕ) → IsToppled g s u t → IsStable g t → IsTight g t u → IsSettled g s u t
+settled_if_tight g s u t done low tight = record {
+  toppled = done;
+  odometer = record {
+    stabilises = record { at_most_three = λ i l. let e = done.balance i l in let three = low.low i l in omega arith };
+    least = λ w stable. never_above g s u w t done tight stable;
+  };
+}

@@ -1,0 +1,13 @@
+-- Forbidden sets of sites. A set of sites is a test, true at its sites.
+-- Source: Dhar 1990; that topplings are right where none can be taken back: Friedrich and Levine 2010.
+use Rattle.std.specs.Prelude.{ℕ, Bool, ◌<◌, IsTrue, count_by}
+use Rattle.sand_model.specs.Grid.{Grid, sites, neighbours}
+
+-- a set of sites that is not empty, where each height is below the number of the site's neighbours in the set
+pub record IsForbidden (g : Grid) (s : ℕ → ℕ) (set : ℕ → Bool) : Type 0 where
+  pub some : (i : ℕ) × (i < sites g) × IsTrue (set i)
+  pub low : (i : ℕ) → i < sites g → IsTrue (set i) → s i < count_by set (neighbours g i)
+
+-- no set of sites that have all toppled is forbidden in t, so no topplings can be taken back
+pub record IsTight (g : Grid) (t u : ℕ → ℕ) : Type 0 where
+  pub none : (set : ℕ → Bool) → IsForbidden g t set → ¬ ((i : ℕ) → i < sites g → IsTrue (set i) → 0 < u i)

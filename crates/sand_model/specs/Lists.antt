@@ -1,0 +1,11 @@
+-- Lists of numbers that stand for a set.
+use Rattle.std.specs.Prelude.{ℕ, Bool, ◌≡◌, List, nat_lt, ◌&&◌, if◌then◌else◌}
+use Rattle.sand_model.specs.Sand.{tally}
+
+-- 1 where a test passes, and 0 elsewhere
+abbrev pub one_if : Bool → ℕ
+one_if passes = if passes then 1 else 0
+
+-- the list has each number below n that passes the test, once, and no other
+pub record Lists (n : ℕ) (test : ℕ → Bool) (list : List ℕ) : Type 0 where
+  pub each : (i : ℕ) → tally list i ≡ one_if (nat_lt i n && test i)

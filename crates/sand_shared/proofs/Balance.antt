@@ -1,0 +1,25 @@
+-- Balance, and the bound on topplings, after steps that topple nothing.
+use Rattle.std.proofs.Common.{◌≡◌, ℕ, ◌+◌, ◌*◌, ◌<◌, ◌≤◌, arith}
+use Rattle.sand_model.specs.Grid.{Grid, sites}
+use Rattle.sand_model.specs.Sand.{flow, IsToppled, Stabilises}
+use Rattle.sand_model.proofs.Flow.{flow_same, flow-scale}
+
+-- as many grains came to be poured at a site as came to be present there
+pub balance_kept : (g : Grid) (s u r s' u' r' : ℕ → ℕ) → ((i : ℕ) → u' i ≡ u i) → ((i : ℕ) → i < sites g → r' i + s i ≡ r i + s' i) → IsToppled g s u r → IsToppled g s' u' r'
+balance_kept g s u r s' u' r' still even b = record {
+  balance = λ i l.
+      let before = b.balance i l in
+      let counts = still i in
+      let grains = even i l in
+      let around = flow_same g u' u (λ j _. still j) i l in omega arith;
+}
+
+-- what stabilises more grains stabilises fewer
+pub stabilises_fewer : (g : Grid) (s s' w : ℕ → ℕ) → ((i : ℕ) → i < sites g → s i ≤ s' i) → Stabilises g s' w → Stabilises g s w
+stabilises_fewer g s s' w fewer stab = record { at_most_three = λ i l. let a = stab.at_most_three i l in let b = fewer i l in omega arith }
+
+-- where no site has toppled nothing flows
+pub flow_none : (g : Grid) (u : ℕ → ℕ) (i : ℕ) → i < sites g → ((j : ℕ) → j < sites g → u j ≡ 0) → flow g u i ≡ 0
+flow_none g u i l none =
+    let a = flow_same g u (λ j. 0 * u j) (λ j m. let z = none j m in omega arith) i l in
+    let b = flow-scale g 0 u i in omega arith

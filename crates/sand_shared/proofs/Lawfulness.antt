@@ -1,0 +1,66 @@
+-- Each event keeps the pile lawful, and so any list of events does.
+use Rattle.std.proofs.Common.{length, ◌≡◌, ℕ, ◌+◌, ◌<◌, ◌≤◌, List, [], ◌∷◌, ◌++◌, sum, sum_by, refl, ap, arith}
+use Rattle.sand_model.specs.Grid.{sites}
+use Rattle.sand_model.specs.Sand.{tally}
+use Rattle.sand_model.specs.Piles.{height_of}
+use Rattle.sand_model.proofs.Totals.{total-add}
+use Rattle.sand_model.proofs.Tallies.{total-tally}
+use Rattle.sand_model.proofs.Bounds.{at_most_total}
+use Rattle.sand_model.proofs.Heights.{sum_is_grains}
+use Rattle.sand_model.proofs.Sandpile.{laplacian_sum}
+use Rattle.sand_shared.specs.declared.view.View.{View}
+use Rattle.sand_shared.specs.declared.view.Terms.{Terms}
+use Rattle.sand_shared.specs.OpenPile.{OpenPile, grid_of, holds_site, one_if, present, poured, toppled, AreTerms, IsLawful}
+use Rattle.sand_shared.specs.Events.{Event, begin, draw, place, count, split, join, look, unload, deliver, unopened, May, after, AllHappen, after_all}
+use Rattle.sand_shared.proofs.Opening.{some_sites, begun}
+use Rattle.sand_shared.proofs.Reading.{count_keeps, look_keeps}
+use Rattle.sand_shared.proofs.Dropping.{draw_keeps, place_keeps, deliver_keeps}
+use Rattle.sand_shared.proofs.Toppling.{unload_keeps}
+use Rattle.sand_shared.proofs.Regrouping.{split_keeps, join_keeps}
+
+-- a pile that has begun has a pass, so it does not begin again
+no_second_begin : (t : Terms) (p : OpenPile) → AreTerms t → IsLawful t p → May t p begin → IsLawful t (after t p begin)
+no_second_begin t p terms r none =
+    let one = r.holders 0 (some_sites (grid_of t) terms.pile.grid) in
+    let zero_passes = ap (λ (l : List View). sum_by (λ v. one_if (holds_site v 0)) l) none in absurd (omega arith)
+
+pub event_keeps : (t : Terms) (p : OpenPile) (e : Event) → AreTerms t → IsLawful t p → May t p e → IsLawful t (after t p e)
+event_keeps t p begin terms r may = no_second_begin t p terms r may
+event_keeps t p (draw a i) terms r may = draw_keeps t p a i r may
+event_keeps t p (place a i) terms r may = place_keeps t p a i r may
+event_keeps t p (count a) terms r may = count_keeps t p a r may
+event_keeps t p (split a q n) terms r may = split_keeps t p a q n r may
+event_keeps t p (join a b) terms r may = join_keeps t p a b r may
+event_keeps t p (look a i) terms r may = look_keeps t p a i r may
+event_keeps t p (unload a i k) terms r may = unload_keeps t p a i k r may
+event_keeps t p (deliver a i k) terms r may = deliver_keeps t p a i k r may
+
+all_keep : (t : Terms) (p : OpenPile) (events : List Event) → AreTerms t → IsLawful t p → AllHappen t p events → IsLawful t (after_all t p events)
+all_keep t p [] terms r happen = r
+all_keep t p (e ∷ es) terms r happen = all_keep t (after t p e) es terms (event_keeps t p e terms r happen.0) happen.1
+
+pub always_lawful : (t : Terms) (events : List Event) → AreTerms t → AllHappen t (unopened t) (begin ∷ events) → IsLawful t (after_all t (unopened t) (begin ∷ events))
+always_lawful t events terms happen = all_keep t (after t (unopened t) begin) events terms (begun t) happen.1
+
+-- one event more
+pub after_all-push : (t : Terms) (p : OpenPile) (es : List Event) (e : Event) → after_all t p (es ++ e ∷ []) ≡ after t (after_all t p es) e
+after_all-push t p [] e = refl
+after_all-push t p (x ∷ xs) e = after_all-push t (after t p x) xs e
+
+pub happen_push : (t : Terms) (p : OpenPile) (es : List Event) (e : Event) → AllHappen t p es → May t (after_all t p es) e → AllHappen t p (es ++ e ∷ [])
+happen_push t p [] e happen may = (may, tt)
+happen_push t p (x ∷ xs) e happen may = (happen.0, happen_push t (after t p x) xs e happen.1 may)
+
+-- the grains that lie on a site and those in hand for it are at most all grains of the start and the quota
+pub few_present : (t : Terms) (p : OpenPile) → AreTerms t → IsLawful t p → (i : ℕ) → i < sites (grid_of t) → present p i ≤ sum t.start.heights + t.quota
+few_present t p terms r i inside =
+    let g = grid_of t in
+    let one = at_most_total (sites g) (present p) i inside in
+    let all = laplacian_sum g (poured t p) (toppled p) (present p) r.balance in
+    let parts = total-add (sites g) (height_of t.start) (tally p.drawn) in
+    let start = sum_is_grains g t.start.heights terms.pile.one_each in
+    let drops = total-tally (sites g) p.drawn r.all_sites in
+    let quota = r.quota in omega arith
+
+pub few_drawn : (t : Terms) (p : OpenPile) → IsLawful t p → length p.drawn ≤ t.quota
+few_drawn t p r = let quota = r.quota in omega arith

@@ -1,0 +1,162 @@
+-- What a record is made of: its sums are right and small.
+use Rattle.std.proofs.Common.{◌≡◌, ℕ, ◌+◌, ◌-◌, ◌*◌, ◌^◌, ◌<◌, ◌≤◌, List, ◌++◌, All, length, sum, sym, refl, ap, ◌∙◌, subst, ⊎_elim, arith, length-append}
+use Rattle.std.specs.Prelude.{slice_index}
+use Rattle.std.proofs.Math.ListN.{get_or-eq_default}
+use Rattle.std.proofs.lemmas.Bool.{cases_lt}
+use Rattle.std.proofs.lemmas.List.Sums.{get_or-le-sum_by}
+use Rattle.std.proofs.lemmas.List.Elements.{All-append}
+use Rattle.sand_model.specs.declared.pile.TheConstants.{GRAIN_LIMIT}
+use Rattle.sand_model.specs.Grid.{Grid, sites, missing}
+use Rattle.sand_model.specs.Sand.{IsSettled, grains, lost, tally, topplings}
+use Rattle.sand_model.specs.Piles.{PileView, IsPile, height_of}
+use Rattle.sand_model.proofs.Totals.{total-add, total_same}
+use Rattle.sand_model.proofs.Tallies.{total-tally, tally-append}
+use Rattle.sand_model.proofs.Heights.{sum_is_grains}
+use Rattle.sand_model.proofs.Sandpile.{laplacian_sum, settled_in_parts}
+use Rattle.sand_model.proofs.Bounds.{topplings_bound}
+use Rattle.sand_settle.specs.Settling.{SettledView, odometer_of}
+use Rattle.sand_shared.specs.Record.{RecordView, IsOneThreads}
+
+-- a start, a history, and the heights and the odometer that these lead to
+pub record LeadsTo (start : PileView) (history heights odometer : List ℕ) : Type 0 where
+  pub pile : IsPile start
+  pub all_sites : All (λ i. i < sites start.grid) history
+  pub limit : sum start.heights + length history ≤ GRAIN_LIMIT
+  pub heights_each : length heights ≡ sites start.grid
+  pub odometer_each : length odometer ≡ sites start.grid
+  pub settled : IsSettled start.grid (λ i. height_of start i + tally history i) (slice_index odometer) (slice_index heights)
+
+module _ (start : PileView) (history heights odometer : List ℕ) (l : LeadsTo start history heights odometer) where
+  grains_in : grains start.grid (λ i. height_of start i + tally history i) ≡ sum start.heights + length history
+  grains_in =
+      let g = start.grid in
+      let parts = total-add (sites g) (height_of start) (tally history) in
+      let a = sum_is_grains g start.heights l.pile.one_each in
+      let b = total-tally (sites g) history l.all_sites in omega arith
+
+  pub few_topplings : sum odometer < 2 ^ 54
+  few_topplings =
+      let g = start.grid in
+      let all = grains_in in
+      let limit = l.limit in
+      let bound = topplings_bound g (λ i. height_of start i + tally history i) (slice_index odometer) (slice_index heights) l.pile.grid (omega arith) l.settled.toppled in
+      let counts = sum_is_grains g odometer l.odometer_each in omega arith
+
+  -- the grains that came lie on the pile or were lost
+  pub grains_left : sum start.heights + length history ≡ sum heights + lost start.grid (slice_index odometer)
+  grains_left =
+      let g = start.grid in
+      let all = grains_in in
+      let out = laplacian_sum g (λ i. height_of start i + tally history i) (slice_index odometer) (slice_index heights) l.settled.toppled in
+      let after = sum_is_grains g heights l.heights_each in omega arith
+
+  pub one_threads : (r : SettledView) → r.pile.grid ≡ start.grid → r.pile.heights ≡ heights → r.odometer ≡ odometer → r.topplings ≡ sum odometer → r.lost ≡ (sum start.heights + length history) - sum heights
+      → IsOneThreads record { start = start; history = history; settled = r }
+  one_threads r grid heights_are odometer_is toppled gone =
+      let g = start.grid in
+      let left = grains_left in
+      record {
+        one = record {
+          start_pile = l.pile;
+          all_sites = l.all_sites;
+          limit = l.limit;
+          settled = record {
+            grid = grid;
+            heights_each = ap (λ (xs : List ℕ). length xs) heights_are ∙ l.heights_each;
+            odometer_each = ap (λ (xs : List ℕ). length xs) odometer_is ∙ l.odometer_each;
+            settled = subst (λ (z : List ℕ × List ℕ). IsSettled g (λ i. height_of start i + tally history i) (slice_index z.0) (slice_index z.1)) (λ i. (sym odometer_is i, sym heights_are i)) l.settled;
+            all_topplings = toppled ∙ sum_is_grains g odometer l.odometer_each ∙ ap (λ (xs : List ℕ). topplings g (slice_index xs)) (sym odometer_is);
+            all_lost = let same = ap (λ (xs : List ℕ). lost g (slice_index xs)) odometer_is in omega arith;
+          };
+          number = refl;
+          grains = refl;
+        };
+      }
+
+-- what a record leads to, and how small its numbers are
+pub leads_of : (r : RecordView) → IsOneThreads r → LeadsTo r.start r.history r.settled.pile.heights r.settled.odometer
+leads_of r one = record {
+  pile = one.one.start_pile;
+  all_sites = one.one.all_sites;
+  limit = one.one.limit;
+  heights_each = one.one.settled.heights_each;
+  odometer_each = one.one.settled.odometer_each;
+  settled = one.one.settled.settled;
+}
+
+pub small_entries : (r : RecordView) → IsOneThreads r → (i : ℕ) → odometer_of r.settled i < 2 ^ 54
+small_entries r one i =
+    let few = few_topplings r.start r.history r.settled.pile.heights r.settled.odometer (leads_of r one) in ⊎_elim
+    (λ (inside : i < length r.settled.odometer). let le = get_or-le-sum_by (λ (x : ℕ). x) r.settled.odometer i 0 inside in omega arith)
+    (λ (past : length r.settled.odometer ≤ i). let e = get_or-eq_default r.settled.odometer 0 {n = i} past in omega arith)
+    (cases_lt i (length r.settled.odometer))
+
+pub small_topplings : (r : RecordView) → IsOneThreads r → r.settled.topplings < 2 ^ 54
+small_topplings r one =
+    let few = few_topplings r.start r.history r.settled.pile.heights r.settled.odometer (leads_of r one) in
+    let all = one.one.settled.all_topplings in
+    let sums = sum_is_grains r.start.grid r.settled.odometer one.one.settled.odometer_each in omega arith
+
+pub small_lost : (r : RecordView) → IsOneThreads r → r.settled.lost ≤ GRAIN_LIMIT
+small_lost r one =
+    let left = grains_left r.start r.history r.settled.pile.heights r.settled.odometer (leads_of r one) in
+    let limit = one.one.limit in
+    let all = one.one.settled.all_lost in omega arith
+
+times_plus : (a b c : ℕ) → a * (b + c) ≡ a * b + a * c
+times_plus a b c = grind arith
+
+-- a record that goes on from where another ended: settling in two parts is settling at once, and the odometers add
+module _ (r q : RecordView) (one : IsOneThreads r) (next : IsOneThreads q) (joint : q.start ≡ r.settled.pile) (limit : sum r.start.heights + (length r.history + length q.history) ≤ GRAIN_LIMIT) (sums : List ℕ) (long : length sums ≡ length r.settled.odometer) (each : (i : ℕ) → i < length r.settled.odometer → slice_index sums i ≡ odometer_of r.settled i + odometer_of q.settled i) where
+  pub same_grid : q.start.grid ≡ r.start.grid
+  same_grid = ap (λ (p : PileView). p.grid) joint ∙ one.one.settled.grid
+
+  all_each : (i : ℕ) → slice_index sums i ≡ odometer_of r.settled i + odometer_of q.settled i
+  all_each i = ⊎_elim (each i) past (cases_lt i (length r.settled.odometer))
+    where
+      past : length r.settled.odometer ≤ i → slice_index sums i ≡ odometer_of r.settled i + odometer_of q.settled i
+      past le =
+          let mine = one.one.settled.odometer_each in
+          let theirs = next.one.settled.odometer_each in
+          let grids = ap sites same_grid in
+          let a = get_or-eq_default sums 0 {n = i} (omega arith) in
+          let b = get_or-eq_default r.settled.odometer 0 {n = i} le in
+          let c = get_or-eq_default q.settled.odometer 0 {n = i} (omega arith) in omega arith
+
+  both_settled : IsSettled r.start.grid (λ i. height_of r.start i + tally (r.history ++ q.history) i) (slice_index sums) (height_of q.settled.pile)
+  both_settled =
+      let g = r.start.grid in
+      let later = subst (λ (z : Grid × PileView). IsSettled z.0 (λ i. height_of z.1 i + tally q.history i) (odometer_of q.settled) (height_of q.settled.pile)) (λ i. (same_grid i, joint i)) next.one.settled.settled in
+      let all = settled_in_parts g (λ i. height_of r.start i + tally r.history i) (tally q.history) (odometer_of r.settled) (height_of r.settled.pile) (odometer_of q.settled) (height_of q.settled.pile) one.one.settled.settled later in
+      let drops : (i : ℕ) → (height_of r.start i + tally r.history i) + tally q.history i ≡ height_of r.start i + tally (r.history ++ q.history) i = λ i. (let e = tally-append r.history q.history i in omega arith) in
+      subst (λ (z : (ℕ → ℕ) × (ℕ → ℕ)). IsSettled g z.0 z.1 (height_of q.settled.pile)) (λ k. ((λ i. drops i k), (λ i. sym (all_each i) k))) all
+
+  pub followed : IsOneThreads record { start = r.start; history = r.history ++ q.history; settled = record { pile = q.settled.pile; odometer = sums; topplings = r.settled.topplings + q.settled.topplings; lost = r.settled.lost + q.settled.lost } }
+  followed =
+      let g = r.start.grid in
+      let grids = same_grid in
+      let tops = total-add (sites g) (odometer_of r.settled) (odometer_of q.settled) in
+      let sums_are = total_same (sites g) (slice_index sums) (λ i. odometer_of r.settled i + odometer_of q.settled i) (λ i _. all_each i) in
+      let outs = total-add (sites g) (λ i. missing g i * odometer_of r.settled i) (λ i. missing g i * odometer_of q.settled i) in
+      let outs_are = total_same (sites g) (λ i. missing g i * slice_index sums i) (λ i. missing g i * odometer_of r.settled i + missing g i * odometer_of q.settled i) (λ i _. ap (λ n. missing g i * n) (all_each i) ∙ times_plus (missing g i) (odometer_of r.settled i) (odometer_of q.settled i)) in
+      let tops_later = subst (λ z. q.settled.topplings ≡ topplings z (odometer_of q.settled)) grids next.one.settled.all_topplings in
+      let lost_later = subst (λ z. q.settled.lost ≡ lost z (odometer_of q.settled)) grids next.one.settled.all_lost in
+      let tops_before = one.one.settled.all_topplings in
+      let lost_before = one.one.settled.all_lost in
+      record {
+        one = record {
+          start_pile = one.one.start_pile;
+          all_sites = All-append (λ i. i < sites g) r.history q.history one.one.all_sites (subst (λ z. All (λ i. i < sites z) q.history) grids next.one.all_sites);
+          limit = (let e = length-append r.history q.history in omega arith);
+          settled = record {
+            grid = next.one.settled.grid ∙ grids;
+            heights_each = next.one.settled.heights_each ∙ ap sites grids;
+            odometer_each = long ∙ one.one.settled.odometer_each;
+            settled = both_settled;
+            all_topplings = omega arith;
+            all_lost = omega arith;
+          };
+          number = refl;
+          grains = refl;
+        };
+      }

@@ -1,0 +1,21 @@
+use Rattle.std.proofs.Common.{◌≡◌, Some, ◌∙◌, arith, length-set}
+use Rattle.std.specs.Prelude.{slice_get}
+use Rattle.sand_shared.specs.declared.view.Receipt.{Receipt}
+use Rattle.sand_shared.specs.Events.{receipt}
+use Rattle.sand_shared.proofs.Sums.{all_at}
+use Rattle.sand_shared.proofs.Histories.{told_more}
+use Rattle.sand_shared.proofs.closing.fill.Goals as goal
+
+pub loop-receipt-preserved : goal.loop-receipt-preserved
+loop-receipt-preserved c =
+    let j = c.loop-receipt.receipt-index in
+    let below = c.loop-receipt-test.true in
+    let inv = c.loop-receipt.invariant in
+    let long = inv.long in
+    let inside = c.requires.inside j (receipt 0 0) below in
+    record { long = length-set _ _ _ ∙ inv.long; told = told_more c.args.receipts.now j (receipt 0 0) c.loop-receipt.history.items below c.requires.once (omega arith) inv.told }
+
+pub returns-clause-tells : goal.returns-clause-tells
+returns-clause-tells c =
+    let done = c.loop-receipt-test.false in
+    all_at (λ (r : Receipt). slice_get c.loop-receipt.history.items r.number ≡ Some r.site) c.args.receipts.now (receipt 0 0) (λ k l. c.loop-receipt.invariant.told k (omega arith))

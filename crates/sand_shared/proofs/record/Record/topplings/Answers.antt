@@ -1,0 +1,5 @@
+use Rattle.sand_shared.proofs.Recording.{small_topplings}
+use Rattle.sand_shared.proofs.record.Record.topplings.Goals as goal
+
+pub returns-clause-few : goal.returns-clause-few
+returns-clause-few c = small_topplings _ c.self.invariant

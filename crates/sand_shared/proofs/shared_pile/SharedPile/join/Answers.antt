@@ -1,0 +1,86 @@
+use Rattle.std.proofs.Common.{◌≡◌, ℕ, ◌+◌, ◌*◌, ◌≤◌, max, List, ◌++◌, Bool, true, length, vec_len, vec_capacity, sym, ap, ◌∙◌, subst, arith, rules}
+use Rattle.std.specs.Prelude.{◌||◌, if◌then◌else◌, is_ok}
+use Rattle.atomic_table.specs.Table.{Me}
+use Rattle.sand_shared.specs.declared.view.View.{View}
+use Rattle.sand_shared.specs.declared.view.Receipt.{Receipt}
+use Rattle.sand_shared.specs.declared.rows.Rows.{Rows}
+use Rattle.sand_shared.specs.Events.{follows, joined}
+use Rattle.sand_shared.specs.Passes.{PassView, at_rest, together, EachOnce, AllBelow}
+use Rattle.sand_shared.specs.Rows.{count_of, rows_together, AreRowsOf, AreApart}
+use Rattle.sand_shared.proofs.Gathering.{touching_rows, follows_is, joined_rest, together_rows, together_each}
+use Rattle.sand_shared.proofs.Receipts.{below_join, stands_once}
+use Rattle.sand_shared.proofs.Told.{known_is}
+use Rattle.sand_shared.proofs.shared_pile.SharedPile.join.Goals as goal
+
+pub invariant_of-pass-in-Err-lay_together : goal.invariant_of-pass-in-Err-lay_together
+invariant_of-pass-in-Err-lay_together c =
+    let inv = c.pass.invariant in
+    let p = c.pass.inside in
+    let counts : c.lay_together.new.first.items ≡ p.counts.items = search rules in
+    let items = c.reserve.ensures.items in
+    let at = λ (z : List Receipt × List ℕ). at_rest record { table = p.seat.table_id; grid = p.shape; left = p.left; seen = p.seen; receipts = z.0; rows = p.rows; counts = z.1 } in
+    let is : p.seat.me.0 ≡ record (at (c.reserve.new.self.items, c.lay_together.new.first.items)) { spot = p.seat.me.0.spot; least = p.seat.me.0.least } =
+    ap (λ (m : Me ℕ View). m.0) inv.me ∙ (λ i. record (at (sym items i, sym counts i)) { spot = p.seat.me.0.spot; least = p.seat.me.0.least }) in
+    record {
+      me = λ q. (is q, (inv.me q).1);
+      receipts_fit = (let fit = inv.receipts_fit in let long = ap (λ (l : List Receipt). length l) items in omega (arith, c.reserve.ensures.capacity));
+      once = subst EachOnce (sym items) inv.once;
+      below = subst (AllBelow p.seen) (sym items) inv.below;
+      grid = inv.grid;
+      rows = inv.rows;
+      one_each = ap (λ (l : List ℕ). length l) counts ∙ inv.one_each;
+    }
+
+pub join-requires-clause-rows : goal.join-requires-clause-rows
+join-requires-clause-rows c =
+    let inv = c.pass.invariant in
+    let inv' = c.other.invariant in
+    let p = c.pass.inside in
+    let o = c.other.inside in
+    let P : PassView = record { table = p.seat.table_id; grid = p.shape; left = p.left; seen = p.seen; receipts = p.receipts.items; rows = p.rows; counts = p.counts.items } in
+    let Q : PassView = record { table = o.seat.table_id; grid = o.shape; left = o.left; seen = o.seen; receipts = o.receipts.items; rows = o.rows; counts = o.counts.items } in
+    let same : o.shape ≡ p.shape = ap (λ (v : PassView). v.grid) c.other.view_is ∙ c.requires.other.grid ∙ sym c.requires.pass.grid ∙ sym (ap (λ (v : PassView). v.grid) c.pass.view_is) in
+    let there = follows_is P Q inv.grid same inv.rows inv'.rows inv.one_each inv'.one_each in
+    let back = follows_is Q P inv'.grid (sym same) inv'.rows inv.rows inv'.one_each inv.one_each in
+    (λ i. follows (inv.me i).0 (inv'.me i).0 || follows (inv'.me i).0 (inv.me i).0) ∙ (λ i. there i || back i) ∙ sym c.touch.ensures ∙ c.if-not-touch.false
+
+pub invariant_of-pass-2 : goal.invariant_of-pass-2
+invariant_of-pass-2 c =
+    let inv = c.pass.invariant in
+    let inv' = c.other.invariant in
+    let p = c.pass.inside in
+    let o = c.other.inside in
+    let P : PassView = record { table = p.seat.table_id; grid = p.shape; left = p.left; seen = p.seen; receipts = p.receipts.items; rows = p.rows; counts = p.counts.items } in
+    let Q : PassView = record { table = o.seat.table_id; grid = o.shape; left = o.left; seen = o.seen; receipts = o.receipts.items; rows = o.rows; counts = o.counts.items } in
+    let same : o.shape ≡ p.shape = ap (λ (v : PassView). v.grid) c.other.view_is ∙ c.requires.other.grid ∙ sym c.requires.pass.grid ∙ sym (ap (λ (v : PassView). v.grid) c.pass.view_is) in
+    let touch = sym c.touch.ensures ∙ c.if-not-touch.false in
+    let xs = p.receipts.items in
+    let ys = o.receipts.items in
+    let ok : is_ok c.append.result ≡ true = ap is_ok c.unwrap.ensures in
+    let items : c.append.new.self.items ≡ xs ++ ys = (rw ok at c.append.ensures.items) ∙ ap (λ l. l ++ ys) c.reserve.ensures.items in
+    let len : vec_len c.append.new.self ≡ vec_len p.receipts + vec_len o.receipts = (rw ok at c.append.ensures.len) ∙ ap (λ n. n + vec_len o.receipts) c.reserve.ensures.len in
+    let room : vec_len c.reserve.new.self + ((p.left + vec_len o.receipts) + o.left) ≤ vec_capacity c.reserve.new.self = search rules in
+    let order = c.are_followed_by-in_order.ensures in
+    let laid : c.lay_together.new.first.items ≡ (if c.are_followed_by-in_order.result then p.counts.items ++ o.counts.items else o.counts.items ++ p.counts.items) = search rules in
+    let counts : c.lay_together.new.first.items ≡ (together P Q).counts = laid ∙ ap (λ (b : Bool). if b then p.counts.items ++ o.counts.items else o.counts.items ++ p.counts.items) order in
+    let rows : c.together-pass-inside.result ≡ rows_together p.rows o.rows = c.together-pass-inside.ensures in
+    let latest : c.max-pass-inside.result ≡ max p.seen o.seen = c.max-pass-inside.ensures in
+    let joint = c.learn.ensures.view ∙ c.join.ensures.joined ∙ (λ i. joined (inv.me i).0 (inv'.me i).0)
+    ∙ joined_rest P Q inv.grid same inv.rows inv'.rows inv.one_each inv'.one_each p.seat.me.0.spot p.seat.me.0.least o.seat.me.0.spot o.seat.me.0.least
+    ∙ (λ i. at_rest record { table = p.seat.table_id; grid = p.shape; left = p.left + o.left; seen = sym latest i; receipts = sym items i; rows = sym rows i; counts = sym counts i }) in
+    let standing : EachOnce c.learn.new.seat.me.0.receipts = stands_once _ _ _ c.learn.ensures.stands in
+    record {
+      me = λ q. (known_is c.learn.new.seat.me.0 _ joint q, c.learn.ensures.seat.bare q);
+      receipts_fit = omega (arith, len, room, c.append.ensures.capacity, c.reserve.ensures.len, c.append.new.self.ok.0);
+      once = subst EachOnce (ap (λ (v : View). v.receipts) joint) standing;
+      below = subst (λ (z : ℕ × List Receipt). AllBelow z.0 z.1) (λ i. (sym latest i, sym items i)) (below_join p.seen o.seen xs ys inv.below inv'.below);
+      grid = inv.grid;
+      rows = subst (AreRowsOf p.shape) (sym rows) (together_rows P Q inv.grid same inv.rows inv'.rows inv.one_each inv'.one_each touch);
+      one_each = ap (λ (l : List ℕ). length l) counts ∙ together_each P Q inv.grid same inv.rows inv'.rows inv.one_each inv'.one_each touch ∙ ap (λ (r : Rows). count_of r * p.shape.width) (sym rows);
+    }
+
+pub returns-clause-touching : goal.returns-clause-touching
+returns-clause-touching c apart =
+    let touch = sym c.touch.ensures ∙ c.if-not-touch.false in
+    touching_rows c.pass.inside.rows c.other.inside.rows touch
+    (subst (λ (z : Rows × Rows). AreApart z.0 z.1) (λ i. ((sym c.pass.view_is i).rows, (sym c.other.view_is i).rows)) apart)

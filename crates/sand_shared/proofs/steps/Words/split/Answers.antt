@@ -1,0 +1,43 @@
+use Rattle.std.proofs.Common.{ℕ, ◌+◌, ◌-◌, length, arith, sym, ap, ◌∙◌, subst}
+use Rattle.atomic_table.specs.Table.{Me, Splits}
+use Rattle.sand_model.specs.Grid.{sites}
+use Rattle.sand_shared.specs.declared.view.View.{View}
+use Rattle.sand_shared.specs.declared.view.Terms.{Terms}
+use Rattle.sand_shared.specs.OpenPile.{grid_of}
+use Rattle.sand_shared.specs.Events.{Event, parent, child, quota_given, sites_given}
+use Rattle.sand_shared.specs.Running.{IsRunning}
+use Rattle.sand_shared.proofs.Moments.{splits}
+use Rattle.sand_shared.proofs.steps.Words.split.Goals as goal
+
+pub split_seat-requires : goal.split_seat-requires
+split_seat-requires g c =
+    let words = c.self.invariant in
+    let is = c.self.view_is in
+    let t = c.args.self.now.terms in
+    let key = words.key_is ∙ ap (λ w. w.terms) is in
+    let wide = words.wide ∙ ap (λ w. sites (grid_of w.terms) + 2) is in
+    let v = c.args.seat.now.me.0 in
+    let a = c.args.seat.now.id in
+    let q = c.args.quota in
+    let n = length v.counts - c.args.kept in (
+      c.requires.seat.table ∙ sym (ap (λ w. w.table) is),
+      omega arith,
+      subst (λ (z : Terms × Event). Splits (IsRunning z.0) a v (parent v (quota_given z.1) (sites_given z.1)) (child v (quota_given z.1) (sites_given z.1)))
+          (λ i. (sym key i, sym c.requires.picked i)) (splits t a q n v c.requires.quota (omega arith) c.requires.hand),
+    )
+
+pub returns-clause-seat : goal.returns-clause-seat
+returns-clause-seat g c = record { table = c.split_seat.ensures.0; id = c.split_seat.ensures.1; bare = ap (λ (m : Me ℕ View). m.1) c.split_seat.ensures.2 ∙ c.requires.seat.bare }
+
+pub returns-clause-child_seat : goal.returns-clause-child_seat
+returns-clause-child_seat g c = record { table = c.split_seat.ensures.3 ∙ c.requires.seat.table; bare = ap (λ (m : Me ℕ View). m.1) c.split_seat.ensures.4 }
+
+pub returns-clause-parent : goal.returns-clause-parent
+returns-clause-parent g c =
+    let v = c.args.seat.now.me.0 in
+    ap (λ (m : Me ℕ View). m.0) c.split_seat.ensures.2 ∙ ap (λ (e : Event). parent v (quota_given e) (sites_given e)) c.requires.picked
+
+pub returns-clause-child : goal.returns-clause-child
+returns-clause-child g c =
+    let v = c.args.seat.now.me.0 in
+    ap (λ (m : Me ℕ View). m.0) c.split_seat.ensures.4 ∙ ap (λ (e : Event). child v (quota_given e) (sites_given e)) c.requires.picked

@@ -1,0 +1,18 @@
+-- The laws of the shared pile.
+use Rattle.std.specs.Prelude.{ℕ, List, ◌∷◌, ◌+◌, ◌<◌, ◌≤◌, length, sum}
+use Rattle.sand_model.specs.Grid.{sites}
+use Rattle.sand_shared.specs.declared.view.Terms.{Terms}
+use Rattle.sand_shared.specs.OpenPile.{OpenPile, grid_of, present, AreTerms, IsLawful}
+use Rattle.sand_shared.specs.Events.{Event, begin, unopened, AllHappen, after_all}
+
+-- after its begin and any list of events that may happen, the open pile is lawful
+abbrev pub AlwaysLawful : Type 0
+AlwaysLawful = (t : Terms) (events : List Event) → AreTerms t → AllHappen t (unopened t) (begin ∷ events) → IsLawful t (after_all t (unopened t) (begin ∷ events))
+
+-- on a lawful pile the grains that lie on a site and those in hand for it are at most those of the start and the quota
+abbrev pub FewGrains : Type 0
+FewGrains = (t : Terms) (p : OpenPile) → AreTerms t → IsLawful t p → (i : ℕ) → i < sites (grid_of t) → present p i ≤ sum t.start.heights + t.quota
+
+-- and no more drops were begun than the quota
+abbrev pub FewDraws : Type 0
+FewDraws = (t : Terms) (p : OpenPile) → IsLawful t p → length p.drawn ≤ t.quota

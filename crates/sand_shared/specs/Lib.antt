@@ -1,0 +1,10 @@
+pub mod OpenPile
+pub mod Events
+pub mod Laws
+pub mod Running
+pub mod Passes
+pub mod Sweeps
+pub mod Record
+pub mod Seats
+pub mod Faults
+pub mod Rows

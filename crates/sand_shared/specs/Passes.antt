@@ -1,0 +1,67 @@
+-- What contracts see of a shared pile and of a pass.
+use Rattle.std.specs.Prelude.{ℕ, ◌≡◌, ◌+◌, ◌-◌, ◌*◌, ◌<◌, ◌≤◌, max, if◌then◌else◌, List, [], ◌++◌, All, length}
+use Rattle.atomic_table.specs.Seated.{TableId}
+use Rattle.atomic_table.specs.declared.shared.Seat.{Seat}
+use Rattle.sand_model.specs.Grid.{Grid, IsGrid}
+use Rattle.sand_shared.specs.declared.view.Receipt.{Receipt}
+use Rattle.sand_shared.specs.declared.view.View.{View}
+use Rattle.sand_shared.specs.declared.view.Terms.{Terms}
+use Rattle.sand_shared.specs.declared.rows.Rows.{Rows}
+use Rattle.sand_shared.specs.OpenPile.{grid_of, numbered}
+use Rattle.sand_shared.specs.Rows.{count_of, rows_follow, rows_together, AreRowsOf}
+
+-- a shared pile: which table it is, and what it began with
+pub record SharedView : Type 0 where
+  pub table : TableId
+  pub terms : Terms
+
+-- a pass: which table and which grid it is of, and what it has; the counts are by site, from the first of its rows on
+pub record PassView : Type 0 where
+  pub table : TableId
+  pub grid : Grid
+  pub left : ℕ
+  pub seen : ℕ
+  pub receipts : List Receipt
+  pub rows : Rows
+  pub counts : List ℕ
+
+-- the pass is of this pile
+pub record IsPassOf (pile : SharedView) (pass : PassView) : Type 0 where
+  pub table : pass.table ≡ pile.table
+  pub grid : pass.grid ≡ grid_of pile.terms
+
+-- no number stands twice
+abbrev pub EachOnce : List Receipt → Type 0
+EachOnce receipts = (n : ℕ) → numbered receipts n ≤ 1
+
+abbrev pub AllBelow : ℕ → List Receipt → Type 0
+AllBelow n receipts = All (λ r. r.number < n) receipts
+
+-- what a pass is to the rule between its calls, when it has nothing in hand
+abbrev pub at_rest : PassView → View
+at_rest p = record { left = p.left; seen = p.seen; receipts = p.receipts; hand = []; base = p.rows.first * p.grid.width; counts = p.counts; spot = 0; least = 0 }
+
+-- the seat stands for the pass; there is room for so many receipts
+pub record IsPass (seat : Seat ℕ View) (p : PassView) (room : ℕ) : Type 0 where
+  pub me : seat.me ≡ (record (at_rest p) { spot = seat.me.0.spot; least = seat.me.0.least }, [])
+  pub receipts_fit : length p.receipts + p.left ≤ room
+  pub once : EachOnce p.receipts
+  pub below : AllBelow p.seen p.receipts
+  pub grid : IsGrid p.grid
+  pub rows : AreRowsOf p.grid p.rows
+  pub one_each : length p.counts ≡ count_of p.rows * p.grid.width
+
+-- Parts and wholes
+
+-- how many of its sites a pass keeps that gives its last k rows away
+abbrev pub sites_kept : PassView → ℕ → ℕ
+sites_kept p k = length p.counts - k * p.grid.width
+
+-- what two passes have together
+abbrev pub together : PassView → PassView → PassView
+together p q = record p { left = p.left + q.left; seen = max p.seen q.seen; receipts = p.receipts ++ q.receipts; rows = rows_together p.rows q.rows; counts = if rows_follow p.rows q.rows then p.counts ++ q.counts else q.counts ++ p.counts }
+
+-- all of the quota, as what is left or as receipts, and all rows
+pub record IsWhole (terms : Terms) (p : PassView) : Type 0 where
+  pub quota : p.left + length p.receipts ≡ terms.quota
+  pub rows : p.rows ≡ record { first = 0; end = (grid_of terms).height }

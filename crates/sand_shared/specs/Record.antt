@@ -1,0 +1,43 @@
+-- What contracts see of the record of a closed pile, and of the last moment of a shared one.
+use Rattle.std.specs.Prelude.{ℕ, ◌≡◌, ◌+◌, ◌<◌, Some, List, All, length, sum, slice_get, slice_index}
+use Rattle.sand_model.specs.Grid.{sites}
+use Rattle.sand_model.specs.Piles.{PileView, height_of}
+use Rattle.sand_settle.specs.Settling.{SettledView, odometer_of}
+use Rattle.sand_settle.specs.Drops.{OneView, IsAfter}
+use Rattle.sand_shared.specs.declared.view.Receipt.{Receipt}
+use Rattle.sand_shared.specs.declared.view.View.{View}
+use Rattle.sand_shared.specs.declared.view.Terms.{Terms}
+use Rattle.sand_shared.specs.OpenPile.{OpenPile, grid_of, toppled, IsLawful}
+use Rattle.sand_shared.specs.Running.{Stands}
+
+-- the start, the site of each drop by its number, and what these lead to
+pub record RecordView : Type 0 where
+  pub start : PileView
+  pub history : List ℕ
+  pub settled : SettledView
+
+-- the pile of one thread at which the record stands
+abbrev pub one_of : RecordView → OneView
+one_of r = record { settled = r.settled; number = length r.history; grains = sum r.start.heights + length r.history }
+
+-- it is what one thread gets that drops the history on the start, in order
+pub record IsOneThreads (r : RecordView) : Type 0 where
+  pub one : IsAfter r.start r.history (one_of r)
+
+-- each receipt's site stands at its number
+abbrev pub Tells : List Receipt → List ℕ → Type 0
+Tells receipts history = All (λ r. slice_get history r.number ≡ Some r.site) receipts
+
+-- the last moment of a pile: the pass has v on a lawful open pile, which has these heights
+pub record IsLast (t : Terms) (a : ℕ) (v : View) (heights : List ℕ) : Type 0 where
+  pub stands : Stands t a v
+  pub one_each : length heights ≡ sites (grid_of t)
+  pub each_height : (i : ℕ) → i < sites (grid_of t) → slice_index heights i ≡ stands.pile.height i
+
+-- the record is that of a last open pile, which is lawful
+pub record EndsAt (t : Terms) (r : RecordView) : Type 0 where
+  pub pile : OpenPile
+  pub lawful : IsLawful t pile
+  pub drawn : pile.drawn ≡ r.history
+  pub heights : (i : ℕ) → i < sites (grid_of t) → pile.height i ≡ height_of r.settled.pile i
+  pub toppled_so : (i : ℕ) → i < sites (grid_of t) → toppled pile i ≡ odometer_of r.settled i

@@ -1,0 +1,26 @@
+-- What the steps on the table of words see of it and of a pass's seat.
+use Rattle.std.specs.Prelude.{ℕ, ◌≡◌, ◌+◌, []}
+use Rattle.atomic_table.specs.declared.shared.Seat.{Seat}
+use Rattle.sand_model.specs.Grid.{sites}
+use Rattle.sand_shared.specs.declared.view.View.{View}
+use Rattle.sand_shared.specs.declared.view.Terms.{Terms}
+use Rattle.sand_shared.specs.OpenPile.{grid_of, AreTerms}
+use Rattle.sand_shared.specs.Passes.{SharedView}
+
+-- a number word, a word a site, and the base's own
+pub record AreWords (key : Terms) (words : SharedView) : Type 0 where
+  pub key_is : key ≡ words.terms
+  pub wide : words.table.words ≡ sites (grid_of words.terms) + 2
+  pub no_slots : words.table.slots ≡ 0
+  pub terms : AreTerms words.terms
+
+-- a seat at this table, which holds no slot
+pub record IsSeatAt (words : SharedView) (seat : Seat ℕ View) : Type 0 where
+  pub table : seat.table_id ≡ words.table
+  pub bare : seat.me.1 ≡ []
+
+-- the same seat at the same table, whatever it has now
+pub record StaysSeated (old new : Seat ℕ View) : Type 0 where
+  pub table : new.table_id ≡ old.table_id
+  pub id : new.id ≡ old.id
+  pub bare : new.me.1 ≡ []

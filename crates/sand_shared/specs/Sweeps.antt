@@ -1,0 +1,52 @@
+-- What a sweep owes to the pass that sweeps, whatever others do meanwhile.
+-- With k = start + own receipts - L(own counts), L the toppling matrix (Dhar 1990), written without subtraction.
+use Rattle.std.specs.Prelude.{ℕ, true, ◌≡◌, ◌+◌, ◌-◌, ◌*◌, ◌<◌, ◌≤◌, ◌↔◌, List, length, sum, slice_index}
+use Rattle.sand_model.specs.Grid.{sites}
+use Rattle.sand_model.specs.Sand.{flow, Stabilises, weight}
+use Rattle.sand_model.specs.Piles.{height_of}
+use Rattle.sand_shared.specs.declared.view.View.{View}
+use Rattle.sand_shared.specs.declared.view.Terms.{Terms}
+use Rattle.sand_shared.specs.OpenPile.{grid_of, dropped, holds_site, toppled_by}
+
+-- the start and the grains of a pass's own receipts
+abbrev pub laid : Terms → View → ℕ → ℕ
+laid t v i = height_of t.start i + dropped v.receipts i
+
+-- k is at most n at a site
+abbrev pub LeavesAtMost : Terms → View → ℕ → ℕ → Type 0
+LeavesAtMost t v i n = laid t v i + flow (grid_of t) (toppled_by v) i ≤ n + 4 * toppled_by v i
+
+-- k is at least n at a site
+abbrev pub LeavesAtLeast : Terms → View → ℕ → ℕ → Type 0
+LeavesAtLeast t v i n = n + 4 * toppled_by v i ≤ laid t v i + flow (grid_of t) (toppled_by v) i
+
+-- nothing is left to topple: k is at most 3 everywhere
+abbrev pub IsCalm : Terms → View → Type 0
+IsCalm t v = (i : ℕ) → i < sites (grid_of t) → LeavesAtMost t v i 3
+
+-- all of the quota, and all sites
+pub record HasAll (t : Terms) (v : View) : Type 0 where
+  pub quota : t.quota ≤ v.left + length v.receipts
+  pub all_sites : (i : ℕ) → i < sites (grid_of t) → holds_site v i ≡ true
+
+-- no more topplings than the start and the receipts need, site by site and in all
+pub record IsSparing (t : Terms) (v : View) : Type 0 where
+  pub needed : (w : ℕ → ℕ) → Stabilises (grid_of t) (laid t v) w → (i : ℕ) → i < sites (grid_of t) → toppled_by v i ≤ w i
+  pub weighed : 2 * sum v.counts ≤ weight (grid_of t) (laid t v)
+
+-- a pass with these counts
+abbrev pub with_counts : View → List ℕ → View
+with_counts v counts = record v { counts = counts }
+
+-- a sweep over the rows of v that left these counts
+pub record Swept (t : Terms) (v : View) (counts : List ℕ) (answer : ℕ) : Type 0 where
+  pub same_rows : length counts ≡ length v.counts
+  -- it answers by how much the counts rose
+  pub answered : sum counts ≡ sum v.counts + answer
+  pub idle : answer ≡ 0 → counts ≡ v.counts
+  pub never_fall : (j : ℕ) → slice_index v.counts j ≤ slice_index counts j
+  -- a site with k of 4 or more has toppled at least k div 4 times
+  pub enough : (j : ℕ) → j < length v.counts → LeavesAtMost t v (v.base + j) (4 * (slice_index counts j - slice_index v.counts j) + 3)
+  -- a pass that has all topples nothing exactly where nothing is left to topple
+  pub calm : HasAll t v → (answer ≡ 0) ↔ IsCalm t v
+  pub sparing : HasAll t v → IsSparing t (with_counts v counts)

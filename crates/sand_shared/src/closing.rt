@@ -1,0 +1,122 @@
+//! Closing a shared pile with a pass that has gathered all: it topples in place until nothing topples.
+//!
+//! Then the pass's own counts are all topplings there were, and with nothing in hand the heights are the start and all
+//! drops, less what toppled. At most 3 are left everywhere, and no site toppled more often than needed: that is the
+//! settled pile with its least odometer.
+
+ghost use Rattle.std.specs.Prelude.{◌≡◌, ℕ, ◌+◌, ◌*◌, ◌^◌, ◌<◌, ◌≤◌, ◌↔◌, true, [], length, sum, slice_index, vec_capacity, IfOk, IfErr, OnOk, All};
+ghost use Rattle.sand_model.specs.Grid.{sites};
+ghost use Rattle.sand_settle.specs.Settling.{odometer_of};
+ghost use Rattle.sand_shared.specs.OpenPile.{grid_of};
+ghost use Rattle.sand_shared.specs.Events.{looked};
+ghost use Rattle.sand_shared.specs.Passes.{IsPassOf, IsWhole, EachOnce};
+ghost use Rattle.sand_shared.specs.Record.{Tells, IsOneThreads, EndsAt};
+ghost use Rattle.sand_shared.specs.Seats.{IsSeatAt, StaysSeated};
+ghost use Rattle.sand_shared.specs.Sweeps.{IsCalm, with_counts};
+
+use crate::faults::CloseFault;
+use crate::pass::Pass;
+use crate::record::Record;
+use crate::shared_pile::SharedPile;
+use crate::steps::{PassSeat, Words};
+use crate::view::{Receipt, Terms};
+use std::alloc::Global;
+
+impl Words {
+    // Sweeps all sites until a sweep topples nothing.
+    fn sweep_out(&self, seat: &mut PassSeat, counts: &mut Vec<u64>)
+        requires seat { IsSeatAt self.now seat.old }
+        requires hand { seat.old.me.0.hand ≡ [] }
+        requires counts { (seat.old.me.0.base ≡ 0) × (seat.old.me.0.counts ≡ counts.old.items) }
+        requires all { length counts.old.items ≡ sites (grid_of self.now.terms) }
+        ensures seat { StaysSeated seat.old seat.new }
+        ensures view { seat.new.me.0 ≡ record (looked seat.old.me.0 seat.new.me.0.spot seat.new.me.0.least) { counts = counts.new.items } }
+        ensures long { length counts.new.items ≡ length counts.old.items }
+        ensures never_fall { (j : ℕ) → slice_index counts.old.items j ≤ slice_index counts.new.items j }
+        ensures calm { IsCalm self.now.terms (with_counts seat.old.me.0 counts.new.items) }
+    {
+        'sweeps: while self.sweep_rows(seat, 0, counts) != 0 {}
+    }
+}
+
+// Writes the site of each receipt at its number.
+fn fill(history: &mut Vec<usize>, receipts: &[Receipt])
+    requires inside { All (λ r. r.number < length history.old.items) receipts.now }
+    requires once { EachOnce receipts.now }
+    ensures tells { Tells receipts.now history.new.items }
+    ensures length { length history.new.items ≡ length history.old.items }
+{
+    for receipt in receipts {
+        history[receipt.number as usize] = receipt.site;
+    }
+}
+
+impl SharedPile {
+    /// Closes the pile with a pass that has gathered all, and answers its record. Refuses a pass that lacks quota,
+    /// receipts or rows (Missing), then Memory, before anything topples; the pile and the pass then come back.
+    pub fn close(self, alloc: Global, pass: Pass) -> Result<Record, (CloseFault, SharedPile, Pass)>
+        requires { IsPassOf self pass }
+        ensures missing { IfErr result (λ e. (e.0 ≡ CloseFault.Missing) ↔ ¬ IsWhole self.terms pass) }
+        ensures whole { OnOk result (IsWhole self.terms pass) }
+        ensures pile_back { IfErr result (λ e. e.1 ≡ self) }
+        ensures pass_back { IfErr result (λ e. e.2 ≡ pass) }
+
+        // What one thread would have got that drops the history on the start, in order: the settled pile, the grains
+        // lost, and the least odometer.
+        ensures one_threads { IfOk result IsOneThreads }
+        ensures start { IfOk result (λ r. r.start ≡ self.terms.start) }
+
+        // Each drop call once, at the number that it answered, and after all that its pass had seen.
+        ensures history { IfOk result (λ r. Tells pass.receipts r.history) }
+        ensures each_drop_once { IfOk result (λ r. length r.history ≡ length pass.receipts) }
+        ensures all_seen { IfOk result (λ r. pass.seen ≡ length r.history) }
+
+        // It toppled in place, on a pile that was lawful to the last.
+        ensures never_fall { IfOk result (λ r. (i : ℕ) → slice_index pass.counts i ≤ odometer_of r.settled i) }
+        ensures ends_at { IfOk result (EndsAt self.terms) }
+    {
+        let _ = &self.words;
+        if !self.is_whole(&pass) {
+            return Err((CloseFault::Missing, self, pass));
+        }
+        let history = match vec![in alloc; 0usize; pass.receipts.len()] {
+            Ok(history) => history,
+            Err(error) => return Err((CloseFault::Memory(error), self, pass)),
+        };
+        let heights = match Vec::with_capacity(alloc, pass.counts.len()) {
+            Ok(heights) => heights,
+            Err(error) => return Err((CloseFault::Memory(error), self, pass)),
+        };
+        Ok(self.settle(pass, history, heights))
+    }
+
+    // Topples until nothing topples, and writes the record into lists that have room for it.
+    fn settle(self, pass: Pass, mut history: Vec<usize>, mut heights: Vec<u64>) -> Record
+        requires pass { IsPassOf self pass }
+        requires whole { IsWhole self.terms pass }
+        requires history { length history.items ≡ length pass.receipts }
+        requires heights { (heights.items ≡ []) × (length pass.counts ≤ vec_capacity heights) }
+        ensures one_threads { IsOneThreads result }
+        ensures start { result.start ≡ self.terms.start }
+        ensures history { Tells pass.receipts result.history }
+        ensures each_drop_once { length result.history ≡ length pass.receipts }
+        ensures all_seen { pass.seen ≡ length result.history }
+        ensures never_fall { (i : ℕ) → slice_index pass.counts i ≤ odometer_of result.settled i }
+        ensures ends_at { EndsAt self.terms result }
+    {
+        let SharedPile { words } = self;
+        let Pass {
+            mut seat,
+            shape: _,
+            left: _,
+            seen: _,
+            receipts,
+            rows: _,
+            mut counts,
+        } = pass;
+        words.sweep_out(&mut seat, &mut counts);
+        let Terms { start, quota: _ } = words.close(seat, &mut heights);
+        fill(&mut history, receipts.as_slice());
+        Record::of_lists(start, history, heights, counts)
+    }
+}

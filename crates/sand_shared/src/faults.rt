@@ -1,0 +1,136 @@
+//! Why a call on a shared pile was refused, with the number of each fault.
+
+ghost use Rattle.std.specs.Prelude.{◌≡◌};
+ghost use Rattle.sand_shared.specs.declared.faults.SharedFault.TheVariants.{Memory};
+ghost use Rattle.sand_shared.specs.declared.faults.SplitFault.TheVariants.{Memory as SplitMemory};
+
+use std::alloc::AllocError;
+use thiserror::Error;
+
+/// Why a shared pile was not made, or a record not copied or continued.
+#[derive(Debug, Drop, Error)]
+pub enum SharedFault {
+    #[error("more grains than the limit, with the quota")]
+    TooManyGrains,
+    #[error(transparent)]
+    Memory(AllocError),
+}
+
+/// Why a pass was not split.
+#[derive(Debug, Drop, Error)]
+pub enum SplitFault {
+    #[error("quota over what is left")]
+    TooMuch,
+    #[error("more rows than the pass holds")]
+    Rows,
+    #[error(transparent)]
+    Memory(AllocError),
+}
+
+/// Why two passes were not joined.
+#[derive(Debug, Drop, Error)]
+pub enum JoinFault {
+    #[error("both passes have rows, and they do not touch")]
+    Apart,
+    #[error(transparent)]
+    Memory(AllocError),
+}
+
+/// Why no grain was dropped.
+#[derive(Clone, Copy, Debug, PartialEq, Eq, Error)]
+pub enum DropFault {
+    #[error("nothing left to drop")]
+    Spent,
+}
+
+/// Why a shared pile was not closed.
+#[derive(Debug, Drop, Error)]
+pub enum CloseFault {
+    #[error("quota, receipts or rows that the pass has not gathered")]
+    Missing,
+    #[error(transparent)]
+    Memory(AllocError),
+}
+
+impl From<AllocError> for SharedFault {
+    ghost from_gives = { λ e fault. fault ≡ Memory e };
+
+    fn from(error: AllocError) -> SharedFault {
+        SharedFault::Memory(error)
+    }
+}
+
+impl SharedFault {
+    ghost use Rattle.std.specs.Prelude.{◌≡◌};
+    ghost use Rattle.sand_shared.specs.Faults.{shared_fault_number};
+
+    pub fn number(&self) -> u32
+        ensures { result ≡ shared_fault_number self.now }
+    {
+        match self {
+            SharedFault::TooManyGrains => 3,
+            SharedFault::Memory(_) => 4,
+        }
+    }
+}
+
+impl From<AllocError> for SplitFault {
+    ghost from_gives = { λ e fault. fault ≡ SplitMemory e };
+
+    fn from(error: AllocError) -> SplitFault {
+        SplitFault::Memory(error)
+    }
+}
+
+impl SplitFault {
+    ghost use Rattle.std.specs.Prelude.{◌≡◌};
+    ghost use Rattle.sand_shared.specs.Faults.{split_fault_number};
+
+    pub fn number(&self) -> u32
+        ensures { result ≡ split_fault_number self.now }
+    {
+        match self {
+            SplitFault::TooMuch => 10,
+            SplitFault::Rows => 11,
+            SplitFault::Memory(_) => 4,
+        }
+    }
+}
+
+impl JoinFault {
+    ghost use Rattle.std.specs.Prelude.{◌≡◌};
+    ghost use Rattle.sand_shared.specs.Faults.{join_fault_number};
+
+    pub fn number(&self) -> u32
+        ensures { result ≡ join_fault_number self.now }
+    {
+        match self {
+            JoinFault::Apart => 12,
+            JoinFault::Memory(_) => 4,
+        }
+    }
+}
+
+impl DropFault {
+    ghost use Rattle.std.specs.Prelude.{◌≡◌};
+
+    pub fn number(self) -> u32
+        ensures { result ≡ 13 }
+    {
+        13
+    }
+}
+
+impl CloseFault {
+    ghost use Rattle.std.specs.Prelude.{◌≡◌};
+    ghost use Rattle.sand_shared.specs.Faults.{close_fault_number};
+
+    pub fn number(&self) -> u32
+        ensures { result ≡ close_fault_number self.now }
+    {
+        match self {
+            CloseFault::Missing => 14,
+            CloseFault::Memory(_) => 4,
+        }
+    }
+}

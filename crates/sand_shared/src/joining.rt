@@ -1,0 +1,79 @@
+//! How a pass takes in another one of the same pile.
+
+ghost use Rattle.std.specs.Prelude.{◌≡◌, ◌++◌, ◌↔◌, if◌then◌else◌, IfOk, IfErr, OnOk, OnErr};
+ghost use Rattle.sand_shared.specs.Passes.{IsPassOf, together};
+ghost use Rattle.sand_shared.specs.Rows.{AreApart};
+
+use crate::faults::JoinFault;
+use crate::pass::Pass;
+use crate::shared_pile::SharedPile;
+use std::alloc::{AllocError, Global};
+use std::marker::Brand;
+
+// The first list becomes both, the second's behind it where they are in order, else before it.
+fn lay_together(
+    first: &mut Vec<u64>,
+    second: &mut Vec<u64>,
+    in_order: bool,
+) -> Result<(), AllocError>
+    ensures together { OnOk result (first.new.items ≡ (if in_order then first.old.items ++ second.old.items else second.old.items ++ first.old.items)) }
+    ensures unchanged { OnErr result ((first.new.items ≡ first.old.items) × (second.new.items ≡ second.old.items)) }
+{
+    if in_order {
+        return first.extend_from_slice(second.as_slice());
+    }
+    second.extend_from_slice(first.as_slice())?;
+    std::mem::swap(first, second);
+    Ok(())
+}
+
+impl SharedPile {
+    /// Takes in all that another pass of this pile has: its quota, its receipts behind the pass's own, what it has
+    /// seen, and its rows with their counts. Refuses rows that do not touch the pass's own (Apart), then Memory; the
+    /// other pass then comes back.
+    pub fn join(
+        &self,
+        alloc: Global,
+        pass: &mut Pass,
+        mut other: Pass,
+    ) -> Result<(), (JoinFault, Pass)>
+        requires pass { IsPassOf self.now pass.old }
+        requires other { IsPassOf self.now other }
+        ensures of_pile { IsPassOf self.now pass.new }
+        ensures joined { OnOk result (pass.new ≡ together pass.old other) }
+        ensures touching { OnOk result (¬ AreApart pass.old.rows other.rows) }
+        ensures apart { IfErr result (λ e. (e.0 ≡ JoinFault.Apart) ↔ AreApart pass.old.rows other.rows) }
+        ensures unchanged { OnErr result (pass.new ≡ pass.old) }
+        ensures back { IfErr result (λ e. e.1 ≡ other) }
+    {
+        let _ = &self.words;
+        let _ = alloc;
+        if !pass.rows.touch(other.rows) {
+            return Err((JoinFault::Apart, other));
+        }
+        let in_order = pass.rows.are_followed_by(other.rows);
+        let room = pass.left as usize + other.receipts.len() + other.left as usize;
+        if let Err(error) = pass.receipts.reserve(room) {
+            return Err((JoinFault::Memory(error), other));
+        }
+        if let Err(error) = lay_together(&mut pass.counts, &mut other.counts, in_order) {
+            return Err((JoinFault::Memory(error), other));
+        }
+        let Pass {
+            seat,
+            shape: _,
+            left,
+            seen,
+            mut receipts,
+            rows,
+            counts: _,
+        } = other;
+        self.words.join(&mut pass.seat, seat);
+        self.words.learn::<Brand>(&mut pass.seat);
+        pass.left += left;
+        pass.seen = pass.seen.max(seen);
+        pass.receipts.append(&mut receipts).unwrap();
+        pass.rows = pass.rows.together(rows);
+        Ok(())
+    }
+}

@@ -1,0 +1,28 @@
+//! One pile of sand that many threads share: they drop grains on it and topple its sites in place, all at once.
+//!
+//! The definitions stand in `specs/`: `OpenPile` (the pile while it is shared, and when it is lawful), `Events` (the
+//! nine kinds of step, each as its condition and its effect) and `Running` (the rule of the table of words: events
+//! have led to what it shows).
+#![tactic(auto)]
+
+mod closing;
+mod faults;
+mod joining;
+pub mod laws;
+mod pass;
+mod record;
+mod rows;
+mod rule;
+mod shared_pile;
+mod splitting;
+mod steps;
+mod sweeping;
+#[cfg(test)]
+mod tests;
+mod view;
+
+pub use faults::{CloseFault, DropFault, JoinFault, SharedFault, SplitFault};
+pub use pass::Pass;
+pub use record::Record;
+pub use shared_pile::SharedPile;
+pub use view::Receipt;

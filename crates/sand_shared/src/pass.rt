@@ -1,0 +1,83 @@
+//! Passes: what a thread holds to drop grains on a shared pile and to topple rows of it.
+
+ghost use Rattle.std.specs.Prelude.{◌≡◌, ℕ, ◌-◌, ◌*◌};
+ghost use Rattle.sand_shared.specs.Passes.{EachOnce, AllBelow, at_rest};
+ghost use Rattle.sand_shared.specs.Rows.{HoldsSite};
+ghost use Rattle.sand_shared.specs.OpenPile.{toppled_by};
+ghost use Rattle.sand_model.specs.Grid.{sites};
+
+use crate::rows::Rows;
+use crate::view::{Receipt, View};
+use atomic_table::Seat;
+use sand_model::Shape;
+use std::marker::Model;
+
+/// A right to drop a number of grains on a shared pile and to topple some of its rows.
+///
+/// One thread has it at a time, and may send it to another. All that it says of itself stays true whatever other
+/// threads do: nobody else can draw a number that one of its receipts has, drop what it has left, or topple its rows.
+/// What it has seen is how many drops it knows to have begun; the pile's may be more by now.
+///
+/// A pass with nothing left, no receipts and no rows may be thrown away. With any other one that is thrown away the
+/// pile cannot be closed again.
+#[derive(Drop)]
+pub struct Pass {
+    pub(crate) seat: Seat<u8, View>,
+    pub(crate) shape: Shape,
+    pub(crate) left: u64,
+    pub(crate) seen: u64,
+    pub(crate) receipts: Vec<Receipt>,
+    pub(crate) rows: Rows,
+    pub(crate) counts: Vec<u64>,
+}
+
+impl Model for Pass {
+    ghost use Rattle.std.specs.Prelude.{vec_capacity};
+    ghost use Rattle.sand_shared.specs.Passes.{PassView, IsPass};
+
+    ghost Value = { PassView };
+
+    ghost view = { λ p. record { table = p.seat.table_id; grid = p.shape; left = p.left; seen = p.seen; receipts = p.receipts.items; rows = p.rows; counts = p.counts.items } };
+
+    ghost invariant = { λ p. IsPass p.seat (record { table = p.seat.table_id; grid = p.shape; left = p.left; seen = p.seen; receipts = p.receipts.items; rows = p.rows; counts = p.counts.items }) (vec_capacity p.receipts) };
+}
+
+impl Pass {
+    /// How many grains it may still drop.
+    pub fn left(&self) -> u64
+        ensures { result ≡ self.now.left }
+    {
+        self.left
+    }
+
+    /// How many drops it knows to have begun.
+    pub fn seen(&self) -> u64
+        ensures { result ≡ self.now.seen }
+    {
+        self.seen
+    }
+
+    /// The drops that were made with it and with passes joined to it.
+    pub fn receipts(&self) -> &[Receipt]
+        ensures value { result.now ≡ self.now.receipts }
+        ensures each_once { EachOnce self.now.receipts }
+        ensures seen { AllBelow self.now.seen self.now.receipts }
+    {
+        self.receipts.as_slice()
+    }
+
+    /// Its rows: the first, and one past the last; both are 0 where it has none.
+    pub fn rows(&self) -> (u16, u16)
+        ensures { result ≡ (self.now.rows.first, self.now.rows.end) }
+    {
+        (self.rows.first, self.rows.end)
+    }
+
+    /// How often a site of its rows has toppled since the pile was made.
+    pub fn toppled(&self, site: usize) -> u64
+        requires { HoldsSite self.now.grid self.now.rows site }
+        ensures { result ≡ toppled_by (at_rest self.now) site }
+    {
+        self.counts[site - usize::from(self.rows.first) * self.shape.width()]
+    }
+}

@@ -1,0 +1,86 @@
+//! The rule of the table of words, and what each step on it tells.
+//!
+//! The rule is that events have led from the first state to what the words and the views show. So a step can be taken
+//! only where it is an event that may happen there, and that the pile is lawful at every moment is the law
+//! (`laws::always_lawful`), by induction over the events.
+
+use crate::view::{Terms, View};
+use atomic_table::{Join, Play, Split, TableRule};
+use std::marker::{Brand, PhantomData};
+
+/// The event that a step is, picked at the call for the proofs alone.
+pub trait Picked {
+    ghost use Rattle.sand_shared.specs.declared.view.Terms.{Terms as TermsOf};
+    ghost use Rattle.sand_shared.specs.Events.{Event};
+
+    ghost terms: { TermsOf };
+
+    ghost event: { Event };
+}
+
+impl Picked for Brand {
+    ghost use Rattle.sand_shared.specs.Events.{no_terms, begin};
+
+    ghost terms = { no_terms };
+
+    ghost event = { begin };
+}
+
+/// Events have led to what is there, and the first pass has all.
+pub struct Running;
+
+impl TableRule<u8, View, Terms> for Running {
+    ghost use Rattle.sand_shared.specs.Running.{IsRunning};
+    ghost use Rattle.sand_shared.specs.Events.{first_pass};
+
+    ghost holds = { IsRunning };
+
+    ghost first = { first_pass };
+}
+
+/// The step of an event.
+pub struct Take<J> {
+    picked: PhantomData<J>,
+}
+
+impl<J: Picked> Play<u8, View> for Take<J> {
+    ghost use Rattle.sand_shared.specs.Running.{Takes};
+
+    ghost then = { Takes J.terms J.event };
+}
+
+/// A load that changes nothing, by which a pass learns that what it has fits the rule.
+pub struct Learn<J> {
+    picked: PhantomData<J>,
+}
+
+impl<J: Picked> Play<u8, View> for Learn<J> {
+    ghost use Rattle.sand_shared.specs.Running.{Learns, actor};
+
+    ghost then = { Learns J.terms (actor J.event) };
+}
+
+/// A pass gives a part of what it has to a new one.
+pub struct Cut<J> {
+    picked: PhantomData<J>,
+}
+
+impl<J: Picked> Split<View> for Cut<J> {
+    ghost use Rattle.sand_shared.specs.Events.{parent, child, quota_given, sites_given};
+
+    ghost left = { λ v. parent v (quota_given J.event) (sites_given J.event) };
+
+    ghost right = { λ v. child v (quota_given J.event) (sites_given J.event) };
+}
+
+/// A pass takes in all that another one has.
+pub struct Gather;
+
+impl Join<View> for Gather {
+    ghost use Rattle.sand_shared.specs.Events.{joined};
+    ghost use Rattle.sand_shared.specs.OpenPile.{nobody};
+
+    ghost both = { joined };
+
+    ghost spent = { nobody };
+}

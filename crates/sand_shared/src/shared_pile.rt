@@ -1,0 +1,118 @@
+//! The pile that threads share: how it begins, drops, and the tally.
+
+ghost use Rattle.std.specs.Prelude.{◌≡◌, ℕ, ◌+◌, ◌-◌, ◌<◌, ◌≤◌, ◌↔◌, [], ◌∷◌, ◌++◌, sum, IfOk, IsErr, OnErr, IsTrue};
+ghost use Rattle.sand_model.specs.Grid.{sites};
+ghost use Rattle.sand_shared.specs.OpenPile.{grid_of};
+ghost use Rattle.sand_shared.specs.Events.{receipt, zeros};
+ghost use Rattle.sand_shared.specs.Passes.{IsPassOf, IsWhole};
+ghost use Rattle.sand_shared.specs.Rows.{no_rows};
+
+use crate::faults::{DropFault, SharedFault};
+use crate::pass::Pass;
+use crate::record::copy_of;
+use crate::rows::Rows;
+use crate::steps::Words;
+use crate::view::{Receipt, Terms};
+use sand_model::{GRAIN_LIMIT, Pile};
+use std::alloc::Global;
+use std::marker::{Brand, Model};
+
+/// A pile of sand that many threads share by reference, each with a pass of its own.
+///
+/// Calls on it take single atomic steps and wait for nobody. At every moment its words and its passes are an open
+/// pile to which the events of `specs/Events` have led, and so a lawful one (`laws::always_lawful`).
+#[derive(Drop)]
+pub struct SharedPile {
+    pub(crate) words: Words,
+}
+
+impl Model for SharedPile {
+    ghost use Rattle.sand_shared.specs.Passes.{SharedView};
+
+    ghost Value = { SharedView };
+
+    ghost view = { λ p. p.words };
+}
+
+impl SharedPile {
+    /// A pile with the heights of the start, which may be unstable, and its first pass: that has the whole quota and
+    /// all rows, has seen no drop and has no receipts. Refuses a start that has, with the quota, more grains than the
+    /// limit (TooManyGrains), then Memory.
+    pub fn new(alloc: Global, start: &Pile, quota: u64) -> Result<(SharedPile, Pass), SharedFault>
+        ensures limit { (result ≡ Err SharedFault.TooManyGrains) ↔ (GRAIN_LIMIT < sum start.now.heights + quota) }
+        ensures terms { IfOk result (λ r. r.0.terms ≡ record { start = start.now; quota = quota }) }
+        ensures of_pile { IfOk result (λ r. IsPassOf r.0 r.1) }
+        ensures pass { IfOk result (λ r. r.1 ≡ record { table = r.0.table; grid = start.now.grid; left = quota; seen = 0; receipts = []; rows = record { first = 0; end = start.now.grid.height }; counts = zeros (sites start.now.grid) }) }
+    {
+        if quota > GRAIN_LIMIT - start.grains() {
+            return Err(SharedFault::TooManyGrains);
+        }
+        let shape = start.shape();
+        let receipts = Vec::with_capacity(alloc, quota as usize)?;
+        let counts = vec![in alloc; 0u64; shape.sites()]?;
+        let start = copy_of(alloc, start)?;
+        let (words, seat) = Words::new(alloc, Terms { start, quota })?;
+        let pass = Pass {
+            seat,
+            shape,
+            left: quota,
+            seen: 0,
+            receipts,
+            rows: Rows {
+                first: 0,
+                end: shape.height() as u16,
+            },
+            counts,
+        };
+        Ok((SharedPile { words }, pass))
+    }
+
+    /// Drops a grain on a site, and answers the number of the drop in the history. Refuses a pass with nothing left
+    /// (Spent).
+    pub fn drop_at(&self, pass: &mut Pass, site: usize) -> Result<u64, DropFault>
+        requires pass { IsPassOf self.now pass.old }
+        requires site { site < sites (grid_of self.now.terms) }
+        ensures of_pile { IsPassOf self.now pass.new }
+        ensures spent { IsErr result ↔ (pass.old.left ≡ 0) }
+        ensures unchanged { OnErr result (pass.new ≡ pass.old) }
+        ensures after_all_seen { IfOk result (λ n. pass.old.seen ≤ n) }
+        ensures in_the_quota { IfOk result (λ n. n < self.now.terms.quota) }
+        ensures pass { IfOk result (λ n. pass.new ≡ record pass.old { left = pass.old.left - 1; seen = n + 1; receipts = pass.old.receipts ++ receipt n site ∷ [] }) }
+    {
+        let _ = &self.words;
+        if pass.left == 0 {
+            return Err(DropFault::Spent);
+        }
+        let number = self.words.draw::<Brand>(&mut pass.seat, site);
+        self.words.place::<Brand>(&mut pass.seat, site);
+        pass.left -= 1;
+        pass.seen = number + 1;
+        pass.receipts.push_reserved(Receipt { number, site });
+        Ok(number)
+    }
+
+    /// How many drops were begun so far.
+    pub fn tally(&self, pass: &mut Pass) -> u64
+        requires { IsPassOf self.now pass.old }
+        ensures of_pile { IsPassOf self.now pass.new }
+        ensures at_least_seen { pass.old.seen ≤ result }
+        ensures in_the_quota { result ≤ self.now.terms.quota }
+        ensures pass { pass.new ≡ record pass.old { seen = result } }
+    {
+        let _ = &self.words;
+        let drops = self.words.count::<Brand>(&mut pass.seat);
+        pass.seen = drops;
+        drops
+    }
+
+    /// Whether the pass has all of the quota, as what is left or as receipts, and all rows.
+    pub fn is_whole(&self, pass: &Pass) -> bool
+        requires { IsPassOf self.now pass.now }
+        ensures { IsTrue result ↔ IsWhole self.now.terms pass.now }
+    {
+        let terms = self.words.terms();
+        pass.left + pass.receipts.len() as u64 == terms.quota
+            && pass.rows.first == 0
+            && usize::from(pass.rows.end) == terms.start.shape().height()
+    }
+}

@@ -1,0 +1,79 @@
+//! How a pass gives some of its quota, or the last of its rows, to a new pass.
+
+ghost use Rattle.std.specs.Prelude.{◌≡◌, ◌≢◌, ℕ, ◌-◌, ◌<◌, ◌↔◌, [], take, drop, IfOk, OnOk, OnErr};
+ghost use Rattle.sand_shared.specs.Passes.{IsPassOf, sites_kept};
+ghost use Rattle.sand_shared.specs.Rows.{no_rows, count_of, upper_rows, lower_rows};
+
+use crate::faults::SplitFault;
+use crate::pass::Pass;
+use crate::rows::Rows;
+use crate::shared_pile::SharedPile;
+use std::alloc::Global;
+use std::marker::Brand;
+
+impl SharedPile {
+    /// Gives some of what a pass has left to a new one, which has seen as much and has no receipts and no rows.
+    /// Refuses more than is left (TooMuch), then Memory.
+    pub fn split(&self, alloc: Global, pass: &mut Pass, quota: u64) -> Result<Pass, SplitFault>
+        requires { IsPassOf self.now pass.old }
+        ensures of_pile { IsPassOf self.now pass.new }
+        ensures child_of_pile { IfOk result (λ c. IsPassOf self.now c) }
+        ensures too_much { (result ≡ Err SplitFault.TooMuch) ↔ (pass.old.left < quota) }
+        ensures not_rows { result ≢ Err SplitFault.Rows }
+        ensures unchanged { OnErr result (pass.new ≡ pass.old) }
+        ensures parent { OnOk result (pass.new ≡ record pass.old { left = pass.old.left - quota }) }
+        ensures child { IfOk result (λ c. c ≡ record pass.old { left = quota; receipts = []; rows = no_rows; counts = [] }) }
+    {
+        let _ = &self.words;
+        if pass.left < quota {
+            return Err(SplitFault::TooMuch);
+        }
+        let receipts = Vec::with_capacity(alloc, quota as usize)?;
+        let seen = pass.seen;
+        let kept = pass.counts.len();
+        let seat = self.words.split::<Brand>(&mut pass.seat, quota, kept);
+        pass.left -= quota;
+        Ok(Pass {
+            seat,
+            shape: pass.shape,
+            left: quota,
+            seen,
+            receipts,
+            rows: Rows { first: 0, end: 0 },
+            counts: Vec::new(alloc),
+        })
+    }
+
+    /// Gives the last `k` rows of a pass, with their counts, to a new one, which has seen as much and has no quota and
+    /// no receipts. Refuses more rows than it has (Rows), then Memory.
+    pub fn split_rows(&self, alloc: Global, pass: &mut Pass, k: u16) -> Result<Pass, SplitFault>
+        requires { IsPassOf self.now pass.old }
+        ensures of_pile { IsPassOf self.now pass.new }
+        ensures child_of_pile { IfOk result (λ c. IsPassOf self.now c) }
+        ensures rows { (result ≡ Err SplitFault.Rows) ↔ (count_of pass.old.rows < k) }
+        ensures not_too_much { result ≢ Err SplitFault.TooMuch }
+        ensures unchanged { OnErr result (pass.new ≡ pass.old) }
+        ensures parent { OnOk result (pass.new ≡ record pass.old { rows = upper_rows pass.old.rows k; counts = take (sites_kept pass.old k) pass.old.counts }) }
+        ensures child { IfOk result (λ c. c ≡ record pass.old { left = 0; receipts = []; rows = lower_rows pass.old.rows k; counts = drop (sites_kept pass.old k) pass.old.counts }) }
+    {
+        let _ = &self.words;
+        if pass.rows.count() < k {
+            return Err(SplitFault::Rows);
+        }
+        let kept = pass.counts.len() - usize::from(k) * pass.shape.width();
+        let counts = Vec::from_slice(alloc, pass.counts.as_slice().split_at(kept).1)?;
+        let (upper, lower) = pass.rows.cut(k);
+        let seat = self.words.split::<Brand>(&mut pass.seat, 0, kept);
+        pass.rows = upper;
+        pass.counts.truncate(kept);
+        Ok(Pass {
+            seat,
+            shape: pass.shape,
+            left: 0,
+            seen: pass.seen,
+            receipts: Vec::new(alloc),
+            rows: lower,
+            counts,
+        })
+    }
+}

@@ -1,0 +1,205 @@
+//! The table of words under its rule, and the steps on it: each function here takes one step, and its contract names
+//! the event that this is.
+
+ghost use Rattle.std.specs.Prelude.{◌≡◌, ℕ, ◌+◌, ◌-◌, ◌*◌, ◌^◌, ◌<◌, ◌≤◌, ◌||◌, true, [], ◌∷◌, length, slice_index, vec_capacity, IfOk};
+ghost use Rattle.std.specs.Mem.Slots.{slots_items, slots_len, IsFull};
+ghost use Rattle.sand_model.specs.Grid.{sites};
+ghost use Rattle.sand_shared.specs.OpenPile.{grid_of, holds_site, AreTerms};
+ghost use Rattle.sand_shared.specs.Events.{draw, place, count, split, look, unload, deliver, grains, behind_first, first_pass, parent, child, joined, follows};
+ghost use Rattle.sand_shared.specs.Running.{Happened, Stands, actor};
+ghost use Rattle.sand_shared.specs.Record.{IsLast};
+ghost use Rattle.sand_shared.specs.Seats.{IsSeatAt, StaysSeated};
+
+use crate::rule::{Cut, Gather, Learn, Picked, Running, Take};
+use crate::view::{Terms, View};
+use atomic_table::{Closed, Seat, Table};
+use std::alloc::{AllocError, Global};
+use std::marker::Model;
+
+pub(crate) type PassSeat = Seat<u8, View>;
+
+/// The words that threads share: the number of draws, and the height of each site.
+#[derive(Drop)]
+pub(crate) struct Words {
+    table: Table<u8, View, Terms, Running, Global>,
+    terms: Terms,
+}
+
+impl Model for Words {
+    ghost use Rattle.sand_shared.specs.Passes.{SharedView};
+    ghost use Rattle.sand_shared.specs.Seats.{AreWords};
+
+    ghost Value = { SharedView };
+
+    ghost view = { λ w. record { table = w.table.shared.table_id; terms = w.terms } };
+
+    ghost invariant = { λ w. AreWords w.table.shared.key (record { table = w.table.shared.table_id; terms = w.terms }) };
+}
+
+impl Words {
+    /// The words of a pile that begins so, and the seat of its first pass.
+    pub(crate) fn new(alloc: Global, terms: Terms) -> Result<(Words, PassSeat), AllocError>
+        requires { AreTerms terms }
+        ensures terms { IfOk result (λ w. w.0.terms ≡ terms) }
+        ensures seat { IfOk result (λ w. IsSeatAt w.0 w.1) }
+        ensures first { IfOk result (λ w. w.1.me.0 ≡ first_pass terms) }
+    {
+        let heights = terms.start.heights();
+        let mut words = Vec::with_capacity(alloc, heights.len() + 2)?;
+        words.push_reserved(0);
+        words.push_reserved(0);
+        words.extend_from_slice(heights)?;
+        let (table, seat) = Table::of_words(alloc, words.as_slice(), &terms)?;
+        Ok((Words { table, terms }, seat))
+    }
+
+    pub(crate) fn terms(&self) -> &Terms
+        ensures value { result.now ≡ self.now.terms }
+        ensures terms { AreTerms self.now.terms }
+    {
+        &self.terms
+    }
+
+    /// Draws a number for a grain on a site.
+    pub(crate) fn draw<J: Picked>(&self, seat: &mut PassSeat, site: usize) -> u64
+        requires seat { IsSeatAt self.now seat.old }
+        requires left { 0 < seat.old.me.0.left }
+        requires site { site < sites (grid_of self.now.terms) }
+        requires picked { (J.terms ≡ self.now.terms) × (J.event ≡ draw seat.old.id site) }
+        ensures seat { StaysSeated seat.old seat.new }
+        ensures happened { Happened self.now.terms (draw seat.old.id site) seat.old.me.0 result seat.new.me.0 }
+    {
+        let _ = site;
+        self.table.shared.fetch_add::<Take<J>>(seat, 1, 1)
+    }
+
+    /// Lays the grain that was drawn on its site.
+    pub(crate) fn place<J: Picked>(&self, seat: &mut PassSeat, site: usize)
+        requires seat { IsSeatAt self.now seat.old }
+        requires hand { seat.old.me.0.hand ≡ grains site 1 ∷ behind_first seat.old.me.0.hand }
+        requires site { site < sites (grid_of self.now.terms) }
+        requires picked { (J.terms ≡ self.now.terms) × (J.event ≡ place seat.old.id site) }
+        ensures seat { StaysSeated seat.old seat.new }
+        ensures happened { (n : ℕ) × Happened self.now.terms (place seat.old.id site) seat.old.me.0 n seat.new.me.0 }
+    {
+        self.table.shared.fetch_add::<Take<J>>(seat, site + 2, 1);
+    }
+
+    /// Reads how many drops were begun.
+    pub(crate) fn count<J: Picked>(&self, seat: &mut PassSeat) -> u64
+        requires seat { IsSeatAt self.now seat.old }
+        requires picked { (J.terms ≡ self.now.terms) × (J.event ≡ count seat.old.id) }
+        ensures seat { StaysSeated seat.old seat.new }
+        ensures happened { Happened self.now.terms (count seat.old.id) seat.old.me.0 result seat.new.me.0 }
+    {
+        self.table.shared.load::<Take<J>>(seat, 1)
+    }
+
+    /// Reads the height of a site of the pass's rows.
+    pub(crate) fn look<J: Picked>(&self, seat: &mut PassSeat, site: usize) -> u64
+        requires seat { IsSeatAt self.now seat.old }
+        requires own { holds_site seat.old.me.0 site ≡ true }
+        requires site { site < sites (grid_of self.now.terms) }
+        requires picked { (J.terms ≡ self.now.terms) × (J.event ≡ look seat.old.id site) }
+        ensures seat { StaysSeated seat.old seat.new }
+        ensures happened { Happened self.now.terms (look seat.old.id site) seat.old.me.0 result seat.new.me.0 }
+    {
+        self.table.shared.load::<Take<J>>(seat, site + 2)
+    }
+
+    /// Takes four times so many grains from the site at which the pass looked, and has so many for each neighbour in hand.
+    pub(crate) fn unload<J: Picked>(&self, seat: &mut PassSeat, site: usize, times: u64)
+        requires seat { IsSeatAt self.now seat.old }
+        requires own { (holds_site seat.old.me.0 site ≡ true) × (seat.old.me.0.spot ≡ site) }
+        requires there { 4 * times ≤ seat.old.me.0.least }
+        requires site { site < sites (grid_of self.now.terms) }
+        requires small { 4 * times < 2 ^ 64 }
+        requires picked { (J.terms ≡ self.now.terms) × (J.event ≡ unload seat.old.id site times) }
+        ensures seat { StaysSeated seat.old seat.new }
+        ensures happened { (n : ℕ) × Happened self.now.terms (unload seat.old.id site times) seat.old.me.0 n seat.new.me.0 }
+    {
+        self.table
+            .shared
+            .fetch_sub::<Take<J>>(seat, site + 2, 4 * times);
+    }
+
+    /// Lays the first grains in hand on their site.
+    pub(crate) fn deliver<J: Picked>(&self, seat: &mut PassSeat, site: usize, amount: u64)
+        requires seat { IsSeatAt self.now seat.old }
+        requires hand { seat.old.me.0.hand ≡ grains site amount ∷ behind_first seat.old.me.0.hand }
+        requires site { site < sites (grid_of self.now.terms) }
+        requires picked { (J.terms ≡ self.now.terms) × (J.event ≡ deliver seat.old.id site amount) }
+        ensures seat { StaysSeated seat.old seat.new }
+        ensures happened { (n : ℕ) × Happened self.now.terms (deliver seat.old.id site amount) seat.old.me.0 n seat.new.me.0 }
+    {
+        self.table
+            .shared
+            .fetch_add::<Take<J>>(seat, site + 2, amount);
+    }
+
+    /// Learns that what the pass has fits the rule, by a load that is no event.
+    pub(crate) fn learn<J: Picked>(&self, seat: &mut PassSeat)
+        requires seat { IsSeatAt self.now seat.old }
+        requires picked { (J.terms ≡ self.now.terms) × (actor J.event ≡ seat.old.id) }
+        ensures seat { StaysSeated seat.old seat.new }
+        ensures view { seat.new.me.0 ≡ seat.old.me.0 }
+        ensures stands { Stands self.now.terms seat.old.id seat.new.me.0 }
+    {
+        self.table.shared.load::<Learn<J>>(seat, 0);
+    }
+
+    /// Gives a part of the pass's quota and the last of its sites to a new pass.
+    pub(crate) fn split<J: Picked>(&self, seat: &mut PassSeat, quota: u64, kept: usize) -> PassSeat
+        requires seat { IsSeatAt self.now seat.old }
+        requires hand { seat.old.me.0.hand ≡ [] }
+        requires quota { quota ≤ seat.old.me.0.left }
+        requires sites { kept ≤ length seat.old.me.0.counts }
+        requires picked { J.event ≡ split seat.old.id quota (length seat.old.me.0.counts - kept) }
+        ensures seat { StaysSeated seat.old seat.new }
+        ensures child_seat { IsSeatAt self.now result }
+        ensures parent { seat.new.me.0 ≡ parent seat.old.me.0 quota (length seat.old.me.0.counts - kept) }
+        ensures child { result.me.0 ≡ child seat.old.me.0 quota (length seat.old.me.0.counts - kept) }
+    {
+        let _ = quota;
+        let _ = kept;
+        self.table.shared.split_seat::<Cut<J>>(seat)
+    }
+
+    /// Takes in all that another pass has.
+    pub(crate) fn join(&self, seat: &mut PassSeat, other: PassSeat)
+        requires seat { IsSeatAt self.now seat.old }
+        requires other { IsSeatAt self.now other }
+        requires hands { (seat.old.me.0.hand ≡ []) × (other.me.0.hand ≡ []) }
+        requires rows { (follows seat.old.me.0 other.me.0 || follows other.me.0 seat.old.me.0) ≡ true }
+        ensures seat { StaysSeated seat.old seat.new }
+        ensures joined { seat.new.me.0 ≡ joined seat.old.me.0 other.me.0 }
+    {
+        self.table.shared.join_seat::<Gather>(seat, other);
+    }
+
+    /// Closes the table with the seat of a pass, and reads the heights into a list that has room for them.
+    pub(crate) fn close(self, seat: PassSeat, heights: &mut Vec<u64>) -> Terms
+        requires seat { IsSeatAt self seat }
+        requires room { (heights.old.items ≡ []) × (sites (grid_of self.terms) ≤ vec_capacity heights.old) }
+        ensures terms { result ≡ self.terms }
+        ensures last { IsLast self.terms seat.id seat.me.0 heights.new.items }
+    {
+        let Words { table, terms } = self;
+        let closed = table.close_with(seat);
+        read_heights(&closed, terms.start.shape().sites(), heights);
+        closed.free();
+        terms
+    }
+}
+
+// The heights of the sites, from the words of a table that is closed.
+fn read_heights(closed: &Closed<u8, Global>, sites: usize, heights: &mut Vec<u64>)
+    requires closed { (slots_len closed.now.words ≡ sites + 2) × IsFull closed.now.words × (sites ≤ 65536) }
+    requires room { (heights.old.items ≡ []) × (sites ≤ vec_capacity heights.old) }
+    ensures heights { (i : ℕ) → i < sites → slice_index heights.new.items i ≡ slice_index (slots_items closed.now.words) (i + 2) }
+    ensures length { length heights.new.items ≡ sites }
+{
+    for site in 0..sites {
+        heights.push_reserved(closed.word(site + 2));
+    }
+}

@@ -1,0 +1,107 @@
+//! Toppling in place: a sweep goes once over the rows of a pass, while other threads drop and topple.
+//!
+//! Only the holder of a row takes grains from its sites, so what a look finds is still there at the unload, and what
+//! is unloaded is in hand for the neighbours until it is delivered. So no grain vanishes, and no site topples more
+//! often than needed: the grains lie on it, and whatever stabilises the pile has to topple it too.
+
+ghost use Rattle.std.specs.Prelude.{◌≡◌, ℕ, ◌+◌, ◌*◌, ◌^◌, ◌<◌, ◌≤◌, true, [], ◌∷◌, length, sum, IfSome};
+ghost use Rattle.sand_model.specs.Grid.{sites, places};
+ghost use Rattle.sand_shared.specs.OpenPile.{grid_of, holds_site};
+ghost use Rattle.sand_shared.specs.Events.{looked, raised, sent, grains, behind_first, delivered_to};
+ghost use Rattle.sand_shared.specs.Seats.{IsSeatAt, StaysSeated};
+ghost use Rattle.sand_shared.specs.Sweeps.{LeavesAtMost, LeavesAtLeast, HasAll, IsSparing, Swept};
+ghost use Rattle.sand_shared.specs.Passes.{IsPassOf, IsWhole, at_rest};
+
+use crate::pass::Pass;
+use crate::shared_pile::SharedPile;
+use crate::steps::{PassSeat, Words};
+use std::marker::Brand;
+
+impl Words {
+    // Delivers the first grains in hand, where there is a neighbour at this place.
+    fn deliver_to(&self, seat: &mut PassSeat, place: Option<usize>, times: u64)
+        requires seat { IsSeatAt self.now seat.old }
+        requires hand { IfSome place (λ j. seat.old.me.0.hand ≡ grains j times ∷ behind_first seat.old.me.0.hand) }
+        requires site { IfSome place (λ j. j < sites (grid_of self.now.terms)) }
+        ensures seat { StaysSeated seat.old seat.new }
+        ensures view { seat.new.me.0 ≡ delivered_to place seat.old.me.0 }
+    {
+        if let Some(site) = place {
+            self.deliver::<Brand>(seat, site, times);
+        }
+    }
+
+    // Delivers the grains in hand to the neighbours of a site, north, west, east and south.
+    fn deliver_around(&self, seat: &mut PassSeat, site: usize, times: u64)
+        requires seat { IsSeatAt self.now seat.old }
+        requires hand { seat.old.me.0.hand ≡ sent self.now.terms site times }
+        requires site { site < sites (grid_of self.now.terms) }
+        ensures seat { StaysSeated seat.old seat.new }
+        ensures view { seat.new.me.0 ≡ record seat.old.me.0 { hand = [] } }
+    {
+        let places = self.terms().start.shape().neighbours(site);
+        'around: for place in places.iter() {
+            self.deliver_to(seat, *place, times);
+        }
+    }
+
+    // Looks at a site of the pass's rows, and topples it as often as the grains found allow. Answers how often.
+    fn relieve(&self, seat: &mut PassSeat, site: usize) -> u64
+        requires seat { IsSeatAt self.now seat.old }
+        requires hand { seat.old.me.0.hand ≡ [] }
+        requires own { holds_site seat.old.me.0 site ≡ true }
+        requires rows { seat.old.me.0.base + length seat.old.me.0.counts ≤ sites (grid_of self.now.terms) }
+        requires site { site < sites (grid_of self.now.terms) }
+        ensures seat { StaysSeated seat.old seat.new }
+        ensures view { seat.new.me.0 ≡ record (looked seat.old.me.0 site seat.new.me.0.least) { counts = raised seat.old.me.0 site result } }
+        ensures few { sum seat.new.me.0.counts < 2 ^ 54 }
+        ensures enough { LeavesAtMost self.now.terms seat.old.me.0 site (4 * result + 3) }
+        ensures no_more { HasAll self.now.terms seat.old.me.0 → LeavesAtLeast self.now.terms seat.old.me.0 site (4 * result) }
+        ensures sparing { HasAll self.now.terms seat.old.me.0 → IsSparing self.now.terms seat.new.me.0 }
+    {
+        let times = self.look::<Brand>(seat, site) / 4;
+        if times != 0 {
+            self.unload::<Brand>(seat, site, times);
+            self.deliver_around(seat, site, times);
+        }
+        times
+    }
+
+    // Goes once over the sites of the pass's rows, from the base on. Answers the topplings.
+    pub(crate) fn sweep_rows(&self, seat: &mut PassSeat, base: usize, counts: &mut Vec<u64>) -> u64
+        requires seat { IsSeatAt self.now seat.old }
+        requires hand { seat.old.me.0.hand ≡ [] }
+        requires counts { (seat.old.me.0.base ≡ base) × (seat.old.me.0.counts ≡ counts.old.items) }
+        requires rows { base + length counts.old.items ≤ sites (grid_of self.now.terms) }
+        ensures seat { StaysSeated seat.old seat.new }
+        ensures view { seat.new.me.0 ≡ record (looked seat.old.me.0 seat.new.me.0.spot seat.new.me.0.least) { counts = counts.new.items } }
+        ensures swept { Swept self.now.terms seat.old.me.0 counts.new.items result }
+        ensures few { sum counts.new.items < 2 ^ 54 }
+    {
+        let _ = self.terms();
+        let mut topplings = 0;
+        'sites: for i in 0..counts.len() {
+            let times = self.relieve(seat, base + i);
+            counts[i] += times;
+            topplings += times;
+        }
+        topplings
+    }
+}
+
+impl SharedPile {
+    /// Goes once over the sites of the pass's rows by number, looks at each, and topples it as often as the grains
+    /// found allow. Answers the topplings, and 0 for a pass without rows.
+    pub fn sweep(&self, pass: &mut Pass) -> u64
+        requires { IsPassOf self.now pass.old }
+        ensures of_pile { IsPassOf self.now pass.new }
+        ensures pass { pass.new ≡ record pass.old { counts = pass.new.counts } }
+        ensures swept { Swept self.now.terms (at_rest pass.old) pass.new.counts result }
+        ensures whole { IsWhole self.now.terms pass.old → HasAll self.now.terms (at_rest pass.old) }
+    {
+        let _ = &self.words;
+        let base = usize::from(pass.rows.first) * pass.shape.width();
+        self.words
+            .sweep_rows(&mut pass.seat, base, &mut pass.counts)
+    }
+}
