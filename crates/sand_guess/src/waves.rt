@@ -42,7 +42,7 @@ pub(crate) struct Waves {
     pub(crate) own: Vec<f64>,
 }
 
-// The values of a wave: `factor` times the sine of (first + column * step) half turns in `half`.
+// The values of a wave in the columns: those of a full turn of sines, from the place `first` on, so many steps apart.
 fn push_wave(
     values: &mut Vec<f64>,
     sines: &[f64],
@@ -101,7 +101,7 @@ fn round_waves(alloc: Global, width: usize) -> Result<Waves, AllocError>
     requires { width ≤ 256 }
 {
     let factor = (2.0 / nearest_usize_to_f64(width)).sqrt();
-    // Twice as many steps as columns, so that a quarter turn is a whole number of steps of two turns of four.
+    // Four steps for each column, so that a quarter turn is a whole number of steps, whatever the width.
     let sines = turn_of_sines(alloc, 2 * width, factor)?;
     let flat = turn_of_sines(alloc, 2 * width, factor * 0.5f64.sqrt())?;
     let mut values = Vec::new(alloc);

@@ -109,6 +109,33 @@ fn refused_until_all_is_gathered(rt: HostRuntime) -> Result<(), Fail> {
 }
 
 #[test]
+fn refused_once_a_receipt_is_thrown_away(rt: HostRuntime) -> Result<(), Fail> {
+    let start = pile_on(rt.alloc(), 1, 1, Edge::Open, &[0])?;
+    assert!(rt; 0 < start.shape().sites());
+    let (pile, mut pass) = SharedPile::new(rt.alloc(), &start, 1)?;
+    let mut child = pile.split(rt.alloc(), &mut pass, 1)?;
+    assert_eq!(rt; pile.drop_at(&mut child, 0), Ok(0));
+    let Err((fault, pile, mut pass)) = pile.close(rt.alloc(), pass) else {
+        return Err("closed without a receipt".into());
+    };
+    assert!(rt; matches!(fault, CloseFault::Missing));
+    assert_eq!(rt; pile.tally(&mut pass), 1);
+    Ok(())
+}
+
+#[test]
+fn closes_without_a_child_that_had_nothing(rt: HostRuntime) -> Result<(), Fail> {
+    let start = pile_on(rt.alloc(), 1, 1, Edge::Open, &[0])?;
+    assert!(rt; 0 < start.shape().sites());
+    let (pile, mut pass) = SharedPile::new(rt.alloc(), &start, 1)?;
+    let _ = pile.split(rt.alloc(), &mut pass, 0)?;
+    assert_eq!(rt; pile.drop_at(&mut pass, 0), Ok(0));
+    let record = pile.close(rt.alloc(), pass).ok().ok_or("close")?;
+    assert_record(&rt, &record, &[0], &[1], &[0], 0);
+    Ok(())
+}
+
+#[test]
 fn closes_with_quota_left(rt: HostRuntime) -> Result<(), Fail> {
     let start = pile_on(rt.alloc(), 1, 1, Edge::Open, &[0])?;
     assert!(rt; 0 < start.shape().sites());

@@ -90,6 +90,8 @@ fn receipts_stand_in_the_order_of_joining(rt: HostRuntime) -> Result<(), Fail> {
     assert_eq!(rt; receipts.len(), 2);
     assert_eq!(rt; (receipts[0].number, receipts[0].site), (1, 0));
     assert_eq!(rt; (receipts[1].number, receipts[1].site), (0, 1));
+    let record = pile.close(rt.alloc(), pass).ok().ok_or("close")?;
+    assert!(rt; record.history() == [1, 0].as_slice());
     Ok(())
 }
 

@@ -1,4 +1,4 @@
-use Rattle.std.proofs.Common.{ℕ, ◌+◌, ◌*◌}
+use Rattle.std.proofs.Common.{◌+◌, ◌*◌}
 use Rattle.sand_shared.proofs.tests.crews.+crew+fn-crew-join+arg2+fn-crew-join+arg3.Given as goal
 
 abbrev pub decreases-crew : goal.decreases-crew
