@@ -35,12 +35,14 @@ impl Model for Record {
     ghost invariant = { λ r. IsOneThreads (record { start = r.start; history = r.history.items; settled = record { pile = r.pile; odometer = r.odometer.items; topplings = r.topplings; lost = r.lost } }) };
 }
 
-// A pile with the same heights.
+// A copy of a pile, of which nothing but memory can be refused.
 pub(crate) fn copy_of(alloc: Global, pile: &Pile) -> Result<Pile, AllocError>
     ensures { IfOk result (λ p. p ≡ pile.now) }
 {
-    let heights = Vec::from_slice(alloc, pile.heights())?;
-    Ok(Pile::from_counted(pile.shape(), heights, pile.grains()))
+    match pile.copy(alloc) {
+        Ok(copy) => Ok(copy),
+        Err(_) => Err(AllocError),
+    }
 }
 
 // Two lists added place by place.

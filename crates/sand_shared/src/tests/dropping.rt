@@ -95,6 +95,23 @@ fn a_child_has_seen_what_its_parent_has(rt: HostRuntime) -> Result<(), Fail> {
 }
 
 #[test]
+fn a_tally_counts_the_own_drops(rt: HostRuntime) -> Result<(), Fail> {
+    let start = one_site(rt.alloc(), 0)?;
+    assert!(rt; 0 < start.shape().sites());
+    let (pile, mut pass) = SharedPile::new(rt.alloc(), &start, 6)?;
+    assert_eq!(rt; pile.drop_at(&mut pass, 0), Ok(0));
+    assert_eq!(rt; pile.drop_at(&mut pass, 0), Ok(1));
+    assert_eq!(rt; pile.drop_at(&mut pass, 0), Ok(2));
+    assert_eq!(rt; pile.drop_at(&mut pass, 0), Ok(3));
+    assert_eq!(rt; pile.drop_at(&mut pass, 0), Ok(4));
+    assert_eq!(rt; pile.drop_at(&mut pass, 0), Ok(5));
+    assert_eq!(rt; pile.tally(&mut pass), 6);
+    let mut child = pile.split(rt.alloc(), &mut pass, 0)?;
+    assert_eq!(rt; pile.tally(&mut child), 6);
+    Ok(())
+}
+
+#[test]
 fn two_threads_drop_at_once(rt: HostRuntime) -> Result<(), Fail> {
     let start = one_site(rt.alloc(), 0)?;
     assert!(rt; 0 < start.shape().sites());
