@@ -63,6 +63,7 @@ work_ends asked left left' held task input desk.Full read found = faulty asked l
 work_ends asked left left' held task input desk.Unstable read found = faulty asked left left' held task input desk.Unstable read found
 work_ends asked left left' held task input desk.NotRecurrent read found = faulty asked left left' held task input desk.NotRecurrent read found
 work_ends asked left left' held task input desk.Shapes read found = faulty asked left left' held task input desk.Shapes read found
+work_ends asked left left' held task input desk.Taken read found = faulty asked left left' held task input desk.Taken read found
 work_ends asked left left' held task input (desk.NoSite index) read found = faulty asked left left' held task input (desk.NoSite index) read found
 
 -- the writer failed

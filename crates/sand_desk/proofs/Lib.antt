@@ -2,3 +2,4 @@ pub mod Endings
 pub mod Rows
 pub mod DropSites
 pub mod Unfit
+pub mod OneText

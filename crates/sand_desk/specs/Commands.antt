@@ -1,5 +1,5 @@
 -- What a command does: the text that it writes for an input, the fault that it finds there, and how it ends.
-use Rattle.std.specs.Prelude.{ℕ, ⊤, ◌≡◌, ◌↔◌, ◌+◌, ◌<◌, ◌≤◌, Bool, true, false, List, [], length, take, Option, Some, None, Result, Err}
+use Rattle.std.specs.Prelude.{ℕ, ⊤, ◌≡◌, ◌↔◌, ◌⊎◌, ◌+◌, ◌<◌, ◌≤◌, Bool, true, false, List, [], length, take, Option, Some, None, Result, Err}
 use Rattle.std.specs.Io.KnownBytes.{Appends, Keeps}
 use Rattle.sand_model.specs.declared.faults.ShapeFault.{ShapeFault}
 use Rattle.sand_model.specs.declared.pile.TheConstants.{GRAIN_LIMIT}
@@ -10,6 +10,7 @@ use Rattle.sand_text.specs.Flow.{GivesAll, IsFurther, IsFurtherByAtMost}
 use Rattle.sand_text.specs.Reading.{pile_of, drops_of, two_of}
 use Rattle.clap.specs.Words.{Text, kind_of}
 use Rattle.clap.specs.declared.error.kind.ErrorKind.TheVariants.{DisplayHelp}
+use Rattle.sand_lab.specs.declared.plan.Wish.{Wish}
 use Rattle.sand_words.specs.Asked.{AskForHelp}
 use Rattle.sand_words.specs.declared.words.Task.{Task}
 use Rattle.sand_words.specs.declared.words.Task.TheVariants as task
@@ -18,6 +19,7 @@ use Rattle.sand_desk.specs.declared.faults.DeskFault.TheVariants as desk
 use Rattle.sand_desk.specs.Dropping.{IsDropsText, IsOverfull}
 use Rattle.sand_desk.specs.Faults.{of_shape, of_text}
 use Rattle.sand_desk.specs.Group.{edge_of, IsBurnText, IsIdentityText, IsSumText, IsInverseText, IsUnstable, IsUnfitPile, IsUnfitPair, IsMismatch}
+use Rattle.sand_desk.specs.Laboratory.{IsLabText, IsOvergrown, wish_of}
 use Rattle.sand_desk.specs.Settling.{IsSettleText}
 
 -- whether a task reads an input
@@ -33,6 +35,7 @@ IsTextOf (task.Identity width height cylinder pgm) input text = IsIdentityText w
 IsTextOf task.Drops input text = IsDropsText input text
 IsTextOf (task.Add pgm) input text = IsSumText pgm input text
 IsTextOf (task.Inverse pgm) input text = IsInverseText pgm input text
+IsTextOf (task.Lab run journal pgm) input text = IsLabText (wish_of run) journal pgm input text
 
 -- the input doesn't hold what the task wants
 pub record IsUnreadable {A : Type 0} (reading : Result A TextFault) (fault : DeskFault) : Type 0 where
@@ -74,6 +77,19 @@ IsInverseFault input desk.Unstable = IsUnfitPile input desk.Unstable
 IsInverseFault input desk.NotRecurrent = IsUnfitPile input desk.NotRecurrent
 IsInverseFault input fault = IsUnreadable (pile_of input) fault
 
+-- a run was refused: there are more grains with all drops than the limit, memory ran out, or a place of the album was taken
+abbrev pub IsRunFault : ℕ → DeskFault → Type 0
+IsRunFault grains desk.TooManyGrains = GRAIN_LIMIT < grains
+IsRunFault grains desk.Memory = Unit {0}
+IsRunFault grains desk.Taken = Unit {0}
+IsRunFault grains fault = ⊥
+
+-- a run wants room for all its drops
+abbrev pub IsLabFault : Wish → List ℕ → DeskFault → Type 0
+IsLabFault w input desk.TooManyGrains = IsUnreadable (pile_of input) desk.TooManyGrains ⊎ IsOvergrown w input
+IsLabFault w input desk.Taken = Unit {0}
+IsLabFault w input fault = IsUnreadable (pile_of input) fault
+
 -- the fault that a task finds in an input
 abbrev pub IsFaultOf : Task → List ℕ → DeskFault → Type 0
 IsFaultOf (task.Settle pgm) input fault = IsUnreadable (pile_of input) fault
@@ -82,6 +98,7 @@ IsFaultOf (task.Identity width height cylinder pgm) input fault = IsShapeless wi
 IsFaultOf task.Drops input fault = IsDropsFault input fault
 IsFaultOf (task.Add pgm) input fault = IsSumFault input fault
 IsFaultOf (task.Inverse pgm) input fault = IsInverseFault input fault
+IsFaultOf (task.Lab run journal pgm) input fault = IsLabFault (wish_of run) input fault
 
 -- a fault that a task finds in its input, or want of memory; no fault of the words or of a stream
 abbrev pub Finds : (DeskFault → Type 0) → DeskFault → Type 0

@@ -18,7 +18,7 @@ use Rattle.sand_model.specs.declared.faults.ShapeFault.TheVariants as shape
 use Rattle.sand_words.specs.declared.fault.WordsFault.{WordsFault}
 use Rattle.sand_words.specs.declared.fault.WordsFault.TheVariants as words
 use Rattle.sand_desk.specs.declared.faults.DeskFault.{DeskFault}
-use Rattle.sand_desk.specs.declared.faults.DeskFault.TheVariants.{Side, Length, TooManyGrains, Memory, Full, Unstable, NotRecurrent, Shapes, Text, TooLarge, Read, Write, TooLong, Usage, Narrow, NoSite}
+use Rattle.sand_desk.specs.declared.faults.DeskFault.TheVariants.{Side, Length, TooManyGrains, Memory, Full, Unstable, NotRecurrent, Shapes, Taken, Text, TooLarge, Read, Write, TooLong, Usage, Narrow, NoSite}
 
 abbrev pub number_of : DeskFault → ℕ
 number_of Side = 1
@@ -29,6 +29,7 @@ number_of Full = 6
 number_of Unstable = 7
 number_of NotRecurrent = 8
 number_of Shapes = 9
+number_of Taken = 17
 number_of (Text place) = 18
 number_of (TooLarge place) = 19
 number_of Read = 20
@@ -47,6 +48,7 @@ name_of Full = codes "Full"
 name_of Unstable = codes "Unstable"
 name_of NotRecurrent = codes "NotRecurrent"
 name_of Shapes = codes "Shapes"
+name_of Taken = codes "Taken"
 name_of (Text place) = codes "Text"
 name_of (TooLarge place) = codes "TooLarge"
 name_of Read = codes "Read"
@@ -66,6 +68,7 @@ place_of Full = []
 place_of Unstable = []
 place_of NotRecurrent = []
 place_of Shapes = []
+place_of Taken = []
 place_of (Text place) = codes " at " ++ decimal place
 place_of (TooLarge place) = codes " at " ++ decimal place
 place_of Read = []
@@ -94,6 +97,7 @@ status_of Full = 1
 status_of Unstable = 1
 status_of NotRecurrent = 1
 status_of Shapes = 1
+status_of Taken = 1
 status_of (Text place) = 1
 status_of (TooLarge place) = 1
 status_of Read = 1

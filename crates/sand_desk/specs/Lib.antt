@@ -4,3 +4,4 @@ pub mod Dropping
 pub mod Faults
 pub mod Group
 pub mod Settling
+pub mod Laboratory

@@ -7,12 +7,13 @@
 ghost use Rattle.std.specs.Prelude.{◌≡◌, ◌≢◌, ◌+◌, ◌≤◌, ◌<◌, true, length, map, string_bytes, IfOk, IfErr, OnOk, IsErrOf};
 ghost use Rattle.sand_text.specs.Flow.{IsFurther, IsFurtherByAtMost, IsOfReading};
 ghost use Rattle.sand_text.specs.declared.flow.TheConstants.{INPUT_LIMIT};
-ghost use Rattle.sand_words.specs.Asked.{asked};
+ghost use Rattle.sand_words.specs.Asked.{IsWithin, asked};
 ghost use Rattle.sand_desk.specs.Commands.{IsTextOf, IsFaultOf, Finds, IsDone, EndsBy, HelpsIfAsked, Takes, reads_input};
 
 use crate::dropping::drops_input;
 use crate::faults::DeskFault;
 use crate::group::{burn_input, identity_text, inverse_input, sum_input};
+use crate::laboratory::lab_input;
 use crate::settling::settle_input;
 use sand_text::{StreamFault, read_all, write_text};
 use sand_words::{Task, task_of};
@@ -36,7 +37,13 @@ fn take_input<R: Read>(alloc: Global, task: Task, reader: &mut R) -> Result<Vec<
 }
 
 // The text that a task writes for an input.
-fn perform(alloc: Global, task: Task, input: &[u8]) -> Result<Vec<u8>, DeskFault>
+fn perform<T: Threads + Sync>(
+    rt: &T,
+    alloc: Global,
+    task: Task,
+    input: &[u8],
+) -> Result<Vec<u8>, DeskFault>
+    requires { IsWithin task }
     ensures text { IfOk result (λ text. IsTextOf task input.now text.items) }
     ensures fault { IfErr result (Finds (IsFaultOf task input.now)) }
 {
@@ -52,6 +59,7 @@ fn perform(alloc: Global, task: Task, input: &[u8]) -> Result<Vec<u8>, DeskFault
         Task::Drops => drops_input(alloc, input),
         Task::Add { pgm } => sum_input(alloc, input, pgm),
         Task::Inverse { pgm } => inverse_input(alloc, input, pgm),
+        Task::Lab { run, journal, pgm } => lab_input(rt, alloc, input, run, journal, pgm),
     }
 }
 
@@ -62,7 +70,7 @@ fn perform(alloc: Global, task: Task, input: &[u8]) -> Result<Vec<u8>, DeskFault
 /// (Read), more than 1,048,576 bytes (TooLong) or want of memory, whichever is met first; the faults of the text; those
 /// of the command; want of memory for the text; a writer that fails (Write, with how many bytes it took).
 pub fn run_command<T: Threads + Sync, R: Read, W: Write>(
-    _rt: &T,
+    rt: &T,
     alloc: Global,
     words: &[String],
     reader: &mut R,
@@ -75,7 +83,7 @@ pub fn run_command<T: Threads + Sync, R: Read, W: Write>(
 {
     let task = task_of(alloc, words)?;
     let input = take_input(alloc, task, reader)?;
-    let text = perform(alloc, task, input.as_slice())?;
+    let text = perform(rt, alloc, task, input.as_slice())?;
     write_text(writer, text.as_slice())?;
     Ok(())
 }

@@ -37,6 +37,8 @@ pub enum DeskFault {
     NotRecurrent,
     #[error("two piles of different shapes")]
     Shapes,
+    #[error("the album's place of an epoch was set before")]
+    Taken,
     /// A byte that stands in no text of a pile, with its offset; or fewer than two numbers, with the text's length.
     #[error("not the text of a pile, at byte {0}")]
     Text(usize),
@@ -73,6 +75,7 @@ impl DeskFault {
             DeskFault::Unstable => 7,
             DeskFault::NotRecurrent => 8,
             DeskFault::Shapes => 9,
+            DeskFault::Taken => 17,
             DeskFault::Text(_) => 18,
             DeskFault::TooLarge(_) => 19,
             DeskFault::Read => 20,
@@ -213,6 +216,7 @@ fn name(fault: &DeskFault) -> &'static str
         DeskFault::Unstable => "Unstable",
         DeskFault::NotRecurrent => "NotRecurrent",
         DeskFault::Shapes => "Shapes",
+        DeskFault::Taken => "Taken",
         DeskFault::Text(_) => "Text",
         DeskFault::TooLarge(_) => "TooLarge",
         DeskFault::Read => "Read",

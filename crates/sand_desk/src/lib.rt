@@ -8,11 +8,14 @@ mod commands;
 mod dropping;
 mod faults;
 mod group;
+mod laboratory;
+pub mod laws;
 mod settling;
 mod texts;
 
 pub use commands::run_command;
 pub use faults::{DeskFault, status, write_fault};
+pub use laboratory::{journal_text, lab_text};
 pub use texts::{
     burn_text, pgm_text, pile_text, read_drops, read_pile, read_two, settle_text, table_text,
 };

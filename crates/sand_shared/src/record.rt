@@ -174,6 +174,7 @@ impl Record {
     pub fn followed_by(&self, alloc: Global, next: &Record) -> Result<Record, SharedFault>
         requires start { next.now.start ≡ self.now.settled.pile }
         requires limit { sum self.now.start.heights + (length self.now.history + length next.now.history) ≤ GRAIN_LIMIT }
+        ensures one_threads { IfOk result IsOneThreads }
         ensures start { IfOk result (λ r. r.start ≡ self.now.start) }
         ensures history { IfOk result (λ r. r.history ≡ self.now.history ++ next.now.history) }
         ensures pile { IfOk result (λ r. r.settled.pile ≡ next.now.settled.pile) }

@@ -5,6 +5,7 @@ pub mod DigitRuns
 pub mod Large
 pub mod Lengths
 pub mod Noting
+pub mod NumberedLines
 pub mod PictureLines
 pub mod Readings
 pub mod Shapes

@@ -5,6 +5,7 @@ pub mod Laws
 pub mod Left
 pub mod Pictures
 pub mod Reading
+pub mod Runs
 pub mod Surveys
 pub mod Tables
 pub mod Texts

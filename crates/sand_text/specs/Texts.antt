@@ -32,7 +32,11 @@ shape_text g = decimal g.width ++ codes " " ++ decimal g.height ++ edge_text g.e
 abbrev pub text_of : PileView → List ℕ
 text_of p = shape_text p.grid ++ sites_text p.grid p.heights
 
+-- how often each site toppled
+abbrev pub odometer_text : Grid → List ℕ → List ℕ
+odometer_text g ns = codes "odometer\n" ++ sites_text g ns
+
 -- the pile, how often each site toppled, and the sums
 abbrev pub settle_text_of : SettledView → List ℕ
-settle_text_of r = text_of r.pile ++ codes "odometer\n" ++ sites_text r.pile.grid r.odometer
+settle_text_of r = text_of r.pile ++ odometer_text r.pile.grid r.odometer
     ++ codes "lost " ++ decimal r.lost ++ codes "\ntopplings " ++ decimal r.topplings ++ codes "\n"

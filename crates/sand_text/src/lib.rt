@@ -1,4 +1,4 @@
-//! Piles, drops and tables as text, and the loops that read and write texts.
+//! Piles, drops, tables and the runs of the laboratory as text, and the loops that read and write texts.
 #![tactic(auto)]
 
 mod burning;
@@ -6,11 +6,13 @@ mod bytes;
 mod drops;
 mod fault;
 mod flow;
+mod journal;
 mod laws;
 mod numbers;
 mod pictures;
 mod piles;
 mod rows;
+mod runs;
 mod survey;
 mod tables;
 mod two_piles;
@@ -20,9 +22,11 @@ pub use burning::burn_text;
 pub use drops::read_drops;
 pub use fault::{ReadFault, StreamFault, TextFault};
 pub use flow::{INPUT_LIMIT, read_all, write_text};
+pub use journal::{push_journal_head, push_journal_line};
 pub use laws::{numbers_are_runs, read_again, strange_byte};
 pub use pictures::{no_long_line, pgm_text};
 pub use piles::{pile_text, read_pile, settle_text};
+pub use runs::{Sums, lab_text};
 pub use tables::table_text;
 pub use two_piles::read_two;
 

@@ -5,7 +5,7 @@ ghost use Rattle.sand_model.specs.declared.pile.TheConstants.{GRAIN_LIMIT};
 ghost use Rattle.sand_model.specs.Grid.{sites};
 ghost use Rattle.sand_text.specs.Words.{words, numbers};
 ghost use Rattle.sand_text.specs.Reading.{Reads, pile_of, heights_on};
-ghost use Rattle.sand_text.specs.Texts.{shape_text, text_of, settle_text_of};
+ghost use Rattle.sand_text.specs.Texts.{shape_text, text_of, odometer_text, settle_text_of};
 
 use crate::fault::{ReadFault, TextFault};
 use crate::numbers::Numbers;
@@ -51,13 +51,33 @@ fn push_shape(text: &mut Vec<u8>, shape: Shape) -> Result<(), AllocError>
     Ok(())
 }
 
+/// Writes a pile's text.
+pub(crate) fn push_pile(text: &mut Vec<u8>, pile: &Pile) -> Result<(), AllocError>
+    ensures { OnOk result (text.new.items ≡ text.old.items ++ text_of pile.now) }
+{
+    push_shape(text, pile.shape())?;
+    push_sites(text, pile.shape(), pile.heights())
+}
+
+/// Writes how often each site toppled, by grid rows.
+pub(crate) fn push_odometer(
+    text: &mut Vec<u8>,
+    shape: Shape,
+    odometer: &[u64],
+) -> Result<(), AllocError>
+    requires { length odometer.now ≡ sites shape }
+    ensures { OnOk result (text.new.items ≡ text.old.items ++ odometer_text shape odometer.now) }
+{
+    text.extend_from_slice(b"odometer\n")?;
+    push_sites(text, shape, odometer)
+}
+
 /// The text of a pile: its sides, with a `c` for a cylinder, and a line of heights for each grid row.
 pub fn pile_text(alloc: Global, pile: &Pile) -> Result<Vec<u8>, AllocError>
     ensures { IfOk result (λ text. text.items ≡ text_of pile.now) }
 {
     let mut text = Vec::new(alloc);
-    push_shape(&mut text, pile.shape())?;
-    push_sites(&mut text, pile.shape(), pile.heights())?;
+    push_pile(&mut text, pile)?;
     Ok(text)
 }
 
@@ -67,8 +87,7 @@ pub fn settle_text(alloc: Global, settled: &Settled) -> Result<Vec<u8>, AllocErr
     ensures { IfOk result (λ text. text.items ≡ settle_text_of settled.now) }
 {
     let mut text = pile_text(alloc, settled.pile())?;
-    text.extend_from_slice(b"odometer\n")?;
-    push_sites(&mut text, settled.pile().shape(), settled.odometers())?;
+    push_odometer(&mut text, settled.pile().shape(), settled.odometers())?;
     text.extend_from_slice(b"lost ")?;
     push_number(&mut text, settled.lost())?;
     text.extend_from_slice(b"\ntopplings ")?;

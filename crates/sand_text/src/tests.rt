@@ -2,7 +2,9 @@
 
 mod burning;
 mod dropping;
+mod journal;
 mod pictures;
 mod reading;
+mod runs;
 mod streams;
 mod two_piles;

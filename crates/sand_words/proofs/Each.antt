@@ -11,6 +11,11 @@ pub each_append : {X : Type 0} (P : X → Type 0) (xs ys : List X) → Each P xs
 each_append P [] ys h k = k
 each_append P (x ∷ xs) ys h k = (h.0, each_append P xs ys h.1 k)
 
+-- two facts of each element
+pub each_both : {X : Type 0} (P Q : X → Type 0) (xs : List X) → Each P xs → Each Q xs → Each (λ x. P x × Q x) xs
+each_both P Q [] h k = tt
+each_both P Q (x ∷ xs) h k = ((h.0, k.0), each_both P Q xs h.1 k.1)
+
 -- what holds of each element holds of the one that is found
 pub each_found : {X : Type 0} (test : X → Bool) (P : X → Type 0) (xs : List X) → Each P xs → IfSome (find test xs) P
 each_found test P [] each = tt

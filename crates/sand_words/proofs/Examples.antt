@@ -5,7 +5,7 @@ use Rattle.clap.specs.declared.error.kind.ErrorKind.TheVariants.{DisplayHelp, In
 use Rattle.clap.proofs.OnLiterals.{clap_on_literals}
 use Rattle.sand_words.specs.Line.{command_line}
 use Rattle.sand_words.specs.Asked.{asked, faults}
-use Rattle.sand_words.specs.declared.words.Task.TheVariants.{Identity, Settle}
+use Rattle.sand_words.specs.declared.words.Task.TheVariants.{Identity, Lab, Settle}
 
 -- `sandpile settle` asks to settle, whatever the program's name
 settle_asks : (program : Text) → asked (program ∷ codes "settle" ∷ []) ≡ Some (Settle false)
@@ -17,6 +17,19 @@ identity_asks : (program : Text)
     → asked (program ∷ codes "identity" ∷ codes "--pgm" ∷ codes "--height" ∷ codes "256" ∷ codes "--width=3" ∷ []) ≡ Some (Identity 3 256 false true)
 unfolding command_line clap_on_literals
 identity_asks program = refl
+
+-- `lab` alone asks for the run of its defaults
+lab_asks : (program : Text) → asked (program ∷ codes "lab" ∷ []) ≡ Some (Lab (record {
+  seed = 0;
+  droppers = 2;
+  drops = 100;
+  epochs = 1;
+  workers = 1;
+  sweeps = 0;
+  observers = 0;
+}) false false)
+unfolding command_line clap_on_literals
+lab_asks program = refl
 
 -- with no word, and with the program's name alone, a command is missing
 no_word : faults [] ≡ MissingSubcommand ∷ []
@@ -50,6 +63,11 @@ side_257 program = refl
 one_side : (program : Text) → faults (program ∷ codes "identity" ∷ codes "--width" ∷ codes "3" ∷ []) ≡ MissingRequiredArgument ∷ []
 unfolding command_line clap_on_literals
 one_side program = refl
+
+-- a setting out of range is refused
+dropper_65 : (program : Text) → faults (program ∷ codes "lab" ∷ codes "--droppers" ∷ codes "65" ∷ []) ≡ ValueValidation ∷ []
+unfolding command_line clap_on_literals
+dropper_65 program = refl
 
 -- a word that is no command is refused, and so is a word after the command
 unknown_command : (program : Text) → faults (program ∷ codes "topple" ∷ []) ≡ UnknownArgument ∷ InvalidSubcommand ∷ []

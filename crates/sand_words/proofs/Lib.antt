@@ -1,14 +1,19 @@
+pub mod Alone
 pub mod Each
 pub mod Entering
 mod Examples
 pub mod Free
 pub mod HelpAlone
 pub mod IdentityLevel
+pub mod LabLevel
 pub mod Lines
 pub mod Passing
 pub mod Reading
-pub mod SideTexts
+pub mod NumberTexts
+pub mod Settings
 pub mod Sides
 pub mod Spelled
 pub mod Stopped
 pub mod Taken
+pub mod Usual
+pub mod Walks

@@ -1,4 +1,4 @@
--- A level of a parse that passes holds a value of each required argument, one that passed its parser.
+-- A level of a parse that passes holds a value of each argument that takes one and has a row, one that passed its parser.
 use Rattle.std.proofs.Common.{◌≡◌, ◌∙◌, ℕ, Bool, true, false, not, cond, ◌&&◌, ◌||◌, zero, suc, List, [], ◌∷◌, ◌++◌, Option, Some, None, is_some, length, min, ◌+◌, refl, sym, ap, subst, fold, true≢false}
 use Rattle.std.specs.Prelude.{IfSome, find, option_and_then, option_map, slice_get}
 use Rattle.std.specs.Option.{option_map_or}
@@ -22,7 +22,8 @@ use Rattle.clap.specs.declared.parser.matches.ValueSource.TheVariants.{CommandLi
 use Rattle.clap.specs.Walk.{Held, Names, Outcome, Row, Rule, Step, Text, Waiting, Walk, action_of, after_flag, after_step, arg_by_id, arg_by_index, arg_by_long, arg_by_short, at_row, attached_value, bundle, bundle_met, bundle_step, count_of, counted, default_rows, done, flag_met, has_long, has_row, has_short, idle, is_empty, is_pending, long_met, long_or_other, most_values, more_values, new_count, next, nothing_held, option, option_met, option_word, plain, plain_word, one_of, positional, pushed, reacted, reading_by, refused, row_text, rows_after, settled, settled_rows, short_met, short_or_plain, subcommand, subcommand_met, subcommand_or_other, takes_several, takes_values, to_positional, trailing, used, used_as, used_by_id, value, waits, walk, walk_from, walked, walked_from, with_count, with_default, with_values, without, word_met}
 use Rattle.clap.specs.Simple.{Shape}
 use Rattle.clap.specs.Faults.{action_fault, bundle_fault, bundle_step_fault, check_fault, default_fault, defaults_fault, flag_word_fault, flags_fault, given_default_fault, level_fault, long_fault, option_fault, other_fault, positional_fault, react_fault, set_fault, settle_fault, short_fault, step_fault, stray_fault, turn_fault, use_fault, values_fault, walk_fault, word_fault}
-use Rattle.sand_words.proofs.Each.{Each, each_append, each_found, of_found}
+use Rattle.sand_words.proofs.Alone.{IsAlone}
+use Rattle.sand_words.proofs.Each.{Each, each_append, each_found}
 use Rattle.sand_words.proofs.Entering.{first_passes, second_passes}
 
 -- ---- rows
@@ -55,7 +56,7 @@ Holds a r = bytes_eq r.id a.id ≡ true → FirstPasses a r.values × (r.reading
 pub record TakesOne (a : Rule) (c : List Rule) : Type 0 where
   pub set : action_of a ≡ Set
   pub one : a.range ≡ Some (record { start_inclusive = 1; end_inclusive = 1 })
-  pub none_else : Each (λ b. bytes_eq b.id a.id ≡ true → b ≡ a) c
+  pub none_else : IsAlone c a
 
 other_id : (a : Rule) (id own : Text) → bytes_eq id a.id ≡ false → bytes_eq own id ≡ true → bytes_eq own a.id ≡ true → ⊥
 other_id a id own other e is = true≢false (sym is ∙ (ap (λ t. bytes_eq t a.id) ((bytes_eq-Decides own id).0 e) ∙ other))
@@ -320,19 +321,31 @@ level_checks s words e =
     let after_walk = second_passes (walk_fault s [] (walk_from nothing_held) words) _ e in
     second_passes (defaults_fault (settled s.rules end).rows s.rules) _ (second_passes (settle_fault s.rules s.args_override_self end) _ after_walk)
 
--- the argument that was given has a first value, which passed
-pub given_passes : (a : Rule) (rows : List Row) → Each (Holds a) rows → is_given a.id rows ≡ true
+-- the argument that has a row has a first value, which passed
+pub row_passes : (a : Rule) (rows : List Row) → Each (Holds a) rows → has_row a.id rows ≡ true
     → (v : Text) × (one_of a.id rows ≡ Some (read_as (reading_by a) v)) × (value_passes a v ≡ true)
-given_passes a rows holds given = go (find (λ r. bytes_eq r.id a.id) rows) refl given
+row_passes a [] holds has = absurd (true≢false (sym has))
+row_passes a (r ∷ rs) holds has = go (row_passes a rs holds.1) (bytes_eq r.id a.id) refl has
   where
-    first : (r : Row) (values : List Text) → r.values ≡ values → FirstPasses a values → r.reading ≡ reading_by a
+    first : (values : List Text) → r.values ≡ values → FirstPasses a values → r.reading ≡ reading_by a
         → (v : Text) × (row_text r ≡ Some (read_as (reading_by a) v)) × (value_passes a v ≡ true)
-    first r [] is passes how = absurd passes
-    first r (v ∷ vs) is passes how = (v, ap (λ xs. option_map (read_as r.reading) (slice_get xs 0)) is ∙ ap (λ x. Some (read_as x v)) how, passes)
+    first [] is passes how = absurd passes
+    first (v ∷ vs) is passes how = (v, ap (λ xs. option_map (read_as r.reading) (slice_get xs 0)) is ∙ ap (λ x. Some (read_as x v)) how, passes)
 
-    go : (o : Option Row) → find (λ r. bytes_eq r.id a.id) rows ≡ o → option_map_or (λ r. explicit_source r.source) o false ≡ true
-        → (v : Text) × (option_and_then row_text o ≡ Some (read_as (reading_by a) v)) × (value_passes a v ≡ true)
-    go None is f = absurd (true≢false (sym f))
-    go (Some r) is f =
-        let held = of_found (λ x. bytes_eq x.id a.id) (λ x. FirstPasses a x.values × (x.reading ≡ reading_by a)) rows r holds is in
-        first r r.values refl held.0 held.1
+    go : (has_row a.id rs ≡ true → (v : Text) × (one_of a.id rs ≡ Some (read_as (reading_by a) v)) × (value_passes a v ≡ true)) → (own : Bool)
+        → bytes_eq r.id a.id ≡ own → (own || has_row a.id rs) ≡ true
+        → (v : Text) × (option_and_then row_text (cond own (Some r) (find (λ x. bytes_eq x.id a.id) rs)) ≡ Some (read_as (reading_by a) v)) × (value_passes a v ≡ true)
+    go later true is f =
+        let held = holds.0 is in
+        first r.values refl held.0 held.1
+    go later false is f = later f
+
+-- the argument that was given has a row
+pub given_has_row : (id : Text) (rows : List Row) → is_given id rows ≡ true → has_row id rows ≡ true
+given_has_row id [] given = given
+given_has_row id (r ∷ rs) given = go (given_has_row id rs) (bytes_eq r.id id) given
+  where
+    go : (is_given id rs ≡ true → has_row id rs ≡ true) → (own : Bool)
+        → option_map_or (λ x. explicit_source x.source) (cond own (Some r) (find (λ x. bytes_eq x.id id) rs)) false ≡ true → (own || has_row id rs) ≡ true
+    go later true f = refl
+    go later false f = later f

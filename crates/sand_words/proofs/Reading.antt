@@ -1,5 +1,5 @@
 -- What clap's getters read, as the options say.
-use Rattle.std.proofs.Common.{◌≡◌, ◌≢◌, ◌∙◌, ℕ, Bool, true, false, cond, Option, Some, None, Result, Ok, Err, codes, refl, sym, ap, arith, ◌≤◌}
+use Rattle.std.proofs.Common.{◌≡◌, ◌≢◌, ◌∙◌, ℕ, Bool, true, false, cond, Option, Some, None, Result, Ok, Err, codes, refl, sym, ap, arith, ◌+◌, ◌^◌, ◌<◌, ◌≤◌}
 use Rattle.std.specs.Prelude.{option_and_then, unwrap_or}
 use Rattle.std.specs.Option.{option_map_or}
 use Rattle.std.specs.Str.{bytes_eq}
@@ -26,35 +26,35 @@ flag_is E (Some t) r none some = go r (some t refl)
     go (Some false) h = ap (λ x. bytes_eq x (codes "true")) (sym h)
     go None (e, h) = not_true (bytes_eq t true_text) refl h.0
 
--- a number that is read as a `usize`
-pub number_is : (E : Type 0) (G : Text → Result ℕ E → Type 0) (text : Option Text) (r : Option ℕ) → ((t : Text) (x : Result ℕ E) → G t x → ParsesUnsigned 64 10 t x)
-    → (text ≡ None → r ≡ None) → ((t : Text) → text ≡ Some t → ReadsOne G t r) → r ≡ option_and_then number_of text
-number_is E G None r only none some = none refl
-number_is E G (Some t) r only none some = go r (some t refl)
+-- a number that is read as a type of so many bits, of which `most` is the greatest number
+pub number_is : (E : Type 0) (G : Text → Result ℕ E → Type 0) (bits most : ℕ) (text : Option Text) (r : Option ℕ) → most + 1 ≡ 2 ^ bits → most < 2 ^ 64
+    → ((t : Text) (x : Result ℕ E) → G t x → ParsesUnsigned bits 10 t x) → (text ≡ None → r ≡ None) → ((t : Text) → text ≡ Some t → ReadsOne G t r)
+    → r ≡ option_and_then (number_of most) text
+number_is E G bits most None r greatest fits only none some = none refl
+number_is E G bits most (Some t) r greatest fits only none some = go r (some t refl)
   where
-    reads : (n : ℕ) (b : Bool) → is_unsigned_in 0 18446744073709551615 t ≡ b → ParsesUnsigned {E = E} 64 10 t (Ok n) → Some n ≡ cond b (Some (value_of t)) None
+    reads : (n : ℕ) (b : Bool) → is_unsigned_in 0 most t ≡ b → ParsesUnsigned {E = E} bits 10 t (Ok n) → Some n ≡ cond b (Some (value_of t)) None
     reads n true is h = ap (λ m. Some m) h.1
     reads n false is h =
-        let low : 0 ≤ value_of t = omega arith in
-        let high : value_of t ≤ 18446744073709551615 = omega (arith, h.0.1) in
-        let bad : true ≡ false = sym (Accepts-accepts false (parser.Unsigned 0 18446744073709551615) t (h.0.0, h.0.1, low, high)) ∙ is in
+        let high : value_of t < most + 1 = rw greatest h.0.1 in
+        let bad : true ≡ false = sym (Accepts-accepts false (parser.Unsigned 0 most) t (h.0.0, omega arith, omega arith, omega arith)) ∙ is in
         cc
 
-    fails : (e : E) (b : Bool) → is_unsigned_in 0 18446744073709551615 t ≡ b → ParsesUnsigned 64 10 t (Err e) → None ≡ cond b (Some (value_of t)) None
+    fails : (e : E) (b : Bool) → is_unsigned_in 0 most t ≡ b → ParsesUnsigned bits 10 t (Err e) → None ≡ cond b (Some (value_of t)) None
     fails e true is h =
-        let parts = accepts-Accepts false (parser.Unsigned 0 18446744073709551615) t is in
-        absurd (h (parts.0, parts.1))
+        let parts = accepts-Accepts false (parser.Unsigned 0 most) t is in
+        let high : value_of t < most + 1 = omega (arith, parts.3) in
+        absurd (h (parts.0, rw (sym greatest) high))
     fails e false is h = refl
 
-    go : (o : Option ℕ) → ReadsOne G t o → o ≡ number_of t
-    go (Some n) h = reads n (is_unsigned_in 0 18446744073709551615 t) refl (only t (Ok n) h)
-    go None (e, h) = fails e (is_unsigned_in 0 18446744073709551615 t) refl (only t (Err e) h)
+    go : (o : Option ℕ) → ReadsOne G t o → o ≡ number_of most t
+    go (Some n) h = reads n (is_unsigned_in 0 most t) refl (only t (Ok n) h)
+    go None (e, h) = fails e (is_unsigned_in 0 most t) refl (only t (Err e) h)
 
--- a text that passed the parser of a side is a number from 1 to 256
-pub side_number : (text : Text) → is_unsigned_in 1 256 text ≡ true → (number_of text ≡ Some (value_of text)) × (1 ≤ value_of text) × (value_of text ≤ 256)
-side_number text passes =
-    let parts = accepts-Accepts false (parser.Unsigned 1 256) text passes in
-    let low : 0 ≤ value_of text = omega arith in
-    let high : value_of text ≤ 18446744073709551615 = omega (arith, parts.3) in
-    let read : is_unsigned_in 0 18446744073709551615 text ≡ true = Accepts-accepts false (parser.Unsigned 0 18446744073709551615) text (parts.0, parts.1, low, high) in
+-- a text that passed the parser of an option is a number in the option's range
+pub passed_number : (least most bound : ℕ) (text : Text) → most ≤ bound → is_unsigned_in least most text ≡ true
+    → (number_of bound text ≡ Some (value_of text)) × (least ≤ value_of text) × (value_of text ≤ most)
+passed_number least most bound text wide passes =
+    let parts = accepts-Accepts false (parser.Unsigned least most) text passes in
+    let read : is_unsigned_in 0 bound text ≡ true = Accepts-accepts false (parser.Unsigned 0 bound) text (parts.0, parts.1, omega arith, omega (arith, parts.3)) in
     (ap (λ b. cond b (Some (value_of text)) None) read, parts.2, parts.3)

@@ -16,6 +16,7 @@ use Rattle.sand_words.specs.declared.fault.WordsFault.TheVariants.{Memory, Usage
 use Rattle.sand_words.proofs.Each.{Each, of_found}
 use Rattle.sand_words.proofs.Entering.{Enters, enters}
 use Rattle.sand_words.proofs.HelpAlone.{help_alone}
+use Rattle.sand_words.proofs.Settings.{lab_is_sound}
 use Rattle.sand_words.proofs.Sides.{IsSound, identity_is_sound}
 use Rattle.sand_words.proofs.Free.{line_is_free, line_is_simple}
 
@@ -63,7 +64,7 @@ shows_help words (Usage error) h usage = (shown, asked_for)
 pub taken_ask : (words : List Text) → faults words ≡ [] → asked words ≡ option_and_then task_named (subcommand_of command_line words)
 taken_ask words none = ap (λ kinds. unless kinds (option_and_then task_named (subcommand_of command_line words))) none
 
--- a command that passes names a task, whose sides are in range
+-- a command that passes names a task, which is within the limits
 abbrev NamesTask : Text × List Text → Shape → Type 0
 NamesTask p s = level_fault s [] nothing_held p.1 false [] ≡ [] → IsSound (task_named (rows_at s p.1))
 
@@ -75,7 +76,10 @@ each_names_task p = (
     λ answers passes. (_, refl, tt),
     (
       λ answers passes. identity_is_sound p.1 passes,
-      (λ answers passes. (_, refl, tt), (λ answers passes. (_, refl, tt), (λ answers passes. (_, refl, tt), tt))),
+      (
+        λ answers passes. (_, refl, tt),
+        (λ answers passes. (_, refl, tt), (λ answers passes. (_, refl, tt), (λ answers passes. lab_is_sound p.1 passes, tt))),
+      ),
     ),
   ),
 )
@@ -84,7 +88,7 @@ wants_command : (built command_line).top.subcommand_required ≡ true
 unfolding command_line
 wants_command = refl
 
--- words with no fault ask for a task, whose sides are in range
+-- words with no fault ask for a task, which is within the limits
 pub taken_are_sound : (words : List Text) → faults words ≡ [] → IsSound (option_and_then task_named (subcommand_of command_line words))
 taken_are_sound words none = go _ (enters (built command_line) (argument_words command_line words) wants_command none)
   where

@@ -1,12 +1,13 @@
 -- What the words ask for.
-use Rattle.std.specs.Prelude.{◌≡◌, ◌≤◌, ⊤, ℕ, List, Option, Some, None, [], ◌∷◌, if◌then◌else◌, codes, option_and_then}
+use Rattle.std.specs.Prelude.{◌≡◌, ◌≤◌, ⊤, ℕ, List, Option, Some, None, [], ◌∷◌, if◌then◌else◌, codes, option_and_then, option_map}
 use Rattle.std.specs.Str.{bytes_eq}
 use Rattle.clap.specs.Words.{Kinds, Row, Text, fault_of, subcommand_of}
 use Rattle.clap.specs.declared.error.kind.ErrorKind.TheVariants.{DisplayHelp}
 use Rattle.sand_words.specs.Line.{command_line}
-use Rattle.sand_words.specs.Options.{flag_in, number_in}
+use Rattle.sand_words.specs.Options.{flag_in, number_in, setting_in}
+use Rattle.sand_words.specs.declared.words.Run.{Run}
 use Rattle.sand_words.specs.declared.words.Task.{Task}
-use Rattle.sand_words.specs.declared.words.Task.TheVariants.{Add, Burn, Drops, Identity, Inverse, Settle}
+use Rattle.sand_words.specs.declared.words.Task.TheVariants.{Add, Burn, Drops, Identity, Inverse, Lab, Settle}
 
 -- the identity of a grid, where both sides are there
 abbrev pub with_sides : List Row → Option ℕ → Option ℕ → Option Task
@@ -18,6 +19,34 @@ with_sides options _ _ = None
 abbrev pub identity_of : List Row → Option Task
 identity_of options = with_sides options (number_in (codes "width") options) (number_in (codes "height") options)
 
+-- the run of the lab, where all settings are there
+abbrev pub with_settings : Option ℕ → Option ℕ → Option ℕ → Option ℕ → Option ℕ → Option ℕ → Option ℕ → Option Run
+with_settings (Some seed) (Some droppers) (Some drops) (Some epochs) (Some workers) (Some sweeps) (Some observers) =
+    Some (record {
+      seed = seed;
+      droppers = droppers;
+      drops = drops;
+      epochs = epochs;
+      workers = workers;
+      sweeps = sweeps;
+      observers = observers;
+    })
+with_settings _ _ _ _ _ _ _ = None
+
+-- the run of the options of `lab`
+abbrev pub run_of : List Row → Option Run
+run_of options = with_settings
+    (setting_in (codes "seed") options) (setting_in (codes "droppers") options)
+    (setting_in (codes "drops") options) (setting_in (codes "epochs") options)
+    (setting_in (codes "workers") options) (setting_in (codes "sweeps") options)
+    (setting_in (codes "observers") options)
+
+-- the task of the options of `lab`
+abbrev pub lab_of : List Row → Option Task
+lab_of options = option_map
+    (λ run. Lab run (flag_in (codes "journal") options) (flag_in (codes "pgm") options))
+    (run_of options)
+
 -- the task of a command's name and its options
 abbrev pub task_named : Text × List Row → Option Task
 task_named (name, options) =
@@ -28,6 +57,7 @@ task_named (name, options) =
     else if bytes_eq name (codes "drops") then Some Drops
     else if bytes_eq name (codes "add") then Some (Add pgm)
     else if bytes_eq name (codes "inverse") then Some (Inverse pgm)
+    else if bytes_eq name (codes "lab") then lab_of options
     else None
 
 -- the kinds of error that clap gives at the words: none where the command line takes them
@@ -47,7 +77,18 @@ asked words = unless (faults words) (option_and_then task_named (subcommand_of c
 abbrev pub AskForHelp : List Text → Type 0
 AskForHelp words = faults words ≡ DisplayHelp ∷ []
 
--- the sides of the grid that is asked for are from 1 to 256
-abbrev pub HasSides : Task → Type 0
-HasSides (Identity width height cylinder pgm) = (1 ≤ width) × (width ≤ 256) × (1 ≤ height) × (height ≤ 256)
-HasSides _ = ⊤
+-- the settings of the run are in their ranges
+pub record IsRun (run : Run) : Type 0 where
+  pub seed : run.seed ≤ 4294967295
+  pub droppers : (1 ≤ run.droppers) × (run.droppers ≤ 64)
+  pub drops : run.drops ≤ 1000000
+  pub epochs : (1 ≤ run.epochs) × (run.epochs ≤ 100)
+  pub workers : (1 ≤ run.workers) × (run.workers ≤ 16)
+  pub sweeps : run.sweeps ≤ 1000
+  pub observers : run.observers ≤ 16
+
+-- the task is within the limits: the sides of a grid are from 1 to 256, the settings of a run in their ranges
+abbrev pub IsWithin : Task → Type 0
+IsWithin (Identity width height cylinder pgm) = (1 ≤ width) × (width ≤ 256) × (1 ≤ height) × (height ≤ 256)
+IsWithin (Lab run journal pgm) = IsRun run
+IsWithin _ = ⊤

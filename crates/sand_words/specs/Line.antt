@@ -21,6 +21,10 @@ number name least most = record (new_rule name) {
 abbrev pub side : Text → Rule
 side name = record (number name 1 256) { required = true }
 
+-- an option with a number that is `usual` where it isn't given
+abbrev pub setting : Text → ℕ → ℕ → Text → Rule
+setting name least most usual = record (number name least most) { defaults = usual ∷ [] }
+
 -- a command with no options
 abbrev pub bare_line : Text → App
 bare_line name = new_app name
@@ -34,6 +38,19 @@ abbrev pub identity_line : App
 identity_line = fold with_rule (bare_line (codes "identity"))
     (side (codes "width") ∷ side (codes "height") ∷ flag (codes "cylinder") ∷ flag (codes "pgm") ∷ [])
 
+-- `lab`, with the settings of its run
+abbrev pub lab_line : App
+lab_line = fold with_rule (bare_line (codes "lab")) (
+    setting (codes "seed") 0 4294967295 (codes "0")
+    ∷ setting (codes "droppers") 1 64 (codes "2")
+    ∷ setting (codes "drops") 0 1000000 (codes "100")
+    ∷ setting (codes "epochs") 1 100 (codes "1")
+    ∷ setting (codes "workers") 1 16 (codes "1")
+    ∷ setting (codes "sweeps") 0 1000 (codes "0")
+    ∷ setting (codes "observers") 0 16 (codes "0")
+    ∷ flag (codes "journal") ∷ flag (codes "pgm") ∷ []
+    )
+
 -- words that name no command are refused, and `help` names none
 abbrev pub wanting_command : App → App
 wanting_command line = on_top (λ s. record s { subcommand_required = true; disable_help_subcommand = true }) line
@@ -46,5 +63,5 @@ or_command line command = with_subcommand line command.top
 unfoldable pub command_line : App
 command_line = fold or_command (wanting_command (bare_line (codes "sandpile"))) (
     pgm_line (codes "settle") ∷ bare_line (codes "burn") ∷ identity_line
-    ∷ bare_line (codes "drops") ∷ pgm_line (codes "add") ∷ pgm_line (codes "inverse") ∷ []
+    ∷ bare_line (codes "drops") ∷ pgm_line (codes "add") ∷ pgm_line (codes "inverse") ∷ lab_line ∷ []
     )

@@ -14,10 +14,14 @@ flag_in name options = option_map_or (λ text. bytes_eq text (codes "true")) (on
 abbrev pub value_of : Text → ℕ
 value_of text = digits_value 10 (without_leading_plus text)
 
--- the number that the text writes, where it is a `usize`
-abbrev pub number_of : Text → Option ℕ
-number_of text = if is_unsigned_in 0 18446744073709551615 text then Some (value_of text) else None
+-- the number that the text writes, where it is at most `most`
+abbrev pub number_of : ℕ → Text → Option ℕ
+number_of most text = if is_unsigned_in 0 most text then Some (value_of text) else None
 
--- the number that the option carries
+-- the number that the option carries, a `usize`
 abbrev pub number_in : Text → List Row → Option ℕ
-number_in name options = option_and_then number_of (one_of name options)
+number_in name options = option_and_then (number_of 18446744073709551615) (one_of name options)
+
+-- the number of the setting, a `u32`
+abbrev pub setting_in : Text → List Row → Option ℕ
+setting_in name options = option_and_then (number_of 4294967295) (one_of name options)

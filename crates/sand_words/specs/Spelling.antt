@@ -1,15 +1,24 @@
 -- The words that spell a task, written out by hand.
 use Rattle.std.specs.Prelude.{◌≡◌, Bool, List, [], ◌∷◌, ◌++◌, MatchResult, Result, if◌then◌else◌, codes, decimal}
 use Rattle.clap.specs.Words.{Text}
-use Rattle.sand_words.specs.Asked.{HasSides}
+use Rattle.sand_words.specs.Asked.{IsWithin}
 use Rattle.sand_words.specs.declared.fault.WordsFault.{WordsFault}
 use Rattle.sand_words.specs.declared.fault.WordsFault.TheVariants.{Memory}
+use Rattle.sand_words.specs.declared.words.Run.{Run}
 use Rattle.sand_words.specs.declared.words.Task.{Task}
-use Rattle.sand_words.specs.declared.words.Task.TheVariants.{Add, Burn, Drops, Identity, Inverse, Settle}
+use Rattle.sand_words.specs.declared.words.Task.TheVariants.{Add, Burn, Drops, Identity, Inverse, Lab, Settle}
 
 -- a flag, where it is wanted
 abbrev pub flag_words : Text → Bool → List Text
 flag_words flag wanted = if wanted then flag ∷ [] else []
+
+-- the settings of a run
+abbrev pub settings_of : Run → List Text
+settings_of run =
+    codes "--seed" ∷ decimal run.seed ∷ codes "--droppers" ∷ decimal run.droppers
+    ∷ codes "--drops" ∷ decimal run.drops ∷ codes "--epochs" ∷ decimal run.epochs
+    ∷ codes "--workers" ∷ decimal run.workers ∷ codes "--sweeps" ∷ decimal run.sweeps
+    ∷ codes "--observers" ∷ decimal run.observers ∷ []
 
 -- what stands behind the program's name
 abbrev pub words_of : Task → List Text
@@ -21,8 +30,10 @@ words_of (Identity width height cylinder pgm) =
 words_of Drops = codes "drops" ∷ []
 words_of (Add pgm) = codes "add" ∷ flag_words (codes "--pgm") pgm
 words_of (Inverse pgm) = codes "inverse" ∷ flag_words (codes "--pgm") pgm
+words_of (Lab run journal pgm) =
+    codes "lab" ∷ (settings_of run ++ (flag_words (codes "--journal") journal ++ flag_words (codes "--pgm") pgm))
 
 -- words that spell a task, whatever the program's name, are answered with that task, but for want of memory
 abbrev pub Heeds : List Text → Result Task WordsFault → Type 0
-Heeds words answer = (program : Text) (task : Task) → HasSides task → words ≡ program ∷ words_of task
+Heeds words answer = (program : Text) (task : Task) → IsWithin task → words ≡ program ∷ words_of task
     → MatchResult answer (λ t. t ≡ task) (λ fault. fault ≡ Memory)

@@ -177,3 +177,39 @@ Example:
   2 1
   0 2",
 };
+
+pub(crate) const LAB: Help = Help {
+    about: "Drops grains on a pile by many threads at once, in epochs",
+    details: "\
+Input: a pile, as numbers with white space between: its width, its height, and
+  the grains of each site, row by row. A letter c behind the height makes it a
+  cylinder, whose rows go round.
+
+Output: a table with a line for each epoch: its number, from 0; its drops; its
+  topplings; the grains that left the grid (lost); the grains on the pile after
+  it. Then 'total' with the same of all epochs; the pile after the last epoch;
+  the line 'odometer', and how often each site toppled. With --journal then the
+  line 'journal', and for each drop its epoch, its number in the epoch, its
+  dropper and its site. With --pgm only a picture of the pile.
+
+Threads: in each epoch droppers drop grains while workers topple bands of rows
+  and observers count the drops. Dropper k of epoch t drops at the sites of
+  ChaCha8 stream t*64 + k of the seed. Of the numbers, seed, droppers, drops and
+  epochs alone decide what is written, but for the order within the journal,
+  however many threads there are.
+
+Limits: width and height from 1 to 256, a cylinder at least 3 wide; at most
+  1,099,511,627,775 grains, drops included; at most 1,048,576 bytes of input.
+
+Example:
+
+  $ echo '1 1  0' | sandpile lab --droppers 2 --drops 3 --epochs 2
+  epoch drops topplings lost grains
+  0 6 1 4 2
+  1 6 2 8 0
+  total 12 3 12 0
+  1 1
+  0
+  odometer
+  3",
+};

@@ -8,7 +8,7 @@ mod options;
 mod words;
 
 pub use fault::WordsFault;
-pub use words::{Task, task_of};
+pub use words::{Run, Task, task_of};
 
 #[cfg(test)]
 mod tests;

@@ -3,7 +3,7 @@
 ghost use Rattle.std.specs.Prelude.{◌≡◌, IfOk, codes, false};
 ghost use Rattle.clap.specs.Words.{app_of, rule_of};
 ghost use Rattle.clap.specs.declared.builder.command.Command.TheViews.{out-Command};
-ghost use Rattle.sand_words.specs.Line.{bare_line, command_line, flag, identity_line, number, pgm_line, side};
+ghost use Rattle.sand_words.specs.Line.{bare_line, command_line, flag, identity_line, lab_line, number, pgm_line, setting, side};
 
 use crate::help::{self, Help};
 use clap::builder::ValueParser;
@@ -41,6 +41,21 @@ fn side<'a>(alloc: Global, name: &'a str, about: &'static str) -> Arg<'a>
     number(alloc, name, 1, 256, about).required(true)
 }
 
+// An option with a number that is `usual` where it isn't given.
+fn setting<'a>(
+    alloc: Global,
+    name: &'a str,
+    least: u64,
+    most: u64,
+    usual: &'static str,
+    about: &'static str,
+) -> Arg<'a>
+    ensures rule { rule_of result ≡ setting name.entry.now least most usual.now }
+    ensures local { result.global ≡ false }
+{
+    number(alloc, name, least, most, about).default_value(usual)
+}
+
 fn pgm<'a>(alloc: Global) -> Arg<'a>
     ensures rule { rule_of result ≡ flag (codes "pgm") }
     ensures local { result.global ≡ false }
@@ -76,6 +91,36 @@ fn identity_line<'a>(alloc: Global) -> Result<Command<'a>, AllocError>
         .arg(pgm(alloc))
 }
 
+fn lab_line<'a>(alloc: Global) -> Result<Command<'a>, AllocError>
+    ensures line { IfOk result (λ c. app_of c ≡ lab_line) }
+    ensures local { IfOk result (λ c. (out-Command c).has_globals ≡ false) }
+{
+    let seed = setting(alloc, "seed", 0, 4294967295, "0", "Seed, up to 4294967295");
+    let droppers = setting(alloc, "droppers", 1, 64, "2", "Droppers, from 1 to 64");
+    let drops = setting(
+        alloc,
+        "drops",
+        0,
+        1000000,
+        "100",
+        "Drops of each, up to 1000000",
+    );
+    let epochs = setting(alloc, "epochs", 1, 100, "1", "Epochs, from 1 to 100");
+    let workers = setting(alloc, "workers", 1, 16, "1", "Workers, from 1 to 16");
+    let sweeps = setting(alloc, "sweeps", 0, 1000, "0", "Sweeps of each, up to 1000");
+    let observers = setting(alloc, "observers", 0, 16, "0", "Observers, up to 16");
+    bare_line(alloc, "lab", help::LAB)
+        .arg(seed)?
+        .arg(droppers)?
+        .arg(drops)?
+        .arg(epochs)?
+        .arg(workers)?
+        .arg(sweeps)?
+        .arg(observers)?
+        .arg(flag(alloc, "journal", "Write a line for each drop, too"))?
+        .arg(pgm(alloc))
+}
+
 /// The command line of `sandpile`.
 pub(crate) fn command_line<'a>(alloc: Global) -> Result<Command<'a>, AllocError>
     ensures { IfOk result (λ c. app_of c ≡ command_line) }
@@ -88,5 +133,6 @@ pub(crate) fn command_line<'a>(alloc: Global) -> Result<Command<'a>, AllocError>
         .subcommand(identity_line(alloc)?)?
         .subcommand(bare_line(alloc, "drops", help::DROPS))?
         .subcommand(pgm_line(alloc, "add", help::ADD)?)?
-        .subcommand(pgm_line(alloc, "inverse", help::INVERSE)?)
+        .subcommand(pgm_line(alloc, "inverse", help::INVERSE)?)?
+        .subcommand(lab_line(alloc)?)
 }

@@ -2,7 +2,7 @@
 
 ghost use Rattle.std.specs.Prelude.{◌≡◌};
 ghost use Rattle.clap.specs.Words.{found_of, rows_of};
-ghost use Rattle.sand_words.specs.Options.{flag_in, number_in};
+ghost use Rattle.sand_words.specs.Options.{flag_in, number_in, setting_in};
 
 use clap::ArgMatches;
 
@@ -18,4 +18,11 @@ pub(crate) fn number_in(options: &ArgMatches<'_>, name: &str) -> Option<usize>
     ensures { result ≡ number_in name.now (rows_of (found_of options.now)) }
 {
     options.get_one::<usize>(name)
+}
+
+/// The number of the setting.
+pub(crate) fn setting_in(options: &ArgMatches<'_>, name: &str) -> Option<u32>
+    ensures { result ≡ setting_in name.now (rows_of (found_of options.now)) }
+{
+    options.get_one::<u32>(name)
 }

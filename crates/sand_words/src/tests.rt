@@ -1,4 +1,4 @@
-use crate::{Task, WordsFault, task_of};
+use crate::{Run, Task, WordsFault, task_of};
 use std::test::Fail;
 
 // What the words of a line come to: a task, or clap's text and whether that is for the standard error.
@@ -71,6 +71,80 @@ fn asks_for_identities(rt: HostRuntime) -> Result<(), Fail> {
     Ok(())
 }
 
+// The run where no setting is given.
+const USUAL: Run = Run {
+    seed: 0,
+    droppers: 2,
+    drops: 100,
+    epochs: 1,
+    workers: 1,
+    sweeps: 0,
+    observers: 0,
+};
+
+#[test]
+fn asks_for_runs(rt: HostRuntime) -> Result<(), Fail> {
+    let rows = [
+        ("", USUAL, false, false),
+        (" --journal", USUAL, true, false),
+        (" --pgm --journal", USUAL, true, true),
+        (
+            " --drops 3 --epochs=2 --pgm",
+            Run {
+                drops: 3,
+                epochs: 2,
+                ..USUAL
+            },
+            false,
+            true,
+        ),
+        (
+            " --observers 16 --seed 4294967295",
+            Run {
+                observers: 16,
+                seed: 4294967295,
+                ..USUAL
+            },
+            false,
+            false,
+        ),
+        (
+            " --sweeps 1000 --workers 16 --epochs 100 --drops 1000000 --droppers 64",
+            Run {
+                droppers: 64,
+                drops: 1000000,
+                epochs: 100,
+                workers: 16,
+                sweeps: 1000,
+                ..USUAL
+            },
+            false,
+            false,
+        ),
+        (
+            " --drops 0 --droppers +1 --workers 02",
+            Run {
+                droppers: 1,
+                drops: 0,
+                workers: 2,
+                ..USUAL
+            },
+            false,
+            false,
+        ),
+    ];
+    for (options, run, journal, pgm) in rows {
+        let line = format!(in rt.alloc(); "sandpile lab{options}")?;
+        let task = Task::Lab { run, journal, pgm };
+        assert_eq!(rt;
+            answer_to(&rt, line.as_str())?,
+            Answer::Asked(task),
+            "{options}"
+        );
+    }
+    Ok(())
+}
+
 #[test]
 fn tells_misuse(rt: HostRuntime) -> Result<(), Fail> {
     let rows = [
@@ -101,6 +175,22 @@ fn tells_misuse(rt: HostRuntime) -> Result<(), Fail> {
         "sandpile identity --width  --height 2",
         "sandpile identity --width 3 --height 2 --width 3",
         "sandpile identity --width 18446744073709551617 --height 2",
+        "sandpile lab twice",
+        "sandpile lab --cylinder",
+        "sandpile lab --journal --journal",
+        "sandpile lab --seed 1 --seed 1",
+        "sandpile lab --seed 4294967296",
+        "sandpile lab --seed -1",
+        "sandpile lab --seed",
+        "sandpile lab --droppers 0",
+        "sandpile lab --droppers 65",
+        "sandpile lab --drops 1000001",
+        "sandpile lab --epochs 0",
+        "sandpile lab --epochs 101",
+        "sandpile lab --workers 0",
+        "sandpile lab --workers 17",
+        "sandpile lab --sweeps 1001",
+        "sandpile lab --observers 17",
     ];
     for line in rows {
         assert!(rt;
@@ -146,6 +236,10 @@ fn helps(rt: HostRuntime) -> Result<(), Fail> {
             "'2 1  3 1  2 1  3 3' | sandpile add\n  2 1\n  3 1\n",
         ),
         ("inverse ", "'2 1  3 1' | sandpile inverse\n  2 1\n  0 2\n"),
+        (
+            "lab ",
+            "'1 1  0' | sandpile lab --droppers 2 --drops 3 --epochs 2\n  epoch drops topplings lost grains\n  0 6 1 4 2\n  1 6 2 8 0\n  total 12 3 12 0\n  1 1\n  0\n  odometer\n  3\n",
+        ),
         ("", "'3 1  0 4 0' | sandpile settle\n  3 1\n  1 0 1\n"),
     ];
     let parts = [
@@ -170,7 +264,10 @@ fn helps(rt: HostRuntime) -> Result<(), Fail> {
 #[test]
 fn lists_the_commands(rt: HostRuntime) -> Result<(), Fail> {
     let text = help(&rt, "sandpile --help")?;
-    for command in ["settle", "burn", "identity", "drops", "add", "inverse"] {
+    let commands = [
+        "settle", "burn", "identity", "drops", "add", "inverse", "lab",
+    ];
+    for command in commands {
         let line = format!(in rt.alloc(); "\n  {command} ")?;
         assert!(rt; text.contains(line.as_str()), "{command}: {text}");
     }
@@ -212,5 +309,26 @@ Example:
   topplings 1
 "
     );
+    Ok(())
+}
+
+#[test]
+fn help_of_lab(rt: HostRuntime) -> Result<(), Fail> {
+    let text = help(&rt, "sandpile lab --help")?;
+    let options = "\
+Usage: sandpile lab [OPTIONS]
+
+Options:
+      --seed <seed>            Seed, up to 4294967295 [default: 0]
+      --droppers <droppers>    Droppers, from 1 to 64 [default: 2]
+      --drops <drops>          Drops of each, up to 1000000 [default: 100]
+      --epochs <epochs>        Epochs, from 1 to 100 [default: 1]
+      --workers <workers>      Workers, from 1 to 16 [default: 1]
+      --sweeps <sweeps>        Sweeps of each, up to 1000 [default: 0]
+      --observers <observers>  Observers, up to 16 [default: 0]
+      --journal                Write a line for each drop, too
+      --pgm                    Write a picture (plain PGM), not text
+";
+    assert!(rt; text.contains(options), "{text}");
     Ok(())
 }

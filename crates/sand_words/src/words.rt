@@ -2,15 +2,34 @@
 
 ghost use Rattle.std.specs.Prelude.{◌≡◌, ◌↔◌, IfErr, IfOk, Some, None, map, option_and_then, string_bytes};
 ghost use Rattle.clap.specs.Words.{found_of, rows_of, subcommand_rows_of};
-ghost use Rattle.sand_words.specs.Asked.{AskForHelp, HasSides, asked, faults, identity_of, task_named};
+ghost use Rattle.sand_words.specs.Asked.{AskForHelp, IsWithin, asked, faults, identity_of, run_of, task_named};
 ghost use Rattle.sand_words.specs.Spelling.{Heeds};
 ghost use Rattle.sand_words.specs.Fault.{IsOfKinds, IsUsage, ShowsHelp};
 
 use crate::fault::WordsFault;
 use crate::line::command_line;
-use crate::options::{flag_in, number_in};
+use crate::options::{flag_in, number_in, setting_in};
 use clap::ArgMatches;
 use std::alloc::Global;
+
+/// A run of the lab: what it drops, and by how many threads.
+#[derive(Clone, Copy, Debug, PartialEq, Eq)]
+pub struct Run {
+    /// The seed of the droppers' streams, at most 4,294,967,295.
+    pub seed: u64,
+    /// Droppers in each epoch, from 1 to 64.
+    pub droppers: u32,
+    /// Drops of each dropper in an epoch, at most 1,000,000.
+    pub drops: u32,
+    /// Epochs, from 1 to 100.
+    pub epochs: u32,
+    /// Workers in each epoch, from 1 to 16.
+    pub workers: u32,
+    /// Sweeps of each worker beside the droppers, at most 1,000.
+    pub sweeps: u32,
+    /// Observers in each epoch, at most 16.
+    pub observers: u32,
+}
 
 /// What is to be done. `pgm` asks for a picture in place of text.
 #[derive(Clone, Copy, Debug, PartialEq, Eq)]
@@ -38,6 +57,12 @@ pub enum Task {
     Inverse {
         pgm: bool,
     },
+    /// Drops grains on a pile by many threads at once. `journal` asks for a line for each drop.
+    Lab {
+        run: Run,
+        journal: bool,
+        pgm: bool,
+    },
 }
 
 fn identity_of(options: &ArgMatches<'_>) -> Option<Task>
@@ -53,6 +78,20 @@ fn identity_of(options: &ArgMatches<'_>) -> Option<Task>
     })
 }
 
+fn run_of(options: &ArgMatches<'_>) -> Option<Run>
+    ensures { result ≡ run_of (rows_of (found_of options.now)) }
+{
+    Some(Run {
+        seed: u64::from(setting_in(options, "seed")?),
+        droppers: setting_in(options, "droppers")?,
+        drops: setting_in(options, "drops")?,
+        epochs: setting_in(options, "epochs")?,
+        workers: setting_in(options, "workers")?,
+        sweeps: setting_in(options, "sweeps")?,
+        observers: setting_in(options, "observers")?,
+    })
+}
+
 fn task_named(name: &str, options: &ArgMatches<'_>) -> Option<Task>
     ensures { result ≡ task_named (name.now, rows_of (found_of options.now)) }
 {
@@ -64,6 +103,11 @@ fn task_named(name: &str, options: &ArgMatches<'_>) -> Option<Task>
         "drops" => Some(Task::Drops),
         "add" => Some(Task::Add { pgm }),
         "inverse" => Some(Task::Inverse { pgm }),
+        "lab" => Some(Task::Lab {
+            run: run_of(options)?,
+            journal: flag_in(options, "journal"),
+            pgm,
+        }),
         _ => None,
     }
 }
@@ -80,7 +124,7 @@ fn chosen(matches: &ArgMatches<'_>) -> Option<Task>
 pub fn task_of<'a>(alloc: Global, words: &'a [String]) -> Result<Task, WordsFault>
     ensures ok { IfOk result (λ t. asked (map string_bytes words.now) ≡ Some t) }
     ensures spelled { Heeds (map string_bytes words.now) result }
-    ensures sides { IfOk result HasSides }
+    ensures limits { IfOk result IsWithin }
     ensures refused { IfErr result (λ e. IsUsage e → asked (map string_bytes words.now) ≡ None) }
     ensures kind { IfErr result (IsOfKinds (faults (map string_bytes words.now))) }
     ensures help { IfErr result (λ e. IsUsage e → (ShowsHelp e ↔ AskForHelp (map string_bytes words.now))) }

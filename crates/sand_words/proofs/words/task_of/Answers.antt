@@ -1,7 +1,7 @@
 use Rattle.std.proofs.Common.{◌≡◌, ◌∙◌, None, Some, ap, subst, sym}
 use Rattle.std.specs.Prelude.{option_and_then}
 use Rattle.std.proofs.lemmas.Result.{err_from_is_err_and}
-use Rattle.sand_words.specs.Asked.{HasSides, task_named}
+use Rattle.sand_words.specs.Asked.{IsWithin, task_named}
 use Rattle.sand_words.proofs.Spelled.{heeds_by_fault, heeds_by_task}
 use Rattle.sand_words.proofs.Taken.{fails_by_kind, names, refused_ask_nothing, shows_help, taken, taken_are_sound, taken_ask}
 use Rattle.sand_words.proofs.words.task_of.Goals as goal
@@ -14,7 +14,7 @@ returns-in_err-matches c =
     rw fault.1 (record {
       ok = tt;
       spelled = heeds_by_fault _ fault.0 nothing;
-      sides = tt;
+      limits = tt;
       refused = nothing;
       kind = kinds;
       help = shows_help _ fault.0 kinds;
@@ -40,7 +40,7 @@ returns c =
     record {
       ok = is;
       spelled = heeds_by_task _ _ is;
-      sides = subst HasSides task_is sound.2;
+      limits = subst IsWithin task_is sound.2;
       refused = tt;
       kind = tt;
       help = tt;

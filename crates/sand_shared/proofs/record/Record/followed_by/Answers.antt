@@ -39,3 +39,6 @@ invariant_of-result c =
     let gone : c.self.inside.lost + c.next.inside.lost ≡ r.settled.lost + q.settled.lost = λ i. (c.self.view_is i).settled.lost + (c.next.view_is i).settled.lost in
     subst IsOneThreads (λ i. record { start = sym start i; history = sym history i; settled = record { pile = sym pile i; odometer = sums; topplings = sym tops i; lost = sym gone i } })
     (followed r q one next c.requires.start c.requires.limit sums long each)
+
+pub returns-clause-one_threads : goal.returns-clause-one_threads
+returns-clause-one_threads c = invariant_of-result c

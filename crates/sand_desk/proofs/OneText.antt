@@ -1,0 +1,46 @@
+-- What two runs that ask for the same write is the same.
+use Rattle.std.proofs.Common.{◌≡◌, ℕ, Bool, true, false, List, [], ◌++◌, map, sum, sym, ap, ap₂, ◌∙◌, subst}
+use Rattle.std.specs.Prelude.{Result, Ok, Err}
+use Rattle.std.proofs.lemmas.Simd.{map-map}
+use Rattle.sand_model.specs.Piles.{PileView}
+use Rattle.sand_settle.specs.Drops.{OneView}
+use Rattle.sand_shared.specs.Record.{one_of}
+use Rattle.sand_text.specs.declared.fault.TextFault.{TextFault}
+use Rattle.sand_text.specs.declared.runs.Sums.{Sums}
+use Rattle.sand_text.specs.Pictures.{pgm_text_of}
+use Rattle.sand_text.specs.Runs.{lab_text_of}
+use Rattle.sand_lab.specs.Laws.{AreAlike, OneOutcome}
+use Rattle.sand_lab.specs.Reports.{ReportView, IsReport}
+use Rattle.sand_desk.specs.Laboratory.{sums_of, lab_text_of_report, report_text_of, OneLabText}
+
+-- the sums of a pile of one thread
+sums_of_one : OneView → Sums
+sums_of_one o = record { drops = o.number; topplings = o.settled.topplings; lost = o.settled.lost; grains = sum o.settled.pile.heights }
+
+-- what a report shows is what its piles of one thread show
+shown : List OneView → OneView → List ℕ
+shown ones total = lab_text_of (map sums_of_one ones) (sums_of_one total) total.settled.pile total.settled.odometer
+
+text_shown : (p : ReportView) → lab_text_of_report p ≡ shown (map one_of p.records) (one_of p.total)
+unfolding shown sums_of_one
+text_shown p = ap (λ sums. lab_text_of sums (sums_of p.total) p.total.settled.pile p.total.settled.odometer) (sym (map-map sums_of_one one_of p.records))
+
+same_text : (pgm : Bool) (p q : ReportView) → AreAlike p q → report_text_of false pgm p ≡ report_text_of false pgm q
+same_text true p q alike = ap (λ (o : OneView). pgm_text_of o.settled.pile) alike.total
+same_text false p q alike = ap (λ text. text ++ []) (text_shown p ∙ ap₂ shown alike.epochs alike.total ∙ sym (text_shown q))
+
+-- what was read, where something was
+read_or : PileView → Result PileView TextFault → PileView
+read_or p (Ok q) = q
+read_or p (Err e) = p
+
+-- two readings that are one hold one pile
+same_start : (p q : PileView) → ◌≡◌ {A = Result PileView TextFault} (Ok p) (Ok q) → p ≡ q
+unfolding read_or
+same_start p q e = ap (read_or p) e
+
+pub one_text : OneOutcome → OneLabText
+one_text one_outcome w v pgm input one other asks a b =
+    let starts : a.start ≡ b.start = same_start a.start b.start (sym a.read ∙ b.read) in
+    let left : IsReport b.album v a.start b.report = subst (λ (x : PileView). IsReport b.album v x b.report) (sym starts) b.left in
+    a.written ∙ same_text pgm a.report b.report (one_outcome a.album b.album w v a.start a.report b.report asks a.left left) ∙ sym b.written

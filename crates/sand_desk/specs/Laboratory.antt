@@ -1,0 +1,58 @@
+-- What `lab` writes.
+use Rattle.std.specs.Prelude.{ℕ, ◌≡◌, ◌+◌, ◌<◌, Bool, false, List, [], ◌++◌, length, map, sum, Ok, if◌then◌else◌}
+use Rattle.sand_model.specs.declared.pile.TheConstants.{GRAIN_LIMIT}
+use Rattle.sand_model.specs.Piles.{PileView}
+use Rattle.sand_shared.specs.Record.{RecordView}
+use Rattle.sand_text.specs.declared.runs.Sums.{Sums}
+use Rattle.sand_text.specs.Pictures.{pgm_text_of}
+use Rattle.sand_text.specs.Reading.{pile_of}
+use Rattle.sand_text.specs.Runs.{lab_text_of, journal_text_of}
+use Rattle.sand_words.specs.declared.words.Run.{Run}
+use Rattle.sand_lab.specs.declared.journal.Entry.{Entry}
+use Rattle.sand_lab.specs.declared.plan.Wish.{Wish}
+use Rattle.sand_lab.specs.Laws.{AskTheSame}
+use Rattle.sand_lab.specs.Plans.{all_drops}
+use Rattle.sand_lab.specs.Reports.{SheetView, ReportView, IsReport}
+
+-- the run that is asked for, as the laboratory has it
+abbrev pub wish_of : Run → Wish
+wish_of r = record { seed = r.seed; droppers = r.droppers; drops = r.drops; epochs = r.epochs; workers = r.workers; sweeps = r.sweeps; observers = r.observers }
+
+-- what a record came to
+abbrev pub sums_of : RecordView → Sums
+sums_of r = record { drops = length r.history; topplings = r.settled.topplings; lost = r.settled.lost; grains = sum r.settled.pile.heights }
+
+-- the sums of each epoch and of all, the last pile, and how often each site toppled
+abbrev pub lab_text_of_report : ReportView → List ℕ
+lab_text_of_report p = lab_text_of (map sums_of p.records) (sums_of p.total) p.total.settled.pile p.total.settled.odometer
+
+abbrev pub dropper_and_site : Entry → ℕ × ℕ
+dropper_and_site e = (e.dropper, e.site)
+
+-- a line for each drop, by epoch and by number
+abbrev pub journal_text_of_report : ReportView → List ℕ
+journal_text_of_report p = journal_text_of (map (λ (s : SheetView). map dropper_and_site s.journal) p.sheets)
+
+-- the text, with the journal where that is wanted, or the last pile as a picture
+abbrev pub report_text_of : Bool → Bool → ReportView → List ℕ
+report_text_of journal pgm p =
+    if pgm then pgm_text_of p.total.settled.pile else lab_text_of_report p ++ (if journal then journal_text_of_report p else [])
+
+-- the text of some report of the run that is wished for, from the pile that the input holds
+pub record IsLabText (w : Wish) (journal pgm : Bool) (input text : List ℕ) : Type 0 where
+  pub start : PileView
+  pub album : List ℕ
+  pub report : ReportView
+  pub read : pile_of input ≡ Ok start
+  pub left : IsReport album w start report
+  pub written : text ≡ report_text_of journal pgm report
+
+-- without its journal there is one text for an input, a seed, and numbers of droppers, drops and epochs
+abbrev pub OneLabText : Type 0
+OneLabText = (w v : Wish) (pgm : Bool) (input one other : List ℕ) → AskTheSame w v → IsLabText w false pgm input one → IsLabText v false pgm input other → one ≡ other
+
+-- the grains of the pile, with all drops, exceed the limit
+pub record IsOvergrown (w : Wish) (input : List ℕ) : Type 0 where
+  pub start : PileView
+  pub read : pile_of input ≡ Ok start
+  pub over : GRAIN_LIMIT < sum start.heights + all_drops w

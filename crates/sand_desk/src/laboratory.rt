@@ -1,0 +1,173 @@
+//! The command `lab`, and the texts of a report.
+
+ghost use Rattle.std.specs.Prelude.{ℕ, ◌≡◌, ◌+◌, ◌++◌, List, map, sum, IfOk, IfErr, OnOk, IsOkUnless};
+ghost use Rattle.sand_shared.specs.Record.{IsOneThreads};
+ghost use Rattle.sand_text.specs.Runs.{journal_lines};
+ghost use Rattle.sand_words.specs.Asked.{IsRun};
+ghost use Rattle.sand_lab.specs.Plans.{all_drops};
+ghost use Rattle.sand_lab.specs.Reports.{IsReport};
+ghost use Rattle.sand_desk.specs.Commands.{IsLabFault, IsRunFault, Finds};
+ghost use Rattle.sand_desk.specs.Laboratory.{IsLabText, dropper_and_site, journal_text_of_report, lab_text_of_report, report_text_of, sums_of, wish_of};
+
+use crate::faults::DeskFault;
+use crate::texts::{pgm_text, read_pile};
+use sand_lab::{Album, Entry, LabFault, Open, Plan, Report, Wish, run};
+use sand_model::Pile;
+use sand_shared::Record;
+use sand_text::{Sums, push_journal_head, push_journal_line};
+use sand_words::Run;
+use std::alloc::{AllocError, Global};
+use std::thread::Threads;
+
+// What a record came to.
+fn sums_of(record_of: &Record) -> Sums
+    ensures { result ≡ sums_of record_of.now }
+{
+    Sums {
+        drops: record_of.history().len() as u64,
+        topplings: record_of.topplings(),
+        lost: record_of.lost(),
+        grains: record_of.pile().grains(),
+    }
+}
+
+// What each epoch of a report came to.
+fn sums_of_all(alloc: Global, records: &[Record]) -> Result<Vec<Sums>, AllocError>
+    ensures { IfOk result (λ v. v.items ≡ map sums_of records.now) }
+{
+    let mut sums = Vec::with_capacity(alloc, records.len())?;
+    for closed in records {
+        sums.push_reserved(sums_of(closed));
+    }
+    Ok(sums)
+}
+
+/// The text of a report: the sums of each epoch and of all, the last pile, and how often each site toppled.
+pub fn lab_text(alloc: Global, report: &Report) -> Result<Vec<u8>, DeskFault>
+    ensures text { IfOk result (λ text. text.items ≡ lab_text_of_report report.now) }
+    ensures memory { IsOkUnless result DeskFault.Memory }
+{
+    let total = report.total();
+    let epochs = sums_of_all(alloc, report.records())?;
+    let text = sand_text::lab_text(
+        alloc,
+        epochs.as_slice(),
+        sums_of(total),
+        total.pile(),
+        total.odometers(),
+    )?;
+    Ok(text)
+}
+
+// Writes the lines of an epoch's drops, by number.
+fn push_journal(text: &mut Vec<u8>, epoch: u32, journal: &[Entry]) -> Result<(), AllocError>
+    ensures { OnOk result (text.new.items ≡ text.old.items ++ journal_lines epoch (map dropper_and_site journal.now)) }
+{
+    for (number, entry) in journal.iter().enumerate() {
+        push_journal_line(text, epoch, number as u64, entry.dropper, entry.site)?;
+    }
+    Ok(())
+}
+
+// Writes the journal of a report.
+fn push_journals(text: &mut Vec<u8>, report: &Report) -> Result<(), AllocError>
+    ensures { OnOk result (text.new.items ≡ text.old.items ++ journal_text_of_report report.now) }
+{
+    let epochs = report.records().len() as u32;
+    push_journal_head(text)?;
+    for epoch in 0..epochs {
+        push_journal(text, epoch, report.journal(epoch))?;
+    }
+    Ok(())
+}
+
+/// The journal of a report: a line for each drop, by epoch and by number within it.
+pub fn journal_text(alloc: Global, report: &Report) -> Result<Vec<u8>, DeskFault>
+    ensures text { IfOk result (λ text. text.items ≡ journal_text_of_report report.now) }
+    ensures memory { IsOkUnless result DeskFault.Memory }
+{
+    let mut text = Vec::new(alloc);
+    push_journals(&mut text, report)?;
+    Ok(text)
+}
+
+// What is asked of the laboratory.
+fn wish_of(asked: Run) -> Wish
+    ensures { result ≡ wish_of asked }
+{
+    Wish {
+        seed: asked.seed,
+        droppers: asked.droppers,
+        drops: asked.drops,
+        epochs: asked.epochs,
+        workers: asked.workers,
+        sweeps: asked.sweeps,
+        observers: asked.observers,
+    }
+}
+
+// Runs what is asked from a start, by as many threads.
+fn report_on<T: Threads + Sync>(
+    rt: &T,
+    alloc: Global,
+    start: &Pile,
+    asked: Run,
+) -> Result<Report, DeskFault>
+    requires { IsRun asked }
+    ensures report { IfOk result (λ p. (album : List ℕ) × IsReport album (wish_of asked) start.now p) }
+    ensures fault { IfErr result (IsRunFault (sum start.now.heights + all_drops (wish_of asked))) }
+{
+    let Ok(plan) = Plan::new(wish_of(asked)) else {
+        unreachable!()
+    };
+    let Ok(album) = Album::new(alloc, asked.epochs) else {
+        return Err(DeskFault::Memory);
+    };
+    match run(rt, alloc, start, &plan, &Open, &album) {
+        Ok(report) => Ok(report),
+        Err(LabFault::TooManyGrains) => Err(DeskFault::TooManyGrains),
+        Err(LabFault::Memory(_)) => Err(DeskFault::Memory),
+        Err(LabFault::Taken) => Err(DeskFault::Taken),
+        Err(LabFault::Plan | LabFault::AlbumSize) => unreachable!(),
+    }
+}
+
+// The text of a report, with its journal where that is wanted, or its last pile as a picture.
+fn report_text(
+    alloc: Global,
+    report: &Report,
+    journal: bool,
+    pgm: bool,
+) -> Result<Vec<u8>, DeskFault>
+    requires { IsOneThreads report.now.total }
+    ensures text { IfOk result (λ text. text.items ≡ report_text_of journal pgm report.now) }
+    ensures memory { IsOkUnless result DeskFault.Memory }
+{
+    if pgm {
+        return pgm_text(alloc, report.total().pile());
+    }
+    let mut text = lab_text(alloc, report)?;
+    if journal {
+        push_journals(&mut text, report)?;
+    }
+    Ok(text)
+}
+
+/// What a run of the laboratory leaves that starts from the pile which the input holds: text, with its journal where that
+/// is wanted, or its last pile as a picture. Refuses more grains than the limit with all drops (TooManyGrains).
+pub(crate) fn lab_input<T: Threads + Sync>(
+    rt: &T,
+    alloc: Global,
+    input: &[u8],
+    asked: Run,
+    journal: bool,
+    pgm: bool,
+) -> Result<Vec<u8>, DeskFault>
+    requires { IsRun asked }
+    ensures text { IfOk result (λ text. IsLabText (wish_of asked) journal pgm input.now text.items) }
+    ensures fault { IfErr result (Finds (IsLabFault (wish_of asked) input.now)) }
+{
+    let start = read_pile(alloc, input)?;
+    let report = report_on(rt, alloc, &start, asked)?;
+    report_text(alloc, &report, journal, pgm)
+}

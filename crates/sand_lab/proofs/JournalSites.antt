@@ -1,0 +1,34 @@
+-- The sites of a journal are those of the history.
+use Rattle.std.proofs.Common.{ℕ, ◌≡◌, ◌/◌, ◌<◌, List, length, get_or, Some, sym, ap, ◌∙◌, subst, arith}
+use Rattle.std.proofs.lemmas.List.{ext_get_or, length-map, get_or-map}
+use Rattle.std.proofs.lemmas.Option.{get_or_from_slice_get, slice_get_within}
+use Rattle.std.specs.Prelude.{slice_get}
+use Rattle.sand_shared.specs.declared.view.Receipt.{Receipt}
+use Rattle.sand_shared.specs.Passes.{EachOnce, AllBelow}
+use Rattle.sand_shared.specs.Record.{Tells}
+use Rattle.sand_lab.specs.declared.journal.Entry.{Entry}
+use Rattle.sand_lab.specs.Journals.{entry, sites_in, IsJournal}
+use Rattle.sand_lab.proofs.Numbers.{receipt_of}
+
+-- the entry of each number is that of its receipt
+pub entry_of : (drops : ℕ) (rs : List Receipt) (js : List Entry) → EachOnce rs → AllBelow (length rs) rs → IsJournal drops rs js → (n : ℕ) → n < length rs
+    → (i : ℕ) × (r : Receipt) × (slice_get rs i ≡ Some r) × (r.number ≡ n) × (slice_get js n ≡ Some (entry (i / drops) r.site))
+entry_of drops rs js once below journal n inside =
+    let found = receipt_of rs once below n inside in
+    (found.0, found.1, found.2, found.3, ap (slice_get js) (sym found.3) ∙ journal.noted found.0 found.1 found.2)
+
+-- a journal and a history of the same receipts have the same sites
+pub journal_sites : (drops : ℕ) (rs : List Receipt) (js : List Entry) (history : List ℕ) → IsJournal drops rs js → Tells rs history → EachOnce rs → AllBelow (length rs) rs → length history ≡ length rs
+    → sites_in js ≡ history
+journal_sites drops rs js history journal told once below long =
+    let as_long : length (sites_in js) ≡ length js = length-map js (λ (e : Entry). e.site) in
+    let each_long = journal.one_each in
+    ext_get_or 0 (sites_in js) history (omega arith)
+    (λ n inside.
+    let found = entry_of drops rs js once below journal n (omega arith) in
+    let i = found.0 in
+    let r = found.1 in
+    let read : get_or js n (entry 0 0) ≡ entry (i / drops) r.site = get_or_from_slice_get js n _ (entry 0 0) found.4 in
+    let tells : slice_get history r.number ≡ Some r.site = subst (λ (q : Receipt). slice_get history q.number ≡ Some q.site) (get_or_from_slice_get rs i r r found.2) (told i r (slice_get_within rs i r found.2)) in
+    get_or-map (λ (e : Entry). e.site) js n (entry 0 0) 0 (omega arith)
+    ∙ (ap (λ (e : Entry). e.site) read ∙ sym (get_or_from_slice_get history n r.site 0 (ap (slice_get history) (sym found.3) ∙ tells))))

@@ -1,0 +1,15 @@
+pub mod Bands
+pub mod JournalSites
+pub mod Numbers
+pub mod Parts
+pub mod Picks
+pub mod Places
+pub mod Placing
+pub mod StreamTallies
+pub mod Turns
+pub mod Working
+pub mod Joining
+pub mod Records
+pub mod Outcomes
+pub mod Closing
+pub mod Growing

@@ -1,0 +1,45 @@
+-- One turn more: a receipt, a tally, a sweep.
+use Rattle.std.proofs.Common.{◌≡◌, ℕ, zero, suc, subst, ◌+◌, ◌-◌, ◌*◌, ◌<◌, ◌≤◌, List, [], ◌∷◌, ◌++◌, length, refl, ap, arith}
+use Rattle.std.specs.List.{AllZip}
+use Rattle.sand_shared.specs.declared.view.Receipt.{Receipt}
+use Rattle.std.specs.Prelude.{slice_index}
+use Rattle.sand_shared.specs.declared.view.Terms.{Terms}
+use Rattle.std.proofs.lemmas.List.Elements.{All-push}
+use Rattle.std.proofs.lemmas.List.Quantifiers.{all_pairs_push}
+use Rattle.sand_shared.specs.Passes.{PassView, AllBelow, at_rest}
+use Rattle.sand_shared.specs.Sweeps.{LeavesAtMost, Swept}
+use Rattle.sand_lab.specs.Journals.{Ascends}
+use Rattle.sand_lab.specs.Jobs.{Climbs, dropped_at}
+
+-- a receipt with a number that is at least what was seen
+pub ascends_push : (seen : ℕ) (rs : List Receipt) (r : Receipt) → Ascends rs → AllBelow seen rs → seen ≤ r.number → Ascends (rs ++ r ∷ [])
+ascends_push seen rs r up below le = all_pairs_push (λ (a b : Receipt). a.number < b.number) rs r up (λ k d lt. let one = below k d lt in omega (arith, one, le))
+
+pub below_push : (seen : ℕ) (rs : List Receipt) (r : Receipt) → AllBelow seen rs → seen ≤ r.number → AllBelow (r.number + 1) (rs ++ r ∷ [])
+below_push seen rs r below le = All-push (λ (a : Receipt). a.number < r.number + 1) rs r (λ k d lt. let one = below k d lt in omega (arith, one, le)) (omega arith)
+
+pub climbs_push : (from mid : ℕ) (ns : List ℕ) (n : ℕ) → Climbs from ns mid → mid ≤ n → Climbs from (ns ++ n ∷ []) n
+climbs_push from mid [] n h le = (omega arith, omega arith)
+climbs_push from mid (x ∷ ns) n h le = (h.0, climbs_push x mid ns n h.1 le)
+
+pub dropped_push : (rs : List Receipt) (r : Receipt) → dropped_at (rs ++ r ∷ []) ≡ dropped_at rs ++ r.site ∷ []
+dropped_push [] r = refl
+dropped_push (x ∷ rs) r = ap (λ ns. x.site ∷ ns) (dropped_push rs r)
+
+pub zip_append : {A B : Type 0} (R : A → B → Type 0) (xs ys : List A) (us vs : List B) → AllZip R xs us → AllZip R ys vs → AllZip R (xs ++ ys) (us ++ vs)
+zip_append R [] ys [] vs h k = k
+zip_append R [] ys (u ∷ us) vs h k = absurd h
+zip_append R (x ∷ xs) ys [] vs h k = absurd h
+zip_append R (x ∷ xs) ys (u ∷ us) vs h k = (h.0, zip_append R xs ys us vs h.1 k)
+
+-- each site has toppled as often since the pass p as its own grains made it
+abbrev pub EnoughSince : Terms → PassView → List ℕ → Type 0
+EnoughSince t p counts = (j : ℕ) → j < length p.counts → LeavesAtMost t (at_rest p) ((at_rest p).base + j) (4 * (slice_index counts j - slice_index p.counts j) + 3)
+
+-- the first sweep does enough, and the next ones undo nothing
+pub enough_after : (t : Terms) (p q : PassView) (counts : List ℕ) (answer turn : ℕ) → (turn ≡ 0 → q ≡ p) → (0 < turn → EnoughSince t p q.counts) → Swept t (at_rest q) counts answer → EnoughSince t p counts
+enough_after t p q counts answer zero begun before swept j lt = (subst (λ (x : PassView). Swept t (at_rest x) counts answer) (begun refl) swept).enough j lt
+enough_after t p q counts answer (suc n) begun before swept j lt =
+    let was = before (omega arith) j lt in
+    let up = swept.never_fall j in
+    omega (arith, was, up)

@@ -1,0 +1,25 @@
+use Rattle.std.proofs.Common.{refl}
+use Rattle.sand_lab.specs.declared.crew.Crew.{Crew}
+use Rattle.sand_lab.specs.Crews.{HasTended}
+use Rattle.sand_lab.specs.Jobs.{CanSweep}
+use Rattle.sand_lab.proofs.Places.{each_all}
+use Rattle.sand_lab.proofs.Working.{can_tend, worked_on}
+use Rattle.sand_lab.proofs.crew.Crew.sweep_on.Goals as goal
+
+pub do_list-requires-after_bounds : goal.do_list-requires-after_bounds
+do_list-requires-after_bounds g c κs within =
+    let s = c.args.pile.now in
+    let w = c.requires.0 in
+    let t = c.requires.1 in
+    let has = c.loop.invariant w t c.requires.2 in
+    each_all (HasTended s w) (CanSweep s) c.loop.self.workers.items has.workers (can_tend s w)
+
+pub returns-then-is_calm : goal.returns-then-is_calm
+returns-then-is_calm g c w t has =
+    let swept : Crew = record c.loop.self { workers = c.do_list.new.works } in
+    worked_on c.args.pile.now w t 1 c.loop.self swept (c.loop.invariant w t has) c.do_list.ensures refl refl
+
+pub loop-preserved : goal.loop-preserved
+loop-preserved g c w t has =
+    let swept : Crew = record c.loop.self { workers = c.do_list.new.works } in
+    worked_on c.args.pile.now w t 1 c.loop.self swept (c.loop.invariant w t has) c.do_list.ensures refl refl

@@ -1,0 +1,57 @@
+use Rattle.std.proofs.Common.{◌≡◌, ◌*◌, ◌≤◌, ◌^◌, List, length, map, sym, ap, subst, ◌∙◌}
+use Rattle.sand_model.specs.Piles.{PileView}
+use Rattle.sand_shared.specs.declared.view.Receipt.{Receipt}
+use Rattle.sand_shared.specs.declared.view.Terms.{Terms}
+use Rattle.sand_shared.specs.Passes.{EachOnce, AllBelow}
+use Rattle.sand_lab.specs.Journals.{IsJournal}
+use Rattle.sand_lab.specs.Reports.{IsClosed}
+use Rattle.sand_lab.proofs.Closing.{within, whole, few_droppers, closed_is}
+use Rattle.sand_lab.proofs.epochs.closed_epoch.Goals as goal
+
+pub sweep_on-requires-after_bounds : goal.sweep_on-requires-after_bounds
+sweep_on-requires-after_bounds g c κs bounds = (c.args.wish, c.args.epoch, c.work.ensures c.args.epoch c.in_ok-crew.ensures.crew)
+
+pub gather-requires-clause-crew : goal.gather-requires-clause-crew
+gather-requires-clause-crew g c =
+    (c.args.wish, c.args.epoch, c.requires.plan.some_workers, c.sweep_on.ensures c.args.wish c.args.epoch (c.work.ensures c.args.epoch c.in_ok-crew.ensures.crew))
+
+pub journal_of-requires-clause-once : goal.journal_of-requires-clause-once
+journal_of-requires-clause-once g c = subst EachOnce (sym c.receipts.ensures.value) c.receipts.ensures.each_once
+
+pub journal_of-requires-clause-below : goal.journal_of-requires-clause-below
+journal_of-requires-clause-below g c =
+    let s = c.in_ok-pile.pile in
+    let quota = ap (λ (t : Terms). t.quota) c.in_ok-pile.ensures.terms ∙ c.quota_of.ensures in
+    let has = c.sweep_on.ensures c.args.wish c.args.epoch (c.work.ensures c.args.epoch c.in_ok-crew.ensures.crew) in
+    subst (λ (rs : List Receipt). AllBelow (length rs) rs) (sym c.receipts.ensures.value)
+    (within s c.args.wish c.args.epoch c.sweep_on.new.self c.gather.new.first quota has c.in_ok-findings.ensures.first)
+
+pub journal_of-requires-clause-few_droppers : goal.journal_of-requires-clause-few_droppers
+journal_of-requires-clause-few_droppers g c =
+    let s = c.in_ok-pile.pile in
+    let quota = ap (λ (t : Terms). t.quota) c.in_ok-pile.ensures.terms ∙ c.quota_of.ensures in
+    let has = c.sweep_on.ensures c.args.wish c.args.epoch (c.work.ensures c.args.epoch c.in_ok-crew.ensures.crew) in
+    subst (λ (rs : List Receipt). length rs ≤ 2 ^ 32 * c.args.wish.drops) (sym c.receipts.ensures.value)
+    (few_droppers s c.args.wish c.args.epoch c.sweep_on.new.self c.gather.new.first quota has c.in_ok-findings.ensures.first c.requires.plan)
+
+pub close-requires-clause-whole : goal.close-requires-clause-whole
+close-requires-clause-whole g c =
+    let s = c.in_ok-pile.pile in
+    let quota = ap (λ (t : Terms). t.quota) c.in_ok-pile.ensures.terms ∙ c.quota_of.ensures in
+    let has = c.sweep_on.ensures c.args.wish c.args.epoch (c.work.ensures c.args.epoch c.in_ok-crew.ensures.crew) in
+    whole s c.args.wish c.args.epoch c.sweep_on.new.self c.gather.new.first quota has c.in_ok-findings.ensures.first
+
+pub returns-clause-closed : goal.returns-clause-closed
+returns-clause-closed g c =
+    let s = c.in_ok-pile.pile in
+    let w = c.args.wish in
+    let quota = ap (λ (t : Terms). t.quota) c.in_ok-pile.ensures.terms ∙ c.quota_of.ensures in
+    let start : s.terms.start ≡ c.args.start.now = ap (λ (t : Terms). t.start) c.in_ok-pile.ensures.terms in
+    let has = c.sweep_on.ensures w c.args.epoch (c.work.ensures c.args.epoch c.in_ok-crew.ensures.crew) in
+    let journal = subst (λ (rs : List Receipt). IsJournal w.drops rs c.in_ok-journal.journal.items) c.receipts.ensures.value c.in_ok-journal.ensures.journal in
+    let tallies = map (λ ts. ts.items) c.in_ok-findings.findings.tallies.items in
+    let swept = c.in_ok-findings.findings.swept.items in
+    let closed = c.in_ok-closed.ensures in
+    subst (λ (p : PileView). IsClosed w p c.args.epoch c.in_ok-closed.closed c.in_ok-journal.journal.items tallies swept) start
+    (closed_is s w c.args.epoch c.sweep_on.new.self c.gather.new.first quota has c.in_ok-findings.ensures.first c.in_ok-closed.closed c.in_ok-journal.journal.items tallies swept
+    c.receipts.ensures.each_once journal closed.one_threads closed.start closed.history closed.each_drop_once closed.never_fall c.in_ok-findings.ensures.tallies c.in_ok-findings.ensures.swept)

@@ -1,0 +1,31 @@
+use Rattle.std.proofs.Common.{rules, arith, ◌≡◌, suc, List, [], ◌∷◌, ◌++◌, All, ap, ap₂, sym, subst, ◌∙◌, append_assoc, append-nil}
+use Rattle.std.proofs.lemmas.Grind.{flat_map-append}
+use Rattle.std.specs.Vec.Iter.{into_iter_items}
+use Rattle.sand_shared.specs.declared.view.Receipt.{Receipt}
+use Rattle.sand_shared.specs.Passes.{PassView}
+use Rattle.sand_lab.specs.declared.droppers.Dropper.{Dropper}
+use Rattle.sand_lab.specs.Gathering.{all_receipts, HoldsReceipts}
+use Rattle.sand_lab.proofs.gathering.gather_droppers.Goals as goal
+
+-- one dropper more
+more : (ds : List Dropper) (d : Dropper) → all_receipts (ds ++ d ∷ []) ≡ all_receipts ds ++ d.pass.receipts
+more ds d = flat_map-append (λ (x : Dropper). x.pass.receipts) ds (d ∷ []) ∙ ap (λ rs. all_receipts ds ++ rs) (append-nil d.pass.receipts)
+
+pub loop-dropper-preserved : goal.loop-dropper-preserved
+loop-dropper-preserved c =
+    let i = c.loop-dropper.invariant in
+    let ds = c.loop-dropper.yielded in
+    let d = c.in-Some.dropper in
+    let left = into_iter_items c.next.new.self in
+    let steps : into_iter_items c.loop-dropper.dropper-iterator ≡ d ∷ left = c.in-Some.ensures.steps.0 in
+    let before : List Receipt = c.args.first.now.receipts in
+    let seen = c.take_in_receipts.new.first.seen in
+    let receipts : c.loop-dropper.first.receipts ++ d.pass.receipts ≡ before ++ all_receipts (ds ++ d ∷ []) =
+    ap (λ (p : PassView). p.receipts ++ d.pass.receipts) i.first ∙ append_assoc before (all_receipts ds) d.pass.receipts ∙ ap (λ rs. before ++ rs) (sym (more ds d)) in
+    let rest = subst (All (λ (x : Dropper). HoldsReceipts c.args.pile.now x.pass)) steps i.rest in
+    record {
+      of_pile = search rules;
+      first = c.in_ok-take_in_receipts.ensures.first ∙ ap₂ (λ (p : PassView) (rs : List Receipt). record p { seen = seen; receipts = rs }) i.first receipts;
+      items = append_assoc ds (d ∷ []) left ∙ rw (← steps) i.items;
+      rest = λ k x lt. rest (suc k) x (omega (arith, lt));
+    }

@@ -1,0 +1,65 @@
+use Rattle.std.proofs.Common.{rules, arith, ◌≡◌, ℕ, ◌+◌, ◌*◌, ◌/◌, List, [], ◌∷◌, ◌++◌, length, Some, refl, ap, ap₂, sym, subst, ◌∙◌, append_assoc, append-nil, length-append}
+use Rattle.std.specs.Prelude.{slice_get}
+use Rattle.std.proofs.lemmas.Grind.{flat_map-append}
+use Rattle.std.proofs.lemmas.List.{map-append}
+use Rattle.std.proofs.Math.Nat.{mul-div_cancel_left}
+use Rattle.std.specs.Vec.Iter.{into_iter_items}
+use Rattle.sand_shared.specs.OpenPile.{grid_of}
+use Rattle.sand_shared.specs.Passes.{PassView, together}
+use Rattle.sand_lab.specs.declared.workers.Worker.{Worker}
+use Rattle.sand_lab.specs.Gathering.{all_counts, HoldsBand}
+use Rattle.sand_lab.proofs.Bands.{top}
+use Rattle.sand_lab.proofs.Joining.{band_joined, next_at, share_grows}
+use Rattle.sand_lab.proofs.gathering.gather_workers.Goals as goal
+
+nothing_left : {A : Type 0} (xs : List A) → length xs ≡ 0 → xs ≡ []
+nothing_left [] e = refl
+nothing_left (x ∷ xs) e = absurd (omega (arith, e))
+
+-- one worker more
+more : (xs : List Worker) (x : Worker) → all_counts (xs ++ x ∷ []) ≡ all_counts xs ++ x.pass.counts
+more xs x = flat_map-append (λ (w : Worker). w.pass.counts) xs (x ∷ []) ∙ ap (λ cs. all_counts xs ++ cs) (append-nil x.pass.counts)
+
+pub loop-worker-preserved : goal.loop-worker-preserved
+loop-worker-preserved c =
+    let i = c.loop-worker.invariant in
+    let s = c.args.pile.now in
+    let xs = c.loop-worker.yielded in
+    let x = c.in-Some.worker in
+    let left = into_iter_items c.next.new.self in
+    let steps : into_iter_items c.loop-worker.worker-iterator ≡ x ∷ left = c.in-Some.ensures.steps.0 in
+    let height = (grid_of s.terms).height in
+    let n = length c.args.workers.items in
+    let j = length xs in
+    let items : xs ++ x ∷ left ≡ c.args.workers.items = rw (← steps) i.items in
+    let at : slice_get c.args.workers.items j ≡ Some x = subst (λ ws. slice_get ws j ≡ Some x) items (next_at xs left x) in
+    let holds : HoldsBand s n j x = c.requires.workers j x at in
+    let begin = j * height / n in
+    let end = (j + 1) * height / n in
+    let rows : c.loop-worker.first.rows ≡ top begin = ap (λ (p : PassView). p.rows) i.first in
+    let joined = c.in_ok-take_in.ensures.first ∙ band_joined s c.loop-worker.first x.pass begin end (share_grows j height n) rows holds in
+    let long : j + 1 ≡ length (xs ++ x ∷ []) = sym (length-append xs (x ∷ [])) in
+    let counts : c.loop-worker.first.counts ++ x.pass.counts ≡ all_counts (xs ++ x ∷ []) = ap (λ (p : PassView). p.counts ++ x.pass.counts) i.first ∙ sym (more xs x) in
+    let seen : (together c.loop-worker.first x.pass).seen ≡ c.take_in.new.first.seen = sym (ap (λ (p : PassView). p.seen) joined) in
+    let all = c.args.first.now in
+    record {
+      of_pile = search rules;
+      first = joined ∙ ap₂ (λ (p : PassView) (m : ℕ). record p { seen = m; rows = top end; counts = c.loop-worker.first.counts ++ x.pass.counts }) i.first seen
+          ∙ ap₂ (λ (m : ℕ) (cs : List ℕ). record all { seen = c.take_in.new.first.seen; rows = top (m * height / n); counts = cs }) long counts;
+      items = append_assoc xs (x ∷ []) left ∙ items;
+      long = (let was = i.long in let gone = c.in-Some.ensures.steps.1 in let short = ap length steps in omega arith);
+      room = search rules;
+      swept = rw (c.push_reserved.ensures.items, i.swept) (sym (map-append (λ (w : Worker). w.swept) xs (x ∷ [])));
+    }
+
+pub returns-clause-first : goal.returns-clause-first
+returns-clause-first c =
+    let i = c.loop-worker.invariant in
+    let s = c.args.pile.now in
+    let xs = c.loop-worker.yielded in
+    let height = (grid_of s.terms).height in
+    let n = length c.args.workers.items in
+    let none : into_iter_items c.loop-worker.worker-iterator ≡ [] = nothing_left (into_iter_items c.loop-worker.worker-iterator) (i.long ∙ c.in-None.ensures.steps.0) in
+    let all : xs ≡ c.args.workers.items = sym (append-nil xs) ∙ rw none at i.items in
+    let whole : length xs * height / n ≡ height = ap (λ (ws : List Worker). length ws * height / n) all ∙ mul-div_cancel_left height c.requires.some in
+    i.first ∙ ap₂ (λ (m : ℕ) (ws : List Worker). record c.args.first.now { seen = c.loop-worker.first.seen; rows = top m; counts = all_counts ws }) whole all

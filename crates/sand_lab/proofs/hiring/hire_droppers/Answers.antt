@@ -1,0 +1,31 @@
+use Rattle.std.proofs.Common.{rules, arith, ◌≡◌, ℕ, [], length, ap, ap₂, sym, subst, ◌∙◌}
+use Rattle.sand_model.specs.Grid.{sites}
+use Rattle.sand_shared.specs.Passes.{PassView}
+use Rattle.sand_shared.specs.Rows.{no_rows}
+use Rattle.sand_lab.specs.declared.droppers.Dropper.{Dropper}
+use Rattle.sand_lab.specs.Crews.{EachAt, IsDropper}
+use Rattle.sand_lab.specs.Streams.{Reading}
+use Rattle.sand_lab.proofs.Places.{each_push}
+use Rattle.sand_lab.proofs.hiring.hire_droppers.Goals as goal
+
+pub loop-who-preserved : goal.loop-who-preserved
+loop-who-preserved c =
+    let s = c.args.pile.now in
+    let i = c.loop-who.invariant in
+    let P : ℕ → Dropper → Type 0 = IsDropper s c.args.wish c.args.epoch in
+    let reading : ℕ → ℕ → Reading = λ n t. record { sites = n; seed = c.args.wish.seed; stream = t; read = 0 } in
+    let dropper : Dropper = record { who = c.loop-who.who; sites = c.new-sites.result; pass = c.in_ok-pass.pass } in
+    let one : P c.loop-who.who dropper = record {
+      who = search rules;
+      sites = c.new-sites.ensures ∙ ap₂ reading (ap sites c.requires.shape) c.stream_of.ensures;
+      pass = c.in_ok-pass.ensures.child ∙ ap₂ (λ (p : PassView) (n : ℕ). record p { left = n; receipts = []; rows = no_rows; counts = [] }) i.first c.from.ensures;
+    } in
+    let place : c.loop-who.who ≡ length c.loop-who.droppers.items = search rules in
+    let parent = c.in_ok-pass.ensures.first in
+    record {
+      droppers = subst (EachAt P) (sym c.push_reserved.ensures.items) (each_push P c.loop-who.droppers.items dropper i.droppers (subst (λ (n : ℕ). P n dropper) place one));
+      long = search rules;
+      room = search rules;
+      first = search rules;
+      left = grind arith;
+    }

@@ -1,0 +1,19 @@
+use Rattle.std.proofs.Common.{rules, ap, ◌≤◌, ℕ}
+use Rattle.std.proofs.lemmas.List.Elements.{All-push}
+use Rattle.sand_shared.specs.Passes.{PassView}
+use Rattle.sand_lab.proofs.Turns.{climbs_push}
+use Rattle.sand_lab.proofs.observers.ObserverWork.take_turns.Goals as goal
+
+pub loop-turn-preserved : goal.loop-turn-preserved
+loop-turn-preserved g c =
+    let i = c.loop-turn.invariant in
+    let tally = c.tally-tally.ensures in
+    record {
+      who = search rules;
+      of_pile = search rules;
+      kept = search rules;
+      room = search rules;
+      as_many = search rules;
+      climbs = rw (c.push_reserved.ensures.items, ap (λ (p : PassView). p.seen) tally.pass) (climbs_push _ _ _ _ i.climbs tally.at_least_seen);
+      within = rw c.push_reserved.ensures.items (All-push (λ (n : ℕ). n ≤ c.args.pile.now.terms.quota) _ _ i.within tally.in_the_quota);
+    }

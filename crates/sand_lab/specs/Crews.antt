@@ -1,0 +1,109 @@
+-- The crew of an epoch: its droppers, workers and observers, as they begin and as they end.
+use Rattle.std.specs.Prelude.{ℕ, ◌≡◌, ◌+◌, ◌*◌, ◌/◌, ◌<◌, ◌≤◌, List, [], length, sum, sum_by, take, drop, slice_get, vec_capacity, Some}
+use Rattle.sand_model.specs.Grid.{sites}
+use Rattle.sand_model.specs.Piles.{PileView}
+use Rattle.sand_shared.specs.declared.rows.Rows.{Rows}
+use Rattle.sand_shared.specs.Events.{zeros}
+use Rattle.sand_shared.specs.OpenPile.{grid_of}
+use Rattle.sand_shared.specs.Passes.{SharedView, PassView, AllBelow}
+use Rattle.sand_shared.specs.Rows.{no_rows, rows_between, count_of}
+use Rattle.sand_lab.specs.declared.crew.Crew.{Crew}
+use Rattle.sand_lab.specs.declared.droppers.Dropper.{Dropper}
+use Rattle.sand_lab.specs.declared.observers.Observer.{Observer}
+use Rattle.sand_lab.specs.declared.plan.Wish.{Wish}
+use Rattle.sand_lab.specs.declared.workers.Worker.{Worker}
+use Rattle.sand_lab.specs.Jobs.{dropped_at, Climbs}
+use Rattle.sand_lab.specs.Journals.{Ascends}
+use Rattle.sand_lab.specs.Streams.{stream_of, stream_sites}
+
+-- each element of a list is so at its place
+abbrev pub EachAt : {A : Type 0} → (ℕ → A → Type 0) → List A → Type 0
+EachAt P xs = (i : ℕ) (x : _) → slice_get xs i ≡ Some x → P i x
+
+-- how many tallies an observer reads
+abbrev pub tallies_each : ℕ
+tallies_each = 16
+
+-- the rows of a worker: as even a share as there is
+abbrev pub band : ℕ → ℕ → ℕ → Rows
+band height workers j = rows_between (j * height / workers) ((j + 1) * height / workers)
+
+-- how often the sites of rows topple at least that begin with these heights: 4 grains at a time, without what is
+-- delivered to them
+abbrev pub due : PileView → Rows → ℕ
+due p rows = sum_by (λ h. h / 4) (take (count_of rows * p.grid.width) (drop (rows.first * p.grid.width) p.heights))
+
+-- Passes
+
+-- a pass with a quota and no rows
+abbrev pub rowless : SharedView → ℕ → PassView
+rowless s quota = record { table = s.table; grid = grid_of s.terms; left = quota; seen = 0; receipts = []; rows = no_rows; counts = [] }
+
+-- a pass with a quota and the rows above one of them, in which nothing has toppled
+abbrev pub upper_part : SharedView → ℕ → ℕ → PassView
+upper_part s quota end = record (rowless s quota) { rows = record { first = 0; end = end }; counts = zeros ((grid_of s.terms).width * end) }
+
+-- a pass with a quota and all rows, as the first one is
+abbrev pub unshared : SharedView → ℕ → PassView
+unshared s quota = upper_part s quota (grid_of s.terms).height
+
+-- a pass with rows in which nothing has toppled, and no quota
+abbrev pub banded : SharedView → Rows → PassView
+banded s rows = record (rowless s 0) { rows = rows; counts = zeros (count_of rows * (grid_of s.terms).width) }
+
+-- Before
+
+pub record IsDropper (s : SharedView) (w : Wish) (epoch k : ℕ) (d : Dropper) : Type 0 where
+  pub who : d.who ≡ k
+  pub sites : d.sites ≡ record { sites = sites (grid_of s.terms); seed = w.seed; stream = stream_of epoch k; read = 0 }
+  pub pass : d.pass ≡ rowless s w.drops
+
+pub record IsWorker (s : SharedView) (workers j : ℕ) (x : Worker) : Type 0 where
+  pub who : x.who ≡ j
+  pub swept : x.swept ≡ 0
+  pub pass : x.pass ≡ banded s (band (grid_of s.terms).height workers j)
+
+pub record IsObserver (s : SharedView) (i : ℕ) (o : Observer) : Type 0 where
+  pub who : o.who ≡ i
+  pub tallies : o.tallies.items ≡ []
+  pub room : tallies_each ≤ vec_capacity o.tallies
+  pub pass : o.pass ≡ rowless s 0
+
+-- a crew that has not begun
+pub record IsCrew (s : SharedView) (w : Wish) (epoch : ℕ) (c : Crew) : Type 0 where
+  pub droppers : EachAt (IsDropper s w epoch) c.droppers.items
+  pub all_droppers : length c.droppers.items ≡ w.droppers
+  pub workers : EachAt (IsWorker s w.workers) c.workers.items
+  pub all_workers : length c.workers.items ≡ w.workers
+  pub observers : EachAt (IsObserver s) c.observers.items
+  pub all_observers : length c.observers.items ≡ w.observers
+
+-- After
+
+-- it dropped its whole quota at the sites of its stream, in order
+pub record HasEmptied (s : SharedView) (w : Wish) (epoch k : ℕ) (d : Dropper) : Type 0 where
+  pub pass : d.pass ≡ record (rowless s 0) { seen = d.pass.seen; receipts = d.pass.receipts }
+  pub sites : dropped_at d.pass.receipts ≡ stream_sites (sites (grid_of s.terms)) w.seed (stream_of epoch k) w.drops
+  pub ascends : Ascends d.pass.receipts
+  pub within : AllBelow s.terms.quota d.pass.receipts
+
+-- it swept its band; if at least once, then what was due there
+pub record HasTended (s : SharedView) (w : Wish) (j : ℕ) (x : Worker) : Type 0 where
+  pub pass : x.pass ≡ record (banded s (band (grid_of s.terms).height w.workers j)) { counts = x.pass.counts }
+  pub swept : x.swept ≡ sum x.pass.counts
+  pub enough : 0 < w.sweeps → due s.terms.start (band (grid_of s.terms).height w.workers j) ≤ x.swept
+
+-- it read its tallies, which never fell and were at most the quota
+pub record HasRead (s : SharedView) (i : ℕ) (o : Observer) : Type 0 where
+  pub pass : o.pass ≡ record (rowless s 0) { seen = o.pass.seen }
+  pub sixteen : length o.tallies.items ≡ tallies_each
+  pub climbs : Climbs 0 o.tallies.items s.terms.quota
+
+-- a crew that has done its work
+pub record HasWorked (s : SharedView) (w : Wish) (epoch : ℕ) (c : Crew) : Type 0 where
+  pub droppers : EachAt (HasEmptied s w epoch) c.droppers.items
+  pub all_droppers : length c.droppers.items ≡ w.droppers
+  pub workers : EachAt (HasTended s w) c.workers.items
+  pub all_workers : length c.workers.items ≡ w.workers
+  pub observers : EachAt (HasRead s) c.observers.items
+  pub all_observers : length c.observers.items ≡ w.observers

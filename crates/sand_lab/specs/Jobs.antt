@@ -1,0 +1,75 @@
+-- What the threads of an epoch do with their passes: droppers, workers and observers, each in so many turns.
+use Rattle.std.specs.Prelude.{ℕ, ◌≡◌, ◌+◌, ◌-◌, ◌*◌, ◌<◌, ◌≤◌, List, [], ◌∷◌, All, length, map, sum, slice_index, vec_capacity}
+use Rattle.sand_model.specs.Grid.{sites}
+use Rattle.sand_shared.specs.declared.view.Receipt.{Receipt}
+use Rattle.sand_shared.specs.OpenPile.{grid_of}
+use Rattle.sand_shared.specs.Passes.{SharedView, IsPassOf, AllBelow, at_rest}
+use Rattle.sand_shared.specs.Sweeps.{LeavesAtMost}
+use Rattle.sand_lab.specs.Journals.{Ascends}
+use Rattle.sand_lab.specs.Streams.{stream_sites}
+use Rattle.sand_lab.specs.declared.droppers.Dropper.{Dropper}
+use Rattle.sand_lab.specs.declared.workers.Worker.{Worker}
+use Rattle.sand_lab.specs.declared.observers.Observer.{Observer}
+
+-- Droppers
+
+-- the sites of receipts
+abbrev pub dropped_at : List Receipt → List ℕ
+dropped_at receipts = map (λ (r : Receipt). r.site) receipts
+
+-- a dropper that has not begun, and may drop so many grains
+pub record CanDrop (s : SharedView) (turns : ℕ) (d : Dropper) : Type 0 where
+  pub of_pile : IsPassOf s d.pass
+  pub left : d.pass.left ≡ turns
+  pub no_receipts : d.pass.receipts ≡ []
+  pub unread : d.sites.read ≡ 0
+  pub grid : d.sites.sites ≡ sites (grid_of s.terms)
+
+-- it has dropped all of them, at the sites of its stream, in order
+pub record HasDropped (s : SharedView) (turns : ℕ) (d e : Dropper) : Type 0 where
+  pub who : e.who ≡ d.who
+  pub of_pile : IsPassOf s e.pass
+  pub kept : e.pass ≡ record d.pass { left = 0; seen = e.pass.seen; receipts = e.pass.receipts }
+  pub sites : dropped_at e.pass.receipts ≡ stream_sites d.sites.sites d.sites.seed d.sites.stream turns
+  pub ascends : Ascends e.pass.receipts
+  pub within : AllBelow s.terms.quota e.pass.receipts
+
+-- Workers
+
+-- what a worker has swept is what has toppled in its rows
+pub record CanSweep (s : SharedView) (w : Worker) : Type 0 where
+  pub of_pile : IsPassOf s w.pass
+  pub swept : w.swept ≡ sum w.pass.counts
+
+-- it has swept its rows; if at least once, then each site has toppled at least as often as the worker's own grains there
+-- made it (k div 4 times)
+pub record HasSwept (s : SharedView) (turns : ℕ) (w x : Worker) : Type 0 where
+  pub who : x.who ≡ w.who
+  pub can : CanSweep s x
+  pub kept : x.pass ≡ record w.pass { counts = x.pass.counts }
+  pub same_rows : length x.pass.counts ≡ length w.pass.counts
+  pub never_fall : (j : ℕ) → slice_index w.pass.counts j ≤ slice_index x.pass.counts j
+  pub enough : 0 < turns → (j : ℕ) → j < length w.pass.counts
+      → LeavesAtMost s.terms (at_rest w.pass) ((at_rest w.pass).base + j) (4 * (slice_index x.pass.counts j - slice_index w.pass.counts j) + 3)
+
+-- Observers
+
+-- the tallies never fall, from one that is at least `from`, and are at most `to`
+abbrev pub Climbs : ℕ → List ℕ → ℕ → Type 0
+Climbs from [] to = from ≤ to
+Climbs from (n ∷ ns) to = (from ≤ n) × Climbs n ns to
+
+-- an observer that has not begun, with room for so many tallies
+pub record CanWatch (s : SharedView) (turns : ℕ) (o : Observer) : Type 0 where
+  pub of_pile : IsPassOf s o.pass
+  pub no_tallies : o.tallies.items ≡ []
+  pub room : turns ≤ vec_capacity o.tallies
+
+-- it has read so many tallies, and each is at most the quota
+pub record HasWatched (s : SharedView) (turns : ℕ) (o p : Observer) : Type 0 where
+  pub who : p.who ≡ o.who
+  pub of_pile : IsPassOf s p.pass
+  pub kept : p.pass ≡ record o.pass { seen = p.pass.seen }
+  pub as_many : length p.tallies.items ≡ turns
+  pub climbs : Climbs 0 p.tallies.items p.pass.seen
+  pub within : All (λ n. n ≤ s.terms.quota) p.tallies.items

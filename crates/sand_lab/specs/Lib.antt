@@ -1,0 +1,10 @@
+pub mod Streams
+pub mod Journals
+pub mod Plans
+pub mod Faults
+pub mod Jobs
+pub mod Albums
+pub mod Crews
+pub mod Gathering
+pub mod Reports
+pub mod Laws

@@ -1,0 +1,115 @@
+-- What a run leaves: a record of each epoch, with its journal, its tallies, what its workers swept and the album's note
+-- of it; and one record of all epochs.
+use Rattle.std.specs.Prelude.{ℕ, ◌≡◌, ◌+◌, ◌<◌, ◌≤◌, List, [], ◌∷◌, ◌++◌, Option, Some, None, All, length, sum, sum_by, slice_index, slice_index_or}
+use Rattle.std.specs.List.{flat_map}
+use Rattle.sand_model.specs.Grid.{sites}
+use Rattle.sand_model.specs.Piles.{PileView}
+use Rattle.sand_settle.specs.Settling.{odometer_of}
+use Rattle.sand_shared.specs.Record.{RecordView, IsOneThreads}
+use Rattle.sand_lab.specs.declared.journal.Entry.{Entry}
+use Rattle.sand_lab.specs.declared.plan.Wish.{Wish}
+use Rattle.sand_lab.specs.Albums.{PictureView, IsPlace}
+use Rattle.sand_lab.specs.Crews.{band, due, tallies_each}
+use Rattle.sand_lab.specs.Jobs.{Climbs}
+use Rattle.sand_lab.specs.Journals.{FollowsStreams, sites_in}
+use Rattle.sand_lab.specs.Plans.{quota_of}
+
+-- what contracts see of what is kept of an epoch beside its record; `place` names the album's place, and `shown` is what
+-- the note of it knows
+pub record SheetView : Type 0 where
+  pub journal : List Entry
+  pub tallies : List (List ℕ)
+  pub swept : List ℕ
+  pub place : ℕ
+  pub shown : Option PictureView
+
+pub record ReportView : Type 0 where
+  pub records : List RecordView
+  pub sheets : List SheetView
+  pub total : RecordView
+
+-- the tallies of each observer never fell, and were at most the quota
+pub record AreTallies (w : Wish) (tallies : List (List ℕ)) : Type 0 where
+  pub all : length tallies ≡ w.observers
+  pub as_many : All (λ ts. length ts ≡ tallies_each) tallies
+  pub climb : All (λ ts. Climbs 0 ts (quota_of w)) tallies
+
+-- the workers swept no more than toppled, and each that swept at all at least what was due in its band
+pub record AreSwept (w : Wish) (start : PileView) (r : RecordView) (swept : List ℕ) : Type 0 where
+  pub all : length swept ≡ w.workers
+  pub few : sum swept ≤ r.settled.topplings
+  pub enough : 0 < w.sweeps → (j : ℕ) → j < w.workers → due start (band start.grid.height w.workers j) ≤ slice_index swept j
+
+-- a closed epoch t, from a start: the drops of its history are those of the journal, and of each dropper the journal has
+-- the sites of its stream
+pub record IsClosed (w : Wish) (start : PileView) (t : ℕ) (r : RecordView) (journal : List Entry) (tallies : List (List ℕ)) (swept : List ℕ) : Type 0 where
+  pub one_threads : IsOneThreads r
+  pub from_start : r.start ≡ start
+  pub history : sites_in journal ≡ r.history
+  pub streams : FollowsStreams (sites start.grid) w.seed w.droppers w.drops t journal
+  pub read : AreTallies w tallies
+  pub tended : AreSwept w start r swept
+
+-- and the album's place t shows its record
+pub record IsEpoch (album : List ℕ) (w : Wish) (start : PileView) (t : ℕ) (r : RecordView) (s : SheetView) : Type 0 where
+  pub closed : IsClosed w start t r s.journal s.tallies s.swept
+  pub place : IsPlace album t s.place
+  pub shown : s.shown ≡ Some (record { epoch = t; closed = r })
+
+-- the epochs from t on, each from the pile that the one before it left
+abbrev pub AreEpochs : List ℕ → Wish → PileView → ℕ → List RecordView → List SheetView → Type 0
+AreEpochs album w start t [] [] = Unit {0}
+AreEpochs album w start t (r ∷ rs) (s ∷ ss) = IsEpoch album w start t r s × AreEpochs album w r.settled.pile (t + 1) rs ss
+AreEpochs album w start t _ _ = ⊥
+
+-- the pile after all records
+abbrev pub last_pile : PileView → List RecordView → PileView
+last_pile start [] = start
+last_pile start (r ∷ rs) = last_pile r.settled.pile rs
+
+abbrev pub histories : List RecordView → List ℕ
+histories records = flat_map (λ (r : RecordView). r.history) records
+
+-- one record of all: what one thread would have got that drops all histories, one after the other
+pub record IsTotal (start : PileView) (records : List RecordView) (total : RecordView) : Type 0 where
+  pub one_threads : IsOneThreads total
+  pub from_start : total.start ≡ start
+  pub history : total.history ≡ histories records
+  pub pile : total.settled.pile ≡ last_pile start records
+  pub odometer : (i : ℕ) → i < sites start.grid → odometer_of total.settled i ≡ sum_by (λ (r : RecordView). odometer_of r.settled i) records
+  pub topplings : total.settled.topplings ≡ sum_by (λ (r : RecordView). r.settled.topplings) records
+  pub lost : total.settled.lost ≡ sum_by (λ (r : RecordView). r.settled.lost) records
+
+-- the report of n epochs of a plan from a start, into an album
+pub record IsReportOf (album : List ℕ) (w : Wish) (start : PileView) (n : ℕ) (p : ReportView) : Type 0 where
+  pub all : length p.records ≡ n
+  pub epochs : AreEpochs album w start 0 p.records p.sheets
+  pub total : IsTotal start p.records p.total
+
+-- the report of a run
+abbrev pub IsReport : List ℕ → Wish → PileView → ReportView → Type 0
+IsReport album w start p = IsReportOf album w start w.epochs p
+
+-- what is kept of an epoch, by its number
+abbrev pub sheet_at : ReportView → ℕ → SheetView
+sheet_at p t = slice_index_or p.sheets t (record { journal = []; tallies = []; swept = []; place = 0; shown = None })
+
+-- the report of a first epoch
+abbrev pub report_of : RecordView → SheetView → ReportView
+report_of r s = record { records = r ∷ []; sheets = s ∷ []; total = r }
+
+-- two records as one, where the next starts from the pile of the first
+pub record IsBoth (first next both : RecordView) : Type 0 where
+  pub one_threads : IsOneThreads both
+  pub start : both.start ≡ first.start
+  pub history : both.history ≡ first.history ++ next.history
+  pub pile : both.settled.pile ≡ next.settled.pile
+  pub odometer : (i : ℕ) → i < sites first.start.grid → odometer_of both.settled i ≡ odometer_of first.settled i + odometer_of next.settled i
+  pub topplings : both.settled.topplings ≡ first.settled.topplings + next.settled.topplings
+  pub lost : both.settled.lost ≡ first.settled.lost + next.settled.lost
+
+-- the report with one epoch more
+pub record HasGrown (p : ReportView) (r : RecordView) (s : SheetView) (q : ReportView) : Type 0 where
+  pub records : q.records ≡ p.records ++ r ∷ []
+  pub sheets : q.sheets ≡ p.sheets ++ s ∷ []
+  pub total : IsBoth p.total r q.total

@@ -1,0 +1,139 @@
+//! The crew of an epoch: droppers, workers and observers, who work beside each other.
+
+ghost use Rattle.std.specs.Prelude.{◌≡◌, ℕ, All};
+ghost use Rattle.std.specs.List.{AllZip};
+ghost use Rattle.std.specs.Thread.{IsSync};
+ghost use Rattle.sand_lab.specs.Crews.{IsCrew, HasWorked};
+ghost use Rattle.sand_lab.specs.Jobs.{CanDrop, CanSweep, CanWatch, HasDropped, HasSwept, HasWatched};
+ghost use Rattle.sand_lab.specs.declared.plan.Wish.{Wish};
+
+use crate::droppers::Dropper;
+use crate::gate::{Gate, Open};
+use crate::observers::{Observer, TALLIES};
+use crate::plan::Wish;
+use crate::work::{Work, do_all};
+use crate::workers::Worker;
+use sand_shared::SharedPile;
+use std::thread::{Threads, join_mut};
+
+/// All who work on a shared pile in an epoch.
+#[derive(Drop)]
+pub(crate) struct Crew {
+    pub(crate) droppers: Vec<Dropper>,
+    pub(crate) workers: Vec<Worker>,
+    pub(crate) observers: Vec<Observer>,
+}
+
+// Does all works of a list.
+fn do_list<R: Threads + Sync, G: Gate, W: Work>(
+    rt: &R,
+    pile: &SharedPile,
+    gate: &G,
+    turns: u32,
+    works: &mut Vec<W>,
+)
+    requires { All (W.ready pile.now turns) works.old.items }
+    ensures { AllZip (W.done pile.now turns) works.old.items works.new.items }
+{
+    do_all(rt, pile, gate, turns, works.as_mut_slice());
+}
+
+// The workers' sweeps, and the observers' tallies beside them.
+fn sweep_and_watch<R: Threads + Sync, G: Gate>(
+    rt: &R,
+    pile: &SharedPile,
+    gate: &G,
+    sweeps: u32,
+    workers: &mut Vec<Worker>,
+    observers: &mut Vec<Observer>,
+)
+    requires workers { All (CanSweep pile.now) workers.old.items }
+    requires observers { All (CanWatch pile.now TALLIES) observers.old.items }
+    ensures workers { AllZip (HasSwept pile.now sweeps) workers.old.items workers.new.items }
+    ensures observers { AllZip (HasWatched pile.now TALLIES) observers.old.items observers.new.items }
+{
+    join_mut(
+        rt,
+        &mut ||
+            requires { IsSync R.row × IsSync G.row × All (CanSweep pile.now) workers.now.items }
+            ensures { AllZip (HasSwept pile.entry.now sweeps) workers.entry.now.items workers.exit.now.items }
+        { do_list(rt, pile, gate, sweeps, workers) },
+        &mut ||
+            requires { IsSync R.row × IsSync G.row × All (CanWatch pile.now TALLIES) observers.now.items }
+            ensures { AllZip (HasWatched pile.entry.now TALLIES) observers.entry.now.items observers.exit.now.items }
+        { do_list(rt, pile, gate, TALLIES, observers) },
+    );
+}
+
+// All work of an epoch, beside each other.
+fn all_work<R: Threads + Sync, G: Gate>(
+    rt: &R,
+    pile: &SharedPile,
+    gate: &G,
+    wish: Wish,
+    droppers: &mut Vec<Dropper>,
+    workers: &mut Vec<Worker>,
+    observers: &mut Vec<Observer>,
+)
+    requires droppers { All (CanDrop pile.now wish.drops) droppers.old.items }
+    requires workers { All (CanSweep pile.now) workers.old.items }
+    requires observers { All (CanWatch pile.now TALLIES) observers.old.items }
+    ensures droppers { AllZip (HasDropped pile.now wish.drops) droppers.old.items droppers.new.items }
+    ensures workers { AllZip (HasSwept pile.now wish.sweeps) workers.old.items workers.new.items }
+    ensures observers { AllZip (HasWatched pile.now TALLIES) observers.old.items observers.new.items }
+{
+    join_mut(
+        rt,
+        &mut ||
+            requires { IsSync R.row × IsSync G.row × All (CanDrop pile.now wish.drops) droppers.now.items }
+            ensures { AllZip (HasDropped pile.entry.now wish.drops) droppers.entry.now.items droppers.exit.now.items }
+        { do_list(rt, pile, gate, wish.drops, droppers) },
+        &mut ||
+            requires { IsSync R.row × IsSync G.row × All (CanSweep pile.now) workers.now.items × All (CanWatch pile.now TALLIES) observers.now.items }
+            ensures workers { AllZip (HasSwept pile.entry.now wish.sweeps) workers.entry.now.items workers.exit.now.items }
+            ensures observers { AllZip (HasWatched pile.entry.now TALLIES) observers.entry.now.items observers.exit.now.items }
+        { sweep_and_watch(rt, pile, gate, wish.sweeps, workers, observers) },
+    );
+}
+
+impl Crew {
+    /// Droppers drop, workers sweep and observers read the tally, all beside each other.
+    pub(crate) fn work<R: Threads + Sync, G: Gate>(
+        &mut self,
+        rt: &R,
+        pile: &SharedPile,
+        gate: &G,
+        wish: Wish,
+    )
+        requires { (epoch : ℕ) × IsCrew pile.now wish epoch self.old }
+        ensures { (epoch : ℕ) → IsCrew pile.now wish epoch self.old → HasWorked pile.now wish epoch self.new }
+    {
+        all_work(
+            rt,
+            pile,
+            gate,
+            wish,
+            &mut self.droppers,
+            &mut self.workers,
+            &mut self.observers,
+        );
+    }
+
+    // Whether the last sweep of each worker toppled nothing.
+    fn is_calm(&self) -> bool {
+        self.workers.iter().all(|worker| worker.last == 0)
+    }
+
+    /// Rounds in which each worker sweeps once, up to one that topples nothing; at most so many.
+    pub(crate) fn sweep_on<R: Threads + Sync>(&mut self, rt: &R, pile: &SharedPile, rounds: u32)
+        requires { (wish : Wish) × (epoch : ℕ) × HasWorked pile.now wish epoch self.old }
+        ensures { (wish : Wish) (epoch : ℕ) → HasWorked pile.now wish epoch self.old → HasWorked pile.now wish epoch self.new }
+    {
+        for _ in 0..rounds {
+            do_list(rt, pile, &Open, 1, &mut self.workers);
+            if self.is_calm() {
+                return;
+            }
+        }
+    }
+}

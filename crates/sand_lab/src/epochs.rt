@@ -1,0 +1,160 @@
+//! One epoch: a crew is hired, works, sweeps on and is gathered; then the pile is closed and its record published.
+
+ghost use Rattle.std.specs.Prelude.{◌≡◌, ◌≢◌, ℕ, ◌+◌, ◌*◌, ◌<◌, ◌≤◌, [], length, sum, map, slice_index, IfOk, IfErr};
+ghost use Rattle.sand_model.specs.declared.pile.TheConstants.{GRAIN_LIMIT};
+ghost use Rattle.sand_settle.specs.Settling.{odometer_of};
+ghost use Rattle.sand_shared.specs.OpenPile.{grid_of};
+ghost use Rattle.sand_shared.specs.Passes.{IsPassOf, IsWhole};
+ghost use Rattle.sand_shared.specs.Record.{IsOneThreads, Tells};
+ghost use Rattle.sand_lab.specs.Crews.{unshared};
+ghost use Rattle.sand_lab.specs.Faults.{IsMemory, IsOfEpoch};
+ghost use Rattle.sand_lab.specs.Plans.{IsPlan, quota_of};
+ghost use Rattle.sand_lab.specs.Reports.{IsClosed, IsEpoch};
+
+use crate::album::{Album, Note, Picture};
+use crate::crew::Crew;
+use crate::faults::LabFault;
+use crate::gate::Gate;
+use crate::gathering::Findings;
+use crate::journal::{Entry, journal_of};
+use crate::plan::Wish;
+use sand_model::Pile;
+use sand_shared::{CloseFault, Pass, Record, SharedFault, SharedPile};
+use std::alloc::Global;
+use std::marker::Model;
+use std::thread::Threads;
+
+/// What is kept of an epoch beside its record.
+#[derive(Drop)]
+pub(crate) struct Sheet {
+    pub(crate) journal: Vec<Entry>,
+    pub(crate) findings: Findings,
+    pub(crate) note: Note,
+}
+
+impl Model for Sheet {
+    ghost use Rattle.std.specs.Prelude.{map};
+    ghost use Rattle.sand_lab.specs.Reports.{SheetView};
+
+    ghost Value = { SheetView };
+
+    ghost view = { λ s. record { journal = s.journal.items; tallies = map (λ ts. ts.items) s.findings.tallies.items; swept = s.findings.swept.items; place = s.note.cell; shown = s.note.known } };
+}
+
+// What a closed epoch leaves.
+#[derive(Drop)]
+struct ClosedEpoch {
+    closed: Record,
+    journal: Vec<Entry>,
+    findings: Findings,
+}
+
+// The number of drops of an epoch.
+pub(crate) fn quota_of(wish: Wish) -> u64
+    ensures { result ≡ quota_of wish }
+{
+    u64::from(wish.droppers) * u64::from(wish.drops)
+}
+
+// The pile of an epoch, and its first pass.
+fn share(alloc: Global, start: &Pile, quota: u64) -> Result<(SharedPile, Pass), LabFault>
+    requires limit { sum start.now.heights + quota ≤ GRAIN_LIMIT }
+    ensures terms { IfOk result (λ r. r.0.terms ≡ record { start = start.now; quota = quota }) }
+    ensures first { IfOk result (λ r. r.1 ≡ unshared r.0 quota) }
+    ensures memory { IfErr result IsMemory }
+{
+    match SharedPile::new(alloc, start, quota) {
+        Ok(shared) => Ok(shared),
+        Err(SharedFault::Memory(refused)) => Err(refused.into()),
+        Err(SharedFault::TooManyGrains) => unreachable!(),
+    }
+}
+
+// Closes the pile of an epoch with a pass that has gathered all.
+fn close(alloc: Global, pile: SharedPile, all: Pass) -> Result<Record, LabFault>
+    requires of_pile { IsPassOf pile all }
+    requires whole { IsWhole pile.terms all }
+    ensures one_threads { IfOk result IsOneThreads }
+    ensures start { IfOk result (λ r. r.start ≡ pile.terms.start) }
+    ensures history { IfOk result (λ r. Tells all.receipts r.history) }
+    ensures each_drop_once { IfOk result (λ r. length r.history ≡ length all.receipts) }
+    ensures never_fall { IfOk result (λ r. (i : ℕ) → slice_index all.counts i ≤ odometer_of r.settled i) }
+    ensures memory { IfErr result IsMemory }
+{
+    match pile.close(alloc, all) {
+        Ok(record) => Ok(record),
+        Err((CloseFault::Memory(refused), _, _)) => Err(refused.into()),
+        Err((CloseFault::Missing, _, _)) => unreachable!(),
+    }
+}
+
+pub(crate) fn copy_of(alloc: Global, closed: &Record) -> Result<Record, LabFault>
+    ensures copy { IfOk result (λ r. r ≡ closed.now) }
+    ensures memory { IfErr result IsMemory }
+{
+    match closed.copy(alloc) {
+        Ok(copy) => Ok(copy),
+        Err(SharedFault::Memory(refused)) => Err(refused.into()),
+        Err(SharedFault::TooManyGrains) => unreachable!(),
+    }
+}
+
+// The journal and the record of a pile on which a crew has worked.
+fn closed_epoch<R: Threads + Sync, G: Gate>(
+    rt: &R,
+    alloc: Global,
+    start: &Pile,
+    wish: Wish,
+    epoch: u32,
+    gate: &G,
+) -> Result<ClosedEpoch, LabFault>
+    requires plan { IsPlan wish }
+    requires limit { sum start.now.heights + quota_of wish ≤ GRAIN_LIMIT }
+    ensures closed { IfOk result (λ c. IsClosed wish start.now epoch c.closed c.journal.items (map (λ ts. ts.items) c.findings.tallies.items) c.findings.swept.items) }
+    ensures memory { IfErr result IsMemory }
+{
+    let (pile, mut first) = share(alloc, start, quota_of(wish))?;
+    let mut crew = Crew::hire(alloc, &pile, &mut first, start.shape(), wish, epoch)?;
+    crew.work(rt, &pile, gate, wish);
+    crew.sweep_on(rt, &pile, wish.sweeps);
+    let findings = crew.gather(alloc, &pile, &mut first)?;
+    let journal = journal_of(alloc, first.receipts(), wish.drops)?;
+    let closed = close(alloc, pile, first)?;
+    Ok(ClosedEpoch {
+        closed,
+        journal,
+        findings,
+    })
+}
+
+/// One epoch of a plan, from a start: its record, which is published in the album, and what is kept beside it. Refuses
+/// want of memory, and an album's place that was set before (Taken).
+pub(crate) fn run_epoch<R: Threads + Sync, G: Gate>(
+    rt: &R,
+    alloc: Global,
+    start: &Pile,
+    wish: Wish,
+    epoch: u32,
+    gate: &G,
+    album: &Album,
+) -> Result<(Record, Sheet), LabFault>
+    requires plan { IsPlan wish }
+    requires limit { sum start.now.heights + quota_of wish ≤ GRAIN_LIMIT }
+    requires place { epoch < length album.now }
+    ensures epoch { IfOk result (λ r. IsEpoch album.now wish start.now epoch r.0 r.1) }
+    ensures faults { IfErr result IsOfEpoch }
+{
+    let ClosedEpoch {
+        closed,
+        journal,
+        findings,
+    } = closed_epoch(rt, alloc, start, wish, epoch, gate)?;
+    let picture = Picture::new(epoch, copy_of(alloc, &closed)?);
+    let note = album.publish(alloc, epoch, picture)?;
+    let sheet = Sheet {
+        journal,
+        findings,
+        note,
+    };
+    Ok((closed, sheet))
+}

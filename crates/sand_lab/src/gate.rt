@@ -1,0 +1,27 @@
+//! Gates: what each thread of a run passes before each of its turns.
+
+/// Whose turn it is.
+#[derive(Clone, Copy, Debug, PartialEq, Eq)]
+pub enum Role {
+    /// One that drops grains.
+    Dropper,
+    /// One that sweeps its rows.
+    Worker,
+    /// One that reads the tally.
+    Observer,
+}
+
+/// What is called before each drop, each tally of an observer, and each sweep beside the droppers. It may hold the
+/// thread that calls it; it changes nothing of the pile.
+pub trait Gate: Sync {
+    /// Called before the turn of a thread: `who` is its number in its role, and `turn` counts from 0 in each epoch.
+    fn turn(&self, role: Role, who: u32, turn: u32);
+}
+
+/// A gate that holds nobody.
+#[derive(Clone, Copy, Debug)]
+pub struct Open;
+
+impl Gate for Open {
+    fn turn(&self, _role: Role, _who: u32, _turn: u32) {}
+}

@@ -1,0 +1,169 @@
+//! How the passes of a crew are gathered: droppers' in order, then workers' in the order of their bands, then
+//! observers'; and what workers and observers found.
+
+ghost use Rattle.std.specs.Prelude.{◌≡◌, ℕ, ◌+◌, ◌<◌, ◌≤◌, ◌++◌, [], length, map, All, IfOk, IfErr, OnOk};
+ghost use Rattle.std.specs.List.{flat_map};
+ghost use Rattle.sand_shared.specs.OpenPile.{grid_of};
+ghost use Rattle.sand_shared.specs.Passes.{IsPassOf, together};
+ghost use Rattle.sand_shared.specs.Rows.{AreApart, no_rows};
+ghost use Rattle.sand_lab.specs.Crews.{EachAt, HasEmptied, HasTended, HasRead, HasWorked, rowless};
+ghost use Rattle.sand_lab.specs.Faults.{IsMemory};
+ghost use Rattle.sand_lab.specs.Gathering.{all_receipts, all_counts, all_swept, readings, HasGathered, HoldsReceipts, HoldsBand, HoldsNothing};
+ghost use Rattle.sand_lab.specs.declared.plan.Wish.{Wish};
+
+use crate::crew::Crew;
+use crate::droppers::Dropper;
+use crate::faults::LabFault;
+use crate::observers::Observer;
+use crate::workers::Worker;
+use sand_shared::{JoinFault, Pass, SharedPile};
+use std::alloc::Global;
+
+/// What the workers and the observers of an epoch found.
+#[derive(Debug, Drop)]
+pub(crate) struct Findings {
+    pub(crate) swept: Vec<u64>,
+    pub(crate) tallies: Vec<Vec<u64>>,
+}
+
+// The first pass takes in another one, whose rows touch its own.
+fn take_in(alloc: Global, pile: &SharedPile, first: &mut Pass, other: Pass) -> Result<(), LabFault>
+    requires first { IsPassOf pile.now first.old }
+    requires other { IsPassOf pile.now other }
+    requires touching { ¬ AreApart first.old.rows other.rows }
+    ensures of_pile { IsPassOf pile.now first.new }
+    ensures first { OnOk result (first.new ≡ together first.old other) }
+    ensures memory { IfErr result IsMemory }
+{
+    match pile.join(alloc, first, other) {
+        Ok(()) => Ok(()),
+        Err((JoinFault::Memory(refused), _)) => Err(refused.into()),
+        Err((JoinFault::Apart, _)) => unreachable!(),
+    }
+}
+
+// Takes in a pass that has nothing but receipts.
+fn take_in_receipts(
+    alloc: Global,
+    pile: &SharedPile,
+    first: &mut Pass,
+    other: Pass,
+) -> Result<(), LabFault>
+    requires first { IsPassOf pile.now first.old }
+    requires other { HoldsReceipts pile.now other }
+    ensures of_pile { IsPassOf pile.now first.new }
+    ensures first { OnOk result (first.new ≡ record first.old { seen = first.new.seen; receipts = first.old.receipts ++ other.receipts }) }
+    ensures memory { IfErr result IsMemory }
+{
+    take_in(alloc, pile, first, other)
+}
+
+// Takes in the passes of droppers, in order.
+fn gather_droppers(
+    alloc: Global,
+    pile: &SharedPile,
+    first: &mut Pass,
+    droppers: Vec<Dropper>,
+) -> Result<(), LabFault>
+    requires first { IsPassOf pile.now first.old }
+    requires droppers { All (λ d. HoldsReceipts pile.now d.pass) droppers.items }
+    ensures of_pile { IsPassOf pile.now first.new }
+    ensures first { OnOk result (first.new ≡ record first.old { seen = first.new.seen; receipts = first.old.receipts ++ all_receipts droppers.items }) }
+    ensures memory { IfErr result IsMemory }
+{
+    for dropper in droppers {
+        let Dropper {
+            who: _,
+            sites: _,
+            pass,
+        } = dropper;
+        take_in_receipts(alloc, pile, first, pass)?;
+    }
+    Ok(())
+}
+
+// Takes in the passes of workers, in the order of their bands. Answers what each has swept.
+fn gather_workers(
+    alloc: Global,
+    pile: &SharedPile,
+    first: &mut Pass,
+    workers: Vec<Worker>,
+) -> Result<Vec<u64>, LabFault>
+    requires first { IsPassOf pile.now first.old }
+    requires rowless { (first.old.rows ≡ no_rows) × (first.old.counts ≡ []) }
+    requires workers { EachAt (HoldsBand pile.now (length workers.items)) workers.items }
+    requires some { 0 < length workers.items }
+    ensures of_pile { IsPassOf pile.now first.new }
+    ensures first { OnOk result (first.new ≡ record first.old { seen = first.new.seen; rows = record { first = 0; end = (grid_of pile.now.terms).height }; counts = all_counts workers.items }) }
+    ensures swept { IfOk result (λ v. v.items ≡ all_swept workers.items) }
+    ensures memory { IfErr result IsMemory }
+{
+    let mut all = Vec::with_capacity(alloc, workers.len())?;
+    for worker in workers {
+        let Worker {
+            who: _,
+            swept,
+            last: _,
+            pass,
+        } = worker;
+        take_in(alloc, pile, first, pass)?;
+        all.push_reserved(swept);
+    }
+    Ok(all)
+}
+
+// Takes in the passes of observers. Answers what each has read.
+fn gather_observers(
+    alloc: Global,
+    pile: &SharedPile,
+    first: &mut Pass,
+    observers: Vec<Observer>,
+) -> Result<Vec<Vec<u64>>, LabFault>
+    requires first { IsPassOf pile.now first.old }
+    requires observers { All (λ o. HoldsNothing pile.now o.pass) observers.items }
+    ensures of_pile { IsPassOf pile.now first.new }
+    ensures first { OnOk result (first.new ≡ record first.old { seen = first.new.seen }) }
+    ensures tallies { IfOk result (λ v. map (λ ts. ts.items) v.items ≡ readings observers.items) }
+    ensures memory { IfErr result IsMemory }
+{
+    let mut all = Vec::with_capacity(alloc, observers.len())?;
+    for observer in observers {
+        let Observer {
+            who: _,
+            tallies,
+            pass,
+        } = observer;
+        take_in_receipts(alloc, pile, first, pass)?;
+        all.push_reserved(tallies);
+    }
+    Ok(all)
+}
+
+impl Crew {
+    /// The first pass takes in all passes of the crew. Answers what workers and observers found. Refuses want of memory
+    /// alone.
+    pub(crate) fn gather(
+        self,
+        alloc: Global,
+        pile: &SharedPile,
+        first: &mut Pass,
+    ) -> Result<Findings, LabFault>
+        requires first { first.old ≡ rowless pile.now 0 }
+        requires crew { (wish : Wish) × (epoch : ℕ) × (0 < wish.workers) × HasWorked pile.now wish epoch self }
+        ensures of_pile { IsPassOf pile.now first.new }
+        ensures first { OnOk result (HasGathered pile.now self first.new) }
+        ensures swept { IfOk result (λ f. f.swept.items ≡ all_swept self.workers.items) }
+        ensures tallies { IfOk result (λ f. map (λ ts. ts.items) f.tallies.items ≡ readings self.observers.items) }
+        ensures memory { IfErr result IsMemory }
+    {
+        let Crew {
+            droppers,
+            workers,
+            observers,
+        } = self;
+        gather_droppers(alloc, pile, first, droppers)?;
+        let swept = gather_workers(alloc, pile, first, workers)?;
+        let tallies = gather_observers(alloc, pile, first, observers)?;
+        Ok(Findings { swept, tallies })
+    }
+}

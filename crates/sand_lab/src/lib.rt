@@ -1,0 +1,29 @@
+//! The laboratory: long seeded runs of drops, spread over threads.
+#![tactic(auto)]
+
+mod album;
+mod crew;
+mod droppers;
+mod epochs;
+mod faults;
+mod gate;
+mod gathering;
+mod hiring;
+mod journal;
+pub mod laws;
+mod observers;
+mod plan;
+mod report;
+mod runs;
+mod streams;
+mod work;
+mod workers;
+
+pub use album::{Album, Note, Picture};
+pub use faults::LabFault;
+pub use gate::{Gate, Open, Role};
+pub use journal::Entry;
+pub use plan::{Plan, Wish};
+pub use report::Report;
+pub use runs::run;
+pub use streams::sites_of;

@@ -1,0 +1,32 @@
+//! Observers: each reads the tally again and again.
+
+use crate::gate::{Gate, Role};
+use crate::work::Work;
+use sand_shared::{Pass, SharedPile};
+
+/// How often an observer reads the tally.
+pub(crate) const TALLIES: u32 = 16;
+
+/// One that reads the tally.
+#[derive(Drop)]
+pub(crate) struct Observer {
+    pub(crate) who: u32,
+    pub(crate) tallies: Vec<u64>,
+    pub(crate) pass: Pass,
+}
+
+impl Work for Observer {
+    ghost use Rattle.sand_lab.specs.Jobs.{CanWatch, HasWatched};
+
+    ghost ready = { CanWatch };
+
+    ghost done = { HasWatched };
+
+    fn take_turns<G: Gate>(&mut self, pile: &SharedPile, gate: &G, turns: u32) {
+        for turn in 0..turns {
+            gate.turn(Role::Observer, self.who, turn);
+            let tally = pile.tally(&mut self.pass);
+            self.tallies.push_reserved(tally);
+        }
+    }
+}

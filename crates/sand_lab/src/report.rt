@@ -1,0 +1,162 @@
+//! The report of a run: a record of each epoch and one of all, the journals, and what workers and observers found.
+
+ghost use Rattle.std.specs.Prelude.{◌≡◌, ◌+◌, ◌<◌, ◌≤◌, [], length, sum, slice_index, slice_index_or, IfOk, IfErr, OnOk};
+ghost use Rattle.sand_model.specs.declared.pile.TheConstants.{GRAIN_LIMIT};
+ghost use Rattle.sand_lab.specs.Faults.{IsMemory};
+ghost use Rattle.sand_lab.specs.Reports.{HasGrown, IsBoth, report_of, sheet_at};
+
+use crate::album::Note;
+use crate::epochs::{Sheet, copy_of};
+use crate::faults::LabFault;
+use crate::journal::Entry;
+use sand_shared::{Record, SharedFault};
+use std::alloc::Global;
+use std::marker::Model;
+
+/// What a run leaves.
+#[derive(Drop)]
+pub struct Report {
+    records: Vec<Record>,
+    sheets: Vec<Sheet>,
+    total: Record,
+}
+
+impl Model for Report {
+    ghost use Rattle.std.specs.Prelude.{◌≡◌, ◌≤◌, vec_len};
+    ghost use Rattle.sand_lab.specs.Reports.{ReportView};
+
+    ghost Value = { ReportView };
+
+    ghost view = { λ r. record { records = r.records.items; sheets = r.sheets.items; total = r.total } };
+
+    ghost invariant = { λ r. (vec_len r.sheets ≡ vec_len r.records) × (vec_len r.records ≤ 100) };
+}
+
+impl Report {
+    /// The record of each epoch. There are as many of all else that is kept by epoch.
+    pub fn records(&self) -> &[Record]
+        ensures value { result.now ≡ self.now.records }
+        ensures sheets { length self.now.sheets ≡ length self.now.records }
+        ensures few { length self.now.records ≤ 100 }
+    {
+        self.records.as_slice()
+    }
+
+    /// One record of all epochs: from the first start, with all histories one after the other.
+    pub fn total(&self) -> &Record
+        ensures { result.now ≡ self.now.total }
+    {
+        &self.total
+    }
+
+    /// The drops of an epoch, by number: which dropper made each, and where.
+    pub fn journal(&self, epoch: u32) -> &[Entry]
+        requires { epoch < length self.now.sheets }
+        ensures { result.now ≡ (sheet_at self.now epoch).journal }
+    {
+        self.sheets[epoch as usize].journal.as_slice()
+    }
+
+    /// What an observer read in an epoch: sixteen tallies.
+    pub fn tallies(&self, epoch: u32, observer: u32) -> &[u64]
+        requires epoch { epoch < length self.now.sheets }
+        requires observer { observer < length (sheet_at self.now epoch).tallies }
+        ensures { result.now ≡ slice_index_or (sheet_at self.now epoch).tallies observer [] }
+    {
+        let sheet = &self.sheets[epoch as usize];
+        sheet.findings.tallies[observer as usize].as_slice()
+    }
+
+    /// How many topplings the sweeps of a worker answered in an epoch.
+    pub fn swept(&self, epoch: u32, worker: u32) -> u64
+        requires epoch { epoch < length self.now.sheets }
+        requires worker { worker < length (sheet_at self.now epoch).swept }
+        ensures { result ≡ slice_index (sheet_at self.now epoch).swept worker }
+    {
+        let sheet = &self.sheets[epoch as usize];
+        sheet.findings.swept[worker as usize]
+    }
+
+    /// A note of the album's place for an epoch, which knows the picture of its record.
+    pub fn note(&mut self, epoch: u32) -> Note
+        requires { epoch < length self.old.sheets }
+        ensures same { self.new ≡ self.old }
+        ensures place { result.cell ≡ (sheet_at self.old epoch).place }
+        ensures shown { result.known ≡ (sheet_at self.old epoch).shown }
+    {
+        self.sheets[epoch as usize].again()
+    }
+}
+
+impl Sheet {
+    // A second note of the album's place.
+    fn again(&mut self) -> Note
+        ensures same { self.new ≡ self.old }
+        ensures place { result.cell ≡ self.old.place }
+        ensures shown { result.known ≡ self.old.shown }
+    {
+        self.note.again()
+    }
+}
+
+// Both records as one.
+fn followed_by(alloc: Global, first: &Record, next: &Record) -> Result<Record, LabFault>
+    requires start { next.now.start ≡ first.now.settled.pile }
+    requires limit { sum first.now.start.heights + (length first.now.history + length next.now.history) ≤ GRAIN_LIMIT }
+    ensures both { IfOk result (IsBoth first.now next.now) }
+    ensures memory { IfErr result IsMemory }
+{
+    match first.followed_by(alloc, next) {
+        Ok(both) => Ok(both),
+        Err(SharedFault::Memory(refused)) => Err(refused.into()),
+        Err(SharedFault::TooManyGrains) => unreachable!(),
+    }
+}
+
+impl Report {
+    /// The report of a first epoch of so many. Refuses want of memory alone.
+    pub(crate) fn of(
+        alloc: Global,
+        epochs: u32,
+        closed: Record,
+        sheet: Sheet,
+    ) -> Result<Report, LabFault>
+        requires { 0 < epochs }
+        ensures report { IfOk result (λ p. p ≡ report_of closed sheet) }
+        ensures memory { IfErr result IsMemory }
+    {
+        let total = copy_of(alloc, &closed)?;
+        let mut records = Vec::with_capacity(alloc, epochs as usize)?;
+        let mut sheets = Vec::with_capacity(alloc, epochs as usize)?;
+        records.push_reserved(closed);
+        sheets.push_reserved(sheet);
+        Ok(Report {
+            records,
+            sheets,
+            total,
+        })
+    }
+
+    /// One epoch more, which starts from the pile after all before it. Refuses want of memory alone; the report then
+    /// stays as it was.
+    pub(crate) fn add(
+        &mut self,
+        alloc: Global,
+        closed: Record,
+        sheet: Sheet,
+    ) -> Result<(), LabFault>
+        requires few { length self.old.records < 100 }
+        requires start { closed.start ≡ self.old.total.settled.pile }
+        requires limit { sum self.old.total.start.heights + (length self.old.total.history + length closed.history) ≤ GRAIN_LIMIT }
+        ensures grown { OnOk result (HasGrown self.old closed sheet self.new) }
+        ensures memory { IfErr result IsMemory }
+    {
+        let total = followed_by(alloc, &self.total, &closed)?;
+        self.records.reserve(1)?;
+        self.sheets.reserve(1)?;
+        self.total = total;
+        self.records.push_reserved(closed);
+        self.sheets.push_reserved(sheet);
+        Ok(())
+    }
+}

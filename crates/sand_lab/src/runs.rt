@@ -1,0 +1,75 @@
+//! A run: epoch after epoch, each from the pile that the one before it left.
+
+ghost use Rattle.std.specs.Prelude.{◌≡◌, ◌≢◌, ◌↔◌, ◌+◌, ◌*◌, ◌<◌, ◌≤◌, length, sum, IfOk, IfErr};
+ghost use Rattle.sand_model.specs.declared.pile.TheConstants.{GRAIN_LIMIT};
+ghost use Rattle.sand_lab.specs.Faults.{IsOfEpoch};
+ghost use Rattle.sand_lab.specs.Plans.{IsPlan, all_drops};
+ghost use Rattle.sand_lab.specs.Reports.{IsReport};
+
+use crate::album::Album;
+use crate::epochs::{quota_of, run_epoch};
+use crate::faults::LabFault;
+use crate::gate::Gate;
+use crate::plan::{Plan, Wish};
+use crate::report::Report;
+use sand_model::{GRAIN_LIMIT, Pile};
+use std::alloc::Global;
+use std::thread::Threads;
+
+// All epochs of a plan, which fit the limit and the album.
+fn run_all<R: Threads + Sync, G: Gate>(
+    rt: &R,
+    alloc: Global,
+    start: &Pile,
+    wish: Wish,
+    gate: &G,
+    album: &Album,
+) -> Result<Report, LabFault>
+    requires plan { IsPlan wish }
+    requires limit { sum start.now.heights + all_drops wish ≤ GRAIN_LIMIT }
+    requires places { length album.now ≡ wish.epochs }
+    ensures report { IfOk result (IsReport album.now wish start.now) }
+    ensures faults { IfErr result IsOfEpoch }
+{
+    let (closed, sheet) = run_epoch(rt, alloc, start, wish, 0, gate, album)?;
+    let mut report = Report::of(alloc, wish.epochs, closed, sheet)?;
+    for epoch in 1..wish.epochs {
+        let pile = report.total().pile();
+        let (closed, sheet) = run_epoch(rt, alloc, pile, wish, epoch, gate, album)?;
+        report.add(alloc, closed, sheet)?;
+    }
+    Ok(report)
+}
+
+/// Runs a plan from a start: in each epoch droppers drop at the sites of their streams, workers sweep their bands and
+/// observers read the tally, all on one shared pile, which is then closed; its record is published at the epoch's place
+/// of the album. Before each turn beside the droppers its thread calls the gate.
+///
+/// What is left is a function of the start and of the plan's seed, droppers, drops and epochs alone
+/// (`laws::one_outcome`), but for the order in which drops interleave.
+///
+/// Refuses an album that hasn't one place per epoch (AlbumSize); a start that has, with all drops, more grains than the
+/// limit (TooManyGrains); then, as each epoch's work meets them, want of memory and a place that was set before (Taken).
+/// After these two the places that are published stay so, and nothing else of the run remains.
+pub fn run<R: Threads + Sync, G: Gate>(
+    rt: &R,
+    alloc: Global,
+    start: &Pile,
+    plan: &Plan,
+    gate: &G,
+    album: &Album,
+) -> Result<Report, LabFault>
+    ensures album_size { (result ≡ Err LabFault.AlbumSize) ↔ (length album.now ≢ plan.now.epochs) }
+    ensures grains { (result ≡ Err LabFault.TooManyGrains) ↔ ((length album.now ≡ plan.now.epochs) × (GRAIN_LIMIT < sum start.now.heights + all_drops plan.now)) }
+    ensures no_plan { result ≢ Err LabFault.Plan }
+    ensures report { IfOk result (IsReport album.now plan.now start.now) }
+{
+    let wish = plan.wish();
+    if album.places() != wish.epochs {
+        return Err(LabFault::AlbumSize);
+    }
+    if quota_of(wish) * u64::from(wish.epochs) > GRAIN_LIMIT - start.grains() {
+        return Err(LabFault::TooManyGrains);
+    }
+    run_all(rt, alloc, start, wish, gate, album)
+}
