@@ -3,10 +3,10 @@ use Rattle.std.proofs.Common.{ℕ, zero, suc, Bool, true, false, cond, leb, ◌�
 use Rattle.std.proofs.lemmas.Bool.{cases_Bool, cases_lt, cases_eq, le-leb}
 use Rattle.sand_model.specs.Grid.{Grid, sites, neighbours}
 use Rattle.sand_model.specs.Sand.{IsToppled, IsSettled}
-use Rattle.sand_model.proofs.Flow.{flow_le}
+use Rattle.sand_model.proofs.Flow.{flow_le, count_is_flow, indicator}
 use Rattle.sand_certify.specs.Certificate.{no_earlier, BurnInTurns, IsShown, IsCertificate}
 use Rattle.sand_model.specs.Forbidden.{IsTight}
-use Rattle.sand_model.proofs.Tight.{count_is_flow, indicator, settled_if_tight}
+use Rattle.sand_model.proofs.Tight.{settled_if_tight}
 
 -- a site of a set, below n, whose turn is the earliest there
 record IsEarliest (n : ℕ) (set : ℕ → Bool) (turn : ℕ → ℕ) (i : ℕ) : Type 0 where

@@ -1,3 +1,2 @@
 pub mod Certificate
-pub mod Walks
 pub mod Laws

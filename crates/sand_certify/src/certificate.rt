@@ -6,13 +6,12 @@
 //! counts are the least odometer (`laws`). It takes one pass over the grid.
 
 ghost use Rattle.std.specs.Prelude.{◌≡◌, ℕ, ◌+◌, ◌*◌, ◌<◌, ◌≤◌, ◌↔◌, List, length, slice_index, nat_le, if◌then◌else◌, IfOk, IfSome, IsTrue, IsSome, MatchOption, All};
-ghost use Rattle.sand_model.specs.Grid.{sites, places};
+ghost use Rattle.sand_model.specs.Grid.{sites};
 ghost use Rattle.sand_model.specs.Sand.{flow, value_at, IsSettled};
 ghost use Rattle.sand_model.specs.Piles.{height_of};
 ghost use Rattle.sand_certify.specs.Certificate.{no_earlier, IsShownAt, IsLeftAt, IsShown, IsCertificate};
 
-use crate::walk::Walk;
-use sand_model::{GRAIN_LIMIT, Pile, Shape};
+use sand_model::{GRAIN_LIMIT, Lattice, Pile};
 use std::alloc::{AllocError, Global};
 
 /// What each count is below, 2^54: no site of a pile topples so often, and no sum of counts here overflows.
@@ -32,15 +31,14 @@ fn value(values: &[u64], place: Option<usize>) -> u64
 
 // The sum of the counts of a site's neighbours.
 #[inline(always)]
-fn inflow(shape: Shape, counts: &[u64], site: usize, around: [Option<usize>; 4]) -> u64
-    requires one_each { length counts.now ≡ sites shape }
-    requires site { site < sites shape }
-    requires around { around ≡ places shape site }
+fn inflow(lattice: &Lattice, counts: &[u64], site: usize) -> u64
+    requires one_each { length counts.now ≡ sites lattice.now }
+    requires site { site < sites lattice.now }
     requires few { (j : ℕ) → slice_index counts.now j < COUNT_LIMIT }
-    ensures value { result ≡ flow shape (slice_index counts.now) site }
+    ensures value { result ≡ flow lattice.now (slice_index counts.now) site }
     ensures below { result < 4 * COUNT_LIMIT }
 {
-    let [north, west, east, south] = around;
+    let [north, west, east, south] = lattice.neighbours(site);
     let up = value(counts, north);
     let left = value(counts, west);
     let right = value(counts, east);
@@ -63,13 +61,12 @@ fn is_no_earlier(turns: &[u32], turn: u32, place: Option<usize>) -> u64
 
 // How many neighbours of a site have a turn that is no earlier than its own.
 #[inline(always)]
-fn unburnt(shape: Shape, turns: &[u32], site: usize, around: [Option<usize>; 4]) -> u64
-    requires one_each { length turns.now ≡ sites shape }
-    requires site { site < sites shape }
-    requires around { around ≡ places shape site }
-    ensures { result ≡ no_earlier shape (slice_index turns.now) site }
+fn unburnt(lattice: &Lattice, turns: &[u32], site: usize) -> u64
+    requires one_each { length turns.now ≡ sites lattice.now }
+    requires site { site < sites lattice.now }
+    ensures { result ≡ no_earlier lattice.now (slice_index turns.now) site }
 {
-    let [north, west, east, south] = around;
+    let [north, west, east, south] = lattice.neighbours(site);
     let turn = turns[site];
     let up = is_no_earlier(turns, turn, north);
     let left = is_no_earlier(turns, turn, west);
@@ -81,31 +78,29 @@ fn unburnt(shape: Shape, turns: &[u32], site: usize, around: [Option<usize>; 4])
 // The height that the counts leave at a site, where that is shown there.
 #[inline(always)]
 fn height_left(
-    shape: Shape,
+    lattice: &Lattice,
     start: &[u64],
     counts: &[u64],
     turns: &[u32],
     site: usize,
-    around: [Option<usize>; 4],
 ) -> Option<u64>
-    requires starts_each { length start.now ≡ sites shape }
-    requires counts_each { length counts.now ≡ sites shape }
-    requires turns_each { length turns.now ≡ sites shape }
-    requires site { site < sites shape }
-    requires around { around ≡ places shape site }
+    requires starts_each { length start.now ≡ sites lattice.now }
+    requires counts_each { length counts.now ≡ sites lattice.now }
+    requires turns_each { length turns.now ≡ sites lattice.now }
+    requires site { site < sites lattice.now }
     requires few { (j : ℕ) → slice_index counts.now j < COUNT_LIMIT }
     requires low { slice_index start.now site ≤ GRAIN_LIMIT }
     ensures { MatchOption result
-        (¬ IsShownAt shape (slice_index start.now) (slice_index counts.now) (slice_index turns.now) site)
-        (λ height. IsLeftAt shape (slice_index start.now) (slice_index counts.now) (slice_index turns.now) site height) }
+        (¬ IsShownAt lattice.now (slice_index start.now) (slice_index counts.now) (slice_index turns.now) site)
+        (λ height. IsLeftAt lattice.now (slice_index start.now) (slice_index counts.now) (slice_index turns.now) site height) }
 {
-    let before = start[site] + inflow(shape, counts, site, around);
+    let before = start[site] + inflow(lattice, counts, site);
     let taken = 4 * counts[site];
     if before < taken || before - taken > 3 {
         return None;
     }
     let height = before - taken;
-    if counts[site] > 0 && height < unburnt(shape, turns, site, around) {
+    if counts[site] > 0 && height < unburnt(lattice, turns, site) {
         return None;
     }
     Some(height)
@@ -121,28 +116,27 @@ fn are_few(counts: &[u64]) -> bool
 // The heights that the counts leave at all sites, where each site is shown.
 fn heights_left(
     alloc: Global,
-    shape: Shape,
+    lattice: &Lattice,
     start: &[u64],
     counts: &[u64],
     turns: &[u32],
 ) -> Result<Option<Vec<u64>>, AllocError>
-    requires starts_each { length start.now ≡ sites shape }
-    requires counts_each { length counts.now ≡ sites shape }
-    requires turns_each { length turns.now ≡ sites shape }
+    requires starts_each { length start.now ≡ sites lattice.now }
+    requires counts_each { length counts.now ≡ sites lattice.now }
+    requires turns_each { length turns.now ≡ sites lattice.now }
     requires few { (j : ℕ) → slice_index counts.now j < COUNT_LIMIT }
     requires low { (j : ℕ) → slice_index start.now j ≤ GRAIN_LIMIT }
-    ensures exactly { IfOk result (λ o. IsSome o ↔ IsShown shape (slice_index start.now) (slice_index counts.now) (slice_index turns.now)) }
-    ensures one_each { IfOk result (λ o. IfSome o (λ heights. length heights.items ≡ sites shape)) }
-    ensures settled { IfOk result (λ o. IfSome o (λ heights. IsSettled shape (slice_index start.now) (slice_index counts.now) (slice_index heights.items))) }
+    ensures exactly { IfOk result (λ o. IsSome o ↔ IsShown lattice.now (slice_index start.now) (slice_index counts.now) (slice_index turns.now)) }
+    ensures one_each { IfOk result (λ o. IfSome o (λ heights. length heights.items ≡ sites lattice.now)) }
+    ensures settled { IfOk result (λ o. IfSome o (λ heights. IsSettled lattice.now (slice_index start.now) (slice_index counts.now) (slice_index heights.items))) }
 {
-    let mut walk = Walk::new(shape);
-    let mut heights = Vec::with_capacity(alloc, shape.sites())?;
-    for site in 0..shape.sites() {
-        let Some(height) = height_left(shape, start, counts, turns, site, walk.places()) else {
+    let sites = lattice.shape().sites();
+    let mut heights = Vec::with_capacity(alloc, sites)?;
+    for site in 0..sites {
+        let Some(height) = height_left(lattice, start, counts, turns, site) else {
             return Ok(None);
         };
         heights.push_reserved(height);
-        walk.step();
     }
     Ok(Some(heights))
 }
@@ -163,5 +157,6 @@ pub fn certified(
     if counts.len() != shape.sites() || turns.len() != shape.sites() || !are_few(counts) {
         return Ok(None);
     }
-    heights_left(alloc, shape, pile.heights(), counts, turns)
+    let lattice = Lattice::new(alloc, shape)?;
+    heights_left(alloc, &lattice, pile.heights(), counts, turns)
 }

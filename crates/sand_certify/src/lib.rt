@@ -9,6 +9,5 @@ mod certificate;
 pub mod laws;
 #[cfg(test)]
 mod tests;
-mod walk;
 
 pub use certificate::{COUNT_LIMIT, certified};

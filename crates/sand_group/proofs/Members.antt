@@ -31,9 +31,6 @@ surplus_high g d is i l =
     let low = (settled_stable g (λ j. 6) is.odometer is.rest is.settled).low i l in
     omega arith
 
-pub surplus_at_most_six : (g : Grid) (d : ℕ → ℕ) → IsSurplus g d → (i : ℕ) → i < sites g → d i ≤ 6
-surplus_at_most_six g d is i l = let e = is.difference i l in omega arith
-
 pub surplus_is_none : (g : Grid) (d : ℕ → ℕ) → IsSurplus g d → IsEquivalent g (whole d) (λ i. pos 0)
 surplus_is_none g d is =
     equivalent_same g (whole (λ i. 6)) (whole is.rest) (whole d) (λ i. pos 0) (settled_equivalent g (λ i. 6) is.odometer is.rest is.settled)

@@ -11,12 +11,12 @@ use Rattle.sand_model.specs.Grid.{Grid, IsGrid, joins, sites, neighbours, north,
 use Rattle.sand_model.specs.Sand.{total, flow, tally, one_at, value_at, IsStable}
 use Rattle.sand_model.proofs.Totals.{total_same, total-add, total-one_at, one_at_other}
 use Rattle.sand_model.proofs.Neighbours.{flow_four, some_width}
-use Rattle.sand_model.proofs.Flow.{flow_same, flow-add}
+use Rattle.sand_model.proofs.Flow.{flow_same, flow-add, indicator}
 use Rattle.sand_model.proofs.Tallies.{tally-cons}
 use Rattle.sand_model.proofs.Lists.{at_most_one, all_or_one}
 use Rattle.sand_group.specs.Recurrence.{IsRecurrent, is_in, BurnInTurn, IsBurningOrder}
 use Rattle.sand_model.specs.Forbidden.{IsForbidden}
-use Rattle.sand_group.proofs.Sets.{indicator, count_within}
+use Rattle.sand_group.proofs.Sets.{count_within}
 
 -- ---- no site is its own neighbour
 

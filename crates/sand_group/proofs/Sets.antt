@@ -4,17 +4,9 @@ use Rattle.std.proofs.lemmas.Bool.{cases_Bool}
 use Rattle.sand_model.specs.Grid.{Grid, sites, neighbours, north, west, east, south}
 use Rattle.sand_model.specs.Sand.{flow, value_at}
 use Rattle.sand_model.specs.Lists.{one_if}
-use Rattle.sand_model.proofs.Flow.{flow_le}
+use Rattle.sand_model.proofs.Flow.{flow_le, indicator}
 use Rattle.sand_model.proofs.Neighbours.{flow_four}
 use Rattle.sand_model.proofs.Lists.{at_most_one}
-
--- 1 at the sites of a set, and 0 elsewhere
-abbrev pub indicator : (ℕ → Bool) → ℕ → ℕ
-indicator set j = one_if (set j)
-
-pub count_is_flow : (g : Grid) (set : ℕ → Bool) (i : ℕ) → count_by set (neighbours g i) ≡ flow g (indicator set) i
-unfolding flow
-count_is_flow g set i = refl
 
 -- a set within another has no more of the neighbours
 pub count_within : (g : Grid) (set other : ℕ → Bool) (i : ℕ) → i < sites g → ((j : ℕ) → j < sites g → set j ≡ true → other j ≡ true) → count_by set (neighbours g i) ≤ count_by other (neighbours g i)

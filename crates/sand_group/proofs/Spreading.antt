@@ -9,14 +9,14 @@ use Rattle.sand_model.specs.Sand.{flow, tally, one_at, value_at, IsStable}
 use Rattle.sand_model.specs.Lists.{Lists}
 use Rattle.sand_model.proofs.Totals.{one_at_same, one_at_other}
 use Rattle.sand_model.proofs.Neighbours.{neighbours_mutual, neighbours_at_most_four, flow_four}
-use Rattle.sand_model.proofs.Flow.{flow_same, flow-add}
+use Rattle.sand_model.proofs.Flow.{flow_same, flow-add, indicator}
 use Rattle.sand_model.proofs.Sandpile.{sum_by_ones}
 use Rattle.sand_model.proofs.Tallies.{tally-push, tally-cons}
 use Rattle.sand_model.proofs.Lists.{listed, at_most_once, lists_below, lists_all, lists_leave}
 use Rattle.sand_group.specs.Recurrence.{IsRecurrent, is_in, BurnInTurn, IsBurningOrder, IsGreatestForbidden}
 use Rattle.sand_model.specs.Forbidden.{IsForbidden}
 use Rattle.sand_group.specs.Fire.{may_burn, is_out, BurnAfter, CountsUnburnt}
-use Rattle.sand_group.proofs.Sets.{indicator, count_within}
+use Rattle.sand_group.proofs.Sets.{count_within}
 use Rattle.sand_group.proofs.Listing.{is_out-none, is_out-some, is_in_listing, is_out_of_listing}
 
 -- one more site burns

@@ -8,12 +8,12 @@ use Rattle.std.proofs.Common.{ℕ, zero, suc, Bool, true, false, ◌≡◌, ◌+
 use Rattle.std.proofs.lemmas.Bool.{cases_lt, cases_Bool, ltb-true}
 use Rattle.sand_model.specs.Grid.{Grid, sites, north}
 use Rattle.sand_model.specs.Sand.{flow, value_at, IsToppled, Stabilises, IsSettled}
-use Rattle.sand_model.proofs.Flow.{flow_same, flow-add}
+use Rattle.sand_model.proofs.Flow.{flow_same, flow-add, indicator, count_is_flow}
 use Rattle.sand_model.proofs.Sandpile.{settled_stable}
 use Rattle.sand_model.proofs.Neighbours.{flow_four, some_width, some_from, row_above}
 use Rattle.sand_group.specs.Recurrence.{IsRecurrent}
 use Rattle.sand_model.specs.Forbidden.{IsForbidden}
-use Rattle.sand_group.proofs.Sets.{indicator, count_is_flow, flow_at_most_four, north_of_four}
+use Rattle.sand_group.proofs.Sets.{flow_at_most_four, north_of_four}
 
 -- the northern neighbour is a site with a smaller number
 north_before : (g : Grid) (i j : ℕ) → i < sites g → north g i ≡ Some j → j < i

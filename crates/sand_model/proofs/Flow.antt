@@ -1,9 +1,10 @@
 -- The sum over a site's neighbours: monotone, additive, and the same on both sides of a product.
-use Rattle.std.proofs.Common.{ℕ, ◌≡◌, ◌+◌, ◌*◌, ◌<◌, ◌≤◌, refl, sym, ◌∙◌, ap, arith, List, [], ◌∷◌, All, sum_by}
+use Rattle.std.proofs.Common.{ℕ, Bool, ◌≡◌, ◌+◌, ◌*◌, ◌<◌, ◌≤◌, refl, sym, ◌∙◌, ap, arith, List, [], ◌∷◌, All, sum_by, count_by}
 use Rattle.std.proofs.lemmas.List.Sums.{sum_by-cons}
 use Rattle.std.proofs.lemmas.List.Elements.{All-head, All-tail}
 use Rattle.sand_model.specs.Grid.{Grid, sites, neighbours}
 use Rattle.sand_model.specs.Sand.{total, tally, flow, one_at}
+use Rattle.sand_model.specs.Lists.{one_if}
 use Rattle.sand_model.proofs.Totals.{total_same, total-add, total-scale, total-zero, total_swap, total-one_at, one_at_comm}
 use Rattle.sand_model.proofs.Neighbours.{neighbours_mutual, neighbours_below}
 
@@ -81,3 +82,13 @@ flow_mutual g i j li lj = neighbours_mutual g i j li lj
 pub flow-one_at : (g : Grid) (i j : ℕ) → i < sites g → j < sites g → flow g (one_at i) j ≡ flow g (λ k. one_at k j) i
 flow-one_at g i j li lj =
     flow_same g (one_at i) (λ k. one_at k i) (λ k m. one_at_comm i k) j lj ∙ flow_mutual g j i lj li
+
+-- ---- how many neighbours of a site are in a set
+
+-- 1 at the sites of a set, and 0 elsewhere
+abbrev pub indicator : (ℕ → Bool) → ℕ → ℕ
+indicator set j = one_if (set j)
+
+pub count_is_flow : (g : Grid) (set : ℕ → Bool) (i : ℕ) → count_by set (neighbours g i) ≡ flow g (indicator set) i
+unfolding flow
+count_is_flow g set i = refl

@@ -1,5 +1,6 @@
 pub mod Totals
 pub mod Neighbours
+pub mod Borders
 pub mod Flow
 pub mod Sandpile
 pub mod Heights

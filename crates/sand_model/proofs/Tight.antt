@@ -1,23 +1,15 @@
 -- What topples to 3 at most, with no forbidden set of sites that have toppled, is settled.
-use Rattle.std.proofs.Common.{ℕ, zero, suc, Bool, cond, eqb, ◌≡◌, ◌+◌, ◌-◌, ◌*◌, ◌<◌, ◌≤◌, refl, ap, arith, count_by, ⊎_elim}
+use Rattle.std.proofs.Common.{ℕ, zero, suc, cond, eqb, ◌≡◌, ◌+◌, ◌-◌, ◌*◌, ◌<◌, ◌≤◌, refl, ap, arith, ⊎_elim}
 use Rattle.std.proofs.lemmas.Bool.{cases_eq, cases_lt, eq-eqb, ne_eqb, eqb-true}
 use Rattle.std.proofs.Math.Nat.{mul-le-mul_left}
 use Rattle.sand_model.specs.Forbidden.{IsForbidden, IsTight}
-use Rattle.sand_model.specs.Grid.{Grid, sites, neighbours}
+use Rattle.sand_model.specs.Grid.{Grid, sites}
 use Rattle.sand_model.specs.Sand.{flow, IsStable, IsToppled, Stabilises, IsSettled}
-use Rattle.sand_model.proofs.Flow.{flow_le, flow_same, flow-add, flow-scale}
+use Rattle.sand_model.proofs.Flow.{flow_le, flow_same, flow-add, flow-scale, count_is_flow}
 use Rattle.sand_model.proofs.Sandpile.{flow_ones}
 
--- 1 at the sites of a set, and 0 elsewhere
-abbrev pub indicator : (ℕ → Bool) → ℕ → ℕ
-indicator set j = cond (set j) 1 0
-
-pub count_is_flow : (g : Grid) (set : ℕ → Bool) (i : ℕ) → count_by set (neighbours g i) ≡ flow g (indicator set) i
-unfolding flow
-count_is_flow g set i = refl
-
 -- a site where p is greatest
-greatest : (n : ℕ) (p : ℕ → ℕ) → 0 < n → (k : ℕ) × (k < n) × ((i : ℕ) → i < n → p i ≤ p k)
+pub greatest : (n : ℕ) (p : ℕ → ℕ) → 0 < n → (k : ℕ) × (k < n) × ((i : ℕ) → i < n → p i ≤ p k)
 greatest zero p l = absurd (omega arith)
 greatest (suc zero) p l = (0, omega arith, λ i m. let e : i ≡ 0 = omega arith in let same = ap p e in omega arith)
 greatest (suc (suc n)) p l =
@@ -42,7 +34,7 @@ greatest (suc (suc n)) p l =
     (cases_lt (p before.0) (p (suc n)))
 
 -- where p topplings too many were made and q too few, the sites of the greatest p are forbidden
-top_is_forbidden : (g : Grid) (t p q : ℕ → ℕ) (k : ℕ) → ((i : ℕ) → i < sites g → t i + 4 * p i + flow g q i ≤ 3 + 4 * q i + flow g p i) → ((i : ℕ) → 0 < p i → q i ≡ 0) → k < sites g → ((i : ℕ) → i < sites g → p i ≤ p k) → 0 < p k → IsForbidden g t (λ i. eqb (p i) (p k))
+pub top_is_forbidden : (g : Grid) (t p q : ℕ → ℕ) (k : ℕ) → ((i : ℕ) → i < sites g → t i + 4 * p i + flow g q i ≤ 3 + 4 * q i + flow g p i) → ((i : ℕ) → 0 < p i → q i ≡ 0) → k < sites g → ((i : ℕ) → i < sites g → p i ≤ p k) → 0 < p k → IsForbidden g t (λ i. eqb (p i) (p k))
 top_is_forbidden g t p q k balance apart inside top some = record {
   some = (k, inside, eq-eqb (p k) (p k) refl);
   low = λ i l in'.

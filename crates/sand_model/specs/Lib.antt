@@ -1,5 +1,6 @@
 pub mod Forbidden
 pub mod Grid
+pub mod Columns
 pub mod Sand
 pub mod Lists
 pub mod Integers

@@ -23,15 +23,6 @@ pub record Collects (g : Grid) (site : ℕ) (before now : ℕ → ℕ) (a : Aval
   pub within : (j : ℕ) → j < sites g → now j < before j → distance g site j ≤ a.reach
   pub reached : 0 < a.reach → IsReached g site before a.reach
 
-pub collects_none : (g : Grid) (site : ℕ) (before : ℕ → ℕ) (a : Avalanche) → a.size ≡ 0 → a.lost ≡ 0 → a.reach ≡ 0 → Collects g site before before a
-collects_none g site before a size gone reach = record {
-  falls = λ j l. omega arith;
-  size = omega arith;
-  all_lost = omega arith;
-  within = λ j l less. absurd (omega arith);
-  reached = λ some. absurd (omega arith);
-}
-
 pub lost_sum : (g : Grid) (u v w : ℕ → ℕ) → ((j : ℕ) → j < sites g → w j ≡ u j + v j) → lost g w ≡ lost g u + lost g v
 lost_sum g u v w e =
     total_same (sites g) (λ j. missing g j * w j) (λ j. missing g j * u j + missing g j * v j) (λ j l. let k = ap (λ m. missing g j * m) (e j l) in omega arith)

@@ -1,6 +1,5 @@
 pub mod Queue
 pub mod Underway
 pub mod Records
-pub mod Borders
 pub mod Collected
 pub mod Drops

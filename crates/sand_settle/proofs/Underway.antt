@@ -22,13 +22,6 @@ weight_step g i k t r l done =
 
 -- ---- from one moment to a later one
 
-pub advance_none : (g : Grid) (u t : ℕ → ℕ) → Advances g u t u t
-advance_none g u t = record {
-  underway = λ s before. before;
-  weight_pays = omega arith;
-  grains_fall = omega arith;
-}
-
 pub advance_more : (g : Grid) (u t v r w q : ℕ → ℕ) → Advances g u t v r → Advances g v r w q → Advances g u t w q
 advance_more g u t v r w q first second = record {
   underway = λ s before. second.underway s (first.underway s before);

@@ -1,5 +1,5 @@
 -- What a pile leaves when it has settled, and the room in which it does.
-use Rattle.std.specs.Prelude.{ℕ, ◌≡◌, ◌<◌, ◌≤◌, length, sum, slice_index}
+use Rattle.std.specs.Prelude.{◌≡◌, ◌<◌, ◌≤◌, length, sum, slice_index}
 use Rattle.sand_model.specs.Grid.{Grid, sites}
 use Rattle.sand_model.specs.Sand.{IsSettled}
 use Rattle.sand_model.specs.Piles.{PileView, height_of}

@@ -11,8 +11,8 @@ ghost use Rattle.sand_model.specs.Lists.{Lists};
 ghost use Rattle.sand_settle.specs.Lists.{has_toppled};
 ghost use Rattle.sand_settle.specs.Avalanches.{IsAvalanche};
 
-use crate::lattice::Lattice;
 use crate::site_list::SiteList;
+use sand_model::Lattice;
 
 /// What one drop set off.
 #[derive(Clone, Copy, Debug, PartialEq, Eq)]

@@ -12,12 +12,11 @@ ghost use Rattle.std.specs.Prelude.{◌≡◌, ◌<◌, ◌≤◌, ◌*◌, ◌^
 ghost use Rattle.sand_model.specs.Grid.{sites};
 ghost use Rattle.sand_settle.specs.Rests.{HasRoom, IsSettledRest};
 
-use crate::lattice::Lattice;
 use crate::settling::{drain_within, list_unstable};
 use crate::site_list::SiteList;
 use sand_certify::certified;
 use sand_guess::{Claim, guessed};
-use sand_model::Pile;
+use sand_model::{Lattice, Pile};
 use std::alloc::{AllocError, Global};
 
 #[cfg(test)]

@@ -4,7 +4,6 @@
 mod avalanche;
 mod choice;
 mod faults;
-mod lattice;
 pub mod laws;
 mod one_pile;
 mod settled;

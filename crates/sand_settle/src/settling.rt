@@ -21,10 +21,9 @@ ghost use Rattle.sand_settle.specs.Underway.{Advances};
 
 use crate::choice::{Queue, Rest, settle_by_any};
 use crate::faults::SettleFault;
-use crate::lattice::Lattice;
 use crate::settled::Settled;
 use crate::site_list::SiteList;
-use sand_model::{GRAIN_LIMIT, Pile, TOPPLING_HEIGHT};
+use sand_model::{GRAIN_LIMIT, Lattice, Pile, TOPPLING_HEIGHT};
 use std::alloc::Global;
 use std::mem;
 

@@ -9,10 +9,9 @@ ghost use Rattle.sand_model.specs.Sand.{IsSettled, topplings};
 ghost use Rattle.sand_settle.specs.Avalanches.{IsAvalanche};
 
 use crate::avalanche::{Avalanche, calm, collect};
-use crate::lattice::Lattice;
 use crate::settling::drain;
 use crate::site_list::SiteList;
-use sand_model::{GRAIN_LIMIT, Shape, TOPPLING_HEIGHT};
+use sand_model::{GRAIN_LIMIT, Lattice, Shape, TOPPLING_HEIGHT};
 use std::alloc::{AllocError, Global};
 use std::marker::Model;
 

@@ -1,15 +1,16 @@
 -- What the steps on the table of words see of it and of a pass's seat.
 use Rattle.std.specs.Prelude.{ℕ, ◌≡◌, ◌+◌, []}
 use Rattle.atomic_table.specs.declared.shared.Seat.{Seat}
-use Rattle.sand_model.specs.Grid.{sites}
+use Rattle.sand_model.specs.Grid.{Grid, sites}
 use Rattle.sand_shared.specs.declared.view.View.{View}
 use Rattle.sand_shared.specs.declared.view.Terms.{Terms}
 use Rattle.sand_shared.specs.OpenPile.{grid_of, AreTerms}
 use Rattle.sand_shared.specs.Passes.{SharedView}
 
--- a number word, a word a site, and the base's own
-pub record AreWords (key : Terms) (words : SharedView) : Type 0 where
+-- a number word, a word a site, and the base's own; and the lattice of the grid
+pub record AreWords (key : Terms) (lattice : Grid) (words : SharedView) : Type 0 where
   pub key_is : key ≡ words.terms
+  pub lattice_is : lattice ≡ grid_of words.terms
   pub wide : words.table.words ≡ sites (grid_of words.terms) + 2
   pub no_slots : words.table.slots ≡ 0
   pub terms : AreTerms words.terms

@@ -3,7 +3,7 @@
 
 ghost use Rattle.std.specs.Prelude.{◌≡◌, ℕ, ◌+◌, ◌-◌, ◌*◌, ◌^◌, ◌<◌, ◌≤◌, ◌||◌, true, [], ◌∷◌, length, slice_index, vec_capacity, IfOk};
 ghost use Rattle.std.specs.Mem.Slots.{slots_items, slots_len, IsFull};
-ghost use Rattle.sand_model.specs.Grid.{sites};
+ghost use Rattle.sand_model.specs.Grid.{sites, places};
 ghost use Rattle.sand_shared.specs.OpenPile.{grid_of, holds_site, AreTerms};
 ghost use Rattle.sand_shared.specs.Events.{draw, place, count, split, look, unload, deliver, grains, behind_first, first_pass, parent, child, joined, follows};
 ghost use Rattle.sand_shared.specs.Running.{Happened, Stands, actor};
@@ -13,16 +13,19 @@ ghost use Rattle.sand_shared.specs.Seats.{IsSeatAt, StaysSeated};
 use crate::rule::{Cut, Gather, Learn, Picked, Running, Take};
 use crate::view::{Terms, View};
 use atomic_table::{Closed, Seat, Table};
+use sand_model::{Lattice, TOPPLING_HEIGHT};
 use std::alloc::{AllocError, Global};
 use std::marker::Model;
 
 pub(crate) type PassSeat = Seat<u8, View>;
 
-/// The words that threads share: the number of draws, and the height of each site.
+/// The words that threads share: the number of draws, and the height of each site. The lattice of their grid stands
+/// beside them, so that whoever topples finds neighbours without a division.
 #[derive(Drop)]
 pub(crate) struct Words {
     table: Table<u8, View, Terms, Running, Global>,
     terms: Terms,
+    lattice: Lattice,
 }
 
 impl Model for Words {
@@ -33,7 +36,7 @@ impl Model for Words {
 
     ghost view = { λ w. record { table = w.table.shared.table_id; terms = w.terms } };
 
-    ghost invariant = { λ w. AreWords w.table.shared.key (record { table = w.table.shared.table_id; terms = w.terms }) };
+    ghost invariant = { λ w. AreWords w.table.shared.key w.lattice (record { table = w.table.shared.table_id; terms = w.terms }) };
 }
 
 impl Words {
@@ -49,8 +52,14 @@ impl Words {
         words.push_reserved(0);
         words.push_reserved(0);
         words.extend_from_slice(heights)?;
+        let lattice = Lattice::new(alloc, terms.start.shape())?;
         let (table, seat) = Table::of_words(alloc, words.as_slice(), &terms)?;
-        Ok((Words { table, terms }, seat))
+        let words = Words {
+            table,
+            terms,
+            lattice,
+        };
+        Ok((words, seat))
     }
 
     pub(crate) fn terms(&self) -> &Terms
@@ -58,6 +67,15 @@ impl Words {
         ensures terms { AreTerms self.now.terms }
     {
         &self.terms
+    }
+
+    /// The places north, west, east and south of a site, in that order.
+    #[inline(always)]
+    pub(crate) fn neighbours(&self, site: usize) -> [Option<usize>; 4]
+        requires { site < sites (grid_of self.now.terms) }
+        ensures { result ≡ places (grid_of self.now.terms) site }
+    {
+        self.lattice.neighbours(site)
     }
 
     /// Draws a number for a grain on a site.
@@ -120,7 +138,7 @@ impl Words {
     {
         self.table
             .shared
-            .fetch_sub::<Take<J>>(seat, site + 2, 4 * times);
+            .fetch_sub::<Take<J>>(seat, site + 2, TOPPLING_HEIGHT * times);
     }
 
     /// Lays the first grains in hand on their site.
@@ -184,7 +202,11 @@ impl Words {
         ensures terms { result ≡ self.terms }
         ensures last { IsLast self.terms seat.id seat.me.0 heights.new.items }
     {
-        let Words { table, terms } = self;
+        let Words {
+            table,
+            terms,
+            lattice: _,
+        } = self;
         let closed = table.close_with(seat);
         read_heights(&closed, terms.start.shape().sites(), heights);
         closed.free();

@@ -15,6 +15,7 @@ ghost use Rattle.sand_shared.specs.Passes.{IsPassOf, IsWhole, at_rest};
 use crate::pass::Pass;
 use crate::shared_pile::SharedPile;
 use crate::steps::{PassSeat, Words};
+use sand_model::TOPPLING_HEIGHT;
 use std::marker::Brand;
 
 impl Words {
@@ -39,7 +40,7 @@ impl Words {
         ensures seat { StaysSeated seat.old seat.new }
         ensures view { seat.new.me.0 ≡ record seat.old.me.0 { hand = [] } }
     {
-        let places = self.terms().start.shape().neighbours(site);
+        let places = self.neighbours(site);
         'around: for place in places.iter() {
             self.deliver_to(seat, *place, times);
         }
@@ -59,7 +60,7 @@ impl Words {
         ensures no_more { HasAll self.now.terms seat.old.me.0 → LeavesAtLeast self.now.terms seat.old.me.0 site (4 * result) }
         ensures sparing { HasAll self.now.terms seat.old.me.0 → IsSparing self.now.terms seat.new.me.0 }
     {
-        let times = self.look::<Brand>(seat, site) / 4;
+        let times = self.look::<Brand>(seat, site) / TOPPLING_HEIGHT;
         if times != 0 {
             self.unload::<Brand>(seat, site, times);
             self.deliver_around(seat, site, times);
@@ -97,6 +98,7 @@ impl SharedPile {
         ensures of_pile { IsPassOf self.now pass.new }
         ensures pass { pass.new ≡ record pass.old { counts = pass.new.counts } }
         ensures swept { Swept self.now.terms (at_rest pass.old) pass.new.counts result }
+        ensures few { sum pass.new.counts < 2 ^ 54 }
         ensures whole { IsWhole self.now.terms pass.old → HasAll self.now.terms (at_rest pass.old) }
         ensures few { sum pass.new.counts < 2 ^ 54 }
     {

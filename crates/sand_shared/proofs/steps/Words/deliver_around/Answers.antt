@@ -1,8 +1,7 @@
 use Rattle.std.proofs.Common.{◌≡◌, ℕ, ◌+◌, List, [], Option, None, drop, length, get_or, sym, refl, ap, ◌∙◌, arith}
 use Rattle.std.proofs.lemmas.List.{drop_all}
-use Rattle.sand_model.specs.Grid.{Grid, sites, places}
+use Rattle.sand_model.specs.Grid.{sites, places}
 use Rattle.sand_model.proofs.Neighbours.{place_inside}
-use Rattle.sand_shared.specs.declared.view.Terms.{Terms}
 use Rattle.sand_shared.specs.declared.view.View.{View}
 use Rattle.sand_shared.specs.OpenPile.{grid_of}
 use Rattle.sand_shared.proofs.Sending.{sends, sent_is, from_place, first_sent, rest_sent}
@@ -12,7 +11,7 @@ pub around-init : goal.around-init
 around-init c =
     let t = c.args.self.now.terms in
     let k = c.args.times in
-    let around : c.neighbours-places.result ≡ places (grid_of t) c.args.site = c.neighbours-places.ensures ∙ ap (λ (g : Grid). places g c.args.site) (c.shape.ensures.value ∙ ap (λ (t : Terms). t.start.grid) c.terms.ensures.value) in
+    let around = c.neighbours-places.ensures in
     let hand = c.requires.hand ∙ sent_is t c.args.site k ∙ ap (sends k) (sym around) in
     record { table = refl; id = refl; bare = c.requires.seat.bare; view = λ q. record c.args.seat.now.me.0 { hand = hand q } }
 
@@ -22,7 +21,7 @@ around-preserved c =
     let k = c.args.times in
     let ps = c.neighbours-places.result in
     let i = c.around.place-index in
-    let around : ps ≡ places (grid_of t) c.args.site = c.neighbours-places.ensures ∙ ap (λ (g : Grid). places g c.args.site) (c.shape.ensures.value ∙ ap (λ (t : Terms). t.start.grid) c.terms.ensures.value) in
+    let around = c.neighbours-places.ensures in
     let four = ap (λ (l : List (Option ℕ)). length l) around in
     let below = c.around-test.true in
     let here = from_place ps i (omega arith) in
@@ -42,7 +41,7 @@ deliver_to-requires-clause-hand c =
     let k = c.args.times in
     let ps = c.neighbours-places.result in
     let i = c.around.place-index in
-    let around : ps ≡ places (grid_of t) c.args.site = c.neighbours-places.ensures ∙ ap (λ (g : Grid). places g c.args.site) (c.shape.ensures.value ∙ ap (λ (t : Terms). t.start.grid) c.terms.ensures.value) in
+    let around = c.neighbours-places.ensures in
     let four = ap (λ (l : List (Option ℕ)). length l) around in
     let below = c.around-test.true in
     let here = from_place ps i (omega arith) in
@@ -51,7 +50,7 @@ deliver_to-requires-clause-hand c =
 pub deliver_to-requires-clause-site : goal.deliver_to-requires-clause-site
 deliver_to-requires-clause-site c =
     let t = c.args.self.now.terms in
-    let around : c.neighbours-places.result ≡ places (grid_of t) c.args.site = c.neighbours-places.ensures ∙ ap (λ (g : Grid). places g c.args.site) (c.shape.ensures.value ∙ ap (λ (t : Terms). t.start.grid) c.terms.ensures.value) in
+    let around = c.neighbours-places.ensures in
     place_inside (grid_of t) c.args.site (sites (grid_of t)) c.around.place-index c.neighbours-places.result around c.requires.site refl
 
 pub returns-clause-view : goal.returns-clause-view
@@ -59,7 +58,7 @@ returns-clause-view c =
     let t = c.args.self.now.terms in
     let k = c.args.times in
     let ps = c.neighbours-places.result in
-    let around : ps ≡ places (grid_of t) c.args.site = c.neighbours-places.ensures ∙ ap (λ (g : Grid). places g c.args.site) (c.shape.ensures.value ∙ ap (λ (t : Terms). t.start.grid) c.terms.ensures.value) in
+    let around = c.neighbours-places.ensures in
     let four = ap (λ (l : List (Option ℕ)). length l) around in
     let done = c.around-test.false in
     let none : drop c.around.place-index ps ≡ [] = drop_all c.around.place-index ps (omega arith) in

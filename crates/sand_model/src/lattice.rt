@@ -1,16 +1,19 @@
 //! A grid whose neighbours and distances are found without a division.
+//!
+//! `Shape` divides at each call, and takes no room. Where neighbours are asked for at every toppling a table of two
+//! bytes a site pays.
 
-ghost use Rattle.std.specs.Prelude.{◌≡◌, ℕ, ◌%◌, ◌<◌, ◌≤◌, IfOk, length, slice_index, vec_len};
-ghost use Rattle.sand_model.specs.Grid.{IsGrid, sites, column, row, north, west, east, south, places, missing, distance};
-ghost use Rattle.sand_settle.specs.Columns.{AreColumns, AreRows};
+ghost use Rattle.std.specs.Prelude.{◌≡◌, ◌<◌, IfOk};
+ghost use Rattle.sand_model.specs.Grid.{IsGrid, sites, north, west, east, south, places, missing, distance};
+ghost use Rattle.sand_model.specs.Columns.{AreColumns, AreRows};
 
-use sand_model::{Edge, Shape};
+use crate::shape::{Edge, Shape};
 use std::alloc::{AllocError, Global};
 use std::marker::Model;
 
-/// A shape, with the column and the row of each site at hand.
+/// A grid, with the column and the row of each site at hand.
 #[derive(Debug, Drop)]
-pub(crate) struct Lattice {
+pub struct Lattice {
     width: usize,
     end: usize,
     is_cylinder: bool,
@@ -22,7 +25,7 @@ pub(crate) struct Lattice {
 impl Model for Lattice {
     ghost use Rattle.std.specs.Prelude.{◌≡◌};
     ghost use Rattle.sand_model.specs.Grid.{Grid, IsGrid, sites, joins};
-    ghost use Rattle.sand_settle.specs.Columns.{AreColumns, AreRows};
+    ghost use Rattle.sand_model.specs.Columns.{AreColumns, AreRows};
 
     ghost Value = { Grid };
 
@@ -31,36 +34,34 @@ impl Model for Lattice {
     ghost invariant = { λ l. IsGrid l.shape × (l.width ≡ l.shape.width) × (l.end ≡ sites l.shape) × (l.is_cylinder ≡ joins l.shape.edge) × AreColumns l.shape l.columns.items × AreRows l.shape l.rows.items };
 }
 
-// The columns of all sites, by site.
-fn columns_of(alloc: Global, shape: Shape) -> Result<Vec<u8>, AllocError>
-    ensures { IfOk result (λ v. AreColumns shape v.items) }
+// The columns and the rows of all sites, by site.
+fn tables_of(alloc: Global, shape: Shape) -> Result<(Vec<u8>, Vec<u8>), AllocError>
+    ensures columns { IfOk result (λ t. AreColumns shape t.0.items) }
+    ensures rows { IfOk result (λ t. AreRows shape t.1.items) }
 {
     let width = shape.width();
     let mut columns = Vec::with_capacity(alloc, shape.sites())?;
-    for site in 0..shape.sites() {
-        columns.push_reserved((site % width) as u8);
-    }
-    Ok(columns)
-}
-
-// The rows of all sites, by site.
-fn rows_of(alloc: Global, shape: Shape) -> Result<Vec<u8>, AllocError>
-    ensures { IfOk result (λ v. AreRows shape v.items) }
-{
-    let width = shape.width();
     let mut rows = Vec::with_capacity(alloc, shape.sites())?;
-    for site in 0..shape.sites() {
-        rows.push_reserved((site / width) as u8);
+    let mut column = 0usize;
+    let mut row = 0usize;
+    for _ in 0..shape.sites() {
+        columns.push_reserved(column as u8);
+        rows.push_reserved(row as u8);
+        column += 1;
+        if column == width {
+            column = 0;
+            row += 1;
+        }
     }
-    Ok(rows)
+    Ok((columns, rows))
 }
 
 impl Lattice {
-    pub(crate) fn new(alloc: Global, shape: Shape) -> Result<Lattice, AllocError>
+    /// The lattice of a shape. Refuses want of memory alone.
+    pub fn new(alloc: Global, shape: Shape) -> Result<Lattice, AllocError>
         ensures { IfOk result (λ l. l ≡ shape) }
     {
-        let columns = columns_of(alloc, shape)?;
-        let rows = rows_of(alloc, shape)?;
+        let (columns, rows) = tables_of(alloc, shape)?;
         Ok(Lattice {
             width: shape.width(),
             end: shape.sites(),
@@ -71,7 +72,8 @@ impl Lattice {
         })
     }
 
-    pub(crate) fn shape(&self) -> Shape
+    /// The shape that it was made of.
+    pub fn shape(&self) -> Shape
         ensures value { result ≡ self.now }
         ensures sides { IsGrid self.now }
     {
@@ -79,7 +81,7 @@ impl Lattice {
     }
 
     #[inline(always)]
-    #[tactic(auto, unfolding(sand_model::specs::Grid::north))]
+    #[tactic(auto, unfolding(crate::specs::Grid::north))]
     fn north(&self, site: usize) -> Option<usize>
         requires { site < sites self.now }
         ensures { result ≡ north self.now site }
@@ -92,7 +94,7 @@ impl Lattice {
     }
 
     #[inline(always)]
-    #[tactic(auto, unfolding(sand_model::specs::Grid::west))]
+    #[tactic(auto, unfolding(crate::specs::Grid::west))]
     fn west(&self, site: usize) -> Option<usize>
         requires { site < sites self.now }
         ensures { result ≡ west self.now site }
@@ -107,7 +109,7 @@ impl Lattice {
     }
 
     #[inline(always)]
-    #[tactic(auto, unfolding(sand_model::specs::Grid::east))]
+    #[tactic(auto, unfolding(crate::specs::Grid::east))]
     fn east(&self, site: usize) -> Option<usize>
         requires { site < sites self.now }
         ensures { result ≡ east self.now site }
@@ -122,7 +124,7 @@ impl Lattice {
     }
 
     #[inline(always)]
-    #[tactic(auto, unfolding(sand_model::specs::Grid::south))]
+    #[tactic(auto, unfolding(crate::specs::Grid::south))]
     fn south(&self, site: usize) -> Option<usize>
         requires { site < sites self.now }
         ensures { result ≡ south self.now site }
@@ -134,9 +136,9 @@ impl Lattice {
         }
     }
 
-    /// The places north, west, east and south of a site, in that order.
+    /// The places north, west, east and south of a site, in that order. A place outside the grid is None.
     #[inline(always)]
-    pub(crate) fn neighbours(&self, site: usize) -> [Option<usize>; 4]
+    pub fn neighbours(&self, site: usize) -> [Option<usize>; 4]
         requires { site < sites self.now }
         ensures places { result ≡ places self.now site }
         ensures sides { IsGrid self.now }
@@ -153,7 +155,7 @@ impl Lattice {
 
     /// How many of a site's four places are outside the grid: the grains lost when it topples once.
     #[inline(always)]
-    pub(crate) fn missing(&self, site: usize) -> u64
+    pub fn missing(&self, site: usize) -> u64
         requires { site < sites self.now }
         ensures { result ≡ missing self.now site }
     {
@@ -165,8 +167,8 @@ impl Lattice {
 
     /// How many columns and rows lie between two sites, on a cylinder the shorter way round.
     #[inline(always)]
-    #[tactic(auto, unfolding(sand_model::specs::Grid::distance))]
-    pub(crate) fn distance(&self, from: usize, to: usize) -> u32
+    #[tactic(auto, unfolding(crate::specs::Grid::distance))]
+    pub fn distance(&self, from: usize, to: usize) -> u32
         requires from { from < sites self.now }
         requires to { to < sites self.now }
         ensures { result ≡ distance self.now from to }

@@ -1,7 +1,7 @@
 use Rattle.std.proofs.Common.{ap, arith}
 use Rattle.sand_model.specs.Grid.{Grid}
-use Rattle.sand_settle.proofs.Borders.{nothing_north}
-use Rattle.sand_settle.proofs.lattice.Lattice.north.Goals as goal
+use Rattle.sand_model.proofs.Borders.{nothing_north}
+use Rattle.sand_model.proofs.lattice.Lattice.north.Goals as goal
 
 pub returns-else-site-self : goal.returns-else-site-self
 returns-else-site-self c =

@@ -1,6 +1,6 @@
 use Rattle.std.proofs.Common.{rules, ◌≡◌, ◌∙◌, sym, ap, count_by, is_none}
 use Rattle.sand_model.proofs.Neighbours.{missing_is}
-use Rattle.sand_settle.proofs.lattice.Lattice.missing.Goals as goal
+use Rattle.sand_model.proofs.lattice.Lattice.missing.Goals as goal
 
 pub returns : goal.returns
 returns c =

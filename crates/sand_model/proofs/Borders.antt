@@ -1,0 +1,49 @@
+-- The first and the last row, told by the number of a site, and the column and the row of the next site.
+use Rattle.std.proofs.Common.{ℕ, suc, ◌≡◌, ◌+◌, ◌/◌, ◌%◌, ◌<◌, ◌≤◌, refl, sym, arith, add-one, None, ⊎_elim}
+use Rattle.std.proofs.lemmas.Bool.{le-ltb, cases_lt}
+use Rattle.std.proofs.lemmas.Nat.{le-div, div_below, div-add-mod'}
+use Rattle.std.proofs.Math.Nat.{suc-mod, mod_self, mod-eq_of_lt}
+use Rattle.sand_model.specs.Grid.{Grid, sites, north, south}
+use Rattle.sand_model.proofs.Neighbours.{some_width, row_above, row_below}
+
+pub nothing_north : (g : Grid) (i : ℕ) → i < sites g → i < g.width → None ≡ north g i
+unfolding north
+nothing_north g i inside first =
+    let pos = some_width g.width g.height i inside in
+    let above = row_above g.width i pos in
+    ⊎_elim (λ (up : 0 < i / g.width). let far = above.0 up in absurd (omega arith))
+    (λ (top : i / g.width ≤ 0). rw (le-ltb 0 (i / g.width) top) refl)
+    (cases_lt 0 (i / g.width))
+
+pub nothing_south : (g : Grid) (i : ℕ) → i < sites g → sites g ≤ i + g.width → None ≡ south g i
+unfolding south
+nothing_south g i inside last =
+    let pos = some_width g.width g.height i inside in
+    let below = row_below g.width g.height i pos in
+    ⊎_elim (λ (down : i / g.width + 1 < g.height). let near = below.0 down in absurd (omega arith))
+    (λ (bottom : g.height ≤ i / g.width + 1). rw (le-ltb (i / g.width + 1) g.height bottom) refl)
+    (cases_lt (i / g.width + 1) g.height)
+
+-- ---- the next site, behind a row's last and elsewhere
+
+pub next_row : (w i : ℕ) → i % w + 1 ≡ w → (0 ≡ (i + 1) % w) × (i / w + 1 ≡ (i + 1) / w)
+next_row w i last = (
+  (let all : suc (i % w) ≡ w = omega arith in
+      let turned : suc (i % w) % w ≡ 0 = rw all (mod_self w) in
+      sym (rw (add-one, suc-mod i w) turned)),
+  (let is = div-add-mod' i w in
+      let from = le-div (i / w + 1) (i + 1) w (omega arith) (omega arith) in
+      let below = div_below (i + 1) w (i / w + 2) (omega arith) (omega arith) in
+      omega arith),
+)
+
+pub same_row : (w i : ℕ) → i % w + 1 < w → (i % w + 1 ≡ (i + 1) % w) × (i / w ≡ (i + 1) / w)
+same_row w i inside = (
+  (let below : suc (i % w) < w = omega arith in
+      let kept = mod-eq_of_lt {n = suc (i % w)} {m = w} below in
+      sym (rw (add-one, suc-mod i w) (omega arith))),
+  (let is = div-add-mod' i w in
+      let from = le-div (i / w) (i + 1) w (omega arith) (omega arith) in
+      let below = div_below (i + 1) w (i / w + 1) (omega arith) (omega arith) in
+      omega arith),
+)

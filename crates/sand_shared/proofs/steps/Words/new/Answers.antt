@@ -1,0 +1,12 @@
+use Rattle.std.proofs.Common.{rules, ◌≡◌, ℕ, List, [], ◌∷◌, sym, subst}
+use Rattle.atomic_table.specs.Table.{opening}
+use Rattle.sand_shared.specs.Events.{first_pass}
+use Rattle.sand_shared.specs.Running.{IsRunning}
+use Rattle.sand_shared.proofs.Moments.{opens}
+use Rattle.sand_shared.proofs.steps.Words.new.Goals as goal
+
+pub of_words-requires : goal.of_words-requires
+of_words-requires c =
+    let t = c.args.terms in
+    let words : c.as_slice.result.now ≡ 0 ∷ 0 ∷ t.start.heights = search rules in
+    subst (λ (ws : List ℕ). IsRunning t (opening ws [] (first_pass t))) (sym words) (opens t c.requires)
