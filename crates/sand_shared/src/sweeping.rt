@@ -100,7 +100,6 @@ impl SharedPile {
         ensures swept { Swept self.now.terms (at_rest pass.old) pass.new.counts result }
         ensures few { sum pass.new.counts < 2 ^ 54 }
         ensures whole { IsWhole self.now.terms pass.old → HasAll self.now.terms (at_rest pass.old) }
-        ensures few { sum pass.new.counts < 2 ^ 54 }
     {
         let _ = &self.words;
         let base = usize::from(pass.rows.first) * pass.shape.width();
