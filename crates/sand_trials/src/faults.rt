@@ -16,6 +16,7 @@ fn the_line_of_each_fault(rt: HostRuntime) -> Result<(), Fail> {
         (DeskFault::Unstable, 7, "fault 7 Unstable\n"),
         (DeskFault::NotRecurrent, 8, "fault 8 NotRecurrent\n"),
         (DeskFault::Shapes, 9, "fault 9 Shapes\n"),
+        (DeskFault::Taken, 17, "fault 17 Taken\n"),
         (DeskFault::Text(6), 18, "fault 18 Text at 6\n"),
         (DeskFault::TooLarge(0), 19, "fault 19 TooLarge at 0\n"),
         (DeskFault::Read, 20, "fault 20 Read\n"),
@@ -62,6 +63,16 @@ fn misuse_and_help(rt: HostRuntime) -> Result<(), Fail> {
         ("sandpile identity --width 3", 2),
         ("sandpile identity --width 257 --height 1", 2),
         ("sandpile identity --width 1 --height 0", 2),
+        ("sandpile lab --seed 4294967296", 2),
+        ("sandpile lab --droppers 0", 2),
+        ("sandpile lab --droppers 65", 2),
+        ("sandpile lab --drops 1000001", 2),
+        ("sandpile lab --epochs 0", 2),
+        ("sandpile lab --epochs 101", 2),
+        ("sandpile lab --workers 0", 2),
+        ("sandpile lab --workers 17", 2),
+        ("sandpile lab --sweeps 1001", 2),
+        ("sandpile lab --observers 17", 2),
         ("sandpile --help", 0),
         ("sandpile settle --help", 0),
         ("sandpile burn --help", 0),
@@ -69,6 +80,7 @@ fn misuse_and_help(rt: HostRuntime) -> Result<(), Fail> {
         ("sandpile drops --help", 0),
         ("sandpile add --help", 0),
         ("sandpile inverse --help", 0),
+        ("sandpile lab --help", 0),
     ] {
         let words = words_of(alloc, line)?;
         assert!(rt; !words.is_empty());

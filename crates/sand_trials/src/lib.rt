@@ -10,6 +10,10 @@ mod faults;
 #[cfg(test)]
 mod group;
 #[cfg(test)]
+mod journals;
+#[cfg(test)]
+mod laboratory;
+#[cfg(test)]
 mod model;
 #[cfg(test)]
 mod pictures;

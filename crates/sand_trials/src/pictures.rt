@@ -3,7 +3,7 @@
 use crate::runs::{Row, holds};
 use std::test::Fail;
 
-const DRAWN: [Row; 6] = [
+const DRAWN: [Row; 8] = [
     (
         "sandpile settle --pgm",
         "2 2\n2 2\n2 2\n",
@@ -25,6 +25,16 @@ const DRAWN: [Row; 6] = [
         "P2\n2 1\n3\n3 1\n",
     ),
     ("sandpile inverse --pgm", "2 1\n3 1\n", "P2\n2 1\n3\n0 2\n"),
+    (
+        "sandpile lab --droppers 1 --drops 2 --pgm",
+        "1 1\n0\n",
+        "P2\n1 1\n3\n2\n",
+    ),
+    (
+        "sandpile lab --droppers 1 --drops 2 --journal --pgm",
+        "1 1\n0\n",
+        "P2\n1 1\n3\n2\n",
+    ),
     ("sandpile settle --pgm", "1 1\n0 x", "fault 18 Text at 6\n"),
 ];
 

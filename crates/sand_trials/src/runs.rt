@@ -88,3 +88,12 @@ pub(crate) fn written<T: Threads + Sync>(
     text.extend_from_slice(ending.line.as_slice())?;
     Ok(text)
 }
+
+// The text of a pile of this shape, which has so many sites, with three grains on each.
+pub(crate) fn threes(alloc: Global, shape: &str, sites: usize) -> Result<String, AllocError> {
+    let mut text = String::from_str(alloc, shape)?;
+    for _ in 0..sites {
+        text.push_str(" 3")?;
+    }
+    Ok(text)
+}

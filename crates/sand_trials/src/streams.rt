@@ -2,30 +2,56 @@
 
 use crate::runs::run;
 use crate::stopping::{Cut, Endless, Failing, Sluggish};
+use std::alloc::Global;
+use std::process::Abort;
 use std::test::Fail;
+use std::thread::Threads;
 
 const PILE: &[u8] = b"3 1\n0 4 0\n";
 
 const SETTLED: &[u8] = b"3 1\n1 0 1\nodometer\n0 1 0\nlost 2\ntopplings 1\n";
 
+// A writer that stops after so many bytes, whichever way, has them of the text, and the fault tells how many.
+fn stops_after<T: Threads + Sync + Abort>(
+    rt: &T,
+    alloc: Global,
+    line: &str,
+    input: &[u8],
+    taken: &[u8],
+) -> Result<(), Fail> {
+    let room = taken.len();
+    let want = format!(in alloc; "fault 21 Write after {room}\n")?;
+    for is_full in [false, true] {
+        let mut writer = Sluggish {
+            taken: Vec::new(alloc),
+            room,
+            is_full,
+            flushes: true,
+        };
+        let mut reader = input;
+        let ending = run(rt, alloc, line, &mut reader, &mut writer)?;
+        assert_eq!(rt; ending.line.as_slice(), want.as_bytes());
+        assert_eq!(rt; writer.taken.as_slice(), taken);
+    }
+    Ok(())
+}
+
 #[test]
 fn a_writer_that_stops(rt: HostRuntime) -> Result<(), Fail> {
-    let alloc = rt.alloc();
     assert_eq!(rt; SETTLED.len(), 44);
     for room in 0..SETTLED.len() {
-        for is_full in [false, true] {
-            let mut writer = Sluggish {
-                taken: Vec::new(alloc),
-                room,
-                is_full,
-                flushes: true,
-            };
-            let mut reader = PILE;
-            let ending = run(&rt, alloc, "sandpile settle", &mut reader, &mut writer)?;
-            let want = format!(in alloc; "fault 21 Write after {room}\n")?;
-            assert_eq!(rt; ending.line.as_slice(), want.as_bytes());
-            assert_eq!(rt; writer.taken.as_slice(), &SETTLED[..room]);
-        }
+        stops_after(&rt, rt.alloc(), "sandpile settle", PILE, &SETTLED[..room])?;
+    }
+    Ok(())
+}
+
+#[test]
+fn a_writer_that_stops_in_a_run(rt: HostRuntime) -> Result<(), Fail> {
+    let line = "sandpile lab --droppers 1 --drops 2 --journal";
+    let text =
+        b"epoch drops topplings lost grains\n0 2 0 0 2\ntotal 2 0 0 2\n1 1\n2\nodometer\n0\njournal\n0 0 0 0\n0 1 0 0\n";
+    for room in 0..text.len() {
+        stops_after(&rt, rt.alloc(), line, b"1 1\n0\n", &text[..room])?;
     }
     Ok(())
 }

@@ -1,9 +1,11 @@
 //! Each reading and each text of the desk, called once by itself.
 
 use sand_desk::{
-    burn_text, pgm_text, pile_text, read_drops, read_pile, read_two, settle_text, table_text,
+    burn_text, journal_text, lab_text, pgm_text, pile_text, read_drops, read_pile, read_two,
+    settle_text, table_text,
 };
 use sand_group::burn;
+use sand_lab::{Album, Open, Plan, Wish, run};
 use sand_settle::{Avalanche, settle};
 use std::test::Fail;
 
@@ -52,6 +54,34 @@ fn texts(rt: HostRuntime) -> Result<(), Fail> {
     assert_eq!(rt;
         text.as_slice(),
         b"number site size area reach lost\n7 4 10 9 2 12\n".as_slice()
+    );
+    Ok(())
+}
+
+#[test]
+fn texts_of_a_report(rt: HostRuntime) -> Result<(), Fail> {
+    let alloc = rt.alloc();
+    let start = read_pile(alloc, b"1 1\n3").map_err(|_| "no pile")?;
+    let plan = Plan::new(Wish {
+        seed: 0,
+        droppers: 1,
+        drops: 2,
+        epochs: 2,
+        workers: 1,
+        sweeps: 1,
+        observers: 1,
+    })?;
+    let album = Album::new(alloc, 2)?;
+    let report = run(&rt, alloc, &start, &plan, &Open, &album)?;
+    let text = lab_text(alloc, &report).map_err(|_| "no text")?;
+    assert_eq!(rt;
+        text.as_slice(),
+        b"epoch drops topplings lost grains\n0 2 1 4 1\n1 2 0 0 3\ntotal 4 1 4 3\n1 1\n3\nodometer\n1\n".as_slice()
+    );
+    let text = journal_text(alloc, &report).map_err(|_| "no text")?;
+    assert_eq!(rt;
+        text.as_slice(),
+        b"journal\n0 0 0 0\n0 1 0 0\n1 0 0 0\n1 1 0 0\n".as_slice()
     );
     Ok(())
 }
