@@ -19,7 +19,7 @@ use Rattle.sand_desk.specs.declared.faults.DeskFault.TheVariants as desk
 use Rattle.sand_desk.specs.Dropping.{IsDropsText, IsOverfull}
 use Rattle.sand_desk.specs.Faults.{of_shape, of_text}
 use Rattle.sand_desk.specs.Group.{edge_of, IsBurnText, IsIdentityText, IsSumText, IsInverseText, IsUnstable, IsUnfitPile, IsUnfitPair, IsMismatch}
-use Rattle.sand_desk.specs.Laboratory.{IsLabText, IsOvergrown, wish_of}
+use Rattle.sand_desk.specs.Laboratory.{IsLabText, IsOvergrown, IsRunnable, wish_of}
 use Rattle.sand_desk.specs.Settling.{IsSettleText}
 
 -- whether a task reads an input
@@ -81,13 +81,13 @@ IsInverseFault input fault = IsUnreadable (pile_of input) fault
 abbrev pub IsRunFault : ℕ → DeskFault → Type 0
 IsRunFault grains desk.TooManyGrains = GRAIN_LIMIT < grains
 IsRunFault grains desk.Memory = Unit {0}
-IsRunFault grains desk.Taken = Unit {0}
+IsRunFault grains desk.Taken = grains ≤ GRAIN_LIMIT
 IsRunFault grains fault = ⊥
 
 -- a run wants room for all its drops
 abbrev pub IsLabFault : Wish → List ℕ → DeskFault → Type 0
 IsLabFault w input desk.TooManyGrains = IsUnreadable (pile_of input) desk.TooManyGrains ⊎ IsOvergrown w input
-IsLabFault w input desk.Taken = Unit {0}
+IsLabFault w input desk.Taken = IsRunnable w input
 IsLabFault w input fault = IsUnreadable (pile_of input) fault
 
 -- the fault that a task finds in an input

@@ -1,5 +1,5 @@
 -- What `lab` writes.
-use Rattle.std.specs.Prelude.{ℕ, ◌≡◌, ◌+◌, ◌<◌, Bool, false, List, [], ◌++◌, length, map, sum, Ok, if◌then◌else◌}
+use Rattle.std.specs.Prelude.{ℕ, ◌≡◌, ◌+◌, ◌<◌, ◌≤◌, Bool, false, List, [], ◌++◌, length, map, sum, Ok, if◌then◌else◌}
 use Rattle.sand_model.specs.declared.pile.TheConstants.{GRAIN_LIMIT}
 use Rattle.sand_model.specs.Piles.{PileView}
 use Rattle.sand_shared.specs.Record.{RecordView}
@@ -56,3 +56,9 @@ pub record IsOvergrown (w : Wish) (input : List ℕ) : Type 0 where
   pub start : PileView
   pub read : pile_of input ≡ Ok start
   pub over : GRAIN_LIMIT < sum start.heights + all_drops w
+
+-- the grains of the pile, with all drops, are within the limit
+pub record IsRunnable (w : Wish) (input : List ℕ) : Type 0 where
+  pub start : PileView
+  pub read : pile_of input ≡ Ok start
+  pub within : sum start.heights + all_drops w ≤ GRAIN_LIMIT
