@@ -3,6 +3,7 @@
 
 mod album;
 mod gates;
+mod holding;
 mod likeness;
 mod plan;
 mod refusals;

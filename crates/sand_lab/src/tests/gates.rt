@@ -1,110 +1,10 @@
-//! Gates that hold threads until others have begun a turn: a run gets past them only where its threads work beside each
-//! other.
+//! Runs whose gates hold threads until others have begun a turn.
 
-use crate::tests::setup::{QUIET, one_site, run_gated};
-use crate::{Gate, Role, Wish};
-use std::sync::atomic::AtomicBool;
-use std::sync::atomic::Ordering::SeqCst;
+use crate::Wish;
+use crate::tests::holding::{Hold, Holds, dropper, observer, worker};
+use crate::tests::setup::{QUIET, one_site, pile_on, run_gated};
+use sand_model::Edge;
 use std::test::Fail;
-
-// How often a thread that is held looks before it goes on.
-const PATIENCE: u64 = 1_000_000_000;
-
-#[derive(Clone, Copy, PartialEq, Eq)]
-struct Turn {
-    role: Role,
-    who: u32,
-    turn: u32,
-}
-
-// Who is held at a turn, until which turn has begun.
-#[derive(Drop)]
-struct Hold {
-    held: Turn,
-    until: Turn,
-    begun: AtomicBool,
-}
-
-impl Hold {
-    fn new(held: Turn, until: Turn) -> Hold {
-        Hold {
-            held,
-            until,
-            begun: AtomicBool::new(false),
-        }
-    }
-
-    // Whether the turn has begun that is waited for, as soon as it has.
-    fn has_begun(&self) -> bool {
-        for _ in 0..PATIENCE {
-            if self.begun.load(SeqCst) {
-                return true;
-            }
-        }
-        false
-    }
-}
-
-// Two holds, and whether one of them let go too early.
-#[derive(Drop)]
-struct Holds {
-    holds: [Hold; 2],
-    failed: AtomicBool,
-}
-
-impl Holds {
-    fn new(holds: [Hold; 2]) -> Holds {
-        Holds {
-            holds,
-            failed: AtomicBool::new(false),
-        }
-    }
-
-    // Tells those who wait for a turn that it has begun.
-    fn begin(&self, turn: Turn) {
-        for hold in &self.holds {
-            if hold.until == turn {
-                hold.begun.store(true, SeqCst);
-            }
-        }
-    }
-}
-
-impl Gate for Holds {
-    fn turn(&self, role: Role, who: u32, turn: u32) {
-        let turn = Turn { role, who, turn };
-        self.begin(turn);
-        for hold in &self.holds {
-            if hold.held == turn && !hold.has_begun() {
-                self.failed.store(true, SeqCst);
-            }
-        }
-    }
-}
-
-fn dropper(who: u32, turn: u32) -> Turn {
-    Turn {
-        role: Role::Dropper,
-        who,
-        turn,
-    }
-}
-
-fn worker(turn: u32) -> Turn {
-    Turn {
-        role: Role::Worker,
-        who: 0,
-        turn,
-    }
-}
-
-fn observer(turn: u32) -> Turn {
-    Turn {
-        role: Role::Observer,
-        who: 0,
-        turn,
-    }
-}
 
 #[test]
 fn two_droppers_meet(rt: HostRuntime) -> Result<(), Fail> {
@@ -119,8 +19,26 @@ fn two_droppers_meet(rt: HostRuntime) -> Result<(), Fail> {
         Hold::new(dropper(1, 0), dropper(0, 0)),
     ]);
     let report = run_gated(&rt, rt.alloc(), &start, wish, &gate)?;
-    assert!(rt; !gate.failed.load(SeqCst));
+    assert!(rt; gate.have_held());
     assert_eq!(rt; report.total().history().len(), 2);
+    Ok(())
+}
+
+#[test]
+fn a_worker_and_an_observer_meet(rt: HostRuntime) -> Result<(), Fail> {
+    let start = one_site(rt.alloc(), 4)?;
+    let wish = Wish {
+        sweeps: 1,
+        observers: 1,
+        ..QUIET
+    };
+    let gate = Holds::new([
+        Hold::new(worker(0), observer(0)),
+        Hold::new(observer(0), worker(0)),
+    ]);
+    let report = run_gated(&rt, rt.alloc(), &start, wish, &gate)?;
+    assert!(rt; gate.have_held());
+    assert_eq!(rt; report.swept(0, 0), 1);
     Ok(())
 }
 
@@ -138,7 +56,7 @@ fn an_observer_reads_between_two_drops(rt: HostRuntime) -> Result<(), Fail> {
         Hold::new(dropper(0, 1), observer(1)),
     ]);
     let report = run_gated(&rt, rt.alloc(), &start, wish, &gate)?;
-    assert!(rt; !gate.failed.load(SeqCst));
+    assert!(rt; gate.have_held());
     assert_eq!(rt; report.tallies(0, 0).first(), Some(&1));
     Ok(())
 }
@@ -157,7 +75,29 @@ fn a_worker_sweeps_beside_a_dropper(rt: HostRuntime) -> Result<(), Fail> {
         Hold::new(worker(1), dropper(0, 0)),
     ]);
     let report = run_gated(&rt, rt.alloc(), &start, wish, &gate)?;
-    assert!(rt; !gate.failed.load(SeqCst));
+    assert!(rt; gate.have_held());
     assert_eq!(rt; report.total().history().len(), 1);
+    Ok(())
+}
+
+// Both droppers wait for the worker's last turn beside them, so it toppled nothing before, and one sweep is not enough.
+#[test]
+fn rounds_sweep_until_nothing_topples(rt: HostRuntime) -> Result<(), Fail> {
+    let start = pile_on(rt.alloc(), 8, 8, Edge::Open, &[3; 64])?;
+    let wish = Wish {
+        seed: 42,
+        droppers: 2,
+        drops: 50,
+        sweeps: 600,
+        ..QUIET
+    };
+    let gate = Holds::new([
+        Hold::new(dropper(0, 0), worker(599)),
+        Hold::new(dropper(1, 0), worker(599)),
+    ]);
+    let report = run_gated(&rt, rt.alloc(), &start, wish, &gate)?;
+    assert!(rt; gate.have_held());
+    assert_eq!(rt; report.total().topplings(), 567);
+    assert_eq!(rt; report.swept(0, 0), 567);
     Ok(())
 }

@@ -1,6 +1,6 @@
 //! What a run refuses, and which of two faults is told.
 
-use crate::tests::setup::{Left, QUIET, assert_left, one_site, run_into, run_on};
+use crate::tests::setup::{QUIET, assert_one_left, one_site, run_into, run_on};
 use crate::{Album, LabFault, Open, Report, Wish};
 use sand_model::GRAIN_LIMIT;
 use std::test::Fail;
@@ -49,13 +49,7 @@ fn as_many_grains_as_the_limit(rt: HostRuntime) -> Result<(), Fail> {
         ..QUIET
     };
     let report = run_on(&rt, rt.alloc(), &start, wish)?;
-    let left = Left {
-        heights: &[3],
-        odometer: &[274_877_906_943],
-        topplings: 274_877_906_943,
-        lost: 1_099_511_627_772,
-    };
-    assert_left(&rt, report.total(), left);
+    assert_one_left(&rt, report.total(), 3, 274_877_906_943, 1_099_511_627_772);
     Ok(())
 }
 

@@ -1,8 +1,8 @@
 //! Runs on piles that were worked out by hand.
 
-use crate::tests::setup::{Left, QUIET, assert_left, one_site, pile_on, run_on};
-use crate::{Album, Entry, Open, Plan, Wish, run};
-use sand_model::{Edge, GRAIN_LIMIT};
+use crate::tests::setup::{Left, QUIET, assert_left, assert_one_left, one_site, pile_on, run_on};
+use crate::{Entry, Wish};
+use sand_model::Edge;
 use std::test::Fail;
 
 #[test]
@@ -23,38 +23,11 @@ fn two_epochs_on_one_site(rt: HostRuntime) -> Result<(), Fail> {
     assert!(rt;
         first.start().heights() == [0].as_slice() && second.start().heights() == [2].as_slice()
     );
-    assert_left(
-        &rt,
-        first,
-        Left {
-            heights: &[2],
-            odometer: &[1],
-            topplings: 1,
-            lost: 4,
-        },
-    );
-    assert_left(
-        &rt,
-        second,
-        Left {
-            heights: &[0],
-            odometer: &[2],
-            topplings: 2,
-            lost: 8,
-        },
-    );
+    assert_one_left(&rt, first, 2, 1, 4);
+    assert_one_left(&rt, second, 0, 2, 8);
     let total = report.total();
     assert!(rt; total.start().heights() == [0].as_slice() && total.history() == [0; 12].as_slice());
-    assert_left(
-        &rt,
-        total,
-        Left {
-            heights: &[0],
-            odometer: &[3],
-            topplings: 3,
-            lost: 12,
-        },
-    );
+    assert_one_left(&rt, total, 0, 3, 12);
     Ok(())
 }
 
@@ -76,16 +49,7 @@ fn as_many_threads_as_there_may_be(rt: HostRuntime) -> Result<(), Fail> {
         ..QUIET
     };
     let report = run_on(&rt, rt.alloc(), &start, wish)?;
-    assert_left(
-        &rt,
-        report.total(),
-        Left {
-            heights: &[0],
-            odometer: &[16],
-            topplings: 16,
-            lost: 64,
-        },
-    );
+    assert_one_left(&rt, report.total(), 0, 16, 64);
     assert!(rt; report.total().history() == [0; 64].as_slice());
     assert_eq!(rt; report.records().len(), 1);
     let journal = report.journal(0);
@@ -105,16 +69,7 @@ fn droppers_that_drop_nothing(rt: HostRuntime) -> Result<(), Fail> {
     };
     let report = run_on(&rt, rt.alloc(), &start, wish)?;
     assert!(rt; report.total().history().is_empty());
-    assert_left(
-        &rt,
-        report.total(),
-        Left {
-            heights: &[0],
-            odometer: &[0],
-            topplings: 0,
-            lost: 0,
-        },
-    );
+    assert_one_left(&rt, report.total(), 0, 0, 0);
     assert_eq!(rt; report.records().len(), 1);
     assert!(rt; report.journal(0).is_empty());
     Ok(())
@@ -129,15 +84,12 @@ fn more_workers_than_rows(rt: HostRuntime) -> Result<(), Fail> {
         ..QUIET
     };
     let report = run_on(&rt, rt.alloc(), &start, wish)?;
-    assert_left(
-        &rt,
-        report.total(),
-        Left {
-            heights: &[1, 2, 1],
-            odometer: &[1, 1, 1],
-            topplings: 3,
-            lost: 8,
-        },
-    );
+    let left = Left {
+        heights: &[1, 2, 1],
+        odometer: &[1, 1, 1],
+        topplings: 3,
+        lost: 8,
+    };
+    assert_left(&rt, report.total(), left);
     Ok(())
 }

@@ -103,3 +103,14 @@ pub fn assert_left(rt: &impl Abort, record: &Record, left: Left<'_>) {
     assert_eq!(rt; record.topplings(), left.topplings);
     assert_eq!(rt; record.lost(), left.lost);
 }
+
+/// The same of one site.
+pub fn assert_one_left(rt: &impl Abort, record: &Record, height: u64, topplings: u64, lost: u64) {
+    let left = Left {
+        heights: &[height],
+        odometer: &[topplings],
+        topplings,
+        lost,
+    };
+    assert_left(rt, record, left);
+}

@@ -27,7 +27,7 @@ const SPREADS: [(u32, u32, u32); 8] = [
     (8, 20, 3),
 ];
 
-// What another program got, which drops the grains of both streams and then topples.
+// What all drops of both droppers leave.
 const LEFT: Left<'static> = Left {
     heights: &[
         1, 2, 2, 1, 1, 3, 1, 3, 3, 1, 1, 3, 0, 2, 0, 2, 3, 2, 1, 3, 2, 2, 1, 1, 2, 3, 3, 2, 3, 2,

@@ -1,4 +1,4 @@
-//! The streams of drop sites, on values that another program of ChaCha8 gave.
+//! The streams of drop sites, on worked values.
 
 use crate::sites_of;
 use sand_model::Shape;
@@ -12,7 +12,7 @@ struct Row {
     sites: [usize; 18],
 }
 
-// The first row is the published keystream of the key of zeros: its words begin 2fef003e d6405f89 e8b85b7f.
+// The first row is the published keystream of ChaCha8 under the key of zeros, which begins 3e 00 ef 2f 89 5f 40 d6.
 #[test]
 fn the_low_halves_of_the_words(rt: HostRuntime) -> Result<(), Fail> {
     let rows = [

@@ -27,6 +27,14 @@ fn tallies_never_fall(rt: HostRuntime) -> Result<(), Fail> {
     Ok(())
 }
 
+// What four sites of 4 grains leave in a square: each topples once.
+const SQUARE_OF_FOURS: Left<'static> = Left {
+    heights: &[2; 4],
+    odometer: &[1; 4],
+    topplings: 4,
+    lost: 8,
+};
+
 #[test]
 fn each_worker_sweeps_its_row(rt: HostRuntime) -> Result<(), Fail> {
     let start = pile_on(rt.alloc(), 2, 2, Edge::Open, &[4; 4])?;
@@ -37,16 +45,7 @@ fn each_worker_sweeps_its_row(rt: HostRuntime) -> Result<(), Fail> {
     };
     let report = run_on(&rt, rt.alloc(), &start, wish)?;
     assert_eq!(rt; (report.swept(0, 0), report.swept(0, 1)), (2, 2));
-    assert_left(
-        &rt,
-        report.total(),
-        Left {
-            heights: &[2; 4],
-            odometer: &[1; 4],
-            topplings: 4,
-            lost: 8,
-        },
-    );
+    assert_left(&rt, report.total(), SQUARE_OF_FOURS);
     Ok(())
 }
 
@@ -64,15 +63,6 @@ fn workers_without_rows_sweep_nothing(rt: HostRuntime) -> Result<(), Fail> {
         let due = if worker == 7 || worker == 15 { 2 } else { 0 };
         assert_eq!(rt; report.swept(0, worker), due, "worker {worker}");
     }
-    assert_left(
-        &rt,
-        report.total(),
-        Left {
-            heights: &[2; 4],
-            odometer: &[1; 4],
-            topplings: 4,
-            lost: 8,
-        },
-    );
+    assert_left(&rt, report.total(), SQUARE_OF_FOURS);
     Ok(())
 }

@@ -42,7 +42,7 @@ impl Calls {
         }
     }
 
-    // Whether each of both took all turns of so many epochs, in order.
+    // Whether both took all turns of so many epochs, in order.
     fn are_all(&self, epochs: u32) -> bool {
         let all = self.turns.saturating_mul(epochs);
         !self.astray.load(SeqCst) && self.calls.iter().all(|calls| calls.load(SeqCst) == all)
