@@ -18,6 +18,8 @@ mod model;
 #[cfg(test)]
 mod pictures;
 #[cfg(test)]
+mod refused;
+#[cfg(test)]
 mod runs;
 pub mod stopping;
 #[cfg(test)]
