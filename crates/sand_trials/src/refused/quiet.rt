@@ -1,16 +1,19 @@
 //! Calls that take no memory: with every request refused they answer as ever, and no request was made.
 
-ghost use Rattle.std.specs.Prelude.{◌≡◌};
+ghost use Rattle.std.specs.Prelude.{◌≡◌, ℕ, ◌<◌, IfOk, length};
+ghost use Rattle.sand_lab.specs.Reports.{sheet_at};
 
 use crate::refused::memory::{refuse, was_refused};
 use crate::refused::piles::{full, pile_on};
 use sand_desk::{DeskFault, read_pile, status, write_fault};
 use sand_group::Recurrent;
-use sand_lab::{Album, Gate, Open, Plan, Role, Wish, run};
+use sand_lab::{Album, Gate, LabFault, Open, Plan, Report, Role, Wish, run};
 use sand_model::{Edge, GRAIN_LIMIT, Pile, Shape, laws, topple};
 use sand_settle::{OnePile, settle};
 use sand_shared::SharedPile;
+use std::alloc::Global;
 use std::test::Fail;
+use std::thread::Threads;
 
 #[test]
 fn shapes(rt: HostRuntime) -> Result<(), Fail> {
@@ -168,21 +171,12 @@ fn records(rt: HostRuntime) -> Result<(), Fail> {
 #[test]
 fn plans_and_gates(rt: HostRuntime) -> Result<(), Fail> {
     let alloc = rt.alloc();
-    let wish = Wish {
-        seed: 0,
-        droppers: 1,
-        drops: 3,
-        epochs: 1,
-        workers: 1,
-        sweeps: 0,
-        observers: 1,
-    };
     refuse(alloc, 0);
-    let plan = Plan::new(wish)?;
-    assert!(rt; plan.wish() == wish);
+    let plan = Plan::new(ONE_EPOCH)?;
+    assert!(rt; plan.wish() == ONE_EPOCH);
     let none = Wish {
         droppers: 0,
-        ..wish
+        ..ONE_EPOCH
     };
     assert!(rt; Plan::new(none).is_err_and(|fault| fault.number() == 15));
     Open.turn(Role::Dropper, 0, 0);
@@ -190,24 +184,41 @@ fn plans_and_gates(rt: HostRuntime) -> Result<(), Fail> {
     Ok(())
 }
 
+// One epoch with a dropper, a worker and an observer.
+const ONE_EPOCH: Wish = Wish {
+    seed: 0,
+    droppers: 1,
+    drops: 3,
+    epochs: 1,
+    workers: 1,
+    sweeps: 1,
+    observers: 1,
+};
+
+fn report_into<R: Threads + Sync>(
+    rt: &R,
+    alloc: Global,
+    start: &Pile,
+    wish: Wish,
+    album: &Album,
+) -> Result<Report, LabFault>
+    ensures epochs { IfOk result (λ p. length p.sheets ≡ wish.epochs) }
+    ensures tallies { IfOk result (λ p. (t : ℕ) → t < wish.epochs → length (sheet_at p t).tallies ≡ wish.observers) }
+    ensures swept { IfOk result (λ p. (t : ℕ) → t < wish.epochs → length (sheet_at p t).swept ≡ wish.workers) }
+{
+    let plan = Plan::new(wish)?;
+    run(rt, alloc, start, &plan, &Open, album)
+}
+
 #[test]
 fn albums_and_reports(rt: HostRuntime) -> Result<(), Fail> {
     let alloc = rt.alloc();
     let start = pile_on(alloc, 1, 1, &[0])?;
-    let plan = Plan::new(Wish {
-        seed: 0,
-        droppers: 1,
-        drops: 3,
-        epochs: 1,
-        workers: 1,
-        sweeps: 0,
-        observers: 0,
-    })?;
     let album = Album::new(alloc, 1)?;
     assert!(rt; album.places() == 1);
-    let mut report = run(&rt, alloc, &start, &plan, &Open, &album)?;
-    assert!(rt; report.records().len() == 1);
+    let mut report = report_into(&rt, alloc, &start, ONE_EPOCH, &album)?;
     refuse(alloc, 0);
+    assert_eq!(rt; (album.places(), report.records().len()), (1, 1));
     let mut note = album.note(0);
     let seen = album
         .look(0, &mut note)
@@ -217,6 +228,7 @@ fn albums_and_reports(rt: HostRuntime) -> Result<(), Fail> {
         (report.journal(0).len(), report.total().history().len()),
         (3, 3)
     );
+    assert_eq!(rt; (report.tallies(0, 0).len(), report.swept(0, 0)), (16, 0));
     let known = report.note(0);
     assert!(rt; !was_refused(alloc));
     drop((note, known));

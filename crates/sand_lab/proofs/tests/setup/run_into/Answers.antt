@@ -1,39 +1,6 @@
--- What is kept of each epoch of a report has as many tallies and swept numbers as the plan has observers and workers, and
--- names the epoch's place.
-use Rattle.std.proofs.Common.{ℕ, ◌≡◌, ◌+◌, ◌<◌, zero, suc, List, [], ◌∷◌, length, slice_index_or, None, subst, arith}
 use Rattle.std.proofs.lemmas.Result.{IfOk-weaker}
-use Rattle.sand_model.specs.Piles.{PileView}
-use Rattle.sand_shared.specs.Record.{RecordView}
-use Rattle.sand_lab.specs.declared.plan.Wish.{Wish}
-use Rattle.sand_lab.specs.Albums.{IsPlace}
-use Rattle.sand_lab.specs.Reports.{SheetView, ReportView, IsEpoch, AreEpochs, IsReport, sheet_at}
+use Rattle.sand_lab.proofs.Sheets.{sheets}
 use Rattle.sand_lab.proofs.tests.setup.run_into.Goals as goal
-
-record IsSheet (album : List ℕ) (w : Wish) (t : ℕ) (s : SheetView) : Type 0 where
-  tallies : length s.tallies ≡ w.observers
-  swept : length s.swept ≡ w.workers
-  place : IsPlace album t s.place
-
-sheet_of : (album : List ℕ) (w : Wish) (start : PileView) (t : ℕ) (r : RecordView) (s : SheetView) → IsEpoch album w start t r s → IsSheet album w t s
-sheet_of album w start t r s epoch = record { tallies = epoch.closed.read.all; swept = epoch.closed.tended.all; place = epoch.place }
-
--- the sheet at place t of those from an epoch on is that of epoch n
-sheets_of : (album : List ℕ) (w : Wish) (none : SheetView) (start : PileView) (from : ℕ) (rs : List RecordView) (ss : List SheetView) → AreEpochs album w start from rs ss
-    → (t n : ℕ) → from + t ≡ n → t < length rs → IsSheet album w n (slice_index_or ss t none)
-sheets_of album w none start from [] ss epochs t n is l = absurd (omega (arith, l))
-sheets_of album w none start from (r ∷ rs) [] epochs t n is l = absurd epochs
-sheets_of album w none start from (r ∷ rs) (s ∷ ss) epochs zero n is l =
-    let here : from ≡ n = omega (arith, is) in
-    subst (λ m. IsSheet album w m s) here (sheet_of album w start from r s epochs.0)
-sheets_of album w none start from (r ∷ rs) (s ∷ ss) epochs (suc t) n is l = sheets_of album w none r.settled.pile (from + 1) rs ss epochs.1 t n (omega (arith, is)) (omega (arith, l))
-
--- v is what a plan was made of w
-sheets : (album : List ℕ) (v w : Wish) → v ≡ w → (start : PileView) (p : ReportView) → IsReport album v start p → (t : ℕ) → t < w.epochs → IsSheet album w t (sheet_at p t)
-sheets album v w same start p made t l =
-    let none : SheetView = record { journal = []; tallies = []; swept = []; place = 0; shown = None } in
-    let report = subst (λ (u : Wish). IsReport album u start p) same made in
-    let all = report.all in
-    sheets_of album w none start 0 p.records p.sheets report.epochs t t (omega arith) (omega (arith, l, all))
 
 pub returns-clause-tallies : goal.returns-clause-tallies
 returns-clause-tallies g c =
