@@ -70,7 +70,7 @@ impl Queue {
         })
     }
 
-    /// Settles a pile, or answers None where more sites had their turn than `turns`.
+    /// Settles a pile, or answers None where as many sites as `turns` had their turn, or more, and others wait.
     pub(crate) fn settle(&mut self, pile: &Pile, rest: Rest, turns: u64) -> Option<Rest>
         requires room { HasRoom pile.now.grid self.old }
         requires pile { rest.heights.items ≡ pile.now.heights }

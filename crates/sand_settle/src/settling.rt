@@ -128,8 +128,8 @@ fn topple_wave(
     }
 }
 
-// Topples until no site may topple, and says so; or stops where more sites had their turn than `turns`, after the wave in
-// which that came about. Counts how often each site topples, and lists the sites that do.
+// Topples until no site may topple, and says so; or stops before a wave where as many sites as `turns` had their turn, or
+// more. Counts how often each site topples, and lists the sites that do.
 pub(crate) fn drain_within(
     lattice: &Lattice,
     heights: &mut [u64],

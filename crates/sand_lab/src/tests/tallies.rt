@@ -66,3 +66,21 @@ fn workers_without_rows_sweep_nothing(rt: HostRuntime) -> Result<(), Fail> {
     assert_left(&rt, report.total(), SQUARE_OF_FOURS);
     Ok(())
 }
+
+// The other band topples 330 and 111 times beside the droppers, and 37 and 11 times in two rounds, though the first band
+// is calm all along. What is left topples as the pile is closed.
+#[test]
+fn rounds_go_on_while_one_band_topples(rt: HostRuntime) -> Result<(), Fail> {
+    let mut heights = [0; 64];
+    heights[48] = 1000;
+    let start = pile_on(rt.alloc(), 1, 64, Edge::Open, &heights)?;
+    let wish = Wish {
+        workers: 2,
+        sweeps: 2,
+        ..QUIET
+    };
+    let report = run_on(&rt, rt.alloc(), &start, wish)?;
+    assert_eq!(rt; (report.swept(0, 0), report.swept(0, 1)), (0, 489));
+    assert_eq!(rt; report.total().topplings(), 494);
+    Ok(())
+}
