@@ -27,6 +27,3 @@ pub use plan::{Plan, Wish};
 pub use report::Report;
 pub use runs::run;
 pub use streams::sites_of;
-
-#[cfg(test)]
-mod tests;

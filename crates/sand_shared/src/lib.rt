@@ -17,8 +17,6 @@ mod shared_pile;
 mod splitting;
 mod steps;
 mod sweeping;
-#[cfg(test)]
-mod tests;
 mod view;
 
 pub use faults::{CloseFault, DropFault, JoinFault, SharedFault, SplitFault};

@@ -29,6 +29,3 @@ pub use piles::{pile_text, read_pile, settle_text};
 pub use runs::{Sums, lab_text};
 pub use tables::table_text;
 pub use two_piles::read_two;
-
-#[cfg(test)]
-mod tests;

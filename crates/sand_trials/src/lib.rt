@@ -18,8 +18,6 @@ mod model;
 #[cfg(test)]
 mod pictures;
 #[cfg(test)]
-mod refused;
-#[cfg(test)]
 mod runs;
 pub mod stopping;
 #[cfg(test)]

@@ -1,0 +1,137 @@
+//! What a reader sees of an album, before a run, beside it and after it.
+
+ghost use Rattle.std.specs.Prelude.{◌≡◌};
+ghost use Rattle.sand_lab.specs.Albums.{IsPlace};
+
+use crate::setup::{QUIET, one_site, run_into};
+use sand_lab::{Album, Gate, LabFault, Note, Open, Role, Wish};
+use std::sync::atomic::AtomicU64;
+use std::sync::atomic::Ordering::SeqCst;
+use std::test::Fail;
+use std::thread::join;
+
+// The epoch of the picture at a place, and the height of its first site.
+fn seen(album: &Album, k: u32, note: &mut Note) -> Option<(u32, u64)>
+    requires { IsPlace album.now k note.old.cell }
+    ensures { note.new.cell ≡ note.old.cell }
+{
+    let picture = album.look(k, note)?;
+    let height = picture.closed().pile().heights().first()?;
+    Some((picture.epoch(), *height))
+}
+
+#[test]
+fn a_place_is_set_once(rt: HostRuntime) -> Result<(), Fail> {
+    let start = one_site(rt.alloc(), 0)?;
+    let wish = Wish { drops: 3, ..QUIET };
+    let album = Album::new(rt.alloc(), 1)?;
+    assert_eq!(rt; album.places(), 1);
+    let mut note = album.note(0);
+    assert_eq!(rt; seen(&album, 0, &mut note), None);
+    let mut report = run_into(&rt, rt.alloc(), &start, wish, &Open, &album)?;
+    assert_eq!(rt; seen(&album, 0, &mut note), Some((0, 3)));
+
+    let more = Wish { drops: 2, ..QUIET };
+    let again = run_into(&rt, rt.alloc(), &start, more, &Open, &album);
+    assert!(rt; matches!(again, Err(LabFault::Taken)));
+    assert_eq!(rt; seen(&album, 0, &mut note), Some((0, 3)));
+    album.agree(0, &mut note, report.note(0));
+    Ok(())
+}
+
+#[test]
+fn each_epoch_at_its_place(rt: HostRuntime) -> Result<(), Fail> {
+    let start = one_site(rt.alloc(), 0)?;
+    let wish = Wish {
+        droppers: 2,
+        drops: 3,
+        epochs: 2,
+        ..QUIET
+    };
+    let album = Album::new(rt.alloc(), 2)?;
+    let mut report = run_into(&rt, rt.alloc(), &start, wish, &Open, &album)?;
+    let mut first = report.note(0);
+    assert_eq!(rt; seen(&album, 0, &mut first), Some((0, 2)));
+    let mut second = report.note(1);
+    assert_eq!(rt; seen(&album, 1, &mut second), Some((1, 0)));
+    Ok(())
+}
+
+// What is seen with a note of place 0.
+fn seen_first(album: &Album, mut note: Note) -> Option<(u32, u64)>
+    requires { IsPlace album.now 0 note.cell }
+{
+    seen(album, 0, &mut note)
+}
+
+#[test]
+fn two_threads_see_the_same(rt: HostRuntime) -> Result<(), Fail> {
+    let start = one_site(rt.alloc(), 0)?;
+    let wish = Wish {
+        drops: 5,
+        epochs: 2,
+        ..QUIET
+    };
+    let album = Album::new(rt.alloc(), 2)?;
+    run_into(&rt, rt.alloc(), &start, wish, &Open, &album)?;
+    assert!(rt; 0 < album.places());
+    let (one, other) = (album.note(0), album.note(0));
+    let place = &album;
+    let (here, there) = join(
+        &rt,
+        move || -> Option<(u32, u64)>
+            requires { IsPlace place.now 0 one.cell }
+        { seen_first(place, one) },
+        move || -> Option<(u32, u64)>
+            requires { IsPlace place.now 0 other.cell }
+        { seen_first(place, other) },
+    );
+    assert_eq!(rt; here, Some((0, 1)));
+    assert_eq!(rt; there, Some((0, 1)));
+    Ok(())
+}
+
+// Counts the places that show a picture, at each turn anew.
+#[derive(Drop)]
+struct Watch<'a> {
+    album: &'a Album,
+    pictures: AtomicU64,
+}
+
+// Whether a place shows a picture.
+fn is_set(album: &Album, k: u32) -> bool {
+    if k >= album.places() {
+        return false;
+    }
+    let mut note = album.note(k);
+    album.look(k, &mut note).is_some()
+}
+
+impl Gate for Watch<'_> {
+    fn turn(&self, _role: Role, _who: u32, _turn: u32) {
+        for k in 0..self.album.places() {
+            if is_set(self.album, k) {
+                self.pictures.fetch_add(1, SeqCst);
+            }
+        }
+    }
+}
+
+// One drop in each of four epochs: its turn finds the pictures of the epochs before, 0 and 1 and 2 and 3 of them.
+#[test]
+fn an_epoch_is_shown_before_the_next_one(rt: HostRuntime) -> Result<(), Fail> {
+    let start = one_site(rt.alloc(), 0)?;
+    let wish = Wish {
+        drops: 1,
+        epochs: 4,
+        ..QUIET
+    };
+    let album = Album::new(rt.alloc(), 4)?;
+    let watch = Watch {
+        album: &album,
+        pictures: AtomicU64::new(0),
+    };
+    run_into(&rt, rt.alloc(), &start, wish, &watch, &album)?;
+    assert_eq!(rt; watch.pictures.load(SeqCst), 6);
+    Ok(())
+}

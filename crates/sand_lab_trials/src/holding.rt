@@ -1,0 +1,110 @@
+//! A gate that holds threads until others have begun a turn: they get past it only where they work beside each other.
+
+use sand_lab::{Gate, Role};
+use std::sync::atomic::AtomicBool;
+use std::sync::atomic::Ordering::SeqCst;
+
+// How often a thread that is held looks before it goes on.
+const PATIENCE: u64 = 1_000_000_000;
+
+/// A turn of a thread: its role, its number there, and which of its turns it is.
+#[derive(Clone, Copy, PartialEq, Eq)]
+pub struct Turn {
+    role: Role,
+    who: u32,
+    turn: u32,
+}
+
+/// Who is held at a turn, until which turn has begun.
+#[derive(Drop)]
+pub struct Hold {
+    held: Turn,
+    until: Turn,
+    begun: AtomicBool,
+}
+
+impl Hold {
+    pub fn new(held: Turn, until: Turn) -> Hold {
+        Hold {
+            held,
+            until,
+            begun: AtomicBool::new(false),
+        }
+    }
+
+    // Whether the turn has begun that is waited for, as soon as it has.
+    fn has_begun(&self) -> bool {
+        for _ in 0..PATIENCE {
+            if self.begun.load(SeqCst) {
+                return true;
+            }
+        }
+        false
+    }
+}
+
+/// Two holds, and whether one of them let go too early.
+#[derive(Drop)]
+pub struct Holds {
+    holds: [Hold; 2],
+    failed: AtomicBool,
+}
+
+impl Holds {
+    pub fn new(holds: [Hold; 2]) -> Holds {
+        Holds {
+            holds,
+            failed: AtomicBool::new(false),
+        }
+    }
+
+    /// Whether nobody was let go before the turn had begun that was waited for.
+    pub fn have_held(&self) -> bool {
+        !self.failed.load(SeqCst)
+    }
+
+    // Tells those who wait for a turn that it has begun.
+    fn begin(&self, turn: Turn) {
+        for hold in &self.holds {
+            if hold.until == turn {
+                hold.begun.store(true, SeqCst);
+            }
+        }
+    }
+}
+
+impl Gate for Holds {
+    fn turn(&self, role: Role, who: u32, turn: u32) {
+        let turn = Turn { role, who, turn };
+        self.begin(turn);
+        for hold in &self.holds {
+            if hold.held == turn && !hold.has_begun() {
+                self.failed.store(true, SeqCst);
+            }
+        }
+    }
+}
+
+pub fn dropper(who: u32, turn: u32) -> Turn {
+    Turn {
+        role: Role::Dropper,
+        who,
+        turn,
+    }
+}
+
+pub fn worker(turn: u32) -> Turn {
+    Turn {
+        role: Role::Worker,
+        who: 0,
+        turn,
+    }
+}
+
+pub fn observer(turn: u32) -> Turn {
+    Turn {
+        role: Role::Observer,
+        who: 0,
+        turn,
+    }
+}

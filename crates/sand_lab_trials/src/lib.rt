@@ -1,0 +1,27 @@
+//! Tests of `sand_lab`: worked examples, and what no clause says, that a call succeeds, that the threads of a run work
+//! beside each other, and that each calls the gate before each of its turns.
+#![tactic(auto)]
+
+#[cfg(test)]
+mod album;
+#[cfg(test)]
+mod gates;
+pub mod holding;
+#[cfg(test)]
+mod likeness;
+#[cfg(test)]
+mod plan;
+#[cfg(test)]
+mod refusals;
+#[cfg(test)]
+mod runs;
+#[cfg(test)]
+mod setup;
+#[cfg(test)]
+mod spreading;
+#[cfg(test)]
+mod streams;
+#[cfg(test)]
+mod tallies;
+#[cfg(test)]
+mod turns;

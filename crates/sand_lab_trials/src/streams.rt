@@ -1,0 +1,93 @@
+//! The streams of drop sites, on worked values.
+
+use sand_lab::sites_of;
+use sand_model::Shape;
+use std::test::Fail;
+
+// The first eighteen sites of a stream, of which two are of the second block.
+#[derive(Clone, Copy)]
+struct Row {
+    seed: u64,
+    stream: u64,
+    sites: [usize; 18],
+}
+
+// The first row is the published keystream of ChaCha8 under the key of zeros, which begins 3e 00 ef 2f 89 5f 40 d6.
+#[test]
+fn the_low_halves_of_the_words(rt: HostRuntime) -> Result<(), Fail> {
+    let rows = [
+        Row {
+            seed: 0,
+            stream: 0,
+            sites: [
+                62, 24457, 23423, 2335, 33836, 39630, 6936, 29167, 19608, 8633, 17567, 27973,
+                18993, 34522, 31544, 3086, 44754, 42474,
+            ],
+        },
+        Row {
+            seed: 1,
+            stream: 0,
+            sites: [
+                24271, 19017, 1342, 23410, 62482, 25582, 12602, 1140, 40232, 30012, 60246, 39140,
+                55436, 25399, 8850, 64216, 13748, 56723,
+            ],
+        },
+        Row {
+            seed: 0,
+            stream: 1,
+            sites: [
+                36651, 33657, 12369, 36175, 41018, 48833, 3849, 55200, 61567, 45675, 14869, 35784,
+                49667, 30932, 47138, 219, 2887, 35012,
+            ],
+        },
+        Row {
+            seed: 0,
+            stream: 64,
+            sites: [
+                23209, 57188, 43968, 49684, 3679, 23711, 38479, 47073, 29433, 17779, 37008, 58848,
+                49045, 32499, 1157, 46118, 40663, 59953,
+            ],
+        },
+        Row {
+            seed: 0x0123_4567_89ab_cdef,
+            stream: 4_294_967_301,
+            sites: [
+                51062, 45171, 36068, 19438, 6527, 11341, 37981, 17973, 3937, 57268, 39276, 7276,
+                48535, 64991, 23825, 64282, 62618, 54091,
+            ],
+        },
+    ];
+    let square = Shape::new(256, 256)?;
+    for row in rows {
+        let sites = sites_of(rt.alloc(), square, row.seed, row.stream, 18)?;
+        assert_eq!(rt;
+            sites.as_slice(),
+            row.sites.as_slice(),
+            "of seed {}, stream {}",
+            row.seed,
+            row.stream
+        );
+    }
+    Ok(())
+}
+
+// The same words, modulo a number that takes in their high halves.
+#[test]
+fn the_whole_words(rt: HostRuntime) -> Result<(), Fail> {
+    let shape = Shape::new(7, 5)?;
+    let sites = sites_of(rt.alloc(), shape, 0, 0, 8)?;
+    assert!(rt; sites.as_slice() == [13, 5, 34, 26, 25, 1, 32, 3].as_slice());
+    Ok(())
+}
+
+#[test]
+fn one_site_alone(rt: HostRuntime) -> Result<(), Fail> {
+    let shape = Shape::new(1, 1)?;
+    for (seed, stream) in [(0, 0), (7, 0), (0, 9), (u64::MAX, u64::MAX)] {
+        let sites = sites_of(rt.alloc(), shape, seed, stream, 5)?;
+        assert!(rt; sites.as_slice() == [0, 0, 0, 0, 0].as_slice());
+        let none = sites_of(rt.alloc(), shape, seed, stream, 0)?;
+        assert!(rt; none.is_empty());
+    }
+    Ok(())
+}

@@ -1,0 +1,85 @@
+//! How often a gate is called.
+
+use crate::setup::{QUIET, one_site, run_gated};
+use sand_lab::{Gate, Role, Wish};
+use std::sync::atomic::Ordering::SeqCst;
+use std::sync::atomic::{AtomicBool, AtomicU32};
+use std::test::Fail;
+
+// Counts the calls of two of each role, which take so many turns each in an epoch.
+#[derive(Drop)]
+struct Count {
+    droppers: Calls,
+    workers: Calls,
+    observers: Calls,
+}
+
+// The calls of two who take so many turns in an epoch.
+#[derive(Drop)]
+struct Calls {
+    turns: u32,
+    calls: [AtomicU32; 2],
+    astray: AtomicBool,
+}
+
+impl Calls {
+    fn new(turns: u32) -> Calls {
+        Calls {
+            turns,
+            calls: [AtomicU32::new(0), AtomicU32::new(0)],
+            astray: AtomicBool::new(false),
+        }
+    }
+
+    // Counts a call, and whether it is the next one: turns count from 0 in each epoch.
+    fn count(&self, who: u32, turn: u32) {
+        let is_next = match self.calls.get(who as usize) {
+            Some(calls) => calls.fetch_add(1, SeqCst).checked_rem(self.turns) == Some(turn),
+            None => false,
+        };
+        if !is_next {
+            self.astray.store(true, SeqCst);
+        }
+    }
+
+    // Whether both took all turns of so many epochs, in order.
+    fn are_all(&self, epochs: u32) -> bool {
+        let all = self.turns.saturating_mul(epochs);
+        !self.astray.load(SeqCst) && self.calls.iter().all(|calls| calls.load(SeqCst) == all)
+    }
+}
+
+impl Gate for Count {
+    fn turn(&self, role: Role, who: u32, turn: u32) {
+        match role {
+            Role::Dropper => self.droppers.count(who, turn),
+            Role::Worker => self.workers.count(who, turn),
+            Role::Observer => self.observers.count(who, turn),
+        }
+    }
+}
+
+// Rounds of sweeps follow each epoch's turns, and call no gate.
+#[test]
+fn a_gate_is_called_before_each_turn(rt: HostRuntime) -> Result<(), Fail> {
+    let start = one_site(rt.alloc(), 0)?;
+    let wish = Wish {
+        droppers: 2,
+        drops: 5,
+        epochs: 3,
+        workers: 2,
+        sweeps: 4,
+        observers: 2,
+        ..QUIET
+    };
+    let gate = Count {
+        droppers: Calls::new(5),
+        workers: Calls::new(4),
+        observers: Calls::new(16),
+    };
+    run_gated(&rt, rt.alloc(), &start, wish, &gate)?;
+    assert!(rt; gate.droppers.are_all(3));
+    assert!(rt; gate.workers.are_all(3));
+    assert!(rt; gate.observers.are_all(3));
+    Ok(())
+}

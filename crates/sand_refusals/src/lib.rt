@@ -1,0 +1,33 @@
+//! Each call that takes memory, with each of its requests refused in turn; and each call that takes none, with all
+//! refused.
+//!
+//! A call is made again and again. First its first request for memory is refused, then its second, and so on until none
+//! is. Each time it answers want of memory and nothing else, leaves what it was lent as it was, and then, made once more
+//! on the same things, answers what a call answers that nobody disturbs.
+//!
+//! No program can refuse itself memory. `refusals/run`, which the gate calls, loads a library that does; under `rt ci`
+//! alone nothing is refused, so that each call is only made, and made again. Each trial tells how many requests of its
+//! call were refused.
+#![tactic(auto)]
+
+#[cfg(test)]
+mod commands;
+#[cfg(test)]
+mod group;
+pub mod memory;
+#[cfg(test)]
+mod passes;
+#[cfg(test)]
+mod piles;
+#[cfg(test)]
+mod quiet;
+#[cfg(test)]
+mod runs;
+#[cfg(test)]
+mod settling;
+#[cfg(test)]
+mod telling;
+#[cfg(test)]
+mod texts;
+#[cfg(test)]
+mod trying;

@@ -1,0 +1,272 @@
+//! The shared pile: its passes, its closing, and records.
+
+ghost use Rattle.std.specs.Prelude.{◌≡◌, IfOk};
+
+use crate::memory::{refuse, was_refused};
+use crate::piles::{full, pile_on};
+use crate::telling::Told;
+use crate::trying::{MOST_REQUESTS, Refused, Spares, each_refused, tell_refused};
+use sand_model::{GRAIN_LIMIT, Pile};
+use sand_shared::{CloseFault, JoinFault, Pass, Record, SharedPile, SplitFault};
+use std::alloc::Global;
+use std::process::Abort;
+use std::test::Fail;
+
+const WITHOUT_END: &str = "a call that makes requests without end";
+
+// So many requests were refused, and none was spared.
+fn every(requests: u32) -> Refused {
+    Refused {
+        requests,
+        spared: 0,
+    }
+}
+
+// What is left, how many receipts there are, what was seen, and the rows.
+fn view(pass: &Pass) -> (u64, usize, u64, (u16, u16)) {
+    (pass.left(), pass.receipts().len(), pass.seen(), pass.rows())
+}
+
+// The history, the heights, the odometer and the grains lost.
+fn assert_record(
+    rt: &impl Abort,
+    record: &Record,
+    history: &[usize],
+    heights: &[u64],
+    odometer: &[u64],
+    lost: u64,
+) {
+    assert!(rt; record.history() == history);
+    assert!(rt; record.pile().heights() == heights);
+    assert!(rt; record.odometers() == odometer);
+    assert_eq!(rt; record.lost(), lost);
+}
+
+#[test]
+fn sharing(rt: HostRuntime) -> Result<(), Fail> {
+    each_refused(
+        &rt,
+        rt.alloc(),
+        "SharedPile::new",
+        Spares::Nothing,
+        |alloc: Global| full(alloc),
+        |alloc: Global, start: &mut Pile| {
+            SharedPile::new(alloc, start, 7).map_err(|fault| fault.number())
+        },
+    )?;
+    Ok(())
+}
+
+#[test]
+fn splitting(rt: HostRuntime) -> Result<(), Fail> {
+    let alloc = rt.alloc();
+    let start = full(alloc)?;
+    for number in 1..MOST_REQUESTS {
+        let (pile, mut pass) = SharedPile::new(alloc, &start, 5)?;
+        refuse(alloc, number);
+        let tried = pile.split(alloc, &mut pass, 2);
+        let was_refused = was_refused(alloc);
+        let child = match tried {
+            Ok(child) => {
+                assert!(rt; !was_refused);
+                child
+            }
+            Err(fault) => {
+                assert!(rt; was_refused && matches!(fault, SplitFault::Memory(_)));
+                assert!(rt; view(&pass) == (5, 0, 0, (0, 3)));
+                pile.split(alloc, &mut pass, 2)?
+            }
+        };
+        assert!(rt; view(&child) == (2, 0, 0, (0, 0)));
+        assert!(rt; view(&pass) == (3, 0, 0, (0, 3)));
+        if !was_refused {
+            return tell_refused(&rt, alloc, "SharedPile::split", every(number - 1));
+        }
+    }
+    Err(WITHOUT_END.into())
+}
+
+#[test]
+fn splitting_rows(rt: HostRuntime) -> Result<(), Fail> {
+    let alloc = rt.alloc();
+    let start = full(alloc)?;
+    for number in 1..MOST_REQUESTS {
+        let (pile, mut pass) = SharedPile::new(alloc, &start, 5)?;
+        refuse(alloc, number);
+        let tried = pile.split_rows(alloc, &mut pass, 2);
+        let was_refused = was_refused(alloc);
+        let child = match tried {
+            Ok(child) => {
+                assert!(rt; !was_refused);
+                child
+            }
+            Err(fault) => {
+                assert!(rt; was_refused && matches!(fault, SplitFault::Memory(_)));
+                assert!(rt; view(&pass) == (5, 0, 0, (0, 3)));
+                pile.split_rows(alloc, &mut pass, 2)?
+            }
+        };
+        assert!(rt; view(&child) == (0, 0, 0, (1, 3)));
+        assert!(rt; view(&pass) == (5, 0, 0, (0, 1)));
+        if !was_refused {
+            return tell_refused(&rt, alloc, "SharedPile::split_rows", every(number - 1));
+        }
+    }
+    Err(WITHOUT_END.into())
+}
+
+// A pass of quota 2 that has dropped twice is joined to a child of quota 2, which has to grow for its receipts.
+#[test]
+fn joining(rt: HostRuntime) -> Result<(), Fail> {
+    let alloc = rt.alloc();
+    let start = pile_on(alloc, 1, 1, &[0])?;
+    assert!(rt; 0 < start.shape().sites());
+    for number in 1..MOST_REQUESTS {
+        let (pile, mut pass) = SharedPile::new(alloc, &start, 4)?;
+        let mut child = pile.split(alloc, &mut pass, 2)?;
+        assert_eq!(rt;
+            (pile.drop_at(&mut pass, 0), pile.drop_at(&mut child, 0)),
+            (Ok(0), Ok(1))
+        );
+        assert_eq!(rt;
+            (pile.drop_at(&mut pass, 0), pile.drop_at(&mut child, 0)),
+            (Ok(2), Ok(3))
+        );
+        refuse(alloc, number);
+        let tried = pile.join(alloc, &mut child, pass);
+        let was_refused = was_refused(alloc);
+        assert_eq!(rt; tried.is_err(), was_refused);
+        if let Err((fault, pass)) = tried {
+            assert!(rt; matches!(fault, JoinFault::Memory(_)));
+            assert!(rt; view(&pass) == (0, 2, 3, (0, 1)));
+            assert!(rt; view(&child) == (0, 2, 4, (0, 0)));
+            assert!(rt; pile.join(alloc, &mut child, pass).is_ok());
+        }
+        assert!(rt; view(&child) == (0, 4, 4, (0, 1)));
+        let record = pile.close(alloc, child).ok().ok_or("close")?;
+        assert_record(&rt, &record, &[0, 0, 0, 0], &[0], &[1], 4);
+        if !was_refused {
+            return tell_refused(&rt, alloc, "SharedPile::join", every(number - 1));
+        }
+    }
+    Err(WITHOUT_END.into())
+}
+
+#[test]
+fn closing(rt: HostRuntime) -> Result<(), Fail> {
+    let alloc = rt.alloc();
+    let start = pile_on(alloc, 2, 1, &[4, 4])?;
+    for number in 1..MOST_REQUESTS {
+        let (pile, pass) = SharedPile::new(alloc, &start, 0)?;
+        refuse(alloc, number);
+        let tried = pile.close(alloc, pass);
+        let was_refused = was_refused(alloc);
+        let record = match tried {
+            Ok(record) => {
+                assert!(rt; !was_refused);
+                record
+            }
+            Err((fault, pile, mut pass)) => {
+                assert!(rt; was_refused && matches!(fault, CloseFault::Memory(_)));
+                assert!(rt; view(&pass) == (0, 0, 0, (0, 1)));
+                // Nothing has toppled: a sweep still finds both sites.
+                assert_eq!(rt; pile.sweep(&mut pass), 2);
+                pile.close(alloc, pass).ok().ok_or("close")?
+            }
+        };
+        assert_record(&rt, &record, &[], &[1, 1], &[1, 1], 6);
+        if !was_refused {
+            return tell_refused(&rt, alloc, "SharedPile::close", every(number - 1));
+        }
+    }
+    Err(WITHOUT_END.into())
+}
+
+// A pass that has swept keeps its counts, and nothing topples a second time.
+#[test]
+fn closing_what_was_swept(rt: HostRuntime) -> Result<(), Fail> {
+    let alloc = rt.alloc();
+    let start = pile_on(alloc, 2, 1, &[4, 4])?;
+    assert!(rt; start.shape().width() == 2 && start.shape().height() == 1);
+    for number in 1..MOST_REQUESTS {
+        let (pile, mut pass) = SharedPile::new(alloc, &start, 0)?;
+        assert_eq!(rt; pile.sweep(&mut pass), 2);
+        refuse(alloc, number);
+        let tried = pile.close(alloc, pass);
+        let was_refused = was_refused(alloc);
+        let record = match tried {
+            Ok(record) => {
+                assert!(rt; !was_refused);
+                record
+            }
+            Err((fault, pile, mut pass)) => {
+                assert!(rt; was_refused && matches!(fault, CloseFault::Memory(_)));
+                assert_eq!(rt; (pass.toppled(0), pass.toppled(1)), (1, 1));
+                assert_eq!(rt; pile.sweep(&mut pass), 0);
+                pile.close(alloc, pass).ok().ok_or("close")?
+            }
+        };
+        assert_record(&rt, &record, &[], &[1, 1], &[1, 1], 6);
+        if !was_refused {
+            return tell_refused(
+                &rt,
+                alloc,
+                "SharedPile::close, after a sweep",
+                every(number - 1),
+            );
+        }
+    }
+    Err(WITHOUT_END.into())
+}
+
+// The record of one grain on each of so many first sites.
+fn closed(rt: &impl Abort, alloc: Global, start: &Pile, drops: usize) -> Result<Record, Fail>
+    ensures { IfOk result (λ r. r.start ≡ start.now) }
+{
+    assert!(rt; drops <= start.shape().sites());
+    let (pile, mut pass) = SharedPile::new(alloc, start, drops as u64)?;
+    'drops: for site in 0..drops {
+        assert!(rt; pile.drop_at(&mut pass, site).is_ok());
+    }
+    let record = pile.close(alloc, pass).ok().ok_or("close")?;
+    Ok(record)
+}
+
+#[test]
+fn copying_a_record(rt: HostRuntime) -> Result<(), Fail> {
+    let start = full(rt.alloc())?;
+    let record = closed(&rt, rt.alloc(), &start, 5)?;
+    each_refused(
+        &rt,
+        rt.alloc(),
+        "Record::copy",
+        Spares::Nothing,
+        |_: Global| Ok(()),
+        |alloc: Global, _: &mut ()| record.copy(alloc).map_err(|fault| fault.number()),
+    )?;
+    Ok(())
+}
+
+#[test]
+fn following(rt: HostRuntime) -> Result<(), Fail> {
+    let start = full(rt.alloc())?;
+    let first = closed(&rt, rt.alloc(), &start, 5)?;
+    let second = closed(&rt, rt.alloc(), first.pile(), 3)?;
+    assert!(rt;
+        first.start().grains() + (first.history().len() + second.history().len()) as u64
+            <= GRAIN_LIMIT
+    );
+    each_refused(
+        &rt,
+        rt.alloc(),
+        "Record::followed_by",
+        Spares::Nothing,
+        |_: Global| Ok(()),
+        |alloc: Global, _: &mut ()| {
+            first
+                .followed_by(alloc, &second)
+                .map_err(|fault| fault.number())
+        },
+    )?;
+    Ok(())
+}

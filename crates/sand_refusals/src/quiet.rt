@@ -1,0 +1,268 @@
+//! Calls that take no memory: with every request refused they answer as ever, and no request was made.
+
+ghost use Rattle.std.specs.Prelude.{◌≡◌, ℕ, ◌<◌, IfOk, length};
+ghost use Rattle.sand_lab.specs.Reports.{sheet_at};
+
+use crate::memory::{refuse, was_refused};
+use crate::piles::{full, pile_on};
+use sand_desk::{DeskFault, read_pile, status, write_fault};
+use sand_group::Recurrent;
+use sand_lab::{Album, Gate, LabFault, Open, Plan, Report, Role, Wish, run};
+use sand_model::{Edge, GRAIN_LIMIT, Pile, Shape, laws, topple};
+use sand_settle::{OnePile, settle};
+use sand_shared::SharedPile;
+use std::alloc::Global;
+use std::test::Fail;
+use std::thread::Threads;
+
+#[test]
+fn shapes(rt: HostRuntime) -> Result<(), Fail> {
+    let alloc = rt.alloc();
+    refuse(alloc, 0);
+    assert!(rt; Shape::new(0, 1).is_err());
+    assert!(rt; Shape::with_edge(2, 1, Edge::Cylinder).is_err_and(|fault| fault.number() == 24));
+    let shape = Shape::with_edge(4, 3, Edge::Cylinder)?;
+    assert!(rt; shape.sites() == 12);
+    assert_eq!(rt; (shape.width(), shape.height()), (4, 3));
+    assert!(rt; shape.edge() == Edge::Cylinder);
+    assert_eq!(rt; (shape.site(1, 2), shape.place(9)), (Some(9), (1, 2)));
+    assert_eq!(rt; shape.neighbours(0), [None, Some(3), Some(1), Some(4)]);
+    assert_eq!(rt; shape.missing(0), 1);
+    assert!(rt; !was_refused(alloc));
+    Ok(())
+}
+
+#[test]
+fn piles(rt: HostRuntime) -> Result<(), Fail> {
+    let alloc = rt.alloc();
+    let shape = Shape::new(2, 1)?;
+    let mut heights = Vec::new(alloc);
+    heights.extend_from_slice(&[4, 0])?;
+    assert!(rt; heights.as_slice() == [4, 0].as_slice());
+    refuse(alloc, 0);
+    let mut pile = Pile::from_vec(shape, heights);
+    assert_eq!(rt;
+        (pile.height(0), pile.grains(), pile.is_stable()),
+        (4, 4, false)
+    );
+    assert!(rt; pile.shape() == shape);
+    assert!(rt; topple(&mut pile, 0).is_ok_and(|lost| lost == 3));
+    assert!(rt; topple(&mut pile, 0).is_err_and(|fault| fault.number() == 5));
+    assert!(rt; pile.add_grain(0).is_ok());
+    assert!(rt; pile.heights() == [1, 1].as_slice());
+    assert!(rt; !was_refused(alloc));
+    Ok(())
+}
+
+#[test]
+fn a_pile_at_the_limit(rt: HostRuntime) -> Result<(), Fail> {
+    let alloc = rt.alloc();
+    let mut pile = pile_on(alloc, 1, 1, &[GRAIN_LIMIT])?;
+    assert!(rt; 0 < pile.shape().sites());
+    refuse(alloc, 0);
+    assert!(rt; pile.add_grain(0).is_err_and(|fault| fault.number() == 3));
+    assert!(rt; !was_refused(alloc));
+    Ok(())
+}
+
+#[test]
+fn laws_of_sand(rt: HostRuntime) -> Result<(), Fail> {
+    let alloc = rt.alloc();
+    refuse(alloc, 0);
+    laws::least_action();
+    laws::weight_falls();
+    laws::laplacian_sum();
+    laws::abelian();
+    assert!(rt; !was_refused(alloc));
+    Ok(())
+}
+
+#[test]
+fn settled_piles(rt: HostRuntime) -> Result<(), Fail> {
+    let alloc = rt.alloc();
+    let settled = settle(alloc, &pile_on(alloc, 3, 1, &[0, 4, 0])?)?;
+    assert!(rt; settled.pile().shape().sites() == 3);
+    refuse(alloc, 0);
+    assert!(rt; settled.pile().heights() == [1, 0, 1].as_slice());
+    assert_eq!(rt;
+        (settled.odometer(1), settled.topplings(), settled.lost()),
+        (1, 1, 2)
+    );
+    assert!(rt; settled.odometers() == [0, 1, 0].as_slice());
+    assert!(rt; !was_refused(alloc));
+    Ok(())
+}
+
+#[test]
+fn piles_of_one_thread(rt: HostRuntime) -> Result<(), Fail> {
+    let alloc = rt.alloc();
+    let mut one = OnePile::new(alloc, &full(alloc)?)?;
+    assert!(rt; one.pile().shape().sites() == 9);
+    one.drop_at(alloc, 4)?;
+    refuse(alloc, 0);
+    assert_eq!(rt; (one.tally(), one.height(4), one.odometer(4)), (1, 0, 2));
+    assert_eq!(rt; (one.topplings(), one.lost()), (10, 12));
+    assert!(rt; one.pile().heights() == [1, 3, 1, 3, 0, 3, 1, 3, 1].as_slice());
+    assert!(rt; one.odometers() == [1, 1, 1, 1, 2, 1, 1, 1, 1].as_slice());
+    // The first drop made room for all others.
+    assert!(rt; one.pile().shape().sites() == 9);
+    assert!(rt; one.drop_at(alloc, 4).is_ok() && one.tally() == 2);
+    assert!(rt; !was_refused(alloc));
+    Ok(())
+}
+
+#[test]
+fn recurrent_piles(rt: HostRuntime) -> Result<(), Fail> {
+    let alloc = rt.alloc();
+    let recurrent = Recurrent::from_pile(alloc, &pile_on(alloc, 2, 1, &[3, 1])?)?;
+    refuse(alloc, 0);
+    assert!(rt; recurrent.pile().heights() == [3, 1].as_slice());
+    assert!(rt; !was_refused(alloc));
+    Ok(())
+}
+
+#[test]
+fn passes(rt: HostRuntime) -> Result<(), Fail> {
+    let alloc = rt.alloc();
+    let start = pile_on(alloc, 1, 2, &[4, 4])?;
+    assert!(rt; start.shape().sites() == 2);
+    assert!(rt; start.shape().width() == 1 && start.shape().height() == 2);
+    let (pile, mut pass) = SharedPile::new(alloc, &start, 1)?;
+    refuse(alloc, 0);
+    assert!(rt; pile.is_whole(&pass));
+    assert_eq!(rt; pile.drop_at(&mut pass, 1), Ok(0));
+    assert!(rt;
+        pile.drop_at(&mut pass, 1)
+            .is_err_and(|fault| fault.number() == 13)
+    );
+    assert_eq!(rt; (pile.tally(&mut pass), pile.sweep(&mut pass)), (1, 2));
+    assert_eq!(rt; (pass.left(), pass.seen(), pass.rows()), (0, 1, (0, 2)));
+    assert_eq!(rt;
+        (pass.receipts().len(), pass.toppled(0), pass.toppled(1)),
+        (1, 1, 1)
+    );
+    assert!(rt; pile.is_whole(&pass));
+    assert!(rt; !was_refused(alloc));
+    Ok(())
+}
+
+#[test]
+fn records(rt: HostRuntime) -> Result<(), Fail> {
+    let alloc = rt.alloc();
+    let start = pile_on(alloc, 1, 1, &[3])?;
+    assert!(rt; start.shape().sites() == 1);
+    let (pile, mut pass) = SharedPile::new(alloc, &start, 1)?;
+    assert!(rt; pile.drop_at(&mut pass, 0).is_ok());
+    let record = pile.close(alloc, pass).ok().ok_or("close")?;
+    assert!(rt; record.start().shape().sites() == 1);
+    refuse(alloc, 0);
+    assert!(rt; record.start().heights() == [3].as_slice());
+    assert!(rt; record.history() == [0].as_slice());
+    assert!(rt; record.pile().heights() == [0].as_slice());
+    assert!(rt; record.odometers() == [1].as_slice());
+    assert_eq!(rt;
+        (record.odometer(0), record.topplings(), record.lost()),
+        (1, 1, 4)
+    );
+    assert!(rt; !was_refused(alloc));
+    Ok(())
+}
+
+#[test]
+fn plans_and_gates(rt: HostRuntime) -> Result<(), Fail> {
+    let alloc = rt.alloc();
+    refuse(alloc, 0);
+    let plan = Plan::new(ONE_EPOCH)?;
+    assert!(rt; plan.wish() == ONE_EPOCH);
+    let none = Wish {
+        droppers: 0,
+        ..ONE_EPOCH
+    };
+    assert!(rt; Plan::new(none).is_err_and(|fault| fault.number() == 15));
+    Open.turn(Role::Dropper, 0, 0);
+    assert!(rt; !was_refused(alloc));
+    Ok(())
+}
+
+// One epoch with a dropper, a worker and an observer.
+const ONE_EPOCH: Wish = Wish {
+    seed: 0,
+    droppers: 1,
+    drops: 3,
+    epochs: 1,
+    workers: 1,
+    sweeps: 1,
+    observers: 1,
+};
+
+fn report_into<R: Threads + Sync>(
+    rt: &R,
+    alloc: Global,
+    start: &Pile,
+    wish: Wish,
+    album: &Album,
+) -> Result<Report, LabFault>
+    ensures epochs { IfOk result (λ p. length p.sheets ≡ wish.epochs) }
+    ensures tallies { IfOk result (λ p. (t : ℕ) → t < wish.epochs → length (sheet_at p t).tallies ≡ wish.observers) }
+    ensures swept { IfOk result (λ p. (t : ℕ) → t < wish.epochs → length (sheet_at p t).swept ≡ wish.workers) }
+{
+    let plan = Plan::new(wish)?;
+    run(rt, alloc, start, &plan, &Open, album)
+}
+
+#[test]
+fn albums_and_reports(rt: HostRuntime) -> Result<(), Fail> {
+    let alloc = rt.alloc();
+    let start = pile_on(alloc, 1, 1, &[0])?;
+    let album = Album::new(alloc, 1)?;
+    assert!(rt; album.places() == 1);
+    let mut report = report_into(&rt, alloc, &start, ONE_EPOCH, &album)?;
+    refuse(alloc, 0);
+    assert_eq!(rt; (album.places(), report.records().len()), (1, 1));
+    let mut note = album.note(0);
+    let seen = album
+        .look(0, &mut note)
+        .map(|picture| (picture.epoch(), picture.closed().lost()));
+    assert_eq!(rt; seen, Some((0, 0)));
+    assert_eq!(rt;
+        (report.journal(0).len(), report.total().history().len()),
+        (3, 3)
+    );
+    assert_eq!(rt; (report.tallies(0, 0).len(), report.swept(0, 0)), (16, 0));
+    let known = report.note(0);
+    assert!(rt; !was_refused(alloc));
+    drop((note, known));
+    Ok(())
+}
+
+#[test]
+fn faults(rt: HostRuntime) -> Result<(), Fail> {
+    let alloc = rt.alloc();
+    let mut line: Vec<u8> = Vec::with_capacity(alloc, 64)?;
+    refuse(alloc, 0);
+    let fault = DeskFault::Text(6);
+    assert_eq!(rt; (fault.number(), status(&fault)), (18, 1));
+    assert!(rt; write_fault(&fault, &mut line).is_ok());
+    assert!(rt; !was_refused(alloc));
+    assert!(rt; line.as_slice() == b"fault 18 Text at 6\n".as_slice());
+    Ok(())
+}
+
+// A fault of the text is found before anything grows.
+#[test]
+fn texts_with_a_fault(rt: HostRuntime) -> Result<(), Fail> {
+    let alloc = rt.alloc();
+    refuse(alloc, 0);
+    for (text, number) in [
+        ("2 1\n3 x", 18),
+        ("1 1\n1099511627776", 19),
+        ("0 1\n", 1),
+        ("2 1\n3", 2),
+        ("2 1\n1099511627775 1", 3),
+    ] {
+        let read = read_pile(alloc, text.as_bytes());
+        assert!(rt; read.is_err_and(|fault| fault.number() == number), "{text}");
+    }
+    assert!(rt; !was_refused(alloc));
+    Ok(())
+}
