@@ -1,8 +1,7 @@
 -- What shows that counts are the least odometer of a pile.
 -- Sources: Fey, Levine and Peres 2010 (least action), Friedrich and Levine 2010 (nothing can be untoppled), Dhar 1990
 -- (burning).
-use Rattle.std.specs.Prelude.{ℕ, ◌≡◌, ◌+◌, ◌*◌, ◌<◌, ◌≤◌, List, All, length, slice_index, count_by, nat_le}
-use Rattle.sand_certify.specs.declared.certificate.TheConstants.{COUNT_LIMIT}
+use Rattle.std.specs.Prelude.{ℕ, ◌≡◌, ◌+◌, ◌*◌, ◌^◌, ◌<◌, ◌≤◌, List, All, length, slice_index, count_by, nat_le}
 use Rattle.sand_model.specs.Grid.{Grid, sites, neighbours}
 use Rattle.sand_model.specs.Sand.{flow}
 
@@ -28,7 +27,7 @@ pub record IsShown (g : Grid) (s u turn : ℕ → ℕ) : Type 0 where
 pub record IsCertificate (g : Grid) (s : ℕ → ℕ) (counts turns : List ℕ) : Type 0 where
   pub counts_each : length counts ≡ sites g
   pub turns_each : length turns ≡ sites g
-  pub few : All (λ n. n < COUNT_LIMIT) counts
+  pub few : All (λ n. n < 2 ^ 54) counts
   pub shown : IsShown g s (slice_index counts) (slice_index turns)
 
 -- the site i is shown, and s - Lu is h there

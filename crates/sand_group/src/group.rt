@@ -100,7 +100,11 @@ fn six_less(alloc: Global, heights: &[u64]) -> Result<Vec<u64>, AllocError>
     ensures rests { IfOk result (λ v. (i : ℕ) → i < length heights.now
         → slice_index v.items i + slice_index heights.now i ≡ 6) }
 {
-    heights.iter().map(|height| 6 - *height).collect(alloc)
+    let mut rests = Vec::with_capacity(alloc, heights.len())?;
+    for height in heights {
+        rests.push(6 - *height)?;
+    }
+    Ok(rests)
 }
 
 // Twice the one list of heights less the other, by site.

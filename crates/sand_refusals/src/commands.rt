@@ -109,7 +109,7 @@ fn burn(rt: HostRuntime) -> Result<(), Fail> {
 #[test]
 fn identity(rt: HostRuntime) -> Result<(), Fail> {
     let line = "sandpile identity --width 3 --height 3";
-    each_refused_of(&rt, rt.alloc(), line, b"", Spares::Room)
+    each_refused_of(&rt, rt.alloc(), line, b"", Spares::Nothing)
 }
 
 #[test]
@@ -125,7 +125,7 @@ fn inverse(rt: HostRuntime) -> Result<(), Fail> {
         rt.alloc(),
         "sandpile inverse",
         b"2 1\n3 1\n",
-        Spares::Room,
+        Spares::Nothing,
     )
 }
 

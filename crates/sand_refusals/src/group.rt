@@ -77,7 +77,7 @@ fn neutral(rt: HostRuntime) -> Result<(), Fail> {
         &rt,
         rt.alloc(),
         "identity",
-        Spares::Room,
+        Spares::Nothing,
         |_: Global| Ok(()),
         |alloc: Global, _: &mut ()| identity(alloc, shape).map_err(|fault| fault.number()),
     )?;
@@ -90,7 +90,7 @@ fn inverting(rt: HostRuntime) -> Result<(), Fail> {
         &rt,
         rt.alloc(),
         "inverse",
-        Spares::Room,
+        Spares::Nothing,
         |alloc: Global| recurrent(alloc, [3, 1]),
         |alloc: Global, pile: &mut Recurrent| inverse(alloc, pile).map_err(|fault| fault.number()),
     )?;

@@ -49,8 +49,6 @@ pub enum Spares {
     Nothing,
     /// A guess of the odometer: it is not made, and the queue settles the pile.
     Guess,
-    /// Room for a list that is asked for in advance: the list grows as it is filled.
-    Room,
     /// A thread: its work is done by the thread that wanted it.
     Thread,
 }

@@ -38,7 +38,11 @@ fn main(rt: HostRuntime) -> ExitCode {
 }
 
 fn words_of(rt: &(impl Env + AllocGlobal)) -> io::Result<Vec<String>> {
-    let words = env::args(rt)?.collect(rt.alloc())?;
+    let args = env::args(rt)?;
+    let mut words = Vec::with_capacity(rt.alloc(), args.len())?;
+    for word in args {
+        words.push(word)?;
+    }
     Ok(words)
 }
 
