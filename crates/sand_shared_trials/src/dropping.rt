@@ -1,9 +1,16 @@
 //! Drops and tallies.
 
+ghost use Rattle.std.specs.Prelude.{◌<◌};
+ghost use Rattle.sand_model.specs.Grid.{sites};
+ghost use Rattle.sand_shared.specs.OpenPile.{grid_of};
+ghost use Rattle.sand_shared.specs.Passes.{IsPassOf};
+
 use crate::meeting::both_drop;
 use sand_model::{GRAIN_LIMIT, Pile, Shape};
-use sand_shared::{DropFault, SharedFault, SharedPile, SplitFault};
+use sand_shared::{DropFault, Pass, SharedFault, SharedPile, SplitFault};
 use std::alloc::Global;
+use std::ops::Range;
+use std::process::Abort;
 use std::test::Fail;
 
 fn one_site(alloc: Global, height: u64) -> Result<Pile, Fail> {
@@ -12,10 +19,20 @@ fn one_site(alloc: Global, height: u64) -> Result<Pile, Fail> {
     Ok(pile)
 }
 
+// Drops grains at site 0, and looks at their numbers.
+fn drop_all(rt: &impl Abort, pile: &SharedPile, pass: &mut Pass, numbers: Range<u64>)
+    requires pass { IsPassOf pile.now pass.old }
+    requires site { 0 < sites (grid_of pile.now.terms) }
+    ensures { IsPassOf pile.now pass.new }
+{
+    'drops: for number in numbers {
+        assert_eq!(rt; pile.drop_at(pass, 0), Ok(number));
+    }
+}
+
 #[test]
-fn as_many_as_the_quota(rt: HostRuntime) -> Result<(), Fail> {
+fn a_child_begins_with_its_quota_alone(rt: HostRuntime) -> Result<(), Fail> {
     let start = one_site(rt.alloc(), 0)?;
-    assert!(rt; 0 < start.shape().sites());
     let (pile, mut pass) = SharedPile::new(rt.alloc(), &start, 5)?;
     let child = pile.split(rt.alloc(), &mut pass, 1)?;
     assert_eq!(rt;
@@ -23,10 +40,16 @@ fn as_many_as_the_quota(rt: HostRuntime) -> Result<(), Fail> {
         (1, 0, 0)
     );
     assert_eq!(rt; child.rows(), (0, 0));
-    assert_eq!(rt; pile.drop_at(&mut pass, 0), Ok(0));
-    assert_eq!(rt; pile.drop_at(&mut pass, 0), Ok(1));
-    assert_eq!(rt; pile.drop_at(&mut pass, 0), Ok(2));
-    assert_eq!(rt; pile.drop_at(&mut pass, 0), Ok(3));
+    Ok(())
+}
+
+#[test]
+fn as_many_as_the_quota(rt: HostRuntime) -> Result<(), Fail> {
+    let start = one_site(rt.alloc(), 0)?;
+    assert!(rt; 0 < start.shape().sites());
+    let (pile, mut pass) = SharedPile::new(rt.alloc(), &start, 5)?;
+    let _child = pile.split(rt.alloc(), &mut pass, 1)?;
+    drop_all(&rt, &pile, &mut pass, 0..4);
     assert_eq!(rt; pile.drop_at(&mut pass, 0), Err(DropFault::Spent));
     assert!(rt;
         matches!(
@@ -40,26 +63,32 @@ fn as_many_as_the_quota(rt: HostRuntime) -> Result<(), Fail> {
 }
 
 #[test]
-fn within_the_limit(rt: HostRuntime) -> Result<(), Fail> {
+fn no_quota_past_the_limit(rt: HostRuntime) -> Result<(), Fail> {
+    for (height, quota) in [(GRAIN_LIMIT, 1), (GRAIN_LIMIT - 1, 2)] {
+        let start = one_site(rt.alloc(), height)?;
+        assert!(rt;
+            matches!(
+                SharedPile::new(rt.alloc(), &start, quota),
+                Err(SharedFault::TooManyGrains)
+            )
+        );
+    }
+    Ok(())
+}
+
+#[test]
+fn a_full_pile_takes_no_drop(rt: HostRuntime) -> Result<(), Fail> {
     let full = one_site(rt.alloc(), GRAIN_LIMIT)?;
-    assert!(rt;
-        matches!(
-            SharedPile::new(rt.alloc(), &full, 1),
-            Err(SharedFault::TooManyGrains)
-        )
-    );
     assert!(rt; 0 < full.shape().sites());
     let (pile, mut pass) = SharedPile::new(rt.alloc(), &full, 0)?;
     assert_eq!(rt; pile.drop_at(&mut pass, 0), Err(DropFault::Spent));
     assert_eq!(rt; pile.tally(&mut pass), 0);
+    Ok(())
+}
 
+#[test]
+fn one_drop_up_to_the_limit(rt: HostRuntime) -> Result<(), Fail> {
     let nearly = one_site(rt.alloc(), GRAIN_LIMIT - 1)?;
-    assert!(rt;
-        matches!(
-            SharedPile::new(rt.alloc(), &nearly, 2),
-            Err(SharedFault::TooManyGrains)
-        )
-    );
     assert!(rt; 0 < nearly.shape().sites());
     let (pile, mut pass) = SharedPile::new(rt.alloc(), &nearly, 1)?;
     assert_eq!(rt; pile.drop_at(&mut pass, 0), Ok(0));
@@ -74,8 +103,7 @@ fn a_tally_is_not_stale(rt: HostRuntime) -> Result<(), Fail> {
     assert!(rt; 0 < start.shape().sites());
     let (pile, mut pass) = SharedPile::new(rt.alloc(), &start, 2)?;
     let mut child = pile.split(rt.alloc(), &mut pass, 0)?;
-    assert_eq!(rt; pile.drop_at(&mut pass, 0), Ok(0));
-    assert_eq!(rt; pile.drop_at(&mut pass, 0), Ok(1));
+    drop_all(&rt, &pile, &mut pass, 0..2);
     assert_eq!(rt; pile.tally(&mut child), 2);
     Ok(())
 }
@@ -85,8 +113,7 @@ fn a_child_has_seen_what_its_parent_has(rt: HostRuntime) -> Result<(), Fail> {
     let start = one_site(rt.alloc(), 0)?;
     assert!(rt; 0 < start.shape().sites());
     let (pile, mut pass) = SharedPile::new(rt.alloc(), &start, 3)?;
-    assert_eq!(rt; pile.drop_at(&mut pass, 0), Ok(0));
-    assert_eq!(rt; pile.drop_at(&mut pass, 0), Ok(1));
+    drop_all(&rt, &pile, &mut pass, 0..2);
     let mut child = pile.split(rt.alloc(), &mut pass, 1)?;
     assert_eq!(rt; child.seen(), 2);
     assert_eq!(rt; pile.tally(&mut child), 2);
@@ -99,12 +126,7 @@ fn a_tally_counts_the_own_drops(rt: HostRuntime) -> Result<(), Fail> {
     let start = one_site(rt.alloc(), 0)?;
     assert!(rt; 0 < start.shape().sites());
     let (pile, mut pass) = SharedPile::new(rt.alloc(), &start, 6)?;
-    assert_eq!(rt; pile.drop_at(&mut pass, 0), Ok(0));
-    assert_eq!(rt; pile.drop_at(&mut pass, 0), Ok(1));
-    assert_eq!(rt; pile.drop_at(&mut pass, 0), Ok(2));
-    assert_eq!(rt; pile.drop_at(&mut pass, 0), Ok(3));
-    assert_eq!(rt; pile.drop_at(&mut pass, 0), Ok(4));
-    assert_eq!(rt; pile.drop_at(&mut pass, 0), Ok(5));
+    drop_all(&rt, &pile, &mut pass, 0..6);
     assert_eq!(rt; pile.tally(&mut pass), 6);
     let mut child = pile.split(rt.alloc(), &mut pass, 0)?;
     assert_eq!(rt; pile.tally(&mut child), 6);

@@ -28,19 +28,24 @@ fn rows_are_handed_on(rt: HostRuntime) -> Result<(), Fail> {
         (pass.rows(), middle.rows(), last.rows()),
         ((0, 1), (1, 2), (2, 3))
     );
+    assert!(rt; !pile.is_whole(&pass));
+    Ok(())
+}
 
+#[test]
+fn rows_that_do_not_touch_stay_apart(rt: HostRuntime) -> Result<(), Fail> {
+    let start = column(rt.alloc(), &[0, 0, 0])?;
+    let (pile, mut pass) = SharedPile::new(rt.alloc(), &start, 0)?;
+    let last = pile.split_rows(rt.alloc(), &mut pass, 1)?;
+    let middle = pile.split_rows(rt.alloc(), &mut pass, 1)?;
     let Err((fault, last)) = pile.join(rt.alloc(), &mut pass, last) else {
         return Err("rows that do not touch were joined".into());
     };
-    assert_eq!(rt; fault.number(), 12);
     assert!(rt; matches!(fault, JoinFault::Apart));
     assert_eq!(rt; (pass.rows(), last.rows()), ((0, 1), (2, 3)));
-    assert!(rt; !pile.is_whole(&pass));
-
     assert!(rt; pile.join(rt.alloc(), &mut pass, middle).is_ok());
     assert!(rt; pile.join(rt.alloc(), &mut pass, last).is_ok());
     assert_eq!(rt; pass.rows(), (0, 3));
-    assert!(rt; pile.is_whole(&pass));
     Ok(())
 }
 
