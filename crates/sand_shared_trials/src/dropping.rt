@@ -19,8 +19,8 @@ fn one_site(alloc: Global, height: u64) -> Result<Pile, Fail> {
     Ok(pile)
 }
 
-// Drops grains at site 0, and looks at their numbers.
-fn drop_all(rt: &impl Abort, pile: &SharedPile, pass: &mut Pass, numbers: Range<u64>)
+/// Drops grains at site 0, and looks at their numbers.
+pub fn drop_all(rt: &impl Abort, pile: &SharedPile, pass: &mut Pass, numbers: Range<u64>)
     requires pass { IsPassOf pile.now pass.old }
     requires site { 0 < sites (grid_of pile.now.terms) }
     ensures { IsPassOf pile.now pass.new }

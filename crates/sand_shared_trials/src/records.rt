@@ -3,6 +3,7 @@
 ghost use Rattle.std.specs.Prelude.{◌≡◌, ◌<◌, IfOk};
 ghost use Rattle.sand_shared.specs.Passes.{IsPassOf};
 
+use crate::dropping::drop_all;
 use crate::meeting::Meeting;
 use sand_model::{GRAIN_LIMIT, Pile, Shape};
 use sand_shared::{CloseFault, Pass, Record, SharedPile};
@@ -17,9 +18,7 @@ fn dropped_on(rt: &impl Abort, alloc: Global, start: &Pile, drops: u64) -> Resul
 {
     assert!(rt; 0 < start.shape().sites());
     let (pile, mut pass) = SharedPile::new(alloc, start, drops)?;
-    'drops: for _ in 0..drops {
-        assert!(rt; pile.drop_at(&mut pass, 0).is_ok());
-    }
+    drop_all(rt, &pile, &mut pass, 0..drops);
     let record = pile.close(alloc, pass).ok().ok_or("close")?;
     Ok(record)
 }

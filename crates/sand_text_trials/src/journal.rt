@@ -1,4 +1,4 @@
-//! Journals, byte by byte. They are written from entries of a type that the crate does not know.
+//! Journals, byte by byte. They are written from entries of a type that `sand_text` does not know.
 
 ghost use Rattle.std.specs.Prelude.{◌≡◌, ℕ, ◌++◌, ◌≤◌, length, map, IfOk, OnOk};
 ghost use Rattle.sand_text.specs.Runs.{journal_lines, journal_text_of};
