@@ -7,10 +7,11 @@ use Rattle.std.proofs.lemmas.List.Sums.{sum_by-cons}
 use Rattle.std.proofs.lemmas.Option.{get_or_from_slice_get, slice_get_within}
 use Rattle.std.specs.Prelude.{slice_get}
 use Rattle.sand_model.specs.Sand.{total, tally, one_at}
+use Rattle.sand_model.specs.Lists.{one_if}
 use Rattle.sand_model.proofs.Bounds.{fewer_than_all}
 use Rattle.sand_model.proofs.Tallies.{total-tally}
 use Rattle.sand_shared.specs.declared.view.Receipt.{Receipt}
-use Rattle.sand_shared.specs.OpenPile.{one_if, numbered}
+use Rattle.sand_shared.specs.OpenPile.{numbered}
 use Rattle.sand_shared.specs.Passes.{EachOnce, AllBelow}
 use Rattle.sand_shared.proofs.Sums.{sum_by-map, sum_by_two}
 use Rattle.sand_shared.proofs.Receipts.{one_if_same, one_if_other}

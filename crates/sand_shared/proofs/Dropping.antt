@@ -5,11 +5,12 @@ use Rattle.std.proofs.lemmas.Bool.Decides.{nat_tests}
 use Rattle.std.proofs.lemmas.List.Sums.{sum_by-set, sum_by_push}
 use Rattle.std.proofs.lemmas.List.Elements.{All-append, All-cons, All-nil}
 use Rattle.sand_model.specs.Grid.{sites}
+use Rattle.sand_model.specs.Lists.{one_if}
 use Rattle.sand_model.proofs.Tallies.{tally-push}
 use Rattle.sand_shared.specs.declared.view.View.{View}
 use Rattle.sand_shared.specs.declared.view.Receipt.{Receipt}
 use Rattle.sand_shared.specs.declared.view.Terms.{Terms}
-use Rattle.sand_shared.specs.OpenPile.{OpenPile, nobody, grid_of, amount_at, one_if, numbered, dropped, held, holds_site, toppled_by, toppled, poured, present, pass_at, IsLawfulPass, IsLawful}
+use Rattle.sand_shared.specs.OpenPile.{OpenPile, nobody, grid_of, amount_at, numbered, dropped, held, holds_site, toppled_by, toppled, poured, present, pass_at, IsLawfulPass, IsLawful}
 use Rattle.sand_shared.specs.Events.{draw, place, deliver, drew, laid_down, receipt, grains, behind_first, arrived, May, after}
 use Rattle.sand_shared.proofs.Sums.{sum_by_kept, all_after}
 use Rattle.sand_shared.proofs.Amounts.{held-cons, held-append}

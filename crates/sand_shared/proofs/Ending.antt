@@ -5,10 +5,11 @@ use Rattle.std.specs.Prelude.{slice_index, nat_lt}
 use Rattle.sand_model.specs.Grid.{sites}
 use Rattle.sand_model.specs.Sand.{IsSettled, tally}
 use Rattle.sand_model.specs.Piles.{height_of}
+use Rattle.sand_model.specs.Lists.{one_if}
 use Rattle.sand_model.proofs.Flow.{flow_same}
 use Rattle.sand_shared.specs.declared.view.View.{View}
 use Rattle.sand_shared.specs.declared.view.Terms.{Terms}
-use Rattle.sand_shared.specs.OpenPile.{nobody, grid_of, one_if, numbered, dropped, toppled_by, toppled, poured, pass_at}
+use Rattle.sand_shared.specs.OpenPile.{nobody, grid_of, numbered, dropped, toppled_by, toppled, poured, pass_at}
 use Rattle.sand_shared.specs.Passes.{PassView, AllBelow, IsWhole, at_rest}
 use Rattle.sand_shared.specs.Rows.{count_of}
 use Rattle.sand_shared.specs.Record.{RecordView, Tells, IsLast, EndsAt}

@@ -3,8 +3,9 @@ use Rattle.std.proofs.Common.{◌≡◌, ℕ, zero, suc, ◌+◌, ◌-◌, ◌<�
 use Rattle.std.specs.Prelude.{slice_get, nat_lt}
 use Rattle.std.proofs.lemmas.Bool.{cases_eq, lt-ltb}
 use Rattle.std.proofs.lemmas.List.Sums.{sum_by-cons}
+use Rattle.sand_model.specs.Lists.{one_if}
 use Rattle.sand_shared.specs.declared.view.Receipt.{Receipt}
-use Rattle.sand_shared.specs.OpenPile.{one_if, numbered}
+use Rattle.sand_shared.specs.OpenPile.{numbered}
 use Rattle.sand_shared.specs.Events.{receipt}
 use Rattle.sand_shared.specs.Passes.{EachOnce, AllBelow}
 use Rattle.sand_shared.specs.Record.{Tells}

@@ -3,9 +3,10 @@ use Rattle.std.proofs.Common.{◌≡◌, ℕ, ◌-◌, ◌<◌, ◌≤◌, ◌�
 use Rattle.std.proofs.lemmas.Bool.Decides.{nat_tests}
 use Rattle.std.proofs.lemmas.Bool.{cases_Bool, cases_lt}
 use Rattle.sand_model.specs.Grid.{sites}
+use Rattle.sand_model.specs.Lists.{one_if}
 use Rattle.sand_shared.specs.declared.view.View.{View}
 use Rattle.sand_shared.specs.declared.view.Terms.{Terms}
-use Rattle.sand_shared.specs.OpenPile.{OpenPile, nobody, grid_of, one_if, holds_site, toppled_by, toppled, pass_at, IsLawful}
+use Rattle.sand_shared.specs.OpenPile.{OpenPile, nobody, grid_of, holds_site, toppled_by, toppled, pass_at, IsLawful}
 use Rattle.sand_shared.proofs.Sums.{sum_by_two, sum_by_only}
 use Rattle.sand_shared.proofs.Amounts.{toppled_from, toppled_before}
 use Rattle.std.proofs.Math.ListN.{get_or-eq_default}

@@ -3,6 +3,7 @@ use Rattle.std.proofs.Common.{length, ◌≡◌, ℕ, ◌+◌, ◌<◌, ◌≤�
 use Rattle.sand_model.specs.Grid.{sites}
 use Rattle.sand_model.specs.Sand.{tally}
 use Rattle.sand_model.specs.Piles.{height_of}
+use Rattle.sand_model.specs.Lists.{one_if}
 use Rattle.sand_model.proofs.Totals.{total-add}
 use Rattle.sand_model.proofs.Tallies.{total-tally}
 use Rattle.sand_model.proofs.Bounds.{at_most_total}
@@ -10,7 +11,7 @@ use Rattle.sand_model.proofs.Heights.{sum_is_grains}
 use Rattle.sand_model.proofs.Sandpile.{laplacian_sum}
 use Rattle.sand_shared.specs.declared.view.View.{View}
 use Rattle.sand_shared.specs.declared.view.Terms.{Terms}
-use Rattle.sand_shared.specs.OpenPile.{OpenPile, grid_of, holds_site, one_if, present, poured, toppled, AreTerms, IsLawful}
+use Rattle.sand_shared.specs.OpenPile.{OpenPile, grid_of, holds_site, present, poured, toppled, AreTerms, IsLawful}
 use Rattle.sand_shared.specs.Events.{Event, begin, draw, place, count, split, join, look, unload, deliver, unopened, May, after, AllHappen, after_all}
 use Rattle.sand_shared.proofs.Opening.{some_sites, begun}
 use Rattle.sand_shared.proofs.Reading.{count_keeps, look_keeps}

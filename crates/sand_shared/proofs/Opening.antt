@@ -5,9 +5,10 @@ use Rattle.std.proofs.lemmas.Bool.Decides.{nat_tests}
 use Rattle.std.proofs.lemmas.List.Elements.{All-cons, All-nil}
 use Rattle.std.proofs.Math.Nat.{mul-le-mul_right}
 use Rattle.sand_model.specs.Grid.{Grid, IsGrid, sites}
+use Rattle.sand_model.specs.Lists.{one_if}
 use Rattle.sand_shared.specs.declared.view.Receipt.{Receipt}
 use Rattle.sand_shared.specs.declared.view.Terms.{Terms}
-use Rattle.sand_shared.specs.OpenPile.{grid_of, one_if, holds_site, toppled, IsLawfulPass, IsLawful}
+use Rattle.sand_shared.specs.OpenPile.{grid_of, holds_site, toppled, IsLawfulPass, IsLawful}
 use Rattle.sand_shared.specs.Events.{begin, unopened, zeros, first_pass, after}
 use Rattle.sand_shared.proofs.Amounts.{toppled_from}
 use Rattle.sand_shared.proofs.Balance.{flow_none}

@@ -1,9 +1,10 @@
 -- A pass reads how many drops were begun, or the height of a site of its rows: the pile stays as it was, and lawful.
 use Rattle.std.proofs.Common.{◌≡◌, ℕ, ◌<◌, ◌≤◌, true, length, refl, ◌∙◌, arith}
 use Rattle.sand_model.specs.Grid.{sites}
+use Rattle.sand_model.specs.Lists.{one_if}
 use Rattle.sand_shared.specs.declared.view.View.{View}
 use Rattle.sand_shared.specs.declared.view.Terms.{Terms}
-use Rattle.sand_shared.specs.OpenPile.{OpenPile, nobody, grid_of, one_if, numbered, dropped, held, holds_site, toppled_by, toppled, poured, present, pass_at, IsLawfulPass, IsLawful}
+use Rattle.sand_shared.specs.OpenPile.{OpenPile, nobody, grid_of, numbered, dropped, held, holds_site, toppled_by, toppled, poured, present, pass_at, IsLawfulPass, IsLawful}
 use Rattle.sand_shared.specs.Events.{count, look, with_pass, May, after}
 use Rattle.sand_shared.proofs.Sums.{sum_by_kept, all_after}
 use Rattle.sand_shared.proofs.Balance.{balance_kept}

@@ -5,10 +5,11 @@ use Rattle.std.proofs.lemmas.Bool.Decides.{nat_tests}
 use Rattle.std.proofs.lemmas.List.{get_or-set_other, length-set}
 use Rattle.std.proofs.lemmas.List.Sums.{sum_by-set, sum_by-append, sum_by_push}
 use Rattle.std.proofs.lemmas.List.Elements.{All-append, All-set, All-cons, All-nil}
+use Rattle.sand_model.specs.Lists.{one_if}
 use Rattle.sand_shared.specs.declared.view.View.{View}
 use Rattle.sand_shared.specs.declared.view.Receipt.{Receipt}
 use Rattle.sand_shared.specs.declared.view.Terms.{Terms}
-use Rattle.sand_shared.specs.OpenPile.{OpenPile, grid_of, nobody, one_if, numbered, dropped, held, holds_site, toppled_by, toppled, poured, present, pass_at, IsLawfulPass, IsLawful}
+use Rattle.sand_shared.specs.OpenPile.{OpenPile, grid_of, nobody, numbered, dropped, held, holds_site, toppled_by, toppled, poured, present, pass_at, IsLawfulPass, IsLawful}
 use Rattle.sand_shared.specs.Events.{split, join, parent, child, joined, May, after}
 use Rattle.sand_shared.proofs.Balance.{balance_kept}
 use Rattle.sand_shared.proofs.RowParts.{none_toppled, cut_parts, parts_hold, parts_toppled, joined_rows}

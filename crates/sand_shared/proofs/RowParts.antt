@@ -5,8 +5,9 @@ use Rattle.std.proofs.lemmas.Bool.{cases_eq, cases_lt, cases_Bool, ne_eqb}
 use Rattle.std.proofs.lemmas.Bool.Decides.{nat_tests}
 use Rattle.std.proofs.lemmas.List.{get_or-take, get_or-drop, get_or_append_left, get_or-append-add, length-drop, length-take-le}
 use Rattle.std.proofs.Math.ListN.{get_or-eq_default}
+use Rattle.sand_model.specs.Lists.{one_if}
 use Rattle.sand_shared.specs.declared.view.View.{View}
-use Rattle.sand_shared.specs.OpenPile.{one_if, holds_site, toppled_by}
+use Rattle.sand_shared.specs.OpenPile.{holds_site, toppled_by}
 use Rattle.sand_shared.specs.Events.{base_of, follows, parent, child, joined}
 use Rattle.sand_shared.proofs.Amounts.{toppled_from, toppled_before}
 use Rattle.sand_shared.proofs.Holding.{toppled_outside}

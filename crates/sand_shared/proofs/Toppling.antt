@@ -6,11 +6,12 @@ use Rattle.std.proofs.lemmas.List.{get_or-set_same, get_or-set_other, length-set
 use Rattle.std.proofs.lemmas.List.Sums.{sum_by-set}
 use Rattle.sand_model.specs.Grid.{sites}
 use Rattle.sand_model.specs.Sand.{flow, IsToppled, Stabilises}
+use Rattle.sand_model.specs.Lists.{one_if}
 use Rattle.sand_model.proofs.Flow.{flow_same, flow-add}
 use Rattle.sand_model.proofs.Sandpile.{least_action}
 use Rattle.sand_shared.specs.declared.view.View.{View}
 use Rattle.sand_shared.specs.declared.view.Terms.{Terms}
-use Rattle.sand_shared.specs.OpenPile.{OpenPile, nobody, grid_of, amount_at, one_if, numbered, dropped, held, holds_site, toppled_by, toppled, poured, present, pass_at, IsLawfulPass, IsLawful}
+use Rattle.sand_shared.specs.OpenPile.{OpenPile, nobody, grid_of, amount_at, numbered, dropped, held, holds_site, toppled_by, toppled, poured, present, pass_at, IsLawfulPass, IsLawful}
 use Rattle.sand_shared.specs.Events.{unload, unloaded, sent, May, after}
 use Rattle.sand_shared.proofs.Sums.{sum_by_kept, all_at}
 use Rattle.sand_shared.proofs.Amounts.{amount_here, amount_else, flow-amount, held-append, held-sent, toppled-unloaded, holds-unloaded}

@@ -4,6 +4,7 @@ use Rattle.std.specs.Prelude.{ℕ, Bool, true, ◌≡◌, ◌+◌, ◌-◌, ◌<
 use Rattle.sand_model.specs.declared.pile.TheConstants.{GRAIN_LIMIT}
 use Rattle.sand_model.specs.Grid.{Grid, sites}
 use Rattle.sand_model.specs.Sand.{tally, flow, IsToppled, Stabilises}
+use Rattle.sand_model.specs.Lists.{one_if}
 use Rattle.sand_model.specs.Piles.{IsPile, height_of}
 use Rattle.sand_shared.specs.declared.view.Receipt.{Receipt}
 use Rattle.sand_shared.specs.declared.view.Grains.{Grains}
@@ -29,9 +30,6 @@ pub record AreTerms (t : Terms) : Type 0 where
 -- a pass that has nothing
 abbrev pub nobody : View
 nobody = record { left = 0; seen = 0; receipts = []; hand = []; base = 0; counts = []; spot = 0; least = 0 }
-
-abbrev pub one_if : Bool → ℕ
-one_if b = if b then 1 else 0
 
 -- k at the site i, and 0 elsewhere
 abbrev pub amount_at : ℕ → ℕ → ℕ → ℕ
