@@ -67,22 +67,6 @@ fn reads(rt: HostRuntime) -> Result<(), Fail> {
     Ok(())
 }
 
-// With one refused allocation the first answer is want of memory, and the next is the pile and its drops.
-#[test]
-fn reads_after_a_refusal(rt: HostRuntime) -> Result<(), Fail> {
-    let text = b"3 1\n0 4 0\n2 2 1\n";
-    let (pile, drops) = match read_drops(rt.alloc(), text) {
-        Ok(read) => read,
-        Err(fault) => {
-            assert_eq!(rt; fault, ReadFault::Memory);
-            read_drops(rt.alloc(), text)?
-        }
-    };
-    assert_eq!(rt; pile.heights(), [0, 4, 0].as_slice());
-    assert_eq!(rt; drops.as_slice(), [2, 2, 1].as_slice());
-    Ok(())
-}
-
 #[test]
 fn writes_tables(rt: HostRuntime) -> Result<(), Fail> {
     let large = Avalanche {
@@ -100,10 +84,7 @@ fn writes_tables(rt: HostRuntime) -> Result<(), Fail> {
         lost: 0,
     };
     let rows = [(0, large), (1, none)];
-    let text = match table_text(rt.alloc(), &rows) {
-        Ok(text) => text,
-        Err(_) => table_text(rt.alloc(), &rows)?,
-    };
+    let text = table_text(rt.alloc(), &rows)?;
     assert_eq!(rt;
         text.as_slice(),
         b"number site size area reach lost\n0 4 10 9 2 12\n1 0 0 0 0 0\n".as_slice()

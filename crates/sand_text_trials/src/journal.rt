@@ -38,17 +38,6 @@ pub fn journal_of(alloc: Global, epochs: &[&[Entry]]) -> Result<Vec<u8>, AllocEr
     Ok(text)
 }
 
-// The journal of some epochs. With one refused allocation the second answer is the journal.
-#[cfg(test)]
-fn written(alloc: Global, epochs: &[&[Entry]]) -> Result<Vec<u8>, AllocError>
-    requires { length epochs.now ≤ 100 }
-{
-    match journal_of(alloc, epochs) {
-        Ok(text) => Ok(text),
-        Err(_) => journal_of(alloc, epochs),
-    }
-}
-
 #[cfg(test)]
 fn drop_by(dropper: u32, site: usize) -> Entry {
     Entry { site, dropper }
@@ -56,7 +45,7 @@ fn drop_by(dropper: u32, site: usize) -> Entry {
 
 #[test]
 fn writes_drops(rt: HostRuntime) -> Result<(), Fail> {
-    let text = written(rt.alloc(), &[&[drop_by(0, 0), drop_by(0, 0)]])?;
+    let text = journal_of(rt.alloc(), &[&[drop_by(0, 0), drop_by(0, 0)]])?;
     assert_eq!(rt; text.as_slice(), b"journal\n0 0 0 0\n0 1 0 0\n".as_slice());
     Ok(())
 }
@@ -65,7 +54,7 @@ fn writes_drops(rt: HostRuntime) -> Result<(), Fail> {
 #[test]
 fn writes_epochs(rt: HostRuntime) -> Result<(), Fail> {
     let first = [drop_by(1, 4), drop_by(0, 65535), drop_by(1, 2)];
-    let text = written(rt.alloc(), &[&first, &[], &[drop_by(63, 7)]])?;
+    let text = journal_of(rt.alloc(), &[&first, &[], &[drop_by(63, 7)]])?;
     assert_eq!(rt;
         text.as_slice(),
         b"journal\n0 0 1 4\n0 1 0 65535\n0 2 1 2\n2 0 63 7\n".as_slice()
@@ -75,7 +64,7 @@ fn writes_epochs(rt: HostRuntime) -> Result<(), Fail> {
 
 #[test]
 fn writes_nothing_but_its_head(rt: HostRuntime) -> Result<(), Fail> {
-    let text = written(rt.alloc(), &[])?;
+    let text = journal_of(rt.alloc(), &[])?;
     assert_eq!(rt; text.as_slice(), b"journal\n".as_slice());
     Ok(())
 }

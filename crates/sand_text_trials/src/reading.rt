@@ -111,25 +111,6 @@ fn writes(rt: HostRuntime) -> Result<(), Fail> {
     Ok(())
 }
 
-// With one refused allocation the first answer is want of memory, and the next is the pile.
-#[test]
-fn reads_after_a_refusal(rt: HostRuntime) -> Result<(), Fail> {
-    let text = b"3 1\n0 4 0\n";
-    let pile = match read_pile(rt.alloc(), text) {
-        Ok(pile) => pile,
-        Err(fault) => {
-            assert_eq!(rt; fault, ReadFault::Memory);
-            read_pile(rt.alloc(), text)?
-        }
-    };
-    let written = match pile_text(rt.alloc(), &pile) {
-        Ok(written) => written,
-        Err(_) => pile_text(rt.alloc(), &pile)?,
-    };
-    assert_eq!(rt; written.as_slice(), text.as_slice());
-    Ok(())
-}
-
 // The text of a settled pile, byte by byte.
 fn settled_example()
     ensures { settle_text_of (record {

@@ -1,11 +1,7 @@
 //! Runs of the laboratory, byte by byte.
 
-ghost use Rattle.std.specs.Prelude.{◌≡◌, length};
-ghost use Rattle.sand_model.specs.Grid.{sites};
-
 use sand_model::{Edge, Pile, Shape};
 use sand_text::{Sums, lab_text};
-use std::alloc::{AllocError, Global};
 use std::test::Fail;
 
 fn sums(drops: u64, topplings: u64, lost: u64, grains: u64) -> Sums {
@@ -17,28 +13,12 @@ fn sums(drops: u64, topplings: u64, lost: u64, grains: u64) -> Sums {
     }
 }
 
-// The text of a run. With one refused allocation the second answer is the text.
-fn written(
-    alloc: Global,
-    epochs: &[Sums],
-    total: Sums,
-    pile: &Pile,
-    odometer: &[u64],
-) -> Result<Vec<u8>, AllocError>
-    requires { length odometer.now ≡ sites pile.now.grid }
-{
-    match lab_text(alloc, epochs, total, pile, odometer) {
-        Ok(text) => Ok(text),
-        Err(_) => lab_text(alloc, epochs, total, pile, odometer),
-    }
-}
-
 #[test]
 fn writes_epochs(rt: HostRuntime) -> Result<(), Fail> {
     let alloc = rt.alloc();
     let pile = Pile::new(alloc, Shape::new(1, 1)?, &[0])?;
     let epochs = [sums(6, 1, 4, 2), sums(6, 2, 8, 0)];
-    let text = written(alloc, &epochs, sums(12, 3, 12, 0), &pile, &[3])?;
+    let text = lab_text(alloc, &epochs, sums(12, 3, 12, 0), &pile, &[3])?;
     assert_eq!(rt;
         text.as_slice(),
         b"epoch drops topplings lost grains\n0 6 1 4 2\n1 6 2 8 0\ntotal 12 3 12 0\n1 1\n0\nodometer\n3\n".as_slice()
@@ -53,7 +33,7 @@ fn writes_a_cylinder(rt: HostRuntime) -> Result<(), Fail> {
     let shape = Shape::with_edge(3, 2, Edge::Cylinder)?;
     let pile = Pile::new(alloc, shape, &[2, 2, 2, 1, 1, 1])?;
     let settled = sums(0, 3, 3, 9);
-    let text = written(alloc, &[settled], settled, &pile, &[1, 1, 1, 0, 0, 0])?;
+    let text = lab_text(alloc, &[settled], settled, &pile, &[1, 1, 1, 0, 0, 0])?;
     assert_eq!(rt;
         text.as_slice(),
         b"epoch drops topplings lost grains\n0 0 3 3 9\ntotal 0 3 3 9\n3 2 c\n2 2 2\n1 1 1\nodometer\n1 1 1\n0 0 0\n".as_slice()
