@@ -1,6 +1,6 @@
 //! Drops and tallies.
 
-ghost use Rattle.std.specs.Prelude.{◌<◌};
+ghost use Rattle.std.specs.Prelude.{◌≡◌, ◌+◌, ◌<◌};
 ghost use Rattle.sand_model.specs.Grid.{sites};
 ghost use Rattle.sand_shared.specs.OpenPile.{grid_of};
 ghost use Rattle.sand_shared.specs.Passes.{IsPassOf};
@@ -9,7 +9,6 @@ use crate::meeting::both_drop;
 use sand_model::{GRAIN_LIMIT, Pile, Shape};
 use sand_shared::{DropFault, Pass, SharedFault, SharedPile, SplitFault};
 use std::alloc::Global;
-use std::ops::Range;
 use std::process::Abort;
 use std::test::Fail;
 
@@ -19,13 +18,14 @@ fn one_site(alloc: Global, height: u64) -> Result<Pile, Fail> {
     Ok(pile)
 }
 
-/// Drops grains at site 0, and looks at their numbers.
-pub fn drop_all(rt: &impl Abort, pile: &SharedPile, pass: &mut Pass, numbers: Range<u64>)
+/// Drops the first grains on a pile, at site 0, and looks at their numbers.
+pub(crate) fn drop_all(rt: &impl Abort, pile: &SharedPile, pass: &mut Pass, drops: u64)
     requires pass { IsPassOf pile.now pass.old }
     requires site { 0 < sites (grid_of pile.now.terms) }
-    ensures { IsPassOf pile.now pass.new }
+    ensures of_pile { IsPassOf pile.now pass.new }
+    ensures taken { pass.new.left + drops ≡ pass.old.left }
 {
-    'drops: for number in numbers {
+    'drops: for number in 0..drops {
         assert_eq!(rt; pile.drop_at(pass, 0), Ok(number));
     }
 }
@@ -49,7 +49,7 @@ fn as_many_as_the_quota(rt: HostRuntime) -> Result<(), Fail> {
     assert!(rt; 0 < start.shape().sites());
     let (pile, mut pass) = SharedPile::new(rt.alloc(), &start, 5)?;
     let _child = pile.split(rt.alloc(), &mut pass, 1)?;
-    drop_all(&rt, &pile, &mut pass, 0..4);
+    drop_all(&rt, &pile, &mut pass, 4);
     assert_eq!(rt; pile.drop_at(&mut pass, 0), Err(DropFault::Spent));
     assert!(rt;
         matches!(
@@ -103,7 +103,7 @@ fn a_tally_is_not_stale(rt: HostRuntime) -> Result<(), Fail> {
     assert!(rt; 0 < start.shape().sites());
     let (pile, mut pass) = SharedPile::new(rt.alloc(), &start, 2)?;
     let mut child = pile.split(rt.alloc(), &mut pass, 0)?;
-    drop_all(&rt, &pile, &mut pass, 0..2);
+    drop_all(&rt, &pile, &mut pass, 2);
     assert_eq!(rt; pile.tally(&mut child), 2);
     Ok(())
 }
@@ -113,7 +113,7 @@ fn a_child_has_seen_what_its_parent_has(rt: HostRuntime) -> Result<(), Fail> {
     let start = one_site(rt.alloc(), 0)?;
     assert!(rt; 0 < start.shape().sites());
     let (pile, mut pass) = SharedPile::new(rt.alloc(), &start, 3)?;
-    drop_all(&rt, &pile, &mut pass, 0..2);
+    drop_all(&rt, &pile, &mut pass, 2);
     let mut child = pile.split(rt.alloc(), &mut pass, 1)?;
     assert_eq!(rt; child.seen(), 2);
     assert_eq!(rt; pile.tally(&mut child), 2);
@@ -126,7 +126,7 @@ fn a_tally_counts_the_own_drops(rt: HostRuntime) -> Result<(), Fail> {
     let start = one_site(rt.alloc(), 0)?;
     assert!(rt; 0 < start.shape().sites());
     let (pile, mut pass) = SharedPile::new(rt.alloc(), &start, 6)?;
-    drop_all(&rt, &pile, &mut pass, 0..6);
+    drop_all(&rt, &pile, &mut pass, 6);
     assert_eq!(rt; pile.tally(&mut pass), 6);
     let mut child = pile.split(rt.alloc(), &mut pass, 0)?;
     assert_eq!(rt; pile.tally(&mut child), 6);

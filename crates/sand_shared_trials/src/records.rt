@@ -18,7 +18,7 @@ fn dropped_on(rt: &impl Abort, alloc: Global, start: &Pile, drops: u64) -> Resul
 {
     assert!(rt; 0 < start.shape().sites());
     let (pile, mut pass) = SharedPile::new(alloc, start, drops)?;
-    drop_all(rt, &pile, &mut pass, 0..drops);
+    drop_all(rt, &pile, &mut pass, drops);
     let record = pile.close(alloc, pass).ok().ok_or("close")?;
     Ok(record)
 }
