@@ -70,7 +70,7 @@ fn share(alloc: Global, start: &Pile, quota: u64) -> Result<(SharedPile, Pass), 
     }
 }
 
-// Closes the pile of an epoch with a pass that has gathered all.
+// Settles the pile of an epoch with a pass that has gathered all.
 fn close(alloc: Global, pile: SharedPile, all: Pass) -> Result<Record, LabFault>
     requires of_pile { IsPassOf pile all }
     requires whole { IsWhole pile.terms all }
@@ -81,7 +81,7 @@ fn close(alloc: Global, pile: SharedPile, all: Pass) -> Result<Record, LabFault>
     ensures never_fall { IfOk result (λ r. (i : ℕ) → slice_index all.counts i ≤ odometer_of r.settled i) }
     ensures memory { IfErr result IsMemory }
 {
-    match pile.close(alloc, all) {
+    match pile.settle(alloc, all) {
         Ok(record) => Ok(record),
         Err((CloseFault::Memory(refused), _, _)) => Err(refused.into()),
         Err((CloseFault::Missing, _, _)) => unreachable!(),

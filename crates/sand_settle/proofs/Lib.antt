@@ -2,4 +2,5 @@ pub mod Queue
 pub mod Underway
 pub mod Records
 pub mod Collected
+pub mod Held
 pub mod Drops

@@ -11,6 +11,7 @@ mod settling;
 mod site_list;
 #[cfg(test)]
 mod tests;
+mod waves;
 mod workspace;
 
 pub use avalanche::Avalanche;

@@ -83,7 +83,7 @@ fn relax(
 
 // Counts the topplings of a site, and notes it at its first.
 #[inline(always)]
-fn count(counts: &mut [u64], toppled: &mut SiteList, site: usize, times: u64)
+pub(crate) fn count(counts: &mut [u64], toppled: &mut SiteList, site: usize, times: u64)
     requires site { site < length counts.old }
     requires some { 0 < times }
     requires fits { slice_index counts.old site + times < 2 ^ 64 }
@@ -164,29 +164,6 @@ pub(crate) fn drain_within(
         mem::swap(wave, next);
     }
     true
-}
-
-// Topples until no site may topple: counts how often each site does, and lists the sites that do.
-pub(crate) fn drain(
-    lattice: &Lattice,
-    heights: &mut [u64],
-    counts: &mut [u64],
-    toppled: &mut SiteList,
-    wave: &mut SiteList,
-    next: &mut SiteList,
-)
-    requires one_each { (length heights.old ≡ sites lattice.now) × (length counts.old ≡ sites lattice.now) }
-    requires limit { sum heights.old ≤ GRAIN_LIMIT }
-    requires uncounted { (j : ℕ) → slice_index counts.old j ≡ 0 }
-    requires unnoted { toppled.old.sites ≡ [] }
-    requires waiting { Lists (sites lattice.now) (may_topple (slice_index heights.old)) wave.old.sites }
-    requires room { (sites lattice.now < toppled.old.room) × (sites lattice.now < wave.old.room) × (sites lattice.now < next.old.room) }
-    ensures settled { IsSettled lattice.now (slice_index heights.old) (slice_index counts.new) (slice_index heights.new) }
-    ensures limit { sum heights.new ≤ sum heights.old }
-    ensures noted { Lists (sites lattice.now) (has_toppled (slice_index counts.new)) toppled.new.sites }
-    ensures room { (sites lattice.now < toppled.new.room) × (sites lattice.now < wave.new.room) × (sites lattice.now < next.new.room) }
-{
-    let _ = drain_within(lattice, heights, counts, toppled, wave, next, u64::MAX);
 }
 
 // Lists the sites that may topple.

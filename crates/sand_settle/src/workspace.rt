@@ -9,8 +9,8 @@ ghost use Rattle.sand_model.specs.Sand.{IsSettled, topplings};
 ghost use Rattle.sand_settle.specs.Avalanches.{IsAvalanche};
 
 use crate::avalanche::{Avalanche, calm, collect};
-use crate::settling::drain;
 use crate::site_list::SiteList;
+use crate::waves::drain_from;
 use sand_model::{GRAIN_LIMIT, Lattice, Shape, TOPPLING_HEIGHT};
 use std::alloc::{AllocError, Global};
 use std::marker::Model;
@@ -21,8 +21,7 @@ pub(crate) struct Workspace {
     lattice: Lattice,
     counts: Vec<u64>,
     toppled: SiteList,
-    wave: SiteList,
-    next: SiteList,
+    list: SiteList,
 }
 
 impl Model for Workspace {
@@ -33,25 +32,24 @@ impl Model for Workspace {
 
     ghost view = { λ w. w.lattice };
 
-    ghost invariant = { λ w. IsIdle w.lattice w.counts.items w.toppled w.wave w.next };
+    ghost invariant = { λ w. IsIdle w.lattice w.counts.items w.toppled w.list };
 }
 
 impl Workspace {
     pub(crate) fn new(alloc: Global, shape: Shape) -> Result<Workspace, AllocError>
         ensures { IfOk result (λ w. w ≡ shape) }
     {
-        let room = shape.sites() + 1;
+        // A turn adds 4 sites at most.
+        let room = shape.sites() + 4;
         let lattice = Lattice::new(alloc, shape)?;
         let counts = vec![in alloc; 0u64; shape.sites()]?;
         let toppled = SiteList::new(alloc, room)?;
-        let wave = SiteList::new(alloc, room)?;
-        let next = SiteList::new(alloc, room)?;
+        let list = SiteList::new(alloc, room)?;
         Ok(Workspace {
             lattice,
             counts,
             toppled,
-            wave,
-            next,
+            list,
         })
     }
 
@@ -95,15 +93,13 @@ impl Workspace {
         // The sides are at most 256, so one drop sets off fewer than 2^54 topplings.
         let _ = self.lattice.shape();
         self.toppled.clear();
-        self.wave.clear();
-        self.wave.push_if(site, true);
-        drain(
+        drain_from(
             &self.lattice,
             heights,
             &mut self.counts,
             &mut self.toppled,
-            &mut self.wave,
-            &mut self.next,
+            &mut self.list,
+            site,
         );
         collect(
             &self.lattice,

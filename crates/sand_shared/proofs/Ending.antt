@@ -13,6 +13,7 @@ use Rattle.sand_shared.specs.OpenPile.{nobody, grid_of, numbered, dropped, toppl
 use Rattle.sand_shared.specs.Passes.{PassView, AllBelow, IsWhole, at_rest}
 use Rattle.sand_shared.specs.Rows.{count_of}
 use Rattle.sand_shared.specs.Record.{RecordView, Tells, IsLast, EndsAt}
+use Rattle.sand_shared.specs.Running.{Stands}
 use Rattle.sand_shared.specs.Sweeps.{HasAll, IsCalm}
 use Rattle.sand_shared.proofs.Sums.{sum_by_only}
 use Rattle.sand_shared.proofs.Amounts.{toppled_from}
@@ -21,83 +22,80 @@ use Rattle.sand_shared.proofs.Histories.{history_is, all_seen}
 use Rattle.sand_shared.proofs.Recording.{LeadsTo}
 use Rattle.sand_shared.proofs.Wholes.{whole_base, whole_counts, swept_has_all}
 
-module _ (t : Terms) (a : ℕ) (v : View) (heights : List ℕ) (last : IsLast t a v heights) (all : HasAll t v) where
-  -- the same at the last open pile
-  has_all : HasAll t (pass_at last.stands.pile a)
-  has_all = subst (HasAll t) (sym last.stands.pass) all
+module _ (t : Terms) (a : ℕ) (v : View) (s : Stands t a v) (all : HasAll t v) where
+  -- the same at the open pile where it stands
+  pub has_all : HasAll t (pass_at s.pile a)
+  has_all = subst (HasAll t) (sym s.pass) all
 
-  numbers : (n : ℕ) → numbered v.receipts n ≡ one_if (nat_lt n (length last.stands.pile.drawn))
+  numbers : (n : ℕ) → numbered v.receipts n ≡ one_if (nat_lt n (length s.pile.drawn))
   numbers n =
-      let s = last.stands in
       let p = s.pile in
       ap (λ (u : View). numbered u.receipts n) (sym s.pass)
       ∙ sym (sum_by_only (λ (u : View). numbered u.receipts n) p.passes a nobody s.there (λ b lb ne. ap (λ rs. numbered rs n) (no_receipts t p s.lawful a s.there has_all b lb ne)))
       ∙ s.lawful.numbers n
 
-  every : length v.receipts ≡ length last.stands.pile.drawn
+  every : length v.receipts ≡ length s.pile.drawn
   every =
-      let s = last.stands in
       let p = s.pile in
       ap (λ (u : View). length u.receipts) (sym s.pass)
       ∙ sym (sum_by_only (λ (u : View). length u.receipts) p.passes a nobody s.there (λ b lb ne. ap (λ rs. length rs) (no_receipts t p s.lawful a s.there has_all b lb ne)))
       ∙ s.lawful.receipts
 
-  pub drawn_is : (history : List ℕ) → length history ≡ length v.receipts → Tells v.receipts history → history ≡ last.stands.pile.drawn
+  pub drawn_is : (history : List ℕ) → length history ≡ length v.receipts → Tells v.receipts history → history ≡ s.pile.drawn
   drawn_is history long told =
-      let s = last.stands in
       history_is v.receipts s.pile.drawn numbers history (long ∙ every) told
       (subst (λ (u : View). Tells u.receipts s.pile.drawn) s.pass (s.lawful.passes a nobody s.there).receipts)
 
   pub seen_is : AllBelow v.seen v.receipts → v.seen ≡ length v.receipts
   seen_is below =
-      let s = last.stands in
       let most = (s.lawful.passes a nobody s.there).seen in
       let same = ap (λ (u : View). u.seen) s.pass in
       let least = all_seen v.receipts s.pile.drawn numbers v.seen below in
       let each = every in omega arith
 
   module _ (base : v.base ≡ 0) where
-    pub toppled_is : (i : ℕ) → i < sites (grid_of t) → toppled last.stands.pile i ≡ slice_index v.counts i
+    pub toppled_is : (i : ℕ) → i < sites (grid_of t) → toppled s.pile i ≡ slice_index v.counts i
     toppled_is i l =
-        let s = last.stands in
         its_topplings t s.pile s.lawful a s.there has_all i l ∙ ap (λ (u : View). toppled_by u i) s.pass
         ∙ toppled_from v i (omega arith) ∙ ap (slice_index v.counts) {x = i - v.base} {y = i} (omega arith)
 
+module _ (t : Terms) (a : ℕ) (v : View) (heights : List ℕ) (last : IsLast t a v heights) (all : HasAll t v) where
+  module _ (base : v.base ≡ 0) where
     module _ (free : v.hand ≡ []) (calm : IsCalm t v) where
       settles : IsSettled (grid_of t) (poured t last.stands.pile) (slice_index v.counts) (slice_index heights)
       settles =
           let g = grid_of t in
           let s = last.stands in
           let p = s.pile in
-          let own = λ (i : ℕ) (l : i < sites g). its_topplings t p s.lawful a s.there has_all i l ∙ ap (λ (u : View). toppled_by u i) s.pass in
+          let own = λ (i : ℕ) (l : i < sites g). its_topplings t p s.lawful a s.there (has_all t a v last.stands all) i l ∙ ap (λ (u : View). toppled_by u i) s.pass in
           record {
             toppled = record {
               balance = λ i l.
                   let b = s.lawful.balance.balance i l in
-                  let none = nothing_held t p s.lawful a s.there has_all (ap (λ (u : View). u.hand) s.pass ∙ free) i l in
-                  let here = toppled_is i l in
-                  let around = flow_same g (toppled p) (slice_index v.counts) toppled_is i l in
+                  let none = nothing_held t p s.lawful a s.there (has_all t a v last.stands all) (ap (λ (u : View). u.hand) s.pass ∙ free) i l in
+                  let here = (toppled_is t a v last.stands all base) i l in
+                  let around = flow_same g (toppled p) (slice_index v.counts) (toppled_is t a v last.stands all base) i l in
                   let height = last.each_height i l in omega arith;
             };
             odometer = record {
               stabilises = record {
                 at_most_three = λ i l.
                     let low = calm i l in
-                    let drops = its_drops t p s.lawful a s.there has_all i in
+                    let drops = its_drops t p s.lawful a s.there (has_all t a v last.stands all) i in
                     let same = ap (λ (u : View). dropped u.receipts i) s.pass in
-                    let here = toppled_is i l in
+                    let here = (toppled_is t a v last.stands all base) i l in
                     let mine = own i l in
-                    let around = flow_same g (toppled p) (slice_index v.counts) toppled_is i l in
+                    let around = flow_same g (toppled p) (slice_index v.counts) (toppled_is t a v last.stands all base) i l in
                     let around' = flow_same g (toppled p) (toppled_by v) own i l in omega arith;
               };
-              least = λ w stab i l. (let n = s.lawful.needed w stab i l in let here = toppled_is i l in omega arith);
+              least = λ w stab i l. (let n = s.lawful.needed w stab i l in let here = (toppled_is t a v last.stands all base) i l in omega arith);
             };
           }
 
       pub leads : (history : List ℕ) → length v.counts ≡ sites (grid_of t) → length history ≡ length v.receipts → Tells v.receipts history → LeadsTo t.start history heights v.counts
       leads history each long told =
           let s = last.stands in
-          let drawn = drawn_is history long told in
+          let drawn = drawn_is t a v last.stands all history long told in
           let same = ap (λ (l : List ℕ). length l) drawn in
           let quota = s.lawful.quota in
           let limit = s.terms.limit in
@@ -135,7 +133,7 @@ module _ (t : Terms) (p : PassView) (counts heights : List ℕ) (a : ℕ) (v : V
 
   pub closed_seen : p.seen ≡ length p.receipts
   unfolding swept
-  closed_seen = seen_is t a swept heights last_swept all_swept b.below
+  closed_seen = seen_is t a swept last_swept.stands all_swept b.below
 
   pub closed_leads : (history : List ℕ) → length history ≡ length p.receipts → Tells p.receipts history → LeadsTo t.start history heights counts
   unfolding swept
@@ -146,7 +144,7 @@ module _ (t : Terms) (p : PassView) (counts heights : List ℕ) (a : ℕ) (v : V
   closed_ends r long told heights_are odometer_is = record {
     pile = last_swept.stands.pile;
     lawful = last_swept.stands.lawful;
-    drawn = sym (drawn_is t a swept heights last_swept all_swept r.history long told);
+    drawn = sym (drawn_is t a swept last_swept.stands all_swept r.history long told);
     heights = λ i l. sym (last_swept.each_height i l) ∙ ap (λ (l : List ℕ). slice_index l i) (sym heights_are);
-    toppled_so = λ i l. toppled_is t a swept heights last_swept all_swept (whole_base t p b.grid b.one_each b.whole) i l ∙ ap (λ (l : List ℕ). slice_index l i) (sym odometer_is);
+    toppled_so = λ i l. toppled_is t a swept last_swept.stands all_swept (whole_base t p b.grid b.one_each b.whole) i l ∙ ap (λ (l : List ℕ). slice_index l i) (sym odometer_is);
   }

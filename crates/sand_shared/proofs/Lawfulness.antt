@@ -36,7 +36,7 @@ event_keeps t p (look a i) terms r may = look_keeps t p a i r may
 event_keeps t p (unload a i k) terms r may = unload_keeps t p a i k r may
 event_keeps t p (deliver a i k) terms r may = deliver_keeps t p a i k r may
 
-all_keep : (t : Terms) (p : OpenPile) (events : List Event) → AreTerms t → IsLawful t p → AllHappen t p events → IsLawful t (after_all t p events)
+pub all_keep : (t : Terms) (p : OpenPile) (events : List Event) → AreTerms t → IsLawful t p → AllHappen t p events → IsLawful t (after_all t p events)
 all_keep t p [] terms r happen = r
 all_keep t p (e ∷ es) terms r happen = all_keep t (after t p e) es terms (event_keeps t p e terms r happen.0) happen.1
 

@@ -14,6 +14,7 @@ pub mod Moments
 pub mod RowSites
 pub mod Told
 pub mod Receipts
+pub mod InARow
 pub mod Cutting
 pub mod Gathering
 pub mod Counts
@@ -24,3 +25,4 @@ pub mod Wholes
 pub mod Recording
 pub mod Histories
 pub mod Ending
+pub mod Completing

@@ -29,10 +29,10 @@ module _ {A : Type 0} where
   some_there (y ∷ ys) (suc i) x d e = some_there ys i x d e
 
 -- the open pile that a table shows
-abbrev pile_of : (t : Terms) (s : State ℕ View) → IsRunning t s → OpenPile
+abbrev pub pile_of : (t : Terms) (s : State ℕ View) → IsRunning t s → OpenPile
 pile_of t s h = after_all t (unopened t) (begin ∷ h.events)
 
-lawful_now : (t : Terms) (s : State ℕ View) (h : IsRunning t s) → IsLawful t (pile_of t s h)
+pub lawful_now : (t : Terms) (s : State ℕ View) (h : IsRunning t s) → IsLawful t (pile_of t s h)
 lawful_now t s h = always_lawful t h.events h.terms h.happened
 
 -- the rule holds after one event more
@@ -47,10 +47,10 @@ one_more t s s' h e may shown =
     }
 
 module _ (t : Terms) (s : State ℕ View) (h : IsRunning t s) (a : ℕ) (v : View) (at : get_elem? s.views a ≡ some v) where
-  pass_there : a < length (pile_of t s h).passes
+  pub pass_there : a < length (pile_of t s h).passes
   pass_there = let b = some_inside s.views a v at in let e = ap (λ (l : List View). length l) h.shown.passes in omega arith
 
-  pass_is : pass_at (pile_of t s h) a ≡ v
+  pub pass_is : pass_at (pile_of t s h) a ≡ v
   pass_is = ap (λ (l : List View). get_or l a nobody) (sym h.shown.passes) ∙ some_there s.views a v nobody at
 
 -- a step may be taken where its event may happen whatever else did, and the words show it

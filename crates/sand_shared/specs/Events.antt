@@ -52,6 +52,19 @@ behind_first (g ∷ gs) = gs
 abbrev pub drew : View → ℕ → ℕ → View
 drew v n i = record v { left = v.left - 1; seen = n + 1; receipts = v.receipts ++ receipt n i ∷ []; hand = v.hand ++ grains i 1 ∷ [] }
 
+-- the receipts of drops in a row, from the number n on
+abbrev pub receipts_from : ℕ → List ℕ → List Receipt
+receipts_from n [] = []
+receipts_from n (i ∷ is) = receipt n i ∷ receipts_from (n + 1) is
+
+-- one grain for each of some sites
+abbrev pub one_for_each : List ℕ → List Grains
+one_for_each is = map (λ i. grains i 1) is
+
+-- what draws in a row leave a pass with, from the number n on
+abbrev pub drew_all : View → ℕ → List ℕ → View
+drew_all v n is = record v { left = v.left - length is; seen = n + length is; receipts = v.receipts ++ receipts_from n is; hand = v.hand ++ one_for_each is }
+
 abbrev pub laid_down : View → View
 laid_down v = record v { hand = behind_first v.hand }
 
@@ -185,6 +198,10 @@ AllHappen t p (e ∷ es) = May t p e × AllHappen t (after t p e) es
 abbrev pub after_all : Terms → OpenPile → List Event → OpenPile
 after_all t p [] = p
 after_all t p (e ∷ es) = after_all t (after t p e) es
+
+-- a pass draws numbers for grains on some sites, in a row
+abbrev pub all_draws : ℕ → List ℕ → List Event
+all_draws a is = map (λ i. draw a i) is
 
 -- the quota and the sites that a split gives away
 abbrev pub quota_given : Event → ℕ

@@ -6,7 +6,7 @@ use Rattle.sand_model.specs.Grid.{sites}
 use Rattle.sand_shared.specs.declared.view.View.{View}
 use Rattle.sand_shared.specs.declared.view.Terms.{Terms}
 use Rattle.sand_shared.specs.OpenPile.{OpenPile, grid_of, pass_at, AreTerms, IsLawful}
-use Rattle.sand_shared.specs.Events.{Event, begin, draw, place, count, split, join, look, unload, deliver, unopened, May, after, AllHappen, after_all}
+use Rattle.sand_shared.specs.Events.{Event, begin, draw, place, count, split, join, look, unload, deliver, unopened, May, after, AllHappen, after_all, all_draws}
 
 -- the words and the views show this open pile
 pub record Shows (t : Terms) (p : OpenPile) (s : State ℕ View) : Type 0 where
@@ -68,3 +68,14 @@ Takes t e s v n w = Happened t e v.0 n w.0 × (w.1 ≡ v.1)
 -- what a load tells that is no event: the pass has what it had
 abbrev pub Learns : Terms → ℕ → Step ℕ → Me ℕ View → ℕ → Me ℕ View → Type 0
 Learns t a s v n w = Stands t a v.0 × (w ≡ v)
+
+-- a pass that had v drew for grains on some sites in one step, could do so, found n draws, and has w after it
+pub record HappenedInARow (t : Terms) (a : ℕ) (is : List ℕ) (v : View) (n : ℕ) (w : View) : Type 0 where
+  pub before : Stands t a v
+  pub may : AllHappen t before.pile (all_draws a is)
+  pub number : n ≡ length before.pile.drawn
+  pub pass_after : pass_at (after_all t before.pile (all_draws a is)) a ≡ w
+
+-- what the step tells that is draws in a row
+abbrev pub TakesInARow : Terms → ℕ → List ℕ → Step ℕ → Me ℕ View → ℕ → Me ℕ View → Type 0
+TakesInARow t a is s v n w = HappenedInARow t a is v.0 n w.0 × (w.1 ≡ v.1)

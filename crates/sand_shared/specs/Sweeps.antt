@@ -2,11 +2,13 @@
 -- With k = start + own receipts - L(own counts), L the toppling matrix (Dhar 1990), written without subtraction.
 use Rattle.std.specs.Prelude.{ℕ, true, ◌≡◌, ◌+◌, ◌-◌, ◌*◌, ◌<◌, ◌≤◌, ◌↔◌, List, length, sum, slice_index}
 use Rattle.sand_model.specs.Grid.{sites}
-use Rattle.sand_model.specs.Sand.{flow, Stabilises, weight}
+use Rattle.sand_model.specs.Sand.{flow, IsSettled, Stabilises, weight}
 use Rattle.sand_model.specs.Piles.{height_of}
+use Rattle.sand_settle.specs.Settling.{SettledView, odometer_of}
 use Rattle.sand_shared.specs.declared.view.View.{View}
 use Rattle.sand_shared.specs.declared.view.Terms.{Terms}
 use Rattle.sand_shared.specs.OpenPile.{grid_of, dropped, holds_site, toppled_by}
+use Rattle.sand_shared.specs.Passes.{PassView, at_rest}
 
 -- the start and the grains of a pass's own receipts
 abbrev pub laid : Terms → View → ℕ → ℕ
@@ -50,3 +52,11 @@ pub record Swept (t : Terms) (v : View) (counts : List ℕ) (answer : ℕ) : Typ
   -- a pass that has all topples nothing exactly where nothing is left to topple
   pub calm : HasAll t v → (answer ≡ 0) ↔ IsCalm t v
   pub sparing : HasAll t v → IsSparing t (with_counts v counts)
+
+-- what lies on the pile of a whole pass settles to r: then the pass's counts and r's odometer together are the least odometer
+-- of the start and its receipts
+pub record IsRestOf (t : Terms) (p : PassView) (r : SettledView) : Type 0 where
+  pub grid : r.pile.grid ≡ grid_of t
+  pub heights_each : length r.pile.heights ≡ sites (grid_of t)
+  pub odometer_each : length r.odometer ≡ sites (grid_of t)
+  pub settled : IsSettled (grid_of t) (laid t (at_rest p)) (λ i. slice_index p.counts i + odometer_of r i) (height_of r.pile)

@@ -40,7 +40,7 @@ impl Words {
 }
 
 // Writes the site of each receipt at its number.
-fn fill(history: &mut Vec<usize>, receipts: &[Receipt])
+pub(crate) fn fill(history: &mut Vec<usize>, receipts: &[Receipt])
     requires inside { All (λ r. r.number < length history.old.items) receipts.now }
     requires once { EachOnce receipts.now }
     ensures tells { Tells receipts.now history.new.items }
@@ -87,11 +87,11 @@ impl SharedPile {
             Ok(heights) => heights,
             Err(error) => return Err((CloseFault::Memory(error), self, pass)),
         };
-        Ok(self.settle(pass, history, heights))
+        Ok(self.topple_out(pass, history, heights))
     }
 
     // Topples until nothing topples, and writes the record into lists that have room for it.
-    fn settle(self, pass: Pass, mut history: Vec<usize>, mut heights: Vec<u64>) -> Record
+    fn topple_out(self, pass: Pass, mut history: Vec<usize>, mut heights: Vec<u64>) -> Record
         requires pass { IsPassOf self pass }
         requires whole { IsWhole self.terms pass }
         requires history { length history.items ≡ length pass.receipts }

@@ -13,10 +13,12 @@ mod pass;
 mod record;
 mod rows;
 mod rule;
+mod settling;
 mod shared_pile;
 mod splitting;
 mod steps;
 mod sweeping;
+mod turns;
 mod view;
 
 pub use faults::{CloseFault, DropFault, JoinFault, SharedFault, SplitFault};

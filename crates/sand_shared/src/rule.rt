@@ -49,6 +49,40 @@ impl<J: Picked> Play<u8, View> for Take<J> {
     ghost then = { Takes J.terms J.event };
 }
 
+/// The pass and the sites of draws in a row, picked at the call for the proofs alone.
+pub trait PickedRow {
+    ghost use Rattle.std.specs.Prelude.{ℕ, List};
+    ghost use Rattle.sand_shared.specs.declared.view.Terms.{Terms as TermsOf};
+
+    ghost terms: { TermsOf };
+
+    ghost pass: { ℕ };
+
+    ghost drops: { List ℕ };
+}
+
+impl PickedRow for Brand {
+    ghost use Rattle.std.specs.Prelude.{[]};
+    ghost use Rattle.sand_shared.specs.Events.{no_terms};
+
+    ghost terms = { no_terms };
+
+    ghost pass = { 0 };
+
+    ghost drops = { [] };
+}
+
+/// The step of draws in a row.
+pub struct TakeRow<J> {
+    picked: PhantomData<J>,
+}
+
+impl<J: PickedRow> Play<u8, View> for TakeRow<J> {
+    ghost use Rattle.sand_shared.specs.Running.{TakesInARow};
+
+    ghost then = { TakesInARow J.terms J.pass J.drops };
+}
+
 /// A load that changes nothing, by which a pass learns that what it has fits the rule.
 pub struct Learn<J> {
     picked: PhantomData<J>,

@@ -1,16 +1,16 @@
 //! The table of words under its rule, and the steps on it: each function here takes one step, and its contract names
 //! the event that this is.
 
-ghost use Rattle.std.specs.Prelude.{◌≡◌, ℕ, ◌+◌, ◌-◌, ◌*◌, ◌^◌, ◌<◌, ◌≤◌, ◌||◌, true, [], ◌∷◌, length, slice_index, vec_capacity, IfOk};
+ghost use Rattle.std.specs.Prelude.{◌≡◌, ℕ, ◌+◌, ◌-◌, ◌*◌, ◌^◌, ◌<◌, ◌≤◌, ◌||◌, true, [], ◌∷◌, All, length, slice_index, vec_capacity, IfOk};
 ghost use Rattle.std.specs.Mem.Slots.{slots_items, slots_len, IsFull};
 ghost use Rattle.sand_model.specs.Grid.{sites, places};
 ghost use Rattle.sand_shared.specs.OpenPile.{grid_of, holds_site, AreTerms};
 ghost use Rattle.sand_shared.specs.Events.{draw, place, count, split, look, unload, deliver, grains, behind_first, first_pass, parent, child, joined, follows};
-ghost use Rattle.sand_shared.specs.Running.{Happened, Stands, actor};
+ghost use Rattle.sand_shared.specs.Running.{Happened, HappenedInARow, Stands, actor};
 ghost use Rattle.sand_shared.specs.Record.{IsLast};
 ghost use Rattle.sand_shared.specs.Seats.{IsSeatAt, StaysSeated};
 
-use crate::rule::{Cut, Gather, Learn, Picked, Running, Take};
+use crate::rule::{Cut, Gather, Learn, Picked, PickedRow, Running, Take, TakeRow};
 use crate::view::{Terms, View};
 use atomic_table::{Closed, Seat, Table};
 use sand_model::{Lattice, TOPPLING_HEIGHT};
@@ -89,6 +89,20 @@ impl Words {
     {
         let _ = site;
         self.table.shared.fetch_add::<Take<J>>(seat, 1, 1)
+    }
+
+    /// Draws numbers for grains on some sites, in a row and in one step. Answers the first.
+    pub(crate) fn draw_all<J: PickedRow>(&self, seat: &mut PassSeat, drops: &[usize]) -> u64
+        requires seat { IsSeatAt self.now seat.old }
+        requires left { length drops.now ≤ seat.old.me.0.left }
+        requires inside { All (λ i. i < sites (grid_of self.now.terms)) drops.now }
+        requires picked { (J.terms ≡ self.now.terms) × (J.pass ≡ seat.old.id) × (J.drops ≡ drops.now) }
+        ensures seat { StaysSeated seat.old seat.new }
+        ensures happened { HappenedInARow self.now.terms seat.old.id drops.now seat.old.me.0 result seat.new.me.0 }
+    {
+        self.table
+            .shared
+            .fetch_add::<TakeRow<J>>(seat, 1, drops.len() as u64)
     }
 
     /// Lays the grain that was drawn on its site.
@@ -210,6 +224,20 @@ impl Words {
         let closed = table.close_with(seat);
         read_heights(&closed, terms.start.shape().sites(), heights);
         closed.free();
+        terms
+    }
+
+    /// Closes the table with the seat of a pass, whatever lies there.
+    pub(crate) fn end(self, seat: PassSeat) -> Terms
+        requires seat { IsSeatAt self seat }
+        ensures terms { result ≡ self.terms }
+    {
+        let Words {
+            table,
+            terms,
+            lattice: _,
+        } = self;
+        table.close_with(seat).free();
         terms
     }
 }

@@ -1,6 +1,6 @@
 use Rattle.std.proofs.Common.{◌≡◌, ℕ, ◌+◌, List, [], Option, None, drop, length, get_or, sym, refl, ap, ◌∙◌, arith}
 use Rattle.std.proofs.lemmas.List.{drop_all}
-use Rattle.sand_model.specs.Grid.{sites, places}
+use Rattle.sand_model.specs.Grid.{sites}
 use Rattle.sand_model.proofs.Neighbours.{place_inside}
 use Rattle.sand_shared.specs.declared.view.View.{View}
 use Rattle.sand_shared.specs.OpenPile.{grid_of}

@@ -1,0 +1,267 @@
+-- A wave of topplings, in which each site topples once at most, and one is held back once it has.
+use Rattle.std.proofs.Common.{ℕ, Bool, true, false, cond, eqb, ltb, ◌&&◌, Option, None, ◌≡◌, ◌≢◌, ◌+◌, ◌-◌, ◌*◌, ◌<◌, ◌≤◌, refl, sym, ◌∙◌, ap, subst, drop, arith, List, [], ◌∷◌, ◌++◌, length, sum, get_or, leb, length-append, ⊎_elim}
+use Rattle.std.proofs.Math.ListN.{set}
+use Rattle.std.proofs.lemmas.Bool.{cases_eq, cases_lt, cases_Bool, lt-leb, le-leb, lt-ltb, le-ltb}
+use Rattle.std.proofs.lemmas.List.{get_or-set_same, get_or-set_other, drop-append-le, drop_all, length-drop, length-set}
+use Rattle.sand_model.specs.Grid.{Grid, sites, places}
+use Rattle.sand_model.specs.Sand.{one_at, tally, value_at, flow, total, IsToppled, topplings}
+use Rattle.sand_model.specs.Lists.{Lists, one_if}
+use Rattle.sand_model.proofs.Totals.{total_same, total_le, total-add, total-ones, total-one_at, one_at_same, one_at_other}
+use Rattle.sand_model.proofs.Tallies.{tally-append, tally-cons}
+use Rattle.sand_model.proofs.Flow.{flow_le, flow_same, flow-add, flow-scale, flow-one_at}
+use Rattle.sand_model.proofs.Neighbours.{flow_four}
+use Rattle.sand_model.proofs.Sandpile.{flow_ones}
+use Rattle.sand_model.proofs.Heights.{get_or-written}
+use Rattle.sand_model.proofs.Lists.{length-listing, listed, lists_of, at_most_once, at_most_one}
+use Rattle.sand_settle.specs.Lists.{may_topple}
+use Rattle.sand_settle.proofs.Queue.{queued, turn_of, turn_inside, turn_high, leaves, front_is_high}
+use Rattle.sand_settle.specs.Underway.{Advances}
+use Rattle.sand_settle.proofs.Underway.{topplings_more, sum_falls}
+use Rattle.std.proofs.lemmas.List.Sums.{sum_by-set}
+
+at_most_one_at : (i j : ℕ) → one_at i j ≤ 1
+at_most_one_at i j = at_most_one (eqb i j)
+
+-- the order of a listing does not matter
+pub lists_swap : (n : ℕ) (test : ℕ → Bool) (xs ys : List ℕ) → Lists n test (xs ++ ys) → Lists n test (ys ++ xs)
+lists_swap n test xs ys all = record {
+  each = λ i. let one = all.each i in let a = tally-append xs ys i in let b = tally-append ys xs i in omega arith;
+}
+
+-- h with the 4 grains that the held site has still to lose taken away
+abbrev pub lowered : List ℕ → ℕ → List ℕ
+lowered h site = set h site (get_or h site 0 - 4)
+
+pub lowered_at : (h : List ℕ) (site : ℕ) → site < length h → 4 ≤ get_or h site 0 → (j : ℕ) → get_or (lowered h site) j 0 + 4 * one_at site j ≡ get_or h j 0
+lowered_at h site inside high j =
+    let all = get_or-written h site (get_or h site 0 - 4) j inside in
+    let rest : get_or h site 0 - 4 + 4 ≡ get_or h site 0 = omega arith in
+    let taken = ap (λ q. q * one_at site j) rest in
+    omega arith
+
+-- what one site gives, it has lost
+pub spread_once : (g : Grid) (i : ℕ) (r q : ℕ → ℕ) → ((j : ℕ) → j < sites g → q j + 4 * one_at i j ≡ r j + flow g (one_at i) j) → IsToppled g r (λ j. 1 * one_at i j) q
+spread_once g i r q each = record {
+  balance = λ j l. let e = each j l in let one = flow-scale g 1 (one_at i) j in omega arith;
+}
+
+-- the state of a wave from the counts c and the heights h that it began with, after so many turns of others
+pub record IsWave (g : Grid) (site : ℕ) (c h u k : List ℕ) (list : List ℕ) (turn : ℕ) : Type 0 where
+  pub within : turn ≤ length list
+  pub low : (j : ℕ) → j < sites g → j ≢ site → get_or h j 0 ≤ 3
+  pub counts : (j : ℕ) → j < sites g → get_or c j 0 ≤ get_or u j 0
+  pub once : (j : ℕ) → j < sites g → get_or u j 0 ≤ get_or c j 0 + 1
+  pub held : get_or u site 0 ≡ get_or c site 0 + 1
+  pub toppled : (j : ℕ) → j < sites g → get_or k j 0 + 4 * (get_or u j 0 - get_or c j 0) ≡ get_or h j 0 + 4 * one_at site j + flow g (λ m. get_or u m 0 - get_or c m 0) j
+  pub turns : topplings g (λ j. get_or u j 0) ≡ topplings g (λ j. get_or c j 0) + turn + 1
+  pub waiting : Lists (sites g) (may_topple (λ j. get_or k j 0)) ((site ∷ []) ++ drop turn list)
+
+-- no other site that has toppled has 4 again
+pub toppled_low : (g : Grid) (site : ℕ) (c h u k list : List ℕ) (turn j : ℕ) → IsWave g site c h u k list turn → j < sites g → j ≢ site → get_or k j 0 + 4 * (get_or u j 0 - get_or c j 0) ≤ 7
+toppled_low g site c h u k list turn j wave l ne =
+    let e = wave.toppled j l in
+    let few = flow_le g (λ m. get_or u m 0 - get_or c m 0) (λ m. 1) (λ m lm. let o = wave.once m lm in omega arith) j l in
+    let four = flow_ones g j in
+    let low = wave.low j l ne in
+    let none = ap (λ q. 4 * q) (one_at_other site j (λ e'. ne (sym e'))) in
+    omega arith
+
+-- so the list holds no more than the other sites
+pub wave_few : (g : Grid) (site : ℕ) (c h u k list : List ℕ) (turn : ℕ) → site < sites g → IsWave g site c h u k list turn → length list + 1 ≤ sites g
+wave_few g site c h u k list turn inside wave =
+    let long = length-listing (sites g) (may_topple (λ j. get_or k j 0)) ((site ∷ []) ++ drop turn list) wave.waiting in
+    let rest = length-drop turn list in
+    let within = wave.within in
+    let front = length-append (site ∷ []) (drop turn list) in
+    let grown = total_same (sites g) (λ j. get_or u j 0) (λ j. get_or c j 0 + (get_or u j 0 - get_or c j 0)) (λ j l. let le = wave.counts j l in omega arith) in
+    let split = total-add (sites g) (λ j. get_or c j 0) (λ j. get_or u j 0 - get_or c j 0) in
+    let turns = wave.turns in
+    let both = total-add (sites g) (λ j. get_or u j 0 - get_or c j 0) (λ j. one_if (leb 4 (get_or k j 0))) in
+    let bound = total_le (sites g) (λ j. (get_or u j 0 - get_or c j 0) + one_if (leb 4 (get_or k j 0))) (λ j. 1 + 1 * one_at site j)
+        (λ j l.
+        let o = wave.once j l in
+        ⊎_elim
+        (λ (e : site ≡ j).
+        let one = ap (λ q. 1 * q) (sym (ap (one_at site) e) ∙ one_at_same site) in
+        ⊎_elim (λ (less : get_or k j 0 < 4). rw (lt-leb 4 (get_or k j 0) less) (omega arith)) (λ (more : 4 ≤ get_or k j 0). rw (le-leb 4 (get_or k j 0) more) (omega arith)) (cases_lt (get_or k j 0) 4))
+        (λ (ne : site ≡ j → ⊥).
+        let low = toppled_low g site c h u k list turn j wave l (λ e. ne (sym e)) in
+        ⊎_elim (λ (less : get_or k j 0 < 4). rw (lt-leb 4 (get_or k j 0) less) (omega arith)) (λ (more : 4 ≤ get_or k j 0). rw (le-leb 4 (get_or k j 0) more) (omega arith)) (cases_lt (get_or k j 0) 4))
+        (cases_eq site j)) in
+    let ones = total-add (sites g) (λ j. 1) (λ j. 1 * one_at site j) in
+    let all = total-ones (sites g) in
+    let one = total-one_at (sites g) site (λ j. 1) inside in
+    omega arith
+
+-- the queue from one turn on, after a site has got grains, and joined it if it may topple from now on
+pub queued_from : (h front list : List ℕ) (turn i v : ℕ) → turn ≤ length list → i < length h → get_or h i 0 ≤ v → Lists (length h) (may_topple (λ j. get_or h j 0)) (front ++ drop turn list) → Lists (length h) (may_topple (λ j. get_or (set h i v) j 0)) (front ++ drop turn (cond (ltb (get_or h i 0) 4 && leb 4 v) (list ++ i ∷ []) list))
+queued_from h front list turn i v within inside more all =
+    ⊎_elim
+    (λ (joins : (ltb (get_or h i 0) 4 && leb 4 v) ≡ true).
+    let was = queued h front (drop turn list) i v inside more all in
+    rw (joins, drop-append-le turn list (i ∷ []) within) (rw joins at was))
+    (λ (not : (ltb (get_or h i 0) 4 && leb 4 v) ≡ false).
+    let was = queued h front (drop turn list) i v inside more all in
+    rw not (rw not at was))
+    (cases_Bool (ltb (get_or h i 0) 4 && leb 4 v))
+
+-- what the four places of a site get
+pub four_places : (g : Grid) (i j : ℕ) (ps : List (Option ℕ)) → ps ≡ places g i → i < sites g → j < sites g → flow g (one_at i) j ≡ value_at (λ m. one_at m j) (get_or ps 0 None) + value_at (λ m. one_at m j) (get_or ps 1 None) + value_at (λ m. one_at m j) (get_or ps 2 None) + value_at (λ m. one_at m j) (get_or ps 3 None)
+four_places g i j ps e l m = rw e (flow-one_at g i j l m ∙ flow_four g (λ q. one_at q j) i)
+
+-- ---- the wave begins, goes on, and ends
+
+-- the first toppling, that of the held site
+pub wave_begins : (g : Grid) (site : ℕ) (c h u k list : List ℕ) → site < sites g → length k ≡ sites g → 4 ≤ get_or h site 0 → ((j : ℕ) → j < sites g → j ≢ site → get_or h j 0 ≤ 3) → ((j : ℕ) → get_or u j 0 ≡ get_or c j 0 + 1 * one_at site j) → ((j : ℕ) → j < sites g → get_or k j 0 ≡ get_or h j 0 + flow g (one_at site) j) → Lists (sites g) (may_topple (λ j. get_or k j 0)) ((site ∷ []) ++ drop 0 list) → IsWave g site c h u k list 0
+wave_begins g site c h u k list inside each high low counts gives waiting = record {
+  within = omega arith;
+  low = low;
+  counts = λ j l. let e = counts j in omega arith;
+  once = λ j l. let e = counts j in let few = at_most_one_at site j in omega arith;
+  held = let e = counts site in let one = one_at_same site in omega arith;
+  toppled = λ j l.
+      let e = counts j in
+      let gets = gives j l in
+      let same = flow_same g (λ m. get_or u m 0 - get_or c m 0) (one_at site) (λ m lm. let e' = counts m in omega arith) j l in
+      omega arith;
+  turns = topplings_more g (λ j. get_or c j 0) (λ j. get_or u j 0) site 1 inside (λ j l. counts j) ∙ (omega arith);
+  waiting = waiting;
+}
+
+-- one that waits in the grid, and not the held one
+pub wave_turn : (g : Grid) (site i : ℕ) (c h u k list : List ℕ) (turn : ℕ) → i ≡ get_or list turn 0 → turn < length list → IsWave g site c h u k list turn → (i < sites g) × (4 ≤ get_or k i 0) × (i ≢ site)
+wave_turn g site i c h u k list turn e l wave =
+    let queue = lists_swap (sites g) (may_topple (λ j. get_or k j 0)) (site ∷ []) (drop turn list) wave.waiting in
+    let P : List ℕ → Type 0 = λ xs. Lists (sites g) (may_topple (λ j. get_or k j 0)) xs in
+    (turn_inside (sites g) (may_topple (λ j. get_or k j 0)) list (site ∷ []) turn i e l queue, turn_high (sites g) (λ j. get_or k j 0) list (site ∷ []) turn i e l queue,
+    λ same.
+    let first = turn_of (sites g) (may_topple (λ j. get_or k j 0)) list (site ∷ []) turn i e l queue in
+    let few = at_most_once (sites g) (may_topple (λ j. get_or k j 0)) (i ∷ (drop (turn + 1) list ++ site ∷ [])) i first in
+    let head = tally-cons i (drop (turn + 1) list ++ site ∷ []) i in
+    let rest = tally-append (drop (turn + 1) list) (site ∷ []) i in
+    let last = tally-cons site [] i in
+    let one = one_at_same i in
+    let other = ap (λ s. one_at s i) same in
+    absurd (omega arith))
+
+-- its turn: it has toppled, and what it gave is in q and the longer list
+pub wave_goes_on : (g : Grid) (site i : ℕ) (c h u k list v q longer : List ℕ) (turn : ℕ) → length k ≡ sites g → i ≡ get_or list turn 0 → turn < length list → IsWave g site c h u k list turn → ((j : ℕ) → get_or v j 0 ≡ get_or u j 0 + 1 * one_at i j) → ((j : ℕ) → j < sites g → get_or q j 0 ≡ get_or (set k i (get_or k i 0 - 4)) j 0 + flow g (one_at i) j) → length list ≤ length longer → Lists (sites g) (may_topple (λ j. get_or q j 0)) ((site ∷ []) ++ drop (turn + 1) longer) → IsWave g site c h v q longer (turn + 1)
+wave_goes_on g site i c h u k list v q longer turn each e l wave counts gives longer' waiting =
+    let here = wave_turn g site i c h u k list turn e l wave in
+    let low = toppled_low g site c h u k list turn i wave here.0 here.2 in
+    let high = here.1 in
+    let before = wave.counts i here.0 in
+    let none : get_or u i 0 ≡ get_or c i 0 = omega arith in
+    record {
+      within = omega arith;
+      low = wave.low;
+      counts = λ j m. let e' = counts j in let le = wave.counts j m in omega arith;
+      once = λ j m.
+          let e' = counts j in
+          let o = wave.once j m in
+          ⊎_elim (λ (same : i ≡ j). let at = ap (λ x. get_or u x 0) same in let at' = ap (λ x. get_or c x 0) same in let few = at_most_one_at i j in omega arith)
+          (λ (ne : i ≡ j → ⊥). let zero' = one_at_other i j ne in omega arith)
+          (cases_eq i j);
+      held = let e' = counts site in let zero' = one_at_other i site here.2 in let was = wave.held in omega arith;
+      toppled = λ j m.
+          let e' = counts j in
+          let le = wave.counts j m in
+          let gets = gives j m in
+          let was = wave.toppled j m in
+          let lower = lowered_at k i (let inside = here.0 in omega arith) here.1 j in
+          let both = flow-add g (λ x. get_or u x 0 - get_or c x 0) (one_at i) j in
+          let same = flow_same g (λ x. get_or v x 0 - get_or c x 0) (λ x. (get_or u x 0 - get_or c x 0) + one_at i x) (λ x lx. let ex = counts x in let lex = wave.counts x lx in omega arith) j m in
+          omega arith;
+      turns = let more = topplings_more g (λ j. get_or u j 0) (λ j. get_or v j 0) i 1 here.0 (λ j m. counts j) in let was = wave.turns in omega arith;
+      waiting = waiting;
+    }
+
+-- those behind it wait, once it has lost its grains
+pub wave_waits : (g : Grid) (site i : ℕ) (c h u k list : List ℕ) (turn : ℕ) → length k ≡ sites g → i ≡ get_or list turn 0 → turn < length list → IsWave g site c h u k list turn → Lists (sites g) (may_topple (λ j. get_or (set k i (get_or k i 0 - 4)) j 0)) ((site ∷ []) ++ drop (turn + 1) list)
+wave_waits g site i c h u k list turn each e l wave =
+    let here = wave_turn g site i c h u k list turn e l wave in
+    let queue = lists_swap (sites g) (may_topple (λ j. get_or k j 0)) (site ∷ []) (drop turn list) wave.waiting in
+    let first = turn_of (sites g) (may_topple (λ j. get_or k j 0)) list (site ∷ []) turn i e l queue in
+    let low = toppled_low g site c h u k list turn i wave here.0 here.2 in
+    let inside : i < length k = let b = here.0 in omega arith in
+    let left = leaves (leb 4) k (drop (turn + 1) list ++ site ∷ []) i (get_or k i 0 - 4) (lists_of (sites g) (length k) (may_topple (λ j. get_or k j 0)) (i ∷ (drop (turn + 1) list ++ site ∷ [])) (sym each) first) inside (lt-leb 4 (get_or k i 0 - 4) (omega arith)) in
+    lists_swap (sites g) (may_topple (λ j. get_or (set k i (get_or k i 0 - 4)) j 0)) (drop (turn + 1) list) (site ∷ []) (lists_of (length k) (sites g) (may_topple (λ j. get_or (set k i (get_or k i 0 - 4)) j 0)) (drop (turn + 1) list ++ site ∷ []) each left)
+
+-- the held site has 4 to lose
+pub wave_held : (g : Grid) (site : ℕ) (c h u k list : List ℕ) (turn : ℕ) → IsWave g site c h u k list turn → 4 ≤ get_or k site 0
+wave_held g site c h u k list turn wave = front_is_high (sites g) (λ j. get_or k j 0) (drop turn list) site wave.waiting
+
+-- and where no other waits, none has 4
+pub wave_ends : (g : Grid) (site : ℕ) (c h u k list : List ℕ) (turn : ℕ) → length list ≤ turn → length k ≡ sites g → site < sites g → IsWave g site c h u k list turn → (j : ℕ) → j < sites g → j ≢ site → get_or (lowered k site) j 0 ≤ 3
+wave_ends g site c h u k list turn done each inside wave j l ne =
+    let end = drop_all turn list done in
+    let P : List ℕ → Type 0 = λ xs. Lists (sites g) (may_topple (λ m. get_or k m 0)) ((site ∷ []) ++ xs) in
+    let only = subst P end wave.waiting in
+    let other = get_or-set_other k site j (get_or k site 0 - 4) 0 ne in
+    ⊎_elim (λ (less : get_or k j 0 < 4). omega arith)
+    (λ (more : 4 ≤ get_or k j 0).
+    let one = listed (sites g) (may_topple (λ m. get_or k m 0)) (site ∷ []) j only l (le-leb 4 (get_or k j 0) more) in
+    let cons = tally-cons site [] j in
+    let none = one_at_other site j (λ e. ne (sym e)) in
+    absurd (omega arith))
+    (cases_lt (get_or k j 0) 4)
+
+-- ---- each turn is a legal toppling of the pile without the 4 grains
+
+pub first_toppled : (g : Grid) (site : ℕ) (h k : List ℕ) → site < sites g → length k ≡ sites g → 4 ≤ get_or h site 0 → ((j : ℕ) → j < sites g → get_or k j 0 ≡ get_or h j 0 + flow g (one_at site) j) → IsToppled g (λ j. get_or h j 0) (λ j. 1 * one_at site j) (λ j. get_or (lowered k site) j 0)
+first_toppled g site h k inside each high gives =
+    spread_once g site (λ j. get_or h j 0) (λ j. get_or (lowered k site) j 0)
+    (λ j l. let lower = lowered_at k site (omega arith) (let e = gives site inside in omega arith) j in let e = gives j l in omega arith)
+
+pub turn_toppled : (g : Grid) (site i : ℕ) (k q : List ℕ) → site < sites g → i < sites g → i ≢ site → length k ≡ sites g → length q ≡ sites g → 4 ≤ get_or k site 0 → 4 ≤ get_or k i 0 → 4 ≤ get_or q site 0 → ((j : ℕ) → j < sites g → get_or q j 0 ≡ get_or (set k i (get_or k i 0 - 4)) j 0 + flow g (one_at i) j) → IsToppled g (λ j. get_or (lowered k site) j 0) (λ j. 1 * one_at i j) (λ j. get_or (lowered q site) j 0)
+turn_toppled g site i k q inside there ne each each' high some high' gives =
+    spread_once g i (λ j. get_or (lowered k site) j 0) (λ j. get_or (lowered q site) j 0)
+    (λ j l.
+    let a = lowered_at k site (omega arith) high j in
+    let b = lowered_at q site (omega arith) high' j in
+    let d = lowered_at k i (omega arith) some j in
+    let e = gives j l in
+    omega arith)
+
+pub lowered_other : (k : List ℕ) (site i : ℕ) → i ≢ site → get_or (lowered k site) i 0 ≡ get_or k i 0
+lowered_other k site i ne = get_or-set_other k site i (get_or k site 0 - 4) 0 ne
+
+-- the grains of a wave are few
+pub held_sum : (g : Grid) (site : ℕ) (c h u k : List ℕ) → site < sites g → length h ≡ sites g → length k ≡ sites g → 4 ≤ get_or k site 0 → Advances g (λ j. get_or c j 0) (λ j. get_or h j 0) (λ j. get_or u j 0) (λ j. get_or (lowered k site) j 0) → sum k ≤ sum h + 4
+held_sum g site c h u k inside each each' high advances =
+    let falls = sum_falls g (λ j. get_or c j 0) (λ j. get_or u j 0) h (lowered k site) each (length-set k site (get_or k site 0 - 4) ∙ each') advances in
+    let parts = sum_by-set (λ x. x) k site (get_or k site 0 - 4) 0 (omega arith) in
+    omega arith
+
+-- a number that is lowered lowers the sum
+pub sum_lower : (k : List ℕ) (i v : ℕ) → i < length k → v ≤ get_or k i 0 → sum (set k i v) ≤ sum k
+sum_lower k i v inside less =
+    let parts = sum_by-set (λ x. x) k i v 0 inside in
+    omega arith
+
+lists_from : (n : ℕ) (p : ℕ → Bool) (xs : List ℕ) → ((i : ℕ) → i < n → tally xs i ≡ one_if (p i)) → ((i : ℕ) → n ≤ i → tally xs i ≡ 0) → Lists n p xs
+lists_from n p xs inside none = record {
+  each = λ i.
+      ⊎_elim (λ (less : i < n). let test = lt-ltb i n less in inside i less ∙ rw test refl)
+      (λ (past : n ≤ i). let test = le-ltb i n past in none i past ∙ rw test refl)
+      (cases_lt i n);
+}
+
+-- the site held back waits from the first
+pub first_waits : (g : Grid) (site : ℕ) (h : List ℕ) (list : List ℕ) → list ≡ [] → site < sites g → 4 ≤ get_or h site 0 → ((j : ℕ) → j < sites g → j ≢ site → get_or h j 0 ≤ 3) → Lists (sites g) (may_topple (λ j. get_or h j 0)) ((site ∷ []) ++ drop 0 list)
+first_waits g site h list none inside high low =
+    rw none
+    (lists_from (sites g) (may_topple (λ j. get_or h j 0)) (site ∷ [])
+    (λ j l.
+    let cons = tally-cons site [] j in
+    ⊎_elim
+    (λ (e : site ≡ j).
+    let same = ap (λ k. get_or h k 0) e in
+    let one : one_at site j ≡ 1 = sym (ap (one_at site) e) ∙ one_at_same site in
+    rw (le-leb 4 (get_or h j 0) (omega arith)) (omega arith))
+    (λ (ne : site ≡ j → ⊥).
+    let less = low j l (λ e. ne (sym e)) in
+    let none' = one_at_other site j ne in
+    rw (lt-leb 4 (get_or h j 0) (omega arith)) (omega arith))
+    (cases_eq site j))
+    (λ j past. let cons = tally-cons site [] j in let none' = one_at_other site j (λ e. omega arith) in omega arith))

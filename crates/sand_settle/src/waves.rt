@@ -1,0 +1,129 @@
+//! What one drop topples, by waves.
+//!
+//! In a wave the site of the drop topples once and is then held back, and every other site that has 4 topples. None of
+//! these topples twice, since it had 3 at most, gains 4 at most and loses 4. So a wave topples each site once at most, and
+//! its list never holds more than all sites. If the site of the drop has 4 again, the next wave follows.
+//!
+//! While it is held back, the site of the drop keeps the 4 grains that it loses, and loses them at the end of the wave.
+//! So it never becomes 4, and no test is needed to keep it off the list.
+
+ghost use Rattle.std.specs.Prelude.{◌≡◌, ◌≢◌, ℕ, ◌+◌, ◌*◌, ◌^◌, ◌<◌, ◌≤◌, List, [], ◌++◌, length, sum, drop, slice_index, IfSome};
+ghost use Rattle.sand_model.specs.Grid.{sites};
+ghost use Rattle.sand_model.specs.Sand.{IsSettled, one_at, value_at, flow, topplings, weight};
+ghost use Rattle.sand_model.specs.Lists.{Lists};
+ghost use Rattle.sand_settle.specs.Lists.{may_topple, has_toppled};
+ghost use Rattle.sand_settle.specs.Underway.{Advances};
+
+use crate::settling::count;
+use crate::site_list::SiteList;
+use sand_model::{GRAIN_LIMIT, Lattice, TOPPLING_HEIGHT};
+
+// Gives a grain to a place, where that is in the grid, and lists its site where that becomes 4.
+#[inline(always)]
+fn give(heights: &mut [u64], list: &mut SiteList, place: Option<usize>)
+    requires inside { IfSome place (λ j. j < length heights.old) }
+    requires limit { sum heights.old < 2 ^ 63 }
+    requires small { length heights.old ≤ 65536 }
+    requires room { length list.old.sites < list.old.room }
+    ensures each { (j : ℕ) → slice_index heights.new j ≡ slice_index heights.old j + value_at (λ k. one_at k j) place }
+    ensures total { sum heights.new ≤ sum heights.old + 1 }
+    ensures room { list.new.room ≡ list.old.room }
+    ensures longer { length list.old.sites ≤ length list.new.sites }
+    ensures at_most_one { length list.new.sites ≤ length list.old.sites + 1 }
+
+    // Whatever sites wait before those of the list, from one turn on.
+    ensures waiting { (n turn : ℕ) (front : List ℕ) → n ≡ length heights.old → turn ≤ length list.old.sites → Lists n (may_topple (slice_index heights.old)) (front ++ drop turn list.old.sites) → Lists n (may_topple (slice_index heights.new)) (front ++ drop turn list.new.sites) }
+{
+    if let Some(site) = place {
+        let before = heights[site];
+        let after = before + 1;
+        heights[site] = after;
+        let joins = (before < TOPPLING_HEIGHT) & (after >= TOPPLING_HEIGHT);
+        list.push_if(site, joins);
+    }
+}
+
+// Gives a grain to each neighbour of a site, and lists those that become 4.
+#[inline(always)]
+fn spread(lattice: &Lattice, heights: &mut [u64], list: &mut SiteList, site: usize)
+    requires site { site < sites lattice.now }
+    requires one_each { length heights.old ≡ sites lattice.now }
+    requires limit { sum heights.old < 2 ^ 62 }
+    requires room { length list.old.sites + 4 ≤ list.old.room }
+    ensures each { (j : ℕ) → j < sites lattice.now → slice_index heights.new j ≡ slice_index heights.old j + flow lattice.now (one_at site) j }
+    ensures room { list.new.room ≡ list.old.room }
+    ensures longer { length list.old.sites ≤ length list.new.sites }
+    ensures waiting { (turn : ℕ) (front : List ℕ) → turn ≤ length list.old.sites → Lists (sites lattice.now) (may_topple (slice_index heights.old)) (front ++ drop turn list.old.sites) → Lists (sites lattice.now) (may_topple (slice_index heights.new)) (front ++ drop turn list.new.sites) }
+{
+    let [north, west, east, south] = lattice.neighbours(site);
+    give(heights, list, north);
+    give(heights, list, west);
+    give(heights, list, east);
+    give(heights, list, south);
+}
+
+// One wave: topples a site that may, and then, each once, all others that this brings to 4.
+fn topple_once(
+    lattice: &Lattice,
+    heights: &mut [u64],
+    counts: &mut [u64],
+    toppled: &mut SiteList,
+    list: &mut SiteList,
+    site: usize,
+)
+    requires site { site < sites lattice.now }
+    requires one_each { (length heights.old ≡ sites lattice.now) × (length counts.old ≡ sites lattice.now) }
+    requires limit { sum heights.old ≤ GRAIN_LIMIT }
+    requires high { 4 ≤ slice_index heights.old site }
+    requires others_low { (j : ℕ) → j < sites lattice.now → j ≢ site → slice_index heights.old j ≤ 3 }
+    requires few { 2 * topplings lattice.now (slice_index counts.old) + weight lattice.now (slice_index heights.old) < 2 ^ 55 }
+    requires noted { Lists (sites lattice.now) (has_toppled (slice_index counts.old)) toppled.old.sites }
+    requires room { (sites lattice.now + 4 ≤ list.old.room) × (sites lattice.now < toppled.old.room) }
+    ensures advances { Advances lattice.now (slice_index counts.old) (slice_index heights.old) (slice_index counts.new) (slice_index heights.new) }
+    ensures topples { topplings lattice.now (slice_index counts.old) + 1 ≤ topplings lattice.now (slice_index counts.new) }
+    ensures others_low { (j : ℕ) → j < sites lattice.now → j ≢ site → slice_index heights.new j ≤ 3 }
+    ensures noted { Lists (sites lattice.now) (has_toppled (slice_index counts.new)) toppled.new.sites }
+    ensures room { (list.new.room ≡ list.old.room) × (toppled.new.room ≡ toppled.old.room) }
+{
+    // The sides are at most 256, so each site that topples can be noted by 32 bits.
+    let _ = lattice.shape();
+    list.clear();
+    spread(lattice, heights, list, site);
+    count(counts, toppled, site, 1);
+    let mut turn = 0usize;
+    'turns: while turn < list.len() {
+        let other = list.site(turn);
+        heights[other] -= TOPPLING_HEIGHT;
+        spread(lattice, heights, list, other);
+        count(counts, toppled, other, 1);
+        turn += 1;
+    }
+    heights[site] -= TOPPLING_HEIGHT;
+}
+
+// Topples until no site may topple: counts how often each site does, and lists the sites that do.
+pub(crate) fn drain_from(
+    lattice: &Lattice,
+    heights: &mut [u64],
+    counts: &mut [u64],
+    toppled: &mut SiteList,
+    list: &mut SiteList,
+    site: usize,
+)
+    requires site { site < sites lattice.now }
+    requires one_each { (length heights.old ≡ sites lattice.now) × (length counts.old ≡ sites lattice.now) }
+    requires limit { sum heights.old ≤ GRAIN_LIMIT }
+    requires others_low { (j : ℕ) → j < sites lattice.now → j ≢ site → slice_index heights.old j ≤ 3 }
+    requires uncounted { (j : ℕ) → slice_index counts.old j ≡ 0 }
+    requires unnoted { toppled.old.sites ≡ [] }
+    requires room { (sites lattice.now + 4 ≤ list.old.room) × (sites lattice.now < toppled.old.room) }
+    ensures settled { IsSettled lattice.now (slice_index heights.old) (slice_index counts.new) (slice_index heights.new) }
+    ensures noted { Lists (sites lattice.now) (has_toppled (slice_index counts.new)) toppled.new.sites }
+    ensures room { (list.new.room ≡ list.old.room) × (toppled.new.room ≡ toppled.old.room) }
+{
+    // The sides are at most 256, so the weight is below 2^55, and the topplings to come are at most half of it.
+    let _ = lattice.shape();
+    'waves: while heights[site] >= TOPPLING_HEIGHT {
+        topple_once(lattice, heights, counts, toppled, list, site);
+    }
+}

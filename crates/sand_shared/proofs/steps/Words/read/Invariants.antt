@@ -1,0 +1,23 @@
+use Rattle.std.proofs.Common.{◌≡◌, ℕ, ◌+◌, ◌*◌, ◌<◌, ◌≤◌, [], length, get_or, vec_capacity}
+use Rattle.sand_model.specs.Sand.{flow}
+use Rattle.sand_shared.specs.OpenPile.{grid_of, toppled_by}
+use Rattle.sand_shared.specs.Events.{look, looked, count}
+use Rattle.sand_shared.specs.Sweeps.{laid}
+use Rattle.sand_shared.proofs.steps.Words.read.Given as goal
+
+abbrev pub invariant-sites : goal.invariant-sites
+invariant-sites l = record {
+  table : l.seat.table_id ≡ l.initial.seat.table_id;
+  id : l.seat.id ≡ l.initial.seat.id;
+  bare : l.seat.me.1 ≡ [];
+  view : l.seat.me.0 ≡ looked l.initial.seat.me.0 l.seat.me.0.spot l.seat.me.0.least;
+  long : length l.heights.items ≡ l.site;
+  room : l.sites ≤ vec_capacity l.heights;
+  left : (i : ℕ) → i < l.site → get_or l.heights.items i 0 + 4 * toppled_by l.initial.seat.me.0 i ≡ laid l.self.terms l.initial.seat.me.0 i + flow (grid_of l.self.terms) (toppled_by l.initial.seat.me.0) i;
+}
+
+abbrev pub ghosts-look : goal.ghosts-look
+ghosts-look a = record { terms = a.self.now.terms; event = look a.seat.now.id a.site }
+
+abbrev pub ghosts-learn : goal.ghosts-learn
+ghosts-learn a = record { terms = a.self.now.terms; event = count a.seat.now.id }

@@ -1,0 +1,35 @@
+use Rattle.std.proofs.Common.{◌≡◌, ◌+◌, List, [], ◌∷◌, ◌++◌, drop, length, get_or, sym, refl, ap, ◌∙◌, arith, length-append}
+use Rattle.std.proofs.lemmas.List.{drop_all, append-nil}
+use Rattle.sand_shared.specs.declared.view.Receipt.{Receipt}
+use Rattle.sand_shared.specs.Events.{receipt, receipts_from}
+use Rattle.sand_shared.proofs.InARow.{from_here, note_more}
+use Rattle.sand_shared.proofs.turns.note.Goals as goal
+
+pub drops-init : goal.drops-init
+drops-init c = record { next = omega arith; capacity = refl; long = omega arith; rest = refl }
+
+pub drops-preserved : goal.drops-preserved
+drops-preserved c =
+    let ds = c.args.drops.now in
+    let k = c.drops.site-index in
+    let below = c.drops-test.true in
+    let here = from_here ds k (omega arith) in
+    let inv = c.drops.invariant in
+    let next = inv.next in
+    let long = inv.long in
+    let n = c.drops.next in
+    let rs = c.drops.receipts.items in
+    let items = c.push_reserved.ensures.items in
+    record {
+      next = omega arith;
+      capacity = c.push_reserved.ensures.capacity ∙ inv.capacity;
+      long = ap (λ (l : List Receipt). length l) items ∙ omega (arith, length-append rs (receipt n (get_or ds k 0) ∷ []));
+      rest = ap (λ (l : List Receipt). l ++ receipts_from (n + 1) (drop (k + 1) ds)) items ∙ (note_more rs n (get_or ds k 0) (drop (k + 1) ds) ∙ (ap (λ l. rs ++ receipts_from n l) (sym here) ∙ inv.rest));
+    }
+
+pub returns-clause-items : goal.returns-clause-items
+returns-clause-items c =
+    let ds = c.args.drops.now in
+    let done = c.drops-test.false in
+    let none : drop c.drops.site-index ds ≡ [] = drop_all c.drops.site-index ds (omega arith) in
+    sym (append-nil c.drops.receipts.items) ∙ (ap (λ l. c.drops.receipts.items ++ receipts_from c.drops.next l) (sym none) ∙ c.drops.invariant.rest)

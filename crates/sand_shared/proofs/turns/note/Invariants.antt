@@ -1,0 +1,11 @@
+use Rattle.std.proofs.Common.{◌≡◌, ◌+◌, ◌++◌, drop, length, vec_capacity}
+use Rattle.sand_shared.specs.Events.{receipts_from}
+use Rattle.sand_shared.proofs.turns.note.Given as goal
+
+abbrev pub invariant-drops : goal.invariant-drops
+invariant-drops l = record {
+  next : l.next ≡ l.number + l.site-index;
+  capacity : vec_capacity l.receipts ≡ vec_capacity l.initial.receipts;
+  long : length l.receipts.items ≡ length l.initial.receipts.items + l.site-index;
+  rest : l.receipts.items ++ receipts_from l.next (drop l.site-index l.drops) ≡ l.initial.receipts.items ++ receipts_from l.number l.drops;
+}

@@ -1,0 +1,77 @@
+//! Drops in a row: a pass draws numbers for a whole list of grains in one step, and then lays them down one by one.
+
+ghost use Rattle.std.specs.Prelude.{◌≡◌, ℕ, ◌+◌, ◌-◌, ◌^◌, ◌<◌, ◌≤◌, ◌↔◌, [], ◌++◌, All, length, vec_capacity, IfOk, IsErr, OnErr};
+ghost use Rattle.sand_model.specs.Grid.{sites};
+ghost use Rattle.sand_shared.specs.OpenPile.{grid_of};
+ghost use Rattle.sand_shared.specs.Events.{receipts_from, one_for_each};
+ghost use Rattle.sand_shared.specs.Passes.{IsPassOf};
+ghost use Rattle.sand_shared.specs.Seats.{IsSeatAt, StaysSeated};
+
+use crate::faults::DropFault;
+use crate::pass::Pass;
+use crate::shared_pile::SharedPile;
+use crate::steps::{PassSeat, Words};
+use crate::view::Receipt;
+use std::marker::Brand;
+
+impl Words {
+    // Lays the grains in hand on their sites, one for each.
+    fn place_all(&self, seat: &mut PassSeat, drops: &[usize])
+        requires seat { IsSeatAt self.now seat.old }
+        requires hand { seat.old.me.0.hand ≡ one_for_each drops.now }
+        requires inside { All (λ i. i < sites (grid_of self.now.terms)) drops.now }
+        ensures seat { StaysSeated seat.old seat.new }
+        ensures view { seat.new.me.0 ≡ record seat.old.me.0 { hand = [] } }
+    {
+        'drops: for site in drops.iter() {
+            self.place::<Brand>(seat, *site);
+        }
+    }
+}
+
+// Writes the receipts of drops in a row, from a number on, behind those that are there.
+fn note(receipts: &mut Vec<Receipt>, number: u64, drops: &[usize])
+    requires room { length receipts.old.items + length drops.now ≤ vec_capacity receipts.old }
+    requires small { number + length drops.now < 2 ^ 64 }
+    ensures items { receipts.new.items ≡ receipts.old.items ++ receipts_from number drops.now }
+    ensures room { vec_capacity receipts.new ≡ vec_capacity receipts.old }
+{
+    let mut next = number;
+    'drops: for site in drops.iter() {
+        receipts.push_reserved(Receipt {
+            number: next,
+            site: *site,
+        });
+        next += 1;
+    }
+}
+
+impl SharedPile {
+    /// Drops grains on sites, one on each in their order, with numbers that follow one another, and answers the first
+    /// number; that of no drops at all is what the pass has seen. Refuses a pass with less left (Spent).
+    pub fn drop_all(&self, pass: &mut Pass, drops: &[usize]) -> Result<u64, DropFault>
+        requires pass { IsPassOf self.now pass.old }
+        requires inside { All (λ i. i < sites (grid_of self.now.terms)) drops.now }
+        ensures of_pile { IsPassOf self.now pass.new }
+        ensures spent { IsErr result ↔ (pass.old.left < length drops.now) }
+        ensures unchanged { OnErr result (pass.new ≡ pass.old) }
+        ensures after_all_seen { IfOk result (λ n. pass.old.seen ≤ n) }
+        ensures in_the_quota { IfOk result (λ n. 0 < length drops.now → n + length drops.now ≤ self.now.terms.quota) }
+        ensures pass { IfOk result (λ n. pass.new ≡ record pass.old { left = pass.old.left - length drops.now; seen = n + length drops.now; receipts = pass.old.receipts ++ receipts_from n drops.now }) }
+    {
+        let _ = &self.words;
+        let count = drops.len() as u64;
+        if pass.left < count {
+            return Err(DropFault::Spent);
+        }
+        if count == 0 {
+            return Ok(pass.seen);
+        }
+        let number = self.words.draw_all::<Brand>(&mut pass.seat, drops);
+        self.words.place_all(&mut pass.seat, drops);
+        pass.left -= count;
+        pass.seen = number + count;
+        note(&mut pass.receipts, number, drops);
+        Ok(number)
+    }
+}
