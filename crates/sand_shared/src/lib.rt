@@ -7,6 +7,7 @@
 
 mod closing;
 mod faults;
+mod following;
 mod joining;
 pub mod laws;
 mod pass;
