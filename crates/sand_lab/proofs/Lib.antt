@@ -13,4 +13,5 @@ pub mod Records
 pub mod Sheets
 pub mod StreamTallies
 pub mod Turns
+pub mod Droppings
 pub mod Working

@@ -1,11 +1,12 @@
 -- One turn more: a receipt, a tally, a sweep.
-use Rattle.std.proofs.Common.{◌≡◌, ℕ, zero, suc, subst, ◌+◌, ◌-◌, ◌*◌, ◌<◌, ◌≤◌, List, [], ◌∷◌, ◌++◌, length, refl, ap, arith}
+use Rattle.std.proofs.Common.{◌≡◌, ℕ, zero, suc, subst, ◌+◌, ◌-◌, ◌*◌, ◌<◌, ◌≤◌, List, [], ◌∷◌, ◌++◌, length, refl, sym, ap, arith, append_assoc, append-nil}
 use Rattle.std.specs.List.{AllZip}
 use Rattle.sand_shared.specs.declared.view.Receipt.{Receipt}
 use Rattle.std.specs.Prelude.{slice_index}
 use Rattle.sand_shared.specs.declared.view.Terms.{Terms}
-use Rattle.std.proofs.lemmas.List.Elements.{All-push}
+use Rattle.std.proofs.lemmas.List.Elements.{All-push, All-nil, All-cons, All-append}
 use Rattle.std.proofs.lemmas.List.Quantifiers.{all_pairs_push}
+use Rattle.sand_shared.specs.Events.{receipt, receipts_from}
 use Rattle.sand_shared.specs.Passes.{PassView, AllBelow, at_rest}
 use Rattle.sand_shared.specs.Sweeps.{LeavesAtMost, Swept}
 use Rattle.sand_lab.specs.Journals.{Ascends}
@@ -17,6 +18,29 @@ ascends_push seen rs r up below le = all_pairs_push (λ (a b : Receipt). a.numbe
 
 pub below_push : (seen : ℕ) (rs : List Receipt) (r : Receipt) → AllBelow seen rs → seen ≤ r.number → AllBelow (r.number + 1) (rs ++ r ∷ [])
 below_push seen rs r below le = All-push (λ (a : Receipt). a.number < r.number + 1) rs r (λ k d lt. let one = below k d lt in omega (arith, one, le)) (omega arith)
+
+-- and with receipts of drops in a row, whose numbers are from one on that is at least what was seen
+pub ascends_row : (seen n : ℕ) (rs : List Receipt) (is : List ℕ) → Ascends rs → AllBelow seen rs → seen ≤ n → Ascends (rs ++ receipts_from n is)
+ascends_row seen n rs [] up below le = subst Ascends (sym (append-nil rs)) up
+ascends_row seen n rs (i ∷ is) up below le =
+    subst Ascends (append_assoc rs (receipt n i ∷ []) (receipts_from (n + 1) is))
+    (ascends_row (n + 1) (n + 1) (rs ++ receipt n i ∷ []) is (ascends_push seen rs (receipt n i) up below le) (below_push seen rs (receipt n i) below le) (omega arith))
+
+row_below : (n most : ℕ) (is : List ℕ) → n + length is ≤ most → AllBelow most (receipts_from n is)
+row_below n most [] le = All-nil (λ (r : Receipt). r.number < most)
+row_below n most (i ∷ is) le = All-cons (λ (r : Receipt). r.number < most) (receipt n i) (receipts_from (n + 1) is) (omega (arith, le)) (row_below (n + 1) most is (omega (arith, le)))
+
+pub within_row : (n most : ℕ) (rs : List Receipt) (is : List ℕ) → AllBelow most rs → (0 < length is → n + length is ≤ most) → AllBelow most (rs ++ receipts_from n is)
+within_row n most rs [] below le = subst (AllBelow most) (sym (append-nil rs)) below
+within_row n most rs (i ∷ is) below le = All-append (λ (r : Receipt). r.number < most) rs (receipts_from n (i ∷ is)) below (row_below n most (i ∷ is) (le (omega arith)))
+
+pub below_row : (seen n : ℕ) (rs : List Receipt) (is : List ℕ) → AllBelow seen rs → seen ≤ n → AllBelow (n + length is) (rs ++ receipts_from n is)
+below_row seen n rs is below le = within_row n (n + length is) rs is (λ k d lt. let one = below k d lt in omega (arith, one, le)) (λ some. omega arith)
+
+pub dropped_row : (n : ℕ) (rs : List Receipt) (is : List ℕ) → dropped_at (rs ++ receipts_from n is) ≡ dropped_at rs ++ is
+dropped_row n [] [] = refl
+dropped_row n [] (i ∷ is) = ap (λ ns. i ∷ ns) (dropped_row (n + 1) [] is)
+dropped_row n (r ∷ rs) is = ap (λ ns. r.site ∷ ns) (dropped_row n rs is)
 
 pub climbs_push : (from mid : ℕ) (ns : List ℕ) (n : ℕ) → Climbs from ns mid → mid ≤ n → Climbs from (ns ++ n ∷ []) n
 climbs_push from mid [] n h le = (omega arith, omega arith)

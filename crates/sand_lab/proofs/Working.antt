@@ -34,6 +34,9 @@ can_drop s w t k d is = record {
   no_receipts = ap (λ (p : PassView). p.receipts) is.pass;
   unread = ap (λ (r : Reading). r.read) is.sites;
   grid = ap (λ (r : Reading). r.sites) is.sites;
+  none_read = is.none_read;
+  room = is.room;
+  counts = is.counts;
 }
 
 sum_zeros : (n : ℕ) → sum (zeros n) ≡ 0

@@ -1,5 +1,6 @@
 -- The crew of an epoch: its droppers, workers and observers, as they begin and as they end.
 use Rattle.std.specs.Prelude.{ℕ, ◌≡◌, ◌+◌, ◌*◌, ◌/◌, ◌<◌, ◌≤◌, List, [], length, sum, sum_by, take, drop, slice_get, vec_capacity, Some}
+use Rattle.std.specs.Int.{div_ceil}
 use Rattle.sand_model.specs.Grid.{sites}
 use Rattle.sand_model.specs.Piles.{PileView}
 use Rattle.sand_shared.specs.declared.rows.Rows.{Rows}
@@ -57,6 +58,9 @@ pub record IsDropper (s : SharedView) (w : Wish) (epoch k : ℕ) (d : Dropper) :
   pub who : d.who ≡ k
   pub sites : d.sites ≡ record { sites = sites (grid_of s.terms); seed = w.seed; stream = stream_of epoch k; read = 0 }
   pub pass : d.pass ≡ rowless s w.drops
+  pub none_read : d.turn.items ≡ []
+  pub room : div_ceil w.drops 16 ≤ vec_capacity d.turn
+  pub counts : d.counts ≡ grid_of s.terms
 
 pub record IsWorker (s : SharedView) (workers j : ℕ) (x : Worker) : Type 0 where
   pub who : x.who ≡ j

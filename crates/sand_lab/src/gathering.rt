@@ -75,6 +75,8 @@ fn gather_droppers(
         let Dropper {
             who: _,
             sites: _,
+            turn: _,
+            counts: _,
             pass,
         } = dropper;
         take_in_receipts(alloc, pile, first, pass)?;

@@ -9,14 +9,14 @@ ghost use Rattle.sand_lab.specs.Faults.{IsMemory};
 ghost use Rattle.sand_lab.specs.Plans.{IsPlan, quota_of};
 
 use crate::crew::Crew;
-use crate::droppers::Dropper;
+use crate::droppers::{Dropper, drops_a_turn};
 use crate::faults::LabFault;
 use crate::observers::{Observer, TALLIES};
 use crate::plan::Wish;
 use crate::streams::{SiteReader, stream_of};
 use crate::workers::Worker;
 use sand_model::Shape;
-use sand_shared::{Pass, SharedPile, SplitFault};
+use sand_shared::{Pass, SharedPile, SiteCounts, SplitFault};
 use std::alloc::{AllocError, Global};
 
 // A pass with so much of the quota that the first one has left.
@@ -40,7 +40,7 @@ fn split_quota(
     }
 }
 
-// The droppers, each with its own part of the quota, and its own stream.
+// The droppers, each with its own part of the quota, its own stream, and room for a turn.
 fn hire_droppers(
     alloc: Global,
     pile: &SharedPile,
@@ -61,7 +61,16 @@ fn hire_droppers(
     for who in 0..wish.droppers {
         let pass = split_quota(alloc, pile, first, u64::from(wish.drops))?;
         let sites = SiteReader::new(shape, wish.seed, stream_of(epoch, who));
-        droppers.push_reserved(Dropper { who, sites, pass });
+        let turn = Vec::with_capacity(alloc, drops_a_turn(wish.drops) as usize)?;
+        let counts = SiteCounts::new(alloc, shape)?;
+        let dropper = Dropper {
+            who,
+            sites,
+            turn,
+            counts,
+            pass,
+        };
+        droppers.push_reserved(dropper);
     }
     Ok(droppers)
 }

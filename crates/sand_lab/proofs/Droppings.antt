@@ -1,0 +1,76 @@
+-- A dropper reads one site of its stream more, and drops on all that it has read.
+use Rattle.std.proofs.Common.{◌≡◌, ℕ, ◌+◌, ◌<◌, List, [], ◌∷◌, ◌++◌, All, length, refl, sym, ap, ◌∙◌, subst, arith, append_assoc, append-nil, length-append, add-one}
+use Rattle.std.specs.Prelude.{vec_capacity}
+use Rattle.std.specs.Int.{div_ceil}
+use Rattle.std.proofs.lemmas.Grind.{div_ceil_times}
+use Rattle.std.proofs.lemmas.List.Elements.{All-push, All-nil}
+use Rattle.sand_model.specs.Grid.{sites}
+use Rattle.sand_shared.specs.OpenPile.{grid_of}
+use Rattle.sand_shared.specs.Passes.{SharedView, PassView, IsPassOf, AllBelow}
+use Rattle.sand_lab.specs.declared.droppers.Dropper.{Dropper}
+use Rattle.sand_lab.specs.Jobs.{CanDrop, IsDropping, HasDropped, dropped_at}
+use Rattle.sand_lab.specs.Journals.{Ascends}
+use Rattle.sand_lab.specs.Streams.{Reading, site_at}
+
+-- some drops make turns of at least one
+pub some_a_turn : (drops : ℕ) → 0 < drops → 0 < div_ceil drops 16
+some_a_turn drops some = let enough = (div_ceil_times drops 16 (omega arith)).0 in omega arith
+
+-- a dropper that may begin has read and dropped nothing
+pub begins : (s : SharedView) (turns : ℕ) (d : Dropper) → CanDrop s turns d → IsDropping s turns 0 d d
+begins s turns d can =
+    let none = can.none_read in
+    let bare = can.no_receipts in
+    record {
+      who = refl;
+      of_pile = can.of_pile;
+      kept = refl;
+      left = (let long = ap (λ (xs : List ℕ). length xs) none in let all = can.left in omega (arith, long, all));
+      may_read = omega arith;
+      room = refl;
+      counts = can.counts;
+      reading = (λ i. record d.sites { read = can.unread i });
+      inside = subst (All (λ i. i < sites (grid_of s.terms))) (sym none) (All-nil (λ i. i < sites (grid_of s.terms)));
+      sites = λ i. dropped_at (bare i) ++ none i;
+      ascends = subst Ascends (sym bare) (λ i j e before inside. absurd (omega (arith, before, inside)));
+      within = subst (AllBelow s.terms.quota) (sym bare) (All-nil (λ r. r.number < s.terms.quota));
+      below = subst (AllBelow d.pass.seen) (sym bare) (All-nil (λ r. r.number < d.pass.seen));
+    }
+
+-- it reads the next site
+pub reads_one : (s : SharedView) (turns n : ℕ) (d e f : Dropper) (site : ℕ) → d.sites.sites ≡ sites (grid_of s.terms) → IsDropping s turns n d e → n < turns → f.who ≡ e.who → f.pass ≡ e.pass → f.counts ≡ e.counts
+    → f.sites ≡ record e.sites { read = e.sites.read + 1 } → f.turn.items ≡ e.turn.items ++ site ∷ [] → vec_capacity f.turn ≡ vec_capacity e.turn
+    → site ≡ site_at e.sites.sites e.sites.seed e.sites.stream e.sites.read → site < e.sites.sites → IsDropping s turns (n + 1) d f
+reads_one s turns n d e f site grid h more who pass counts reading items room is inside =
+    let next : site ≡ site_at d.sites.sites d.sites.seed d.sites.stream n = is ∙ ap (λ (r : Reading). site_at r.sites r.seed r.stream r.read) h.reading in
+    let many : e.sites.sites ≡ sites (grid_of s.terms) = ap (λ (r : Reading). r.sites) h.reading ∙ grid in
+    record {
+      who = who ∙ h.who;
+      of_pile = subst (IsPassOf s) (sym pass) h.of_pile;
+      kept = subst (λ (p : PassView). p ≡ record d.pass { left = p.left; seen = p.seen; receipts = p.receipts }) (sym pass) h.kept;
+      left = (let same = ap (λ (p : PassView). p.left) pass in let long = ap (λ (xs : List ℕ). length xs) items ∙ length-append e.turn.items (site ∷ []) in let was = h.left in omega (arith, same, long, was));
+      may_read = omega (arith, more);
+      room = room ∙ h.room;
+      counts = counts ∙ h.counts;
+      reading = reading ∙ ap (λ (r : Reading). record r { read = r.read + 1 }) h.reading;
+      inside = subst (All (λ i. i < sites (grid_of s.terms))) (sym items) (All-push (λ i. i < sites (grid_of s.terms)) e.turn.items site h.inside (omega (arith, inside, many)));
+      sites = rw add-one ((λ i. dropped_at (pass i).receipts ++ items i) ∙ sym (append_assoc (dropped_at e.pass.receipts) e.turn.items (site ∷ [])) ∙ (λ i. h.sites i ++ next i ∷ []));
+      ascends = subst (λ (p : PassView). Ascends p.receipts) (sym pass) h.ascends;
+      within = subst (λ (p : PassView). AllBelow s.terms.quota p.receipts) (sym pass) h.within;
+      below = subst (λ (p : PassView). AllBelow p.seen p.receipts) (sym pass) h.below;
+    }
+
+-- a dropper that has read all and holds none has dropped on all
+pub has_dropped : (s : SharedView) (turns : ℕ) (d e : Dropper) → IsDropping s turns turns d e → e.turn.items ≡ [] → HasDropped s turns d e
+has_dropped s turns d e h none =
+    let long = ap (λ (xs : List ℕ). length xs) none in
+    let was = h.left in
+    let left : e.pass.left ≡ 0 = omega (arith, long, was) in
+    record {
+      who = h.who;
+      of_pile = h.of_pile;
+      kept = h.kept ∙ (λ i. record d.pass { left = left i; seen = e.pass.seen; receipts = e.pass.receipts });
+      sites = sym (append-nil (dropped_at e.pass.receipts)) ∙ (λ i. dropped_at e.pass.receipts ++ sym none i) ∙ h.sites;
+      ascends = h.ascends;
+      within = h.within;
+    }
