@@ -7,12 +7,11 @@ use Rattle.sand_model.specs.declared.pile.TheConstants.{GRAIN_LIMIT}
 use Rattle.sand_model.specs.Grid.{Grid, sites}
 use Rattle.sand_model.specs.Sand.{IsSettled, IsUnderway, IsToppled, flow, total, grains, tally}
 use Rattle.sand_model.specs.Piles.{PileView, height_of}
-use Rattle.sand_model.proofs.Flow.{flow-add}
 use Rattle.sand_model.proofs.Totals.{total_same, total-add}
 use Rattle.sand_model.proofs.Tallies.{total-tally}
 use Rattle.sand_model.proofs.Heights.{sum_is_grains}
 use Rattle.sand_model.proofs.Bounds.{topplings_bound}
-use Rattle.sand_model.proofs.Sandpile.{flow_rest, laplacian_sum, settled_same}
+use Rattle.sand_model.proofs.Sandpile.{laplacian_sum, settles_after, settled_same}
 use Rattle.sand_settle.specs.Settling.{SettledView, IsRecord, odometer_of}
 use Rattle.sand_shared.specs.declared.view.View.{View}
 use Rattle.sand_shared.specs.declared.view.Terms.{Terms}
@@ -29,39 +28,6 @@ use Rattle.sand_shared.proofs.Told.{known_is}
 use Rattle.sand_shared.proofs.Knowing.{its_drops, stands_sparing, looked_at_most, looked_at_least}
 use Rattle.sand_shared.proofs.Recording.{LeadsTo}
 use Rattle.sand_shared.proofs.Wholes.{whole_base, swept_has_all}
-
--- what settles where others left off, settles all
-pub settles_after : (g : Grid) (s u h v t : ℕ → ℕ) → IsUnderway g s u h → IsSettled g h v t → IsSettled g s (λ i. u i + v i) t
-settles_after g s u h v t first second = record {
-  toppled = record {
-    balance = λ i l.
-        let one = first.toppled.balance i l in
-        let two = second.toppled.balance i l in
-        let both = flow-add g u v i in
-        omega arith;
-  };
-  odometer = record {
-    stabilises = record {
-      at_most_three = λ i l.
-          let one = first.toppled.balance i l in
-          let two = second.odometer.stabilises.at_most_three i l in
-          let both = flow-add g u v i in
-          omega arith;
-    };
-    least = λ w stable i l.
-        let start = first.bounded w stable in
-        let rest : v i ≤ w i - u i = second.odometer.least (λ j. w j - u j) (record {
-          at_most_three = λ j m.
-              let e = stable.at_most_three j m in
-              let one = first.toppled.balance j m in
-              let split = flow_rest g u w start j m in
-              let le = start j m in
-              omega arith;
-        }) i l in
-        let le = start i l in
-        omega arith;
-  };
-}
 
 total_above : (n : ℕ) (f : ℕ → ℕ) (i : ℕ) → i < n → f i ≤ total n f
 unfolding total

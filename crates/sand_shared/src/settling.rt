@@ -1,7 +1,7 @@
 //! Settling a shared pile with a pass that has gathered all: its heights are read, and one thread settles them.
 //!
 //! What the passes toppled in place is at most what the pile needs, so to settle what it left completes the least
-//! odometer (`laws::settles_after`).
+//! odometer (`sand_model::laws::settles_after`).
 
 ghost use Rattle.std.specs.Prelude.{◌≡◌, ℕ, ◌+◌, ◌^◌, ◌<◌, ◌≤◌, ◌↔◌, [], length, sum, slice_index, vec_capacity, IfOk, IfErr, OnOk};
 ghost use Rattle.sand_model.specs.declared.pile.TheConstants.{GRAIN_LIMIT};
