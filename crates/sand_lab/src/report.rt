@@ -1,12 +1,12 @@
 //! The report of a run: a record of each epoch and one of all, the journals, and what workers and observers found.
 
-ghost use Rattle.std.specs.Prelude.{◌≡◌, ◌+◌, ◌<◌, ◌≤◌, [], length, sum, slice_index, slice_index_or, IfOk, IfErr, OnOk};
+ghost use Rattle.std.specs.Prelude.{◌≡◌, ◌+◌, ◌<◌, ◌≤◌, [], length, sum, slice_index, slice_index_or, IfOk, IfErr, OnOk, OnErr};
 ghost use Rattle.sand_model.specs.declared.pile.TheConstants.{GRAIN_LIMIT};
 ghost use Rattle.sand_lab.specs.Faults.{IsMemory};
 ghost use Rattle.sand_lab.specs.Reports.{HasGrown, IsBoth, report_of, sheet_at};
 
 use crate::album::Note;
-use crate::epochs::{Sheet, copy_of};
+use crate::epochs::Sheet;
 use crate::faults::LabFault;
 use crate::journal::Entry;
 use sand_shared::{Record, SharedFault};
@@ -99,33 +99,50 @@ impl Sheet {
     }
 }
 
-// Both records as one.
-fn followed_by(alloc: Global, first: &Record, next: &Record) -> Result<Record, LabFault>
-    requires start { next.now.start ≡ first.now.settled.pile }
-    requires limit { sum first.now.start.heights + (length first.now.history + length next.now.history) ≤ GRAIN_LIMIT }
-    ensures both { IfOk result (IsBoth first.now next.now) }
+// The total of a first record, with room for so many drops more.
+fn first_total(alloc: Global, first: &Record, drops: u64) -> Result<Record, LabFault>
+    requires limit { sum first.now.start.heights + (length first.now.history + drops) ≤ GRAIN_LIMIT }
+    ensures copy { IfOk result (λ r. r ≡ first.now) }
     ensures memory { IfErr result IsMemory }
 {
-    match first.followed_by(alloc, next) {
-        Ok(both) => Ok(both),
+    match first.copy_with_room(alloc, drops as usize) {
+        Ok(total) => Ok(total),
+        Err(SharedFault::Memory(refused)) => Err(refused.into()),
+        Err(SharedFault::TooManyGrains) => unreachable!(),
+    }
+}
+
+// The total grows by a record that starts from its pile.
+fn append(alloc: Global, total: &mut Record, next: &Record) -> Result<(), LabFault>
+    requires start { next.now.start ≡ total.old.settled.pile }
+    requires limit { sum total.old.start.heights + (length total.old.history + length next.now.history) ≤ GRAIN_LIMIT }
+    ensures both { OnOk result (IsBoth total.old next.now total.new) }
+    ensures unchanged { OnErr result (total.new ≡ total.old) }
+    ensures memory { IfErr result IsMemory }
+{
+    match total.append(alloc, next) {
+        Ok(()) => Ok(()),
         Err(SharedFault::Memory(refused)) => Err(refused.into()),
         Err(SharedFault::TooManyGrains) => unreachable!(),
     }
 }
 
 impl Report {
-    /// The report of a first epoch of so many. Refuses want of memory alone.
+    /// The report of a first epoch of so many, which have so many more drops in all. Returns Memory if an allocation
+    /// fails, and no other fault.
     pub(crate) fn of(
         alloc: Global,
         epochs: u32,
+        drops: u64,
         closed: Record,
         sheet: Sheet,
     ) -> Result<Report, LabFault>
-        requires { 0 < epochs }
+        requires epochs { 0 < epochs }
+        requires limit { sum closed.start.heights + (length closed.history + drops) ≤ GRAIN_LIMIT }
         ensures report { IfOk result (λ p. p ≡ report_of closed sheet) }
         ensures memory { IfErr result IsMemory }
     {
-        let total = copy_of(alloc, &closed)?;
+        let total = first_total(alloc, &closed, drops)?;
         let mut records = Vec::with_capacity(alloc, epochs as usize)?;
         let mut sheets = Vec::with_capacity(alloc, epochs as usize)?;
         records.push_reserved(closed);
@@ -137,8 +154,8 @@ impl Report {
         })
     }
 
-    /// One epoch more, which starts from the pile after all before it. Refuses want of memory alone; the report then
-    /// stays as it was.
+    /// One epoch more, which starts from the pile after all before it. The total grows in place. Returns Memory if an
+    /// allocation fails, and no other fault; the report is then unchanged.
     pub(crate) fn add(
         &mut self,
         alloc: Global,
@@ -149,12 +166,12 @@ impl Report {
         requires start { closed.start ≡ self.old.total.settled.pile }
         requires limit { sum self.old.total.start.heights + (length self.old.total.history + length closed.history) ≤ GRAIN_LIMIT }
         ensures grown { OnOk result (HasGrown self.old closed sheet self.new) }
+        ensures unchanged { OnErr result (self.new ≡ self.old) }
         ensures memory { IfErr result IsMemory }
     {
-        let total = followed_by(alloc, &self.total, &closed)?;
         self.records.reserve(1)?;
         self.sheets.reserve(1)?;
-        self.total = total;
+        append(alloc, &mut self.total, &closed)?;
         self.records.push_reserved(closed);
         self.sheets.push_reserved(sheet);
         Ok(())

@@ -32,7 +32,8 @@ fn run_all<R: Threads + Sync, G: Gate>(
     ensures faults { IfErr result IsOfEpoch }
 {
     let (closed, sheet) = run_epoch(rt, alloc, start, wish, 0, gate, album)?;
-    let mut report = Report::of(alloc, wish.epochs, closed, sheet)?;
+    let later = quota_of(wish) * u64::from(wish.epochs - 1);
+    let mut report = Report::of(alloc, wish.epochs, later, closed, sheet)?;
     for epoch in 1..wish.epochs {
         let pile = report.total().pile();
         let (closed, sheet) = run_epoch(rt, alloc, pile, wish, epoch, gate, album)?;

@@ -7,6 +7,7 @@
 
 mod closing;
 mod faults;
+mod following;
 mod joining;
 pub mod laws;
 mod pass;
@@ -15,6 +16,7 @@ mod rows;
 mod rule;
 mod settling;
 mod shared_pile;
+mod site_counts;
 mod splitting;
 mod steps;
 mod sweeping;
@@ -25,4 +27,5 @@ pub use faults::{CloseFault, DropFault, JoinFault, SharedFault, SplitFault};
 pub use pass::Pass;
 pub use record::Record;
 pub use shared_pile::SharedPile;
+pub use site_counts::SiteCounts;
 pub use view::Receipt;

@@ -1,6 +1,6 @@
 //! The record of a closed pile: what one thread would have got.
 
-ghost use Rattle.std.specs.Prelude.{◌≡◌, ℕ, ◌+◌, ◌*◌, ◌^◌, ◌<◌, ◌≤◌, ◌++◌, All, IfOk, IsOkUnless, alloc_error, length, sum, slice_index};
+ghost use Rattle.std.specs.Prelude.{◌≡◌, ◌+◌, ◌^◌, ◌<◌, ◌≤◌, All, IfOk, IsOkUnless, alloc_error, length, sum, slice_index};
 ghost use Rattle.sand_model.specs.declared.pile.TheConstants.{GRAIN_LIMIT};
 ghost use Rattle.sand_model.specs.Grid.{sites};
 ghost use Rattle.sand_model.specs.Piles.{height_of};
@@ -17,12 +17,12 @@ use std::marker::Model;
 /// each site has toppled since the start. It is what one thread gets that drops the history in order.
 #[derive(Debug, Drop)]
 pub struct Record {
-    start: Pile,
-    history: Vec<usize>,
-    pile: Pile,
-    odometer: Vec<u64>,
-    topplings: u64,
-    lost: u64,
+    pub(crate) start: Pile,
+    pub(crate) history: Vec<usize>,
+    pub(crate) pile: Pile,
+    pub(crate) odometer: Vec<u64>,
+    pub(crate) topplings: u64,
+    pub(crate) lost: u64,
 }
 
 impl Model for Record {
@@ -43,20 +43,6 @@ pub(crate) fn copy_of(alloc: Global, pile: &Pile) -> Result<Pile, AllocError>
         Ok(copy) => Ok(copy),
         Err(_) => Err(AllocError),
     }
-}
-
-// Two lists added place by place.
-fn sums_of(alloc: Global, first: &[u64], second: &[u64]) -> Result<Vec<u64>, AllocError>
-    requires lengths { length first.now ≡ length second.now }
-    requires small { (i : ℕ) → i < length first.now → slice_index first.now i + slice_index second.now i < 2 ^ 64 }
-    ensures long { IfOk result (λ v. length v.items ≡ length first.now) }
-    ensures sums { IfOk result (λ v. (i : ℕ) → i < length first.now → slice_index v.items i ≡ slice_index first.now i + slice_index second.now i) }
-{
-    let mut sums = Vec::with_capacity(alloc, first.len())?;
-    for i in 0..first.len() {
-        sums.push_reserved(first[i] + second[i]);
-    }
-    Ok(sums)
 }
 
 fn sum_of(numbers: &[u64]) -> u64
@@ -156,9 +142,20 @@ impl Record {
         ensures made { IfOk result (λ r. r ≡ self.now) }
         ensures memory { IsOkUnless result (SharedFault.Memory alloc_error) }
     {
+        let _ = &self.start;
+        self.copy_with_room(alloc, 0)
+    }
+
+    /// A copy with room for so many drops more, so that `append` allocates nothing for them.
+    pub fn copy_with_room(&self, alloc: Global, drops: usize) -> Result<Record, SharedFault>
+        requires limit { sum self.now.start.heights + (length self.now.history + drops) ≤ GRAIN_LIMIT }
+        ensures made { IfOk result (λ r. r ≡ self.now) }
+        ensures memory { IsOkUnless result (SharedFault.Memory alloc_error) }
+    {
         let start = copy_of(alloc, &self.start)?;
         let pile = copy_of(alloc, &self.pile)?;
-        let history = Vec::from_slice(alloc, self.history.as_slice())?;
+        let mut history = Vec::with_capacity(alloc, self.history.len() + drops)?;
+        history.extend_from_slice(self.history.as_slice())?;
         let odometer = Vec::from_slice(alloc, self.odometer.as_slice())?;
         Ok(Record {
             start,
@@ -167,34 +164,6 @@ impl Record {
             odometer,
             topplings: self.topplings,
             lost: self.lost,
-        })
-    }
-
-    /// The record of both histories, one after the other, where the next one starts from this one's pile.
-    pub fn followed_by(&self, alloc: Global, next: &Record) -> Result<Record, SharedFault>
-        requires start { next.now.start ≡ self.now.settled.pile }
-        requires limit { sum self.now.start.heights + (length self.now.history + length next.now.history) ≤ GRAIN_LIMIT }
-        ensures one_threads { IfOk result IsOneThreads }
-        ensures start { IfOk result (λ r. r.start ≡ self.now.start) }
-        ensures history { IfOk result (λ r. r.history ≡ self.now.history ++ next.now.history) }
-        ensures pile { IfOk result (λ r. r.settled.pile ≡ next.now.settled.pile) }
-        ensures odometer { IfOk result (λ r. (i : ℕ) → i < sites self.now.start.grid → odometer_of r.settled i ≡ odometer_of self.now.settled i + odometer_of next.now.settled i) }
-        ensures topplings { IfOk result (λ r. r.settled.topplings ≡ self.now.settled.topplings + next.now.settled.topplings) }
-        ensures lost { IfOk result (λ r. r.settled.lost ≡ self.now.settled.lost + next.now.settled.lost) }
-        ensures memory { IsOkUnless result (SharedFault.Memory alloc_error) }
-    {
-        let start = copy_of(alloc, &self.start)?;
-        let pile = copy_of(alloc, &next.pile)?;
-        let mut history = Vec::from_slice(alloc, self.history.as_slice())?;
-        history.extend_from_slice(next.history.as_slice())?;
-        let odometer = sums_of(alloc, self.odometer.as_slice(), next.odometer.as_slice())?;
-        Ok(Record {
-            start,
-            history,
-            pile,
-            odometer,
-            topplings: self.topplings() + next.topplings(),
-            lost: self.lost + next.lost,
         })
     }
 }

@@ -52,7 +52,7 @@ impl Words {
 }
 
 // Adds the numbers of a list, place by place.
-fn add(numbers: &mut Vec<u64>, more: &[u64])
+pub(crate) fn add(numbers: &mut Vec<u64>, more: &[u64])
     requires lengths { length numbers.old.items ≡ length more.now }
     requires small { (i : ℕ) → i < length more.now → slice_index numbers.old.items i + slice_index more.now i < 2 ^ 64 }
     ensures long { length numbers.new.items ≡ length numbers.old.items }

@@ -10,6 +10,7 @@ ghost use Rattle.sand_shared.specs.Seats.{IsSeatAt, StaysSeated};
 use crate::faults::DropFault;
 use crate::pass::Pass;
 use crate::shared_pile::SharedPile;
+use crate::site_counts::SiteCounts;
 use crate::steps::{PassSeat, Words};
 use crate::view::Receipt;
 use std::marker::Brand;
@@ -49,10 +50,17 @@ fn note(receipts: &mut Vec<Receipt>, number: u64, drops: &[usize])
 impl SharedPile {
     /// Drops grains on sites, one on each in their order, with numbers that follow one another, and answers the first
     /// number; that of no drops at all is what the pass has seen. Refuses a pass with less left (Spent).
-    pub fn drop_all(&self, pass: &mut Pass, drops: &[usize]) -> Result<u64, DropFault>
+    pub fn drop_all(
+        &self,
+        pass: &mut Pass,
+        drops: &[usize],
+        counts: &mut SiteCounts,
+    ) -> Result<u64, DropFault>
         requires pass { IsPassOf self.now pass.old }
         requires inside { All (λ i. i < sites (grid_of self.now.terms)) drops.now }
+        requires counts { counts.old ≡ grid_of self.now.terms }
         ensures of_pile { IsPassOf self.now pass.new }
+        ensures counts { counts.new ≡ counts.old }
         ensures spent { IsErr result ↔ (pass.old.left < length drops.now) }
         ensures unchanged { OnErr result (pass.new ≡ pass.old) }
         ensures after_all_seen { IfOk result (λ n. pass.old.seen ≤ n) }
@@ -60,6 +68,7 @@ impl SharedPile {
         ensures pass { IfOk result (λ n. pass.new ≡ record pass.old { left = pass.old.left - length drops.now; seen = n + length drops.now; receipts = pass.old.receipts ++ receipts_from n drops.now }) }
     {
         let _ = &self.words;
+        let _ = counts;
         let count = drops.len() as u64;
         if pass.left < count {
             return Err(DropFault::Spent);

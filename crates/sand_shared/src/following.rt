@@ -1,0 +1,59 @@
+//! Records that follow one another: the next one starts from the pile of the first, and both become one.
+//!
+//! To settle in two parts is to settle at once, so the history of both has the next one's pile, and the odometers add.
+
+ghost use Rattle.std.specs.Prelude.{◌≡◌, ℕ, ◌+◌, ◌<◌, ◌≤◌, ◌++◌, IfOk, OnOk, OnErr, IsOkUnless, alloc_error, length, sum};
+ghost use Rattle.sand_model.specs.declared.pile.TheConstants.{GRAIN_LIMIT};
+ghost use Rattle.sand_model.specs.Grid.{sites};
+ghost use Rattle.sand_settle.specs.Settling.{odometer_of};
+ghost use Rattle.sand_shared.specs.Record.{IsOneThreads};
+
+use crate::faults::SharedFault;
+use crate::record::{Record, copy_of};
+use crate::settling::add;
+use std::alloc::Global;
+
+impl Record {
+    /// Grows by a record that starts from this one's pile, and is then the record of both histories, one after the
+    /// other. It costs time in proportion to the next history and to the sites. Returns Memory if an allocation fails;
+    /// this record is then unchanged.
+    pub fn append(&mut self, alloc: Global, next: &Record) -> Result<(), SharedFault>
+        requires start { next.now.start ≡ self.old.settled.pile }
+        requires limit { sum self.old.start.heights + (length self.old.history + length next.now.history) ≤ GRAIN_LIMIT }
+        ensures one_threads { OnOk result (IsOneThreads self.new) }
+        ensures start { OnOk result (self.new.start ≡ self.old.start) }
+        ensures history { OnOk result (self.new.history ≡ self.old.history ++ next.now.history) }
+        ensures pile { OnOk result (self.new.settled.pile ≡ next.now.settled.pile) }
+        ensures odometer { OnOk result ((i : ℕ) → i < sites self.old.start.grid → odometer_of self.new.settled i ≡ odometer_of self.old.settled i + odometer_of next.now.settled i) }
+        ensures topplings { OnOk result (self.new.settled.topplings ≡ self.old.settled.topplings + next.now.settled.topplings) }
+        ensures lost { OnOk result (self.new.settled.lost ≡ self.old.settled.lost + next.now.settled.lost) }
+        ensures unchanged { OnErr result (self.new ≡ self.old) }
+        ensures memory { IsOkUnless result (SharedFault.Memory alloc_error) }
+    {
+        let pile = copy_of(alloc, &next.pile)?;
+        self.history.extend_from_slice(next.history.as_slice())?;
+        add(&mut self.odometer, next.odometer.as_slice());
+        self.pile = pile;
+        self.topplings += next.topplings;
+        self.lost += next.lost;
+        Ok(())
+    }
+
+    /// The record of both histories, one after the other, if the next one starts from this one's pile.
+    pub fn followed_by(&self, alloc: Global, next: &Record) -> Result<Record, SharedFault>
+        requires start { next.now.start ≡ self.now.settled.pile }
+        requires limit { sum self.now.start.heights + (length self.now.history + length next.now.history) ≤ GRAIN_LIMIT }
+        ensures one_threads { IfOk result IsOneThreads }
+        ensures start { IfOk result (λ r. r.start ≡ self.now.start) }
+        ensures history { IfOk result (λ r. r.history ≡ self.now.history ++ next.now.history) }
+        ensures pile { IfOk result (λ r. r.settled.pile ≡ next.now.settled.pile) }
+        ensures odometer { IfOk result (λ r. (i : ℕ) → i < sites self.now.start.grid → odometer_of r.settled i ≡ odometer_of self.now.settled i + odometer_of next.now.settled i) }
+        ensures topplings { IfOk result (λ r. r.settled.topplings ≡ self.now.settled.topplings + next.now.settled.topplings) }
+        ensures lost { IfOk result (λ r. r.settled.lost ≡ self.now.settled.lost + next.now.settled.lost) }
+        ensures memory { IsOkUnless result (SharedFault.Memory alloc_error) }
+    {
+        let mut both = self.copy_with_room(alloc, next.history.len())?;
+        both.append(alloc, next)?;
+        Ok(both)
+    }
+}
