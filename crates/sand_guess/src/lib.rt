@@ -30,4 +30,4 @@ mod sweeps;
 mod tests;
 mod waves;
 
-pub use claim::{Claim, guessed};
+pub use claim::{Claim, guessed, guessed_identity};
