@@ -6,7 +6,7 @@ use Rattle.sand_shared.specs.declared.view.Grains.{Grains}
 use Rattle.sand_model.specs.Grid.{neighbours, places}
 use Rattle.sand_shared.specs.declared.view.Terms.{Terms}
 use Rattle.sand_shared.specs.OpenPile.{grid_of}
-use Rattle.sand_shared.specs.Events.{grains, sent, behind_first, laid_down, delivered_to}
+use Rattle.sand_shared.specs.Events.{grains, sent, behind_first, delivered_to}
 
 -- k grains for each neighbour that is at one of these places
 abbrev pub sends : ℕ → List (Option ℕ) → List Grains
@@ -18,7 +18,7 @@ first_sent k (Some j) ps hand e = e ∙ (λ i. grains j k ∷ behind_first (sym 
 
 pub rest_sent : (k : ℕ) (p : Option ℕ) (ps : List (Option ℕ)) (v w : View) → v ≡ record w { hand = sends k (p ∷ ps) } → delivered_to p v ≡ record w { hand = sends k ps }
 rest_sent k None ps v w e = e
-rest_sent k (Some j) ps v w e = ap laid_down e
+rest_sent k (Some j) ps v w e = λ q. record (e q) { hand = behind_first (e q).hand }
 
 -- what a toppling sends goes to the places round the site
 pub sent_is : (t : Terms) (i k : ℕ) → sent t i k ≡ sends k (places (grid_of t) i)
