@@ -25,7 +25,7 @@ use crate::steps::{PassSeat, Words};
 use crate::view::Terms;
 use sand_model::Pile;
 use sand_settle::{SettleFault, Settled, settle};
-use std::alloc::{AllocError, Global};
+use std::alloc::Global;
 use std::marker::Brand;
 
 impl Words {
@@ -72,7 +72,11 @@ impl SharedPile {
     /// sweeps over the shared words, as many as there are, and takes no memory but that of the record.
     ///
     /// Refuses a pass that lacks quota, receipts or rows (Missing), then Memory; the pile and the pass then come back.
-    pub fn settle(self, alloc: Global, pass: Pass) -> Result<Record, (CloseFault, SharedPile, Pass)>
+    pub fn settle(
+        self,
+        alloc: Global,
+        mut pass: Pass,
+    ) -> Result<Record, (CloseFault, SharedPile, Pass)>
         requires { IsPassOf self pass }
         ensures missing { IfErr result (λ e. (e.0 ≡ CloseFault.Missing) ↔ ¬ IsWhole self.terms pass) }
         ensures whole { OnOk result (IsWhole self.terms pass) }
@@ -96,7 +100,6 @@ impl SharedPile {
             Ok(room) => room,
             Err(fault) => return Err((fault, self, pass)),
         };
-        let mut pass = pass;
         let current = self.current_pile(&mut pass, heights);
         let rest = match settle(alloc, &current) {
             Ok(rest) => rest,
@@ -108,7 +111,7 @@ impl SharedPile {
     }
 
     // The heights that the shared pile has now, in a list that has room for them, for a pass that has all.
-    fn current_pile(&self, pass: &mut Pass, heights: Vec<u64>) -> Pile
+    fn current_pile(&self, pass: &mut Pass, mut heights: Vec<u64>) -> Pile
         requires pass { IsPassOf self.now pass.old }
         requires whole { IsWhole self.now.terms pass.old }
         requires room { (heights.items ≡ []) × (length pass.old.counts ≤ vec_capacity heights) }
@@ -117,7 +120,6 @@ impl SharedPile {
         ensures underway { IsUnderway (grid_of self.now.terms) (laid self.now.terms (at_rest pass.old)) (slice_index pass.old.counts) (height_of result) }
     {
         let _ = &self.words;
-        let mut heights = heights;
         self.words.read(&mut pass.seat, &mut heights);
         Pile::from_vec(pass.shape, heights)
     }
