@@ -231,7 +231,7 @@ impl Words {
         terms
     }
 
-    /// Closes the table with the seat of a pass, whatever lies there.
+    /// Closes the table with the seat of a pass, and reads nothing.
     pub(crate) fn end(self, seat: PassSeat) -> Terms
         requires seat { IsSeatAt self seat }
         ensures terms { result ≡ self.terms }
