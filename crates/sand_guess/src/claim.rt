@@ -3,11 +3,11 @@
 ghost use Rattle.std.specs.Prelude.{◌≤◌, ◌<◌};
 
 use crate::density::{Known, density_of, expected_from};
-use crate::frame::Frame;
+use crate::frame::frame_of;
 use crate::levels::{Level, halved};
 use crate::repair::Repair;
 use crate::solver::Solver;
-use sand_model::{Edge, Pile, Shape};
+use sand_model::{Pile, Shape};
 use std::alloc::{AllocError, Global};
 
 // A guess leaves so many grains a site too many, since toppling them off is cheaper than taking topplings back.
@@ -18,14 +18,6 @@ const EXCESS: f64 = 0.015;
 pub struct Claim {
     pub counts: Vec<u64>,
     pub turns: Vec<u32>,
-}
-
-fn frame_of(shape: Shape) -> Frame {
-    Frame {
-        width: shape.width(),
-        height: shape.height(),
-        goes_round: shape.edge() == Edge::Cylinder,
-    }
 }
 
 // The pile itself, as the greatest of the sizes.
