@@ -69,11 +69,11 @@ fn around_row(marks: &[u8], first: usize, width: usize, stride: usize) -> Around
     }
 }
 
-// Marks the sites of a row that have toppled, and answers how many.
-fn mark_row(marks: &mut [u8], counts: &[i64]) -> u32 {
+// Marks the sites of a row that have toppled, and returns how many.
+fn mark_row(marks: &mut [u8], counts: &[i64], least: i64) -> u32 {
     let mut found = 0u32;
     for x in 0..marks.len().min(counts.len()) {
-        let has_toppled = counts[x] > 0;
+        let has_toppled = counts[x] > least;
         marks[x] = u8::from(has_toppled);
         found = found.wrapping_add(u32::from(has_toppled));
     }
@@ -162,14 +162,15 @@ impl Fire {
         }
     }
 
-    // Marks the sites that have toppled, and answers how many.
-    fn mark(&mut self, counts: &[i64]) -> u32 {
+    // Marks the sites whose counts are above the least, and returns how many.
+    fn mark(&mut self, counts: &[i64], least: i64) -> u32 {
         let width = self.frame.width;
         let mut found = 0u32;
         for y in 0..self.frame.height {
             let first = self.first_of(y);
             let row = run_mut(&mut self.marks, first, width);
-            found = found.wrapping_add(mark_row(row, run(counts, y.wrapping_mul(width), width)));
+            let here = run(counts, y.wrapping_mul(width), width);
+            found = found.wrapping_add(mark_row(row, here, least));
         }
         self.join_ends();
         found
@@ -257,15 +258,16 @@ impl Fire {
     }
 
     /// Takes back topplings, the greatest set that can be at a time and at most so often, and says whether none is left
-    /// that can be. The field is stable, and stays so.
+    /// that can be. No count goes below `least`. The field is stable, and stays so.
     pub(crate) fn take_back(
         &mut self,
         field: &mut Field,
         counts: &mut [i64],
+        least: i64,
         times: usize,
     ) -> Result<bool, AllocError> {
         for _ in 0..times {
-            let toppled = self.mark(counts);
+            let toppled = self.mark(counts, least);
             self.find_room(field);
             self.burn_out()?;
             if toppled as usize <= self.order.len() {

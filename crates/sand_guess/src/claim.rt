@@ -3,11 +3,11 @@
 ghost use Rattle.std.specs.Prelude.{◌≤◌, ◌<◌};
 
 use crate::density::{Known, density_of, expected_from};
-use crate::frame::Frame;
+use crate::frame::frame_of;
 use crate::levels::{Level, halved};
 use crate::repair::Repair;
 use crate::solver::Solver;
-use sand_model::{Edge, Pile};
+use sand_model::{Pile, Shape};
 use std::alloc::{AllocError, Global};
 
 // A guess leaves so many grains a site too many, since toppling them off is cheaper than taking topplings back.
@@ -22,23 +22,31 @@ pub struct Claim {
 
 // The pile itself, as the greatest of the sizes.
 fn first_level(alloc: Global, pile: &Pile) -> Result<Level, AllocError> {
-    let shape = pile.shape();
-    let frame = Frame {
-        width: shape.width(),
-        height: shape.height(),
-        goes_round: shape.edge() == Edge::Cylinder,
-    };
-    let mut start = Vec::new(alloc);
+    let mut start = Vec::with_capacity(alloc, pile.heights().len())?;
     for height in pile.heights() {
         start.push((*height & 0xff_ffff_ffff) as i64)?;
     }
-    Ok(Level { frame, start })
+    Ok(Level {
+        frame: frame_of(pile.shape()),
+        start,
+        least: 0,
+    })
 }
 
-// The piles from the pile itself to the smallest.
-fn levels_of(alloc: Global, pile: &Pile) -> Result<Vec<Level>, AllocError> {
+// A pile without a grain, from which topplings may be taken back.
+fn empty_level(alloc: Global, shape: Shape) -> Result<Level, AllocError> {
+    let frame = frame_of(shape);
+    Ok(Level {
+        frame,
+        start: vec![in alloc; 0i64; frame.sites()]?,
+        least: i64::MIN,
+    })
+}
+
+// The piles from the given one to the smallest.
+fn levels_from(alloc: Global, first: Level) -> Result<Vec<Level>, AllocError> {
     let mut levels = Vec::new(alloc);
-    let mut level = first_level(alloc, pile)?;
+    let mut level = first;
     for _ in 0..6 {
         let Some(half) = halved(alloc, &level)? else {
             break;
@@ -71,20 +79,9 @@ fn repaired(
     Ok(Some((repair, known)))
 }
 
-// The claim that repaired counts make.
-fn as_claim(alloc: Global, repair: &Repair) -> Result<Claim, AllocError> {
-    let mut counts = Vec::with_capacity(alloc, repair.counts.len())?;
-    for count in &repair.counts {
-        counts.push(count.unsigned_abs())?;
-    }
-    let turns = repair.fire.turns(alloc)?;
-    Ok(Claim { counts, turns })
-}
-
-/// A guess of how often each site of a pile topples, with the turns at which sites burn, or None where it was not to be
-/// made. Nothing is claimed of it; `sand_certify::certified` tells whether it is right. Refuses Memory alone.
-pub fn guessed(alloc: Global, pile: &Pile) -> Result<Option<Claim>, AllocError> {
-    let mut levels = levels_of(alloc, pile)?;
+// Counts of the first of the levels, made right from the last to the first.
+fn repaired_first(alloc: Global, levels: Vec<Level>) -> Result<Option<Repair>, AllocError> {
+    let mut levels = levels;
     let mut half = None;
     for _ in 0..7 {
         let Some(level) = levels.pop() else {
@@ -94,9 +91,41 @@ pub fn guessed(alloc: Global, pile: &Pile) -> Result<Option<Claim>, AllocError> 
             break;
         };
         if levels.is_empty() {
-            return Ok(Some(as_claim(alloc, &repair)?));
+            return Ok(Some(repair));
         }
         half = Some(known);
     }
     Ok(None)
+}
+
+// How far each count is from 0.
+fn sizes_of(alloc: Global, repair: &Repair) -> Result<Vec<u64>, AllocError> {
+    let mut sizes = Vec::with_capacity(alloc, repair.counts.len())?;
+    for count in &repair.counts {
+        sizes.push(count.unsigned_abs())?;
+    }
+    Ok(sizes)
+}
+
+/// A guess of how often each site of a pile topples, with the turns at which sites burn, or None if no guess is made.
+/// Nothing is claimed of it; `sand_certify::certified` tells whether it is right. Refuses Memory alone.
+pub fn guessed(alloc: Global, pile: &Pile) -> Result<Option<Claim>, AllocError> {
+    let levels = levels_from(alloc, first_level(alloc, pile)?)?;
+    let Some(repair) = repaired_first(alloc, levels)? else {
+        return Ok(None);
+    };
+    let counts = sizes_of(alloc, &repair)?;
+    let turns = repair.fire.turns(alloc)?;
+    Ok(Some(Claim { counts, turns }))
+}
+
+/// A guess of w for which Lw is the identity of the group of recurrent piles, or None if no guess is made. It is found as
+/// an odometer is, from a pile without a grain, but each count may go below 0 and each site counts as toppled. Nothing is
+/// claimed of it: who uses it computes Lw and burns it. Refuses Memory alone.
+pub fn guessed_identity(alloc: Global, shape: Shape) -> Result<Option<Vec<u64>>, AllocError> {
+    let levels = levels_from(alloc, empty_level(alloc, shape)?)?;
+    let Some(repair) = repaired_first(alloc, levels)? else {
+        return Ok(None);
+    };
+    Ok(Some(sizes_of(alloc, &repair)?))
 }

@@ -2,6 +2,8 @@
 
 ghost use Rattle.std.specs.Prelude.{◌≤◌, ◌*◌, ◌≡◌};
 
+use sand_model::{Edge, Shape};
+
 /// The sides of a grid, and whether its rows go round.
 #[derive(Clone, Copy)]
 pub(crate) struct Frame {
@@ -18,6 +20,15 @@ impl Frame {
         ensures few { result ≤ 65536 }
     {
         self.width * self.height
+    }
+}
+
+/// The grid of a shape.
+pub(crate) fn frame_of(shape: Shape) -> Frame {
+    Frame {
+        width: shape.width(),
+        height: shape.height(),
+        goes_round: shape.edge() == Edge::Cylinder,
     }
 }
 

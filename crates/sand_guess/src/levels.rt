@@ -13,6 +13,9 @@ const LEAST_SIDE: usize = 24;
 pub(crate) struct Level {
     pub(crate) frame: Frame,
     pub(crate) start: Vec<i64>,
+    /// No count goes below this: 0 for the topplings of a pile, and far below 0 if topplings may also be taken back from a
+    /// pile on which nothing toppled.
+    pub(crate) least: i64,
 }
 
 // How many cells of a side make one cell of half its size.
@@ -74,5 +77,9 @@ pub(crate) fn halved(alloc: Global, level: &Level) -> Result<Option<Level>, Allo
         height,
         goes_round: frame.goes_round,
     };
-    Ok(Some(Level { frame, start }))
+    Ok(Some(Level {
+        frame,
+        start,
+        least: level.least,
+    }))
 }

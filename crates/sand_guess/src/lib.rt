@@ -18,6 +18,7 @@ mod burning;
 mod claim;
 mod density;
 mod field;
+mod forecast;
 mod frame;
 mod levels;
 mod product;
@@ -30,4 +31,5 @@ mod sweeps;
 mod tests;
 mod waves;
 
-pub use claim::{Claim, guessed};
+pub use claim::{Claim, guessed, guessed_identity};
+pub use forecast::is_high;

@@ -37,11 +37,13 @@ pub(crate) struct Repair {
     next: Vec<u32>,
 }
 
-// Adds what is nearest to each number, and keeps counts from 0 on.
-fn add_rounded(counts: &mut [i64], numbers: &[f64], factor: f64) {
+// Adds what is nearest to each number, and keeps counts from the least on.
+fn add_rounded(counts: &mut [i64], least: i64, numbers: &[f64], factor: f64) {
     for at in 0..counts.len().min(numbers.len()) {
         let twice = saturating_f64_to_i64(2.0 * factor * numbers[at]);
-        counts[at] = counts[at].wrapping_add(twice.wrapping_add(1) >> 1).max(0);
+        counts[at] = counts[at]
+            .wrapping_add(twice.wrapping_add(1) >> 1)
+            .max(least);
     }
 }
 
@@ -79,12 +81,12 @@ impl Repair {
                 rest.push(nearest_i64_to_f64(self.left[at]) - expected[at] - excess)?;
             }
             solver.solve(alloc, &mut rest)?;
-            add_rounded(&mut self.counts, &rest, 1.0);
+            add_rounded(&mut self.counts, level.least, &rest, 1.0);
             if self.look(level) {
                 return Ok(true);
             }
             for _ in 0..EVENINGS {
-                smooth(level.frame, &level.start, &mut self.counts);
+                smooth(level, &mut self.counts);
                 if self.look(level) {
                     return Ok(true);
                 }
@@ -97,7 +99,7 @@ impl Repair {
     fn relax(&mut self, level: &Level) -> Result<bool, AllocError> {
         for _ in 0..TRIALS {
             if !self.look(level) {
-                smooth(level.frame, &level.start, &mut self.counts);
+                smooth(level, &mut self.counts);
             } else if self.field.is_stable() {
                 return Ok(true);
             } else {
@@ -130,15 +132,18 @@ impl Repair {
             if !self.relax(level)? {
                 return Ok(false);
             }
-            if self
-                .fire
-                .take_back(&mut self.field, &mut self.counts, MOST_TAKEN_BACK)?
-            {
+            let is_done = self.fire.take_back(
+                &mut self.field,
+                &mut self.counts,
+                level.least,
+                MOST_TAKEN_BACK,
+            )?;
+            if is_done {
                 return Ok(true);
             }
             let mut lower = self.fire.unburnt(alloc)?;
             solver.solve(alloc, &mut lower)?;
-            add_rounded(&mut self.counts, &lower, -density);
+            add_rounded(&mut self.counts, level.least, &lower, -density);
             density *= 2.0;
         }
         Ok(false)

@@ -6,6 +6,7 @@
 ghost use Rattle.std.specs.Prelude.{◌≤◌, ◌<◌};
 
 use crate::frame::{Frame, run, run_mut};
+use crate::levels::Level;
 
 // The start less four topplings a count.
 fn begin_row(row: &mut [i64], start: &[i64], counts: &[i64]) {
@@ -90,32 +91,32 @@ fn inflow(frame: Frame, counts: &[i64], x: usize, y: usize) -> i64
         .wrapping_add(count_at(counts, at + width))
 }
 
-// Topples a site, or takes back topplings, so that its height is from 2 to 5 or its count is 0.
-fn even_out(frame: Frame, start: &[i64], counts: &mut [i64], x: usize, y: usize)
-    requires column { x < frame.width }
-    requires row { y < frame.height }
+// Topples a site, or takes back topplings, so that its height is from 2 to 5 or its count is the least.
+fn even_out(level: &Level, counts: &mut [i64], x: usize, y: usize)
+    requires column { x < level.now.frame.width }
+    requires row { y < level.now.frame.height }
 {
-    let at = y * frame.width + x;
-    if at >= counts.len() || at >= start.len() {
+    let at = y * level.frame.width + x;
+    if at >= counts.len() || at >= level.start.len() {
         return;
     }
-    let height = start[at]
-        .wrapping_add(inflow(frame, counts, x, y))
+    let height = level.start[at]
+        .wrapping_add(inflow(level.frame, counts, x, y))
         .wrapping_sub(counts[at].wrapping_mul(4));
     let times = height.wrapping_sub(2) >> 2;
-    counts[at] = counts[at].wrapping_add(times).max(0);
+    counts[at] = counts[at].wrapping_add(times).max(level.least);
 }
 
 /// Evens out heights that are far from those of a settled pile, once over the grid and once back.
-pub(crate) fn smooth(frame: Frame, start: &[i64], counts: &mut [i64]) {
-    for y in 0..frame.height {
-        for x in 0..frame.width {
-            even_out(frame, start, counts, x, y);
+pub(crate) fn smooth(level: &Level, counts: &mut [i64]) {
+    for y in 0..level.frame.height {
+        for x in 0..level.frame.width {
+            even_out(level, counts, x, y);
         }
     }
-    for y in (0..frame.height).rev() {
-        for x in (0..frame.width).rev() {
-            even_out(frame, start, counts, x, y);
+    for y in (0..level.frame.height).rev() {
+        for x in (0..level.frame.width).rev() {
+            even_out(level, counts, x, y);
         }
     }
 }

@@ -6,7 +6,7 @@ use Rattle.std.proofs.lemmas.List.Sums.{sum_by-cons}
 use Rattle.std.proofs.Math.Nat.{mul-le-mul_left}
 use Rattle.sand_model.specs.Grid.{Grid, joins, sites, neighbours, missing, row, north, west, east, south}
 use Rattle.sand_model.specs.Laws.{MayTopple, AreLegal}
-use Rattle.sand_model.specs.Sand.{total, tally, flow, IsStable, IsToppled, Stabilises, IsLeast, IsSettled, grains, topplings, lost, weight, grain_weight, value_at, one_at}
+use Rattle.sand_model.specs.Sand.{total, tally, flow, IsStable, IsToppled, Stabilises, IsUnderway, IsLeast, IsSettled, grains, topplings, lost, weight, grain_weight, value_at, one_at}
 use Rattle.sand_model.proofs.Totals.{total-one_at, one_at_same, one_at_other, total_same, total_le, total-add, total-scale}
 use Rattle.sand_model.proofs.Neighbours.{neighbours_at_most_four, flow_four, some_width}
 use Rattle.sand_model.proofs.Flow.{flow_le, flow_same, flow-add, flow_self_adjoint}
@@ -23,9 +23,9 @@ pub flow_rest : (g : Grid) (u w : ℕ → ℕ) → ((j : ℕ) → j < sites g �
 flow_rest g u w below i l =
     sym (flow_same g (λ j. u j + (w j - u j)) w (λ j m. let le = below j m in omega arith) i l) ∙ flow-add g u (λ j. w j - u j) i
 
--- settling in two parts is settling at once, and the odometers add
-pub settled_in_parts : (g : Grid) (a b u t v r : ℕ → ℕ) → IsSettled g a u t → IsSettled g (λ i. t i + b i) v r → IsSettled g (λ i. a i + b i) (λ i. u i + v i) r
-settled_in_parts g a b u t v r first second = record {
+-- topplings that were at most what is needed, and the odometer of the pile that they left, are the odometer of the start
+pub settles_after : (g : Grid) (s u h v t : ℕ → ℕ) → IsUnderway g s u h → IsSettled g h v t → IsSettled g s (λ i. u i + v i) t
+settles_after g s u h v t first second = record {
   toppled = record {
     balance = λ i l.
         let one = first.toppled.balance i l in
@@ -42,7 +42,7 @@ settled_in_parts g a b u t v r first second = record {
           omega arith;
     };
     least = λ w stable i l.
-        let start : (j : ℕ) → j < sites g → u j ≤ w j = first.odometer.least w (record { at_most_three = λ j m. let e = stable.at_most_three j m in omega arith }) in
+        let start = first.bounded w stable in
         let rest : v i ≤ w i - u i = second.odometer.least (λ j. w j - u j) (record {
           at_most_three = λ j m.
               let e = stable.at_most_three j m in
@@ -55,6 +55,15 @@ settled_in_parts g a b u t v r first second = record {
         omega arith;
   };
 }
+
+-- settling in two parts is settling at once, and the odometers add
+pub settled_in_parts : (g : Grid) (a b u t v r : ℕ → ℕ) → IsSettled g a u t → IsSettled g (λ i. t i + b i) v r → IsSettled g (λ i. a i + b i) (λ i. u i + v i) r
+settled_in_parts g a b u t v r first second = settles_after g (λ i. a i + b i) u (λ i. t i + b i) v r
+    (record {
+      toppled = record { balance = λ i l. let e = first.toppled.balance i l in omega arith };
+      bounded = λ w stable. first.odometer.least w (record { at_most_three = λ i l. let e = stable.at_most_three i l in omega arith });
+    })
+    second
 
 -- a pile has one settled pile and one odometer
 pub odometer_unique : (g : Grid) (s u v : ℕ → ℕ) → IsLeast g s u → IsLeast g s v → (i : ℕ) → i < sites g → u i ≡ v i

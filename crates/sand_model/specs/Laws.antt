@@ -2,7 +2,7 @@
 use Rattle.std.specs.Prelude.{ℕ, ℤ, pos, ◌≡◌, ◌+◌, ◌*◌, ◌<◌, ◌≤◌, ◌↔◌, ◌+ℤ◌, ◌-ℤ◌, ◌*ℤ◌, ◌≤ℤ◌, List, [], ◌∷◌}
 use Rattle.sand_model.specs.Grid.{Grid, sites, missing}
 use Rattle.sand_model.specs.Forbidden.{IsTight}
-use Rattle.sand_model.specs.Sand.{flow, tally, one_at, IsStable, IsToppled, Stabilises, IsSettled, grains, lost, weight}
+use Rattle.sand_model.specs.Sand.{flow, tally, one_at, IsStable, IsToppled, Stabilises, IsUnderway, IsSettled, grains, lost, weight}
 use Rattle.sand_model.specs.Integers.{laplacian, total_over, whole, IsEquivalent}
 
 -- after each site toppled u times, the site i may topple: s - Lu is 4 or more there
@@ -34,6 +34,11 @@ LaplacianSumOverIntegers = (g : Grid) (s u : ℕ → ℤ) → total_over (sites 
 -- settling in two parts is settling at once, and the odometers add
 abbrev pub Abelian : Type 0
 Abelian = (g : Grid) (a b u t v r : ℕ → ℕ) → IsSettled g a u t → IsSettled g (λ i. t i + b i) v r → IsSettled g (λ i. a i + b i) (λ i. u i + v i) r
+
+-- the same after topplings that need not have settled anything: if u is at most every w that stabilises s, and s - Lu is
+-- a pile h, then the odometer of s is u plus the odometer of h (least action; Fey, Levine and Peres 2010)
+abbrev pub SettlesAfter : Type 0
+SettlesAfter = (g : Grid) (s u h v t : ℕ → ℕ) → IsUnderway g s u h → IsSettled g h v t → IsSettled g s (λ i. u i + v i) t
 
 -- a pile has one odometer and one settled pile
 abbrev pub SettledOnce : Type 0

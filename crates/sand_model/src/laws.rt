@@ -17,7 +17,7 @@
 //! **The two worlds.** Definitions are over the natural numbers, without subtraction. Over the whole numbers they are
 //! the `s - Lu` and the `s - Lu <= 3` of the textbooks.
 
-ghost use Rattle.sand_model.specs.Laws.{LeastAction, WeightFalls, LaplacianSum, LaplacianSumOverIntegers, Abelian, SettledOnce, LeastIfTight, ToppledOverIntegers, StabilisesOverIntegers, SettledIsEquivalent};
+ghost use Rattle.sand_model.specs.Laws.{LeastAction, WeightFalls, LaplacianSum, LaplacianSumOverIntegers, Abelian, SettlesAfter, SettledOnce, LeastIfTight, ToppledOverIntegers, StabilisesOverIntegers, SettledIsEquivalent};
 
 /// Legal topplings stay at or below whatever stabilises the pile.
 pub fn least_action()
@@ -38,6 +38,12 @@ pub fn laplacian_sum()
 /// Settling in two parts is settling at once, and the odometers add.
 pub fn abelian()
     ensures { Abelian }
+{}
+
+/// Topple a pile in any way in which no site topples more often than needed: to settle what is left then completes the
+/// odometer.
+pub fn settles_after()
+    ensures { SettlesAfter }
 {}
 
 /// A pile has one odometer and one settled pile.

@@ -78,16 +78,16 @@ wave_few g site c h u k list turn inside wave =
     let turns = wave.turns in
     let both = total-add (sites g) (λ j. get_or u j 0 - get_or c j 0) (λ j. one_if (leb 4 (get_or k j 0))) in
     let bound = total_le (sites g) (λ j. (get_or u j 0 - get_or c j 0) + one_if (leb 4 (get_or k j 0))) (λ j. 1 + 1 * one_at site j)
-        (λ j l.
-        let o = wave.once j l in
-        ⊎_elim
-        (λ (e : site ≡ j).
-        let one = ap (λ q. 1 * q) (sym (ap (one_at site) e) ∙ one_at_same site) in
-        ⊎_elim (λ (less : get_or k j 0 < 4). rw (lt-leb 4 (get_or k j 0) less) (omega arith)) (λ (more : 4 ≤ get_or k j 0). rw (le-leb 4 (get_or k j 0) more) (omega arith)) (cases_lt (get_or k j 0) 4))
-        (λ (ne : site ≡ j → ⊥).
-        let low = toppled_low g site c h u k list turn j wave l (λ e. ne (sym e)) in
-        ⊎_elim (λ (less : get_or k j 0 < 4). rw (lt-leb 4 (get_or k j 0) less) (omega arith)) (λ (more : 4 ≤ get_or k j 0). rw (le-leb 4 (get_or k j 0) more) (omega arith)) (cases_lt (get_or k j 0) 4))
-        (cases_eq site j)) in
+    (λ j l.
+    let o = wave.once j l in
+    ⊎_elim
+    (λ (e : site ≡ j).
+    let one = ap (λ q. 1 * q) (sym (ap (one_at site) e) ∙ one_at_same site) in
+    ⊎_elim (λ (less : get_or k j 0 < 4). rw (lt-leb 4 (get_or k j 0) less) (omega arith)) (λ (more : 4 ≤ get_or k j 0). rw (le-leb 4 (get_or k j 0) more) (omega arith)) (cases_lt (get_or k j 0) 4))
+    (λ (ne : site ≡ j → ⊥).
+    let low = toppled_low g site c h u k list turn j wave l (λ e. ne (sym e)) in
+    ⊎_elim (λ (less : get_or k j 0 < 4). rw (lt-leb 4 (get_or k j 0) less) (omega arith)) (λ (more : 4 ≤ get_or k j 0). rw (le-leb 4 (get_or k j 0) more) (omega arith)) (cases_lt (get_or k j 0) 4))
+    (cases_eq site j)) in
     let ones = total-add (sites g) (λ j. 1) (λ j. 1 * one_at site j) in
     let all = total-ones (sites g) in
     let one = total-one_at (sites g) site (λ j. 1) inside in
@@ -132,17 +132,19 @@ wave_begins g site c h u k list inside each high low counts gives waiting = reco
 pub wave_turn : (g : Grid) (site i : ℕ) (c h u k list : List ℕ) (turn : ℕ) → i ≡ get_or list turn 0 → turn < length list → IsWave g site c h u k list turn → (i < sites g) × (4 ≤ get_or k i 0) × (i ≢ site)
 wave_turn g site i c h u k list turn e l wave =
     let queue = lists_swap (sites g) (may_topple (λ j. get_or k j 0)) (site ∷ []) (drop turn list) wave.waiting in
-    let P : List ℕ → Type 0 = λ xs. Lists (sites g) (may_topple (λ j. get_or k j 0)) xs in
-    (turn_inside (sites g) (may_topple (λ j. get_or k j 0)) list (site ∷ []) turn i e l queue, turn_high (sites g) (λ j. get_or k j 0) list (site ∷ []) turn i e l queue,
-    λ same.
-    let first = turn_of (sites g) (may_topple (λ j. get_or k j 0)) list (site ∷ []) turn i e l queue in
-    let few = at_most_once (sites g) (may_topple (λ j. get_or k j 0)) (i ∷ (drop (turn + 1) list ++ site ∷ [])) i first in
-    let head = tally-cons i (drop (turn + 1) list ++ site ∷ []) i in
-    let rest = tally-append (drop (turn + 1) list) (site ∷ []) i in
-    let last = tally-cons site [] i in
-    let one = one_at_same i in
-    let other = ap (λ s. one_at s i) same in
-    absurd (omega arith))
+    let P : List ℕ → Type 0 = λ xs. Lists (sites g) (may_topple (λ j. get_or k j 0)) xs in (
+      turn_inside (sites g) (may_topple (λ j. get_or k j 0)) list (site ∷ []) turn i e l queue,
+      turn_high (sites g) (λ j. get_or k j 0) list (site ∷ []) turn i e l queue,
+      λ same.
+          let first = turn_of (sites g) (may_topple (λ j. get_or k j 0)) list (site ∷ []) turn i e l queue in
+          let few = at_most_once (sites g) (may_topple (λ j. get_or k j 0)) (i ∷ (drop (turn + 1) list ++ site ∷ [])) i first in
+          let head = tally-cons i (drop (turn + 1) list ++ site ∷ []) i in
+          let rest = tally-append (drop (turn + 1) list) (site ∷ []) i in
+          let last = tally-cons site [] i in
+          let one = one_at_same i in
+          let other = ap (λ s. one_at s i) same in
+          absurd (omega arith),
+    )
 
 -- its turn: it has toppled, and what it gave is in q and the longer list
 pub wave_goes_on : (g : Grid) (site i : ℕ) (c h u k list v q longer : List ℕ) (turn : ℕ) → length k ≡ sites g → i ≡ get_or list turn 0 → turn < length list → IsWave g site c h u k list turn → ((j : ℕ) → get_or v j 0 ≡ get_or u j 0 + 1 * one_at i j) → ((j : ℕ) → j < sites g → get_or q j 0 ≡ get_or (set k i (get_or k i 0 - 4)) j 0 + flow g (one_at i) j) → length list ≤ length longer → Lists (sites g) (may_topple (λ j. get_or q j 0)) ((site ∷ []) ++ drop (turn + 1) longer) → IsWave g site c h v q longer (turn + 1)

@@ -1,12 +1,10 @@
 //! Which way a pile is settled: by the queue, or by a guess that is certified.
 //!
-//! The queue is the plain way, and always right. It is fast where little topples. So it goes first, for about as many turns
-//! as a guess takes; most piles settle within them. Where they do not suffice, the odometer is guessed (`sand_guess`),
-//! of which nothing is claimed, and the guess is certified (`sand_certify`), which is a proof. Where that refuses, the
-//! queue settles the pile from nothing, in whatever time it takes. So a wrong guess costs time, never the answer.
-//!
-//! All room that the queue needs is there before the first toppling, for both of its attempts; a guess that is
-//! refused memory is a guess not made.
+//! The queue is the plain way, and always right. It is fast if little topples. So it goes first, for about as many turns
+//! as a guess takes, unless the pile is seen to be high (`sand_guess::is_high`): then the queue is given no turn. If the
+//! queue did not settle the pile, the odometer is guessed (`sand_guess::guessed`) and the guess is certified
+//! (`sand_certify`), which is a proof. If that is refused, the queue settles the pile from nothing, in whatever time it
+//! takes. Nothing is claimed of what `sand_guess` says: a wrong word of it costs time, never the answer.
 
 ghost use Rattle.std.specs.Prelude.{◌≡◌, ◌<◌, ◌≤◌, ◌*◌, ◌^◌, IfOk, IfSome, IsSome, replicate};
 ghost use Rattle.sand_model.specs.Grid.{sites};
@@ -15,7 +13,7 @@ ghost use Rattle.sand_settle.specs.Rests.{HasRoom, IsSettledRest};
 use crate::settling::{drain_within, list_unstable};
 use crate::site_list::SiteList;
 use sand_certify::certified;
-use sand_guess::{Claim, guessed};
+use sand_guess::{Claim, guessed, is_high};
 use sand_model::{Lattice, Pile};
 use std::alloc::{AllocError, Global};
 
@@ -34,7 +32,7 @@ pub(crate) struct Rest {
 
 impl Rest {
     /// The pile, with nothing toppled.
-    pub(crate) fn of(alloc: Global, pile: &Pile) -> Result<Rest, AllocError>
+    fn of(alloc: Global, pile: &Pile) -> Result<Rest, AllocError>
         ensures pile { IfOk result (λ r. r.heights.items ≡ pile.now.heights) }
         ensures untoppled { IfOk result (λ r. r.odometer.items ≡ replicate (sites pile.now.grid) 0) }
     {
@@ -46,7 +44,7 @@ impl Rest {
 
 /// A grid, and room for the queue on it.
 #[derive(Drop)]
-pub(crate) struct Queue {
+struct Queue {
     lattice: Lattice,
     toppled: SiteList,
     wave: SiteList,
@@ -54,7 +52,7 @@ pub(crate) struct Queue {
 }
 
 impl Queue {
-    pub(crate) fn new(alloc: Global, pile: &Pile) -> Result<Queue, AllocError>
+    fn new(alloc: Global, pile: &Pile) -> Result<Queue, AllocError>
         ensures { IfOk result (HasRoom pile.now.grid) }
     {
         let lattice = Lattice::new(alloc, pile.shape())?;
@@ -70,8 +68,8 @@ impl Queue {
         })
     }
 
-    /// Settles a pile, or answers None where as many sites as `turns` had their turn, or more, and others wait.
-    pub(crate) fn settle(&mut self, pile: &Pile, rest: Rest, turns: u64) -> Option<Rest>
+    /// Settles a pile, or returns None if as many sites as `turns` had their turn, or more, and others wait.
+    fn settle(&mut self, pile: &Pile, rest: Rest, turns: u64) -> Option<Rest>
         requires room { HasRoom pile.now.grid self.old }
         requires pile { rest.heights.items ≡ pile.now.heights }
         requires untoppled { rest.odometer.items ≡ replicate (sites pile.now.grid) 0 }
@@ -95,44 +93,51 @@ impl Queue {
     }
 }
 
-/// What a pile settles to, where a guess of the odometer was certified. Want of memory is no fault here, since the
-/// queue has its room already.
-pub(crate) fn settle_by_guess(alloc: Global, pile: &Pile) -> Option<Rest>
-    ensures { IfSome result (IsSettledRest pile.now) }
-{
-    let _ = pile.shape();
-    let Ok(Some(claim)) = guessed(alloc, pile) else {
-        return None;
-    };
-    let Claim { counts, turns } = claim;
-    let Ok(Some(heights)) = certified(alloc, pile, &counts, &turns) else {
-        return None;
-    };
-    Some(Rest {
-        heights,
-        odometer: counts,
-    })
-}
-
-/// Settles a pile by the queue where that takes few turns, else by a guess, and where that was wrong by the queue after all.
-pub(crate) fn settle_by_any(
+/// What a pile settles to by the queue, or None if as many sites as `turns` had their turn, or more, and others wait.
+pub(crate) fn settle_by_queue(
     alloc: Global,
     pile: &Pile,
-    queue: &mut Queue,
-    first: Rest,
-    again: Rest,
-) -> Rest
-    requires room { HasRoom pile.now.grid queue.old }
-    requires pile { (first.heights.items ≡ pile.now.heights) × (again.heights.items ≡ pile.now.heights) }
-    requires untoppled { (first.odometer.items ≡ replicate (sites pile.now.grid) 0) × (again.odometer.items ≡ replicate (sites pile.now.grid) 0) }
-    ensures { IsSettledRest pile.now result }
+    turns: u64,
+) -> Result<Option<Rest>, AllocError>
+    ensures settled { IfOk result (λ o. IfSome o (IsSettledRest pile.now)) }
+    ensures ends { 2 ^ 54 ≤ turns → IfOk result (λ o. IsSome o) }
 {
-    let turns = (pile.shape().sites() as u64) * TURNS_OF_A_GUESS;
-    if let Some(rest) = queue.settle(pile, first, turns) {
-        return rest;
+    let mut queue = Queue::new(alloc, pile)?;
+    let rest = Rest::of(alloc, pile)?;
+    Ok(queue.settle(pile, rest, turns))
+}
+
+/// What a pile settles to, if a guess of the odometer is made and certified.
+pub(crate) fn settle_by_guess(alloc: Global, pile: &Pile) -> Result<Option<Rest>, AllocError>
+    ensures { IfOk result (λ o. IfSome o (IsSettledRest pile.now)) }
+{
+    let _ = pile.shape();
+    let Some(claim) = guessed(alloc, pile)? else {
+        return Ok(None);
+    };
+    let Claim { counts, turns } = claim;
+    let Some(heights) = certified(alloc, pile, &counts, &turns)? else {
+        return Ok(None);
+    };
+    Ok(Some(Rest {
+        heights,
+        odometer: counts,
+    }))
+}
+
+/// What a pile settles to: by the queue if that takes few turns, else by a guess, and if that is wrong by the queue.
+pub(crate) fn settle_by_any(alloc: Global, pile: &Pile) -> Result<Rest, AllocError>
+    ensures { IfOk result (IsSettledRest pile.now) }
+{
+    if !is_high(pile) {
+        let turns = (pile.shape().sites() as u64) * TURNS_OF_A_GUESS;
+        if let Some(rest) = settle_by_queue(alloc, pile, turns)? {
+            return Ok(rest);
+        }
     }
-    if let Some(rest) = settle_by_guess(alloc, pile) {
-        return rest;
+    if let Some(rest) = settle_by_guess(alloc, pile)? {
+        return Ok(rest);
     }
-    queue.settle(pile, again, u64::MAX).unwrap()
+    let rest = settle_by_queue(alloc, pile, u64::MAX)?;
+    Ok(rest.unwrap())
 }

@@ -19,7 +19,7 @@ ghost use Rattle.sand_settle.specs.Settling.{IsRecord};
 ghost use Rattle.sand_settle.specs.Lists.{may_topple, has_toppled};
 ghost use Rattle.sand_settle.specs.Underway.{Advances};
 
-use crate::choice::{Queue, Rest, settle_by_any};
+use crate::choice::{Rest, settle_by_any};
 use crate::faults::SettleFault;
 use crate::settled::Settled;
 use crate::site_list::SiteList;
@@ -208,17 +208,13 @@ fn record_of(pile: &Pile, heights: Vec<u64>, odometer: Vec<u64>) -> Settled
     }
 }
 
-/// The settled record of a pile: its settled pile, its least odometer, the grains lost and the topplings. Refuses want
-/// of memory alone, and finds it before the first toppling.
+/// The settled record of a pile: its settled pile, its least odometer, the grains lost and the topplings. It is refused
+/// only if an allocation fails, and then with Memory; the pile is as it was.
 pub fn settle(alloc: Global, pile: &Pile) -> Result<Settled, SettleFault>
     ensures record { IfOk result (λ r. IsRecord pile.now.grid (height_of pile.now) r) }
     ensures half { IfOk result (λ r. 2 * r.topplings ≤ weight pile.now.grid (height_of pile.now)) }
     ensures bound { IfOk result (λ r. r.topplings < 2 ^ 54) }
 {
-    let mut queue = Queue::new(alloc, pile)?;
-    let first = Rest::of(alloc, pile)?;
-    let again = Rest::of(alloc, pile)?;
-    let rest = settle_by_any(alloc, pile, &mut queue, first, again);
-    let Rest { heights, odometer } = rest;
+    let Rest { heights, odometer } = settle_by_any(alloc, pile)?;
     Ok(record_of(pile, heights, odometer))
 }

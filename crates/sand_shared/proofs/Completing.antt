@@ -7,61 +7,27 @@ use Rattle.sand_model.specs.declared.pile.TheConstants.{GRAIN_LIMIT}
 use Rattle.sand_model.specs.Grid.{Grid, sites}
 use Rattle.sand_model.specs.Sand.{IsSettled, IsUnderway, IsToppled, flow, total, grains, tally}
 use Rattle.sand_model.specs.Piles.{PileView, height_of}
-use Rattle.sand_model.proofs.Flow.{flow-add}
 use Rattle.sand_model.proofs.Totals.{total_same, total-add}
 use Rattle.sand_model.proofs.Tallies.{total-tally}
 use Rattle.sand_model.proofs.Heights.{sum_is_grains}
 use Rattle.sand_model.proofs.Bounds.{topplings_bound}
-use Rattle.sand_model.proofs.Sandpile.{flow_rest, laplacian_sum, settled_same}
+use Rattle.sand_model.proofs.Sandpile.{laplacian_sum, settles_after, settled_same}
 use Rattle.sand_settle.specs.Settling.{SettledView, IsRecord, odometer_of}
 use Rattle.sand_shared.specs.declared.view.View.{View}
 use Rattle.sand_shared.specs.declared.view.Terms.{Terms}
 use Rattle.sand_shared.specs.OpenPile.{grid_of, dropped, poured, toppled_by}
 use Rattle.sand_shared.specs.Events.{look}
-use Rattle.sand_shared.specs.Passes.{PassView, SharedView, at_rest, AllBelow, IsPass, IsPassOf, IsWhole}
+use Rattle.sand_shared.specs.Passes.{PassView, SharedView, at_rest, IsPass, IsWhole}
 use Rattle.sand_shared.specs.Rows.{count_of}
 use Rattle.sand_shared.specs.Record.{Tells}
 use Rattle.sand_shared.specs.Running.{Stands, Happened}
 use Rattle.sand_shared.specs.Sweeps.{HasAll, IsRestOf, laid}
 use Rattle.sand_shared.proofs.Amounts.{toppled_from}
-use Rattle.sand_shared.proofs.Ending.{has_all, drawn_is, seen_is}
+use Rattle.sand_shared.proofs.Ending.{HasGathered, has_all, drawn_is, seen_is}
 use Rattle.sand_shared.proofs.Told.{known_is}
 use Rattle.sand_shared.proofs.Knowing.{its_drops, stands_sparing, looked_at_most, looked_at_least}
 use Rattle.sand_shared.proofs.Recording.{LeadsTo}
-use Rattle.sand_shared.proofs.Wholes.{whole_base, swept_has_all}
-
--- what settles where others left off, settles all
-pub settles_after : (g : Grid) (s u h v t : ℕ → ℕ) → IsUnderway g s u h → IsSettled g h v t → IsSettled g s (λ i. u i + v i) t
-settles_after g s u h v t first second = record {
-  toppled = record {
-    balance = λ i l.
-        let one = first.toppled.balance i l in
-        let two = second.toppled.balance i l in
-        let both = flow-add g u v i in
-        omega arith;
-  };
-  odometer = record {
-    stabilises = record {
-      at_most_three = λ i l.
-          let one = first.toppled.balance i l in
-          let two = second.odometer.stabilises.at_most_three i l in
-          let both = flow-add g u v i in
-          omega arith;
-    };
-    least = λ w stable i l.
-        let start = first.bounded w stable in
-        let rest : v i ≤ w i - u i = second.odometer.least (λ j. w j - u j) (record {
-          at_most_three = λ j m.
-              let e = stable.at_most_three j m in
-              let one = first.toppled.balance j m in
-              let split = flow_rest g u w start j m in
-              let le = start j m in
-              omega arith;
-        }) i l in
-        let le = start i l in
-        omega arith;
-  };
-}
+use Rattle.sand_shared.proofs.Wholes.{whole_base, whole_counts, swept_has_all}
 
 total_above : (n : ℕ) (f : ℕ → ℕ) (i : ℕ) → i < n → f i ≤ total n f
 unfolding total
@@ -101,17 +67,23 @@ module _ (t : Terms) (a : ℕ) (v : View) (s : Stands t a v) (all : HasAll t v) 
   pub is_underway : v.base + length v.counts ≤ sites (grid_of t) → (h : ℕ → ℕ) → IsToppled (grid_of t) (laid t v) (toppled_by v) h → IsUnderway (grid_of t) (laid t v) (toppled_by v) h
   is_underway fits h toppled = record { toppled = toppled; bounded = (stands_sparing t a v s all fits).needed }
 
--- a whole pass stands, and the rest of its pile is settled
+-- a pass that has gathered all stands, and the rest of its pile is settled
 pub record IsCompletedBy (t : Terms) (p : PassView) (r : SettledView) (a : ℕ) (v : View) : Type 0 where
   pub stands : Stands t a v
   pub me : v ≡ record (at_rest p) { spot = v.spot; least = v.least }
-  pub grid : p.grid ≡ grid_of t
-  pub one_each : length p.counts ≡ count_of p.rows * p.grid.width
-  pub whole : IsWhole t p
+  pub all : HasGathered t p
   pub rest : IsRestOf t p r
-  pub below : AllBelow p.seen p.receipts
 
-module _ (t : Terms) (p : PassView) (r : SettledView) (a : ℕ) (v : View) (b : IsCompletedBy t p r a v) where
+pub completed_by : {w w' : SharedView} {p p' : PassView} {r : SettledView} {seat : Seat ℕ View} {room a : ℕ} {v : View} → w ≡ w' → p ≡ p' → HasGathered w.terms p → IsPass seat p room → IsRestOf w'.terms p' r → v ≡ seat.me.0
+    → Stands w.terms a v → IsCompletedBy w.terms p r a v
+completed_by {r = r} {v = v} pile_is pass_is all inv rest kept stands = record {
+  stands = stands;
+  me = known_is v _ (kept ∙ (λ i. (inv.me i).0));
+  all = all;
+  rest = subst (λ (z : SharedView × PassView). IsRestOf z.0.terms z.1 r) (λ i. (sym pile_is i, sym pass_is i)) rest;
+}
+
+module _ {t : Terms} {p : PassView} {r : SettledView} {a : ℕ} {v : View} (b : IsCompletedBy t p r a v) where
   resting : View
   resting = record (at_rest p) { spot = v.spot; least = v.least }
 
@@ -121,11 +93,11 @@ module _ (t : Terms) (p : PassView) (r : SettledView) (a : ℕ) (v : View) (b : 
 
   all_resting : HasAll t resting
   unfolding resting
-  all_resting = swept_has_all t p b.grid b.one_each b.whole p.counts v.spot v.least refl
+  all_resting = swept_has_all t p b.all.grid b.all.one_each b.all.whole p.counts v.spot v.least refl
 
   pub completed_seen : p.seen ≡ length p.receipts
   unfolding resting
-  completed_seen = seen_is t a resting stands_resting all_resting b.below
+  completed_seen = seen_is t a resting stands_resting all_resting b.all.below
 
   pub completed_small : (i : ℕ) → i < sites (grid_of t) → slice_index p.counts i + odometer_of r i < 2 ^ 54
   unfolding resting
@@ -135,26 +107,27 @@ module _ (t : Terms) (p : PassView) (r : SettledView) (a : ℕ) (v : View) (b : 
       let bound = topplings_bound g (laid t (at_rest p)) (λ j. slice_index p.counts j + odometer_of r j) (height_of r.pile) stands_resting.terms.pile.grid few b.rest.settled.toppled in
       let le = total_above (sites g) (λ j. slice_index p.counts j + odometer_of r j) i l in omega arith
 
-  pub completed_leads : (history sums : List ℕ) → length history ≡ length p.receipts → Tells p.receipts history → length sums ≡ sites (grid_of t)
-      → ((i : ℕ) → i < sites (grid_of t) → slice_index sums i ≡ slice_index p.counts i + odometer_of r i) → LeadsTo t.start history r.pile.heights sums
+  pub completed_leads : (history sums heights odometers : List ℕ) → length history ≡ length p.receipts → Tells p.receipts history → heights ≡ r.pile.heights → odometers ≡ r.odometer → length sums ≡ length p.counts
+      → ((i : ℕ) → i < length odometers → slice_index sums i ≡ slice_index p.counts i + slice_index odometers i) → LeadsTo t.start history heights sums
   unfolding resting
-  completed_leads history sums long told each added =
+  completed_leads history sums heights odometers long told heights_are odometers_are each added =
       let g = grid_of t in
       let s = stands_resting in
       let drawn = drawn_is t a resting s all_resting history long told in
       let same = ap (λ (l : List ℕ). length l) drawn in
       let quota = s.lawful.quota in
       let limit = s.terms.limit in
+      let one_each = ap (λ (l : List ℕ). length l) odometers_are ∙ b.rest.odometer_each in
       record {
         pile = s.terms.pile;
         all_sites = subst (All (λ i. i < sites g)) (sym drawn) s.lawful.all_sites;
         limit = omega arith;
-        heights_each = b.rest.heights_each;
-        odometer_each = each;
-        settled = settled_same g (laid t (at_rest p)) (λ i. height_of t.start i + tally history i) (λ i. slice_index p.counts i + odometer_of r i) (slice_index sums) (height_of r.pile) (slice_index r.pile.heights)
+        heights_each = ap (λ (l : List ℕ). length l) heights_are ∙ b.rest.heights_each;
+        odometer_each = each ∙ whole_counts t p b.all.grid b.all.one_each b.all.whole;
+        settled = settled_same g (laid t (at_rest p)) (λ i. height_of t.start i + tally history i) (λ i. slice_index p.counts i + odometer_of r i) (slice_index sums) (height_of r.pile) (slice_index heights)
             (λ i l. let d = its_all t a resting s all_resting i in let e = ap (λ (h : List ℕ). tally h i) drawn in omega arith)
-            (λ i l. sym (added i l))
-            (λ i l. refl)
+            (λ i l. sym (added i (omega arith) ∙ ap (λ (l : List ℕ). slice_index p.counts i + slice_index l i) odometers_are))
+            (λ i l. ap (λ (l : List ℕ). slice_index l i) (sym heights_are))
             b.rest.settled;
       }
 
@@ -172,16 +145,4 @@ rest_of t p q r same under settled = record {
   heights_each = settled.heights_each ∙ ap sites same;
   odometer_each = settled.odometer_each ∙ ap sites same;
   settled = settles_after (grid_of t) (laid t (at_rest p)) (slice_index p.counts) (height_of q) (odometer_of r) (height_of r.pile) under (subst (λ (g : Grid). IsSettled g (height_of q) (odometer_of r) (height_of r.pile)) same settled.settled);
-}
-
-pub completed_by : (w w' : SharedView) (p p' : PassView) (r : SettledView) (seat : Seat ℕ View) (room a : ℕ) (v : View) → w ≡ w' → p ≡ p' → IsPass seat p room → IsPassOf w' p' → IsWhole w'.terms p' → IsRestOf w'.terms p' r
-    → v ≡ seat.me.0 → Stands w.terms a v → IsCompletedBy w.terms p r a v
-completed_by w w' p p' r seat room a v self_is pass_is inv of_pile whole rest is stands = record {
-  stands = stands;
-  me = known_is v _ (is ∙ (λ i. (inv.me i).0));
-  grid = ap (λ (q : PassView). q.grid) pass_is ∙ of_pile.grid ∙ sym (ap (λ (z : SharedView). grid_of z.terms) self_is);
-  one_each = inv.one_each;
-  whole = subst (λ (z : SharedView × PassView). IsWhole z.0.terms z.1) (λ i. (sym self_is i, sym pass_is i)) whole;
-  rest = subst (λ (z : SharedView × PassView). IsRestOf z.0.terms z.1 r) (λ i. (sym self_is i, sym pass_is i)) rest;
-  below = inv.below;
 }

@@ -1,6 +1,6 @@
 -- A pass draws a number for a grain, and grains in hand come to lie on their site: the pile stays lawful.
 use Rattle.std.proofs.Common.{◌≡◌, ℕ, zero, suc, ◌+◌, ◌<◌, List, [], ◌∷◌, ◌++◌, Some, eqb, ltb, length, refl, ap, ◌∙◌, arith, length-append}
-use Rattle.std.specs.Prelude.{slice_get}
+use Rattle.std.specs.Prelude.{slice_get, count_by}
 use Rattle.std.proofs.lemmas.Bool.Decides.{nat_tests}
 use Rattle.std.proofs.lemmas.List.Sums.{sum_by-set, sum_by_push}
 use Rattle.std.proofs.lemmas.List.Elements.{All-append, All-cons, All-nil}
@@ -11,9 +11,10 @@ use Rattle.sand_shared.specs.declared.view.View.{View}
 use Rattle.sand_shared.specs.declared.view.Receipt.{Receipt}
 use Rattle.sand_shared.specs.declared.view.Terms.{Terms}
 use Rattle.sand_shared.specs.OpenPile.{OpenPile, nobody, grid_of, amount_at, numbered, dropped, held, holds_site, toppled_by, toppled, poured, present, pass_at, IsLawfulPass, IsLawful}
-use Rattle.sand_shared.specs.Events.{draw, place, deliver, drew, laid_down, receipt, grains, behind_first, arrived, May, after}
+use Rattle.sand_shared.specs.Events.{draw, place, deliver, drew, laid_down, receipt, grains, are_for, without, arrived, May, after}
 use Rattle.sand_shared.proofs.Sums.{sum_by_kept, all_after}
-use Rattle.sand_shared.proofs.Amounts.{held-cons, held-append}
+use Rattle.sand_shared.proofs.Amounts.{held-append}
+use Rattle.sand_shared.proofs.Hands.{held-without}
 use Rattle.sand_shared.proofs.Balance.{balance_kept, stabilises_fewer}
 
 once_more : (x n : ℕ) → one_if (ltb x n) + one_if (eqb n x) ≡ one_if (ltb x (n + 1))
@@ -82,14 +83,14 @@ module _ (t : Terms) (p : OpenPile) (a i : ℕ) (r : IsLawful t p) (may : May t 
       }
 
 -- k grains in hand come to lie on the site i
-module _ (t : Terms) (p : OpenPile) (a i k : ℕ) (r : IsLawful t p) (there : a < length p.passes) (first : (pass_at p a).hand ≡ grains i k ∷ behind_first (pass_at p a).hand) where
-  taken : (j : ℕ) → held (pass_at p a).hand j ≡ amount_at i k j + held (behind_first (pass_at p a).hand) j
-  taken j = ap (λ hand. held hand j) first ∙ held-cons (grains i k) (behind_first (pass_at p a).hand) j
+module _ (t : Terms) (p : OpenPile) (a i k : ℕ) (r : IsLawful t p) (there : a < length p.passes) (in_hand : 0 < count_by (are_for i k) (pass_at p a).hand) where
+  taken : (j : ℕ) → held (pass_at p a).hand j ≡ amount_at i k j + held (without i k (pass_at p a).hand) j
+  taken j = held-without i k (pass_at p a).hand j in_hand
 
   pub arrived_keeps : IsLawful t (arrived p a i k)
   arrived_keeps =
       let v = pass_at p a in
-      let w = laid_down v in
+      let w = laid_down v i k in
       let q = arrived p a i k in
       let kept = λ (f : View → ℕ) (e : f w ≡ f v). sum_by_kept f p.passes a w nobody there e in
       let still = λ (j : ℕ). kept (λ u. toppled_by u j) refl in
@@ -110,7 +111,7 @@ module _ (t : Terms) (p : OpenPile) (a i k : ℕ) (r : IsLawful t p) (there : a 
       }
 
 pub place_keeps : (t : Terms) (p : OpenPile) (a i : ℕ) → IsLawful t p → May t p (place a i) → IsLawful t (after t p (place a i))
-place_keeps t p a i r may = arrived_keeps t p a i 1 r may.there may.first
+place_keeps t p a i r may = arrived_keeps t p a i 1 r may.there may.in_hand
 
 pub deliver_keeps : (t : Terms) (p : OpenPile) (a i k : ℕ) → IsLawful t p → May t p (deliver a i k) → IsLawful t (after t p (deliver a i k))
-deliver_keeps t p a i k r may = arrived_keeps t p a i k r may.there may.first
+deliver_keeps t p a i k r may = arrived_keeps t p a i k r may.there may.in_hand

@@ -2,19 +2,23 @@
 -- the settled pile of the start and all drops, and the pass's counts are the least odometer.
 use Rattle.std.proofs.Common.{◌≡◌, ℕ, ◌+◌, ◌-◌, ◌*◌, ◌<◌, List, [], All, length, sym, refl, ap, ◌∙◌, subst, arith}
 use Rattle.std.specs.Prelude.{slice_index, nat_lt}
+use Rattle.atomic_table.specs.declared.shared.Seat.{Seat}
+use Rattle.atomic_table.specs.Table.{Me}
 use Rattle.sand_model.specs.Grid.{sites}
 use Rattle.sand_model.specs.Sand.{IsSettled, tally}
 use Rattle.sand_model.specs.Piles.{height_of}
 use Rattle.sand_model.specs.Lists.{one_if}
 use Rattle.sand_model.proofs.Flow.{flow_same}
 use Rattle.sand_shared.specs.declared.view.View.{View}
+use Rattle.sand_shared.specs.declared.view.Receipt.{Receipt}
 use Rattle.sand_shared.specs.declared.view.Terms.{Terms}
 use Rattle.sand_shared.specs.OpenPile.{nobody, grid_of, numbered, dropped, toppled_by, toppled, poured, pass_at}
-use Rattle.sand_shared.specs.Passes.{PassView, AllBelow, IsWhole, at_rest}
+use Rattle.sand_shared.specs.Passes.{PassView, SharedView, AllBelow, IsPass, IsPassOf, IsWhole, at_rest}
+use Rattle.sand_shared.specs.Events.{looked}
 use Rattle.sand_shared.specs.Rows.{count_of}
 use Rattle.sand_shared.specs.Record.{RecordView, Tells, IsLast, EndsAt}
 use Rattle.sand_shared.specs.Running.{Stands}
-use Rattle.sand_shared.specs.Sweeps.{HasAll, IsCalm}
+use Rattle.sand_shared.specs.Sweeps.{HasAll, IsCalm, with_counts}
 use Rattle.sand_shared.proofs.Sums.{sum_by_only}
 use Rattle.sand_shared.proofs.Amounts.{toppled_from}
 use Rattle.sand_shared.proofs.Knowing.{no_receipts, its_drops, its_topplings, nothing_held}
@@ -73,7 +77,7 @@ module _ (t : Terms) (a : ℕ) (v : View) (heights : List ℕ) (last : IsLast t 
               balance = λ i l.
                   let b = s.lawful.balance.balance i l in
                   let none = nothing_held t p s.lawful a s.there (has_all t a v last.stands all) (ap (λ (u : View). u.hand) s.pass ∙ free) i l in
-                  let here = (toppled_is t a v last.stands all base) i l in
+                  let here = toppled_is t a v last.stands all base i l in
                   let around = flow_same g (toppled p) (slice_index v.counts) (toppled_is t a v last.stands all base) i l in
                   let height = last.each_height i l in omega arith;
             };
@@ -83,12 +87,12 @@ module _ (t : Terms) (a : ℕ) (v : View) (heights : List ℕ) (last : IsLast t 
                     let low = calm i l in
                     let drops = its_drops t p s.lawful a s.there (has_all t a v last.stands all) i in
                     let same = ap (λ (u : View). dropped u.receipts i) s.pass in
-                    let here = (toppled_is t a v last.stands all base) i l in
+                    let here = toppled_is t a v last.stands all base i l in
                     let mine = own i l in
                     let around = flow_same g (toppled p) (slice_index v.counts) (toppled_is t a v last.stands all base) i l in
                     let around' = flow_same g (toppled p) (toppled_by v) own i l in omega arith;
               };
-              least = λ w stab i l. (let n = s.lawful.needed w stab i l in let here = (toppled_is t a v last.stands all base) i l in omega arith);
+              least = λ w stab i l. (let n = s.lawful.needed w stab i l in let here = toppled_is t a v last.stands all base i l in omega arith);
             };
           }
 
@@ -108,18 +112,45 @@ module _ (t : Terms) (a : ℕ) (v : View) (heights : List ℕ) (last : IsLast t 
             settled = subst (λ (l : List ℕ). IsSettled (grid_of t) (λ i. height_of t.start i + tally l i) (slice_index v.counts) (slice_index heights)) (sym drawn) settles;
           }
 
--- a whole pass has swept until nothing toppled, and the table was closed with its seat
-pub record IsClosedBy (t : Terms) (p : PassView) (counts heights : List ℕ) (a : ℕ) (v : View) : Type 0 where
-  pub last : IsLast t a v heights
-  pub me : v ≡ record (at_rest p) { counts = counts; spot = v.spot; least = v.least }
+-- a pass that has gathered all, as its own fields have it
+pub record HasGathered (t : Terms) (p : PassView) : Type 0 where
   pub grid : p.grid ≡ grid_of t
   pub one_each : length p.counts ≡ count_of p.rows * p.grid.width
   pub whole : IsWhole t p
-  pub same_rows : length counts ≡ length p.counts
-  pub calm : IsCalm t (record (at_rest p) { counts = counts })
   pub below : AllBelow p.seen p.receipts
 
-module _ (t : Terms) (p : PassView) (counts heights : List ℕ) (a : ℕ) (v : View) (b : IsClosedBy t p counts heights a v) where
+pub gathered : {w w' : SharedView} {p p' : PassView} {seat : Seat ℕ View} {room : ℕ} → w ≡ w' → p ≡ p' → IsPass seat p room → IsPassOf w' p' → IsWhole w'.terms p' → HasGathered w.terms p
+gathered pile_is pass_is inv of_pile whole = record {
+  grid = ap (λ (q : PassView). q.grid) pass_is ∙ of_pile.grid ∙ sym (ap (λ (z : SharedView). grid_of z.terms) pile_is);
+  one_each = inv.one_each;
+  whole = subst (λ (z : SharedView × PassView). IsWhole z.0.terms z.1) (λ i. (sym pile_is i, sym pass_is i)) whole;
+  below = inv.below;
+}
+
+-- the history has a place for each receipt
+pub numbers_inside : {receipts listed : List Receipt} {seen : ℕ} (history : List ℕ) → listed ≡ receipts → AllBelow seen receipts → seen ≡ length receipts → length history ≡ length receipts → All (λ r. r.number < length history) listed
+numbers_inside history same below seen long =
+    subst (All (λ (r : Receipt). r.number < length history)) (sym same) (λ k d l. let b = below k d l in omega arith)
+
+-- it has swept until nothing toppled, and the table was closed with its seat
+pub record IsClosedBy (t : Terms) (p : PassView) (counts heights : List ℕ) (a : ℕ) (v : View) : Type 0 where
+  pub last : IsLast t a v heights
+  pub me : v ≡ record (at_rest p) { counts = counts; spot = v.spot; least = v.least }
+  pub all : HasGathered t p
+  pub same_rows : length counts ≡ length p.counts
+  pub calm : IsCalm t (record (at_rest p) { counts = counts })
+
+pub closed_by : {t : Terms} {p : PassView} {seat : Seat ℕ View} {room a : ℕ} {v : View} {counts heights : List ℕ} → HasGathered t p → IsPass seat p room → IsLast t a v heights
+    → v ≡ record (looked seat.me.0 v.spot v.least) { counts = counts } → length counts ≡ length p.counts → IsCalm t (with_counts seat.me.0 counts) → IsClosedBy t p counts heights a v
+closed_by {t = t} {v = v} {counts = counts} all inv last swept long calm = record {
+  last = last;
+  me = swept ∙ (λ i. record (looked (inv.me i).0 v.spot v.least) { counts = counts });
+  all = all;
+  same_rows = long;
+  calm = subst (λ (m : Me ℕ View). IsCalm t (with_counts m.0 counts)) inv.me calm;
+}
+
+module _ {t : Terms} {p : PassView} {counts heights : List ℕ} {a : ℕ} {v : View} (b : IsClosedBy t p counts heights a v) where
   swept : View
   swept = record (at_rest p) { counts = counts; spot = v.spot; least = v.least }
 
@@ -129,15 +160,16 @@ module _ (t : Terms) (p : PassView) (counts heights : List ℕ) (a : ℕ) (v : V
 
   all_swept : HasAll t swept
   unfolding swept
-  all_swept = swept_has_all t p b.grid b.one_each b.whole counts v.spot v.least b.same_rows
+  all_swept = swept_has_all t p b.all.grid b.all.one_each b.all.whole counts v.spot v.least b.same_rows
 
   pub closed_seen : p.seen ≡ length p.receipts
   unfolding swept
-  closed_seen = seen_is t a swept last_swept.stands all_swept b.below
+  closed_seen = seen_is t a swept last_swept.stands all_swept b.all.below
 
   pub closed_leads : (history : List ℕ) → length history ≡ length p.receipts → Tells p.receipts history → LeadsTo t.start history heights counts
   unfolding swept
-  closed_leads history long told = leads t a swept heights last_swept all_swept (whole_base t p b.grid b.one_each b.whole) refl b.calm history (b.same_rows ∙ whole_counts t p b.grid b.one_each b.whole) long told
+  closed_leads history long told =
+      leads t a swept heights last_swept all_swept (whole_base t p b.all.grid b.all.one_each b.all.whole) refl b.calm history (b.same_rows ∙ whole_counts t p b.all.grid b.all.one_each b.all.whole) long told
 
   pub closed_ends : (r : RecordView) → length r.history ≡ length p.receipts → Tells p.receipts r.history → r.settled.pile.heights ≡ heights → r.settled.odometer ≡ counts → EndsAt t r
   unfolding swept
@@ -146,5 +178,5 @@ module _ (t : Terms) (p : PassView) (counts heights : List ℕ) (a : ℕ) (v : V
     lawful = last_swept.stands.lawful;
     drawn = sym (drawn_is t a swept last_swept.stands all_swept r.history long told);
     heights = λ i l. sym (last_swept.each_height i l) ∙ ap (λ (l : List ℕ). slice_index l i) (sym heights_are);
-    toppled_so = λ i l. toppled_is t a swept last_swept.stands all_swept (whole_base t p b.grid b.one_each b.whole) i l ∙ ap (λ (l : List ℕ). slice_index l i) (sym odometer_is);
+    toppled_so = λ i l. toppled_is t a swept last_swept.stands all_swept (whole_base t p b.all.grid b.all.one_each b.all.whole) i l ∙ ap (λ (l : List ℕ). slice_index l i) (sym odometer_is);
   }

@@ -1,5 +1,6 @@
 pub mod Sums
 pub mod Amounts
+pub mod Hands
 pub mod Balance
 pub mod Reading
 pub mod Dropping
@@ -14,6 +15,7 @@ pub mod Moments
 pub mod RowSites
 pub mod Told
 pub mod Receipts
+pub mod Counting
 pub mod InARow
 pub mod Cutting
 pub mod Gathering

@@ -1,6 +1,6 @@
 -- Each step of a call may be taken at any moment: it is an event that may happen then.
 use Rattle.std.proofs.Common.{◌≡◌, ℕ, zero, suc, ◌+◌, ◌-◌, ◌*◌, ◌%◌, ◌^◌, ◌<◌, ◌≤◌, List, [], ◌∷◌, ◌++◌, true, length, set, get_or, sym, refl, ap, ◌∙◌, subst, arith}
-use Rattle.std.specs.Prelude.{slice_index, ◌||◌}
+use Rattle.std.specs.Prelude.{slice_index, count_by, ◌||◌}
 use mathlib.Core.Option.{some, some-injective, some-ne-none}
 use lib.ListN.{get_elem?}
 use lib.Seq.{set-get_or}
@@ -11,7 +11,7 @@ use Rattle.sand_model.specs.Grid.{sites}
 use Rattle.sand_shared.specs.declared.view.View.{View}
 use Rattle.sand_shared.specs.declared.view.Terms.{Terms}
 use Rattle.sand_shared.specs.OpenPile.{OpenPile, nobody, grid_of, holds_site, pass_at, AreTerms, IsLawful}
-use Rattle.sand_shared.specs.Events.{Event, begin, draw, place, count, split, join, look, unload, deliver, grains, behind_first, counted, looked, parent, child, joined, follows, first_pass, unopened, May, after, after_all}
+use Rattle.sand_shared.specs.Events.{Event, begin, draw, count, split, join, look, unload, deliver, are_for, counted, looked, parent, child, joined, follows, first_pass, unopened, May, after, after_all}
 use Rattle.sand_shared.specs.Record.{IsLast}
 use Rattle.sand_shared.specs.Running.{Shows, IsRunning, Happened, actor, found, Takes, Learns}
 use Rattle.sand_shared.proofs.Lawfulness.{always_lawful, after_all-push, happen_push}
@@ -85,17 +85,11 @@ counts t a slots m st = takes t (count a) slots m 1 (λ n. n) st
     (λ p r there is. there)
     (λ p s terms r may h. (h.number, shows_load t p s 1 a (counted (pass_at p a) (length p.drawn)) h may))
 
-pub places : (t : Terms) (a i slots : ℕ) (m : Me ℕ View) (st : Step ℕ) → i < sites (grid_of t) → m.0.hand ≡ grains i 1 ∷ behind_first m.0.hand
-    → Allows (IsRunning t) slots a m (i + 2) (λ n. (n + 1) % 2 ^ 64) (Takes t (place a i) st m)
-places t a i slots m st inside first = takes t (place a i) slots m (i + 2) (λ n. (n + 1) % 2 ^ 64) st
-    (λ p r there is. record { there = there; first = subst (λ (v : View). v.hand ≡ grains i 1 ∷ behind_first v.hand) (sym is) first; inside = inside })
-    (λ p s terms r may h. (h.heights i inside, shows_arrived t p s a i 1 terms r may.there may.first may.inside h))
-
-pub delivers : (t : Terms) (a i k slots : ℕ) (m : Me ℕ View) (st : Step ℕ) → i < sites (grid_of t) → m.0.hand ≡ grains i k ∷ behind_first m.0.hand
+pub delivers : (t : Terms) (a i k slots : ℕ) (m : Me ℕ View) (st : Step ℕ) → i < sites (grid_of t) → 0 < count_by (are_for i k) m.0.hand
     → Allows (IsRunning t) slots a m (i + 2) (λ n. (n + k) % 2 ^ 64) (Takes t (deliver a i k) st m)
-delivers t a i k slots m st inside first = takes t (deliver a i k) slots m (i + 2) (λ n. (n + k) % 2 ^ 64) st
-    (λ p r there is. record { there = there; first = subst (λ (v : View). v.hand ≡ grains i k ∷ behind_first v.hand) (sym is) first; inside = inside })
-    (λ p s terms r may h. (h.heights i inside, shows_arrived t p s a i k terms r may.there may.first may.inside h))
+delivers t a i k slots m st inside in_hand = takes t (deliver a i k) slots m (i + 2) (λ n. (n + k) % 2 ^ 64) st
+    (λ p r there is. record { there = there; in_hand = subst (λ (v : View). 0 < count_by (are_for i k) v.hand) (sym is) in_hand; inside = inside })
+    (λ p s terms r may h. (h.heights i inside, shows_arrived t p s a i k terms r may.there may.in_hand may.inside h))
 
 pub looks : (t : Terms) (a i slots : ℕ) (m : Me ℕ View) (st : Step ℕ) → i < sites (grid_of t) → holds_site m.0 i ≡ true
     → Allows (IsRunning t) slots a m (i + 2) (λ n. n) (Takes t (look a i) st m)

@@ -1,6 +1,6 @@
 -- What the words and the views show after a step on one word: the open pile after the event.
 use Rattle.std.proofs.Common.{◌≡◌, ℕ, ◌+◌, ◌-◌, ◌*◌, ◌%◌, ◌^◌, ◌<◌, ◌≢◌, List, [], ◌∷◌, length, set, get_or, sym, refl, ap, ◌∙◌, ⊎_elim, arith, mod-eq_of_lt, length-append}
-use Rattle.std.specs.Prelude.{slice_index}
+use Rattle.std.specs.Prelude.{slice_index, count_by}
 use Rattle.std.proofs.Math.Nat.{add-mod_right}
 use Rattle.std.proofs.lemmas.Bool.{cases_eq}
 use Rattle.std.proofs.lemmas.List.{get_or-set_same, get_or-set_other, length-set}
@@ -10,10 +10,11 @@ use Rattle.atomic_table.specs.Table.{State}
 use Rattle.sand_model.specs.Grid.{sites}
 use Rattle.sand_shared.specs.declared.view.View.{View}
 use Rattle.sand_shared.specs.declared.view.Terms.{Terms}
-use Rattle.sand_shared.specs.OpenPile.{OpenPile, nobody, grid_of, amount_at, held, pass_at, AreTerms, IsLawful}
-use Rattle.sand_shared.specs.Events.{draw, unload, grains, behind_first, drew, laid_down, unloaded, arrived, with_pass, May, after}
+use Rattle.sand_shared.specs.OpenPile.{OpenPile, nobody, grid_of, held, pass_at, AreTerms, IsLawful}
+use Rattle.sand_shared.specs.Events.{draw, unload, are_for, drew, laid_down, unloaded, arrived, with_pass, May, after}
 use Rattle.sand_shared.specs.Running.{Shows}
-use Rattle.sand_shared.proofs.Amounts.{amount_here, amount_else, held-cons}
+use Rattle.sand_shared.proofs.Amounts.{amount_here, amount_else}
+use Rattle.sand_shared.proofs.Hands.{held-without}
 use Rattle.sand_shared.proofs.Lawfulness.{few_present}
 
 -- the state after a step of the seat a on a word
@@ -67,9 +68,9 @@ height_shown t p q s i x inside h here others j l = let wide = h.wide in ⊎_eli
     (cases_eq i j)
 
 -- grains that lie down on a site are added to its word
-pub shows_arrived : (t : Terms) (p : OpenPile) (s : State ℕ View) (a i k : ℕ) → AreTerms t → IsLawful t p → a < length p.passes → (pass_at p a).hand ≡ grains i k ∷ behind_first (pass_at p a).hand → i < sites (grid_of t) → Shows t p s
+pub shows_arrived : (t : Terms) (p : OpenPile) (s : State ℕ View) (a i k : ℕ) → AreTerms t → IsLawful t p → a < length p.passes → 0 < count_by (are_for i k) (pass_at p a).hand → i < sites (grid_of t) → Shows t p s
     → Shows t (arrived p a i k) (stepped_to s (i + 2) ((slice_index s.words (i + 2) + k) % 2 ^ 64) a (pass_at (arrived p a i k) a))
-shows_arrived t p s a i k terms r there first inside h =
+shows_arrived t p s a i k terms r there in_hand inside h =
     let n = slice_index s.words (i + 2) in
     let is = h.heights i inside in
     let q = arrived p a i k in
@@ -78,14 +79,14 @@ shows_arrived t p s a i k terms r there first inside h =
     let limit = terms.limit in
     let few = few_present t p terms r i inside in
     let mine = get_or-le-sum_by (λ (u : View). held u.hand i) p.passes a nobody there in
-    let hand : held v.hand i ≡ amount_at i k i + held (behind_first v.hand) i = ap (λ gs. held gs i) first ∙ held-cons (grains i k) (behind_first v.hand) i in
+    let hand = held-without i k v.hand i in_hand in
     let here = amount_here i k i refl in
     let next : (n + k) % 2 ^ 64 ≡ n + k = mod-eq_of_lt {n = n + k} {m = 2 ^ 64} (omega arith) in
     record {
       wide = length-set s.words (i + 2) ((n + k) % 2 ^ 64) ∙ h.wide;
       number = get_or-set_other s.words (i + 2) 1 ((n + k) % 2 ^ 64) 0 (λ e. absurd (omega arith)) ∙ h.number;
       heights = height_shown t p q s i ((n + k) % 2 ^ 64) inside h (omega arith) (λ j ne. let e = amount_else i k j ne in omega arith);
-      passes = passes_step p s.views a (laid_down v) h.passes there;
+      passes = passes_step p s.views a (laid_down v i k) h.passes there;
     }
 
 -- grains that are taken from a site are taken from its word

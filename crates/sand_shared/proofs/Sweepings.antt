@@ -10,7 +10,7 @@ use Rattle.sand_model.proofs.Flow.{flow_le}
 use Rattle.sand_shared.specs.declared.view.View.{View}
 use Rattle.sand_shared.specs.declared.view.Terms.{Terms}
 use Rattle.sand_shared.specs.OpenPile.{grid_of, toppled_by}
-use Rattle.sand_shared.specs.Events.{raised}
+use Rattle.sand_shared.specs.Events.{looked, raised}
 use Rattle.sand_shared.specs.Sweeps.{LeavesAtMost, LeavesAtLeast, IsCalm, HasAll, IsSparing, with_counts, Swept}
 use Rattle.sand_shared.proofs.Amounts.{place_inside, toppled_from, toppled_before}
 use Rattle.sand_shared.proofs.RowParts.{none_toppled}
@@ -101,6 +101,42 @@ sweeps_more t v cs k answer times spot least rows inside s left few no_more spar
   where
     still : HasAll t v → HasAll t (with_counts v cs)
     still all = record { quota = all.quota; all_sites = λ i l. ap (λ n. leb v.base i && ltb i (v.base + n)) s.same_rows ∙ all.all_sites i l }
+
+-- the next site of the rows is relieved
+module _ (t : Terms) (v me new : View) (cs : List ℕ) (base k times : ℕ) (from : v.base ≡ base)
+    (view : me ≡ record (looked v me.spot me.least) { counts = cs }) (relieved : new ≡ record (looked me (base + k) new.least) { counts = raised me (base + k) times }) where
+  new_is : new ≡ record (looked (record (looked v me.spot me.least) { counts = cs }) (v.base + k) new.least) { counts = raised (with_counts v cs) (v.base + k) times }
+  new_is = relieved ∙ (λ q. record (looked (view q) (sym from q + k) new.least) { counts = raised (view q) (sym from q + k) times })
+
+  pub next_view : new ≡ record (looked v new.spot new.least) { counts = set cs k (get_or cs k 0 + times) }
+  next_view =
+      let spot = ap (λ (u : View). u.spot) new_is in
+      let place : (v.base + k) - v.base ≡ k = omega arith in
+      new_is ∙ (λ q. record (looked v (sym spot q) new.least) { counts = set cs (place q) (get_or cs (place q) 0 + times) })
+
+  pub next_swept : (answer : ℕ) → v.base + length v.counts ≤ sites (grid_of t) → k < length v.counts → Sweeps t v cs k answer → LeavesAtMost t me (base + k) (4 * times + 3) → sum new.counts < 2 ^ 54
+      → (HasAll t me → LeavesAtLeast t me (base + k) (4 * times)) → (HasAll t me → IsSparing t new) → Sweeps t v (set cs k (get_or cs k 0 + times)) (k + 1) (answer + times)
+  next_swept answer rows inside s left few no_more spares =
+      let still = λ (all : HasAll t (with_counts v cs)). subst (HasAll t) (sym view) record { quota = all.quota; all_sites = all.all_sites } in
+      sweeps_more t v cs k answer times (v.base + k) new.least rows inside s
+      (subst (λ (z : View × ℕ). LeavesAtMost t z.0 (z.1 + k) (4 * times + 3)) (λ q. (view q, sym from q)) left)
+      (subst (λ (z : View). sum z.counts < 2 ^ 54) new_is few)
+      (λ all. subst (λ (z : View × ℕ). LeavesAtLeast t z.0 (z.1 + k) (4 * times)) (λ q. (view q, sym from q)) (no_more (still all)))
+      (λ all. let s = subst (IsSparing t) new_is (spares (still all)) in record { needed = s.needed; weighed = s.weighed })
+
+  -- and did not topple
+  module _ (none : times ≡ 0) where
+    kept : set cs k (get_or cs k 0 + times) ≡ cs
+    kept = ap (set cs k) {x = get_or cs k 0 + times} {y = get_or cs k 0} (omega arith) ∙ set-get_or cs k 0
+
+    pub kept_view : new ≡ record (looked v new.spot new.least) { counts = cs }
+    kept_view = next_view ∙ (λ q. record (looked v new.spot new.least) { counts = kept q })
+
+    pub kept_swept : (answer : ℕ) → v.base + length v.counts ≤ sites (grid_of t) → k < length v.counts → Sweeps t v cs k answer → LeavesAtMost t me (base + k) (4 * times + 3) → sum new.counts < 2 ^ 54
+        → (HasAll t me → LeavesAtLeast t me (base + k) (4 * times)) → (HasAll t me → IsSparing t new) → Sweeps t v cs (k + 1) answer
+    kept_swept answer rows inside s left few no_more spares =
+        subst (λ (l : List ℕ). Sweeps t v l (k + 1) answer) kept
+        (subst (Sweeps t v (set cs k (get_or cs k 0 + times)) (k + 1)) {x = answer + times} {y = answer} (omega arith) (next_swept answer rows inside s left few no_more spares))
 
 no_sum : (l : List ℕ) → length l ≡ 0 → sum l ≡ 0
 no_sum [] e = refl

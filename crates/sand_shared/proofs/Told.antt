@@ -4,7 +4,7 @@ use Rattle.std.proofs.lemmas.List.Sums.{get_or-le-sum_by}
 use Rattle.sand_shared.specs.declared.view.View.{View}
 use Rattle.sand_shared.specs.declared.view.Terms.{Terms}
 use Rattle.sand_shared.specs.OpenPile.{nobody, pass_at}
-use Rattle.sand_shared.specs.Events.{draw, place, count, look, unload, deliver, drew, laid_down, counted, looked, unloaded}
+use Rattle.sand_shared.specs.Events.{draw, count, look, unload, drew, counted, looked, unloaded}
 use Rattle.sand_shared.specs.Running.{Happened}
 use Rattle.sand_shared.proofs.Showing.{pass_at-with}
 
@@ -13,12 +13,6 @@ module _ (t : Terms) (a i k : ℕ) (v w : View) (n : ℕ) where
   drew_is h =
       let p = h.before.pile in
       sym h.pass_after ∙ pass_at-with p a (drew (pass_at p a) (length p.drawn) i) h.before.there ∙ (λ q. drew (h.before.pass q) (sym h.number q) i)
-
-  pub placed_is : Happened t (place a i) v n w → w ≡ laid_down v
-  placed_is h = let p = h.before.pile in sym h.pass_after ∙ pass_at-with p a (laid_down (pass_at p a)) h.before.there ∙ (λ q. laid_down (h.before.pass q))
-
-  pub delivered_is : Happened t (deliver a i k) v n w → w ≡ laid_down v
-  delivered_is h = let p = h.before.pile in sym h.pass_after ∙ pass_at-with p a (laid_down (pass_at p a)) h.before.there ∙ (λ q. laid_down (h.before.pass q))
 
   pub counted_is : Happened t (count a) v n w → w ≡ counted v n
   counted_is h = let p = h.before.pile in sym h.pass_after ∙ pass_at-with p a (counted (pass_at p a) (length p.drawn)) h.before.there ∙ (λ q. counted (h.before.pass q) (sym h.number q))

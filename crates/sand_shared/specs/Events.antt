@@ -1,5 +1,5 @@
 -- The events of an open pile, each as its condition and its effect. Passes are named by their place in the list.
-use Rattle.std.specs.Prelude.{ℕ, Bool, true, ◌≡◌, ◌≢◌, ◌+◌, ◌-◌, ◌*◌, ◌<◌, ◌≤◌, ◌==◌, ◌||◌, if◌then◌else◌, max, List, [], ◌∷◌, ◌++◌, map, take, drop, length, slice_index, slice_set, replicate, Option, Some, None}
+use Rattle.std.specs.Prelude.{ℕ, Bool, true, ◌≡◌, ◌≢◌, ◌+◌, ◌-◌, ◌*◌, ◌<◌, ◌≤◌, ◌==◌, ◌&&◌, ◌||◌, if◌then◌else◌, max, List, [], ◌∷◌, ◌++◌, map, take, drop, length, slice_index, slice_set, replicate, count_by, Option, Some, None}
 use Rattle.sand_model.specs.Grid.{sites, neighbours}
 use Rattle.sand_model.specs.declared.shape.Edge.TheVariants.{Open}
 use Rattle.sand_model.specs.Piles.{height_of}
@@ -14,7 +14,7 @@ pub data Event : Type 0 where
   begin : Event
   -- a pass draws a number for a grain on a site
   draw : ℕ → ℕ → Event
-  -- a pass lays the grain that it has drawn on its site
+  -- a pass lays a grain that it has drawn on its site
   place : ℕ → ℕ → Event
   -- a pass reads how many drops were begun
   count : ℕ → Event
@@ -65,13 +65,22 @@ one_for_each is = map (λ i. grains i 1) is
 abbrev pub drew_all : View → ℕ → List ℕ → View
 drew_all v n is = record v { left = v.left - length is; seen = n + length is; receipts = v.receipts ++ receipts_from n is; hand = v.hand ++ one_for_each is }
 
-abbrev pub laid_down : View → View
-laid_down v = record v { hand = behind_first v.hand }
+-- whether these are k grains for the site i
+abbrev pub are_for : ℕ → ℕ → Grains → Bool
+are_for i k g = (g.site == i) && (g.amount == k)
 
--- where there is a neighbour at a place
+-- a hand without the first k grains for the site i
+abbrev pub without : ℕ → ℕ → List Grains → List Grains
+without i k [] = []
+without i k (g ∷ gs) = if are_for i k g then gs else g ∷ without i k gs
+
+abbrev pub laid_down : View → ℕ → ℕ → View
+laid_down v i k = record v { hand = without i k v.hand }
+
+-- where there is a neighbour at a place, to which the first grains in hand go
 abbrev pub delivered_to : Option ℕ → View → View
 delivered_to None v = v
-delivered_to (Some j) v = laid_down v
+delivered_to (Some j) v = record v { hand = behind_first v.hand }
 
 abbrev pub counted : View → ℕ → View
 counted v n = record v { seen = n }
@@ -117,7 +126,7 @@ with_pass p a v = record p { passes = slice_set p.passes a v }
 
 -- k grains from a pass's hand lie on a site
 abbrev pub arrived : OpenPile → ℕ → ℕ → ℕ → OpenPile
-arrived p a i k = record (with_pass p a (laid_down (pass_at p a))) { height = λ j. p.height j + amount_at i k j }
+arrived p a i k = record (with_pass p a (laid_down (pass_at p a) i k)) { height = λ j. p.height j + amount_at i k j }
 
 -- When an event may happen
 
@@ -127,10 +136,10 @@ pub record MayDraw (t : Terms) (p : OpenPile) (a i : ℕ) : Type 0 where
   pub some_left : 0 < (pass_at p a).left
   pub inside : i < sites (grid_of t)
 
--- a place or a deliver: k grains for the site are the first in its hand
+-- a place or a deliver: k grains for the site are in its hand
 pub record MayLay (t : Terms) (p : OpenPile) (a i k : ℕ) : Type 0 where
   pub there : a < length p.passes
-  pub first : (pass_at p a).hand ≡ grains i k ∷ behind_first (pass_at p a).hand
+  pub in_hand : 0 < count_by (are_for i k) (pass_at p a).hand
   pub inside : i < sites (grid_of t)
 
 -- a split: the pass has that quota and those sites, and nothing in hand
@@ -202,6 +211,10 @@ after_all t p (e ∷ es) = after_all t (after t p e) es
 -- a pass draws numbers for grains on some sites, in a row
 abbrev pub all_draws : ℕ → List ℕ → List Event
 all_draws a is = map (λ i. draw a i) is
+
+-- a pass lays k grains that it has drawn on one site, in a row
+abbrev pub all_places : ℕ → ℕ → ℕ → List Event
+all_places a i k = replicate k (place a i)
 
 -- the quota and the sites that a split gives away
 abbrev pub quota_given : Event → ℕ

@@ -1,7 +1,6 @@
 -- The laws of the shared pile.
 use Rattle.std.specs.Prelude.{ℕ, List, ◌∷◌, ◌+◌, ◌<◌, ◌≤◌, length, sum}
-use Rattle.sand_model.specs.Grid.{Grid, sites}
-use Rattle.sand_model.specs.Sand.{IsUnderway, IsSettled}
+use Rattle.sand_model.specs.Grid.{sites}
 use Rattle.sand_shared.specs.declared.view.Terms.{Terms}
 use Rattle.sand_shared.specs.OpenPile.{OpenPile, grid_of, present, AreTerms, IsLawful}
 use Rattle.sand_shared.specs.Events.{Event, begin, unopened, AllHappen, after_all}
@@ -17,7 +16,3 @@ FewGrains = (t : Terms) (p : OpenPile) → AreTerms t → IsLawful t p → (i : 
 -- and no more drops were begun than the quota
 abbrev pub FewDraws : Type 0
 FewDraws = (t : Terms) (p : OpenPile) → IsLawful t p → length p.drawn ≤ t.quota
-
--- what settles where topplings left off that were at most needed settles all, and the counts add
-abbrev pub SettlesAfter : Type 0
-SettlesAfter = (g : Grid) (s u h v t : ℕ → ℕ) → IsUnderway g s u h → IsSettled g h v t → IsSettled g s (λ i. u i + v i) t

@@ -1,12 +1,12 @@
 -- The rule of the table of words, and what a step on it tells the pass that takes it.
 -- Word 0 is the base's own, word 1 is the number word, and word i + 2 has the height of the site i.
-use Rattle.std.specs.Prelude.{ℕ, ◌≡◌, ◌+◌, ◌<◌, List, ◌∷◌, length, slice_index}
+use Rattle.std.specs.Prelude.{ℕ, ◌≡◌, ◌+◌, ◌<◌, List, [], ◌∷◌, length, slice_index}
 use Rattle.atomic_table.specs.Table.{State, Me, Step}
 use Rattle.sand_model.specs.Grid.{sites}
 use Rattle.sand_shared.specs.declared.view.View.{View}
 use Rattle.sand_shared.specs.declared.view.Terms.{Terms}
 use Rattle.sand_shared.specs.OpenPile.{OpenPile, grid_of, pass_at, AreTerms, IsLawful}
-use Rattle.sand_shared.specs.Events.{Event, begin, draw, place, count, split, join, look, unload, deliver, unopened, May, after, AllHappen, after_all, all_draws}
+use Rattle.sand_shared.specs.Events.{Event, begin, draw, place, count, split, join, look, unload, deliver, unopened, May, after, AllHappen, after_all}
 
 -- the words and the views show this open pile
 pub record Shows (t : Terms) (p : OpenPile) (s : State ℕ View) : Type 0 where
@@ -69,13 +69,19 @@ Takes t e s v n w = Happened t e v.0 n w.0 × (w.1 ≡ v.1)
 abbrev pub Learns : Terms → ℕ → Step ℕ → Me ℕ View → ℕ → Me ℕ View → Type 0
 Learns t a s v n w = Stands t a v.0 × (w ≡ v)
 
--- a pass that had v drew for grains on some sites in one step, could do so, found n draws, and has w after it
-pub record HappenedInARow (t : Terms) (a : ℕ) (is : List ℕ) (v : View) (n : ℕ) (w : View) : Type 0 where
-  pub before : Stands t a v
-  pub may : AllHappen t before.pile (all_draws a is)
-  pub number : n ≡ length before.pile.drawn
-  pub pass_after : pass_at (after_all t before.pile (all_draws a is)) a ≡ w
+-- the number that the first of some events finds in its word
+abbrev pub found_first : OpenPile → List Event → ℕ
+found_first p [] = 0
+found_first p (e ∷ es) = found p e
 
--- what the step tells that is draws in a row
-abbrev pub TakesInARow : Terms → ℕ → List ℕ → Step ℕ → Me ℕ View → ℕ → Me ℕ View → Type 0
-TakesInARow t a is s v n w = HappenedInARow t a is v.0 n w.0 × (w.1 ≡ v.1)
+-- a pass a that had v took some events of its own in one step, which could happen one after another, found n, and has w
+-- after them
+pub record HappenedInARow (t : Terms) (a : ℕ) (es : List Event) (v : View) (n : ℕ) (w : View) : Type 0 where
+  pub before : Stands t a v
+  pub may : AllHappen t before.pile es
+  pub number : n ≡ found_first before.pile es
+  pub pass_after : pass_at (after_all t before.pile es) a ≡ w
+
+-- what the step of events in a row tells
+abbrev pub TakesInARow : Terms → ℕ → List Event → Step ℕ → Me ℕ View → ℕ → Me ℕ View → Type 0
+TakesInARow t a es s v n w = HappenedInARow t a es v.0 n w.0 × (w.1 ≡ v.1)

@@ -75,19 +75,32 @@ impl SharedPile {
         ensures never_fall { IfOk result (λ r. (i : ℕ) → slice_index pass.counts i ≤ odometer_of r.settled i) }
         ensures ends_at { IfOk result (EndsAt self.terms) }
     {
-        let _ = &self.words;
-        if !self.is_whole(&pass) {
-            return Err((CloseFault::Missing, self, pass));
-        }
-        let history = match vec![in alloc; 0usize; pass.receipts.len()] {
-            Ok(history) => history,
-            Err(error) => return Err((CloseFault::Memory(error), self, pass)),
-        };
-        let heights = match Vec::with_capacity(alloc, pass.counts.len()) {
-            Ok(heights) => heights,
-            Err(error) => return Err((CloseFault::Memory(error), self, pass)),
+        let (history, heights) = match self.room_for_record(alloc, &pass) {
+            Ok(room) => room,
+            Err(fault) => return Err((fault, self, pass)),
         };
         Ok(self.topple_out(pass, history, heights))
+    }
+
+    // Lists that have room for the history and the heights of a record, if the pass has all.
+    pub(crate) fn room_for_record(
+        &self,
+        alloc: Global,
+        pass: &Pass,
+    ) -> Result<(Vec<usize>, Vec<u64>), CloseFault>
+        requires { IsPassOf self.now pass.now }
+        ensures missing { IfErr result (λ e. (e ≡ CloseFault.Missing) ↔ ¬ IsWhole self.now.terms pass.now) }
+        ensures whole { OnOk result (IsWhole self.now.terms pass.now) }
+        ensures history { IfOk result (λ r. length r.0.items ≡ length pass.now.receipts) }
+        ensures heights { IfOk result (λ r. (r.1.items ≡ []) × (length pass.now.counts ≤ vec_capacity r.1)) }
+    {
+        let _ = &self.words;
+        if !self.is_whole(pass) {
+            return Err(CloseFault::Missing);
+        }
+        let history = vec![in alloc; 0usize; pass.receipts.len()]?;
+        let heights = Vec::with_capacity(alloc, pass.counts.len())?;
+        Ok((history, heights))
     }
 
     // Topples until nothing topples, and writes the record into lists that have room for it.

@@ -3,6 +3,7 @@
 ghost use Rattle.std.specs.Prelude.{◌≡◌};
 ghost use Rattle.sand_shared.specs.declared.faults.SharedFault.TheVariants.{Memory};
 ghost use Rattle.sand_shared.specs.declared.faults.SplitFault.TheVariants.{Memory as SplitMemory};
+ghost use Rattle.sand_shared.specs.declared.faults.CloseFault.TheVariants.{Memory as CloseMemory};
 
 use std::alloc::AllocError;
 use thiserror::Error;
@@ -118,6 +119,14 @@ impl DropFault {
         ensures { result ≡ 13 }
     {
         13
+    }
+}
+
+impl From<AllocError> for CloseFault {
+    ghost from_gives = { λ e fault. fault ≡ CloseMemory e };
+
+    fn from(error: AllocError) -> CloseFault {
+        CloseFault::Memory(error)
     }
 }
 

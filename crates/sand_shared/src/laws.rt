@@ -1,6 +1,6 @@
 //! The laws of the shared pile, as contracts of functions that do nothing.
 
-ghost use Rattle.sand_shared.specs.Laws.{AlwaysLawful, FewDraws, FewGrains, SettlesAfter};
+ghost use Rattle.sand_shared.specs.Laws.{AlwaysLawful, FewDraws, FewGrains};
 
 /// Whatever events lead to an open pile, it is lawful.
 pub fn always_lawful()
@@ -11,9 +11,4 @@ pub fn always_lawful()
 pub fn words_are_small()
     ensures grains { FewGrains }
     ensures draws { FewDraws }
-{}
-
-/// Whatever toppled, if it was at most needed: to settle what it left is to settle all, and the counts add.
-pub fn settles_after()
-    ensures { SettlesAfter }
 {}

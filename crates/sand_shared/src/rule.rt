@@ -49,16 +49,17 @@ impl<J: Picked> Play<u8, View> for Take<J> {
     ghost then = { Takes J.terms J.event };
 }
 
-/// The pass and the sites of draws in a row, picked at the call for the proofs alone.
+/// The pass and the events that one step is, picked at the call for the proofs alone.
 pub trait PickedRow {
     ghost use Rattle.std.specs.Prelude.{ℕ, List};
     ghost use Rattle.sand_shared.specs.declared.view.Terms.{Terms as TermsOf};
+    ghost use Rattle.sand_shared.specs.Events.{Event};
 
     ghost terms: { TermsOf };
 
     ghost pass: { ℕ };
 
-    ghost drops: { List ℕ };
+    ghost events: { List Event };
 }
 
 impl PickedRow for Brand {
@@ -69,10 +70,10 @@ impl PickedRow for Brand {
 
     ghost pass = { 0 };
 
-    ghost drops = { [] };
+    ghost events = { [] };
 }
 
-/// The step of draws in a row.
+/// The step of several events of a pass, in a row.
 pub struct TakeRow<J> {
     picked: PhantomData<J>,
 }
@@ -80,7 +81,7 @@ pub struct TakeRow<J> {
 impl<J: PickedRow> Play<u8, View> for TakeRow<J> {
     ghost use Rattle.sand_shared.specs.Running.{TakesInARow};
 
-    ghost then = { TakesInARow J.terms J.pass J.drops };
+    ghost then = { TakesInARow J.terms J.pass J.events };
 }
 
 /// A load that changes nothing, by which a pass learns that what it has fits the rule.

@@ -1,7 +1,7 @@
 //! Settling a shared pile with a pass that has gathered all: its heights are read, and one thread settles them.
 //!
-//! What the passes toppled in place is at most what the pile needs, so to settle what it left completes the least
-//! odometer (`laws::settles_after`).
+//! No site has toppled in place more often than needed, so the odometer is what has toppled there and the odometer of the
+//! pile that is left (`sand_model::laws::settles_after`). All memory is taken before the shared words are closed.
 
 ghost use Rattle.std.specs.Prelude.{◌≡◌, ℕ, ◌+◌, ◌^◌, ◌<◌, ◌≤◌, ◌↔◌, [], length, sum, slice_index, vec_capacity, IfOk, IfErr, OnOk};
 ghost use Rattle.sand_model.specs.declared.pile.TheConstants.{GRAIN_LIMIT};
@@ -25,7 +25,7 @@ use crate::steps::{PassSeat, Words};
 use crate::view::Terms;
 use sand_model::Pile;
 use sand_settle::{SettleFault, Settled, settle};
-use std::alloc::{AllocError, Global};
+use std::alloc::Global;
 use std::marker::Brand;
 
 impl Words {
@@ -64,10 +64,19 @@ pub(crate) fn add(numbers: &mut Vec<u64>, more: &[u64])
 }
 
 impl SharedPile {
-    /// Settles the pile with a pass that has gathered all, on this thread, and answers its record: what
-    /// `SharedPile::close` answers, found in less time where much is left to topple. Refuses a pass that lacks quota,
-    /// receipts or rows (Missing), then Memory; the pile and the pass then come back.
-    pub fn settle(self, alloc: Global, pass: Pass) -> Result<Record, (CloseFault, SharedPile, Pass)>
+    /// Settles the pile with a pass that has gathered all, and returns its record: the one that `SharedPile::close`
+    /// returns.
+    ///
+    /// Call `settle` when much is left to topple: it reads each height once, and then topples as `sand_settle::settle`
+    /// does, in plain memory of its own. Call `close` when little is left, or when memory is short: it topples by whole
+    /// sweeps over the shared words, as many as there are, and takes no memory but that of the record.
+    ///
+    /// Refuses a pass that lacks quota, receipts or rows (Missing), then Memory; the pile and the pass then come back.
+    pub fn settle(
+        self,
+        alloc: Global,
+        mut pass: Pass,
+    ) -> Result<Record, (CloseFault, SharedPile, Pass)>
         requires { IsPassOf self pass }
         ensures missing { IfErr result (λ e. (e.0 ≡ CloseFault.Missing) ↔ ¬ IsWhole self.terms pass) }
         ensures whole { OnOk result (IsWhole self.terms pass) }
@@ -87,21 +96,12 @@ impl SharedPile {
         // What toppled in place stays toppled.
         ensures never_fall { IfOk result (λ r. (i : ℕ) → slice_index pass.counts i ≤ odometer_of r.settled i) }
     {
-        let _ = &self.words;
-        if !self.is_whole(&pass) {
-            return Err((CloseFault::Missing, self, pass));
-        }
-        let history = match vec![in alloc; 0usize; pass.receipts.len()] {
-            Ok(history) => history,
-            Err(error) => return Err((CloseFault::Memory(error), self, pass)),
+        let (history, heights) = match self.room_for_record(alloc, &pass) {
+            Ok(room) => room,
+            Err(fault) => return Err((fault, self, pass)),
         };
-        let heights = match Vec::with_capacity(alloc, pass.counts.len()) {
-            Ok(heights) => heights,
-            Err(error) => return Err((CloseFault::Memory(error), self, pass)),
-        };
-        let mut pass = pass;
-        let left = self.left(&mut pass, heights);
-        let rest = match settle(alloc, &left) {
+        let current = self.current_pile(&mut pass, heights);
+        let rest = match settle(alloc, &current) {
             Ok(rest) => rest,
             Err(SettleFault::Memory(error)) => {
                 return Err((CloseFault::Memory(error), self, pass));
@@ -110,8 +110,8 @@ impl SharedPile {
         Ok(self.complete(pass, history, rest))
     }
 
-    // The pile that lies there, for a pass that has all, in a list that has room for it.
-    fn left(&self, pass: &mut Pass, heights: Vec<u64>) -> Pile
+    // The heights that the shared pile has now, in a list that has room for them, for a pass that has all.
+    fn current_pile(&self, pass: &mut Pass, mut heights: Vec<u64>) -> Pile
         requires pass { IsPassOf self.now pass.old }
         requires whole { IsWhole self.now.terms pass.old }
         requires room { (heights.items ≡ []) × (length pass.old.counts ≤ vec_capacity heights) }
@@ -120,12 +120,11 @@ impl SharedPile {
         ensures underway { IsUnderway (grid_of self.now.terms) (laid self.now.terms (at_rest pass.old)) (slice_index pass.old.counts) (height_of result) }
     {
         let _ = &self.words;
-        let mut heights = heights;
         self.words.read(&mut pass.seat, &mut heights);
         Pile::from_vec(pass.shape, heights)
     }
 
-    // Writes the record into a list that has room for the history, where the rest is settled.
+    // Makes the record, of what has toppled in place and of the rest that is settled. The history has its room.
     fn complete(self, pass: Pass, mut history: Vec<usize>, rest: Settled) -> Record
         requires pass { IsPassOf self pass }
         requires whole { IsWhole self.terms pass }

@@ -84,7 +84,7 @@ impl SharedPile {
             return Err(DropFault::Spent);
         }
         let number = self.words.draw::<Brand>(&mut pass.seat, site);
-        self.words.place::<Brand>(&mut pass.seat, site);
+        self.words.place::<Brand>(&mut pass.seat, site, 1);
         pass.left -= 1;
         pass.seen = number + 1;
         pass.receipts.push_reserved(Receipt { number, site });

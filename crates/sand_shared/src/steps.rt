@@ -1,11 +1,11 @@
 //! The table of words under its rule, and the steps on it: each function here takes one step, and its contract names
-//! the event that this is.
+//! the event that this is, or the events in a row.
 
-ghost use Rattle.std.specs.Prelude.{◌≡◌, ℕ, ◌+◌, ◌-◌, ◌*◌, ◌^◌, ◌<◌, ◌≤◌, ◌||◌, true, [], ◌∷◌, All, length, slice_index, vec_capacity, IfOk};
+ghost use Rattle.std.specs.Prelude.{◌≡◌, ℕ, ◌+◌, ◌-◌, ◌*◌, ◌^◌, ◌<◌, ◌≤◌, ◌||◌, true, [], ◌∷◌, All, length, count_by, slice_index, vec_capacity, IfOk};
 ghost use Rattle.std.specs.Mem.Slots.{slots_items, slots_len, IsFull};
 ghost use Rattle.sand_model.specs.Grid.{sites, places};
 ghost use Rattle.sand_shared.specs.OpenPile.{grid_of, holds_site, AreTerms};
-ghost use Rattle.sand_shared.specs.Events.{draw, place, count, split, look, unload, deliver, grains, behind_first, first_pass, parent, child, joined, follows};
+ghost use Rattle.sand_shared.specs.Events.{draw, all_draws, all_places, count, split, look, unload, deliver, grains, are_for, behind_first, first_pass, parent, child, joined, follows};
 ghost use Rattle.sand_shared.specs.Running.{Happened, HappenedInARow, Stands, actor};
 ghost use Rattle.sand_shared.specs.Record.{IsLast};
 ghost use Rattle.sand_shared.specs.Seats.{IsSeatAt, StaysSeated};
@@ -91,30 +91,34 @@ impl Words {
         self.table.shared.fetch_add::<Take<J>>(seat, 1, 1)
     }
 
-    /// Draws numbers for grains on some sites, in a row and in one step. Answers the first.
+    /// Draws numbers for grains on some sites, in a row and in one step. Returns the first.
     pub(crate) fn draw_all<J: PickedRow>(&self, seat: &mut PassSeat, drops: &[usize]) -> u64
         requires seat { IsSeatAt self.now seat.old }
+        requires some { 0 < length drops.now }
         requires left { length drops.now ≤ seat.old.me.0.left }
         requires inside { All (λ i. i < sites (grid_of self.now.terms)) drops.now }
-        requires picked { (J.terms ≡ self.now.terms) × (J.pass ≡ seat.old.id) × (J.drops ≡ drops.now) }
+        requires picked { (J.terms ≡ self.now.terms) × (J.pass ≡ seat.old.id) × (J.events ≡ all_draws seat.old.id drops.now) }
         ensures seat { StaysSeated seat.old seat.new }
-        ensures happened { HappenedInARow self.now.terms seat.old.id drops.now seat.old.me.0 result seat.new.me.0 }
+        ensures happened { HappenedInARow self.now.terms seat.old.id (all_draws seat.old.id drops.now) seat.old.me.0 result seat.new.me.0 }
     {
         self.table
             .shared
             .fetch_add::<TakeRow<J>>(seat, 1, drops.len() as u64)
     }
 
-    /// Lays the grain that was drawn on its site.
-    pub(crate) fn place<J: Picked>(&self, seat: &mut PassSeat, site: usize)
+    /// Lays so many of the grains that were drawn for a site on it, in a row and in one step.
+    pub(crate) fn place<J: PickedRow>(&self, seat: &mut PassSeat, site: usize, amount: u64)
         requires seat { IsSeatAt self.now seat.old }
-        requires hand { seat.old.me.0.hand ≡ grains site 1 ∷ behind_first seat.old.me.0.hand }
+        requires some { 0 < amount }
+        requires hand { amount ≤ count_by (are_for site 1) seat.old.me.0.hand }
         requires site { site < sites (grid_of self.now.terms) }
-        requires picked { (J.terms ≡ self.now.terms) × (J.event ≡ place seat.old.id site) }
+        requires picked { (J.terms ≡ self.now.terms) × (J.pass ≡ seat.old.id) × (J.events ≡ all_places seat.old.id site amount) }
         ensures seat { StaysSeated seat.old seat.new }
-        ensures happened { (n : ℕ) × Happened self.now.terms (place seat.old.id site) seat.old.me.0 n seat.new.me.0 }
+        ensures happened { (n : ℕ) × HappenedInARow self.now.terms seat.old.id (all_places seat.old.id site amount) seat.old.me.0 n seat.new.me.0 }
     {
-        self.table.shared.fetch_add::<Take<J>>(seat, site + 2, 1);
+        self.table
+            .shared
+            .fetch_add::<TakeRow<J>>(seat, site + 2, amount);
     }
 
     /// Reads how many drops were begun.
@@ -227,7 +231,7 @@ impl Words {
         terms
     }
 
-    /// Closes the table with the seat of a pass, whatever lies there.
+    /// Closes the table with the seat of a pass, and reads nothing.
     pub(crate) fn end(self, seat: PassSeat) -> Terms
         requires seat { IsSeatAt self seat }
         ensures terms { result ≡ self.terms }

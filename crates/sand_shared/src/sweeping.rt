@@ -20,6 +20,7 @@ use std::marker::Brand;
 
 impl Words {
     // Delivers the first grains in hand, where there is a neighbour at this place.
+    #[inline(always)]
     fn deliver_to(&self, seat: &mut PassSeat, place: Option<usize>, times: u64)
         requires seat { IsSeatAt self.now seat.old }
         requires hand { IfSome place (λ j. seat.old.me.0.hand ≡ grains j times ∷ behind_first seat.old.me.0.hand) }
@@ -40,10 +41,11 @@ impl Words {
         ensures seat { StaysSeated seat.old seat.new }
         ensures view { seat.new.me.0 ≡ record seat.old.me.0 { hand = [] } }
     {
-        let places = self.neighbours(site);
-        'around: for place in places.iter() {
-            self.deliver_to(seat, *place, times);
-        }
+        let [north, west, east, south] = self.neighbours(site);
+        self.deliver_to(seat, north, times);
+        self.deliver_to(seat, west, times);
+        self.deliver_to(seat, east, times);
+        self.deliver_to(seat, south, times);
     }
 
     // Looks at a site of the pass's rows, and topples it as often as the grains found allow. Answers how often.
@@ -83,6 +85,9 @@ impl Words {
         let mut topplings = 0;
         'sites: for i in 0..counts.len() {
             let times = self.relieve(seat, base + i);
+            if times == 0 {
+                continue 'sites;
+            }
             counts[i] += times;
             topplings += times;
         }

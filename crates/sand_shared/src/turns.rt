@@ -1,9 +1,15 @@
-//! Drops in a row: a pass draws numbers for a whole list of grains in one step, and then lays them down one by one.
+//! Drops in a row: a pass draws numbers for a whole list of grains in one step, and then lays down the grains of each
+//! site in one step.
+//!
+//! So threads seldom meet at a word: at the number word once a list, and at the word of a site once for all grains that
+//! the list has for it. The counts by site tell how many these are. They begin with 0 everywhere, grow while the list is
+//! counted, and fall back to 0 one by one as the grains are laid down, so no pass over the whole grid is needed.
 
-ghost use Rattle.std.specs.Prelude.{◌≡◌, ℕ, ◌+◌, ◌-◌, ◌^◌, ◌<◌, ◌≤◌, ◌↔◌, [], ◌++◌, All, length, vec_capacity, IfOk, IsErr, OnErr};
+ghost use Rattle.std.specs.Prelude.{◌≡◌, ℕ, ◌+◌, ◌-◌, ◌^◌, ◌<◌, ◌≤◌, ◌↔◌, [], ◌++◌, All, length, slice_index, vec_capacity, IfOk, IsErr, OnErr};
 ghost use Rattle.sand_model.specs.Grid.{sites};
+ghost use Rattle.sand_model.specs.Sand.{tally};
 ghost use Rattle.sand_shared.specs.OpenPile.{grid_of};
-ghost use Rattle.sand_shared.specs.Events.{receipts_from, one_for_each};
+ghost use Rattle.sand_shared.specs.Events.{zeros, receipts_from, one_for_each};
 ghost use Rattle.sand_shared.specs.Passes.{IsPassOf};
 ghost use Rattle.sand_shared.specs.Seats.{IsSeatAt, StaysSeated};
 
@@ -15,17 +21,36 @@ use crate::steps::{PassSeat, Words};
 use crate::view::Receipt;
 use std::marker::Brand;
 
+// Counts the sites of a list.
+fn count_sites(counts: &mut Vec<u64>, drops: &[usize])
+    requires none { (i : ℕ) → i < length counts.old.items → slice_index counts.old.items i ≡ 0 }
+    requires inside { All (λ i. i < length counts.old.items) drops.now }
+    ensures long { length counts.new.items ≡ length counts.old.items }
+    ensures counted { (i : ℕ) → i < length counts.old.items → slice_index counts.new.items i ≡ tally drops.now i }
+{
+    'drops: for site in drops.iter() {
+        counts[*site] += 1;
+    }
+}
+
 impl Words {
-    // Lays the grains in hand on their sites, one for each.
-    fn place_all(&self, seat: &mut PassSeat, drops: &[usize])
+    // Lays the grains in hand, one for each drop of a list, on their sites, and sets their counts back to 0.
+    fn place_all(&self, seat: &mut PassSeat, drops: &[usize], counts: &mut Vec<u64>)
         requires seat { IsSeatAt self.now seat.old }
         requires hand { seat.old.me.0.hand ≡ one_for_each drops.now }
         requires inside { All (λ i. i < sites (grid_of self.now.terms)) drops.now }
+        requires long { length counts.old.items ≡ sites (grid_of self.now.terms) }
+        requires counted { (i : ℕ) → i < sites (grid_of self.now.terms) → slice_index counts.old.items i ≡ tally drops.now i }
         ensures seat { StaysSeated seat.old seat.new }
         ensures view { seat.new.me.0 ≡ record seat.old.me.0 { hand = [] } }
+        ensures none { counts.new.items ≡ zeros (sites (grid_of self.now.terms)) }
     {
         'drops: for site in drops.iter() {
-            self.place::<Brand>(seat, *site);
+            let amount = counts[*site];
+            if amount != 0 {
+                self.place::<Brand>(seat, *site, amount);
+                counts[*site] = 0;
+            }
         }
     }
 }
@@ -68,7 +93,6 @@ impl SharedPile {
         ensures pass { IfOk result (λ n. pass.new ≡ record pass.old { left = pass.old.left - length drops.now; seen = n + length drops.now; receipts = pass.old.receipts ++ receipts_from n drops.now }) }
     {
         let _ = &self.words;
-        let _ = counts;
         let count = drops.len() as u64;
         if pass.left < count {
             return Err(DropFault::Spent);
@@ -76,8 +100,10 @@ impl SharedPile {
         if count == 0 {
             return Ok(pass.seen);
         }
+        count_sites(&mut counts.counts, drops);
         let number = self.words.draw_all::<Brand>(&mut pass.seat, drops);
-        self.words.place_all(&mut pass.seat, drops);
+        self.words
+            .place_all(&mut pass.seat, drops, &mut counts.counts);
         pass.left -= count;
         pass.seen = number + count;
         note(&mut pass.receipts, number, drops);

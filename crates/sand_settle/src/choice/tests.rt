@@ -2,7 +2,7 @@
 
 ghost use Rattle.std.specs.Prelude.{◌<◌};
 
-use crate::choice::{Queue, Rest, settle_by_guess};
+use crate::choice::{settle_by_guess, settle_by_queue};
 use sand_model::{Edge, Pile, Shape};
 use std::alloc::{AllocError, Global};
 use std::test::Fail;
@@ -69,12 +69,10 @@ impl Numbers {
 
 // Whether both ways end alike, or None where the queue takes long.
 fn settle_alike(alloc: Global, pile: &Pile) -> Result<Option<bool>, AllocError> {
-    let mut queue = Queue::new(alloc, pile)?;
-    let start = Rest::of(alloc, pile)?;
-    let Some(plain) = queue.settle(pile, start, TURNS) else {
+    let Some(plain) = settle_by_queue(alloc, pile, TURNS)? else {
         return Ok(None);
     };
-    let Some(fast) = settle_by_guess(alloc, pile) else {
+    let Some(fast) = settle_by_guess(alloc, pile)? else {
         return Ok(Some(false));
     };
     let same_heights = plain.heights.as_slice() == fast.heights.as_slice();

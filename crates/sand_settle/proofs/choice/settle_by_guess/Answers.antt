@@ -5,11 +5,11 @@ use Rattle.sand_settle.proofs.choice.settle_by_guess.Goals as goal
 pub returns : goal.returns
 returns c =
     let counts = c.deref.ensures.value in
-    let there : IsSome c.in-Ok-Some-certified.field-0 = rw c.in-Ok-Some-certified.field-0-is (search rules) in
-    let certificate = c.in-Ok-Some-certified.ensures.exactly.0 there in
-    let settled = rw (c.in-Ok-Some-certified.field-0-is, counts) at c.in-Ok-Some-certified.ensures.settled in
-    let one_each = rw c.in-Ok-Some-certified.field-0-is at c.in-Ok-Some-certified.ensures.one_each in
-    let left = sum_left c.args.pile.now.grid c.args.pile.now.heights c.in-Ok-Some-certified.heights.items (λ j. get_or c.in-Ok-Some.claim.counts.items j 0) c.shape.ensures.pile.one_each one_each settled.toppled in
+    let there : IsSome c.in_ok-heights.field-0 = rw c.in-Some-2.is (search rules) in
+    let certificate = c.in_ok-heights.ensures.exactly.0 there in
+    let settled = rw (c.in-Some-2.is, counts) at c.in_ok-heights.ensures.settled in
+    let one_each = rw c.in-Some-2.is at c.in_ok-heights.ensures.one_each in
+    let left = sum_left c.args.pile.now.grid c.args.pile.now.heights c.in-Some-2.heights.items (λ j. get_or c.in-Some.claim.counts.items j 0) c.shape.ensures.pile.one_each one_each settled.toppled in
     record {
       heights_each = one_each;
       odometer_each = omega (arith, ap length counts, certificate.counts_each);

@@ -126,4 +126,3 @@ turns-preserved c =
 pub returns-clause-others_low : goal.returns-clause-others_low
 returns-clause-others_low c =
     wave_ends c.args.lattice.now c.args.site c.args.counts.now c.args.heights.now c.turns.counts c.turns.heights c.turns.list.sites c.turns.turn (omega (arith, c.turns-test.false, c.len.ensures.value)) c.turns.invariant.heights_each c.requires.site c.turns.invariant.wave
-

@@ -7,5 +7,5 @@ use Rattle.sand_shared.proofs.shared_pile.SharedPile.settle.Goals as goal
 pub complete-requires-clause-rest : goal.complete-requires-clause-rest
 complete-requires-clause-rest c =
     let rest = c.in-Ok-settle.rest in
-    subst (λ (p : PassView). IsRestOf c.args.self.terms p rest) (sym c.left-left.ensures.pass)
-    (rest_of c.args.self.terms c.args.pass c.left-left.result rest c.left-left.ensures.grid c.left-left.ensures.underway c.in-Ok-settle.ensures.record)
+    subst (λ (p : PassView). IsRestOf c.args.self.terms p rest) (sym c.current_pile-current.ensures.pass)
+    (rest_of c.args.self.terms c.args.pass c.current_pile-current.result rest c.current_pile-current.ensures.grid c.current_pile-current.ensures.underway c.in-Ok-settle.ensures.record)

@@ -4,6 +4,7 @@ use Rattle.atomic_table.specs.Table.{step}
 use Rattle.sand_model.specs.Grid.{sites}
 use Rattle.sand_shared.specs.OpenPile.{grid_of}
 use Rattle.sand_shared.specs.Events.{deliver}
+use Rattle.sand_shared.proofs.Hands.{first_counts}
 use Rattle.sand_shared.proofs.Moments.{delivers, at_picked, happened_picked}
 use Rattle.sand_shared.proofs.steps.Words.deliver.Goals as goal
 
@@ -21,7 +22,7 @@ fetch_add-requires g c =
     let inside = c.requires.site in (
       c.requires.seat.table ∙ sym (ap (λ w. w.table) is),
       omega arith,
-      at_picked _ t _ (deliver c.args.seat.now.id c.args.site c.args.amount) _ slots _ m (c.args.site + 2) (λ n. (n + c.args.amount) % 2 ^ 64) st key picked.0 picked.1 (delivers t _ c.args.site c.args.amount slots m st inside c.requires.hand),
+      at_picked _ t _ (deliver c.args.seat.now.id c.args.site c.args.amount) _ slots _ m (c.args.site + 2) (λ n. (n + c.args.amount) % 2 ^ 64) st key picked.0 picked.1 (delivers t _ c.args.site c.args.amount slots m st inside (first_counts c.args.site c.args.amount m.0.hand c.requires.hand)),
     )
 
 pub returns-clause-seat : goal.returns-clause-seat

@@ -3,8 +3,8 @@ use mathlib.Core.Option.{none}
 use Rattle.atomic_table.specs.Table.{step}
 use Rattle.sand_model.specs.Grid.{sites}
 use Rattle.sand_shared.specs.OpenPile.{grid_of}
-use Rattle.sand_shared.specs.Events.{place}
-use Rattle.sand_shared.proofs.Moments.{places, at_picked, happened_picked}
+use Rattle.sand_shared.specs.Events.{all_places}
+use Rattle.sand_shared.proofs.InARow.{places_row, at_picked_row, happened_picked_row}
 use Rattle.sand_shared.proofs.steps.Words.place.Goals as goal
 
 pub fetch_add-requires : goal.fetch_add-requires
@@ -16,16 +16,19 @@ fetch_add-requires g c =
     let wide = words.wide ∙ ap (λ w. sites (grid_of w.terms) + 2) is in
     let slots = c.self.inside.table.shared.table_id.slots in
     let m = c.args.seat.now.me in
-    let st = step slots (c.args.site + 2) 1 0 none in
+    let a = c.args.seat.now.id in
+    let i = c.args.site in
+    let k = c.args.amount in
+    let st = step slots (i + 2) k 0 none in
     let picked = c.requires.picked in
     let inside = c.requires.site in (
       c.requires.seat.table ∙ sym (ap (λ w. w.table) is),
       omega arith,
-      at_picked _ t _ (place c.args.seat.now.id c.args.site) _ slots _ m (c.args.site + 2) (λ n. (n + 1) % 2 ^ 64) st key picked.0 picked.1 (places t _ c.args.site slots m st inside c.requires.hand),
+      at_picked_row _ t _ _ a _ (all_places a i k) slots m (i + 2) (λ n. (n + k) % 2 ^ 64) st key picked.0 picked.1 picked.2 (places_row t a i k slots m st c.requires.some c.requires.hand inside),
     )
 
 pub returns-clause-seat : goal.returns-clause-seat
 returns-clause-seat g c = record { table = c.fetch_add.ensures.0; id = c.fetch_add.ensures.1; bare = c.fetch_add.ensures.2.1 ∙ c.requires.seat.bare }
 
 pub returns-clause-happened : goal.returns-clause-happened
-returns-clause-happened g c = let picked = c.requires.picked in (c.fetch_add.result, happened_picked _ _ _ _ _ _ _ picked.0 picked.1 c.fetch_add.ensures.2.0)
+returns-clause-happened g c = let picked = c.requires.picked in (c.fetch_add.result, happened_picked_row _ _ _ _ _ _ _ _ _ picked.0 picked.1 picked.2 c.fetch_add.ensures.2.0)

@@ -1,42 +1,91 @@
-use Rattle.std.proofs.Common.{◌≡◌, [], ◌∷◌, drop, get_or, sym, refl, ap, ◌∙◌, arith}
+use Rattle.std.proofs.Common.{◌≡◌, ℕ, ◌+◌, List, [], drop, get_or, sym, refl, ap, ◌∙◌, subst, arith, Vec, Global}
+use Rattle.atomic_table.specs.declared.shared.Seat.{Seat}
 use Rattle.std.proofs.lemmas.List.{drop_all}
+use Rattle.sand_model.specs.Grid.{sites}
 use Rattle.sand_shared.specs.declared.view.View.{View}
-use Rattle.sand_shared.specs.Events.{grains, behind_first, laid_down, one_for_each}
-use Rattle.sand_shared.proofs.Told.{placed_is}
-use Rattle.sand_shared.proofs.InARow.{from_here}
+use Rattle.sand_shared.specs.declared.view.Grains.{Grains}
+use Rattle.sand_shared.specs.OpenPile.{grid_of}
+use Rattle.sand_shared.proofs.Counting.{Waits, read_count, waits_all, waits_past, waits_laid, count_is, hand_empty, counts_zero}
+use Rattle.sand_shared.proofs.Hands.{laid_on}
+use Rattle.sand_shared.proofs.InARow.{from_here, laid_is}
 use Rattle.sand_shared.proofs.steps.Words.place_all.Goals as goal
+use Rattle.sand_shared.proofs.steps.Words.place_all.Goals.{then-amount-ne0, else-amount-ne0}
 
 pub drops-init : goal.drops-init
-drops-init c = record { table = refl; id = refl; bare = c.requires.seat.bare; view = λ q. record c.args.seat.now.me.0 { hand = c.requires.hand q } }
-
-pub drops-preserved : goal.drops-preserved
-drops-preserved c =
-    let ds = c.args.drops.now in
-    let k = c.drops.site-index in
-    let below = c.drops-test.true in
-    let here = from_here ds k (omega arith) in
-    let inv = c.drops.invariant in
-    let old = c.args.seat.now.me.0 in
-    let view = inv.view ∙ (λ q. record old { hand = one_for_each (here q) }) in
+drops-init c =
+    let n = sites (grid_of c.args.self.now.terms) in
     record {
-      table = c.place.ensures.seat.table ∙ inv.table;
-      id = c.place.ensures.seat.id ∙ inv.id;
-      bare = c.place.ensures.seat.bare;
-      view = placed_is _ _ (get_or ds k 0) 0 _ _ c.place.ensures.happened.0 c.place.ensures.happened.1 ∙ ap laid_down view;
+      table = refl;
+      id = refl;
+      bare = c.requires.seat.bare;
+      view = refl;
+      waits = subst (λ (l : List Grains). Waits n c.args.counts.now.items l c.args.drops.now) (sym c.requires.hand) (waits_all n c.args.counts.now.items c.args.drops.now c.requires.long c.requires.inside c.requires.counted);
     }
 
 pub place-requires-clause-hand : goal.place-requires-clause-hand
 place-requires-clause-hand c =
+    let n = sites (grid_of c.args.self.now.terms) in
     let ds = c.args.drops.now in
     let k = c.drops.site-index in
     let below = c.drops-test.true in
-    let here = from_here ds k (omega arith) in
-    let e = ap (λ (v : View). v.hand) c.drops.invariant.view ∙ ap one_for_each here in
-    e ∙ (λ i. grains (get_or ds k 0) 1 ∷ behind_first (sym e i))
+    let w = c.drops.invariant.waits in
+    let read = read_count n k _ c.drops.counts.items ds w.long c.requires.inside below c.index-amount.ensures in
+    let counted = w.counted (get_or ds k 0) (c.requires.inside k 0 below) in
+    let same = count_is n (get_or ds k 0) c.drops.seat.me.0.hand w.single in omega arith
+
+pub drops-preserved : goal.drops-preserved
+drops-preserved c =
+    let n = sites (grid_of c.args.self.now.terms) in
+    let ds = c.args.drops.now in
+    let k = c.drops.site-index in
+    let x = get_or ds k 0 in
+    let below = c.drops-test.true in
+    let inv = c.drops.invariant in
+    let cs = c.drops.counts.items in
+    let hand = c.drops.seat.me.0.hand in
+    let read = read_count n k _ cs ds inv.waits.long c.requires.inside below c.index-amount.ensures in
+    let coming = subst (Waits n cs hand) (from_here ds k below) inv.waits in
+    let inside = c.requires.inside k 0 below in
+    elim c.if-amount-ne0.branch [
+      | then-amount-ne0 w ↦
+          (let laid = ap (λ (s : Seat ℕ View). s.me.0) w.seat-is ∙ laid_is _ _ x _ _ _ _ w.place.ensures.happened.1 in
+          let hand_is = ap (λ (v : View). v.hand) laid ∙ ap (λ m. laid_on x m hand) read in
+          let counts_is = ap (λ (v : Vec ℕ Global). v.items) w.counts-is in
+          record {
+            table = ap (λ (s : Seat ℕ View). s.table_id) w.seat-is ∙ (w.place.ensures.seat.table ∙ inv.table);
+            id = ap (λ (s : Seat ℕ View). s.id) w.seat-is ∙ (w.place.ensures.seat.id ∙ inv.id);
+            bare = ap (λ (s : Seat ℕ View). s.me.1) w.seat-is ∙ w.place.ensures.seat.bare;
+            view = laid ∙ (λ q. record (inv.view q) { hand = sym (ap (λ (v : View). v.hand) laid) q });
+            waits = subst (λ (z : List ℕ × List Grains). Waits n z.0 z.1 (drop (k + 1) ds)) (λ q. (sym counts_is q, sym hand_is q)) (waits_laid n x (drop (k + 1) ds) cs hand inside coming);
+          })
+      | else-amount-ne0 w ↦
+          (let none = w.if-amount-ne0.false in
+          let same = ap (λ (s : Seat ℕ View). s.me.0) w.seat-is in
+          let counts_is = ap (λ (v : Vec ℕ Global). v.items) w.counts-is in
+          record {
+            table = ap (λ (s : Seat ℕ View). s.table_id) w.seat-is ∙ inv.table;
+            id = ap (λ (s : Seat ℕ View). s.id) w.seat-is ∙ inv.id;
+            bare = ap (λ (s : Seat ℕ View). s.me.1) w.seat-is ∙ inv.bare;
+            view = same ∙ (λ q. record (inv.view q) { hand = (sym same q).hand });
+            waits = subst (λ (z : List ℕ × List Grains). Waits n z.0 z.1 (drop (k + 1) ds)) (λ q. (sym counts_is q, (sym same q).hand)) (waits_past n x (drop (k + 1) ds) cs hand (omega arith) coming);
+          })
+    ]
 
 pub returns-clause-view : goal.returns-clause-view
 returns-clause-view c =
     let ds = c.args.drops.now in
     let done = c.drops-test.false in
+    let n = sites (grid_of c.args.self.now.terms) in
+    let hand = c.drops.seat.me.0.hand in
     let none : drop c.drops.site-index ds ≡ [] = drop_all c.drops.site-index ds (omega arith) in
-    c.drops.invariant.view ∙ (λ q. record c.args.seat.now.me.0 { hand = one_for_each (none q) })
+    let empty = hand_empty n c.drops.counts.items hand (subst (Waits n c.drops.counts.items hand) none c.drops.invariant.waits) in
+    c.drops.invariant.view ∙ (λ q. record c.args.seat.now.me.0 { hand = empty q })
+
+pub returns-clause-none : goal.returns-clause-none
+returns-clause-none c =
+    let ds = c.args.drops.now in
+    let done = c.drops-test.false in
+    let n = sites (grid_of c.args.self.now.terms) in
+    let hand = c.drops.seat.me.0.hand in
+    let none : drop c.drops.site-index ds ≡ [] = drop_all c.drops.site-index ds (omega arith) in
+    counts_zero n c.drops.counts.items hand (subst (Waits n c.drops.counts.items hand) none c.drops.invariant.waits)

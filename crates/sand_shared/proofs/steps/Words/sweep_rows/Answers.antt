@@ -1,11 +1,9 @@
-use Rattle.std.proofs.Common.{◌≡◌, ℕ, ◌+◌, ◌-◌, ◌*◌, ◌^◌, ◌<◌, List, length, set, get_or, sum, sym, ap, ◌∙◌, subst, arith}
+use Rattle.std.proofs.Common.{◌≡◌, ℕ, ◌+◌, List, length, set, get_or, sym, ap, ◌∙◌, subst, arith}
 use Rattle.std.proofs.lemmas.List.{get_or_read}
-use Rattle.sand_shared.specs.declared.view.View.{View}
 use Rattle.sand_shared.specs.OpenPile.{grid_of}
-use Rattle.sand_shared.specs.Events.{looked, raised}
-use Rattle.sand_shared.specs.Sweeps.{with_counts, LeavesAtMost, LeavesAtLeast, HasAll, IsSparing}
+use Rattle.sand_shared.specs.Events.{looked}
 use Rattle.sand_shared.proofs.RowSites.{sites_few}
-use Rattle.sand_shared.proofs.Sweepings.{Sweeps, sweeps_more, sweeps_end, sweeps_few}
+use Rattle.sand_shared.proofs.Sweepings.{Sweeps, next_view, next_swept, kept_view, kept_swept, sweeps_end, sweeps_few}
 use Rattle.sand_shared.proofs.steps.Words.sweep_rows.Goals as goal
 
 pub overflow_add-base : goal.overflow_add-base
@@ -15,6 +13,30 @@ overflow_add-base c =
     let below = c.sites-test.true in
     let end = c.len-i-end.ensures in
     let long = c.args.counts.now.ok.0 in omega arith
+
+pub sites-preserved-then-times-eq0 : goal.sites-preserved-then-times-eq0
+sites-preserved-then-times-eq0 c =
+    let t = c.args.self.now.terms in
+    let inv = c.sites.invariant in
+    let v = c.args.seat.now.me.0 in
+    let me = c.sites.seat.me.0 in
+    let new = c.relieve-times.new.seat.me.0 in
+    let cs = c.sites.counts.items in
+    let i = c.sites.i in
+    let base = c.requires.counts.0 in
+    let first : length v.counts ≡ length c.args.counts.now.items = ap (λ (l : List ℕ). length l) c.requires.counts.1 in
+    let rows = c.requires.rows in
+    let below = c.sites-test.true in
+    let end = c.len-i-end.ensures in
+    let known = c.args.counts.now.ok.0 in
+    let did = c.relieve-times.ensures in
+    record {
+      table = did.seat.table ∙ inv.table;
+      id = did.seat.id ∙ inv.id;
+      bare = did.seat.bare;
+      view = kept_view t v me new cs c.args.base i c.relieve-times.result base inv.view did.view c.if-times-eq0.true;
+      swept = kept_swept t v me new cs c.args.base i c.relieve-times.result base inv.view did.view c.if-times-eq0.true c.sites.topplings (omega arith) (omega arith) inv.swept did.enough did.few did.no_more did.sparing;
+    }
 
 pub sites-preserved : goal.sites-preserved
 sites-preserved c =
@@ -26,33 +48,22 @@ sites-preserved c =
     let cs = c.sites.counts.items in
     let i = c.sites.i in
     let times = c.relieve-times.result in
-    let base : c.args.base ≡ v.base = sym c.requires.counts.0 in
+    let base = c.requires.counts.0 in
     let first : length v.counts ≡ length c.args.counts.now.items = ap (λ (l : List ℕ). length l) c.requires.counts.1 in
     let rows = c.requires.rows in
     let below = c.sites-test.true in
     let end = c.len-i-end.ensures in
     let long = inv.swept.same_rows in
     let known = c.args.counts.now.ok.0 in
-    let new_is : new ≡ record (looked (record (looked v me.spot me.least) { counts = cs }) (v.base + i) new.least) { counts = raised (with_counts v cs) (v.base + i) times } =
-    c.relieve-times.ensures.view ∙ (λ q. record (looked (inv.view q) (base q + i) new.least) { counts = raised (inv.view q) (base q + i) times }) in
-    let more = sweeps_more t v cs i c.sites.topplings times (v.base + i) new.least (omega arith) (omega arith) inv.swept
-    (subst (λ (z : View × ℕ). LeavesAtMost t z.0 (z.1 + i) (4 * times + 3)) (λ q. (inv.view q, base q)) c.relieve-times.ensures.enough)
-    (subst (λ (z : View). sum z.counts < 2 ^ 54) new_is c.relieve-times.ensures.few)
-    (λ all. subst (λ (z : View × ℕ). LeavesAtLeast t z.0 (z.1 + i) (4 * times)) (λ q. (inv.view q, base q))
-    (c.relieve-times.ensures.no_more (subst (HasAll t) (sym inv.view) record { quota = all.quota; all_sites = all.all_sites })))
-    (λ all. let s = subst (IsSparing t) new_is (c.relieve-times.ensures.sparing (subst (HasAll t) (sym inv.view) record { quota = all.quota; all_sites = all.all_sites })) in
-    record { needed = s.needed; weighed = s.weighed }) in
+    let did = c.relieve-times.ensures in
     let value : c.index_mut.result.now ≡ get_or cs i 0 = get_or_read cs _ _ (omega arith) c.index_mut.ensures.value 0 in
-    let place : (v.base + i) - v.base ≡ i = omega arith in
-    let spot = ap (λ (u : View). u.spot) c.relieve-times.ensures.view in
-    let counts : raised me (c.args.base + i) times ≡ set cs i (c.index_mut.result.now + times) =
-    (λ q. raised (inv.view q) (base q + i) times) ∙ (ap (λ z. set cs z (get_or cs z 0 + times)) place ∙ ap (λ z. set cs i (z + times)) (sym value)) in
     record {
-      table = c.relieve-times.ensures.seat.table ∙ inv.table;
-      id = c.relieve-times.ensures.seat.id ∙ inv.id;
-      bare = c.relieve-times.ensures.seat.bare;
-      view = c.relieve-times.ensures.view ∙ (λ q. record (looked (inv.view q) (sym spot q) new.least) { counts = counts q });
-      swept = subst (λ z. Sweeps t v (set cs i (z + times)) (i + 1) (c.sites.topplings + times)) (sym value) more;
+      table = did.seat.table ∙ inv.table;
+      id = did.seat.id ∙ inv.id;
+      bare = did.seat.bare;
+      view = next_view t v me new cs c.args.base i times base inv.view did.view ∙ (λ q. record (looked v new.spot new.least) { counts = set cs i (sym value q + times) });
+      swept = subst (λ z. Sweeps t v (set cs i (z + times)) (i + 1) (c.sites.topplings + times)) (sym value)
+          (next_swept t v me new cs c.args.base i times base inv.view did.view c.sites.topplings (omega arith) (omega arith) inv.swept did.enough did.few did.no_more did.sparing);
     }
 
 pub returns-clause-swept : goal.returns-clause-swept

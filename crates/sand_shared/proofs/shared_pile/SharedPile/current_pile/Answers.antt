@@ -10,7 +10,7 @@ use Rattle.sand_shared.specs.Passes.{PassView, at_rest}
 use Rattle.sand_shared.specs.Rows.{count_of}
 use Rattle.sand_shared.specs.Sweeps.{laid}
 use Rattle.sand_shared.proofs.Completing.{left_underway}
-use Rattle.sand_shared.proofs.shared_pile.SharedPile.left.Goals as goal
+use Rattle.sand_shared.proofs.shared_pile.SharedPile.current_pile.Goals as goal
 
 pub returns-clause-underway : goal.returns-clause-underway
 returns-clause-underway c =

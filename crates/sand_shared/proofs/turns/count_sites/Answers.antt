@@ -1,0 +1,30 @@
+use Rattle.std.proofs.Common.{◌≡◌, ℕ, ◌+◌, ◌<◌, length, get_or, set, take, sym, ◌∙◌, subst, arith, length-set}
+use Rattle.sand_model.specs.Sand.{tally}
+use Rattle.sand_shared.proofs.Counting.{read_count, counted_more, tally_small}
+use Rattle.sand_shared.proofs.turns.count_sites.Goals as goal
+
+pub overflow_add-index_mut : goal.overflow_add-index_mut
+overflow_add-index_mut c =
+    let ds = c.args.drops.now in
+    let k = c.drops.site-index in
+    let below = c.drops-test.true in
+    let inv = c.drops.invariant in
+    let read = read_count (length c.args.counts.now.items) k _ c.drops.counts.items ds inv.long c.requires.inside below c.index_mut.ensures.value in
+    let counted = inv.counted (get_or ds k 0) (c.requires.inside k 0 below) in
+    let small = tally_small k ds (get_or ds k 0) below in omega arith
+
+pub drops-preserved : goal.drops-preserved
+drops-preserved c =
+    let ds = c.args.drops.now in
+    let k = c.drops.site-index in
+    let below = c.drops-test.true in
+    let inv = c.drops.invariant in
+    let cs = c.drops.counts.items in
+    let n = length c.args.counts.now.items in
+    let read = read_count n k _ cs ds inv.long c.requires.inside below c.index_mut.ensures.value in
+    let long = inv.long in
+    let inside = c.requires.inside k 0 below in
+    record {
+      long = length-set cs (get_or ds k 0) (c.index_mut.result.now + 1) ∙ inv.long;
+      counted = subst (λ z. (i : ℕ) → i < n → get_or (set cs (get_or ds k 0) (z + 1)) i 0 ≡ tally (take (k + 1) ds) i) (sym read) (counted_more n k cs ds below (omega arith) inv.counted);
+    }
