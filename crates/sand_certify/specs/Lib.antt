@@ -1,2 +1,3 @@
 pub mod Certificate
+pub mod Emptying
 pub mod Laws

@@ -31,7 +31,7 @@ fn value(values: &[u64], place: Option<usize>) -> u64
 
 // The sum of the counts of a site's neighbours.
 #[inline(always)]
-fn inflow(lattice: &Lattice, counts: &[u64], site: usize) -> u64
+pub(crate) fn inflow(lattice: &Lattice, counts: &[u64], site: usize) -> u64
     requires one_each { length counts.now ≡ sites lattice.now }
     requires site { site < sites lattice.now }
     requires few { (j : ℕ) → slice_index counts.now j < COUNT_LIMIT }
@@ -107,7 +107,7 @@ fn height_left(
 }
 
 // Whether each count is below the limit.
-fn are_few(counts: &[u64]) -> bool
+pub(crate) fn are_few(counts: &[u64]) -> bool
     ensures { IsTrue result ↔ All (λ n. n < COUNT_LIMIT) counts.now }
 {
     counts.iter().all(|count| *count < COUNT_LIMIT)

@@ -6,8 +6,10 @@
 #![tactic(auto)]
 
 mod certificate;
+mod emptying;
 pub mod laws;
 #[cfg(test)]
 mod tests;
 
 pub use certificate::{COUNT_LIMIT, certified};
+pub use emptying::emptied;
