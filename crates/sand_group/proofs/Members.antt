@@ -121,6 +121,35 @@ class_has_one g x =
       },
     )
 
+-- ---- the recurrent pile of a class
+
+pub equivalent_is_settled : (g : Grid) (s u t e v r : ℕ → ℕ) → IsSettled g s u t → IsIdentity g e → IsSettled g (λ i. e i + t i) v r → Represents g (whole s) r
+equivalent_is_settled g s u t e v r done identity again = record {
+  recurrent = recurrent_plus g e t v r identity.recurrent again;
+  equivalent =
+      equivalent_trans g (whole r) (λ i. pos (e i + t i)) (whole s) ((sum_is_settled g e t v r identity.recurrent again).equivalent)
+      (equivalent_same g (λ i. whole e i +ℤ whole t i) (λ i. pos 0 +ℤ whole s i) (λ i. pos (e i + t i)) (whole s)
+      (equivalent_add g (whole e) (λ i. pos 0) (whole t) (whole s) identity.equivalent (equivalent_sym g (whole s) (whole t) (settled_equivalent g s u t done)))
+      (λ i l. omega (arith, ints)));
+}
+
+pub represents_itself : (g : Grid) (c : ℕ → ℕ) → IsRecurrent g c → Represents g (whole c) c
+represents_itself g c recurrent =
+    let done = settles g c in
+    let there = settled_equivalent g c done.0 done.1 done.2 in
+    record { recurrent = recurrent; equivalent = equivalent_trans g (whole c) (whole done.1) (whole c) there (equivalent_sym g (whole c) (whole done.1) there) }
+
+pub equivalents_add_up : (g : Grid) (a b c d e : ℕ → ℕ) → Represents g (whole a) c → Represents g (whole b) d → Represents g (whole (λ i. a i + b i)) e → IsSum g c d e
+equivalents_add_up g a b c d e one two both =
+    let sum = equivalent_add g (whole c) (whole a) (whole d) (whole b) one.equivalent two.equivalent in
+    record {
+      recurrent = both.recurrent;
+      equivalent =
+          equivalent_trans g (whole e) (whole (λ i. a i + b i)) (λ i. pos (c i + d i)) both.equivalent
+          (equivalent_same g (λ i. whole a i +ℤ whole b i) (λ i. whole c i +ℤ whole d i) (whole (λ i. a i + b i)) (λ i. pos (c i + d i))
+          (equivalent_sym g (λ i. whole c i +ℤ whole d i) (λ i. whole a i +ℤ whole b i) sum) (λ i l. omega (arith, ints)));
+    }
+
 -- ---- the laws of the group
 
 pub represented_once : (g : Grid) (x : ℕ → ℤ) (c d : ℕ → ℕ) → Represents g x c → Represents g x d → (i : ℕ) → i < sites g → c i ≡ d i

@@ -2,18 +2,20 @@
 use Rattle.std.proofs.Common.{ℕ, ◌≡◌, ◌+◌, ◌-◌, ◌*◌, ◌<◌, ◌≤◌, refl, sym, ◌∙◌, ap, arith, List, length, sum, get_or, replicate, All, ⊎_elim}
 use Rattle.std.proofs.Math.ListN.{set}
 use Rattle.std.proofs.lemmas.Bool.{cases_lt}
-use Rattle.std.proofs.lemmas.List.{get_or-replicate, get_or_read, get_or_past}
+use Rattle.std.proofs.lemmas.List.{ext_get_or, get_or-replicate, get_or_read, get_or_past}
 use Rattle.std.proofs.lemmas.List.Sums.{sum_by-le}
 use Rattle.std.proofs.lemmas.List.Elements.{All-from_get_or, All-get_or}
 use Rattle.sand_model.specs.declared.pile.TheConstants.{GRAIN_LIMIT}
 use Rattle.sand_model.specs.Grid.{Grid, IsGrid, sites}
-use Rattle.sand_model.specs.Sand.{IsStable, one_at}
+use Rattle.sand_model.specs.Sand.{IsStable, IsSettled, one_at}
+use Rattle.sand_model.specs.Integers.{whole}
 use Rattle.sand_model.specs.Piles.{PileView, IsPile, height_of}
 use Rattle.sand_model.proofs.Sandpile.{settled_same}
 use Rattle.sand_model.proofs.Bounds.{sites_limit}
 use Rattle.sand_model.proofs.Heights.{get_or-written}
 use Rattle.sand_group.specs.Recurrence.{IsRecurrent}
-use Rattle.sand_group.specs.Group.{IsSettledPile, IsSurplus}
+use Rattle.sand_group.specs.Group.{IsSettledPile, IsSurplus, IsIdentity, IsEquivalentRecurrent}
+use Rattle.sand_group.proofs.Members.{equivalent_is_settled, represents_itself, represented_once}
 
 -- heights of 12 at most are far below the limit in all
 pub within_limit : (g : Grid) (heights : List ℕ) → IsGrid g → length heights ≡ sites g → All (λ h. h ≤ 12) heights → sum heights ≤ GRAIN_LIMIT
@@ -58,6 +60,28 @@ sum_settles g a b p ha hb v grid is same_a same_b sums done =
     let each : length ha ≡ sites g = ap length same_a ∙ is.one_each ∙ sym (ap sites grid) in
     pile_settles g a.grid (λ i. get_or v i 0) (λ i. height_of a i + height_of b i) p done (sym grid)
     (λ i l. let e = sums i (omega arith) in let p = ap (λ (xs : List ℕ). get_or xs i 0) same_a in let q = ap (λ (xs : List ℕ). get_or xs i 0) same_b in omega arith)
+
+-- ---- the recurrent pile of a class
+
+pub equivalent_settles : (g : Grid) (p e t c : PileView) (u : ℕ → ℕ) (he ht v : List ℕ) → g ≡ p.grid → IsSettled p.grid (height_of p) u (height_of t) → e.grid ≡ g → IsPile e → IsIdentity g (height_of e) → he ≡ e.heights → ht ≡ t.heights → ((i : ℕ) → i < length he → get_or v i 0 ≡ get_or he i 0 + get_or ht i 0) → IsSettledPile g (λ i. get_or v i 0) c → IsEquivalentRecurrent p.grid (height_of p) c
+equivalent_settles g p e t c u he ht v grid start there is identity same_e same_t sums done =
+    let both = sum_settles g e t c he ht v (sym there) is same_e same_t sums done in
+    let here = pile_settles e.grid p.grid (λ i. height_of e i + height_of t i) (λ i. height_of e i + height_of t i) c both (sym (there ∙ grid)) (λ i l. refl) in
+    record {
+      grid = here.grid;
+      one_each = here.one_each;
+      represents = equivalent_is_settled p.grid (height_of p) u (height_of t) (height_of e) here.odometer (height_of c) start (rw (← grid) identity) here.settled;
+    }
+
+pub recurrent_of : (g : Grid) (s : ℕ → ℕ) (c : PileView) → IsEquivalentRecurrent g s c → IsRecurrent c.grid (height_of c)
+recurrent_of g s c done = rw done.grid done.represents.recurrent
+
+pub equivalent_itself : (p c : PileView) → IsPile p → IsRecurrent p.grid (height_of p) → IsEquivalentRecurrent p.grid (height_of p) c → c ≡ p
+equivalent_itself p c is recurrent done =
+    let heights : c.heights ≡ p.heights =
+    ext_get_or 0 c.heights p.heights (done.one_each ∙ sym is.one_each)
+    (λ i l. let each = done.one_each in represented_once p.grid (whole (height_of p)) (height_of c) (height_of p) done.represents (represents_itself p.grid (height_of p) recurrent) i (omega arith)) in
+    ap (λ (h : List ℕ). record { grid = c.grid; heights = h }) heights ∙ ap (λ (g : Grid). record { grid = g; heights = p.heights }) done.grid
 
 -- ---- d, and what 2d - c settles to
 

@@ -38,3 +38,9 @@ IsIdentity g = Represents g (λ i. pos 0)
 -- the recurrent pile equivalent to -c
 abbrev pub IsInverse : Grid → (ℕ → ℕ) → (ℕ → ℕ) → Type 0
 IsInverse g c = Represents g (λ i. pos 0 -ℤ pos (c i))
+
+-- the pile is the recurrent pile that is equivalent to the heights s
+pub record IsEquivalentRecurrent (g : Grid) (s : ℕ → ℕ) (pile : PileView) : Type 0 where
+  pub grid : pile.grid ≡ g
+  pub one_each : length pile.heights ≡ sites g
+  pub represents : Represents g (whole s) (height_of pile)

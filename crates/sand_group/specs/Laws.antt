@@ -49,3 +49,15 @@ IdentityIsNeutral = (g : Grid) (c e u t : ℕ → ℕ) → IsRecurrent g c → I
 -- c and its inverse settle to the identity
 abbrev pub InverseCancels : Type 0
 InverseCancels = (g : Grid) (c v u t : ℕ → ℕ) → IsRecurrent g c → IsInverse g c v → IsSettled g (λ i. c i + v i) u t → IsIdentity g t
+
+-- what the settled pile of s and the identity settle to is the recurrent pile equivalent to s
+abbrev pub EquivalentIsSettled : Type 0
+EquivalentIsSettled = (g : Grid) (s u t e v c : ℕ → ℕ) → IsSettled g s u t → IsIdentity g e → IsSettled g (λ i. e i + t i) v c → Represents g (whole s) c
+
+-- of a recurrent pile it is the pile itself
+abbrev pub RepresentsItself : Type 0
+RepresentsItself = (g : Grid) (c : ℕ → ℕ) → IsRecurrent g c → Represents g (whole c) c
+
+-- that of a + b is the sum of those of a and b
+abbrev pub EquivalentsAddUp : Type 0
+EquivalentsAddUp = (g : Grid) (a b c d e : ℕ → ℕ) → Represents g (whole a) c → Represents g (whole b) d → Represents g (whole (λ i. a i + b i)) e → IsSum g c d e

@@ -22,7 +22,7 @@ use std::marker::Model;
 /// A recurrent pile: it is stable, and no set of its sites is forbidden.
 #[derive(Debug, Drop)]
 pub struct Recurrent {
-    pile: Pile,
+    pub(crate) pile: Pile,
 }
 
 impl Model for Recurrent {
@@ -66,7 +66,7 @@ impl Recurrent {
 }
 
 // What a list of heights settles to.
-fn settled(alloc: Global, shape: Shape, heights: Vec<u64>) -> Result<Pile, GroupFault>
+pub(crate) fn settled(alloc: Global, shape: Shape, heights: Vec<u64>) -> Result<Pile, GroupFault>
     requires one_each { length heights.items ≡ sites shape }
     requires low { All (λ h. h ≤ 12) heights.items }
     ensures settled { IfOk result (IsSettledPile shape (slice_index heights.items)) }
@@ -78,7 +78,7 @@ fn settled(alloc: Global, shape: Shape, heights: Vec<u64>) -> Result<Pile, Group
 }
 
 // The sums of two lists of heights, by site.
-fn sums(alloc: Global, a: &[u64], b: &[u64]) -> Result<Vec<u64>, AllocError>
+pub(crate) fn sums(alloc: Global, a: &[u64], b: &[u64]) -> Result<Vec<u64>, AllocError>
     requires same_length { length a.now ≡ length b.now }
     requires low_a { All (λ h. h ≤ 3) a.now }
     requires low_b { All (λ h. h ≤ 3) b.now }

@@ -13,7 +13,7 @@
 //! second, unless z is at most 0; and the same for -z. So a recurrent c is what c + d settles to, where d is
 //! 2m - settled(2m): d is equivalent to all 0 and at least m.
 
-ghost use Rattle.sand_group.specs.Laws.{BurningDecides, RecurrentFromFull, StaysRecurrent, EachClassHasOne, RecurrentOnce, RepresentedOnce, SumIsSettled, IdentityIsSettled, InverseIsSettled, IdentityIsNeutral, InverseCancels};
+ghost use Rattle.sand_group.specs.Laws.{BurningDecides, RecurrentFromFull, StaysRecurrent, EachClassHasOne, RecurrentOnce, RepresentedOnce, SumIsSettled, IdentityIsSettled, InverseIsSettled, IdentityIsNeutral, InverseCancels, EquivalentIsSettled, RepresentsItself, EquivalentsAddUp};
 
 /// A stable pile is recurrent exactly where all its sites burn in some order.
 pub fn burning_decides()
@@ -44,4 +44,12 @@ pub fn settling_is_adding()
 pub fn is_group()
     ensures neutral { IdentityIsNeutral }
     ensures inverse { InverseCancels }
+{}
+
+/// The recurrent pile that is equivalent to a pile is what the settled pile and the identity settle to. Of a recurrent
+/// pile it is the pile itself, and that of a + b is the sum of those of a and b.
+pub fn equivalents_add_up()
+    ensures settled { EquivalentIsSettled }
+    ensures itself { RepresentsItself }
+    ensures sum { EquivalentsAddUp }
 {}

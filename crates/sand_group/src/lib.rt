@@ -1,10 +1,11 @@
 //! The burning test, and the group of recurrent piles.
 //!
 //! The definitions stand in `specs/`: `Recurrence` (forbidden sets, recurrent piles, burning orders), `Group` (sums,
-//! the identity, inverses) and `Laws`.
+//! the identity, inverses, the recurrent pile of a class) and `Laws`.
 #![tactic(auto)]
 
 mod burning;
+mod equivalent;
 mod faults;
 mod group;
 pub mod laws;
@@ -12,5 +13,6 @@ pub mod laws;
 mod tests;
 
 pub use burning::{Burned, burn};
+pub use equivalent::equivalent_recurrent;
 pub use faults::GroupFault;
 pub use group::{Recurrent, act, add, identity, inverse};

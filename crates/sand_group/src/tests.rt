@@ -1,6 +1,8 @@
 //! Worked examples of the burning test and of the group.
 
-use crate::{Burned, GroupFault, Recurrent, act, add, burn, identity, inverse};
+use crate::{
+    Burned, GroupFault, Recurrent, act, add, burn, equivalent_recurrent, identity, inverse,
+};
 use sand_model::{Edge, Pile, Shape};
 use std::alloc::Global;
 use std::test::Fail;
@@ -99,5 +101,28 @@ fn inverts_and_acts(rt: HostRuntime) -> Result<(), Fail> {
     assert!(rt; 0 < neutral.pile().shape().sites());
     let acted = act(alloc, &neutral, 0)?;
     assert_eq!(rt; acted.pile().heights(), [1, 0].as_slice());
+    Ok(())
+}
+
+// The recurrent pile that is equivalent to heights on a shape.
+fn equivalent(alloc: Global, shape: Shape, heights: &[u64]) -> Result<Recurrent, Fail> {
+    Ok(equivalent_recurrent(alloc, &Pile::new(alloc, shape, heights)?)?)
+}
+
+#[test]
+fn finds_the_equivalent_recurrent_pile(rt: HostRuntime) -> Result<(), Fail> {
+    let alloc = rt.alloc();
+    let unstable = equivalent(alloc, Shape::new(2, 2)?, &[9, 0, 0, 5])?;
+    assert_eq!(rt; unstable.pile().heights(), [1, 3, 3, 1].as_slice());
+    let forbidden = equivalent(alloc, Shape::new(2, 2)?, &[0, 0, 0, 1])?;
+    assert_eq!(rt; forbidden.pile().heights(), [2, 2, 2, 3].as_slice());
+    let recurrent = equivalent(alloc, Shape::new(2, 1)?, &[3, 1])?;
+    assert_eq!(rt; recurrent.pile().heights(), [3, 1].as_slice());
+    let round = equivalent(
+        alloc,
+        Shape::with_edge(3, 2, Edge::Cylinder)?,
+        &[7, 0, 0, 0, 0, 1],
+    )?;
+    assert_eq!(rt; round.pile().heights(), [0, 3, 3, 3, 1, 2].as_slice());
     Ok(())
 }

@@ -1,0 +1,30 @@
+//! The recurrent pile that is equivalent to a pile.
+//!
+//! A pile and its settled pile are equivalent, and the identity is equivalent to all 0. So the settled pile and the
+//! identity together are equivalent to the pile, and what they settle to is recurrent because the identity is.
+
+ghost use Rattle.std.specs.Prelude.{◌≡◌, IfOk, IsOkUnless, alloc_error};
+ghost use Rattle.sand_model.specs.Piles.{height_of};
+ghost use Rattle.sand_group.specs.Recurrence.{IsRecurrent};
+ghost use Rattle.sand_group.specs.Group.{IsEquivalentRecurrent};
+
+use crate::faults::GroupFault;
+use crate::group::{Recurrent, identity, settled, sums};
+use sand_model::Pile;
+use sand_settle::settle;
+use std::alloc::Global;
+
+/// The one recurrent pile that is equivalent to a pile. Returns Memory if an allocation fails, and no other fault.
+pub fn equivalent_recurrent(alloc: Global, pile: &Pile) -> Result<Recurrent, GroupFault>
+    ensures memory { IsOkUnless result (GroupFault.Memory alloc_error) }
+    ensures equivalent { IfOk result (λ c. IsEquivalentRecurrent pile.now.grid (height_of pile.now) c) }
+    ensures itself { IsRecurrent pile.now.grid (height_of pile.now) → IfOk result (λ c. c ≡ pile.now) }
+{
+    let shape = pile.shape();
+    let start = settle(alloc, pile)?.into_pile();
+    let neutral = identity(alloc, shape)?;
+    let heights = sums(alloc, neutral.pile().heights(), start.heights())?;
+    Ok(Recurrent {
+        pile: settled(alloc, shape, heights)?,
+    })
+}
