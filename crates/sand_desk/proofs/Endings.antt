@@ -50,6 +50,7 @@ faulty asked left left' held task input fault read found = record {
 pub work_ends : (asked : Option Task) (left left' held : Option (List ℕ)) (task : Task) (input : List ℕ) (fault : DeskFault) → IsRead asked left left' task input → Finds (IsFaultOf task input) fault → EndsBy asked left left' held held fault
 work_ends asked left left' held task input desk.Memory read found = keeps held
 work_ends asked left left' held task input (desk.Usage error) read found = absurd found
+work_ends asked left left' held task input (desk.Clash conflict) read found = absurd found
 work_ends asked left left' held task input desk.Read read found = absurd found
 work_ends asked left left' held task input desk.TooLong read found = absurd found
 work_ends asked left left' held task input (desk.Write sent) read found = absurd found

@@ -1,5 +1,5 @@
 -- What two runs that ask for the same write is the same.
-use Rattle.std.proofs.Common.{◌≡◌, ℕ, Bool, true, false, List, [], ◌++◌, map, sum, sym, ap, ap₂, ◌∙◌, subst}
+use Rattle.std.proofs.Common.{◌≡◌, ℕ, false, List, [], ◌++◌, map, sum, sym, ap, ap₂, ◌∙◌, subst}
 use Rattle.std.specs.Prelude.{Result, Ok, Err}
 use Rattle.std.proofs.lemmas.Simd.{map-map}
 use Rattle.sand_model.specs.Piles.{PileView}
@@ -9,6 +9,9 @@ use Rattle.sand_text.specs.declared.fault.TextFault.{TextFault}
 use Rattle.sand_text.specs.declared.runs.Sums.{Sums}
 use Rattle.sand_text.specs.Pictures.{pgm_text_of}
 use Rattle.sand_text.specs.Runs.{lab_text_of}
+use Rattle.sand_text.specs.Texts.{text_of}
+use Rattle.sand_words.specs.declared.words.Form.{Form}
+use Rattle.sand_words.specs.declared.words.Form.TheVariants.{Picture, Pile, Text}
 use Rattle.sand_lab.specs.Laws.{AreAlike, OneOutcome}
 use Rattle.sand_lab.specs.Reports.{ReportView, IsReport}
 use Rattle.sand_desk.specs.Laboratory.{sums_of, lab_text_of_report, report_text_of, OneLabText}
@@ -25,9 +28,10 @@ text_shown : (p : ReportView) → lab_text_of_report p ≡ shown (map one_of p.r
 unfolding shown sums_of_one
 text_shown p = ap (λ sums. lab_text_of sums (sums_of p.total) p.total.settled.pile p.total.settled.odometer) (sym (map-map sums_of_one one_of p.records))
 
-same_text : (pgm : Bool) (p q : ReportView) → AreAlike p q → report_text_of false pgm p ≡ report_text_of false pgm q
-same_text true p q alike = ap (λ (o : OneView). pgm_text_of o.settled.pile) alike.total
-same_text false p q alike = ap (λ text. text ++ []) (text_shown p ∙ ap₂ shown alike.epochs alike.total ∙ sym (text_shown q))
+same_text : (form : Form) (p q : ReportView) → AreAlike p q → report_text_of false form p ≡ report_text_of false form q
+same_text Picture p q alike = ap (λ (o : OneView). pgm_text_of o.settled.pile) alike.total
+same_text Pile p q alike = ap (λ (o : OneView). text_of o.settled.pile) alike.total
+same_text Text p q alike = ap (λ text. text ++ []) (text_shown p ∙ ap₂ shown alike.epochs alike.total ∙ sym (text_shown q))
 
 -- what was read, where something was
 read_or : PileView → Result PileView TextFault → PileView
@@ -40,7 +44,7 @@ unfolding read_or
 same_start p q e = ap (read_or p) e
 
 pub one_text : OneOutcome → OneLabText
-one_text one_outcome w v pgm input one other asks a b =
+one_text one_outcome w v form input one other asks a b =
     let starts : a.start ≡ b.start = same_start a.start b.start (sym a.read ∙ b.read) in
     let left : IsReport b.album v a.start b.report = subst (λ (x : PileView). IsReport b.album v x b.report) (sym starts) b.left in
-    a.written ∙ same_text pgm a.report b.report (one_outcome a.album b.album w v a.start a.report b.report asks a.left left) ∙ sym b.written
+    a.written ∙ same_text form a.report b.report (one_outcome a.album b.album w v a.start a.report b.report asks a.left left) ∙ sym b.written

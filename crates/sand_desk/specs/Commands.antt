@@ -29,13 +29,13 @@ reads_input _ = true
 
 -- the text that a task writes for an input
 abbrev pub IsTextOf : Task → List ℕ → List ℕ → Type 0
-IsTextOf (task.Settle pgm) input text = IsSettleText pgm input text
+IsTextOf (task.Settle form) input text = IsSettleText form input text
 IsTextOf task.Burn input text = IsBurnText input text
 IsTextOf (task.Identity width height cylinder pgm) input text = IsIdentityText width height cylinder pgm text
-IsTextOf task.Drops input text = IsDropsText input text
+IsTextOf (task.Drops pile) input text = IsDropsText pile input text
 IsTextOf (task.Add pgm) input text = IsSumText pgm input text
 IsTextOf (task.Inverse pgm) input text = IsInverseText pgm input text
-IsTextOf (task.Lab run journal pgm) input text = IsLabText (wish_of run) journal pgm input text
+IsTextOf (task.Lab run journal form) input text = IsLabText (wish_of run) journal form input text
 
 -- the input doesn't hold what the task wants
 pub record IsUnreadable {A : Type 0} (reading : Result A TextFault) (fault : DeskFault) : Type 0 where
@@ -92,18 +92,19 @@ IsLabFault w input fault = IsUnreadable (pile_of input) fault
 
 -- the fault that a task finds in an input
 abbrev pub IsFaultOf : Task → List ℕ → DeskFault → Type 0
-IsFaultOf (task.Settle pgm) input fault = IsUnreadable (pile_of input) fault
+IsFaultOf (task.Settle form) input fault = IsUnreadable (pile_of input) fault
 IsFaultOf task.Burn input fault = IsBurnFault input fault
 IsFaultOf (task.Identity width height cylinder pgm) input fault = IsShapeless width height cylinder fault
-IsFaultOf task.Drops input fault = IsDropsFault input fault
+IsFaultOf (task.Drops pile) input fault = IsDropsFault input fault
 IsFaultOf (task.Add pgm) input fault = IsSumFault input fault
 IsFaultOf (task.Inverse pgm) input fault = IsInverseFault input fault
-IsFaultOf (task.Lab run journal pgm) input fault = IsLabFault (wish_of run) input fault
+IsFaultOf (task.Lab run journal form) input fault = IsLabFault (wish_of run) input fault
 
 -- a fault that a task finds in its input, or want of memory; no fault of the words or of a stream
 abbrev pub Finds : (DeskFault → Type 0) → DeskFault → Type 0
 Finds IsFault desk.Memory = Unit {0}
 Finds IsFault (desk.Usage error) = ⊥
+Finds IsFault (desk.Clash conflict) = ⊥
 Finds IsFault desk.Read = ⊥
 Finds IsFault desk.TooLong = ⊥
 Finds IsFault (desk.Write sent) = ⊥
@@ -169,14 +170,16 @@ pub record IsMisuse (asked : Option Task) (left left' held held' : Option (List 
   pub unread : Keeps left left'
   pub unwritten : Keeps held held'
 
--- a fault of the words shows help exactly where the words ask for help and for nothing else
+-- a fault of the words shows help if and only if the words ask for help and for nothing else
 abbrev pub HelpsIfAsked : List Text → DeskFault → Type 0
 HelpsIfAsked words (desk.Usage error) = (kind_of error ≡ DisplayHelp) ↔ AskForHelp words
+HelpsIfAsked words (desk.Clash conflict) = ¬ AskForHelp words
 HelpsIfAsked words fault = ⊤
 
 -- how a command ends by each fault; memory may run out anywhere before the text is written
 abbrev pub EndsBy : Option Task → Option (List ℕ) → Option (List ℕ) → Option (List ℕ) → Option (List ℕ) → DeskFault → Type 0
 EndsBy asked left left' held held' (desk.Usage error) = IsMisuse asked left left' held held'
+EndsBy asked left left' held held' (desk.Clash conflict) = IsMisuse asked left left' held held'
 EndsBy asked left left' held held' desk.Read = IsStopped asked left left' held held'
 EndsBy asked left left' held held' desk.TooLong = IsFlooded asked left left' held held'
 EndsBy asked left left' held held' desk.Memory = Keeps held held'

@@ -1,5 +1,5 @@
 -- What `drops` writes.
-use Rattle.std.specs.Prelude.{ℕ, ◌≡◌, ◌+◌, ◌<◌, List, [], ◌∷◌, ◌++◌, length, sum, codes, decimal, Ok}
+use Rattle.std.specs.Prelude.{ℕ, ◌≡◌, ◌+◌, ◌<◌, Bool, if◌then◌else◌, List, [], ◌∷◌, ◌++◌, length, sum, codes, decimal, Ok}
 use Rattle.sand_model.specs.declared.pile.TheConstants.{GRAIN_LIMIT}
 use Rattle.sand_model.specs.Piles.{PileView}
 use Rattle.sand_settle.specs.declared.avalanche.Avalanche.{Avalanche}
@@ -25,8 +25,12 @@ abbrev pub drops_text_of : List (ℕ × Avalanche) → OneView → List ℕ
 drops_text_of rows last = table_text_of rows ++ text_of last.settled.pile
     ++ sum_line (codes "lost ") last.settled.lost ++ sum_line (codes "topplings ") last.settled.topplings
 
--- the text of the drops that the input holds, on the settled pile that it holds
-pub record IsDropsText (input text : List ℕ) : Type 0 where
+-- the same, or the pile alone
+abbrev pub drops_in : Bool → List (ℕ × Avalanche) → OneView → List ℕ
+drops_in alone rows last = if alone then text_of last.settled.pile else drops_text_of rows last
+
+-- the text of the drops that the input holds, on the settled pile that it holds, or the pile alone that they leave
+pub record IsDropsText (alone : Bool) (input text : List ℕ) : Type 0 where
   pub pile : PileView
   pub sites : List ℕ
   pub first : OneView
@@ -36,7 +40,7 @@ pub record IsDropsText (input text : List ℕ) : Type 0 where
   pub start : IsAfter pile [] first
   pub dropped : AreRows first sites rows last
   pub end : IsAfter pile sites last
-  pub written : text ≡ drops_text_of rows last
+  pub written : text ≡ drops_in alone rows last
 
 -- the grains of the pile and of the drops exceed the limit
 pub record IsOverfull (input : List ℕ) : Type 0 where

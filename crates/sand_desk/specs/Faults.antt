@@ -18,7 +18,7 @@ use Rattle.sand_model.specs.declared.faults.ShapeFault.TheVariants as shape
 use Rattle.sand_words.specs.declared.fault.WordsFault.{WordsFault}
 use Rattle.sand_words.specs.declared.fault.WordsFault.TheVariants as words
 use Rattle.sand_desk.specs.declared.faults.DeskFault.{DeskFault}
-use Rattle.sand_desk.specs.declared.faults.DeskFault.TheVariants.{Side, Length, TooManyGrains, Memory, Full, Unstable, NotRecurrent, Shapes, Taken, Text, TooLarge, Read, Write, TooLong, Usage, Narrow, NoSite}
+use Rattle.sand_desk.specs.declared.faults.DeskFault.TheVariants.{Side, Length, TooManyGrains, Memory, Full, Unstable, NotRecurrent, Shapes, Taken, Text, TooLarge, Read, Write, TooLong, Usage, Clash, Narrow, NoSite}
 
 abbrev pub number_of : DeskFault → ℕ
 number_of Side = 1
@@ -36,6 +36,7 @@ number_of Read = 20
 number_of (Write sent) = 21
 number_of TooLong = 22
 number_of (Usage error) = 23
+number_of (Clash conflict) = 23
 number_of Narrow = 24
 number_of (NoSite index) = 25
 
@@ -55,6 +56,7 @@ name_of Read = codes "Read"
 name_of (Write sent) = codes "Write"
 name_of TooLong = codes "TooLong"
 name_of (Usage error) = codes "Usage"
+name_of (Clash conflict) = codes "Usage"
 name_of Narrow = codes "Narrow"
 name_of (NoSite index) = codes "NoSite"
 
@@ -75,6 +77,7 @@ place_of Read = []
 place_of (Write sent) = codes " after " ++ decimal sent
 place_of TooLong = []
 place_of (Usage error) = []
+place_of (Clash conflict) = []
 place_of Narrow = []
 place_of (NoSite index) = codes " at " ++ decimal index
 
@@ -104,6 +107,7 @@ status_of Read = 1
 status_of (Write sent) = 1
 status_of TooLong = 1
 status_of (Usage error) = usage_status (kind_of error)
+status_of (Clash conflict) = 2
 status_of Narrow = 1
 status_of (NoSite index) = 1
 
@@ -129,6 +133,7 @@ of_stream stream.TooLong = TooLong
 abbrev pub of_words : WordsFault → DeskFault
 of_words words.Memory = Memory
 of_words (words.Usage error) = Usage error
+of_words (words.Clash conflict) = Clash conflict
 
 abbrev pub of_one : OneFault → DeskFault
 of_one one.Full = Full

@@ -7,6 +7,9 @@ use Rattle.sand_text.specs.declared.runs.Sums.{Sums}
 use Rattle.sand_text.specs.Pictures.{pgm_text_of}
 use Rattle.sand_text.specs.Reading.{pile_of}
 use Rattle.sand_text.specs.Runs.{lab_text_of, journal_text_of}
+use Rattle.sand_text.specs.Texts.{text_of}
+use Rattle.sand_words.specs.declared.words.Form.{Form}
+use Rattle.sand_words.specs.declared.words.Form.TheVariants.{Picture, Pile, Text}
 use Rattle.sand_words.specs.declared.words.Run.{Run}
 use Rattle.sand_lab.specs.declared.journal.Entry.{Entry}
 use Rattle.sand_lab.specs.declared.plan.Wish.{Wish}
@@ -33,23 +36,24 @@ dropper_and_site e = (e.dropper, e.site)
 abbrev pub journal_text_of_report : ReportView → List ℕ
 journal_text_of_report p = journal_text_of (map (λ (s : SheetView). map dropper_and_site s.journal) p.sheets)
 
--- the text, with the journal where that is wanted, or the last pile as a picture
-abbrev pub report_text_of : Bool → Bool → ReportView → List ℕ
-report_text_of journal pgm p =
-    if pgm then pgm_text_of p.total.settled.pile else lab_text_of_report p ++ (if journal then journal_text_of_report p else [])
+-- the text, with the journal if that is wanted, or the last pile alone, as text or as a picture
+abbrev pub report_text_of : Bool → Form → ReportView → List ℕ
+report_text_of journal Text p = lab_text_of_report p ++ (if journal then journal_text_of_report p else [])
+report_text_of journal Pile p = text_of p.total.settled.pile
+report_text_of journal Picture p = pgm_text_of p.total.settled.pile
 
 -- the text of some report of the run that is wished for, from the pile that the input holds
-pub record IsLabText (w : Wish) (journal pgm : Bool) (input text : List ℕ) : Type 0 where
+pub record IsLabText (w : Wish) (journal : Bool) (form : Form) (input text : List ℕ) : Type 0 where
   pub start : PileView
   pub album : List ℕ
   pub report : ReportView
   pub read : pile_of input ≡ Ok start
   pub left : IsReport album w start report
-  pub written : text ≡ report_text_of journal pgm report
+  pub written : text ≡ report_text_of journal form report
 
 -- without its journal there is one text for an input, a seed, and numbers of droppers, drops and epochs
 abbrev pub OneLabText : Type 0
-OneLabText = (w v : Wish) (pgm : Bool) (input one other : List ℕ) → AskTheSame w v → IsLabText w false pgm input one → IsLabText v false pgm input other → one ≡ other
+OneLabText = (w v : Wish) (form : Form) (input one other : List ℕ) → AskTheSame w v → IsLabText w false form input one → IsLabText v false form input other → one ≡ other
 
 -- the grains of the pile, with all drops, exceed the limit
 pub record IsOvergrown (w : Wish) (input : List ℕ) : Type 0 where

@@ -48,7 +48,7 @@ fn perform<T: Threads + Sync>(
     ensures fault { IfErr result (Finds (IsFaultOf task input.now)) }
 {
     match task {
-        Task::Settle { pgm } => settle_input(alloc, input, pgm),
+        Task::Settle { form } => settle_input(alloc, input, form),
         Task::Burn => burn_input(alloc, input),
         Task::Identity {
             width,
@@ -56,17 +56,18 @@ fn perform<T: Threads + Sync>(
             cylinder,
             pgm,
         } => identity_text(alloc, width, height, cylinder, pgm),
-        Task::Drops => drops_input(alloc, input),
+        Task::Drops { pile } => drops_input(alloc, input, pile),
         Task::Add { pgm } => sum_input(alloc, input, pgm),
         Task::Inverse { pgm } => inverse_input(alloc, input, pgm),
-        Task::Lab { run, journal, pgm } => lab_input(rt, alloc, input, run, journal, pgm),
+        Task::Lab { run, journal, form } => lab_input(rt, alloc, input, run, journal, form),
     }
 }
 
 /// Runs the command that the words name, the program's name being the first: reads all input, and writes the whole text
 /// of the command or, where it finds a fault, nothing.
 ///
-/// Refuses, in this order: words that the command line doesn't take (Usage; then nothing is read); a reader that fails
+/// Refuses, in this order: words that the command line doesn't take (Usage) and options that exclude one another (Clash),
+/// and then nothing is read; a reader that fails
 /// (Read), more than 1,048,576 bytes (TooLong) or want of memory, whichever is met first; the faults of the text; those
 /// of the command; want of memory for the text; a writer that fails (Write, with how many bytes it took).
 pub fn run_command<T: Threads + Sync, R: Read, W: Write>(

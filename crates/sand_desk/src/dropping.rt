@@ -5,7 +5,7 @@ ghost use Rattle.sand_model.specs.Grid.{sites};
 ghost use Rattle.sand_model.specs.Piles.{PileView};
 ghost use Rattle.sand_settle.specs.Drops.{grid_of_one, IsAfter};
 ghost use Rattle.sand_desk.specs.Commands.{IsDropFault, IsDropsFault, Finds};
-ghost use Rattle.sand_desk.specs.Dropping.{AreRows, IsDropsText, drops_text_of, sum_line};
+ghost use Rattle.sand_desk.specs.Dropping.{AreRows, IsDropsText, drops_in, drops_text_of, sum_line};
 
 use crate::faults::DeskFault;
 use crate::texts::{pile_text, read_drops, table_text};
@@ -59,13 +59,30 @@ fn drops_text(
     Ok(text)
 }
 
-/// The text of the drops that the input holds, on the settled pile that it holds.
-pub(crate) fn drops_input(alloc: Global, input: &[u8]) -> Result<Vec<u8>, DeskFault>
-    ensures text { IfOk result (λ text. IsDropsText input.now text.items) }
+// The text of the drops, or the pile alone that they leave.
+fn drops_or_pile(
+    alloc: Global,
+    rows: &[(u64, Avalanche)],
+    pile: &OnePile,
+    alone: bool,
+) -> Result<Vec<u8>, DeskFault>
+    ensures text { IfOk result (λ text. text.items ≡ drops_in alone rows.now pile.now) }
+    ensures memory { IsOkUnless result DeskFault.Memory }
+{
+    if alone {
+        pile_text(alloc, pile.pile())
+    } else {
+        drops_text(alloc, rows, pile)
+    }
+}
+
+/// The text of the drops that the input holds, on the settled pile that it holds, or the pile alone that they leave.
+pub(crate) fn drops_input(alloc: Global, input: &[u8], alone: bool) -> Result<Vec<u8>, DeskFault>
+    ensures text { IfOk result (λ text. IsDropsText alone input.now text.items) }
     ensures fault { IfErr result (Finds (IsDropsFault input.now)) }
 {
     let (start, drops) = read_drops(alloc, input)?;
     let mut pile = OnePile::new(alloc, &start)?;
     let rows = drop_all(alloc, &mut pile, drops.as_slice())?;
-    drops_text(alloc, rows.as_slice(), &pile)
+    drops_or_pile(alloc, rows.as_slice(), &pile, alone)
 }

@@ -13,7 +13,7 @@ use sand_group::GroupFault;
 use sand_model::ShapeFault;
 use sand_settle::{OneFault, SettleFault};
 use sand_text::{ReadFault, StreamFault, TextFault, write_text};
-use sand_words::WordsFault;
+use sand_words::{Conflict, WordsFault};
 use std::alloc::AllocError;
 use std::io::Write;
 use thiserror::Error;
@@ -55,6 +55,9 @@ pub enum DeskFault {
     /// The command line was refused, or it asks for help.
     #[error("{0}")]
     Usage(clap::Error),
+    /// The command line has options that exclude one another.
+    #[error("{0}")]
+    Clash(Conflict),
     #[error("a cylinder of width below 3")]
     Narrow,
     /// A drop at a site that the grid hasn't got, with its index among the drops.
@@ -81,7 +84,7 @@ impl DeskFault {
             DeskFault::Read => 20,
             DeskFault::Write(_) => 21,
             DeskFault::TooLong => 22,
-            DeskFault::Usage(_) => 23,
+            DeskFault::Usage(_) | DeskFault::Clash(_) => 23,
             DeskFault::Narrow => 24,
             DeskFault::NoSite(_) => 25,
         }
@@ -135,6 +138,7 @@ impl From<WordsFault> for DeskFault {
         match fault {
             WordsFault::Memory => DeskFault::Memory,
             WordsFault::Usage(error) => DeskFault::Usage(error),
+            WordsFault::Clash(conflict) => DeskFault::Clash(conflict),
         }
     }
 }
@@ -199,6 +203,7 @@ pub fn status(fault: &DeskFault) -> u8
             ErrorKind::DisplayHelp | ErrorKind::DisplayVersion => 0,
             _ => 2,
         },
+        DeskFault::Clash(_) => 2,
         _ => 1,
     }
 }
@@ -222,7 +227,7 @@ fn name(fault: &DeskFault) -> &'static str
         DeskFault::Read => "Read",
         DeskFault::Write(_) => "Write",
         DeskFault::TooLong => "TooLong",
-        DeskFault::Usage(_) => "Usage",
+        DeskFault::Usage(_) | DeskFault::Clash(_) => "Usage",
         DeskFault::Narrow => "Narrow",
         DeskFault::NoSite(_) => "NoSite",
     }

@@ -4,18 +4,19 @@ ghost use Rattle.std.specs.Prelude.{ℕ, ◌≡◌, ◌+◌, ◌++◌, List, map
 ghost use Rattle.sand_shared.specs.Record.{IsOneThreads};
 ghost use Rattle.sand_text.specs.Runs.{journal_lines};
 ghost use Rattle.sand_words.specs.Asked.{IsRun};
+ghost use Rattle.sand_words.specs.declared.words.Form.TheVariants as forms;
 ghost use Rattle.sand_lab.specs.Plans.{all_drops};
 ghost use Rattle.sand_lab.specs.Reports.{IsReport};
 ghost use Rattle.sand_desk.specs.Commands.{IsLabFault, IsRunFault, Finds};
 ghost use Rattle.sand_desk.specs.Laboratory.{IsLabText, dropper_and_site, journal_text_of_report, lab_text_of_report, report_text_of, sums_of, wish_of};
 
 use crate::faults::DeskFault;
-use crate::texts::{pgm_text, read_pile};
+use crate::texts::{pgm_text, pile_text, read_pile};
 use sand_lab::{Album, Entry, LabFault, Open, Plan, Report, Wish, run};
 use sand_model::Pile;
 use sand_shared::Record;
 use sand_text::{Sums, push_journal_head, push_journal_line};
-use sand_words::Run;
+use sand_words::{Form, Run};
 use std::alloc::{AllocError, Global};
 use std::thread::Threads;
 
@@ -132,20 +133,11 @@ fn report_on<T: Threads + Sync>(
     }
 }
 
-// The text of a report, with its journal where that is wanted, or its last pile as a picture.
-fn report_text(
-    alloc: Global,
-    report: &Report,
-    journal: bool,
-    pgm: bool,
-) -> Result<Vec<u8>, DeskFault>
-    requires { IsOneThreads report.now.total }
-    ensures text { IfOk result (λ text. text.items ≡ report_text_of journal pgm report.now) }
+// The text of a report, with its journal if that is wanted.
+fn whole_text(alloc: Global, report: &Report, journal: bool) -> Result<Vec<u8>, DeskFault>
+    ensures text { IfOk result (λ text. text.items ≡ report_text_of journal forms.Text report.now) }
     ensures memory { IsOkUnless result DeskFault.Memory }
 {
-    if pgm {
-        return pgm_text(alloc, report.total().pile());
-    }
     let mut text = lab_text(alloc, report)?;
     if journal {
         push_journals(&mut text, report)?;
@@ -153,21 +145,40 @@ fn report_text(
     Ok(text)
 }
 
-/// What a run of the laboratory leaves that starts from the pile which the input holds: text, with its journal where that
-/// is wanted, or its last pile as a picture. Refuses more grains than the limit with all drops (TooManyGrains).
+// The text of a report, with its journal if that is wanted, or its last pile alone, as text or as a picture.
+fn report_text(
+    alloc: Global,
+    report: &Report,
+    journal: bool,
+    form: Form,
+) -> Result<Vec<u8>, DeskFault>
+    requires { IsOneThreads report.now.total }
+    ensures text { IfOk result (λ text. text.items ≡ report_text_of journal form report.now) }
+    ensures memory { IsOkUnless result DeskFault.Memory }
+{
+    match form {
+        Form::Text => whole_text(alloc, report, journal),
+        Form::Pile => pile_text(alloc, report.total().pile()),
+        Form::Picture => pgm_text(alloc, report.total().pile()),
+    }
+}
+
+/// What a run of the laboratory leaves that starts from the pile which the input holds: text, with its journal if that is
+/// wanted, or its last pile alone, as text or as a picture. Refuses more grains than the limit with all drops
+/// (TooManyGrains).
 pub(crate) fn lab_input<T: Threads + Sync>(
     rt: &T,
     alloc: Global,
     input: &[u8],
     asked: Run,
     journal: bool,
-    pgm: bool,
+    form: Form,
 ) -> Result<Vec<u8>, DeskFault>
     requires { IsRun asked }
-    ensures text { IfOk result (λ text. IsLabText (wish_of asked) journal pgm input.now text.items) }
+    ensures text { IfOk result (λ text. IsLabText (wish_of asked) journal form input.now text.items) }
     ensures fault { IfErr result (Finds (IsLabFault (wish_of asked) input.now)) }
 {
     let start = read_pile(alloc, input)?;
     let report = report_on(rt, alloc, &start, asked)?;
-    report_text(alloc, &report, journal, pgm)
+    report_text(alloc, &report, journal, form)
 }

@@ -8,20 +8,21 @@ ghost use Rattle.sand_desk.specs.Commands.{IsUnreadable, Finds};
 ghost use Rattle.sand_desk.specs.Settling.{IsSettleText};
 
 use crate::faults::DeskFault;
-use crate::texts::{pgm_text, read_pile, settle_text};
+use crate::texts::{pgm_text, pile_text, read_pile, settle_text};
 use sand_settle::settle;
+use sand_words::Form;
 use std::alloc::Global;
 
-/// The settled record of the pile that the input holds, as text, or its pile as a picture.
-pub(crate) fn settle_input(alloc: Global, input: &[u8], pgm: bool) -> Result<Vec<u8>, DeskFault>
-    ensures text { IfOk result (λ text. IsSettleText pgm input.now text.items) }
+/// The settled record of the pile that the input holds as text, or its pile alone, as text or as a picture.
+pub(crate) fn settle_input(alloc: Global, input: &[u8], form: Form) -> Result<Vec<u8>, DeskFault>
+    ensures text { IfOk result (λ text. IsSettleText form input.now text.items) }
     ensures fault { IfErr result (Finds (IsUnreadable (pile_of input.now))) }
 {
     let pile = read_pile(alloc, input)?;
     let settled = settle(alloc, &pile)?;
-    if pgm {
-        pgm_text(alloc, settled.pile())
-    } else {
-        settle_text(alloc, &settled)
+    match form {
+        Form::Text => settle_text(alloc, &settled),
+        Form::Pile => pile_text(alloc, settled.pile()),
+        Form::Picture => pgm_text(alloc, settled.pile()),
     }
 }

@@ -92,6 +92,13 @@ fn settle(rt: HostRuntime) -> Result<(), Fail> {
         "sandpile settle --pgm",
         b"2 2\n4 4\n4 4\n",
         Spares::Nothing,
+    )?;
+    each_refused_of(
+        &rt,
+        alloc,
+        "sandpile settle --pile",
+        b"3 1\n0 4 0\n",
+        Spares::Nothing,
     )
 }
 
@@ -138,6 +145,12 @@ fn drops(rt: HostRuntime) -> Result<(), Fail> {
 #[test]
 fn lab(rt: HostRuntime) -> Result<(), Fail> {
     let line = "sandpile lab --droppers 2 --drops 3 --epochs 2";
+    each_refused_of(&rt, rt.alloc(), line, b"1 1\n0\n", Spares::Thread)
+}
+
+#[test]
+fn lab_of_a_pile_alone(rt: HostRuntime) -> Result<(), Fail> {
+    let line = "sandpile lab --droppers 2 --drops 3 --epochs 2 --pile";
     each_refused_of(&rt, rt.alloc(), line, b"1 1\n0\n", Spares::Thread)
 }
 

@@ -3,7 +3,7 @@
 use crate::runs::{Row, holds, written};
 use std::test::Fail;
 
-const SETTLED: [Row; 10] = [
+const SETTLED: [Row; 12] = [
     (
         "sandpile settle",
         "1 1\n0\n",
@@ -54,9 +54,11 @@ const SETTLED: [Row; 10] = [
         "1 2\n0\n4\n",
         "1 2\n1\n0\nodometer\n0\n1\nlost 3\ntopplings 1\n",
     ),
+    ("sandpile settle --pile", "3 1\n0 4 0\n", "3 1\n1 0 1\n"),
+    ("sandpile settle --pile", "3 1 c\n4 4 4\n", "3 1 c\n2 2 2\n"),
 ];
 
-const REFUSED: [Row; 23] = [
+const REFUSED: [Row; 26] = [
     ("sandpile settle", "", "fault 18 Text at 0\n"),
     ("sandpile settle", "1 1\n-1", "fault 18 Text at 4\n"),
     ("sandpile settle", "2 1\n3 x", "fault 18 Text at 6\n"),
@@ -100,6 +102,9 @@ const REFUSED: [Row; 23] = [
     ("sandpile settle", "3 1 cx", "fault 18 Text at 4\n"),
     ("sandpile", "", "usage"),
     ("sandpile settle twice", "1 1\n0\n", "usage"),
+    ("sandpile settle --pile --pgm", "1 1\n0\n", "usage"),
+    ("sandpile lab --pile --pgm", "1 1\n0\n", "usage"),
+    ("sandpile lab --pile --journal", "1 1\n0\n", "usage"),
 ];
 
 #[test]
@@ -133,11 +138,16 @@ fn prefixes_of_a_pile(rt: HostRuntime) -> Result<(), Fail> {
     Ok(())
 }
 
-const DROPPED: [Row; 4] = [
+const DROPPED: [Row; 5] = [
     (
         "sandpile drops",
         "3 3\n3 3 3\n3 3 3\n3 3 3\n4 0\n",
         "number site size area reach lost\n0 4 10 9 2 12\n1 0 0 0 0 0\n3 3\n2 3 1\n3 0 3\n1 3 1\nlost 12\ntopplings 10\n",
+    ),
+    (
+        "sandpile drops --pile",
+        "3 3\n3 3 3\n3 3 3\n3 3 3\n4 0\n",
+        "3 3\n2 3 1\n3 0 3\n1 3 1\n",
     ),
     (
         "sandpile drops",

@@ -65,7 +65,7 @@ const ONE_SITE: [Row; 12] = [
     ("sandpile lab", "1 1\n1099511627775 0\n", "fault 2 Length\n"),
 ];
 
-const MORE_SITES: [Row; 5] = [
+const MORE_SITES: [Row; 6] = [
     (
         "sandpile lab --drops 0 --workers 2 --sweeps 1",
         "2 2\n4 4\n4 4\n",
@@ -80,6 +80,11 @@ const MORE_SITES: [Row; 5] = [
         "sandpile lab --seed 4294967295 --droppers 3 --drops 10 --epochs 3",
         "4 4\n3 3 3 3\n3 3 3 3\n3 3 3 3\n3 3 3 3\n",
         "epoch drops topplings lost grains\n0 30 55 49 29\n1 30 33 26 33\n2 30 36 34 29\ntotal 90 124 109 29\n4 4\n1 2 2 1\n2 3 3 0\n2 3 1 1\n2 3 2 1\nodometer\n6 7 8 6\n8 10 10 8\n7 9 10 8\n6 7 8 6\n",
+    ),
+    (
+        "sandpile lab --seed 4294967295 --droppers 3 --drops 10 --epochs 3 --pile",
+        "4 4\n3 3 3 3\n3 3 3 3\n3 3 3 3\n3 3 3 3\n",
+        "4 4\n1 2 2 1\n2 3 3 0\n2 3 1 1\n2 3 2 1\n",
     ),
     (
         "sandpile lab --workers 1",

@@ -1,14 +1,16 @@
 -- What the definitions say of some words that are written out.
-use Rattle.std.proofs.Common.{◌≡◌, [], ◌∷◌, Some, codes, false, refl, true}
+use Rattle.std.proofs.Common.{◌≡◌, [], ◌∷◌, None, Some, codes, false, refl, true}
 use Rattle.clap.specs.Words.{Text}
 use Rattle.clap.specs.declared.error.kind.ErrorKind.TheVariants.{DisplayHelp, InvalidSubcommand, MissingRequiredArgument, MissingSubcommand, UnknownArgument, ValueValidation}
 use Rattle.clap.proofs.OnLiterals.{clap_on_literals}
 use Rattle.sand_words.specs.Line.{command_line}
-use Rattle.sand_words.specs.Asked.{asked, faults}
+use Rattle.sand_words.specs.Asked.{asked, conflict_among, faults}
+use Rattle.sand_words.specs.declared.fault.Conflict.TheVariants.{Forms}
+use Rattle.sand_words.specs.declared.words.Form.TheVariants as forms
 use Rattle.sand_words.specs.declared.words.Task.TheVariants.{Identity, Lab, Settle}
 
 -- `sandpile settle` asks to settle, whatever the program's name
-settle_asks : (program : Text) → asked (program ∷ codes "settle" ∷ []) ≡ Some (Settle false)
+settle_asks : (program : Text) → asked (program ∷ codes "settle" ∷ []) ≡ Some (Settle forms.Text)
 unfolding command_line clap_on_literals
 settle_asks program = refl
 
@@ -27,9 +29,22 @@ lab_asks : (program : Text) → asked (program ∷ codes "lab" ∷ []) ≡ Some 
   workers = 1;
   sweeps = 0;
   observers = 0;
-}) false false)
+}) false forms.Text)
 unfolding command_line clap_on_literals
 lab_asks program = refl
+
+-- a pile alone excludes a picture, which a journal doesn't
+pile_and_picture : (program : Text) → conflict_among (program ∷ codes "settle" ∷ codes "--pgm" ∷ codes "--pile" ∷ []) ≡ Some Forms
+unfolding command_line clap_on_literals
+pile_and_picture program = refl
+
+pile_and_journal : (program : Text) → asked (program ∷ codes "lab" ∷ codes "--pile" ∷ codes "--journal" ∷ []) ≡ None
+unfolding command_line clap_on_literals
+pile_and_journal program = refl
+
+journal_and_picture : (program : Text) → conflict_among (program ∷ codes "lab" ∷ codes "--pgm" ∷ codes "--journal" ∷ []) ≡ None
+unfolding command_line clap_on_literals
+journal_and_picture program = refl
 
 -- with no word, and with the program's name alone, a command is missing
 no_word : faults [] ≡ MissingSubcommand ∷ []

@@ -1,10 +1,10 @@
 -- Where both sides are given, and flags behind them, `identity` takes its words and asks for that grid.
-use Rattle.std.proofs.Common.{◌≡◌, ◌∙◌, ◌≤◌, ℕ, Bool, true, false, List, [], ◌∷◌, ◌++◌, Option, Some, refl, ap, arith, codes, decimal, fold}
+use Rattle.std.proofs.Common.{◌≡◌, ◌∙◌, ◌≤◌, ℕ, Bool, true, false, List, [], ◌∷◌, ◌++◌, Option, Some, None, refl, ap, arith, codes, decimal, fold}
 use Rattle.clap.specs.Faults.{level_fault}
 use Rattle.clap.specs.Walk.{Walk, finished, nothing_held, rows_after, walk_from, walked}
 use Rattle.clap.specs.Words.{Text}
 use Rattle.clap.proofs.OnLiterals.{clap_on_literals}
-use Rattle.sand_words.specs.Asked.{identity_of}
+use Rattle.sand_words.specs.Asked.{conflict_in, identity_of}
 use Rattle.sand_words.specs.Options.{number_of}
 use Rattle.sand_words.specs.Spelling.{flag_words}
 use Rattle.sand_words.specs.declared.words.Task.TheVariants.{Identity}
@@ -88,3 +88,14 @@ module _ (m n : ℕ) (within : (1 ≤ m) × (m ≤ 256) × (1 ≤ n) × (n ≤ 2
   pub identity_reads : (cylinder pgm : Bool) → identity_of (rows_after identity_built.rules [] (identity_words m n cylinder pgm))
       ≡ Some (Identity m n cylinder pgm)
   identity_reads cylinder pgm = ap identity_of (rows_end (words_read cylinder pgm)) ∙ end_asks cylinder pgm
+
+  end_free : (cylinder pgm : Bool) → conflict_in (finished identity_built.rules (end_of (flags_for cylinder pgm)).held) ≡ None
+  unfolding both clap_on_literals
+  end_free true true = refl
+  end_free true false = refl
+  end_free false true = refl
+  end_free false false = refl
+
+  -- and go together
+  pub identity_free : (cylinder pgm : Bool) → conflict_in (rows_after identity_built.rules [] (identity_words m n cylinder pgm)) ≡ None
+  identity_free cylinder pgm = ap conflict_in (rows_end (words_read cylinder pgm)) ∙ end_free cylinder pgm

@@ -1,13 +1,17 @@
 -- Where each setting is given, and flags behind them, `lab` takes its words and asks for that run.
-use Rattle.std.proofs.Common.{◌≡◌, ◌∙◌, ℕ, Bool, true, false, List, [], ◌∷◌, ◌++◌, Option, Some, refl, ap, arith, codes, decimal, fold, take}
+use Rattle.std.proofs.Common.{◌≡◌, ◌∙◌, ℕ, Bool, true, false, List, [], ◌∷◌, ◌++◌, Option, Some, None, refl, ap, arith, codes, decimal, fold, take}
 use Rattle.std.specs.Prelude.{option_map}
-use Rattle.clap.specs.Faults.{level_fault}
-use Rattle.clap.specs.Walk.{Row, Walk, finished, nothing_held, rows_after, walk_from, walked}
+use Rattle.clap.specs.Faults.{check_fault, defaults_fault, level_fault, settle_fault}
+use Rattle.clap.specs.Kinds.{Kinds, or_else}
+use Rattle.clap.specs.Walk.{Row, Walk, finished, nothing_held, rows_after, settled, walk_from, walked}
 use Rattle.clap.specs.Words.{Text}
 use Rattle.clap.proofs.OnLiterals.{clap_on_literals}
-use Rattle.sand_words.specs.Asked.{IsRun, lab_of, with_settings}
+use Rattle.sand_words.specs.Asked.{GoTogether, IsRun, conflict_in, lab_of, with_settings}
 use Rattle.sand_words.specs.Options.{number_of}
-use Rattle.sand_words.specs.Spelling.{flag_words, settings_of}
+use Rattle.sand_words.specs.Spelling.{flag_words, form_words, settings_of}
+use Rattle.sand_words.specs.declared.words.Form.{Form}
+use Rattle.sand_words.specs.declared.words.Form.TheVariants.{Picture, Pile}
+use Rattle.sand_words.specs.declared.words.Form.TheVariants as forms
 use Rattle.sand_words.specs.declared.words.Run.{Run}
 use Rattle.sand_words.specs.declared.words.Task.TheVariants.{Lab}
 use Rattle.sand_words.proofs.NumberTexts.{IsNumberText, number_text}
@@ -15,12 +19,12 @@ use Rattle.sand_words.proofs.Settings.{lab_built}
 use Rattle.sand_words.proofs.Walks.{Reads, end_fault, given, given_row, level_ends, reads_both, reads_nothing, reads_option, reads_word, rows_end}
 
 -- the flags that are wanted
-abbrev flags_for : Bool → Bool → List Text
-flags_for journal pgm = flag_words (codes "--journal") journal ++ flag_words (codes "--pgm") pgm
+abbrev flags_for : Bool → Form → List Text
+flags_for journal form = flag_words (codes "--journal") journal ++ form_words form
 
 -- what stands behind `lab`
-abbrev pub lab_words : Run → Bool → Bool → List Text
-lab_words run journal pgm = settings_of run ++ flags_for journal pgm
+abbrev pub lab_words : Run → Bool → Form → List Text
+lab_words run journal form = settings_of run ++ flags_for journal form
 
 module _ (run : Run) (within : IsRun run) where
   seed : IsNumberText 0 4294967295 (decimal run.seed) run.seed
@@ -101,24 +105,38 @@ module _ (run : Run) (within : IsRun run) where
   abbrev end_of : List Text → Walk
   end_of flags = fold (walked lab_built.rules []) all flags
 
-  flags_read : (journal pgm : Bool) → Reads lab_built all (flags_for journal pgm) (end_of (flags_for journal pgm))
+  flags_read : (journal : Bool) (form : Form) → Reads lab_built all (flags_for journal form) (end_of (flags_for journal form))
   unfolding all clap_on_literals
-  flags_read true true =
+  flags_read true Picture =
       let past = end_of (codes "--journal" ∷ []) in
       reads_both (reads_word lab_built all past (codes "--journal") (rw observers.passes refl) refl) (reads_word lab_built past _ (codes "--pgm") refl refl)
-  flags_read true false = reads_word lab_built all _ (codes "--journal") (rw observers.passes refl) refl
-  flags_read false true = reads_word lab_built all _ (codes "--pgm") (rw observers.passes refl) refl
-  flags_read false false = reads_nothing
+  flags_read true Pile =
+      let past = end_of (codes "--journal" ∷ []) in
+      reads_both (reads_word lab_built all past (codes "--journal") (rw observers.passes refl) refl) (reads_word lab_built past _ (codes "--pile") refl refl)
+  flags_read true forms.Text = reads_word lab_built all _ (codes "--journal") (rw observers.passes refl) refl
+  flags_read false Picture = reads_word lab_built all _ (codes "--pgm") (rw observers.passes refl) refl
+  flags_read false Pile = reads_word lab_built all _ (codes "--pile") (rw observers.passes refl) refl
+  flags_read false forms.Text = reads_nothing
 
-  words_read : (journal pgm : Bool) → Reads lab_built (walk_from nothing_held) (lab_words run journal pgm) (end_of (flags_for journal pgm))
-  words_read journal pgm = reads_both settings_read (flags_read journal pgm)
+  words_read : (journal : Bool) (form : Form) → Reads lab_built (walk_from nothing_held) (lab_words run journal form) (end_of (flags_for journal form))
+  words_read journal form = reads_both settings_read (flags_read journal form)
 
-  end_passes : (journal pgm : Bool) → end_fault lab_built (end_of (flags_for journal pgm)).held ≡ []
+  -- the value that is still pending passes
+  settles : settle_fault lab_built.rules lab_built.args_override_self all.held ≡ []
   unfolding all clap_on_literals
-  end_passes true true = refl
-  end_passes true false = refl
-  end_passes false true = refl
-  end_passes false false = rw observers.passes refl
+  settles = rw observers.passes refl
+
+  abbrev behind_settling : Kinds → Kinds
+  behind_settling k = or_else k (or_else (defaults_fault (settled lab_built.rules all.held).rows lab_built.rules) (check_fault lab_built (finished lab_built.rules all.held) false))
+
+  end_passes : (journal : Bool) (form : Form) → end_fault lab_built (end_of (flags_for journal form)).held ≡ []
+  unfolding all clap_on_literals
+  end_passes true Picture = refl
+  end_passes true Pile = refl
+  end_passes true forms.Text = refl
+  end_passes false Picture = refl
+  end_passes false Pile = refl
+  end_passes false forms.Text = ap behind_settling settles
 
   abbrev read : ℕ → Option ℕ
   read n = number_of 4294967295 (decimal n)
@@ -127,17 +145,33 @@ module _ (run : Run) (within : IsRun run) where
   run_read = rw (seed.reads 4294967295 (omega arith), droppers.reads 4294967295 (omega arith), drops.reads 4294967295 (omega arith), epochs.reads 4294967295 (omega arith), workers.reads 4294967295 (omega arith), sweeps.reads 4294967295 (omega arith), observers.reads 4294967295 (omega arith)) refl
 
   -- the rows at the end say the run
-  end_asks : (journal pgm : Bool) → lab_of (finished lab_built.rules (end_of (flags_for journal pgm)).held) ≡ Some (Lab run journal pgm)
+  end_asks : (journal : Bool) (form : Form) → lab_of (finished lab_built.rules (end_of (flags_for journal form)).held) ≡ Some (Lab run journal form)
   unfolding all clap_on_literals
-  end_asks true true = ap (option_map (λ r. Lab r true true)) run_read
-  end_asks true false = ap (option_map (λ r. Lab r true false)) run_read
-  end_asks false true = ap (option_map (λ r. Lab r false true)) run_read
-  end_asks false false = ap (option_map (λ r. Lab r false false)) run_read
+  end_asks true Picture = ap (option_map (λ r. Lab r true Picture)) run_read
+  end_asks true Pile = ap (option_map (λ r. Lab r true Pile)) run_read
+  end_asks true forms.Text = ap (option_map (λ r. Lab r true forms.Text)) run_read
+  end_asks false Picture = ap (option_map (λ r. Lab r false Picture)) run_read
+  end_asks false Pile = ap (option_map (λ r. Lab r false Pile)) run_read
+  end_asks false forms.Text = ap (option_map (λ r. Lab r false forms.Text)) run_read
+
+  -- and go together
+  end_free : (journal : Bool) (form : Form) → GoTogether journal form → conflict_in (finished lab_built.rules (end_of (flags_for journal form)).held) ≡ None
+  unfolding all clap_on_literals
+  end_free true Picture together = refl
+  end_free true Pile together = absurd together
+  end_free true forms.Text together = refl
+  end_free false Picture together = refl
+  end_free false Pile together = refl
+  end_free false forms.Text together = refl
 
   -- the level passes
-  pub lab_passes : (journal pgm : Bool) → level_fault lab_built [] nothing_held (lab_words run journal pgm) false [] ≡ []
-  lab_passes journal pgm = level_ends (words_read journal pgm) ∙ end_passes journal pgm
+  pub lab_passes : (journal : Bool) (form : Form) → level_fault lab_built [] nothing_held (lab_words run journal form) false [] ≡ []
+  lab_passes journal form = level_ends (words_read journal form) ∙ end_passes journal form
 
   -- and its rows say the task
-  pub lab_reads : (journal pgm : Bool) → lab_of (rows_after lab_built.rules [] (lab_words run journal pgm)) ≡ Some (Lab run journal pgm)
-  lab_reads journal pgm = ap lab_of (rows_end (words_read journal pgm)) ∙ end_asks journal pgm
+  pub lab_reads : (journal : Bool) (form : Form) → lab_of (rows_after lab_built.rules [] (lab_words run journal form)) ≡ Some (Lab run journal form)
+  lab_reads journal form = ap lab_of (rows_end (words_read journal form)) ∙ end_asks journal form
+
+  -- which go together where the form goes with a journal
+  pub lab_free : (journal : Bool) (form : Form) → GoTogether journal form → conflict_in (rows_after lab_built.rules [] (lab_words run journal form)) ≡ None
+  lab_free journal form together = ap conflict_in (rows_end (words_read journal form)) ∙ end_free journal form together

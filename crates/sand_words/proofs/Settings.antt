@@ -1,5 +1,5 @@
 -- Where `lab` takes its words, each setting is a number in its range.
-use Rattle.std.proofs.Common.{◌≡◌, ◌∙◌, ◌≤◌, ℕ, true, false, List, [], Some, refl, ap, arith, codes}
+use Rattle.std.proofs.Common.{◌≡◌, ◌∙◌, ◌≤◌, ℕ, Bool, true, false, cond, ◌&&◌, ◌||◌, List, [], Some, None, refl, ap, arith, codes}
 use Rattle.std.specs.Prelude.{option_and_then, option_map}
 use Rattle.clap.specs.Words.{Rule, Text}
 use Rattle.clap.specs.Simple.{Shape, built_leaf, filled, with_index}
@@ -7,7 +7,10 @@ use Rattle.clap.specs.Walk.{has_row, nothing_held, rows_after, settled, walk}
 use Rattle.clap.specs.Faults.{level_fault}
 use Rattle.sand_words.specs.Line.{lab_line, setting}
 use Rattle.sand_words.specs.Options.{flag_in, number_of, setting_in, value_of}
-use Rattle.sand_words.specs.Asked.{lab_of, run_of}
+use Rattle.sand_words.specs.Asked.{GoTogether, conflict_in, form_in, lab_of, run_of}
+use Rattle.sand_words.specs.declared.fault.Conflict.TheVariants.{Forms}
+use Rattle.sand_words.specs.declared.words.Form.TheVariants.{Picture, Pile}
+use Rattle.sand_words.specs.declared.words.Form.TheVariants as forms
 use Rattle.sand_words.specs.declared.words.Run.{Run}
 use Rattle.sand_words.specs.declared.words.Task.TheVariants.{Lab}
 use Rattle.sand_words.proofs.Alone.{IsAlone, each_alone}
@@ -38,9 +41,19 @@ setting_is_number name usual least most words small alone passes has =
     let number = passed_number least most 4294967295 text.0 small text.2 in
     (value_of text.0, ap (option_and_then (number_of 4294967295)) text.1 ∙ number.0, number.1, number.2)
 
--- `lab` asks for a run within the limits
-pub lab_is_sound : (words : List Text) → level_fault lab_built [] nothing_held words false [] ≡ [] → IsSound (lab_of (rows_after lab_built.rules [] words))
-lab_is_sound words passes =
+-- a journal and a pile alone exclude one another
+go_together : (pile pgm journal : Bool) → cond (pile && (journal || pgm)) (Some Forms) None ≡ None → GoTogether journal (cond pile Pile (cond pgm Picture forms.Text))
+go_together true pgm true free = cc
+go_together true pgm false free = tt
+go_together false true true free = tt
+go_together false true false free = tt
+go_together false false true free = tt
+go_together false false false free = tt
+
+-- `lab` asks for a run within the limits, where its options go together
+pub lab_is_sound : (words : List Text) → level_fault lab_built [] nothing_held words false [] ≡ [] → conflict_in (rows_after lab_built.rules [] words) ≡ None
+    → IsSound (lab_of (rows_after lab_built.rules [] words))
+lab_is_sound words passes free =
     let rows = rows_after lab_built.rules [] words in
     let has = each_has_row lab_built.rules (settled lab_built.rules (walk lab_built.rules [] nothing_held words).held).rows in
     let seed = setting_is_number (codes "seed") (codes "0") 0 4294967295 words (omega arith) alone.0 passes (has.0 refl) in
@@ -61,14 +74,17 @@ lab_is_sound words passes =
     } in
     let is : run_of rows ≡ Some run = rw (seed.1, droppers.1, drops.1, epochs.1, workers.1, sweeps.1, observers.1) refl in (
       _,
-      ap (option_map (λ r. Lab r (flag_in (codes "journal") rows) (flag_in (codes "pgm") rows))) is,
-      record {
-        seed = seed.3;
-        droppers = (droppers.2, droppers.3);
-        drops = drops.3;
-        epochs = (epochs.2, epochs.3);
-        workers = (workers.2, workers.3);
-        sweeps = sweeps.3;
-        observers = observers.3;
-      },
+      ap (option_map (λ r. Lab r (flag_in (codes "journal") rows) (form_in rows))) is,
+      (
+        record {
+          seed = seed.3;
+          droppers = (droppers.2, droppers.3);
+          drops = drops.3;
+          epochs = (epochs.2, epochs.3);
+          workers = (workers.2, workers.3);
+          sweeps = sweeps.3;
+          observers = observers.3;
+        },
+        go_together (flag_in (codes "pile") rows) (flag_in (codes "pgm") rows) (flag_in (codes "journal") rows) free,
+      ),
     )

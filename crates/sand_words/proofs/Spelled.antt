@@ -7,20 +7,22 @@ use Rattle.clap.specs.Simple.{Shape, built, entered, names_of, subcommand_of}
 use Rattle.clap.specs.Walk.{Names, Walk, finished, nothing_held, rows_after, settled, walk_from}
 use Rattle.clap.specs.Words.{Text}
 use Rattle.clap.proofs.OnLiterals.{clap_on_literals}
-use Rattle.sand_words.specs.Asked.{IsWithin, asked, faults, identity_of, lab_of, task_named}
+use Rattle.sand_words.specs.Asked.{IsWithin, asked, conflict_in, conflict_of, faults, identity_of, lab_of, task_named}
 use Rattle.sand_words.specs.Fault.{IsUsage}
 use Rattle.sand_words.specs.Line.{command_line}
 use Rattle.sand_words.specs.Spelling.{Heeds, words_of}
 use Rattle.sand_words.specs.declared.fault.WordsFault.{WordsFault}
-use Rattle.sand_words.specs.declared.fault.WordsFault.TheVariants.{Memory, Usage}
+use Rattle.sand_words.specs.declared.fault.WordsFault.TheVariants.{Clash, Memory, Usage}
+use Rattle.sand_words.specs.declared.words.Form.TheVariants.{Picture, Pile}
+use Rattle.sand_words.specs.declared.words.Form.TheVariants as forms
 use Rattle.sand_words.specs.declared.words.Task.{Task}
 use Rattle.sand_words.specs.declared.words.Task.TheVariants.{Add, Burn, Drops, Identity, Inverse, Lab, Settle}
 use Rattle.sand_words.proofs.Settings.{lab_built}
 use Rattle.sand_words.proofs.Sides.{identity_built}
 use Rattle.sand_words.proofs.Stopped.{passes_stopped, stays}
 use Rattle.sand_words.proofs.Taken.{taken_ask}
-use Rattle.sand_words.proofs.IdentityLevel.{identity_passes, identity_reads, identity_words}
-use Rattle.sand_words.proofs.LabLevel.{lab_passes, lab_reads, lab_words}
+use Rattle.sand_words.proofs.IdentityLevel.{identity_free, identity_passes, identity_reads, identity_words}
+use Rattle.sand_words.proofs.LabLevel.{lab_free, lab_passes, lab_reads, lab_words}
 
 abbrev top : Shape
 top = (built command_line).top
@@ -47,9 +49,10 @@ identity_named program words =
     ap (λ (end : Walk). entered (built command_line) end.stopped) (stays top.rules names (walk_from nothing_held) (codes "identity") [] words)
 
 identity_asked : (program : Text) (words : List Text) (task : Task) → level_fault identity_built [] nothing_held words false [] ≡ []
-    → identity_of (rows_after identity_built.rules [] words) ≡ Some task → asked (program ∷ codes "identity" ∷ words) ≡ Some task
-identity_asked program words task passes reads =
-    taken_ask _ (identity_taken program words passes) ∙ (ap (option_and_then task_named) (identity_named program words) ∙ reads)
+    → conflict_in (rows_after identity_built.rules [] words) ≡ None → identity_of (rows_after identity_built.rules [] words) ≡ Some task
+    → asked (program ∷ codes "identity" ∷ words) ≡ Some task
+identity_asked program words task passes free reads =
+    taken_ask _ (identity_taken program words passes) (ap (option_and_then conflict_of) (identity_named program words) ∙ free) ∙ (ap (option_and_then task_named) (identity_named program words) ∙ reads)
 
 -- the same of `lab`
 lab_taken : (program : Text) (words : List Text) → level_fault lab_built [] nothing_held words false [] ≡ [] → faults (program ∷ codes "lab" ∷ words) ≡ []
@@ -64,24 +67,28 @@ lab_named program words =
     ap (λ (end : Walk). entered (built command_line) end.stopped) (stays top.rules names (walk_from nothing_held) (codes "lab") [] words)
 
 lab_asked : (program : Text) (words : List Text) (task : Task) → level_fault lab_built [] nothing_held words false [] ≡ []
-    → lab_of (rows_after lab_built.rules [] words) ≡ Some task → asked (program ∷ codes "lab" ∷ words) ≡ Some task
-lab_asked program words task passes reads =
-    taken_ask _ (lab_taken program words passes) ∙ (ap (option_and_then task_named) (lab_named program words) ∙ reads)
+    → conflict_in (rows_after lab_built.rules [] words) ≡ None → lab_of (rows_after lab_built.rules [] words) ≡ Some task
+    → asked (program ∷ codes "lab" ∷ words) ≡ Some task
+lab_asked program words task passes free reads =
+    taken_ask _ (lab_taken program words passes) (ap (option_and_then conflict_of) (lab_named program words) ∙ free) ∙ (ap (option_and_then task_named) (lab_named program words) ∙ reads)
 
 -- each task is asked for by the words that spell it
 pub spelled_is_asked : (program : Text) (task : Task) → IsWithin task → asked (program ∷ words_of task) ≡ Some task
 unfolding command_line clap_on_literals
-spelled_is_asked program (Settle true) within = refl
-spelled_is_asked program (Settle false) within = refl
+spelled_is_asked program (Settle Picture) within = refl
+spelled_is_asked program (Settle Pile) within = refl
+spelled_is_asked program (Settle forms.Text) within = refl
 spelled_is_asked program Burn within = refl
 spelled_is_asked program (Identity m n cylinder pgm) within =
-    identity_asked program (identity_words m n cylinder pgm) _ (identity_passes m n within cylinder pgm) (identity_reads m n within cylinder pgm)
-spelled_is_asked program Drops within = refl
+    identity_asked program (identity_words m n cylinder pgm) _ (identity_passes m n within cylinder pgm) (identity_free m n within cylinder pgm) (identity_reads m n within cylinder pgm)
+spelled_is_asked program (Drops true) within = refl
+spelled_is_asked program (Drops false) within = refl
 spelled_is_asked program (Add true) within = refl
 spelled_is_asked program (Add false) within = refl
 spelled_is_asked program (Inverse true) within = refl
 spelled_is_asked program (Inverse false) within = refl
-spelled_is_asked program (Lab run journal pgm) within = lab_asked program (lab_words run journal pgm) _ (lab_passes run within journal pgm) (lab_reads run within journal pgm)
+spelled_is_asked program (Lab run journal form) within =
+    lab_asked program (lab_words run journal form) _ (lab_passes run within.0 journal form) (lab_free run within.0 journal form within.1) (lab_reads run within.0 journal form)
 
 -- so an answer that is asked for is the task that is spelled
 pub heeds_by_task : (words : List Text) (t : Task) → asked words ≡ Some t → Heeds words (Ok t)
@@ -92,6 +99,9 @@ heeds_by_task words t is program task within same =
 -- and words that spell a task are refused for memory alone
 pub heeds_by_fault : (words : List Text) (fault : WordsFault) → (IsUsage fault → asked words ≡ None) → Heeds words (Err fault)
 heeds_by_fault words Memory none program task within same = refl
+heeds_by_fault words (Clash conflict) none program task within same =
+    let bad : None ≡ Some task = sym (none tt) ∙ (ap asked same ∙ spelled_is_asked program task within) in
+    cc
 heeds_by_fault words (Usage error) none program task within same =
     let bad : None ≡ Some task = sym (none tt) ∙ (ap asked same ∙ spelled_is_asked program task within) in
     cc

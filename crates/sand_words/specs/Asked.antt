@@ -1,13 +1,24 @@
 -- What the words ask for.
-use Rattle.std.specs.Prelude.{◌≡◌, ◌≤◌, ⊤, ℕ, List, Option, Some, None, [], ◌∷◌, if◌then◌else◌, codes, option_and_then, option_map}
+use Rattle.std.specs.Prelude.{◌≡◌, ◌≤◌, ⊤, ℕ, Bool, true, ◌&&◌, ◌||◌, List, Option, Some, None, [], ◌∷◌, if◌then◌else◌, codes, option_and_then, option_map}
 use Rattle.std.specs.Str.{bytes_eq}
 use Rattle.clap.specs.Words.{Kinds, Row, Text, fault_of, subcommand_of}
 use Rattle.clap.specs.declared.error.kind.ErrorKind.TheVariants.{DisplayHelp}
 use Rattle.sand_words.specs.Line.{command_line}
 use Rattle.sand_words.specs.Options.{flag_in, number_in, setting_in}
+use Rattle.sand_words.specs.declared.fault.Conflict.{Conflict}
+use Rattle.sand_words.specs.declared.fault.Conflict.TheVariants.{Forms}
+use Rattle.sand_words.specs.declared.words.Form.{Form}
+use Rattle.sand_words.specs.declared.words.Form.TheVariants as forms
 use Rattle.sand_words.specs.declared.words.Run.{Run}
 use Rattle.sand_words.specs.declared.words.Task.{Task}
 use Rattle.sand_words.specs.declared.words.Task.TheVariants.{Add, Burn, Drops, Identity, Inverse, Lab, Settle}
+
+-- the form in which a pile is asked for
+abbrev pub form_in : List Row → Form
+form_in options =
+    if flag_in (codes "pile") options then forms.Pile
+    else if flag_in (codes "pgm") options then forms.Picture
+    else forms.Text
 
 -- the identity of a grid, where both sides are there
 abbrev pub with_sides : List Row → Option ℕ → Option ℕ → Option Task
@@ -44,17 +55,17 @@ run_of options = with_settings
 -- the task of the options of `lab`
 abbrev pub lab_of : List Row → Option Task
 lab_of options = option_map
-    (λ run. Lab run (flag_in (codes "journal") options) (flag_in (codes "pgm") options))
+    (λ run. Lab run (flag_in (codes "journal") options) (form_in options))
     (run_of options)
 
 -- the task of a command's name and its options
 abbrev pub task_named : Text × List Row → Option Task
 task_named (name, options) =
     let pgm = flag_in (codes "pgm") options in
-    if bytes_eq name (codes "settle") then Some (Settle pgm)
+    if bytes_eq name (codes "settle") then Some (Settle (form_in options))
     else if bytes_eq name (codes "burn") then Some Burn
     else if bytes_eq name (codes "identity") then identity_of options
-    else if bytes_eq name (codes "drops") then Some Drops
+    else if bytes_eq name (codes "drops") then Some (Drops (flag_in (codes "pile") options))
     else if bytes_eq name (codes "add") then Some (Add pgm)
     else if bytes_eq name (codes "inverse") then Some (Inverse pgm)
     else if bytes_eq name (codes "lab") then lab_of options
@@ -69,9 +80,28 @@ abbrev pub unless : {A : Type 0} → Kinds → Option A → Option A
 unless [] answer = answer
 unless (k ∷ ks) answer = None
 
--- the task that the words ask for, where the command line takes them
+-- options of a command that exclude one another: a pile alone, and a picture or a journal
+abbrev pub conflict_in : List Row → Option Conflict
+conflict_in options =
+    if flag_in (codes "pile") options && (flag_in (codes "journal") options || flag_in (codes "pgm") options) then Some Forms
+    else None
+
+-- the same, of a command's name and its options
+abbrev pub conflict_of : Text × List Row → Option Conflict
+conflict_of (name, options) = conflict_in options
+
+-- the options of the words that exclude one another
+abbrev pub conflict_among : List Text → Option Conflict
+conflict_among words = option_and_then conflict_of (subcommand_of command_line words)
+
+-- the task, where its options go together
+abbrev pub freely : Option Conflict → Option Task → Option Task
+freely None task = task
+freely (Some conflict) task = None
+
+-- the task that the words ask for, where the command line takes them and their options go together
 abbrev pub asked : List Text → Option Task
-asked words = unless (faults words) (option_and_then task_named (subcommand_of command_line words))
+asked words = unless (faults words) (freely (conflict_among words) (option_and_then task_named (subcommand_of command_line words)))
 
 -- the words ask for help, and are refused for nothing else
 abbrev pub AskForHelp : List Text → Type 0
@@ -87,8 +117,14 @@ pub record IsRun (run : Run) : Type 0 where
   pub sweeps : run.sweeps ≤ 1000
   pub observers : run.observers ≤ 16
 
--- the task is within the limits: the sides of a grid are from 1 to 256, the settings of a run in their ranges
+-- a journal is not asked for with a pile alone
+abbrev pub GoTogether : Bool → Form → Type 0
+GoTogether true forms.Pile = ⊥
+GoTogether journal form = ⊤
+
+-- the task is within the limits: the sides of a grid are from 1 to 256, the settings of a run in their ranges, and its
+-- options go together
 abbrev pub IsWithin : Task → Type 0
 IsWithin (Identity width height cylinder pgm) = (1 ≤ width) × (width ≤ 256) × (1 ≤ height) × (height ≤ 256)
-IsWithin (Lab run journal pgm) = IsRun run
+IsWithin (Lab run journal form) = IsRun run × GoTogether journal form
 IsWithin _ = ⊤

@@ -29,6 +29,14 @@ setting name least most usual = record (number name least most) { defaults = usu
 abbrev pub bare_line : Text → App
 bare_line name = new_app name
 
+-- `settle`, with the forms of its pile
+abbrev pub settle_line : App
+settle_line = fold with_rule (bare_line (codes "settle")) (flag (codes "pile") ∷ flag (codes "pgm") ∷ [])
+
+-- `drops`, with `--pile` alone
+abbrev pub drops_line : App
+drops_line = with_rule (bare_line (codes "drops")) (flag (codes "pile"))
+
 -- a command with `--pgm` alone
 abbrev pub pgm_line : Text → App
 pgm_line name = with_rule (bare_line name) (flag (codes "pgm"))
@@ -48,7 +56,7 @@ lab_line = fold with_rule (bare_line (codes "lab")) (
     ∷ setting (codes "workers") 1 16 (codes "1")
     ∷ setting (codes "sweeps") 0 1000 (codes "0")
     ∷ setting (codes "observers") 0 16 (codes "0")
-    ∷ flag (codes "journal") ∷ flag (codes "pgm") ∷ []
+    ∷ flag (codes "journal") ∷ flag (codes "pile") ∷ flag (codes "pgm") ∷ []
     )
 
 -- words that name no command are refused, and `help` names none
@@ -62,6 +70,6 @@ or_command line command = with_subcommand line command.top
 -- `sandpile`, which wants one of its commands
 unfoldable pub command_line : App
 command_line = fold or_command (wanting_command (bare_line (codes "sandpile"))) (
-    pgm_line (codes "settle") ∷ bare_line (codes "burn") ∷ identity_line
-    ∷ bare_line (codes "drops") ∷ pgm_line (codes "add") ∷ pgm_line (codes "inverse") ∷ lab_line ∷ []
+    settle_line ∷ bare_line (codes "burn") ∷ identity_line
+    ∷ drops_line ∷ pgm_line (codes "add") ∷ pgm_line (codes "inverse") ∷ lab_line ∷ []
     )

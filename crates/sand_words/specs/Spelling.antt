@@ -4,6 +4,8 @@ use Rattle.clap.specs.Words.{Text}
 use Rattle.sand_words.specs.Asked.{IsWithin}
 use Rattle.sand_words.specs.declared.fault.WordsFault.{WordsFault}
 use Rattle.sand_words.specs.declared.fault.WordsFault.TheVariants.{Memory}
+use Rattle.sand_words.specs.declared.words.Form.{Form}
+use Rattle.sand_words.specs.declared.words.Form.TheVariants as forms
 use Rattle.sand_words.specs.declared.words.Run.{Run}
 use Rattle.sand_words.specs.declared.words.Task.{Task}
 use Rattle.sand_words.specs.declared.words.Task.TheVariants.{Add, Burn, Drops, Identity, Inverse, Lab, Settle}
@@ -11,6 +13,12 @@ use Rattle.sand_words.specs.declared.words.Task.TheVariants.{Add, Burn, Drops, I
 -- a flag, where it is wanted
 abbrev pub flag_words : Text → Bool → List Text
 flag_words flag wanted = if wanted then flag ∷ [] else []
+
+-- the flag of a form
+abbrev pub form_words : Form → List Text
+form_words forms.Text = []
+form_words forms.Pile = codes "--pile" ∷ []
+form_words forms.Picture = codes "--pgm" ∷ []
 
 -- the settings of a run
 abbrev pub settings_of : Run → List Text
@@ -22,16 +30,16 @@ settings_of run =
 
 -- what stands behind the program's name
 abbrev pub words_of : Task → List Text
-words_of (Settle pgm) = codes "settle" ∷ flag_words (codes "--pgm") pgm
+words_of (Settle form) = codes "settle" ∷ form_words form
 words_of Burn = codes "burn" ∷ []
 words_of (Identity width height cylinder pgm) =
     codes "identity" ∷ codes "--width" ∷ decimal width ∷ codes "--height" ∷ decimal height
     ∷ (flag_words (codes "--cylinder") cylinder ++ flag_words (codes "--pgm") pgm)
-words_of Drops = codes "drops" ∷ []
+words_of (Drops pile) = codes "drops" ∷ flag_words (codes "--pile") pile
 words_of (Add pgm) = codes "add" ∷ flag_words (codes "--pgm") pgm
 words_of (Inverse pgm) = codes "inverse" ∷ flag_words (codes "--pgm") pgm
-words_of (Lab run journal pgm) =
-    codes "lab" ∷ (settings_of run ++ (flag_words (codes "--journal") journal ++ flag_words (codes "--pgm") pgm))
+words_of (Lab run journal form) =
+    codes "lab" ∷ (settings_of run ++ (flag_words (codes "--journal") journal ++ form_words form))
 
 -- words that spell a task, whatever the program's name, are answered with that task, but for want of memory
 abbrev pub Heeds : List Text → Result Task WordsFault → Type 0

@@ -7,6 +7,14 @@ use clap::error::ErrorKind;
 use std::alloc::AllocError;
 use thiserror::Error;
 
+/// Options that are taken by the command line, but not together.
+#[derive(Clone, Copy, Debug, PartialEq, Eq, Error)]
+pub enum Conflict {
+    /// A pile alone, and a picture or a journal.
+    #[error("error: the argument '--pile' cannot be used with '--pgm' or '--journal'\n\nFor more information, try '--help'.")]
+    Forms,
+}
+
 /// Why the words ask for no task.
 #[derive(Debug, Drop, Error)]
 pub enum WordsFault {
@@ -16,6 +24,9 @@ pub enum WordsFault {
     /// The words were refused, or they ask for help.
     #[error("{0}")]
     Usage(clap::Error),
+    /// The words have options that exclude one another.
+    #[error("{0}")]
+    Clash(Conflict),
 }
 
 impl From<AllocError> for WordsFault {

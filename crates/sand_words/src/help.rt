@@ -20,7 +20,8 @@ Input: a text on standard input. A pile is numbers with white space between:
   behind the height makes it a cylinder, whose rows go round.
 
 Output: a text on standard output, or with --pgm a picture (plain PGM). Nothing
-  is written before all of it stands.
+  is written before all of it stands. With --pile a command writes its pile
+  alone, which other commands read.
 
 Limits: width and height from 1 to 256, a cylinder at least 3 wide; at most
   1,099,511,627,775 grains; at most 1,048,576 bytes of input.
@@ -50,7 +51,8 @@ Input: a pile, as numbers with white space between: its width, its height, and
 
 Output: the settled pile; the line 'odometer', and how often each site toppled;
   'lost N', the grains that left the grid; 'topplings N', all topplings. With
-  --pgm only a picture of the settled pile.
+  --pile the settled pile alone, as other commands read it; with --pgm only a
+  picture of it.
 
 Limits: width and height from 1 to 256, a cylinder at least 3 wide; at most
   1,099,511,627,775 grains; at most 1,048,576 bytes of input.
@@ -118,6 +120,7 @@ Output: a table with a line for each drop: its number, from 0, and its site; of
   its avalanche the topplings (size), the sites that toppled (area), how far
   from the drop they lie at most (reach), and the grains that left the grid
   (lost). Then the pile; 'lost N' and 'topplings N', with those of settling it.
+  With --pile the pile alone, as other commands read it.
 
 Limits: width and height from 1 to 256, a cylinder at least 3 wide; at most
   1,099,511,627,775 grains, drops included; at most 1,048,576 bytes of input.
@@ -190,7 +193,8 @@ Output: a table with a line for each epoch: its number, from 0; its drops; its
   it. Then 'total' with the same of all epochs; the pile after the last epoch;
   the line 'odometer', and how often each site toppled. With --journal then the
   line 'journal', and for each drop its epoch, its number in the epoch, its
-  dropper and its site. With --pgm only a picture of the pile.
+  dropper and its site. With --pile the pile alone, as other commands read it;
+  with --pgm only a picture of it.
 
 Threads: in each epoch droppers drop grains while workers topple bands of rows
   and observers count the drops. Dropper k of epoch t drops at the sites of

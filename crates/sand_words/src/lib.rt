@@ -7,8 +7,8 @@ mod line;
 mod options;
 mod words;
 
-pub use fault::WordsFault;
-pub use words::{Run, Task, task_of};
+pub use fault::{Conflict, WordsFault};
+pub use words::{Form, Run, Task, task_of};
 
 #[cfg(test)]
 mod tests;

@@ -3,7 +3,7 @@
 ghost use Rattle.std.specs.Prelude.{◌≡◌, IfOk, codes, false};
 ghost use Rattle.clap.specs.Words.{app_of, rule_of};
 ghost use Rattle.clap.specs.declared.builder.command.Command.TheViews.{out-Command};
-ghost use Rattle.sand_words.specs.Line.{bare_line, command_line, flag, identity_line, lab_line, number, pgm_line, setting, side};
+ghost use Rattle.sand_words.specs.Line.{bare_line, command_line, drops_line, flag, identity_line, lab_line, number, pgm_line, setting, settle_line, side};
 
 use crate::help::{self, Help};
 use clap::builder::ValueParser;
@@ -63,6 +63,13 @@ fn pgm<'a>(alloc: Global) -> Arg<'a>
     flag(alloc, "pgm", "Write a picture (plain PGM), not text")
 }
 
+fn pile<'a>(alloc: Global) -> Arg<'a>
+    ensures rule { rule_of result ≡ flag (codes "pile") }
+    ensures local { result.global ≡ false }
+{
+    flag(alloc, "pile", "Write the pile alone, as it is read")
+}
+
 fn bare_line<'a>(alloc: Global, name: &'a str, help: Help) -> Command<'a>
     ensures line { app_of result ≡ bare_line name.entry.now }
     ensures local { (out-Command result).has_globals ≡ false }
@@ -77,6 +84,22 @@ fn pgm_line<'a>(alloc: Global, name: &'a str, help: Help) -> Result<Command<'a>,
     ensures local { IfOk result (λ c. (out-Command c).has_globals ≡ false) }
 {
     bare_line(alloc, name, help).arg(pgm(alloc))
+}
+
+fn settle_line<'a>(alloc: Global) -> Result<Command<'a>, AllocError>
+    ensures line { IfOk result (λ c. app_of c ≡ settle_line) }
+    ensures local { IfOk result (λ c. (out-Command c).has_globals ≡ false) }
+{
+    bare_line(alloc, "settle", help::SETTLE)
+        .arg(pile(alloc))?
+        .arg(pgm(alloc))
+}
+
+fn drops_line<'a>(alloc: Global) -> Result<Command<'a>, AllocError>
+    ensures line { IfOk result (λ c. app_of c ≡ drops_line) }
+    ensures local { IfOk result (λ c. (out-Command c).has_globals ≡ false) }
+{
+    bare_line(alloc, "drops", help::DROPS).arg(pile(alloc))
 }
 
 fn identity_line<'a>(alloc: Global) -> Result<Command<'a>, AllocError>
@@ -118,6 +141,7 @@ fn lab_line<'a>(alloc: Global) -> Result<Command<'a>, AllocError>
         .arg(sweeps)?
         .arg(observers)?
         .arg(flag(alloc, "journal", "Write a line for each drop, too"))?
+        .arg(pile(alloc))?
         .arg(pgm(alloc))
 }
 
@@ -128,10 +152,10 @@ pub(crate) fn command_line<'a>(alloc: Global) -> Result<Command<'a>, AllocError>
     bare_line(alloc, "sandpile", help::PROGRAM)
         .subcommand_required(true)
         .disable_help_subcommand(true)
-        .subcommand(pgm_line(alloc, "settle", help::SETTLE)?)?
+        .subcommand(settle_line(alloc)?)?
         .subcommand(bare_line(alloc, "burn", help::BURN))?
         .subcommand(identity_line(alloc)?)?
-        .subcommand(bare_line(alloc, "drops", help::DROPS))?
+        .subcommand(drops_line(alloc)?)?
         .subcommand(pgm_line(alloc, "add", help::ADD)?)?
         .subcommand(pgm_line(alloc, "inverse", help::INVERSE)?)?
         .subcommand(lab_line(alloc)?)

@@ -1,4 +1,4 @@
-use crate::{Run, Task, WordsFault, task_of};
+use crate::{Conflict, Form, Run, Task, WordsFault, task_of};
 use std::test::Fail;
 
 // What the words of a line come to: a task, or clap's text and whether that is for the standard error.
@@ -20,6 +20,9 @@ fn answer_to(rt: &HostRuntime, line: &str) -> Result<Answer, Fail> {
             error.use_stderr(),
             format!(in alloc; "{error}")?,
         )),
+        Err(WordsFault::Clash(conflict)) => {
+            Ok(Answer::Told(true, format!(in alloc; "{conflict}")?))
+        }
         Err(WordsFault::Memory) => Err("memory".into()),
     }
 }
@@ -27,10 +30,17 @@ fn answer_to(rt: &HostRuntime, line: &str) -> Result<Answer, Fail> {
 #[test]
 fn asks(rt: HostRuntime) -> Result<(), Fail> {
     let rows = [
-        ("sandpile settle", Task::Settle { pgm: false }),
-        ("sandpile settle --pgm", Task::Settle { pgm: true }),
+        ("sandpile settle", Task::Settle { form: Form::Text }),
+        (
+            "sandpile settle --pgm",
+            Task::Settle {
+                form: Form::Picture,
+            },
+        ),
+        ("sandpile settle --pile", Task::Settle { form: Form::Pile }),
         ("sandpile burn", Task::Burn),
-        ("sandpile drops", Task::Drops),
+        ("sandpile drops", Task::Drops { pile: false }),
+        ("sandpile drops --pile", Task::Drops { pile: true }),
         ("sandpile add", Task::Add { pgm: false }),
         ("sandpile add --pgm", Task::Add { pgm: true }),
         ("sandpile inverse", Task::Inverse { pgm: false }),
@@ -85,9 +95,10 @@ const USUAL: Run = Run {
 #[test]
 fn asks_for_runs(rt: HostRuntime) -> Result<(), Fail> {
     let rows = [
-        ("", USUAL, false, false),
-        (" --journal", USUAL, true, false),
-        (" --pgm --journal", USUAL, true, true),
+        ("", USUAL, false, Form::Text),
+        (" --journal", USUAL, true, Form::Text),
+        (" --pgm --journal", USUAL, true, Form::Picture),
+        (" --pile", USUAL, false, Form::Pile),
         (
             " --drops 3 --epochs=2 --pgm",
             Run {
@@ -96,7 +107,7 @@ fn asks_for_runs(rt: HostRuntime) -> Result<(), Fail> {
                 ..USUAL
             },
             false,
-            true,
+            Form::Picture,
         ),
         (
             " --observers 16 --seed 4294967295",
@@ -106,7 +117,7 @@ fn asks_for_runs(rt: HostRuntime) -> Result<(), Fail> {
                 ..USUAL
             },
             false,
-            false,
+            Form::Text,
         ),
         (
             " --sweeps 1000 --workers 16 --epochs 100 --drops 1000000 --droppers 64",
@@ -119,7 +130,7 @@ fn asks_for_runs(rt: HostRuntime) -> Result<(), Fail> {
                 ..USUAL
             },
             false,
-            false,
+            Form::Text,
         ),
         (
             " --drops 0 --droppers +1 --workers 02",
@@ -130,12 +141,12 @@ fn asks_for_runs(rt: HostRuntime) -> Result<(), Fail> {
                 ..USUAL
             },
             false,
-            false,
+            Form::Text,
         ),
     ];
-    for (options, run, journal, pgm) in rows {
+    for (options, run, journal, form) in rows {
         let line = format!(in rt.alloc(); "sandpile lab{options}")?;
-        let task = Task::Lab { run, journal, pgm };
+        let task = Task::Lab { run, journal, form };
         assert_eq!(rt;
             answer_to(&rt, line.as_str())?,
             Answer::Asked(task),
@@ -160,7 +171,11 @@ fn tells_misuse(rt: HostRuntime) -> Result<(), Fail> {
         "sandpile settle --pgm=yes",
         "sandpile settle --cylinder",
         "sandpile burn --pgm",
+        "sandpile burn --pile",
+        "sandpile add --pile",
         "sandpile drops --pgm",
+        "sandpile settle --pile --pile",
+        "sandpile settle --pile --journal",
         "sandpile identity",
         "sandpile identity --width 3",
         "sandpile identity --height 2",
@@ -201,6 +216,26 @@ fn tells_misuse(rt: HostRuntime) -> Result<(), Fail> {
     assert!(rt;
         matches!(task_of(rt.alloc(), &[]), Err(WordsFault::Usage(error)) if error.use_stderr())
     );
+    Ok(())
+}
+
+#[test]
+fn tells_which_options_exclude_one_another(rt: HostRuntime) -> Result<(), Fail> {
+    let rows = [
+        "sandpile settle --pile --pgm",
+        "sandpile settle --pgm --pile",
+        "sandpile lab --pile --journal",
+        "sandpile lab --journal --drops 3 --pile",
+        "sandpile lab --pgm --pile",
+    ];
+    let want =
+        "error: the argument '--pile' cannot be used with '--pgm' or '--journal'\n\nFor more information, try '--help'.";
+    for line in rows {
+        match answer_to(&rt, line)? {
+            Answer::Told(true, text) => assert_eq!(rt; text.as_str(), want, "{line}"),
+            _ => return Err("a task".into()),
+        }
+    }
     Ok(())
 }
 
@@ -284,6 +319,7 @@ Settles a pile: topples sites until each holds at most 3 grains
 Usage: sandpile settle [OPTIONS]
 
 Options:
+      --pile  Write the pile alone, as it is read
       --pgm   Write a picture (plain PGM), not text
   -h, --help  Print help
 
@@ -293,7 +329,8 @@ Input: a pile, as numbers with white space between: its width, its height, and
 
 Output: the settled pile; the line 'odometer', and how often each site toppled;
   'lost N', the grains that left the grid; 'topplings N', all topplings. With
-  --pgm only a picture of the settled pile.
+  --pile the settled pile alone, as other commands read it; with --pgm only a
+  picture of it.
 
 Limits: width and height from 1 to 256, a cylinder at least 3 wide; at most
   1,099,511,627,775 grains; at most 1,048,576 bytes of input.
@@ -327,6 +364,7 @@ Options:
       --sweeps <sweeps>        Sweeps of each, up to 1000 [default: 0]
       --observers <observers>  Observers, up to 16 [default: 0]
       --journal                Write a line for each drop, too
+      --pile                   Write the pile alone, as it is read
       --pgm                    Write a picture (plain PGM), not text
 ";
     assert!(rt; text.contains(options), "{text}");

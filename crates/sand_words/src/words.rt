@@ -2,11 +2,11 @@
 
 ghost use Rattle.std.specs.Prelude.{◌≡◌, ◌↔◌, IfErr, IfOk, Some, None, map, option_and_then, string_bytes};
 ghost use Rattle.clap.specs.Words.{found_of, rows_of, subcommand_rows_of};
-ghost use Rattle.sand_words.specs.Asked.{AskForHelp, IsWithin, asked, faults, identity_of, run_of, task_named};
+ghost use Rattle.sand_words.specs.Asked.{AskForHelp, IsWithin, asked, conflict_among, conflict_in, conflict_of, faults, form_in, identity_of, run_of, task_named};
 ghost use Rattle.sand_words.specs.Spelling.{Heeds};
-ghost use Rattle.sand_words.specs.Fault.{IsOfKinds, IsUsage, ShowsHelp};
+ghost use Rattle.sand_words.specs.Fault.{IsOfKinds, IsUsage, ShowsHelp, TellsConflict};
 
-use crate::fault::WordsFault;
+use crate::fault::{Conflict, WordsFault};
 use crate::line::command_line;
 use crate::options::{flag_in, number_in, setting_in};
 use clap::ArgMatches;
@@ -31,12 +31,23 @@ pub struct Run {
     pub observers: u32,
 }
 
-/// What is to be done. `pgm` asks for a picture in place of text.
+/// In which form a pile is written.
+#[derive(Clone, Copy, Debug, PartialEq, Eq)]
+pub enum Form {
+    /// As text, with all that the command says of it.
+    Text,
+    /// Alone, as text that is read as this pile.
+    Pile,
+    /// As a picture.
+    Picture,
+}
+
+/// What is to be done. `pgm` asks for a picture in place of text, `pile` for the pile alone.
 #[derive(Clone, Copy, Debug, PartialEq, Eq)]
 pub enum Task {
     /// Settles a pile.
     Settle {
-        pgm: bool,
+        form: Form,
     },
     /// Tests whether a pile is recurrent.
     Burn,
@@ -48,7 +59,9 @@ pub enum Task {
         pgm: bool,
     },
     /// Drops grains on a pile, one after another.
-    Drops,
+    Drops {
+        pile: bool,
+    },
     /// Adds two recurrent piles.
     Add {
         pgm: bool,
@@ -57,12 +70,24 @@ pub enum Task {
     Inverse {
         pgm: bool,
     },
-    /// Drops grains on a pile by many threads at once. `journal` asks for a line for each drop.
+    /// Drops grains on a pile by many threads at once. `journal` asks for a line for each drop in a text.
     Lab {
         run: Run,
         journal: bool,
-        pgm: bool,
+        form: Form,
     },
+}
+
+fn form_in(options: &ArgMatches<'_>) -> Form
+    ensures { result ≡ form_in (rows_of (found_of options.now)) }
+{
+    if flag_in(options, "pile") {
+        Form::Pile
+    } else if flag_in(options, "pgm") {
+        Form::Picture
+    } else {
+        Form::Text
+    }
 }
 
 fn identity_of(options: &ArgMatches<'_>) -> Option<Task>
@@ -97,19 +122,42 @@ fn task_named(name: &str, options: &ArgMatches<'_>) -> Option<Task>
 {
     let pgm = flag_in(options, "pgm");
     match name {
-        "settle" => Some(Task::Settle { pgm }),
+        "settle" => Some(Task::Settle {
+            form: form_in(options),
+        }),
         "burn" => Some(Task::Burn),
         "identity" => identity_of(options),
-        "drops" => Some(Task::Drops),
+        "drops" => Some(Task::Drops {
+            pile: flag_in(options, "pile"),
+        }),
         "add" => Some(Task::Add { pgm }),
         "inverse" => Some(Task::Inverse { pgm }),
         "lab" => Some(Task::Lab {
             run: run_of(options)?,
             journal: flag_in(options, "journal"),
-            pgm,
+            form: form_in(options),
         }),
         _ => None,
     }
+}
+
+fn conflict_in(options: &ArgMatches<'_>) -> Option<Conflict>
+    ensures { result ≡ conflict_in (rows_of (found_of options.now)) }
+{
+    let pile = flag_in(options, "pile");
+    let another = flag_in(options, "journal") | flag_in(options, "pgm");
+    if pile & another {
+        Some(Conflict::Forms)
+    } else {
+        None
+    }
+}
+
+fn conflict_among(matches: &ArgMatches<'_>) -> Option<Conflict>
+    ensures { result ≡ option_and_then conflict_of (subcommand_rows_of matches.now) }
+{
+    let (_, options) = matches.subcommand()?;
+    conflict_in(options)
 }
 
 fn chosen(matches: &ArgMatches<'_>) -> Option<Task>
@@ -120,19 +168,23 @@ fn chosen(matches: &ArgMatches<'_>) -> Option<Task>
 }
 
 /// The task that the words ask for. The first word is the program's name. Refuses words that the command line doesn't
-/// take, and those that ask for help (Usage), and want of memory (Memory).
+/// take, and those that ask for help (Usage), options that exclude one another (Clash), and want of memory (Memory).
 pub fn task_of<'a>(alloc: Global, words: &'a [String]) -> Result<Task, WordsFault>
     ensures ok { IfOk result (λ t. asked (map string_bytes words.now) ≡ Some t) }
     ensures spelled { Heeds (map string_bytes words.now) result }
     ensures limits { IfOk result IsWithin }
     ensures refused { IfErr result (λ e. IsUsage e → asked (map string_bytes words.now) ≡ None) }
     ensures kind { IfErr result (IsOfKinds (faults (map string_bytes words.now))) }
+    ensures clash { IfErr result (TellsConflict (conflict_among (map string_bytes words.now))) }
     ensures help { IfErr result (λ e. IsUsage e → (ShowsHelp e ↔ AskForHelp (map string_bytes words.now))) }
 {
     let command = command_line(alloc)?;
     let matches = command.try_get_matches_from(words)?;
-    match chosen(&matches) {
-        Some(task) => Ok(task),
-        None => unreachable!(),
+    match conflict_among(&matches) {
+        Some(conflict) => Err(WordsFault::Clash(conflict)),
+        None => match chosen(&matches) {
+            Some(task) => Ok(task),
+            None => unreachable!(),
+        },
     }
 }

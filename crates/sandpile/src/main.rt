@@ -63,6 +63,9 @@ fn end<R: Print + Eprint, W: Write>(rt: &R, errors: &mut W, fault: &DeskFault) -
         DeskFault::Usage(error) => {
             let _ = error.print(rt);
         }
+        DeskFault::Clash(conflict) => {
+            let _ = eprintln!(rt; "{conflict}");
+        }
         _ => {
             let _ = write_fault(fault, errors);
         }

@@ -12,7 +12,7 @@ drop_all-requires c =
 
 pub returns-clause-text : goal.returns-clause-text
 returns-clause-text c =
-    IfOk-weaker c.drops_text.result _ _
+    IfOk-weaker c.drops_or_pile.result _ _
     (λ text written. record {
       pile = c.in_ok-start.start;
       sites = c.in_ok-start.drops.items;
@@ -25,4 +25,4 @@ returns-clause-text c =
       end = rw c.as_slice.ensures.value at (c.in_ok-rows.ensures.after c.in_ok-start.start c.in_ok-pile.ensures.settled);
       written = rw c.as_slice-2.ensures.value at written;
     })
-    c.drops_text.ensures.text
+    c.drops_or_pile.ensures.text

@@ -17,9 +17,10 @@ returns c =
     let with_sweeps = one_option c.in_ok-arg-6.ensures with_workers c.setting-sweeps.ensures.rule c.setting-sweeps.ensures.local in
     let with_observers = one_option c.in_ok-arg-7.ensures with_sweeps c.setting-observers.ensures.rule c.setting-observers.ensures.local in
     let with_journal = one_option c.in_ok-arg-8.ensures with_observers c.flag.ensures.rule c.flag.ensures.local in
-    let with_pgm : (new : Command) → AddsArg c.in_ok-arg-8.field-0 c.pgm.result new → IsLine new lab_line =
-    λ new adds. one_option adds with_journal c.pgm.ensures.rule c.pgm.ensures.local in
+    let with_pile = one_option c.in_ok-arg-9.ensures with_journal c.pile.ensures.rule c.pile.ensures.local in
+    let with_pgm : (new : Command) → AddsArg c.in_ok-arg-9.field-0 c.pgm.result new → IsLine new lab_line =
+    λ new adds. one_option adds with_pile c.pgm.ensures.rule c.pgm.ensures.local in
     record {
-      line = IfOk-weaker c.arg-9.result _ _ (λ new adds. (with_pgm new adds).line_is) c.arg-9.ensures;
-      local = IfOk-weaker c.arg-9.result _ _ (λ new adds. (with_pgm new adds).local) c.arg-9.ensures;
+      line = IfOk-weaker c.arg-10.result _ _ (λ new adds. (with_pgm new adds).line_is) c.arg-10.ensures;
+      local = IfOk-weaker c.arg-10.result _ _ (λ new adds. (with_pgm new adds).local) c.arg-10.ensures;
     }
