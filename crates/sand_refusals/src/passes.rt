@@ -5,9 +5,9 @@ ghost use Rattle.std.specs.Prelude.{◌≡◌, IfOk};
 use crate::memory::{refuse, was_refused};
 use crate::piles::{full, pile_on};
 use crate::telling::Told;
-use crate::trying::{MOST_REQUESTS, Refused, Spares, each_refused, tell_refused};
-use sand_model::{GRAIN_LIMIT, Pile};
-use sand_shared::{CloseFault, JoinFault, Pass, Record, SharedPile, SplitFault};
+use crate::trying::{MEMORY, MOST_REQUESTS, Refused, Spares, each_refused, tell_refused};
+use sand_model::{GRAIN_LIMIT, Pile, Shape};
+use sand_shared::{CloseFault, JoinFault, Pass, Record, SharedPile, SiteCounts, SplitFault};
 use std::alloc::Global;
 use std::process::Abort;
 use std::test::Fail;
@@ -52,6 +52,24 @@ fn sharing(rt: HostRuntime) -> Result<(), Fail> {
         |alloc: Global| full(alloc),
         |alloc: Global, start: &mut Pile| {
             SharedPile::new(alloc, start, 7).map_err(|fault| fault.number())
+        },
+    )?;
+    Ok(())
+}
+
+#[test]
+fn making_room_for_counts(rt: HostRuntime) -> Result<(), Fail> {
+    let shape = Shape::new(3, 3)?;
+    each_refused(
+        &rt,
+        rt.alloc(),
+        "SiteCounts::new",
+        Spares::Nothing,
+        |_: Global| Ok(()),
+        |alloc: Global, _: &mut ()| {
+            SiteCounts::new(alloc, shape)
+                .map(|_| ())
+                .map_err(|_| MEMORY)
         },
     )?;
     Ok(())

@@ -15,7 +15,7 @@ module _ (i k : ℕ) where
   count-cons : (g : Grains) (gs : List Grains) → count_by (are_for i k) (g ∷ gs) ≡ one_if (are_for i k g) + count_by (are_for i k) gs
   count-cons g gs = sum_by-cons (λ (x : Grains). one_if (are_for i k x)) g gs
 
-  pub without-here : (g : Grains) (gs : List Grains) → are_for i k g ≡ true → without i k (g ∷ gs) ≡ gs
+  without-here : (g : Grains) (gs : List Grains) → are_for i k g ≡ true → without i k (g ∷ gs) ≡ gs
   without-here g gs e = rw e
 
   without-else : (g : Grains) (gs : List Grains) → are_for i k g ≡ false → without i k (g ∷ gs) ≡ g ∷ without i k gs

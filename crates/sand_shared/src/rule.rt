@@ -1,8 +1,8 @@
 //! The rule of the table of words, and what each step on it tells.
 //!
 //! The rule is that events have led from the first state to what the words and the views show. So a step can be taken
-//! only where it is an event that may happen there, and that the pile is lawful at every moment is the law
-//! (`laws::always_lawful`), by induction over the events.
+//! only if it is an event that may happen then, or several events of a pass in a row. That the pile is lawful at every
+//! moment is the law (`laws::always_lawful`), by induction over the events.
 
 use crate::view::{Terms, View};
 use atomic_table::{Join, Play, Split, TableRule};

@@ -73,8 +73,8 @@ fn note(receipts: &mut Vec<Receipt>, number: u64, drops: &[usize])
 }
 
 impl SharedPile {
-    /// Drops grains on sites, one on each in their order, with numbers that follow one another, and answers the first
-    /// number; that of no drops at all is what the pass has seen. Refuses a pass with less left (Spent).
+    /// Drops grains on sites, one on each in their order, with numbers that follow one another, and returns the first
+    /// number; for an empty list, what the pass has seen. Refuses a pass with less left than the list is long (Spent).
     pub fn drop_all(
         &self,
         pass: &mut Pass,

@@ -23,7 +23,7 @@ pub struct View {
     /// How many drops it knows to have begun.
     pub seen: u64,
     pub receipts: LinkedList<Receipt>,
-    /// What it has taken up and not yet laid down, in the order in which it will.
+    /// What it has taken up and not yet laid down.
     pub hand: LinkedList<Grains>,
     /// The first site of its rows, 0 where it has none.
     pub base: usize,

@@ -1,6 +1,6 @@
-//! Eight threads that drop and sweep on one pile, against one thread that drops the same history.
+//! Eight threads that drop, by ones and by lists, and sweep on one pile, against one thread that drops the same history.
 
-ghost use Rattle.std.specs.Prelude.{◌<◌, IfSome};
+ghost use Rattle.std.specs.Prelude.{◌≡◌, ◌<◌, IfSome};
 ghost use Rattle.std.specs.Thread.{IsSync};
 ghost use Rattle.sand_model.specs.Grid.{sites};
 ghost use Rattle.sand_shared.specs.OpenPile.{grid_of};
@@ -9,7 +9,7 @@ ghost use Rattle.sand_shared.specs.Passes.{IsPassOf};
 use crate::meeting::Meeting;
 use sand_model::{Edge, Pile, Shape};
 use sand_settle::OnePile;
-use sand_shared::{Pass, Record, SharedPile};
+use sand_shared::{Pass, Record, SharedPile, SiteCounts};
 use std::alloc::Global;
 use std::process::Abort;
 use std::test::Fail;
@@ -32,18 +32,28 @@ fn half_of(alloc: Global, pile: &SharedPile, pass: &mut Pass) -> Option<Pass>
     Some(half)
 }
 
-// Meets seven other threads, drops two grains, and sweeps twice.
-fn alone(pile: &SharedPile, meeting: &Meeting, mut pass: Pass, site: usize) -> Option<Pass>
+// Meets seven other threads, drops a grain and then three, and sweeps after each.
+fn alone(
+    alloc: Global,
+    pile: &SharedPile,
+    meeting: &Meeting,
+    mut pass: Pass,
+    shape: Shape,
+    site: usize,
+) -> Option<Pass>
     requires pass { IsPassOf pile.now pass }
-    requires site { site < sites (grid_of pile.now.terms) }
+    requires shape { shape ≡ grid_of pile.now.terms }
+    requires site { site < sites shape }
     ensures { IfSome result (λ p. IsPassOf pile.now p) }
 {
+    let mut counts = SiteCounts::new(alloc, shape).ok()?;
     if !meeting.met(8) {
         return None;
     }
     pile.drop_at(&mut pass, site).ok()?;
     pile.sweep(&mut pass);
-    pile.drop_at(&mut pass, site).ok()?;
+    pile.drop_all(&mut pass, &[site, 0, site], &mut counts)
+        .ok()?;
     pile.sweep(&mut pass);
     Some(pass)
 }
@@ -72,33 +82,35 @@ fn crew<R: Threads + Sync>(
     pile: &SharedPile,
     meeting: &Meeting,
     mut pass: Pass,
+    shape: Shape,
     site: usize,
     depth: u32,
 ) -> Option<Pass>
     requires pass { IsPassOf pile.now pass }
-    requires site { site < sites (grid_of pile.now.terms) }
+    requires shape { shape ≡ grid_of pile.now.terms }
+    requires site { site < sites shape }
     ensures { IfSome result (λ p. IsPassOf pile.now p) }
 {
     if depth == 0 {
-        return alone(pile, meeting, pass, site);
+        return alone(alloc, pile, meeting, pass, shape, site);
     }
     let below = depth - 1;
     let half = half_of(alloc, pile, &mut pass)?;
     let (one, other) = join(
         rt,
         move || -> Option<Pass>
-            requires { IsSync R.row × IsPassOf pile.now pass × (site < sites (grid_of pile.now.terms)) }
+            requires { IsSync R.row × IsPassOf pile.now pass × (shape ≡ grid_of pile.now.terms) × (site < sites shape) }
             ensures { IfSome result (λ p. IsPassOf pile.entry.now p) }
-        { crew(rt, alloc, pile, meeting, pass, site, below) },
+        { crew(rt, alloc, pile, meeting, pass, shape, site, below) },
         move || -> Option<Pass>
-            requires { IsSync R.row × IsPassOf pile.now half × (site < sites (grid_of pile.now.terms)) }
+            requires { IsSync R.row × IsPassOf pile.now half × (shape ≡ grid_of pile.now.terms) × (site < sites shape) }
             ensures { IfSome result (λ p. IsPassOf pile.entry.now p) }
-        { crew(rt, alloc, pile, meeting, half, site, below) },
+        { crew(rt, alloc, pile, meeting, half, shape, site, below) },
     );
     gathered(alloc, pile, one, other)
 }
 
-// The record of eight threads that drop two grains each on a site, and sweep.
+// The record of eight threads that drop four grains each, and sweep.
 fn closed_by_eight<R: Threads + Sync>(
     rt: &R,
     alloc: Global,
@@ -107,9 +119,9 @@ fn closed_by_eight<R: Threads + Sync>(
 ) -> Option<Record>
     requires { site < sites start.now.grid }
 {
-    let (pile, pass) = SharedPile::new(alloc, start, 16).ok()?;
+    let (pile, pass) = SharedPile::new(alloc, start, 32).ok()?;
     let meeting = Meeting::new();
-    let pass = crew(rt, alloc, &pile, &meeting, pass, site, 3)?;
+    let pass = crew(rt, alloc, &pile, &meeting, pass, start.shape(), site, 3)?;
     pile.close(alloc, pass).ok()
 }
 
@@ -137,7 +149,7 @@ fn eight_threads_are_as_one(rt: HostRuntime) -> Result<(), Fail> {
         let site = round % 24;
         assert!(rt; site < start.shape().sites());
         let record = closed_by_eight(&rt, rt.alloc(), &start, site).ok_or("eight threads met")?;
-        assert_eq!(rt; record.history().len(), 16);
+        assert_eq!(rt; record.history().len(), 32);
         assert!(rt; is_one_threads(&rt, rt.alloc(), &start, &record));
     }
     Ok(())
