@@ -8,6 +8,7 @@ mod burning;
 mod faults;
 mod group;
 pub mod laws;
+mod neutral;
 #[cfg(test)]
 mod tests;
 
