@@ -8,3 +8,4 @@ pub mod Classes
 pub mod Members
 pub mod Orders
 pub mod Results
+pub mod Emptied

@@ -37,7 +37,7 @@ surplus_is_none g d is =
     (λ i l. let e = is.difference i l in omega (arith, ints))
 
 -- there is such a pile
-some_surplus : (g : Grid) → (d : ℕ → ℕ) × IsSurplus g d
+pub some_surplus : (g : Grid) → (d : ℕ → ℕ) × IsSurplus g d
 some_surplus g =
     let full = settles g (λ i. 6) in (
       λ i. 6 - full.1 i,

@@ -14,6 +14,7 @@ ghost use Rattle.sand_group.specs.Group.{IsSettledPile, IsSurplus, IsSum, IsIden
 
 use crate::burning::{Burned, burn};
 use crate::faults::GroupFault;
+use crate::neutral::shown_identity;
 use sand_model::{Pile, Shape};
 use sand_settle::settle;
 use std::alloc::{AllocError, Global};
@@ -154,8 +155,8 @@ pub fn add(alloc: Global, a: &Recurrent, b: &Recurrent) -> Result<Recurrent, Gro
     })
 }
 
-/// The identity of the group of a shape: what d settles to. Refuses want of memory alone.
-pub fn identity(alloc: Global, shape: Shape) -> Result<Recurrent, GroupFault>
+// The identity by two settlings: of 2m, and of d.
+fn settled_identity(alloc: Global, shape: Shape) -> Result<Recurrent, GroupFault>
     ensures memory { IsOkUnless result (GroupFault.Memory alloc_error) }
     ensures settled { IfOk result (λ e. (d : ℕ → ℕ) × IsSurplus shape d × IsSettledPile shape d e) }
     ensures identity { IfOk result (λ e. IsIdentity shape (height_of e)) }
@@ -164,6 +165,19 @@ pub fn identity(alloc: Global, shape: Shape) -> Result<Recurrent, GroupFault>
     Ok(Recurrent {
         pile: settled(alloc, shape, heights)?,
     })
+}
+
+/// The identity of the group of a shape: what d settles to, from a guess if one is shown to be right. It is refused only
+/// if an allocation fails, and then with Memory.
+pub fn identity(alloc: Global, shape: Shape) -> Result<Recurrent, GroupFault>
+    ensures memory { IsOkUnless result (GroupFault.Memory alloc_error) }
+    ensures settled { IfOk result (λ e. (d : ℕ → ℕ) × IsSurplus shape d × IsSettledPile shape d e) }
+    ensures identity { IfOk result (λ e. IsIdentity shape (height_of e)) }
+{
+    match shown_identity(alloc, shape)? {
+        Some(pile) => Ok(Recurrent { pile }),
+        None => settled_identity(alloc, shape),
+    }
 }
 
 /// The inverse of a recurrent pile: what 2d - c settles to. Refuses want of memory alone.

@@ -9,6 +9,7 @@ mod equivalent;
 mod faults;
 mod group;
 pub mod laws;
+mod neutral;
 #[cfg(test)]
 mod tests;
 

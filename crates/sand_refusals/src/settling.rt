@@ -28,7 +28,7 @@ fn settling_by_a_guess(rt: HostRuntime) -> Result<(), Fail> {
         &rt,
         rt.alloc(),
         "settle, by a guess",
-        Spares::Guess,
+        Spares::Nothing,
         |alloc: Global| pile_on(alloc, 16, 16, &heights),
         |alloc: Global, pile: &mut Pile| settle(alloc, pile).map_err(|fault| fault.number()),
     )?;

@@ -47,8 +47,6 @@ where
 #[derive(Clone, Copy, Debug, PartialEq, Eq)]
 pub enum Spares {
     Nothing,
-    /// A guess of the odometer: it is not made, and the queue settles the pile.
-    Guess,
     /// A thread: its work is done by the thread that wanted it.
     Thread,
 }

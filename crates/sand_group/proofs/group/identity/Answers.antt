@@ -1,15 +1,15 @@
-use Rattle.std.proofs.Common.{slice_index}
-use Rattle.sand_model.specs.Piles.{height_of}
-use Rattle.sand_group.proofs.Members.{identity_is_settled}
-use Rattle.sand_group.proofs.Results.{recurrent_there}
+use Rattle.sand_group.proofs.Emptied.{identity_settles}
 use Rattle.sand_group.proofs.group.identity.Goals as goal
 
 pub invariant_of-result : goal.invariant_of-result
 invariant_of-result c =
-    let done = c.in_ok-settled.ensures.settled in
-    recurrent_there c.args.shape _ c.in_ok-settled.field-0 done ((identity_is_settled c.args.shape (slice_index c.in_ok-heights.heights.items) done.odometer (height_of c.in_ok-settled.field-0) c.in_ok-heights.ensures.surplus done.settled).recurrent)
+    let grid = rw c.in-Some.is at c.in_ok-pile.ensures.shape in
+    let identity = rw c.in-Some.is at c.in_ok-pile.ensures.identity in
+    rw grid identity.recurrent
 
-pub returns-clause-identity : goal.returns-clause-identity
-returns-clause-identity c =
-    let done = c.in_ok-settled.ensures.settled in
-    identity_is_settled c.args.shape (slice_index c.in_ok-heights.heights.items) done.odometer (height_of c.in_ok-settled.field-0) c.in_ok-heights.ensures.surplus done.settled
+pub returns-in-Some-clause-settled : goal.returns-in-Some-clause-settled
+returns-in-Some-clause-settled c =
+    let grid = rw c.in-Some.is at c.in_ok-pile.ensures.shape in
+    let each = rw c.in-Some.is at c.in_ok-pile.ensures.one_each in
+    let identity = rw c.in-Some.is at c.in_ok-pile.ensures.identity in
+    identity_settles c.args.shape c.in-Some.pile grid each identity

@@ -1,0 +1,45 @@
+-- The identity by what takes it to nothing: a pile that some topplings take to all 0 is equivalent to it.
+use Rattle.std.proofs.Common.{ℕ, ◌≡◌, ◌≤◌, refl, arith, List, length, sum, All}
+use Rattle.std.specs.Prelude.{pos}
+use Rattle.std.proofs.lemmas.Int.{ints}
+use Rattle.std.proofs.lemmas.List.Sums.{sum_by-le}
+use Rattle.sand_model.specs.declared.pile.TheConstants.{GRAIN_LIMIT}
+use Rattle.sand_model.specs.Grid.{Grid, IsGrid, sites}
+use Rattle.sand_model.specs.Sand.{IsToppled}
+use Rattle.sand_model.specs.Integers.{whole, IsEquivalent}
+use Rattle.sand_model.specs.Piles.{PileView, height_of}
+use Rattle.sand_model.proofs.Bounds.{sites_limit}
+use Rattle.sand_model.proofs.IntegerFlow.{toppled_is_integers}
+use Rattle.sand_model.proofs.Sandpile.{settled_same}
+use Rattle.sand_group.specs.Group.{IsSettledPile, IsSurplus, IsIdentity}
+use Rattle.sand_group.proofs.Settling.{settles}
+use Rattle.sand_group.proofs.Members.{some_surplus, identity_is_settled, represented_once}
+
+pub emptied_is_none : (g : Grid) (s w : ℕ → ℕ) → IsToppled g s w (λ i. 0) → IsEquivalent g (whole s) (λ i. pos 0)
+emptied_is_none g s w done = record {
+  by_topplings = whole w;
+  difference = λ i l. let e = (toppled_is_integers g s w (λ i. 0)).0 done i l in omega (arith, ints);
+}
+
+-- heights of 3 at most are far below the limit in all
+pub low_within_limit : (g : Grid) (heights : List ℕ) → IsGrid g → length heights ≡ sites g → All (λ h. h ≤ 3) heights → sum heights ≤ GRAIN_LIMIT
+low_within_limit g heights grid len low =
+    let all = sum_by-le (λ h. h) 3 heights low in
+    let area = sites_limit g grid in
+    omega arith
+
+-- the identity is what some d settles to, however it was found
+pub identity_settles : (g : Grid) (p : PileView) → p.grid ≡ g → length p.heights ≡ sites g → IsIdentity g (height_of p) → (d : ℕ → ℕ) × IsSurplus g d × IsSettledPile g d p
+identity_settles g p grid each identity =
+    let d = some_surplus g in
+    let done = settles g d.0 in
+    let same = represented_once g (λ i. pos 0) done.1 (height_of p) (identity_is_settled g d.0 done.0 done.1 d.1 done.2) identity in (
+      d.0,
+      d.1,
+      record {
+        grid = grid;
+        one_each = each;
+        odometer = done.0;
+        settled = settled_same g d.0 d.0 done.0 done.0 done.1 (height_of p) (λ i l. refl) (λ i l. refl) same done.2;
+      },
+    )
