@@ -2,7 +2,7 @@
 
 use crate::piles::pile_on;
 use crate::trying::{Spares, each_refused};
-use sand_group::{Recurrent, act, add, burn, identity, inverse};
+use sand_group::{Recurrent, act, add, burn, equivalent_recurrent, identity, inverse};
 use sand_model::{Pile, Shape};
 use std::alloc::Global;
 use std::test::Fail;
@@ -110,6 +110,21 @@ fn acting(rt: HostRuntime) -> Result<(), Fail> {
                 return Err(0);
             }
             act(alloc, pile, 0).map_err(|fault| fault.number())
+        },
+    )?;
+    Ok(())
+}
+
+#[test]
+fn finding_the_equivalent(rt: HostRuntime) -> Result<(), Fail> {
+    each_refused(
+        &rt,
+        rt.alloc(),
+        "equivalent_recurrent",
+        Spares::Nothing,
+        |alloc: Global| pile_on(alloc, 3, 1, &[5, 0, 1]),
+        |alloc: Global, pile: &mut Pile| {
+            equivalent_recurrent(alloc, pile).map_err(|fault| fault.number())
         },
     )?;
     Ok(())
