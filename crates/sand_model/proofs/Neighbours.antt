@@ -38,9 +38,21 @@ pub neighbours_at_most_four : (g : Grid) (i : ℕ) → length (neighbours g i) �
 unfolding neighbours
 neighbours_at_most_four g i = let all = somes_and_nones (places g i) in omega arith
 
+count_four : (a b c d : Option ℕ) → count_by is_none (a ∷ b ∷ c ∷ d ∷ []) ≡ cond (is_none a) 1 0 + cond (is_none b) 1 0 + cond (is_none c) 1 0 + cond (is_none d) 1 0
+count_four a b c d =
+    let one = sum_by-cons (λ p. cond (is_none p) 1 0) a (b ∷ c ∷ d ∷ []) in
+    let two = sum_by-cons (λ p. cond (is_none p) 1 0) b (c ∷ d ∷ []) in
+    let three = sum_by-cons (λ p. cond (is_none p) 1 0) c (d ∷ []) in
+    let four = sum_by-cons (λ p. cond (is_none p) 1 0) d [] in
+    omega arith
+
 pub missing_is : (g : Grid) (i : ℕ) → missing g i ≡ count_by is_none (places g i)
 unfolding missing neighbours
 missing_is g i = let all = somes_and_nones (places g i) in omega arith
+
+-- the same, place by place
+pub missing_four : (g : Grid) (i : ℕ) (ps : List (Option ℕ)) → ps ≡ places g i → missing g i ≡ cond (is_none (get_or ps 0 None)) 1 0 + cond (is_none (get_or ps 1 None)) 1 0 + cond (is_none (get_or ps 2 None)) 1 0 + cond (is_none (get_or ps 3 None)) 1 0
+missing_four g i ps e = rw e (missing_is g i ∙ count_four (north g i) (west g i) (east g i) (south g i))
 
 -- the row and the column of a site
 pub some_width : (w h i : ℕ) → i < w * h → 0 < w

@@ -64,6 +64,10 @@ south g i = if nat_lt (row g i + 1) g.height then Some (i + g.width) else None
 abbrev pub places : Grid → ℕ → List (Option ℕ)
 places g i = north g i ∷ west g i ∷ east g i ∷ south g i ∷ []
 
+-- whether a site is in none of the first row, the last row, the first column and the last column
+abbrev pub is_inner : Grid → ℕ → Bool
+is_inner g i = nat_lt 0 (row g i) && nat_lt (row g i + 1) g.height && nat_lt 0 (column g i) && nat_lt (column g i + 1) g.width
+
 -- the neighbours of a site: those of its places that are in the grid
 unfoldable pub neighbours : Grid → ℕ → List ℕ
 neighbours g i = filter_map (λ p. p) (places g i)

@@ -3,8 +3,8 @@
 //! `Shape` divides at each call, and takes no room. Where neighbours are asked for at every toppling a table of two
 //! bytes a site pays.
 
-ghost use Rattle.std.specs.Prelude.{◌≡◌, ◌<◌, IfOk};
-ghost use Rattle.sand_model.specs.Grid.{IsGrid, sites, north, west, east, south, places, missing, distance};
+ghost use Rattle.std.specs.Prelude.{◌≡◌, ◌<◌, Some, is_none, IfOk, IsTrue, map, if◌then◌else◌};
+ghost use Rattle.sand_model.specs.Grid.{IsGrid, sites, north, west, east, south, places, is_inner, missing, distance};
 ghost use Rattle.sand_model.specs.Columns.{AreColumns, AreRows};
 
 use crate::shape::{Edge, Shape};
@@ -54,6 +54,14 @@ fn tables_of(alloc: Global, shape: Shape) -> Result<(Vec<u8>, Vec<u8>), AllocErr
         }
     }
     Ok((columns, rows))
+}
+
+// 1 for a place outside the grid, and 0 for a site.
+#[inline(always)]
+fn outside(place: Option<usize>) -> u64
+    ensures { result ≡ (if is_none place then 1 else 0) }
+{
+    u64::from(place.is_none())
 }
 
 impl Lattice {
@@ -153,16 +161,39 @@ impl Lattice {
         ]
     }
 
+    /// Whether a site is in none of the first row, the last row, the first column and the last column. On a cylinder too,
+    /// most sites are inner, and their neighbours are found without a test.
+    #[inline(always)]
+    pub fn is_inner(&self, site: usize) -> bool
+        requires { site < sites self.now }
+        ensures { result ≡ is_inner self.now site }
+    {
+        let column = usize::from(self.columns[site]);
+        (site >= self.width)
+            & (site + self.width < self.end)
+            & (column > 0)
+            & (column + 1 < self.width)
+    }
+
+    /// The sites north, west, east and south of an inner site, in that order.
+    #[inline(always)]
+    #[tactic(auto, unfolding(crate::specs::Grid::north, crate::specs::Grid::west, crate::specs::Grid::east, crate::specs::Grid::south))]
+    pub fn inner_neighbours(&self, site: usize) -> [usize; 4]
+        requires site { site < sites self.now }
+        requires inner { IsTrue (is_inner self.now site) }
+        ensures { map Some result ≡ places self.now site }
+    {
+        [site - self.width, site - 1, site + 1, site + self.width]
+    }
+
     /// How many of a site's four places are outside the grid: the grains lost when it topples once.
     #[inline(always)]
     pub fn missing(&self, site: usize) -> u64
         requires { site < sites self.now }
         ensures { result ≡ missing self.now site }
     {
-        self.neighbours(site)
-            .iter()
-            .filter(|place| place.is_none())
-            .count() as u64
+        let [north, west, east, south] = self.neighbours(site);
+        outside(north) + outside(west) + outside(east) + outside(south)
     }
 
     /// How many columns and rows lie between two sites, on a cylinder the shorter way round.
