@@ -4,35 +4,30 @@
 //! does not burn is the greatest set of sites that have toppled and is forbidden, and each of its sites can be
 //! untoppled once: the heights stay 3 at most. Where all burns nothing can be untoppled, and the order is the proof.
 //!
-//! The grid has an edge all round here, so that a site's neighbours need no test and no division. In the edge of a
-//! row that goes round stand the marks of its other end, and `home` says whose they are.
+//! The grid has an edge all round here (`border`). In the edge of a row that goes round are the marks of its other end.
 
 ghost use Rattle.std.specs.Prelude.{◌≤◌, ◌<◌, length};
 
+use crate::border::Border;
 use crate::field::{Field, LEVEL};
 use crate::frame::{Frame, run, run_mut};
 use std::alloc::{AllocError, Global};
 
-// Marks of cells: burnt or never toppled, toppled, and in the queue.
+// Marks of cells: burnt or never toppled, and toppled.
 const AWAY: u8 = 0;
 
 const TOPPLED: u8 = 1;
 
-const QUEUED: u8 = 2;
-
 /// A fire over a grid with an edge all round.
 #[derive(Drop)]
 pub(crate) struct Fire {
-    frame: Frame,
-    stride: usize,
+    pub(crate) border: Border,
     marks: Vec<u8>,
-    /// `LEVEL` above how far a height is above the number of neighbours that are marked.
+    /// `LEVEL` above how far a height is above the number of neighbours that are marked, and 0 where nothing toppled.
     room: Vec<u8>,
-    /// Whose mark a cell has.
-    home: Vec<u32>,
-    /// The cells that burn, one after another.
+    /// The cells that burn, one after another, and how many they are.
     order: Vec<u32>,
-    ghost narrow: { stride ≤ 258 },
+    burnt: usize,
 }
 
 // The four cells round each cell of a row: above, west, east and below.
@@ -80,12 +75,17 @@ fn mark_row(marks: &mut [u8], counts: &[i64], least: i64) -> u32 {
     found
 }
 
-fn set_room(room: &mut [u8], heights: &[u8], around: Around) {
-    let cells = room.len().min(heights.len()).min(around.cells());
+fn set_room(room: &mut [u8], heights: &[u8], marks: &[u8], around: Around) {
+    let cells = room
+        .len()
+        .min(heights.len())
+        .min(marks.len())
+        .min(around.cells());
     for x in 0..cells {
         let ends = around.above[x].wrapping_add(around.below[x]);
         let sides = around.west[x].wrapping_add(around.east[x]);
-        room[x] = heights[x].wrapping_sub(ends).wrapping_sub(sides);
+        let is_marked = 0u8.wrapping_sub(marks[x]);
+        room[x] = heights[x].wrapping_sub(ends).wrapping_sub(sides) & is_marked;
     }
 }
 
@@ -108,52 +108,54 @@ fn lower_row(counts: &mut [i64], marks: &[u8]) {
     }
 }
 
+// Lists a cell that burns, after `burnt` others, and returns how many burn then.
+#[inline(always)]
+fn list_if(order: &mut [u32], burnt: usize, at: usize, burns: bool) -> usize {
+    if burnt >= order.len() {
+        return burnt;
+    }
+    order[burnt] = (at & 0xff_ffff) as u32;
+    burnt.wrapping_add(usize::from(burns))
+}
+
+// A neighbour of this cell burns; if that lets its site burn, the site is listed. Cells without a mark never come so far.
+#[inline(always)]
+fn warm(border: &Border, room: &mut [u8], order: &mut [u32], burnt: usize, at: usize) -> usize {
+    let home = if border.frame.goes_round && at < border.home.len() {
+        border.home[at] as usize
+    } else {
+        at
+    };
+    if home >= room.len() {
+        return burnt;
+    }
+    let more = room[home].wrapping_add(1);
+    room[home] = more;
+    list_if(order, burnt, home, more == LEVEL)
+}
+
 impl Fire {
     pub(crate) fn new(alloc: Global, frame: Frame) -> Result<Fire, AllocError> {
-        let stride = frame.width + 2;
-        let cells = stride * (frame.height + 2);
-        let mut home = Vec::with_capacity(alloc, cells)?;
-        for _ in 0..frame.height + 2 {
-            let from = home.len();
-            for x in 0..stride {
-                let column = if !frame.goes_round {
-                    x
-                } else if x == 0 {
-                    frame.width
-                } else if x == frame.width + 1 {
-                    1
-                } else {
-                    x
-                };
-                home.push((from.wrapping_add(column) & 0xff_ffff) as u32)?;
-            }
-        }
+        let border = Border::new(alloc, frame)?;
+        let cells = border.cells();
         Ok(Fire {
-            frame,
-            stride,
+            border,
             marks: vec![in alloc; AWAY; cells]?,
             room: vec![in alloc; 0u8; cells]?,
-            home,
-            order: Vec::with_capacity(alloc, frame.sites())?,
+            // One place more than sites, since a cell is written before it is known whether it burns.
+            order: vec![in alloc; 0u32; frame.sites() + 1]?,
+            burnt: 0,
         })
-    }
-
-    // The cell of the first column of a row.
-    fn first_of(&self, y: usize) -> usize
-        requires { y < 256 }
-        ensures { result ≤ 66564 }
-    {
-        (y + 1) * self.stride + 1
     }
 
     // The edge of each row that goes round gets the marks of its other end.
     fn join_ends(&mut self) {
-        if !self.frame.goes_round {
+        if !self.border.frame.goes_round {
             return;
         }
-        let width = self.frame.width;
-        for y in 0..self.frame.height {
-            let first = self.first_of(y);
+        let width = self.border.frame.width;
+        for y in 0..self.border.frame.height {
+            let first = self.border.first_of(y);
             let row = run_mut(&mut self.marks, first.wrapping_sub(1), width + 2);
             if row.len() >= width + 2 {
                 row[0] = row[width];
@@ -164,10 +166,10 @@ impl Fire {
 
     // Marks the sites whose counts are above the least, and returns how many.
     fn mark(&mut self, counts: &[i64], least: i64) -> u32 {
-        let width = self.frame.width;
+        let width = self.border.frame.width;
         let mut found = 0u32;
-        for y in 0..self.frame.height {
-            let first = self.first_of(y);
+        for y in 0..self.border.frame.height {
+            let first = self.border.first_of(y);
             let row = run_mut(&mut self.marks, first, width);
             let here = run(counts, y.wrapping_mul(width), width);
             found = found.wrapping_add(mark_row(row, here, least));
@@ -178,81 +180,72 @@ impl Fire {
 
     // How far each height is above the number of neighbours that have toppled.
     fn find_room(&mut self, field: &Field) {
-        let width = self.frame.width;
-        for y in 0..self.frame.height {
-            let first = self.first_of(y);
-            let around = around_row(&self.marks, first, width, self.stride);
-            set_room(run_mut(&mut self.room, first, width), field.row(y), around);
+        let width = self.border.frame.width;
+        for y in 0..self.border.frame.height {
+            let first = self.border.first_of(y);
+            let around = around_row(&self.marks, first, width, self.border.stride);
+            let marks = run(&self.marks, first, width);
+            set_room(
+                run_mut(&mut self.room, first, width),
+                field.row(y),
+                marks,
+                around,
+            );
         }
     }
 
-    // A neighbour of this cell burns; where that lets its site burn, the site joins the queue.
-    #[inline(always)]
-    fn warm(&mut self, at: usize) -> Result<(), AllocError> {
-        if at >= self.home.len() {
-            return Ok(());
-        }
-        let at = self.home[at] as usize;
-        if at >= self.room.len() || at >= self.marks.len() {
-            return Ok(());
-        }
-        let room = self.room[at].wrapping_add(1);
-        self.room[at] = room;
-        if self.marks[at] == TOPPLED && room >= LEVEL {
-            self.marks[at] = QUEUED;
-            self.order.push((at & 0xff_ffff) as u32)?;
-        }
-        Ok(())
-    }
-
-    // Queues the sites that burn at once.
-    fn kindle(&mut self) -> Result<(), AllocError> {
-        self.order.clear();
-        for y in 0..self.frame.height {
-            let first = self.first_of(y);
-            for at in first..first + self.frame.width {
-                let is_cell = at < self.room.len() && at < self.marks.len();
-                if is_cell && self.marks[at] == TOPPLED && self.room[at] >= LEVEL {
-                    self.marks[at] = QUEUED;
-                    self.order.push((at & 0xff_ffff) as u32)?;
-                }
+    // Lists the sites that burn at once.
+    fn kindle(&mut self) {
+        self.burnt = 0;
+        for y in 0..self.border.frame.height {
+            let first = self.border.first_of(y);
+            let row = run(&self.room, first, self.border.frame.width);
+            for (x, room) in row.iter().enumerate() {
+                let at = first.wrapping_add(x);
+                self.burnt = list_if(&mut self.order, self.burnt, at, *room >= LEVEL);
             }
         }
-        Ok(())
     }
 
     // Burns all that burns; the rest keeps its mark.
-    fn burn_out(&mut self) -> Result<(), AllocError> {
-        self.kindle()?;
-        for turn in 0..self.frame.sites() {
-            if turn >= self.order.len() {
+    fn burn_out(&mut self) {
+        self.kindle();
+        let mut burnt = self.burnt;
+        for turn in 0..self.border.frame.sites() {
+            if turn >= burnt || turn >= self.order.len() {
                 break;
             }
             let at = self.order[turn] as usize;
             if at < self.marks.len() {
                 self.marks[at] = AWAY;
             }
-            self.warm(at.wrapping_sub(self.stride))?;
-            self.warm(at.wrapping_sub(1))?;
-            self.warm(at.wrapping_add(1))?;
-            self.warm(at.wrapping_add(self.stride))?;
+            let Fire {
+                border,
+                room,
+                order,
+                ..
+            } = self;
+            burnt = warm(border, room, order, burnt, at.wrapping_sub(border.stride));
+            burnt = warm(border, room, order, burnt, at.wrapping_sub(1));
+            burnt = warm(border, room, order, burnt, at.wrapping_add(1));
+            burnt = warm(border, room, order, burnt, at.wrapping_add(border.stride));
         }
-        Ok(())
+        self.burnt = burnt;
     }
 
     // Takes one toppling back at each site that keeps its mark.
     fn untopple(&mut self, field: &mut Field, counts: &mut [i64]) {
         self.join_ends();
-        let width = self.frame.width;
-        for y in 0..self.frame.height {
-            let first = self.first_of(y);
+        let width = self.border.frame.width;
+        for y in 0..self.border.frame.height {
+            let first = self.border.first_of(y);
             let marks = run(&self.marks, first, width);
             lower_row(run_mut(counts, y.wrapping_mul(width), width), marks);
             let from = y.wrapping_mul(field.stride);
             untopple_row(
                 run_mut(&mut field.heights, from, width),
                 marks,
-                around_row(&self.marks, first, width, self.stride),
+                around_row(&self.marks, first, width, self.border.stride),
             );
         }
     }
@@ -265,24 +258,28 @@ impl Fire {
         counts: &mut [i64],
         least: i64,
         times: usize,
-    ) -> Result<bool, AllocError> {
+    ) -> bool {
         for _ in 0..times {
             let toppled = self.mark(counts, least);
             self.find_room(field);
-            self.burn_out()?;
-            if toppled as usize <= self.order.len() {
-                return Ok(true);
+            self.burn_out();
+            if toppled as usize <= self.burnt {
+                return true;
             }
             self.untopple(field, counts);
         }
-        Ok(false)
+        false
     }
 
     /// By site 1 where the last fire left it, and 0 elsewhere.
     pub(crate) fn unburnt(&self, alloc: Global) -> Result<Vec<f64>, AllocError> {
-        let mut left = Vec::with_capacity(alloc, self.frame.sites())?;
-        for y in 0..self.frame.height {
-            for mark in run(&self.marks, self.first_of(y), self.frame.width) {
+        let mut left = Vec::with_capacity(alloc, self.border.frame.sites())?;
+        for y in 0..self.border.frame.height {
+            for mark in run(
+                &self.marks,
+                self.border.first_of(y),
+                self.border.frame.width,
+            ) {
                 left.push(f64::from(*mark))?;
             }
         }
@@ -291,15 +288,17 @@ impl Fire {
 
     /// By site the turn at which it burns, from 1 on, or 0 where it does not.
     pub(crate) fn turns(&self, alloc: Global) -> Result<Vec<u32>, AllocError> {
-        let mut turns = vec![in alloc; 0u32; self.frame.sites()]?;
+        let mut turns = vec![in alloc; 0u32; self.border.frame.sites()]?;
         let mut turn = 0u32;
-        for at in &self.order {
+        for at in run(&self.order, 0, self.burnt) {
             turn = turn.wrapping_add(1);
             let at = *at as usize;
-            if self.stride > 0 {
-                let row = (at / self.stride).saturating_sub(1);
-                let column = (at % self.stride).saturating_sub(1);
-                let site = row.wrapping_mul(self.frame.width).wrapping_add(column);
+            if self.border.stride > 0 {
+                let row = (at / self.border.stride).saturating_sub(1);
+                let column = (at % self.border.stride).saturating_sub(1);
+                let site = row
+                    .wrapping_mul(self.border.frame.width)
+                    .wrapping_add(column);
                 if site < turns.len() {
                     turns[site] = turn;
                 }

@@ -14,6 +14,7 @@
 //! 4. `density`: the local means of what is left tell the density for the pile of twice the size.
 #![tactic(auto)]
 
+mod border;
 mod burning;
 mod claim;
 mod density;

@@ -8,6 +8,7 @@ use crate::field::Field;
 use crate::frame::Frame;
 use crate::levels::Level;
 use crate::residual::{smooth, subtract};
+use crate::singles::Singles;
 use crate::solver::Solver;
 use std::alloc::{AllocError, Global};
 use std::num::{nearest_i64_to_f64, saturating_f64_to_i64};
@@ -33,8 +34,7 @@ pub(crate) struct Repair {
     pub(crate) field: Field,
     pub(crate) fire: Fire,
     left: Vec<i64>,
-    wave: Vec<u32>,
-    next: Vec<u32>,
+    singles: Singles,
 }
 
 // Adds what is nearest to each number, and keeps counts from the least on.
@@ -49,13 +49,14 @@ fn add_rounded(counts: &mut [i64], least: i64, numbers: &[f64], factor: f64) {
 
 impl Repair {
     pub(crate) fn new(alloc: Global, frame: Frame) -> Result<Repair, AllocError> {
+        let fire = Fire::new(alloc, frame)?;
+        let singles = Singles::new(alloc, &fire.border)?;
         Ok(Repair {
             counts: vec![in alloc; 0i64; frame.sites()]?,
             field: Field::new(alloc, frame)?,
-            fire: Fire::new(alloc, frame)?,
+            fire,
             left: vec![in alloc; 0i64; frame.sites()]?,
-            wave: Vec::new(alloc),
-            next: Vec::new(alloc),
+            singles,
         })
     }
 
@@ -96,27 +97,27 @@ impl Repair {
     }
 
     // Topples until no site may topple. Says whether it came to that.
-    fn relax(&mut self, level: &Level) -> Result<bool, AllocError> {
+    fn relax(&mut self, level: &Level) -> bool {
         for _ in 0..TRIALS {
             if !self.look(level) {
                 smooth(level, &mut self.counts);
             } else if self.field.is_stable() {
-                return Ok(true);
+                return true;
             } else {
                 self.field.sweep(&mut self.counts);
                 if self.look(level) {
                     let Repair {
                         counts,
                         field,
-                        wave,
-                        next,
+                        fire,
+                        singles,
                         ..
                     } = self;
-                    field.topple_each(counts, wave, next)?;
+                    singles.topple(&fire.border, field, counts);
                 }
             }
         }
-        Ok(false)
+        false
     }
 
     /// Makes the counts right, and says whether it came to an end. Where topplings have to be taken back over and over,
@@ -129,7 +130,7 @@ impl Repair {
     ) -> Result<bool, AllocError> {
         let mut density = FIRST_LOWERING;
         for _ in 0..TRIALS {
-            if !self.relax(level)? {
+            if !self.relax(level) {
                 return Ok(false);
             }
             let is_done = self.fire.take_back(
@@ -137,7 +138,7 @@ impl Repair {
                 &mut self.counts,
                 level.least,
                 MOST_TAKEN_BACK,
-            )?;
+            );
             if is_done {
                 return Ok(true);
             }

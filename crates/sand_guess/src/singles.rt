@@ -1,113 +1,159 @@
 //! Toppling the last unstable sites one by one.
 //!
 //! They topple in waves: a wave lists the sites that may topple, and those that then may are the next. So no site waits
-//! long, gets no more than its neighbours topple in a wave, and its byte has room.
+//! long, gets no more than its neighbours topple in a wave, and its byte has room. A cell is written into the next wave
+//! either way and counted if it becomes unstable there, so that a test whose outcome no processor can foresee costs no
+//! branch.
 
+ghost use Rattle.std.specs.Prelude.{◌≤◌, ◌<◌};
+
+use crate::border::Border;
 use crate::field::{Field, LEVEL, UNSTABLE};
-use crate::frame::Frame;
-use std::alloc::AllocError;
+use crate::frame::{run, run_mut};
+use std::alloc::{AllocError, Global};
 use std::mem;
 
 // How many waves there are before a repair gives up.
-const MOST_WAVES: usize = 20_000;
+const MOST_WAVES: usize = 100_000;
 
-impl Field {
-    // Adds grains to a site, and notes it where it may topple from now on.
-    #[inline(always)]
-    fn deliver(
-        &mut self,
-        next: &mut Vec<u32>,
-        column: usize,
-        row: usize,
-        times: u8,
-    ) -> Result<(), AllocError> {
-        let at = row.wrapping_mul(self.stride).wrapping_add(column);
-        if at < self.heights.len() {
-            let before = self.heights[at];
-            let after = before.wrapping_add(times);
-            self.heights[at] = after;
-            if before < UNSTABLE && after >= UNSTABLE {
-                next.push((at & 0xffff_ffff) as u32)?;
-            }
+// What a cell of the edge has: with any grain more it is listed, and hands its grains on or loses them.
+const BRIM: u8 = UNSTABLE - 1;
+
+/// Heights in bytes with an edge all round, and how often each cell toppled.
+#[derive(Drop)]
+pub(crate) struct Singles {
+    heights: Vec<u8>,
+    times: Vec<u32>,
+    wave: Vec<u32>,
+    next: Vec<u32>,
+}
+
+// Adds grains to a cell, and lists it for the next wave, which has `len` so far, if it becomes unstable. Returns how many
+// cells the wave has then.
+#[inline(always)]
+fn deliver(heights: &mut [u8], next: &mut [u32], len: usize, at: usize, grains: u8) -> usize {
+    if at >= heights.len() || len >= next.len() {
+        return len;
+    }
+    let before = heights[at];
+    let after = before.wrapping_add(grains);
+    heights[at] = after;
+    next[len] = (at & 0xff_ffff) as u32;
+    len.wrapping_add(usize::from((before < UNSTABLE) & (after >= UNSTABLE)))
+}
+
+// Takes from a cell what it topples and returns how often, or all that a cell of the edge has got.
+#[inline(always)]
+fn take(heights: &mut [u8], times: &mut [u32], at: usize) -> u8 {
+    if at >= heights.len() || at >= times.len() {
+        return 0;
+    }
+    let height = heights[at];
+    let toppled = height.saturating_sub(LEVEL) >> 2;
+    heights[at] = height.wrapping_sub(toppled << 2);
+    times[at] = times[at].wrapping_add(u32::from(toppled));
+    toppled
+}
+
+// Empties a cell of the edge.
+fn empty(heights: &mut [u8], at: usize) -> u8 {
+    if at >= heights.len() {
+        return 0;
+    }
+    let grains = heights[at].wrapping_sub(BRIM);
+    heights[at] = BRIM;
+    grains
+}
+
+// Topples the cells of a wave, lists the next, and returns how many cells that has.
+fn topple_wave(
+    border: &Border,
+    heights: &mut [u8],
+    times: &mut [u32],
+    wave: &[u32],
+    next: &mut [u32],
+) -> usize {
+    let mut len = 0usize;
+    for at in wave {
+        let at = *at as usize;
+        let home = if at < border.home.len() {
+            border.home[at] as usize
+        } else {
+            at
+        };
+        if home == at {
+            let toppled = take(heights, times, at);
+            len = deliver(heights, next, len, at.wrapping_sub(border.stride), toppled);
+            len = deliver(heights, next, len, at.wrapping_sub(1), toppled);
+            len = deliver(heights, next, len, at.wrapping_add(1), toppled);
+            len = deliver(heights, next, len, at.wrapping_add(border.stride), toppled);
+        } else {
+            let grains = empty(heights, at);
+            len = deliver(heights, next, len, home, grains);
         }
-        Ok(())
+    }
+    len
+}
+
+impl Singles {
+    pub(crate) fn new(alloc: Global, border: &Border) -> Result<Singles, AllocError> {
+        let cells = border.cells();
+        Ok(Singles {
+            heights: vec![in alloc; BRIM; cells]?,
+            times: vec![in alloc; 0u32; cells]?,
+            wave: vec![in alloc; 0u32; cells]?,
+            next: vec![in alloc; 0u32; cells]?,
+        })
     }
 
-    // Topples the site in a column and a row.
-    fn topple(
-        &mut self,
-        counts: &mut [i64],
-        next: &mut Vec<u32>,
-        x: usize,
-        y: usize,
-    ) -> Result<(), AllocError> {
-        let Frame {
-            width,
-            height,
-            goes_round,
-        } = self.frame;
-        let at = y.wrapping_mul(self.stride).wrapping_add(x);
-        let site = y.wrapping_mul(width).wrapping_add(x);
-        if at >= self.heights.len() || site >= counts.len() || x >= width || y >= height {
-            return Ok(());
-        }
-        let times = self.heights[at].saturating_sub(LEVEL) >> 2;
-        self.heights[at] = self.heights[at].wrapping_sub(times << 2);
-        counts[site] = counts[site].wrapping_add(i64::from(times));
-        if y > 0 {
-            self.deliver(next, x, y - 1, times)?;
-        }
-        if x > 0 {
-            self.deliver(next, x - 1, y, times)?;
-        } else if goes_round {
-            self.deliver(next, width - 1, y, times)?;
-        }
-        if x + 1 < width {
-            self.deliver(next, x + 1, y, times)?;
-        } else if goes_round {
-            self.deliver(next, 0, y, times)?;
-        }
-        if y + 1 < height {
-            self.deliver(next, x, y + 1, times)?;
-        }
-        Ok(())
-    }
-
-    // Lists the sites that may topple.
-    fn list_unstable(&self, wave: &mut Vec<u32>) -> Result<(), AllocError> {
-        wave.clear();
-        for y in 0..self.frame.height {
-            let from = y.wrapping_mul(self.stride);
-            for (x, height) in self.row(y).iter().enumerate() {
-                if *height >= UNSTABLE {
-                    wave.push((from.wrapping_add(x) & 0xffff_ffff) as u32)?;
+    // Takes the heights over, lists the sites that may topple, and returns how many they are.
+    fn begin(&mut self, border: &Border, field: &Field) -> usize {
+        let mut len = 0usize;
+        for y in 0..border.frame.height {
+            let first = border.first_of(y);
+            let row = run_mut(&mut self.heights, first, border.frame.width);
+            for (x, height) in field.row(y).iter().enumerate() {
+                if x < row.len() && len < self.wave.len() {
+                    row[x] = *height;
+                    self.wave[len] = (first.wrapping_add(x) & 0xff_ffff) as u32;
+                    len = len.wrapping_add(usize::from(*height >= UNSTABLE));
                 }
             }
         }
-        Ok(())
+        len
     }
 
-    /// Topples what is left to topple, site by site in waves, so that no site waits long and its byte has room.
-    pub(crate) fn topple_each(
-        &mut self,
-        counts: &mut [i64],
-        wave: &mut Vec<u32>,
-        next: &mut Vec<u32>,
-    ) -> Result<(), AllocError> {
-        self.list_unstable(wave)?;
+    // Adds the topplings to the counts, and forgets them.
+    fn count(&mut self, border: &Border, counts: &mut [i64]) {
+        let width = border.frame.width;
+        for y in 0..border.frame.height {
+            let row = run_mut(counts, y.wrapping_mul(width), width);
+            let times = run_mut(&mut self.times, border.first_of(y), width);
+            for x in 0..row.len().min(times.len()) {
+                row[x] = row[x].wrapping_add(i64::from(times[x]));
+                times[x] = 0;
+            }
+        }
+    }
+
+    /// Topples what is left to topple, site by site in waves, and adds the topplings to the counts. The heights then are
+    /// to be taken over from the counts again.
+    pub(crate) fn topple(&mut self, border: &Border, field: &Field, counts: &mut [i64]) {
+        let mut len = self.begin(border, field);
         for _ in 0..MOST_WAVES {
-            if wave.is_empty() {
+            if len == 0 {
                 break;
             }
-            next.clear();
-            for at in wave.as_slice() {
-                let at = *at as usize;
-                if self.stride > 0 {
-                    self.topple(counts, next, at % self.stride, at / self.stride)?;
-                }
-            }
-            mem::swap(wave, next);
+            let wave = run(&self.wave, 0, len);
+            len = topple_wave(
+                border,
+                &mut self.heights,
+                &mut self.times,
+                wave,
+                &mut self.next,
+            );
+            mem::swap(&mut self.wave, &mut self.next);
         }
-        Ok(())
+        self.count(border, counts);
     }
 }

@@ -177,7 +177,7 @@ impl Field {
     pub(crate) fn sweep(&mut self, counts: &mut [i64]) {
         clear(&mut self.last);
         clear(&mut self.before);
-        let few = self.frame.sites() / 400;
+        let few = self.frame.sites() / 64;
         // No byte of `uncounted` is above `bound`. One sweep more adds `most` to it, by what the last wave was seen to do.
         let mut bound = 0usize;
         let mut most = 31usize;

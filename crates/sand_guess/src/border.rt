@@ -1,0 +1,68 @@
+//! A grid with an edge all round, so that a cell's neighbours need no test and no division.
+
+ghost use Rattle.std.specs.Prelude.{◌≤◌, ◌<◌};
+
+use crate::frame::Frame;
+use std::alloc::{AllocError, Global};
+
+// The home of a cell of the edge that stands for no site.
+const NOWHERE: u32 = 0xffff_ffff;
+
+/// The cells of a grid and of the edge round it, row by row.
+#[derive(Drop)]
+pub(crate) struct Border {
+    pub(crate) frame: Frame,
+    /// How many cells a row has.
+    pub(crate) stride: usize,
+    /// By cell the cell of the site that it stands for: itself, or in the edge of a row that goes round the cell at the
+    /// row's other end. No cell for the rest of the edge.
+    pub(crate) home: Vec<u32>,
+    ghost narrow: { stride ≤ 258 },
+}
+
+// The column of the site that a column with an edge at either end stands for.
+fn column_of(frame: Frame, x: usize) -> Option<usize> {
+    if x >= 1 && x <= frame.width {
+        Some(x)
+    } else if !frame.goes_round {
+        None
+    } else if x == 0 {
+        Some(frame.width)
+    } else {
+        Some(1)
+    }
+}
+
+impl Border {
+    pub(crate) fn new(alloc: Global, frame: Frame) -> Result<Border, AllocError> {
+        let stride = frame.width + 2;
+        let mut home = Vec::with_capacity(alloc, stride * (frame.height + 2))?;
+        for y in 0..frame.height + 2 {
+            let from = home.len();
+            let is_row = y >= 1 && y <= frame.height;
+            for x in 0..stride {
+                home.push(match column_of(frame, x) {
+                    Some(column) if is_row => (from.wrapping_add(column) & 0xff_ffff) as u32,
+                    _ => NOWHERE,
+                })?;
+            }
+        }
+        Ok(Border {
+            frame,
+            stride,
+            home,
+        })
+    }
+
+    /// The cell of the first column of a row.
+    pub(crate) fn first_of(&self, y: usize) -> usize
+        requires { y < 256 }
+        ensures { result ≤ 66564 }
+    {
+        (y + 1) * self.stride + 1
+    }
+
+    pub(crate) fn cells(&self) -> usize {
+        self.home.len()
+    }
+}
