@@ -4,6 +4,9 @@
 //! stabilises the pile, since at the first site to pass `w` the height would be above what `w` leaves there. So the
 //! legal topplings that end at a stable pile are the least odometer, and all orders end alike.
 //!
+//! **What is left.** Let `u` be at most every `w` that stabilises `s`, and `v` the odometer of `s - Lu`. Such a `w` less
+//! `u` stabilises `s - Lu`, so `v` is at most `w - u`. So `u + v` is the odometer of `s`.
+//!
 //! **The weight.** A grain in row `y` weighs `(y + 1) * (height - y)`, which is concave in `y` and 0 just outside the
 //! grid, so a toppling loses 2 of it at least. So topplings number at most half the weight, and settling ends.
 //!

@@ -53,8 +53,8 @@ pub record Swept (t : Terms) (v : View) (counts : List ℕ) (answer : ℕ) : Typ
   pub calm : HasAll t v → (answer ≡ 0) ↔ IsCalm t v
   pub sparing : HasAll t v → IsSparing t (with_counts v counts)
 
--- what lies on the pile of a whole pass settles to r: then the pass's counts and r's odometer together are the least odometer
--- of the start and its receipts
+-- r settles what a whole pass has left to topple: its counts and r's odometer together are the least odometer of the start
+-- and its receipts
 pub record IsRestOf (t : Terms) (p : PassView) (r : SettledView) : Type 0 where
   pub grid : r.pile.grid ≡ grid_of t
   pub heights_each : length r.pile.heights ≡ sites (grid_of t)

@@ -54,6 +54,8 @@ pub(crate) fn fill(history: &mut Vec<usize>, receipts: &[Receipt])
 impl SharedPile {
     /// Closes the pile with a pass that has gathered all, and answers its record. Refuses a pass that lacks quota,
     /// receipts or rows (Missing), then Memory, before anything topples; the pile and the pass then come back.
+    ///
+    /// `SharedPile::settle` returns the same record, and is faster when much is left to topple.
     pub fn close(self, alloc: Global, pass: Pass) -> Result<Record, (CloseFault, SharedPile, Pass)>
         requires { IsPassOf self pass }
         ensures missing { IfErr result (λ e. (e.0 ≡ CloseFault.Missing) ↔ ¬ IsWhole self.terms pass) }
