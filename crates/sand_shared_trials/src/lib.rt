@@ -13,3 +13,5 @@ mod gathering;
 pub mod meeting;
 #[cfg(test)]
 mod records;
+#[cfg(test)]
+mod settling;
