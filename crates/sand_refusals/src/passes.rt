@@ -1,4 +1,4 @@
-//! The shared pile: its passes, its closing, and records.
+//! The shared pile: its passes, closing and settling it, and records.
 
 ghost use Rattle.std.specs.Prelude.{◌≡◌, IfOk};
 
@@ -230,6 +230,44 @@ fn closing_what_was_swept(rt: HostRuntime) -> Result<(), Fail> {
                 &rt,
                 alloc,
                 "SharedPile::close, after a sweep",
+                every(number - 1),
+            );
+        }
+    }
+    Err(WITHOUT_END.into())
+}
+
+// What toppled in place stays counted, and the rest is still there to be settled.
+#[test]
+fn settling_what_was_swept(rt: HostRuntime) -> Result<(), Fail> {
+    let alloc = rt.alloc();
+    let start = pile_on(alloc, 2, 1, &[7, 7])?;
+    assert!(rt; start.shape().width() == 2 && start.shape().height() == 1);
+    for number in 1..MOST_REQUESTS {
+        let (pile, mut pass) = SharedPile::new(alloc, &start, 1)?;
+        assert_eq!(rt; pile.sweep(&mut pass), 3);
+        assert_eq!(rt; pile.drop_at(&mut pass, 1), Ok(0));
+        refuse(alloc, number);
+        let tried = pile.settle(alloc, pass);
+        let was_refused = was_refused(alloc);
+        let record = match tried {
+            Ok(record) => {
+                assert!(rt; !was_refused);
+                record
+            }
+            Err((fault, pile, pass)) => {
+                assert!(rt; was_refused && matches!(fault, CloseFault::Memory(_)));
+                assert!(rt; view(&pass) == (0, 1, 1, (0, 1)));
+                assert_eq!(rt; (pass.toppled(0), pass.toppled(1)), (1, 2));
+                pile.settle(alloc, pass).ok().ok_or("settle")?
+            }
+        };
+        assert_record(&rt, &record, &[1], &[1, 2], &[2, 2], 12);
+        if !was_refused {
+            return tell_refused(
+                &rt,
+                alloc,
+                "SharedPile::settle, after a sweep",
                 every(number - 1),
             );
         }

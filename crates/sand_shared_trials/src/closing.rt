@@ -7,7 +7,7 @@ use std::alloc::Global;
 use std::process::Abort;
 use std::test::Fail;
 
-fn pile_on(
+pub(crate) fn pile_on(
     alloc: Global,
     width: usize,
     height: usize,
@@ -20,7 +20,7 @@ fn pile_on(
 }
 
 // The history, the heights, the odometer and the grains lost.
-fn assert_record(
+pub(crate) fn assert_record(
     rt: &impl Abort,
     record: &Record,
     history: &[usize],

@@ -14,4 +14,6 @@ pub mod meeting;
 #[cfg(test)]
 mod records;
 #[cfg(test)]
+mod settling;
+#[cfg(test)]
 mod turns;

@@ -1,0 +1,90 @@
+//! Settling what the passes left, on values that were worked out by hand, and beside closing.
+
+ghost use Rattle.std.specs.Prelude.{◌<◌, IfSome};
+ghost use Rattle.sand_model.specs.Grid.{sites};
+ghost use Rattle.sand_shared.specs.Passes.{IsPassOf};
+
+use crate::closing::{assert_record, pile_on};
+use sand_model::{Edge, Pile};
+use sand_shared::{CloseFault, Pass, SharedPile};
+use std::alloc::Global;
+use std::process::Abort;
+use std::test::Fail;
+
+// A pile on which two passes have dropped and swept, each its own rows, and the pass that has gathered all.
+fn swept_by_two(alloc: Global, start: &Pile, site: usize) -> Option<(SharedPile, Pass)>
+    requires { site < sites start.now.grid }
+    ensures { IfSome result (λ r. IsPassOf r.0 r.1) }
+{
+    let (pile, mut pass) = SharedPile::new(alloc, start, 3).ok()?;
+    let mut last = pile.split_rows(alloc, &mut pass, 1).ok()?;
+    pile.drop_at(&mut pass, site).ok()?;
+    pile.sweep(&mut last);
+    pile.sweep(&mut pass);
+    pile.drop_at(&mut pass, site).ok()?;
+    pile.join(alloc, &mut pass, last).ok()?;
+    Some((pile, pass))
+}
+
+// The same drops and sweeps once closed and once settled: the records are equal.
+fn assert_settles_as_closed(rt: &impl Abort, alloc: Global, start: &Pile) -> Result<(), Fail> {
+    let site = start.shape().sites() / 2;
+    assert!(rt; site < start.shape().sites());
+    let (pile, pass) = swept_by_two(alloc, start, site).ok_or("swept")?;
+    let closed = pile.close(alloc, pass).ok().ok_or("close")?;
+    let (pile, pass) = swept_by_two(alloc, start, site).ok_or("swept")?;
+    let settled = pile.settle(alloc, pass).ok().ok_or("settle")?;
+    assert_record(
+        rt,
+        &settled,
+        closed.history(),
+        closed.pile().heights(),
+        closed.odometers(),
+        closed.lost(),
+    );
+    assert!(rt; settled.start().heights() == start.heights());
+    Ok(())
+}
+
+#[test]
+fn settles_as_it_closes(rt: HostRuntime) -> Result<(), Fail> {
+    let column = pile_on(rt.alloc(), 1, 5, Edge::Open, &[9, 0, 3, 70, 4])?;
+    assert_settles_as_closed(&rt, rt.alloc(), &column)?;
+    let cylinder = pile_on(rt.alloc(), 3, 2, Edge::Cylinder, &[3, 8, 3, 4, 0, 25])?;
+    assert_settles_as_closed(&rt, rt.alloc(), &cylinder)?;
+    let full = pile_on(rt.alloc(), 4, 4, Edge::Open, &[3; 16])?;
+    assert_settles_as_closed(&rt, rt.alloc(), &full)
+}
+
+// The first row has toppled twice in place, and the other one topples twice when it is settled.
+#[test]
+fn settles_what_a_row_left(rt: HostRuntime) -> Result<(), Fail> {
+    let start = pile_on(rt.alloc(), 1, 2, Edge::Open, &[8, 7])?;
+    assert!(rt; 1 < start.shape().sites());
+    let (pile, mut pass) = SharedPile::new(rt.alloc(), &start, 2)?;
+    assert_eq!(rt; pile.drop_at(&mut pass, 1), Ok(0));
+    let last = pile.split_rows(rt.alloc(), &mut pass, 1)?;
+    assert_eq!(rt; pile.sweep(&mut pass), 2);
+    assert!(rt; pile.join(rt.alloc(), &mut pass, last).is_ok());
+    let record = pile.settle(rt.alloc(), pass).ok().ok_or("settle")?;
+    assert_record(&rt, &record, &[1], &[2, 2], &[2, 2], 12);
+    assert_eq!(rt; record.topplings(), 4);
+    Ok(())
+}
+
+#[test]
+fn settles_once_all_is_gathered(rt: HostRuntime) -> Result<(), Fail> {
+    let start = pile_on(rt.alloc(), 1, 2, Edge::Open, &[4, 0])?;
+    assert!(rt; 1 < start.shape().sites());
+    let (pile, mut pass) = SharedPile::new(rt.alloc(), &start, 1)?;
+    let mut child = pile.split(rt.alloc(), &mut pass, 1)?;
+    assert_eq!(rt; pile.drop_at(&mut child, 1), Ok(0));
+    let Err((fault, pile, mut pass)) = pile.settle(rt.alloc(), pass) else {
+        return Err("settled without a receipt".into());
+    };
+    assert!(rt; matches!(fault, CloseFault::Missing));
+    assert!(rt; pile.join(rt.alloc(), &mut pass, child).is_ok());
+    let record = pile.settle(rt.alloc(), pass).ok().ok_or("settle")?;
+    assert_record(&rt, &record, &[1], &[0, 2], &[1, 0], 3);
+    Ok(())
+}
