@@ -111,3 +111,7 @@ pub record HasWorked (s : SharedView) (w : Wish) (epoch : ℕ) (c : Crew) : Type
   pub all_workers : length c.workers.items ≡ w.workers
   pub observers : EachAt (HasRead s) c.observers.items
   pub all_observers : length c.observers.items ≡ w.observers
+
+-- the crew c has become d by its work, in whichever epoch
+pub record HasBecome (s : SharedView) (w : Wish) (c d : Crew) : Type 0 where
+  pub worked : (epoch : ℕ) → IsCrew s w epoch c → HasWorked s w epoch d

@@ -3,7 +3,7 @@
 ghost use Rattle.std.specs.Prelude.{◌≡◌, ℕ, All};
 ghost use Rattle.std.specs.List.{AllZip};
 ghost use Rattle.std.specs.Thread.{IsSync};
-ghost use Rattle.sand_lab.specs.Crews.{IsCrew, HasWorked};
+ghost use Rattle.sand_lab.specs.Crews.{IsCrew, HasBecome, HasWorked};
 ghost use Rattle.sand_lab.specs.Jobs.{CanDrop, CanSweep, CanWatch, HasDropped, HasSwept, HasWatched};
 ghost use Rattle.sand_lab.specs.declared.plan.Wish.{Wish};
 
@@ -106,7 +106,7 @@ impl Crew {
         wish: Wish,
     )
         requires { (epoch : ℕ) × IsCrew pile.now wish epoch self.old }
-        ensures { (epoch : ℕ) → IsCrew pile.now wish epoch self.old → HasWorked pile.now wish epoch self.new }
+        ensures { HasBecome pile.now wish self.old self.new }
     {
         all_work(
             rt,

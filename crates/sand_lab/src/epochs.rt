@@ -1,12 +1,13 @@
 //! One epoch: a crew is hired, works, sweeps on and is gathered; then the pile is closed and its record published.
 
-ghost use Rattle.std.specs.Prelude.{◌≡◌, ◌≢◌, ℕ, ◌+◌, ◌*◌, ◌<◌, ◌≤◌, [], length, sum, map, slice_index, IfOk, IfErr};
+ghost use Rattle.std.specs.Prelude.{◌≡◌, ◌≢◌, ℕ, ◌+◌, ◌*◌, ◌<◌, ◌≤◌, [], length, sum, map, slice_index, vec_len, IfOk, IfErr};
 ghost use Rattle.sand_model.specs.declared.pile.TheConstants.{GRAIN_LIMIT};
 ghost use Rattle.sand_settle.specs.Settling.{odometer_of};
 ghost use Rattle.sand_shared.specs.OpenPile.{grid_of};
 ghost use Rattle.sand_shared.specs.Passes.{IsPassOf, IsWhole};
 ghost use Rattle.sand_shared.specs.Record.{IsOneThreads, Tells};
-ghost use Rattle.sand_lab.specs.Crews.{unshared};
+ghost use Rattle.std.specs.Thread.{IsSync};
+ghost use Rattle.sand_lab.specs.Crews.{IsCrew, HasBecome, unshared};
 ghost use Rattle.sand_lab.specs.Faults.{IsMemory, IsOfEpoch};
 ghost use Rattle.sand_lab.specs.Plans.{IsPlan, quota_of};
 ghost use Rattle.sand_lab.specs.Reports.{IsClosed, IsEpoch};
@@ -16,13 +17,13 @@ use crate::crew::Crew;
 use crate::faults::LabFault;
 use crate::gate::Gate;
 use crate::gathering::Findings;
-use crate::journal::{Entry, journal_of};
+use crate::journal::{Entry, blank_journal, write_journal};
 use crate::plan::Wish;
 use sand_model::Pile;
 use sand_shared::{CloseFault, Pass, Record, SharedFault, SharedPile};
 use std::alloc::Global;
 use std::marker::Model;
-use std::thread::Threads;
+use std::thread::{Threads, join_mut};
 
 /// What is kept of an epoch beside its record.
 #[derive(Drop)]
@@ -99,6 +100,35 @@ pub(crate) fn copy_of(alloc: Global, closed: &Record) -> Result<Record, LabFault
     }
 }
 
+// A crew works, and a blank journal is made at the same time: to touch so much new memory takes as long as many drops.
+fn work_and_blank<R: Threads + Sync, G: Gate>(
+    rt: &R,
+    alloc: Global,
+    crew: &mut Crew,
+    pile: &SharedPile,
+    gate: &G,
+    wish: Wish,
+) -> Result<Vec<Entry>, LabFault>
+    requires crew { (epoch : ℕ) × IsCrew pile.now wish epoch crew.old }
+    ensures crew { HasBecome pile.now wish crew.old crew.new }
+    ensures long { IfOk result (λ v. vec_len v ≡ quota_of wish) }
+    ensures memory { IfErr result IsMemory }
+{
+    let drops = quota_of(wish);
+    let (journal, ()) = join_mut(
+        rt,
+        &mut || -> Result<Vec<Entry>, LabFault>
+            ensures long { IfOk result (λ v. vec_len v ≡ drops) }
+            ensures memory { IfErr result IsMemory }
+        { blank_journal(alloc, drops) },
+        &mut ||
+            requires { IsSync R.row × IsSync G.row × ((epoch : ℕ) × IsCrew pile.now wish epoch crew.now) }
+            ensures { HasBecome pile.entry.now wish crew.entry.now crew.exit.now }
+        { crew.work(rt, pile, gate, wish) },
+    );
+    journal
+}
+
 // The journal and the record of a pile on which a crew has worked.
 fn closed_epoch<R: Threads + Sync, G: Gate>(
     rt: &R,
@@ -115,10 +145,10 @@ fn closed_epoch<R: Threads + Sync, G: Gate>(
 {
     let (pile, mut first) = share(alloc, start, quota_of(wish))?;
     let mut crew = Crew::hire(alloc, &pile, &mut first, start.shape(), wish, epoch)?;
-    crew.work(rt, &pile, gate, wish);
+    let mut journal = work_and_blank(rt, alloc, &mut crew, &pile, gate, wish)?;
     crew.sweep_on(rt, &pile, wish.sweeps);
     let findings = crew.gather(alloc, &pile, &mut first)?;
-    let journal = journal_of(alloc, first.receipts(), wish.drops)?;
+    write_journal(&mut journal, first.receipts(), wish.drops);
     let closed = close(alloc, pile, first)?;
     Ok(ClosedEpoch {
         closed,

@@ -11,10 +11,14 @@ pub enum Role {
     Observer,
 }
 
-/// What is called before each drop, each tally of an observer, and each sweep beside the droppers. It may hold the
+/// What is called before each drop, each tally of an observer, and each sweep while droppers drop. It may hold the
 /// thread that calls it; it changes nothing of the pile.
+///
+/// A dropper makes some of its drops together: a sixteenth of them, rounded up, so one at a time up to sixteen. The gate
+/// is called for each of them first, and after its last call all of them are made.
 pub trait Gate: Sync {
-    /// Called before the turn of a thread: `who` is its number in its role, and `turn` counts from 0 in each epoch.
+    /// Called before a drop, a sweep or a tally: `who` is the thread's number in its role, and `turn` counts from 0 in
+    /// each epoch.
     fn turn(&self, role: Role, who: u32, turn: u32);
 }
 

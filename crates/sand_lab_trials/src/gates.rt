@@ -4,7 +4,10 @@ use crate::holding::{Hold, Holds, dropper, observer, worker};
 use crate::setup::{QUIET, one_site, pile_on, run_gated};
 use sand_lab::Wish;
 use sand_model::Edge;
+use std::alloc::Global;
+use std::process::Abort;
 use std::test::Fail;
+use std::thread::Threads;
 
 #[test]
 fn two_droppers_meet(rt: HostRuntime) -> Result<(), Fail> {
@@ -42,22 +45,40 @@ fn a_worker_and_an_observer_meet(rt: HostRuntime) -> Result<(), Fail> {
     Ok(())
 }
 
-// The observer reads its first tally after the first drop and before the second.
-#[test]
-fn an_observer_reads_between_two_drops(rt: HostRuntime) -> Result<(), Fail> {
-    let start = one_site(rt.alloc(), 0)?;
+// The first tally of an observer, read after the gate was called before this drop and before the drop is made.
+fn tally_before<R: Threads + Sync + Abort>(
+    rt: &R,
+    alloc: Global,
+    drops: u32,
+    drop: u32,
+) -> Result<Option<u64>, Fail> {
+    let start = one_site(alloc, 0)?;
     let wish = Wish {
-        drops: 3,
+        drops,
         observers: 1,
         ..QUIET
     };
     let gate = Holds::new([
-        Hold::new(observer(0), dropper(0, 1)),
-        Hold::new(dropper(0, 1), observer(1)),
+        Hold::new(observer(0), dropper(0, drop)),
+        Hold::new(dropper(0, drop), observer(1)),
     ]);
-    let report = run_gated(&rt, rt.alloc(), &start, wish, &gate)?;
+    let report = run_gated(rt, alloc, &start, wish, &gate)?;
     assert!(rt; gate.have_held());
-    assert_eq!(rt; report.tallies(0, 0).first(), Some(&1));
+    Ok(report.tallies(0, 0).first().copied())
+}
+
+#[test]
+fn an_observer_reads_between_two_drops(rt: HostRuntime) -> Result<(), Fail> {
+    assert_eq!(rt; tally_before(&rt, rt.alloc(), 3, 1)?, Some(1));
+    assert_eq!(rt; tally_before(&rt, rt.alloc(), 16, 9)?, Some(9));
+    Ok(())
+}
+
+// Of 17 drops two make a turn: the second one's gate is called before the first one is made.
+#[test]
+fn the_drops_of_a_turn_are_made_together(rt: HostRuntime) -> Result<(), Fail> {
+    assert_eq!(rt; tally_before(&rt, rt.alloc(), 17, 1)?, Some(0));
+    assert_eq!(rt; tally_before(&rt, rt.alloc(), 17, 2)?, Some(2));
     Ok(())
 }
 

@@ -83,3 +83,26 @@ fn a_gate_is_called_before_each_turn(rt: HostRuntime) -> Result<(), Fail> {
     assert!(rt; gate.observers.are_all(3));
     Ok(())
 }
+
+// So many drops make turns of more than one, and a last one that is shorter.
+#[test]
+fn a_gate_is_called_before_each_drop_of_a_turn(rt: HostRuntime) -> Result<(), Fail> {
+    let start = one_site(rt.alloc(), 0)?;
+    for drops in [17, 33, 100] {
+        let wish = Wish {
+            droppers: 2,
+            drops,
+            epochs: 2,
+            ..QUIET
+        };
+        let gate = Count {
+            droppers: Calls::new(drops),
+            workers: Calls::new(0),
+            observers: Calls::new(0),
+        };
+        let report = run_gated(&rt, rt.alloc(), &start, wish, &gate)?;
+        assert!(rt; gate.droppers.are_all(2));
+        assert_eq!(rt; report.total().history().len(), 4 * drops as usize);
+    }
+    Ok(())
+}
