@@ -1,11 +1,22 @@
-//! What one drop topples, by waves.
+//! What one drop topples, by site waves.
 //!
-//! In a wave the site of the drop topples once and is then held back, and every other site that has 4 topples. None of
-//! these topples twice, since it had 3 at most, gains 4 at most and loses 4. So a wave topples each site once at most, and
-//! its list never holds more than all sites. If the site of the drop has 4 again, the next wave follows.
+//! Before a drop no site has more than 3 grains, so at most the site of the drop has 4 then. In one wave this site topples
+//! once and is then held back, and each other site that has 4 topples. If the held site has 4 again, the next wave follows.
 //!
-//! While it is held back, the site of the drop keeps the 4 grains that it loses, and loses them at the end of the wave.
-//! So it never becomes 4, and no test is needed to keep it off the list.
+//! - **No site topples twice in a wave.** It had at most 3, gains at most one grain from each of its 4 neighbours, and
+//!   loses 4 as it topples, so at most 3 are left. The held site could gain 4 again; it waits for the next wave.
+//! - **So a wave is a plain list**: a site is listed as it becomes 4, and topples when its turn comes. The list never
+//!   has more than all sites, and in the end it is the set of the sites that toppled, each once.
+//! - **The invariant** (`IsWave` in `proofs/Held`), after so many turns: the height of a site is that before the wave, plus
+//!   its neighbours among the sites that have toppled, less 4 if it has toppled itself. The sites that have 4 are
+//!   those that wait in the list and the held site.
+//! - **It ends**, since each toppling lowers the weight of the pile by 2 at least.
+//! - **It is right**: each toppling is legal and the end is stable, so what has toppled is the least odometer
+//!   (`sand_model::laws`, least action). `drain_from` says so: `settled`.
+//!
+//! The held site keeps the 4 grains that it loses until the end of its wave. So its height never passes from 3 to 4, and no
+//! test is needed to keep it off the list. Topplings are counted in a second pass over the list: the loop over the
+//! heights is shorter for it, and faster.
 
 ghost use Rattle.std.specs.Prelude.{◌≡◌, ◌≢◌, ℕ, ◌+◌, ◌*◌, ◌^◌, ◌<◌, ◌≤◌, List, [], ◌++◌, length, sum, take, drop, slice_index, slice_index_or, All, None, IfSome};
 ghost use Rattle.sand_model.specs.Grid.{Grid, sites, places};
