@@ -38,7 +38,7 @@ outside : (n : ℕ) (p : ℕ → Bool) (xs : List ℕ) (i : ℕ) → Lists n p x
 outside n p xs i list past = let test = le-ltb i n past in let e = list.each i in e ∙ rw test refl
 
 -- and a list of which this is known is a listing
-lists_from : (n : ℕ) (p : ℕ → Bool) (xs : List ℕ) → ((i : ℕ) → i < n → tally xs i ≡ one_if (p i)) → ((i : ℕ) → n ≤ i → tally xs i ≡ 0) → Lists n p xs
+pub lists_from : (n : ℕ) (p : ℕ → Bool) (xs : List ℕ) → ((i : ℕ) → i < n → tally xs i ≡ one_if (p i)) → ((i : ℕ) → n ≤ i → tally xs i ≡ 0) → Lists n p xs
 lists_from n p xs inside none = record {
   each = λ i.
       ⊎_elim (λ (less : i < n). let test = lt-ltb i n less in inside i less ∙ rw test refl)

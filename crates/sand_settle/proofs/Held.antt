@@ -1,18 +1,18 @@
 -- A wave of topplings, in which each site topples once at most, and one is held back once it has.
-use Rattle.std.proofs.Common.{ℕ, Bool, true, false, cond, eqb, ltb, ◌&&◌, Option, None, ◌≡◌, ◌≢◌, ◌+◌, ◌-◌, ◌*◌, ◌<◌, ◌≤◌, refl, sym, ◌∙◌, ap, subst, drop, arith, List, [], ◌∷◌, ◌++◌, length, sum, get_or, leb, length-append, ⊎_elim}
+use Rattle.std.proofs.Common.{ℕ, Bool, true, false, cond, eqb, ltb, ◌&&◌, Option, Some, None, map, ◌≡◌, ◌≢◌, ◌+◌, ◌-◌, ◌*◌, ◌<◌, ◌≤◌, refl, sym, ◌∙◌, ap, subst, take, drop, arith, List, [], ◌∷◌, ◌++◌, length, sum, get_or, leb, length-append, ⊎_elim}
 use Rattle.std.proofs.Math.ListN.{set}
-use Rattle.std.proofs.lemmas.Bool.{cases_eq, cases_lt, cases_Bool, lt-leb, le-leb, lt-ltb, le-ltb}
-use Rattle.std.proofs.lemmas.List.{get_or-set_same, get_or-set_other, drop-append-le, drop_all, length-drop, length-set}
+use Rattle.std.proofs.lemmas.Bool.{cases_eq, cases_lt, cases_Bool, lt-leb, le-leb}
+use Rattle.std.proofs.lemmas.List.{get_or-set_other, take-append-le, take-append-drop, take_more, length-map, drop-append-le, drop_all, length-drop, length-set}
 use Rattle.sand_model.specs.Grid.{Grid, sites, places}
-use Rattle.sand_model.specs.Sand.{one_at, tally, value_at, flow, total, IsToppled, topplings}
+use Rattle.sand_model.specs.Sand.{one_at, tally, value_at, flow, IsToppled, topplings}
 use Rattle.sand_model.specs.Lists.{Lists, one_if}
 use Rattle.sand_model.proofs.Totals.{total_same, total_le, total-add, total-ones, total-one_at, one_at_same, one_at_other}
-use Rattle.sand_model.proofs.Tallies.{tally-append, tally-cons}
+use Rattle.sand_model.proofs.Tallies.{tally-append, tally-cons, tally-push}
 use Rattle.sand_model.proofs.Flow.{flow_le, flow_same, flow-add, flow-scale, flow-one_at}
 use Rattle.sand_model.proofs.Neighbours.{flow_four}
 use Rattle.sand_model.proofs.Sandpile.{flow_ones}
 use Rattle.sand_model.proofs.Heights.{get_or-written}
-use Rattle.sand_model.proofs.Lists.{length-listing, listed, lists_of, at_most_once, at_most_one}
+use Rattle.sand_model.proofs.Lists.{length-listing, lists_from, listed, lists_of, at_most_once, at_most_one}
 use Rattle.sand_settle.specs.Lists.{may_topple}
 use Rattle.sand_settle.proofs.Queue.{queued, turn_of, turn_inside, turn_high, leaves, front_is_high}
 use Rattle.sand_settle.specs.Underway.{Advances}
@@ -45,39 +45,36 @@ spread_once g i r q each = record {
   balance = λ j l. let e = each j l in let one = flow-scale g 1 (one_at i) j in omega arith;
 }
 
--- the state of a wave from the counts c and the heights h that it began with, after so many turns of others
-pub record IsWave (g : Grid) (site : ℕ) (c h u k : List ℕ) (list : List ℕ) (turn : ℕ) : Type 0 where
+-- the state of a wave that began with the heights h, after so many turns, in which each site toppled v times
+pub record IsWave (g : Grid) (site : ℕ) (h k list : List ℕ) (v : ℕ → ℕ) (turn : ℕ) : Type 0 where
   pub within : turn ≤ length list
   pub low : (j : ℕ) → j < sites g → j ≢ site → get_or h j 0 ≤ 3
-  pub counts : (j : ℕ) → j < sites g → get_or c j 0 ≤ get_or u j 0
-  pub once : (j : ℕ) → j < sites g → get_or u j 0 ≤ get_or c j 0 + 1
-  pub held : get_or u site 0 ≡ get_or c site 0 + 1
-  pub toppled : (j : ℕ) → j < sites g → get_or k j 0 + 4 * (get_or u j 0 - get_or c j 0) ≡ get_or h j 0 + 4 * one_at site j + flow g (λ m. get_or u m 0 - get_or c m 0) j
-  pub turns : topplings g (λ j. get_or u j 0) ≡ topplings g (λ j. get_or c j 0) + turn + 1
+  pub once : (j : ℕ) → j < sites g → v j ≤ 1
+  pub held : v site ≡ 1
+  pub toppled : (j : ℕ) → j < sites g → get_or k j 0 + 4 * v j ≡ get_or h j 0 + 4 * one_at site j + flow g v j
+  pub turns : topplings g v ≡ turn
   pub waiting : Lists (sites g) (may_topple (λ j. get_or k j 0)) ((site ∷ []) ++ drop turn list)
 
 -- no other site that has toppled has 4 again
-pub toppled_low : (g : Grid) (site : ℕ) (c h u k list : List ℕ) (turn j : ℕ) → IsWave g site c h u k list turn → j < sites g → j ≢ site → get_or k j 0 + 4 * (get_or u j 0 - get_or c j 0) ≤ 7
-toppled_low g site c h u k list turn j wave l ne =
+pub toppled_low : (g : Grid) (site : ℕ) (h k list : List ℕ) (v : ℕ → ℕ) (turn j : ℕ) → IsWave g site h k list v turn → j < sites g → j ≢ site → get_or k j 0 + 4 * v j ≤ 7
+toppled_low g site h k list v turn j wave l ne =
     let e = wave.toppled j l in
-    let few = flow_le g (λ m. get_or u m 0 - get_or c m 0) (λ m. 1) (λ m lm. let o = wave.once m lm in omega arith) j l in
+    let few = flow_le g v (λ m. 1) wave.once j l in
     let four = flow_ones g j in
     let low = wave.low j l ne in
     let none = ap (λ q. 4 * q) (one_at_other site j (λ e'. ne (sym e'))) in
     omega arith
 
--- so the list holds no more than the other sites
-pub wave_few : (g : Grid) (site : ℕ) (c h u k list : List ℕ) (turn : ℕ) → site < sites g → IsWave g site c h u k list turn → length list + 1 ≤ sites g
-wave_few g site c h u k list turn inside wave =
+-- so the list holds no more than all sites
+pub wave_few : (g : Grid) (site : ℕ) (h k list : List ℕ) (v : ℕ → ℕ) (turn : ℕ) → site < sites g → IsWave g site h k list v turn → length list ≤ sites g
+wave_few g site h k list v turn inside wave =
     let long = length-listing (sites g) (may_topple (λ j. get_or k j 0)) ((site ∷ []) ++ drop turn list) wave.waiting in
     let rest = length-drop turn list in
     let within = wave.within in
     let front = length-append (site ∷ []) (drop turn list) in
-    let grown = total_same (sites g) (λ j. get_or u j 0) (λ j. get_or c j 0 + (get_or u j 0 - get_or c j 0)) (λ j l. let le = wave.counts j l in omega arith) in
-    let split = total-add (sites g) (λ j. get_or c j 0) (λ j. get_or u j 0 - get_or c j 0) in
     let turns = wave.turns in
-    let both = total-add (sites g) (λ j. get_or u j 0 - get_or c j 0) (λ j. one_if (leb 4 (get_or k j 0))) in
-    let bound = total_le (sites g) (λ j. (get_or u j 0 - get_or c j 0) + one_if (leb 4 (get_or k j 0))) (λ j. 1 + 1 * one_at site j)
+    let both = total-add (sites g) v (λ j. one_if (leb 4 (get_or k j 0))) in
+    let bound = total_le (sites g) (λ j. v j + one_if (leb 4 (get_or k j 0))) (λ j. 1 + 1 * one_at site j)
     (λ j l.
     let o = wave.once j l in
     ⊎_elim
@@ -85,7 +82,7 @@ wave_few g site c h u k list turn inside wave =
     let one = ap (λ q. 1 * q) (sym (ap (one_at site) e) ∙ one_at_same site) in
     ⊎_elim (λ (less : get_or k j 0 < 4). rw (lt-leb 4 (get_or k j 0) less) (omega arith)) (λ (more : 4 ≤ get_or k j 0). rw (le-leb 4 (get_or k j 0) more) (omega arith)) (cases_lt (get_or k j 0) 4))
     (λ (ne : site ≡ j → ⊥).
-    let low = toppled_low g site c h u k list turn j wave l (λ e. ne (sym e)) in
+    let low = toppled_low g site h k list v turn j wave l (λ e. ne (sym e)) in
     ⊎_elim (λ (less : get_or k j 0 < 4). rw (lt-leb 4 (get_or k j 0) less) (omega arith)) (λ (more : 4 ≤ get_or k j 0). rw (le-leb 4 (get_or k j 0) more) (omega arith)) (cases_lt (get_or k j 0) 4))
     (cases_eq site j)) in
     let ones = total-add (sites g) (λ j. 1) (λ j. 1 * one_at site j) in
@@ -109,30 +106,60 @@ queued_from h front list turn i v within inside more all =
 pub four_places : (g : Grid) (i j : ℕ) (ps : List (Option ℕ)) → ps ≡ places g i → i < sites g → j < sites g → flow g (one_at i) j ≡ value_at (λ m. one_at m j) (get_or ps 0 None) + value_at (λ m. one_at m j) (get_or ps 1 None) + value_at (λ m. one_at m j) (get_or ps 2 None) + value_at (λ m. one_at m j) (get_or ps 3 None)
 four_places g i j ps e l m = rw e (flow-one_at g i j l m ∙ flow_four g (λ q. one_at q j) i)
 
+-- four sites as places
+four_of : (xs : List ℕ) → length xs ≡ 4 → (Some (get_or xs 0 0) ∷ Some (get_or xs 1 0) ∷ Some (get_or xs 2 0) ∷ Some (get_or xs 3 0) ∷ []) ≡ map Some xs
+four_of [] e = absurd (omega arith)
+four_of (a ∷ []) e = absurd (omega arith)
+four_of (a ∷ b ∷ []) e = absurd (omega arith)
+four_of (a ∷ b ∷ c ∷ []) e = absurd (omega arith)
+four_of (a ∷ b ∷ c ∷ d ∷ []) e = refl
+four_of (a ∷ b ∷ c ∷ d ∷ x ∷ xs) e = absurd (omega arith)
+
+pub some_four : (g : Grid) (i : ℕ) (xs : List ℕ) → map Some xs ≡ places g i → (Some (get_or xs 0 0) ∷ Some (get_or xs 1 0) ∷ Some (get_or xs 2 0) ∷ Some (get_or xs 3 0) ∷ []) ≡ places g i
+some_four g i xs e =
+    let long : length xs ≡ 4 = sym (length-map xs Some) ∙ ap length e in
+    four_of xs long ∙ e
+
+-- a list has a site as often as any part of it, or more often
+pub tally_part : (xs : List ℕ) (n j : ℕ) → tally (take n xs) j ≤ tally xs j
+tally_part xs n j =
+    let parts = tally-append (take n xs) (drop n xs) j in
+    let whole = ap (λ ys. tally ys j) (take-append-drop n xs) in
+    omega arith
+
+-- one that joins a list, or does not, changes nothing before it
+pub kept_from : (list : List ℕ) (turn i : ℕ) (joins : Bool) → turn ≤ length list → take turn (cond joins (list ++ i ∷ []) list) ≡ take turn list
+kept_from list turn i true within = take-append-le turn list (i ∷ []) within
+kept_from list turn i false within = refl
+
+-- the sites that have toppled after one turn more
+pub turn_tally : (list longer : List ℕ) (turn i : ℕ) → i ≡ get_or list turn 0 → turn < length list → take (turn + 1) longer ≡ take (turn + 1) list → (take (turn + 1) longer ≡ take turn list ++ i ∷ []) × ((j : ℕ) → tally (take (turn + 1) longer) j ≡ tally (take turn list) j + one_at i j)
+turn_tally list longer turn i e l kept =
+    let longer_is : take (turn + 1) longer ≡ take turn list ++ i ∷ [] = kept ∙ take_more list turn 0 l ∙ ap (λ x. take turn list ++ x ∷ []) (sym e) in
+    (longer_is, λ j. ap (λ xs. tally xs j) longer_is ∙ tally-push (take turn list) i j)
+
 -- ---- the wave begins, goes on, and ends
 
 -- the first toppling, that of the held site
-pub wave_begins : (g : Grid) (site : ℕ) (c h u k list : List ℕ) → site < sites g → length k ≡ sites g → 4 ≤ get_or h site 0 → ((j : ℕ) → j < sites g → j ≢ site → get_or h j 0 ≤ 3) → ((j : ℕ) → get_or u j 0 ≡ get_or c j 0 + 1 * one_at site j) → ((j : ℕ) → j < sites g → get_or k j 0 ≡ get_or h j 0 + flow g (one_at site) j) → Lists (sites g) (may_topple (λ j. get_or k j 0)) ((site ∷ []) ++ drop 0 list) → IsWave g site c h u k list 0
-wave_begins g site c h u k list inside each high low counts gives waiting = record {
-  within = omega arith;
+pub wave_begins : (g : Grid) (site : ℕ) (h k list : List ℕ) (v : ℕ → ℕ) → site < sites g → 1 ≤ length list → ((j : ℕ) → j < sites g → j ≢ site → get_or h j 0 ≤ 3) → ((j : ℕ) → v j ≡ one_at site j) → ((j : ℕ) → j < sites g → get_or k j 0 ≡ get_or h j 0 + flow g (one_at site) j) → Lists (sites g) (may_topple (λ j. get_or k j 0)) ((site ∷ []) ++ drop 1 list) → IsWave g site h k list v 1
+wave_begins g site h k list v inside some low counts gives waiting = record {
+  within = some;
   low = low;
-  counts = λ j l. let e = counts j in omega arith;
   once = λ j l. let e = counts j in let few = at_most_one_at site j in omega arith;
-  held = let e = counts site in let one = one_at_same site in omega arith;
+  held = counts site ∙ one_at_same site;
   toppled = λ j l.
       let e = counts j in
       let gets = gives j l in
-      let same = flow_same g (λ m. get_or u m 0 - get_or c m 0) (one_at site) (λ m lm. let e' = counts m in omega arith) j l in
+      let same = flow_same g v (one_at site) (λ m lm. counts m) j l in
       omega arith;
-  turns = topplings_more g (λ j. get_or c j 0) (λ j. get_or u j 0) site 1 inside (λ j l. counts j) ∙ (omega arith);
+  turns = total_same (sites g) v (λ j. 1 * one_at site j) (λ j l. let e = counts j in omega arith) ∙ total-one_at (sites g) site (λ j. 1) inside;
   waiting = waiting;
 }
 
 -- one that waits in the grid, and not the held one
-pub wave_turn : (g : Grid) (site i : ℕ) (c h u k list : List ℕ) (turn : ℕ) → i ≡ get_or list turn 0 → turn < length list → IsWave g site c h u k list turn → (i < sites g) × (4 ≤ get_or k i 0) × (i ≢ site)
-wave_turn g site i c h u k list turn e l wave =
-    let queue = lists_swap (sites g) (may_topple (λ j. get_or k j 0)) (site ∷ []) (drop turn list) wave.waiting in
-    let P : List ℕ → Type 0 = λ xs. Lists (sites g) (may_topple (λ j. get_or k j 0)) xs in (
+pub wave_turn : (g : Grid) (site i : ℕ) (h k list : List ℕ) (v : ℕ → ℕ) (turn : ℕ) → i ≡ get_or list turn 0 → turn < length list → IsWave g site h k list v turn → (i < sites g) × (4 ≤ get_or k i 0) × (i ≢ site)
+wave_turn g site i h k list v turn e l wave =
+    let queue = lists_swap (sites g) (may_topple (λ j. get_or k j 0)) (site ∷ []) (drop turn list) wave.waiting in (
       turn_inside (sites g) (may_topple (λ j. get_or k j 0)) list (site ∷ []) turn i e l queue,
       turn_high (sites g) (λ j. get_or k j 0) list (site ∷ []) turn i e l queue,
       λ same.
@@ -147,55 +174,52 @@ wave_turn g site i c h u k list turn e l wave =
     )
 
 -- its turn: it has toppled, and what it gave is in q and the longer list
-pub wave_goes_on : (g : Grid) (site i : ℕ) (c h u k list v q longer : List ℕ) (turn : ℕ) → length k ≡ sites g → i ≡ get_or list turn 0 → turn < length list → IsWave g site c h u k list turn → ((j : ℕ) → get_or v j 0 ≡ get_or u j 0 + 1 * one_at i j) → ((j : ℕ) → j < sites g → get_or q j 0 ≡ get_or (set k i (get_or k i 0 - 4)) j 0 + flow g (one_at i) j) → length list ≤ length longer → Lists (sites g) (may_topple (λ j. get_or q j 0)) ((site ∷ []) ++ drop (turn + 1) longer) → IsWave g site c h v q longer (turn + 1)
-wave_goes_on g site i c h u k list v q longer turn each e l wave counts gives longer' waiting =
-    let here = wave_turn g site i c h u k list turn e l wave in
-    let low = toppled_low g site c h u k list turn i wave here.0 here.2 in
+pub wave_goes_on : (g : Grid) (site i : ℕ) (h k list q longer : List ℕ) (v w : ℕ → ℕ) (turn : ℕ) → length k ≡ sites g → i ≡ get_or list turn 0 → turn < length list → IsWave g site h k list v turn → ((j : ℕ) → w j ≡ v j + one_at i j) → ((j : ℕ) → j < sites g → get_or q j 0 ≡ get_or (set k i (get_or k i 0 - 4)) j 0 + flow g (one_at i) j) → length list ≤ length longer → Lists (sites g) (may_topple (λ j. get_or q j 0)) ((site ∷ []) ++ drop (turn + 1) longer) → IsWave g site h q longer w (turn + 1)
+wave_goes_on g site i h k list q longer v w turn each e l wave counts gives longer' waiting =
+    let here = wave_turn g site i h k list v turn e l wave in
+    let low = toppled_low g site h k list v turn i wave here.0 here.2 in
     let high = here.1 in
-    let before = wave.counts i here.0 in
-    let none : get_or u i 0 ≡ get_or c i 0 = omega arith in
+    let none : v i ≡ 0 = omega arith in
     record {
       within = omega arith;
       low = wave.low;
-      counts = λ j m. let e' = counts j in let le = wave.counts j m in omega arith;
       once = λ j m.
           let e' = counts j in
           let o = wave.once j m in
-          ⊎_elim (λ (same : i ≡ j). let at = ap (λ x. get_or u x 0) same in let at' = ap (λ x. get_or c x 0) same in let few = at_most_one_at i j in omega arith)
+          ⊎_elim (λ (same : i ≡ j). let at = ap v same in let few = at_most_one_at i j in omega arith)
           (λ (ne : i ≡ j → ⊥). let zero' = one_at_other i j ne in omega arith)
           (cases_eq i j);
       held = let e' = counts site in let zero' = one_at_other i site here.2 in let was = wave.held in omega arith;
       toppled = λ j m.
           let e' = counts j in
-          let le = wave.counts j m in
           let gets = gives j m in
           let was = wave.toppled j m in
           let lower = lowered_at k i (let inside = here.0 in omega arith) here.1 j in
-          let both = flow-add g (λ x. get_or u x 0 - get_or c x 0) (one_at i) j in
-          let same = flow_same g (λ x. get_or v x 0 - get_or c x 0) (λ x. (get_or u x 0 - get_or c x 0) + one_at i x) (λ x lx. let ex = counts x in let lex = wave.counts x lx in omega arith) j m in
+          let both = flow-add g v (one_at i) j in
+          let same = flow_same g w (λ x. v x + one_at i x) (λ x lx. counts x) j m in
           omega arith;
-      turns = let more = topplings_more g (λ j. get_or u j 0) (λ j. get_or v j 0) i 1 here.0 (λ j m. counts j) in let was = wave.turns in omega arith;
+      turns = let more = topplings_more g v w i 1 here.0 (λ j m. let e' = counts j in omega arith) in let was = wave.turns in omega arith;
       waiting = waiting;
     }
 
 -- those behind it wait, once it has lost its grains
-pub wave_waits : (g : Grid) (site i : ℕ) (c h u k list : List ℕ) (turn : ℕ) → length k ≡ sites g → i ≡ get_or list turn 0 → turn < length list → IsWave g site c h u k list turn → Lists (sites g) (may_topple (λ j. get_or (set k i (get_or k i 0 - 4)) j 0)) ((site ∷ []) ++ drop (turn + 1) list)
-wave_waits g site i c h u k list turn each e l wave =
-    let here = wave_turn g site i c h u k list turn e l wave in
+pub wave_waits : (g : Grid) (site i : ℕ) (h k list : List ℕ) (v : ℕ → ℕ) (turn : ℕ) → length k ≡ sites g → i ≡ get_or list turn 0 → turn < length list → IsWave g site h k list v turn → Lists (sites g) (may_topple (λ j. get_or (set k i (get_or k i 0 - 4)) j 0)) ((site ∷ []) ++ drop (turn + 1) list)
+wave_waits g site i h k list v turn each e l wave =
+    let here = wave_turn g site i h k list v turn e l wave in
     let queue = lists_swap (sites g) (may_topple (λ j. get_or k j 0)) (site ∷ []) (drop turn list) wave.waiting in
     let first = turn_of (sites g) (may_topple (λ j. get_or k j 0)) list (site ∷ []) turn i e l queue in
-    let low = toppled_low g site c h u k list turn i wave here.0 here.2 in
+    let low = toppled_low g site h k list v turn i wave here.0 here.2 in
     let inside : i < length k = let b = here.0 in omega arith in
     let left = leaves (leb 4) k (drop (turn + 1) list ++ site ∷ []) i (get_or k i 0 - 4) (lists_of (sites g) (length k) (may_topple (λ j. get_or k j 0)) (i ∷ (drop (turn + 1) list ++ site ∷ [])) (sym each) first) inside (lt-leb 4 (get_or k i 0 - 4) (omega arith)) in
     lists_swap (sites g) (may_topple (λ j. get_or (set k i (get_or k i 0 - 4)) j 0)) (drop (turn + 1) list) (site ∷ []) (lists_of (length k) (sites g) (may_topple (λ j. get_or (set k i (get_or k i 0 - 4)) j 0)) (drop (turn + 1) list ++ site ∷ []) each left)
 
 -- the held site has 4 to lose
-pub wave_held : (g : Grid) (site : ℕ) (c h u k list : List ℕ) (turn : ℕ) → IsWave g site c h u k list turn → 4 ≤ get_or k site 0
-wave_held g site c h u k list turn wave = front_is_high (sites g) (λ j. get_or k j 0) (drop turn list) site wave.waiting
+pub wave_held : (g : Grid) (site : ℕ) (h k list : List ℕ) (v : ℕ → ℕ) (turn : ℕ) → IsWave g site h k list v turn → 4 ≤ get_or k site 0
+wave_held g site h k list v turn wave = front_is_high (sites g) (λ j. get_or k j 0) (drop turn list) site wave.waiting
 
--- and where no other waits, none has 4
-pub wave_ends : (g : Grid) (site : ℕ) (c h u k list : List ℕ) (turn : ℕ) → length list ≤ turn → length k ≡ sites g → site < sites g → IsWave g site c h u k list turn → (j : ℕ) → j < sites g → j ≢ site → get_or (lowered k site) j 0 ≤ 3
-wave_ends g site c h u k list turn done each inside wave j l ne =
+-- and if no other waits, none has 4
+pub wave_ends : (g : Grid) (site : ℕ) (h k list : List ℕ) (v : ℕ → ℕ) (turn : ℕ) → length list ≤ turn → length k ≡ sites g → site < sites g → IsWave g site h k list v turn → (j : ℕ) → j < sites g → j ≢ site → get_or (lowered k site) j 0 ≤ 3
+wave_ends g site h k list v turn done each inside wave j l ne =
     let end = drop_all turn list done in
     let P : List ℕ → Type 0 = λ xs. Lists (sites g) (may_topple (λ m. get_or k m 0)) ((site ∷ []) ++ xs) in
     let only = subst P end wave.waiting in
@@ -229,9 +253,9 @@ pub lowered_other : (k : List ℕ) (site i : ℕ) → i ≢ site → get_or (low
 lowered_other k site i ne = get_or-set_other k site i (get_or k site 0 - 4) 0 ne
 
 -- the grains of a wave are few
-pub held_sum : (g : Grid) (site : ℕ) (c h u k : List ℕ) → site < sites g → length h ≡ sites g → length k ≡ sites g → 4 ≤ get_or k site 0 → Advances g (λ j. get_or c j 0) (λ j. get_or h j 0) (λ j. get_or u j 0) (λ j. get_or (lowered k site) j 0) → sum k ≤ sum h + 4
-held_sum g site c h u k inside each each' high advances =
-    let falls = sum_falls g (λ j. get_or c j 0) (λ j. get_or u j 0) h (lowered k site) each (length-set k site (get_or k site 0 - 4) ∙ each') advances in
+pub held_sum : (g : Grid) (site : ℕ) (h k : List ℕ) (u v : ℕ → ℕ) → site < sites g → length h ≡ sites g → length k ≡ sites g → 4 ≤ get_or k site 0 → Advances g u (λ j. get_or h j 0) v (λ j. get_or (lowered k site) j 0) → sum k ≤ sum h + 4
+held_sum g site h k u v inside each each' high advances =
+    let falls = sum_falls g u v h (lowered k site) each (length-set k site (get_or k site 0 - 4) ∙ each') advances in
     let parts = sum_by-set (λ x. x) k site (get_or k site 0 - 4) 0 (omega arith) in
     omega arith
 
@@ -241,18 +265,10 @@ sum_lower k i v inside less =
     let parts = sum_by-set (λ x. x) k i v 0 inside in
     omega arith
 
-lists_from : (n : ℕ) (p : ℕ → Bool) (xs : List ℕ) → ((i : ℕ) → i < n → tally xs i ≡ one_if (p i)) → ((i : ℕ) → n ≤ i → tally xs i ≡ 0) → Lists n p xs
-lists_from n p xs inside none = record {
-  each = λ i.
-      ⊎_elim (λ (less : i < n). let test = lt-ltb i n less in inside i less ∙ rw test refl)
-      (λ (past : n ≤ i). let test = le-ltb i n past in none i past ∙ rw test refl)
-      (cases_lt i n);
-}
-
 -- the site held back waits from the first
-pub first_waits : (g : Grid) (site : ℕ) (h : List ℕ) (list : List ℕ) → list ≡ [] → site < sites g → 4 ≤ get_or h site 0 → ((j : ℕ) → j < sites g → j ≢ site → get_or h j 0 ≤ 3) → Lists (sites g) (may_topple (λ j. get_or h j 0)) ((site ∷ []) ++ drop 0 list)
-first_waits g site h list none inside high low =
-    rw none
+pub first_waits : (g : Grid) (site : ℕ) (h : List ℕ) (list : List ℕ) → list ≡ site ∷ [] → site < sites g → 4 ≤ get_or h site 0 → ((j : ℕ) → j < sites g → j ≢ site → get_or h j 0 ≤ 3) → Lists (sites g) (may_topple (λ j. get_or h j 0)) ((site ∷ []) ++ drop 1 list)
+first_waits g site h list only inside high low =
+    rw only
     (lists_from (sites g) (may_topple (λ j. get_or h j 0)) (site ∷ [])
     (λ j l.
     let cons = tally-cons site [] j in

@@ -1,7 +1,7 @@
 //! The room in which a pile settles, drop after drop.
 //!
-//! Between two drops every count is 0. A drop brings one site to 4 at most, so that site is the whole first wave; the
-//! sites that topple are listed, and the counts that are not 0 are theirs alone. Setting these back leaves all at 0.
+//! Between two drops every count is 0. A drop brings one site to 4 at most, and that site begins the first wave. The sites
+//! that topple are listed, and only their counts are not 0. Setting these to 0 again leaves all at 0.
 
 ghost use Rattle.std.specs.Prelude.{◌≡◌, ◌≢◌, ℕ, ◌-◌, ◌^◌, ◌<◌, ◌≤◌, length, sum, slice_index, IfOk};
 ghost use Rattle.sand_model.specs.Grid.{sites};
@@ -39,7 +39,7 @@ impl Workspace {
     pub(crate) fn new(alloc: Global, shape: Shape) -> Result<Workspace, AllocError>
         ensures { IfOk result (λ w. w ≡ shape) }
     {
-        // A turn adds 4 sites at most.
+        // A turn lists 4 sites at most.
         let room = shape.sites() + 4;
         let lattice = Lattice::new(alloc, shape)?;
         let counts = vec![in alloc; 0u64; shape.sites()]?;

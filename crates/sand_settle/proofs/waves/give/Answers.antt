@@ -1,7 +1,7 @@
-use Rattle.std.proofs.Common.{◌<◌, ◌+◌, ap, arith, length, get_or}
+use Rattle.std.proofs.Common.{◌<◌, ◌+◌, ◌∙◌, take, ap, arith, length, get_or}
 use Rattle.sand_settle.specs.Lists.{ListView}
 use Rattle.sand_model.proofs.Lists.{lists_of}
-use Rattle.sand_settle.proofs.Held.{queued_from}
+use Rattle.sand_settle.proofs.Held.{queued_from, kept_from}
 use Rattle.sand_settle.proofs.waves.give.Goals as goal
 
 pub returns-in-Some-clause-waiting : goal.returns-in-Some-clause-waiting
@@ -10,3 +10,7 @@ returns-in-Some-clause-waiting c n turn front each within all =
     rw (each, ap (λ (l : ListView). l.sites) c.push_if.ensures)
     (queued_from c.args.heights.now front c.args.list.now.sites turn c.in-Some.site (get_or c.args.heights.now c.in-Some.site 0 + 1) within inside (omega arith)
     (lists_of n (length c.args.heights.now) _ _ each all))
+
+pub returns-in-Some-clause-kept : goal.returns-in-Some-clause-kept
+returns-in-Some-clause-kept c turn within =
+    ap (λ (l : ListView). take turn l.sites) c.push_if.ensures ∙ kept_from c.args.list.now.sites turn c.in-Some.site _ within
