@@ -12,6 +12,9 @@
 //! 3. `repair`: the rounded counts are made right, by toppling what is unstable (in bytes: `sweeps`, then
 //!    `singles`) and taking back what toppled without need (`burning`). Here all numbers are exact.
 //! 4. `density`: the local means of what is left tell the density for the pile of twice the size.
+//!
+//! The identity of the group of recurrent piles is guessed in the same way, from a pile without a grain (`claim`). And
+//! `forecast` tells, without a solve, whether a pile is so high that a guess is faster than toppling.
 #![tactic(auto)]
 
 mod border;
