@@ -105,7 +105,6 @@ fn spread(lattice: &Lattice, heights: &mut [u64], list: &mut SiteList, site: usi
 }
 
 // One wave: topples a site that may, and then, each once, all others that this brings to 4. Lists the sites that topple.
-#[inline(never)]
 fn topple_once(lattice: &Lattice, heights: &mut [u64], list: &mut SiteList, site: usize)
     requires site { site < sites lattice.now }
     requires one_each { length heights.old ≡ sites lattice.now }
