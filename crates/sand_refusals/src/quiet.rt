@@ -127,27 +127,37 @@ fn passes(rt: HostRuntime) -> Result<(), Fail> {
     let start = pile_on(alloc, 1, 2, &[4, 4])?;
     assert!(rt; start.shape().sites() == 2);
     assert!(rt; start.shape().width() == 1 && start.shape().height() == 2);
-    let (pile, mut pass) = SharedPile::new(alloc, &start, 3)?;
-    let mut counts = SiteCounts::new(alloc, start.shape())?;
+    let (pile, mut pass) = SharedPile::new(alloc, &start, 1)?;
     refuse(alloc, 0);
     assert!(rt; pile.is_whole(&pass));
     assert_eq!(rt; pile.drop_at(&mut pass, 1), Ok(0));
     assert!(rt;
-        pile.drop_all(&mut pass, &[1, 1, 1], &mut counts)
-            .is_err_and(|fault| fault.number() == 13)
-    );
-    assert_eq!(rt; pile.drop_all(&mut pass, &[0, 1], &mut counts), Ok(1));
-    assert!(rt;
         pile.drop_at(&mut pass, 1)
             .is_err_and(|fault| fault.number() == 13)
     );
-    assert_eq!(rt; (pile.tally(&mut pass), pile.sweep(&mut pass)), (3, 2));
-    assert_eq!(rt; (pass.left(), pass.seen(), pass.rows()), (0, 3, (0, 2)));
+    assert_eq!(rt; (pile.tally(&mut pass), pile.sweep(&mut pass)), (1, 2));
+    assert_eq!(rt; (pass.left(), pass.seen(), pass.rows()), (0, 1, (0, 2)));
     assert_eq!(rt;
         (pass.receipts().len(), pass.toppled(0), pass.toppled(1)),
-        (3, 1, 1)
+        (1, 1, 1)
     );
     assert!(rt; pile.is_whole(&pass));
+    assert!(rt; !was_refused(alloc));
+    Ok(())
+}
+
+#[test]
+fn lists_of_drops(rt: HostRuntime) -> Result<(), Fail> {
+    let alloc = rt.alloc();
+    let start = pile_on(alloc, 1, 2, &[0, 0])?;
+    assert!(rt; start.shape().sites() == 2);
+    let (pile, mut pass) = SharedPile::new(alloc, &start, 2)?;
+    let mut counts = SiteCounts::new(alloc, start.shape())?;
+    refuse(alloc, 0);
+    let past = pile.drop_all(&mut pass, &[1, 1, 1], &mut counts);
+    let dropped = pile.drop_all(&mut pass, &[0, 1], &mut counts);
+    assert!(rt; past.is_err_and(|fault| fault.number() == 13));
+    assert!(rt; dropped.is_ok_and(|number| number == 0));
     assert!(rt; !was_refused(alloc));
     Ok(())
 }
