@@ -29,7 +29,7 @@ use crate::settling::count;
 use crate::site_list::SiteList;
 use sand_model::{GRAIN_LIMIT, Lattice, TOPPLING_HEIGHT};
 
-// Gives a grain to a place, where that is in the grid, and lists its site where that becomes 4.
+// Gives a grain to a place if it is in the grid, and lists its site if that becomes 4.
 #[inline(always)]
 fn give(heights: &mut [u64], list: &mut SiteList, place: Option<usize>)
     requires inside { IfSome place (λ j. j < length heights.old) }
@@ -151,7 +151,7 @@ fn count_each(counts: &mut [u64], toppled: &mut SiteList, list: &SiteList)
     }
 }
 
-// Topples until no site may topple: counts how often each site does, and lists the sites that do.
+// Topples until no site may topple. Counts how often each site topples, and lists the sites that do.
 pub(crate) fn drain_from(
     lattice: &Lattice,
     heights: &mut [u64],
