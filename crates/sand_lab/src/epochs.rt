@@ -7,6 +7,8 @@ ghost use Rattle.sand_shared.specs.OpenPile.{grid_of};
 ghost use Rattle.sand_shared.specs.Passes.{IsPassOf, IsWhole};
 ghost use Rattle.sand_shared.specs.Record.{IsOneThreads, Tells};
 ghost use Rattle.std.specs.Thread.{IsSync};
+ghost use Rattle.std.specs.declared.option.Option.TheVariants.{Some};
+ghost use Rattle.sand_lab.specs.Albums.{IsPlace};
 ghost use Rattle.sand_lab.specs.Crews.{IsCrew, HasBecome, unshared};
 ghost use Rattle.sand_lab.specs.Faults.{IsMemory, IsOfEpoch};
 ghost use Rattle.sand_lab.specs.Plans.{IsPlan, quota_of};
@@ -23,7 +25,7 @@ use sand_model::Pile;
 use sand_shared::{CloseFault, Pass, Record, SharedFault, SharedPile};
 use std::alloc::Global;
 use std::marker::Model;
-use std::thread::{Threads, join_mut};
+use std::thread::{Threads, join, join_mut};
 
 /// What is kept of an epoch beside its record.
 #[derive(Drop)]
@@ -89,7 +91,7 @@ fn close(alloc: Global, pile: SharedPile, all: Pass) -> Result<Record, LabFault>
     }
 }
 
-pub(crate) fn copy_of(alloc: Global, closed: &Record) -> Result<Record, LabFault>
+fn copy_of(alloc: Global, closed: &Record) -> Result<Record, LabFault>
     ensures copy { IfOk result (λ r. r ≡ closed.now) }
     ensures memory { IfErr result IsMemory }
 {
@@ -129,6 +131,19 @@ fn work_and_blank<R: Threads + Sync, G: Gate>(
     journal
 }
 
+// A copy of a record with room for so many drops more.
+fn copy_with_room(alloc: Global, closed: &Record, drops: u64) -> Result<Record, LabFault>
+    requires limit { sum closed.now.start.heights + (length closed.now.history + drops) ≤ GRAIN_LIMIT }
+    ensures copy { IfOk result (λ r. r ≡ closed.now) }
+    ensures memory { IfErr result IsMemory }
+{
+    match closed.copy_with_room(alloc, drops as usize) {
+        Ok(copy) => Ok(copy),
+        Err(SharedFault::Memory(refused)) => Err(refused.into()),
+        Err(SharedFault::TooManyGrains) => unreachable!(),
+    }
+}
+
 // The journal and the record of a pile on which a crew has worked.
 fn closed_epoch<R: Threads + Sync, G: Gate>(
     rt: &R,
@@ -157,6 +172,77 @@ fn closed_epoch<R: Threads + Sync, G: Gate>(
     })
 }
 
+// Two copies of a record, made at the same time: for its picture, and with room for so many drops more.
+fn two_copies<R: Threads + Sync>(
+    rt: &R,
+    alloc: Global,
+    closed: &Record,
+    drops: u64,
+) -> Result<(Record, Record), LabFault>
+    requires limit { sum closed.now.start.heights + (length closed.now.history + drops) ≤ GRAIN_LIMIT }
+    ensures picture { IfOk result (λ r. r.0 ≡ closed.now) }
+    ensures total { IfOk result (λ r. r.1 ≡ closed.now) }
+    ensures memory { IfErr result IsMemory }
+{
+    let (picture, total) = join(
+        rt,
+        move || -> Result<Record, LabFault>
+            ensures copy { IfOk result (λ r. r ≡ closed.entry.now) }
+            ensures memory { IfErr result IsMemory }
+        { copy_of(alloc, closed) },
+        move || -> Result<Record, LabFault>
+            requires { sum closed.now.start.heights + (length closed.now.history + drops) ≤ GRAIN_LIMIT }
+            ensures copy { IfOk result (λ r. r ≡ closed.entry.now) }
+            ensures memory { IfErr result IsMemory }
+        { copy_with_room(alloc, closed, drops) },
+    );
+    Ok((picture?, total?))
+}
+
+// Publishes a copy of an epoch's record. Returns the album's note of it.
+fn published(alloc: Global, epoch: u32, album: &Album, copy: Record) -> Result<Note, LabFault>
+    requires place { epoch < length album.now }
+    ensures place { IfOk result (λ n. IsPlace album.now epoch n.cell) }
+    ensures shown { IfOk result (λ n. n.known ≡ Some (record { epoch = epoch; closed = copy })) }
+    ensures faults { IfErr result IsOfEpoch }
+{
+    album.publish(alloc, epoch, Picture::new(epoch, copy))
+}
+
+/// The first epoch of a plan, from a start: its record, which is published in the album, what is kept beside it, and a
+/// copy of the record with room for so many drops more. Returns Memory if an allocation fails, and Taken if the album's
+/// place was set before.
+pub(crate) fn run_first_epoch<R: Threads + Sync, G: Gate>(
+    rt: &R,
+    alloc: Global,
+    start: &Pile,
+    wish: Wish,
+    gate: &G,
+    album: &Album,
+    drops: u64,
+) -> Result<(Record, Sheet, Record), LabFault>
+    requires plan { IsPlan wish }
+    requires limit { sum start.now.heights + (quota_of wish + drops) ≤ GRAIN_LIMIT }
+    requires place { 0 < length album.now }
+    ensures epoch { IfOk result (λ r. IsEpoch album.now wish start.now 0 r.0 r.1) }
+    ensures copy { IfOk result (λ r. r.2 ≡ r.0) }
+    ensures faults { IfErr result IsOfEpoch }
+{
+    let ClosedEpoch {
+        closed,
+        journal,
+        findings,
+    } = closed_epoch(rt, alloc, start, wish, 0, gate)?;
+    let (copy, total) = two_copies(rt, alloc, &closed, drops)?;
+    let note = published(alloc, 0, album, copy)?;
+    let sheet = Sheet {
+        journal,
+        findings,
+        note,
+    };
+    Ok((closed, sheet, total))
+}
+
 /// One epoch of a plan, from a start: its record, which is published in the album, and what is kept beside it. Refuses
 /// want of memory, and an album's place that was set before (Taken).
 pub(crate) fn run_epoch<R: Threads + Sync, G: Gate>(
@@ -179,8 +265,8 @@ pub(crate) fn run_epoch<R: Threads + Sync, G: Gate>(
         journal,
         findings,
     } = closed_epoch(rt, alloc, start, wish, epoch, gate)?;
-    let picture = Picture::new(epoch, copy_of(alloc, &closed)?);
-    let note = album.publish(alloc, epoch, picture)?;
+    let copy = copy_of(alloc, &closed)?;
+    let note = published(alloc, epoch, album, copy)?;
     let sheet = Sheet {
         journal,
         findings,

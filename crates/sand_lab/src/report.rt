@@ -99,19 +99,6 @@ impl Sheet {
     }
 }
 
-// The total of a first record, with room for so many drops more.
-fn first_total(alloc: Global, first: &Record, drops: u64) -> Result<Record, LabFault>
-    requires limit { sum first.now.start.heights + (length first.now.history + drops) ≤ GRAIN_LIMIT }
-    ensures copy { IfOk result (λ r. r ≡ first.now) }
-    ensures memory { IfErr result IsMemory }
-{
-    match first.copy_with_room(alloc, drops as usize) {
-        Ok(total) => Ok(total),
-        Err(SharedFault::Memory(refused)) => Err(refused.into()),
-        Err(SharedFault::TooManyGrains) => unreachable!(),
-    }
-}
-
 // The total grows by a record that starts from its pile.
 fn append(alloc: Global, total: &mut Record, next: &Record) -> Result<(), LabFault>
     requires start { next.now.start ≡ total.old.settled.pile }
@@ -128,21 +115,20 @@ fn append(alloc: Global, total: &mut Record, next: &Record) -> Result<(), LabFau
 }
 
 impl Report {
-    /// The report of a first epoch of so many, which have so many more drops in all. Returns Memory if an allocation
-    /// fails, and no other fault.
+    /// The report of a first epoch of so many, whose record is also the total. Returns Memory if an allocation fails, and
+    /// no other fault.
     pub(crate) fn of(
         alloc: Global,
         epochs: u32,
-        drops: u64,
         closed: Record,
         sheet: Sheet,
+        total: Record,
     ) -> Result<Report, LabFault>
         requires epochs { 0 < epochs }
-        requires limit { sum closed.start.heights + (length closed.history + drops) ≤ GRAIN_LIMIT }
+        requires total { total ≡ closed }
         ensures report { IfOk result (λ p. p ≡ report_of closed sheet) }
         ensures memory { IfErr result IsMemory }
     {
-        let total = first_total(alloc, &closed, drops)?;
         let mut records = Vec::with_capacity(alloc, epochs as usize)?;
         let mut sheets = Vec::with_capacity(alloc, epochs as usize)?;
         records.push_reserved(closed);

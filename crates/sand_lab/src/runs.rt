@@ -7,7 +7,7 @@ ghost use Rattle.sand_lab.specs.Plans.{IsPlan, all_drops};
 ghost use Rattle.sand_lab.specs.Reports.{IsReport};
 
 use crate::album::Album;
-use crate::epochs::{quota_of, run_epoch};
+use crate::epochs::{quota_of, run_epoch, run_first_epoch};
 use crate::faults::LabFault;
 use crate::gate::Gate;
 use crate::plan::{Plan, Wish};
@@ -31,9 +31,9 @@ fn run_all<R: Threads + Sync, G: Gate>(
     ensures report { IfOk result (IsReport album.now wish start.now) }
     ensures faults { IfErr result IsOfEpoch }
 {
-    let (closed, sheet) = run_epoch(rt, alloc, start, wish, 0, gate, album)?;
     let later = quota_of(wish) * u64::from(wish.epochs - 1);
-    let mut report = Report::of(alloc, wish.epochs, later, closed, sheet)?;
+    let (closed, sheet, total) = run_first_epoch(rt, alloc, start, wish, gate, album, later)?;
+    let mut report = Report::of(alloc, wish.epochs, closed, sheet, total)?;
     for epoch in 1..wish.epochs {
         let pile = report.total().pile();
         let (closed, sheet) = run_epoch(rt, alloc, pile, wish, epoch, gate, album)?;

@@ -5,8 +5,8 @@ use Rattle.sand_lab.specs.Reports.{IsEpoch}
 use Rattle.sand_lab.proofs.Growing.{report_more, epoch_drops, room_for_epoch}
 use Rattle.sand_lab.proofs.runs.run_all.Goals as goal
 
-pub run_epoch-requires-in-loop-epoch-clause-limit : goal.run_epoch-requires-in-loop-epoch-clause-limit
-run_epoch-requires-in-loop-epoch-clause-limit g c κs bounds =
+pub run_epoch-requires-clause-limit : goal.run_epoch-requires-clause-limit
+run_epoch-requires-clause-limit g c κs bounds =
     let room = room_for_epoch c.args.album.now c.args.wish c.args.start.now c.loop-epoch.epoch c.loop-epoch.report c.loop-epoch.invariant c.loop-epoch-test.true c.requires.limit in
     let pile = ap (λ (x : PileView). sum x.heights) (c.pile-pile.ensures.value ∙ ap (λ (r : RecordView). r.settled.pile) c.total.ensures) in
     omega (arith, room.1, pile)
