@@ -1,5 +1,6 @@
 pub mod Endings
 pub mod Rows
 pub mod DropSites
+pub mod Drawing
 pub mod Unfit
 pub mod OneText

@@ -7,16 +7,17 @@ use Rattle.sand_model.specs.Grid.{grid_of}
 use Rattle.sand_text.specs.declared.fault.TextFault.{TextFault}
 use Rattle.sand_text.specs.declared.flow.TheConstants.{INPUT_LIMIT}
 use Rattle.sand_text.specs.Flow.{GivesAll, IsFurther, IsFurtherByAtMost}
-use Rattle.sand_text.specs.Reading.{pile_of, drops_of, two_of}
+use Rattle.sand_text.specs.Reading.{pile_of, two_of}
 use Rattle.clap.specs.Words.{Text, kind_of}
 use Rattle.clap.specs.declared.error.kind.ErrorKind.TheVariants.{DisplayHelp}
 use Rattle.sand_lab.specs.declared.plan.Wish.{Wish}
 use Rattle.sand_words.specs.Asked.{AskForHelp}
+use Rattle.sand_words.specs.declared.words.Draw.{Draw}
 use Rattle.sand_words.specs.declared.words.Task.{Task}
 use Rattle.sand_words.specs.declared.words.Task.TheVariants as task
 use Rattle.sand_desk.specs.declared.faults.DeskFault.{DeskFault}
 use Rattle.sand_desk.specs.declared.faults.DeskFault.TheVariants as desk
-use Rattle.sand_desk.specs.Dropping.{IsDropsText, IsOverfull}
+use Rattle.sand_desk.specs.Dropping.{IsDropsText, IsOverfull, drops_for}
 use Rattle.sand_desk.specs.Faults.{of_shape, of_text}
 use Rattle.sand_desk.specs.Group.{edge_of, IsBurnText, IsIdentityText, IsSumText, IsInverseText, IsUnstable, IsUnfitPile, IsUnfitPair, IsMismatch}
 use Rattle.sand_desk.specs.Laboratory.{IsLabText, IsOvergrown, IsRunnable, wish_of}
@@ -32,7 +33,7 @@ abbrev pub IsTextOf : Task → List ℕ → List ℕ → Type 0
 IsTextOf (task.Settle form) input text = IsSettleText form input text
 IsTextOf task.Burn input text = IsBurnText input text
 IsTextOf (task.Identity width height cylinder pgm) input text = IsIdentityText width height cylinder pgm text
-IsTextOf (task.Drops pile) input text = IsDropsText pile input text
+IsTextOf (task.Drops drawn pile) input text = IsDropsText drawn pile input text
 IsTextOf (task.Add pgm) input text = IsSumText pgm input text
 IsTextOf (task.Inverse pgm) input text = IsInverseText pgm input text
 IsTextOf (task.Lab run journal form) input text = IsLabText (wish_of run) journal form input text
@@ -49,9 +50,9 @@ IsDropFault grains desk.Full = GRAIN_LIMIT < grains
 IsDropFault grains desk.Memory = Unit {0}
 IsDropFault grains fault = ⊥
 
-abbrev pub IsDropsFault : List ℕ → DeskFault → Type 0
-IsDropsFault input desk.Full = IsOverfull input
-IsDropsFault input fault = IsUnreadable (drops_of input) fault
+abbrev pub IsDropsFault : Option Draw → List ℕ → DeskFault → Type 0
+IsDropsFault drawn input desk.Full = IsOverfull drawn input
+IsDropsFault drawn input fault = IsUnreadable (drops_for drawn input) fault
 
 -- the burning test refuses a pile that isn't stable
 abbrev pub IsBurnFault : List ℕ → DeskFault → Type 0
@@ -95,7 +96,7 @@ abbrev pub IsFaultOf : Task → List ℕ → DeskFault → Type 0
 IsFaultOf (task.Settle form) input fault = IsUnreadable (pile_of input) fault
 IsFaultOf task.Burn input fault = IsBurnFault input fault
 IsFaultOf (task.Identity width height cylinder pgm) input fault = IsShapeless width height cylinder fault
-IsFaultOf (task.Drops pile) input fault = IsDropsFault input fault
+IsFaultOf (task.Drops drawn pile) input fault = IsDropsFault drawn input fault
 IsFaultOf (task.Add pgm) input fault = IsSumFault input fault
 IsFaultOf (task.Inverse pgm) input fault = IsInverseFault input fault
 IsFaultOf (task.Lab run journal form) input fault = IsLabFault (wish_of run) input fault

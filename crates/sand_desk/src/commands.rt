@@ -56,7 +56,7 @@ fn perform<T: Threads + Sync>(
             cylinder,
             pgm,
         } => identity_text(alloc, width, height, cylinder, pgm),
-        Task::Drops { pile } => drops_input(alloc, input, pile),
+        Task::Drops { drawn, pile } => drops_input(alloc, input, drawn, pile),
         Task::Add { pgm } => sum_input(alloc, input, pgm),
         Task::Inverse { pgm } => inverse_input(alloc, input, pgm),
         Task::Lab { run, journal, form } => lab_input(rt, alloc, input, run, journal, form),
@@ -66,7 +66,7 @@ fn perform<T: Threads + Sync>(
 /// Runs the command that the words name, the program's name being the first: reads all input, and writes the whole text
 /// of the command or, where it finds a fault, nothing.
 ///
-/// Refuses, in this order: words that the command line doesn't take (Usage) and options that exclude one another (Clash),
+/// Refuses, in this order: words that the command line doesn't take (Usage) and options that do not go together (Clash),
 /// and then nothing is read; a reader that fails
 /// (Read), more than 1,048,576 bytes (TooLong) or want of memory, whichever is met first; the faults of the text; those
 /// of the command; want of memory for the text; a writer that fails (Write, with how many bytes it took).

@@ -1,16 +1,20 @@
 //! The command `drops`.
 
-ghost use Rattle.std.specs.Prelude.{◌≡◌, ◌+◌, ◌<◌, [], ◌++◌, length, All, IfOk, IfErr, OnOk, IsOkUnless};
+ghost use Rattle.std.specs.Prelude.{◌≡◌, ◌+◌, ◌<◌, [], ◌++◌, length, All, Some, None, IfSome, IfOk, IfErr, OnOk, IsOkUnless};
 ghost use Rattle.sand_model.specs.Grid.{sites};
 ghost use Rattle.sand_model.specs.Piles.{PileView};
 ghost use Rattle.sand_settle.specs.Drops.{grid_of_one, IsAfter};
+ghost use Rattle.sand_lab.specs.Streams.{stream_sites};
+ghost use Rattle.sand_words.specs.Asked.{IsDraw};
 ghost use Rattle.sand_desk.specs.Commands.{IsDropFault, IsDropsFault, Finds};
 ghost use Rattle.sand_desk.specs.Dropping.{AreRows, IsDropsText, drops_in, drops_text_of, sum_line};
 
 use crate::faults::DeskFault;
-use crate::texts::{pile_text, read_drops, table_text};
+use crate::texts::{pile_text, read_drops, read_pile, table_text};
 use itoa::Buffer;
+use sand_lab::SiteReader;
 use sand_settle::{Avalanche, OnePile};
+use sand_words::Draw;
 use std::alloc::{AllocError, Global};
 
 // Drops a grain at each site in turn, and notes each drop's number and avalanche.
@@ -27,6 +31,26 @@ fn drop_all(
     let mut rows = Vec::with_capacity(alloc, drops.len())?;
     for site in drops {
         let row = pile.drop_at(alloc, *site)?;
+        rows.push_reserved(row);
+    }
+    Ok(rows)
+}
+
+// Drops grains at the first sites of a stream, each read as its grain drops, and notes each drop's number and avalanche.
+fn drop_drawn(
+    alloc: Global,
+    pile: &mut OnePile,
+    draw: Draw,
+) -> Result<Vec<(u64, Avalanche)>, DeskFault>
+    requires { IsDraw draw }
+    ensures rows { IfOk result (λ rows. AreRows pile.old (stream_sites (sites (grid_of_one pile.old)) draw.seed draw.stream draw.count) rows.items pile.new) }
+    ensures after { OnOk result ((start : PileView) → IsAfter start [] pile.old → IsAfter start (stream_sites (sites (grid_of_one pile.old)) draw.seed draw.stream draw.count) pile.new) }
+    ensures fault { IfErr result (IsDropFault (pile.old.grains + draw.count)) }
+{
+    let mut reader = SiteReader::new(pile.pile().shape(), draw.seed, draw.stream);
+    let mut rows = Vec::with_capacity(alloc, draw.count as usize)?;
+    for read in 0..draw.count {
+        let row = pile.drop_at(alloc, reader.next_site())?;
         rows.push_reserved(row);
     }
     Ok(rows)
@@ -76,13 +100,44 @@ fn drops_or_pile(
     }
 }
 
-/// The text of the drops that the input holds, on the settled pile that it holds, or the pile alone that they leave.
-pub(crate) fn drops_input(alloc: Global, input: &[u8], alone: bool) -> Result<Vec<u8>, DeskFault>
-    ensures text { IfOk result (λ text. IsDropsText alone input.now text.items) }
-    ensures fault { IfErr result (Finds (IsDropsFault input.now)) }
+// The drops on the pile that the input holds, at the sites behind it.
+fn listed_drops(alloc: Global, input: &[u8], alone: bool) -> Result<Vec<u8>, DeskFault>
+    ensures text { IfOk result (λ text. IsDropsText None alone input.now text.items) }
+    ensures fault { IfErr result (Finds (IsDropsFault None input.now)) }
 {
     let (start, drops) = read_drops(alloc, input)?;
     let mut pile = OnePile::new(alloc, &start)?;
     let rows = drop_all(alloc, &mut pile, drops.as_slice())?;
     drops_or_pile(alloc, rows.as_slice(), &pile, alone)
+}
+
+// The drops on the pile that the input holds, at the sites of a stream.
+#[tactic(auto, using(crate::proofs::Drawing::unread, crate::proofs::Drawing::overfull))]
+fn drawn_drops(alloc: Global, input: &[u8], draw: Draw, alone: bool) -> Result<Vec<u8>, DeskFault>
+    requires { IsDraw draw }
+    ensures text { IfOk result (λ text. IsDropsText (Some draw) alone input.now text.items) }
+    ensures fault { IfErr result (Finds (IsDropsFault (Some draw) input.now)) }
+{
+    let start = read_pile(alloc, input)?;
+    let mut pile = OnePile::new(alloc, &start)?;
+    let rows = drop_drawn(alloc, &mut pile, draw)?;
+    drops_or_pile(alloc, rows.as_slice(), &pile, alone)
+}
+
+/// The text of the drops on the settled pile that the input holds, at the sites of a draw or at those behind the pile, or
+/// the pile alone that they leave.
+pub(crate) fn drops_input(
+    alloc: Global,
+    input: &[u8],
+    drawn: Option<Draw>,
+    alone: bool,
+) -> Result<Vec<u8>, DeskFault>
+    requires { IfSome drawn IsDraw }
+    ensures text { IfOk result (λ text. IsDropsText drawn alone input.now text.items) }
+    ensures fault { IfErr result (Finds (IsDropsFault drawn input.now)) }
+{
+    match drawn {
+        Some(draw) => drawn_drops(alloc, input, draw, alone),
+        None => listed_drops(alloc, input, alone),
+    }
 }

@@ -55,7 +55,7 @@ pub enum DeskFault {
     /// The command line was refused, or it asks for help.
     #[error("{0}")]
     Usage(clap::Error),
-    /// The command line has options that exclude one another.
+    /// The command line has options that do not go together.
     #[error("{0}")]
     Clash(Conflict),
     #[error("a cylinder of width below 3")]

@@ -26,4 +26,4 @@ pub use journal::Entry;
 pub use plan::{Plan, Wish};
 pub use report::Report;
 pub use runs::run;
-pub use streams::sites_of;
+pub use streams::{SiteReader, sites_of};

@@ -31,7 +31,7 @@ pub(crate) fn stream_of(epoch: u32, dropper: u32) -> u64
 
 /// A stream of drop sites, of which each is read when it is wanted.
 #[derive(Drop)]
-pub(crate) struct SiteReader {
+pub struct SiteReader {
     words: ChaCha8Rng,
     seed: u64,
     sites: u32,
@@ -51,7 +51,7 @@ impl Model for SiteReader {
 impl SiteReader {
     /// The stream of this number, from its place 0.
     #[tactic(auto, unfolding(crate::specs::Streams::key_of_seed))]
-    pub(crate) fn new(shape: Shape, seed: u64, stream: u64) -> SiteReader
+    pub fn new(shape: Shape, seed: u64, stream: u64) -> SiteReader
         ensures { result ≡ record { sites = sites shape; seed = seed; stream = stream; read = 0 } }
     {
         let mut words = ChaCha8Rng::from_seed(key_bytes(seed));
@@ -65,7 +65,7 @@ impl SiteReader {
 
     /// The next site of the stream.
     #[tactic(auto, unfolding(crate::specs::Streams::stream_word))]
-    pub(crate) fn next_site(&mut self) -> usize
+    pub fn next_site(&mut self) -> usize
         requires { self.old.read < 2 ^ 32 }
         ensures site { result ≡ site_at self.old.sites self.old.seed self.old.stream self.old.read }
         ensures inside { result < self.old.sites }

@@ -143,6 +143,12 @@ fn drops(rt: HostRuntime) -> Result<(), Fail> {
 }
 
 #[test]
+fn drops_at_random(rt: HostRuntime) -> Result<(), Fail> {
+    let line = "sandpile drops --count 3 --seed 7";
+    each_refused_of(&rt, rt.alloc(), line, b"3 1\n0 4 0\n", Spares::Nothing)
+}
+
+#[test]
 fn lab(rt: HostRuntime) -> Result<(), Fail> {
     let line = "sandpile lab --droppers 2 --drops 3 --epochs 2";
     each_refused_of(&rt, rt.alloc(), line, b"1 1\n0\n", Spares::Thread)

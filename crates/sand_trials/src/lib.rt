@@ -6,6 +6,8 @@
 #[cfg(test)]
 mod commands;
 #[cfg(test)]
+mod drawing;
+#[cfg(test)]
 mod faults;
 #[cfg(test)]
 mod group;

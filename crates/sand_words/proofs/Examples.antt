@@ -5,9 +5,9 @@ use Rattle.clap.specs.declared.error.kind.ErrorKind.TheVariants.{DisplayHelp, In
 use Rattle.clap.proofs.OnLiterals.{clap_on_literals}
 use Rattle.sand_words.specs.Line.{command_line}
 use Rattle.sand_words.specs.Asked.{asked, conflict_among, faults}
-use Rattle.sand_words.specs.declared.fault.Conflict.TheVariants.{Forms}
+use Rattle.sand_words.specs.declared.fault.Conflict.TheVariants.{Forms, Uncounted}
 use Rattle.sand_words.specs.declared.words.Form.TheVariants as forms
-use Rattle.sand_words.specs.declared.words.Task.TheVariants.{Identity, Lab, Settle}
+use Rattle.sand_words.specs.declared.words.Task.TheVariants.{Drops, Identity, Lab, Settle}
 
 -- `sandpile settle` asks to settle, whatever the program's name
 settle_asks : (program : Text) → asked (program ∷ codes "settle" ∷ []) ≡ Some (Settle forms.Text)
@@ -45,6 +45,16 @@ pile_and_journal program = refl
 journal_and_picture : (program : Text) → conflict_among (program ∷ codes "lab" ∷ codes "--pgm" ∷ codes "--journal" ∷ []) ≡ None
 unfolding command_line clap_on_literals
 journal_and_picture program = refl
+
+-- a seed without a count is no draw
+seed_without_count : (program : Text) → conflict_among (program ∷ codes "drops" ∷ codes "--seed" ∷ codes "7" ∷ []) ≡ Some Uncounted
+unfolding command_line clap_on_literals
+seed_without_count program = refl
+
+-- a draw is from the stream 0 of the seed 0 unless others are given
+draw_alone : (program : Text) → asked (program ∷ codes "drops" ∷ codes "--count" ∷ codes "5" ∷ []) ≡ Some (Drops (Some (record { count = 5; seed = 0; stream = 0 })) false)
+unfolding command_line clap_on_literals
+draw_alone program = refl
 
 -- with no word, and with the program's name alone, a command is missing
 no_word : faults [] ≡ MissingSubcommand ∷ []

@@ -4,7 +4,7 @@ use Rattle.clap.specs.Faults.{level_fault}
 use Rattle.clap.specs.Walk.{Walk, finished, nothing_held, rows_after, walk_from, walked}
 use Rattle.clap.specs.Words.{Text}
 use Rattle.clap.proofs.OnLiterals.{clap_on_literals}
-use Rattle.sand_words.specs.Asked.{conflict_in, identity_of}
+use Rattle.sand_words.specs.Asked.{conflict_of, identity_of}
 use Rattle.sand_words.specs.Options.{number_of}
 use Rattle.sand_words.specs.Spelling.{flag_words}
 use Rattle.sand_words.specs.declared.words.Task.TheVariants.{Identity}
@@ -89,7 +89,7 @@ module _ (m n : ℕ) (within : (1 ≤ m) × (m ≤ 256) × (1 ≤ n) × (n ≤ 2
       ≡ Some (Identity m n cylinder pgm)
   identity_reads cylinder pgm = ap identity_of (rows_end (words_read cylinder pgm)) ∙ end_asks cylinder pgm
 
-  end_free : (cylinder pgm : Bool) → conflict_in (finished identity_built.rules (end_of (flags_for cylinder pgm)).held) ≡ None
+  end_free : (cylinder pgm : Bool) → conflict_of (codes "identity", finished identity_built.rules (end_of (flags_for cylinder pgm)).held) ≡ None
   unfolding both clap_on_literals
   end_free true true = refl
   end_free true false = refl
@@ -97,5 +97,5 @@ module _ (m n : ℕ) (within : (1 ≤ m) × (m ≤ 256) × (1 ≤ n) × (n ≤ 2
   end_free false false = refl
 
   -- and go together
-  pub identity_free : (cylinder pgm : Bool) → conflict_in (rows_after identity_built.rules [] (identity_words m n cylinder pgm)) ≡ None
-  identity_free cylinder pgm = ap conflict_in (rows_end (words_read cylinder pgm)) ∙ end_free cylinder pgm
+  pub identity_free : (cylinder pgm : Bool) → conflict_of (codes "identity", rows_after identity_built.rules [] (identity_words m n cylinder pgm)) ≡ None
+  identity_free cylinder pgm = ap (λ rows. conflict_of (codes "identity", rows)) (rows_end (words_read cylinder pgm)) ∙ end_free cylinder pgm

@@ -6,7 +6,7 @@ use Rattle.clap.specs.Kinds.{Kinds, or_else}
 use Rattle.clap.specs.Walk.{Row, Walk, finished, nothing_held, rows_after, settled, walk_from, walked}
 use Rattle.clap.specs.Words.{Text}
 use Rattle.clap.proofs.OnLiterals.{clap_on_literals}
-use Rattle.sand_words.specs.Asked.{GoTogether, IsRun, conflict_in, lab_of, with_settings}
+use Rattle.sand_words.specs.Asked.{GoTogether, IsRun, conflict_of, lab_of, with_settings}
 use Rattle.sand_words.specs.Options.{number_of}
 use Rattle.sand_words.specs.Spelling.{flag_words, form_words, settings_of}
 use Rattle.sand_words.specs.declared.words.Form.{Form}
@@ -155,7 +155,7 @@ module _ (run : Run) (within : IsRun run) where
   end_asks false forms.Text = ap (option_map (λ r. Lab r false forms.Text)) run_read
 
   -- and go together
-  end_free : (journal : Bool) (form : Form) → GoTogether journal form → conflict_in (finished lab_built.rules (end_of (flags_for journal form)).held) ≡ None
+  end_free : (journal : Bool) (form : Form) → GoTogether journal form → conflict_of (codes "lab", finished lab_built.rules (end_of (flags_for journal form)).held) ≡ None
   unfolding all clap_on_literals
   end_free true Picture together = refl
   end_free true Pile together = absurd together
@@ -173,5 +173,5 @@ module _ (run : Run) (within : IsRun run) where
   lab_reads journal form = ap lab_of (rows_end (words_read journal form)) ∙ end_asks journal form
 
   -- which go together where the form goes with a journal
-  pub lab_free : (journal : Bool) (form : Form) → GoTogether journal form → conflict_in (rows_after lab_built.rules [] (lab_words run journal form)) ≡ None
-  lab_free journal form together = ap conflict_in (rows_end (words_read journal form)) ∙ end_free journal form together
+  pub lab_free : (journal : Bool) (form : Form) → GoTogether journal form → conflict_of (codes "lab", rows_after lab_built.rules [] (lab_words run journal form)) ≡ None
+  lab_free journal form together = ap (λ rows. conflict_of (codes "lab", rows)) (rows_end (words_read journal form)) ∙ end_free journal form together

@@ -1,4 +1,6 @@
 pub mod Alone
+pub mod Draws
+pub mod DropsLevel
 pub mod Each
 pub mod Entering
 mod Examples

@@ -7,7 +7,7 @@ use Rattle.clap.specs.Walk.{has_row, nothing_held, rows_after, settled, walk}
 use Rattle.clap.specs.Faults.{level_fault}
 use Rattle.sand_words.specs.Line.{lab_line, setting}
 use Rattle.sand_words.specs.Options.{flag_in, number_of, setting_in, value_of}
-use Rattle.sand_words.specs.Asked.{GoTogether, conflict_in, form_in, lab_of, run_of}
+use Rattle.sand_words.specs.Asked.{GoTogether, conflict_of, form_in, lab_of, run_of}
 use Rattle.sand_words.specs.declared.fault.Conflict.TheVariants.{Forms}
 use Rattle.sand_words.specs.declared.words.Form.TheVariants.{Picture, Pile}
 use Rattle.sand_words.specs.declared.words.Form.TheVariants as forms
@@ -51,7 +51,7 @@ go_together false false true free = tt
 go_together false false false free = tt
 
 -- `lab` asks for a run within the limits, where its options go together
-pub lab_is_sound : (words : List Text) → level_fault lab_built [] nothing_held words false [] ≡ [] → conflict_in (rows_after lab_built.rules [] words) ≡ None
+pub lab_is_sound : (words : List Text) → level_fault lab_built [] nothing_held words false [] ≡ [] → conflict_of (codes "lab", rows_after lab_built.rules [] words) ≡ None
     → IsSound (lab_of (rows_after lab_built.rules [] words))
 lab_is_sound words passes free =
     let rows = rows_after lab_built.rules [] words in

@@ -7,7 +7,7 @@ use Rattle.clap.specs.Simple.{Shape, built, entered, names_of, subcommand_of}
 use Rattle.clap.specs.Walk.{Names, Walk, finished, nothing_held, rows_after, settled, walk_from}
 use Rattle.clap.specs.Words.{Text}
 use Rattle.clap.proofs.OnLiterals.{clap_on_literals}
-use Rattle.sand_words.specs.Asked.{IsWithin, asked, conflict_in, conflict_of, faults, identity_of, lab_of, task_named}
+use Rattle.sand_words.specs.Asked.{IsWithin, asked, conflict_of, draw_of, faults, identity_of, lab_of, task_named}
 use Rattle.sand_words.specs.Fault.{IsUsage}
 use Rattle.sand_words.specs.Line.{command_line}
 use Rattle.sand_words.specs.Spelling.{Heeds, words_of}
@@ -17,6 +17,9 @@ use Rattle.sand_words.specs.declared.words.Form.TheVariants.{Picture, Pile}
 use Rattle.sand_words.specs.declared.words.Form.TheVariants as forms
 use Rattle.sand_words.specs.declared.words.Task.{Task}
 use Rattle.sand_words.specs.declared.words.Task.TheVariants.{Add, Burn, Drops, Identity, Inverse, Lab, Settle}
+use Rattle.sand_words.specs.Options.{flag_in}
+use Rattle.sand_words.proofs.Draws.{drops_built}
+use Rattle.sand_words.proofs.DropsLevel.{drops_draw, drops_flag, drops_free, drops_passes, drops_words}
 use Rattle.sand_words.proofs.Settings.{lab_built}
 use Rattle.sand_words.proofs.Sides.{identity_built}
 use Rattle.sand_words.proofs.Stopped.{passes_stopped, stays}
@@ -49,10 +52,29 @@ identity_named program words =
     ap (λ (end : Walk). entered (built command_line) end.stopped) (stays top.rules names (walk_from nothing_held) (codes "identity") [] words)
 
 identity_asked : (program : Text) (words : List Text) (task : Task) → level_fault identity_built [] nothing_held words false [] ≡ []
-    → conflict_in (rows_after identity_built.rules [] words) ≡ None → identity_of (rows_after identity_built.rules [] words) ≡ Some task
+    → conflict_of (codes "identity", rows_after identity_built.rules [] words) ≡ None → identity_of (rows_after identity_built.rules [] words) ≡ Some task
     → asked (program ∷ codes "identity" ∷ words) ≡ Some task
 identity_asked program words task passes free reads =
     taken_ask _ (identity_taken program words passes) (ap (option_and_then conflict_of) (identity_named program words) ∙ free) ∙ (ap (option_and_then task_named) (identity_named program words) ∙ reads)
+
+-- the same of `drops`
+drops_taken : (program : Text) (words : List Text) → level_fault drops_built [] nothing_held words false [] ≡ [] → faults (program ∷ codes "drops" ∷ words) ≡ []
+unfolding command_line clap_on_literals
+drops_taken program words passes =
+    ap₂ top_fault (stays top.rules names (walk_from nothing_held) (codes "drops") [] words) (passes_stopped top names (walk_from nothing_held) (codes "drops") [] words)
+    ∙ ap (λ k. or_else k []) passes
+
+drops_named : (program : Text) (words : List Text) → subcommand_of command_line (program ∷ codes "drops" ∷ words) ≡ Some (codes "drops", rows_after drops_built.rules [] words)
+unfolding command_line clap_on_literals
+drops_named program words =
+    ap (λ (end : Walk). entered (built command_line) end.stopped) (stays top.rules names (walk_from nothing_held) (codes "drops") [] words)
+
+drops_asked : (program : Text) (words : List Text) (task : Task) → level_fault drops_built [] nothing_held words false [] ≡ []
+    → conflict_of (codes "drops", rows_after drops_built.rules [] words) ≡ None
+    → Some (Drops (draw_of (rows_after drops_built.rules [] words)) (flag_in (codes "pile") (rows_after drops_built.rules [] words))) ≡ Some task
+    → asked (program ∷ codes "drops" ∷ words) ≡ Some task
+drops_asked program words task passes free reads =
+    taken_ask _ (drops_taken program words passes) (ap (option_and_then conflict_of) (drops_named program words) ∙ free) ∙ (ap (option_and_then task_named) (drops_named program words) ∙ reads)
 
 -- the same of `lab`
 lab_taken : (program : Text) (words : List Text) → level_fault lab_built [] nothing_held words false [] ≡ [] → faults (program ∷ codes "lab" ∷ words) ≡ []
@@ -67,7 +89,7 @@ lab_named program words =
     ap (λ (end : Walk). entered (built command_line) end.stopped) (stays top.rules names (walk_from nothing_held) (codes "lab") [] words)
 
 lab_asked : (program : Text) (words : List Text) (task : Task) → level_fault lab_built [] nothing_held words false [] ≡ []
-    → conflict_in (rows_after lab_built.rules [] words) ≡ None → lab_of (rows_after lab_built.rules [] words) ≡ Some task
+    → conflict_of (codes "lab", rows_after lab_built.rules [] words) ≡ None → lab_of (rows_after lab_built.rules [] words) ≡ Some task
     → asked (program ∷ codes "lab" ∷ words) ≡ Some task
 lab_asked program words task passes free reads =
     taken_ask _ (lab_taken program words passes) (ap (option_and_then conflict_of) (lab_named program words) ∙ free) ∙ (ap (option_and_then task_named) (lab_named program words) ∙ reads)
@@ -81,8 +103,11 @@ spelled_is_asked program (Settle forms.Text) within = refl
 spelled_is_asked program Burn within = refl
 spelled_is_asked program (Identity m n cylinder pgm) within =
     identity_asked program (identity_words m n cylinder pgm) _ (identity_passes m n within cylinder pgm) (identity_free m n within cylinder pgm) (identity_reads m n within cylinder pgm)
-spelled_is_asked program (Drops true) within = refl
-spelled_is_asked program (Drops false) within = refl
+spelled_is_asked program (Drops None true) within = refl
+spelled_is_asked program (Drops None false) within = refl
+spelled_is_asked program (Drops (Some draw) pile) within =
+    drops_asked program (drops_words draw pile) _ (drops_passes draw within pile) (drops_free draw within pile)
+    (ap₂ (λ drawn alone. Some (Drops drawn alone)) (drops_draw draw within pile) (drops_flag draw within pile))
 spelled_is_asked program (Add true) within = refl
 spelled_is_asked program (Add false) within = refl
 spelled_is_asked program (Inverse true) within = refl

@@ -18,6 +18,7 @@ use Rattle.sand_words.specs.declared.words.Task.{Task}
 use Rattle.sand_words.proofs.Each.{Each, of_found}
 use Rattle.sand_words.proofs.Entering.{Enters, enters}
 use Rattle.sand_words.proofs.HelpAlone.{help_alone}
+use Rattle.sand_words.proofs.Draws.{drops_is_sound}
 use Rattle.sand_words.proofs.Settings.{lab_is_sound}
 use Rattle.sand_words.proofs.Sides.{IsSound, identity_is_sound}
 use Rattle.sand_words.proofs.Free.{line_is_free, line_is_simple}
@@ -92,7 +93,7 @@ each_names_task p = (
     (
       λ answers passes free. identity_is_sound p.1 passes,
       (
-        λ answers passes free. (_, refl, tt),
+        λ answers passes free. drops_is_sound p.1 passes,
         (λ answers passes free. (_, refl, tt), (λ answers passes free. (_, refl, tt), (λ answers passes free. lab_is_sound p.1 passes free, tt))),
       ),
     ),

@@ -1,12 +1,13 @@
 -- What the words ask for.
-use Rattle.std.specs.Prelude.{◌≡◌, ◌≤◌, ⊤, ℕ, Bool, true, ◌&&◌, ◌||◌, List, Option, Some, None, [], ◌∷◌, if◌then◌else◌, codes, option_and_then, option_map}
+use Rattle.std.specs.Prelude.{◌≡◌, ◌≤◌, ⊤, ℕ, Bool, true, not, ◌&&◌, ◌||◌, List, Option, Some, None, IfSome, is_some, unwrap_or, [], ◌∷◌, if◌then◌else◌, codes, option_and_then, option_map}
 use Rattle.std.specs.Str.{bytes_eq}
 use Rattle.clap.specs.Words.{Kinds, Row, Text, fault_of, subcommand_of}
 use Rattle.clap.specs.declared.error.kind.ErrorKind.TheVariants.{DisplayHelp}
 use Rattle.sand_words.specs.Line.{command_line}
 use Rattle.sand_words.specs.Options.{flag_in, number_in, setting_in}
 use Rattle.sand_words.specs.declared.fault.Conflict.{Conflict}
-use Rattle.sand_words.specs.declared.fault.Conflict.TheVariants.{Forms}
+use Rattle.sand_words.specs.declared.fault.Conflict.TheVariants.{Forms, Uncounted}
+use Rattle.sand_words.specs.declared.words.Draw.{Draw}
 use Rattle.sand_words.specs.declared.words.Form.{Form}
 use Rattle.sand_words.specs.declared.words.Form.TheVariants as forms
 use Rattle.sand_words.specs.declared.words.Run.{Run}
@@ -58,6 +59,15 @@ lab_of options = option_map
     (λ run. Lab run (flag_in (codes "journal") options) (form_in options))
     (run_of options)
 
+-- a draw of so many sites, from the stream 0 of the seed 0 unless others are given
+abbrev pub draw_by : Option ℕ → Option ℕ → Option ℕ → Option Draw
+draw_by None seed stream = None
+draw_by (Some count) seed stream = Some (record { count = count; seed = unwrap_or seed 0; stream = unwrap_or stream 0 })
+
+-- the draw of the options of `drops`
+abbrev pub draw_of : List Row → Option Draw
+draw_of options = draw_by (setting_in (codes "count") options) (setting_in (codes "seed") options) (setting_in (codes "stream") options)
+
 -- the task of a command's name and its options
 abbrev pub task_named : Text × List Row → Option Task
 task_named (name, options) =
@@ -65,7 +75,7 @@ task_named (name, options) =
     if bytes_eq name (codes "settle") then Some (Settle (form_in options))
     else if bytes_eq name (codes "burn") then Some Burn
     else if bytes_eq name (codes "identity") then identity_of options
-    else if bytes_eq name (codes "drops") then Some (Drops (flag_in (codes "pile") options))
+    else if bytes_eq name (codes "drops") then Some (Drops (draw_of options) (flag_in (codes "pile") options))
     else if bytes_eq name (codes "add") then Some (Add pgm)
     else if bytes_eq name (codes "inverse") then Some (Inverse pgm)
     else if bytes_eq name (codes "lab") then lab_of options
@@ -80,17 +90,25 @@ abbrev pub unless : {A : Type 0} → Kinds → Option A → Option A
 unless [] answer = answer
 unless (k ∷ ks) answer = None
 
--- options of a command that exclude one another: a pile alone, and a picture or a journal
-abbrev pub conflict_in : List Row → Option Conflict
-conflict_in options =
-    if flag_in (codes "pile") options && (flag_in (codes "journal") options || flag_in (codes "pgm") options) then Some Forms
+-- a pile alone, and a picture or a journal
+abbrev pub two_forms : List Row → Bool
+two_forms options = flag_in (codes "pile") options && (flag_in (codes "journal") options || flag_in (codes "pgm") options)
+
+-- `drops` with a seed or a stream, and no count
+abbrev pub lacks_count : Text → List Row → Bool
+lacks_count name options =
+    bytes_eq name (codes "drops")
+    && (not (is_some (setting_in (codes "count") options))
+    && (is_some (setting_in (codes "seed") options) || is_some (setting_in (codes "stream") options)))
+
+-- options of a command that do not go together
+abbrev pub conflict_of : Text × List Row → Option Conflict
+conflict_of (name, options) =
+    if two_forms options then Some Forms
+    else if lacks_count name options then Some Uncounted
     else None
 
--- the same, of a command's name and its options
-abbrev pub conflict_of : Text × List Row → Option Conflict
-conflict_of (name, options) = conflict_in options
-
--- the options of the words that exclude one another
+-- the options of the words that do not go together
 abbrev pub conflict_among : List Text → Option Conflict
 conflict_among words = option_and_then conflict_of (subcommand_of command_line words)
 
@@ -117,14 +135,21 @@ pub record IsRun (run : Run) : Type 0 where
   pub sweeps : run.sweeps ≤ 1000
   pub observers : run.observers ≤ 16
 
+-- the numbers of the draw are in their ranges
+pub record IsDraw (draw : Draw) : Type 0 where
+  pub count : draw.count ≤ 10000000
+  pub seed : draw.seed ≤ 4294967295
+  pub stream : draw.stream ≤ 4294967295
+
 -- a journal is not asked for with a pile alone
 abbrev pub GoTogether : Bool → Form → Type 0
 GoTogether true forms.Pile = ⊥
 GoTogether journal form = ⊤
 
--- the task is within the limits: the sides of a grid are from 1 to 256, the settings of a run in their ranges, and its
--- options go together
+-- the task is within the limits: the sides of a grid are from 1 to 256, the numbers of a draw and the settings of a run in
+-- their ranges, and the options of a run go together
 abbrev pub IsWithin : Task → Type 0
 IsWithin (Identity width height cylinder pgm) = (1 ≤ width) × (width ≤ 256) × (1 ≤ height) × (height ≤ 256)
+IsWithin (Drops drawn pile) = IfSome drawn IsDraw
 IsWithin (Lab run journal form) = IsRun run × GoTogether journal form
 IsWithin _ = ⊤

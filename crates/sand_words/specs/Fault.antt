@@ -7,7 +7,7 @@ use Rattle.sand_words.specs.declared.fault.Conflict.{Conflict}
 use Rattle.sand_words.specs.declared.fault.WordsFault.{WordsFault}
 use Rattle.sand_words.specs.declared.fault.WordsFault.TheVariants.{Clash, Memory, Usage}
 
--- the words were refused, exclude one another, or ask for help
+-- the words were refused, have options that do not go together, or ask for help
 abbrev pub IsUsage : WordsFault → Type 0
 IsUsage Memory = ⊥
 IsUsage (Usage error) = ⊤
@@ -19,13 +19,13 @@ ShowsHelp Memory = ⊥
 ShowsHelp (Usage error) = kind_of error ≡ DisplayHelp
 ShowsHelp (Clash conflict) = ⊥
 
--- memory ran out, or clap's error has one of the kinds, or there is none and options exclude one another
+-- memory ran out, or clap's error has one of the kinds, or there is none and options do not go together
 abbrev pub IsOfKinds : Kinds → WordsFault → Type 0
 IsOfKinds kinds Memory = ⊤
 IsOfKinds kinds (Usage error) = IsAmong (kind_of error) kinds
 IsOfKinds kinds (Clash conflict) = kinds ≡ []
 
--- options exclude one another only as the words have it
+-- options that do not go together are those of the words
 abbrev pub TellsConflict : Option Conflict → WordsFault → Type 0
 TellsConflict among Memory = ⊤
 TellsConflict among (Usage error) = ⊤

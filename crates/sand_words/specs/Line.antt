@@ -33,9 +33,12 @@ bare_line name = new_app name
 abbrev pub settle_line : App
 settle_line = fold with_rule (bare_line (codes "settle")) (flag (codes "pile") ∷ flag (codes "pgm") ∷ [])
 
--- `drops`, with `--pile` alone
+-- `drops`, with the numbers of a draw
 abbrev pub drops_line : App
-drops_line = with_rule (bare_line (codes "drops")) (flag (codes "pile"))
+drops_line = fold with_rule (bare_line (codes "drops")) (
+    number (codes "count") 0 10000000 ∷ number (codes "seed") 0 4294967295 ∷ number (codes "stream") 0 4294967295
+    ∷ flag (codes "pile") ∷ []
+    )
 
 -- a command with `--pgm` alone
 abbrev pub pgm_line : Text → App

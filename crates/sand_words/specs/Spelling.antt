@@ -1,9 +1,10 @@
 -- The words that spell a task, written out by hand.
-use Rattle.std.specs.Prelude.{◌≡◌, Bool, List, [], ◌∷◌, ◌++◌, MatchResult, Result, if◌then◌else◌, codes, decimal}
+use Rattle.std.specs.Prelude.{◌≡◌, Bool, Option, Some, None, List, [], ◌∷◌, ◌++◌, MatchResult, Result, if◌then◌else◌, codes, decimal}
 use Rattle.clap.specs.Words.{Text}
 use Rattle.sand_words.specs.Asked.{IsWithin}
 use Rattle.sand_words.specs.declared.fault.WordsFault.{WordsFault}
 use Rattle.sand_words.specs.declared.fault.WordsFault.TheVariants.{Memory}
+use Rattle.sand_words.specs.declared.words.Draw.{Draw}
 use Rattle.sand_words.specs.declared.words.Form.{Form}
 use Rattle.sand_words.specs.declared.words.Form.TheVariants as forms
 use Rattle.sand_words.specs.declared.words.Run.{Run}
@@ -28,6 +29,11 @@ settings_of run =
     ∷ codes "--workers" ∷ decimal run.workers ∷ codes "--sweeps" ∷ decimal run.sweeps
     ∷ codes "--observers" ∷ decimal run.observers ∷ []
 
+-- the numbers of a draw, if there is one
+abbrev pub draw_words : Option Draw → List Text
+draw_words None = []
+draw_words (Some draw) = codes "--count" ∷ decimal draw.count ∷ codes "--seed" ∷ decimal draw.seed ∷ codes "--stream" ∷ decimal draw.stream ∷ []
+
 -- what stands behind the program's name
 abbrev pub words_of : Task → List Text
 words_of (Settle form) = codes "settle" ∷ form_words form
@@ -35,7 +41,7 @@ words_of Burn = codes "burn" ∷ []
 words_of (Identity width height cylinder pgm) =
     codes "identity" ∷ codes "--width" ∷ decimal width ∷ codes "--height" ∷ decimal height
     ∷ (flag_words (codes "--cylinder") cylinder ++ flag_words (codes "--pgm") pgm)
-words_of (Drops pile) = codes "drops" ∷ flag_words (codes "--pile") pile
+words_of (Drops drawn pile) = codes "drops" ∷ (draw_words drawn ++ flag_words (codes "--pile") pile)
 words_of (Add pgm) = codes "add" ∷ flag_words (codes "--pgm") pgm
 words_of (Inverse pgm) = codes "inverse" ∷ flag_words (codes "--pgm") pgm
 words_of (Lab run journal form) =

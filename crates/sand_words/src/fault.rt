@@ -13,6 +13,9 @@ pub enum Conflict {
     /// A pile alone, and a picture or a journal.
     #[error("error: the argument '--pile' cannot be used with '--pgm' or '--journal'\n\nFor more information, try '--help'.")]
     Forms,
+    /// A seed or a stream without a count.
+    #[error("error: the arguments '--seed' and '--stream' cannot be used without '--count'\n\nFor more information, try '--help'.")]
+    Uncounted,
 }
 
 /// Why the words ask for no task.
@@ -24,7 +27,7 @@ pub enum WordsFault {
     /// The words were refused, or they ask for help.
     #[error("{0}")]
     Usage(clap::Error),
-    /// The words have options that exclude one another.
+    /// The words have options that do not go together.
     #[error("{0}")]
     Clash(Conflict),
 }

@@ -114,7 +114,9 @@ pub(crate) const DROPS: Help = Help {
 Input: a pile, as numbers with white space between: its width, its height, and
   the grains of each site, row by row. A letter c behind the height makes it a
   cylinder, whose rows go round. Then the site of each drop, by its number: from
-  0, row by row.
+  0, row by row. With --count the pile alone: then the sites are drawn from
+  ChaCha8 stream --stream of the seed, so that stream 0 is that of the first
+  dropper of 'sandpile lab'.
 
 Output: a table with a line for each drop: its number, from 0, and its site; of
   its avalanche the topplings (size), the sites that toppled (area), how far
@@ -123,7 +125,8 @@ Output: a table with a line for each drop: its number, from 0, and its site; of
   With --pile the pile alone, as other commands read it.
 
 Limits: width and height from 1 to 256, a cylinder at least 3 wide; at most
-  1,099,511,627,775 grains, drops included; at most 1,048,576 bytes of input.
+  1,099,511,627,775 grains, drops included; at most 10,000,000 drops by --count;
+  at most 1,048,576 bytes of input.
 
 Example:
 

@@ -99,7 +99,32 @@ fn drops_line<'a>(alloc: Global) -> Result<Command<'a>, AllocError>
     ensures line { IfOk result (λ c. app_of c ≡ drops_line) }
     ensures local { IfOk result (λ c. (out-Command c).has_globals ≡ false) }
 {
-    bare_line(alloc, "drops", help::DROPS).arg(pile(alloc))
+    let count = number(
+        alloc,
+        "count",
+        0,
+        10000000,
+        "Drops at random, up to 10000000",
+    );
+    let seed = number(
+        alloc,
+        "seed",
+        0,
+        4294967295,
+        "Seed, up to 4294967295 [default: 0]",
+    );
+    let stream = number(
+        alloc,
+        "stream",
+        0,
+        4294967295,
+        "Stream of the seed [default: 0]",
+    );
+    bare_line(alloc, "drops", help::DROPS)
+        .arg(count)?
+        .arg(seed)?
+        .arg(stream)?
+        .arg(pile(alloc))
 }
 
 fn identity_line<'a>(alloc: Global) -> Result<Command<'a>, AllocError>

@@ -1,4 +1,4 @@
-use crate::{Conflict, Form, Run, Task, WordsFault, task_of};
+use crate::{Draw, Form, Run, Task, WordsFault, task_of};
 use std::test::Fail;
 
 // What the words of a line come to: a task, or clap's text and whether that is for the standard error.
@@ -39,8 +39,6 @@ fn asks(rt: HostRuntime) -> Result<(), Fail> {
         ),
         ("sandpile settle --pile", Task::Settle { form: Form::Pile }),
         ("sandpile burn", Task::Burn),
-        ("sandpile drops", Task::Drops { pile: false }),
-        ("sandpile drops --pile", Task::Drops { pile: true }),
         ("sandpile add", Task::Add { pgm: false }),
         ("sandpile add --pgm", Task::Add { pgm: true }),
         ("sandpile inverse", Task::Inverse { pgm: false }),
@@ -75,6 +73,36 @@ fn asks_for_identities(rt: HostRuntime) -> Result<(), Fail> {
         assert_eq!(rt;
             answer_to(&rt, line.as_str())?,
             Answer::Asked(task),
+            "{options}"
+        );
+    }
+    Ok(())
+}
+
+#[test]
+fn asks_for_drops(rt: HostRuntime) -> Result<(), Fail> {
+    let rows = [
+        ("", None, false),
+        (" --pile", None, true),
+        (" --count 0", Some((0, 0, 0)), false),
+        (" --count 10000000 --pile", Some((10000000, 0, 0)), true),
+        (" --seed 7 --count=5", Some((5, 7, 0)), false),
+        (
+            " --stream 4294967295 --seed +4294967295 --count 05",
+            Some((5, 4294967295, 4294967295)),
+            false,
+        ),
+    ];
+    for (options, numbers, pile) in rows {
+        let line = format!(in rt.alloc(); "sandpile drops{options}")?;
+        let drawn = numbers.map(|(count, seed, stream)| Draw {
+            count,
+            seed,
+            stream,
+        });
+        assert_eq!(rt;
+            answer_to(&rt, line.as_str())?,
+            Answer::Asked(Task::Drops { drawn, pile }),
             "{options}"
         );
     }
@@ -174,6 +202,12 @@ fn tells_misuse(rt: HostRuntime) -> Result<(), Fail> {
         "sandpile burn --pile",
         "sandpile add --pile",
         "sandpile drops --pgm",
+        "sandpile drops --count 10000001",
+        "sandpile drops --count",
+        "sandpile drops --count 5 --seed 4294967296",
+        "sandpile drops --count 5 --stream -1",
+        "sandpile drops --count 5 --count 5",
+        "sandpile drops --count 5 4",
         "sandpile settle --pile --pile",
         "sandpile settle --pile --journal",
         "sandpile identity",
@@ -220,17 +254,21 @@ fn tells_misuse(rt: HostRuntime) -> Result<(), Fail> {
 }
 
 #[test]
-fn tells_which_options_exclude_one_another(rt: HostRuntime) -> Result<(), Fail> {
-    let rows = [
-        "sandpile settle --pile --pgm",
-        "sandpile settle --pgm --pile",
-        "sandpile lab --pile --journal",
-        "sandpile lab --journal --drops 3 --pile",
-        "sandpile lab --pgm --pile",
-    ];
-    let want =
+fn tells_which_options_do_not_go_together(rt: HostRuntime) -> Result<(), Fail> {
+    let forms =
         "error: the argument '--pile' cannot be used with '--pgm' or '--journal'\n\nFor more information, try '--help'.";
-    for line in rows {
+    let count =
+        "error: the arguments '--seed' and '--stream' cannot be used without '--count'\n\nFor more information, try '--help'.";
+    let rows = [
+        ("sandpile settle --pile --pgm", forms),
+        ("sandpile settle --pgm --pile", forms),
+        ("sandpile lab --pile --journal", forms),
+        ("sandpile lab --journal --drops 3 --pile", forms),
+        ("sandpile lab --pgm --pile", forms),
+        ("sandpile drops --seed 7", count),
+        ("sandpile drops --pile --stream 0", count),
+    ];
+    for (line, want) in rows {
         match answer_to(&rt, line)? {
             Answer::Told(true, text) => assert_eq!(rt; text.as_str(), want, "{line}"),
             _ => return Err("a task".into()),

@@ -2,7 +2,7 @@
 
 ghost use Rattle.std.specs.Prelude.{◌≡◌, ◌↔◌, IfErr, IfOk, Some, None, map, option_and_then, string_bytes};
 ghost use Rattle.clap.specs.Words.{found_of, rows_of, subcommand_rows_of};
-ghost use Rattle.sand_words.specs.Asked.{AskForHelp, IsWithin, asked, conflict_among, conflict_in, conflict_of, faults, form_in, identity_of, run_of, task_named};
+ghost use Rattle.sand_words.specs.Asked.{AskForHelp, IsWithin, asked, conflict_among, conflict_of, draw_of, faults, form_in, identity_of, lacks_count, run_of, task_named, two_forms};
 ghost use Rattle.sand_words.specs.Spelling.{Heeds};
 ghost use Rattle.sand_words.specs.Fault.{IsOfKinds, IsUsage, ShowsHelp, TellsConflict};
 
@@ -29,6 +29,17 @@ pub struct Run {
     pub sweeps: u32,
     /// Observers in each epoch, at most 16.
     pub observers: u32,
+}
+
+/// Drops at the sites of a stream.
+#[derive(Clone, Copy, Debug, PartialEq, Eq)]
+pub struct Draw {
+    /// How many, at most 10,000,000.
+    pub count: u32,
+    /// The seed, at most 4,294,967,295.
+    pub seed: u64,
+    /// The number of the stream, at most 4,294,967,295.
+    pub stream: u64,
 }
 
 /// In which form a pile is written.
@@ -58,8 +69,9 @@ pub enum Task {
         cylinder: bool,
         pgm: bool,
     },
-    /// Drops grains on a pile, one after another.
+    /// Drops grains on a pile, one after another: at the sites that are drawn, or at those of the input.
     Drops {
+        drawn: Option<Draw>,
         pile: bool,
     },
     /// Adds two recurrent piles.
@@ -117,6 +129,18 @@ fn run_of(options: &ArgMatches<'_>) -> Option<Run>
     })
 }
 
+fn draw_of(options: &ArgMatches<'_>) -> Option<Draw>
+    ensures { result ≡ draw_of (rows_of (found_of options.now)) }
+{
+    let seed = setting_in(options, "seed").unwrap_or(0);
+    let stream = setting_in(options, "stream").unwrap_or(0);
+    Some(Draw {
+        count: setting_in(options, "count")?,
+        seed: u64::from(seed),
+        stream: u64::from(stream),
+    })
+}
+
 fn task_named(name: &str, options: &ArgMatches<'_>) -> Option<Task>
     ensures { result ≡ task_named (name.now, rows_of (found_of options.now)) }
 {
@@ -128,6 +152,7 @@ fn task_named(name: &str, options: &ArgMatches<'_>) -> Option<Task>
         "burn" => Some(Task::Burn),
         "identity" => identity_of(options),
         "drops" => Some(Task::Drops {
+            drawn: draw_of(options),
             pile: flag_in(options, "pile"),
         }),
         "add" => Some(Task::Add { pgm }),
@@ -141,13 +166,30 @@ fn task_named(name: &str, options: &ArgMatches<'_>) -> Option<Task>
     }
 }
 
-fn conflict_in(options: &ArgMatches<'_>) -> Option<Conflict>
-    ensures { result ≡ conflict_in (rows_of (found_of options.now)) }
+// Whether a pile alone is asked for, and a picture or a journal.
+fn two_forms(options: &ArgMatches<'_>) -> bool
+    ensures { result ≡ two_forms (rows_of (found_of options.now)) }
 {
-    let pile = flag_in(options, "pile");
     let another = flag_in(options, "journal") | flag_in(options, "pgm");
-    if pile & another {
+    flag_in(options, "pile") & another
+}
+
+// Whether drops have a seed or a stream, and no count.
+fn lacks_count(name: &str, options: &ArgMatches<'_>) -> bool
+    ensures { result ≡ lacks_count name.now (rows_of (found_of options.now)) }
+{
+    let drawn = setting_in(options, "seed").is_some() | setting_in(options, "stream").is_some();
+    let uncounted = !setting_in(options, "count").is_some() & drawn;
+    matches!(name, "drops") & uncounted
+}
+
+fn conflict_of(name: &str, options: &ArgMatches<'_>) -> Option<Conflict>
+    ensures { result ≡ conflict_of (name.now, rows_of (found_of options.now)) }
+{
+    if two_forms(options) {
         Some(Conflict::Forms)
+    } else if lacks_count(name, options) {
+        Some(Conflict::Uncounted)
     } else {
         None
     }
@@ -156,8 +198,8 @@ fn conflict_in(options: &ArgMatches<'_>) -> Option<Conflict>
 fn conflict_among(matches: &ArgMatches<'_>) -> Option<Conflict>
     ensures { result ≡ option_and_then conflict_of (subcommand_rows_of matches.now) }
 {
-    let (_, options) = matches.subcommand()?;
-    conflict_in(options)
+    let (name, options) = matches.subcommand()?;
+    conflict_of(name, options)
 }
 
 fn chosen(matches: &ArgMatches<'_>) -> Option<Task>
@@ -168,7 +210,7 @@ fn chosen(matches: &ArgMatches<'_>) -> Option<Task>
 }
 
 /// The task that the words ask for. The first word is the program's name. Refuses words that the command line doesn't
-/// take, and those that ask for help (Usage), options that exclude one another (Clash), and want of memory (Memory).
+/// take, and those that ask for help (Usage), options that do not go together (Clash), and want of memory (Memory).
 pub fn task_of<'a>(alloc: Global, words: &'a [String]) -> Result<Task, WordsFault>
     ensures ok { IfOk result (λ t. asked (map string_bytes words.now) ≡ Some t) }
     ensures spelled { Heeds (map string_bytes words.now) result }

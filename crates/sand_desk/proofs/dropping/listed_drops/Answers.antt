@@ -2,7 +2,7 @@ use Rattle.std.proofs.Common.{◌<◌, All, sym, subst}
 use Rattle.std.proofs.lemmas.Result.{IfOk-weaker}
 use Rattle.sand_model.specs.Grid.{Grid, sites}
 use Rattle.sand_desk.proofs.DropSites.{drops_inside}
-use Rattle.sand_desk.proofs.dropping.drops_input.Goals as goal
+use Rattle.sand_desk.proofs.dropping.listed_drops.Goals as goal
 
 pub drop_all-requires : goal.drop_all-requires
 drop_all-requires c =

@@ -1,0 +1,79 @@
+-- The faults of drops that are drawn: the pile can't be read, or there is no room for all of them.
+use Rattle.std.proofs.Common.{◌≡◌, ◌+◌, ◌<◌, ℕ, List, [], refl, sym, ap, subst, arith, length, sum}
+use Rattle.std.specs.Prelude.{Some, Ok, Err}
+use Rattle.sand_model.specs.declared.pile.TheConstants.{GRAIN_LIMIT}
+use Rattle.sand_model.specs.Grid.{sites}
+use Rattle.sand_model.specs.Piles.{PileView}
+use Rattle.sand_settle.specs.Drops.{OneView, IsAfter}
+use Rattle.sand_lab.specs.Streams.{stream_sites}
+use Rattle.sand_lab.proofs.StreamTallies.{length-stream_sites}
+use Rattle.sand_text.specs.declared.fault.TextFault.{TextFault}
+use Rattle.sand_text.specs.declared.fault.TextFault.TheVariants as text
+use Rattle.sand_text.specs.Reading.{pile_of, ◌>>=◌}
+use Rattle.sand_words.specs.declared.words.Draw.{Draw}
+use Rattle.sand_desk.specs.declared.faults.DeskFault.{DeskFault}
+use Rattle.sand_desk.specs.declared.faults.DeskFault.TheVariants as desk
+use Rattle.sand_desk.specs.Answers.{Fails}
+use Rattle.sand_desk.specs.Commands.{Finds, IsDropFault, IsDropsFault}
+use Rattle.sand_desk.specs.Dropping.{with_draw}
+use Rattle.sand_desk.specs.Faults.{of_text}
+
+-- a text that holds no pile has none to draw on
+read_fault : (draw : Draw) (input : List ℕ) (why : TextFault) → pile_of input ≡ Err why → Finds (IsDropsFault (Some draw) input) (of_text why)
+read_fault draw input (text.Text place) e = record { why = text.Text place; read = ap (λ r. r >>= with_draw draw) e; told = refl }
+read_fault draw input (text.TooLarge place) e = record { why = text.TooLarge place; read = ap (λ r. r >>= with_draw draw) e; told = refl }
+read_fault draw input text.Side e = record { why = text.Side; read = ap (λ r. r >>= with_draw draw) e; told = refl }
+read_fault draw input text.Narrow e = record { why = text.Narrow; read = ap (λ r. r >>= with_draw draw) e; told = refl }
+read_fault draw input text.Length e = record { why = text.Length; read = ap (λ r. r >>= with_draw draw) e; told = refl }
+read_fault draw input text.TooManyGrains e = record { why = text.TooManyGrains; read = ap (λ r. r >>= with_draw draw) e; told = refl }
+read_fault draw input (text.NoSite index) e = record { why = text.NoSite index; read = ap (λ r. r >>= with_draw draw) e; told = refl }
+
+by_why : (draw : Draw) (input : List ℕ) (fault : DeskFault) (why : TextFault) → pile_of input ≡ Err why → fault ≡ of_text why → Finds (IsDropsFault (Some draw) input) fault
+by_why draw input fault why e is = subst (Finds (IsDropsFault (Some draw) input)) (sym is) (read_fault draw input why e)
+
+pub unread : (draw : Draw) (input : List ℕ) (fault : DeskFault) → Fails fault (pile_of input) → Finds (IsDropsFault (Some draw) input) fault
+unread draw input desk.Memory h = tt
+unread draw input desk.Side (why, e, is) = by_why draw input desk.Side why e is
+unread draw input desk.Length (why, e, is) = by_why draw input desk.Length why e is
+unread draw input desk.TooManyGrains (why, e, is) = by_why draw input desk.TooManyGrains why e is
+unread draw input desk.Full (why, e, is) = by_why draw input desk.Full why e is
+unread draw input desk.Unstable (why, e, is) = by_why draw input desk.Unstable why e is
+unread draw input desk.NotRecurrent (why, e, is) = by_why draw input desk.NotRecurrent why e is
+unread draw input desk.Shapes (why, e, is) = by_why draw input desk.Shapes why e is
+unread draw input desk.Taken (why, e, is) = by_why draw input desk.Taken why e is
+unread draw input (desk.Text place) (why, e, is) = by_why draw input (desk.Text place) why e is
+unread draw input (desk.TooLarge place) (why, e, is) = by_why draw input (desk.TooLarge place) why e is
+unread draw input desk.Read (why, e, is) = by_why draw input desk.Read why e is
+unread draw input (desk.Write sent) (why, e, is) = by_why draw input (desk.Write sent) why e is
+unread draw input desk.TooLong (why, e, is) = by_why draw input desk.TooLong why e is
+unread draw input (desk.Usage error) (why, e, is) = by_why draw input (desk.Usage error) why e is
+unread draw input (desk.Clash conflict) (why, e, is) = by_why draw input (desk.Clash conflict) why e is
+unread draw input desk.Narrow (why, e, is) = by_why draw input desk.Narrow why e is
+unread draw input (desk.NoSite index) (why, e, is) = by_why draw input (desk.NoSite index) why e is
+
+-- a drop that is refused has more grains with all that are drawn than the limit
+pub overfull : (draw : Draw) (input : List ℕ) (start : PileView) (first : OneView) (fault : DeskFault) → pile_of input ≡ Ok start → IsAfter start [] first
+    → IsDropFault (first.grains + draw.count) fault → Finds (IsDropsFault (Some draw) input) fault
+overfull draw input start first desk.Memory read after h = tt
+overfull draw input start first desk.Full read after h =
+    let drawn = stream_sites (sites start.grid) draw.seed draw.stream draw.count in
+    let long : length drawn ≡ draw.count = length-stream_sites (sites start.grid) draw.seed draw.stream draw.count in
+    let grains : first.grains ≡ sum start.heights + 0 = after.grains in
+    let over : GRAIN_LIMIT < sum start.heights + length drawn = omega (arith, h, grains, long) in
+    record { pile = start; sites = drawn; read = ap (λ r. r >>= with_draw draw) read; over = over }
+overfull draw input start first desk.Side read after h = absurd h
+overfull draw input start first desk.Length read after h = absurd h
+overfull draw input start first desk.TooManyGrains read after h = absurd h
+overfull draw input start first desk.Unstable read after h = absurd h
+overfull draw input start first desk.NotRecurrent read after h = absurd h
+overfull draw input start first desk.Shapes read after h = absurd h
+overfull draw input start first desk.Taken read after h = absurd h
+overfull draw input start first (desk.Text place) read after h = absurd h
+overfull draw input start first (desk.TooLarge place) read after h = absurd h
+overfull draw input start first desk.Read read after h = absurd h
+overfull draw input start first (desk.Write sent) read after h = absurd h
+overfull draw input start first desk.TooLong read after h = absurd h
+overfull draw input start first (desk.Usage error) read after h = absurd h
+overfull draw input start first (desk.Clash conflict) read after h = absurd h
+overfull draw input start first desk.Narrow read after h = absurd h
+overfull draw input start first (desk.NoSite index) read after h = absurd h
