@@ -25,7 +25,7 @@ use sand_model::Pile;
 use sand_shared::{CloseFault, Pass, Record, SharedFault, SharedPile};
 use std::alloc::Global;
 use std::marker::Model;
-use std::thread::{Threads, join, join_mut};
+use std::thread::{Threads, join_mut};
 
 /// What is kept of an epoch beside its record.
 #[derive(Drop)]
@@ -73,7 +73,7 @@ fn share(alloc: Global, start: &Pile, quota: u64) -> Result<(SharedPile, Pass), 
     }
 }
 
-// Settles the pile of an epoch with a pass that has gathered all.
+// Settles the pile of an epoch with a pass that has gathered all. Copies of the record share its history.
 fn close(alloc: Global, pile: SharedPile, all: Pass) -> Result<Record, LabFault>
     requires of_pile { IsPassOf pile all }
     requires whole { IsWhole pile.terms all }
@@ -85,7 +85,7 @@ fn close(alloc: Global, pile: SharedPile, all: Pass) -> Result<Record, LabFault>
     ensures memory { IfErr result IsMemory }
 {
     match pile.settle(alloc, all) {
-        Ok(record) => Ok(record),
+        Ok(record) => Ok(record.share()?),
         Err((CloseFault::Memory(refused), _, _)) => Err(refused.into()),
         Err((CloseFault::Missing, _, _)) => unreachable!(),
     }
@@ -102,17 +102,44 @@ fn copy_of(alloc: Global, closed: &Record) -> Result<Record, LabFault>
     }
 }
 
-// A crew works, and a blank journal is made at the same time: to touch so much new memory takes as long as many drops.
-fn work_and_blank<R: Threads + Sync, G: Gate>(
+// Memory for what a crew leaves, made ready: a blank journal, and the first pass's room for receipts. To touch so much new
+// memory takes as long as many drops.
+fn make_ready<R: Threads + Sync>(
+    rt: &R,
+    alloc: Global,
+    first: &mut Pass,
+    drops: u64,
+) -> Result<Vec<Entry>, LabFault>
+    ensures pass { first.new ≡ first.old }
+    ensures long { IfOk result (λ v. vec_len v ≡ drops) }
+    ensures memory { IfErr result IsMemory }
+{
+    let (journal, ()) = join_mut(
+        rt,
+        &mut || -> Result<Vec<Entry>, LabFault>
+            ensures long { IfOk result (λ v. vec_len v ≡ drops) }
+            ensures memory { IfErr result IsMemory }
+        { blank_journal(alloc, drops) },
+        &mut ||
+            ensures { first.exit.now ≡ first.entry.now }
+        { first.touch_room() },
+    );
+    journal
+}
+
+// A crew works, while memory is made ready for what it leaves.
+fn work_and_make_ready<R: Threads + Sync, G: Gate>(
     rt: &R,
     alloc: Global,
     crew: &mut Crew,
     pile: &SharedPile,
+    first: &mut Pass,
     gate: &G,
     wish: Wish,
 ) -> Result<Vec<Entry>, LabFault>
     requires crew { (epoch : ℕ) × IsCrew pile.now wish epoch crew.old }
     ensures crew { HasBecome pile.now wish crew.old crew.new }
+    ensures pass { first.new ≡ first.old }
     ensures long { IfOk result (λ v. vec_len v ≡ quota_of wish) }
     ensures memory { IfErr result IsMemory }
 {
@@ -120,9 +147,11 @@ fn work_and_blank<R: Threads + Sync, G: Gate>(
     let (journal, ()) = join_mut(
         rt,
         &mut || -> Result<Vec<Entry>, LabFault>
+            requires { IsSync R.row }
+            ensures pass { first.exit.now ≡ first.entry.now }
             ensures long { IfOk result (λ v. vec_len v ≡ drops) }
             ensures memory { IfErr result IsMemory }
-        { blank_journal(alloc, drops) },
+        { make_ready(rt, alloc, first, drops) },
         &mut ||
             requires { IsSync R.row × IsSync G.row × ((epoch : ℕ) × IsCrew pile.now wish epoch crew.now) }
             ensures { HasBecome pile.entry.now wish crew.entry.now crew.exit.now }
@@ -131,12 +160,15 @@ fn work_and_blank<R: Threads + Sync, G: Gate>(
     journal
 }
 
-// A copy of a record with room for so many drops more.
-fn copy_with_room(alloc: Global, closed: &Record, drops: u64) -> Result<Record, LabFault>
+// A copy of a record for the total to grow from, with room for so many drops more.
+fn copy_to_grow(alloc: Global, closed: &Record, drops: u64) -> Result<Record, LabFault>
     requires limit { sum closed.now.start.heights + (length closed.now.history + drops) ≤ GRAIN_LIMIT }
     ensures copy { IfOk result (λ r. r ≡ closed.now) }
     ensures memory { IfErr result IsMemory }
 {
+    if drops == 0 {
+        return copy_of(alloc, closed);
+    }
     match closed.copy_with_room(alloc, drops as usize) {
         Ok(copy) => Ok(copy),
         Err(SharedFault::Memory(refused)) => Err(refused.into()),
@@ -160,7 +192,8 @@ fn closed_epoch<R: Threads + Sync, G: Gate>(
 {
     let (pile, mut first) = share(alloc, start, quota_of(wish))?;
     let mut crew = Crew::hire(alloc, &pile, &mut first, start.shape(), wish, epoch)?;
-    let mut journal = work_and_blank(rt, alloc, &mut crew, &pile, gate, wish)?;
+    let mut journal =
+        work_and_make_ready(rt, alloc, &mut crew, &pile, &mut first, gate, wish)?;
     crew.sweep_on(rt, &pile, wish.sweeps);
     let findings = crew.gather(alloc, &pile, &mut first)?;
     write_journal(&mut journal, first.receipts(), wish.drops);
@@ -170,33 +203,6 @@ fn closed_epoch<R: Threads + Sync, G: Gate>(
         journal,
         findings,
     })
-}
-
-// Two copies of a record, made at the same time: for its picture, and with room for so many drops more.
-fn two_copies<R: Threads + Sync>(
-    rt: &R,
-    alloc: Global,
-    closed: &Record,
-    drops: u64,
-) -> Result<(Record, Record), LabFault>
-    requires limit { sum closed.now.start.heights + (length closed.now.history + drops) ≤ GRAIN_LIMIT }
-    ensures picture { IfOk result (λ r. r.0 ≡ closed.now) }
-    ensures total { IfOk result (λ r. r.1 ≡ closed.now) }
-    ensures memory { IfErr result IsMemory }
-{
-    let (picture, total) = join(
-        rt,
-        move || -> Result<Record, LabFault>
-            ensures copy { IfOk result (λ r. r ≡ closed.entry.now) }
-            ensures memory { IfErr result IsMemory }
-        { copy_of(alloc, closed) },
-        move || -> Result<Record, LabFault>
-            requires { sum closed.now.start.heights + (length closed.now.history + drops) ≤ GRAIN_LIMIT }
-            ensures copy { IfOk result (λ r. r ≡ closed.entry.now) }
-            ensures memory { IfErr result IsMemory }
-        { copy_with_room(alloc, closed, drops) },
-    );
-    Ok((picture?, total?))
 }
 
 // Publishes a copy of an epoch's record. Returns the album's note of it.
@@ -233,7 +239,8 @@ pub(crate) fn run_first_epoch<R: Threads + Sync, G: Gate>(
         journal,
         findings,
     } = closed_epoch(rt, alloc, start, wish, 0, gate)?;
-    let (copy, total) = two_copies(rt, alloc, &closed, drops)?;
+    let copy = copy_of(alloc, &closed)?;
+    let total = copy_to_grow(alloc, &closed, drops)?;
     let note = published(alloc, 0, album, copy)?;
     let sheet = Sheet {
         journal,

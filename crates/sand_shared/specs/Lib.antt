@@ -4,6 +4,7 @@ pub mod Laws
 pub mod Running
 pub mod Passes
 pub mod Sweeps
+pub mod Listed
 pub mod Record
 pub mod Seats
 pub mod Faults

@@ -31,7 +31,7 @@ impl Record {
         ensures memory { IsOkUnless result (SharedFault.Memory alloc_error) }
     {
         let pile = copy_of(alloc, &next.pile)?;
-        self.history.extend_from_slice(next.history.as_slice())?;
+        self.history.append(alloc, next.history.as_slice())?;
         add(&mut self.odometer, next.odometer.as_slice());
         self.pile = pile;
         self.topplings += next.topplings;
@@ -52,7 +52,7 @@ impl Record {
         ensures lost { IfOk result (λ r. r.settled.lost ≡ self.now.settled.lost + next.now.settled.lost) }
         ensures memory { IsOkUnless result (SharedFault.Memory alloc_error) }
     {
-        let mut both = self.copy_with_room(alloc, next.history.len())?;
+        let mut both = self.copy_with_room(alloc, next.history.as_slice().len())?;
         both.append(alloc, next)?;
         Ok(both)
     }

@@ -8,6 +8,7 @@
 mod closing;
 mod faults;
 mod following;
+mod history;
 mod joining;
 pub mod laws;
 mod pass;

@@ -1,6 +1,6 @@
 //! Passes: what a thread holds to drop grains on a shared pile and to topple rows of it.
 
-ghost use Rattle.std.specs.Prelude.{◌≡◌, ℕ, ◌-◌, ◌*◌};
+ghost use Rattle.std.specs.Prelude.{◌≡◌, ℕ, ◌-◌, ◌*◌, ◌≤◌, vec_capacity};
 ghost use Rattle.sand_shared.specs.Passes.{EachOnce, AllBelow, at_rest};
 ghost use Rattle.sand_shared.specs.Rows.{HoldsSite};
 ghost use Rattle.sand_shared.specs.OpenPile.{toppled_by};
@@ -42,6 +42,18 @@ impl Model for Pass {
     ghost invariant = { λ p. IsPass p.seat (record { table = p.seat.table_id; grid = p.shape; left = p.left; seen = p.seen; receipts = p.receipts.items; rows = p.rows; counts = p.counts.items }) (vec_capacity p.receipts) };
 }
 
+// Writes to all room of a list.
+fn touch(receipts: &mut Vec<Receipt>)
+    ensures items { receipts.new.items ≡ receipts.old.items }
+    ensures room { vec_capacity receipts.old ≤ vec_capacity receipts.new }
+{
+    let blank = Receipt { number: 0, site: 0 };
+    let kept = receipts.len();
+    let room = receipts.capacity();
+    let _ = receipts.resize(room, blank);
+    receipts.truncate(kept);
+}
+
 impl Pass {
     /// How many grains it may still drop.
     pub fn left(&self) -> u64
@@ -64,6 +76,14 @@ impl Pass {
         ensures seen { AllBelow self.now.seen self.now.receipts }
     {
         self.receipts.as_slice()
+    }
+
+    /// Writes to all room that the pass has for receipts, so that the operating system gives it that memory now, on this
+    /// thread. Passes that are joined to it later are then taken in faster. Nothing else changes.
+    pub fn touch_room(&mut self)
+        ensures { self.new ≡ self.old }
+    {
+        touch(&mut self.receipts);
     }
 
     /// Its rows: the first, and one past the last; both are 0 where it has none.

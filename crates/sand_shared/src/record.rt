@@ -9,6 +9,7 @@ ghost use Rattle.sand_settle.specs.Settling.{odometer_of};
 ghost use Rattle.sand_shared.specs.Record.{IsOneThreads};
 
 use crate::faults::SharedFault;
+use crate::history::History;
 use sand_model::Pile;
 use std::alloc::{AllocError, Global};
 use std::marker::Model;
@@ -18,7 +19,7 @@ use std::marker::Model;
 #[derive(Debug, Drop)]
 pub struct Record {
     pub(crate) start: Pile,
-    pub(crate) history: Vec<usize>,
+    pub(crate) history: History,
     pub(crate) pile: Pile,
     pub(crate) odometer: Vec<u64>,
     pub(crate) topplings: u64,
@@ -30,9 +31,9 @@ impl Model for Record {
 
     ghost Value = { RecordView };
 
-    ghost view = { λ r. record { start = r.start; history = r.history.items; settled = record { pile = r.pile; odometer = r.odometer.items; topplings = r.topplings; lost = r.lost } } };
+    ghost view = { λ r. record { start = r.start; history = r.history; settled = record { pile = r.pile; odometer = r.odometer.items; topplings = r.topplings; lost = r.lost } } };
 
-    ghost invariant = { λ r. IsOneThreads (record { start = r.start; history = r.history.items; settled = record { pile = r.pile; odometer = r.odometer.items; topplings = r.topplings; lost = r.lost } }) };
+    ghost invariant = { λ r. IsOneThreads (record { start = r.start; history = r.history; settled = record { pile = r.pile; odometer = r.odometer.items; topplings = r.topplings; lost = r.lost } }) };
 }
 
 // A copy of a pile, of which nothing but memory can be refused.
@@ -75,7 +76,7 @@ impl Record {
         let lost = start.grains() + history.len() as u64 - pile.grains();
         Record {
             start,
-            history,
+            history: History::of(history),
             pile,
             odometer,
             topplings,
@@ -138,12 +139,37 @@ impl Record {
         self.lost
     }
 
+    /// The same record, whose copies share its history and do not copy it. It costs no time. Returns an error if the
+    /// allocation fails; the record is then gone.
+    pub fn share(self) -> Result<Record, AllocError>
+        ensures { IfOk result (λ r. r ≡ self) }
+    {
+        let Record {
+            start,
+            history,
+            pile,
+            odometer,
+            topplings,
+            lost,
+        } = self;
+        let history = history.share()?;
+        Ok(Record {
+            start,
+            history,
+            pile,
+            odometer,
+            topplings,
+            lost,
+        })
+    }
+
+    /// A copy. It copies the lists of sites, and the history unless the record is shared (`share`).
     pub fn copy(&self, alloc: Global) -> Result<Record, SharedFault>
         ensures made { IfOk result (λ r. r ≡ self.now) }
         ensures memory { IsOkUnless result (SharedFault.Memory alloc_error) }
     {
-        let _ = &self.start;
-        self.copy_with_room(alloc, 0)
+        let history = self.history.copy(alloc)?;
+        Ok(self.copy_with(alloc, history)?)
     }
 
     /// A copy with room for so many drops more, so that `append` allocates nothing for them.
@@ -152,10 +178,17 @@ impl Record {
         ensures made { IfOk result (λ r. r ≡ self.now) }
         ensures memory { IsOkUnless result (SharedFault.Memory alloc_error) }
     {
+        let history = self.history.copy_with_room(alloc, drops)?;
+        Ok(self.copy_with(alloc, history)?)
+    }
+
+    // A copy with a copy of the history.
+    fn copy_with(&self, alloc: Global, history: History) -> Result<Record, AllocError>
+        requires copy { history ≡ self.now.history }
+        ensures made { IfOk result (λ r. r ≡ self.now) }
+    {
         let start = copy_of(alloc, &self.start)?;
         let pile = copy_of(alloc, &self.pile)?;
-        let mut history = Vec::with_capacity(alloc, self.history.len() + drops)?;
-        history.extend_from_slice(self.history.as_slice())?;
         let odometer = Vec::from_slice(alloc, self.odometer.as_slice())?;
         Ok(Record {
             start,

@@ -42,7 +42,7 @@ invariant_of-self-2 c =
     let b = ap (λ (l : List ℕ). slice_index l i) theirs in omega arith) in
     let start : c.self.inside.start ≡ r.start = ap (λ (v : RecordView). v.start) c.self.view_is in
     let pile : c.in_ok-pile.pile ≡ q.settled.pile = c.in_ok-pile.ensures ∙ ap (λ (v : RecordView). v.settled.pile) c.next.view_is in
-    let history : c.extend_from_slice.new.self.items ≡ r.history ++ q.history = search rules in
+    let history : c.append.new.self ≡ r.history ++ q.history = search rules in
     let tops : c.self.inside.topplings + c.next.inside.topplings ≡ r.settled.topplings + q.settled.topplings = λ i. (c.self.view_is i).settled.topplings + (c.next.view_is i).settled.topplings in
     let gone : c.self.inside.lost + c.next.inside.lost ≡ r.settled.lost + q.settled.lost = λ i. (c.self.view_is i).settled.lost + (c.next.view_is i).settled.lost in
     subst IsOneThreads (λ i. record { start = sym start i; history = sym history i; settled = record { pile = sym pile i; odometer = sums; topplings = sym tops i; lost = sym gone i } })

@@ -1,5 +1,7 @@
-use Rattle.std.proofs.Common.{◌+◌, ◌-◌, sum, refl, ap, ◌∙◌, arith}
+use Rattle.std.proofs.Common.{ℕ, ◌+◌, ◌-◌, List, sum, refl, sym, ap, ◌∙◌, subst, arith}
 use Rattle.sand_model.specs.Piles.{PileView}
+use Rattle.sand_settle.specs.Settling.{SettledView}
+use Rattle.sand_shared.specs.Record.{IsOneThreads}
 use Rattle.sand_shared.proofs.Recording.{few_topplings, grains_left, one_threads}
 use Rattle.sand_shared.proofs.record.Record.of_lists.Goals as goal
 
@@ -30,11 +32,13 @@ invariant_of-result c =
     let rest = c.grains-2.ensures.value ∙ ap (λ (p : PileView). sum p.heights) c.from_vec-pile.ensures in
     let drops = c.len.ensures in
     let long = c.args.history.ok.0 in
-    one_threads c.args.start c.args.history.items c.args.heights.items c.args.odometer.items
+    let settled : SettledView = record { pile = c.from_vec-pile.result; odometer = c.args.odometer.items; topplings = c.sum_of-topplings.result; lost = c.grains.result + c.len.result - c.grains-2.result } in
+    subst (λ (history : List ℕ). IsOneThreads (record { start = c.args.start; history = history; settled = settled })) (sym c.of.ensures)
+    (one_threads c.args.start c.args.history.items c.args.heights.items c.args.odometer.items
     record { pile = c.shape-shape.ensures.pile; all_sites = c.requires.all_sites; limit = c.requires.limit; heights_each = c.requires.one_each.0; odometer_each = c.requires.one_each.1; settled = c.requires.settled }
-    record { pile = c.from_vec-pile.result; odometer = c.args.odometer.items; topplings = c.sum_of-topplings.result; lost = c.grains.result + c.len.result - c.grains-2.result }
+    settled
     (ap (λ (p : PileView). p.grid) c.from_vec-pile.ensures ∙ c.shape-shape.ensures.value)
     (ap (λ (p : PileView). p.heights) c.from_vec-pile.ensures)
     refl
     (c.sum_of-topplings.ensures ∙ ap sum c.as_slice.ensures.value)
-    (omega arith)
+    (omega arith))
