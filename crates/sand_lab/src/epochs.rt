@@ -144,18 +144,18 @@ fn work_and_make_ready<R: Threads + Sync, G: Gate>(
     ensures memory { IfErr result IsMemory }
 {
     let drops = quota_of(wish);
-    let (journal, ()) = join_mut(
+    let ((), journal) = join_mut(
         rt,
+        &mut ||
+            requires { IsSync R.row × IsSync G.row × ((epoch : ℕ) × IsCrew pile.now wish epoch crew.now) }
+            ensures { HasBecome pile.entry.now wish crew.entry.now crew.exit.now }
+        { crew.work(rt, pile, gate, wish) },
         &mut || -> Result<Vec<Entry>, LabFault>
             requires { IsSync R.row }
             ensures pass { first.exit.now ≡ first.entry.now }
             ensures long { IfOk result (λ v. vec_len v ≡ drops) }
             ensures memory { IfErr result IsMemory }
         { make_ready(rt, alloc, first, drops) },
-        &mut ||
-            requires { IsSync R.row × IsSync G.row × ((epoch : ℕ) × IsCrew pile.now wish epoch crew.now) }
-            ensures { HasBecome pile.entry.now wish crew.entry.now crew.exit.now }
-        { crew.work(rt, pile, gate, wish) },
     );
     journal
 }
