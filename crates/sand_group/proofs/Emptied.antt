@@ -12,7 +12,7 @@ use Rattle.sand_model.proofs.Bounds.{sites_limit}
 use Rattle.sand_model.proofs.IntegerFlow.{toppled_is_integers}
 use Rattle.sand_model.proofs.Sandpile.{settled_same}
 use Rattle.sand_group.specs.Group.{IsSettledPile, IsSurplus, IsIdentity}
-use Rattle.sand_group.proofs.Settling.{settles}
+use Rattle.sand_model.proofs.Settling.{settles}
 use Rattle.sand_group.proofs.Members.{some_surplus, identity_is_settled, represented_once}
 
 pub emptied_is_none : (g : Grid) (s w : ℕ → ℕ) → IsToppled g s w (λ i. 0) → IsEquivalent g (whole s) (λ i. pos 0)
