@@ -5,13 +5,13 @@
 //! site has toppled, t is no less than the number of its neighbours whose turn is not earlier. Where all sites pass, the
 //! counts are the least odometer (`laws`). It takes one pass over the grid.
 
-ghost use Rattle.std.specs.Prelude.{◌≡◌, ℕ, ◌+◌, ◌*◌, ◌<◌, ◌≤◌, ◌↔◌, List, length, slice_index, nat_le, if◌then◌else◌, IfOk, IfSome, IsTrue, IsSome, MatchOption, All};
+ghost use Rattle.std.specs.Prelude.{◌≡◌, ℕ, ◌+◌, ◌*◌, ◌^◌, ◌<◌, ◌≤◌, ◌↔◌, List, length, slice_index, nat_le, if◌then◌else◌, IfOk, IfSome, IsTrue, IsSome, MatchOption, All};
 ghost use Rattle.sand_model.specs.Grid.{sites};
 ghost use Rattle.sand_model.specs.Sand.{flow, value_at, IsSettled};
-ghost use Rattle.sand_model.specs.Piles.{height_of};
+ghost use Rattle.sand_model.specs.Piles.{height_of, most_grains};
 ghost use Rattle.sand_certify.specs.Certificate.{no_earlier, IsShownAt, IsLeftAt, IsShown, IsCertificate};
 
-use sand_model::{GRAIN_LIMIT, Lattice, Pile};
+use sand_model::{Lattice, Pile};
 use std::alloc::{AllocError, Global};
 
 /// What each count is below, 2^54: no site of a pile topples so often, and no sum of counts here overflows.
@@ -34,9 +34,9 @@ fn value(values: &[u64], place: Option<usize>) -> u64
 pub(crate) fn inflow(lattice: &Lattice, counts: &[u64], site: usize) -> u64
     requires one_each { length counts.now ≡ sites lattice.now }
     requires site { site < sites lattice.now }
-    requires few { (j : ℕ) → slice_index counts.now j < COUNT_LIMIT }
+    requires few { (j : ℕ) → slice_index counts.now j < 2 ^ 54 }
     ensures value { result ≡ flow lattice.now (slice_index counts.now) site }
-    ensures below { result < 4 * COUNT_LIMIT }
+    ensures below { result < 4 * 2 ^ 54 }
 {
     let [north, west, east, south] = lattice.neighbours(site);
     let up = value(counts, north);
@@ -88,8 +88,8 @@ fn height_left(
     requires counts_each { length counts.now ≡ sites lattice.now }
     requires turns_each { length turns.now ≡ sites lattice.now }
     requires site { site < sites lattice.now }
-    requires few { (j : ℕ) → slice_index counts.now j < COUNT_LIMIT }
-    requires low { slice_index start.now site ≤ GRAIN_LIMIT }
+    requires few { (j : ℕ) → slice_index counts.now j < 2 ^ 54 }
+    requires low { slice_index start.now site ≤ most_grains }
     ensures { MatchOption result
         (¬ IsShownAt lattice.now (slice_index start.now) (slice_index counts.now) (slice_index turns.now) site)
         (λ height. IsLeftAt lattice.now (slice_index start.now) (slice_index counts.now) (slice_index turns.now) site height) }
@@ -108,7 +108,7 @@ fn height_left(
 
 // Whether each count is below the limit.
 pub(crate) fn are_few(counts: &[u64]) -> bool
-    ensures { IsTrue result ↔ All (λ n. n < COUNT_LIMIT) counts.now }
+    ensures { IsTrue result ↔ All (λ n. n < 2 ^ 54) counts.now }
 {
     counts.iter().all(|count| *count < COUNT_LIMIT)
 }
@@ -124,8 +124,8 @@ fn heights_left(
     requires starts_each { length start.now ≡ sites lattice.now }
     requires counts_each { length counts.now ≡ sites lattice.now }
     requires turns_each { length turns.now ≡ sites lattice.now }
-    requires few { (j : ℕ) → slice_index counts.now j < COUNT_LIMIT }
-    requires low { (j : ℕ) → slice_index start.now j ≤ GRAIN_LIMIT }
+    requires few { (j : ℕ) → slice_index counts.now j < 2 ^ 54 }
+    requires low { (j : ℕ) → slice_index start.now j ≤ most_grains }
     ensures exactly { IfOk result (λ o. IsSome o ↔ IsShown lattice.now (slice_index start.now) (slice_index counts.now) (slice_index turns.now)) }
     ensures one_each { IfOk result (λ o. IfSome o (λ heights. length heights.items ≡ sites lattice.now)) }
     ensures settled { IfOk result (λ o. IfSome o (λ heights. IsSettled lattice.now (slice_index start.now) (slice_index counts.now) (slice_index heights.items))) }

@@ -3,12 +3,12 @@
 //! Toppling each site u times takes e to s - Lu = 0, so e is equivalent to the pile without a grain, wherever the
 //! counts came from. It takes one pass over the grid.
 
-ghost use Rattle.std.specs.Prelude.{◌≡◌, ℕ, ◌*◌, ◌<◌, ◌≤◌, ◌↔◌, length, slice_index, IfOk, IfSome, IsSome, MatchOption, All};
+ghost use Rattle.std.specs.Prelude.{◌≡◌, ℕ, ◌*◌, ◌^◌, ◌<◌, ◌≤◌, ◌↔◌, length, slice_index, IfOk, IfSome, IsSome, MatchOption, All};
 ghost use Rattle.sand_model.specs.Grid.{sites};
 ghost use Rattle.sand_model.specs.Sand.{IsToppled};
 ghost use Rattle.sand_certify.specs.Emptying.{IsLowAt, IsLow, IsEmptying, IsEmptiedAt};
 
-use crate::certificate::{COUNT_LIMIT, are_few, inflow};
+use crate::certificate::{are_few, inflow};
 use sand_model::{Lattice, Shape};
 use std::alloc::{AllocError, Global};
 
@@ -17,7 +17,7 @@ use std::alloc::{AllocError, Global};
 fn height_emptied(lattice: &Lattice, counts: &[u64], site: usize) -> Option<u64>
     requires one_each { length counts.now ≡ sites lattice.now }
     requires site { site < sites lattice.now }
-    requires few { (j : ℕ) → slice_index counts.now j < COUNT_LIMIT }
+    requires few { (j : ℕ) → slice_index counts.now j < 2 ^ 54 }
     ensures { MatchOption result
         (¬ IsLowAt lattice.now (slice_index counts.now) site)
         (λ height. IsEmptiedAt lattice.now (slice_index counts.now) site height) }
@@ -37,7 +37,7 @@ fn heights_emptied(
     counts: &[u64],
 ) -> Result<Option<Vec<u64>>, AllocError>
     requires one_each { length counts.now ≡ sites lattice.now }
-    requires few { (j : ℕ) → slice_index counts.now j < COUNT_LIMIT }
+    requires few { (j : ℕ) → slice_index counts.now j < 2 ^ 54 }
     ensures exactly { IfOk result (λ o. IsSome o ↔ IsLow lattice.now (slice_index counts.now)) }
     ensures one_each { IfOk result (λ o. IfSome o (λ heights. length heights.items ≡ sites lattice.now)) }
     ensures low { IfOk result (λ o. IfSome o (λ heights. All (λ h. h ≤ 3) heights.items)) }

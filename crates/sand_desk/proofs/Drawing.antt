@@ -1,9 +1,8 @@
 -- The faults of drops that are drawn: the pile can't be read, or there is no room for all of them.
 use Rattle.std.proofs.Common.{◌≡◌, ◌+◌, ◌<◌, ℕ, List, [], refl, sym, ap, subst, arith, length, sum}
 use Rattle.std.specs.Prelude.{Some, Ok, Err}
-use Rattle.sand_model.specs.declared.pile.TheConstants.{GRAIN_LIMIT}
 use Rattle.sand_model.specs.Grid.{sites}
-use Rattle.sand_model.specs.Piles.{PileView}
+use Rattle.sand_model.specs.Piles.{PileView, most_grains}
 use Rattle.sand_settle.specs.Drops.{OneView, IsAfter}
 use Rattle.sand_lab.specs.Streams.{stream_sites}
 use Rattle.sand_lab.proofs.StreamTallies.{length-stream_sites}
@@ -59,7 +58,7 @@ overfull draw input start first desk.Full read after h =
     let drawn = stream_sites (sites start.grid) draw.seed draw.stream draw.count in
     let long : length drawn ≡ draw.count = length-stream_sites (sites start.grid) draw.seed draw.stream draw.count in
     let grains : first.grains ≡ sum start.heights + 0 = after.grains in
-    let over : GRAIN_LIMIT < sum start.heights + length drawn = omega (arith, h, grains, long) in
+    let over : most_grains < sum start.heights + length drawn = omega (arith, h, grains, long) in
     record { pile = start; sites = drawn; read = ap (λ r. r >>= with_draw draw) read; over = over }
 overfull draw input start first desk.Side read after h = absurd h
 overfull draw input start first desk.Length read after h = absurd h

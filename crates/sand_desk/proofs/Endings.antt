@@ -2,10 +2,9 @@
 use Rattle.std.proofs.Common.{◌≡◌, ◌+◌, ◌≤◌, ℕ, List, true, length, take, refl, sym, subst}
 use Rattle.std.specs.Prelude.{Option, Some, None}
 use Rattle.std.specs.Io.KnownBytes.{Appends, Keeps}
-use Rattle.sand_text.specs.declared.flow.TheConstants.{INPUT_LIMIT}
 use Rattle.sand_text.specs.declared.fault.StreamFault.{StreamFault}
 use Rattle.sand_text.specs.declared.fault.StreamFault.TheVariants as stream
-use Rattle.sand_text.specs.Flow.{IsFurther, IsFurtherByAtMost, IsOfReading}
+use Rattle.sand_text.specs.Flow.{IsFurther, IsFurtherByAtMost, IsOfReading, most_bytes}
 use Rattle.sand_words.specs.declared.words.Task.{Task}
 use Rattle.sand_desk.specs.declared.faults.DeskFault.{DeskFault}
 use Rattle.sand_desk.specs.declared.faults.DeskFault.TheVariants as desk
@@ -18,7 +17,7 @@ keeps (Some bytes) = refl
 
 -- the reading failed
 pub reading_ends : (asked : Option Task) (left left' held : Option (List ℕ)) (task : Task) (f : StreamFault) → asked ≡ Some task → reads_input task ≡ true → IsOfReading f
-    → (f ≡ stream.TooLong → IsFurther left left' (INPUT_LIMIT + 1)) → ((f ≡ stream.TooLong → ⊥) → IsFurtherByAtMost left left' INPUT_LIMIT)
+    → (f ≡ stream.TooLong → IsFurther left left' (most_bytes + 1)) → ((f ≡ stream.TooLong → ⊥) → IsFurtherByAtMost left left' most_bytes)
     → EndsBy asked left left' held held (of_stream f)
 reading_ends asked left left' held task stream.Memory e reads kind flooded stopped = keeps held
 reading_ends asked left left' held task stream.Read e reads kind flooded stopped = record {

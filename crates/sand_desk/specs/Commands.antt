@@ -2,11 +2,9 @@
 use Rattle.std.specs.Prelude.{ℕ, ⊤, ◌≡◌, ◌↔◌, ◌⊎◌, ◌+◌, ◌<◌, ◌≤◌, Bool, true, false, List, [], length, take, Option, Some, None, Result, Err}
 use Rattle.std.specs.Io.KnownBytes.{Appends, Keeps}
 use Rattle.sand_model.specs.declared.faults.ShapeFault.{ShapeFault}
-use Rattle.sand_model.specs.declared.pile.TheConstants.{GRAIN_LIMIT}
 use Rattle.sand_model.specs.Grid.{grid_of}
 use Rattle.sand_text.specs.declared.fault.TextFault.{TextFault}
-use Rattle.sand_text.specs.declared.flow.TheConstants.{INPUT_LIMIT}
-use Rattle.sand_text.specs.Flow.{GivesAll, IsFurther, IsFurtherByAtMost}
+use Rattle.sand_text.specs.Flow.{GivesAll, IsFurther, IsFurtherByAtMost, most_bytes}
 use Rattle.sand_text.specs.Reading.{pile_of, two_of}
 use Rattle.clap.specs.Words.{Text, kind_of}
 use Rattle.clap.specs.declared.error.kind.ErrorKind.TheVariants.{DisplayHelp}
@@ -22,6 +20,7 @@ use Rattle.sand_desk.specs.Faults.{of_shape, of_text}
 use Rattle.sand_desk.specs.Group.{edge_of, IsBurnText, IsIdentityText, IsSumText, IsInverseText, IsUnstable, IsUnfitPile, IsUnfitPair, IsMismatch}
 use Rattle.sand_desk.specs.Laboratory.{IsLabText, IsOvergrown, IsRunnable, wish_of}
 use Rattle.sand_desk.specs.Settling.{IsSettleText}
+use Rattle.sand_model.specs.Piles.{most_grains}
 
 -- whether a task reads an input
 abbrev pub reads_input : Task → Bool
@@ -46,7 +45,7 @@ pub record IsUnreadable {A : Type 0} (reading : Result A TextFault) (fault : Des
 
 -- a drop was refused: there were more grains with all drops than the limit, or memory ran out
 abbrev pub IsDropFault : ℕ → DeskFault → Type 0
-IsDropFault grains desk.Full = GRAIN_LIMIT < grains
+IsDropFault grains desk.Full = most_grains < grains
 IsDropFault grains desk.Memory = Unit {0}
 IsDropFault grains fault = ⊥
 
@@ -80,9 +79,9 @@ IsInverseFault input fault = IsUnreadable (pile_of input) fault
 
 -- a run was refused: there are more grains with all drops than the limit, memory ran out, or a place of the album was taken
 abbrev pub IsRunFault : ℕ → DeskFault → Type 0
-IsRunFault grains desk.TooManyGrains = GRAIN_LIMIT < grains
+IsRunFault grains desk.TooManyGrains = most_grains < grains
 IsRunFault grains desk.Memory = Unit {0}
-IsRunFault grains desk.Taken = grains ≤ GRAIN_LIMIT
+IsRunFault grains desk.Taken = grains ≤ most_grains
 IsRunFault grains fault = ⊥
 
 -- a run wants room for all its drops
@@ -120,7 +119,7 @@ Takes false left left' input = Keeps left left' × (input ≡ [])
 pub record IsRead (asked : Option Task) (left left' : Option (List ℕ)) (task : Task) (input : List ℕ) : Type 0 where
   pub is_asked : asked ≡ Some task
   pub all : Takes (reads_input task) left left' input
-  pub within : length input ≤ INPUT_LIMIT
+  pub within : length input ≤ most_bytes
 
 -- the command was done: the writer took the text of the task for the whole input
 pub record IsDone (asked : Option Task) (left left' held held' : Option (List ℕ)) : Type 0 where
@@ -154,7 +153,7 @@ pub record IsStopped (asked : Option Task) (left left' held held' : Option (List
   pub task : Task
   pub is_asked : asked ≡ Some task
   pub reads : reads_input task ≡ true
-  pub further : IsFurtherByAtMost left left' INPUT_LIMIT
+  pub further : IsFurtherByAtMost left left' most_bytes
   pub unwritten : Keeps held held'
 
 -- the reader gave more than the limit, and nothing was written
@@ -162,7 +161,7 @@ pub record IsFlooded (asked : Option Task) (left left' held held' : Option (List
   pub task : Task
   pub is_asked : asked ≡ Some task
   pub reads : reads_input task ≡ true
-  pub further : IsFurther left left' (INPUT_LIMIT + 1)
+  pub further : IsFurther left left' (most_bytes + 1)
   pub unwritten : Keeps held held'
 
 -- the words name no task, and nothing was read or written

@@ -1,7 +1,6 @@
 -- What `drops` writes.
 use Rattle.std.specs.Prelude.{ℕ, ◌≡◌, ◌+◌, ◌<◌, Bool, if◌then◌else◌, List, [], ◌∷◌, ◌++◌, length, sum, codes, decimal, Option, Some, None, Result, Ok}
-use Rattle.sand_model.specs.declared.pile.TheConstants.{GRAIN_LIMIT}
-use Rattle.sand_model.specs.Piles.{PileView}
+use Rattle.sand_model.specs.Piles.{PileView, most_grains}
 use Rattle.sand_settle.specs.declared.avalanche.Avalanche.{Avalanche}
 use Rattle.sand_settle.specs.Avalanches.{IsAvalanche}
 use Rattle.sand_settle.specs.Drops.{OneView, grid_of_one, topplings_between, IsAfter, Drops}
@@ -60,4 +59,4 @@ pub record IsOverfull (drawn : Option Draw) (input : List ℕ) : Type 0 where
   pub pile : PileView
   pub sites : List ℕ
   pub read : drops_for drawn input ≡ Ok (pile, sites)
-  pub over : GRAIN_LIMIT < sum pile.heights + length sites
+  pub over : most_grains < sum pile.heights + length sites

@@ -1,7 +1,6 @@
 -- What `lab` writes.
 use Rattle.std.specs.Prelude.{ℕ, ◌≡◌, ◌+◌, ◌<◌, ◌≤◌, Bool, false, List, [], ◌++◌, length, map, sum, Ok, if◌then◌else◌}
-use Rattle.sand_model.specs.declared.pile.TheConstants.{GRAIN_LIMIT}
-use Rattle.sand_model.specs.Piles.{PileView}
+use Rattle.sand_model.specs.Piles.{PileView, most_grains}
 use Rattle.sand_shared.specs.Record.{RecordView}
 use Rattle.sand_text.specs.declared.runs.Sums.{Sums}
 use Rattle.sand_text.specs.Pictures.{pgm_text_of}
@@ -59,10 +58,10 @@ OneLabText = (w v : Wish) (form : Form) (input one other : List ℕ) → AskTheS
 pub record IsOvergrown (w : Wish) (input : List ℕ) : Type 0 where
   pub start : PileView
   pub read : pile_of input ≡ Ok start
-  pub over : GRAIN_LIMIT < sum start.heights + all_drops w
+  pub over : most_grains < sum start.heights + all_drops w
 
 -- the grains of the pile, with all drops, are within the limit
 pub record IsRunnable (w : Wish) (input : List ℕ) : Type 0 where
   pub start : PileView
   pub read : pile_of input ≡ Ok start
-  pub within : sum start.heights + all_drops w ≤ GRAIN_LIMIT
+  pub within : sum start.heights + all_drops w ≤ most_grains

@@ -5,8 +5,7 @@
 //! whole text stands.
 
 ghost use Rattle.std.specs.Prelude.{◌≡◌, ◌≢◌, ◌+◌, ◌≤◌, ◌<◌, true, length, map, string_bytes, IfOk, IfErr, OnOk, IsErrOf};
-ghost use Rattle.sand_text.specs.Flow.{IsFurther, IsFurtherByAtMost, IsOfReading};
-ghost use Rattle.sand_text.specs.declared.flow.TheConstants.{INPUT_LIMIT};
+ghost use Rattle.sand_text.specs.Flow.{IsFurther, IsFurtherByAtMost, IsOfReading, most_bytes};
 ghost use Rattle.sand_words.specs.Asked.{IsWithin, asked};
 ghost use Rattle.sand_desk.specs.Commands.{IsTextOf, IsFaultOf, Finds, IsDone, EndsBy, HelpsIfAsked, Takes, reads_input};
 
@@ -24,10 +23,10 @@ use std::thread::Threads;
 // The input of a task: all that the reader gives, or nothing for a task that reads none.
 fn take_input<R: Read>(alloc: Global, task: Task, reader: &mut R) -> Result<Vec<u8>, StreamFault>
     ensures taken { IfOk result (λ input. Takes (reads_input task) (R.remaining reader.old) (R.remaining reader.new) input.items) }
-    ensures within { IfOk result (λ input. length input.items ≤ INPUT_LIMIT) }
+    ensures within { IfOk result (λ input. length input.items ≤ most_bytes) }
     ensures reads { IfErr result (λ e. reads_input task ≡ true) }
-    ensures too_long { IsErrOf result StreamFault.TooLong → IsFurther (R.remaining reader.old) (R.remaining reader.new) (INPUT_LIMIT + 1) }
-    ensures failed { IfErr result (λ e. e ≢ StreamFault.TooLong → IsFurtherByAtMost (R.remaining reader.old) (R.remaining reader.new) INPUT_LIMIT) }
+    ensures too_long { IsErrOf result StreamFault.TooLong → IsFurther (R.remaining reader.old) (R.remaining reader.new) (most_bytes + 1) }
+    ensures failed { IfErr result (λ e. e ≢ StreamFault.TooLong → IsFurtherByAtMost (R.remaining reader.old) (R.remaining reader.new) most_bytes) }
     ensures fault { IfErr result IsOfReading }
 {
     match task {

@@ -237,7 +237,7 @@ fn name(fault: &DeskFault) -> &'static str
 const LINE_ROOM: usize = 64;
 
 fn push(line: &mut ArrayString<LINE_ROOM>, part: &str)
-    requires { array_string_len line.old + length part.now ≤ LINE_ROOM }
+    requires { array_string_len line.old + length part.now ≤ 64 }
     ensures { line.new.bytes ≡ line.old.bytes ++ part.now }
 {
     let _ = line.try_push_str(part);

@@ -3,16 +3,15 @@ use Rattle.std.proofs.Common.{ℕ, ◌≡◌, ◌≤◌, refl, arith, List, leng
 use Rattle.std.specs.Prelude.{pos}
 use Rattle.std.proofs.lemmas.Int.{ints}
 use Rattle.std.proofs.lemmas.List.Sums.{sum_by-le}
-use Rattle.sand_model.specs.declared.pile.TheConstants.{GRAIN_LIMIT}
 use Rattle.sand_model.specs.Grid.{Grid, IsGrid, sites}
 use Rattle.sand_model.specs.Sand.{IsToppled}
 use Rattle.sand_model.specs.Integers.{whole, IsEquivalent}
-use Rattle.sand_model.specs.Piles.{PileView, height_of}
+use Rattle.sand_model.specs.Piles.{PileView, height_of, most_grains}
 use Rattle.sand_model.proofs.Bounds.{sites_limit}
 use Rattle.sand_model.proofs.IntegerFlow.{toppled_is_integers}
 use Rattle.sand_model.proofs.Sandpile.{settled_same}
 use Rattle.sand_group.specs.Group.{IsSettledPile, IsSurplus, IsIdentity}
-use Rattle.sand_group.proofs.Settling.{settles}
+use Rattle.sand_model.proofs.Settling.{settles}
 use Rattle.sand_group.proofs.Members.{some_surplus, identity_is_settled, represented_once}
 
 pub emptied_is_none : (g : Grid) (s w : ℕ → ℕ) → IsToppled g s w (λ i. 0) → IsEquivalent g (whole s) (λ i. pos 0)
@@ -22,7 +21,7 @@ emptied_is_none g s w done = record {
 }
 
 -- heights of 3 at most are far below the limit in all
-pub low_within_limit : (g : Grid) (heights : List ℕ) → IsGrid g → length heights ≡ sites g → All (λ h. h ≤ 3) heights → sum heights ≤ GRAIN_LIMIT
+pub low_within_limit : (g : Grid) (heights : List ℕ) → IsGrid g → length heights ≡ sites g → All (λ h. h ≤ 3) heights → sum heights ≤ most_grains
 low_within_limit g heights grid len low =
     let all = sum_by-le (λ h. h) 3 heights low in
     let area = sites_limit g grid in

@@ -1,7 +1,6 @@
 pub mod Sets
 pub mod Listing
 pub mod Spreading
-pub mod Settling
 pub mod Stabilised
 pub mod Uniqueness
 pub mod Classes

@@ -11,11 +11,15 @@ use Rattle.sand_model.proofs.Sandpile.{settled_in_parts, settled_same, settled_s
 use Rattle.sand_model.proofs.Bounds.{at_most_total}
 use Rattle.sand_model.proofs.IntegerFlow.{above, below, parts, settled_equivalent}
 use Rattle.sand_group.specs.Recurrence.{IsRecurrent}
-use Rattle.sand_group.specs.Group.{IsSurplus, Represents, IsSum, IsIdentity, IsInverse}
-use Rattle.sand_group.proofs.Settling.{settles}
+use Rattle.sand_group.specs.Group.{SettlesTo, IsSurplus, Represents, IsSum, IsIdentity, IsInverse}
+use Rattle.sand_model.proofs.Settling.{settles}
 use Rattle.sand_group.proofs.Stabilised.{settled_recurrent}
 use Rattle.sand_group.proofs.Uniqueness.{recurrent_unique}
 use Rattle.sand_group.proofs.Classes.{equivalent_sym, equivalent_add, equivalent_same, equivalent_times, equivalent_trans}
+
+-- what is true of each pile that s settles to, is true of one: s settles
+pub settles_to : (g : Grid) (s : ℕ → ℕ) (P : (ℕ → ℕ) → Type 0) → ((u t : ℕ → ℕ) → IsSettled g s u t → P t) → SettlesTo g s P
+settles_to g s P each = let done = settles g s in record { odometer = done.0; rest = done.1; settled = done.2; each = each }
 
 -- ---- recurrent piles
 

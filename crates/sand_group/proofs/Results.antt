@@ -5,11 +5,10 @@ use Rattle.std.proofs.lemmas.Bool.{cases_lt}
 use Rattle.std.proofs.lemmas.List.{ext_get_or, get_or-replicate, get_or_read, get_or_past}
 use Rattle.std.proofs.lemmas.List.Sums.{sum_by-le}
 use Rattle.std.proofs.lemmas.List.Elements.{All-from_get_or, All-get_or}
-use Rattle.sand_model.specs.declared.pile.TheConstants.{GRAIN_LIMIT}
 use Rattle.sand_model.specs.Grid.{Grid, IsGrid, sites}
 use Rattle.sand_model.specs.Sand.{IsStable, IsSettled, one_at}
 use Rattle.sand_model.specs.Integers.{whole}
-use Rattle.sand_model.specs.Piles.{PileView, IsPile, height_of}
+use Rattle.sand_model.specs.Piles.{PileView, IsPile, height_of, most_grains}
 use Rattle.sand_model.proofs.Sandpile.{settled_same}
 use Rattle.sand_model.proofs.Bounds.{sites_limit}
 use Rattle.sand_model.proofs.Heights.{get_or-written}
@@ -18,7 +17,7 @@ use Rattle.sand_group.specs.Group.{IsSettledPile, IsSurplus, IsIdentity, IsEquiv
 use Rattle.sand_group.proofs.Members.{equivalent_is_settled, represents_itself, represented_once}
 
 -- heights of 12 at most are far below the limit in all
-pub within_limit : (g : Grid) (heights : List ℕ) → IsGrid g → length heights ≡ sites g → All (λ h. h ≤ 12) heights → sum heights ≤ GRAIN_LIMIT
+pub within_limit : (g : Grid) (heights : List ℕ) → IsGrid g → length heights ≡ sites g → All (λ h. h ≤ 12) heights → sum heights ≤ most_grains
 within_limit g heights grid len low =
     let all = sum_by-le (λ h. h) 12 heights low in
     let area = sites_limit g grid in

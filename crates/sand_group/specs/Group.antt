@@ -15,6 +15,13 @@ pub record IsSettledPile (g : Grid) (s : ℕ → ℕ) (pile : PileView) : Type 0
   pub odometer : ℕ → ℕ
   pub settled : IsSettled g s odometer (height_of pile)
 
+-- s has a settled pile, and P is true of each pile that s settles to
+pub record SettlesTo (g : Grid) (s : ℕ → ℕ) (P : (ℕ → ℕ) → Type 0) : Type 0 where
+  pub odometer : ℕ → ℕ
+  pub rest : ℕ → ℕ
+  pub settled : IsSettled g s odometer rest
+  pub each : (u t : ℕ → ℕ) → IsSettled g s u t → P t
+
 -- d = 2m - settled(2m): it is equivalent to all 0, and 3 or more at each site
 pub record IsSurplus (g : Grid) (d : ℕ → ℕ) : Type 0 where
   pub odometer : ℕ → ℕ

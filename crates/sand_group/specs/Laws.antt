@@ -4,7 +4,7 @@ use Rattle.sand_model.specs.Grid.{Grid, IsGrid, sites}
 use Rattle.sand_model.specs.Sand.{IsStable, IsSettled}
 use Rattle.sand_model.specs.Integers.{whole, IsEquivalent}
 use Rattle.sand_group.specs.Recurrence.{IsRecurrent, IsBurningOrder}
-use Rattle.sand_group.specs.Group.{IsSurplus, Represents, IsSum, IsIdentity, IsInverse}
+use Rattle.sand_group.specs.Group.{SettlesTo, IsSurplus, Represents, IsSum, IsIdentity, IsInverse}
 
 -- the burning test: a stable pile is recurrent exactly where all its sites burn in some order
 abbrev pub BurningDecides : Type 0
@@ -16,7 +16,7 @@ RecurrentFromFull = (g : Grid) (c : ℕ → ℕ) → IsRecurrent g c ↔ ((a : �
 
 -- more grains on a recurrent pile settle to a recurrent pile
 abbrev pub StaysRecurrent : Type 0
-StaysRecurrent = (g : Grid) (c a u t : ℕ → ℕ) → IsRecurrent g c → IsSettled g (λ i. c i + a i) u t → IsRecurrent g t
+StaysRecurrent = (g : Grid) (c a : ℕ → ℕ) → IsRecurrent g c → SettlesTo g (λ i. c i + a i) (IsRecurrent g)
 
 -- each class of equivalent piles has a recurrent pile
 abbrev pub EachClassHasOne : Type 0
@@ -32,27 +32,31 @@ RepresentedOnce = (g : Grid) (x : ℕ → ℤ) (c e : ℕ → ℕ) → Represent
 
 -- the sum of a and b is what a + b settles to
 abbrev pub SumIsSettled : Type 0
-SumIsSettled = (g : Grid) (a b u c : ℕ → ℕ) → IsRecurrent g a → IsRecurrent g b → IsSettled g (λ i. a i + b i) u c → IsSum g a b c
+SumIsSettled = (g : Grid) (a b : ℕ → ℕ) → IsRecurrent g a → IsRecurrent g b → SettlesTo g (λ i. a i + b i) (IsSum g a b)
+
+-- there is a d from which the identity and the inverse are settled
+abbrev pub EachGridHasSurplus : Type 0
+EachGridHasSurplus = (g : Grid) → (d : ℕ → ℕ) × IsSurplus g d
 
 -- the identity is what d settles to
 abbrev pub IdentityIsSettled : Type 0
-IdentityIsSettled = (g : Grid) (d u e : ℕ → ℕ) → IsSurplus g d → IsSettled g d u e → IsIdentity g e
+IdentityIsSettled = (g : Grid) (d : ℕ → ℕ) → IsSurplus g d → SettlesTo g d (IsIdentity g)
 
 -- the inverse of c is what 2d - c settles to
 abbrev pub InverseIsSettled : Type 0
-InverseIsSettled = (g : Grid) (c d u v : ℕ → ℕ) → IsRecurrent g c → IsSurplus g d → IsSettled g (λ i. 2 * d i - c i) u v → IsInverse g c v
+InverseIsSettled = (g : Grid) (c d : ℕ → ℕ) → IsRecurrent g c → IsSurplus g d → SettlesTo g (λ i. 2 * d i - c i) (IsInverse g c)
 
 -- c and the identity settle to c
 abbrev pub IdentityIsNeutral : Type 0
-IdentityIsNeutral = (g : Grid) (c e u t : ℕ → ℕ) → IsRecurrent g c → IsIdentity g e → IsSettled g (λ i. c i + e i) u t → (i : ℕ) → i < sites g → t i ≡ c i
+IdentityIsNeutral = (g : Grid) (c e : ℕ → ℕ) → IsRecurrent g c → IsIdentity g e → SettlesTo g (λ i. c i + e i) (λ t. (i : ℕ) → i < sites g → t i ≡ c i)
 
 -- c and its inverse settle to the identity
 abbrev pub InverseCancels : Type 0
-InverseCancels = (g : Grid) (c v u t : ℕ → ℕ) → IsRecurrent g c → IsInverse g c v → IsSettled g (λ i. c i + v i) u t → IsIdentity g t
+InverseCancels = (g : Grid) (c v : ℕ → ℕ) → IsRecurrent g c → IsInverse g c v → SettlesTo g (λ i. c i + v i) (IsIdentity g)
 
 -- what the settled pile of s and the identity settle to is the recurrent pile equivalent to s
 abbrev pub EquivalentIsSettled : Type 0
-EquivalentIsSettled = (g : Grid) (s u t e v c : ℕ → ℕ) → IsSettled g s u t → IsIdentity g e → IsSettled g (λ i. e i + t i) v c → Represents g (whole s) c
+EquivalentIsSettled = (g : Grid) (s e : ℕ → ℕ) → IsIdentity g e → SettlesTo g s (λ t. SettlesTo g (λ i. e i + t i) (Represents g (whole s)))
 
 -- of a recurrent pile it is the pile itself
 abbrev pub RepresentsItself : Type 0

@@ -5,7 +5,6 @@
 //! equivalent to all 0, and settled(2d - c) the one equivalent to -c.
 
 ghost use Rattle.std.specs.Prelude.{◌≡◌, ◌≢◌, ℕ, ◌+◌, ◌-◌, ◌*◌, ◌<◌, ◌≤◌, ◌↔◌, ◌⊎◌, All, length, slice_index, sum, IfOk, IfErr, IsOkUnless, OnOk, alloc_error};
-ghost use Rattle.sand_model.specs.declared.pile.TheConstants.{GRAIN_LIMIT};
 ghost use Rattle.sand_model.specs.Grid.{sites};
 ghost use Rattle.sand_model.specs.Sand.{IsStable, one_at};
 ghost use Rattle.sand_model.specs.Piles.{height_of};

@@ -9,11 +9,14 @@
 //! site of F that did not topple is 3 high with all four neighbours in F, none of which toppled, and so on northwards
 //! without end.
 //!
+//! **No law assumes that a pile settles.** Each pile does (`sand_model::laws::each_settles`), so a law says that it settles,
+//! and what is true of each pile that it settles to (`SettlesTo`).
+//!
 //! **One in each class.** Where two recurrent piles differ by Lz, the sites at which z is greatest are forbidden in the
 //! second, unless z is at most 0; and the same for -z. So a recurrent c is what c + d settles to, where d is
 //! 2m - settled(2m): d is equivalent to all 0 and at least m.
 
-ghost use Rattle.sand_group.specs.Laws.{BurningDecides, RecurrentFromFull, StaysRecurrent, EachClassHasOne, RecurrentOnce, RepresentedOnce, SumIsSettled, IdentityIsSettled, InverseIsSettled, IdentityIsNeutral, InverseCancels, EquivalentIsSettled, RepresentsItself, EquivalentsAddUp};
+ghost use Rattle.sand_group.specs.Laws.{BurningDecides, RecurrentFromFull, StaysRecurrent, EachClassHasOne, RecurrentOnce, RepresentedOnce, SumIsSettled, EachGridHasSurplus, IdentityIsSettled, InverseIsSettled, IdentityIsNeutral, InverseCancels, EquivalentIsSettled, RepresentsItself, EquivalentsAddUp};
 
 /// A stable pile is recurrent exactly where all its sites burn in some order.
 pub fn burning_decides()
@@ -36,6 +39,7 @@ pub fn one_in_each_class()
 /// Settling gives the sum, the identity and the inverse.
 pub fn settling_is_adding()
     ensures sum { SumIsSettled }
+    ensures surplus { EachGridHasSurplus }
     ensures identity { IdentityIsSettled }
     ensures inverse { InverseIsSettled }
 {}

@@ -2,9 +2,8 @@
 use Rattle.std.proofs.Common.{◌≡◌, ℕ, zero, suc, ◌+◌, ◌*◌, ◌<◌, ◌≤◌, List, [], ◌∷◌, ◌++◌, length, sum, sum_by, refl, sym, ap, ◌∙◌, subst, arith, append_assoc, append-nil, length-append}
 use Rattle.std.proofs.lemmas.List.{length-map}
 use Rattle.std.proofs.lemmas.List.Sums.{sum_by-cons, sum_by-append}
-use Rattle.sand_model.specs.declared.pile.TheConstants.{GRAIN_LIMIT}
 use Rattle.sand_model.specs.Grid.{sites}
-use Rattle.sand_model.specs.Piles.{PileView}
+use Rattle.sand_model.specs.Piles.{PileView, most_grains}
 use Rattle.sand_settle.specs.Settling.{odometer_of}
 use Rattle.sand_shared.specs.Record.{RecordView}
 use Rattle.sand_lab.specs.declared.journal.Entry.{Entry}
@@ -103,8 +102,8 @@ one_more : (n epochs quota : ℕ) → n < epochs → n * quota + quota ≤ quota
 one_more n epochs quota lt = grind (arith, lt)
 
 -- before each epoch there is room for its drops
-pub room_for_epoch : (album : List ℕ) (w : Wish) (start : PileView) (n : ℕ) (p : ReportView) → IsReportOf album w start n p → n < w.epochs → sum start.heights + all_drops w ≤ GRAIN_LIMIT
-    → (sum p.total.start.heights + (length p.total.history + quota_of w) ≤ GRAIN_LIMIT) × (sum p.total.settled.pile.heights + quota_of w ≤ GRAIN_LIMIT)
+pub room_for_epoch : (album : List ℕ) (w : Wish) (start : PileView) (n : ℕ) (p : ReportView) → IsReportOf album w start n p → n < w.epochs → sum start.heights + all_drops w ≤ most_grains
+    → (sum p.total.start.heights + (length p.total.history + quota_of w) ≤ most_grains) × (sum p.total.settled.pile.heights + quota_of w ≤ most_grains)
 room_for_epoch album w start n p is lt limit =
     let drops = dropped_so_far album w start n p is in
     let more = one_more n w.epochs (quota_of w) lt in

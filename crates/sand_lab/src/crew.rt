@@ -3,7 +3,7 @@
 ghost use Rattle.std.specs.Prelude.{◌≡◌, ℕ, All};
 ghost use Rattle.std.specs.List.{AllZip};
 ghost use Rattle.std.specs.Thread.{IsSync};
-ghost use Rattle.sand_lab.specs.Crews.{IsCrew, HasBecome, HasWorked};
+ghost use Rattle.sand_lab.specs.Crews.{IsCrew, HasBecome, HasWorked, tallies_each};
 ghost use Rattle.sand_lab.specs.Jobs.{CanDrop, CanSweep, CanWatch, HasDropped, HasSwept, HasWatched};
 ghost use Rattle.sand_lab.specs.declared.plan.Wish.{Wish};
 
@@ -48,9 +48,9 @@ fn sweep_and_watch<R: Threads + Sync, G: Gate>(
     observers: &mut Vec<Observer>,
 )
     requires workers { All (CanSweep pile.now) workers.old.items }
-    requires observers { All (CanWatch pile.now TALLIES) observers.old.items }
+    requires observers { All (CanWatch pile.now tallies_each) observers.old.items }
     ensures workers { AllZip (HasSwept pile.now sweeps) workers.old.items workers.new.items }
-    ensures observers { AllZip (HasWatched pile.now TALLIES) observers.old.items observers.new.items }
+    ensures observers { AllZip (HasWatched pile.now tallies_each) observers.old.items observers.new.items }
 {
     join_mut(
         rt,
@@ -59,8 +59,8 @@ fn sweep_and_watch<R: Threads + Sync, G: Gate>(
             ensures { AllZip (HasSwept pile.entry.now sweeps) workers.entry.now.items workers.exit.now.items }
         { do_list(rt, pile, gate, sweeps, workers) },
         &mut ||
-            requires { IsSync R.row × IsSync G.row × All (CanWatch pile.now TALLIES) observers.now.items }
-            ensures { AllZip (HasWatched pile.entry.now TALLIES) observers.entry.now.items observers.exit.now.items }
+            requires { IsSync R.row × IsSync G.row × All (CanWatch pile.now tallies_each) observers.now.items }
+            ensures { AllZip (HasWatched pile.entry.now tallies_each) observers.entry.now.items observers.exit.now.items }
         { do_list(rt, pile, gate, TALLIES, observers) },
     );
 }
@@ -77,10 +77,10 @@ fn all_work<R: Threads + Sync, G: Gate>(
 )
     requires droppers { All (CanDrop pile.now wish.drops) droppers.old.items }
     requires workers { All (CanSweep pile.now) workers.old.items }
-    requires observers { All (CanWatch pile.now TALLIES) observers.old.items }
+    requires observers { All (CanWatch pile.now tallies_each) observers.old.items }
     ensures droppers { AllZip (HasDropped pile.now wish.drops) droppers.old.items droppers.new.items }
     ensures workers { AllZip (HasSwept pile.now wish.sweeps) workers.old.items workers.new.items }
-    ensures observers { AllZip (HasWatched pile.now TALLIES) observers.old.items observers.new.items }
+    ensures observers { AllZip (HasWatched pile.now tallies_each) observers.old.items observers.new.items }
 {
     join_mut(
         rt,
@@ -89,9 +89,9 @@ fn all_work<R: Threads + Sync, G: Gate>(
             ensures { AllZip (HasDropped pile.entry.now wish.drops) droppers.entry.now.items droppers.exit.now.items }
         { do_list(rt, pile, gate, wish.drops, droppers) },
         &mut ||
-            requires { IsSync R.row × IsSync G.row × All (CanSweep pile.now) workers.now.items × All (CanWatch pile.now TALLIES) observers.now.items }
+            requires { IsSync R.row × IsSync G.row × All (CanSweep pile.now) workers.now.items × All (CanWatch pile.now tallies_each) observers.now.items }
             ensures workers { AllZip (HasSwept pile.entry.now wish.sweeps) workers.entry.now.items workers.exit.now.items }
-            ensures observers { AllZip (HasWatched pile.entry.now TALLIES) observers.entry.now.items observers.exit.now.items }
+            ensures observers { AllZip (HasWatched pile.entry.now tallies_each) observers.entry.now.items observers.exit.now.items }
         { sweep_and_watch(rt, pile, gate, wish.sweeps, workers, observers) },
     );
 }

@@ -1,7 +1,6 @@
 //! One epoch: a crew is hired, works, sweeps on and is gathered; then the pile is closed and its record published.
 
 ghost use Rattle.std.specs.Prelude.{◌≡◌, ◌≢◌, ℕ, ◌+◌, ◌*◌, ◌<◌, ◌≤◌, [], length, sum, map, slice_index, vec_len, IfOk, IfErr};
-ghost use Rattle.sand_model.specs.declared.pile.TheConstants.{GRAIN_LIMIT};
 ghost use Rattle.sand_settle.specs.Settling.{odometer_of};
 ghost use Rattle.sand_shared.specs.OpenPile.{grid_of};
 ghost use Rattle.sand_shared.specs.Passes.{IsPassOf, IsWhole};
@@ -13,6 +12,7 @@ ghost use Rattle.sand_lab.specs.Crews.{IsCrew, HasBecome, unshared};
 ghost use Rattle.sand_lab.specs.Faults.{IsMemory, IsOfEpoch};
 ghost use Rattle.sand_lab.specs.Plans.{IsPlan, quota_of};
 ghost use Rattle.sand_lab.specs.Reports.{IsClosed, IsEpoch};
+ghost use Rattle.sand_model.specs.Piles.{most_grains};
 
 use crate::album::{Album, Note, Picture};
 use crate::crew::Crew;
@@ -61,7 +61,7 @@ pub(crate) fn quota_of(wish: Wish) -> u64
 
 // The pile of an epoch, and its first pass.
 fn share(alloc: Global, start: &Pile, quota: u64) -> Result<(SharedPile, Pass), LabFault>
-    requires limit { sum start.now.heights + quota ≤ GRAIN_LIMIT }
+    requires limit { sum start.now.heights + quota ≤ most_grains }
     ensures terms { IfOk result (λ r. r.0.terms ≡ record { start = start.now; quota = quota }) }
     ensures first { IfOk result (λ r. r.1 ≡ unshared r.0 quota) }
     ensures memory { IfErr result IsMemory }
@@ -162,7 +162,7 @@ fn work_and_make_ready<R: Threads + Sync, G: Gate>(
 
 // A copy of a record for the total to grow from, with room for so many drops more.
 fn copy_to_grow(alloc: Global, closed: &Record, drops: u64) -> Result<Record, LabFault>
-    requires limit { sum closed.now.start.heights + (length closed.now.history + drops) ≤ GRAIN_LIMIT }
+    requires limit { sum closed.now.start.heights + (length closed.now.history + drops) ≤ most_grains }
     ensures copy { IfOk result (λ r. r ≡ closed.now) }
     ensures memory { IfErr result IsMemory }
 {
@@ -186,7 +186,7 @@ fn closed_epoch<R: Threads + Sync, G: Gate>(
     gate: &G,
 ) -> Result<ClosedEpoch, LabFault>
     requires plan { IsPlan wish }
-    requires limit { sum start.now.heights + quota_of wish ≤ GRAIN_LIMIT }
+    requires limit { sum start.now.heights + quota_of wish ≤ most_grains }
     ensures closed { IfOk result (λ c. IsClosed wish start.now epoch c.closed c.journal.items (map (λ ts. ts.items) c.findings.tallies.items) c.findings.swept.items) }
     ensures memory { IfErr result IsMemory }
 {
@@ -228,7 +228,7 @@ pub(crate) fn run_first_epoch<R: Threads + Sync, G: Gate>(
     drops: u64,
 ) -> Result<(Record, Sheet, Record), LabFault>
     requires plan { IsPlan wish }
-    requires limit { sum start.now.heights + (quota_of wish + drops) ≤ GRAIN_LIMIT }
+    requires limit { sum start.now.heights + (quota_of wish + drops) ≤ most_grains }
     requires place { 0 < length album.now }
     ensures epoch { IfOk result (λ r. IsEpoch album.now wish start.now 0 r.0 r.1) }
     ensures copy { IfOk result (λ r. r.2 ≡ r.0) }
@@ -262,7 +262,7 @@ pub(crate) fn run_epoch<R: Threads + Sync, G: Gate>(
     album: &Album,
 ) -> Result<(Record, Sheet), LabFault>
     requires plan { IsPlan wish }
-    requires limit { sum start.now.heights + quota_of wish ≤ GRAIN_LIMIT }
+    requires limit { sum start.now.heights + quota_of wish ≤ most_grains }
     requires place { epoch < length album.now }
     ensures epoch { IfOk result (λ r. IsEpoch album.now wish start.now epoch r.0 r.1) }
     ensures faults { IfErr result IsOfEpoch }

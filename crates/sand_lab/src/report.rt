@@ -1,9 +1,9 @@
 //! The report of a run: a record of each epoch and one of all, the journals, and what workers and observers found.
 
 ghost use Rattle.std.specs.Prelude.{◌≡◌, ◌+◌, ◌<◌, ◌≤◌, [], length, sum, slice_index, slice_index_or, IfOk, IfErr, OnOk, OnErr};
-ghost use Rattle.sand_model.specs.declared.pile.TheConstants.{GRAIN_LIMIT};
 ghost use Rattle.sand_lab.specs.Faults.{IsMemory};
 ghost use Rattle.sand_lab.specs.Reports.{HasGrown, IsBoth, report_of, sheet_at};
+ghost use Rattle.sand_model.specs.Piles.{most_grains};
 
 use crate::album::Note;
 use crate::epochs::Sheet;
@@ -102,7 +102,7 @@ impl Sheet {
 // The total grows by a record that starts from its pile.
 fn append(alloc: Global, total: &mut Record, next: &Record) -> Result<(), LabFault>
     requires start { next.now.start ≡ total.old.settled.pile }
-    requires limit { sum total.old.start.heights + (length total.old.history + length next.now.history) ≤ GRAIN_LIMIT }
+    requires limit { sum total.old.start.heights + (length total.old.history + length next.now.history) ≤ most_grains }
     ensures both { OnOk result (IsBoth total.old next.now total.new) }
     ensures unchanged { OnErr result (total.new ≡ total.old) }
     ensures memory { IfErr result IsMemory }
@@ -150,7 +150,7 @@ impl Report {
     ) -> Result<(), LabFault>
         requires few { length self.old.records < 100 }
         requires start { closed.start ≡ self.old.total.settled.pile }
-        requires limit { sum self.old.total.start.heights + (length self.old.total.history + length closed.history) ≤ GRAIN_LIMIT }
+        requires limit { sum self.old.total.start.heights + (length self.old.total.history + length closed.history) ≤ most_grains }
         ensures grown { OnOk result (HasGrown self.old closed sheet self.new) }
         ensures unchanged { OnErr result (self.new ≡ self.old) }
         ensures memory { IfErr result IsMemory }

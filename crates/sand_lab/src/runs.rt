@@ -1,10 +1,10 @@
 //! A run: epoch after epoch, each from the pile that the one before it left.
 
 ghost use Rattle.std.specs.Prelude.{◌≡◌, ◌≢◌, ◌↔◌, ◌+◌, ◌*◌, ◌<◌, ◌≤◌, length, sum, IfOk, IfErr};
-ghost use Rattle.sand_model.specs.declared.pile.TheConstants.{GRAIN_LIMIT};
 ghost use Rattle.sand_lab.specs.Faults.{IsOfEpoch};
 ghost use Rattle.sand_lab.specs.Plans.{IsPlan, all_drops};
 ghost use Rattle.sand_lab.specs.Reports.{IsReport};
+ghost use Rattle.sand_model.specs.Piles.{most_grains};
 
 use crate::album::Album;
 use crate::epochs::{quota_of, run_epoch, run_first_epoch};
@@ -26,7 +26,7 @@ fn run_all<R: Threads + Sync, G: Gate>(
     album: &Album,
 ) -> Result<Report, LabFault>
     requires plan { IsPlan wish }
-    requires limit { sum start.now.heights + all_drops wish ≤ GRAIN_LIMIT }
+    requires limit { sum start.now.heights + all_drops wish ≤ most_grains }
     requires places { length album.now ≡ wish.epochs }
     ensures report { IfOk result (IsReport album.now wish start.now) }
     ensures faults { IfErr result IsOfEpoch }
@@ -61,7 +61,7 @@ pub fn run<R: Threads + Sync, G: Gate>(
     album: &Album,
 ) -> Result<Report, LabFault>
     ensures album_size { (result ≡ Err LabFault.AlbumSize) ↔ (length album.now ≢ plan.now.epochs) }
-    ensures grains { (result ≡ Err LabFault.TooManyGrains) ↔ ((length album.now ≡ plan.now.epochs) × (GRAIN_LIMIT < sum start.now.heights + all_drops plan.now)) }
+    ensures grains { (result ≡ Err LabFault.TooManyGrains) ↔ ((length album.now ≡ plan.now.epochs) × (most_grains < sum start.now.heights + all_drops plan.now)) }
     ensures no_plan { result ≢ Err LabFault.Plan }
     ensures report { IfOk result (IsReport album.now plan.now start.now) }
 {

@@ -3,12 +3,12 @@ use Rattle.std.proofs.Common.{ℕ, zero, suc, ◌≡◌, ◌+◌, ◌-◌, ◌*�
 use Rattle.std.proofs.lemmas.Bool.{cases_lt}
 use Rattle.std.proofs.lemmas.Nat.{mul-le, div-add-mod', div_below}
 use Rattle.std.proofs.Math.Nat.{mul-le-mul_left}
-use Rattle.sand_model.specs.declared.pile.TheConstants.{GRAIN_LIMIT}
 use Rattle.sand_model.specs.Grid.{Grid, IsGrid, sites, row}
 use Rattle.sand_model.specs.Sand.{total, IsToppled, grains, topplings, weight, grain_weight}
 use Rattle.sand_model.proofs.Totals.{total_le, total-scale, total-ones}
 use Rattle.sand_model.proofs.Neighbours.{some_width}
 use Rattle.sand_model.proofs.Sandpile.{weight_after, grain_weight_is}
+use Rattle.sand_model.specs.Piles.{most_grains}
 
 pub sites_limit : (g : Grid) → IsGrid g → sites g ≤ 65536
 sites_limit g sides = let product = mul-le g.width g.height 256 256 sides.width_limit sides.height_limit in omega arith
@@ -42,7 +42,7 @@ weight_bound g s sides =
     omega arith
 
 -- topplings are at most half the weight, whether legal or not, as long as no height falls below 0
-pub topplings_bound : (g : Grid) (s u t : ℕ → ℕ) → IsGrid g → grains g s ≤ GRAIN_LIMIT → IsToppled g s u t → topplings g u < 2 ^ 54
+pub topplings_bound : (g : Grid) (s u t : ℕ → ℕ) → IsGrid g → grains g s ≤ most_grains → IsToppled g s u t → topplings g u < 2 ^ 54
 topplings_bound g s u t sides few done =
     let falls = weight_after g s u t done in
     let start = weight_bound g s sides in

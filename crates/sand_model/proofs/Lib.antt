@@ -10,3 +10,4 @@ pub mod Bounds
 pub mod Lists
 pub mod Underway
 pub mod Tight
+pub mod Settling

@@ -31,6 +31,10 @@ LaplacianSum = (g : Grid) (s u t : ℕ → ℕ) → IsToppled g s u t → grains
 abbrev pub LaplacianSumOverIntegers : Type 0
 LaplacianSumOverIntegers = (g : Grid) (s u : ℕ → ℤ) → total_over (sites g) s ≡ total_over (sites g) (λ i. s i -ℤ laplacian g u i) +ℤ total_over (sites g) (λ i. pos (missing g i) *ℤ u i)
 
+-- each pile settles: it has a settled pile, with a least odometer, for all heights
+abbrev pub EachSettles : Type 0
+EachSettles = (g : Grid) (s : ℕ → ℕ) → (u : ℕ → ℕ) × (t : ℕ → ℕ) × IsSettled g s u t
+
 -- settling in two parts is settling at once, and the odometers add
 abbrev pub Abelian : Type 0
 Abelian = (g : Grid) (a b u t v r : ℕ → ℕ) → IsSettled g a u t → IsSettled g (λ i. t i + b i) v r → IsSettled g (λ i. a i + b i) (λ i. u i + v i) r

@@ -1,7 +1,10 @@
 -- What contracts see of a pile: its grid, and the list of its heights by site.
 use Rattle.std.specs.Prelude.{ℕ, ◌≡◌, ◌≤◌, List, length, sum, slice_index}
-use Rattle.sand_model.specs.declared.pile.TheConstants.{GRAIN_LIMIT}
 use Rattle.sand_model.specs.Grid.{Grid, IsGrid, sites}
+
+-- the most grains that a pile holds, 2^40 - 1
+abbrev pub most_grains : ℕ
+most_grains = 1099511627775
 
 pub record PileView : Type 0 where
   pub grid : Grid
@@ -15,4 +18,4 @@ height_of p = slice_index p.heights
 pub record IsPile (p : PileView) : Type 0 where
   pub grid : IsGrid p.grid
   pub one_each : length p.heights ≡ sites p.grid
-  pub limit : sum p.heights ≤ GRAIN_LIMIT
+  pub limit : sum p.heights ≤ most_grains

@@ -8,7 +8,9 @@
 //! `u` stabilises `s - Lu`, so `v` is at most `w - u`. So `u + v` is the odometer of `s`.
 //!
 //! **The weight.** A grain in row `y` weighs `(y + 1) * (height - y)`, which is concave in `y` and 0 just outside the
-//! grid, so a toppling loses 2 of it at least. So topplings number at most half the weight, and settling ends.
+//! grid, so a toppling loses 2 of it at least. So topplings number at most half the weight, and settling ends:
+//! topple any site that may, as long as there is one. What is left is stable, and by least action the topplings are the
+//! least that stabilise the pile. So each pile has a settled pile.
 //!
 //! **Nothing to take back.** Let toppling each site `u` times turn `s` into `t`, which is 3 at most everywhere, and let
 //! no set of sites that have all toppled be forbidden in `t`. Then `u` is the least that stabilises `s`. For take any `w`
@@ -20,7 +22,7 @@
 //! **The two worlds.** Definitions are over the natural numbers, without subtraction. Over the whole numbers they are
 //! the `s - Lu` and the `s - Lu <= 3` of the textbooks.
 
-ghost use Rattle.sand_model.specs.Laws.{LeastAction, WeightFalls, LaplacianSum, LaplacianSumOverIntegers, Abelian, SettlesAfter, SettledOnce, LeastIfTight, ToppledOverIntegers, StabilisesOverIntegers, SettledIsEquivalent};
+ghost use Rattle.sand_model.specs.Laws.{LeastAction, WeightFalls, LaplacianSum, LaplacianSumOverIntegers, EachSettles, Abelian, SettlesAfter, SettledOnce, LeastIfTight, ToppledOverIntegers, StabilisesOverIntegers, SettledIsEquivalent};
 
 /// Legal topplings stay at or below whatever stabilises the pile.
 pub fn least_action()
@@ -36,6 +38,11 @@ pub fn weight_falls()
 pub fn laplacian_sum()
     ensures natural { LaplacianSum }
     ensures whole { LaplacianSumOverIntegers }
+{}
+
+/// Each pile has a settled pile, with a least odometer.
+pub fn each_settles()
+    ensures { EachSettles }
 {}
 
 /// Settling in two parts is settling at once, and the odometers add.

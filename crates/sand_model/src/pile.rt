@@ -3,7 +3,7 @@
 ghost use Rattle.std.specs.Prelude.{◌≡◌, ◌≢◌, ℕ, ◌+◌, ◌*◌, ◌<◌, ◌≤◌, ◌↔◌, length, sum, slice_index, slice_set, IfOk, IfErr, IsErr, OnErr, OnOk, IfSome, IsTrue, All};
 ghost use Rattle.sand_model.specs.Grid.{sites, missing};
 ghost use Rattle.sand_model.specs.Sand.{IsToppled, IsStable, one_at, value_at};
-ghost use Rattle.sand_model.specs.Piles.{IsPile, height_of};
+ghost use Rattle.sand_model.specs.Piles.{IsPile, height_of, most_grains};
 
 use crate::faults::{PileFault, ToppleFault};
 use crate::shape::Shape;
@@ -43,7 +43,7 @@ impl Pile {
     pub fn new(alloc: Global, shape: Shape, heights: &[u64]) -> Result<Pile, PileFault>
         ensures made { IfOk result (λ p. p ≡ record { grid = shape; heights = heights.now }) }
         ensures length { (result ≡ Err PileFault.Length) ↔ (length heights.now ≢ sites shape) }
-        ensures limit { (result ≡ Err PileFault.TooManyGrains) ↔ ((length heights.now ≡ sites shape) × (GRAIN_LIMIT < sum heights.now)) }
+        ensures limit { (result ≡ Err PileFault.TooManyGrains) ↔ ((length heights.now ≡ sites shape) × (most_grains < sum heights.now)) }
     {
         if heights.len() != shape.sites() {
             return Err(PileFault::Length);
@@ -66,7 +66,7 @@ impl Pile {
     /// A pile of the list itself.
     pub fn from_vec(shape: Shape, heights: Vec<u64>) -> Pile
         requires one_each { length heights.items ≡ sites shape }
-        requires limit { sum heights.items ≤ GRAIN_LIMIT }
+        requires limit { sum heights.items ≤ most_grains }
         ensures { result ≡ record { grid = shape; heights = heights.items } }
     {
         let mut grains: u64 = 0;
@@ -79,7 +79,7 @@ impl Pile {
     /// A pile of the list itself, whose sum is at hand: no height is looked at.
     pub fn from_counted(shape: Shape, heights: Vec<u64>, grains: u64) -> Pile
         requires one_each { length heights.items ≡ sites shape }
-        requires limit { sum heights.items ≤ GRAIN_LIMIT }
+        requires limit { sum heights.items ≤ most_grains }
         requires counted { grains ≡ sum heights.items }
         ensures { result ≡ record { grid = shape; heights = heights.items } }
     {
@@ -154,7 +154,7 @@ impl Pile {
     pub fn add_grain(&mut self, site: usize) -> Result<(), PileFault>
         requires { site < sites self.old.grid }
         ensures ok { OnOk result (self.new ≡ record self.old { heights = slice_set self.old.heights site (height_of self.old site + 1) }) }
-        ensures limit { IsErr result ↔ (sum self.old.heights ≡ GRAIN_LIMIT) }
+        ensures limit { IsErr result ↔ (sum self.old.heights ≡ most_grains) }
         ensures fault { IfErr result (λ e. e ≡ PileFault.TooManyGrains) }
         ensures unchanged { OnErr result (self.new ≡ self.old) }
     {
@@ -177,7 +177,7 @@ fn are_low(heights: &[u64]) -> bool
 // Adds a grain at a place, where that is in the grid.
 fn give(heights: &mut [u64], place: Option<usize>)
     requires inside { IfSome place (λ j. j < length heights.old) }
-    requires room { sum heights.old + 1 ≤ GRAIN_LIMIT }
+    requires room { sum heights.old + 1 ≤ most_grains }
     ensures each { (j : ℕ) → slice_index heights.new j ≡ slice_index heights.old j + value_at (λ k. one_at k j) place }
     ensures total { sum heights.new ≤ sum heights.old + 1 }
 {
@@ -191,7 +191,7 @@ fn spread(shape: Shape, heights: &mut [u64], site: usize)
     requires one_each { length heights.old ≡ sites shape }
     requires site { site < sites shape }
     requires high { 4 ≤ slice_index heights.old site }
-    requires limit { sum heights.old ≤ GRAIN_LIMIT }
+    requires limit { sum heights.old ≤ most_grains }
     ensures toppled { IsToppled shape (slice_index heights.old) (one_at site) (slice_index heights.new) }
     ensures total { sum heights.new + missing shape site ≡ sum heights.old }
 {

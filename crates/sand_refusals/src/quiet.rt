@@ -72,6 +72,7 @@ fn laws_of_sand(rt: HostRuntime) -> Result<(), Fail> {
     laws::least_action();
     laws::weight_falls();
     laws::laplacian_sum();
+    laws::each_settles();
     laws::abelian();
     assert!(rt; !was_refused(alloc));
     Ok(())

@@ -4,10 +4,9 @@ use Rattle.std.proofs.Math.ListN.{set}
 use Rattle.std.proofs.lemmas.Bool.{cases_eq}
 use Rattle.std.proofs.lemmas.List.{length-append, append-nil, length-set, get_or_default}
 use Rattle.std.proofs.lemmas.List.Elements.{All-push}
-use Rattle.sand_model.specs.declared.pile.TheConstants.{GRAIN_LIMIT}
 use Rattle.sand_model.specs.Grid.{Grid, IsGrid, sites}
 use Rattle.sand_model.specs.Sand.{tally, one_at, IsSettled, grains, topplings, lost, weight, grain_weight}
-use Rattle.sand_model.specs.Piles.{PileView, IsPile}
+use Rattle.sand_model.specs.Piles.{PileView, IsPile, most_grains}
 use Rattle.sand_model.proofs.Totals.{total-add, total_same}
 use Rattle.sand_model.proofs.Tallies.{tally-push}
 use Rattle.sand_model.proofs.Sandpile.{laplacian_sum, weight_after, settled_in_parts, settled_same, settled_stable}
@@ -35,7 +34,7 @@ grains_kept g s r done =
 
 -- ---- the record of a start
 
-paid_here : (s : ℕ → ℕ) (r : SettledView) → IsGrid r.pile.grid → grains r.pile.grid s ≤ GRAIN_LIMIT → IsRecord r.pile.grid s r → IsPaid r
+paid_here : (s : ℕ → ℕ) (r : SettledView) → IsGrid r.pile.grid → grains r.pile.grid s ≤ most_grains → IsRecord r.pile.grid s r → IsPaid r
 paid_here s r sides few done =
     let kept = grains_kept r.pile.grid s r done in
     record {
@@ -52,9 +51,9 @@ paid_here s r sides few done =
           omega arith;
     }
 
-paid_record : (g : Grid) (s : ℕ → ℕ) (r : SettledView) → IsGrid g → grains g s ≤ GRAIN_LIMIT → IsRecord g s r → IsPaid r
+paid_record : (g : Grid) (s : ℕ → ℕ) (r : SettledView) → IsGrid g → grains g s ≤ most_grains → IsRecord g s r → IsPaid r
 paid_record g s r sides few done =
-    let P : Grid → Type 0 = λ h. IsGrid h → grains h s ≤ GRAIN_LIMIT → IsRecord h s r → IsPaid r in
+    let P : Grid → Type 0 = λ h. IsGrid h → grains h s ≤ most_grains → IsRecord h s r → IsPaid r in
     subst P done.grid (paid_here s r) sides few done
 
 pub paid_start : (start : PileView) (r : SettledView) → IsPile start → IsRecord start.grid (λ j. get_or start.heights j 0) r → IsPaid r
@@ -121,7 +120,7 @@ weight_left r q site paid inside taken =
     let grains' = grains_after r q site paid inside taken in
     omega arith
 
-pub paid_after : (r q : SettledView) (site : ℕ) → IsPaid r → site < sites r.pile.grid → sum r.pile.heights + r.lost < GRAIN_LIMIT → TakesGrain r site q → IsPaid q
+pub paid_after : (r q : SettledView) (site : ℕ) → IsPaid r → site < sites r.pile.grid → sum r.pile.heights + r.lost < most_grains → TakesGrain r site q → IsPaid q
 paid_after r q site paid inside room taken =
     let same = taken.grid in
     record {
@@ -191,7 +190,7 @@ drops_add_up start history v w after drops = all_after start [] history v w afte
 -- ---- what a settling adds to an odometer
 
 -- a settling has few topplings and loses few grains
-pub small_settling : (g : Grid) (h u : List ℕ) (t : ℕ → ℕ) → IsGrid g → length h ≡ sites g → sum h ≤ GRAIN_LIMIT → IsSettled g (λ j. get_or h j 0) (λ j. get_or u j 0) t → (topplings g (λ j. get_or u j 0) < 2 ^ 54) × (lost g (λ j. get_or u j 0) < 2 ^ 54)
+pub small_settling : (g : Grid) (h u : List ℕ) (t : ℕ → ℕ) → IsGrid g → length h ≡ sites g → sum h ≤ most_grains → IsSettled g (λ j. get_or h j 0) (λ j. get_or u j 0) t → (topplings g (λ j. get_or u j 0) < 2 ^ 54) × (lost g (λ j. get_or u j 0) < 2 ^ 54)
 small_settling g h u t sides each limit done =
     let e = sum_is_grains g h each in
     let all = laplacian_sum g (λ j. get_or h j 0) (λ j. get_or u j 0) t done.toppled in
@@ -234,14 +233,14 @@ raised items heights h site now same inside is written =
 pub record Pours (r : SettledView) (site : ℕ) (k new : List ℕ) (a : Avalanche) : Type 0 where
   pub paid : IsPaid r
   pub inside : site < sites r.pile.grid
-  pub room : sum r.pile.heights + r.lost < GRAIN_LIMIT
+  pub room : sum r.pile.heights + r.lost < most_grains
   pub heights_each : length k ≡ sites r.pile.grid
   pub odometer_each : length new ≡ sites r.pile.grid
   pub never_falls : (j : ℕ) → get_or r.odometer j 0 ≤ get_or new j 0
   pub settled : IsSettled r.pile.grid (λ j. get_or r.pile.heights j 0 + one_at site j) (λ j. get_or new j 0 - get_or r.odometer j 0) (λ j. get_or k j 0)
   pub avalanche : IsAvalanche r.pile.grid site (λ j. get_or new j 0 - get_or r.odometer j 0) a
 
-pub pours : (r : SettledView) (site : ℕ) (g : Grid) (h k old new : List ℕ) (a : Avalanche) → IsPaid r → site < sites r.pile.grid → sum r.pile.heights + r.lost < GRAIN_LIMIT → g ≡ r.pile.grid → h ≡ set r.pile.heights site (get_or r.pile.heights site 0 + 1) → old ≡ r.odometer → length k ≡ length h → length new ≡ length old → ((j : ℕ) → get_or old j 0 ≤ get_or new j 0) → IsSettled g (λ j. get_or h j 0) (λ j. get_or new j 0 - get_or old j 0) (λ j. get_or k j 0) → IsAvalanche g site (λ j. get_or new j 0 - get_or old j 0) a → Pours r site k new a
+pub pours : (r : SettledView) (site : ℕ) (g : Grid) (h k old new : List ℕ) (a : Avalanche) → IsPaid r → site < sites r.pile.grid → sum r.pile.heights + r.lost < most_grains → g ≡ r.pile.grid → h ≡ set r.pile.heights site (get_or r.pile.heights site 0 + 1) → old ≡ r.odometer → length k ≡ length h → length new ≡ length old → ((j : ℕ) → get_or old j 0 ≤ get_or new j 0) → IsSettled g (λ j. get_or h j 0) (λ j. get_or new j 0 - get_or old j 0) (λ j. get_or k j 0) → IsAvalanche g site (λ j. get_or new j 0 - get_or old j 0) a → Pours r site k new a
 pours r site g h k old new a paid inside room grids list same heights counts rises done set_off =
     let P : Grid → Type 0 = λ q. IsSettled q (λ j. get_or h j 0) (λ j. get_or new j 0 - get_or old j 0) (λ j. get_or k j 0) in
     let Q : List ℕ → Type 0 = λ u. IsSettled r.pile.grid (λ j. get_or h j 0) (λ j. get_or new j 0 - get_or u j 0) (λ j. get_or k j 0) in
@@ -306,7 +305,7 @@ poured_avalanche r site k new u a all counts =
 
 -- ---- the pile of one thread after a drop
 
-pub kept_after : (o : Option SettledView) (w : Option Grid) (number : ℕ) (site : ℕ) (r q : SettledView) (g : Grid) → IsOnePile o w number → o ≡ Some r → site < sites r.pile.grid → sum r.pile.heights + r.lost < GRAIN_LIMIT → TakesGrain r site q → g ≡ r.pile.grid → IsOnePile (Some q) (Some g) (number + 1)
+pub kept_after : (o : Option SettledView) (w : Option Grid) (number : ℕ) (site : ℕ) (r q : SettledView) (g : Grid) → IsOnePile o w number → o ≡ Some r → site < sites r.pile.grid → sum r.pile.heights + r.lost < most_grains → TakesGrain r site q → g ≡ r.pile.grid → IsOnePile (Some q) (Some g) (number + 1)
 kept_after o w number site r q g before there inside room taken same =
     let is = ap settled_in there in
     let paid = rw is at before.paid in
@@ -318,7 +317,7 @@ kept_after o w number site r q g before there inside room taken same =
       room = same ∙ sym taken.grid;
     }
 
-pub drops_from : (o : Option SettledView) (w : Option Grid) (number : ℕ) (site : ℕ) (r q : SettledView) (v : OneView) → IsOnePile o w number → one_view o number ≡ v → o ≡ Some r → site < sites r.pile.grid → sum r.pile.heights + r.lost < GRAIN_LIMIT → TakesGrain r site q → Drops v site (one_view (Some q) (number + 1))
+pub drops_from : (o : Option SettledView) (w : Option Grid) (number : ℕ) (site : ℕ) (r q : SettledView) (v : OneView) → IsOnePile o w number → one_view o number ≡ v → o ≡ Some r → site < sites r.pile.grid → sum r.pile.heights + r.lost < most_grains → TakesGrain r site q → Drops v site (one_view (Some q) (number + 1))
 drops_from o w number site r q v before seen there inside room taken =
     let paid = rw (ap settled_in there) at before.paid in
     let P : OneView → Type 0 = λ u. Drops u site (one_view (Some q) (number + 1)) in

@@ -1,6 +1,5 @@
 -- A pile that is being settled, turn by turn.
 use Rattle.std.proofs.Common.{ℕ, ◌≡◌, ◌+◌, ◌*◌, ◌^◌, ◌<◌, ◌≤◌, arith, List, length, sum, get_or}
-use Rattle.sand_model.specs.declared.pile.TheConstants.{GRAIN_LIMIT}
 use Rattle.sand_model.specs.Grid.{Grid, IsGrid, sites}
 use Rattle.sand_model.specs.Sand.{one_at, IsToppled, topplings, weight}
 use Rattle.sand_model.proofs.Totals.{total_same, total-add, total-zero, total-one_at}
@@ -9,6 +8,7 @@ use Rattle.sand_model.proofs.Heights.{sum_is_grains}
 use Rattle.sand_model.proofs.Bounds.{weight_bound, at_most_total}
 use Rattle.sand_model.proofs.Underway.{underway_step}
 use Rattle.sand_settle.specs.Underway.{Advances}
+use Rattle.sand_model.specs.Piles.{most_grains}
 
 pub topplings_at : (g : Grid) (i k : ℕ) → i < sites g → topplings g (λ j. k * one_at i j) ≡ k
 topplings_at g i k l = total-one_at (sites g) i (λ j. k) l
@@ -62,7 +62,7 @@ sum_falls g u v h k lh lk advances =
     omega arith
 
 -- a whole settling begins with few topplings to come
-pub few_at_first : (g : Grid) (u : ℕ → ℕ) (h : List ℕ) → IsGrid g → length h ≡ sites g → sum h ≤ GRAIN_LIMIT → ((i : ℕ) → u i ≡ 0) → 2 * topplings g u + weight g (λ j. get_or h j 0) < 2 ^ 55
+pub few_at_first : (g : Grid) (u : ℕ → ℕ) (h : List ℕ) → IsGrid g → length h ≡ sites g → sum h ≤ most_grains → ((i : ℕ) → u i ≡ 0) → 2 * topplings g u + weight g (λ j. get_or h j 0) < 2 ^ 55
 few_at_first g u h sides each limit none =
     let heavy = weight_bound g (λ j. get_or h j 0) sides in
     let grains_are = sum_is_grains g h each in

@@ -1,11 +1,10 @@
 -- What contracts see of the pile of one thread, and what makes it the settled record of its start and its drops.
 -- Source: chip-firing; settling in two parts is settling at once, so drops may settle one after another (Dhar 1990).
 use Rattle.std.specs.Prelude.{ℕ, Option, Some, None, IsSome, IfSome, ◌≡◌, ◌+◌, ◌-◌, ◌*◌, ◌<◌, ◌≤◌, List, [], ◌∷◌, All, length, sum}
-use Rattle.sand_model.specs.declared.pile.TheConstants.{GRAIN_LIMIT}
 use Rattle.sand_model.specs.declared.shape.Edge.TheVariants.{Open}
 use Rattle.sand_model.specs.Grid.{Grid, IsGrid, sites}
 use Rattle.sand_model.specs.Sand.{IsStable, IsSettled, one_at, tally, topplings, lost, weight}
-use Rattle.sand_model.specs.Piles.{PileView, IsPile, height_of}
+use Rattle.sand_model.specs.Piles.{PileView, IsPile, height_of, most_grains}
 use Rattle.sand_settle.specs.Settling.{SettledView, IsRecord, odometer_of}
 
 -- the settled record since the start, how many drops there were, and the grains of the start and the drops
@@ -22,7 +21,7 @@ grid_of_one v = v.settled.pile.grid
 pub record IsAfter (start : PileView) (history : List ℕ) (v : OneView) : Type 0 where
   pub start_pile : IsPile start
   pub all_sites : All (λ j. j < sites start.grid) history
-  pub limit : sum start.heights + length history ≤ GRAIN_LIMIT
+  pub limit : sum start.heights + length history ≤ most_grains
   pub settled : IsRecord start.grid (λ j. height_of start j + tally history j) v.settled
   pub number : v.number ≡ length history
   pub grains : v.grains ≡ sum start.heights + length history
@@ -44,7 +43,7 @@ pub record TakesGrain (r : SettledView) (site : ℕ) (q : SettledView) : Type 0 
 -- a drop at a site leads from v to w
 pub record Drops (v : OneView) (site : ℕ) (w : OneView) : Type 0 where
   pub inside : site < sites (grid_of_one v)
-  pub room : v.grains < GRAIN_LIMIT
+  pub room : v.grains < most_grains
   pub settled : TakesGrain v.settled site w.settled
   pub number : w.number ≡ v.number + 1
   pub grains : w.grains ≡ v.grains + 1
@@ -60,7 +59,7 @@ pub record IsPaid (r : SettledView) : Type 0 where
   pub heights_each : length r.pile.heights ≡ sites r.pile.grid
   pub odometer_each : length r.odometer ≡ sites r.pile.grid
   pub stable : IsStable r.pile.grid (height_of r.pile)
-  pub limit : sum r.pile.heights + r.lost ≤ GRAIN_LIMIT
+  pub limit : sum r.pile.heights + r.lost ≤ most_grains
   pub all_topplings : r.topplings ≡ topplings r.pile.grid (odometer_of r)
   pub paid : 2 * r.topplings + weight r.pile.grid (height_of r.pile) ≤ 16512 * (sum r.pile.heights + r.lost)
 

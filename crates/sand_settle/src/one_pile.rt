@@ -8,7 +8,7 @@
 
 ghost use Rattle.std.specs.Prelude.{◌≡◌, ℕ, ◌+◌, ◌^◌, ◌<◌, ◌≤◌, ◌↔◌, List, [], ◌∷◌, ◌++◌, length, sum, IfOk, OnOk, OnErr, IsTrue, IsOkUnless, alloc_error};
 ghost use Rattle.sand_model.specs.Grid.{sites};
-ghost use Rattle.sand_model.specs.Piles.{PileView, IsPile, height_of};
+ghost use Rattle.sand_model.specs.Piles.{PileView, IsPile, height_of, most_grains};
 ghost use Rattle.sand_settle.specs.Settling.{odometer_of};
 ghost use Rattle.sand_settle.specs.Avalanches.{IsAvalanche};
 ghost use Rattle.sand_settle.specs.Drops.{grid_of_one, topplings_between, IsAfter, Drops, TakesGrain, IsPaid};
@@ -47,7 +47,7 @@ fn drop_grain(workspace: &mut Workspace, settled: Settled, site: usize) -> (Sett
     requires site { site < sites settled.pile.grid }
     requires room { workspace.old ≡ settled.pile.grid }
     requires paid { IsPaid settled }
-    requires limit { sum settled.pile.heights + settled.lost < GRAIN_LIMIT }
+    requires limit { sum settled.pile.heights + settled.lost < most_grains }
     ensures room { workspace.new ≡ workspace.old }
     ensures taken { TakesGrain settled site result.0 }
     ensures avalanche { IsAvalanche settled.pile.grid site (topplings_between settled result.0) result.1 }
@@ -99,7 +99,7 @@ impl OnePile {
         ensures drops { OnOk result (Drops self.old site self.new) }
         ensures after { OnOk result ((start : PileView) (history : List ℕ) → IsAfter start history self.old → IsAfter start (history ++ site ∷ []) self.new) }
 
-        ensures full { (result ≡ Err OneFault.Full) ↔ (self.old.grains ≡ GRAIN_LIMIT) }
+        ensures full { (result ≡ Err OneFault.Full) ↔ (self.old.grains ≡ most_grains) }
         ensures err { OnErr result (self.new ≡ self.old) }
     {
         if self.is_full() {
@@ -117,8 +117,8 @@ impl OnePile {
 
     // Whether one grain more would exceed the limit.
     fn is_full(&self) -> bool
-        ensures full { IsTrue result ↔ (self.now.grains ≡ GRAIN_LIMIT) }
-        ensures limit { self.now.grains ≤ GRAIN_LIMIT }
+        ensures full { IsTrue result ↔ (self.now.grains ≡ most_grains) }
+        ensures limit { self.now.grains ≤ most_grains }
     {
         let settled = self.settled();
         settled.pile().grains() + settled.lost() == GRAIN_LIMIT

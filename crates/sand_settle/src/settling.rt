@@ -14,7 +14,7 @@ ghost use Rattle.std.specs.Prelude.{◌≡◌, ℕ, ◌+◌, ◌*◌, ◌/◌, �
 ghost use Rattle.sand_model.specs.Grid.{sites};
 ghost use Rattle.sand_model.specs.Sand.{IsToppled, IsSettled, one_at, value_at, topplings, weight};
 ghost use Rattle.sand_model.specs.Lists.{Lists};
-ghost use Rattle.sand_model.specs.Piles.{height_of};
+ghost use Rattle.sand_model.specs.Piles.{height_of, most_grains};
 ghost use Rattle.sand_settle.specs.Settling.{IsRecord};
 ghost use Rattle.sand_settle.specs.Lists.{may_topple, has_toppled};
 ghost use Rattle.sand_settle.specs.Underway.{Advances};
@@ -23,7 +23,7 @@ use crate::choice::{Rest, settle_by_any};
 use crate::faults::SettleFault;
 use crate::settled::Settled;
 use crate::site_list::SiteList;
-use sand_model::{GRAIN_LIMIT, Lattice, Pile, TOPPLING_HEIGHT};
+use sand_model::{Lattice, Pile, TOPPLING_HEIGHT};
 use std::alloc::Global;
 use std::mem;
 
@@ -32,7 +32,7 @@ use std::mem;
 #[inline(always)]
 fn deliver(heights: &mut [u64], next: &mut SiteList, place: Option<usize>, times: u64)
     requires inside { IfSome place (λ j. j < length heights.old) }
-    requires limit { sum heights.old + times ≤ GRAIN_LIMIT }
+    requires limit { sum heights.old + times ≤ most_grains }
     requires small { length heights.old ≤ 65536 }
     requires room { length next.old.sites < next.old.room }
     ensures each { (j : ℕ) → slice_index heights.new j ≡ slice_index heights.old j + times * value_at (λ k. one_at k j) place }
@@ -61,7 +61,7 @@ fn relax(
     next: &mut SiteList,
 ) -> u64
     requires one_each { length heights.old ≡ sites lattice.now }
-    requires limit { sum heights.old ≤ GRAIN_LIMIT }
+    requires limit { sum heights.old ≤ most_grains }
     requires turn { turn < length wave.now.sites }
     requires waiting { Lists (sites lattice.now) (may_topple (slice_index heights.old)) (drop turn wave.now.sites ++ next.old.sites) }
     requires room { sites lattice.now < next.old.room }
@@ -109,7 +109,7 @@ fn topple_wave(
     next: &mut SiteList,
 )
     requires one_each { (length heights.old ≡ sites lattice.now) × (length counts.old ≡ sites lattice.now) }
-    requires limit { sum heights.old ≤ GRAIN_LIMIT }
+    requires limit { sum heights.old ≤ most_grains }
     requires few { 2 * topplings lattice.now (slice_index counts.old) + weight lattice.now (slice_index heights.old) < 2 ^ 55 }
     requires waiting { Lists (sites lattice.now) (may_topple (slice_index heights.old)) (wave.now.sites ++ next.old.sites) }
     requires noted { Lists (sites lattice.now) (has_toppled (slice_index counts.old)) toppled.old.sites }
@@ -140,7 +140,7 @@ pub(crate) fn drain_within(
     turns: u64,
 ) -> bool
     requires one_each { (length heights.old ≡ sites lattice.now) × (length counts.old ≡ sites lattice.now) }
-    requires limit { sum heights.old ≤ GRAIN_LIMIT }
+    requires limit { sum heights.old ≤ most_grains }
     requires uncounted { (j : ℕ) → slice_index counts.old j ≡ 0 }
     requires unnoted { toppled.old.sites ≡ [] }
     requires waiting { Lists (sites lattice.now) (may_topple (slice_index heights.old)) wave.old.sites }

@@ -24,10 +24,11 @@ ghost use Rattle.sand_model.specs.Sand.{IsSettled, one_at, tally, value_at, flow
 ghost use Rattle.sand_model.specs.Lists.{Lists};
 ghost use Rattle.sand_settle.specs.Lists.{may_topple, has_toppled};
 ghost use Rattle.sand_settle.specs.Underway.{Advances};
+ghost use Rattle.sand_model.specs.Piles.{most_grains};
 
 use crate::settling::count;
 use crate::site_list::SiteList;
-use sand_model::{GRAIN_LIMIT, Lattice, TOPPLING_HEIGHT};
+use sand_model::{Lattice, TOPPLING_HEIGHT};
 
 // Gives a grain to a place if it is in the grid, and lists its site if that becomes 4.
 #[inline(always)]
@@ -108,7 +109,7 @@ fn spread(lattice: &Lattice, heights: &mut [u64], list: &mut SiteList, site: usi
 fn topple_once(lattice: &Lattice, heights: &mut [u64], list: &mut SiteList, site: usize)
     requires site { site < sites lattice.now }
     requires one_each { length heights.old ≡ sites lattice.now }
-    requires limit { sum heights.old ≤ GRAIN_LIMIT }
+    requires limit { sum heights.old ≤ most_grains }
     requires high { 4 ≤ slice_index heights.old site }
     requires others_low { (j : ℕ) → j < sites lattice.now → j ≢ site → slice_index heights.old j ≤ 3 }
     requires room { sites lattice.now + 4 ≤ list.old.room }
@@ -162,7 +163,7 @@ pub(crate) fn drain_from(
 )
     requires site { site < sites lattice.now }
     requires one_each { (length heights.old ≡ sites lattice.now) × (length counts.old ≡ sites lattice.now) }
-    requires limit { sum heights.old ≤ GRAIN_LIMIT }
+    requires limit { sum heights.old ≤ most_grains }
     requires others_low { (j : ℕ) → j < sites lattice.now → j ≢ site → slice_index heights.old j ≤ 3 }
     requires uncounted { (j : ℕ) → slice_index counts.old j ≡ 0 }
     requires unnoted { toppled.old.sites ≡ [] }

@@ -7,11 +7,12 @@ ghost use Rattle.std.specs.Prelude.{◌≡◌, ◌≢◌, ℕ, ◌-◌, ◌^◌,
 ghost use Rattle.sand_model.specs.Grid.{sites};
 ghost use Rattle.sand_model.specs.Sand.{IsSettled, topplings};
 ghost use Rattle.sand_settle.specs.Avalanches.{IsAvalanche};
+ghost use Rattle.sand_model.specs.Piles.{most_grains};
 
 use crate::avalanche::{Avalanche, calm, collect};
 use crate::site_list::SiteList;
 use crate::waves::drain_from;
-use sand_model::{GRAIN_LIMIT, Lattice, Shape, TOPPLING_HEIGHT};
+use sand_model::{Lattice, Shape, TOPPLING_HEIGHT};
 use std::alloc::{AllocError, Global};
 use std::marker::Model;
 
@@ -63,7 +64,7 @@ impl Workspace {
     ) -> Avalanche
         requires site { site < sites self.old }
         requires one_each { (length heights.old ≡ sites self.old) × (length odometer.old ≡ sites self.old) }
-        requires limit { sum heights.old ≤ GRAIN_LIMIT }
+        requires limit { sum heights.old ≤ most_grains }
         requires others_low { (j : ℕ) → j < sites self.old → j ≢ site → slice_index heights.old j ≤ 3 }
         requires few { topplings self.old (slice_index odometer.old) < 2 ^ 54 }
         ensures room { self.new ≡ self.old }
@@ -81,7 +82,7 @@ impl Workspace {
     fn topple_from(&mut self, heights: &mut [u64], odometer: &mut [u64], site: usize) -> Avalanche
         requires site { site < sites self.old }
         requires one_each { (length heights.old ≡ sites self.old) × (length odometer.old ≡ sites self.old) }
-        requires limit { sum heights.old ≤ GRAIN_LIMIT }
+        requires limit { sum heights.old ≤ most_grains }
         requires high { 4 ≤ slice_index heights.old site }
         requires others_low { (j : ℕ) → j < sites self.old → j ≢ site → slice_index heights.old j ≤ 3 }
         requires few { topplings self.old (slice_index odometer.old) < 2 ^ 54 }

@@ -3,10 +3,9 @@ use Rattle.std.proofs.Common.{◌≡◌, ℕ, zero, suc, ◌+◌, ◌-◌, ◌*�
 use Rattle.std.specs.Prelude.{slice_index}
 use Rattle.std.proofs.lemmas.Bool.{cases_eq}
 use Rattle.atomic_table.specs.declared.shared.Seat.{Seat}
-use Rattle.sand_model.specs.declared.pile.TheConstants.{GRAIN_LIMIT}
 use Rattle.sand_model.specs.Grid.{Grid, sites}
 use Rattle.sand_model.specs.Sand.{IsSettled, IsUnderway, IsToppled, flow, total, grains, tally}
-use Rattle.sand_model.specs.Piles.{PileView, height_of}
+use Rattle.sand_model.specs.Piles.{PileView, height_of, most_grains}
 use Rattle.sand_model.proofs.Totals.{total_same, total-add}
 use Rattle.sand_model.proofs.Tallies.{total-tally}
 use Rattle.sand_model.proofs.Heights.{sum_is_grains}
@@ -47,7 +46,7 @@ module _ (t : Terms) (a : ℕ) (v : View) (s : Stands t a v) (all : HasAll t v) 
   pub its_all : (i : ℕ) → tally s.pile.drawn i ≡ dropped v.receipts i
   its_all i = its_drops t s.pile s.lawful a s.there (has_all t a v s all) i ∙ ap (λ (u : View). dropped u.receipts i) s.pass
 
-  pub laid_few : grains (grid_of t) (laid t v) ≤ GRAIN_LIMIT
+  pub laid_few : grains (grid_of t) (laid t v) ≤ most_grains
   laid_few =
       let g = grid_of t in
       let p = s.pile in
@@ -58,7 +57,7 @@ module _ (t : Terms) (a : ℕ) (v : View) (s : Stands t a v) (all : HasAll t v) 
       let quota = s.lawful.quota in
       let limit = s.terms.limit in omega arith
 
-  pub left_few : (u : ℕ → ℕ) (heights : List ℕ) → length heights ≡ sites (grid_of t) → IsToppled (grid_of t) (laid t v) u (slice_index heights) → sum heights ≤ GRAIN_LIMIT
+  pub left_few : (u : ℕ → ℕ) (heights : List ℕ) → length heights ≡ sites (grid_of t) → IsToppled (grid_of t) (laid t v) u (slice_index heights) → sum heights ≤ most_grains
   left_few u heights long toppled =
       let few = laid_few in
       let out = laplacian_sum (grid_of t) (laid t v) u (slice_index heights) toppled in

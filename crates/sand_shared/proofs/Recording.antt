@@ -5,10 +5,9 @@ use Rattle.std.proofs.Math.ListN.{get_or-eq_default}
 use Rattle.std.proofs.lemmas.Bool.{cases_lt}
 use Rattle.std.proofs.lemmas.List.Sums.{get_or-le-sum_by}
 use Rattle.std.proofs.lemmas.List.Elements.{All-append}
-use Rattle.sand_model.specs.declared.pile.TheConstants.{GRAIN_LIMIT}
 use Rattle.sand_model.specs.Grid.{Grid, sites, missing}
 use Rattle.sand_model.specs.Sand.{IsSettled, grains, lost, tally, topplings}
-use Rattle.sand_model.specs.Piles.{PileView, IsPile, height_of}
+use Rattle.sand_model.specs.Piles.{PileView, IsPile, height_of, most_grains}
 use Rattle.sand_model.proofs.Totals.{total-add, total_same}
 use Rattle.sand_model.proofs.Tallies.{total-tally, tally-append}
 use Rattle.sand_model.proofs.Heights.{sum_is_grains}
@@ -21,7 +20,7 @@ use Rattle.sand_shared.specs.Record.{RecordView, IsOneThreads}
 pub record LeadsTo (start : PileView) (history heights odometer : List ℕ) : Type 0 where
   pub pile : IsPile start
   pub all_sites : All (λ i. i < sites start.grid) history
-  pub limit : sum start.heights + length history ≤ GRAIN_LIMIT
+  pub limit : sum start.heights + length history ≤ most_grains
   pub heights_each : length heights ≡ sites start.grid
   pub odometer_each : length odometer ≡ sites start.grid
   pub settled : IsSettled start.grid (λ i. height_of start i + tally history i) (slice_index odometer) (slice_index heights)
@@ -97,7 +96,7 @@ small_topplings r one =
     let all = one.one.settled.all_topplings in
     let sums = sum_is_grains r.start.grid r.settled.odometer one.one.settled.odometer_each in omega arith
 
-pub small_lost : (r : RecordView) → IsOneThreads r → r.settled.lost ≤ GRAIN_LIMIT
+pub small_lost : (r : RecordView) → IsOneThreads r → r.settled.lost ≤ most_grains
 small_lost r one =
     let left = grains_left r.start r.history r.settled.pile.heights r.settled.odometer (leads_of r one) in
     let limit = one.one.limit in
@@ -107,7 +106,7 @@ times_plus : (a b c : ℕ) → a * (b + c) ≡ a * b + a * c
 times_plus a b c = grind arith
 
 -- a record that goes on from where another ended: settling in two parts is settling at once, and the odometers add
-module _ (r q : RecordView) (one : IsOneThreads r) (next : IsOneThreads q) (joint : q.start ≡ r.settled.pile) (limit : sum r.start.heights + (length r.history + length q.history) ≤ GRAIN_LIMIT) (sums : List ℕ) (long : length sums ≡ length r.settled.odometer) (each : (i : ℕ) → i < length r.settled.odometer → slice_index sums i ≡ odometer_of r.settled i + odometer_of q.settled i) where
+module _ (r q : RecordView) (one : IsOneThreads r) (next : IsOneThreads q) (joint : q.start ≡ r.settled.pile) (limit : sum r.start.heights + (length r.history + length q.history) ≤ most_grains) (sums : List ℕ) (long : length sums ≡ length r.settled.odometer) (each : (i : ℕ) → i < length r.settled.odometer → slice_index sums i ≡ odometer_of r.settled i + odometer_of q.settled i) where
   pub same_grid : q.start.grid ≡ r.start.grid
   same_grid = ap (λ (p : PileView). p.grid) joint ∙ one.one.settled.grid
 

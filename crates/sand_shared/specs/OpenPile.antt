@@ -1,11 +1,10 @@
 -- The open pile: one pile of sand on which passes drop grains and topple sites at once, as plain data, and when it is lawful.
 -- Source: this project's own. Balance and what stabilises are those of Dhar 1990 and of chip-firing, in `sand_model`.
 use Rattle.std.specs.Prelude.{ℕ, Bool, true, ◌≡◌, ◌+◌, ◌-◌, ◌<◌, ◌≤◌, ◌==◌, ◌&&◌, nat_lt, nat_le, if◌then◌else◌, Some, List, [], All, length, sum, sum_by, count_by, slice_get, slice_index, slice_index_or}
-use Rattle.sand_model.specs.declared.pile.TheConstants.{GRAIN_LIMIT}
 use Rattle.sand_model.specs.Grid.{Grid, sites}
 use Rattle.sand_model.specs.Sand.{tally, flow, IsToppled, Stabilises}
 use Rattle.sand_model.specs.Lists.{one_if}
-use Rattle.sand_model.specs.Piles.{IsPile, height_of}
+use Rattle.sand_model.specs.Piles.{IsPile, height_of, most_grains}
 use Rattle.sand_shared.specs.declared.view.Receipt.{Receipt}
 use Rattle.sand_shared.specs.declared.view.Grains.{Grains}
 use Rattle.sand_shared.specs.declared.view.View.{View}
@@ -23,7 +22,7 @@ grid_of t = t.start.grid
 -- a pile, with a quota that keeps its grains within the limit
 pub record AreTerms (t : Terms) : Type 0 where
   pub pile : IsPile t.start
-  pub limit : sum t.start.heights + t.quota ≤ GRAIN_LIMIT
+  pub limit : sum t.start.heights + t.quota ≤ most_grains
 
 -- What a pass has
 

@@ -3,10 +3,10 @@
 //! To settle in two parts is to settle at once, so the history of both has the next one's pile, and the odometers add.
 
 ghost use Rattle.std.specs.Prelude.{◌≡◌, ℕ, ◌+◌, ◌<◌, ◌≤◌, ◌++◌, IfOk, OnOk, OnErr, IsOkUnless, alloc_error, length, sum};
-ghost use Rattle.sand_model.specs.declared.pile.TheConstants.{GRAIN_LIMIT};
 ghost use Rattle.sand_model.specs.Grid.{sites};
 ghost use Rattle.sand_settle.specs.Settling.{odometer_of};
 ghost use Rattle.sand_shared.specs.Record.{IsOneThreads};
+ghost use Rattle.sand_model.specs.Piles.{most_grains};
 
 use crate::faults::SharedFault;
 use crate::record::{Record, copy_of};
@@ -19,7 +19,7 @@ impl Record {
     /// this record is then unchanged.
     pub fn append(&mut self, alloc: Global, next: &Record) -> Result<(), SharedFault>
         requires start { next.now.start ≡ self.old.settled.pile }
-        requires limit { sum self.old.start.heights + (length self.old.history + length next.now.history) ≤ GRAIN_LIMIT }
+        requires limit { sum self.old.start.heights + (length self.old.history + length next.now.history) ≤ most_grains }
         ensures one_threads { OnOk result (IsOneThreads self.new) }
         ensures start { OnOk result (self.new.start ≡ self.old.start) }
         ensures history { OnOk result (self.new.history ≡ self.old.history ++ next.now.history) }
@@ -42,7 +42,7 @@ impl Record {
     /// The record of both histories, one after the other, if the next one starts from this one's pile.
     pub fn followed_by(&self, alloc: Global, next: &Record) -> Result<Record, SharedFault>
         requires start { next.now.start ≡ self.now.settled.pile }
-        requires limit { sum self.now.start.heights + (length self.now.history + length next.now.history) ≤ GRAIN_LIMIT }
+        requires limit { sum self.now.start.heights + (length self.now.history + length next.now.history) ≤ most_grains }
         ensures one_threads { IfOk result IsOneThreads }
         ensures start { IfOk result (λ r. r.start ≡ self.now.start) }
         ensures history { IfOk result (λ r. r.history ≡ self.now.history ++ next.now.history) }

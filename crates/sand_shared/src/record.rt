@@ -1,9 +1,8 @@
 //! The record of a closed pile: what one thread would have got.
 
 ghost use Rattle.std.specs.Prelude.{◌≡◌, ◌+◌, ◌^◌, ◌<◌, ◌≤◌, All, IfOk, IsOkUnless, alloc_error, length, sum, slice_index};
-ghost use Rattle.sand_model.specs.declared.pile.TheConstants.{GRAIN_LIMIT};
 ghost use Rattle.sand_model.specs.Grid.{sites};
-ghost use Rattle.sand_model.specs.Piles.{height_of};
+ghost use Rattle.sand_model.specs.Piles.{height_of, most_grains};
 ghost use Rattle.sand_model.specs.Sand.{IsSettled, tally, weight};
 ghost use Rattle.sand_settle.specs.Settling.{odometer_of};
 ghost use Rattle.sand_shared.specs.Record.{IsOneThreads};
@@ -62,7 +61,7 @@ impl Record {
         odometer: Vec<u64>,
     ) -> Record
         requires all_sites { All (λ i. i < sites start.grid) history.items }
-        requires limit { sum start.heights + length history.items ≤ GRAIN_LIMIT }
+        requires limit { sum start.heights + length history.items ≤ most_grains }
         requires one_each { (length heights.items ≡ sites start.grid) × (length odometer.items ≡ sites start.grid) }
         requires settled { IsSettled start.grid (λ i. height_of start i + tally history.items i) (slice_index odometer.items) (slice_index heights.items) }
         ensures start { result.start ≡ start }
@@ -174,7 +173,7 @@ impl Record {
 
     /// A copy with room for so many drops more, so that `append` allocates nothing for them.
     pub fn copy_with_room(&self, alloc: Global, drops: usize) -> Result<Record, SharedFault>
-        requires limit { sum self.now.start.heights + (length self.now.history + drops) ≤ GRAIN_LIMIT }
+        requires limit { sum self.now.start.heights + (length self.now.history + drops) ≤ most_grains }
         ensures made { IfOk result (λ r. r ≡ self.now) }
         ensures memory { IsOkUnless result (SharedFault.Memory alloc_error) }
     {

@@ -4,10 +4,9 @@
 //! pile that is left (`sand_model::laws::settles_after`). All memory is taken before the shared words are closed.
 
 ghost use Rattle.std.specs.Prelude.{◌≡◌, ℕ, ◌+◌, ◌^◌, ◌<◌, ◌≤◌, ◌↔◌, [], length, sum, slice_index, vec_capacity, IfOk, IfErr, OnOk};
-ghost use Rattle.sand_model.specs.declared.pile.TheConstants.{GRAIN_LIMIT};
 ghost use Rattle.sand_model.specs.Grid.{sites};
 ghost use Rattle.sand_model.specs.Sand.{IsUnderway};
-ghost use Rattle.sand_model.specs.Piles.{height_of};
+ghost use Rattle.sand_model.specs.Piles.{height_of, most_grains};
 ghost use Rattle.sand_settle.specs.Settling.{odometer_of};
 ghost use Rattle.sand_shared.specs.OpenPile.{grid_of, toppled_by};
 ghost use Rattle.sand_shared.specs.Events.{looked};
@@ -39,7 +38,7 @@ impl Words {
         ensures seat { StaysSeated seat.old seat.new }
         ensures view { seat.new.me.0 ≡ looked seat.old.me.0 seat.new.me.0.spot seat.new.me.0.least }
         ensures long { length heights.new.items ≡ sites (grid_of self.now.terms) }
-        ensures limit { sum heights.new.items ≤ GRAIN_LIMIT }
+        ensures limit { sum heights.new.items ≤ most_grains }
         ensures underway { IsUnderway (grid_of self.now.terms) (laid self.now.terms seat.old.me.0) (toppled_by seat.old.me.0) (slice_index heights.new.items) }
     {
         let sites = self.terms().start.shape().sites();

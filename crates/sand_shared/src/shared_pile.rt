@@ -6,6 +6,7 @@ ghost use Rattle.sand_shared.specs.OpenPile.{grid_of};
 ghost use Rattle.sand_shared.specs.Events.{receipt, zeros};
 ghost use Rattle.sand_shared.specs.Passes.{IsPassOf, IsWhole};
 ghost use Rattle.sand_shared.specs.Rows.{no_rows};
+ghost use Rattle.sand_model.specs.Piles.{most_grains};
 
 use crate::faults::{DropFault, SharedFault};
 use crate::pass::Pass;
@@ -39,7 +40,7 @@ impl SharedPile {
     /// all rows, has seen no drop and has no receipts. Refuses a start that has, with the quota, more grains than the
     /// limit (TooManyGrains), then Memory.
     pub fn new(alloc: Global, start: &Pile, quota: u64) -> Result<(SharedPile, Pass), SharedFault>
-        ensures limit { (result ≡ Err SharedFault.TooManyGrains) ↔ (GRAIN_LIMIT < sum start.now.heights + quota) }
+        ensures limit { (result ≡ Err SharedFault.TooManyGrains) ↔ (most_grains < sum start.now.heights + quota) }
         ensures terms { IfOk result (λ r. r.0.terms ≡ record { start = start.now; quota = quota }) }
         ensures of_pile { IfOk result (λ r. IsPassOf r.0 r.1) }
         ensures pass { IfOk result (λ r. r.1 ≡ record { table = r.0.table; grid = start.now.grid; left = quota; seen = 0; receipts = []; rows = record { first = 0; end = start.now.grid.height }; counts = zeros (sites start.now.grid) }) }

@@ -12,11 +12,10 @@ use Rattle.std.proofs.lemmas.List.Sums.{position_or_len_is, get_or-le-sum_by}
 use Rattle.std.proofs.lemmas.Fmt.{decimal_is_IsNumeral, decimal_nonempty}
 use Rattle.std.proofs.lemmas.Bool.Decides.{nat_tests}
 use Rattle.std.proofs.lemmas.Grind.{pieces}
-use Rattle.sand_model.specs.declared.pile.TheConstants.{GRAIN_LIMIT}
 use Rattle.sand_model.specs.declared.shape.Edge.{Edge}
 use Rattle.sand_model.specs.declared.shape.Edge.TheVariants.{Open, Cylinder}
 use Rattle.sand_model.specs.Grid.{Grid, IsGrid, grid_of, joins, is_side, sites}
-use Rattle.sand_model.specs.Piles.{PileView, IsPile}
+use Rattle.sand_model.specs.Piles.{PileView, IsPile, most_grains}
 use Rattle.sand_text.specs.declared.words.Word.{Word}
 use Rattle.sand_text.specs.declared.words.Word.TheVariants.{Number, Letter}
 use Rattle.sand_text.specs.Bytes.{is_digit, is_other, is_space, digits_len}
@@ -40,18 +39,18 @@ no_space : (n : ℕ) → n < 2 ^ 64 → All (λ b. is_space b ≡ false) (decima
 no_space n h = λ k d lt. digit_no_space (get_or (decimal n) k d) (digit_in n h k d lt)
 
 -- the digits of a number are a word that is the number
-number_word : (at n : ℕ) → n ≤ GRAIN_LIMIT → word_of at (decimal n) ≡ Number at n
+number_word : (at n : ℕ) → n ≤ most_grains → word_of at (decimal n) ≡ Number at n
 unfolding word_of
 number_word at n le =
     let fits : n < 2 ^ 64 = omega arith in
     let all : digits_len (decimal n) ≡ length (decimal n) = position_or_len_is is_other (decimal n) (length (decimal n)) 0 (omega arith) (λ k lt. ap not (digit_in n fits k 0 lt)) (λ lt. absurd (omega arith)) in
     let test : eqb (digits_len (decimal n)) (length (decimal n)) ≡ true = eq-eqb _ _ all in
     let value : digits_value 10 (decimal n) ≡ n = (decimal_is_IsNumeral n fits).1 in
-    let small : min n (GRAIN_LIMIT + 1) ≡ n = omega arith in
+    let small : min n (most_grains + 1) ≡ n = omega arith in
     rw (test, value, small) refl
 
 -- a number and white space behind it
-number_first : (at n y : ℕ) (rest : List ℕ) → n ≤ GRAIN_LIMIT → is_space y ≡ true → words_at at (decimal n ++ y ∷ rest) ≡ Number at n ∷ words_at (at + length (decimal n) + 1) rest
+number_first : (at n y : ℕ) (rest : List ℕ) → n ≤ most_grains → is_space y ≡ true → words_at at (decimal n ++ y ∷ rest) ≡ Number at n ∷ words_at (at + length (decimal n) + 1) rest
 number_first at n y rest le e =
     let fits : n < 2 ^ 64 = omega arith in
     let cut = slice_split_at is_space (decimal n) y rest (no_space n fits) e in
@@ -77,7 +76,7 @@ number_words-append at (x ∷ xs) ys = ap (λ ws. Number at x ∷ ws) (number_wo
 separators : (n : ℕ) → is_space (if n == 0 then 10 else 32) ≡ true
 separators n = elim (n == 0) as (λ v. is_space (cond v 10 32) ≡ true) [ true ↦ refl | false ↦ refl ]
 
-row_again : (at : ℕ) (ns rest : List ℕ) → All (λ n. n ≤ GRAIN_LIMIT) ns → words_at at (row_text ns ++ rest) ≡ number_words at ns ++ words_at (behind at ns) rest
+row_again : (at : ℕ) (ns rest : List ℕ) → All (λ n. n ≤ most_grains) ns → words_at at (row_text ns ++ rest) ≡ number_words at ns ++ words_at (behind at ns) rest
 unfolding row_text
 row_again at [] rest h = refl
 row_again at (n ∷ ns) rest h =
@@ -88,13 +87,13 @@ empty : (ns : List ℕ) → length ns ≡ 0 → ns ≡ []
 empty [] e = refl
 empty (n ∷ ns) e = absurd (omega arith)
 
-rows_again : (at n w : ℕ) (ns : List ℕ) → All (λ n. n ≤ GRAIN_LIMIT) ns → length ns ≡ n * w → words_at at (rows_text n w ns) ≡ number_words at ns
+rows_again : (at n w : ℕ) (ns : List ℕ) → All (λ n. n ≤ most_grains) ns → length ns ≡ n * w → words_at at (rows_text n w ns) ≡ number_words at ns
 unfolding rows_text words_from
 rows_again at zero w ns h e = ap (number_words at) (sym (empty ns (e ∙ zero-mul w)))
 rows_again at (suc n) w ns h e =
     let m : suc n * w ≡ n * w + w = suc-mul n w in
-    let front : All (λ n. n ≤ GRAIN_LIMIT) (take w ns) = search (pieces, arith) in
-    let back : All (λ n. n ≤ GRAIN_LIMIT) (drop w ns) = search (pieces, arith) in
+    let front : All (λ n. n ≤ most_grains) (take w ns) = search (pieces, arith) in
+    let back : All (λ n. n ≤ most_grains) (drop w ns) = search (pieces, arith) in
     let first = row_again at (take w ns) (rows_text n w (drop w ns)) front in
     let others = rows_again (behind at (take w ns)) n w (drop w ns) back (omega (arith, length-drop w ns)) in
     first ∙ (ap (λ ws. number_words at (take w ns) ++ ws) others ∙ (sym (number_words-append at (take w ns) (drop w ns)) ∙ ap (number_words at) (take-append-drop w ns)))
@@ -106,10 +105,10 @@ unfolding first_strange
 none_strange spared n at [] = refl
 none_strange spared n at (x ∷ xs) = none_strange spared (n + 1) (at + length (decimal x) + 1) xs
 
-not_large : (n : ℕ) → n ≤ GRAIN_LIMIT → ltb GRAIN_LIMIT n ≡ false
+not_large : (n : ℕ) → n ≤ most_grains → ltb most_grains n ≡ false
 not_large n le = grind (arith, nat_tests)
 
-none_large : (at : ℕ) (ns : List ℕ) → All (λ n. n ≤ GRAIN_LIMIT) ns → first_large (number_words at ns) ≡ None
+none_large : (at : ℕ) (ns : List ℕ) → All (λ n. n ≤ most_grains) ns → first_large (number_words at ns) ≡ None
 unfolding first_large
 none_large at [] h = refl
 none_large at (x ∷ xs) h = rw (not_large x (h 0 0 (omega arith))) (none_large (at + length (decimal x) + 1) xs (λ k d lt. h (suc k) d (omega arith)))
@@ -136,10 +135,10 @@ pile_words p =
     let second : ℕ = 0 + length (decimal p.grid.width) + 1 in
     Number 0 p.grid.width ∷ Number second p.grid.height ∷ tail_words p.grid.edge (second + length (decimal p.grid.height) + 1) p.heights
 
-heights_small : (p : PileView) → IsPile p → All (λ n. n ≤ GRAIN_LIMIT) p.heights
+heights_small : (p : PileView) → IsPile p → All (λ n. n ≤ most_grains) p.heights
 heights_small p h = λ k d lt. let b = get_or-le-sum_by (λ x. x) p.heights k d lt in omega (arith, b, h.limit)
 
-tail_again : (e : Edge) (at h w : ℕ) (ns : List ℕ) → h ≤ GRAIN_LIMIT → All (λ n. n ≤ GRAIN_LIMIT) ns → length ns ≡ h * w → words_at at (decimal h ++ (edge_text e ++ rows_text h w ns)) ≡ Number at h ∷ tail_words e (at + length (decimal h) + 1) ns
+tail_again : (e : Edge) (at h w : ℕ) (ns : List ℕ) → h ≤ most_grains → All (λ n. n ≤ most_grains) ns → length ns ≡ h * w → words_at at (decimal h ++ (edge_text e ++ rows_text h w ns)) ≡ Number at h ∷ tail_words e (at + length (decimal h) + 1) ns
 unfolding words_from word_of
 tail_again Open at h w ns le small len =
     number_first at h 10 (rows_text h w ns) le refl ∙ ap (λ ws. Number at h ∷ ws) (rows_again (at + length (decimal h) + 1) h w ns small len)
@@ -151,8 +150,8 @@ words_again : (p : PileView) → IsPile p → words (text_of p) ≡ pile_words p
 words_again p h =
     let w = p.grid.width in
     let rows = rows_text p.grid.height w p.heights in
-    let width_small : w ≤ GRAIN_LIMIT = omega (arith, h.grid.width_limit) in
-    let height_small : p.grid.height ≤ GRAIN_LIMIT = omega (arith, h.grid.height_limit) in
+    let width_small : w ≤ most_grains = omega (arith, h.grid.width_limit) in
+    let height_small : p.grid.height ≤ most_grains = omega (arith, h.grid.height_limit) in
     let cut : text_of p ≡ decimal w ++ 32 ∷ (decimal p.grid.height ++ (edge_text p.grid.edge ++ rows)) = simp append_assoc in
     ap words cut ∙ (number_first 0 w 32 (decimal p.grid.height ++ (edge_text p.grid.edge ++ rows)) width_small refl ∙ ap (λ ws. Number 0 w ∷ ws) (tail_again p.grid.edge (0 + length (decimal w) + 1) p.grid.height w p.heights height_small (heights_small p h) (h.one_each ∙ mul_comm w p.grid.height)))
 
@@ -161,7 +160,7 @@ unfolding first_strange
 tail_plain Open at ns = none_strange (2 ∷ []) 2 at ns
 tail_plain Cylinder at ns = none_strange [] 2 (at + 1 + 1) ns
 
-tail_small : (e : Edge) (at : ℕ) (ns : List ℕ) → All (λ n. n ≤ GRAIN_LIMIT) ns → first_large (tail_words e at ns) ≡ None
+tail_small : (e : Edge) (at : ℕ) (ns : List ℕ) → All (λ n. n ≤ most_grains) ns → first_large (tail_words e at ns) ≡ None
 unfolding first_large
 tail_small Open at ns h = none_large at ns h
 tail_small Cylinder at ns h = none_large (at + 1 + 1) ns h
@@ -195,5 +194,5 @@ again p h =
     let height_small = not_large p.grid.height (omega (arith, h.grid.height_limit)) in
     let test : eqb (length p.heights) (sites p.grid) ≡ true = eq-eqb _ _ h.one_each in
     let all : take (sites p.grid) p.heights ≡ p.heights = take_all (sites p.grid) p.heights (omega (arith, h.one_each)) in
-    let few : ltb GRAIN_LIMIT (sum p.heights) ≡ false = not_large (sum p.heights) h.limit in
+    let few : ltb most_grains (sum p.heights) ≡ false = not_large (sum p.heights) h.limit in
     rw (words_again p h, tail_plain p.grid.edge at p.heights, width_small, height_small, tail_small p.grid.edge at p.heights small, tail_edge p.grid.edge at p.heights, tail_numbers p.grid.edge at p.heights, grid_again p.grid h.grid, test, all, few) refl

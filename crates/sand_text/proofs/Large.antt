@@ -7,16 +7,16 @@ use Rattle.std.specs.Str.Parse.{digits_value, digits_value_after}
 use Rattle.std.proofs.lemmas.Bool.Decides.{nat_tests}
 use Rattle.std.proofs.lemmas.List.{drop_all}
 use Rattle.std.proofs.lemmas.List.Splits.{slice_split-cons_yes, slice_split-cons_no}
-use Rattle.sand_model.specs.declared.pile.TheConstants.{GRAIN_LIMIT}
 use Rattle.sand_text.specs.Bytes.{is_digit, is_other, capped, has_large}
+use Rattle.sand_model.specs.Piles.{most_grains}
 
 abbrev over : List ℕ → Bool
-over run = nat_lt GRAIN_LIMIT (digits_value 10 run)
+over run = nat_lt most_grains (digits_value 10 run)
 
 -- whether one of the runs is over the limit, where the first goes on from digits of this value
 abbrev large_on : ℕ → List (List ℕ) → Bool
 large_on v [] = false
-large_on v (run ∷ more) = nat_lt GRAIN_LIMIT (digits_value_after 10 v run) || list_any over more
+large_on v (run ∷ more) = nat_lt most_grains (digits_value_after 10 v run) || list_any over more
 
 -- the same from a place on
 abbrev pub large_from : ℕ → ℕ → List ℕ → Bool
@@ -34,22 +34,22 @@ grows : (v : ℕ) (run : List ℕ) → v ≤ digits_value_after 10 v run
 grows v [] = omega arith
 grows v (b ∷ run) = let more = grows (v * 10 + digit_value b) run in omega (arith, more)
 
-digit_on : (v b : ℕ) (runs : List (List ℕ)) → v * 10 + digit_value b ≤ GRAIN_LIMIT → large_on v (onto_first b runs) ≡ large_on (v * 10 + digit_value b) runs
-digit_on v b [] le = let test : ltb GRAIN_LIMIT (v * 10 + digit_value b) ≡ false = grind (arith, nat_tests) in rw test refl
+digit_on : (v b : ℕ) (runs : List (List ℕ)) → v * 10 + digit_value b ≤ most_grains → large_on v (onto_first b runs) ≡ large_on (v * 10 + digit_value b) runs
+digit_on v b [] le = let test : ltb most_grains (v * 10 + digit_value b) ≡ false = grind (arith, nat_tests) in rw test refl
 digit_on v b (run ∷ more) le = refl
 
-digit_over : (v b : ℕ) (runs : List (List ℕ)) → GRAIN_LIMIT < v * 10 + digit_value b → large_on v (onto_first b runs) ≡ true
-digit_over v b [] lt = let test : ltb GRAIN_LIMIT (v * 10 + digit_value b) ≡ true = grind (arith, nat_tests) in rw test refl
+digit_over : (v b : ℕ) (runs : List (List ℕ)) → most_grains < v * 10 + digit_value b → large_on v (onto_first b runs) ≡ true
+digit_over v b [] lt = let test : ltb most_grains (v * 10 + digit_value b) ≡ true = grind (arith, nat_tests) in rw test refl
 digit_over v b (run ∷ more) lt =
     let up = grows (v * 10 + digit_value b) run in
-    let test : ltb GRAIN_LIMIT (digits_value_after 10 (v * 10 + digit_value b) run) ≡ true = grind (arith, nat_tests) in
+    let test : ltb most_grains (digits_value_after 10 (v * 10 + digit_value b) run) ≡ true = grind (arith, nat_tests) in
     rw test refl
 
-break_on : (v : ℕ) (runs : List (List ℕ)) → v ≤ GRAIN_LIMIT → large_on v ([] ∷ runs) ≡ large_on 0 runs
-break_on v runs le = let test : ltb GRAIN_LIMIT v ≡ false = grind (arith, nat_tests) in rw test (sym (from_none runs))
+break_on : (v : ℕ) (runs : List (List ℕ)) → v ≤ most_grains → large_on v ([] ∷ runs) ≡ large_on 0 runs
+break_on v runs le = let test : ltb most_grains v ≡ false = grind (arith, nat_tests) in rw test (sym (from_none runs))
 
 -- what one more byte makes of the runs, by whether it is a digit
-by_byte : (d : Bool) (v w b : ℕ) (rest : List ℕ) → is_digit b ≡ d → v ≤ GRAIN_LIMIT → w ≡ (if d then capped (v * 10 + digit_value b) else 0) → w ≤ GRAIN_LIMIT → large_on w (slice_split is_other rest) ≡ large_on v (slice_split is_other (b ∷ rest))
+by_byte : (d : Bool) (v w b : ℕ) (rest : List ℕ) → is_digit b ≡ d → v ≤ most_grains → w ≡ (if d then capped (v * 10 + digit_value b) else 0) → w ≤ most_grains → large_on w (slice_split is_other rest) ≡ large_on v (slice_split is_other (b ∷ rest))
 by_byte true v w b rest is le value small =
     let exact : w ≡ v * 10 + digit_value b = omega arith in
     let cut = slice_split-cons_no is_other b rest (ap not is) in
@@ -58,7 +58,7 @@ by_byte false v w b rest is le value small =
     let cut = slice_split-cons_yes is_other b rest (ap not is) in
     rw (cut, value) (sym (break_on v (slice_split is_other rest) le))
 
-over_byte : (d : Bool) (v w b : ℕ) (rest : List ℕ) → is_digit b ≡ d → w ≡ (if d then capped (v * 10 + digit_value b) else 0) → GRAIN_LIMIT < w → large_on v (slice_split is_other (b ∷ rest)) ≡ true
+over_byte : (d : Bool) (v w b : ℕ) (rest : List ℕ) → is_digit b ≡ d → w ≡ (if d then capped (v * 10 + digit_value b) else 0) → most_grains < w → large_on v (slice_split is_other (b ∷ rest)) ≡ true
 over_byte true v w b rest is value lt =
     let cut = slice_split-cons_no is_other b rest (ap not is) in
     rw cut (digit_over v b (slice_split is_other rest) (omega arith))
@@ -69,14 +69,14 @@ first_byte text k lt =
     let one : k + 1 ≡ suc k = omega arith in
     drop-cons text k 0 lt ∙ ap (λ n. get_or text k 0 ∷ drop n text) (sym one)
 
-pub one_byte : (text : List ℕ) (k v w : ℕ) → k < length text → v ≤ GRAIN_LIMIT → w ≡ (if is_digit (get_or text k 0) then capped (v * 10 + digit_value (get_or text k 0)) else 0) → w ≤ GRAIN_LIMIT → large_from w (k + 1) text ≡ large_from v k text
+pub one_byte : (text : List ℕ) (k v w : ℕ) → k < length text → v ≤ most_grains → w ≡ (if is_digit (get_or text k 0) then capped (v * 10 + digit_value (get_or text k 0)) else 0) → w ≤ most_grains → large_from w (k + 1) text ≡ large_from v k text
 one_byte text k v w lt le value small = rw (first_byte text k lt) (by_byte (is_digit (get_or text k 0)) v w (get_or text k 0) (drop (k + 1) text) refl le value small)
 
-pub found_large : (text : List ℕ) (k v w : ℕ) → k < length text → w ≡ (if is_digit (get_or text k 0) then capped (v * 10 + digit_value (get_or text k 0)) else 0) → GRAIN_LIMIT < w → large_from v k text ≡ true
+pub found_large : (text : List ℕ) (k v w : ℕ) → k < length text → w ≡ (if is_digit (get_or text k 0) then capped (v * 10 + digit_value (get_or text k 0)) else 0) → most_grains < w → large_from v k text ≡ true
 found_large text k v w lt value more = rw (first_byte text k lt) (over_byte (is_digit (get_or text k 0)) v w (get_or text k 0) (drop (k + 1) text) refl value more)
 
-pub none_large : (text : List ℕ) (k v : ℕ) → length text ≤ k → v ≤ GRAIN_LIMIT → large_from v k text ≡ false
+pub none_large : (text : List ℕ) (k v : ℕ) → length text ≤ k → v ≤ most_grains → large_from v k text ≡ false
 none_large text k v le small =
     let none : drop k text ≡ [] = drop_all k text le in
-    let test : ltb GRAIN_LIMIT v ≡ false = grind (arith, nat_tests) in
+    let test : ltb most_grains v ≡ false = grind (arith, nat_tests) in
     rw (none, test) refl

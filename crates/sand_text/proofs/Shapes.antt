@@ -5,7 +5,6 @@ use Rattle.std.specs.Bool.{if◌then◌else◌}
 use Rattle.std.proofs.Math.Nat.{mul-le-mul}
 use Rattle.std.proofs.lemmas.Bool.Decides.{nat_tests}
 use Rattle.std.proofs.lemmas.List.{take-take}
-use Rattle.sand_model.specs.declared.pile.TheConstants.{GRAIN_LIMIT}
 use Rattle.sand_model.specs.declared.shape.Edge.{Edge}
 use Rattle.sand_model.specs.declared.shape.Edge.TheVariants.{Open, Cylinder}
 use Rattle.sand_model.specs.declared.faults.ShapeFault.{ShapeFault}
@@ -18,6 +17,7 @@ use Rattle.sand_text.specs.declared.words.Word.TheVariants.{Number, Letter, Stra
 use Rattle.sand_text.specs.Words.{edge_behind, numbers}
 use Rattle.sand_text.specs.Reading.{pile_at, filled, is_count, of_shape}
 use Rattle.sand_text.specs.Surveys.{IsUnderway, IsFull, IsEnd, IsShaped, edge_or, sites_of, noted}
+use Rattle.sand_model.specs.Piles.{most_grains}
 
 -- ---- the end of a survey
 
@@ -150,24 +150,24 @@ wrong_count last end ws rest s g h ends le is wrong = sized last end ws rest s (
 
 -- ---- how many grains there are
 
-counted : (ws rest : List Word) (s : Survey) (g : Grid) → IsUnderway ws rest s → sites_of s ≡ sites g → sites g ≤ s.count - 2 → s.grains ≡ min (sum (take (sites g) (drop 2 (numbers ws)))) (GRAIN_LIMIT + 1)
+counted : (ws rest : List Word) (s : Survey) (g : Grid) → IsUnderway ws rest s → sites_of s ≡ sites g → sites g ≤ s.count - 2 → s.grains ≡ min (sum (take (sites g) (drop 2 (numbers ws)))) (most_grains + 1)
 counted ws rest s g h room some =
     let front : take (sites g) (noted s.count ws) ≡ take (sites g) (drop 2 (numbers ws)) = take-take (sites g) (s.count - 2) (drop 2 (numbers ws)) some in
     rw (room, front) at h.grains
 
-pub too_many : (last : Bool) (end : ℕ) (ws rest : List Word) (s : Survey) (g : Grid) → IsUnderway ws rest s → IsEnd last rest s → 2 ≤ s.count → Ok g ≡ grid_of s.width s.height s.edge → is_count last (s.count - 2) (sites g) ≡ true → GRAIN_LIMIT < s.grains
+pub too_many : (last : Bool) (end : ℕ) (ws rest : List Word) (s : Survey) (g : Grid) → IsUnderway ws rest s → IsEnd last rest s → 2 ≤ s.count → Ok g ≡ grid_of s.width s.height s.edge → is_count last (s.count - 2) (sites g) ≡ true → most_grains < s.grains
     → pile_at (edge_behind 2 0 ws) last end (numbers ws) ≡ Err TooManyGrains
 too_many last end ws rest s g h ends le is right more =
     let grains = counted ws rest s g h (fitting s g is).1 (some_heights last (s.count - 2) (sites g) right) in
-    let over : ltb GRAIN_LIMIT (sum (take (sites g) (drop 2 (numbers ws)))) ≡ true = grind (arith, nat_tests) in
+    let over : ltb most_grains (sum (take (sites g) (drop 2 (numbers ws)))) ≡ true = grind (arith, nat_tests) in
     sized last end ws rest s (Ok g) h ends le is ∙ rw (same_count last ws rest s g h ends is, right, over) refl
 
-pub shaped : (last : Bool) (end : ℕ) (ws rest : List Word) (s : Survey) (g : Grid) → IsUnderway ws rest s → IsEnd last rest s → 2 ≤ s.count → Ok g ≡ grid_of s.width s.height s.edge → is_count last (s.count - 2) (sites g) ≡ true → s.grains ≤ GRAIN_LIMIT
+pub shaped : (last : Bool) (end : ℕ) (ws rest : List Word) (s : Survey) (g : Grid) → IsUnderway ws rest s → IsEnd last rest s → 2 ≤ s.count → Ok g ≡ grid_of s.width s.height s.edge → is_count last (s.count - 2) (sites g) ≡ true → s.grains ≤ most_grains
     → IsShaped last end ws s g
 shaped last end ws rest s g h ends le is right within =
     let some = some_heights last (s.count - 2) (sites g) right in
     let grains = counted ws rest s g h (fitting s g is).1 some in
-    let not_over : ltb GRAIN_LIMIT (sum (take (sites g) (drop 2 (numbers ws)))) ≡ false = grind (arith, nat_tests) in
+    let not_over : ltb most_grains (sum (take (sites g) (drop 2 (numbers ws)))) ≡ false = grind (arith, nat_tests) in
     record {
       read = sized last end ws rest s (Ok g) h ends le is ∙ rw (same_count last ws rest s g h ends is, right, not_over) refl;
       width = (in_range s g is).0;

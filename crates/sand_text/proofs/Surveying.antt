@@ -7,7 +7,6 @@ use Rattle.std.proofs.lemmas.List.{take_all, drop_all}
 use Rattle.std.specs.List.{All, filter, position}
 use Rattle.std.proofs.lemmas.List.Folds.{list_any_none}
 use Rattle.std.specs.Option.{option_or}
-use Rattle.sand_model.specs.declared.pile.TheConstants.{GRAIN_LIMIT}
 use Rattle.sand_model.specs.declared.shape.Edge.{Edge}
 use Rattle.sand_model.specs.declared.shape.Edge.TheVariants.{Open, Cylinder}
 use Rattle.sand_text.specs.declared.fault.TextFault.TheVariants.{Text}
@@ -19,6 +18,7 @@ use Rattle.sand_text.specs.Words.{first_strange, first_large, edge_behind, numbe
 use Rattle.sand_text.specs.Surveys.{IsUnderway, IsStrangeAt, still_spared, sites_of, grains_with, if_no_site, noted}
 use Rattle.sand_text.proofs.Taking.{next_of}
 use Rattle.sand_text.proofs.Noting.{sum_push, no_site_push, noted-next, length-noted, noted-none}
+use Rattle.sand_model.specs.Piles.{most_grains}
 
 large_next : (a : Option ℕ) (b : Bool) (start : ℕ) (later : Option ℕ) → option_or (option_or a (if b then Some start else None)) later ≡ option_or a (if b then Some start else later)
 large_next None true start later = refl
@@ -88,7 +88,7 @@ pub note_step : (ws rest : List Word) (s t : Survey) (start value : ℕ) → IsU
     → t.edge ≡ s.edge
     → t.grains ≡ (if nat_lt s.count 2 then s.grains else grains_with s (s.count - 2) value)
     → t.no_site ≡ (if nat_lt s.count 2 then s.no_site else option_or s.no_site (if_no_site s (s.count - 2) value))
-    → t.large ≡ option_or s.large (if nat_lt GRAIN_LIMIT value then Some start else None)
+    → t.large ≡ option_or s.large (if nat_lt most_grains value then Some start else None)
     → IsUnderway ws rest t
 unfolding first_strange first_large edge_behind
 note_step ws rest s t start value h count width height edge grains no_site large =
@@ -99,7 +99,7 @@ note_step ws rest s t start value h count width height edge grains no_site large
       bare = λ is_open. rw count (h.bare (sym edge ∙ is_open));
       edge = rw (edge, count) h.edge;
       later_edge = λ k lt. rw count (h.later_edge k (omega arith));
-      large = rw large (large_next s.large (nat_lt GRAIN_LIMIT value) start (first_large rest) ∙ h.large);
+      large = rw large (large_next s.large (nat_lt most_grains value) start (first_large rest) ∙ h.large);
       within = omega (arith, next.0);
       left = rw count next.2;
       width = λ _. elim (cases_eq s.count 0) [

@@ -2,7 +2,7 @@
 use Rattle.std.specs.Prelude.{ℕ, ◌+◌, List, Bool, not, ◌&&◌, ◌||◌, ◌==◌, nat_le, nat_lt, min, length, slice_index}
 use Rattle.std.specs.List.{list_any, position_or_len, slice_split}
 use Rattle.std.specs.Str.Parse.{digits_value}
-use Rattle.sand_model.specs.declared.pile.TheConstants.{GRAIN_LIMIT}
+use Rattle.sand_model.specs.Piles.{most_grains}
 
 abbrev pub is_digit : ℕ → Bool
 is_digit b = nat_le 48 b && nat_le b 57
@@ -28,8 +28,8 @@ is_letter word = length word == 1 && slice_index word 0 == 99
 
 -- a value, or one over the grain limit where it is larger
 abbrev pub capped : ℕ → ℕ
-capped value = min value (GRAIN_LIMIT + 1)
+capped value = min value (most_grains + 1)
 
 -- whether a run of digits, wherever it stands in a text, is a number over the limit
 abbrev pub has_large : List ℕ → Bool
-has_large text = list_any (λ run. nat_lt GRAIN_LIMIT (digits_value 10 run)) (slice_split is_other text)
+has_large text = list_any (λ run. nat_lt most_grains (digits_value 10 run)) (slice_split is_other text)

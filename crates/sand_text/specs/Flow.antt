@@ -3,6 +3,10 @@ use Rattle.std.specs.Prelude.{◌≡◌, ℕ, ◌≤◌, List, [], length, drop,
 use Rattle.sand_text.specs.declared.fault.StreamFault.{StreamFault}
 use Rattle.sand_text.specs.declared.fault.StreamFault.TheVariants.{Memory, Read, Write, TooLong}
 
+-- the most bytes that are taken for an input, 2^20
+abbrev pub most_bytes : ℕ
+most_bytes = 1048576
+
 -- the reader gave all its bytes, these, and none is left
 abbrev pub GivesAll : Option (List ℕ) → Option (List ℕ) → List ℕ → Type 0
 GivesAll None new bytes = Unit {0}

@@ -1,11 +1,10 @@
 -- What a text of a pile, or of a pile and drops, means: what it holds, or the first fault.
 use Rattle.std.specs.Prelude.{◌≡◌, ℕ, ◌+◌, ◌*◌, List, [], ◌∷◌, Bool, true, false, ◌==◌, ◌&&◌, nat_lt, nat_le, length, take, drop, sum, position, Option, Some, None, Result, Ok, Err, IsOk, if◌then◌else◌}
-use Rattle.sand_model.specs.declared.pile.TheConstants.{GRAIN_LIMIT}
 use Rattle.sand_model.specs.declared.shape.Edge.{Edge}
 use Rattle.sand_model.specs.declared.faults.ShapeFault.{ShapeFault}
 use Rattle.sand_model.specs.declared.faults.ShapeFault.TheVariants as shape_faults
 use Rattle.sand_model.specs.Grid.{Grid, grid_of, is_side, sites}
-use Rattle.sand_model.specs.Piles.{PileView}
+use Rattle.sand_model.specs.Piles.{PileView, most_grains}
 use Rattle.sand_text.specs.declared.fault.TextFault.{TextFault}
 use Rattle.sand_text.specs.declared.fault.TextFault.TheVariants.{Text, TooLarge, Side, Narrow, Length, TooManyGrains, NoSite}
 use Rattle.sand_text.specs.declared.fault.ReadFault.{ReadFault}
@@ -40,7 +39,7 @@ is_count last count wanted = if last then count == wanted else nat_le wanted cou
 abbrev pub filled : Bool → Result Grid ShapeFault → List ℕ → Result (PileView × List ℕ) TextFault
 filled last (Err fault) ns = Err (of_shape fault)
 filled last (Ok g) ns = if is_count last (length ns) (sites g)
-    then (if nat_lt GRAIN_LIMIT (sum (take (sites g) ns)) then Err TooManyGrains else Ok (record { grid = g; heights = take (sites g) ns }, drop (sites g) ns))
+    then (if nat_lt most_grains (sum (take (sites g) ns)) then Err TooManyGrains else Ok (record { grid = g; heights = take (sites g) ns }, drop (sites g) ns))
     else Err Length
 
 -- the pile with this edge at the front of these numbers, and the numbers behind it; end is the length of the text

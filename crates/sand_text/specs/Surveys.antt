@@ -1,11 +1,10 @@
 -- What the walk over a text's words knows at each word.
 use Rattle.std.specs.Prelude.{◌≡◌, ℕ, ◌+◌, ◌-◌, ◌*◌, ◌^◌, ◌<◌, ◌≤◌, ◌⊎◌, List, [], ◌∷◌, Bool, true, false, All, IsTrue, nat_lt, nat_le, min, length, take, drop, sum, position, slice_index, Option, Some, None, Ok, if◌then◌else◌}
 use Rattle.std.specs.Option.{option_or}
-use Rattle.sand_model.specs.declared.pile.TheConstants.{GRAIN_LIMIT}
 use Rattle.sand_model.specs.declared.shape.Edge.{Edge}
 use Rattle.sand_model.specs.declared.shape.Edge.TheVariants.{Open, Cylinder}
 use Rattle.sand_model.specs.Grid.{Grid, is_side, sites}
-use Rattle.sand_model.specs.Piles.{PileView}
+use Rattle.sand_model.specs.Piles.{PileView, most_grains}
 use Rattle.sand_text.specs.declared.fault.TextFault.{TextFault}
 use Rattle.sand_text.specs.declared.fault.TextFault.TheVariants.{Text}
 use Rattle.sand_text.specs.declared.survey.Survey.{Survey}
@@ -94,7 +93,7 @@ pub record IsShaped (last : Bool) (end : ℕ) (ws : List Word) (s : Survey) (g :
   pub room : sites_of s ≡ sites g
   pub enough : 2 + sites g ≤ length (numbers ws)
   pub grains : s.grains ≡ sum (take (sites g) (drop 2 (numbers ws)))
-  pub limit : s.grains ≤ GRAIN_LIMIT
+  pub limit : s.grains ≤ most_grains
 
 -- no number stands behind the last height
 abbrev pub IsWithinPile : Survey → Type 0

@@ -4,12 +4,12 @@
 use Rattle.std.specs.Prelude.{ℕ, ◌+◌, List, [], ◌∷◌, not, ◌==◌, nat_lt, length, filter, Option, Some, None, if◌then◌else◌}
 use Rattle.std.specs.List.{slice_split, filter_map, list_any}
 use Rattle.std.specs.Str.Parse.{digits_value}
-use Rattle.sand_model.specs.declared.pile.TheConstants.{GRAIN_LIMIT}
 use Rattle.sand_model.specs.declared.shape.Edge.{Edge}
 use Rattle.sand_model.specs.declared.shape.Edge.TheVariants.{Open, Cylinder}
 use Rattle.sand_text.specs.declared.words.Word.{Word}
 use Rattle.sand_text.specs.declared.words.Word.TheVariants.{Number, Letter, Strange}
 use Rattle.sand_text.specs.Bytes.{is_space, digits_len, is_letter, capped}
+use Rattle.sand_model.specs.Piles.{most_grains}
 
 -- what a word at this place is: a number, the letter `c`, or neither, and then where its first byte stands that is no digit
 unfoldable pub word_of : ℕ → List ℕ → Word
@@ -37,7 +37,7 @@ first_strange spared n (Strange at ∷ more) = Some at
 -- where the first number begins that is over the limit
 unfoldable pub first_large : List Word → Option ℕ
 first_large [] = None
-first_large (Number at value ∷ more) = if nat_lt GRAIN_LIMIT value then Some at else first_large more
+first_large (Number at value ∷ more) = if nat_lt most_grains value then Some at else first_large more
 first_large (Letter at ∷ more) = first_large more
 first_large (Strange at ∷ more) = first_large more
 

@@ -8,6 +8,7 @@ ghost use Rattle.std.specs.List.{position_or_len};
 ghost use Rattle.std.specs.Char.{digit_value};
 ghost use Rattle.std.specs.Str.Parse.{digits_value};
 ghost use Rattle.sand_text.specs.Bytes.{is_digit, is_space, digits_len, word_len, capped, has_large};
+ghost use Rattle.sand_model.specs.Piles.{most_grains};
 
 use sand_model::GRAIN_LIMIT;
 
@@ -36,7 +37,7 @@ fn is_space(byte: u8) -> bool
 
 // The value that one more digit makes of a value.
 fn grown(value: u64, digit: u8) -> u64
-    requires small { value ≤ GRAIN_LIMIT + 1 }
+    requires small { value ≤ most_grains + 1 }
     requires digit { is_digit digit ≡ true }
     ensures { result ≡ capped (value * 10 + digit_value digit) }
 {
@@ -85,7 +86,7 @@ pub(crate) fn span_of(text: &[u8]) -> Span
 
 // The value of the run of digits that ends with a byte, where the bytes before it end one of this value.
 fn run_value(value: u64, byte: u8) -> u64
-    requires { value ≤ GRAIN_LIMIT }
+    requires { value ≤ most_grains }
     ensures { result ≡ (if is_digit byte then capped (value * 10 + digit_value byte) else 0) }
 {
     if is_digit(byte) {

@@ -1,10 +1,10 @@
 //! A pile and the sites of the grains that are to be dropped on it, from their text.
 
 ghost use Rattle.std.specs.Prelude.{◌≡◌, ◌+◌, ◌≤◌, length, sum, IfOk, IfErr};
-ghost use Rattle.sand_model.specs.declared.pile.TheConstants.{GRAIN_LIMIT};
 ghost use Rattle.sand_model.specs.Grid.{sites};
 ghost use Rattle.sand_text.specs.Words.{words, numbers};
 ghost use Rattle.sand_text.specs.Reading.{ReadsAs, drops_of, heights_on, behind_heights};
+ghost use Rattle.sand_model.specs.Piles.{most_grains};
 
 use crate::fault::{ReadFault, TextFault};
 use crate::numbers::Numbers;
@@ -18,7 +18,7 @@ fn shape_of(text: &[u8]) -> Result<(Shape, u64, usize), TextFault>
     ensures drops { IfOk result (λ (g, _, _). drops_of text.now ≡ Ok (record { grid = g; heights = heights_on g text.now }, behind_heights g text.now)) }
     ensures enough { IfOk result (λ (g, _, _). 2 + sites g ≤ length (numbers (words text.now))) }
     ensures one_each { IfOk result (λ (g, _, _). length (heights_on g text.now) ≡ sites g) }
-    ensures grains { IfOk result (λ (g, grains, _). (grains ≡ sum (heights_on g text.now)) × (grains ≤ GRAIN_LIMIT)) }
+    ensures grains { IfOk result (λ (g, grains, _). (grains ≡ sum (heights_on g text.now)) × (grains ≤ most_grains)) }
     ensures count { IfOk result (λ (g, _, count). length (behind_heights g text.now) ≡ count) }
     ensures err { IfErr result (λ e. drops_of text.now ≡ Err e) }
 {

@@ -4,7 +4,7 @@
 
 ghost use Rattle.std.specs.Prelude.{◌≡◌, ◌≢◌, ℕ, ◌+◌, ◌≤◌, ◌<◌, length, take, IfOk, IfErr, OnOk, IsErrOf};
 ghost use Rattle.std.specs.Io.KnownBytes.{Appends};
-ghost use Rattle.sand_text.specs.Flow.{GivesAll, IsFurther, IsFurtherByAtMost, IsOfReading};
+ghost use Rattle.sand_text.specs.Flow.{GivesAll, IsFurther, IsFurtherByAtMost, IsOfReading, most_bytes};
 
 use crate::fault::StreamFault;
 use std::alloc::Global;
@@ -20,11 +20,11 @@ const CHUNK: usize = 16_384;
 /// of which it takes one over the limit, and want of memory (Memory).
 pub fn read_all<R: Read>(alloc: Global, reader: &mut R) -> Result<Vec<u8>, StreamFault>
     ensures all { IfOk result (λ text. GivesAll (R.remaining reader.old) (R.remaining reader.new) text.items) }
-    ensures within { IfOk result (λ text. length text.items ≤ INPUT_LIMIT) }
+    ensures within { IfOk result (λ text. length text.items ≤ most_bytes) }
 
     // Where the reader stands after a fault.
-    ensures too_long { IsErrOf result StreamFault.TooLong → IsFurther (R.remaining reader.old) (R.remaining reader.new) (INPUT_LIMIT + 1) }
-    ensures failed { IfErr result (λ e. e ≢ StreamFault.TooLong → IsFurtherByAtMost (R.remaining reader.old) (R.remaining reader.new) INPUT_LIMIT) }
+    ensures too_long { IsErrOf result StreamFault.TooLong → IsFurther (R.remaining reader.old) (R.remaining reader.new) (most_bytes + 1) }
+    ensures failed { IfErr result (λ e. e ≢ StreamFault.TooLong → IsFurtherByAtMost (R.remaining reader.old) (R.remaining reader.new) most_bytes) }
     ensures fault { IfErr result IsOfReading }
 {
     let mut text = Vec::new(alloc);

@@ -7,6 +7,7 @@ ghost use Rattle.std.specs.Option.{option_or};
 ghost use Rattle.sand_text.specs.Words.{words, edge_behind, numbers};
 ghost use Rattle.sand_text.specs.Reading.{is_count, pile_at, plain_words};
 ghost use Rattle.sand_text.specs.Surveys.{IsUnderway, IsStrangeAt, IsFull, IsEnd, IsShaped, edge_with, sites_of, grains_with, if_no_site};
+ghost use Rattle.sand_model.specs.Piles.{most_grains};
 
 use crate::fault::TextFault;
 use crate::words::{Word, Words};
@@ -86,7 +87,7 @@ impl Survey {
         ensures edge { self.new.edge ≡ self.old.edge }
         ensures grains { self.new.grains ≡ (if nat_lt self.old.count 2 then self.old.grains else grains_with self.old (self.old.count - 2) value) }
         ensures no_site { self.new.no_site ≡ (if nat_lt self.old.count 2 then self.old.no_site else option_or self.old.no_site (if_no_site self.old (self.old.count - 2) value)) }
-        ensures large { self.new.large ≡ option_or self.old.large (if nat_lt GRAIN_LIMIT value then Some start else None) }
+        ensures large { self.new.large ≡ option_or self.old.large (if nat_lt most_grains value then Some start else None) }
     {
         match self.count {
             0 => self.width = value,

@@ -5,7 +5,6 @@
 //! may have none. So at a letter the text is looked through for such a number.
 
 ghost use Rattle.std.specs.Prelude.{◌≡◌, ◌+◌, ◌≤◌, List, [], ◌∷◌, Bool, length, take, drop, sum, None, IfOk, IfErr};
-ghost use Rattle.sand_model.specs.declared.pile.TheConstants.{GRAIN_LIMIT};
 ghost use Rattle.sand_model.specs.Grid.{sites};
 ghost use Rattle.sand_text.specs.declared.words.Word.{Word};
 ghost use Rattle.sand_text.specs.Words.{words, first_strange, numbers};
@@ -13,6 +12,7 @@ ghost use Rattle.sand_text.specs.Left.{words_left};
 ghost use Rattle.sand_text.specs.Bytes.{has_large};
 ghost use Rattle.sand_text.specs.Reading.{ReadsAs, plain_words, second_letter, second_spared, two_letters, two_of, heights_on, behind_heights, heights_behind};
 ghost use Rattle.sand_text.specs.Surveys.{IsUnderway, IsFront, IsFirstStrange, barred_at};
+ghost use Rattle.sand_model.specs.Piles.{most_grains};
 
 use crate::bytes::has_large;
 use crate::fault::{ReadFault, TextFault};
@@ -85,7 +85,7 @@ fn shapes_of(text: &[u8]) -> Result<((Shape, u64), (Shape, u64)), TextFault>
     ensures enough { IfOk result (λ ((g, _), (h, _)). (2 + sites g ≤ length (numbers (words text.now))) × (2 + sites h ≤ length (behind_heights g text.now))) }
     ensures one_each { IfOk result (λ ((g, _), (h, _)). (length (heights_on g text.now) ≡ sites g) × (length (heights_behind g h text.now) ≡ sites h)) }
     ensures grains { IfOk result (λ ((g, n), (h, m)). (n ≡ sum (heights_on g text.now)) × (m ≡ sum (heights_behind g h text.now))) }
-    ensures limit { IfOk result (λ ((_, n), (_, m)). (n ≤ GRAIN_LIMIT) × (m ≤ GRAIN_LIMIT)) }
+    ensures limit { IfOk result (λ ((_, n), (_, m)). (n ≤ most_grains) × (m ≤ most_grains)) }
     ensures err { IfErr result (λ e. two_of text.now ≡ Err e) }
 {
     let (first, second) = two_surveys(text)?;

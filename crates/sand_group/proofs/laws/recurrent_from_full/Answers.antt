@@ -1,9 +1,11 @@
+use Rattle.std.proofs.Common.{◌+◌}
+use Rattle.sand_group.specs.Recurrence.{IsRecurrent}
 use Rattle.sand_group.proofs.Stabilised.{settled_recurrent}
-use Rattle.sand_group.proofs.Members.{recurrent_from_full, recurrent_plus}
+use Rattle.sand_group.proofs.Members.{settles_to, recurrent_from_full, recurrent_plus}
 use Rattle.sand_group.proofs.laws.recurrent_from_full.Goals as goal
 
 pub returns-clause-exactly : goal.returns-clause-exactly
 returns-clause-exactly c g s = (recurrent_from_full g s, λ full. settled_recurrent g full.0 full.1 s full.2)
 
 pub returns-clause-stays : goal.returns-clause-stays
-returns-clause-stays c = recurrent_plus
+returns-clause-stays c g a b recurrent = settles_to g (λ i. a i + b i) (IsRecurrent g) (λ u t. recurrent_plus g a b u t recurrent)

@@ -1,10 +1,10 @@
 use Rattle.std.proofs.Common.{◌<◌, ◌∙◌, sym, ap, arith}
 use Rattle.std.proofs.lemmas.Grind.{common_steps}
-use Rattle.sand_model.specs.declared.pile.TheConstants.{GRAIN_LIMIT}
 use Rattle.sand_model.specs.Grid.{sites}
 use Rattle.sand_settle.specs.Drops.{OneView, grid_of_one, one_view}
 use Rattle.sand_settle.proofs.Drops.{kept_after, drops_from, after_drop}
 use Rattle.sand_settle.proofs.one_pile.OnePile.drop_at.Goals as goal
+use Rattle.sand_model.specs.Piles.{most_grains}
 
 pub invariant_of-self : goal.invariant_of-self
 invariant_of-self c =
@@ -13,7 +13,7 @@ invariant_of-self c =
     let is = ap (λ o. one_view o c.self.inside.number) (sym there) ∙ seen in
     let inside = ap (λ (v : OneView). sites (grid_of_one v)) is in
     let grains = ap (λ (v : OneView). v.grains) is in
-    let room : c.args.self.now.grains < GRAIN_LIMIT = grind (arith, common_steps, c.is_full.ensures.full, c.is_full.ensures.limit) in
+    let room : c.args.self.now.grains < most_grains = grind (arith, common_steps, c.is_full.ensures.full, c.is_full.ensures.limit) in
     kept_after c.self.inside.settled c.self.inside.workspace c.self.inside.number c.args.site c.unwrap-settled.result c.drop_grain-record.result.0 c.drop_grain-record.new.workspace c.self.invariant there (omega (arith, c.requires)) (omega arith) c.drop_grain-record.ensures.taken
     (c.drop_grain-record.ensures.room ∙ c.in_ok-workspace.ensures.grid ∙ sym (ap grid_of_one is))
 
@@ -24,7 +24,7 @@ returns-clause-drops c =
     let is = ap (λ o. one_view o c.self.inside.number) (sym there) ∙ seen in
     let inside = ap (λ (v : OneView). sites (grid_of_one v)) is in
     let grains = ap (λ (v : OneView). v.grains) is in
-    let room : c.args.self.now.grains < GRAIN_LIMIT = grind (arith, common_steps, c.is_full.ensures.full, c.is_full.ensures.limit) in
+    let room : c.args.self.now.grains < most_grains = grind (arith, common_steps, c.is_full.ensures.full, c.is_full.ensures.limit) in
     drops_from c.self.inside.settled c.self.inside.workspace c.self.inside.number c.args.site c.unwrap-settled.result c.drop_grain-record.result.0 c.args.self.now c.self.invariant seen there (omega (arith, c.requires)) (omega arith) c.drop_grain-record.ensures.taken
 
 pub returns-clause-after : goal.returns-clause-after

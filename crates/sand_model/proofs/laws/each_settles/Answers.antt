@@ -1,0 +1,5 @@
+use Rattle.sand_model.proofs.Settling.{settles}
+use Rattle.sand_model.proofs.laws.each_settles.Goals as goal
+
+pub returns : goal.returns
+returns c = settles
