@@ -22,6 +22,7 @@ pub mod Gathering
 pub mod Counts
 pub mod Knowing
 pub mod Sending
+pub mod InTurn
 pub mod Sweepings
 pub mod Wholes
 pub mod Recording
