@@ -62,7 +62,7 @@ pub record Swept (t : Terms) (v : View) (counts : List ℕ) (answer : ℕ) : Typ
   -- a pass that has all topples nothing exactly where nothing is left to topple
   pub calm : HasAll t v → (answer ≡ 0) ↔ IsCalm t v
   pub sparing : HasAll t v → IsSparing t (with_counts v counts)
-  -- a pass that has all topples each site once, in turn, just as often as the grains that lie there then allow
+  -- a pass that has all goes to each site once, in turn, and topples it just as often as the grains on it then allow
   pub in_turn : HasAll t v → (j : ℕ) → j < length v.counts → TopplesInTurn t v counts j
 
 -- r settles what a whole pass has left to topple: its counts and r's odometer together are the least odometer of the start

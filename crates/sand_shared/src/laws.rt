@@ -1,6 +1,6 @@
 //! The laws of the shared pile, as contracts of functions that do nothing.
 
-ghost use Rattle.sand_shared.specs.Laws.{AlwaysLawful, FewDraws, FewGrains, HoldsLawful};
+ghost use Rattle.sand_shared.specs.Laws.{AlwaysLawful, FewDraws, FewGrains, HoldsLawful, OneSweep};
 
 use crate::rule::Running;
 use crate::view::{Terms, View};
@@ -21,4 +21,9 @@ pub fn lawful_at_every_moment()
 pub fn words_are_small()
     ensures grains { FewGrains }
     ensures draws { FewDraws }
+{}
+
+/// A pass that has everything can sweep in one way alone: what it has says how often each site topples, and all sites.
+pub fn one_sweep()
+    ensures { OneSweep }
 {}
