@@ -112,6 +112,21 @@ fn piles_of_one_thread(rt: HostRuntime) -> Result<(), Fail> {
     Ok(())
 }
 
+// A drop asks for memory once: the room of a first drop, in which nothing topples, serves drops in which all sites do.
+#[test]
+fn drops_after_the_first(rt: HostRuntime) -> Result<(), Fail> {
+    let alloc = rt.alloc();
+    let mut one = OnePile::new(alloc, &pile_on(alloc, 2, 1, &[3, 2])?)?;
+    assert!(rt; one.pile().shape().sites() == 2);
+    one.drop_at(alloc, 1)?;
+    refuse(alloc, 0);
+    assert!(rt; one.drop_at(alloc, 0).is_ok() && one.topplings() == 2);
+    assert!(rt; one.pile().shape().sites() == 2);
+    assert!(rt; one.drop_at(alloc, 1).is_ok() && one.pile().heights() == [1, 1].as_slice());
+    assert!(rt; !was_refused(alloc));
+    Ok(())
+}
+
 #[test]
 fn recurrent_piles(rt: HostRuntime) -> Result<(), Fail> {
     let alloc = rt.alloc();

@@ -315,6 +315,7 @@ kept_after o w number site r q g before there inside room taken same =
       paid = paid_after r q site paid inside room taken;
       few = let more = grains_after r q site paid inside taken in omega arith;
       room = same ∙ sym taken.grid;
+      kept = λ _. refl;
     }
 
 pub drops_from : (o : Option SettledView) (w : Option Grid) (number : ℕ) (site : ℕ) (r q : SettledView) (v : OneView) → IsOnePile o w number → one_view o number ≡ v → o ≡ Some r → site < sites r.pile.grid → sum r.pile.heights + r.lost < most_grains → TakesGrain r site q → Drops v site (one_view (Some q) (number + 1))

@@ -72,9 +72,10 @@ settled_in None = record { pile = record { grid = record { width = 0; height = 0
 abbrev pub one_view : Option SettledView → ℕ → OneView
 one_view settled number = let r = settled_in settled in record { settled = r; number = number; grains = sum r.pile.heights + r.lost }
 
--- the record is there and right, each drop brought a grain, and a workspace is one for the grid
+-- the record is there and right, each drop brought a grain, a workspace is one for the grid, and a drop leaves one
 pub record IsOnePile (settled : Option SettledView) (workspace : Option Grid) (number : ℕ) : Type 0 where
   pub there : IsSome settled
   pub paid : IsPaid (settled_in settled)
   pub few : number ≤ sum (settled_in settled).pile.heights + (settled_in settled).lost
   pub room : IfSome workspace (λ g. g ≡ (settled_in settled).pile.grid)
+  pub kept : 0 < number → IsSome workspace

@@ -1,12 +1,12 @@
 //! The pile of one thread: grains are dropped on it one after another, and each settles before the next.
 //!
 //! The pile is taken apart, its list of heights topples in place, and it is put back with the grains that are left, which
-//! are known without a sum. So a drop costs work in proportion to the sites that topple in it, and from the second drop
-//! on no memory. That the record is the same as if all grains had lain on the start together is
-//! `laws::drops_add_up`; that no count outgrows its number follows from the weight, of which a grain has 16,512 at most
-//! and a toppling takes 2 (`IsPaid`).
+//! are known without a sum. So a drop costs work in proportion to the sites that topple in it. The room of the first drop
+//! serves all later ones, so none of these runs out of memory (`room_is_kept`). That the record is the same as if all
+//! grains had lain on the start together is `laws::drops_add_up`; that no count outgrows its number follows from the
+//! weight, of which a grain has 16,512 at most and a toppling takes 2 (`IsPaid`).
 
-ghost use Rattle.std.specs.Prelude.{◌≡◌, ℕ, ◌+◌, ◌^◌, ◌<◌, ◌≤◌, ◌↔◌, List, [], ◌∷◌, ◌++◌, length, sum, IfOk, OnOk, OnErr, IsTrue, IsOkUnless, alloc_error};
+ghost use Rattle.std.specs.Prelude.{◌≡◌, ℕ, ◌+◌, ◌^◌, ◌<◌, ◌≤◌, ◌↔◌, List, [], ◌∷◌, ◌++◌, length, sum, IfOk, IfErr, IfSome, IsSome, IsOk, OnOk, OnErr, IsTrue, IsOkUnless, alloc_error};
 ghost use Rattle.sand_model.specs.Grid.{sites};
 ghost use Rattle.sand_model.specs.Piles.{PileView, IsPile, height_of, most_grains};
 ghost use Rattle.sand_settle.specs.Settling.{odometer_of};
@@ -18,7 +18,7 @@ use crate::faults::OneFault;
 use crate::settled::Settled;
 use crate::settling::settle;
 use crate::workspace::Workspace;
-use sand_model::{GRAIN_LIMIT, Pile};
+use sand_model::{GRAIN_LIMIT, Pile, Shape};
 use std::alloc::Global;
 use std::marker::Model;
 
@@ -71,6 +71,24 @@ fn drop_grain(workspace: &mut Workspace, settled: Settled, site: usize) -> (Sett
     (record, avalanche)
 }
 
+// The workspace of the last drop, or a new one.
+fn take_workspace(
+    alloc: Global,
+    shape: Shape,
+    kept: &mut Option<Workspace>,
+) -> Result<Workspace, OneFault>
+    requires { IfSome kept.old (λ w. w ≡ shape) }
+    ensures grid { IfOk result (λ w. w ≡ shape) }
+    ensures kept { IsSome kept.old → IsOk result }
+    ensures memory { IsOkUnless result (OneFault.Memory alloc_error) }
+    ensures unchanged { OnErr result (kept.new ≡ kept.old) }
+{
+    match kept.take() {
+        Some(workspace) => Ok(workspace),
+        None => Workspace::new(alloc, shape).map_err(OneFault::Memory),
+    }
+}
+
 impl OnePile {
     /// The settled start, before any drop. Refuses want of memory alone.
     pub fn new(alloc: Global, start: &Pile) -> Result<OnePile, OneFault>
@@ -89,7 +107,7 @@ impl OnePile {
 
     /// Drops a grain at a site and lets it topple. Answers the number of the drop, of which the first is 0, and its
     /// avalanche. Refuses a grain above the limit on those of the start and of all drops (Full), then want of memory
-    /// (Memory), and then leaves all as it was; from the second drop on it asks for none.
+    /// (Memory), and then leaves all as it was. Once a grain was dropped, it is not refused for memory again.
     pub fn drop_at(&mut self, alloc: Global, site: usize) -> Result<(u64, Avalanche), OneFault>
         requires { site < sites (grid_of_one self.old) }
         ensures number { IfOk result (λ r. r.0 ≡ self.old.number) }
@@ -101,11 +119,15 @@ impl OnePile {
 
         ensures full { (result ≡ Err OneFault.Full) ↔ (self.old.grains ≡ most_grains) }
         ensures err { OnErr result (self.new ≡ self.old) }
+
+        // The room of the first drop serves all later ones.
+        ensures room_is_kept { 0 < self.old.number → IfErr result (λ e. e ≡ OneFault.Full) }
     {
         if self.is_full() {
             return Err(OneFault::Full);
         }
-        let mut workspace = self.take_workspace(alloc)?;
+        let shape = self.pile().shape();
+        let mut workspace = take_workspace(alloc, shape, &mut self.workspace)?;
         let number = self.number;
         let settled = self.settled.take().unwrap();
         let (record, avalanche) = drop_grain(&mut workspace, settled, site);
@@ -122,18 +144,6 @@ impl OnePile {
     {
         let settled = self.settled();
         settled.pile().grains() + settled.lost() == GRAIN_LIMIT
-    }
-
-    // The workspace of the last drop, or a new one.
-    fn take_workspace(&mut self, alloc: Global) -> Result<Workspace, OneFault>
-        ensures grid { IfOk result (λ w. w ≡ grid_of_one self.old) }
-        ensures memory { IsOkUnless result (OneFault.Memory alloc_error) }
-        ensures unchanged { self.new ≡ self.old }
-    {
-        match self.workspace.take() {
-            Some(workspace) => Ok(workspace),
-            None => Workspace::new(alloc, self.pile().shape()).map_err(OneFault::Memory),
-        }
     }
 
     fn settled(&self) -> &Settled

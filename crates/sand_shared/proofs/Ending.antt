@@ -16,7 +16,7 @@ use Rattle.sand_shared.specs.OpenPile.{nobody, grid_of, numbered, dropped, toppl
 use Rattle.sand_shared.specs.Passes.{PassView, SharedView, AllBelow, IsPass, IsPassOf, IsWhole, at_rest}
 use Rattle.sand_shared.specs.Events.{looked}
 use Rattle.sand_shared.specs.Rows.{count_of}
-use Rattle.sand_shared.specs.Record.{RecordView, Tells, IsLast, EndsAt}
+use Rattle.sand_shared.specs.Record.{Tells, IsLast}
 use Rattle.sand_shared.specs.Running.{Stands}
 use Rattle.sand_shared.specs.Sweeps.{HasAll, IsCalm, with_counts}
 use Rattle.sand_shared.proofs.Sums.{sum_by_only}
@@ -170,13 +170,3 @@ module _ {t : Terms} {p : PassView} {counts heights : List ℕ} {a : ℕ} {v : V
   unfolding swept
   closed_leads history long told =
       leads t a swept heights last_swept all_swept (whole_base t p b.all.grid b.all.one_each b.all.whole) refl b.calm history (b.same_rows ∙ whole_counts t p b.all.grid b.all.one_each b.all.whole) long told
-
-  pub closed_ends : (r : RecordView) → length r.history ≡ length p.receipts → Tells p.receipts r.history → r.settled.pile.heights ≡ heights → r.settled.odometer ≡ counts → EndsAt t r
-  unfolding swept
-  closed_ends r long told heights_are odometer_is = record {
-    pile = last_swept.stands.pile;
-    lawful = last_swept.stands.lawful;
-    drawn = sym (drawn_is t a swept last_swept.stands all_swept r.history long told);
-    heights = λ i l. sym (last_swept.each_height i l) ∙ ap (λ (l : List ℕ). slice_index l i) (sym heights_are);
-    toppled_so = λ i l. toppled_is t a swept last_swept.stands all_swept (whole_base t p b.all.grid b.all.one_each b.all.whole) i l ∙ ap (λ (l : List ℕ). slice_index l i) (sym odometer_is);
-  }

@@ -22,6 +22,8 @@ pub mod Gathering
 pub mod Counts
 pub mod Knowing
 pub mod Sending
+pub mod InTurn
+pub mod OneSweep
 pub mod Sweepings
 pub mod Wholes
 pub mod Recording

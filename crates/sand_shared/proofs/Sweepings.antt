@@ -14,6 +14,7 @@ use Rattle.sand_shared.specs.Events.{looked, raised}
 use Rattle.sand_shared.specs.Sweeps.{LeavesAtMost, LeavesAtLeast, IsCalm, HasAll, IsSparing, with_counts, Swept}
 use Rattle.sand_shared.proofs.Amounts.{place_inside, toppled_from, toppled_before}
 use Rattle.sand_shared.proofs.RowParts.{none_toppled}
+use Rattle.sand_shared.proofs.InTurn.{AllInTurn, one_in_turn}
 use Rattle.std.proofs.lemmas.Bool.{cases_lt}
 
 -- the first k of a pass's sites are swept
@@ -25,6 +26,7 @@ pub record Sweeps (t : Terms) (v : View) (cs : List ℕ) (k answer : ℕ) : Type
   pub enough : (j : ℕ) → j < k → LeavesAtMost t v (v.base + j) (4 * (slice_index cs j - slice_index v.counts j) + 3)
   pub idle : answer ≡ 0 → cs ≡ v.counts
   pub calm : HasAll t v → IsCalm t v → answer ≡ 0
+  pub in_turn : HasAll t v → AllInTurn t v cs k
   pub few : 0 < k → sum cs < 2 ^ 54
   pub sparing : 0 < k → HasAll t v → IsSparing t (with_counts v cs)
 
@@ -38,6 +40,7 @@ sweeps_begin t v cs e = subst (λ z. Sweeps t v z 0 0) e
       enough = λ j l. absurd (omega arith);
       idle = λ _. refl;
       calm = λ _ _. refl;
+      in_turn = λ _ j l. absurd (omega arith);
       few = λ l. absurd (omega arith);
       sparing = λ l. absurd (omega arith);
     }
@@ -95,6 +98,7 @@ sweeps_more t v cs k answer times spot least rows inside s left few no_more spar
           let same = s.idle z in
           let r : LeavesAtLeast t v (v.base + k) (4 * times) = subst (λ l. LeavesAtLeast t (with_counts v l) (v.base + k) (4 * times)) same (no_more (still all)) in
           let l = low (v.base + k) (omega arith) in omega arith);
+      in_turn = λ all. one_in_turn t v cs k times (omega arith) s.same_rows s.rest (s.in_turn all) (no_more (still all)) left;
       few = λ _. (let e = ap sum raised_is in omega arith);
       sparing = λ _ all. (let q = spares (still all) in subst (λ l. IsSparing t (with_counts v l)) raised_is (record { needed = q.needed; weighed = q.weighed }));
     }
@@ -162,6 +166,7 @@ sweeps_end t v cs answer s =
       idle = s.idle;
       never_fall = s.never_fall;
       enough = s.enough;
+      in_turn = λ all j l. s.in_turn all j l;
       calm = λ all. (calm_back t v cs answer all s, s.calm all);
       sparing = λ all. ⊎_elim
           (λ (none : length v.counts ≡ 0). record {
@@ -186,6 +191,22 @@ swept_as t v cs answer spot least s = record {
   idle = s.idle;
   never_fall = s.never_fall;
   enough = s.enough;
+  in_turn = λ all j l. s.in_turn (record { quota = all.quota; all_sites = all.all_sites }) j l;
   calm = λ all. s.calm (record { quota = all.quota; all_sites = all.all_sites });
   sparing = λ all. (let q = s.sparing (record { quota = all.quota; all_sites = all.all_sites }) in record { needed = q.needed; weighed = q.weighed });
 }
+
+-- a sweep over all sites that topples nothing found nothing left anywhere, whatever pass swept
+pub calm_at_rest : (t : Terms) (v me : View) (cs new : List ℕ) (answer : ℕ) → v.base ≡ 0 → length cs ≡ sites (grid_of t) → me ≡ record (looked v me.spot me.least) { counts = cs } → Swept t me new answer → answer ≡ 0 → IsCalm t (with_counts v new)
+calm_at_rest t v me cs new answer base long is s none i inside =
+    let counts : me.counts ≡ cs = ap (λ (u : View). u.counts) is in
+    let kept : new ≡ cs = s.idle none ∙ counts in
+    let all = ap (λ (l : List ℕ). length l) counts in
+    let low = subst (λ (z : ℕ × ℕ). LeavesAtMost t me z.0 z.1) {x = (me.base + i, 4 * (get_or new i 0 - get_or me.counts i 0) + 3)} {y = (i, 3)} (λ q. (place q, most q)) (s.enough i (omega arith)) in
+    subst (λ (l : List ℕ). LeavesAtMost t (with_counts v l) i 3) (sym kept) (subst (λ (u : View). LeavesAtMost t u i 3) is low)
+  where
+    place : me.base + i ≡ i
+    place = let from = ap (λ (u : View). u.base) is in omega arith
+
+    most : 4 * (get_or new i 0 - get_or me.counts i 0) + 3 ≡ 3
+    most = let rise = ap (λ (l : List ℕ). get_or l i 0) (s.idle none) in omega arith

@@ -1,13 +1,27 @@
 -- The laws of the shared pile.
-use Rattle.std.specs.Prelude.{ℕ, List, ◌∷◌, ◌+◌, ◌<◌, ◌≤◌, length, sum}
+use Rattle.std.specs.Prelude.{ℕ, List, ◌≡◌, ◌∷◌, ◌+◌, ◌<◌, ◌≤◌, length, sum}
+use Rattle.atomic_table.specs.Table.{State}
 use Rattle.sand_model.specs.Grid.{sites}
+use Rattle.sand_shared.specs.declared.view.View.{View}
 use Rattle.sand_shared.specs.declared.view.Terms.{Terms}
 use Rattle.sand_shared.specs.OpenPile.{OpenPile, grid_of, present, AreTerms, IsLawful}
 use Rattle.sand_shared.specs.Events.{Event, begin, unopened, AllHappen, after_all}
+use Rattle.sand_shared.specs.Running.{Shows}
+use Rattle.sand_shared.specs.Sweeps.{HasAll, Swept}
 
 -- after its begin and any list of events that may happen, the open pile is lawful
 abbrev pub AlwaysLawful : Type 0
 AlwaysLawful = (t : Terms) (events : List Event) → AreTerms t → AllHappen t (unopened t) (begin ∷ events) → IsLawful t (after_all t (unopened t) (begin ∷ events))
+
+-- an open pile that is lawful, and of which the words and the views show all
+pub record ShowLawful (t : Terms) (s : State ℕ View) : Type 0 where
+  pub pile : OpenPile
+  pub lawful : IsLawful t pile
+  pub shown : Shows t pile s
+
+-- whatever words and views this rule holds of, they show a lawful open pile
+abbrev pub HoldsLawful : (Terms → State ℕ View → Type 0) → Type 0
+HoldsLawful rule = (t : Terms) (s : State ℕ View) → rule t s → ShowLawful t s
 
 -- on a lawful pile the grains that lie on a site and those in hand for it are at most those of the start and the quota
 abbrev pub FewGrains : Type 0
@@ -16,3 +30,7 @@ FewGrains = (t : Terms) (p : OpenPile) → AreTerms t → IsLawful t p → (i : 
 -- and no more drops were begun than the quota
 abbrev pub FewDraws : Type 0
 FewDraws = (t : Terms) (p : OpenPile) → IsLawful t p → length p.drawn ≤ t.quota
+
+-- two sweeps of one pass that has all leave the same counts and answer the same
+abbrev pub OneSweep : Type 0
+OneSweep = (t : Terms) (v : View) (counts others : List ℕ) (answer other : ℕ) → HasAll t v → Swept t v counts answer → Swept t v others other → (counts ≡ others) × (answer ≡ other)

@@ -1,13 +1,13 @@
 -- What contracts see of the record of a closed pile, and of the last moment of a shared one.
 use Rattle.std.specs.Prelude.{ℕ, ◌≡◌, ◌+◌, ◌<◌, Some, List, All, length, sum, slice_get, slice_index}
 use Rattle.sand_model.specs.Grid.{sites}
-use Rattle.sand_model.specs.Piles.{PileView, height_of}
-use Rattle.sand_settle.specs.Settling.{SettledView, odometer_of}
+use Rattle.sand_model.specs.Piles.{PileView}
+use Rattle.sand_settle.specs.Settling.{SettledView}
 use Rattle.sand_settle.specs.Drops.{OneView, IsAfter}
 use Rattle.sand_shared.specs.declared.view.Receipt.{Receipt}
 use Rattle.sand_shared.specs.declared.view.View.{View}
 use Rattle.sand_shared.specs.declared.view.Terms.{Terms}
-use Rattle.sand_shared.specs.OpenPile.{OpenPile, grid_of, toppled, IsLawful}
+use Rattle.sand_shared.specs.OpenPile.{grid_of}
 use Rattle.sand_shared.specs.Running.{Stands}
 
 -- the start, the site of each drop by its number, and what these lead to
@@ -33,11 +33,3 @@ pub record IsLast (t : Terms) (a : ℕ) (v : View) (heights : List ℕ) : Type 0
   pub stands : Stands t a v
   pub one_each : length heights ≡ sites (grid_of t)
   pub each_height : (i : ℕ) → i < sites (grid_of t) → slice_index heights i ≡ stands.pile.height i
-
--- the record is that of a last open pile, which is lawful
-pub record EndsAt (t : Terms) (r : RecordView) : Type 0 where
-  pub pile : OpenPile
-  pub lawful : IsLawful t pile
-  pub drawn : pile.drawn ≡ r.history
-  pub heights : (i : ℕ) → i < sites (grid_of t) → pile.height i ≡ height_of r.settled.pile i
-  pub toppled_so : (i : ℕ) → i < sites (grid_of t) → toppled pile i ≡ odometer_of r.settled i

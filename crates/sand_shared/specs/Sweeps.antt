@@ -1,6 +1,6 @@
 -- What a sweep owes to the pass that sweeps, whatever others do meanwhile.
 -- With k = start + own receipts - L(own counts), L the toppling matrix (Dhar 1990), written without subtraction.
-use Rattle.std.specs.Prelude.{ℕ, true, ◌≡◌, ◌+◌, ◌-◌, ◌*◌, ◌<◌, ◌≤◌, ◌↔◌, List, length, sum, slice_index}
+use Rattle.std.specs.Prelude.{ℕ, true, ◌≡◌, ◌+◌, ◌-◌, ◌*◌, ◌<◌, ◌≤◌, ◌↔◌, List, ◌++◌, length, sum, take, drop, slice_index}
 use Rattle.sand_model.specs.Grid.{sites}
 use Rattle.sand_model.specs.Sand.{flow, IsSettled, Stabilises, weight}
 use Rattle.sand_model.specs.Piles.{height_of}
@@ -40,6 +40,16 @@ pub record IsSparing (t : Terms) (v : View) : Type 0 where
 abbrev pub with_counts : View → List ℕ → View
 with_counts v counts = record v { counts = counts }
 
+-- what a pass has counted when its sweep, which left these counts, comes to the j-th of its sites: those before it have
+-- toppled, it and those behind it have not
+abbrev pub coming_to : View → List ℕ → ℕ → View
+coming_to v counts j = with_counts v (take j counts ++ drop j v.counts)
+
+-- the j-th site toppled as often as k allowed when the sweep came to it: k was at least 4 times that, and less than 4 more
+abbrev pub TopplesInTurn : Terms → View → List ℕ → ℕ → Type 0
+TopplesInTurn t v counts j = let times = slice_index counts j - slice_index v.counts j in
+    LeavesAtLeast t (coming_to v counts j) (v.base + j) (4 * times) × LeavesAtMost t (coming_to v counts j) (v.base + j) (4 * times + 3)
+
 -- a sweep over the rows of v that left these counts
 pub record Swept (t : Terms) (v : View) (counts : List ℕ) (answer : ℕ) : Type 0 where
   pub same_rows : length counts ≡ length v.counts
@@ -52,6 +62,8 @@ pub record Swept (t : Terms) (v : View) (counts : List ℕ) (answer : ℕ) : Typ
   -- a pass that has all topples nothing exactly where nothing is left to topple
   pub calm : HasAll t v → (answer ≡ 0) ↔ IsCalm t v
   pub sparing : HasAll t v → IsSparing t (with_counts v counts)
+  -- a pass that has all goes to each site once, in turn, and topples it just as often as the grains on it then allow
+  pub in_turn : HasAll t v → (j : ℕ) → j < length v.counts → TopplesInTurn t v counts j
 
 -- r settles what a whole pass has left to topple: its counts and r's odometer together are the least odometer of the start
 -- and its receipts

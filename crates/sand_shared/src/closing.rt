@@ -10,7 +10,7 @@ ghost use Rattle.sand_settle.specs.Settling.{odometer_of};
 ghost use Rattle.sand_shared.specs.OpenPile.{grid_of};
 ghost use Rattle.sand_shared.specs.Events.{looked};
 ghost use Rattle.sand_shared.specs.Passes.{IsPassOf, IsWhole, EachOnce};
-ghost use Rattle.sand_shared.specs.Record.{Tells, IsOneThreads, EndsAt};
+ghost use Rattle.sand_shared.specs.Record.{Tells, IsOneThreads};
 ghost use Rattle.sand_shared.specs.Seats.{IsSeatAt, StaysSeated};
 ghost use Rattle.sand_shared.specs.Sweeps.{IsCalm, with_counts};
 
@@ -73,9 +73,8 @@ impl SharedPile {
         ensures each_drop_once { IfOk result (λ r. length r.history ≡ length pass.receipts) }
         ensures all_seen { IfOk result (λ r. pass.seen ≡ length r.history) }
 
-        // It toppled in place, on a pile that was lawful to the last.
+        // What toppled in place stays toppled.
         ensures never_fall { IfOk result (λ r. (i : ℕ) → slice_index pass.counts i ≤ odometer_of r.settled i) }
-        ensures ends_at { IfOk result (EndsAt self.terms) }
     {
         let (history, heights) = match self.room_for_record(alloc, &pass) {
             Ok(room) => room,
@@ -117,7 +116,6 @@ impl SharedPile {
         ensures each_drop_once { length result.history ≡ length pass.receipts }
         ensures all_seen { pass.seen ≡ length result.history }
         ensures never_fall { (i : ℕ) → slice_index pass.counts i ≤ odometer_of result.settled i }
-        ensures ends_at { EndsAt self.terms result }
     {
         let SharedPile { words } = self;
         let Pass {

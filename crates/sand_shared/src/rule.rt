@@ -1,8 +1,9 @@
 //! The rule of the table of words, and what each step on it tells.
 //!
-//! The rule is that events have led from the first state to what the words and the views show. So a step can be taken
-//! only if it is an event that may happen then, or several events of a pass in a row. That the pile is lawful at every
-//! moment is the law (`laws::always_lawful`), by induction over the events.
+//! The rule is that events have led from the first state to what the words and the views show. It speaks of states: no step
+//! can be taken that leads to words and views to which no events lead. Which events a step is, one, several in a row or
+//! none, is said by the play of the step (`Take`, `TakeRow`, `Learn`), and so by the contract of each function in `steps`.
+//! That the pile is lawful whenever the rule holds is a law (`laws::lawful_at_every_moment`), by induction over the events.
 
 use crate::view::{Terms, View};
 use atomic_table::{Join, Play, Split, TableRule};
@@ -84,7 +85,7 @@ impl<J: PickedRow> Play<u8, View> for TakeRow<J> {
     ghost then = { TakesInARow J.terms J.pass J.events };
 }
 
-/// A load that changes nothing, by which a pass learns that what it has fits the rule.
+/// A load that is no event and changes nothing, by which a pass learns that what it has fits the rule.
 pub struct Learn<J> {
     picked: PhantomData<J>,
 }

@@ -45,6 +45,16 @@ fn sweeps_until_nothing_topples(rt: HostRuntime) -> Result<(), Fail> {
     Ok(())
 }
 
+// What a site sends back to one before it waits for the next sweep.
+#[test]
+fn sweeps_once_at_a_time(rt: HostRuntime) -> Result<(), Fail> {
+    let start = pile_on(rt.alloc(), 2, 1, Edge::Open, &[3, 4])?;
+    let (pile, mut pass) = SharedPile::new(rt.alloc(), &start, 0)?;
+    assert_eq!(rt; (pile.sweep(&mut pass), pile.sweep(&mut pass)), (1, 1));
+    assert_eq!(rt; pile.sweep(&mut pass), 0);
+    Ok(())
+}
+
 #[test]
 fn sweeps_a_square(rt: HostRuntime) -> Result<(), Fail> {
     let start = pile_on(rt.alloc(), 2, 2, Edge::Open, &[4, 4, 4, 4])?;

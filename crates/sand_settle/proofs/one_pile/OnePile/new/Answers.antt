@@ -8,6 +8,7 @@ invariant_of-result c = record {
   paid = paid_start c.args.start.now c.in_ok-settled.settled c.grains.ensures.pile c.in_ok-settled.ensures.record;
   few = omega arith;
   room = tt;
+  kept = λ l. absurd (omega arith);
 }
 
 pub returns-clause-settled : goal.returns-clause-settled

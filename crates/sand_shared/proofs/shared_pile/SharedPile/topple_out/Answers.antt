@@ -1,10 +1,10 @@
 use Rattle.std.proofs.Common.{ℕ, List, length, sym, ap, ◌∙◌, subst}
 use Rattle.sand_shared.specs.declared.view.Receipt.{Receipt}
 use Rattle.sand_shared.specs.declared.view.Terms.{Terms}
-use Rattle.sand_shared.specs.Passes.{PassView, SharedView, EachOnce}
-use Rattle.sand_shared.specs.Record.{Tells, EndsAt}
+use Rattle.sand_shared.specs.Passes.{PassView, EachOnce}
+use Rattle.sand_shared.specs.Record.{Tells}
 use Rattle.sand_shared.proofs.Recording.{LeadsTo}
-use Rattle.sand_shared.proofs.Ending.{gathered, numbers_inside, closed_by, closed_seen, closed_leads, closed_ends}
+use Rattle.sand_shared.proofs.Ending.{gathered, numbers_inside, closed_by, closed_seen, closed_leads}
 use Rattle.sand_shared.proofs.shared_pile.SharedPile.topple_out.Goals as goal
 
 pub fill-requires-clause-inside : goal.fill-requires-clause-inside
@@ -32,13 +32,3 @@ returns-clause-all_seen c =
     let b = closed_by all c.pass.invariant c.close-start.ensures.last c.sweep_out.ensures.view c.sweep_out.ensures.long c.sweep_out.ensures.calm in
     let long = c.fill.ensures.length ∙ c.requires.history ∙ ap (λ (q : PassView). length q.receipts) (sym c.pass.view_is) in
     ap (λ (q : PassView). q.seen) (sym c.pass.view_is) ∙ closed_seen b ∙ sym long ∙ ap (λ (l : List ℕ). length l) (sym c.of_lists.ensures.history)
-
-pub returns-clause-ends_at : goal.returns-clause-ends_at
-returns-clause-ends_at c =
-    let all = gathered c.self.view_is c.pass.view_is c.pass.invariant c.requires.pass c.requires.whole in
-    let b = closed_by all c.pass.invariant c.close-start.ensures.last c.sweep_out.ensures.view c.sweep_out.ensures.long c.sweep_out.ensures.calm in
-    let told = subst (λ (l : List Receipt). Tells l c.fill.new.history.items) c.as_slice.ensures.value c.fill.ensures.tells in
-    let long = c.fill.ensures.length ∙ c.requires.history ∙ ap (λ (q : PassView). length q.receipts) (sym c.pass.view_is) in
-    let kept = c.of_lists.ensures.history in
-    let ends = closed_ends b c.of_lists.result (ap (λ (l : List ℕ). length l) kept ∙ long) (subst (Tells c.pass.inside.receipts.items) (sym kept) told) c.of_lists.ensures.heights c.of_lists.ensures.odometer in
-    subst (λ (z : Terms). EndsAt z c.of_lists.result) (ap (λ (w : SharedView). w.terms) c.self.view_is) ends

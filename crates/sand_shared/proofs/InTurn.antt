@@ -1,0 +1,53 @@
+-- A sweep site by site: the counts that it comes with to a site, and what the site may then topple.
+use Rattle.std.proofs.Common.{◌≡◌, ℕ, zero, suc, ◌+◌, ◌-◌, ◌*◌, ◌<◌, ◌≤◌, List, [], ◌∷◌, ◌++◌, length, set, get_or, take, drop, sym, refl, ap, ◌∙◌, subst, ⊎_elim, arith}
+use Rattle.std.proofs.lemmas.Bool.{cases_eq}
+use Rattle.std.proofs.lemmas.List.{get_or-set_same, get_or-set_other, take-set-le}
+use Rattle.sand_shared.specs.declared.view.View.{View}
+use Rattle.sand_shared.specs.declared.view.Terms.{Terms}
+use Rattle.sand_shared.specs.Sweeps.{LeavesAtMost, LeavesAtLeast, with_counts, TopplesInTurn}
+
+-- lists that are the same from a place on
+same_behind : (xs ys : List ℕ) (k : ℕ) → length xs ≡ length ys → ((j : ℕ) → k ≤ j → get_or xs j 0 ≡ get_or ys j 0) → take k xs ++ drop k ys ≡ xs
+same_behind [] [] zero long same = refl
+same_behind [] [] (suc k) long same = refl
+same_behind [] (y ∷ ys) k long same = absurd (omega arith)
+same_behind (x ∷ xs) [] k long same = absurd (omega arith)
+same_behind (x ∷ xs) (y ∷ ys) zero long same = λ i. sym (same zero (omega arith)) i ∷ same_behind xs ys zero (omega arith) (λ j le. same (suc j) (omega arith)) i
+same_behind (x ∷ xs) (y ∷ ys) (suc k) long same = ap (λ l. x ∷ l) (same_behind xs ys k (omega arith) (λ j le. same (suc j) (omega arith)))
+
+-- the first k sites have toppled in turn
+abbrev pub AllInTurn : Terms → View → List ℕ → ℕ → Type 0
+AllInTurn t v cs k = (j : ℕ) → j < k → TopplesInTurn t v cs j
+
+module _ (t : Terms) (v : View) (cs : List ℕ) (k times : ℕ) (inside : k < length cs) (long : length cs ≡ length v.counts) (rest : (j : ℕ) → k ≤ j → get_or cs j 0 ≡ get_or v.counts j 0) where
+  after : List ℕ
+  after = set cs k (get_or cs k 0 + times)
+
+  -- the sweep comes to the k-th site with the counts that it has
+  here : LeavesAtLeast t (with_counts v cs) (v.base + k) (4 * times) → LeavesAtMost t (with_counts v cs) (v.base + k) (4 * times + 3) → TopplesInTurn t v after k
+  unfolding after
+  here least most =
+      let was = rest k (omega arith) in
+      let new : get_or (set cs k (get_or cs k 0 + times)) k 0 ≡ get_or cs k 0 + times = get_or-set_same cs k (get_or cs k 0 + times) 0 inside in
+      let rise : get_or (set cs k (get_or cs k 0 + times)) k 0 - get_or v.counts k 0 ≡ times = omega arith in
+      let came : take k (set cs k (get_or cs k 0 + times)) ++ drop k v.counts ≡ cs =
+      ap (λ l. l ++ drop k v.counts) (take-set-le k cs k (get_or cs k 0 + times) (omega arith)) ∙ same_behind cs v.counts k long rest in (
+        subst (λ (z : List ℕ × ℕ). LeavesAtLeast t (with_counts v z.0) (v.base + k) (4 * z.1)) (λ i. (sym came i, sym rise i)) least,
+        subst (λ (z : List ℕ × ℕ). LeavesAtMost t (with_counts v z.0) (v.base + k) (4 * z.1 + 3)) (λ i. (sym came i, sym rise i)) most,
+      )
+
+  -- what it does there changes nothing of what it came with to those before
+  before : (j : ℕ) → j < k → TopplesInTurn t v cs j → TopplesInTurn t v after j
+  unfolding after
+  before j l did =
+      let x = get_or cs k 0 + times in
+      let same : get_or (set cs k x) j 0 ≡ get_or cs j 0 = get_or-set_other cs k j x 0 (λ e. absurd (omega arith)) in
+      let came : take j (set cs k x) ≡ take j cs = take-set-le j cs k x (omega arith) in
+      subst (λ (z : List ℕ × ℕ). LeavesAtLeast t (with_counts v (z.0 ++ drop j v.counts)) (v.base + j) (4 * (z.1 - get_or v.counts j 0)) × LeavesAtMost t (with_counts v (z.0 ++ drop j v.counts)) (v.base + j) (4 * (z.1 - get_or v.counts j 0) + 3)) (λ i. (sym came i, sym same i)) did
+
+  pub one_in_turn : AllInTurn t v cs k → LeavesAtLeast t (with_counts v cs) (v.base + k) (4 * times) → LeavesAtMost t (with_counts v cs) (v.base + k) (4 * times + 3) → AllInTurn t v (set cs k (get_or cs k 0 + times)) (k + 1)
+  unfolding after
+  one_in_turn all least most j l = ⊎_elim
+      (λ (e : j ≡ k). subst (TopplesInTurn t v (set cs k (get_or cs k 0 + times))) (sym e) (here least most))
+      (λ (ne : j ≡ k → ⊥). before j (omega arith) (all j (omega arith)))
+      (cases_eq j k)

@@ -1,0 +1,5 @@
+use Rattle.sand_shared.proofs.Moments.{pile_of, lawful_now}
+use Rattle.sand_shared.proofs.laws.lawful_at_every_moment.Goals as goal
+
+pub returns : goal.returns
+returns c = λ t s h. record { pile = pile_of t s h; lawful = lawful_now t s h; shown = h.shown }

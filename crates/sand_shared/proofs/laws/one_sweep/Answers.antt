@@ -1,0 +1,5 @@
+use Rattle.sand_shared.proofs.OneSweep.{one_sweep}
+use Rattle.sand_shared.proofs.laws.one_sweep.Goals as goal
+
+pub returns : goal.returns
+returns c = one_sweep
