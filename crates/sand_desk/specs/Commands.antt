@@ -17,7 +17,7 @@ use Rattle.sand_desk.specs.declared.faults.DeskFault.{DeskFault}
 use Rattle.sand_desk.specs.declared.faults.DeskFault.TheVariants as desk
 use Rattle.sand_desk.specs.Dropping.{IsDropsText, IsOverfull, drops_for}
 use Rattle.sand_desk.specs.Faults.{of_shape, of_text}
-use Rattle.sand_desk.specs.Group.{edge_of, IsBurnText, IsIdentityText, IsSumText, IsInverseText, IsUnstable, IsUnfitPile, IsUnfitPair, IsMismatch}
+use Rattle.sand_desk.specs.Group.{edge_of, IsBurnText, IsIdentityText, IsSumText, IsInverseText, IsRecurrentText, IsUnstable, IsUnfitPile, IsUnfitPair, IsMismatch}
 use Rattle.sand_desk.specs.Laboratory.{IsLabText, IsOvergrown, IsRunnable, wish_of}
 use Rattle.sand_desk.specs.Settling.{IsSettleText}
 use Rattle.sand_model.specs.Piles.{most_grains}
@@ -35,6 +35,7 @@ IsTextOf (task.Identity width height cylinder pgm) input text = IsIdentityText w
 IsTextOf (task.Drops drawn pile) input text = IsDropsText drawn pile input text
 IsTextOf (task.Add pgm) input text = IsSumText pgm input text
 IsTextOf (task.Inverse pgm) input text = IsInverseText pgm input text
+IsTextOf (task.Recurrent pgm) input text = IsRecurrentText pgm input text
 IsTextOf (task.Lab run journal form) input text = IsLabText (wish_of run) journal form input text
 
 -- the input doesn't hold what the task wants
@@ -98,6 +99,7 @@ IsFaultOf (task.Identity width height cylinder pgm) input fault = IsShapeless wi
 IsFaultOf (task.Drops drawn pile) input fault = IsDropsFault drawn input fault
 IsFaultOf (task.Add pgm) input fault = IsSumFault input fault
 IsFaultOf (task.Inverse pgm) input fault = IsInverseFault input fault
+IsFaultOf (task.Recurrent pgm) input fault = IsUnreadable (pile_of input) fault
 IsFaultOf (task.Lab run journal form) input fault = IsLabFault (wish_of run) input fault
 
 -- a fault that a task finds in its input, or want of memory; no fault of the words or of a stream

@@ -1,13 +1,14 @@
--- What `burn`, `identity`, `add` and `inverse` write, and why they refuse a pile.
+-- What `burn`, `identity`, `add`, `inverse` and `recurrent` write, and why they refuse a pile.
 use Rattle.std.specs.Prelude.{ℕ, ◌≡◌, ◌≢◌, ◌⊎◌, Bool, true, false, List, length, Ok}
 use Rattle.sand_model.specs.declared.shape.Edge.{Edge}
 use Rattle.sand_model.specs.declared.shape.Edge.TheVariants.{Open, Cylinder}
 use Rattle.sand_model.specs.Grid.{Grid, grid_of, sites}
+use Rattle.sand_model.specs.Integers.{whole}
 use Rattle.sand_model.specs.Piles.{PileView, height_of}
 use Rattle.sand_model.specs.Sand.{IsStable}
 use Rattle.sand_group.specs.declared.burning.Burned.{Burned}
 use Rattle.sand_group.specs.Burned.{IsBurned}
-use Rattle.sand_group.specs.Group.{IsSum, IsIdentity, IsInverse}
+use Rattle.sand_group.specs.Group.{IsSum, IsIdentity, IsInverse, Represents}
 use Rattle.sand_group.specs.Recurrence.{IsRecurrent}
 use Rattle.sand_text.specs.Burning.{burn_text_of}
 use Rattle.sand_text.specs.Reading.{pile_of, two_of}
@@ -60,6 +61,12 @@ pub record IsInverseText (pgm : Bool) (input text : List ℕ) : Type 0 where
   pub read : pile_of input ≡ Ok pile
   pub recurrent : IsRecurrent pile.grid (height_of pile)
   pub answer : IsPileText pile.grid (IsInverse pile.grid (height_of pile)) pgm text
+
+-- the recurrent pile that is equivalent to the pile that the input holds
+pub record IsRecurrentText (pgm : Bool) (input text : List ℕ) : Type 0 where
+  pub pile : PileView
+  pub read : pile_of input ≡ Ok pile
+  pub answer : IsPileText pile.grid (Represents pile.grid (whole (height_of pile))) pgm text
 
 -- ---- the refusals
 

@@ -5,3 +5,4 @@ pub mod Faults
 pub mod Group
 pub mod Settling
 pub mod Laboratory
+pub mod Drawing

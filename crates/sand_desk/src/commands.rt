@@ -11,7 +11,7 @@ ghost use Rattle.sand_desk.specs.Commands.{IsTextOf, IsFaultOf, Finds, IsDone, E
 
 use crate::dropping::drops_input;
 use crate::faults::DeskFault;
-use crate::group::{burn_input, identity_text, inverse_input, sum_input};
+use crate::group::{burn_input, identity_text, inverse_input, recurrent_input, sum_input};
 use crate::laboratory::lab_input;
 use crate::settling::settle_input;
 use sand_text::{StreamFault, read_all, write_text};
@@ -58,6 +58,7 @@ fn perform<T: Threads + Sync>(
         Task::Drops { drawn, pile } => drops_input(alloc, input, drawn, pile),
         Task::Add { pgm } => sum_input(alloc, input, pgm),
         Task::Inverse { pgm } => inverse_input(alloc, input, pgm),
+        Task::Recurrent { pgm } => recurrent_input(alloc, input, pgm),
         Task::Lab { run, journal, form } => lab_input(rt, alloc, input, run, journal, form),
     }
 }

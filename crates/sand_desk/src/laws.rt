@@ -1,8 +1,12 @@
-//! The law of the command `lab`: without its journal it writes one text.
+//! The laws of the commands `lab` and `drops`, as the contracts of functions that do nothing.
 //!
-//! The laboratory's law says that piles, odometers, sums and numbers of drops are a function of the start and of seed,
-//! droppers, drops and epochs; the text shows nothing else.
+//! **One text.** The laboratory's law says that piles, odometers, sums and numbers of drops are a function of the start and
+//! of seed, droppers, drops and epochs; the text shows nothing else.
+//!
+//! **One dropper.** A run of one epoch with one dropper drops on each site as often as `drops --count` of the same seed, for
+//! both read stream 0. What one thread leaves depends on these numbers alone.
 
+ghost use Rattle.sand_desk.specs.Drawing.{LeavesTheSame, WritesTheSamePile};
 ghost use Rattle.sand_desk.specs.Laboratory.{OneLabText};
 
 use sand_lab::laws::one_outcome;
@@ -13,3 +17,10 @@ pub fn one_lab_text()
 {
     one_outcome();
 }
+
+/// `drops --count N --seed S` leaves the pile, the grains lost and the topplings of `lab --droppers 1 --drops N --seed S`, and
+/// with `--pile` both write the same text.
+pub fn drops_of_one_dropper()
+    ensures record { LeavesTheSame }
+    ensures pile { WritesTheSamePile }
+{}

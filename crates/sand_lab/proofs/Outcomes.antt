@@ -41,7 +41,7 @@ module _ (g : Grid) (s s' : ℕ → ℕ) (r q : SettledView) (same : (i : ℕ) �
       λ k. record { pile = record { grid = grids k; heights = same_heights k }; odometer = same_odometer k; topplings = tops k; lost = gone k }
 
 -- what one thread gets is a matter of the start and of how often each site was dropped on, in whatever order
-one_threads_once : (r q : RecordView) → IsOneThreads r → IsOneThreads q → r.start ≡ q.start → ((i : ℕ) → tally r.history i ≡ tally q.history i) → r.settled ≡ q.settled
+pub one_threads_once : (r q : RecordView) → IsOneThreads r → IsOneThreads q → r.start ≡ q.start → ((i : ℕ) → tally r.history i ≡ tally q.history i) → r.settled ≡ q.settled
 one_threads_once r q one other starts tallies =
     let P : PileView → Type 0 = λ p. IsRecord p.grid (λ i. height_of p i + tally q.history i) q.settled in
     record_once r.start.grid (λ i. height_of r.start i + tally r.history i) (λ i. height_of r.start i + tally q.history i) r.settled q.settled
@@ -50,7 +50,7 @@ one_threads_once r q one other starts tallies =
     (subst P (sym starts) other.one.settled)
 
 -- an epoch tallies what the streams do
-epoch_tally : (album : List ℕ) (w : Wish) (start : PileView) (t : ℕ) (r : RecordView) (s : SheetView) → IsEpoch album w start t r s → (i : ℕ)
+pub epoch_tally : (album : List ℕ) (w : Wish) (start : PileView) (t : ℕ) (r : RecordView) (s : SheetView) → IsEpoch album w start t r s → (i : ℕ)
     → tally r.history i ≡ total w.droppers (λ k. tally (stream_sites (sites start.grid) w.seed (stream_of t k) w.drops) i)
 epoch_tally album w start t r s epoch i =
     ap (λ (h : List ℕ). tally h i) (sym epoch.closed.history) ∙ tally_of_streams (sites start.grid) w.seed w.droppers w.drops t s.journal epoch.closed.streams i

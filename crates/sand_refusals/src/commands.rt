@@ -137,6 +137,17 @@ fn inverse(rt: HostRuntime) -> Result<(), Fail> {
 }
 
 #[test]
+fn recurrent(rt: HostRuntime) -> Result<(), Fail> {
+    each_refused_of(
+        &rt,
+        rt.alloc(),
+        "sandpile recurrent",
+        b"3 1\n5 0 1\n",
+        Spares::Nothing,
+    )
+}
+
+#[test]
 fn drops(rt: HostRuntime) -> Result<(), Fail> {
     let full = b"3 3\n3 3 3\n3 3 3\n3 3 3\n4 0\n";
     each_refused_of(&rt, rt.alloc(), "sandpile drops", full, Spares::Nothing)

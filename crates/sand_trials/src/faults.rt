@@ -80,6 +80,7 @@ fn misuse_and_help(rt: HostRuntime) -> Result<(), Fail> {
         ("sandpile drops --help", 0),
         ("sandpile add --help", 0),
         ("sandpile inverse --help", 0),
+        ("sandpile recurrent --help", 0),
         ("sandpile lab --help", 0),
     ] {
         let words = words_of(alloc, line)?;

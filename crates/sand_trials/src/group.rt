@@ -52,6 +52,22 @@ const INVERTED: [Row; 5] = [
     ("sandpile inverse", "2 1\n4 x\n", "fault 18 Text at 6\n"),
 ];
 
+const REPRESENTED: [Row; 9] = [
+    ("sandpile recurrent", "2 1\n0 0\n", "2 1\n3 3\n"),
+    ("sandpile recurrent", "2 1\n3 1\n", "2 1\n3 1\n"),
+    ("sandpile recurrent", "3 1\n0 0 3\n", "3 1\n3 3 2\n"),
+    ("sandpile recurrent", "3 1 c\n4 4 4\n", "3 1 c\n2 2 2\n"),
+    (
+        "sandpile recurrent",
+        "3 2\n0 1 0\n9 0 2\n",
+        "3 2\n2 1 0\n1 2 2\n",
+    ),
+    ("sandpile recurrent", "1 1\n1099511627775\n", "1 1\n3\n"),
+    ("sandpile recurrent", "2 1\n4 x\n", "fault 18 Text at 6\n"),
+    ("sandpile recurrent", "2 1\n0 0 0\n", "fault 2 Length\n"),
+    ("sandpile recurrent --pile", "2 1\n0 0\n", "usage"),
+];
+
 const ADDED: [Row; 12] = [
     ("sandpile add", "2 1\n3 1\n2 1\n3 3\n", "2 1\n3 1\n"),
     ("sandpile add", "2 1\n3 1\n2 1\n0 2\n", "2 1\n3 3\n"),
@@ -100,6 +116,11 @@ fn identities_byte_by_byte(rt: HostRuntime) -> Result<(), Fail> {
 #[test]
 fn inverses_byte_by_byte(rt: HostRuntime) -> Result<(), Fail> {
     holds(&rt, rt.alloc(), &INVERTED)
+}
+
+#[test]
+fn equivalents_byte_by_byte(rt: HostRuntime) -> Result<(), Fail> {
+    holds(&rt, rt.alloc(), &REPRESENTED)
 }
 
 #[test]

@@ -3,7 +3,7 @@
 use crate::runs::{Row, holds};
 use std::test::Fail;
 
-const DRAWN: [Row; 8] = [
+const DRAWN: [Row; 9] = [
     (
         "sandpile settle --pgm",
         "2 2\n2 2\n2 2\n",
@@ -25,6 +25,11 @@ const DRAWN: [Row; 8] = [
         "P2\n2 1\n3\n3 1\n",
     ),
     ("sandpile inverse --pgm", "2 1\n3 1\n", "P2\n2 1\n3\n0 2\n"),
+    (
+        "sandpile recurrent --pgm",
+        "2 1\n0 0\n",
+        "P2\n2 1\n3\n3 3\n",
+    ),
     (
         "sandpile lab --droppers 1 --drops 2 --pgm",
         "1 1\n0\n",

@@ -16,7 +16,7 @@ use Rattle.sand_words.specs.declared.fault.WordsFault.TheVariants.{Clash, Memory
 use Rattle.sand_words.specs.declared.words.Form.TheVariants.{Picture, Pile}
 use Rattle.sand_words.specs.declared.words.Form.TheVariants as forms
 use Rattle.sand_words.specs.declared.words.Task.{Task}
-use Rattle.sand_words.specs.declared.words.Task.TheVariants.{Add, Burn, Drops, Identity, Inverse, Lab, Settle}
+use Rattle.sand_words.specs.declared.words.Task.TheVariants.{Add, Burn, Drops, Identity, Inverse, Lab, Recurrent, Settle}
 use Rattle.sand_words.specs.Options.{flag_in}
 use Rattle.sand_words.proofs.Draws.{drops_built}
 use Rattle.sand_words.proofs.DropsLevel.{drops_draw, drops_flag, drops_free, drops_passes, drops_words}
@@ -112,6 +112,8 @@ spelled_is_asked program (Add true) within = refl
 spelled_is_asked program (Add false) within = refl
 spelled_is_asked program (Inverse true) within = refl
 spelled_is_asked program (Inverse false) within = refl
+spelled_is_asked program (Recurrent true) within = refl
+spelled_is_asked program (Recurrent false) within = refl
 spelled_is_asked program (Lab run journal form) within =
     lab_asked program (lab_words run journal form) _ (lab_passes run within.0 journal form) (lab_free run within.0 journal form within.1) (lab_reads run within.0 journal form)
 

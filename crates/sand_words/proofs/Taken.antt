@@ -94,7 +94,13 @@ each_names_task p = (
       λ answers passes free. identity_is_sound p.1 passes,
       (
         λ answers passes free. drops_is_sound p.1 passes,
-        (λ answers passes free. (_, refl, tt), (λ answers passes free. (_, refl, tt), (λ answers passes free. lab_is_sound p.1 passes free, tt))),
+        (
+          λ answers passes free. (_, refl, tt),
+          (
+            λ answers passes free. (_, refl, tt),
+            (λ answers passes free. (_, refl, tt), (λ answers passes free. lab_is_sound p.1 passes free, tt)),
+          ),
+        ),
       ),
     ),
   ),

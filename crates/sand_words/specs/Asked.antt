@@ -12,7 +12,7 @@ use Rattle.sand_words.specs.declared.words.Form.{Form}
 use Rattle.sand_words.specs.declared.words.Form.TheVariants as forms
 use Rattle.sand_words.specs.declared.words.Run.{Run}
 use Rattle.sand_words.specs.declared.words.Task.{Task}
-use Rattle.sand_words.specs.declared.words.Task.TheVariants.{Add, Burn, Drops, Identity, Inverse, Lab, Settle}
+use Rattle.sand_words.specs.declared.words.Task.TheVariants.{Add, Burn, Drops, Identity, Inverse, Lab, Recurrent, Settle}
 
 -- the form in which a pile is asked for
 abbrev pub form_in : List Row → Form
@@ -78,6 +78,7 @@ task_named (name, options) =
     else if bytes_eq name (codes "drops") then Some (Drops (draw_of options) (flag_in (codes "pile") options))
     else if bytes_eq name (codes "add") then Some (Add pgm)
     else if bytes_eq name (codes "inverse") then Some (Inverse pgm)
+    else if bytes_eq name (codes "recurrent") then Some (Recurrent pgm)
     else if bytes_eq name (codes "lab") then lab_of options
     else None
 

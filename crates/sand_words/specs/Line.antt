@@ -74,5 +74,6 @@ or_command line command = with_subcommand line command.top
 unfoldable pub command_line : App
 command_line = fold or_command (wanting_command (bare_line (codes "sandpile"))) (
     settle_line ∷ bare_line (codes "burn") ∷ identity_line
-    ∷ drops_line ∷ pgm_line (codes "add") ∷ pgm_line (codes "inverse") ∷ lab_line ∷ []
+    ∷ drops_line ∷ pgm_line (codes "add") ∷ pgm_line (codes "inverse")
+    ∷ pgm_line (codes "recurrent") ∷ lab_line ∷ []
     )

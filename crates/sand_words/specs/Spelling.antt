@@ -9,7 +9,7 @@ use Rattle.sand_words.specs.declared.words.Form.{Form}
 use Rattle.sand_words.specs.declared.words.Form.TheVariants as forms
 use Rattle.sand_words.specs.declared.words.Run.{Run}
 use Rattle.sand_words.specs.declared.words.Task.{Task}
-use Rattle.sand_words.specs.declared.words.Task.TheVariants.{Add, Burn, Drops, Identity, Inverse, Lab, Settle}
+use Rattle.sand_words.specs.declared.words.Task.TheVariants.{Add, Burn, Drops, Identity, Inverse, Lab, Recurrent, Settle}
 
 -- a flag, where it is wanted
 abbrev pub flag_words : Text → Bool → List Text
@@ -44,6 +44,7 @@ words_of (Identity width height cylinder pgm) =
 words_of (Drops drawn pile) = codes "drops" ∷ (draw_words drawn ++ flag_words (codes "--pile") pile)
 words_of (Add pgm) = codes "add" ∷ flag_words (codes "--pgm") pgm
 words_of (Inverse pgm) = codes "inverse" ∷ flag_words (codes "--pgm") pgm
+words_of (Recurrent pgm) = codes "recurrent" ∷ flag_words (codes "--pgm") pgm
 words_of (Lab run journal form) =
     codes "lab" ∷ (settings_of run ++ (flag_words (codes "--journal") journal ++ form_words form))
 

@@ -184,6 +184,29 @@ Example:
   0 2",
 };
 
+pub(crate) const RECURRENT: Help = Help {
+    about: "Writes the one recurrent pile that is equivalent to a pile",
+    details: "\
+Input: a pile, as numbers with white space between: its width, its height, and
+  the grains of each site, row by row. A letter c behind the height makes it a
+  cylinder, whose rows go round.
+
+Output: the recurrent pile that differs from the input by topplings, forward or
+  back. It is the input itself if that is recurrent, and otherwise the settled
+  sum of the settled input and the identity. First its width, its height, and c
+  for a cylinder; then the grains of each site, row by row. With --pgm a picture
+  of it.
+
+Limits: width and height from 1 to 256, a cylinder at least 3 wide; at most
+  1,099,511,627,775 grains; at most 1,048,576 bytes of input.
+
+Example:
+
+  $ echo '2 1  0 0' | sandpile recurrent
+  2 1
+  3 3",
+};
+
 pub(crate) const LAB: Help = Help {
     about: "Drops grains on a pile by many threads at once, in epochs",
     details: "\

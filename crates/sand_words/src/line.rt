@@ -183,5 +183,6 @@ pub(crate) fn command_line<'a>(alloc: Global) -> Result<Command<'a>, AllocError>
         .subcommand(drops_line(alloc)?)?
         .subcommand(pgm_line(alloc, "add", help::ADD)?)?
         .subcommand(pgm_line(alloc, "inverse", help::INVERSE)?)?
+        .subcommand(pgm_line(alloc, "recurrent", help::RECURRENT)?)?
         .subcommand(lab_line(alloc)?)
 }

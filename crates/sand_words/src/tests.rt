@@ -43,6 +43,8 @@ fn asks(rt: HostRuntime) -> Result<(), Fail> {
         ("sandpile add --pgm", Task::Add { pgm: true }),
         ("sandpile inverse", Task::Inverse { pgm: false }),
         ("sandpile inverse --pgm", Task::Inverse { pgm: true }),
+        ("sandpile recurrent", Task::Recurrent { pgm: false }),
+        ("sandpile recurrent --pgm", Task::Recurrent { pgm: true }),
         (" burn", Task::Burn),
         ("settle burn", Task::Burn),
     ];
@@ -201,6 +203,7 @@ fn tells_misuse(rt: HostRuntime) -> Result<(), Fail> {
         "sandpile burn --pgm",
         "sandpile burn --pile",
         "sandpile add --pile",
+        "sandpile recurrent --pile",
         "sandpile drops --pgm",
         "sandpile drops --count 10000001",
         "sandpile drops --count",
@@ -310,6 +313,10 @@ fn helps(rt: HostRuntime) -> Result<(), Fail> {
         ),
         ("inverse ", "'2 1  3 1' | sandpile inverse\n  2 1\n  0 2\n"),
         (
+            "recurrent ",
+            "'2 1  0 0' | sandpile recurrent\n  2 1\n  3 3\n",
+        ),
+        (
             "lab ",
             "'1 1  0' | sandpile lab --droppers 2 --drops 3 --epochs 2\n  epoch drops topplings lost grains\n  0 6 1 4 2\n  1 6 2 8 0\n  total 12 3 12 0\n  1 1\n  0\n  odometer\n  3\n",
         ),
@@ -338,7 +345,14 @@ fn helps(rt: HostRuntime) -> Result<(), Fail> {
 fn lists_the_commands(rt: HostRuntime) -> Result<(), Fail> {
     let text = help(&rt, "sandpile --help")?;
     let commands = [
-        "settle", "burn", "identity", "drops", "add", "inverse", "lab",
+        "settle",
+        "burn",
+        "identity",
+        "drops",
+        "add",
+        "inverse",
+        "recurrent",
+        "lab",
     ];
     for command in commands {
         let line = format!(in rt.alloc(); "\n  {command} ")?;

@@ -82,6 +82,10 @@ pub enum Task {
     Inverse {
         pgm: bool,
     },
+    /// Writes the recurrent pile that is equivalent to a pile.
+    Recurrent {
+        pgm: bool,
+    },
     /// Drops grains on a pile by many threads at once. `journal` asks for a line for each drop in a text.
     Lab {
         run: Run,
@@ -157,6 +161,7 @@ fn task_named(name: &str, options: &ArgMatches<'_>) -> Option<Task>
         }),
         "add" => Some(Task::Add { pgm }),
         "inverse" => Some(Task::Inverse { pgm }),
+        "recurrent" => Some(Task::Recurrent { pgm }),
         "lab" => Some(Task::Lab {
             run: run_of(options)?,
             journal: flag_in(options, "journal"),

@@ -21,4 +21,5 @@ returns c =
     let with_drops = one_more c.in_ok-subcommand-4.ensures with_identity c.in_ok-drops_line.ensures.line c.in_ok-drops_line.ensures.local in
     let with_add = one_more c.in_ok-subcommand-5.ensures with_drops c.in_ok-pgm_line.ensures.line c.in_ok-pgm_line.ensures.local in
     let with_inverse = one_more c.in_ok-subcommand-6.ensures with_add c.in_ok-pgm_line-2.ensures.line c.in_ok-pgm_line-2.ensures.local in
-    IfOk-weaker c.subcommand-7.result _ _ (λ r h. one_more h with_inverse c.in_ok-lab_line.ensures.line c.in_ok-lab_line.ensures.local) c.subcommand-7.ensures
+    let with_recurrent = one_more c.in_ok-subcommand-7.ensures with_inverse c.in_ok-pgm_line-3.ensures.line c.in_ok-pgm_line-3.ensures.local in
+    IfOk-weaker c.subcommand-8.result _ _ (λ r h. one_more h with_recurrent c.in_ok-lab_line.ensures.line c.in_ok-lab_line.ensures.local) c.subcommand-8.ensures

@@ -1,0 +1,86 @@
+-- The drops of a draw and those of one dropper are tallied alike, so they leave one settled record.
+use Rattle.std.proofs.Common.{◌≡◌, ◌+◌, ℕ, Bool, true, List, [], ◌∷◌, ◌++◌, length, refl, sym, ap, ◌∙◌, subst, arith}
+use Rattle.std.specs.Prelude.{Some, Result, Ok, Err}
+use Rattle.sand_model.specs.Grid.{sites}
+use Rattle.sand_model.specs.Piles.{PileView}
+use Rattle.sand_model.specs.Sand.{tally, total}
+use Rattle.sand_model.proofs.Tallies.{tally-append}
+use Rattle.sand_settle.specs.Drops.{OneView, IsAfter}
+use Rattle.sand_settle.specs.Settling.{SettledView}
+use Rattle.sand_shared.specs.Record.{RecordView, IsOneThreads}
+use Rattle.sand_lab.specs.declared.plan.Wish.{Wish}
+use Rattle.sand_lab.specs.Reports.{AreEpochs, IsReport, ReportView, SheetView, histories}
+use Rattle.sand_lab.specs.Streams.{stream_of, stream_sites}
+use Rattle.sand_lab.proofs.Outcomes.{epoch_tally, one_threads_once}
+use Rattle.sand_text.specs.declared.fault.TextFault.{TextFault}
+use Rattle.sand_text.specs.Reading.{pile_of, ◌>>=◌}
+use Rattle.sand_text.specs.Texts.{text_of}
+use Rattle.sand_words.specs.declared.words.Draw.{Draw}
+use Rattle.sand_words.specs.declared.words.Form.{Form}
+use Rattle.sand_desk.specs.Drawing.{DropsTheDraw, LeavesTheSame, WritesTheSamePile}
+use Rattle.sand_desk.specs.Dropping.{with_draw}
+
+-- the sites of a draw on a pile
+abbrev drawn_on : Draw → PileView → List ℕ
+drawn_on draw start = stream_sites (sites start.grid) draw.seed draw.stream draw.count
+
+-- one dropper drops on each site in one epoch as often as the draw
+epoch_of_draw : (draw : Draw) (w : Wish) → DropsTheDraw draw w → (start : PileView) (i : ℕ)
+    → total w.droppers (λ k. tally (stream_sites (sites start.grid) w.seed (stream_of 0 k) w.drops) i) ≡ tally (drawn_on draw start) i
+unfolding total
+epoch_of_draw draw w asks start i =
+    let each : ℕ → ℕ = λ k. tally (stream_sites (sites start.grid) w.seed (stream_of 0 k) w.drops) i in
+    let one : total w.droppers each ≡ total 1 each = ap (λ n. total n each) asks.droppers in
+    let alone : total 1 each ≡ 0 + each 0 = refl in
+    let first : each 0 ≡ tally (drawn_on draw start) i = λ k. tally (stream_sites (sites start.grid) (asks.seed k) (sym asks.stream k) (asks.drops k)) i in
+    omega (arith, one, alone, first)
+
+-- so the run does
+run_of_draw : (draw : Draw) (album : List ℕ) (w : Wish) → DropsTheDraw draw w → (start : PileView) (rs : List RecordView) (ss : List SheetView) → length rs ≡ 1
+    → AreEpochs album w start 0 rs ss → (i : ℕ) → tally (histories rs) i ≡ tally (drawn_on draw start) i
+run_of_draw draw album w asks start [] ss one epochs i = absurd (omega arith)
+run_of_draw draw album w asks start (r ∷ []) [] one epochs i = absurd epochs
+run_of_draw draw album w asks start (r ∷ []) (s ∷ ss) one epochs i =
+    let whole : tally (histories (r ∷ [])) i ≡ tally r.history i + 0 = tally-append r.history [] i in
+    let each = epoch_tally album w start 0 r s epochs.0 i in
+    let drawn = epoch_of_draw draw w asks start i in
+    omega (arith, whole, each, drawn)
+run_of_draw draw album w asks start (r ∷ q ∷ rs) ss one epochs i = absurd (omega arith)
+
+-- the record of the run is that of the pile of one thread
+same_record : (draw : Draw) (album : List ℕ) (w : Wish) → DropsTheDraw draw w → (start : PileView) (last : OneView) (report : ReportView) → IsAfter start (drawn_on draw start) last
+    → IsReport album w start report → last.settled ≡ report.total.settled
+same_record draw album w asks start last report after left =
+    let mine : RecordView = record { start = start; history = drawn_on draw start; settled = last.settled } in
+    let one : IsOneThreads mine = record {
+      one = record {
+        start_pile = after.start_pile;
+        all_sites = after.all_sites;
+        limit = after.limit;
+        settled = after.settled;
+        number = refl;
+        grains = refl;
+      };
+    } in
+    one_threads_once mine report.total one left.total.one_threads (sym left.total.from_start)
+    (λ i. sym (run_of_draw draw album w asks start report.records report.sheets (left.all ∙ asks.epochs) left.epochs i) ∙ ap (λ (h : List ℕ). tally h i) (sym left.total.history))
+
+-- what was read, where something was
+read_or : {A : Type 0} → A → Result A TextFault → A
+read_or x (Ok y) = y
+read_or x (Err e) = x
+
+pub leaves_the_same : LeavesTheSame
+unfolding read_or
+leaves_the_same draw w alone journal form input one other asks drops run =
+    let start = run.start in
+    let reads : ◌≡◌ {A = Result (PileView × List ℕ) TextFault} (Ok (start, drawn_on draw start)) (Ok (drops.pile, drops.sites)) =
+    sym (ap (λ r. r >>= with_draw draw) run.read) ∙ drops.read in
+    let pair : (start, drawn_on draw start) ≡ (drops.pile, drops.sites) = ap (read_or (start, drawn_on draw start)) reads in
+    let after : IsAfter start (drawn_on draw start) drops.last =
+    subst (λ (p : PileView × List ℕ). IsAfter p.0 p.1 drops.last) (sym pair) drops.end in
+    same_record draw run.album w asks start drops.last run.report after run.left
+
+pub writes_the_same_pile : WritesTheSamePile
+writes_the_same_pile draw w journal input one other asks drops run =
+    drops.written ∙ ap (λ (r : SettledView). text_of r.pile) (leaves_the_same draw w true journal _ input one other asks drops run) ∙ sym run.written
