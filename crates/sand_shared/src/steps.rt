@@ -1,5 +1,6 @@
-//! The table of words under its rule, and the steps on it: each function here takes one step, and its contract names
-//! the event that this is, or the events in a row.
+//! The table of words under its rule, and the steps on it: each function here takes one step. The contract of a step from
+//! draw to deliver names the event that it is, or the events in a row. Those of split and join say what the passes have
+//! afterwards, and `learn` is a load that is no event.
 
 ghost use Rattle.std.specs.Prelude.{◌≡◌, ℕ, ◌+◌, ◌-◌, ◌*◌, ◌^◌, ◌<◌, ◌≤◌, ◌||◌, true, [], ◌∷◌, All, length, count_by, slice_index, vec_capacity, IfOk};
 ghost use Rattle.std.specs.Mem.Slots.{slots_items, slots_len, IsFull};
