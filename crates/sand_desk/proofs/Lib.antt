@@ -4,3 +4,4 @@ pub mod DropSites
 pub mod Drawing
 pub mod Unfit
 pub mod OneText
+pub mod OneNumber
