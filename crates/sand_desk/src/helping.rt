@@ -14,11 +14,7 @@ use std::io::Write;
 /// Refuses a writer that fails (Write, with how many bytes it took) and want of memory for the text (Memory). Any other
 /// fault is returned as it is, and nothing is written. So a program that ends with what is refused here never ends with
 /// status 0.
-pub fn show_help<W: Write>(
-    alloc: Global,
-    fault: DeskFault,
-    writer: &mut W,
-) -> Result<(), DeskFault>
+pub fn show_help<W: Write>(alloc: Global, fault: DeskFault, writer: &mut W) -> Result<(), DeskFault>
     ensures shown { OnOk result (IsHelped fault (W.contents writer.old) (W.contents writer.new)) }
     ensures fault { IfErr result (IsUnhelped fault (W.contents writer.old) (W.contents writer.new)) }
     ensures status { IfErr result (λ e. status_of e ≢ 0) }

@@ -18,5 +18,4 @@ pub fn one_lab_text()
 /// A fault of the crates below keeps its number when it becomes the program's.
 pub fn one_number()
     ensures { KeepNumbers }
-{
-}
+{}

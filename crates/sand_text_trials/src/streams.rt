@@ -65,9 +65,9 @@ fn reads_all(rt: HostRuntime) -> Result<(), Fail> {
         (5, 1, 0, 6, Ok(5)),
         (5, 2, 2, 2, Err(StreamFault::Read)),
         (5, 2, 1, 1, Err(StreamFault::Read)),
-        (INPUT_LIMIT, 10_000, 0, 106, Ok(INPUT_LIMIT)),
-        (INPUT_LIMIT + 1, 16_384, 0, 65, Err(StreamFault::TooLong)),
-        (INPUT_LIMIT + 9, 10_000, 0, 105, Err(StreamFault::TooLong)),
+        (INPUT_LIMIT, 1_000, 0, 1_050, Ok(INPUT_LIMIT)),
+        (INPUT_LIMIT + 1, 1_000, 0, 1_049, Err(StreamFault::TooLong)),
+        (INPUT_LIMIT + 9, 1_000, 0, 1_049, Err(StreamFault::TooLong)),
     ] {
         let mut reader = Giver {
             left,
