@@ -2,12 +2,24 @@
 
 ghost use Rattle.std.specs.Prelude.{◌≢◌, IfErr, OnOk};
 ghost use Rattle.sand_desk.specs.Faults.{status_of};
-ghost use Rattle.sand_desk.specs.Helping.{IsHelped, IsUnhelped};
+ghost use Rattle.sand_desk.specs.Helping.{IsHelped, IsShown, IsUnhelped, IsUnshown};
 
 use crate::faults::DeskFault;
 use sand_text::write_text;
 use std::alloc::Global;
+use std::fmt::Display;
 use std::io::Write;
+
+// Writes the text of a value. It is generic, so that its contract can name the text: a type says which text its values
+// have, and clap's error does not.
+fn show<D: Display, W: Write>(alloc: Global, value: &D, writer: &mut W) -> Result<(), DeskFault>
+    ensures shown { OnOk result (IsShown (D.output value.now) (W.contents writer.old) (W.contents writer.new)) }
+    ensures fault { IfErr result (IsUnshown (D.output value.now) (W.contents writer.old) (W.contents writer.new)) }
+{
+    let text = value.to_string(alloc)?;
+    write_text(writer, text.as_str().as_bytes())?;
+    Ok(())
+}
 
 /// Writes the help that the words asked for, as a fault of `run_command` says.
 ///
@@ -20,11 +32,7 @@ pub fn show_help<W: Write>(alloc: Global, fault: DeskFault, writer: &mut W) -> R
     ensures status { IfErr result (λ e. status_of e ≢ 0) }
 {
     match &fault {
-        DeskFault::Usage(error) if !error.use_stderr() => {
-            let text = error.to_string(alloc)?;
-            write_text(writer, text.as_str().as_bytes())?;
-            Ok(())
-        }
+        DeskFault::Usage(error) if !error.use_stderr() => show(alloc, error, writer),
         _ => Err(fault),
     }
 }
