@@ -5,3 +5,4 @@ pub mod Drawing
 pub mod Unfit
 pub mod OneText
 pub mod OneDropper
+pub mod OneNumber

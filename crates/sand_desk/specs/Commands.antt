@@ -27,6 +27,11 @@ abbrev pub reads_input : Task → Bool
 reads_input (task.Identity width height cylinder pgm) = false
 reads_input _ = true
 
+-- whether the words ask for a task that reads an input
+abbrev pub asks_for_input : Option Task → Bool
+asks_for_input None = false
+asks_for_input (Some task) = reads_input task
+
 -- the text that a task writes for an input
 abbrev pub IsTextOf : Task → List ℕ → List ℕ → Type 0
 IsTextOf (task.Settle form) input text = IsSettleText form input text
@@ -172,6 +177,12 @@ pub record IsMisuse (asked : Option Task) (left left' held held' : Option (List 
   pub unread : Keeps left left'
   pub unwritten : Keeps held held'
 
+-- memory ran out, and nothing was written: the reader gave some bytes within the limit, or none where no input was asked for
+pub record IsStarved (asked : Option Task) (left left' held held' : Option (List ℕ)) : Type 0 where
+  pub further : IsFurtherByAtMost left left' most_bytes
+  pub unread : asks_for_input asked ≡ false → Keeps left left'
+  pub unwritten : Keeps held held'
+
 -- a fault of the words shows help if and only if the words ask for help and for nothing else
 abbrev pub HelpsIfAsked : List Text → DeskFault → Type 0
 HelpsIfAsked words (desk.Usage error) = (kind_of error ≡ DisplayHelp) ↔ AskForHelp words
@@ -184,6 +195,6 @@ EndsBy asked left left' held held' (desk.Usage error) = IsMisuse asked left left
 EndsBy asked left left' held held' (desk.Clash conflict) = IsMisuse asked left left' held held'
 EndsBy asked left left' held held' desk.Read = IsStopped asked left left' held held'
 EndsBy asked left left' held held' desk.TooLong = IsFlooded asked left left' held held'
-EndsBy asked left left' held held' desk.Memory = Keeps held held'
+EndsBy asked left left' held held' desk.Memory = IsStarved asked left left' held held'
 EndsBy asked left left' held held' (desk.Write sent) = IsCutShort asked left left' held held' sent
 EndsBy asked left left' held held' fault = IsFaulty asked left left' held held' fault

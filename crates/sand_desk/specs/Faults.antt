@@ -1,5 +1,5 @@
 -- The faults of the program: numbers, names, lines and exit statuses.
-use Rattle.std.specs.Prelude.{ℕ, List, [], ◌++◌, codes, decimal}
+use Rattle.std.specs.Prelude.{ℕ, ◌≡◌, List, [], ◌++◌, codes, decimal}
 use Rattle.clap.specs.Words.{kind_of}
 use Rattle.clap.specs.declared.error.kind.ErrorKind.{ErrorKind}
 use Rattle.clap.specs.declared.error.kind.ErrorKind.TheVariants as kind
@@ -9,17 +9,23 @@ use Rattle.sand_text.specs.declared.fault.ReadFault.{ReadFault}
 use Rattle.sand_text.specs.declared.fault.ReadFault.TheVariants as read
 use Rattle.sand_text.specs.declared.fault.StreamFault.{StreamFault}
 use Rattle.sand_text.specs.declared.fault.StreamFault.TheVariants as stream
+use Rattle.sand_text.specs.Faults.{text_fault_number, read_fault_number, stream_fault_number}
 use Rattle.sand_settle.specs.declared.faults.OneFault.{OneFault}
 use Rattle.sand_settle.specs.declared.faults.OneFault.TheVariants as one
+use Rattle.sand_settle.specs.Faults.{one_fault_number}
 use Rattle.sand_group.specs.declared.faults.GroupFault.{GroupFault}
 use Rattle.sand_group.specs.declared.faults.GroupFault.TheVariants as group
+use Rattle.sand_group.specs.Faults.{group_fault_number}
 use Rattle.sand_model.specs.declared.faults.ShapeFault.{ShapeFault}
 use Rattle.sand_model.specs.declared.faults.ShapeFault.TheVariants as shape
+use Rattle.sand_model.specs.Faults.{shape_fault_number}
 use Rattle.sand_words.specs.declared.fault.WordsFault.{WordsFault}
 use Rattle.sand_words.specs.declared.fault.WordsFault.TheVariants as words
+use Rattle.sand_words.specs.Fault.{words_fault_number}
 use Rattle.sand_desk.specs.declared.faults.DeskFault.{DeskFault}
 use Rattle.sand_desk.specs.declared.faults.DeskFault.TheVariants.{Side, Length, TooManyGrains, Memory, Full, Unstable, NotRecurrent, Shapes, Taken, Text, TooLarge, Read, Write, TooLong, Usage, Clash, Narrow, NoSite}
 
+-- the table of the numbers of the program's faults
 abbrev pub number_of : DeskFault → ℕ
 number_of Side = 1
 number_of Length = 2
@@ -148,3 +154,13 @@ of_group (group.Memory refused) = Memory
 abbrev pub of_shape : ShapeFault → DeskFault
 of_shape shape.Side = Side
 of_shape shape.Narrow = Narrow
+
+-- a fault of the crates below keeps its number when it becomes the program's
+pub record KeepNumbers : Type 0 where
+  pub shape : (fault : ShapeFault) → number_of (of_shape fault) ≡ shape_fault_number fault
+  pub one : (fault : OneFault) → number_of (of_one fault) ≡ one_fault_number fault
+  pub group : (fault : GroupFault) → number_of (of_group fault) ≡ group_fault_number fault
+  pub text : (fault : TextFault) → number_of (of_text fault) ≡ text_fault_number fault
+  pub read : (fault : ReadFault) → number_of (of_read fault) ≡ read_fault_number fault
+  pub stream : (fault : StreamFault) → number_of (of_stream fault) ≡ stream_fault_number fault
+  pub words : (fault : WordsFault) → number_of (of_words fault) ≡ words_fault_number fault

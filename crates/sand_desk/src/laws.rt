@@ -1,4 +1,4 @@
-//! The laws of the commands `lab` and `drops`, as the contracts of functions that do nothing.
+//! The laws of the program, as the contracts of functions that do nothing.
 //!
 //! **One text.** The laboratory's law says that piles, odometers, sums and numbers of drops are a function of the start and
 //! of seed, droppers, drops and epochs; the text shows nothing else.
@@ -7,6 +7,7 @@
 //! both read stream 0. What one thread leaves depends on these numbers alone.
 
 ghost use Rattle.sand_desk.specs.Drawing.{LeavesTheSame, WritesTheSamePile};
+ghost use Rattle.sand_desk.specs.Faults.{KeepNumbers};
 ghost use Rattle.sand_desk.specs.Laboratory.{OneLabText};
 
 use sand_lab::laws::one_outcome;
@@ -23,4 +24,9 @@ pub fn one_lab_text()
 pub fn drops_of_one_dropper()
     ensures record { LeavesTheSame }
     ensures pile { WritesTheSamePile }
+{}
+
+/// A fault of the crates below keeps its number when it becomes the program's.
+pub fn one_number()
+    ensures { KeepNumbers }
 {}

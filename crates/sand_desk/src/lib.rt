@@ -1,13 +1,14 @@
 //! The program's commands: from words and bytes to bytes.
 //!
 //! `commands` asks `sand_words` for the task that the words name, reads the input, does the task and writes its text.
-//! `texts` has the readings and the texts of `sand_text`, and `faults` the one fault type of it all.
+//! `texts` has the readings and the texts of `sand_text`, `faults` the one fault type of it all, and `helping` shows help.
 #![tactic(auto)]
 
 mod commands;
 mod dropping;
 mod faults;
 mod group;
+mod helping;
 mod laboratory;
 pub mod laws;
 mod settling;
@@ -15,6 +16,7 @@ mod texts;
 
 pub use commands::run_command;
 pub use faults::{DeskFault, status, write_fault};
+pub use helping::show_help;
 pub use laboratory::{journal_text, lab_text};
 pub use texts::{
     burn_text, pgm_text, pile_text, read_drops, read_pile, read_two, settle_text, table_text,

@@ -74,6 +74,38 @@ fn an_observer_reads_between_two_drops(rt: HostRuntime) -> Result<(), Fail> {
     Ok(())
 }
 
+// One dropper is held until the other has dropped once, and this one is then held until the first has. So the journal
+// begins with a drop of each, in that order, whatever the threads would have done.
+fn drops_in_order<R: Threads + Sync + Abort>(
+    rt: &R,
+    alloc: Global,
+    first: u32,
+    second: u32,
+) -> Result<(), Fail> {
+    let start = one_site(alloc, 0)?;
+    let wish = Wish {
+        droppers: 2,
+        drops: 2,
+        ..QUIET
+    };
+    let gate = Holds::new([
+        Hold::new(dropper(second, 0), dropper(first, 1)),
+        Hold::new(dropper(first, 1), dropper(second, 1)),
+    ]);
+    let report = run_gated(rt, alloc, &start, wish, &gate)?;
+    assert!(rt; gate.have_held());
+    let mut droppers = report.journal(0).iter().map(|entry| entry.dropper);
+    assert_eq!(rt; droppers.next(), Some(first));
+    assert_eq!(rt; droppers.next(), Some(second));
+    Ok(())
+}
+
+#[test]
+fn the_journal_has_the_order_of_the_drops(rt: HostRuntime) -> Result<(), Fail> {
+    drops_in_order(&rt, rt.alloc(), 0, 1)?;
+    drops_in_order(&rt, rt.alloc(), 1, 0)
+}
+
 // Of 17 drops two make a turn: the second one's gate is called before the first one is made.
 #[test]
 fn the_drops_of_a_turn_are_made_together(rt: HostRuntime) -> Result<(), Fail> {

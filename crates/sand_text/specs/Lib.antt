@@ -1,5 +1,6 @@
 pub mod Burning
 pub mod Bytes
+pub mod Faults
 pub mod Flow
 pub mod Laws
 pub mod Left

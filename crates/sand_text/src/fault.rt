@@ -1,4 +1,4 @@
-//! Why a text was not read, and why a stream ended early.
+//! Why a text was not read, and why a stream ended early, with the number of each fault.
 
 ghost use Rattle.std.specs.Prelude.{◌≡◌};
 ghost use Rattle.sand_text.specs.declared.fault.ReadFault.TheVariants as read_faults;
@@ -51,6 +51,52 @@ pub enum StreamFault {
     Write(usize),
     #[error("more input than the limit")]
     TooLong,
+}
+
+impl TextFault {
+    ghost use Rattle.sand_text.specs.Faults.{text_fault_number};
+
+    pub fn number(self) -> u32
+        ensures { result ≡ text_fault_number self }
+    {
+        match self {
+            TextFault::Text(_) => 18,
+            TextFault::TooLarge(_) => 19,
+            TextFault::Side => 1,
+            TextFault::Narrow => 24,
+            TextFault::Length => 2,
+            TextFault::TooManyGrains => 3,
+            TextFault::NoSite(_) => 25,
+        }
+    }
+}
+
+impl ReadFault {
+    ghost use Rattle.sand_text.specs.Faults.{read_fault_number};
+
+    pub fn number(self) -> u32
+        ensures { result ≡ read_fault_number self }
+    {
+        match self {
+            ReadFault::Memory => 4,
+            ReadFault::Text(fault) => fault.number(),
+        }
+    }
+}
+
+impl StreamFault {
+    ghost use Rattle.sand_text.specs.Faults.{stream_fault_number};
+
+    pub fn number(self) -> u32
+        ensures { result ≡ stream_fault_number self }
+    {
+        match self {
+            StreamFault::Memory => 4,
+            StreamFault::Read => 20,
+            StreamFault::Write(_) => 21,
+            StreamFault::TooLong => 22,
+        }
+    }
 }
 
 impl From<ShapeFault> for TextFault {

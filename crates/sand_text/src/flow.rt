@@ -13,8 +13,8 @@ use std::io::{Read, Write};
 /// The most bytes that an input may have.
 pub const INPUT_LIMIT: usize = 1_048_576;
 
-/// The most bytes that are asked of a reader at once.
-const CHUNK: usize = 16_384;
+/// The most bytes that are asked of a reader at once. They are on the stack, so a greater number makes the program need more.
+const CHUNK: usize = 4_096;
 
 /// All that a reader gives. Refuses a reader that fails (Read), one that gives more than `INPUT_LIMIT` bytes (TooLong),
 /// of which it takes one over the limit, and want of memory (Memory).

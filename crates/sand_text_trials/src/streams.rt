@@ -5,7 +5,7 @@ use std::io;
 use std::io::{Read, Write};
 use std::test::Fail;
 
-/// Gives so many bytes, a few at a call, and fails at one call.
+/// Gives so many bytes, a few at a call, and fails at one call alone. It counts how often it is called.
 #[derive(Drop)]
 struct Giver {
     left: usize,
@@ -57,15 +57,17 @@ impl Write for Taker {
     }
 }
 
+// A reader is called once after its last byte, and never after it failed, or gave too much.
 #[test]
 fn reads_all(rt: HostRuntime) -> Result<(), Fail> {
-    for (left, step, fails_at, want) in [
-        (0, 1, 0, Ok(0)),
-        (5, 1, 0, Ok(5)),
-        (5, 2, 2, Err(StreamFault::Read)),
-        (INPUT_LIMIT, 10_000, 0, Ok(INPUT_LIMIT)),
-        (INPUT_LIMIT + 1, INPUT_LIMIT, 0, Err(StreamFault::TooLong)),
-        (INPUT_LIMIT + 9, 10_000, 0, Err(StreamFault::TooLong)),
+    for (left, step, fails_at, calls, want) in [
+        (0, 1, 0, 1, Ok(0)),
+        (5, 1, 0, 6, Ok(5)),
+        (5, 2, 2, 2, Err(StreamFault::Read)),
+        (5, 2, 1, 1, Err(StreamFault::Read)),
+        (INPUT_LIMIT, 1_000, 0, 1_050, Ok(INPUT_LIMIT)),
+        (INPUT_LIMIT + 1, 1_000, 0, 1_049, Err(StreamFault::TooLong)),
+        (INPUT_LIMIT + 9, 1_000, 0, 1_049, Err(StreamFault::TooLong)),
     ] {
         let mut reader = Giver {
             left,
@@ -79,11 +81,12 @@ fn reads_all(rt: HostRuntime) -> Result<(), Fail> {
             Err(fault) => Err(*fault),
         };
         assert_eq!(rt; len, want, "at {left}");
+        assert_eq!(rt; reader.calls, calls, "at {left}");
         let taken = left.saturating_sub(reader.left);
         match want {
             Ok(_) => assert_eq!(rt; reader.left, 0, "at {left}"),
             Err(StreamFault::TooLong) => assert_eq!(rt; taken, INPUT_LIMIT + 1, "at {left}"),
-            Err(_) => assert_eq!(rt; taken, step, "at {left}"),
+            Err(_) => assert_eq!(rt; taken, step * (calls - 1), "at {left}"),
         }
     }
     Ok(())
@@ -111,6 +114,57 @@ fn writes_all(rt: HostRuntime) -> Result<(), Fail> {
         assert_eq!(rt; write_text(&mut writer, text), want, "at {step} {room}");
         let (front, _) = text.split_at(room.min(text.len()));
         assert_eq!(rt; writer.taken.as_slice(), front, "at {step} {room}");
+    }
+    Ok(())
+}
+
+/// Takes one byte at a call, and stops at one call alone: it fails, or takes nothing. It counts how often it is called.
+#[derive(Drop)]
+struct Once {
+    taken: Vec<u8>,
+    calls: usize,
+    stops_at: usize,
+    fails: bool,
+}
+
+impl Write for Once {
+    fn write(&mut self, buf: &[u8]) -> io::Result<usize> {
+        self.calls = self.calls.saturating_add(1);
+        if self.calls == self.stops_at {
+            return if self.fails {
+                Err(io::Error::from(io::ErrorKind::Interrupted))
+            } else {
+                Ok(0)
+            };
+        }
+        let count = buf.len().min(1);
+        self.taken.extend_from_slice(&buf[..count])?;
+        Ok(count)
+    }
+
+    fn flush(&mut self) -> io::Result<()> {
+        Ok(())
+    }
+}
+
+// A writer that stopped once is not called again, though it would take more.
+#[test]
+fn stops_for_good(rt: HostRuntime) -> Result<(), Fail> {
+    let text = b"3 1\n0 4 0\n";
+    for fails in [false, true] {
+        for stops_at in 1..text.len() + 1 {
+            let mut writer = Once {
+                taken: Vec::new(rt.alloc()),
+                calls: 0,
+                stops_at,
+                fails,
+            };
+            let sent = stops_at - 1;
+            let want = Err(StreamFault::Write(sent));
+            assert_eq!(rt; write_text(&mut writer, text), want);
+            assert_eq!(rt; writer.calls, stops_at);
+            assert_eq!(rt; writer.taken.as_slice(), &text[..sent]);
+        }
     }
     Ok(())
 }

@@ -1,8 +1,13 @@
 //! The line, the number and the exit status of each fault.
 
 use crate::runs::words_of;
-use sand_desk::{DeskFault, run_command, status, write_fault};
+use crate::stopping::Sluggish;
+use sand_desk::{DeskFault, run_command, show_help, status, write_fault};
+use std::alloc::Global;
+use std::io::Write;
+use std::process::Abort;
 use std::test::Fail;
+use std::thread::Threads;
 
 #[test]
 fn the_line_of_each_fault(rt: HostRuntime) -> Result<(), Fail> {
@@ -96,4 +101,61 @@ fn misuse_and_help(rt: HostRuntime) -> Result<(), Fail> {
         assert_eq!(rt; reader.len(), 6);
     }
     Ok(())
+}
+
+// How it ends to show the help that a command line asks for.
+fn helped<T: Threads + Sync, W: Write>(
+    rt: &T,
+    alloc: Global,
+    line: &str,
+    writer: &mut W,
+) -> Result<Result<(), DeskFault>, Fail> {
+    let words = words_of(alloc, line)?;
+    if words.is_empty() {
+        return Err("no words".into());
+    }
+    let mut reader = b"".as_slice();
+    match run_command(rt, alloc, words.as_slice(), &mut reader, writer) {
+        Ok(()) => Err("no fault".into()),
+        Err(fault) => Ok(show_help(alloc, fault, writer)),
+    }
+}
+
+// Help is written whole, or a fault says how many of its bytes went out.
+fn helps_up_to<T: Threads + Sync + Abort>(
+    rt: &T,
+    alloc: Global,
+    help: &[u8],
+    room: usize,
+    flushes: bool,
+) -> Result<(), Fail> {
+    let mut writer = Sluggish {
+        taken: Vec::new(alloc),
+        room,
+        is_full: false,
+        flushes,
+    };
+    let answer = helped(rt, alloc, "sandpile settle --help", &mut writer)?;
+    let sent = room.min(help.len());
+    assert_eq!(rt; writer.taken.as_slice(), &help[..sent]);
+    match answer {
+        Ok(()) => assert!(rt; flushes && sent == help.len()),
+        Err(fault) => {
+            assert!(rt; matches!(fault, DeskFault::Write(after) if after == sent));
+            assert_eq!(rt; status(&fault), 1);
+        }
+    }
+    Ok(())
+}
+
+#[test]
+fn help_that_cannot_be_written(rt: HostRuntime) -> Result<(), Fail> {
+    let alloc = rt.alloc();
+    let mut help = Vec::new(alloc);
+    assert!(rt; helped(&rt, alloc, "sandpile settle --help", &mut help)?.is_ok());
+    assert!(rt; help.len() > 100);
+    for room in [0, 1, 99, help.len() - 1] {
+        helps_up_to(&rt, alloc, help.as_slice(), room, true)?;
+    }
+    helps_up_to(&rt, alloc, help.as_slice(), help.len(), false)
 }

@@ -1,5 +1,5 @@
--- What a fault says of the words.
-use Rattle.std.specs.Prelude.{◌≡◌, ◌≢◌, ⊤, [], Option, Some}
+-- What a fault says of the words, and its number.
+use Rattle.std.specs.Prelude.{ℕ, ◌≡◌, ◌≢◌, ⊤, [], Option, Some}
 use Rattle.clap.specs.Words.{IsAmong, Kinds, kind_of}
 use Rattle.clap.specs.declared.error.Error.{Error}
 use Rattle.clap.specs.declared.error.kind.ErrorKind.TheVariants.{DisplayHelp, OutOfMemory}
@@ -36,3 +36,9 @@ abbrev pub IsFaultOf : Error → WordsFault → Type 0
 IsFaultOf error Memory = kind_of error ≡ OutOfMemory
 IsFaultOf error (Usage kept) = (kept ≡ error) × (kind_of error ≢ OutOfMemory)
 IsFaultOf error (Clash conflict) = ⊥
+
+-- whatever is wrong with the words, and a call for help, has one number
+abbrev pub words_fault_number : WordsFault → ℕ
+words_fault_number Memory = 4
+words_fault_number (Usage error) = 23
+words_fault_number (Clash conflict) = 23

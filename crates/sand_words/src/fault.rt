@@ -1,7 +1,7 @@
-//! Why the words ask for no task.
+//! Why the words ask for no task, with the number of each fault.
 
 ghost use Rattle.std.specs.Prelude.{◌≡◌};
-ghost use Rattle.sand_words.specs.Fault.{IsFaultOf};
+ghost use Rattle.sand_words.specs.Fault.{IsFaultOf, words_fault_number};
 
 use clap::error::ErrorKind;
 use std::alloc::AllocError;
@@ -30,6 +30,17 @@ pub enum WordsFault {
     /// The words have options that do not go together.
     #[error("{0}")]
     Clash(Conflict),
+}
+
+impl WordsFault {
+    pub fn number(&self) -> u32
+        ensures { result ≡ words_fault_number self.now }
+    {
+        match self {
+            WordsFault::Memory => 4,
+            WordsFault::Usage(_) | WordsFault::Clash(_) => 23,
+        }
+    }
 }
 
 impl From<AllocError> for WordsFault {

@@ -2,12 +2,15 @@
 //! that ended by a line on the standard error and by its exit status.
 #![tactic(auto)]
 
-ghost use Rattle.std.specs.Prelude.{◌≡◌, ◌<◌, false, length};
+ghost use Rattle.std.specs.Prelude.{◌≡◌, ◌≢◌, ◌<◌, IfErr, false, length};
+ghost use Rattle.sand_desk.specs.Faults.{status_of};
 
-use sand_desk::{DeskFault, run_command, status, write_fault};
-use std::io::Write;
+use sand_desk::{DeskFault, run_command, show_help, status, write_fault};
+use std::alloc::Global;
+use std::io::{Read, Write};
 use std::process::ExitCode;
 use std::rt::Env;
+use std::thread::Threads;
 use std::{env, io};
 
 fn main(rt: HostRuntime) -> ExitCode {
@@ -25,7 +28,7 @@ fn main(rt: HostRuntime) -> ExitCode {
     if is_nothing(words.as_slice()) {
         return ExitCode::from(2);
     }
-    match run_command(
+    match answer(
         &rt,
         alloc,
         words.as_slice(),
@@ -34,6 +37,23 @@ fn main(rt: HostRuntime) -> ExitCode {
     ) {
         Ok(()) => ExitCode::SUCCESS,
         Err(fault) => end(&rt, &mut rt.stderr(), &fault),
+    }
+}
+
+// Runs the command that the words name, or writes the help that they ask for.
+fn answer<T: Threads + Sync, R: Read, W: Write>(
+    rt: &T,
+    alloc: Global,
+    words: &[String],
+    input: &mut R,
+    output: &mut W,
+) -> Result<(), DeskFault>
+    requires { 0 < length words.now }
+    ensures { IfErr result (λ e. status_of e ≢ 0) }
+{
+    match run_command(rt, alloc, words, input, output) {
+        Ok(()) => Ok(()),
+        Err(fault) => show_help(alloc, fault, output),
     }
 }
 
@@ -57,11 +77,14 @@ fn is_nothing(words: &[String]) -> bool
     }
 }
 
-// Tells a fault, and answers its status.
-fn end<R: Print + Eprint, W: Write>(rt: &R, errors: &mut W, fault: &DeskFault) -> ExitCode {
+// Reports a fault on the standard error, and returns its status. Help was written before, or is a fault of the writer by
+// now.
+fn end<R: Eprint, W: Write>(rt: &R, errors: &mut W, fault: &DeskFault) -> ExitCode
+    requires { status_of fault.now ≢ 0 }
+{
     match fault {
         DeskFault::Usage(error) => {
-            let _ = error.print(rt);
+            let _ = eprint!(rt; "{error}");
         }
         DeskFault::Clash(conflict) => {
             let _ = eprintln!(rt; "{conflict}");

@@ -1,0 +1,71 @@
+-- A fault keeps its number when it becomes the program's.
+use Rattle.std.proofs.Common.{◌≡◌, refl}
+use Rattle.sand_model.specs.declared.faults.ShapeFault.{ShapeFault}
+use Rattle.sand_model.specs.declared.faults.ShapeFault.TheVariants as shape
+use Rattle.sand_model.specs.Faults.{shape_fault_number}
+use Rattle.sand_settle.specs.declared.faults.OneFault.{OneFault}
+use Rattle.sand_settle.specs.declared.faults.OneFault.TheVariants as one
+use Rattle.sand_settle.specs.Faults.{one_fault_number}
+use Rattle.sand_group.specs.declared.faults.GroupFault.{GroupFault}
+use Rattle.sand_group.specs.declared.faults.GroupFault.TheVariants as group
+use Rattle.sand_group.specs.Faults.{group_fault_number}
+use Rattle.sand_text.specs.declared.fault.TextFault.{TextFault}
+use Rattle.sand_text.specs.declared.fault.TextFault.TheVariants as text
+use Rattle.sand_text.specs.declared.fault.ReadFault.{ReadFault}
+use Rattle.sand_text.specs.declared.fault.ReadFault.TheVariants as read
+use Rattle.sand_text.specs.declared.fault.StreamFault.{StreamFault}
+use Rattle.sand_text.specs.declared.fault.StreamFault.TheVariants as stream
+use Rattle.sand_text.specs.Faults.{text_fault_number, read_fault_number, stream_fault_number}
+use Rattle.sand_words.specs.declared.fault.WordsFault.{WordsFault}
+use Rattle.sand_words.specs.declared.fault.WordsFault.TheVariants as words
+use Rattle.sand_words.specs.Fault.{words_fault_number}
+use Rattle.sand_desk.specs.Faults.{number_of, of_shape, of_one, of_group, of_text, of_read, of_stream, of_words, KeepNumbers}
+
+of_a_shape : (fault : ShapeFault) → number_of (of_shape fault) ≡ shape_fault_number fault
+of_a_shape shape.Side = refl
+of_a_shape shape.Narrow = refl
+
+of_one_pile : (fault : OneFault) → number_of (of_one fault) ≡ one_fault_number fault
+of_one_pile one.Full = refl
+of_one_pile (one.Memory refused) = refl
+
+of_the_group : (fault : GroupFault) → number_of (of_group fault) ≡ group_fault_number fault
+of_the_group group.Unstable = refl
+of_the_group group.NotRecurrent = refl
+of_the_group group.Shapes = refl
+of_the_group (group.Memory refused) = refl
+
+of_a_text : (fault : TextFault) → number_of (of_text fault) ≡ text_fault_number fault
+of_a_text (text.Text place) = refl
+of_a_text (text.TooLarge place) = refl
+of_a_text text.Side = refl
+of_a_text text.Narrow = refl
+of_a_text text.Length = refl
+of_a_text text.TooManyGrains = refl
+of_a_text (text.NoSite index) = refl
+
+of_a_reading : (fault : ReadFault) → number_of (of_read fault) ≡ read_fault_number fault
+of_a_reading read.Memory = refl
+of_a_reading (read.Text fault) = of_a_text fault
+
+of_a_stream : (fault : StreamFault) → number_of (of_stream fault) ≡ stream_fault_number fault
+of_a_stream stream.Memory = refl
+of_a_stream stream.Read = refl
+of_a_stream (stream.Write sent) = refl
+of_a_stream stream.TooLong = refl
+
+of_the_words : (fault : WordsFault) → number_of (of_words fault) ≡ words_fault_number fault
+of_the_words words.Memory = refl
+of_the_words (words.Usage error) = refl
+of_the_words (words.Clash conflict) = refl
+
+pub one_number : KeepNumbers
+one_number = record {
+  shape = of_a_shape;
+  one = of_one_pile;
+  group = of_the_group;
+  text = of_a_text;
+  read = of_a_reading;
+  stream = of_a_stream;
+  words = of_the_words;
+}

@@ -1,0 +1,38 @@
+//! Help: what the words ask for in place of a task, and how a program ends that shows it.
+
+ghost use Rattle.std.specs.Prelude.{◌≢◌, IfErr, OnOk};
+ghost use Rattle.sand_desk.specs.Faults.{status_of};
+ghost use Rattle.sand_desk.specs.Helping.{IsHelped, IsShown, IsUnhelped, IsUnshown};
+
+use crate::faults::DeskFault;
+use sand_text::write_text;
+use std::alloc::Global;
+use std::fmt::Display;
+use std::io::Write;
+
+// Writes the text of a value. It is generic, so that its contract can name the text: a type says which text its values
+// have, and clap's error does not.
+fn show<D: Display, W: Write>(alloc: Global, value: &D, writer: &mut W) -> Result<(), DeskFault>
+    ensures shown { OnOk result (IsShown (D.output value.now) (W.contents writer.old) (W.contents writer.new)) }
+    ensures fault { IfErr result (IsUnshown (D.output value.now) (W.contents writer.old) (W.contents writer.new)) }
+{
+    let text = value.to_string(alloc)?;
+    write_text(writer, text.as_str().as_bytes())?;
+    Ok(())
+}
+
+/// Writes the help that the words asked for, as a fault of `run_command` says.
+///
+/// Refuses a writer that fails (Write, with how many bytes it took) and want of memory for the text (Memory). Any other
+/// fault is returned as it is, and nothing is written. So a program that ends with what is refused here never ends with
+/// status 0.
+pub fn show_help<W: Write>(alloc: Global, fault: DeskFault, writer: &mut W) -> Result<(), DeskFault>
+    ensures shown { OnOk result (IsHelped fault (W.contents writer.old) (W.contents writer.new)) }
+    ensures fault { IfErr result (IsUnhelped fault (W.contents writer.old) (W.contents writer.new)) }
+    ensures status { IfErr result (λ e. status_of e ≢ 0) }
+{
+    match &fault {
+        DeskFault::Usage(error) if !error.use_stderr() => show(alloc, error, writer),
+        _ => Err(fault),
+    }
+}
