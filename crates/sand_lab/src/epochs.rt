@@ -192,8 +192,7 @@ fn closed_epoch<R: Threads + Sync, G: Gate>(
 {
     let (pile, mut first) = share(alloc, start, quota_of(wish))?;
     let mut crew = Crew::hire(alloc, &pile, &mut first, start.shape(), wish, epoch)?;
-    let mut journal =
-        work_and_make_ready(rt, alloc, &mut crew, &pile, &mut first, gate, wish)?;
+    let mut journal = work_and_make_ready(rt, alloc, &mut crew, &pile, &mut first, gate, wish)?;
     crew.sweep_on(rt, &pile, wish.sweeps);
     let findings = crew.gather(alloc, &pile, &mut first)?;
     write_journal(&mut journal, first.receipts(), wish.drops);
