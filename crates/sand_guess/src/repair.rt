@@ -121,7 +121,7 @@ impl Repair {
     }
 
     /// Makes the counts right, and says whether it came to an end. Where topplings have to be taken back over and over,
-    /// counts are lowered by what a lower density would have made of them where the last fire left sites.
+    /// counts are lowered by what a higher density would have made of them where the last fire left sites.
     pub(crate) fn finish(
         &mut self,
         alloc: Global,

@@ -11,8 +11,8 @@ pub enum Role {
     Observer,
 }
 
-/// What is called before each drop, each tally of an observer, and each sweep while droppers drop. It may hold the
-/// thread that calls it; it changes nothing of the pile.
+/// What is called before each drop, each tally of an observer, and each sweep, except those of the rounds after the
+/// droppers have ended. It may hold the thread that calls it. It changes nothing of the pile.
 ///
 /// A dropper makes some of its drops together: a sixteenth of them, rounded up, so one at a time up to sixteen. The gate
 /// is called for each of them first, and after its last call all of them are made.

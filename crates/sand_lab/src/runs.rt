@@ -44,7 +44,8 @@ fn run_all<R: Threads + Sync, G: Gate>(
 
 /// Runs a plan from a start: in each epoch droppers drop at the sites of their streams, workers sweep their bands and
 /// observers read the tally, all on one shared pile, which is then settled; its record is published at the epoch's place
-/// of the album. The gate is called before each drop, each tally, and each sweep while droppers drop.
+/// of the album. The gate is called before each drop, each tally, and each sweep, except those of the rounds after the
+/// droppers have ended.
 ///
 /// What is left is a function of the start and of the plan's seed, droppers, drops and epochs alone
 /// (`laws::one_outcome`), but for the order in which drops interleave.
