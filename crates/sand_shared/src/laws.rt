@@ -23,7 +23,7 @@ pub fn words_are_small()
     ensures draws { FewDraws }
 {}
 
-/// A pass that has everything can sweep in one way alone: what it has says how often each site topples, and all sites.
+/// Two sweeps of a pass that has everything topple each site equally often: what the pass has fixes how often.
 pub fn one_sweep()
     ensures { OneSweep }
 {}

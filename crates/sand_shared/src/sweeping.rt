@@ -97,8 +97,8 @@ impl Words {
 
 impl SharedPile {
     /// Goes once over the sites of the pass's rows by number, looks at each, and topples it as often as the grains
-    /// found allow. Answers the topplings, and 0 for a pass without rows. For a pass that has everything that says how
-    /// often each site topples (`in_turn` of `Swept`).
+    /// found allow. Answers the topplings, and 0 for a pass without rows. For a pass that has everything, this
+    /// fixes how often each site topples (`in_turn` of `Swept`).
     pub fn sweep(&self, pass: &mut Pass) -> u64
         requires { IsPassOf self.now pass.old }
         ensures of_pile { IsPassOf self.now pass.new }
