@@ -4,7 +4,7 @@
 // - REFUSE_AT=N in the environment: the N-th request of the whole program, and no other. Where REFUSED_TO names a file,
 //   that file is made as the request is refused.
 // - By the program itself, at any time: it asks for more than any machine has, and by how much says what it wants.
-//   crates/sand_refusals/src/memory.rt is the other end of this.
+//   crates/sand_oom_tests/src/memory.rt is the other end of this.
 #define _GNU_SOURCE
 #include <errno.h>
 #include <fcntl.h>

@@ -16,9 +16,9 @@ use Rattle.sand_text.specs.declared.fault.ReadFault.TheVariants as read
 use Rattle.sand_text.specs.declared.fault.StreamFault.{StreamFault}
 use Rattle.sand_text.specs.declared.fault.StreamFault.TheVariants as stream
 use Rattle.sand_text.specs.Faults.{text_fault_number, read_fault_number, stream_fault_number}
-use Rattle.sand_words.specs.declared.fault.WordsFault.{WordsFault}
-use Rattle.sand_words.specs.declared.fault.WordsFault.TheVariants as words
-use Rattle.sand_words.specs.Fault.{words_fault_number}
+use Rattle.sand_cli.specs.declared.fault.WordsFault.{WordsFault}
+use Rattle.sand_cli.specs.declared.fault.WordsFault.TheVariants as words
+use Rattle.sand_cli.specs.Fault.{words_fault_number}
 use Rattle.sand_desk.specs.Faults.{number_of, of_shape, of_one, of_group, of_text, of_read, of_stream, of_words, KeepNumbers}
 
 of_a_shape : (fault : ShapeFault) → number_of (of_shape fault) ≡ shape_fault_number fault

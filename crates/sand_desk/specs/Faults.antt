@@ -19,9 +19,9 @@ use Rattle.sand_group.specs.Faults.{group_fault_number}
 use Rattle.sand_model.specs.declared.faults.ShapeFault.{ShapeFault}
 use Rattle.sand_model.specs.declared.faults.ShapeFault.TheVariants as shape
 use Rattle.sand_model.specs.Faults.{shape_fault_number}
-use Rattle.sand_words.specs.declared.fault.WordsFault.{WordsFault}
-use Rattle.sand_words.specs.declared.fault.WordsFault.TheVariants as words
-use Rattle.sand_words.specs.Fault.{words_fault_number}
+use Rattle.sand_cli.specs.declared.fault.WordsFault.{WordsFault}
+use Rattle.sand_cli.specs.declared.fault.WordsFault.TheVariants as words
+use Rattle.sand_cli.specs.Fault.{words_fault_number}
 use Rattle.sand_desk.specs.declared.faults.DeskFault.{DeskFault}
 use Rattle.sand_desk.specs.declared.faults.DeskFault.TheVariants.{Side, Length, TooManyGrains, Memory, Full, Unstable, NotRecurrent, Shapes, Taken, Text, TooLarge, Read, Write, TooLong, Usage, Clash, Narrow, NoSite}
 

@@ -6,7 +6,7 @@
 
 ghost use Rattle.std.specs.Prelude.{◌≡◌, ◌≢◌, ◌+◌, ◌≤◌, ◌<◌, true, length, map, string_bytes, IfOk, IfErr, OnOk, IsErrOf};
 ghost use Rattle.sand_text.specs.Flow.{IsFurther, IsFurtherByAtMost, IsOfReading, most_bytes};
-ghost use Rattle.sand_words.specs.Asked.{IsWithin, asked};
+ghost use Rattle.sand_cli.specs.Asked.{IsWithin, asked};
 ghost use Rattle.sand_desk.specs.Commands.{IsTextOf, IsFaultOf, Finds, IsDone, EndsBy, HelpsIfAsked, Takes, reads_input};
 
 use crate::dropping::drops_input;
@@ -14,8 +14,8 @@ use crate::faults::DeskFault;
 use crate::group::{burn_input, identity_text, inverse_input, recurrent_input, sum_input};
 use crate::laboratory::lab_input;
 use crate::settling::settle_input;
+use sand_cli::{Task, task_of};
 use sand_text::{StreamFault, read_all, write_text};
-use sand_words::{Task, task_of};
 use std::alloc::Global;
 use std::io::{Read, Write};
 use std::thread::Threads;

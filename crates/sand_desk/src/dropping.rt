@@ -5,16 +5,16 @@ ghost use Rattle.sand_model.specs.Grid.{sites};
 ghost use Rattle.sand_model.specs.Piles.{PileView};
 ghost use Rattle.sand_settle.specs.Drops.{grid_of_one, IsAfter};
 ghost use Rattle.sand_lab.specs.Streams.{stream_sites};
-ghost use Rattle.sand_words.specs.Asked.{IsDraw};
+ghost use Rattle.sand_cli.specs.Asked.{IsDraw};
 ghost use Rattle.sand_desk.specs.Commands.{IsDropFault, IsDropsFault, Finds};
 ghost use Rattle.sand_desk.specs.Dropping.{AreRows, IsDropsText, drops_in, drops_text_of, sum_line};
 
 use crate::faults::DeskFault;
 use crate::texts::{pile_text, read_drops, read_pile, table_text};
 use itoa::Buffer;
+use sand_cli::Draw;
 use sand_lab::SiteReader;
 use sand_settle::{Avalanche, OnePile};
-use sand_words::Draw;
 use std::alloc::{AllocError, Global};
 
 // Drops a grain at each site in turn, and notes each drop's number and avalanche.

@@ -3,8 +3,8 @@
 ghost use Rattle.std.specs.Prelude.{ℕ, ◌≡◌, ◌+◌, ◌++◌, List, map, sum, IfOk, IfErr, OnOk, IsOkUnless};
 ghost use Rattle.sand_shared.specs.Record.{IsOneThreads};
 ghost use Rattle.sand_text.specs.Runs.{journal_lines};
-ghost use Rattle.sand_words.specs.Asked.{IsRun};
-ghost use Rattle.sand_words.specs.declared.words.Form.TheVariants as forms;
+ghost use Rattle.sand_cli.specs.Asked.{IsRun};
+ghost use Rattle.sand_cli.specs.declared.words.Form.TheVariants as forms;
 ghost use Rattle.sand_lab.specs.Plans.{all_drops};
 ghost use Rattle.sand_lab.specs.Reports.{IsReport};
 ghost use Rattle.sand_desk.specs.Commands.{IsLabFault, IsRunFault, Finds};
@@ -12,11 +12,11 @@ ghost use Rattle.sand_desk.specs.Laboratory.{IsLabText, dropper_and_site, journa
 
 use crate::faults::DeskFault;
 use crate::texts::{pgm_text, pile_text, read_pile};
+use sand_cli::{Form, Run};
 use sand_lab::{Album, Entry, LabFault, Open, Plan, Report, Wish, run};
 use sand_model::Pile;
 use sand_shared::Record;
 use sand_text::{Sums, push_journal_head, push_journal_line};
-use sand_words::{Form, Run};
 use std::alloc::{AllocError, Global};
 use std::thread::Threads;
 

@@ -1,6 +1,6 @@
 //! The program's commands: from words and bytes to bytes.
 //!
-//! `commands` asks `sand_words` for the task that the words name, reads the input, does the task and writes its text.
+//! `commands` asks `sand_cli` for the task that the words name, reads the input, does the task and writes its text.
 //! `texts` has the readings and the texts of `sand_text`, `faults` the one fault type of it all, and `helping` shows help.
 #![tactic(auto)]
 

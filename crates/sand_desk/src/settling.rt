@@ -9,8 +9,8 @@ ghost use Rattle.sand_desk.specs.Settling.{IsSettleText};
 
 use crate::faults::DeskFault;
 use crate::texts::{pgm_text, pile_text, read_pile, settle_text};
+use sand_cli::Form;
 use sand_settle::settle;
-use sand_words::Form;
 use std::alloc::Global;
 
 /// The settled record of the pile that the input holds as text, or its pile alone, as text or as a picture.

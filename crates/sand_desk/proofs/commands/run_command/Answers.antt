@@ -1,6 +1,6 @@
 use Rattle.std.specs.Prelude.{map, string_bytes}
 use Rattle.std.proofs.lemmas.Result.{err_from_is_err_and}
-use Rattle.sand_words.specs.Asked.{asked}
+use Rattle.sand_cli.specs.Asked.{asked}
 use Rattle.sand_desk.specs.Commands.{IsRead, IsTextOf}
 use Rattle.sand_desk.proofs.Endings.{reading_ends, work_ends, writing_ends}
 use Rattle.sand_desk.proofs.commands.run_command.Goals as goal

@@ -1,0 +1,45 @@
+-- Where no two arguments have one id, each argument is alone with its id.
+use Rattle.std.proofs.Common.{◌≡◌, Bool, true, false, not, ◌&&◌, List, [], ◌∷◌, refl, sym, true≢false}
+use Rattle.std.specs.List.{list_all}
+use Rattle.std.specs.Str.{bytes_eq}
+use Rattle.std.proofs.lemmas.Slice.Eq.{bytes_eq-Decides}
+use Rattle.clap.specs.Words.{Rule, Text}
+use Rattle.clap.proofs.WalkLemmas.{both}
+use Rattle.sand_cli.proofs.Each.{Each, each_both}
+
+-- no argument has the id
+abbrev lacks : Text → List Rule → Bool
+lacks id c = list_all (λ b. not (bytes_eq b.id id)) c
+
+-- no two arguments have one id
+abbrev pub are_apart : List Rule → Bool
+are_apart [] = true
+are_apart (a ∷ c) = lacks a.id c && are_apart c
+
+-- each argument with the id of `a` is `a`
+abbrev pub IsAlone : List Rule → Rule → Type 0
+IsAlone c a = Each (λ b. bytes_eq b.id a.id ≡ true → b ≡ a) c
+
+refused : {A : Type 0} (b : Bool) → not b ≡ true → b ≡ true → A
+refused true n e = absurd (true≢false (sym n))
+refused false n e = absurd (true≢false (sym e))
+
+-- of those that lack the id of `a`, none is taken for `a`
+none_is : (a : Rule) (c : List Rule) → lacks a.id c ≡ true → IsAlone c a
+none_is a [] e = tt
+none_is a (b ∷ c) e =
+    let parts = both _ _ e in
+    ((λ same. refused (bytes_eq b.id a.id) parts.0 same), none_is a c parts.1)
+
+-- nor is `a` taken for one of them
+is_none : (a : Rule) (c : List Rule) → lacks a.id c ≡ true → Each (λ b. bytes_eq a.id b.id ≡ true → a ≡ b) c
+is_none a [] e = tt
+is_none a (b ∷ c) e =
+    let parts = both _ _ e in
+    ((λ same. refused (bytes_eq b.id a.id) parts.0 ((bytes_eq-Decides b.id a.id).1 (sym ((bytes_eq-Decides a.id b.id).0 same)))), is_none a c parts.1)
+
+pub each_alone : (c : List Rule) → are_apart c ≡ true → Each (IsAlone c) c
+each_alone [] e = tt
+each_alone (a ∷ c) e =
+    let parts = both (lacks a.id c) _ e in
+    (((λ same. refl), none_is a c parts.0), each_both _ _ c (is_none a c parts.0) (each_alone c parts.1))

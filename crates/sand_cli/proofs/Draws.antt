@@ -1,0 +1,76 @@
+-- Where `drops` takes its words, each number of its draw is in its range.
+use Rattle.std.proofs.Common.{◌≡◌, ◌∙◌, ◌≤◌, ℕ, Bool, true, false, cond, ◌||◌, List, [], ◌∷◌, Option, Some, None, refl, sym, ap, subst, arith, codes, true≢false}
+use Rattle.std.specs.Prelude.{IfSome, find, option_and_then}
+use Rattle.std.specs.Str.{bytes_eq}
+use Rattle.clap.specs.Words.{Row, Rule, Text}
+use Rattle.clap.specs.Simple.{Shape, built_leaf, filled, with_index}
+use Rattle.clap.specs.Walk.{has_row, nothing_held, one_of, row_text, rows_after}
+use Rattle.clap.specs.Faults.{level_fault}
+use Rattle.sand_cli.specs.Asked.{IsDraw, draw_by, draw_of}
+use Rattle.sand_cli.specs.Line.{drops_line, number}
+use Rattle.sand_cli.specs.Options.{flag_in, number_of, setting_in, value_of}
+use Rattle.sand_cli.specs.declared.words.Task.TheVariants.{Drops}
+use Rattle.sand_cli.proofs.Alone.{IsAlone, each_alone}
+use Rattle.sand_cli.proofs.Each.{Each}
+use Rattle.sand_cli.proofs.Passing.{level_fine, row_passes}
+use Rattle.sand_cli.proofs.Reading.{passed_number}
+use Rattle.sand_cli.proofs.Sides.{IsSound}
+
+-- `drops` and its numbers, as clap builds them
+abbrev pub drops_built : Shape
+drops_built = built_leaf drops_line.top
+
+abbrev built_number : Text → ℕ → ℕ → Rule
+built_number name least most = with_index 1 (filled (number name least most))
+
+alone : Each (IsAlone drops_built.rules) drops_built.rules
+alone = each_alone drops_built.rules refl
+
+-- an option without a row has no text
+no_row : (id : Text) (rows : List Row) → has_row id rows ≡ false → one_of id rows ≡ None
+no_row id [] e = refl
+no_row id (r ∷ rs) e = go (no_row id rs) (bytes_eq r.id id) e
+  where
+    go : (has_row id rs ≡ false → one_of id rs ≡ None) → (own : Bool) → (own || has_row id rs) ≡ false
+        → option_and_then row_text (cond own (Some r) (find (λ x. bytes_eq x.id id) rs)) ≡ None
+    go later true f = absurd (true≢false f)
+    go later false f = later f
+
+-- a number that is given is in its range
+given_is_within : (name : Text) (most : ℕ) (words : List Text) → most ≤ 4294967295 → IsAlone drops_built.rules (built_number name 0 most)
+    → level_fault drops_built [] nothing_held words false [] ≡ [] → IfSome (setting_in name (rows_after drops_built.rules [] words)) (λ n. n ≤ most)
+given_is_within name most words small alone passes = go (has_row name rows) refl
+  where
+    rows : List Row
+    rows = rows_after drops_built.rules [] words
+
+    Within : Option ℕ → Type 0
+    Within o = IfSome o (λ n. n ≤ most)
+
+    go : (has : Bool) → has_row name rows ≡ has → Within (setting_in name rows)
+    go false none = subst Within (sym (ap (option_and_then (number_of 4294967295)) (no_row name rows none))) tt
+    go true has =
+        let a = built_number name 0 most in
+        let fine = level_fine a drops_built (record { set = refl; one = refl; none_else = alone }) words passes in
+        let text = row_passes a rows fine has in
+        let read = passed_number 0 most 4294967295 text.0 small text.2 in
+        let is : setting_in name rows ≡ Some (value_of text.0) = ap (option_and_then (number_of 4294967295)) text.1 ∙ read.0 in
+        subst Within (sym is) read.2
+
+-- so are those of a draw, of which 0 stands for what isn't given
+draw_is_within : (count seed stream : Option ℕ) → IfSome count (λ n. n ≤ 10000000) → IfSome seed (λ n. n ≤ 4294967295) → IfSome stream (λ n. n ≤ 4294967295)
+    → IfSome (draw_by count seed stream) IsDraw
+draw_is_within None seed stream c s k = tt
+draw_is_within (Some count) (Some seed) (Some stream) c s k = record { count = c; seed = s; stream = k }
+draw_is_within (Some count) (Some seed) None c s k = record { count = c; seed = s; stream = omega arith }
+draw_is_within (Some count) None (Some stream) c s k = record { count = c; seed = omega arith; stream = k }
+draw_is_within (Some count) None None c s k = record { count = c; seed = omega arith; stream = omega arith }
+
+-- `drops` asks for a draw within the limits, or for none
+pub drops_is_sound : (words : List Text) → level_fault drops_built [] nothing_held words false [] ≡ []
+    → IsSound (Some (Drops (draw_of (rows_after drops_built.rules [] words)) (flag_in (codes "pile") (rows_after drops_built.rules [] words))))
+drops_is_sound words passes =
+    let count = given_is_within (codes "count") 10000000 words (omega arith) alone.0 passes in
+    let seed = given_is_within (codes "seed") 4294967295 words (omega arith) alone.1.0 passes in
+    let stream = given_is_within (codes "stream") 4294967295 words (omega arith) alone.1.1.0 passes in
+    (_, refl, draw_is_within _ _ _ count seed stream)

@@ -1,0 +1,104 @@
+-- What the definitions say of some words that are written out.
+use Rattle.std.proofs.Common.{◌≡◌, [], ◌∷◌, None, Some, codes, false, refl, true}
+use Rattle.clap.specs.Words.{Text}
+use Rattle.clap.specs.declared.error.kind.ErrorKind.TheVariants.{DisplayHelp, InvalidSubcommand, MissingRequiredArgument, MissingSubcommand, UnknownArgument, ValueValidation}
+use Rattle.clap.proofs.OnLiterals.{clap_on_literals}
+use Rattle.sand_cli.specs.Line.{command_line}
+use Rattle.sand_cli.specs.Asked.{asked, conflict_among, faults}
+use Rattle.sand_cli.specs.declared.fault.Conflict.TheVariants.{Forms, Uncounted}
+use Rattle.sand_cli.specs.declared.words.Form.TheVariants as forms
+use Rattle.sand_cli.specs.declared.words.Task.TheVariants.{Drops, Identity, Lab, Settle}
+
+-- `sandpile settle` asks to settle, whatever the program's name
+settle_asks : (program : Text) → asked (program ∷ codes "settle" ∷ []) ≡ Some (Settle forms.Text)
+unfolding command_line clap_on_literals
+settle_asks program = refl
+
+-- options may come in any order, and a number may be written after `=`
+identity_asks : (program : Text)
+    → asked (program ∷ codes "identity" ∷ codes "--pgm" ∷ codes "--height" ∷ codes "256" ∷ codes "--width=3" ∷ []) ≡ Some (Identity 3 256 false true)
+unfolding command_line clap_on_literals
+identity_asks program = refl
+
+-- `lab` alone asks for the run of its defaults
+lab_asks : (program : Text) → asked (program ∷ codes "lab" ∷ []) ≡ Some (Lab (record {
+  seed = 0;
+  droppers = 2;
+  drops = 100;
+  epochs = 1;
+  workers = 1;
+  sweeps = 0;
+  observers = 0;
+}) false forms.Text)
+unfolding command_line clap_on_literals
+lab_asks program = refl
+
+-- a pile alone excludes a picture, which a journal doesn't
+pile_and_picture : (program : Text) → conflict_among (program ∷ codes "settle" ∷ codes "--pgm" ∷ codes "--pile" ∷ []) ≡ Some Forms
+unfolding command_line clap_on_literals
+pile_and_picture program = refl
+
+pile_and_journal : (program : Text) → asked (program ∷ codes "lab" ∷ codes "--pile" ∷ codes "--journal" ∷ []) ≡ None
+unfolding command_line clap_on_literals
+pile_and_journal program = refl
+
+journal_and_picture : (program : Text) → conflict_among (program ∷ codes "lab" ∷ codes "--pgm" ∷ codes "--journal" ∷ []) ≡ None
+unfolding command_line clap_on_literals
+journal_and_picture program = refl
+
+-- a seed without a count is no draw
+seed_without_count : (program : Text) → conflict_among (program ∷ codes "drops" ∷ codes "--seed" ∷ codes "7" ∷ []) ≡ Some Uncounted
+unfolding command_line clap_on_literals
+seed_without_count program = refl
+
+-- a draw is from the stream 0 of the seed 0 unless others are given
+draw_alone : (program : Text) → asked (program ∷ codes "drops" ∷ codes "--count" ∷ codes "5" ∷ []) ≡ Some (Drops (Some (record { count = 5; seed = 0; stream = 0 })) false)
+unfolding command_line clap_on_literals
+draw_alone program = refl
+
+-- with no word, and with the program's name alone, a command is missing
+no_word : faults [] ≡ MissingSubcommand ∷ []
+unfolding command_line clap_on_literals
+no_word = refl
+
+no_command : (program : Text) → faults (program ∷ []) ≡ MissingSubcommand ∷ []
+unfolding command_line clap_on_literals
+no_command program = refl
+
+-- `--help` is answered by help, and by no other kind
+long_help : (program : Text) → faults (program ∷ codes "--help" ∷ []) ≡ DisplayHelp ∷ []
+unfolding command_line clap_on_literals
+long_help program = refl
+
+-- also where a side is missing
+identity_help : (program : Text) → faults (program ∷ codes "identity" ∷ codes "-h" ∷ []) ≡ DisplayHelp ∷ []
+unfolding command_line clap_on_literals
+identity_help program = refl
+
+-- the word `help` is no command
+help_word : (program : Text) → faults (program ∷ codes "help" ∷ []) ≡ UnknownArgument ∷ InvalidSubcommand ∷ []
+unfolding command_line clap_on_literals
+help_word program = refl
+
+-- a side out of range is refused, and so is a grid with one side
+side_257 : (program : Text) → faults (program ∷ codes "identity" ∷ codes "--width" ∷ codes "257" ∷ codes "--height" ∷ codes "2" ∷ []) ≡ ValueValidation ∷ []
+unfolding command_line clap_on_literals
+side_257 program = refl
+
+one_side : (program : Text) → faults (program ∷ codes "identity" ∷ codes "--width" ∷ codes "3" ∷ []) ≡ MissingRequiredArgument ∷ []
+unfolding command_line clap_on_literals
+one_side program = refl
+
+-- a setting out of range is refused
+dropper_65 : (program : Text) → faults (program ∷ codes "lab" ∷ codes "--droppers" ∷ codes "65" ∷ []) ≡ ValueValidation ∷ []
+unfolding command_line clap_on_literals
+dropper_65 program = refl
+
+-- a word that is no command is refused, and so is a word after the command
+unknown_command : (program : Text) → faults (program ∷ codes "topple" ∷ []) ≡ UnknownArgument ∷ InvalidSubcommand ∷ []
+unfolding command_line clap_on_literals
+unknown_command program = refl
+
+word_after : (program : Text) → faults (program ∷ codes "settle" ∷ codes "twice" ∷ []) ≡ UnknownArgument ∷ []
+unfolding command_line clap_on_literals
+word_after program = refl

@@ -1,0 +1,15 @@
+-- The command line is one of those that clap's model covers.
+use Rattle.std.proofs.Common.{◌≡◌, true, refl}
+use Rattle.clap.specs.Words.{is_simple, is_simple_and_free}
+use Rattle.clap.proofs.OnLiterals.{clap_on_literals}
+use Rattle.sand_cli.specs.Line.{command_line}
+
+-- clap's model gives the matches of the command line
+pub line_is_simple : is_simple command_line ≡ true
+unfolding command_line clap_on_literals
+line_is_simple = refl
+
+-- and the kinds of its errors
+pub line_is_free : is_simple_and_free command_line ≡ true
+unfolding command_line clap_on_literals
+line_is_free = refl

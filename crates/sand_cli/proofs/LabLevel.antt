@@ -1,0 +1,177 @@
+-- Where each setting is given, and flags behind them, `lab` takes its words and asks for that run.
+use Rattle.std.proofs.Common.{◌≡◌, ◌∙◌, ℕ, Bool, true, false, List, [], ◌∷◌, ◌++◌, Option, Some, None, refl, ap, arith, codes, decimal, fold, take}
+use Rattle.std.specs.Prelude.{option_map}
+use Rattle.clap.specs.Faults.{check_fault, defaults_fault, level_fault, settle_fault}
+use Rattle.clap.specs.Kinds.{Kinds, or_else}
+use Rattle.clap.specs.Walk.{Row, Walk, finished, nothing_held, rows_after, settled, walk_from, walked}
+use Rattle.clap.specs.Words.{Text}
+use Rattle.clap.proofs.OnLiterals.{clap_on_literals}
+use Rattle.sand_cli.specs.Asked.{GoTogether, IsRun, conflict_of, lab_of, with_settings}
+use Rattle.sand_cli.specs.Options.{number_of}
+use Rattle.sand_cli.specs.Spelling.{flag_words, form_words, settings_of}
+use Rattle.sand_cli.specs.declared.words.Form.{Form}
+use Rattle.sand_cli.specs.declared.words.Form.TheVariants.{Picture, Pile}
+use Rattle.sand_cli.specs.declared.words.Form.TheVariants as forms
+use Rattle.sand_cli.specs.declared.words.Run.{Run}
+use Rattle.sand_cli.specs.declared.words.Task.TheVariants.{Lab}
+use Rattle.sand_cli.proofs.NumberTexts.{IsNumberText, number_text}
+use Rattle.sand_cli.proofs.Settings.{lab_built}
+use Rattle.sand_cli.proofs.Walks.{Reads, end_fault, given, given_row, level_ends, reads_both, reads_nothing, reads_option, reads_word, rows_end}
+
+-- the flags that are wanted
+abbrev flags_for : Bool → Form → List Text
+flags_for journal form = flag_words (codes "--journal") journal ++ form_words form
+
+-- what stands behind `lab`
+abbrev pub lab_words : Run → Bool → Form → List Text
+lab_words run journal form = settings_of run ++ flags_for journal form
+
+module _ (run : Run) (within : IsRun run) where
+  seed : IsNumberText 0 4294967295 (decimal run.seed) run.seed
+  seed = number_text 0 4294967295 run.seed (omega arith) within.seed (omega arith)
+
+  droppers : IsNumberText 1 64 (decimal run.droppers) run.droppers
+  droppers = number_text 1 64 run.droppers within.droppers.0 within.droppers.1 (omega arith)
+
+  drops : IsNumberText 0 1000000 (decimal run.drops) run.drops
+  drops = number_text 0 1000000 run.drops (omega arith) within.drops (omega arith)
+
+  epochs : IsNumberText 1 100 (decimal run.epochs) run.epochs
+  epochs = number_text 1 100 run.epochs within.epochs.0 within.epochs.1 (omega arith)
+
+  workers : IsNumberText 1 16 (decimal run.workers) run.workers
+  workers = number_text 1 16 run.workers within.workers.0 within.workers.1 (omega arith)
+
+  sweeps : IsNumberText 0 1000 (decimal run.sweeps) run.sweeps
+  sweeps = number_text 0 1000 run.sweeps (omega arith) within.sweeps (omega arith)
+
+  observers : IsNumberText 0 16 (decimal run.observers) run.observers
+  observers = number_text 0 16 run.observers (omega arith) within.observers (omega arith)
+
+  -- the rows of the settings before the last
+  abbrev rows : List Row
+  rows = given_row (codes "seed") (decimal run.seed)
+      ∷ given_row (codes "droppers") (decimal run.droppers)
+      ∷ given_row (codes "drops") (decimal run.drops)
+      ∷ given_row (codes "epochs") (decimal run.epochs)
+      ∷ given_row (codes "workers") (decimal run.workers)
+      ∷ given_row (codes "sweeps") (decimal run.sweeps) ∷ []
+
+  -- the walk behind a setting, which is still pending, and so many others
+  abbrev behind : ℕ → Text → ℕ → Walk
+  behind k name n = given (take k rows) name (decimal n)
+
+  all : Walk
+  all = behind 6 (codes "observers") run.observers
+
+  seed_read : Reads lab_built (walk_from nothing_held) (codes "--seed" ∷ decimal run.seed ∷ []) (behind 0 (codes "seed") run.seed)
+  unfolding clap_on_literals
+  seed_read = reads_option lab_built (walk_from nothing_held) [] (codes "--seed") (codes "seed") _ refl refl refl seed.no_option
+
+  droppers_read : Reads lab_built (behind 0 (codes "seed") run.seed) (codes "--droppers" ∷ decimal run.droppers ∷ []) (behind 1 (codes "droppers") run.droppers)
+  unfolding clap_on_literals
+  droppers_read =
+      reads_option lab_built (behind 0 (codes "seed") run.seed) (take 1 rows) (codes "--droppers") (codes "droppers") _ (rw seed.passes refl) refl refl droppers.no_option
+
+  drops_read : Reads lab_built (behind 1 (codes "droppers") run.droppers) (codes "--drops" ∷ decimal run.drops ∷ []) (behind 2 (codes "drops") run.drops)
+  unfolding clap_on_literals
+  drops_read =
+      reads_option lab_built (behind 1 (codes "droppers") run.droppers) (take 2 rows) (codes "--drops") (codes "drops") _ (rw droppers.passes refl) refl refl drops.no_option
+
+  epochs_read : Reads lab_built (behind 2 (codes "drops") run.drops) (codes "--epochs" ∷ decimal run.epochs ∷ []) (behind 3 (codes "epochs") run.epochs)
+  unfolding clap_on_literals
+  epochs_read =
+      reads_option lab_built (behind 2 (codes "drops") run.drops) (take 3 rows) (codes "--epochs") (codes "epochs") _ (rw drops.passes refl) refl refl epochs.no_option
+
+  workers_read : Reads lab_built (behind 3 (codes "epochs") run.epochs) (codes "--workers" ∷ decimal run.workers ∷ []) (behind 4 (codes "workers") run.workers)
+  unfolding clap_on_literals
+  workers_read =
+      reads_option lab_built (behind 3 (codes "epochs") run.epochs) (take 4 rows) (codes "--workers") (codes "workers") _ (rw epochs.passes refl) refl refl workers.no_option
+
+  sweeps_read : Reads lab_built (behind 4 (codes "workers") run.workers) (codes "--sweeps" ∷ decimal run.sweeps ∷ []) (behind 5 (codes "sweeps") run.sweeps)
+  unfolding clap_on_literals
+  sweeps_read =
+      reads_option lab_built (behind 4 (codes "workers") run.workers) (take 5 rows) (codes "--sweeps") (codes "sweeps") _ (rw workers.passes refl) refl refl sweeps.no_option
+
+  observers_read : Reads lab_built (behind 5 (codes "sweeps") run.sweeps) (codes "--observers" ∷ decimal run.observers ∷ []) (behind 6 (codes "observers") run.observers)
+  unfolding clap_on_literals
+  observers_read =
+      reads_option lab_built (behind 5 (codes "sweeps") run.sweeps) (take 6 rows) (codes "--observers") (codes "observers") _ (rw sweeps.passes refl) refl refl observers.no_option
+
+  settings_read : Reads lab_built (walk_from nothing_held) (settings_of run) all
+  unfolding all
+  settings_read = reads_both seed_read (reads_both droppers_read (reads_both drops_read (reads_both epochs_read (reads_both workers_read (reads_both sweeps_read observers_read)))))
+
+  abbrev end_of : List Text → Walk
+  end_of flags = fold (walked lab_built.rules []) all flags
+
+  flags_read : (journal : Bool) (form : Form) → Reads lab_built all (flags_for journal form) (end_of (flags_for journal form))
+  unfolding all clap_on_literals
+  flags_read true Picture =
+      let past = end_of (codes "--journal" ∷ []) in
+      reads_both (reads_word lab_built all past (codes "--journal") (rw observers.passes refl) refl) (reads_word lab_built past _ (codes "--pgm") refl refl)
+  flags_read true Pile =
+      let past = end_of (codes "--journal" ∷ []) in
+      reads_both (reads_word lab_built all past (codes "--journal") (rw observers.passes refl) refl) (reads_word lab_built past _ (codes "--pile") refl refl)
+  flags_read true forms.Text = reads_word lab_built all _ (codes "--journal") (rw observers.passes refl) refl
+  flags_read false Picture = reads_word lab_built all _ (codes "--pgm") (rw observers.passes refl) refl
+  flags_read false Pile = reads_word lab_built all _ (codes "--pile") (rw observers.passes refl) refl
+  flags_read false forms.Text = reads_nothing
+
+  words_read : (journal : Bool) (form : Form) → Reads lab_built (walk_from nothing_held) (lab_words run journal form) (end_of (flags_for journal form))
+  words_read journal form = reads_both settings_read (flags_read journal form)
+
+  -- the value that is still pending passes
+  settles : settle_fault lab_built.rules lab_built.args_override_self all.held ≡ []
+  unfolding all clap_on_literals
+  settles = rw observers.passes refl
+
+  abbrev behind_settling : Kinds → Kinds
+  behind_settling k = or_else k (or_else (defaults_fault (settled lab_built.rules all.held).rows lab_built.rules) (check_fault lab_built (finished lab_built.rules all.held) false))
+
+  end_passes : (journal : Bool) (form : Form) → end_fault lab_built (end_of (flags_for journal form)).held ≡ []
+  unfolding all clap_on_literals
+  end_passes true Picture = refl
+  end_passes true Pile = refl
+  end_passes true forms.Text = refl
+  end_passes false Picture = refl
+  end_passes false Pile = refl
+  end_passes false forms.Text = ap behind_settling settles
+
+  abbrev read : ℕ → Option ℕ
+  read n = number_of 4294967295 (decimal n)
+
+  run_read : with_settings (read run.seed) (read run.droppers) (read run.drops) (read run.epochs) (read run.workers) (read run.sweeps) (read run.observers) ≡ Some run
+  run_read = rw (seed.reads 4294967295 (omega arith), droppers.reads 4294967295 (omega arith), drops.reads 4294967295 (omega arith), epochs.reads 4294967295 (omega arith), workers.reads 4294967295 (omega arith), sweeps.reads 4294967295 (omega arith), observers.reads 4294967295 (omega arith)) refl
+
+  -- the rows at the end say the run
+  end_asks : (journal : Bool) (form : Form) → lab_of (finished lab_built.rules (end_of (flags_for journal form)).held) ≡ Some (Lab run journal form)
+  unfolding all clap_on_literals
+  end_asks true Picture = ap (option_map (λ r. Lab r true Picture)) run_read
+  end_asks true Pile = ap (option_map (λ r. Lab r true Pile)) run_read
+  end_asks true forms.Text = ap (option_map (λ r. Lab r true forms.Text)) run_read
+  end_asks false Picture = ap (option_map (λ r. Lab r false Picture)) run_read
+  end_asks false Pile = ap (option_map (λ r. Lab r false Pile)) run_read
+  end_asks false forms.Text = ap (option_map (λ r. Lab r false forms.Text)) run_read
+
+  -- and go together
+  end_free : (journal : Bool) (form : Form) → GoTogether journal form → conflict_of (codes "lab", finished lab_built.rules (end_of (flags_for journal form)).held) ≡ None
+  unfolding all clap_on_literals
+  end_free true Picture together = refl
+  end_free true Pile together = absurd together
+  end_free true forms.Text together = refl
+  end_free false Picture together = refl
+  end_free false Pile together = refl
+  end_free false forms.Text together = refl
+
+  -- the level passes
+  pub lab_passes : (journal : Bool) (form : Form) → level_fault lab_built [] nothing_held (lab_words run journal form) false [] ≡ []
+  lab_passes journal form = level_ends (words_read journal form) ∙ end_passes journal form
+
+  -- and its rows say the task
+  pub lab_reads : (journal : Bool) (form : Form) → lab_of (rows_after lab_built.rules [] (lab_words run journal form)) ≡ Some (Lab run journal form)
+  lab_reads journal form = ap lab_of (rows_end (words_read journal form)) ∙ end_asks journal form
+
+  -- which go together where the form goes with a journal
+  pub lab_free : (journal : Bool) (form : Form) → GoTogether journal form → conflict_of (codes "lab", rows_after lab_built.rules [] (lab_words run journal form)) ≡ None
+  lab_free journal form together = ap (λ rows. conflict_of (codes "lab", rows)) (rows_end (words_read journal form)) ∙ end_free journal form together

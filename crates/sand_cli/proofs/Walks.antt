@@ -1,0 +1,119 @@
+-- Walks over words that a level of a parse reads without fault.
+use Rattle.std.proofs.Common.{◌≡◌, ◌∙◌, false, cond, List, [], ◌∷◌, ◌++◌, Some, None, refl, sym, ap, ap₂, fold, append_assoc, codes}
+use Rattle.std.proofs.lemmas.List.{append-nil}
+use Rattle.std.specs.Option.{option_map_or}
+use Rattle.std.specs.Str.{bytes_eq}
+use Rattle.clap.specs.Lexer.{long_of}
+use Rattle.clap.specs.Faults.{bundle_fault, check_fault, defaults_fault, flag_word_fault, level_fault, settle_fault, step_fault, turn_fault, walk_fault}
+use Rattle.clap.specs.Kinds.{Kinds, or_else}
+use Rattle.clap.specs.Simple.{Shape}
+use Rattle.clap.specs.Walk.{Held, Row, Rule, Step, Walk, after_step, finished, idle, long_or_other, next, nothing_held, option, plain_word, rows_after, settled, short_or_plain, walk_from, walked, word_met}
+use Rattle.clap.specs.Words.{Text}
+use Rattle.clap.specs.declared.builder.value_parser.Reading.TheVariants.{AsWritten}
+use Rattle.clap.specs.declared.parser.matches.ValueSource.TheVariants.{CommandLine}
+use Rattle.sand_cli.proofs.NumberTexts.{IsNoOption}
+
+-- from one point of its walk the level reads the words without fault, and comes to another
+pub record Reads (s : Shape) (from : Walk) (words : List Text) (to : Walk) : Type 0 where
+  pub walks : (rest : List Text) → fold (walked s.rules []) from (words ++ rest) ≡ fold (walked s.rules []) to rest
+  pub passes : (rest : List Text) → walk_fault s [] from (words ++ rest) ≡ walk_fault s [] to rest
+
+pub reads_nothing : {s : Shape} {w : Walk} → Reads s w [] w
+reads_nothing {s} {w} = record { walks = λ rest. refl; passes = λ rest. refl }
+
+pub reads_word : (s : Shape) (from to : Walk) (word : Text) → turn_fault s [] from word ≡ [] → walked s.rules [] from word ≡ to → Reads s from (word ∷ []) to
+unfolding walk_fault
+reads_word s from to word passes is = record {
+  walks = λ rest. ap (λ w. fold (walked s.rules []) w rest) is;
+  passes = λ rest. ap₂ or_else passes (ap (λ w. walk_fault s [] w rest) is);
+}
+
+-- first these words, then those
+pub reads_both : {s : Shape} {u v w : Walk} {xs ys : List Text} → Reads s u xs v → Reads s v ys w → Reads s u (xs ++ ys) w
+reads_both {s} {u} {v} {w} {xs} {ys} first second = record {
+  walks = λ rest. ap (fold (walked s.rules []) u) (append_assoc xs ys rest) ∙ (first.walks (ys ++ rest) ∙ second.walks rest);
+  passes = λ rest. ap (walk_fault s [] u) (append_assoc xs ys rest) ∙ (first.passes (ys ++ rest) ∙ second.passes rest);
+}
+
+-- ---- an option and its value
+
+-- the option waits for its value, behind these rows
+abbrev pub awaiting : List Row → Text → Walk
+awaiting rows id = record {
+  held = record { rows = rows; pending = Some (id, []); skip = 0 };
+  waiting = option id;
+  position = 1;
+  is_trailing = false;
+  stopped = None;
+}
+
+-- and has it
+abbrev pub given : List Row → Text → Text → Walk
+given rows id text = record {
+  held = record { rows = rows; pending = Some (id, text ∷ []); skip = 0 };
+  waiting = idle;
+  position = 1;
+  is_trailing = false;
+  stopped = None;
+}
+
+-- the row of an option that was given so
+abbrev pub given_row : Text → Text → Row
+given_row id text = record {
+  id = id;
+  values = text ∷ [];
+  count = None;
+  source = Some CommandLine;
+  reading = AsWritten;
+}
+
+-- a text that looks like no option is the value of the one that waits
+value_met : (c : List Rule) (id text : Text) (h : Held) → IsNoOption text → word_met c [] false (option id) 1 text h ≡ plain_word c (option id) text h
+value_met c id text h plain =
+    ap (λ b. cond b (h, Step.trailing 1) (long_or_other c (option id) text (long_of text) h)) plain.no_end
+    ∙ (ap (λ o. long_or_other c (option id) text o h) plain.no_long ∙ ap (λ o. short_or_plain c (option id) text o h) plain.no_short)
+
+-- the word of an option that takes one value, and its value
+pub reads_option : (s : Shape) (from : Walk) (rows : List Row) (word id text : Text) → turn_fault s [] from word ≡ [] → walked s.rules [] from word ≡ awaiting rows id
+    → plain_word s.rules (option id) text (awaiting rows id).held ≡ ((given rows id text).held, next idle) → IsNoOption text
+    → Reads s from (word ∷ text ∷ []) (given rows id text)
+unfolding walked
+reads_option s from rows word id text passes is takes plain =
+    reads_both (reads_word s from (awaiting rows id) word passes is) (reads_word s (awaiting rows id) (given rows id text) text value_passes value_walked)
+  where
+    met : word_met s.rules [] false (option id) 1 text (awaiting rows id).held ≡ ((given rows id text).held, next idle)
+    met = value_met s.rules id text (awaiting rows id).held plain ∙ takes
+
+    value_walked : walked s.rules [] (awaiting rows id) text ≡ given rows id text
+    value_walked = ap (λ (m : Held × Step). after_step s.rules text (awaiting rows id) m.0 m.1) met
+
+    word_passes : cond (bytes_eq text (codes "--")) [] (flag_word_fault s.rules s.args_override_self (long_of text) text (awaiting rows id).held) ≡ []
+    word_passes = ap (λ b. cond b [] (flag_word_fault s.rules s.args_override_self (long_of text) text (awaiting rows id).held)) plain.no_end
+        ∙ (ap (λ o. flag_word_fault s.rules s.args_override_self o text (awaiting rows id).held) plain.no_long
+        ∙ ap (λ o. option_map_or (λ flags. bundle_fault s.rules s.args_override_self flags (awaiting rows id).held) o []) plain.no_short)
+
+    value_passes : turn_fault s [] (awaiting rows id) text ≡ []
+    value_passes = ap₂ or_else word_passes (ap (λ (m : Held × Step). step_fault s 1 m.0 m.1) met)
+
+-- ---- the end
+
+-- what is found at the end of a level
+abbrev pub end_fault : Shape → Held → Kinds
+end_fault s h = or_else (settle_fault s.rules s.args_override_self h) (or_else (defaults_fault (settled s.rules h).rows s.rules) (check_fault s (finished s.rules h) false))
+
+abbrev level_of : Shape → Walk → Kinds → Kinds
+level_of s end fault = or_else fault (end_fault s end.held)
+
+-- where the words are read, the level's fault is that of its end
+pub level_ends : {s : Shape} {words : List Text} {end : Walk} → Reads s (walk_from nothing_held) words end → level_fault s [] nothing_held words false [] ≡ end_fault s end.held
+unfolding walk_fault
+level_ends {s} {words} {end} reads =
+    let same : words ++ [] ≡ words = append-nil words in
+    let walks = ap (fold (walked s.rules []) (walk_from nothing_held)) (sym same) ∙ reads.walks [] in
+    let passes = ap (walk_fault s [] (walk_from nothing_held)) (sym same) ∙ reads.passes [] in
+    ap₂ (level_of s) walks passes
+
+-- and its rows are those there
+pub rows_end : {s : Shape} {words : List Text} {end : Walk} → Reads s (walk_from nothing_held) words end → rows_after s.rules [] words ≡ finished s.rules end.held
+rows_end {s} {words} {end} reads =
+    ap (λ (w : Walk). finished s.rules w.held) (ap (fold (walked s.rules []) (walk_from nothing_held)) (sym (append-nil words)) ∙ reads.walks [])

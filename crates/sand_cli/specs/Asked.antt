@@ -1,0 +1,156 @@
+-- What the words ask for.
+use Rattle.std.specs.Prelude.{◌≡◌, ◌≤◌, ⊤, ℕ, Bool, true, not, ◌&&◌, ◌||◌, List, Option, Some, None, IfSome, is_some, unwrap_or, [], ◌∷◌, if◌then◌else◌, codes, option_and_then, option_map}
+use Rattle.std.specs.Str.{bytes_eq}
+use Rattle.clap.specs.Words.{Kinds, Row, Text, fault_of, subcommand_of}
+use Rattle.clap.specs.declared.error.kind.ErrorKind.TheVariants.{DisplayHelp}
+use Rattle.sand_cli.specs.Line.{command_line}
+use Rattle.sand_cli.specs.Options.{flag_in, number_in, setting_in}
+use Rattle.sand_cli.specs.declared.fault.Conflict.{Conflict}
+use Rattle.sand_cli.specs.declared.fault.Conflict.TheVariants.{Forms, Uncounted}
+use Rattle.sand_cli.specs.declared.words.Draw.{Draw}
+use Rattle.sand_cli.specs.declared.words.Form.{Form}
+use Rattle.sand_cli.specs.declared.words.Form.TheVariants as forms
+use Rattle.sand_cli.specs.declared.words.Run.{Run}
+use Rattle.sand_cli.specs.declared.words.Task.{Task}
+use Rattle.sand_cli.specs.declared.words.Task.TheVariants.{Add, Burn, Drops, Identity, Inverse, Lab, Recurrent, Settle}
+
+-- the form in which a pile is asked for
+abbrev pub form_in : List Row → Form
+form_in options =
+    if flag_in (codes "pile") options then forms.Pile
+    else if flag_in (codes "pgm") options then forms.Picture
+    else forms.Text
+
+-- the identity of a grid, where both sides are there
+abbrev pub with_sides : List Row → Option ℕ → Option ℕ → Option Task
+with_sides options (Some width) (Some height) =
+    Some (Identity width height (flag_in (codes "cylinder") options) (flag_in (codes "pgm") options))
+with_sides options _ _ = None
+
+-- the task of the options of `identity`
+abbrev pub identity_of : List Row → Option Task
+identity_of options = with_sides options (number_in (codes "width") options) (number_in (codes "height") options)
+
+-- the run of the lab, where all settings are there
+abbrev pub with_settings : Option ℕ → Option ℕ → Option ℕ → Option ℕ → Option ℕ → Option ℕ → Option ℕ → Option Run
+with_settings (Some seed) (Some droppers) (Some drops) (Some epochs) (Some workers) (Some sweeps) (Some observers) =
+    Some (record {
+      seed = seed;
+      droppers = droppers;
+      drops = drops;
+      epochs = epochs;
+      workers = workers;
+      sweeps = sweeps;
+      observers = observers;
+    })
+with_settings _ _ _ _ _ _ _ = None
+
+-- the run of the options of `lab`
+abbrev pub run_of : List Row → Option Run
+run_of options = with_settings
+    (setting_in (codes "seed") options) (setting_in (codes "droppers") options)
+    (setting_in (codes "drops") options) (setting_in (codes "epochs") options)
+    (setting_in (codes "workers") options) (setting_in (codes "sweeps") options)
+    (setting_in (codes "observers") options)
+
+-- the task of the options of `lab`
+abbrev pub lab_of : List Row → Option Task
+lab_of options = option_map
+    (λ run. Lab run (flag_in (codes "journal") options) (form_in options))
+    (run_of options)
+
+-- a draw of so many sites, from the stream 0 of the seed 0 unless others are given
+abbrev pub draw_by : Option ℕ → Option ℕ → Option ℕ → Option Draw
+draw_by None seed stream = None
+draw_by (Some count) seed stream = Some (record { count = count; seed = unwrap_or seed 0; stream = unwrap_or stream 0 })
+
+-- the draw of the options of `drops`
+abbrev pub draw_of : List Row → Option Draw
+draw_of options = draw_by (setting_in (codes "count") options) (setting_in (codes "seed") options) (setting_in (codes "stream") options)
+
+-- the task of a command's name and its options
+abbrev pub task_named : Text × List Row → Option Task
+task_named (name, options) =
+    let pgm = flag_in (codes "pgm") options in
+    if bytes_eq name (codes "settle") then Some (Settle (form_in options))
+    else if bytes_eq name (codes "burn") then Some Burn
+    else if bytes_eq name (codes "identity") then identity_of options
+    else if bytes_eq name (codes "drops") then Some (Drops (draw_of options) (flag_in (codes "pile") options))
+    else if bytes_eq name (codes "add") then Some (Add pgm)
+    else if bytes_eq name (codes "inverse") then Some (Inverse pgm)
+    else if bytes_eq name (codes "recurrent") then Some (Recurrent pgm)
+    else if bytes_eq name (codes "lab") then lab_of options
+    else None
+
+-- the kinds of error that clap gives at the words: none where the command line takes them
+abbrev pub faults : List Text → Kinds
+faults words = fault_of command_line words
+
+-- the answer, where there are no faults
+abbrev pub unless : {A : Type 0} → Kinds → Option A → Option A
+unless [] answer = answer
+unless (k ∷ ks) answer = None
+
+-- a pile alone, and a picture or a journal
+abbrev pub two_forms : List Row → Bool
+two_forms options = flag_in (codes "pile") options && (flag_in (codes "journal") options || flag_in (codes "pgm") options)
+
+-- `drops` with a seed or a stream, and no count
+abbrev pub lacks_count : Text → List Row → Bool
+lacks_count name options =
+    bytes_eq name (codes "drops")
+    && (not (is_some (setting_in (codes "count") options))
+    && (is_some (setting_in (codes "seed") options) || is_some (setting_in (codes "stream") options)))
+
+-- options of a command that do not go together
+abbrev pub conflict_of : Text × List Row → Option Conflict
+conflict_of (name, options) =
+    if two_forms options then Some Forms
+    else if lacks_count name options then Some Uncounted
+    else None
+
+-- the options of the words that do not go together
+abbrev pub conflict_among : List Text → Option Conflict
+conflict_among words = option_and_then conflict_of (subcommand_of command_line words)
+
+-- the task, where its options go together
+abbrev pub freely : Option Conflict → Option Task → Option Task
+freely None task = task
+freely (Some conflict) task = None
+
+-- the task that the words ask for, where the command line takes them and their options go together
+abbrev pub asked : List Text → Option Task
+asked words = unless (faults words) (freely (conflict_among words) (option_and_then task_named (subcommand_of command_line words)))
+
+-- the words ask for help, and are refused for nothing else
+abbrev pub AskForHelp : List Text → Type 0
+AskForHelp words = faults words ≡ DisplayHelp ∷ []
+
+-- the settings of the run are in their ranges
+pub record IsRun (run : Run) : Type 0 where
+  pub seed : run.seed ≤ 4294967295
+  pub droppers : (1 ≤ run.droppers) × (run.droppers ≤ 64)
+  pub drops : run.drops ≤ 1000000
+  pub epochs : (1 ≤ run.epochs) × (run.epochs ≤ 100)
+  pub workers : (1 ≤ run.workers) × (run.workers ≤ 16)
+  pub sweeps : run.sweeps ≤ 1000
+  pub observers : run.observers ≤ 16
+
+-- the numbers of the draw are in their ranges
+pub record IsDraw (draw : Draw) : Type 0 where
+  pub count : draw.count ≤ 10000000
+  pub seed : draw.seed ≤ 4294967295
+  pub stream : draw.stream ≤ 4294967295
+
+-- a journal is not asked for with a pile alone
+abbrev pub GoTogether : Bool → Form → Type 0
+GoTogether true forms.Pile = ⊥
+GoTogether journal form = ⊤
+
+-- the task is within the limits: the sides of a grid are from 1 to 256, the numbers of a draw and the settings of a run in
+-- their ranges, and the options of a run go together
+abbrev pub IsWithin : Task → Type 0
+IsWithin (Identity width height cylinder pgm) = (1 ≤ width) × (width ≤ 256) × (1 ≤ height) × (height ≤ 256)
+IsWithin (Drops drawn pile) = IfSome drawn IsDraw
+IsWithin (Lab run journal form) = IsRun run × GoTogether journal form
+IsWithin _ = ⊤

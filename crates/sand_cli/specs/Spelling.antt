@@ -1,0 +1,54 @@
+-- The words that spell a task, written out by hand.
+use Rattle.std.specs.Prelude.{◌≡◌, Bool, Option, Some, None, List, [], ◌∷◌, ◌++◌, MatchResult, Result, if◌then◌else◌, codes, decimal}
+use Rattle.clap.specs.Words.{Text}
+use Rattle.sand_cli.specs.Asked.{IsWithin}
+use Rattle.sand_cli.specs.declared.fault.WordsFault.{WordsFault}
+use Rattle.sand_cli.specs.declared.fault.WordsFault.TheVariants.{Memory}
+use Rattle.sand_cli.specs.declared.words.Draw.{Draw}
+use Rattle.sand_cli.specs.declared.words.Form.{Form}
+use Rattle.sand_cli.specs.declared.words.Form.TheVariants as forms
+use Rattle.sand_cli.specs.declared.words.Run.{Run}
+use Rattle.sand_cli.specs.declared.words.Task.{Task}
+use Rattle.sand_cli.specs.declared.words.Task.TheVariants.{Add, Burn, Drops, Identity, Inverse, Lab, Recurrent, Settle}
+
+-- a flag, where it is wanted
+abbrev pub flag_words : Text → Bool → List Text
+flag_words flag wanted = if wanted then flag ∷ [] else []
+
+-- the flag of a form
+abbrev pub form_words : Form → List Text
+form_words forms.Text = []
+form_words forms.Pile = codes "--pile" ∷ []
+form_words forms.Picture = codes "--pgm" ∷ []
+
+-- the settings of a run
+abbrev pub settings_of : Run → List Text
+settings_of run =
+    codes "--seed" ∷ decimal run.seed ∷ codes "--droppers" ∷ decimal run.droppers
+    ∷ codes "--drops" ∷ decimal run.drops ∷ codes "--epochs" ∷ decimal run.epochs
+    ∷ codes "--workers" ∷ decimal run.workers ∷ codes "--sweeps" ∷ decimal run.sweeps
+    ∷ codes "--observers" ∷ decimal run.observers ∷ []
+
+-- the numbers of a draw, if there is one
+abbrev pub draw_words : Option Draw → List Text
+draw_words None = []
+draw_words (Some draw) = codes "--count" ∷ decimal draw.count ∷ codes "--seed" ∷ decimal draw.seed ∷ codes "--stream" ∷ decimal draw.stream ∷ []
+
+-- what stands behind the program's name
+abbrev pub words_of : Task → List Text
+words_of (Settle form) = codes "settle" ∷ form_words form
+words_of Burn = codes "burn" ∷ []
+words_of (Identity width height cylinder pgm) =
+    codes "identity" ∷ codes "--width" ∷ decimal width ∷ codes "--height" ∷ decimal height
+    ∷ (flag_words (codes "--cylinder") cylinder ++ flag_words (codes "--pgm") pgm)
+words_of (Drops drawn pile) = codes "drops" ∷ (draw_words drawn ++ flag_words (codes "--pile") pile)
+words_of (Add pgm) = codes "add" ∷ flag_words (codes "--pgm") pgm
+words_of (Inverse pgm) = codes "inverse" ∷ flag_words (codes "--pgm") pgm
+words_of (Recurrent pgm) = codes "recurrent" ∷ flag_words (codes "--pgm") pgm
+words_of (Lab run journal form) =
+    codes "lab" ∷ (settings_of run ++ (flag_words (codes "--journal") journal ++ form_words form))
+
+-- words that spell a task, whatever the program's name, are answered with that task, but for want of memory
+abbrev pub Heeds : List Text → Result Task WordsFault → Type 0
+Heeds words answer = (program : Text) (task : Task) → IsWithin task → words ≡ program ∷ words_of task
+    → MatchResult answer (λ t. t ≡ task) (λ fault. fault ≡ Memory)

@@ -1,0 +1,65 @@
+//! Why the words ask for no task, with the number of each fault.
+
+ghost use Rattle.std.specs.Prelude.{◌≡◌};
+ghost use Rattle.sand_cli.specs.Fault.{IsFaultOf, words_fault_number};
+
+use clap::error::ErrorKind;
+use std::alloc::AllocError;
+use thiserror::Error;
+
+/// Options that are taken by the command line, but not together.
+#[derive(Clone, Copy, Debug, PartialEq, Eq, Error)]
+pub enum Conflict {
+    /// A pile alone, and a picture or a journal.
+    #[error("error: the argument '--pile' cannot be used with '--pgm' or '--journal'\n\nFor more information, try '--help'.")]
+    Forms,
+    /// A seed or a stream without a count.
+    #[error("error: the arguments '--seed' and '--stream' cannot be used without '--count'\n\nFor more information, try '--help'.")]
+    Uncounted,
+}
+
+/// Why the words ask for no task.
+#[derive(Debug, Drop, Error)]
+pub enum WordsFault {
+    /// Memory ran out.
+    #[error("out of memory")]
+    Memory,
+    /// The words were refused, or they ask for help.
+    #[error("{0}")]
+    Usage(clap::Error),
+    /// The words have options that do not go together.
+    #[error("{0}")]
+    Clash(Conflict),
+}
+
+impl WordsFault {
+    pub fn number(&self) -> u32
+        ensures { result ≡ words_fault_number self.now }
+    {
+        match self {
+            WordsFault::Memory => 4,
+            WordsFault::Usage(_) | WordsFault::Clash(_) => 23,
+        }
+    }
+}
+
+impl From<AllocError> for WordsFault {
+    ghost use Rattle.sand_cli.specs.declared.fault.WordsFault.TheVariants.{Memory};
+
+    ghost from_gives = { λ _ f. f ≡ Memory };
+
+    fn from(_error: AllocError) -> WordsFault {
+        WordsFault::Memory
+    }
+}
+
+impl From<clap::Error> for WordsFault {
+    ghost from_gives = { IsFaultOf };
+
+    fn from(error: clap::Error) -> WordsFault {
+        match error.kind() {
+            ErrorKind::OutOfMemory => WordsFault::Memory,
+            _ => WordsFault::Usage(error),
+        }
+    }
+}

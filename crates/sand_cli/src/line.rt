@@ -1,0 +1,188 @@
+//! The command line that is taken, made by clap's builders.
+
+ghost use Rattle.std.specs.Prelude.{◌≡◌, IfOk, codes, false};
+ghost use Rattle.clap.specs.Words.{app_of, rule_of};
+ghost use Rattle.clap.specs.declared.builder.command.Command.TheViews.{out-Command};
+ghost use Rattle.sand_cli.specs.Line.{bare_line, command_line, drops_line, flag, identity_line, lab_line, number, pgm_line, setting, settle_line, side};
+
+use crate::help::{self, Help};
+use clap::builder::ValueParser;
+use clap::{Arg, ArgAction, Command};
+use std::alloc::{AllocError, Global};
+
+// An option that is there or not.
+fn flag<'a>(alloc: Global, name: &'a str, about: &'static str) -> Arg<'a>
+    ensures rule { rule_of result ≡ flag name.entry.now }
+    ensures local { result.global ≡ false }
+{
+    Arg::new(alloc, name)
+        .long(name)
+        .action(ArgAction::SetTrue)
+        .help(about)
+}
+
+// An option with a whole number from `least` to `most`.
+fn number<'a>(alloc: Global, name: &'a str, least: u64, most: u64, about: &'static str) -> Arg<'a>
+    ensures rule { rule_of result ≡ number name.entry.now least most }
+    ensures local { result.global ≡ false }
+{
+    Arg::new(alloc, name)
+        .long(name)
+        .action(ArgAction::Set)
+        .value_parser(ValueParser::unsigned(least, most))
+        .help(about)
+}
+
+// A side of a grid, which must be given.
+fn side<'a>(alloc: Global, name: &'a str, about: &'static str) -> Arg<'a>
+    ensures rule { rule_of result ≡ side name.entry.now }
+    ensures local { result.global ≡ false }
+{
+    number(alloc, name, 1, 256, about).required(true)
+}
+
+// An option with a number that is `usual` where it isn't given.
+fn setting<'a>(
+    alloc: Global,
+    name: &'a str,
+    least: u64,
+    most: u64,
+    usual: &'static str,
+    about: &'static str,
+) -> Arg<'a>
+    ensures rule { rule_of result ≡ setting name.entry.now least most usual.now }
+    ensures local { result.global ≡ false }
+{
+    number(alloc, name, least, most, about).default_value(usual)
+}
+
+fn pgm<'a>(alloc: Global) -> Arg<'a>
+    ensures rule { rule_of result ≡ flag (codes "pgm") }
+    ensures local { result.global ≡ false }
+{
+    flag(alloc, "pgm", "Write a picture (plain PGM), not text")
+}
+
+fn pile<'a>(alloc: Global) -> Arg<'a>
+    ensures rule { rule_of result ≡ flag (codes "pile") }
+    ensures local { result.global ≡ false }
+{
+    flag(alloc, "pile", "Write the pile alone, as it is read")
+}
+
+fn bare_line<'a>(alloc: Global, name: &'a str, help: Help) -> Command<'a>
+    ensures line { app_of result ≡ bare_line name.entry.now }
+    ensures local { (out-Command result).has_globals ≡ false }
+{
+    Command::new(alloc, name)
+        .about(help.about)
+        .after_help(help.details)
+}
+
+fn pgm_line<'a>(alloc: Global, name: &'a str, help: Help) -> Result<Command<'a>, AllocError>
+    ensures line { IfOk result (λ c. app_of c ≡ pgm_line name.entry.now) }
+    ensures local { IfOk result (λ c. (out-Command c).has_globals ≡ false) }
+{
+    bare_line(alloc, name, help).arg(pgm(alloc))
+}
+
+fn settle_line<'a>(alloc: Global) -> Result<Command<'a>, AllocError>
+    ensures line { IfOk result (λ c. app_of c ≡ settle_line) }
+    ensures local { IfOk result (λ c. (out-Command c).has_globals ≡ false) }
+{
+    bare_line(alloc, "settle", help::SETTLE)
+        .arg(pile(alloc))?
+        .arg(pgm(alloc))
+}
+
+fn drops_line<'a>(alloc: Global) -> Result<Command<'a>, AllocError>
+    ensures line { IfOk result (λ c. app_of c ≡ drops_line) }
+    ensures local { IfOk result (λ c. (out-Command c).has_globals ≡ false) }
+{
+    let count = number(
+        alloc,
+        "count",
+        0,
+        10000000,
+        "Drops at random, up to 10000000",
+    );
+    let seed = number(
+        alloc,
+        "seed",
+        0,
+        4294967295,
+        "Seed, up to 4294967295 [default: 0]",
+    );
+    let stream = number(
+        alloc,
+        "stream",
+        0,
+        4294967295,
+        "Stream of the seed [default: 0]",
+    );
+    bare_line(alloc, "drops", help::DROPS)
+        .arg(count)?
+        .arg(seed)?
+        .arg(stream)?
+        .arg(pile(alloc))
+}
+
+fn identity_line<'a>(alloc: Global) -> Result<Command<'a>, AllocError>
+    ensures line { IfOk result (λ c. app_of c ≡ identity_line) }
+    ensures local { IfOk result (λ c. (out-Command c).has_globals ≡ false) }
+{
+    let cylinder = flag(alloc, "cylinder", "Let the rows go round");
+    bare_line(alloc, "identity", help::IDENTITY)
+        .arg(side(alloc, "width", "Sites in a row, from 1 to 256"))?
+        .arg(side(alloc, "height", "Rows, from 1 to 256"))?
+        .arg(cylinder)?
+        .arg(pgm(alloc))
+}
+
+fn lab_line<'a>(alloc: Global) -> Result<Command<'a>, AllocError>
+    ensures line { IfOk result (λ c. app_of c ≡ lab_line) }
+    ensures local { IfOk result (λ c. (out-Command c).has_globals ≡ false) }
+{
+    let seed = setting(alloc, "seed", 0, 4294967295, "0", "Seed, up to 4294967295");
+    let droppers = setting(alloc, "droppers", 1, 64, "2", "Droppers, from 1 to 64");
+    let drops = setting(
+        alloc,
+        "drops",
+        0,
+        1000000,
+        "100",
+        "Drops of each, up to 1000000",
+    );
+    let epochs = setting(alloc, "epochs", 1, 100, "1", "Epochs, from 1 to 100");
+    let workers = setting(alloc, "workers", 1, 16, "1", "Workers, from 1 to 16");
+    let sweeps = setting(alloc, "sweeps", 0, 1000, "0", "Sweeps of each, up to 1000");
+    let observers = setting(alloc, "observers", 0, 16, "0", "Observers, up to 16");
+    bare_line(alloc, "lab", help::LAB)
+        .arg(seed)?
+        .arg(droppers)?
+        .arg(drops)?
+        .arg(epochs)?
+        .arg(workers)?
+        .arg(sweeps)?
+        .arg(observers)?
+        .arg(flag(alloc, "journal", "Write a line for each drop, too"))?
+        .arg(pile(alloc))?
+        .arg(pgm(alloc))
+}
+
+/// The command line of `sandpile`.
+pub(crate) fn command_line<'a>(alloc: Global) -> Result<Command<'a>, AllocError>
+    ensures { IfOk result (λ c. app_of c ≡ command_line) }
+{
+    bare_line(alloc, "sandpile", help::PROGRAM)
+        .subcommand_required(true)
+        .disable_help_subcommand(true)
+        .subcommand(settle_line(alloc)?)?
+        .subcommand(bare_line(alloc, "burn", help::BURN))?
+        .subcommand(identity_line(alloc)?)?
+        .subcommand(drops_line(alloc)?)?
+        .subcommand(pgm_line(alloc, "add", help::ADD)?)?
+        .subcommand(pgm_line(alloc, "inverse", help::INVERSE)?)?
+        .subcommand(pgm_line(alloc, "recurrent", help::RECURRENT)?)?
+        .subcommand(lab_line(alloc)?)
+}

@@ -1,0 +1,237 @@
+//! What the words of the command line ask for.
+
+ghost use Rattle.std.specs.Prelude.{◌≡◌, ◌↔◌, IfErr, IfOk, Some, None, map, option_and_then, string_bytes};
+ghost use Rattle.clap.specs.Words.{found_of, rows_of, subcommand_rows_of};
+ghost use Rattle.sand_cli.specs.Asked.{AskForHelp, IsWithin, asked, conflict_among, conflict_of, draw_of, faults, form_in, identity_of, lacks_count, run_of, task_named, two_forms};
+ghost use Rattle.sand_cli.specs.Spelling.{Heeds};
+ghost use Rattle.sand_cli.specs.Fault.{IsOfKinds, IsUsage, ShowsHelp, TellsConflict};
+
+use crate::fault::{Conflict, WordsFault};
+use crate::line::command_line;
+use crate::options::{flag_in, number_in, setting_in};
+use clap::ArgMatches;
+use std::alloc::Global;
+
+/// A run of the lab: what it drops, and by how many threads.
+#[derive(Clone, Copy, Debug, PartialEq, Eq)]
+pub struct Run {
+    /// The seed of the droppers' streams, at most 4,294,967,295.
+    pub seed: u64,
+    /// Droppers in each epoch, from 1 to 64.
+    pub droppers: u32,
+    /// Drops of each dropper in an epoch, at most 1,000,000.
+    pub drops: u32,
+    /// Epochs, from 1 to 100.
+    pub epochs: u32,
+    /// Workers in each epoch, from 1 to 16.
+    pub workers: u32,
+    /// Sweeps of each worker beside the droppers, at most 1,000.
+    pub sweeps: u32,
+    /// Observers in each epoch, at most 16.
+    pub observers: u32,
+}
+
+/// Drops at the sites of a stream.
+#[derive(Clone, Copy, Debug, PartialEq, Eq)]
+pub struct Draw {
+    /// How many, at most 10,000,000.
+    pub count: u32,
+    /// The seed, at most 4,294,967,295.
+    pub seed: u64,
+    /// The number of the stream, at most 4,294,967,295.
+    pub stream: u64,
+}
+
+/// In which form a pile is written.
+#[derive(Clone, Copy, Debug, PartialEq, Eq)]
+pub enum Form {
+    /// As text, with all that the command says of it.
+    Text,
+    /// Alone, as text that is read as this pile.
+    Pile,
+    /// As a picture.
+    Picture,
+}
+
+/// What is to be done. `pgm` asks for a picture in place of text, `pile` for the pile alone.
+#[derive(Clone, Copy, Debug, PartialEq, Eq)]
+pub enum Task {
+    /// Settles a pile.
+    Settle {
+        form: Form,
+    },
+    /// Tests whether a pile is recurrent.
+    Burn,
+    /// Writes the identity of a grid, which has sides from 1 to 256. Its rows go round on a cylinder.
+    Identity {
+        width: usize,
+        height: usize,
+        cylinder: bool,
+        pgm: bool,
+    },
+    /// Drops grains on a pile, one after another: at the sites that are drawn, or at those of the input.
+    Drops {
+        drawn: Option<Draw>,
+        pile: bool,
+    },
+    /// Adds two recurrent piles.
+    Add {
+        pgm: bool,
+    },
+    /// Writes the inverse of a recurrent pile.
+    Inverse {
+        pgm: bool,
+    },
+    /// Writes the recurrent pile that is equivalent to a pile.
+    Recurrent {
+        pgm: bool,
+    },
+    /// Drops grains on a pile by many threads at once. `journal` asks for a line for each drop in a text.
+    Lab {
+        run: Run,
+        journal: bool,
+        form: Form,
+    },
+}
+
+fn form_in(options: &ArgMatches<'_>) -> Form
+    ensures { result ≡ form_in (rows_of (found_of options.now)) }
+{
+    if flag_in(options, "pile") {
+        Form::Pile
+    } else if flag_in(options, "pgm") {
+        Form::Picture
+    } else {
+        Form::Text
+    }
+}
+
+fn identity_of(options: &ArgMatches<'_>) -> Option<Task>
+    ensures { result ≡ identity_of (rows_of (found_of options.now)) }
+{
+    let width = number_in(options, "width")?;
+    let height = number_in(options, "height")?;
+    Some(Task::Identity {
+        width,
+        height,
+        cylinder: flag_in(options, "cylinder"),
+        pgm: flag_in(options, "pgm"),
+    })
+}
+
+fn run_of(options: &ArgMatches<'_>) -> Option<Run>
+    ensures { result ≡ run_of (rows_of (found_of options.now)) }
+{
+    Some(Run {
+        seed: u64::from(setting_in(options, "seed")?),
+        droppers: setting_in(options, "droppers")?,
+        drops: setting_in(options, "drops")?,
+        epochs: setting_in(options, "epochs")?,
+        workers: setting_in(options, "workers")?,
+        sweeps: setting_in(options, "sweeps")?,
+        observers: setting_in(options, "observers")?,
+    })
+}
+
+fn draw_of(options: &ArgMatches<'_>) -> Option<Draw>
+    ensures { result ≡ draw_of (rows_of (found_of options.now)) }
+{
+    let seed = setting_in(options, "seed").unwrap_or(0);
+    let stream = setting_in(options, "stream").unwrap_or(0);
+    Some(Draw {
+        count: setting_in(options, "count")?,
+        seed: u64::from(seed),
+        stream: u64::from(stream),
+    })
+}
+
+fn task_named(name: &str, options: &ArgMatches<'_>) -> Option<Task>
+    ensures { result ≡ task_named (name.now, rows_of (found_of options.now)) }
+{
+    let pgm = flag_in(options, "pgm");
+    match name {
+        "settle" => Some(Task::Settle {
+            form: form_in(options),
+        }),
+        "burn" => Some(Task::Burn),
+        "identity" => identity_of(options),
+        "drops" => Some(Task::Drops {
+            drawn: draw_of(options),
+            pile: flag_in(options, "pile"),
+        }),
+        "add" => Some(Task::Add { pgm }),
+        "inverse" => Some(Task::Inverse { pgm }),
+        "recurrent" => Some(Task::Recurrent { pgm }),
+        "lab" => Some(Task::Lab {
+            run: run_of(options)?,
+            journal: flag_in(options, "journal"),
+            form: form_in(options),
+        }),
+        _ => None,
+    }
+}
+
+// Whether a pile alone is asked for, and a picture or a journal.
+fn two_forms(options: &ArgMatches<'_>) -> bool
+    ensures { result ≡ two_forms (rows_of (found_of options.now)) }
+{
+    let another = flag_in(options, "journal") | flag_in(options, "pgm");
+    flag_in(options, "pile") & another
+}
+
+// Whether drops have a seed or a stream, and no count.
+fn lacks_count(name: &str, options: &ArgMatches<'_>) -> bool
+    ensures { result ≡ lacks_count name.now (rows_of (found_of options.now)) }
+{
+    let drawn = setting_in(options, "seed").is_some() | setting_in(options, "stream").is_some();
+    let uncounted = !setting_in(options, "count").is_some() & drawn;
+    matches!(name, "drops") & uncounted
+}
+
+fn conflict_of(name: &str, options: &ArgMatches<'_>) -> Option<Conflict>
+    ensures { result ≡ conflict_of (name.now, rows_of (found_of options.now)) }
+{
+    if two_forms(options) {
+        Some(Conflict::Forms)
+    } else if lacks_count(name, options) {
+        Some(Conflict::Uncounted)
+    } else {
+        None
+    }
+}
+
+fn conflict_among(matches: &ArgMatches<'_>) -> Option<Conflict>
+    ensures { result ≡ option_and_then conflict_of (subcommand_rows_of matches.now) }
+{
+    let (name, options) = matches.subcommand()?;
+    conflict_of(name, options)
+}
+
+fn chosen(matches: &ArgMatches<'_>) -> Option<Task>
+    ensures { result ≡ option_and_then task_named (subcommand_rows_of matches.now) }
+{
+    let (name, options) = matches.subcommand()?;
+    task_named(name, options)
+}
+
+/// The task that the words ask for. The first word is the program's name. Refuses words that the command line doesn't
+/// take, and those that ask for help (Usage), options that do not go together (Clash), and want of memory (Memory).
+pub fn task_of<'a>(alloc: Global, words: &'a [String]) -> Result<Task, WordsFault>
+    ensures ok { IfOk result (λ t. asked (map string_bytes words.now) ≡ Some t) }
+    ensures spelled { Heeds (map string_bytes words.now) result }
+    ensures limits { IfOk result IsWithin }
+    ensures refused { IfErr result (λ e. IsUsage e → asked (map string_bytes words.now) ≡ None) }
+    ensures kind { IfErr result (IsOfKinds (faults (map string_bytes words.now))) }
+    ensures clash { IfErr result (TellsConflict (conflict_among (map string_bytes words.now))) }
+    ensures help { IfErr result (λ e. IsUsage e → (ShowsHelp e ↔ AskForHelp (map string_bytes words.now))) }
+{
+    let command = command_line(alloc)?;
+    let matches = command.try_get_matches_from(words)?;
+    match conflict_among(&matches) {
+        Some(conflict) => Err(WordsFault::Clash(conflict)),
+        None => match chosen(&matches) {
+            Some(task) => Ok(task),
+            None => unreachable!(),
+        },
+    }
+}

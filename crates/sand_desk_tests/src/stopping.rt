@@ -1,0 +1,98 @@
+//! A writer and readers that stop, for the tests.
+//!
+//! A command promises most where the bytes of its reader and its writer are known, so these tell theirs: what the writer
+//! has taken, and what a reader has left.
+
+ghost use Rattle.std.specs.Prelude.{Some};
+
+use std::io;
+use std::io::{ErrorKind, Read, Write};
+
+/// Takes one byte a call, and stops after so many.
+#[derive(Drop)]
+pub struct Sluggish {
+    pub taken: Vec<u8>,
+    pub room: usize,
+    /// Whether it answers 0 bytes then, in place of an error.
+    pub is_full: bool,
+    pub flushes: bool,
+}
+
+impl Write for Sluggish {
+    ghost contents = { λ w. Some w.taken.items };
+
+    fn write(&mut self, bytes: &[u8]) -> io::Result<usize> {
+        let Some(first) = bytes.first() else {
+            return Ok(0);
+        };
+        if self.taken.len() >= self.room {
+            return if self.is_full {
+                Ok(0)
+            } else {
+                Err(io::Error::from(ErrorKind::Other))
+            };
+        }
+        self.taken.push(*first)?;
+        Ok(1)
+    }
+
+    fn flush(&mut self) -> io::Result<()> {
+        if self.flushes {
+            Ok(())
+        } else {
+            Err(io::Error::from(ErrorKind::Other))
+        }
+    }
+}
+
+/// Gives one byte a call, and fails after the last.
+#[derive(Drop)]
+pub struct Failing<'a> {
+    pub bytes: &'a [u8],
+}
+
+impl Read for Failing<'_> {
+    ghost remaining = { λ r. Some r.bytes.now };
+
+    fn read(&mut self, room: &mut [u8]) -> io::Result<usize> {
+        let (Some(slot), [first, rest @ ..]) = (room.first_mut(), self.bytes) else {
+            return Err(io::Error::from(ErrorKind::Other));
+        };
+        *slot = *first;
+        self.bytes = rest;
+        Ok(1)
+    }
+}
+
+/// Gives its bytes as fast as it is asked for them, and fails after the last.
+#[derive(Drop)]
+pub struct Cut<'a> {
+    pub bytes: &'a [u8],
+}
+
+impl Read for Cut<'_> {
+    ghost remaining = { λ r. Some r.bytes.now };
+
+    fn read(&mut self, room: &mut [u8]) -> io::Result<usize> {
+        if self.bytes.is_empty() {
+            return Err(io::Error::from(ErrorKind::Other));
+        }
+        self.bytes.read(room)
+    }
+}
+
+/// Gives spaces without end, and counts them.
+#[derive(Drop)]
+pub struct Endless {
+    pub given: usize,
+}
+
+impl Read for Endless {
+    fn read(&mut self, room: &mut [u8]) -> io::Result<usize> {
+        for slot in room.iter_mut() {
+            *slot = b' ';
+        }
+        self.given = self.given.saturating_add(room.len());
+        Ok(room.len())
+    }
+}
