@@ -44,10 +44,11 @@ impl Model for Sheet {
     ghost view = { λ s. record { journal = s.journal.items; tallies = map (λ ts. ts.items) s.findings.tallies.items; swept = s.findings.swept.items; place = s.note.cell; shown = s.note.known } };
 }
 
-// What a closed epoch leaves.
+// What a closed epoch leaves: its record, for the report and for the album, and what is kept beside it.
 #[derive(Drop)]
 struct ClosedEpoch {
     closed: Record,
+    shown: Record,
     journal: Vec<Entry>,
     findings: Findings,
 }
@@ -73,7 +74,7 @@ fn share(alloc: Global, start: &Pile, quota: u64) -> Result<(SharedPile, Pass), 
     }
 }
 
-// Settles the pile of an epoch with a pass that has gathered all. Copies of the record share its history.
+// Settles the pile of an epoch with a pass that has gathered all.
 fn close(alloc: Global, pile: SharedPile, all: Pass) -> Result<Record, LabFault>
     requires of_pile { IsPassOf pile all }
     requires whole { IsWhole pile.terms all }
@@ -85,20 +86,9 @@ fn close(alloc: Global, pile: SharedPile, all: Pass) -> Result<Record, LabFault>
     ensures memory { IfErr result IsMemory }
 {
     match pile.settle(alloc, all) {
-        Ok(record) => Ok(record.share()?),
+        Ok(record) => Ok(record),
         Err((CloseFault::Memory(refused), _, _)) => Err(refused.into()),
         Err((CloseFault::Missing, _, _)) => unreachable!(),
-    }
-}
-
-fn copy_of(alloc: Global, closed: &Record) -> Result<Record, LabFault>
-    ensures copy { IfOk result (λ r. r ≡ closed.now) }
-    ensures memory { IfErr result IsMemory }
-{
-    match closed.copy(alloc) {
-        Ok(copy) => Ok(copy),
-        Err(SharedFault::Memory(refused)) => Err(refused.into()),
-        Err(SharedFault::TooManyGrains) => unreachable!(),
     }
 }
 
@@ -160,16 +150,19 @@ fn work_and_make_ready<R: Threads + Sync, G: Gate>(
     journal
 }
 
-// A copy of a record for the total to grow from, with room for so many drops more.
+// A copy of a record for the total to grow from, with room for so many drops more. A total that does not grow shares the
+// history.
 fn copy_to_grow(alloc: Global, closed: &Record, drops: u64) -> Result<Record, LabFault>
     requires limit { sum closed.now.start.heights + (length closed.now.history + drops) ≤ most_grains }
     ensures copy { IfOk result (λ r. r ≡ closed.now) }
     ensures memory { IfErr result IsMemory }
 {
-    if drops == 0 {
-        return copy_of(alloc, closed);
-    }
-    match closed.copy_with_room(alloc, drops as usize) {
+    let copied = if drops == 0 {
+        closed.copy(alloc)
+    } else {
+        closed.copy_with_room(alloc, drops as usize)
+    };
+    match copied {
         Ok(copy) => Ok(copy),
         Err(SharedFault::Memory(refused)) => Err(refused.into()),
         Err(SharedFault::TooManyGrains) => unreachable!(),
@@ -188,6 +181,7 @@ fn closed_epoch<R: Threads + Sync, G: Gate>(
     requires plan { IsPlan wish }
     requires limit { sum start.now.heights + quota_of wish ≤ most_grains }
     ensures closed { IfOk result (λ c. IsClosed wish start.now epoch c.closed c.journal.items (map (λ ts. ts.items) c.findings.tallies.items) c.findings.swept.items) }
+    ensures shown { IfOk result (λ c. c.shown ≡ c.closed) }
     ensures memory { IfErr result IsMemory }
 {
     let (pile, mut first) = share(alloc, start, quota_of(wish))?;
@@ -196,22 +190,23 @@ fn closed_epoch<R: Threads + Sync, G: Gate>(
     crew.sweep_on(rt, &pile, wish.sweeps);
     let findings = crew.gather(alloc, &pile, &mut first)?;
     write_journal(&mut journal, first.receipts(), wish.drops);
-    let closed = close(alloc, pile, first)?;
+    let (closed, shown) = close(alloc, pile, first)?.twice(alloc)?;
     Ok(ClosedEpoch {
         closed,
+        shown,
         journal,
         findings,
     })
 }
 
-// Publishes a copy of an epoch's record. Returns the album's note of it.
-fn published(alloc: Global, epoch: u32, album: &Album, copy: Record) -> Result<Note, LabFault>
+// Publishes an epoch's record. Returns the album's note of it.
+fn published(alloc: Global, epoch: u32, album: &Album, shown: Record) -> Result<Note, LabFault>
     requires place { epoch < length album.now }
     ensures place { IfOk result (λ n. IsPlace album.now epoch n.cell) }
-    ensures shown { IfOk result (λ n. n.known ≡ Some (record { epoch = epoch; closed = copy })) }
+    ensures shown { IfOk result (λ n. n.known ≡ Some (record { epoch = epoch; closed = shown })) }
     ensures faults { IfErr result IsOfEpoch }
 {
-    album.publish(alloc, epoch, Picture::new(epoch, copy))
+    album.publish(alloc, epoch, Picture::new(epoch, shown))
 }
 
 /// The first epoch of a plan, from a start: its record, which is published in the album, what is kept beside it, and a
@@ -235,12 +230,12 @@ pub(crate) fn run_first_epoch<R: Threads + Sync, G: Gate>(
 {
     let ClosedEpoch {
         closed,
+        shown,
         journal,
         findings,
     } = closed_epoch(rt, alloc, start, wish, 0, gate)?;
-    let copy = copy_of(alloc, &closed)?;
     let total = copy_to_grow(alloc, &closed, drops)?;
-    let note = published(alloc, 0, album, copy)?;
+    let note = published(alloc, 0, album, shown)?;
     let sheet = Sheet {
         journal,
         findings,
@@ -249,8 +244,8 @@ pub(crate) fn run_first_epoch<R: Threads + Sync, G: Gate>(
     Ok((closed, sheet, total))
 }
 
-/// One epoch of a plan, from a start: its record, which is published in the album, and what is kept beside it. Refuses
-/// want of memory, and an album's place that was set before (Taken).
+/// One epoch of a plan, from a start: its record, which is published in the album, and what is kept beside it. Returns
+/// Memory if an allocation fails, and Taken if the album's place was set before.
 pub(crate) fn run_epoch<R: Threads + Sync, G: Gate>(
     rt: &R,
     alloc: Global,
@@ -268,11 +263,11 @@ pub(crate) fn run_epoch<R: Threads + Sync, G: Gate>(
 {
     let ClosedEpoch {
         closed,
+        shown,
         journal,
         findings,
     } = closed_epoch(rt, alloc, start, wish, epoch, gate)?;
-    let copy = copy_of(alloc, &closed)?;
-    let note = published(alloc, epoch, album, copy)?;
+    let note = published(alloc, epoch, album, shown)?;
     let sheet = Sheet {
         journal,
         findings,

@@ -138,10 +138,11 @@ impl Record {
         self.lost
     }
 
-    /// The same record, whose copies share its history and do not copy it. It costs no time. Returns an error if the
-    /// allocation fails; the record is then gone.
-    pub fn share(self) -> Result<Record, AllocError>
-        ensures { IfOk result (λ r. r ≡ self) }
+    /// Two records that are both this one, and share its history: so the second costs no time and no memory for the
+    /// history. Returns an error if an allocation fails; the record is then gone.
+    pub fn twice(self, alloc: Global) -> Result<(Record, Record), AllocError>
+        ensures first { IfOk result (λ r. r.0 ≡ self) }
+        ensures second { IfOk result (λ r. r.1 ≡ self) }
     {
         let Record {
             start,
@@ -152,17 +153,20 @@ impl Record {
             lost,
         } = self;
         let history = history.share()?;
-        Ok(Record {
+        let first = Record {
             start,
             history,
             pile,
             odometer,
             topplings,
             lost,
-        })
+        };
+        let shared = first.history.copy(alloc)?;
+        let second = first.copy_with(alloc, shared)?;
+        Ok((first, second))
     }
 
-    /// A copy. It copies the lists of sites, and the history unless the record is shared (`share`).
+    /// A copy. It copies the heights and the odometer, and the history unless the record shares it (`twice`).
     pub fn copy(&self, alloc: Global) -> Result<Record, SharedFault>
         ensures made { IfOk result (λ r. r ≡ self.now) }
         ensures memory { IsOkUnless result (SharedFault.Memory alloc_error) }
