@@ -1,10 +1,11 @@
 //! The settled record of a pile: its settled pile, its odometer, and what the settling cost.
 
-ghost use Rattle.std.specs.Prelude.{◌≡◌, ◌<◌, length};
+ghost use Rattle.std.specs.Prelude.{◌≡◌, ◌<◌, ◌^◌, IfOk, length, sum};
 ghost use Rattle.sand_model.specs.Grid.{sites};
 ghost use Rattle.sand_settle.specs.Settling.{odometer_of};
 
 use sand_model::Pile;
+use std::alloc::{AllocError, Global};
 use std::marker::Model;
 
 /// A settled pile, with its odometer: how often each site toppled, by site.
@@ -28,7 +29,44 @@ impl Model for Settled {
     ghost invariant = { λ r. length r.odometer.items ≡ sites r.pile.grid };
 }
 
+fn sum_of(counts: &[u64]) -> u64
+    requires { sum counts.now < 2 ^ 64 }
+    ensures { result ≡ sum counts.now }
+{
+    counts.iter().sum()
+}
+
 impl Settled {
+    /// A settled pile, how often each site toppled, and how many grains fell into the sink. Copies nothing.
+    pub fn of_parts(pile: Pile, odometer: Vec<u64>, lost: u64) -> Settled
+        requires odometer_each { length odometer.items ≡ sites pile.grid }
+        requires small { sum odometer.items < 2 ^ 64 }
+        ensures { result ≡ record { pile = pile; odometer = odometer.items; topplings = sum odometer.items; lost = lost } }
+    {
+        let topplings = sum_of(&odometer);
+        Settled {
+            pile,
+            odometer,
+            topplings,
+            lost,
+        }
+    }
+
+    pub fn copy(&self, alloc: Global) -> Result<Settled, AllocError>
+        ensures { IfOk result (λ r. r ≡ self.now) }
+    {
+        let Ok(pile) = self.pile.copy(alloc) else {
+            return Err(AllocError);
+        };
+        let odometer = Vec::from_slice(alloc, self.odometer.as_slice())?;
+        Ok(Settled {
+            pile,
+            odometer,
+            topplings: self.topplings,
+            lost: self.lost,
+        })
+    }
+
     pub fn pile(&self) -> &Pile
         ensures value { result.now ≡ self.now.pile }
         ensures odometer_each { length self.now.odometer ≡ sites self.now.pile.grid }

@@ -179,13 +179,6 @@ pub(crate) fn list_unstable(heights: &[u64], wave: &mut SiteList)
     }
 }
 
-fn sum_of(counts: &[u64]) -> u64
-    requires { sum counts.now < 2 ^ 64 }
-    ensures { result ≡ sum counts.now }
-{
-    counts.iter().sum()
-}
-
 // The settled record of a pile, from what it settled to and how often each site toppled.
 fn record_of(pile: &Pile, heights: Vec<u64>, odometer: Vec<u64>) -> Settled
     requires heights_each { length heights.items ≡ sites pile.now.grid }
@@ -197,15 +190,9 @@ fn record_of(pile: &Pile, heights: Vec<u64>, odometer: Vec<u64>) -> Settled
     ensures bound { result.topplings < 2 ^ 54 }
 {
     let before = pile.grains();
-    let topplings = sum_of(&odometer);
     let settled = Pile::from_vec(pile.shape(), heights);
     let lost = before - settled.grains();
-    Settled {
-        pile: settled,
-        odometer,
-        topplings,
-        lost,
-    }
+    Settled::of_parts(settled, odometer, lost)
 }
 
 /// The settled record of a pile: its settled pile, its least odometer, the grains lost and the topplings. It is refused

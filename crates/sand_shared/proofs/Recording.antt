@@ -159,3 +159,8 @@ module _ (r q : RecordView) (one : IsOneThreads r) (next : IsOneThreads q) (join
           grains = refl;
         };
       }
+
+  pub joined_topplings : sum sums ≡ r.settled.topplings + q.settled.topplings
+  joined_topplings =
+      let all = followed.one.settled.all_topplings in
+      let counts = sum_is_grains r.start.grid sums (long ∙ one.one.settled.odometer_each) in omega arith

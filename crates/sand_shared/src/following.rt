@@ -11,6 +11,7 @@ ghost use Rattle.sand_model.specs.Piles.{most_grains};
 use crate::faults::SharedFault;
 use crate::record::{Record, copy_of};
 use crate::settling::add;
+use sand_settle::Settled;
 use std::alloc::Global;
 
 impl Record {
@@ -30,12 +31,12 @@ impl Record {
         ensures unchanged { OnErr result (self.new ≡ self.old) }
         ensures memory { IsOkUnless result (SharedFault.Memory alloc_error) }
     {
-        let pile = copy_of(alloc, &next.pile)?;
+        let pile = copy_of(alloc, next.settled.pile())?;
+        let mut odometer = Vec::from_slice(alloc, self.settled.odometers())?;
         self.history.append(alloc, next.history.as_slice())?;
-        add(&mut self.odometer, next.odometer.as_slice());
-        self.pile = pile;
-        self.topplings += next.topplings;
-        self.lost += next.lost;
+        add(&mut odometer, next.settled.odometers());
+        let lost = self.settled.lost() + next.settled.lost();
+        self.settled = Settled::of_parts(pile, odometer, lost);
         Ok(())
     }
 

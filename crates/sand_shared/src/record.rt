@@ -10,19 +10,17 @@ ghost use Rattle.sand_shared.specs.Record.{IsOneThreads};
 use crate::faults::SharedFault;
 use crate::history::History;
 use sand_model::Pile;
+use sand_settle::Settled;
 use std::alloc::{AllocError, Global};
 use std::marker::Model;
 
-/// A closed pile: its start, the site of each drop by its number, the settled pile that these lead to, and how often
+/// A closed pile: its start, the site of each drop by its number, and what these lead to: the settled pile, and how often
 /// each site has toppled since the start. It is what one thread gets that drops the history in order.
 #[derive(Debug, Drop)]
 pub struct Record {
     pub(crate) start: Pile,
     pub(crate) history: History,
-    pub(crate) pile: Pile,
-    pub(crate) odometer: Vec<u64>,
-    pub(crate) topplings: u64,
-    pub(crate) lost: u64,
+    pub(crate) settled: Settled,
 }
 
 impl Model for Record {
@@ -30,9 +28,9 @@ impl Model for Record {
 
     ghost Value = { RecordView };
 
-    ghost view = { λ r. record { start = r.start; history = r.history; settled = record { pile = r.pile; odometer = r.odometer.items; topplings = r.topplings; lost = r.lost } } };
+    ghost view = { λ r. record { start = r.start; history = r.history; settled = r.settled } };
 
-    ghost invariant = { λ r. IsOneThreads (record { start = r.start; history = r.history; settled = record { pile = r.pile; odometer = r.odometer.items; topplings = r.topplings; lost = r.lost } }) };
+    ghost invariant = { λ r. IsOneThreads (record { start = r.start; history = r.history; settled = r.settled }) };
 }
 
 // A copy of a pile, of which nothing but memory can be refused.
@@ -43,13 +41,6 @@ pub(crate) fn copy_of(alloc: Global, pile: &Pile) -> Result<Pile, AllocError>
         Ok(copy) => Ok(copy),
         Err(_) => Err(AllocError),
     }
-}
-
-fn sum_of(numbers: &[u64]) -> u64
-    requires { sum numbers.now < 2 ^ 64 }
-    ensures { result ≡ sum numbers.now }
-{
-    numbers.iter().sum()
 }
 
 impl Record {
@@ -69,17 +60,13 @@ impl Record {
         ensures heights { result.settled.pile.heights ≡ heights.items }
         ensures odometer { result.settled.odometer ≡ odometer.items }
     {
-        let shape = start.shape();
-        let topplings = sum_of(odometer.as_slice());
-        let pile = Pile::from_vec(shape, heights);
+        let pile = Pile::from_vec(start.shape(), heights);
         let lost = start.grains() + history.len() as u64 - pile.grains();
+        let settled = Settled::of_parts(pile, odometer, lost);
         Record {
             start,
             history: History::of(history),
-            pile,
-            odometer,
-            topplings,
-            lost,
+            settled,
         }
     }
 
@@ -103,7 +90,7 @@ impl Record {
         ensures value { result.now ≡ self.now.settled.pile }
         ensures one_threads { IsOneThreads self.now }
     {
-        &self.pile
+        self.settled.pile()
     }
 
     /// How often a site has toppled.
@@ -111,7 +98,7 @@ impl Record {
         requires { site < sites self.now.start.grid }
         ensures { result ≡ odometer_of self.now.settled site }
     {
-        self.odometer[site]
+        self.settled.odometer(site)
     }
 
     /// How often each site has toppled, by site.
@@ -119,7 +106,7 @@ impl Record {
         ensures value { result.now ≡ self.now.settled.odometer }
         ensures one_threads { IsOneThreads self.now }
     {
-        self.odometer.as_slice()
+        self.settled.odometers()
     }
 
     /// How many topplings there were in all.
@@ -127,7 +114,7 @@ impl Record {
         ensures value { result ≡ self.now.settled.topplings }
         ensures few { result < 2 ^ 54 }
     {
-        self.topplings
+        self.settled.topplings()
     }
 
     /// How many grains fell into the sink.
@@ -135,7 +122,7 @@ impl Record {
         ensures value { result ≡ self.now.settled.lost }
         ensures one_threads { IsOneThreads self.now }
     {
-        self.lost
+        self.settled.lost()
     }
 
     /// Two records that are both this one, and share its history: so the second costs no time and no memory for the
@@ -147,19 +134,13 @@ impl Record {
         let Record {
             start,
             history,
-            pile,
-            odometer,
-            topplings,
-            lost,
+            settled,
         } = self;
         let history = history.share()?;
         let first = Record {
             start,
             history,
-            pile,
-            odometer,
-            topplings,
-            lost,
+            settled,
         };
         let shared = first.history.copy(alloc)?;
         let second = first.copy_with(alloc, shared)?;
@@ -191,15 +172,11 @@ impl Record {
         ensures made { IfOk result (λ r. r ≡ self.now) }
     {
         let start = copy_of(alloc, &self.start)?;
-        let pile = copy_of(alloc, &self.pile)?;
-        let odometer = Vec::from_slice(alloc, self.odometer.as_slice())?;
+        let settled = self.settled.copy(alloc)?;
         Ok(Record {
             start,
             history,
-            pile,
-            odometer,
-            topplings: self.topplings,
-            lost: self.lost,
+            settled,
         })
     }
 }
