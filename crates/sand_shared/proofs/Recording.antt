@@ -105,19 +105,37 @@ small_lost r one =
 times_plus : (a b c : ℕ) → a * (b + c) ≡ a * b + a * c
 times_plus a b c = grind arith
 
+-- the odometers of two records, added site by site
+pub record AreAdded (r q : RecordView) (sums : List ℕ) : Type 0 where
+  pub long : length sums ≡ length r.settled.odometer
+  pub each : (i : ℕ) → i < length r.settled.odometer → slice_index sums i ≡ odometer_of r.settled i + odometer_of q.settled i
+
+pub are_added : (r q : RecordView) → IsOneThreads r → IsOneThreads q → q.start ≡ r.settled.pile → (mine theirs sums : List ℕ) → mine ≡ r.settled.odometer → theirs ≡ q.settled.odometer
+    → length sums ≡ length mine → ((i : ℕ) → i < length theirs → slice_index sums i ≡ slice_index mine i + slice_index theirs i) → AreAdded r q sums
+are_added r q one next joint mine theirs sums mine_is theirs_is long each = record {
+  long = long ∙ ap (λ (l : List ℕ). length l) mine_is;
+  each = λ i l. (let here = one.one.settled.odometer_each in
+      let there = next.one.settled.odometer_each ∙ ap (λ (p : PileView). sites p.grid) joint ∙ ap sites one.one.settled.grid in
+      let as_long = ap (λ (l : List ℕ). length l) theirs_is in
+      let e = each i (omega arith) in
+      let a = ap (λ (l : List ℕ). slice_index l i) mine_is in
+      let b = ap (λ (l : List ℕ). slice_index l i) theirs_is in omega arith);
+}
+
 -- a record that goes on from where another ended: settling in two parts is settling at once, and the odometers add
-module _ (r q : RecordView) (one : IsOneThreads r) (next : IsOneThreads q) (joint : q.start ≡ r.settled.pile) (limit : sum r.start.heights + (length r.history + length q.history) ≤ most_grains) (sums : List ℕ) (long : length sums ≡ length r.settled.odometer) (each : (i : ℕ) → i < length r.settled.odometer → slice_index sums i ≡ odometer_of r.settled i + odometer_of q.settled i) where
+module _ (r q : RecordView) (one : IsOneThreads r) (next : IsOneThreads q) (joint : q.start ≡ r.settled.pile) (limit : sum r.start.heights + (length r.history + length q.history) ≤ most_grains) (sums : List ℕ) (added : AreAdded r q sums) where
   pub same_grid : q.start.grid ≡ r.start.grid
   same_grid = ap (λ (p : PileView). p.grid) joint ∙ one.one.settled.grid
 
   all_each : (i : ℕ) → slice_index sums i ≡ odometer_of r.settled i + odometer_of q.settled i
-  all_each i = ⊎_elim (each i) past (cases_lt i (length r.settled.odometer))
+  all_each i = ⊎_elim (added.each i) past (cases_lt i (length r.settled.odometer))
     where
       past : length r.settled.odometer ≤ i → slice_index sums i ≡ odometer_of r.settled i + odometer_of q.settled i
       past le =
           let mine = one.one.settled.odometer_each in
           let theirs = next.one.settled.odometer_each in
           let grids = ap sites same_grid in
+          let long = added.long in
           let a = get_or-eq_default sums 0 {n = i} (omega arith) in
           let b = get_or-eq_default r.settled.odometer 0 {n = i} le in
           let c = get_or-eq_default q.settled.odometer 0 {n = i} (omega arith) in omega arith
@@ -150,7 +168,7 @@ module _ (r q : RecordView) (one : IsOneThreads r) (next : IsOneThreads q) (join
           settled = record {
             grid = next.one.settled.grid ∙ grids;
             heights_each = next.one.settled.heights_each ∙ ap sites grids;
-            odometer_each = long ∙ one.one.settled.odometer_each;
+            odometer_each = added.long ∙ one.one.settled.odometer_each;
             settled = both_settled;
             all_topplings = omega arith;
             all_lost = omega arith;
@@ -163,4 +181,4 @@ module _ (r q : RecordView) (one : IsOneThreads r) (next : IsOneThreads q) (join
   pub joined_topplings : sum sums ≡ r.settled.topplings + q.settled.topplings
   joined_topplings =
       let all = followed.one.settled.all_topplings in
-      let counts = sum_is_grains r.start.grid sums (long ∙ one.one.settled.odometer_each) in omega arith
+      let counts = sum_is_grains r.start.grid sums (added.long ∙ one.one.settled.odometer_each) in omega arith

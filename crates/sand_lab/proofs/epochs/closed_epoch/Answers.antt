@@ -3,6 +3,7 @@ use Rattle.sand_model.specs.Piles.{PileView}
 use Rattle.sand_shared.specs.declared.view.Receipt.{Receipt}
 use Rattle.sand_shared.specs.declared.view.Terms.{Terms}
 use Rattle.sand_shared.specs.Passes.{EachOnce, AllBelow}
+use Rattle.sand_shared.specs.Record.{RecordView}
 use Rattle.sand_lab.specs.Journals.{IsJournal}
 use Rattle.sand_lab.specs.Reports.{IsClosed}
 use Rattle.sand_lab.proofs.Closing.{all_dropped, within, whole, few_droppers, closed_is}
@@ -59,7 +60,7 @@ returns-clause-closed g c =
     let journal = subst (λ (rs : List Receipt). IsJournal w.drops rs c.write_journal.new.journal.items) c.receipts.ensures.value c.write_journal.ensures.journal in
     let tallies = map (λ ts. ts.items) c.in_ok-findings.findings.tallies.items in
     let swept = c.in_ok-findings.findings.swept.items in
-    let closed = c.in_ok-closed.ensures in
-    subst (λ (p : PileView). IsClosed w p c.args.epoch c.in_ok-closed.closed c.write_journal.new.journal.items tallies swept) start
-    (closed_is s w c.args.epoch c.sweep_on.new.self c.gather.new.first quota has c.in_ok-findings.ensures.first c.in_ok-closed.closed c.write_journal.new.journal.items tallies swept
+    let closed = c.in_ok-close.ensures in
+    subst (λ (z : PileView × RecordView). IsClosed w z.0 c.args.epoch z.1 c.write_journal.new.journal.items tallies swept) (λ i. (start i, sym c.in_ok-closed.ensures.first i))
+    (closed_is s w c.args.epoch c.sweep_on.new.self c.gather.new.first quota has c.in_ok-findings.ensures.first c.in_ok-close.field-0 c.write_journal.new.journal.items tallies swept
     c.receipts.ensures.each_once journal closed.one_threads closed.start closed.history closed.each_drop_once closed.never_fall c.in_ok-findings.ensures.tallies c.in_ok-findings.ensures.swept)

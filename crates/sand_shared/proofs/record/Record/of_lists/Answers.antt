@@ -1,30 +1,34 @@
 use Rattle.std.proofs.Common.{ℕ, ◌+◌, ◌-◌, List, sum, refl, sym, ap, ◌∙◌, subst, arith}
+use Rattle.sand_model.specs.Grid.{sites}
 use Rattle.sand_model.specs.Piles.{PileView}
 use Rattle.sand_settle.specs.Settling.{SettledView}
 use Rattle.sand_shared.specs.Record.{IsOneThreads}
 use Rattle.sand_shared.proofs.Recording.{few_topplings, grains_left, one_threads}
 use Rattle.sand_shared.proofs.record.Record.of_lists.Goals as goal
 
-pub sum_of-topplings-requires : goal.sum_of-topplings-requires
-sum_of-topplings-requires c =
-    let few = few_topplings c.args.start c.args.history.items c.args.heights.items c.args.odometer.items
-    record { pile = c.shape-shape.ensures.pile; all_sites = c.requires.all_sites; limit = c.requires.limit; heights_each = c.requires.one_each.0; odometer_each = c.requires.one_each.1; settled = c.requires.settled } in
-    let same = ap sum c.as_slice.ensures.value in omega arith
-
 pub from_vec-pile-requires-clause-limit : goal.from_vec-pile-requires-clause-limit
 from_vec-pile-requires-clause-limit c =
     let left = grains_left c.args.start c.args.history.items c.args.heights.items c.args.odometer.items
-    record { pile = c.shape-shape.ensures.pile; all_sites = c.requires.all_sites; limit = c.requires.limit; heights_each = c.requires.one_each.0; odometer_each = c.requires.one_each.1; settled = c.requires.settled } in
+    record { pile = c.shape.ensures.pile; all_sites = c.requires.all_sites; limit = c.requires.limit; heights_each = c.requires.one_each.0; odometer_each = c.requires.one_each.1; settled = c.requires.settled } in
     let limit = c.requires.limit in omega arith
 
 pub overflow_sub-lost : goal.overflow_sub-lost
 overflow_sub-lost c =
     let left = grains_left c.args.start c.args.history.items c.args.heights.items c.args.odometer.items
-    record { pile = c.shape-shape.ensures.pile; all_sites = c.requires.all_sites; limit = c.requires.limit; heights_each = c.requires.one_each.0; odometer_each = c.requires.one_each.1; settled = c.requires.settled } in
+    record { pile = c.shape.ensures.pile; all_sites = c.requires.all_sites; limit = c.requires.limit; heights_each = c.requires.one_each.0; odometer_each = c.requires.one_each.1; settled = c.requires.settled } in
     let start = c.grains.ensures.value in
     let rest = c.grains-2.ensures.value ∙ ap (λ (p : PileView). sum p.heights) c.from_vec-pile.ensures in
     let drops = c.len.ensures in
     let long = c.args.history.ok.0 in omega arith
+
+pub of_parts-settled-requires-clause-odometer_each : goal.of_parts-settled-requires-clause-odometer_each
+of_parts-settled-requires-clause-odometer_each c =
+    c.requires.one_each.1 ∙ sym (ap (λ (p : PileView). sites p.grid) c.from_vec-pile.ensures ∙ ap sites c.shape.ensures.value)
+
+pub of_parts-settled-requires-clause-small : goal.of_parts-settled-requires-clause-small
+of_parts-settled-requires-clause-small c =
+    let few = few_topplings c.args.start c.args.history.items c.args.heights.items c.args.odometer.items
+    record { pile = c.shape.ensures.pile; all_sites = c.requires.all_sites; limit = c.requires.limit; heights_each = c.requires.one_each.0; odometer_each = c.requires.one_each.1; settled = c.requires.settled } in omega arith
 
 pub invariant_of-result : goal.invariant_of-result
 invariant_of-result c =
@@ -32,13 +36,13 @@ invariant_of-result c =
     let rest = c.grains-2.ensures.value ∙ ap (λ (p : PileView). sum p.heights) c.from_vec-pile.ensures in
     let drops = c.len.ensures in
     let long = c.args.history.ok.0 in
-    let settled : SettledView = record { pile = c.from_vec-pile.result; odometer = c.args.odometer.items; topplings = c.sum_of-topplings.result; lost = c.grains.result + c.len.result - c.grains-2.result } in
-    subst (λ (history : List ℕ). IsOneThreads (record { start = c.args.start; history = history; settled = settled })) (sym c.of.ensures)
+    let settled : SettledView = record { pile = c.from_vec-pile.result; odometer = c.args.odometer.items; topplings = sum c.args.odometer.items; lost = c.grains.result + c.len.result - c.grains-2.result } in
+    subst (λ (z : List ℕ × SettledView). IsOneThreads (record { start = c.args.start; history = z.0; settled = z.1 })) (λ i. (sym c.of.ensures i, sym c.of_parts-settled.ensures i))
     (one_threads c.args.start c.args.history.items c.args.heights.items c.args.odometer.items
-    record { pile = c.shape-shape.ensures.pile; all_sites = c.requires.all_sites; limit = c.requires.limit; heights_each = c.requires.one_each.0; odometer_each = c.requires.one_each.1; settled = c.requires.settled }
+    record { pile = c.shape.ensures.pile; all_sites = c.requires.all_sites; limit = c.requires.limit; heights_each = c.requires.one_each.0; odometer_each = c.requires.one_each.1; settled = c.requires.settled }
     settled
-    (ap (λ (p : PileView). p.grid) c.from_vec-pile.ensures ∙ c.shape-shape.ensures.value)
+    (ap (λ (p : PileView). p.grid) c.from_vec-pile.ensures ∙ c.shape.ensures.value)
     (ap (λ (p : PileView). p.heights) c.from_vec-pile.ensures)
     refl
-    (c.sum_of-topplings.ensures ∙ ap sum c.as_slice.ensures.value)
+    refl
     (omega arith))

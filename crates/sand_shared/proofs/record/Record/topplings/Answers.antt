@@ -1,5 +1,8 @@
+use Rattle.std.proofs.Common.{arith}
 use Rattle.sand_shared.proofs.Recording.{small_topplings}
 use Rattle.sand_shared.proofs.record.Record.topplings.Goals as goal
 
 pub returns-clause-few : goal.returns-clause-few
-returns-clause-few c = small_topplings _ c.self.invariant
+returns-clause-few c =
+    let few = small_topplings _ c.self.invariant in
+    let same = c.topplings.ensures in omega arith
