@@ -1,6 +1,6 @@
 use Rattle.std.proofs.Common.{◌≡◌, ℕ, ◌+◌, ◌<◌, length, get_or, set, take, sym, ◌∙◌, subst, arith, length-set}
 use Rattle.sand_model.specs.Sand.{tally}
-use Rattle.sand_shared.proofs.Counting.{read_count, counted_more, tally_small}
+use Rattle.sand_shared.proofs.DropsBySite.{read_count, counted_more, tally_small}
 use Rattle.sand_shared.proofs.turns.count_sites.Goals as goal
 
 pub overflow_add-index_mut : goal.overflow_add-index_mut

@@ -4,7 +4,7 @@ use Rattle.sand_model.specs.Grid.{sites}
 use Rattle.sand_model.specs.Piles.{PileView}
 use Rattle.sand_settle.specs.Settling.{odometer_of}
 use Rattle.sand_shared.specs.Record.{RecordView, IsOneThreads}
-use Rattle.sand_shared.proofs.Recording.{small_entries, small_topplings, small_lost, followed}
+use Rattle.sand_shared.proofs.RecordSums.{small_entries, small_topplings, small_lost, followed}
 use Rattle.sand_shared.proofs.record.Record.append.Goals as goal
 
 pub add-requires-clause-small : goal.add-requires-clause-small

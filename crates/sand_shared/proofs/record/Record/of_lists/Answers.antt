@@ -2,7 +2,7 @@ use Rattle.std.proofs.Common.{ℕ, ◌+◌, ◌-◌, List, sum, refl, sym, ap, �
 use Rattle.sand_model.specs.Piles.{PileView}
 use Rattle.sand_settle.specs.Settling.{SettledView}
 use Rattle.sand_shared.specs.Record.{IsOneThreads}
-use Rattle.sand_shared.proofs.Recording.{few_topplings, grains_left, one_threads}
+use Rattle.sand_shared.proofs.RecordSums.{few_topplings, grains_left, one_threads}
 use Rattle.sand_shared.proofs.record.Record.of_lists.Goals as goal
 
 pub sum_of-topplings-requires : goal.sum_of-topplings-requires

@@ -1,4 +1,4 @@
-use Rattle.sand_shared.proofs.Recording.{small_topplings}
+use Rattle.sand_shared.proofs.RecordSums.{small_topplings}
 use Rattle.sand_shared.proofs.record.Record.topplings.Goals as goal
 
 pub returns-clause-few : goal.returns-clause-few

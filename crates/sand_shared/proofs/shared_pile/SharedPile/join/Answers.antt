@@ -7,9 +7,9 @@ use Rattle.sand_shared.specs.declared.rows.Rows.{Rows}
 use Rattle.sand_shared.specs.Events.{follows, joined}
 use Rattle.sand_shared.specs.Passes.{PassView, at_rest, together, EachOnce, AllBelow}
 use Rattle.sand_shared.specs.Rows.{count_of, rows_together, AreRowsOf, AreApart}
-use Rattle.sand_shared.proofs.Gathering.{touching_rows, follows_is, joined_rest, together_rows, together_each}
-use Rattle.sand_shared.proofs.Receipts.{below_join, stands_once}
-use Rattle.sand_shared.proofs.Told.{known_is}
+use Rattle.sand_shared.proofs.RowsJoined.{touching_rows, follows_is, joined_rest, together_rows, together_each}
+use Rattle.sand_shared.proofs.NumbersOnce.{below_join, stands_once}
+use Rattle.sand_shared.proofs.PassAfterEvent.{known_is}
 use Rattle.sand_shared.proofs.shared_pile.SharedPile.join.Goals as goal
 
 pub invariant_of-pass-in-Err-lay_together : goal.invariant_of-pass-in-Err-lay_together

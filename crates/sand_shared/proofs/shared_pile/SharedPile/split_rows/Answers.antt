@@ -7,8 +7,8 @@ use Rattle.sand_shared.specs.declared.rows.Rows.{Rows}
 use Rattle.sand_shared.specs.Events.{parent, child}
 use Rattle.sand_shared.specs.Rows.{count_of}
 use Rattle.sand_shared.specs.Passes.{PassView, at_rest, EachOnce, AllBelow}
-use Rattle.sand_shared.proofs.Cutting.{AreSitesOf, upper_sites, lower_sites, parent_rest, child_rest}
-use Rattle.sand_shared.proofs.Told.{known_is}
+use Rattle.sand_shared.proofs.RowsSplit.{AreSitesOf, upper_sites, lower_sites, parent_rest, child_rest}
+use Rattle.sand_shared.proofs.PassAfterEvent.{known_is}
 use Rattle.sand_shared.proofs.shared_pile.SharedPile.split_rows.Goals as goal
 
 -- the sites that are kept, as the code counts them

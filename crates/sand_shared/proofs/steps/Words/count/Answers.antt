@@ -4,7 +4,7 @@ use Rattle.atomic_table.specs.Table.{step}
 use Rattle.sand_model.specs.Grid.{sites}
 use Rattle.sand_shared.specs.OpenPile.{grid_of}
 use Rattle.sand_shared.specs.Events.{count}
-use Rattle.sand_shared.proofs.Moments.{counts, at_picked, happened_picked}
+use Rattle.sand_shared.proofs.StepsAreEvents.{counts, at_picked, happened_picked}
 use Rattle.sand_shared.proofs.steps.Words.count.Goals as goal
 
 pub load-requires : goal.load-requires

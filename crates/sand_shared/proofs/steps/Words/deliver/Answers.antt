@@ -4,8 +4,8 @@ use Rattle.atomic_table.specs.Table.{step}
 use Rattle.sand_model.specs.Grid.{sites}
 use Rattle.sand_shared.specs.OpenPile.{grid_of}
 use Rattle.sand_shared.specs.Events.{deliver}
-use Rattle.sand_shared.proofs.Hands.{first_counts}
-use Rattle.sand_shared.proofs.Moments.{delivers, at_picked, happened_picked}
+use Rattle.sand_shared.proofs.HandAfterPlacing.{first_counts}
+use Rattle.sand_shared.proofs.StepsAreEvents.{delivers, at_picked, happened_picked}
 use Rattle.sand_shared.proofs.steps.Words.deliver.Goals as goal
 
 pub fetch_add-requires : goal.fetch_add-requires

@@ -4,7 +4,7 @@ use Rattle.atomic_table.specs.Table.{step}
 use Rattle.sand_model.specs.Grid.{sites}
 use Rattle.sand_shared.specs.OpenPile.{grid_of}
 use Rattle.sand_shared.specs.Events.{draw}
-use Rattle.sand_shared.proofs.Moments.{draws, at_picked, happened_picked}
+use Rattle.sand_shared.proofs.StepsAreEvents.{draws, at_picked, happened_picked}
 use Rattle.sand_shared.proofs.steps.Words.draw.Goals as goal
 
 pub fetch_add-requires : goal.fetch_add-requires

@@ -5,7 +5,7 @@ use Rattle.sand_shared.specs.declared.view.Terms.{Terms}
 use Rattle.sand_shared.specs.OpenPile.{grid_of, nobody}
 use Rattle.sand_shared.specs.Events.{joined}
 use Rattle.sand_shared.specs.Running.{IsRunning}
-use Rattle.sand_shared.proofs.Moments.{joins}
+use Rattle.sand_shared.proofs.StepsAreEvents.{joins}
 use Rattle.sand_shared.proofs.steps.Words.join.Goals as goal
 
 pub join_seat-requires : goal.join_seat-requires

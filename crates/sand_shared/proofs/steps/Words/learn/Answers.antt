@@ -6,7 +6,7 @@ use Rattle.sand_shared.specs.declared.view.View.{View}
 use Rattle.sand_shared.specs.declared.view.Terms.{Terms}
 use Rattle.sand_shared.specs.OpenPile.{grid_of}
 use Rattle.sand_shared.specs.Running.{IsRunning, Learns, Stands}
-use Rattle.sand_shared.proofs.Moments.{learns}
+use Rattle.sand_shared.proofs.StepsAreEvents.{learns}
 use Rattle.sand_shared.proofs.steps.Words.learn.Goals as goal
 
 pub load-requires : goal.load-requires

@@ -4,7 +4,7 @@ use Rattle.atomic_table.specs.Table.{step}
 use Rattle.sand_model.specs.Grid.{sites}
 use Rattle.sand_shared.specs.OpenPile.{grid_of}
 use Rattle.sand_shared.specs.Events.{look}
-use Rattle.sand_shared.proofs.Moments.{looks, at_picked, happened_picked}
+use Rattle.sand_shared.proofs.StepsAreEvents.{looks, at_picked, happened_picked}
 use Rattle.sand_shared.proofs.steps.Words.look.Goals as goal
 
 pub load-requires : goal.load-requires

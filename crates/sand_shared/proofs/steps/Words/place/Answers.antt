@@ -4,7 +4,7 @@ use Rattle.atomic_table.specs.Table.{step}
 use Rattle.sand_model.specs.Grid.{sites}
 use Rattle.sand_shared.specs.OpenPile.{grid_of}
 use Rattle.sand_shared.specs.Events.{all_places}
-use Rattle.sand_shared.proofs.InARow.{places_row, at_picked_row, happened_picked_row}
+use Rattle.sand_shared.proofs.EventsInARow.{places_row, at_picked_row, happened_picked_row}
 use Rattle.sand_shared.proofs.steps.Words.place.Goals as goal
 
 pub fetch_add-requires : goal.fetch_add-requires

@@ -5,9 +5,9 @@ use Rattle.sand_model.specs.Grid.{sites}
 use Rattle.sand_shared.specs.declared.view.View.{View}
 use Rattle.sand_shared.specs.declared.view.Grains.{Grains}
 use Rattle.sand_shared.specs.OpenPile.{grid_of}
-use Rattle.sand_shared.proofs.Counting.{Waits, read_count, waits_all, waits_past, waits_laid, count_is, hand_empty, counts_zero}
-use Rattle.sand_shared.proofs.Hands.{laid_on}
-use Rattle.sand_shared.proofs.InARow.{from_here, laid_is}
+use Rattle.sand_shared.proofs.DropsBySite.{Waits, read_count, waits_all, waits_past, waits_laid, count_is, hand_empty, counts_zero}
+use Rattle.sand_shared.proofs.HandAfterPlacing.{laid_on}
+use Rattle.sand_shared.proofs.EventsInARow.{from_here, laid_is}
 use Rattle.sand_shared.proofs.steps.Words.place_all.Goals as goal
 use Rattle.sand_shared.proofs.steps.Words.place_all.Goals.{then-amount-ne0, else-amount-ne0}
 

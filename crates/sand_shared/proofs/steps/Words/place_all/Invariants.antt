@@ -2,7 +2,7 @@ use Rattle.std.proofs.Common.{◌≡◌, [], drop}
 use Rattle.sand_model.specs.Grid.{sites}
 use Rattle.sand_shared.specs.OpenPile.{grid_of}
 use Rattle.sand_shared.specs.Events.{all_places}
-use Rattle.sand_shared.proofs.Counting.{Waits}
+use Rattle.sand_shared.proofs.DropsBySite.{Waits}
 use Rattle.sand_shared.proofs.steps.Words.place_all.Given as goal
 
 abbrev pub ghosts-place : goal.ghosts-place

@@ -6,7 +6,7 @@ use Rattle.sand_shared.specs.declared.view.Terms.{Terms}
 use Rattle.sand_shared.specs.OpenPile.{grid_of}
 use Rattle.sand_shared.specs.Events.{Event, parent, child, quota_given, sites_given}
 use Rattle.sand_shared.specs.Running.{IsRunning}
-use Rattle.sand_shared.proofs.Moments.{splits}
+use Rattle.sand_shared.proofs.StepsAreEvents.{splits}
 use Rattle.sand_shared.proofs.steps.Words.split.Goals as goal
 
 pub split_seat-requires : goal.split_seat-requires

@@ -3,7 +3,7 @@ use Rattle.std.proofs.lemmas.List.{get_or_read}
 use Rattle.sand_shared.specs.OpenPile.{grid_of}
 use Rattle.sand_shared.specs.Events.{looked}
 use Rattle.sand_shared.proofs.RowSites.{sites_few}
-use Rattle.sand_shared.proofs.Sweepings.{Sweeps, next_view, next_swept, kept_view, kept_swept, sweeps_end, sweeps_few}
+use Rattle.sand_shared.proofs.SweptSiteBySite.{Sweeps, next_view, next_swept, kept_view, kept_swept, sweeps_end, sweeps_few}
 use Rattle.sand_shared.proofs.steps.Words.sweep_rows.Goals as goal
 
 pub overflow_add-base : goal.overflow_add-base

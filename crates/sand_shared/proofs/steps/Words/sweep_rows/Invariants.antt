@@ -1,6 +1,6 @@
 use Rattle.std.proofs.Common.{◌≡◌, []}
 use Rattle.sand_shared.specs.Events.{looked}
-use Rattle.sand_shared.proofs.Sweepings.{Sweeps}
+use Rattle.sand_shared.proofs.SweptSiteBySite.{Sweeps}
 use Rattle.sand_shared.proofs.steps.Words.sweep_rows.Given as goal
 
 abbrev pub invariant-sites : goal.invariant-sites

@@ -4,7 +4,7 @@ use Rattle.atomic_table.specs.Table.{step}
 use Rattle.sand_model.specs.Grid.{sites}
 use Rattle.sand_shared.specs.OpenPile.{grid_of}
 use Rattle.sand_shared.specs.Events.{unload}
-use Rattle.sand_shared.proofs.Moments.{unloads, at_picked, happened_picked}
+use Rattle.sand_shared.proofs.StepsAreEvents.{unloads, at_picked, happened_picked}
 use Rattle.sand_shared.proofs.steps.Words.unload.Goals as goal
 
 pub fetch_sub-requires : goal.fetch_sub-requires
