@@ -2,7 +2,7 @@
 use Rattle.std.proofs.Common.{◌≡◌, ℕ, zero, suc, ◌+◌, ◌-◌, ◌*◌, ◌/◌, ◌%◌, ◌^◌, ◌<◌, ◌≤◌, List, [], ◌∷◌, ◌++◌, drop, length, get_or, sym, refl, ap, ◌∙◌, subst, arith, length-append}
 use Rattle.std.specs.Prelude.{slice_index, All, count_by}
 use Rattle.std.proofs.lemmas.List.{append_assoc, append-nil, set-set, length-set, length-map, length-replicate, get_or-set_same}
-use Rattle.atomic_table.specs.Table.{State, Me, Step, keeps, Allows}
+use Rattle.atomic_table.specs.Table.{State, Me, keeps, Allows}
 use Rattle.sand_model.specs.Grid.{sites}
 use Rattle.sand_shared.specs.declared.view.View.{View}
 use Rattle.sand_shared.specs.declared.view.Receipt.{Receipt}
@@ -80,10 +80,10 @@ shows_row t word a e (f ∷ es) p s fits one ones terms r may h =
     subst (Shows t (after_all t q (f ∷ es))) (ap (λ z. stepped_to s' word z a w) sum ∙ stepped_twice s word x ((n + suc (suc (length es))) % 2 ^ 64) a v w) rest
 
 -- a step may be taken where its events may happen whatever else did
-takes_row : (t : Terms) (a word k : ℕ) (e : Event) (es : List Event) (slots : ℕ) (m : Me ℕ View) (st : Step ℕ) → word < sites (grid_of t) + 2 → AddsOne t word a e → AllAddOne t word a es → suc (length es) ≡ k
+takes_row : (t : Terms) (a word k : ℕ) (e : Event) (es : List Event) (slots : ℕ) (m : Me ℕ View) → word < sites (grid_of t) + 2 → AddsOne t word a e → AllAddOne t word a es → suc (length es) ≡ k
     → ((p : OpenPile) → a < length p.passes → pass_at p a ≡ m.0 → AllHappen t p (e ∷ es))
-    → Allows (IsRunning t) slots a m word (λ n. (n + k) % 2 ^ 64) (TakesInARow t a (e ∷ es) st m)
-takes_row t a word k e es slots m st fits one ones long can s h _ at inside =
+    → Allows (IsRunning t) slots a m word (λ n. (n + k) % 2 ^ 64) (TakesInARow t a (e ∷ es) m)
+takes_row t a word k e es slots m fits one ones long can s h _ at inside =
     let p = pile_of t s h in
     let r = lawful_now t s h in
     let there = pass_there t s h a m.0 at in
@@ -160,12 +160,12 @@ module _ (t : Terms) (a : ℕ) where
   draws_add_one (i ∷ is) = (λ p s terms r may h. (h.number, shows_draw t p s a i terms r may h), draws_add_one is)
 
   -- the step may be taken at any moment
-  pub draws_row : (is : List ℕ) (slots : ℕ) (m : Me ℕ View) (st : Step ℕ) → 0 < length is → length is ≤ m.0.left → All (λ i. i < sites (grid_of t)) is
-      → Allows (IsRunning t) slots a m 1 (λ n. (n + length is) % 2 ^ 64) (TakesInARow t a (all_draws a is) st m)
-  draws_row [] slots m st some_drops left inside = absurd (omega arith)
-  draws_row (i ∷ is) slots m st some_drops left inside =
+  pub draws_row : (is : List ℕ) (slots : ℕ) (m : Me ℕ View) → 0 < length is → length is ≤ m.0.left → All (λ i. i < sites (grid_of t)) is
+      → Allows (IsRunning t) slots a m 1 (λ n. (n + length is) % 2 ^ 64) (TakesInARow t a (all_draws a is) m)
+  draws_row [] slots m some_drops left inside = absurd (omega arith)
+  draws_row (i ∷ is) slots m some_drops left inside =
       let ones = draws_add_one (i ∷ is) in
-      takes_row t a 1 (suc (length is)) (draw a i) (all_draws a is) slots m st (omega arith) ones.0 ones.1 (ap suc (length-map is (λ j. draw a j)))
+      takes_row t a 1 (suc (length is)) (draw a i) (all_draws a is) slots m (omega arith) ones.0 ones.1 (ap suc (length-map is (λ j. draw a j)))
       (λ p there same. all_may p (i ∷ is) there (let enough = ap (λ (v : View). v.left) same in omega arith) inside)
 
 -- Places in a row
@@ -197,12 +197,12 @@ module _ (t : Terms) (a i : ℕ) where
   places_add_one inside (suc k) = (λ p s terms r may h. (h.heights i inside, shows_arrived t p s a i 1 terms r may.there may.in_hand inside h), places_add_one inside k)
 
   -- the step may be taken at any moment
-  pub places_row : (k slots : ℕ) (m : Me ℕ View) (st : Step ℕ) → 0 < k → k ≤ count_by (are_for i 1) m.0.hand → i < sites (grid_of t)
-      → Allows (IsRunning t) slots a m (i + 2) (λ n. (n + k) % 2 ^ 64) (TakesInARow t a (all_places a i k) st m)
-  places_row zero slots m st some_grains in_hand inside = absurd (omega arith)
-  places_row (suc k) slots m st some_grains in_hand inside =
+  pub places_row : (k slots : ℕ) (m : Me ℕ View) → 0 < k → k ≤ count_by (are_for i 1) m.0.hand → i < sites (grid_of t)
+      → Allows (IsRunning t) slots a m (i + 2) (λ n. (n + k) % 2 ^ 64) (TakesInARow t a (all_places a i k) m)
+  places_row zero slots m some_grains in_hand inside = absurd (omega arith)
+  places_row (suc k) slots m some_grains in_hand inside =
       let ones = places_add_one inside (suc k) in
-      takes_row t a (i + 2) (suc k) (place a i) (all_places a i k) slots m st (omega arith) ones.0 ones.1 (ap suc (length-replicate k (place a i)))
+      takes_row t a (i + 2) (suc k) (place a i) (all_places a i k) slots m (omega arith) ones.0 ones.1 (ap suc (length-replicate k (place a i)))
       (λ p there same. all_laid_may p (suc k) there (let enough = ap (λ (v : View). count_by (are_for i 1) v.hand) same in omega arith) inside)
 
   -- and leaves the pass without these grains
@@ -210,12 +210,8 @@ module _ (t : Terms) (a i : ℕ) where
   laid_is k v w n h = sym h.pass_after ∙ (pass_after_places h.before.pile k h.before.there ∙ ap (λ (u : View). record u { hand = laid_on i k u.hand }) h.before.pass)
 
 -- what was picked is that of the step
-pub at_picked_row : (key t t' : Terms) (b a : ℕ) (ds is : List Event) (slots : ℕ) (m : Me ℕ View) (word : ℕ) (f : ℕ → ℕ) (st : Step ℕ) → key ≡ t → t' ≡ t → b ≡ a → ds ≡ is
-    → Allows (IsRunning t) slots a m word f (TakesInARow t a is st m) → Allows (IsRunning key) slots a m word f (TakesInARow t' b ds st m)
-at_picked_row key t t' b a ds is slots m word f st k u w x = subst (λ (z : Terms × Terms × ℕ × List Event). Allows (IsRunning z.0) slots a m word f (TakesInARow z.1 z.2 z.3 st m)) (λ i. (sym k i, sym u i, sym w i, sym x i))
-
-pub happened_picked_row : (t t' : Terms) (b a : ℕ) (ds is : List Event) (v w : View) (n : ℕ) → t' ≡ t → b ≡ a → ds ≡ is → HappenedInARow t' b ds v n w → HappenedInARow t a is v n w
-happened_picked_row t t' b a ds is v w n u e x = subst (λ (z : Terms × ℕ × List Event). HappenedInARow z.0 z.1 z.2 v n w) (λ i. (u i, e i, x i))
+pub happened_picked_row : {t t' : Terms} {b a : ℕ} {ds is : List Event} {v w : View} {n : ℕ} → (t' ≡ t) × (b ≡ a) × (ds ≡ is) → HappenedInARow t' b ds v n w → HappenedInARow t a is v n w
+happened_picked_row {v = v} {w = w} {n = n} same = subst (λ (z : Terms × ℕ × List Event). HappenedInARow z.0 z.1 z.2 v n w) (λ i. (same.0 i, same.1 i, same.2 i))
 
 -- what draws in a row tell
 found_draws : (p : OpenPile) (a : ℕ) (is : List ℕ) → 0 < length is → found_first p (all_draws a is) ≡ length p.drawn

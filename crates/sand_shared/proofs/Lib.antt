@@ -17,6 +17,7 @@ pub mod PassAfterEvent
 pub mod NumbersOnce
 pub mod DropsBySite
 pub mod EventsInARow
+pub mod StepsOnWords
 pub mod RowsSplit
 pub mod RowsJoined
 pub mod SumOfCounts

@@ -5,7 +5,7 @@ use mathlib.Core.Option.{some, some-injective, some-ne-none}
 use lib.ListN.{get_elem?}
 use lib.Seq.{set-get_or}
 use Rattle.std.proofs.lemmas.List.{get_or-set_other, length-set}
-use Rattle.atomic_table.specs.Table.{State, Me, Step, keeps, Allows, Splits, Joins, opening}
+use Rattle.atomic_table.specs.Table.{State, Me, keeps, Allows, Splits, Joins, opening}
 use Rattle.atomic_table.proofs.Lists.{set_again}
 use Rattle.sand_model.specs.Grid.{sites}
 use Rattle.sand_shared.specs.declared.view.View.{View}
@@ -54,12 +54,12 @@ module _ (t : Terms) (s : State ℕ View) (h : IsRunning t s) (a : ℕ) (v : Vie
   pass_is = ap (λ (l : List View). get_or l a nobody) (sym h.shown.passes) ∙ some_there s.views a v nobody at
 
 -- a step may be taken where its event may happen whatever else did, and the words show it
-takes : (t : Terms) (e : Event) (slots : ℕ) (m : Me ℕ View) (word : ℕ) (f : ℕ → ℕ) (st : Step ℕ)
+takes : (t : Terms) (e : Event) (slots : ℕ) (m : Me ℕ View) (word : ℕ) (f : ℕ → ℕ)
     → ((p : OpenPile) → IsLawful t p → actor e < length p.passes → pass_at p (actor e) ≡ m.0 → May t p e)
     → ((p : OpenPile) (s : State ℕ View) → AreTerms t → IsLawful t p → May t p e → Shows t p s
     → (slice_index s.words word ≡ found p e) × Shows t (after t p e) (stepped_to s word (f (slice_index s.words word)) (actor e) (pass_at (after t p e) (actor e))))
-    → Allows (IsRunning t) slots (actor e) m word f (Takes t e st m)
-takes t e slots m word f st can shows s h _ at fits =
+    → Allows (IsRunning t) slots (actor e) m word f (Takes t e m)
+takes t e slots m word f can shows s h _ at fits =
     let p = pile_of t s h in
     let r = lawful_now t s h in
     let there = pass_there t s h (actor e) m.0 at in
@@ -74,33 +74,33 @@ takes t e slots m word f st can shows s h _ at fits =
       (record { before = record { terms = h.terms; pile = p; lawful = r; there = there; pass = is }; may = may; number = shown.0; pass_after = refl }, refl),
     )
 
-pub draws : (t : Terms) (a i slots : ℕ) (m : Me ℕ View) (st : Step ℕ) → 0 < m.0.left → i < sites (grid_of t)
-    → Allows (IsRunning t) slots a m 1 (λ n. (n + 1) % 2 ^ 64) (Takes t (draw a i) st m)
-draws t a i slots m st some_left inside = takes t (draw a i) slots m 1 (λ n. (n + 1) % 2 ^ 64) st
+pub draws : (t : Terms) (a i slots : ℕ) (m : Me ℕ View) → 0 < m.0.left → i < sites (grid_of t)
+    → Allows (IsRunning t) slots a m 1 (λ n. (n + 1) % 2 ^ 64) (Takes t (draw a i) m)
+draws t a i slots m some_left inside = takes t (draw a i) slots m 1 (λ n. (n + 1) % 2 ^ 64)
     (λ p r there is. record { there = there; some_left = subst (λ (v : View). 0 < v.left) (sym is) some_left; inside = inside })
     (λ p s terms r may h. (h.number, shows_draw t p s a i terms r may h))
 
-pub counts : (t : Terms) (a slots : ℕ) (m : Me ℕ View) (st : Step ℕ) → Allows (IsRunning t) slots a m 1 (λ n. n) (Takes t (count a) st m)
-counts t a slots m st = takes t (count a) slots m 1 (λ n. n) st
+pub counts : (t : Terms) (a slots : ℕ) (m : Me ℕ View) → Allows (IsRunning t) slots a m 1 (λ n. n) (Takes t (count a) m)
+counts t a slots m = takes t (count a) slots m 1 (λ n. n)
     (λ p r there is. there)
     (λ p s terms r may h. (h.number, shows_load t p s 1 a (counted (pass_at p a) (length p.drawn)) h may))
 
-pub delivers : (t : Terms) (a i k slots : ℕ) (m : Me ℕ View) (st : Step ℕ) → i < sites (grid_of t) → 0 < count_by (are_for i k) m.0.hand
-    → Allows (IsRunning t) slots a m (i + 2) (λ n. (n + k) % 2 ^ 64) (Takes t (deliver a i k) st m)
-delivers t a i k slots m st inside in_hand = takes t (deliver a i k) slots m (i + 2) (λ n. (n + k) % 2 ^ 64) st
+pub delivers : (t : Terms) (a i k slots : ℕ) (m : Me ℕ View) → i < sites (grid_of t) → 0 < count_by (are_for i k) m.0.hand
+    → Allows (IsRunning t) slots a m (i + 2) (λ n. (n + k) % 2 ^ 64) (Takes t (deliver a i k) m)
+delivers t a i k slots m inside in_hand = takes t (deliver a i k) slots m (i + 2) (λ n. (n + k) % 2 ^ 64)
     (λ p r there is. record { there = there; in_hand = subst (λ (v : View). 0 < count_by (are_for i k) v.hand) (sym is) in_hand; inside = inside })
     (λ p s terms r may h. (h.heights i inside, shows_arrived t p s a i k terms r may.there may.in_hand may.inside h))
 
-pub looks : (t : Terms) (a i slots : ℕ) (m : Me ℕ View) (st : Step ℕ) → i < sites (grid_of t) → holds_site m.0 i ≡ true
-    → Allows (IsRunning t) slots a m (i + 2) (λ n. n) (Takes t (look a i) st m)
-looks t a i slots m st inside own = takes t (look a i) slots m (i + 2) (λ n. n) st
+pub looks : (t : Terms) (a i slots : ℕ) (m : Me ℕ View) → i < sites (grid_of t) → holds_site m.0 i ≡ true
+    → Allows (IsRunning t) slots a m (i + 2) (λ n. n) (Takes t (look a i) m)
+looks t a i slots m inside own = takes t (look a i) slots m (i + 2) (λ n. n)
     (λ p r there is. record { there = there; inside = inside; own = subst (λ (v : View). holds_site v i ≡ true) (sym is) own })
     (λ p s terms r may h. (h.heights i inside, shows_load t p s (i + 2) a (looked (pass_at p a) i (p.height i)) h may.there))
 
 -- what a pass found at the site is still there, for nobody else takes grains from it
-pub unloads : (t : Terms) (a i k slots : ℕ) (m : Me ℕ View) (st : Step ℕ) → i < sites (grid_of t) → holds_site m.0 i ≡ true → m.0.spot ≡ i → 4 * k ≤ m.0.least
-    → Allows (IsRunning t) slots a m (i + 2) (λ n. (n + (2 ^ 64 - 4 * k)) % 2 ^ 64) (Takes t (unload a i k) st m)
-unloads t a i k slots m st inside own spot enough = takes t (unload a i k) slots m (i + 2) (λ n. (n + (2 ^ 64 - 4 * k)) % 2 ^ 64) st
+pub unloads : (t : Terms) (a i k slots : ℕ) (m : Me ℕ View) → i < sites (grid_of t) → holds_site m.0 i ≡ true → m.0.spot ≡ i → 4 * k ≤ m.0.least
+    → Allows (IsRunning t) slots a m (i + 2) (λ n. (n + (2 ^ 64 - 4 * k)) % 2 ^ 64) (Takes t (unload a i k) m)
+unloads t a i k slots m inside own spot enough = takes t (unload a i k) slots m (i + 2) (λ n. (n + (2 ^ 64 - 4 * k)) % 2 ^ 64)
     (λ p r there is. let mine : holds_site (pass_at p a) i ≡ true = subst (λ (v : View). holds_site v i ≡ true) (sym is) own in
     let at : (pass_at p a).spot ≡ i = ap (λ (v : View). v.spot) is ∙ spot in
     let least = (r.passes a nobody there).least (subst (λ z. holds_site (pass_at p a) z ≡ true) (sym at) mine) (subst (λ z. z < sites (grid_of t)) (sym at) inside) in
@@ -109,8 +109,8 @@ unloads t a i k slots m st inside own spot enough = takes t (unload a i k) slots
     (λ p s terms r may h. (h.heights i inside, shows_unload t p s a i k terms r may h))
 
 -- a load of the base's own word, which is no event
-pub learns : (t : Terms) (a slots : ℕ) (m : Me ℕ View) (st : Step ℕ) → Allows (IsRunning t) slots a m 0 (λ n. n) (Learns t a st m)
-learns t a slots m st s h _ at fits =
+pub learns : (t : Terms) (a slots : ℕ) (m : Me ℕ View) → Allows (IsRunning t) slots a m 0 (λ n. n) (Learns t a m)
+learns t a slots m s h _ at fits =
     let there = pass_there t s h a m.0 at in
     let is = pass_is t s h a m.0 at in (
       m.0,
@@ -173,12 +173,8 @@ opens t terms = record {
 }
 
 -- the terms and the event that a call picked are those of the step
-pub at_picked : (key t t' : Terms) (e e' : Event) (slots a : ℕ) (m : Me ℕ View) (word : ℕ) (f : ℕ → ℕ) (st : Step ℕ) → key ≡ t → t' ≡ t → e' ≡ e
-    → Allows (IsRunning t) slots a m word f (Takes t e st m) → Allows (IsRunning key) slots a m word f (Takes t' e' st m)
-at_picked key t t' e e' slots a m word f st k u w = subst (λ (z : Terms × Terms × Event). Allows (IsRunning z.0) slots a m word f (Takes z.1 z.2 st m)) (λ i. (sym k i, sym u i, sym w i))
-
-pub happened_picked : (t t' : Terms) (e e' : Event) (v w : View) (n : ℕ) → t' ≡ t → e' ≡ e → Happened t' e' v n w → Happened t e v n w
-happened_picked t t' e e' v w n u x = subst (λ (z : Terms × Event). Happened z.0 z.1 v n w) (λ i. (u i, x i))
+pub happened_picked : {t t' : Terms} {e e' : Event} {v w : View} {n : ℕ} → (t' ≡ t) × (e' ≡ e) → Happened t' e' v n w → Happened t e v n w
+happened_picked {v = v} {w = w} {n = n} same = subst (λ (z : Terms × Event). Happened z.0 z.1 v n w) (λ i. (same.0 i, same.1 i))
 
 -- the heights that are read when the table is closed are those of the last open pile
 pub last_is : (t : Terms) (a : ℕ) (v : View) (s : State ℕ View) (h : IsRunning t s) → get_elem? s.views a ≡ some v → (heights : List ℕ) → length heights ≡ sites (grid_of t)
