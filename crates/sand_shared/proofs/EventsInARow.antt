@@ -127,24 +127,25 @@ module _ (t : Terms) (a : ℕ) where
   still_there : (p : OpenPile) (i : ℕ) → a < length p.passes → a < length (after t p (draw a i)).passes
   still_there p i there = let e = length-set p.passes a (drew (pass_at p a) (length p.drawn) i) in omega arith
 
-  pass_after_all : (p : OpenPile) (is : List ℕ) → a < length p.passes → (pass_at p a).seen ≡ length p.drawn → pass_at (after_all t p (all_draws a is)) a ≡ drew_all (pass_at p a) (length p.drawn) is
-  pass_after_all p [] there seen = sym (drew_none (pass_at p a) (length p.drawn) seen)
-  pass_after_all p (i ∷ is) there seen =
+  -- a draw, and then others, of which this is so if the pass has seen all draws
+  pass_after_first : (p : OpenPile) (i : ℕ) (is : List ℕ) → a < length p.passes
+      → ((q : OpenPile) → a < length q.passes → (pass_at q a).seen ≡ length q.drawn → pass_at (after_all t q (all_draws a is)) a ≡ drew_all (pass_at q a) (length q.drawn) is)
+      → pass_at (after_all t p (all_draws a (i ∷ is))) a ≡ drew_all (pass_at p a) (length p.drawn) (i ∷ is)
+  pass_after_first p i is there rest =
       let q = after t p (draw a i) in
       let here = pass_after_draw p i there in
       let long = length-append p.drawn (i ∷ []) in
       let known = ap (λ (v : View). v.seen) here in
-      pass_after_all q is (still_there p i there) (omega arith) ∙ ((λ k. drew_all (here k) (long k) is) ∙ drew_more (pass_at p a) (length p.drawn) i is)
+      rest q (still_there p i there) (omega arith) ∙ ((λ k. drew_all (here k) (long k) is) ∙ drew_more (pass_at p a) (length p.drawn) i is)
+
+  pass_after_all : (p : OpenPile) (is : List ℕ) → a < length p.passes → (pass_at p a).seen ≡ length p.drawn → pass_at (after_all t p (all_draws a is)) a ≡ drew_all (pass_at p a) (length p.drawn) is
+  pass_after_all p [] there seen = sym (drew_none (pass_at p a) (length p.drawn) seen)
+  pass_after_all p (i ∷ is) there seen = pass_after_first p i is there (λ q. pass_after_all q is)
 
   -- from the first on, whatever the pass had seen
   pass_after_some : (p : OpenPile) (is : List ℕ) → a < length p.passes → 0 < length is → pass_at (after_all t p (all_draws a is)) a ≡ drew_all (pass_at p a) (length p.drawn) is
   pass_after_some p [] there many = absurd (omega arith)
-  pass_after_some p (i ∷ is) there many =
-      let q = after t p (draw a i) in
-      let here = pass_after_draw p i there in
-      let long = length-append p.drawn (i ∷ []) in
-      let known = ap (λ (v : View). v.seen) here in
-      pass_after_all q is (still_there p i there) (omega arith) ∙ ((λ k. drew_all (here k) (long k) is) ∙ drew_more (pass_at p a) (length p.drawn) i is)
+  pass_after_some p (i ∷ is) there many = pass_after_first p i is there (λ q. pass_after_all q is)
 
   -- they may happen where so much is left
   all_may : (p : OpenPile) (is : List ℕ) → a < length p.passes → length is ≤ (pass_at p a).left → All (λ i. i < sites (grid_of t)) is → AllHappen t p (all_draws a is)

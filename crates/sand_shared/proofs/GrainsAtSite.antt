@@ -27,12 +27,6 @@ amount_is i k j = ⊎_elim
     (λ (ne : i ≡ j → ⊥). let a = amount_else i k j ne in let b : one_at i j ≡ 0 = rw (ne_eqb i j ne) in let c = ap (λ z. k * z) b in omega arith)
     (cases_eq i j)
 
-pub amount_four : (i k j : ℕ) → amount_at i (4 * k) j ≡ 4 * amount_at i k j
-amount_four i k j = ⊎_elim
-    (λ (e : i ≡ j). let a = amount_here i k j e in let b = amount_here i (4 * k) j e in omega arith)
-    (λ (ne : i ≡ j → ⊥). let a = amount_else i k j ne in let b = amount_else i (4 * k) j ne in omega arith)
-    (cases_eq i j)
-
 -- what k topplings at i bring to j is what its neighbours are sent for j
 pub flow-amount : (g : Grid) (i k j : ℕ) → i < sites g → j < sites g → flow g (amount_at i k) j ≡ flow g (λ m. amount_at m k j) i
 flow-amount g i k j li lj =

@@ -76,9 +76,6 @@ module _ (i k : ℕ) where
       let count = ap (count_by (are_for i k)) first ∙ count-cons (grains i k) (behind_first hand) in
       let one = ap one_if are_first in omega arith
 
-  pub without-first : (hand : List Grains) → hand ≡ grains i k ∷ behind_first hand → without i k hand ≡ behind_first hand
-  without-first hand first = ap (without i k) first ∙ without-here (grains i k) (behind_first hand) are_first
-
 -- a hand that lays single grains on the site i, so many times
 abbrev pub laid_on : ℕ → ℕ → List Grains → List Grains
 laid_on i zero hand = hand

@@ -11,11 +11,12 @@ use Rattle.sand_shared.specs.declared.view.View.{View}
 use Rattle.sand_shared.specs.declared.view.Receipt.{Receipt}
 use Rattle.sand_shared.specs.declared.view.Terms.{Terms}
 use Rattle.sand_shared.specs.OpenPile.{OpenPile, nobody, grid_of, amount_at, numbered, dropped, held, holds_site, toppled_by, toppled, poured, present, pass_at, IsLawfulPass, IsLawful}
-use Rattle.sand_shared.specs.Events.{draw, place, deliver, drew, laid_down, receipt, grains, are_for, without, arrived, May, after}
+use Rattle.sand_shared.specs.Events.{draw, place, deliver, drew, receipt, grains, are_for, without, arrived, May, after}
 use Rattle.sand_shared.proofs.SumsOverPasses.{sum_by_kept, all_after}
 use Rattle.sand_shared.proofs.GrainsAtSite.{held-append}
 use Rattle.sand_shared.proofs.HandAfterPlacing.{held-without}
 use Rattle.sand_shared.proofs.Balance.{balance_kept, stabilises_fewer}
+use Rattle.sand_shared.proofs.LawfulAfterReads.{still_lawful}
 
 once_more : (x n : ℕ) → one_if (ltb x n) + one_if (eqb n x) ≡ one_if (ltb x (n + 1))
 once_more x n = grind (arith, nat_tests)
@@ -90,25 +91,10 @@ module _ (t : Terms) (p : OpenPile) (a i k : ℕ) (r : IsLawful t p) (there : a 
   pub arrived_keeps : IsLawful t (arrived p a i k)
   arrived_keeps =
       let v = pass_at p a in
-      let w = laid_down v i k in
-      let q = arrived p a i k in
-      let kept = λ (f : View → ℕ) (e : f w ≡ f v). sum_by_kept f p.passes a w nobody there e in
-      let still = λ (j : ℕ). kept (λ u. toppled_by u j) refl in
       let mine = r.passes a nobody there in
-      record {
-        balance = balance_kept (grid_of t) (poured t p) (toppled p) (present p) (poured t q) (toppled q) (present q) still
-            (λ j l. let c = sum_by-set (λ (u : View). held u.hand j) p.passes a w nobody there in let h = taken j in omega arith) r.balance;
-        needed = λ x stab j l. (let e = still j in let m = r.needed x stab j l in omega arith);
-        numbers = λ x. kept (λ u. numbered u.receipts x) refl ∙ r.numbers x;
-        receipts = kept (λ u. length u.receipts) refl ∙ r.receipts;
-        receipts_by_site = λ j. kept (λ u. dropped u.receipts j) refl ∙ r.receipts_by_site j;
-        all_sites = r.all_sites;
-        quota = (let e = kept (λ u. u.left) refl in let o = r.quota in omega arith);
-        holders = λ j l. kept (λ u. one_if (holds_site u j)) refl ∙ r.holders j l;
-        passes = all_after (IsLawfulPass t p) (IsLawfulPass t q) p.passes a w
-            record { seen = mine.seen; receipts = mine.receipts; hand = λ j l. (let h = taken j in let o = mine.hand j l in omega arith); least = λ own l. (let o = mine.least own l in omega arith) }
-            (λ u f. record { seen = f.seen; receipts = f.receipts; hand = f.hand; least = λ own l. (let o = f.least own l in omega arith) }) r.passes;
-      }
+      still_lawful t p a v.seen v.spot v.least (without i k v.hand) (λ j. p.height j + amount_at i k j) r there (λ j. let h = taken j in omega arith)
+      record { seen = mine.seen; receipts = mine.receipts; hand = λ j l. (let h = taken j in let o = mine.hand j l in omega arith); least = λ own l. (let o = mine.least own l in omega arith) }
+      (λ u f. record { seen = f.seen; receipts = f.receipts; hand = f.hand; least = λ own l. (let o = f.least own l in omega arith) })
 
 pub place_keeps : (t : Terms) (p : OpenPile) (a i : ℕ) → IsLawful t p → May t p (place a i) → IsLawful t (after t p (place a i))
 place_keeps t p a i r may = arrived_keeps t p a i 1 r may.there may.in_hand

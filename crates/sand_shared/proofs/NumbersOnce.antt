@@ -49,16 +49,10 @@ below_push m n i rs le below =
 pub below_join : (m n : ℕ) (rs qs : List Receipt) → AllBelow m rs → AllBelow n qs → AllBelow (max m n) (rs ++ qs)
 below_join m n rs qs below below' = All-append (λ (r : Receipt). r.number < max m n) rs qs (all_below_more m (max m n) rs (omega arith) below) (all_below_more n (max m n) qs (omega arith) below')
 
--- on a lawful pile no number stands on two receipts, and no pass has more left than the quota
+-- on a lawful pile no number is on two receipts
 pub stands_once : (t : Terms) (a : ℕ) (v : View) → Stands t a v → EachOnce v.receipts
 stands_once t a v s n =
     let mine = get_or-le-sum_by (λ (u : View). numbered u.receipts n) s.pile.passes a nobody s.there in
     let all = s.lawful.numbers n in
     let most = one_if_most (nat_lt n (length s.pile.drawn)) in
     let same = ap (λ (u : View). numbered u.receipts n) s.pass in omega arith
-
-pub stands_within : (t : Terms) (a : ℕ) (v : View) → Stands t a v → v.left ≤ t.quota
-stands_within t a v s =
-    let mine = get_or-le-sum_by (λ (u : View). u.left) s.pile.passes a nobody s.there in
-    let all = s.lawful.quota in
-    let same = ap (λ (u : View). u.left) s.pass in omega arith

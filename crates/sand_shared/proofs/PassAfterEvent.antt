@@ -1,10 +1,9 @@
 -- What a pass has after the step of an event, and what the number that it found tells it.
-use Rattle.std.proofs.Common.{◌≡◌, ℕ, ◌<◌, ◌≤◌, length, sym, ap, ◌∙◌, arith}
-use Rattle.std.proofs.lemmas.List.Sums.{get_or-le-sum_by}
+use Rattle.std.proofs.Common.{◌≡◌, ℕ, ◌≤◌, length, sym, ap, ◌∙◌, arith}
 use Rattle.sand_shared.specs.declared.view.View.{View}
 use Rattle.sand_shared.specs.declared.view.Terms.{Terms}
 use Rattle.sand_shared.specs.OpenPile.{nobody, pass_at}
-use Rattle.sand_shared.specs.Events.{draw, count, look, unload, drew, counted, looked, unloaded}
+use Rattle.sand_shared.specs.Events.{draw, look, unload, drew, looked, unloaded}
 use Rattle.sand_shared.specs.Running.{Happened}
 use Rattle.sand_shared.proofs.WordsShowPile.{pass_at-with}
 
@@ -13,9 +12,6 @@ module _ (t : Terms) (a i k : ℕ) (v w : View) (n : ℕ) where
   drew_is h =
       let p = h.before.pile in
       sym h.pass_after ∙ pass_at-with p a (drew (pass_at p a) (length p.drawn) i) h.before.there ∙ (λ q. drew (h.before.pass q) (sym h.number q) i)
-
-  pub counted_is : Happened t (count a) v n w → w ≡ counted v n
-  counted_is h = let p = h.before.pile in sym h.pass_after ∙ pass_at-with p a (counted (pass_at p a) (length p.drawn)) h.before.there ∙ (λ q. counted (h.before.pass q) (sym h.number q))
 
   pub looked_is : Happened t (look a i) v n w → w ≡ looked v i n
   looked_is h = let p = h.before.pile in sym h.pass_after ∙ pass_at-with p a (looked (pass_at p a) i (p.height i)) h.before.there ∙ (λ q. looked (h.before.pass q) i (sym h.number q))
@@ -29,23 +25,6 @@ module _ (t : Terms) (a i k : ℕ) (v w : View) (n : ℕ) where
       let seen = (h.before.lawful.passes a nobody h.before.there).seen in
       let same = ap (λ (u : View). u.seen) h.before.pass in
       let number = h.number in omega arith
-
-  pub drawn_small : Happened t (draw a i) v n w → n < t.quota
-  drawn_small h =
-      let p = h.before.pile in
-      let quota = h.before.lawful.quota in
-      let some_left = h.may.some_left in
-      let mine = get_or-le-sum_by (λ (u : View). u.left) p.passes a nobody h.before.there in
-      let number = h.number in omega arith
-
-  pub counted_seen : Happened t (count a) v n w → v.seen ≤ n
-  counted_seen h =
-      let seen = (h.before.lawful.passes a nobody h.before.there).seen in
-      let same = ap (λ (u : View). u.seen) h.before.pass in
-      let number = h.number in omega arith
-
-  pub counted_small : Happened t (count a) v n w → n ≤ t.quota
-  counted_small h = let quota = h.before.lawful.quota in let number = h.number in omega arith
 
 -- a pass is what it has, whatever it knows of a height
 pub known_is : (w v : View) → w ≡ v → w ≡ record v { spot = w.spot; least = w.least }

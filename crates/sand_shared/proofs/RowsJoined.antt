@@ -1,5 +1,5 @@
 -- Two passes whose rows touch, and the pass that they become.
-use Rattle.std.proofs.Common.{◌≡◌, ℕ, ◌+◌, ◌-◌, ◌*◌, ◌<◌, ◌≤◌, ◌⊎◌, max, [], ◌++◌, Bool, true, false, eqb, length, sym, refl, ap, ◌∙◌, inl, inr, ⊎_elim, arith, length-append}
+use Rattle.std.proofs.Common.{◌≡◌, ℕ, ◌+◌, ◌-◌, ◌*◌, ◌<◌, ◌≤◌, ◌⊎◌, max, [], ◌++◌, Bool, true, false, eqb, length, sym, refl, ap, ◌∙◌, inl, inr, ⊎_elim, subst, arith, length-append}
 use Rattle.std.specs.Prelude.{◌||◌, if◌then◌else◌}
 use Rattle.std.proofs.Math.Nat.{mul-le-mul_right}
 use Rattle.std.proofs.lemmas.Bool.{cases_eq, cases_lt, eq-eqb, ne_eqb}
@@ -38,8 +38,27 @@ times_one a b w some e = ⊎_elim
     (λ (le : a ≤ b). omega arith) (cases_lt b a))
     (cases_lt a b)
 
+-- rows that come directly after others, or are none, make more rows of the grid
+rows_after : (g : Grid) (r s : Rows) → AreRowsOf g r → AreRowsOf g s → (s.first ≡ s.end) ⊎ (s.first ≡ r.end) → AreRowsOf g record { first = r.first; end = r.end + count_of s }
+rows_after g r s rows more near =
+    let ordered = rows.ordered in
+    let ordered' = more.ordered in
+    let inside = rows.inside in
+    let inside' = more.inside in
+    record {
+      ordered = omega arith;
+      inside = ⊎_elim (λ (none : s.first ≡ s.end). omega arith) (λ (next : s.first ≡ r.end). omega arith) near;
+      none = λ same_ends. rows.none (omega arith);
+    }
+
+next_or_none : (r s : Rows) → rows_follow r s ≡ true → (s.first ≡ s.end) ⊎ (s.first ≡ r.end)
+next_or_none r s t = ⊎_elim (λ (e : s.first ≡ s.end). inl e) (λ (ne : s.first ≡ s.end → ⊥). inr (grind (arith, nat_tests))) (cases_eq s.first s.end)
+
 -- what two passes of one grid have
 module _ (p q : PassView) (sides : IsGrid p.grid) (same : q.grid ≡ p.grid) (rows : AreRowsOf p.grid p.rows) (rows' : AreRowsOf q.grid q.rows) (each : length p.counts ≡ count_of p.rows * p.grid.width) (each' : length q.counts ≡ count_of q.rows * q.grid.width) where
+  others : AreRowsOf p.grid q.rows
+  others = subst (λ (g : Grid). AreRowsOf g q.rows) same rows'
+
   widths : q.grid.width ≡ p.grid.width
   widths = ap (λ (g : Grid). g.width) same
 
@@ -72,38 +91,9 @@ module _ (p q : PassView) (sides : IsGrid p.grid) (same : q.grid ≡ p.grid) (ro
       first_is false = refl
 
   module _ (touch : (rows_follow p.rows q.rows || rows_follow q.rows p.rows) ≡ true) where
-    height_same : q.grid.height ≡ p.grid.height
-    height_same = ap (λ (g : Grid). g.height) same
-
-    next_or_none : (r s : Rows) → rows_follow r s ≡ true → (s.first ≡ s.end) ⊎ (s.first ≡ r.end)
-    next_or_none r s t = ⊎_elim (λ (e : s.first ≡ s.end). inl e) (λ (ne : s.first ≡ s.end → ⊥). inr (grind (arith, nat_tests))) (cases_eq s.first s.end)
-
     both_rows : (b : Bool) → rows_follow p.rows q.rows ≡ b → AreRowsOf p.grid (either_rows p.rows q.rows b)
-    both_rows true e =
-        let ordered = rows.ordered in
-        let ordered' = rows'.ordered in
-        let inside = rows.inside in
-        let inside' = rows'.inside in
-        let h = height_same in
-        let near = next_or_none p.rows q.rows e in
-        record {
-          ordered = omega arith;
-          inside = ⊎_elim (λ (none : q.rows.first ≡ q.rows.end). omega arith) (λ (next : q.rows.first ≡ p.rows.end). omega arith) near;
-          none = λ same_ends. rows.none (omega arith);
-        }
-    both_rows false e =
-        let back : rows_follow q.rows p.rows ≡ true = rw e at touch in
-        let ordered = rows.ordered in
-        let ordered' = rows'.ordered in
-        let inside = rows.inside in
-        let inside' = rows'.inside in
-        let h = height_same in
-        let near = next_or_none q.rows p.rows back in
-        record {
-          ordered = omega arith;
-          inside = ⊎_elim (λ (none : p.rows.first ≡ p.rows.end). omega arith) (λ (next : p.rows.first ≡ q.rows.end). omega arith) near;
-          none = λ same_ends. rows'.none (omega arith);
-        }
+    both_rows true e = rows_after p.grid p.rows q.rows rows others (next_or_none p.rows q.rows e)
+    both_rows false e = rows_after p.grid q.rows p.rows others rows (next_or_none q.rows p.rows (rw e at touch))
 
     pub together_rows : AreRowsOf p.grid (rows_together p.rows q.rows)
     together_rows = both_rows (rows_follow p.rows q.rows) refl

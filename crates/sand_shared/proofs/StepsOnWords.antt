@@ -10,8 +10,11 @@ use Rattle.sand_shared.specs.OpenPile.{grid_of}
 use Rattle.sand_shared.specs.Events.{Event}
 use Rattle.sand_shared.specs.Passes.{SharedView}
 use Rattle.sand_shared.specs.Running.{IsRunning, Takes, TakesInARow, Learns}
-use Rattle.sand_shared.specs.Seats.{AreWords, IsSeatAt}
+use Rattle.sand_shared.specs.Seats.{AreWords, IsSeatAt, StaysSeated}
 use Rattle.sand_shared.proofs.StepsAreEvents.{learns}
+
+pub stays_on : {first mid last : Seat ℕ View} → StaysSeated first mid → StaysSeated mid last → StaysSeated first last
+stays_on before after = record { table = after.table ∙ before.table; id = after.id ∙ before.id; bare = after.bare }
 
 module _ {key : Terms} {lattice : Grid} {inside now : SharedView} (words : AreWords key lattice inside) (is : inside ≡ now) where
   pub key_now : key ≡ now.terms

@@ -30,21 +30,6 @@ pub record Sweeps (t : Terms) (v : View) (cs : List ℕ) (k answer : ℕ) : Type
   pub few : 0 < k → sum cs < 2 ^ 54
   pub sparing : 0 < k → HasAll t v → IsSparing t (with_counts v cs)
 
-pub sweeps_begin : (t : Terms) (v : View) (cs : List ℕ) → v.counts ≡ cs → Sweeps t v cs 0 0
-sweeps_begin t v cs e = subst (λ z. Sweeps t v z 0 0) e
-    record {
-      same_rows = refl;
-      answered = omega arith;
-      never_fall = λ j. omega arith;
-      rest = λ j _. refl;
-      enough = λ j l. absurd (omega arith);
-      idle = λ _. refl;
-      calm = λ _ _. refl;
-      in_turn = λ _ j l. absurd (omega arith);
-      few = λ l. absurd (omega arith);
-      sparing = λ l. absurd (omega arith);
-    }
-
 -- the count of the k-th site of its rows
 pub toppled-row : (v : View) (k : ℕ) → toppled_by v (v.base + k) ≡ slice_index v.counts k
 toppled-row v k = toppled_from v (v.base + k) (omega arith) ∙ ap (slice_index v.counts) {x = (v.base + k) - v.base} {y = k} (omega arith)
