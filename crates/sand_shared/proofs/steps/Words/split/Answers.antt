@@ -14,11 +14,11 @@ split_seat-requires g c =
     let is = c.self.view_is in
     let v = c.args.seat.now.me.0 in
     let a = c.args.seat.now.id in
-    let n = length v.counts - c.args.kept in (
+    let n = length v.counts - c.args._kept in (
       at_table words is c.requires.seat,
       has_word words is 0 (omega arith),
       subst (λ (z : Terms × Event). Splits (IsRunning z.0) a v (parent v (quota_given z.1) (sites_given z.1)) (child v (quota_given z.1) (sites_given z.1)))
-          (λ i. (sym (key_now words is) i, sym c.requires.picked i)) (splits _ a c.args.quota n v c.requires.quota (omega arith) c.requires.hand),
+          (λ i. (sym (key_now words is) i, sym c.requires.picked i)) (splits _ a c.args._quota n v c.requires.quota (omega arith) c.requires.hand),
     )
 
 pub returns-clause-seat : goal.returns-clause-seat
