@@ -5,7 +5,7 @@ use Rattle.sand_model.specs.Grid.{sites}
 use Rattle.sand_model.specs.Piles.{PileView, most_grains}
 use Rattle.sand_settle.specs.Drops.{OneView, IsAfter}
 use Rattle.sand_lab.specs.Streams.{stream_sites}
-use Rattle.sand_lab.proofs.StreamTallies.{length-stream_sites}
+use Rattle.sand_lab.proofs.TallyOfStreams.{length-stream_sites}
 use Rattle.sand_text.specs.declared.fault.TextFault.{TextFault}
 use Rattle.sand_text.specs.declared.fault.TextFault.TheVariants as text
 use Rattle.sand_text.specs.Reading.{pile_of, ◌>>=◌}

@@ -11,7 +11,7 @@ use Rattle.sand_shared.specs.Record.{RecordView, IsOneThreads}
 use Rattle.sand_lab.specs.declared.plan.Wish.{Wish}
 use Rattle.sand_lab.specs.Reports.{AreEpochs, IsReport, ReportView, SheetView, histories}
 use Rattle.sand_lab.specs.Streams.{stream_of, stream_sites}
-use Rattle.sand_lab.proofs.Outcomes.{epoch_tally, one_threads_once}
+use Rattle.sand_lab.proofs.RunHasOneOutcome.{epoch_tally, one_threads_once}
 use Rattle.sand_text.specs.declared.fault.TextFault.{TextFault}
 use Rattle.sand_text.specs.Reading.{pile_of, ◌>>=◌}
 use Rattle.sand_text.specs.Texts.{text_of}

@@ -8,7 +8,7 @@ use Rattle.sand_shared.specs.Passes.{EachOnce, AllBelow}
 use Rattle.sand_shared.specs.Record.{Tells}
 use Rattle.sand_lab.specs.declared.journal.Entry.{Entry}
 use Rattle.sand_lab.specs.Journals.{entry, sites_in, IsJournal}
-use Rattle.sand_lab.proofs.Numbers.{receipt_of}
+use Rattle.sand_lab.proofs.EachNumberOnce.{receipt_of}
 
 -- the entry of each number is that of its receipt
 pub entry_of : (drops : ℕ) (rs : List Receipt) (js : List Entry) → EachOnce rs → AllBelow (length rs) rs → IsJournal drops rs js → (n : ℕ) → n < length rs

@@ -28,7 +28,7 @@ pub(crate) trait Work: Send {
 
 /// Does all works of a list, each in so many turns, in a thread of its own where one can be made.
 #[cycle(works)]
-#[tactic(auto, using(crate::proofs::Turns::zip_append))]
+#[tactic(auto, using(crate::proofs::OneTurnMore::zip_append))]
 pub(crate) fn do_all<R: Threads + Sync, G: Gate, W: Work>(
     rt: &R,
     pile: &SharedPile,

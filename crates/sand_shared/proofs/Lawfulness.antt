@@ -13,11 +13,11 @@ use Rattle.sand_shared.specs.declared.view.View.{View}
 use Rattle.sand_shared.specs.declared.view.Terms.{Terms}
 use Rattle.sand_shared.specs.OpenPile.{OpenPile, grid_of, holds_site, present, poured, toppled, AreTerms, IsLawful}
 use Rattle.sand_shared.specs.Events.{Event, begin, draw, place, count, split, join, look, unload, deliver, unopened, May, after, AllHappen, after_all}
-use Rattle.sand_shared.proofs.Opening.{some_sites, begun}
-use Rattle.sand_shared.proofs.Reading.{count_keeps, look_keeps}
-use Rattle.sand_shared.proofs.Dropping.{draw_keeps, place_keeps, deliver_keeps}
-use Rattle.sand_shared.proofs.Toppling.{unload_keeps}
-use Rattle.sand_shared.proofs.Regrouping.{split_keeps, join_keeps}
+use Rattle.sand_shared.proofs.LawfulAtBegin.{some_sites, begun}
+use Rattle.sand_shared.proofs.LawfulAfterReads.{count_keeps, look_keeps}
+use Rattle.sand_shared.proofs.LawfulAfterDrops.{draw_keeps, place_keeps, deliver_keeps}
+use Rattle.sand_shared.proofs.LawfulAfterTopplings.{unload_keeps}
+use Rattle.sand_shared.proofs.LawfulAfterRegrouping.{split_keeps, join_keeps}
 
 -- a pile that has begun has a pass, so it does not begin again
 no_second_begin : (t : Terms) (p : OpenPile) → AreTerms t → IsLawful t p → May t p begin → IsLawful t (after t p begin)

@@ -77,7 +77,7 @@ without i k (g ∷ gs) = if are_for i k g then gs else g ∷ without i k gs
 abbrev pub laid_down : View → ℕ → ℕ → View
 laid_down v i k = record v { hand = without i k v.hand }
 
--- where there is a neighbour at a place, to which the first grains in hand go
+-- if there is a neighbour at a place, the first grains in hand go to it
 abbrev pub delivered_to : Option ℕ → View → View
 delivered_to None v = v
 delivered_to (Some j) v = record v { hand = behind_first v.hand }
@@ -99,17 +99,27 @@ sent t i k = map (λ j. grains j k) (neighbours (grid_of t) i)
 abbrev pub unloaded : Terms → View → ℕ → ℕ → View
 unloaded t v i k = record v { hand = v.hand ++ sent t i k; counts = raised v i k; least = 0 }
 
--- the first site of rows that begin at i, 0 where there are none
+-- the first site of rows that begin at i, 0 if there are none
 abbrev pub base_of : ℕ → List ℕ → ℕ
 base_of i counts = if length counts == 0 then 0 else i
 
 -- what a pass keeps, of its quota all but q and of its sites all but the last n
 abbrev pub parent : View → ℕ → ℕ → View
-parent v q n = let kept = length v.counts - n in record v { left = v.left - q; base = base_of v.base (take kept v.counts); counts = take kept v.counts; least = 0 }
+parent v q n = let kept = length v.counts - n in record v {
+  left = v.left - q;
+  base = base_of v.base (take kept v.counts);
+  counts = take kept v.counts;
+  least = 0;
+}
 
 -- and what it gives away, with all that it has seen
 abbrev pub child : View → ℕ → ℕ → View
-child v q n = let kept = length v.counts - n in record nobody { left = q; seen = v.seen; base = base_of (v.base + kept) (drop kept v.counts); counts = drop kept v.counts }
+child v q n = let kept = length v.counts - n in record nobody {
+  left = q;
+  seen = v.seen;
+  base = base_of (v.base + kept) (drop kept v.counts);
+  counts = drop kept v.counts;
+}
 
 -- whether the second has no rows, or they come directly after those of the first
 abbrev pub follows : View → View → Bool
@@ -117,7 +127,16 @@ follows v w = (length w.counts == 0) || (w.base == v.base + length v.counts)
 
 -- two passes as one, the rows in their order
 abbrev pub joined : View → View → View
-joined v w = record { left = v.left + w.left; seen = max v.seen w.seen; receipts = v.receipts ++ w.receipts; hand = []; base = if follows v w then v.base else w.base; counts = if follows v w then v.counts ++ w.counts else w.counts ++ v.counts; spot = 0; least = 0 }
+joined v w = record {
+  left = v.left + w.left;
+  seen = max v.seen w.seen;
+  receipts = v.receipts ++ w.receipts;
+  hand = [];
+  base = if follows v w then v.base else w.base;
+  counts = if follows v w then v.counts ++ w.counts else w.counts ++ v.counts;
+  spot = 0;
+  least = 0;
+}
 
 -- Events
 
@@ -225,6 +244,6 @@ abbrev pub sites_given : Event → ℕ
 sites_given (split a q n) = n
 sites_given _ = 0
 
--- terms of no pile, where nothing is picked
+-- terms of no pile, if nothing is picked
 abbrev pub no_terms : Terms
 no_terms = record { start = record { grid = record { width = 0; height = 0; edge = Open }; heights = [] }; quota = 0 }

@@ -11,7 +11,8 @@ use Rattle.sand_shared.specs.Sweeps.{HasAll, Swept}
 
 -- after its begin and any list of events that may happen, the open pile is lawful
 abbrev pub AlwaysLawful : Type 0
-AlwaysLawful = (t : Terms) (events : List Event) → AreTerms t → AllHappen t (unopened t) (begin ∷ events) → IsLawful t (after_all t (unopened t) (begin ∷ events))
+AlwaysLawful = (t : Terms) (events : List Event) → AreTerms t → AllHappen t (unopened t) (begin ∷ events)
+    → IsLawful t (after_all t (unopened t) (begin ∷ events))
 
 -- an open pile that is lawful, and of which the words and the views show all
 pub record ShowLawful (t : Terms) (s : State ℕ View) : Type 0 where
@@ -31,6 +32,7 @@ FewGrains = (t : Terms) (p : OpenPile) → AreTerms t → IsLawful t p → (i : 
 abbrev pub FewDraws : Type 0
 FewDraws = (t : Terms) (p : OpenPile) → IsLawful t p → length p.drawn ≤ t.quota
 
--- two sweeps of one pass that has all leave the same counts and answer the same
+-- two sweeps of one pass that has all leave the same counts and return the same
 abbrev pub OneSweep : Type 0
-OneSweep = (t : Terms) (v : View) (counts others : List ℕ) (answer other : ℕ) → HasAll t v → Swept t v counts answer → Swept t v others other → (counts ≡ others) × (answer ≡ other)
+OneSweep = (t : Terms) (v : View) (counts others : List ℕ) (topplings other : ℕ) → HasAll t v → Swept t v counts topplings → Swept t v others other
+    → (counts ≡ others) × (topplings ≡ other)

@@ -77,7 +77,7 @@ abbrev pub poured : Terms → OpenPile → ℕ → ℕ
 poured t p i = height_of t.start i + tally p.drawn i
 
 -- What is so of each pass: it has seen no more drops than were begun, its receipts tell sites and numbers rightly, its
--- grains in hand come from its receipts and from its topplings beside their site, and what it looked at has not fallen.
+-- grains in hand come from its receipts and from its topplings next to their site, and what it looked at has not fallen.
 pub record IsLawfulPass (t : Terms) (p : OpenPile) (v : View) : Type 0 where
   pub seen : v.seen ≤ length p.drawn
   pub receipts : All (λ r. slice_get p.drawn r.number ≡ Some r.site) v.receipts

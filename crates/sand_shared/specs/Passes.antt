@@ -30,18 +30,27 @@ pub record IsPassOf (pile : SharedView) (pass : PassView) : Type 0 where
   pub table : pass.table ≡ pile.table
   pub grid : pass.grid ≡ grid_of pile.terms
 
--- no number stands twice
+-- no number is there twice
 abbrev pub EachOnce : List Receipt → Type 0
 EachOnce receipts = (n : ℕ) → numbered receipts n ≤ 1
 
 abbrev pub AllBelow : ℕ → List Receipt → Type 0
 AllBelow n receipts = All (λ r. r.number < n) receipts
 
--- what a pass is to the rule between its calls, when it has nothing in hand
+-- what a pass is to the rule between its calls: it has nothing in hand
 abbrev pub at_rest : PassView → View
-at_rest p = record { left = p.left; seen = p.seen; receipts = p.receipts; hand = []; base = p.rows.first * p.grid.width; counts = p.counts; spot = 0; least = 0 }
+at_rest p = record {
+  left = p.left;
+  seen = p.seen;
+  receipts = p.receipts;
+  hand = [];
+  base = p.rows.first * p.grid.width;
+  counts = p.counts;
+  spot = 0;
+  least = 0;
+}
 
--- the seat stands for the pass; there is room for so many receipts
+-- the seat is that of the pass; there is room for so many receipts
 pub record IsPass (seat : Seat ℕ View) (p : PassView) (room : ℕ) : Type 0 where
   pub me : seat.me ≡ (record (at_rest p) { spot = seat.me.0.spot; least = seat.me.0.least }, [])
   pub receipts_fit : length p.receipts + p.left ≤ room
@@ -59,7 +68,13 @@ sites_kept p k = length p.counts - k * p.grid.width
 
 -- what two passes have together
 abbrev pub together : PassView → PassView → PassView
-together p q = record p { left = p.left + q.left; seen = max p.seen q.seen; receipts = p.receipts ++ q.receipts; rows = rows_together p.rows q.rows; counts = if rows_follow p.rows q.rows then p.counts ++ q.counts else q.counts ++ p.counts }
+together p q = record p {
+  left = p.left + q.left;
+  seen = max p.seen q.seen;
+  receipts = p.receipts ++ q.receipts;
+  rows = rows_together p.rows q.rows;
+  counts = if rows_follow p.rows q.rows then p.counts ++ q.counts else q.counts ++ p.counts;
+}
 
 -- all of the quota, as what is left or as receipts, and all rows
 pub record IsWhole (terms : Terms) (p : PassView) : Type 0 where

@@ -1,4 +1,4 @@
--- The rows that a pass holds: from the first up to the end, which is one past the last. Both are 0 where it holds none.
+-- The rows that a pass holds: from the first up to the end, which is one past the last. Both are 0 if it holds none.
 use Rattle.std.specs.Prelude.{ℕ, Bool, ◌≡◌, ◌≢◌, ◌+◌, ◌-◌, ◌<◌, ◌≤◌, ◌==◌, ◌||◌, nat_lt, if◌then◌else◌}
 use Rattle.sand_model.specs.Grid.{Grid, row}
 use Rattle.sand_shared.specs.declared.rows.Rows.{Rows}

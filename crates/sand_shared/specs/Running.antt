@@ -1,7 +1,7 @@
 -- The rule of the table of words, and what a step on it tells the pass that takes it.
 -- Word 0 is the base's own, word 1 is the number word, and word i + 2 has the height of the site i.
 use Rattle.std.specs.Prelude.{ℕ, ◌≡◌, ◌+◌, ◌<◌, List, [], ◌∷◌, length, slice_index}
-use Rattle.atomic_table.specs.Table.{State, Me, Step}
+use Rattle.atomic_table.specs.Table.{State, Me}
 use Rattle.sand_model.specs.Grid.{sites}
 use Rattle.sand_shared.specs.declared.view.View.{View}
 use Rattle.sand_shared.specs.declared.view.Terms.{Terms}
@@ -62,12 +62,12 @@ pub record Happened (t : Terms) (e : Event) (v : View) (n : ℕ) (w : View) : Ty
   pub pass_after : pass_at (after t before.pile e) (actor e) ≡ w
 
 -- what the step of an event tells
-abbrev pub Takes : Terms → Event → Step ℕ → Me ℕ View → ℕ → Me ℕ View → Type 0
-Takes t e s v n w = Happened t e v.0 n w.0 × (w.1 ≡ v.1)
+abbrev pub Takes : Terms → Event → Me ℕ View → ℕ → Me ℕ View → Type 0
+Takes t e v n w = Happened t e v.0 n w.0 × (w.1 ≡ v.1)
 
 -- what a load tells that is no event: the pass has what it had
-abbrev pub Learns : Terms → ℕ → Step ℕ → Me ℕ View → ℕ → Me ℕ View → Type 0
-Learns t a s v n w = Stands t a v.0 × (w ≡ v)
+abbrev pub Learns : Terms → ℕ → Me ℕ View → ℕ → Me ℕ View → Type 0
+Learns t a v n w = Stands t a v.0 × (w ≡ v)
 
 -- the number that the first of some events finds in its word
 abbrev pub found_first : OpenPile → List Event → ℕ
@@ -83,5 +83,5 @@ pub record HappenedInARow (t : Terms) (a : ℕ) (es : List Event) (v : View) (n 
   pub pass_after : pass_at (after_all t before.pile es) a ≡ w
 
 -- what the step of events in a row tells
-abbrev pub TakesInARow : Terms → ℕ → List Event → Step ℕ → Me ℕ View → ℕ → Me ℕ View → Type 0
-TakesInARow t a es s v n w = HappenedInARow t a es v.0 n w.0 × (w.1 ≡ v.1)
+abbrev pub TakesInARow : Terms → ℕ → List Event → Me ℕ View → ℕ → Me ℕ View → Type 0
+TakesInARow t a es v n w = HappenedInARow t a es v.0 n w.0 × (w.1 ≡ v.1)

@@ -53,13 +53,13 @@ TopplesInTurn t v counts j = let times = slice_index counts j - slice_index v.co
 -- a sweep over the rows of v that left these counts
 pub record Swept (t : Terms) (v : View) (counts : List ℕ) (answer : ℕ) : Type 0 where
   pub same_rows : length counts ≡ length v.counts
-  -- it answers by how much the counts rose
+  -- it returns by how much the counts rose
   pub answered : sum counts ≡ sum v.counts + answer
   pub idle : answer ≡ 0 → counts ≡ v.counts
   pub never_fall : (j : ℕ) → slice_index v.counts j ≤ slice_index counts j
   -- a site with k of 4 or more has toppled at least k div 4 times
   pub enough : (j : ℕ) → j < length v.counts → LeavesAtMost t v (v.base + j) (4 * (slice_index counts j - slice_index v.counts j) + 3)
-  -- a pass that has all topples nothing exactly where nothing is left to topple
+  -- a pass that has all topples nothing if and only if nothing is left to topple
   pub calm : HasAll t v → (answer ≡ 0) ↔ IsCalm t v
   pub sparing : HasAll t v → IsSparing t (with_counts v counts)
   -- a pass that has all goes to each site once, in turn, and topples it just as often as the grains on it then allow

@@ -10,7 +10,7 @@ use crate::shared_pile::SharedPile;
 use std::alloc::{AllocError, Global};
 use std::marker::Brand;
 
-// The first list becomes both, the second's behind it where they are in order, else before it.
+// The first list becomes both: the second is appended if they are in order, and put in front if not.
 fn lay_together(
     first: &mut Vec<u64>,
     second: &mut Vec<u64>,
@@ -29,11 +29,11 @@ fn lay_together(
 
 impl SharedPile {
     /// Takes in all that another pass of this pile has: its quota, its receipts behind the pass's own, what it has
-    /// seen, and its rows with their counts. Refuses rows that do not touch the pass's own (Apart), then Memory; the
-    /// other pass then comes back.
+    /// seen, and its rows with their counts. Returns Apart if its rows do not touch the pass's own, else Memory if an
+    /// allocation fails; both give the other pass back.
     pub fn join(
         &self,
-        alloc: Global,
+        _alloc: Global,
         pass: &mut Pass,
         mut other: Pass,
     ) -> Result<(), (JoinFault, Pass)>
@@ -46,8 +46,6 @@ impl SharedPile {
         ensures unchanged { OnErr result (pass.new ≡ pass.old) }
         ensures back { IfErr result (λ e. e.1 ≡ other) }
     {
-        let _ = &self.words;
-        let _ = alloc;
         if !pass.rows.touch(other.rows) {
             return Err((JoinFault::Apart, other));
         }

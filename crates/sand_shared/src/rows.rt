@@ -3,7 +3,7 @@
 ghost use Rattle.std.specs.Prelude.{◌≡◌, ◌≤◌, ◌↔◌, ◌+◌, ◌<◌, ◌^◌, ◌||◌, IsTrue, ℕ};
 ghost use Rattle.sand_shared.specs.Rows.{no_rows, rows_between, count_of, upper_rows, lower_rows, rows_follow, rows_together};
 
-/// Rows of a grid, from the first up to the end, which is one past the last; both are 0 where there are none.
+/// Rows of a grid, from the first up to the end, which is one past the last; both are 0 if there are none.
 #[derive(Clone, Copy, Debug, PartialEq, Eq)]
 pub(crate) struct Rows {
     pub(crate) first: u16,

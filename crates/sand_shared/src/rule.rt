@@ -47,7 +47,7 @@ pub struct Take<J> {
 impl<J: Picked> Play<u8, View> for Take<J> {
     ghost use Rattle.sand_shared.specs.Running.{Takes};
 
-    ghost then = { Takes J.terms J.event };
+    ghost then = { λ step. Takes J.terms J.event };
 }
 
 /// The pass and the events that one step is, picked at the call for the proofs alone.
@@ -82,7 +82,7 @@ pub struct TakeRow<J> {
 impl<J: PickedRow> Play<u8, View> for TakeRow<J> {
     ghost use Rattle.sand_shared.specs.Running.{TakesInARow};
 
-    ghost then = { TakesInARow J.terms J.pass J.events };
+    ghost then = { λ step. TakesInARow J.terms J.pass J.events };
 }
 
 /// A load that is no event and changes nothing, by which a pass learns that what it has fits the rule.
@@ -93,7 +93,7 @@ pub struct Learn<J> {
 impl<J: Picked> Play<u8, View> for Learn<J> {
     ghost use Rattle.sand_shared.specs.Running.{Learns, actor};
 
-    ghost then = { Learns J.terms (actor J.event) };
+    ghost then = { λ step. Learns J.terms (actor J.event) };
 }
 
 /// A pass gives a part of what it has to a new one.

@@ -37,13 +37,21 @@ impl Model for SharedPile {
 
 impl SharedPile {
     /// A pile with the heights of the start, which may be unstable, and its first pass: that has the whole quota and
-    /// all rows, has seen no drop and has no receipts. Refuses a start that has, with the quota, more grains than the
-    /// limit (TooManyGrains), then Memory.
+    /// all rows, has seen no drop and has no receipts. Returns TooManyGrains if the start has, with the quota, more grains
+    /// than the limit; else Memory if an allocation fails.
     pub fn new(alloc: Global, start: &Pile, quota: u64) -> Result<(SharedPile, Pass), SharedFault>
         ensures limit { (result ≡ Err SharedFault.TooManyGrains) ↔ (most_grains < sum start.now.heights + quota) }
         ensures terms { IfOk result (λ r. r.0.terms ≡ record { start = start.now; quota = quota }) }
         ensures of_pile { IfOk result (λ r. IsPassOf r.0 r.1) }
-        ensures pass { IfOk result (λ r. r.1 ≡ record { table = r.0.table; grid = start.now.grid; left = quota; seen = 0; receipts = []; rows = record { first = 0; end = start.now.grid.height }; counts = zeros (sites start.now.grid) }) }
+        ensures pass { IfOk result (λ r. r.1 ≡ record {
+          table = r.0.table;
+          grid = start.now.grid;
+          left = quota;
+          seen = 0;
+          receipts = [];
+          rows = record { first = 0; end = start.now.grid.height };
+          counts = zeros (sites start.now.grid);
+        }) }
     {
         if quota > GRAIN_LIMIT - start.grains() {
             return Err(SharedFault::TooManyGrains);
@@ -68,8 +76,8 @@ impl SharedPile {
         Ok((SharedPile { words }, pass))
     }
 
-    /// Drops a grain on a site, and answers the number of the drop in the history. Refuses a pass with nothing left
-    /// (Spent).
+    /// Drops a grain on a site, and returns the number of the drop in the history. Returns Spent if the pass has nothing
+    /// left.
     pub fn drop_at(&self, pass: &mut Pass, site: usize) -> Result<u64, DropFault>
         requires pass { IsPassOf self.now pass.old }
         requires site { site < sites (grid_of self.now.terms) }
@@ -78,9 +86,12 @@ impl SharedPile {
         ensures unchanged { OnErr result (pass.new ≡ pass.old) }
         ensures after_all_seen { IfOk result (λ n. pass.old.seen ≤ n) }
         ensures in_the_quota { IfOk result (λ n. n < self.now.terms.quota) }
-        ensures pass { IfOk result (λ n. pass.new ≡ record pass.old { left = pass.old.left - 1; seen = n + 1; receipts = pass.old.receipts ++ receipt n site ∷ [] }) }
+        ensures pass { IfOk result (λ n. pass.new ≡ record pass.old {
+          left = pass.old.left - 1;
+          seen = n + 1;
+          receipts = pass.old.receipts ++ receipt n site ∷ [];
+        }) }
     {
-        let _ = &self.words;
         if pass.left == 0 {
             return Err(DropFault::Spent);
         }
@@ -100,7 +111,6 @@ impl SharedPile {
         ensures in_the_quota { result ≤ self.now.terms.quota }
         ensures pass { pass.new ≡ record pass.old { seen = result } }
     {
-        let _ = &self.words;
         let drops = self.words.count::<Brand>(&mut pass.seat);
         pass.seen = drops;
         drops

@@ -13,7 +13,7 @@ use std::marker::Brand;
 
 impl SharedPile {
     /// Gives some of what a pass has left to a new one, which has seen as much and has no receipts and no rows.
-    /// Refuses more than is left (TooMuch), then Memory.
+    /// Returns TooMuch if that is more than is left; else Memory if an allocation fails.
     pub fn split(&self, alloc: Global, pass: &mut Pass, quota: u64) -> Result<Pass, SplitFault>
         requires { IsPassOf self.now pass.old }
         ensures of_pile { IsPassOf self.now pass.new }
@@ -24,7 +24,6 @@ impl SharedPile {
         ensures parent { OnOk result (pass.new ≡ record pass.old { left = pass.old.left - quota }) }
         ensures child { IfOk result (λ c. c ≡ record pass.old { left = quota; receipts = []; rows = no_rows; counts = [] }) }
     {
-        let _ = &self.words;
         if pass.left < quota {
             return Err(SplitFault::TooMuch);
         }
@@ -45,7 +44,7 @@ impl SharedPile {
     }
 
     /// Gives the last `k` rows of a pass, with their counts, to a new one, which has seen as much and has no quota and
-    /// no receipts. Refuses more rows than it has (Rows), then Memory.
+    /// no receipts. Returns Rows if it has fewer rows; else Memory if an allocation fails.
     pub fn split_rows(&self, alloc: Global, pass: &mut Pass, k: u16) -> Result<Pass, SplitFault>
         requires { IsPassOf self.now pass.old }
         ensures of_pile { IsPassOf self.now pass.new }
@@ -53,10 +52,17 @@ impl SharedPile {
         ensures rows { (result ≡ Err SplitFault.Rows) ↔ (count_of pass.old.rows < k) }
         ensures not_too_much { result ≢ Err SplitFault.TooMuch }
         ensures unchanged { OnErr result (pass.new ≡ pass.old) }
-        ensures parent { OnOk result (pass.new ≡ record pass.old { rows = upper_rows pass.old.rows k; counts = take (sites_kept pass.old k) pass.old.counts }) }
-        ensures child { IfOk result (λ c. c ≡ record pass.old { left = 0; receipts = []; rows = lower_rows pass.old.rows k; counts = drop (sites_kept pass.old k) pass.old.counts }) }
+        ensures parent { OnOk result (pass.new ≡ record pass.old {
+          rows = upper_rows pass.old.rows k;
+          counts = take (sites_kept pass.old k) pass.old.counts;
+        }) }
+        ensures child { IfOk result (λ c. c ≡ record pass.old {
+          left = 0;
+          receipts = [];
+          rows = lower_rows pass.old.rows k;
+          counts = drop (sites_kept pass.old k) pass.old.counts;
+        }) }
     {
-        let _ = &self.words;
         if pass.rows.count() < k {
             return Err(SplitFault::Rows);
         }

@@ -1,6 +1,8 @@
 //! The table of words under its rule, and the steps on it: each function here takes one step. The contract of a step from
 //! draw to deliver names the event that it is, or the events in a row. Those of split and join say what the passes have
 //! afterwards, and `learn` is a load that is no event.
+//!
+//! A parameter that only the contract names, such as the site of a draw, begins with an underscore.
 
 ghost use Rattle.std.specs.Prelude.{◌≡◌, ℕ, ◌+◌, ◌-◌, ◌*◌, ◌^◌, ◌<◌, ◌≤◌, ◌||◌, true, [], ◌∷◌, All, length, count_by, slice_index, vec_capacity, IfOk};
 ghost use Rattle.std.specs.Mem.Slots.{slots_items, slots_len, IsFull};
@@ -20,8 +22,8 @@ use std::marker::Model;
 
 pub(crate) type PassSeat = Seat<u8, View>;
 
-/// The words that threads share: the number of draws, and the height of each site. The lattice of their grid stands
-/// beside them, so that whoever topples finds neighbours without a division.
+/// The words that threads share: the number of draws, and the height of each site. With them is the lattice of their
+/// grid, so that a sweep finds neighbours without a division.
 #[derive(Drop)]
 pub(crate) struct Words {
     table: Table<u8, View, Terms, Running, Global>,
@@ -70,6 +72,14 @@ impl Words {
         &self.terms
     }
 
+    /// Tells a proof that the terms are within their limits. It does nothing.
+    #[inline(always)]
+    pub(crate) fn tell_limits(&self)
+        ensures { AreTerms self.now.terms }
+    {
+        let _ = &self.terms;
+    }
+
     /// The places north, west, east and south of a site, in that order.
     #[inline(always)]
     pub(crate) fn neighbours(&self, site: usize) -> [Option<usize>; 4]
@@ -80,15 +90,14 @@ impl Words {
     }
 
     /// Draws a number for a grain on a site.
-    pub(crate) fn draw<J: Picked>(&self, seat: &mut PassSeat, site: usize) -> u64
+    pub(crate) fn draw<J: Picked>(&self, seat: &mut PassSeat, _site: usize) -> u64
         requires seat { IsSeatAt self.now seat.old }
         requires left { 0 < seat.old.me.0.left }
-        requires site { site < sites (grid_of self.now.terms) }
-        requires picked { (J.terms ≡ self.now.terms) × (J.event ≡ draw seat.old.id site) }
+        requires site { _site < sites (grid_of self.now.terms) }
+        requires picked { (J.terms ≡ self.now.terms) × (J.event ≡ draw seat.old.id _site) }
         ensures seat { StaysSeated seat.old seat.new }
-        ensures happened { Happened self.now.terms (draw seat.old.id site) seat.old.me.0 result seat.new.me.0 }
+        ensures happened { Happened self.now.terms (draw seat.old.id _site) seat.old.me.0 result seat.new.me.0 }
     {
-        let _ = site;
         self.table.shared.fetch_add::<Take<J>>(seat, 1, 1)
     }
 
@@ -186,19 +195,22 @@ impl Words {
     }
 
     /// Gives a part of the pass's quota and the last of its sites to a new pass.
-    pub(crate) fn split<J: Picked>(&self, seat: &mut PassSeat, quota: u64, kept: usize) -> PassSeat
+    pub(crate) fn split<J: Picked>(
+        &self,
+        seat: &mut PassSeat,
+        _quota: u64,
+        _kept: usize,
+    ) -> PassSeat
         requires seat { IsSeatAt self.now seat.old }
         requires hand { seat.old.me.0.hand ≡ [] }
-        requires quota { quota ≤ seat.old.me.0.left }
-        requires sites { kept ≤ length seat.old.me.0.counts }
-        requires picked { J.event ≡ split seat.old.id quota (length seat.old.me.0.counts - kept) }
+        requires quota { _quota ≤ seat.old.me.0.left }
+        requires sites { _kept ≤ length seat.old.me.0.counts }
+        requires picked { J.event ≡ split seat.old.id _quota (length seat.old.me.0.counts - _kept) }
         ensures seat { StaysSeated seat.old seat.new }
         ensures child_seat { IsSeatAt self.now result }
-        ensures parent { seat.new.me.0 ≡ parent seat.old.me.0 quota (length seat.old.me.0.counts - kept) }
-        ensures child { result.me.0 ≡ child seat.old.me.0 quota (length seat.old.me.0.counts - kept) }
+        ensures parent { seat.new.me.0 ≡ parent seat.old.me.0 _quota (length seat.old.me.0.counts - _kept) }
+        ensures child { result.me.0 ≡ child seat.old.me.0 _quota (length seat.old.me.0.counts - _kept) }
     {
-        let _ = quota;
-        let _ = kept;
         self.table.shared.split_seat::<Cut<J>>(seat)
     }
 

@@ -19,7 +19,7 @@ use sand_model::TOPPLING_HEIGHT;
 use std::marker::Brand;
 
 impl Words {
-    // Delivers the first grains in hand, where there is a neighbour at this place.
+    // Delivers the first grains in hand, if there is a neighbour at this place.
     #[inline(always)]
     fn deliver_to(&self, seat: &mut PassSeat, place: Option<usize>, times: u64)
         requires seat { IsSeatAt self.now seat.old }
@@ -48,7 +48,7 @@ impl Words {
         self.deliver_to(seat, south, times);
     }
 
-    // Looks at a site of the pass's rows, and topples it as often as the grains found allow. Answers how often.
+    // Looks at a site of the pass's rows, and topples it as often as the grains found allow. Returns how often.
     fn relieve(&self, seat: &mut PassSeat, site: usize) -> u64
         requires seat { IsSeatAt self.now seat.old }
         requires hand { seat.old.me.0.hand ≡ [] }
@@ -70,7 +70,7 @@ impl Words {
         times
     }
 
-    // Goes once over the sites of the pass's rows, from the base on. Answers the topplings.
+    // Goes once over the sites of the pass's rows, from the base on. Returns the topplings.
     pub(crate) fn sweep_rows(&self, seat: &mut PassSeat, base: usize, counts: &mut Vec<u64>) -> u64
         requires seat { IsSeatAt self.now seat.old }
         requires hand { seat.old.me.0.hand ≡ [] }
@@ -81,7 +81,7 @@ impl Words {
         ensures swept { Swept self.now.terms seat.old.me.0 counts.new.items result }
         ensures few { sum counts.new.items < 2 ^ 54 }
     {
-        let _ = self.terms();
+        self.tell_limits();
         let mut topplings = 0;
         'sites: for i in 0..counts.len() {
             let times = self.relieve(seat, base + i);
@@ -97,7 +97,7 @@ impl Words {
 
 impl SharedPile {
     /// Goes once over the sites of the pass's rows by number, looks at each, and topples it as often as the grains
-    /// found allow. Answers the topplings, and 0 for a pass without rows. For a pass that has everything, this
+    /// found allow. Returns the topplings, and 0 for a pass without rows. For a pass that has everything, this
     /// fixes how often each site topples (`in_turn` of `Swept`).
     pub fn sweep(&self, pass: &mut Pass) -> u64
         requires { IsPassOf self.now pass.old }
@@ -107,7 +107,6 @@ impl SharedPile {
         ensures few { sum pass.new.counts < 2 ^ 54 }
         ensures whole { IsWhole self.now.terms pass.old → HasAll self.now.terms (at_rest pass.old) }
     {
-        let _ = &self.words;
         let base = usize::from(pass.rows.first) * pass.shape.width();
         self.words
             .sweep_rows(&mut pass.seat, base, &mut pass.counts)

@@ -74,7 +74,7 @@ fn note(receipts: &mut Vec<Receipt>, number: u64, drops: &[usize])
 
 impl SharedPile {
     /// Drops grains on sites, one on each in their order, with numbers that follow one another, and returns the first
-    /// number; for an empty list, what the pass has seen. Refuses a pass with less left than the list is long (Spent).
+    /// number; for an empty list, what the pass has seen. Returns Spent if the pass has less left than the list is long.
     pub fn drop_all(
         &self,
         pass: &mut Pass,
@@ -90,9 +90,12 @@ impl SharedPile {
         ensures unchanged { OnErr result (pass.new ≡ pass.old) }
         ensures after_all_seen { IfOk result (λ n. pass.old.seen ≤ n) }
         ensures in_the_quota { IfOk result (λ n. 0 < length drops.now → n + length drops.now ≤ self.now.terms.quota) }
-        ensures pass { IfOk result (λ n. pass.new ≡ record pass.old { left = pass.old.left - length drops.now; seen = n + length drops.now; receipts = pass.old.receipts ++ receipts_from n drops.now }) }
+        ensures pass { IfOk result (λ n. pass.new ≡ record pass.old {
+          left = pass.old.left - length drops.now;
+          seen = n + length drops.now;
+          receipts = pass.old.receipts ++ receipts_from n drops.now;
+        }) }
     {
-        let _ = &self.words;
         let count = drops.len() as u64;
         if pass.left < count {
             return Err(DropFault::Spent);

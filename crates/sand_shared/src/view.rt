@@ -25,7 +25,7 @@ pub struct View {
     pub receipts: LinkedList<Receipt>,
     /// What it has taken up and not yet laid down.
     pub hand: LinkedList<Grains>,
-    /// The first site of its rows, 0 where it has none.
+    /// The first site of its rows, 0 if it has none.
     pub base: usize,
     /// How often each site of its rows has toppled since the pile was made.
     pub counts: LinkedList<u64>,

@@ -6,7 +6,7 @@ use Rattle.sand_shared.specs.Passes.{EachOnce, AllBelow}
 use Rattle.sand_shared.specs.Record.{RecordView}
 use Rattle.sand_lab.specs.Journals.{IsJournal}
 use Rattle.sand_lab.specs.Reports.{IsClosed}
-use Rattle.sand_lab.proofs.Closing.{all_dropped, within, whole, few_droppers, closed_is}
+use Rattle.sand_lab.proofs.EpochIsClosed.{all_dropped, within, whole, few_droppers, closed_is}
 use Rattle.sand_lab.proofs.epochs.closed_epoch.Goals as goal
 
 pub sweep_on-requires-after_bounds : goal.sweep_on-requires-after_bounds

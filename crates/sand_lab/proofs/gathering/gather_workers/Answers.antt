@@ -8,8 +8,8 @@ use Rattle.sand_shared.specs.OpenPile.{grid_of}
 use Rattle.sand_shared.specs.Passes.{PassView, together}
 use Rattle.sand_lab.specs.declared.workers.Worker.{Worker}
 use Rattle.sand_lab.specs.Gathering.{all_counts, HoldsBand}
-use Rattle.sand_lab.proofs.Bands.{top}
-use Rattle.sand_lab.proofs.Joining.{band_joined, next_at, share_grows}
+use Rattle.sand_lab.proofs.RowsInBands.{top}
+use Rattle.sand_lab.proofs.BandsJoinToAll.{band_joined, next_at, share_grows}
 use Rattle.sand_lab.proofs.gathering.gather_workers.Goals as goal
 
 nothing_left : {A : Type 0} (xs : List A) → length xs ≡ 0 → xs ≡ []

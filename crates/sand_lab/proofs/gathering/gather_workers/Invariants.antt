@@ -3,7 +3,7 @@ use Rattle.std.specs.Vec.Iter.{into_iter_items, into_iter_len}
 use Rattle.sand_shared.specs.OpenPile.{grid_of}
 use Rattle.sand_shared.specs.Passes.{IsPassOf}
 use Rattle.sand_lab.specs.Gathering.{all_counts, all_swept}
-use Rattle.sand_lab.proofs.Bands.{top}
+use Rattle.sand_lab.proofs.RowsInBands.{top}
 use Rattle.sand_lab.proofs.gathering.gather_workers.Given as goal
 
 abbrev pub invariant-loop-worker : goal.invariant-loop-worker

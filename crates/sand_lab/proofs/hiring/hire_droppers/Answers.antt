@@ -5,7 +5,7 @@ use Rattle.sand_shared.specs.Rows.{no_rows}
 use Rattle.sand_lab.specs.declared.droppers.Dropper.{Dropper}
 use Rattle.sand_lab.specs.Crews.{EachAt, IsDropper}
 use Rattle.sand_lab.specs.Streams.{Reading}
-use Rattle.sand_lab.proofs.Places.{each_push}
+use Rattle.sand_lab.proofs.EachAtItsPlace.{each_push}
 use Rattle.sand_lab.proofs.hiring.hire_droppers.Goals as goal
 
 pub loop-who-preserved : goal.loop-who-preserved

@@ -3,7 +3,7 @@ use Rattle.sand_shared.specs.Passes.{PassView}
 use Rattle.sand_shared.specs.Rows.{no_rows}
 use Rattle.sand_lab.specs.declared.observers.Observer.{Observer}
 use Rattle.sand_lab.specs.Crews.{EachAt, IsObserver}
-use Rattle.sand_lab.proofs.Places.{each_push}
+use Rattle.sand_lab.proofs.EachAtItsPlace.{each_push}
 use Rattle.sand_lab.proofs.hiring.hire_observers.Goals as goal
 
 pub loop-who-preserved : goal.loop-who-preserved

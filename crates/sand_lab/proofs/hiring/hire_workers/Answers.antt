@@ -6,8 +6,8 @@ use Rattle.sand_shared.specs.Passes.{PassView, sites_kept}
 use Rattle.sand_shared.specs.Rows.{upper_rows, lower_rows, rows_between}
 use Rattle.sand_lab.specs.declared.workers.Worker.{Worker}
 use Rattle.sand_lab.specs.Crews.{EachAt, IsWorker, banded, upper_part}
-use Rattle.sand_lab.proofs.Places.{each_first, each_none}
-use Rattle.sand_lab.proofs.Bands.{band_split, band_left}
+use Rattle.sand_lab.proofs.EachAtItsPlace.{each_first, each_none}
+use Rattle.sand_lab.proofs.RowsInBands.{band_split, band_left}
 use Rattle.sand_lab.proofs.hiring.hire_workers.Goals as goal
 
 pub loop-done-init : goal.loop-done-init

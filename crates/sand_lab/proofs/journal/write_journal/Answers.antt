@@ -3,7 +3,7 @@ use Rattle.std.proofs.lemmas.Nat.{div-mul-add}
 use Rattle.std.proofs.lemmas.Option.{slice_get-get_or}
 use Rattle.sand_shared.specs.Events.{receipt}
 use Rattle.sand_lab.specs.Journals.{entry}
-use Rattle.sand_lab.proofs.Placing.{NotedBelow, noted_more, all_noted}
+use Rattle.sand_lab.proofs.EntriesAtNumbers.{NotedBelow, noted_more, all_noted}
 use Rattle.sand_lab.proofs.journal.write_journal.Goals as goal
 
 pub loop-receipt-preserved : goal.loop-receipt-preserved

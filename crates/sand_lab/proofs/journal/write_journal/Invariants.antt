@@ -1,5 +1,5 @@
 use Rattle.std.proofs.Common.{◌≡◌, ◌+◌, ◌*◌, ◌<◌, length, vec_len}
-use Rattle.sand_lab.proofs.Placing.{NotedBelow}
+use Rattle.sand_lab.proofs.EntriesAtNumbers.{NotedBelow}
 use Rattle.sand_lab.proofs.journal.write_journal.Given as goal
 
 abbrev pub invariant-loop-receipt : goal.invariant-loop-receipt

@@ -1,4 +1,4 @@
-use Rattle.sand_lab.proofs.Outcomes.{one_outcome}
+use Rattle.sand_lab.proofs.RunHasOneOutcome.{one_outcome}
 use Rattle.sand_lab.proofs.laws.one_outcome.Goals as goal
 
 pub returns : goal.returns

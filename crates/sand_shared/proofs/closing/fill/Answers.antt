@@ -2,8 +2,8 @@ use Rattle.std.proofs.Common.{◌≡◌, Some, ◌∙◌, arith, length-set}
 use Rattle.std.specs.Prelude.{slice_get}
 use Rattle.sand_shared.specs.declared.view.Receipt.{Receipt}
 use Rattle.sand_shared.specs.Events.{receipt}
-use Rattle.sand_shared.proofs.Sums.{all_at}
-use Rattle.sand_shared.proofs.Histories.{told_more}
+use Rattle.sand_shared.proofs.SumsOverPasses.{all_at}
+use Rattle.sand_shared.proofs.ReceiptsTellHistory.{told_more}
 use Rattle.sand_shared.proofs.closing.fill.Goals as goal
 
 pub loop-receipt-preserved : goal.loop-receipt-preserved

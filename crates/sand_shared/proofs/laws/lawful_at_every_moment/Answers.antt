@@ -1,4 +1,4 @@
-use Rattle.sand_shared.proofs.Moments.{pile_of, lawful_now}
+use Rattle.sand_shared.proofs.StepsAreEvents.{pile_of, lawful_now}
 use Rattle.sand_shared.proofs.laws.lawful_at_every_moment.Goals as goal
 
 pub returns : goal.returns

@@ -3,7 +3,7 @@ use Rattle.std.proofs.lemmas.Bool.{cases_eq}
 use Rattle.std.proofs.lemmas.List.{get_or_append_left}
 use Rattle.std.proofs.Math.Seq.{get_or-append_seam}
 use Rattle.std.specs.Mem.Slots.{slots_items}
-use Rattle.sand_shared.proofs.Moments.{some_there}
+use Rattle.sand_shared.proofs.StepsAreEvents.{some_there}
 use Rattle.sand_shared.proofs.steps.read_heights.Goals as goal
 
 pub loop-site-preserved : goal.loop-site-preserved

@@ -1,16 +1,21 @@
 use Rattle.std.proofs.Common.{◌≡◌, ℕ, ◌+◌, ◌<◌, length, get_or, set, take, sym, ◌∙◌, subst, arith, length-set}
+use Rattle.std.specs.Prelude.{slice_index}
 use Rattle.sand_model.specs.Sand.{tally}
-use Rattle.sand_shared.proofs.Counting.{read_count, counted_more, tally_small}
+use Rattle.sand_shared.proofs.DropsBySite.{read_count, counted_more, tally_small}
 use Rattle.sand_shared.proofs.turns.count_sites.Goals as goal
+use Rattle.sand_shared.proofs.turns.count_sites.Goals.{After-index_mut}
+
+-- what is read at a site of the list is its count so far
+read : (c : After-index_mut) → c.index_mut.result.now ≡ slice_index c.drops.counts.items (get_or c.args.drops.now c.drops.site-index 0)
+read c = read_count (length c.args.counts.now.items) c.drops.site-index _ c.drops.counts.items c.args.drops.now c.drops.invariant.long c.requires.inside c.drops-test.true c.index_mut.ensures.value
 
 pub overflow_add-index_mut : goal.overflow_add-index_mut
 overflow_add-index_mut c =
     let ds = c.args.drops.now in
     let k = c.drops.site-index in
     let below = c.drops-test.true in
-    let inv = c.drops.invariant in
-    let read = read_count (length c.args.counts.now.items) k _ c.drops.counts.items ds inv.long c.requires.inside below c.index_mut.ensures.value in
-    let counted = inv.counted (get_or ds k 0) (c.requires.inside k 0 below) in
+    let value = read (goal.at.overflow_add-index_mut c).After-index_mut in
+    let counted = c.drops.invariant.counted (get_or ds k 0) (c.requires.inside k 0 below) in
     let small = tally_small k ds (get_or ds k 0) below in omega arith
 
 pub drops-preserved : goal.drops-preserved
@@ -21,10 +26,9 @@ drops-preserved c =
     let inv = c.drops.invariant in
     let cs = c.drops.counts.items in
     let n = length c.args.counts.now.items in
-    let read = read_count n k _ cs ds inv.long c.requires.inside below c.index_mut.ensures.value in
     let long = inv.long in
     let inside = c.requires.inside k 0 below in
     record {
       long = length-set cs (get_or ds k 0) (c.index_mut.result.now + 1) ∙ inv.long;
-      counted = subst (λ z. (i : ℕ) → i < n → get_or (set cs (get_or ds k 0) (z + 1)) i 0 ≡ tally (take (k + 1) ds) i) (sym read) (counted_more n k cs ds below (omega arith) inv.counted);
+      counted = subst (λ z. (i : ℕ) → i < n → get_or (set cs (get_or ds k 0) (z + 1)) i 0 ≡ tally (take (k + 1) ds) i) (sym (read (goal.at.drops-preserved c).After-index_mut)) (counted_more n k cs ds below (omega arith) inv.counted);
     }

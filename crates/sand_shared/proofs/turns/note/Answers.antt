@@ -2,7 +2,7 @@ use Rattle.std.proofs.Common.{◌≡◌, ◌+◌, List, [], ◌∷◌, ◌++◌,
 use Rattle.std.proofs.lemmas.List.{drop_all, append-nil}
 use Rattle.sand_shared.specs.declared.view.Receipt.{Receipt}
 use Rattle.sand_shared.specs.Events.{receipt, receipts_from}
-use Rattle.sand_shared.proofs.InARow.{from_here, note_more}
+use Rattle.sand_shared.proofs.EventsInARow.{from_here, note_more}
 use Rattle.sand_shared.proofs.turns.note.Goals as goal
 
 pub drops-init : goal.drops-init

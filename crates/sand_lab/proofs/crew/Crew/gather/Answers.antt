@@ -3,7 +3,7 @@ use Rattle.sand_lab.specs.declared.droppers.Dropper.{Dropper}
 use Rattle.sand_lab.specs.declared.observers.Observer.{Observer}
 use Rattle.sand_lab.specs.Crews.{HasEmptied, HasRead}
 use Rattle.sand_lab.specs.Gathering.{HoldsReceipts, HoldsBand, HoldsNothing}
-use Rattle.sand_lab.proofs.Places.{each_all}
+use Rattle.sand_lab.proofs.EachAtItsPlace.{each_all}
 use Rattle.sand_lab.proofs.crew.Crew.gather.Goals as goal
 
 pub gather_droppers-requires-clause-droppers : goal.gather_droppers-requires-clause-droppers

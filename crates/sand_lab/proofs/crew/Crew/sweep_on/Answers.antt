@@ -2,8 +2,8 @@ use Rattle.std.proofs.Common.{refl}
 use Rattle.sand_lab.specs.declared.crew.Crew.{Crew}
 use Rattle.sand_lab.specs.Crews.{HasTended}
 use Rattle.sand_lab.specs.Jobs.{CanSweep}
-use Rattle.sand_lab.proofs.Places.{each_all}
-use Rattle.sand_lab.proofs.Working.{can_tend, worked_on}
+use Rattle.sand_lab.proofs.EachAtItsPlace.{each_all}
+use Rattle.sand_lab.proofs.CrewHasWorked.{can_tend, worked_on}
 use Rattle.sand_lab.proofs.crew.Crew.sweep_on.Goals as goal
 
 pub do_list-requires-after_bounds : goal.do_list-requires-after_bounds

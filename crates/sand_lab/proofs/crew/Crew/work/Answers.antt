@@ -1,7 +1,7 @@
 use Rattle.sand_lab.specs.Crews.{IsDropper, IsWorker, IsObserver}
 use Rattle.sand_lab.specs.Jobs.{CanDrop, CanSweep, CanWatch}
-use Rattle.sand_lab.proofs.Places.{each_all}
-use Rattle.sand_lab.proofs.Working.{can_drop, can_sweep, can_watch, worked}
+use Rattle.sand_lab.proofs.EachAtItsPlace.{each_all}
+use Rattle.sand_lab.proofs.CrewHasWorked.{can_drop, can_sweep, can_watch, worked}
 use Rattle.sand_lab.proofs.crew.Crew.work.Goals as goal
 
 pub all_work-requires-clause-droppers : goal.all_work-requires-clause-droppers

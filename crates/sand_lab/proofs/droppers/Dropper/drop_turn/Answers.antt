@@ -7,7 +7,7 @@ use Rattle.sand_shared.specs.OpenPile.{grid_of}
 use Rattle.sand_shared.specs.Passes.{PassView, AllBelow}
 use Rattle.sand_lab.specs.Jobs.{dropped_at}
 use Rattle.sand_lab.specs.Journals.{Ascends}
-use Rattle.sand_lab.proofs.Turns.{ascends_row, below_row, within_row, dropped_row}
+use Rattle.sand_lab.proofs.OneTurnMore.{ascends_row, below_row, within_row, dropped_row}
 use Rattle.sand_lab.proofs.droppers.Dropper.drop_turn.Goals as goal
 
 pub returns-clause-dropped : goal.returns-clause-dropped

@@ -1,7 +1,7 @@
 use Rattle.std.proofs.Common.{arith, ◌≡◌, ℕ, ◌+◌, List, [], ◌∷◌, length, refl, ap, sym, subst, ◌∙◌, length-append}
 use Rattle.sand_lab.specs.declared.droppers.Dropper.{Dropper}
 use Rattle.sand_lab.specs.Jobs.{IsDropping}
-use Rattle.sand_lab.proofs.Droppings.{some_a_turn, begins, reads_one, has_dropped}
+use Rattle.sand_lab.proofs.DropperDropsAll.{some_a_turn, begins, reads_one, has_dropped}
 use Rattle.sand_lab.proofs.droppers.DropperWork.take_turns.Goals as goal
 use Rattle.sand_lab.proofs.droppers.DropperWork.take_turns.Goals.{then-len-most, else-len-most}
 

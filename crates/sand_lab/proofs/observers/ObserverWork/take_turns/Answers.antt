@@ -1,7 +1,7 @@
 use Rattle.std.proofs.Common.{rules, ap, ◌≤◌, ℕ}
 use Rattle.std.proofs.lemmas.List.Elements.{All-push}
 use Rattle.sand_shared.specs.Passes.{PassView}
-use Rattle.sand_lab.proofs.Turns.{climbs_push}
+use Rattle.sand_lab.proofs.OneTurnMore.{climbs_push}
 use Rattle.sand_lab.proofs.observers.ObserverWork.take_turns.Goals as goal
 
 pub loop-turn-preserved : goal.loop-turn-preserved

@@ -1,5 +1,5 @@
 use Rattle.std.proofs.Common.{rules, arith}
-use Rattle.sand_lab.proofs.Turns.{enough_after}
+use Rattle.sand_lab.proofs.OneTurnMore.{enough_after}
 use Rattle.sand_lab.proofs.workers.WorkerWork.take_turns.Goals as goal
 
 pub loop-turn-preserved : goal.loop-turn-preserved

@@ -3,7 +3,7 @@ use Rattle.std.proofs.lemmas.List.{get_or_read}
 use Rattle.sand_shared.specs.Passes.{PassView, at_rest}
 use Rattle.sand_shared.specs.OpenPile.{toppled_by}
 use Rattle.sand_shared.specs.Rows.{HoldsSite}
-use Rattle.sand_shared.proofs.Amounts.{toppled_from}
+use Rattle.sand_shared.proofs.GrainsAtSite.{toppled_from}
 use Rattle.sand_shared.proofs.RowSites.{site_inside}
 use Rattle.sand_shared.proofs.pass.Pass.toppled.Goals as goal
 

@@ -2,7 +2,7 @@ use Rattle.std.proofs.Common.{◌≡◌, ℕ, ◌+◌, ◌++◌, List, sym, ap, 
 use Rattle.std.specs.Prelude.{slice_index}
 use Rattle.sand_settle.specs.Settling.{SettledView}
 use Rattle.sand_shared.specs.Record.{RecordView, IsOneThreads}
-use Rattle.sand_shared.proofs.Recording.{are_added, small_entries, small_topplings, small_lost, joined_topplings, followed}
+use Rattle.sand_shared.proofs.RecordSums.{are_added, small_entries, small_topplings, small_lost, joined_topplings, followed}
 use Rattle.sand_shared.proofs.record.Record.append.Goals as goal
 
 pub add-requires-clause-small : goal.add-requires-clause-small

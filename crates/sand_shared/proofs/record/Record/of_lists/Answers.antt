@@ -3,7 +3,7 @@ use Rattle.sand_model.specs.Grid.{sites}
 use Rattle.sand_model.specs.Piles.{PileView}
 use Rattle.sand_settle.specs.Settling.{SettledView}
 use Rattle.sand_shared.specs.Record.{IsOneThreads}
-use Rattle.sand_shared.proofs.Recording.{few_topplings, grains_left, one_threads}
+use Rattle.sand_shared.proofs.RecordSums.{few_topplings, grains_left, one_threads}
 use Rattle.sand_shared.proofs.record.Record.of_lists.Goals as goal
 
 pub from_vec-pile-requires-clause-limit : goal.from_vec-pile-requires-clause-limit

@@ -1,5 +1,5 @@
 use Rattle.std.proofs.Common.{arith}
-use Rattle.sand_shared.proofs.Recording.{small_topplings}
+use Rattle.sand_shared.proofs.RecordSums.{small_topplings}
 use Rattle.sand_shared.proofs.record.Record.topplings.Goals as goal
 
 pub returns-clause-few : goal.returns-clause-few

@@ -5,9 +5,9 @@ use Rattle.sand_shared.specs.declared.view.Receipt.{Receipt}
 use Rattle.sand_shared.specs.declared.view.Terms.{Terms}
 use Rattle.sand_shared.specs.Passes.{PassView, EachOnce}
 use Rattle.sand_shared.specs.Record.{Tells}
-use Rattle.sand_shared.proofs.Recording.{LeadsTo}
-use Rattle.sand_shared.proofs.Ending.{gathered, numbers_inside}
-use Rattle.sand_shared.proofs.Completing.{completed_by, completed_seen, completed_small, completed_leads}
+use Rattle.sand_shared.proofs.RecordSums.{LeadsTo}
+use Rattle.sand_shared.proofs.LastPileIsSettled.{gathered, numbers_inside}
+use Rattle.sand_shared.proofs.CompletedOdometer.{completed_by, completed_seen, completed_small, completed_leads}
 use Rattle.sand_shared.proofs.shared_pile.SharedPile.complete.Goals as goal
 
 pub fill-requires-clause-inside : goal.fill-requires-clause-inside

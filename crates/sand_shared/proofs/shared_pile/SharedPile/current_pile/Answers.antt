@@ -9,7 +9,7 @@ use Rattle.sand_shared.specs.OpenPile.{grid_of, toppled_by}
 use Rattle.sand_shared.specs.Passes.{PassView, at_rest}
 use Rattle.sand_shared.specs.Rows.{count_of}
 use Rattle.sand_shared.specs.Sweeps.{laid}
-use Rattle.sand_shared.proofs.Completing.{left_underway}
+use Rattle.sand_shared.proofs.CompletedOdometer.{left_underway}
 use Rattle.sand_shared.proofs.shared_pile.SharedPile.current_pile.Goals as goal
 
 pub returns-clause-underway : goal.returns-clause-underway

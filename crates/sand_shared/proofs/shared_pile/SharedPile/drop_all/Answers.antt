@@ -4,8 +4,8 @@ use Rattle.sand_shared.specs.declared.view.View.{View}
 use Rattle.sand_shared.specs.declared.view.Receipt.{Receipt}
 use Rattle.sand_shared.specs.Events.{receipts_from, one_for_each, drew_all}
 use Rattle.sand_shared.specs.Passes.{EachOnce, AllBelow, at_rest}
-use Rattle.sand_shared.proofs.Told.{known_is}
-use Rattle.sand_shared.proofs.InARow.{drew_row_is, row_fresh, row_small, receipts_long, below_row, once_row}
+use Rattle.sand_shared.proofs.PassAfterEvent.{known_is}
+use Rattle.sand_shared.proofs.EventsInARow.{drew_row_is, row_fresh, row_small, receipts_long, below_row, once_row}
 use Rattle.sand_shared.proofs.shared_pile.SharedPile.drop_all.Goals as goal
 
 pub place_all-requires-clause-hand : goal.place_all-requires-clause-hand

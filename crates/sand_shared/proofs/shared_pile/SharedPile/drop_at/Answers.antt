@@ -6,10 +6,10 @@ use Rattle.sand_shared.specs.declared.view.Receipt.{Receipt}
 use Rattle.sand_shared.specs.declared.view.Grains.{Grains}
 use Rattle.sand_shared.specs.Events.{receipt, grains, are_for, drew}
 use Rattle.sand_shared.specs.Passes.{EachOnce, AllBelow, at_rest}
-use Rattle.sand_shared.proofs.Hands.{laid_on, last_laid, first_counts}
-use Rattle.sand_shared.proofs.Told.{drew_is, drawn_fresh, known_is}
-use Rattle.sand_shared.proofs.InARow.{laid_is}
-use Rattle.sand_shared.proofs.Receipts.{once_more, below_push}
+use Rattle.sand_shared.proofs.HandAfterPlacing.{laid_on, last_laid, first_counts}
+use Rattle.sand_shared.proofs.PassAfterEvent.{drew_is, drawn_fresh, known_is}
+use Rattle.sand_shared.proofs.EventsInARow.{laid_is}
+use Rattle.sand_shared.proofs.NumbersOnce.{once_more, below_push}
 use Rattle.sand_shared.proofs.shared_pile.SharedPile.drop_at.Goals as goal
 
 pub place-requires-clause-hand : goal.place-requires-clause-hand

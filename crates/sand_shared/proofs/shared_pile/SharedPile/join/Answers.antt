@@ -7,10 +7,18 @@ use Rattle.sand_shared.specs.declared.rows.Rows.{Rows}
 use Rattle.sand_shared.specs.Events.{follows, joined}
 use Rattle.sand_shared.specs.Passes.{PassView, at_rest, together, EachOnce, AllBelow}
 use Rattle.sand_shared.specs.Rows.{count_of, rows_together, AreRowsOf, AreApart}
-use Rattle.sand_shared.proofs.Gathering.{touching_rows, follows_is, joined_rest, together_rows, together_each}
-use Rattle.sand_shared.proofs.Receipts.{below_join, stands_once}
-use Rattle.sand_shared.proofs.Told.{known_is}
+use Rattle.sand_shared.proofs.RowsJoined.{touching_rows, follows_is, joined_rest, together_rows, together_each}
+use Rattle.sand_shared.proofs.NumbersOnce.{below_join, stands_once}
+use Rattle.sand_shared.proofs.PassAfterEvent.{known_is}
 use Rattle.sand_shared.proofs.shared_pile.SharedPile.join.Goals as goal
+use Rattle.sand_shared.proofs.shared_pile.SharedPile.join.Goals.{After-touch}
+
+-- what contracts see of both passes
+abbrev first : After-touch → PassView
+first c = let p = c.pass.inside in record { table = p.seat.table_id; grid = p.shape; left = p.left; seen = p.seen; receipts = p.receipts.items; rows = p.rows; counts = p.counts.items }
+
+abbrev second : After-touch → PassView
+second c = let o = c.other.inside in record { table = o.seat.table_id; grid = o.shape; left = o.left; seen = o.seen; receipts = o.receipts.items; rows = o.rows; counts = o.counts.items }
 
 pub invariant_of-pass-in-Err-lay_together : goal.invariant_of-pass-in-Err-lay_together
 invariant_of-pass-in-Err-lay_together c =
@@ -31,15 +39,20 @@ invariant_of-pass-in-Err-lay_together c =
       one_each = ap (λ (l : List ℕ). length l) counts ∙ inv.one_each;
     }
 
+-- both passes are of the pile's grid
+one_grid : (c : After-touch) → c.other.inside.shape ≡ c.pass.inside.shape
+one_grid c =
+    let grid = λ (v : PassView). v.grid in
+    ap grid c.other.view_is ∙ c.requires.other.grid ∙ sym c.requires.pass.grid ∙ sym (ap grid c.pass.view_is)
+
 pub join-requires-clause-rows : goal.join-requires-clause-rows
 join-requires-clause-rows c =
     let inv = c.pass.invariant in
     let inv' = c.other.invariant in
-    let p = c.pass.inside in
-    let o = c.other.inside in
-    let P : PassView = record { table = p.seat.table_id; grid = p.shape; left = p.left; seen = p.seen; receipts = p.receipts.items; rows = p.rows; counts = p.counts.items } in
-    let Q : PassView = record { table = o.seat.table_id; grid = o.shape; left = o.left; seen = o.seen; receipts = o.receipts.items; rows = o.rows; counts = o.counts.items } in
-    let same : o.shape ≡ p.shape = ap (λ (v : PassView). v.grid) c.other.view_is ∙ c.requires.other.grid ∙ sym c.requires.pass.grid ∙ sym (ap (λ (v : PassView). v.grid) c.pass.view_is) in
+    let here = (goal.at.join-requires-clause-rows c).After-touch in
+    let P = first here in
+    let Q = second here in
+    let same = one_grid here in
     let there = follows_is P Q inv.grid same inv.rows inv'.rows inv.one_each inv'.one_each in
     let back = follows_is Q P inv'.grid (sym same) inv'.rows inv.rows inv'.one_each inv.one_each in
     (λ i. follows (inv.me i).0 (inv'.me i).0 || follows (inv'.me i).0 (inv.me i).0) ∙ (λ i. there i || back i) ∙ sym c.touch.ensures ∙ c.if-not-touch.false
@@ -50,9 +63,10 @@ invariant_of-pass-2 c =
     let inv' = c.other.invariant in
     let p = c.pass.inside in
     let o = c.other.inside in
-    let P : PassView = record { table = p.seat.table_id; grid = p.shape; left = p.left; seen = p.seen; receipts = p.receipts.items; rows = p.rows; counts = p.counts.items } in
-    let Q : PassView = record { table = o.seat.table_id; grid = o.shape; left = o.left; seen = o.seen; receipts = o.receipts.items; rows = o.rows; counts = o.counts.items } in
-    let same : o.shape ≡ p.shape = ap (λ (v : PassView). v.grid) c.other.view_is ∙ c.requires.other.grid ∙ sym c.requires.pass.grid ∙ sym (ap (λ (v : PassView). v.grid) c.pass.view_is) in
+    let here = (goal.at.invariant_of-pass-2 c).After-touch in
+    let P = first here in
+    let Q = second here in
+    let same = one_grid here in
     let touch = sym c.touch.ensures ∙ c.if-not-touch.false in
     let xs = p.receipts.items in
     let ys = o.receipts.items in

@@ -1,7 +1,7 @@
 use Rattle.std.proofs.Common.{sym, subst}
 use Rattle.sand_shared.specs.Passes.{PassView}
 use Rattle.sand_shared.specs.Sweeps.{IsRestOf}
-use Rattle.sand_shared.proofs.Completing.{rest_of}
+use Rattle.sand_shared.proofs.CompletedOdometer.{rest_of}
 use Rattle.sand_shared.proofs.shared_pile.SharedPile.settle.Goals as goal
 
 pub complete-requires-clause-rest : goal.complete-requires-clause-rest

@@ -7,9 +7,13 @@ use Rattle.sand_shared.specs.declared.rows.Rows.{Rows}
 use Rattle.sand_shared.specs.Events.{parent, child}
 use Rattle.sand_shared.specs.Rows.{count_of}
 use Rattle.sand_shared.specs.Passes.{PassView, at_rest, EachOnce, AllBelow}
-use Rattle.sand_shared.proofs.Cutting.{AreSitesOf, upper_sites, lower_sites, parent_rest, child_rest}
-use Rattle.sand_shared.proofs.Told.{known_is}
+use Rattle.sand_shared.proofs.RowsSplit.{AreSitesOf, upper_sites, lower_sites, parent_rest, child_rest}
+use Rattle.sand_shared.proofs.PassAfterEvent.{known_is}
 use Rattle.sand_shared.proofs.shared_pile.SharedPile.split_rows.Goals as goal
+
+-- what contracts see of the pass
+abbrev was : goal.After-new → PassView
+was c = let p = c.pass.inside in record { table = p.seat.table_id; grid = p.shape; left = p.left; seen = p.seen; receipts = p.receipts.items; rows = p.rows; counts = p.counts.items }
 
 -- the sites that are kept, as the code counts them
 kept_is : (c : goal.After-new) → c.len.result - c.from.result * c.width.result ≡ length c.pass.inside.counts.items - c.args.k * c.pass.inside.shape.width
@@ -39,11 +43,10 @@ pub invariant_of-pass : goal.invariant_of-pass
 invariant_of-pass c =
     let inv = c.pass.invariant in
     let p = c.pass.inside in
-    let was : PassView = record { table = p.seat.table_id; grid = p.shape; left = p.left; seen = p.seen; receipts = p.receipts.items; rows = p.rows; counts = p.counts.items } in
     let kept = c.len.result - c.from.result * c.width.result in
     let counts : take kept p.counts.items ≡ c.truncate.new.self.items = sym c.truncate.ensures.items in
     let here = upper c in
-    let rest = parent_rest was 0 p.seat.me.0.spot p.seat.me.0.least kept c.cut.result.0 c.truncate.new.self.items (let e = kept_is c in omega arith) p.left (omega arith) counts here in
+    let rest = parent_rest (was c) 0 p.seat.me.0.spot p.seat.me.0.least kept c.cut.result.0 c.truncate.new.self.items (let e = kept_is c in omega arith) p.left (omega arith) counts here in
     let is = c.split-seat.ensures.parent ∙ ap (λ (m : Me ℕ View). parent m.0 0 (length m.0.counts - kept)) inv.me ∙ rest in
     record {
       me = λ q. (known_is c.split-seat.new.seat.me.0 _ is q, c.split-seat.ensures.seat.bare q);
@@ -59,12 +62,11 @@ pub invariant_of-result : goal.invariant_of-result
 invariant_of-result c =
     let inv = c.pass.invariant in
     let p = c.pass.inside in
-    let was : PassView = record { table = p.seat.table_id; grid = p.shape; left = p.left; seen = p.seen; receipts = p.receipts.items; rows = p.rows; counts = p.counts.items } in
     let kept = c.len.result - c.from.result * c.width.result in
     let counts : drop kept p.counts.items ≡ c.in_ok-counts.counts.items = search rules in
     let none = c.new.ensures.items in
     let here = lower c in
-    let rest = child_rest was 0 p.seat.me.0.spot p.seat.me.0.least kept c.cut.result.1 c.in_ok-counts.counts.items (let e = kept_is c in omega arith) counts here in
+    let rest = child_rest (was c) 0 p.seat.me.0.spot p.seat.me.0.least kept c.cut.result.1 c.in_ok-counts.counts.items (let e = kept_is c in omega arith) counts here in
     let is = c.split-seat.ensures.child ∙ ap (λ (m : Me ℕ View). child m.0 0 (length m.0.counts - kept)) inv.me ∙ rest
     ∙ ap (λ (l : List Receipt). at_rest record { table = p.seat.table_id; grid = p.shape; left = 0; seen = p.seen; receipts = l; rows = c.cut.result.1; counts = c.in_ok-counts.counts.items }) (sym none) in
     record {

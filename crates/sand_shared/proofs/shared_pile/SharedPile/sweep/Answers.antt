@@ -8,8 +8,8 @@ use Rattle.sand_shared.specs.Passes.{PassView, SharedView, at_rest}
 use Rattle.sand_shared.specs.Rows.{count_of}
 use Rattle.sand_shared.specs.Sweeps.{Swept}
 use Rattle.sand_shared.proofs.RowSites.{rows_inside}
-use Rattle.sand_shared.proofs.Sweepings.{swept_as}
-use Rattle.sand_shared.proofs.Wholes.{whole_has_all}
+use Rattle.sand_shared.proofs.SweptSiteBySite.{swept_as}
+use Rattle.sand_shared.proofs.WholeHasAll.{whole_has_all}
 use Rattle.sand_shared.proofs.shared_pile.SharedPile.sweep.Goals as goal
 
 pub sweep_rows-requires-clause-rows : goal.sweep_rows-requires-clause-rows

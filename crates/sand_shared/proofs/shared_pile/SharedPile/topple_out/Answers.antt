@@ -3,8 +3,8 @@ use Rattle.sand_shared.specs.declared.view.Receipt.{Receipt}
 use Rattle.sand_shared.specs.declared.view.Terms.{Terms}
 use Rattle.sand_shared.specs.Passes.{PassView, EachOnce}
 use Rattle.sand_shared.specs.Record.{Tells}
-use Rattle.sand_shared.proofs.Recording.{LeadsTo}
-use Rattle.sand_shared.proofs.Ending.{gathered, numbers_inside, closed_by, closed_seen, closed_leads}
+use Rattle.sand_shared.proofs.RecordSums.{LeadsTo}
+use Rattle.sand_shared.proofs.LastPileIsSettled.{gathered, numbers_inside, closed_by, closed_seen, closed_leads}
 use Rattle.sand_shared.proofs.shared_pile.SharedPile.topple_out.Goals as goal
 
 pub fill-requires-clause-inside : goal.fill-requires-clause-inside

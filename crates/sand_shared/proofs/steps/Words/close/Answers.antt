@@ -5,7 +5,7 @@ use Rattle.sand_shared.specs.declared.view.Terms.{Terms}
 use Rattle.sand_shared.specs.OpenPile.{grid_of}
 use Rattle.sand_shared.specs.Passes.{SharedView}
 use Rattle.sand_shared.specs.Running.{IsRunning}
-use Rattle.sand_shared.proofs.Moments.{last_is}
+use Rattle.sand_shared.proofs.StepsAreEvents.{last_is}
 use Rattle.sand_shared.proofs.steps.Words.close.Goals as goal
 
 pub returns-clause-last : goal.returns-clause-last

@@ -1,30 +1,16 @@
-use Rattle.std.proofs.Common.{◌+◌, arith, sym, ap, ◌∙◌}
-use mathlib.Core.Option.{none}
-use Rattle.atomic_table.specs.Table.{step}
-use Rattle.sand_model.specs.Grid.{sites}
-use Rattle.sand_shared.specs.OpenPile.{grid_of}
+use Rattle.std.proofs.Common.{◌∙◌, arith}
 use Rattle.sand_shared.specs.Events.{count}
-use Rattle.sand_shared.proofs.Moments.{counts, at_picked, happened_picked}
+use Rattle.sand_shared.proofs.StepsAreEvents.{counts, happened_picked}
+use Rattle.sand_shared.proofs.StepsOnWords.{asks_event}
 use Rattle.sand_shared.proofs.steps.Words.count.Goals as goal
 
 pub load-requires : goal.load-requires
 load-requires g c =
-    let words = c.self.invariant in
-    let is = c.self.view_is in
-    let t = c.args.self.now.terms in
-    let key = words.key_is ∙ ap (λ w. w.terms) is in
-    let wide = words.wide ∙ ap (λ w. sites (grid_of w.terms) + 2) is in
-    let slots = c.self.inside.table.shared.table_id.slots in
-    let m = c.args.seat.now.me in
-    let st = step slots 1 0 0 none in
-    let picked = c.requires.picked in (
-      c.requires.seat.table ∙ sym (ap (λ w. w.table) is),
-      omega arith,
-      at_picked _ t _ (count c.args.seat.now.id) _ slots _ m 1 (λ n. n) st key picked.0 picked.1 (counts t _ slots m st),
-    )
+    asks_event c.self.invariant c.self.view_is c.requires.seat (count _) 1 (λ n. n) (omega arith) c.requires.picked
+    (counts _ _ _ _)
 
 pub returns-clause-seat : goal.returns-clause-seat
 returns-clause-seat g c = record { table = c.load.ensures.0; id = c.load.ensures.1; bare = c.load.ensures.2.1 ∙ c.requires.seat.bare }
 
 pub returns-clause-happened : goal.returns-clause-happened
-returns-clause-happened g c = let picked = c.requires.picked in happened_picked _ _ _ _ _ _ _ picked.0 picked.1 c.load.ensures.2.0
+returns-clause-happened g c = happened_picked c.requires.picked c.load.ensures.2.0

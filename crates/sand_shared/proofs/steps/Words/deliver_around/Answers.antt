@@ -2,7 +2,7 @@ use Rattle.std.proofs.Common.{refl}
 use Rattle.sand_model.specs.Grid.{sites}
 use Rattle.sand_model.proofs.Neighbours.{place_inside}
 use Rattle.sand_shared.specs.OpenPile.{grid_of}
-use Rattle.sand_shared.proofs.Sending.{north_first, west_first, east_first, south_first, all_sent}
+use Rattle.sand_shared.proofs.SentToNeighbours.{north_first, west_first, east_first, south_first, all_sent}
 use Rattle.sand_shared.proofs.steps.Words.deliver_around.Goals as goal
 
 pub deliver_to-requires-clause-hand : goal.deliver_to-requires-clause-hand

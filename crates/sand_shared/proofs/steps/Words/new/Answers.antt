@@ -2,7 +2,7 @@ use Rattle.std.proofs.Common.{rules, ◌≡◌, ℕ, List, [], ◌∷◌, sym, s
 use Rattle.atomic_table.specs.Table.{opening}
 use Rattle.sand_shared.specs.Events.{first_pass}
 use Rattle.sand_shared.specs.Running.{IsRunning}
-use Rattle.sand_shared.proofs.Moments.{opens}
+use Rattle.sand_shared.proofs.StepsAreEvents.{opens}
 use Rattle.sand_shared.proofs.steps.Words.new.Goals as goal
 
 pub of_words-requires : goal.of_words-requires

@@ -1,23 +1,23 @@
-use Rattle.std.proofs.Common.{◌≡◌, ℕ, ◌+◌, List, [], drop, get_or, sym, refl, ap, ◌∙◌, subst, arith, Vec, Global}
+use Rattle.std.proofs.Common.{ℕ, ◌+◌, List, [], drop, get_or, sym, refl, ap, ◌∙◌, subst, arith, Vec, Global}
 use Rattle.atomic_table.specs.declared.shared.Seat.{Seat}
 use Rattle.std.proofs.lemmas.List.{drop_all}
 use Rattle.sand_model.specs.Grid.{sites}
 use Rattle.sand_shared.specs.declared.view.View.{View}
 use Rattle.sand_shared.specs.declared.view.Grains.{Grains}
 use Rattle.sand_shared.specs.OpenPile.{grid_of}
-use Rattle.sand_shared.proofs.Counting.{Waits, read_count, waits_all, waits_past, waits_laid, count_is, hand_empty, counts_zero}
-use Rattle.sand_shared.proofs.Hands.{laid_on}
-use Rattle.sand_shared.proofs.InARow.{from_here, laid_is}
+use Rattle.sand_shared.specs.Seats.{StaysSeated}
+use Rattle.sand_shared.proofs.DropsBySite.{Waits, read_count, waits_all, waits_past, waits_laid, count_is, hand_empty, counts_zero}
+use Rattle.sand_shared.proofs.HandAfterPlacing.{laid_on}
+use Rattle.sand_shared.proofs.EventsInARow.{from_here, laid_is}
+use Rattle.sand_shared.proofs.StepsOnWords.{stays_on}
 use Rattle.sand_shared.proofs.steps.Words.place_all.Goals as goal
-use Rattle.sand_shared.proofs.steps.Words.place_all.Goals.{then-amount-ne0, else-amount-ne0}
+use Rattle.sand_shared.proofs.steps.Words.place_all.Goals.{After-drops, then-amount-ne0, else-amount-ne0}
 
 pub drops-init : goal.drops-init
 drops-init c =
     let n = sites (grid_of c.args.self.now.terms) in
     record {
-      table = refl;
-      id = refl;
-      bare = c.requires.seat.bare;
+      seat = record { table = refl; id = refl; bare = c.requires.seat.bare };
       view = refl;
       waits = subst (λ (l : List Grains). Waits n c.args.counts.now.items l c.args.drops.now) (sym c.requires.hand) (waits_all n c.args.counts.now.items c.args.drops.now c.requires.long c.requires.inside c.requires.counted);
     }
@@ -52,9 +52,7 @@ drops-preserved c =
           let hand_is = ap (λ (v : View). v.hand) laid ∙ ap (λ m. laid_on x m hand) read in
           let counts_is = ap (λ (v : Vec ℕ Global). v.items) w.counts-is in
           record {
-            table = ap (λ (s : Seat ℕ View). s.table_id) w.seat-is ∙ (w.place.ensures.seat.table ∙ inv.table);
-            id = ap (λ (s : Seat ℕ View). s.id) w.seat-is ∙ (w.place.ensures.seat.id ∙ inv.id);
-            bare = ap (λ (s : Seat ℕ View). s.me.1) w.seat-is ∙ w.place.ensures.seat.bare;
+            seat = subst (StaysSeated c.args.seat.now) (sym w.seat-is) (stays_on inv.seat w.place.ensures.seat);
             view = laid ∙ (λ q. record (inv.view q) { hand = sym (ap (λ (v : View). v.hand) laid) q });
             waits = subst (λ (z : List ℕ × List Grains). Waits n z.0 z.1 (drop (k + 1) ds)) (λ q. (sym counts_is q, sym hand_is q)) (waits_laid n x (drop (k + 1) ds) cs hand inside coming);
           })
@@ -63,29 +61,23 @@ drops-preserved c =
           let same = ap (λ (s : Seat ℕ View). s.me.0) w.seat-is in
           let counts_is = ap (λ (v : Vec ℕ Global). v.items) w.counts-is in
           record {
-            table = ap (λ (s : Seat ℕ View). s.table_id) w.seat-is ∙ inv.table;
-            id = ap (λ (s : Seat ℕ View). s.id) w.seat-is ∙ inv.id;
-            bare = ap (λ (s : Seat ℕ View). s.me.1) w.seat-is ∙ inv.bare;
+            seat = subst (StaysSeated c.args.seat.now) (sym w.seat-is) inv.seat;
             view = same ∙ (λ q. record (inv.view q) { hand = (sym same q).hand });
             waits = subst (λ (z : List ℕ × List Grains). Waits n z.0 z.1 (drop (k + 1) ds)) (λ q. (sym counts_is q, (sym same q).hand)) (waits_past n x (drop (k + 1) ds) cs hand (omega arith) coming);
           })
     ]
 
+-- nothing is still to come
+none_waits : (c : After-drops) → Waits (sites (grid_of c.args.self.now.terms)) c.drops.counts.items c.drops.seat.me.0.hand []
+none_waits c =
+    let done = c.drops-test.false in
+    let none = drop_all c.drops.site-index c.args.drops.now (omega arith) in
+    subst (Waits (sites (grid_of c.args.self.now.terms)) c.drops.counts.items c.drops.seat.me.0.hand) none c.drops.invariant.waits
+
 pub returns-clause-view : goal.returns-clause-view
 returns-clause-view c =
-    let ds = c.args.drops.now in
-    let done = c.drops-test.false in
-    let n = sites (grid_of c.args.self.now.terms) in
-    let hand = c.drops.seat.me.0.hand in
-    let none : drop c.drops.site-index ds ≡ [] = drop_all c.drops.site-index ds (omega arith) in
-    let empty = hand_empty n c.drops.counts.items hand (subst (Waits n c.drops.counts.items hand) none c.drops.invariant.waits) in
+    let empty = hand_empty (sites (grid_of c.args.self.now.terms)) c.drops.counts.items c.drops.seat.me.0.hand (none_waits c) in
     c.drops.invariant.view ∙ (λ q. record c.args.seat.now.me.0 { hand = empty q })
 
 pub returns-clause-none : goal.returns-clause-none
-returns-clause-none c =
-    let ds = c.args.drops.now in
-    let done = c.drops-test.false in
-    let n = sites (grid_of c.args.self.now.terms) in
-    let hand = c.drops.seat.me.0.hand in
-    let none : drop c.drops.site-index ds ≡ [] = drop_all c.drops.site-index ds (omega arith) in
-    counts_zero n c.drops.counts.items hand (subst (Waits n c.drops.counts.items hand) none c.drops.invariant.waits)
+returns-clause-none c = counts_zero (sites (grid_of c.args.self.now.terms)) c.drops.counts.items c.drops.seat.me.0.hand (none_waits c)

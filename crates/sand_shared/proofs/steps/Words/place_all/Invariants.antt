@@ -1,8 +1,9 @@
-use Rattle.std.proofs.Common.{◌≡◌, [], drop}
+use Rattle.std.proofs.Common.{◌≡◌, drop}
 use Rattle.sand_model.specs.Grid.{sites}
 use Rattle.sand_shared.specs.OpenPile.{grid_of}
 use Rattle.sand_shared.specs.Events.{all_places}
-use Rattle.sand_shared.proofs.Counting.{Waits}
+use Rattle.sand_shared.specs.Seats.{StaysSeated}
+use Rattle.sand_shared.proofs.DropsBySite.{Waits}
 use Rattle.sand_shared.proofs.steps.Words.place_all.Given as goal
 
 abbrev pub ghosts-place : goal.ghosts-place
@@ -10,9 +11,7 @@ ghosts-place a = record { terms = a.self.now.terms; pass = a.seat.now.id; events
 
 abbrev pub invariant-drops : goal.invariant-drops
 invariant-drops l = record {
-  table : l.seat.table_id ≡ l.initial.seat.table_id;
-  id : l.seat.id ≡ l.initial.seat.id;
-  bare : l.seat.me.1 ≡ [];
+  seat : StaysSeated l.initial.seat l.seat;
   view : l.seat.me.0 ≡ record l.initial.seat.me.0 { hand = l.seat.me.0.hand };
   waits : Waits (sites (grid_of l.self.terms)) l.counts.items l.seat.me.0.hand (drop l.site-index l.drops);
 }

@@ -11,8 +11,8 @@ use Rattle.sand_shared.specs.OpenPile.{grid_of, toppled_by}
 use Rattle.sand_shared.specs.Events.{looked}
 use Rattle.sand_shared.specs.Running.{Stands}
 use Rattle.sand_shared.specs.Sweeps.{HasAll, laid}
-use Rattle.sand_shared.proofs.Told.{looked_is}
-use Rattle.sand_shared.proofs.Completing.{looked_exactly, left_few, is_underway}
+use Rattle.sand_shared.proofs.PassAfterEvent.{looked_is}
+use Rattle.sand_shared.proofs.CompletedOdometer.{looked_exactly, left_few, is_underway}
 use Rattle.sand_shared.proofs.steps.Words.read.Goals as goal
 
 pub sites-preserved : goal.sites-preserved

@@ -6,9 +6,9 @@ use Rattle.sand_shared.specs.declared.view.Terms.{Terms}
 use Rattle.sand_shared.specs.OpenPile.{grid_of}
 use Rattle.sand_shared.specs.Events.{looked, unloaded, raised}
 use Rattle.sand_shared.specs.Sweeps.{HasAll, IsSparing}
-use Rattle.sand_shared.proofs.Amounts.{holds-unloaded}
-use Rattle.sand_shared.proofs.Told.{looked_is, unloaded_is}
-use Rattle.sand_shared.proofs.Knowing.{stands_few, stands_sparing, looked_at_most, looked_at_least, stands_unloaded}
+use Rattle.sand_shared.proofs.GrainsAtSite.{holds-unloaded}
+use Rattle.sand_shared.proofs.PassAfterEvent.{looked_is, unloaded_is}
+use Rattle.sand_shared.proofs.PassKnowsPile.{stands_few, stands_sparing, looked_at_most, looked_at_least, stands_unloaded}
 use Rattle.sand_shared.proofs.steps.Words.relieve.Goals as goal
 
 -- what the pass has once it has unloaded

@@ -1,29 +1,24 @@
-use Rattle.std.proofs.Common.{ℕ, ◌+◌, ◌-◌, length, arith, sym, ap, ◌∙◌, subst}
+use Rattle.std.proofs.Common.{ℕ, ◌-◌, length, arith, sym, ap, ◌∙◌, subst}
 use Rattle.atomic_table.specs.Table.{Me, Splits}
-use Rattle.sand_model.specs.Grid.{sites}
 use Rattle.sand_shared.specs.declared.view.View.{View}
 use Rattle.sand_shared.specs.declared.view.Terms.{Terms}
-use Rattle.sand_shared.specs.OpenPile.{grid_of}
 use Rattle.sand_shared.specs.Events.{Event, parent, child, quota_given, sites_given}
 use Rattle.sand_shared.specs.Running.{IsRunning}
-use Rattle.sand_shared.proofs.Moments.{splits}
+use Rattle.sand_shared.proofs.StepsAreEvents.{splits}
+use Rattle.sand_shared.proofs.StepsOnWords.{key_now, has_word, at_table}
 use Rattle.sand_shared.proofs.steps.Words.split.Goals as goal
 
 pub split_seat-requires : goal.split_seat-requires
 split_seat-requires g c =
     let words = c.self.invariant in
     let is = c.self.view_is in
-    let t = c.args.self.now.terms in
-    let key = words.key_is ∙ ap (λ w. w.terms) is in
-    let wide = words.wide ∙ ap (λ w. sites (grid_of w.terms) + 2) is in
     let v = c.args.seat.now.me.0 in
     let a = c.args.seat.now.id in
-    let q = c.args.quota in
-    let n = length v.counts - c.args.kept in (
-      c.requires.seat.table ∙ sym (ap (λ w. w.table) is),
-      omega arith,
+    let n = length v.counts - c.args._kept in (
+      at_table words is c.requires.seat,
+      has_word words is 0 (omega arith),
       subst (λ (z : Terms × Event). Splits (IsRunning z.0) a v (parent v (quota_given z.1) (sites_given z.1)) (child v (quota_given z.1) (sites_given z.1)))
-          (λ i. (sym key i, sym c.requires.picked i)) (splits t a q n v c.requires.quota (omega arith) c.requires.hand),
+          (λ i. (sym (key_now words is) i, sym c.requires.picked i)) (splits _ a c.args._quota n v c.requires.quota (omega arith) c.requires.hand),
     )
 
 pub returns-clause-seat : goal.returns-clause-seat

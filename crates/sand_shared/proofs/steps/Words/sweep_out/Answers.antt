@@ -1,5 +1,5 @@
 use Rattle.std.proofs.Common.{◌∙◌}
-use Rattle.sand_shared.proofs.Sweepings.{calm_at_rest}
+use Rattle.sand_shared.proofs.SweptSiteBySite.{calm_at_rest}
 use Rattle.sand_shared.proofs.steps.Words.sweep_out.Goals as goal
 
 pub returns-clause-calm : goal.returns-clause-calm

@@ -1,13 +1,12 @@
-use Rattle.std.proofs.Common.{◌≡◌, []}
+use Rattle.std.proofs.Common.{◌≡◌}
 use Rattle.sand_shared.specs.Events.{looked}
-use Rattle.sand_shared.proofs.Sweepings.{Sweeps}
+use Rattle.sand_shared.specs.Seats.{StaysSeated}
+use Rattle.sand_shared.proofs.SweptSiteBySite.{Sweeps}
 use Rattle.sand_shared.proofs.steps.Words.sweep_rows.Given as goal
 
 abbrev pub invariant-sites : goal.invariant-sites
 invariant-sites l = record {
-  table : l.seat.table_id ≡ l.initial.seat.table_id;
-  id : l.seat.id ≡ l.initial.seat.id;
-  bare : l.seat.me.1 ≡ [];
+  seat : StaysSeated l.initial.seat l.seat;
   view : l.seat.me.0 ≡ record (looked l.initial.seat.me.0 l.seat.me.0.spot l.seat.me.0.least) { counts = l.counts.items };
   swept : Sweeps l.self.terms l.initial.seat.me.0 l.counts.items l.i l.topplings;
 }

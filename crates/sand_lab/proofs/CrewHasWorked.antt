@@ -1,0 +1,171 @@
+-- What each of a crew may do, and what it has done then.
+use Rattle.std.proofs.Common.{◌≡◌, ℕ, zero, suc, ◌+◌, ◌-◌, ◌*◌, ◌/◌, ◌<◌, ◌≤◌, List, [], ◌∷◌, cond, leb, All, length, take, drop, sum, sum_by, get_or, refl, sym, ap, ◌∙◌, subst, arith}
+use Rattle.std.specs.Prelude.{slice_index}
+use Rattle.sand_shared.specs.declared.rows.Rows.{Rows}
+use Rattle.sand_model.proofs.Neighbours.{cond_same}
+use Rattle.sand_model.specs.Piles.{height_of}
+use Rattle.std.proofs.lemmas.List.{get_or-take, get_or-drop, length-replicate, length-take}
+use Rattle.std.proofs.lemmas.List.Sums.{sum_by-cons}
+use Rattle.sand_shared.specs.Events.{zeros}
+use Rattle.sand_shared.specs.OpenPile.{grid_of, dropped, toppled_by}
+use Rattle.sand_shared.specs.Passes.{SharedView, PassView, IsPassOf, at_rest}
+use Rattle.sand_shared.specs.Rows.{count_of}
+use Rattle.sand_shared.specs.Sweeps.{LeavesAtMost}
+use Rattle.std.specs.List.{AllZip}
+use Rattle.std.proofs.lemmas.Slice.Zip.{AllZip-long}
+use Rattle.sand_lab.specs.declared.crew.Crew.{Crew}
+use Rattle.sand_lab.specs.declared.droppers.Dropper.{Dropper}
+use Rattle.sand_lab.specs.declared.observers.Observer.{Observer}
+use Rattle.sand_lab.specs.declared.plan.Wish.{Wish}
+use Rattle.sand_lab.specs.declared.workers.Worker.{Worker}
+use Rattle.sand_lab.specs.Crews.{EachAt, band, due, rowless, banded, IsDropper, IsWorker, IsObserver, IsCrew, HasEmptied, HasTended, HasRead, HasWorked}
+use Rattle.sand_lab.specs.Jobs.{CanDrop, CanSweep, CanWatch, HasDropped, HasSwept, HasWatched, Climbs}
+use Rattle.sand_lab.proofs.EachAtItsPlace.{each_zip}
+use Rattle.sand_lab.specs.Streams.{Reading, stream_sites}
+
+-- a pass that has the table and the grid of a pile is of that pile
+of_pile : (s : SharedView) (p q : PassView) → p ≡ q → q.table ≡ s.table → q.grid ≡ grid_of s.terms → IsPassOf s p
+of_pile s p q e table grid = record { table = ap (λ (x : PassView). x.table) e ∙ table; grid = ap (λ (x : PassView). x.grid) e ∙ grid }
+
+pub can_drop : (s : SharedView) (w : Wish) (t k : ℕ) (d : Dropper) → IsDropper s w t k d → CanDrop s w.drops d
+can_drop s w t k d is = record {
+  of_pile = of_pile s d.pass (rowless s w.drops) is.pass refl refl;
+  left = ap (λ (p : PassView). p.left) is.pass;
+  no_receipts = ap (λ (p : PassView). p.receipts) is.pass;
+  unread = ap (λ (r : Reading). r.read) is.sites;
+  grid = ap (λ (r : Reading). r.sites) is.sites;
+  none_read = is.none_read;
+  room = is.room;
+  counts = is.counts;
+}
+
+sum_zeros : (n : ℕ) → sum (zeros n) ≡ 0
+sum_zeros zero = refl
+sum_zeros (suc n) = sum_zeros n
+
+pub can_sweep : (s : SharedView) (n j : ℕ) (x : Worker) → IsWorker s n j x → CanSweep s x
+can_sweep s n j x is = record {
+  of_pile = of_pile s x.pass (banded s (band (grid_of s.terms).height n j)) is.pass refl refl;
+  swept = is.swept ∙ sym (ap (λ (p : PassView). sum p.counts) is.pass ∙ sum_zeros (count_of (band (grid_of s.terms).height n j) * (grid_of s.terms).width));
+}
+
+pub can_watch : (s : SharedView) (i : ℕ) (o : Observer) → IsObserver s i o → CanWatch s 16 o
+can_watch s i o is = record { of_pile = of_pile s o.pass (rowless s 0) is.pass refl refl; no_tallies = is.tallies; room = is.room }
+
+pub can_tend : (s : SharedView) (w : Wish) (j : ℕ) (x : Worker) → HasTended s w j x → CanSweep s x
+can_tend s w j x is = record {
+  of_pile = of_pile s x.pass (record (banded s (band (grid_of s.terms).height w.workers j)) { counts = x.pass.counts }) is.pass refl refl;
+  swept = is.swept;
+}
+
+pub emptied : (s : SharedView) (w : Wish) (t k : ℕ) (d e : Dropper) → IsDropper s w t k d → HasDropped s w.drops d e → HasEmptied s w t k e
+emptied s w t k d e is has = record {
+  pass = has.kept ∙ ap (λ (p : PassView). record p { left = 0; seen = e.pass.seen; receipts = e.pass.receipts }) is.pass;
+  sites = has.sites ∙ ap (λ (r : Reading). stream_sites r.sites r.seed r.stream w.drops) is.sites;
+  ascends = has.ascends;
+  within = has.within;
+}
+
+-- lists, of which one has at each place at least a quarter of what the other has
+quarters : (hs cs : List ℕ) → length hs ≤ length cs → ((j : ℕ) → j < length hs → get_or hs j 0 / 4 ≤ get_or cs j 0) → sum_by (λ h. h / 4) hs ≤ sum cs
+quarters [] cs le each = omega arith
+quarters (h ∷ hs) [] le each = absurd (omega (arith, le))
+quarters (h ∷ hs) (c ∷ cs) le each =
+    let rest = quarters hs cs (omega (arith, le)) (λ j lt. each (suc j) (omega (arith, lt))) in
+    let first = each 0 (omega arith) in
+    omega (arith, rest, first, sum_by-cons (λ n. n / 4) h hs, sum_by-cons (λ n. n) c cs)
+
+-- where nothing has toppled, each site has less than four grains for each time that it topples
+few_left : (s : SharedView) (v : PassView) (i n : ℕ) → LeavesAtMost s.terms (at_rest v) i (4 * n + 3) → toppled_by (at_rest v) i ≡ 0 → height_of s.terms.start i / 4 ≤ n
+few_left s v i n most none =
+    let low : height_of s.terms.start i ≤ 4 * n + 3 = omega (arith, most, none) in
+    omega (arith, low)
+
+zeros_at : (n j : ℕ) → get_or (zeros n) j 0 ≡ 0
+zeros_at zero j = refl
+zeros_at (suc n) zero = refl
+zeros_at (suc n) (suc j) = zeros_at n j
+
+none_toppled : (v : PassView) (n i : ℕ) → v.counts ≡ zeros n → toppled_by (at_rest v) i ≡ 0
+none_toppled v n i e =
+    let zero_there : slice_index v.counts (i - v.rows.first * v.grid.width) ≡ 0 = ap (λ (cs : List ℕ). get_or cs (i - v.rows.first * v.grid.width) 0) e ∙ zeros_at n _ in
+    ap (λ (m : ℕ). cond (leb (v.rows.first * v.grid.width) i) m 0) zero_there ∙ cond_same _ 0
+
+-- a first perform of at least one sweep does what is due
+due_swept : (s : SharedView) (rows : Rows) (turns : ℕ) (w x : Worker) → w.pass ≡ banded s rows → 0 < turns → HasSwept s turns w x → due s.terms.start rows ≤ x.swept
+due_swept s rows turns w x is some has =
+    let width = (grid_of s.terms).width in
+    let many = count_of rows * width in
+    let first = rows.first * width in
+    let hs = take many (drop first s.terms.start.heights) in
+    let at_most : length hs ≤ many = omega (arith, length-take many (drop first s.terms.start.heights)) in
+    let long : length w.pass.counts ≡ many = ap (λ (p : PassView). length p.counts) is ∙ length-replicate many 0 in
+    let base : (at_rest w.pass).base ≡ first = ap (λ (p : PassView). p.rows.first * p.grid.width) is in
+    let short : length hs ≤ length x.pass.counts = omega (arith, at_most, has.same_rows, long) in
+    let each : (j : ℕ) → j < length hs → get_or hs j 0 / 4 ≤ get_or x.pass.counts j 0 = λ j lt.
+    let inside : j < many = omega (arith, lt, at_most) in
+    let there : get_or hs j 0 ≡ height_of s.terms.start (first + j) = get_or-take many (drop first s.terms.start.heights) j 0 inside ∙ get_or-drop first s.terms.start.heights j 0 in
+    let none : toppled_by (at_rest w.pass) (first + j) ≡ 0 = none_toppled w.pass many (first + j) (ap (λ (p : PassView). p.counts) is) in
+    let most = subst (λ (b : ℕ). LeavesAtMost s.terms (at_rest w.pass) (b + j) (4 * (slice_index x.pass.counts j - slice_index w.pass.counts j) + 3)) base (has.enough some j (omega (arith, inside, long))) in
+    let enough = few_left s w.pass (first + j) (slice_index x.pass.counts j - slice_index w.pass.counts j) most none in
+    omega (arith, enough, ap (λ (h : ℕ). h / 4) there) in
+    let all = quarters hs x.pass.counts short each in
+    omega (arith, all, has.can.swept)
+
+pub tended : (s : SharedView) (w : Wish) (j : ℕ) (x y : Worker) → IsWorker s w.workers j x → HasSwept s w.sweeps x y → HasTended s w j y
+tended s w j x y is has = record {
+  pass = has.kept ∙ ap (λ (p : PassView). record p { counts = y.pass.counts }) is.pass;
+  swept = has.can.swept;
+  enough = λ some. due_swept s (band (grid_of s.terms).height w.workers j) w.sweeps x y is.pass some has;
+}
+
+sums_up : (xs ys : List ℕ) → length ys ≡ length xs → ((j : ℕ) → get_or xs j 0 ≤ get_or ys j 0) → sum xs ≤ sum ys
+sums_up [] ys long up = omega arith
+sums_up (x ∷ xs) [] long up = absurd (omega (arith, long))
+sums_up (x ∷ xs) (y ∷ ys) long up =
+    let first = up 0 in
+    let rest = sums_up xs ys (omega (arith, long)) (λ j. up (suc j)) in
+    omega (arith, first, rest, sum_by-cons (λ n. n) x xs, sum_by-cons (λ n. n) y ys)
+
+-- a further round undoes nothing
+pub tended_more : (s : SharedView) (w : Wish) (j turns : ℕ) (x y : Worker) → HasTended s w j x → HasSwept s turns x y → HasTended s w j y
+tended_more s w j turns x y is has = record {
+  pass = has.kept ∙ ap (λ (p : PassView). record p { counts = y.pass.counts }) is.pass;
+  swept = has.can.swept;
+  enough = λ some. let more = sums_up x.pass.counts y.pass.counts has.same_rows has.never_fall in omega (arith, is.enough some, is.swept, has.can.swept, more);
+}
+
+climbs_to : (from top most : ℕ) (ns : List ℕ) → Climbs from ns top → from ≤ most → All (λ n. n ≤ most) ns → Climbs from ns most
+climbs_to from top most [] h le all = le
+climbs_to from top most (n ∷ ns) h le all = (h.0, climbs_to n top most ns h.1 (all 0 0 (omega arith)) (λ k d lt. all (suc k) d (omega (arith, lt))))
+
+pub has_read : (s : SharedView) (i : ℕ) (o p : Observer) → IsObserver s i o → HasWatched s 16 o p → HasRead s i p
+has_read s i o p is has = record {
+  pass = has.kept ∙ ap (λ (q : PassView). record q { seen = p.pass.seen }) is.pass;
+  sixteen = has.as_many;
+  climbs = climbs_to 0 p.pass.seen s.terms.quota p.tallies.items has.climbs (omega arith) has.within;
+}
+
+-- what a crew has done that had not begun
+pub worked : (s : SharedView) (w : Wish) (t : ℕ) (c d : Crew) → IsCrew s w t c → AllZip (HasDropped s w.drops) c.droppers.items d.droppers.items
+    → AllZip (HasSwept s w.sweeps) c.workers.items d.workers.items → AllZip (HasWatched s 16) c.observers.items d.observers.items → HasWorked s w t d
+worked s w t c d is dropped swept watched = record {
+  droppers = each_zip (IsDropper s w t) (HasEmptied s w t) (HasDropped s w.drops) c.droppers.items d.droppers.items is.droppers dropped (emptied s w t);
+  all_droppers = AllZip-long (HasDropped s w.drops) c.droppers.items d.droppers.items dropped ∙ is.all_droppers;
+  workers = each_zip (IsWorker s w.workers) (HasTended s w) (HasSwept s w.sweeps) c.workers.items d.workers.items is.workers swept (tended s w);
+  all_workers = AllZip-long (HasSwept s w.sweeps) c.workers.items d.workers.items swept ∙ is.all_workers;
+  observers = each_zip (IsObserver s) (HasRead s) (HasWatched s 16) c.observers.items d.observers.items is.observers watched (has_read s);
+  all_observers = AllZip-long (HasWatched s 16) c.observers.items d.observers.items watched ∙ is.all_observers;
+}
+
+-- and after a further round of its workers
+pub worked_on : (s : SharedView) (w : Wish) (t turns : ℕ) (c d : Crew) → HasWorked s w t c → AllZip (HasSwept s turns) c.workers.items d.workers.items
+    → d.droppers ≡ c.droppers → d.observers ≡ c.observers → HasWorked s w t d
+worked_on s w t turns c d has swept same also = record {
+  droppers = subst (λ v. EachAt (HasEmptied s w t) v.items) (sym same) has.droppers;
+  all_droppers = ap (λ v. length v.items) same ∙ has.all_droppers;
+  workers = each_zip (HasTended s w) (HasTended s w) (HasSwept s turns) c.workers.items d.workers.items has.workers swept (λ j x y. tended_more s w j turns x y);
+  all_workers = AllZip-long (HasSwept s turns) c.workers.items d.workers.items swept ∙ has.all_workers;
+  observers = subst (λ v. EachAt (HasRead s) v.items) (sym also) has.observers;
+  all_observers = ap (λ v. length v.items) also ∙ has.all_observers;
+}

@@ -1,0 +1,72 @@
+-- The numbers of receipts: with each at most once and all below their count, each number below it stands on one receipt.
+use Rattle.std.proofs.Common.{ℕ, suc, ◌≡◌, ◌<◌, ◌≤◌, List, [], ◌∷◌, map, length, get_or, eqb, Some, refl, sym, ap, ◌∙◌, ⊎_elim, arith}
+use Rattle.std.proofs.lemmas.Bool.{cases_eq, cases_lt}
+use Rattle.std.proofs.lemmas.List.{length-map}
+use Rattle.std.proofs.lemmas.List.Elements.{All-map}
+use Rattle.std.proofs.lemmas.List.Sums.{sum_by-cons}
+use Rattle.std.proofs.lemmas.Option.{get_or_from_slice_get, slice_get_within}
+use Rattle.std.specs.Prelude.{slice_get}
+use Rattle.sand_model.specs.Sand.{total, tally, one_at}
+use Rattle.sand_model.specs.Lists.{one_if}
+use Rattle.sand_model.proofs.Bounds.{fewer_than_all}
+use Rattle.sand_model.proofs.Tallies.{total-tally}
+use Rattle.sand_shared.specs.declared.view.Receipt.{Receipt}
+use Rattle.sand_shared.specs.OpenPile.{numbered}
+use Rattle.sand_shared.specs.Passes.{EachOnce, AllBelow}
+use Rattle.sand_shared.proofs.SumsOverPasses.{sum_by-map, sum_by_two}
+use Rattle.sand_shared.proofs.NumbersOnce.{one_if_same, one_if_other}
+
+-- the numbers of receipts
+abbrev pub numbers_of : List Receipt → List ℕ
+numbers_of rs = map (λ (r : Receipt). r.number) rs
+
+-- to count the receipts with a number is to tally the numbers
+tally-numbers : (rs : List Receipt) (n : ℕ) → tally (numbers_of rs) n ≡ numbered rs n
+tally-numbers rs n = sum_by-map (λ j. one_at j n) (λ (r : Receipt). r.number) rs
+
+-- with as many receipts as there are numbers, and no number twice, no number is left out
+pub each_number : (rs : List Receipt) → EachOnce rs → AllBelow (length rs) rs → (n : ℕ) → n < length rs → numbered rs n ≡ 1
+each_number rs once below n inside =
+    let all : total (length rs) (tally (numbers_of rs)) ≡ length (numbers_of rs) = total-tally (length rs) (numbers_of rs) (All-map (λ j. j < length rs) (λ (r : Receipt). r.number) rs below) in
+    let long : length (numbers_of rs) ≡ length rs = length-map rs (λ (r : Receipt). r.number) in
+    let here = once n in
+    let same = tally-numbers rs n in
+    ⊎_elim
+    (λ (none : numbered rs n < 1).
+    let less = fewer_than_all (length rs) (tally (numbers_of rs)) n (λ i l. let o = once i in let e = tally-numbers rs i in omega arith) inside (omega arith) in
+    absurd (omega arith))
+    (λ (some : 1 ≤ numbered rs n). omega arith)
+    (cases_lt (numbered rs n) 1)
+
+-- a receipt at some place has the number n
+abbrev pub HasNumber : List Receipt → ℕ → Type 0
+HasNumber rs n = (i : ℕ) × (r : Receipt) × (slice_get rs i ≡ Some r) × (r.number ≡ n)
+
+some_receipt : (rs : List Receipt) (n : ℕ) → 0 < numbered rs n → HasNumber rs n
+some_receipt [] n some = absurd (omega arith)
+some_receipt (r ∷ rs) n some =
+    let parts = sum_by-cons (λ (q : Receipt). one_if (eqb q.number n)) r rs in
+    ⊎_elim
+    (λ (e : r.number ≡ n). (0, r, refl, e))
+    (λ (ne : r.number ≡ n → ⊥).
+    let none = one_if_other r.number n ne in
+    let later = some_receipt rs n (omega arith) in
+    (suc later.0, later.1, later.2, later.3))
+    (cases_eq r.number n)
+
+-- so each number below their count has its receipt
+pub receipt_of : (rs : List Receipt) → EachOnce rs → AllBelow (length rs) rs → (n : ℕ) → n < length rs → HasNumber rs n
+receipt_of rs once below n inside = let one = each_number rs once below n inside in some_receipt rs n (omega arith)
+
+-- two receipts with one number stand at one place
+pub one_place : (rs : List Receipt) (i j : ℕ) (r q : Receipt) → EachOnce rs → slice_get rs i ≡ Some r → slice_get rs j ≡ Some q → r.number ≡ q.number → i ≡ j
+one_place rs i j r q once here there same =
+    ⊎_elim
+    (λ (e : i ≡ j). e)
+    (λ (ne : i ≡ j → ⊥).
+    let first = one_if_same (get_or rs i r).number r.number (ap (λ (x : Receipt). x.number) (get_or_from_slice_get rs i r r here)) in
+    let second = one_if_same (get_or rs j r).number r.number (ap (λ (x : Receipt). x.number) (get_or_from_slice_get rs j q r there) ∙ sym same) in
+    let two = sum_by_two (λ (x : Receipt). one_if (eqb x.number r.number)) rs i j r (slice_get_within rs i r here) (slice_get_within rs j q there) (λ e. ne (sym e)) in
+    let most = once r.number in
+    absurd (omega arith))
+    (cases_eq i j)

@@ -1,0 +1,135 @@
+-- What a gathered crew leaves: a whole pass, and a closed epoch.
+use Rattle.std.proofs.Common.{◌≡◌, ℕ, suc, ◌*◌, ◌^◌, ◌<◌, ◌≤◌, List, [], ◌∷◌, All, length, map, sum, get_or, refl, sym, ap, ◌∙◌, subst, arith}
+use Rattle.std.specs.List.{flat_map}
+use Rattle.std.specs.Prelude.{slice_index}
+use Rattle.std.proofs.lemmas.List.{length-map}
+use Rattle.std.proofs.lemmas.List.Elements.{All-nil, All-append}
+use Rattle.std.proofs.lemmas.List.Folds.{flat_map-map}
+use Rattle.std.proofs.lemmas.List.Sums.{sum_by-cons, sum_by-append}
+use Rattle.std.proofs.lemmas.Option.{slice_get-get_or}
+use Rattle.sand_model.specs.Grid.{sites}
+use Rattle.sand_settle.specs.Settling.{odometer_of}
+use Rattle.sand_shared.specs.declared.view.Receipt.{Receipt}
+use Rattle.sand_shared.specs.OpenPile.{grid_of}
+use Rattle.sand_shared.specs.Passes.{SharedView, PassView, EachOnce, AllBelow, IsWhole}
+use Rattle.sand_shared.specs.Record.{RecordView, IsOneThreads, Tells}
+use Rattle.sand_lab.specs.declared.crew.Crew.{Crew}
+use Rattle.sand_lab.specs.declared.droppers.Dropper.{Dropper}
+use Rattle.sand_lab.specs.declared.journal.Entry.{Entry}
+use Rattle.sand_lab.specs.declared.observers.Observer.{Observer}
+use Rattle.sand_lab.specs.declared.plan.Wish.{Wish}
+use Rattle.sand_lab.specs.declared.workers.Worker.{Worker}
+use Rattle.sand_lab.specs.Crews.{EachAt, band, due, tallies_each, HasEmptied, HasTended, HasRead, HasWorked}
+use Rattle.sand_lab.specs.Gathering.{all_counts, all_swept, readings, HasGathered}
+use Rattle.sand_lab.specs.Jobs.{Climbs, dropped_at}
+use Rattle.sand_lab.specs.Journals.{Ascends, IsJournal}
+use Rattle.sand_lab.specs.Plans.{IsPlan, quota_of}
+use Rattle.sand_lab.specs.Reports.{AreTallies, AreSwept, IsClosed}
+use Rattle.sand_lab.specs.Streams.{stream_of, stream_sites}
+use Rattle.sand_lab.proofs.JournalSites.{journal_sites}
+use Rattle.sand_lab.proofs.JournalFollowsStreams.{AreParts, follows_streams, length-parts}
+use Rattle.sand_lab.proofs.EachAtItsPlace.{all_map, each_map}
+use Rattle.sand_lab.proofs.RecordBounds.{counts_below}
+use Rattle.sand_lab.proofs.TallyOfStreams.{length-stream_sites}
+
+-- the receipts of each dropper
+abbrev pub parts_of : Crew → List (List Receipt)
+parts_of c = map (λ (d : Dropper). d.pass.receipts) c.droppers.items
+
+all_flat : {A B : Type 0} (P : ℕ → A → Type 0) (Q : B → Type 0) (f : A → List B) (xs : List A) → EachAt P xs → ((i : ℕ) (x : A) → P i x → All Q (f x)) → All Q (flat_map f xs)
+all_flat P Q f [] h g = All-nil Q
+all_flat P Q f (x ∷ xs) h g = All-append Q (f x) (flat_map f xs) (g 0 x (h 0 x refl)) (all_flat (λ i. P (suc i)) Q f xs (λ i y e. h (suc i) y e) (λ i y p. g (suc i) y p))
+
+-- what the workers swept is what they toppled
+swept_counts : (xs : List Worker) → ((i : ℕ) → EachAt (λ j x. x.swept ≡ sum x.pass.counts) xs) → sum (all_swept xs) ≡ sum (all_counts xs)
+swept_counts [] each = refl
+swept_counts (x ∷ xs) each =
+    let one = each 0 0 x refl in
+    let rest = swept_counts xs (λ i j y e. each i (suc j) y e) in
+    let mine = sum_by-cons (λ n. n) x.swept (all_swept xs) in
+    let theirs = sum_by-append (λ n. n) x.pass.counts (all_counts xs) in
+    omega (arith, one, rest, mine, theirs)
+
+below_list : (cs os : List ℕ) → ((i : ℕ) → get_or cs i 0 ≤ get_or os i 0) → sum cs ≤ sum os
+below_list [] os below = omega arith
+below_list (c ∷ cs) [] below =
+    let first = below 0 in
+    let rest = below_list cs [] (λ i. below (suc i)) in
+    omega (arith, first, rest, sum_by-cons (λ n. n) c cs)
+below_list (c ∷ cs) (o ∷ os) below =
+    let first = below 0 in
+    let rest = below_list cs os (λ i. below (suc i)) in
+    omega (arith, first, rest, sum_by-cons (λ n. n) c cs, sum_by-cons (λ n. n) o os)
+
+le_self : (n : ℕ) → n ≤ n
+le_self n = omega arith
+
+counts_few : (r : RecordView) (cs : List ℕ) → IsOneThreads r → ((i : ℕ) → slice_index cs i ≤ odometer_of r.settled i) → sum cs ≤ r.settled.topplings
+counts_few r cs one below =
+    let all = counts_below r r.settled.odometer one one.one.settled.odometer_each (λ i. le_self (odometer_of r.settled i)) in
+    let few = below_list cs r.settled.odometer below in
+    omega (arith, all, few)
+
+module _ (s : SharedView) (w : Wish) (t : ℕ) (c : Crew) (p : PassView) (quota : s.terms.quota ≡ quota_of w) (has : HasWorked s w t c) (gathered : HasGathered s c p) where
+  parts : AreParts w.drops (parts_of c) p.receipts
+  parts = record {
+    whole = flat_map-map (λ (part : List Receipt). part) (λ (d : Dropper). d.pass.receipts) c.droppers.items ∙ sym gathered.receipts;
+    long = all_map (HasEmptied s w t) (λ (part : List Receipt). length part ≡ w.drops) (λ (d : Dropper). d.pass.receipts) c.droppers.items has.droppers
+        (λ k d h. sym (length-map d.pass.receipts (λ (r : Receipt). r.site)) ∙ ap length h.sites ∙ length-stream_sites (sites (grid_of s.terms)) w.seed (stream_of t k) w.drops);
+    ascend = all_map (HasEmptied s w t) Ascends (λ (d : Dropper). d.pass.receipts) c.droppers.items has.droppers (λ k d h. h.ascends);
+  }
+
+  many_parts : length (parts_of c) ≡ w.droppers
+  many_parts = length-map c.droppers.items (λ (d : Dropper). d.pass.receipts) ∙ has.all_droppers
+
+  pub all_dropped : length p.receipts ≡ quota_of w
+  all_dropped = length-parts w.drops (parts_of c) p.receipts parts ∙ ap (λ (n : ℕ). n * w.drops) many_parts
+
+  pub within : AllBelow (length p.receipts) p.receipts
+  within =
+      let flat = all_flat (HasEmptied s w t) (λ (r : Receipt). r.number < s.terms.quota) (λ (d : Dropper). d.pass.receipts) c.droppers.items has.droppers (λ k d h. h.within) in
+      let these = subst (AllBelow s.terms.quota) (sym gathered.receipts) flat in
+      subst (λ (n : ℕ). AllBelow n p.receipts) (quota ∙ sym all_dropped) these
+
+  pub whole : IsWhole s.terms p
+  whole = record { quota = (let none = gathered.left in let all = all_dropped in omega (arith, none, all, quota)); rows = gathered.rows }
+
+  pub few_droppers : IsPlan w → length p.receipts ≤ 2 ^ 32 * w.drops
+  few_droppers plan = let all = all_dropped in let few = plan.droppers in grind (arith, all, few)
+
+  tallied : (tallies : List (List ℕ)) → tallies ≡ readings c.observers.items → AreTallies w tallies
+  tallied tallies e =
+      let read = subst (λ (q : ℕ). All (λ ts. Climbs 0 ts q) (readings c.observers.items)) quota
+      (all_map (HasRead s) (λ ts. Climbs 0 ts s.terms.quota) (λ (o : Observer). o.tallies.items) c.observers.items has.observers (λ i o h. h.climbs)) in
+      let sixteen = all_map (HasRead s) (λ ts. length ts ≡ tallies_each) (λ (o : Observer). o.tallies.items) c.observers.items has.observers (λ i o h. h.sixteen) in
+      record {
+        all = ap length e ∙ length-map c.observers.items (λ (o : Observer). o.tallies.items) ∙ has.all_observers;
+        as_many = subst (All (λ ts. length ts ≡ tallies_each)) (sym e) sixteen;
+        climb = subst (All (λ ts. Climbs 0 ts (quota_of w))) (sym e) read;
+      }
+
+  tended : (r : RecordView) (swept : List ℕ) → IsOneThreads r → ((i : ℕ) → slice_index p.counts i ≤ odometer_of r.settled i) → swept ≡ all_swept c.workers.items → AreSwept w s.terms.start r swept
+  tended r swept one below e =
+      let same : sum (all_swept c.workers.items) ≡ sum (all_counts c.workers.items) = swept_counts c.workers.items (λ i j x at. (has.workers j x at).swept) in
+      let few = counts_few r p.counts one below in
+      let long : length swept ≡ w.workers = ap length e ∙ length-map c.workers.items (λ (x : Worker). x.swept) ∙ has.all_workers in
+      let each = each_map (HasTended s w) (λ j n. 0 < w.sweeps → due s.terms.start (band (grid_of s.terms).height w.workers j) ≤ n) (λ (x : Worker). x.swept) c.workers.items has.workers (λ j x h. h.enough) in
+      record {
+        all = long;
+        few = omega (arith, ap (λ (ns : List ℕ). sum ns) e, same, ap (λ (ns : List ℕ). sum ns) gathered.counts, few);
+        enough = λ some j lt. subst (λ (ns : List ℕ). due s.terms.start (band (grid_of s.terms).height w.workers j) ≤ slice_index ns j) (sym e)
+            (each j (slice_index (all_swept c.workers.items) j) (slice_get-get_or (all_swept c.workers.items) j 0 (omega (arith, lt, long, ap length e))) some);
+      }
+
+  pub closed_is : (r : RecordView) (js : List Entry) (tallies : List (List ℕ)) (swept : List ℕ) → EachOnce p.receipts → IsJournal w.drops p.receipts js → IsOneThreads r → r.start ≡ s.terms.start
+      → Tells p.receipts r.history → length r.history ≡ length p.receipts → ((i : ℕ) → slice_index p.counts i ≤ odometer_of r.settled i)
+      → tallies ≡ readings c.observers.items → swept ≡ all_swept c.workers.items → IsClosed w s.terms.start t r js tallies swept
+  closed_is r js tallies swept once journal one start told long below read found = record {
+    one_threads = one;
+    from_start = start;
+    history = journal_sites w.drops p.receipts js r.history journal told once within long;
+    streams = follows_streams (sites (grid_of s.terms)) w.seed w.droppers w.drops t (parts_of c) p.receipts js parts many_parts once within journal
+        (each_map (HasEmptied s w t) (λ k part. dropped_at part ≡ stream_sites (sites (grid_of s.terms)) w.seed (stream_of t k) w.drops) (λ (d : Dropper). d.pass.receipts) c.droppers.items has.droppers (λ k d h. h.sites));
+    read = tallied tallies read;
+    tended = tended r swept one below found;
+  }

@@ -1,0 +1,24 @@
+-- What a record of one thread has of its own numbers: how many grains its pile has, on which grid it lies, and how many
+-- topplings there were at least.
+use Rattle.std.proofs.Common.{ℕ, ◌≡◌, ◌+◌, ◌≤◌, List, length, sum, arith}
+use Rattle.std.specs.Prelude.{slice_index}
+use Rattle.sand_model.specs.Grid.{sites}
+use Rattle.sand_model.proofs.Totals.{total_le}
+use Rattle.sand_model.proofs.Heights.{sum_is_grains}
+use Rattle.sand_settle.specs.Settling.{odometer_of}
+use Rattle.sand_shared.specs.Record.{RecordView, IsOneThreads}
+use Rattle.sand_shared.proofs.RecordSums.{leads_of, grains_left}
+
+-- no grain comes from nowhere
+pub settled_grains : (r : RecordView) → IsOneThreads r → sum r.settled.pile.heights ≤ sum r.start.heights + length r.history
+settled_grains r one = let left = grains_left r.start r.history r.settled.pile.heights r.settled.odometer (leads_of r one) in omega arith
+
+pub settled_grid : (r : RecordView) → IsOneThreads r → r.settled.pile.grid ≡ r.start.grid
+settled_grid r one = one.one.settled.grid
+
+-- counts that are at most the odometer at each site come to no more than all topplings
+pub counts_below : (r : RecordView) (cs : List ℕ) → IsOneThreads r → length cs ≡ sites r.start.grid → ((i : ℕ) → slice_index cs i ≤ odometer_of r.settled i) → sum cs ≤ r.settled.topplings
+counts_below r cs one long below =
+    let counted = sum_is_grains r.start.grid cs long in
+    let fewer = total_le (sites r.start.grid) (slice_index cs) (odometer_of r.settled) (λ i l. below i) in
+    let all = one.one.settled.all_topplings in omega arith

@@ -1,0 +1,138 @@
+-- The grains of a list are counted site by site, and laid down site by site.
+use Rattle.std.proofs.Common.{◌≡◌, ℕ, suc, ◌+◌, ◌<◌, ◌≤◌, ◌≢◌, eqb, List, [], ◌∷◌, All, take, length, set, get_or, sym, refl, ap, ◌∙◌, ⊎_elim, arith}
+use Rattle.std.specs.Prelude.{count_by, slice_index}
+use Rattle.std.proofs.lemmas.Bool.{cases_eq}
+use Rattle.std.proofs.lemmas.Bool.Decides.{nat_tests}
+use Rattle.std.proofs.lemmas.List.{ext_get_or, get_or-replicate, get_or_read, get_or-set_same, get_or-set_other, length-replicate, length-set, length-take}
+use Rattle.std.proofs.lemmas.List.Elements.{All-cons, All-nil}
+use Rattle.std.proofs.lemmas.List.Sums.{sum_by-cons, count_by-le-length}
+use Rattle.std.proofs.Math.Seq.{take-suc}
+use Rattle.sand_model.specs.Sand.{tally, one_at}
+use Rattle.sand_model.specs.Lists.{one_if}
+use Rattle.sand_model.proofs.Tallies.{tally-cons, tally-push}
+use Rattle.sand_shared.specs.declared.view.Grains.{Grains}
+use Rattle.sand_shared.specs.OpenPile.{amount_at, held}
+use Rattle.sand_shared.specs.Events.{grains, zeros, are_for, one_for_each}
+use Rattle.sand_shared.proofs.SumsOverPasses.{sum_by-map}
+use Rattle.sand_shared.proofs.NumbersOnce.{one_if_same, one_if_other}
+use Rattle.sand_shared.proofs.GrainsAtSite.{amount_here, amount_else, held-cons}
+use Rattle.sand_shared.proofs.HandAfterPlacing.{laid_on, held-laid, all_laid}
+
+-- what is read at a site of the list is its count
+pub read_count : (n k c : ℕ) (counts drops : List ℕ) → length counts ≡ n → All (λ i. i < n) drops → k < length drops → c ≡ get_or counts (get_or drops k 0) c → c ≡ slice_index counts (get_or drops k 0)
+read_count n k c counts drops long inside below read = let here = inside k 0 below in get_or_read counts (get_or drops k 0) c (omega arith) read 0
+
+-- one site of the list more is counted
+pub counted_more : (n k : ℕ) (counts drops : List ℕ) → k < length drops → get_or drops k 0 < length counts → ((i : ℕ) → i < n → slice_index counts i ≡ tally (take k drops) i)
+    → (i : ℕ) → i < n → slice_index (set counts (get_or drops k 0) (slice_index counts (get_or drops k 0) + 1)) i ≡ tally (take (k + 1) drops) i
+counted_more n k counts drops inside there counted i l =
+    let x = get_or drops k 0 in
+    let c = slice_index counts x in
+    let here = counted i l in
+    let next : tally (take (k + 1) drops) i ≡ tally (take k drops) i + one_at x i =
+    ap (λ m. tally (take m drops) i) {x = k + 1} {y = suc k} (omega arith) ∙ (ap (λ xs. tally xs i) (take-suc drops k 0 inside) ∙ tally-push (take k drops) x i) in
+    ⊎_elim
+    (λ (e : x ≡ i).
+    let one = one_if_same x i e in
+    let same = ap (slice_index counts) e in
+    let new = ap (slice_index (set counts x (c + 1))) (sym e) ∙ get_or-set_same counts x (c + 1) 0 there in omega arith)
+    (λ (ne : x ≡ i → ⊥).
+    let none = one_if_other x i ne in
+    let old = get_or-set_other counts x i (c + 1) 0 (λ e. ne (sym e)) in omega arith)
+    (cases_eq x i)
+
+pub tally_small : (k : ℕ) (drops : List ℕ) (i : ℕ) → k < length drops → tally (take k drops) i ≤ k
+tally_small k drops i inside = let few = count_by-le-length (λ j. eqb j i) (take k drops) in omega (arith, length-take k drops)
+
+-- Single grains are in hand for sites of a list that are still to come, and the counts tell how many for each.
+pub record Waits (n : ℕ) (counts : List ℕ) (hand : List Grains) (coming : List ℕ) : Type 0 where
+  pub long : length counts ≡ n
+  pub single : All (λ g. (g.site < n) × (g.amount ≡ 1)) hand
+  pub counted : (i : ℕ) → i < n → slice_index counts i ≡ held hand i
+  pub come : (i : ℕ) → i < n → 0 < slice_index counts i → 0 < tally coming i
+
+module _ (n : ℕ) where
+  all_single : (is : List ℕ) → All (λ i. i < n) is → All (λ (g : Grains). (g.site < n) × (g.amount ≡ 1)) (one_for_each is)
+  all_single [] inside = All-nil (λ (g : Grains). (g.site < n) × (g.amount ≡ 1))
+  all_single (i ∷ is) inside =
+      All-cons (λ (g : Grains). (g.site < n) × (g.amount ≡ 1)) (grains i 1) (one_for_each is) (inside 0 0 (omega arith), refl) (all_single is (λ k d l. inside (suc k) d (omega arith)))
+
+  held-one_for_each : (is : List ℕ) (j : ℕ) → held (one_for_each is) j ≡ tally is j
+  held-one_for_each is j = sum_by-map (λ (g : Grains). amount_at g.site g.amount j) (λ i. grains i 1) is
+
+  -- where all are single, as many entries are for a site as grains
+  pub count_is : (i : ℕ) (hand : List Grains) → All (λ g. (g.site < n) × (g.amount ≡ 1)) hand → count_by (are_for i 1) hand ≡ held hand i
+  count_is i [] single = refl
+  count_is i (g ∷ gs) single =
+      let all = held-cons g gs i in
+      let count = sum_by-cons (λ (x : Grains). one_if (are_for i 1 x)) g gs in
+      let rest = count_is i gs (λ k d l. single (suc k) d (omega arith)) in
+      let one = here (single 0 g (omega arith)).1 in omega arith
+    where
+      here : g.amount ≡ 1 → one_if (are_for i 1 g) ≡ amount_at g.site g.amount i
+      here e = grind (arith, nat_tests)
+
+  pub waits_all : (counts drops : List ℕ) → length counts ≡ n → All (λ i. i < n) drops → ((i : ℕ) → i < n → slice_index counts i ≡ tally drops i) → Waits n counts (one_for_each drops) drops
+  waits_all counts drops long inside counted = record {
+    long = long;
+    single = all_single drops inside;
+    counted = λ i l. counted i l ∙ sym (held-one_for_each drops i);
+    come = λ i l some_there. (let e = counted i l in omega arith);
+  }
+
+  module _ (x : ℕ) (coming : List ℕ) where
+    come_else : (i : ℕ) → x ≢ i → 0 < tally (x ∷ coming) i → 0 < tally coming i
+    come_else i ne some_there = let all = tally-cons x coming i in let none = one_if_other x i ne in omega arith
+
+    -- the grains of this site were laid down before
+    pub waits_past : (counts : List ℕ) (hand : List Grains) → slice_index counts x ≡ 0 → Waits n counts hand (x ∷ coming) → Waits n counts hand coming
+    waits_past counts hand none w = record {
+      long = w.long;
+      single = w.single;
+      counted = w.counted;
+      come = λ i l some_there. come_else i (λ e. let same = ap (slice_index counts) e in absurd (omega arith)) (w.come i l some_there);
+    }
+
+    -- and now they are laid down
+    pub waits_laid : (counts : List ℕ) (hand : List Grains) → x < n → Waits n counts hand (x ∷ coming) → Waits n (set counts x 0) (laid_on x (slice_index counts x) hand) coming
+    waits_laid counts hand inside w =
+        let c = slice_index counts x in
+        let long = w.long in
+        let all = w.counted x inside in
+        let same = count_is x hand w.single in
+        let gone = λ (i : ℕ). held-laid x c hand i (omega arith) in
+        let new = get_or-set_same counts x 0 0 (omega arith) in
+        let old = λ (i : ℕ) (ne : x ≢ i). get_or-set_other counts x i 0 0 (λ e. ne (sym e)) in
+        record {
+          long = length-set counts x 0 ∙ w.long;
+          single = all_laid x (λ g. (g.site < n) × (g.amount ≡ 1)) c hand w.single;
+          counted = λ i l. ⊎_elim
+              (λ (e : x ≡ i). let a = amount_here x c i e in let b = ap (slice_index (set counts x 0)) e in let d = ap (held hand) e in let g = gone i in omega arith)
+              (λ (ne : x ≡ i → ⊥). let a = amount_else x c i ne in let b = old i ne in let d = w.counted i l in let g = gone i in omega arith)
+              (cases_eq x i);
+          come = λ i l some_there. ⊎_elim
+              (λ (e : x ≡ i). let b = ap (slice_index (set counts x 0)) e in absurd (omega arith))
+              (λ (ne : x ≡ i → ⊥). let b = old i ne in come_else i ne (w.come i l (omega arith)))
+              (cases_eq x i);
+        }
+
+  none_counted : (counts : List ℕ) (hand : List Grains) → Waits n counts hand [] → (i : ℕ) → i < n → slice_index counts i ≡ 0
+  none_counted counts hand w i l = ⊎_elim
+      (λ (z : slice_index counts i ≡ 0). z)
+      (λ (nz : slice_index counts i ≡ 0 → ⊥). let c = w.come i l (omega arith) in absurd (omega arith))
+      (cases_eq (slice_index counts i) 0)
+
+  pub hand_empty : (counts : List ℕ) (hand : List Grains) → Waits n counts hand [] → hand ≡ []
+  hand_empty counts [] w = refl
+  hand_empty counts (g ∷ gs) w =
+      let one = w.single 0 g (omega arith) in
+      let here = amount_here g.site g.amount g.site refl in
+      let all = held-cons g gs g.site in
+      let none = none_counted counts (g ∷ gs) w g.site one.0 in
+      let same = w.counted g.site one.0 in
+      let amount = one.1 in absurd (omega arith)
+
+  pub counts_zero : (counts : List ℕ) (hand : List Grains) → Waits n counts hand [] → counts ≡ zeros n
+  counts_zero counts hand w =
+      let long = w.long in
+      ext_get_or 0 counts (zeros n) (w.long ∙ sym (length-replicate n 0)) (λ i l. none_counted counts hand w i (omega arith) ∙ sym (get_or-replicate n i 0 0 (omega arith)))

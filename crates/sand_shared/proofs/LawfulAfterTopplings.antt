@@ -1,0 +1,124 @@
+-- A pass takes grains from a site of its rows, to send them to the neighbours: the pile stays lawful.
+-- That the site topples no more often than needed is least action: the grains lie on it, so w has to topple it too.
+use Rattle.std.proofs.Common.{◌≡◌, ℕ, ◌+◌, ◌-◌, ◌*◌, ◌<◌, ◌≤◌, ◌≢◌, Bool, true, false, length, set, get_or, sym, refl, ap, ◌∙◌, subst, ⊎_elim, arith}
+use Rattle.std.proofs.lemmas.Bool.{cases_eq}
+use Rattle.std.proofs.lemmas.List.{get_or-set_same, get_or-set_other, length-set}
+use Rattle.std.proofs.lemmas.List.Sums.{sum_by-set}
+use Rattle.sand_model.specs.Grid.{sites}
+use Rattle.sand_model.specs.Sand.{flow, IsToppled, Stabilises}
+use Rattle.sand_model.specs.Lists.{one_if}
+use Rattle.sand_model.proofs.Flow.{flow_same, flow-add}
+use Rattle.sand_model.proofs.Sandpile.{least_action}
+use Rattle.sand_shared.specs.declared.view.View.{View}
+use Rattle.sand_shared.specs.declared.view.Terms.{Terms}
+use Rattle.sand_shared.specs.OpenPile.{OpenPile, nobody, grid_of, amount_at, numbered, dropped, held, holds_site, toppled_by, toppled, poured, present, pass_at, IsLawfulPass, IsLawful}
+use Rattle.sand_shared.specs.Events.{unload, unloaded, sent, May, after}
+use Rattle.sand_shared.proofs.SumsOverPasses.{sum_by_kept, all_at}
+use Rattle.sand_shared.proofs.GrainsAtSite.{amount_here, amount_else, flow-amount, held-append, held-sent, toppled-unloaded, holds-unloaded}
+use Rattle.sand_shared.proofs.OneHolder.{others_without}
+
+module _ (t : Terms) (p : OpenPile) (a i k : ℕ) (r : IsLawful t p) (may : May t p (unload a i k)) where
+  -- what the site gives up
+  height_given : (j : ℕ) → (p.height j - amount_at i (4 * k) j) + 4 * amount_at i k j ≡ p.height j
+  height_given j = ⊎_elim
+      (λ (e : i ≡ j). let b = amount_here i k j e in let c = amount_here i (4 * k) j e in let h = ap p.height e in let high = may.high in omega arith)
+      (λ (ne : i ≡ j → ⊥). let b = amount_else i k j ne in let c = amount_else i (4 * k) j ne in omega arith)
+      (cases_eq i j)
+
+  more_toppled : (j : ℕ) → toppled (after t p (unload a i k)) j ≡ toppled p j + amount_at i k j
+  more_toppled j =
+      let w = unloaded t (pass_at p a) i k in
+      let c = sum_by-set (λ (u : View). toppled_by u j) p.passes a w nobody may.there in
+      let e = toppled-unloaded t (pass_at p a) i k j may.own in omega arith
+
+  -- what its hand gets for j, in all and of the topplings
+  more_held : (j : ℕ) → j < sites (grid_of t) → held (unloaded t (pass_at p a) i k).hand j ≡ held (pass_at p a).hand j + flow (grid_of t) (amount_at i k) j
+  more_held j l = held-append (pass_at p a).hand (sent t i k) j ∙ ap (λ n. held (pass_at p a).hand j + n) (held-sent t i k j ∙ sym (flow-amount (grid_of t) i k j may.inside l))
+
+  unload_balance : IsToppled (grid_of t) (poured t (after t p (unload a i k))) (toppled (after t p (unload a i k))) (present (after t p (unload a i k)))
+  unload_balance = record {
+    balance = λ j l.
+        let g = grid_of t in
+        let q = after t p (unload a i k) in
+        let before = r.balance.balance j l in
+        let h = height_given j in
+        let u = more_toppled j in
+        let c = sum_by-set (λ (u : View). held u.hand j) p.passes a (unloaded t (pass_at p a) i k) nobody may.there in
+        let d = more_held j l in
+        let e = flow_same g (toppled q) (λ m. toppled p m + amount_at i k m) (λ m _. more_toppled m) j l in
+        let f = flow-add g (toppled p) (amount_at i k) j in omega arith;
+  }
+
+  unload_needed : (w : ℕ → ℕ) → Stabilises (grid_of t) (poured t p) w → (j : ℕ) → j < sites (grid_of t) → toppled (after t p (unload a i k)) j ≤ w j
+  unload_needed w stab j l =
+      let u = more_toppled j in
+      let bound = r.needed w stab j l in
+      ⊎_elim
+      (λ (e : i ≡ j).
+      let c = amount_here i k j e in
+      let b = r.balance.balance i may.inside in
+      let high = may.high in
+      let step = least_action (grid_of t) (poured t p) (toppled p) w i k may.inside stab (r.needed w stab) (omega arith) in
+      let x = ap (toppled p) e in
+      let y = ap w e in omega arith)
+      (λ (ne : i ≡ j → ⊥). let c = amount_else i k j ne in omega arith)
+      (cases_eq i j)
+
+  unloaded_pass : IsLawfulPass t (after t p (unload a i k)) (unloaded t (pass_at p a) i k)
+  unloaded_pass =
+      let g = grid_of t in
+      let v = pass_at p a in
+      let f = r.passes a nobody may.there in
+      record {
+        seen = f.seen;
+        receipts = f.receipts;
+        hand = λ j l. (let h = f.hand j l in
+            let d = more_held j l in
+            let e = flow_same g (toppled_by (unloaded t v i k)) (λ m. toppled_by v m + amount_at i k m) (λ m _. toppled-unloaded t v i k m may.own) j l in
+            let b = flow-add g (toppled_by v) (amount_at i k) j in omega arith);
+        least = λ own l. omega arith;
+      }
+
+  -- what another pass knows of a site of its own rows stays so
+  other_pass : (b : ℕ) → b < length p.passes → b ≢ a → IsLawfulPass t (after t p (unload a i k)) (pass_at p b)
+  other_pass b lb ne =
+      let u = pass_at p b in
+      let f = r.passes b nobody lb in
+      record {
+        seen = f.seen;
+        receipts = f.receipts;
+        hand = f.hand;
+        least = λ own l. (let o = f.least own l in
+            let apart : i ≢ u.spot = λ e. clash (ap (holds_site u) e ∙ own) (others_without t p r a i may.there may.inside may.own b lb ne) in
+            let c = amount_else i (4 * k) u.spot apart in omega arith);
+      }
+    where
+      clash : {b : Bool} → b ≡ true → b ≡ false → ⊥
+      clash x y = cc
+
+  unloaded_passes : (b : ℕ) → b < length p.passes → IsLawfulPass t (after t p (unload a i k)) (get_or (set p.passes a (unloaded t (pass_at p a) i k)) b nobody)
+  unloaded_passes b lb =
+      let q = after t p (unload a i k) in
+      let w = unloaded t (pass_at p a) i k in
+      ⊎_elim
+      (λ (e : b ≡ a). subst (λ z. IsLawfulPass t q (get_or (set p.passes a w) z nobody)) (sym e) (subst (IsLawfulPass t q) (sym (get_or-set_same p.passes a w nobody may.there)) unloaded_pass))
+      (λ (ne : b ≡ a → ⊥). subst (IsLawfulPass t q) (sym (get_or-set_other p.passes a b w nobody ne)) (other_pass b lb ne))
+      (cases_eq b a)
+
+  pub unload_keeps : IsLawful t (after t p (unload a i k))
+  unload_keeps =
+      let v = pass_at p a in
+      let w = unloaded t v i k in
+      let kept = λ (f : View → ℕ) (e : f w ≡ f v). sum_by_kept f p.passes a w nobody may.there e in
+      let q = after t p (unload a i k) in
+      record {
+        balance = unload_balance;
+        needed = unload_needed;
+        numbers = λ x. kept (λ u. numbered u.receipts x) refl ∙ r.numbers x;
+        receipts = kept (λ u. length u.receipts) refl ∙ r.receipts;
+        receipts_by_site = λ j. kept (λ u. dropped u.receipts j) refl ∙ r.receipts_by_site j;
+        all_sites = r.all_sites;
+        quota = (let e = kept (λ u. u.left) refl in let o = r.quota in omega arith);
+        holders = λ j l. kept (λ u. one_if (holds_site u j)) (ap one_if (holds-unloaded t v i k j)) ∙ r.holders j l;
+        passes = all_at (IsLawfulPass t q) q.passes nobody (λ b lb. unloaded_passes b (let e = length-set p.passes a w in omega arith));
+      }

@@ -1,0 +1,31 @@
+-- What a pass has after the step of an event, and what the number that it found tells it.
+use Rattle.std.proofs.Common.{◌≡◌, ℕ, ◌≤◌, length, sym, ap, ◌∙◌, arith}
+use Rattle.sand_shared.specs.declared.view.View.{View}
+use Rattle.sand_shared.specs.declared.view.Terms.{Terms}
+use Rattle.sand_shared.specs.OpenPile.{nobody, pass_at}
+use Rattle.sand_shared.specs.Events.{draw, look, unload, drew, looked, unloaded}
+use Rattle.sand_shared.specs.Running.{Happened}
+use Rattle.sand_shared.proofs.WordsShowPile.{pass_at-with}
+
+module _ (t : Terms) (a i k : ℕ) (v w : View) (n : ℕ) where
+  pub drew_is : Happened t (draw a i) v n w → w ≡ drew v n i
+  drew_is h =
+      let p = h.before.pile in
+      sym h.pass_after ∙ pass_at-with p a (drew (pass_at p a) (length p.drawn) i) h.before.there ∙ (λ q. drew (h.before.pass q) (sym h.number q) i)
+
+  pub looked_is : Happened t (look a i) v n w → w ≡ looked v i n
+  looked_is h = let p = h.before.pile in sym h.pass_after ∙ pass_at-with p a (looked (pass_at p a) i (p.height i)) h.before.there ∙ (λ q. looked (h.before.pass q) i (sym h.number q))
+
+  pub unloaded_is : Happened t (unload a i k) v n w → w ≡ unloaded t v i k
+  unloaded_is h = let p = h.before.pile in sym h.pass_after ∙ pass_at-with p a (unloaded t (pass_at p a) i k) h.before.there ∙ (λ q. unloaded t (h.before.pass q) i k)
+
+  -- the number drawn is one that the pass had not seen, within the quota
+  pub drawn_fresh : Happened t (draw a i) v n w → v.seen ≤ n
+  drawn_fresh h =
+      let seen = (h.before.lawful.passes a nobody h.before.there).seen in
+      let same = ap (λ (u : View). u.seen) h.before.pass in
+      let number = h.number in omega arith
+
+-- a pass is what it has, whatever it knows of a height
+pub known_is : (w v : View) → w ≡ v → w ≡ record v { spot = w.spot; least = w.least }
+known_is w v e = e ∙ (λ q. record v { spot = (sym e q).spot; least = (sym e q).least })

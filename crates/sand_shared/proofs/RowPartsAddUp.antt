@@ -1,0 +1,138 @@
+-- Rows in two parts: what the parts have toppled and hold is what the whole has toppled and holds.
+use Rattle.std.proofs.Common.{◌≡◌, ℕ, ◌+◌, ◌-◌, ◌<◌, ◌≤◌, ◌⊎◌, List, ◌++◌, true, false, length, get_or, eqb, leb, ltb, sym, refl, ap, ◌∙◌, subst, inl, inr, ⊎_elim, arith, length-append}
+use Rattle.std.specs.Prelude.{slice_index, ◌&&◌, ◌||◌}
+use Rattle.std.proofs.lemmas.Bool.{cases_eq, cases_lt, cases_Bool, ne_eqb}
+use Rattle.std.proofs.lemmas.Bool.Decides.{nat_tests}
+use Rattle.std.proofs.lemmas.List.{get_or-take, get_or-drop, get_or_append_left, get_or-append-add, length-drop, length-take-le}
+use Rattle.std.proofs.Math.ListN.{get_or-eq_default}
+use Rattle.sand_model.specs.Lists.{one_if}
+use Rattle.sand_shared.specs.declared.view.View.{View}
+use Rattle.sand_shared.specs.OpenPile.{holds_site, toppled_by}
+use Rattle.sand_shared.specs.Events.{base_of, follows, parent, child, joined}
+use Rattle.sand_shared.proofs.GrainsAtSite.{toppled_from, toppled_before}
+use Rattle.sand_shared.proofs.OneHolder.{toppled_outside}
+
+-- its rows begin at b, or it has none
+abbrev pub BeginsAt : View → ℕ → Type 0
+BeginsAt v b = (length v.counts ≡ 0) ⊎ (v.base ≡ b)
+
+none_held : (v : View) (i : ℕ) → length v.counts ≡ 0 → holds_site v i ≡ false
+none_held v i e = grind (arith, nat_tests)
+
+pub none_toppled : (v : View) (i : ℕ) → length v.counts ≡ 0 → toppled_by v i ≡ 0
+none_toppled v i e = toppled_outside v i (none_held v i e)
+
+toppled_past : (v : View) (b i : ℕ) → BeginsAt v b → b ≤ i → toppled_by v i ≡ slice_index v.counts (i - b)
+toppled_past v b i begins le = ⊎_elim
+    (λ (none : length v.counts ≡ 0). none_toppled v i none ∙ sym (get_or-eq_default v.counts 0 {n = i - b} (omega arith)))
+    (λ (e : v.base ≡ b). toppled_from v i (omega arith) ∙ ap (λ z. slice_index v.counts (i - z)) e)
+    begins
+
+toppled_not_yet : (v : View) (b i : ℕ) → BeginsAt v b → i < b → toppled_by v i ≡ 0
+toppled_not_yet v b i begins lt = ⊎_elim (λ (none : length v.counts ≡ 0). none_toppled v i none) (λ (e : v.base ≡ b). toppled_before v i (omega arith)) begins
+
+held_in : (v : View) (b i : ℕ) → BeginsAt v b → holds_site v i ≡ (leb b i && ltb i (b + length v.counts))
+held_in v b i begins = ⊎_elim
+    (λ (none : length v.counts ≡ 0). none_held v i none ∙ sym (empty none))
+    (λ (e : v.base ≡ b). ap (λ z. leb z i && ltb i (z + length v.counts)) e)
+    begins
+  where
+    empty : length v.counts ≡ 0 → (leb b i && ltb i (b + length v.counts)) ≡ false
+    empty e = grind (arith, nat_tests)
+
+held_together : (b m n i : ℕ) → one_if (leb b i && ltb i (b + m)) + one_if (leb (b + m) i && ltb i ((b + m) + n)) ≡ one_if (leb b i && ltb i (b + (m + n)))
+held_together b m n i = grind (arith, nat_tests)
+
+-- x has the first of the rows of z, and y the rest
+pub record AreParts (x y z : View) : Type 0 where
+  pub first : BeginsAt x z.base
+  pub second : BeginsAt y (z.base + length x.counts)
+  pub long : length x.counts + length y.counts ≡ length z.counts
+  pub low : (k : ℕ) → k < length x.counts → slice_index x.counts k ≡ slice_index z.counts k
+  pub high : (k : ℕ) → slice_index y.counts k ≡ slice_index z.counts (length x.counts + k)
+
+module _ (x y z : View) (parts : AreParts x y z) (i : ℕ) where
+  pub parts_hold : one_if (holds_site x i) + one_if (holds_site y i) ≡ one_if (holds_site z i)
+  parts_hold =
+      let a = ap one_if (held_in x z.base i parts.first) in
+      let b = ap one_if (held_in y (z.base + length x.counts) i parts.second) in
+      let c = held_together z.base (length x.counts) (length y.counts) i in
+      let d = ap (λ n. one_if (leb z.base i && ltb i (z.base + n))) parts.long in omega arith
+
+  pub parts_toppled : toppled_by x i + toppled_by y i ≡ toppled_by z i
+  parts_toppled =
+      let m = z.base + length x.counts in
+      ⊎_elim
+      (λ (before : i < z.base).
+      let a = toppled_not_yet x z.base i parts.first before in
+      let b = toppled_not_yet y m i parts.second (omega arith) in
+      let c = toppled_before z i before in omega arith)
+      (λ (past : z.base ≤ i).
+      let a = toppled_past x z.base i parts.first past in
+      let c = toppled_from z i past in
+      ⊎_elim
+      (λ (lower : i < m).
+      let b = toppled_not_yet y m i parts.second lower in
+      let d = parts.low (i - z.base) (omega arith) in omega arith)
+      (λ (upper : m ≤ i).
+      let b = toppled_past y m i parts.second upper in
+      let d = parts.high (i - m) in
+      let e = get_or-eq_default x.counts 0 {n = i - z.base} (omega arith) in
+      let f = ap (slice_index z.counts) {x = length x.counts + (i - m)} {y = i - z.base} (omega arith) in omega arith)
+      (cases_lt i m))
+      (cases_lt i z.base)
+
+begins_based : (v : View) (b : ℕ) → v.base ≡ base_of b v.counts → BeginsAt v b
+begins_based v b e = ⊎_elim
+    (λ (none : length v.counts ≡ 0). inl none)
+    (λ (some : length v.counts ≡ 0 → ⊥). inr (e ∙ (let f : eqb (length v.counts) 0 ≡ false = ne_eqb (length v.counts) 0 some in rw f)))
+    (cases_eq (length v.counts) 0)
+
+-- what a pass keeps and what it gives away are parts of what it had
+pub cut_parts : (v : View) (q n : ℕ) → n ≤ length v.counts → AreParts (parent v q n) (child v q n) v
+cut_parts v q n fits =
+    let kept = length v.counts - n in
+    let long = length-take-le kept v.counts (omega arith) in
+    let rest = length-drop kept v.counts in
+    record {
+      first = begins_based (parent v q n) v.base refl;
+      second = subst (BeginsAt (child v q n)) (ap (λ k. v.base + k) (sym long)) (begins_based (child v q n) (v.base + kept) refl);
+      long = omega arith;
+      low = λ k l. get_or-take kept v.counts k 0 (omega arith);
+      high = λ k. get_or-drop kept v.counts k 0 ∙ ap (λ m. get_or v.counts (m + k) 0) (sym long);
+    }
+
+append_parts : (v w z : View) → follows v w ≡ true → z.base ≡ v.base → z.counts ≡ v.counts ++ w.counts → AreParts v w z
+append_parts v w z next base counts =
+    let same = ap (λ (l : List ℕ). get_or l) counts in
+    record {
+      first = inr (sym base);
+      second = ⊎_elim
+          (λ (none : length w.counts ≡ 0). inl none)
+          (λ (some : length w.counts ≡ 0 → ⊥). inr (behind some ∙ ap (λ b. b + length v.counts) (sym base)))
+          (cases_eq (length w.counts) 0);
+      long = sym (ap length counts ∙ length-append v.counts w.counts);
+      low = λ k l. sym (get_or_append_left v.counts w.counts 0 k l) ∙ ap (λ (l : List ℕ). get_or l k 0) (sym counts);
+      high = λ k. sym (get_or-append-add v.counts w.counts k 0) ∙ ap (λ (l : List ℕ). get_or l (length v.counts + k) 0) (sym counts);
+    }
+  where
+    behind : (length w.counts ≡ 0 → ⊥) → w.base ≡ v.base + length v.counts
+    behind some = grind (arith, nat_tests)
+
+-- two passes whose rows touch have the rows of the one that they become
+pub record AddRows (v w z : View) (i : ℕ) : Type 0 where
+  pub toppled : toppled_by v i + toppled_by w i ≡ toppled_by z i
+  pub held : one_if (holds_site v i) + one_if (holds_site w i) ≡ one_if (holds_site z i)
+
+pub joined_rows : (v w : View) (i : ℕ) → (follows v w || follows w v) ≡ true → AddRows v w (joined v w) i
+joined_rows v w i touch = ⊎_elim
+    (λ (next : follows v w ≡ true).
+    let parts = append_parts v w (joined v w) next (rw next) (rw next) in
+    record { toppled = parts_toppled v w (joined v w) parts i; held = parts_hold v w (joined v w) parts i })
+    (λ (apart : follows v w ≡ false).
+    let before : follows w v ≡ true = rw apart at touch in
+    let parts = append_parts w v (joined v w) before (rw apart) (rw apart) in
+    let a = parts_toppled w v (joined v w) parts i in
+    let b = parts_hold w v (joined v w) parts i in
+    record { toppled = omega arith; held = omega arith })
+    (cases_Bool (follows v w))

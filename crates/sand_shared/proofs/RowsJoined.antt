@@ -1,0 +1,114 @@
+-- Two passes whose rows touch, and the pass that they become.
+use Rattle.std.proofs.Common.{◌≡◌, ℕ, ◌+◌, ◌-◌, ◌*◌, ◌<◌, ◌≤◌, ◌⊎◌, max, [], ◌++◌, Bool, true, false, eqb, length, sym, refl, ap, ◌∙◌, inl, inr, ⊎_elim, subst, arith, length-append}
+use Rattle.std.specs.Prelude.{◌||◌, if◌then◌else◌}
+use Rattle.std.proofs.Math.Nat.{mul-le-mul_right}
+use Rattle.std.proofs.lemmas.Bool.{cases_eq, cases_lt, eq-eqb, ne_eqb}
+use Rattle.std.proofs.lemmas.Bool.Decides.{nat_tests}
+use Rattle.sand_model.specs.Grid.{Grid, IsGrid}
+use Rattle.sand_shared.specs.declared.rows.Rows.{Rows}
+use Rattle.sand_shared.specs.Events.{follows, joined}
+use Rattle.sand_shared.specs.Passes.{PassView, at_rest, together}
+use Rattle.sand_shared.specs.Rows.{count_of, rows_follow, rows_together, AreApart, AreRowsOf}
+use Rattle.sand_shared.proofs.RowSites.{times_plus, rows_end}
+
+-- rows that touch are not apart
+pub touching_rows : (r q : Rows) → (rows_follow r q || rows_follow q r) ≡ true → AreApart r q → ⊥
+touching_rows r q touch apart =
+    let a = ne_eqb q.first q.end apart.some_second in
+    let b = ne_eqb q.first r.end (λ e. apart.not_after (sym e)) in
+    let c = ne_eqb r.first r.end apart.some_first in
+    let d = ne_eqb r.first q.end (λ e. apart.not_before (sym e)) in
+    let none : (rows_follow r q || rows_follow q r) ≡ false = λ i. (a i || b i) || (c i || d i) in cc
+
+-- the rows of both, in the one order or in the other
+abbrev pub either_rows : Rows → Rows → Bool → Rows
+either_rows r q b = if b then record { first = r.first; end = r.end + count_of q } else record { first = q.first; end = q.end + count_of r }
+
+tests_agree : (a b c d : ℕ) → (a ≡ b → c ≡ d) → (c ≡ d → a ≡ b) → eqb a b ≡ eqb c d
+tests_agree a b c d there back = ⊎_elim
+    (λ (e : a ≡ b). eq-eqb a b e ∙ sym (eq-eqb c d (there e)))
+    (λ (ne : a ≡ b → ⊥). ne_eqb a b ne ∙ sym (ne_eqb c d (λ e. ne (back e))))
+    (cases_eq a b)
+
+times_one : (a b w : ℕ) → 1 ≤ w → a * w ≡ b * w → a ≡ b
+times_one a b w some e = ⊎_elim
+    (λ (less : a < b). let m : (a + 1) * w ≤ b * w = mul-le-mul_right w (omega arith) in let s = times_plus a 1 w in absurd (omega arith))
+    (λ (more : b ≤ a). ⊎_elim
+    (λ (less : b < a). let m : (b + 1) * w ≤ a * w = mul-le-mul_right w (omega arith) in let s = times_plus b 1 w in absurd (omega arith))
+    (λ (le : a ≤ b). omega arith) (cases_lt b a))
+    (cases_lt a b)
+
+-- rows that come directly after others, or are none, make more rows of the grid
+rows_after : (g : Grid) (r s : Rows) → AreRowsOf g r → AreRowsOf g s → (s.first ≡ s.end) ⊎ (s.first ≡ r.end) → AreRowsOf g record { first = r.first; end = r.end + count_of s }
+rows_after g r s rows more near =
+    let ordered = rows.ordered in
+    let ordered' = more.ordered in
+    let inside = rows.inside in
+    let inside' = more.inside in
+    record {
+      ordered = omega arith;
+      inside = ⊎_elim (λ (none : s.first ≡ s.end). omega arith) (λ (next : s.first ≡ r.end). omega arith) near;
+      none = λ same_ends. rows.none (omega arith);
+    }
+
+next_or_none : (r s : Rows) → rows_follow r s ≡ true → (s.first ≡ s.end) ⊎ (s.first ≡ r.end)
+next_or_none r s t = ⊎_elim (λ (e : s.first ≡ s.end). inl e) (λ (ne : s.first ≡ s.end → ⊥). inr (grind (arith, nat_tests))) (cases_eq s.first s.end)
+
+-- what two passes of one grid have
+module _ (p q : PassView) (sides : IsGrid p.grid) (same : q.grid ≡ p.grid) (rows : AreRowsOf p.grid p.rows) (rows' : AreRowsOf q.grid q.rows) (each : length p.counts ≡ count_of p.rows * p.grid.width) (each' : length q.counts ≡ count_of q.rows * q.grid.width) where
+  others : AreRowsOf p.grid q.rows
+  others = subst (λ (g : Grid). AreRowsOf g q.rows) same rows'
+
+  widths : q.grid.width ≡ p.grid.width
+  widths = ap (λ (g : Grid). g.width) same
+
+  pub follows_is : follows (at_rest p) (at_rest q) ≡ rows_follow p.rows q.rows
+  follows_is =
+      let w = p.grid.width in
+      let some = sides.some_width in
+      let end = rows_end p.rows w rows.ordered in
+      let ordered = rows'.ordered in
+      let few : length q.counts ≡ count_of q.rows * w = each' ∙ ap (λ n. count_of q.rows * n) widths in
+      let base : q.rows.first * q.grid.width ≡ q.rows.first * w = ap (λ n. q.rows.first * n) widths in
+      let none = tests_agree (length q.counts) 0 q.rows.first q.rows.end
+      (λ e. let z : count_of q.rows ≡ 0 = times_one (count_of q.rows) 0 w some (omega arith) in omega arith)
+      (λ e. let z = ap (λ n. n * w) {x = count_of q.rows} {y = 0} (omega arith) in omega arith) in
+      let next = tests_agree (q.rows.first * q.grid.width) (p.rows.first * w + length p.counts) q.rows.first p.rows.end
+      (λ e. times_one q.rows.first p.rows.end w some (omega arith))
+      (λ e. let z = ap (λ n. n * w) e in omega arith) in
+      λ i. none i || next i
+
+  -- the pass that the rule makes of both is the one that has both's things
+  pub joined_rest : (s l s' l' : ℕ) → joined (record (at_rest p) { spot = s; least = l }) (record (at_rest q) { spot = s'; least = l' }) ≡ at_rest (together p q)
+  joined_rest s l s' l' =
+      let x = at_rest p in
+      let y = at_rest q in
+      (λ i. record { left = p.left + q.left; seen = max p.seen q.seen; receipts = p.receipts ++ q.receipts; hand = []; base = if follows_is i then x.base else (q.rows.first * widths i); counts = if follows_is i then p.counts ++ q.counts else q.counts ++ p.counts; spot = 0; least = 0 })
+      ∙ (λ i. record { left = p.left + q.left; seen = max p.seen q.seen; receipts = p.receipts ++ q.receipts; hand = []; base = first_is (rows_follow p.rows q.rows) i; counts = if rows_follow p.rows q.rows then p.counts ++ q.counts else q.counts ++ p.counts; spot = 0; least = 0 })
+    where
+      first_is : (b : Bool) → (if b then (p.rows.first * p.grid.width) else (q.rows.first * p.grid.width)) ≡ (either_rows p.rows q.rows b).first * p.grid.width
+      first_is true = refl
+      first_is false = refl
+
+  module _ (touch : (rows_follow p.rows q.rows || rows_follow q.rows p.rows) ≡ true) where
+    both_rows : (b : Bool) → rows_follow p.rows q.rows ≡ b → AreRowsOf p.grid (either_rows p.rows q.rows b)
+    both_rows true e = rows_after p.grid p.rows q.rows rows others (next_or_none p.rows q.rows e)
+    both_rows false e = rows_after p.grid q.rows p.rows others rows (next_or_none q.rows p.rows (rw e at touch))
+
+    pub together_rows : AreRowsOf p.grid (rows_together p.rows q.rows)
+    together_rows = both_rows (rows_follow p.rows q.rows) refl
+
+    both_each : (b : Bool) → length (if b then (p.counts ++ q.counts) else (q.counts ++ p.counts)) ≡ count_of (either_rows p.rows q.rows b) * p.grid.width
+    both_each b =
+        let w = p.grid.width in
+        let ordered = rows.ordered in
+        let ordered' = rows'.ordered in
+        let few : length q.counts ≡ count_of q.rows * w = each' ∙ ap (λ n. count_of q.rows * n) widths in
+        let sum = times_plus (count_of p.rows) (count_of q.rows) w in
+        elim b as (λ b. length (if b then (p.counts ++ q.counts) else (q.counts ++ p.counts)) ≡ count_of (either_rows p.rows q.rows b) * p.grid.width) [
+          | true ↦ length-append p.counts q.counts ∙ (let e = ap (λ n. n * w) {x = (p.rows.end + count_of q.rows) - p.rows.first} {y = count_of p.rows + count_of q.rows} (omega arith) in omega arith)
+          | false ↦ length-append q.counts p.counts ∙ (let e = ap (λ n. n * w) {x = (q.rows.end + count_of p.rows) - q.rows.first} {y = count_of p.rows + count_of q.rows} (omega arith) in omega arith)
+        ]
+
+    pub together_each : length (together p q).counts ≡ count_of (together p q).rows * p.grid.width
+    together_each = both_each (rows_follow p.rows q.rows)

@@ -1,0 +1,59 @@
+-- What the table asks of a step on one of its words: a seat at the table, a word that the table has, and that the rule allows
+-- the step. The words inside are those that contracts see now; the terms and the events are those that the call picked.
+use Rattle.std.proofs.Common.{◌≡◌, ℕ, ◌+◌, ◌<◌, List, sym, ap, ◌∙◌, subst, arith}
+use Rattle.atomic_table.specs.Table.{Allows}
+use Rattle.atomic_table.specs.declared.shared.Seat.{Seat}
+use Rattle.sand_model.specs.Grid.{Grid, sites}
+use Rattle.sand_shared.specs.declared.view.View.{View}
+use Rattle.sand_shared.specs.declared.view.Terms.{Terms}
+use Rattle.sand_shared.specs.OpenPile.{grid_of}
+use Rattle.sand_shared.specs.Events.{Event}
+use Rattle.sand_shared.specs.Passes.{SharedView}
+use Rattle.sand_shared.specs.Running.{IsRunning, Takes, TakesInARow, Learns}
+use Rattle.sand_shared.specs.Seats.{AreWords, IsSeatAt, StaysSeated}
+use Rattle.sand_shared.proofs.StepsAreEvents.{learns}
+
+pub stays_on : {first mid last : Seat ℕ View} → StaysSeated first mid → StaysSeated mid last → StaysSeated first last
+stays_on before after = record { table = after.table ∙ before.table; id = after.id ∙ before.id; bare = after.bare }
+
+module _ {key : Terms} {lattice : Grid} {inside now : SharedView} (words : AreWords key lattice inside) (is : inside ≡ now) where
+  pub key_now : key ≡ now.terms
+  key_now = words.key_is ∙ ap (λ (w : SharedView). w.terms) is
+
+  pub has_word : (word : ℕ) → word < sites (grid_of now.terms) + 2 → word < inside.table.words
+  has_word word fits = let wide = words.wide ∙ ap (λ (w : SharedView). sites (grid_of w.terms) + 2) is in omega arith
+
+  module _ {seat : Seat ℕ View} (at : IsSeatAt now seat) where
+    pub at_table : seat.table_id ≡ inside.table
+    at_table = at.table ∙ sym (ap (λ (w : SharedView). w.table) is)
+
+    -- a step that is an event
+    pub asks_event : {t : Terms} {d : Event} (e : Event) (word : ℕ) (f : ℕ → ℕ) → word < sites (grid_of now.terms) + 2 → (t ≡ now.terms) × (d ≡ e)
+        → Allows (IsRunning now.terms) inside.table.slots seat.id seat.me word f (Takes now.terms e seat.me)
+        → (seat.table_id ≡ inside.table) × (word < inside.table.words) × Allows (IsRunning key) inside.table.slots seat.id seat.me word f (Takes t d seat.me)
+    asks_event e word f fits picked may = (
+      at_table,
+      has_word word fits,
+      subst (λ (z : Terms × Terms × Event). Allows (IsRunning z.0) inside.table.slots seat.id seat.me word f (Takes z.1 z.2 seat.me)) (λ i. (sym key_now i, sym picked.0 i, sym picked.1 i)) may,
+    )
+
+    -- a step that is events in a row
+    pub asks_row : {t : Terms} {b : ℕ} {ds : List Event} (es : List Event) (word : ℕ) (f : ℕ → ℕ) → word < sites (grid_of now.terms) + 2 → (t ≡ now.terms) × (b ≡ seat.id) × (ds ≡ es)
+        → Allows (IsRunning now.terms) inside.table.slots seat.id seat.me word f (TakesInARow now.terms seat.id es seat.me)
+        → (seat.table_id ≡ inside.table) × (word < inside.table.words) × Allows (IsRunning key) inside.table.slots seat.id seat.me word f (TakesInARow t b ds seat.me)
+    asks_row es word f fits picked may = (
+      at_table,
+      has_word word fits,
+      subst (λ (z : Terms × Terms × ℕ × List Event). Allows (IsRunning z.0) inside.table.slots seat.id seat.me word f (TakesInARow z.1 z.2 z.3 seat.me))
+          (λ i. (sym key_now i, sym picked.0 i, sym picked.1 i, sym picked.2 i)) may,
+    )
+
+    -- a load of word 0 that is no event
+    pub asks_nothing : {t : Terms} {a : ℕ} → (t ≡ now.terms) × (a ≡ seat.id)
+        → (seat.table_id ≡ inside.table) × (0 < inside.table.words) × Allows (IsRunning key) inside.table.slots seat.id seat.me 0 (λ n. n) (Learns t a seat.me)
+    asks_nothing picked = (
+      at_table,
+      has_word 0 (omega arith),
+      subst (λ (z : Terms × Terms × ℕ). Allows (IsRunning z.0) inside.table.slots seat.id seat.me 0 (λ n. n) (Learns z.1 z.2 seat.me)) (λ i. (sym key_now i, sym picked.0 i, sym picked.1 i))
+          (learns now.terms seat.id inside.table.slots seat.me),
+    )
