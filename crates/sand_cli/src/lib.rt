@@ -8,7 +8,7 @@ mod options;
 mod words;
 
 pub use fault::{Conflict, WordsFault};
-pub use words::{Draw, Form, Run, Task, task_of};
+pub use words::{Draw, Form, Task, task_of};
 
 #[cfg(test)]
 mod tests;
