@@ -51,14 +51,13 @@ pub fn lab_text(alloc: Global, report: &Report) -> Result<Vec<u8>, DeskFault>
 {
     let total = report.total();
     let epochs = sums_of_all(alloc, report.records())?;
-    let text = sand_text::lab_text(
+    Ok(sand_text::lab_text(
         alloc,
         epochs.as_slice(),
         sums_of(total),
         total.pile(),
         total.odometers(),
-    )?;
-    Ok(text)
+    )?)
 }
 
 // Writes the lines of an epoch's drops, by number.
