@@ -10,11 +10,11 @@ use Rattle.sand_plan.specs.Plans.{most_droppers, most_drops, most_epochs, most_o
 use Rattle.sand_cli.specs.Asked.{GoTogether, IsRun, conflict_of, lab_of, with_settings}
 use Rattle.sand_cli.specs.Options.{number_of}
 use Rattle.sand_cli.specs.Spelling.{flag_words, form_words, settings_of}
-use Rattle.sand_cli.specs.declared.words.Form.{Form}
-use Rattle.sand_cli.specs.declared.words.Form.TheVariants.{Picture, Pile}
-use Rattle.sand_cli.specs.declared.words.Form.TheVariants as forms
+use Rattle.sand_cli.specs.declared.task.Form.{Form}
+use Rattle.sand_cli.specs.declared.task.Form.TheVariants.{Picture, Pile}
+use Rattle.sand_cli.specs.declared.task.Form.TheVariants as forms
 use Rattle.sand_plan.specs.declared.wish.Wish.{Wish}
-use Rattle.sand_cli.specs.declared.words.Task.TheVariants.{Lab}
+use Rattle.sand_cli.specs.declared.task.Task.TheVariants.{Lab}
 use Rattle.sand_cli.proofs.NumberTexts.{IsNumberText, number_text}
 use Rattle.sand_cli.proofs.Settings.{lab_built}
 use Rattle.sand_cli.proofs.Walks.{Reads, end_fault, given, given_row, level_ends, reads_both, reads_nothing, reads_option, reads_word, rows_end}

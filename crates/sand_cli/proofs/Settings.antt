@@ -10,10 +10,10 @@ use Rattle.sand_cli.specs.Options.{flag_in, number_of, setting_in, value_of}
 use Rattle.sand_plan.specs.Plans.{most_droppers, most_drops, most_epochs, most_observers, most_sweeps, most_workers}
 use Rattle.sand_cli.specs.Asked.{GoTogether, conflict_of, form_in, lab_of, wish_of}
 use Rattle.sand_cli.specs.declared.fault.Conflict.TheVariants.{Forms}
-use Rattle.sand_cli.specs.declared.words.Form.TheVariants.{Picture, Pile}
-use Rattle.sand_cli.specs.declared.words.Form.TheVariants as forms
+use Rattle.sand_cli.specs.declared.task.Form.TheVariants.{Picture, Pile}
+use Rattle.sand_cli.specs.declared.task.Form.TheVariants as forms
 use Rattle.sand_plan.specs.declared.wish.Wish.{Wish}
-use Rattle.sand_cli.specs.declared.words.Task.TheVariants.{Lab}
+use Rattle.sand_cli.specs.declared.task.Task.TheVariants.{Lab}
 use Rattle.sand_cli.proofs.Alone.{IsAlone, each_alone}
 use Rattle.sand_cli.proofs.Each.{Each}
 use Rattle.sand_cli.proofs.Passing.{level_fine, row_passes}

@@ -9,11 +9,11 @@ use Rattle.sand_cli.specs.Line.{command_line}
 use Rattle.sand_cli.specs.Options.{flag_in, number_in, setting_in}
 use Rattle.sand_cli.specs.declared.fault.Conflict.{Conflict}
 use Rattle.sand_cli.specs.declared.fault.Conflict.TheVariants.{Forms, Uncounted}
-use Rattle.sand_cli.specs.declared.words.Draw.{Draw}
-use Rattle.sand_cli.specs.declared.words.Form.{Form}
-use Rattle.sand_cli.specs.declared.words.Form.TheVariants as forms
-use Rattle.sand_cli.specs.declared.words.Task.{Task}
-use Rattle.sand_cli.specs.declared.words.Task.TheVariants.{Add, Burn, Drops, Identity, Inverse, Lab, Recurrent, Settle}
+use Rattle.sand_cli.specs.declared.task.Draw.{Draw}
+use Rattle.sand_cli.specs.declared.task.Form.{Form}
+use Rattle.sand_cli.specs.declared.task.Form.TheVariants as forms
+use Rattle.sand_cli.specs.declared.task.Task.{Task}
+use Rattle.sand_cli.specs.declared.task.Task.TheVariants.{Add, Burn, Drops, Identity, Inverse, Lab, Recurrent, Settle}
 
 -- the form in which a pile is asked for
 abbrev pub form_in : List Row → Form

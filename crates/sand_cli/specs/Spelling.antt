@@ -4,12 +4,12 @@ use Rattle.clap.specs.Words.{Text}
 use Rattle.sand_cli.specs.Asked.{IsWithin}
 use Rattle.sand_cli.specs.declared.fault.WordsFault.{WordsFault}
 use Rattle.sand_cli.specs.declared.fault.WordsFault.TheVariants.{Memory}
-use Rattle.sand_cli.specs.declared.words.Draw.{Draw}
-use Rattle.sand_cli.specs.declared.words.Form.{Form}
-use Rattle.sand_cli.specs.declared.words.Form.TheVariants as forms
+use Rattle.sand_cli.specs.declared.task.Draw.{Draw}
+use Rattle.sand_cli.specs.declared.task.Form.{Form}
+use Rattle.sand_cli.specs.declared.task.Form.TheVariants as forms
 use Rattle.sand_plan.specs.declared.wish.Wish.{Wish}
-use Rattle.sand_cli.specs.declared.words.Task.{Task}
-use Rattle.sand_cli.specs.declared.words.Task.TheVariants.{Add, Burn, Drops, Identity, Inverse, Lab, Recurrent, Settle}
+use Rattle.sand_cli.specs.declared.task.Task.{Task}
+use Rattle.sand_cli.specs.declared.task.Task.TheVariants.{Add, Burn, Drops, Identity, Inverse, Lab, Recurrent, Settle}
 
 -- a flag, where it is wanted
 abbrev pub flag_words : Text → Bool → List Text

@@ -15,8 +15,8 @@ use Rattle.sand_lab.proofs.Outcomes.{epoch_tally, one_threads_once}
 use Rattle.sand_text.specs.declared.fault.TextFault.{TextFault}
 use Rattle.sand_text.specs.Reading.{pile_of, ◌>>=◌}
 use Rattle.sand_text.specs.Texts.{text_of}
-use Rattle.sand_cli.specs.declared.words.Draw.{Draw}
-use Rattle.sand_cli.specs.declared.words.Form.{Form}
+use Rattle.sand_cli.specs.declared.task.Draw.{Draw}
+use Rattle.sand_cli.specs.declared.task.Form.{Form}
 use Rattle.sand_desk.specs.Drawing.{DropsTheDraw, LeavesTheSame, WritesTheSamePile}
 use Rattle.sand_desk.specs.Dropping.{with_draw}
 

@@ -7,8 +7,8 @@ use Rattle.sand_text.specs.Pictures.{pgm_text_of}
 use Rattle.sand_text.specs.Reading.{pile_of}
 use Rattle.sand_text.specs.Runs.{lab_text_of, journal_text_of}
 use Rattle.sand_text.specs.Texts.{text_of}
-use Rattle.sand_cli.specs.declared.words.Form.{Form}
-use Rattle.sand_cli.specs.declared.words.Form.TheVariants.{Picture, Pile, Text}
+use Rattle.sand_cli.specs.declared.task.Form.{Form}
+use Rattle.sand_cli.specs.declared.task.Form.TheVariants.{Picture, Pile, Text}
 use Rattle.sand_lab.specs.declared.journal.Entry.{Entry}
 use Rattle.sand_plan.specs.declared.wish.Wish.{Wish}
 use Rattle.sand_lab.specs.Laws.{AskTheSame}

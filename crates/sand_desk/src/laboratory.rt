@@ -4,7 +4,7 @@ ghost use Rattle.std.specs.Prelude.{ℕ, ◌≡◌, ◌+◌, ◌++◌, List, map
 ghost use Rattle.sand_shared.specs.Record.{IsOneThreads};
 ghost use Rattle.sand_text.specs.Runs.{journal_lines};
 ghost use Rattle.sand_cli.specs.Asked.{IsRun};
-ghost use Rattle.sand_cli.specs.declared.words.Form.TheVariants as forms;
+ghost use Rattle.sand_cli.specs.declared.task.Form.TheVariants as forms;
 ghost use Rattle.sand_plan.specs.Plans.{all_drops};
 ghost use Rattle.sand_lab.specs.Reports.{IsReport};
 ghost use Rattle.sand_desk.specs.Commands.{IsLabFault, IsRunFault, Finds};
