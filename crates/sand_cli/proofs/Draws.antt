@@ -9,7 +9,7 @@ use Rattle.clap.specs.Faults.{level_fault}
 use Rattle.sand_cli.specs.Asked.{IsDraw, draw_by, draw_of}
 use Rattle.sand_cli.specs.Line.{drops_line, number}
 use Rattle.sand_cli.specs.Options.{flag_in, number_of, setting_in, value_of}
-use Rattle.sand_cli.specs.declared.words.Task.TheVariants.{Drops}
+use Rattle.sand_cli.specs.declared.task.Task.TheVariants.{Drops}
 use Rattle.sand_cli.proofs.Alone.{IsAlone, each_alone}
 use Rattle.sand_cli.proofs.Each.{Each}
 use Rattle.sand_cli.proofs.Passing.{level_fine, row_passes}

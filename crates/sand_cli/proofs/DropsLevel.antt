@@ -8,7 +8,7 @@ use Rattle.clap.proofs.OnLiterals.{clap_on_literals}
 use Rattle.sand_cli.specs.Asked.{IsDraw, conflict_of, draw_of}
 use Rattle.sand_cli.specs.Options.{flag_in, number_of}
 use Rattle.sand_cli.specs.Spelling.{draw_words, flag_words}
-use Rattle.sand_cli.specs.declared.words.Draw.{Draw}
+use Rattle.sand_cli.specs.declared.task.Draw.{Draw}
 use Rattle.sand_cli.proofs.Draws.{drops_built}
 use Rattle.sand_cli.proofs.NumberTexts.{IsNumberText, number_text}
 use Rattle.sand_cli.proofs.Walks.{Reads, end_fault, given, given_row, level_ends, reads_both, reads_nothing, reads_option, reads_word, rows_end}

@@ -6,8 +6,8 @@ use Rattle.clap.proofs.OnLiterals.{clap_on_literals}
 use Rattle.sand_cli.specs.Line.{command_line}
 use Rattle.sand_cli.specs.Asked.{asked, conflict_among, faults}
 use Rattle.sand_cli.specs.declared.fault.Conflict.TheVariants.{Forms, Uncounted}
-use Rattle.sand_cli.specs.declared.words.Form.TheVariants as forms
-use Rattle.sand_cli.specs.declared.words.Task.TheVariants.{Drops, Identity, Lab, Settle}
+use Rattle.sand_cli.specs.declared.task.Form.TheVariants as forms
+use Rattle.sand_cli.specs.declared.task.Task.TheVariants.{Drops, Identity, Lab, Settle}
 
 -- `sandpile settle` asks to settle, whatever the program's name
 settle_asks : (program : Text) → asked (program ∷ codes "settle" ∷ []) ≡ Some (Settle forms.Text)

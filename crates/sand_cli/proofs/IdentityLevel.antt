@@ -7,7 +7,7 @@ use Rattle.clap.proofs.OnLiterals.{clap_on_literals}
 use Rattle.sand_cli.specs.Asked.{conflict_of, identity_of}
 use Rattle.sand_cli.specs.Options.{number_of}
 use Rattle.sand_cli.specs.Spelling.{flag_words}
-use Rattle.sand_cli.specs.declared.words.Task.TheVariants.{Identity}
+use Rattle.sand_cli.specs.declared.task.Task.TheVariants.{Identity}
 use Rattle.sand_cli.proofs.NumberTexts.{IsNumberText, number_text}
 use Rattle.sand_cli.proofs.Sides.{identity_built}
 use Rattle.sand_cli.proofs.Walks.{Reads, end_fault, given, given_row, level_ends, reads_both, reads_nothing, reads_option, reads_word, rows_end}

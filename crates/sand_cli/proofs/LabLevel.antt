@@ -6,14 +6,15 @@ use Rattle.clap.specs.Kinds.{Kinds, or_else}
 use Rattle.clap.specs.Walk.{Row, Walk, finished, nothing_held, rows_after, settled, walk_from, walked}
 use Rattle.clap.specs.Words.{Text}
 use Rattle.clap.proofs.OnLiterals.{clap_on_literals}
+use Rattle.sand_plan.specs.Plans.{most_droppers, most_drops, most_epochs, most_observers, most_sweeps, most_workers}
 use Rattle.sand_cli.specs.Asked.{GoTogether, IsRun, conflict_of, lab_of, with_settings}
 use Rattle.sand_cli.specs.Options.{number_of}
 use Rattle.sand_cli.specs.Spelling.{flag_words, form_words, settings_of}
-use Rattle.sand_cli.specs.declared.words.Form.{Form}
-use Rattle.sand_cli.specs.declared.words.Form.TheVariants.{Picture, Pile}
-use Rattle.sand_cli.specs.declared.words.Form.TheVariants as forms
-use Rattle.sand_cli.specs.declared.words.Run.{Run}
-use Rattle.sand_cli.specs.declared.words.Task.TheVariants.{Lab}
+use Rattle.sand_cli.specs.declared.task.Form.{Form}
+use Rattle.sand_cli.specs.declared.task.Form.TheVariants.{Picture, Pile}
+use Rattle.sand_cli.specs.declared.task.Form.TheVariants as forms
+use Rattle.sand_plan.specs.declared.wish.Wish.{Wish}
+use Rattle.sand_cli.specs.declared.task.Task.TheVariants.{Lab}
 use Rattle.sand_cli.proofs.NumberTexts.{IsNumberText, number_text}
 use Rattle.sand_cli.proofs.Settings.{lab_built}
 use Rattle.sand_cli.proofs.Walks.{Reads, end_fault, given, given_row, level_ends, reads_both, reads_nothing, reads_option, reads_word, rows_end}
@@ -23,82 +24,82 @@ abbrev flags_for : Bool → Form → List Text
 flags_for journal form = flag_words (codes "--journal") journal ++ form_words form
 
 -- what stands behind `lab`
-abbrev pub lab_words : Run → Bool → Form → List Text
-lab_words run journal form = settings_of run ++ flags_for journal form
+abbrev pub lab_words : Wish → Bool → Form → List Text
+lab_words wish journal form = settings_of wish ++ flags_for journal form
 
-module _ (run : Run) (within : IsRun run) where
-  seed : IsNumberText 0 4294967295 (decimal run.seed) run.seed
-  seed = number_text 0 4294967295 run.seed (omega arith) within.seed (omega arith)
+module _ (wish : Wish) (within : IsRun wish) where
+  seed : IsNumberText 0 4294967295 (decimal wish.seed) wish.seed
+  seed = number_text 0 4294967295 wish.seed (omega arith) within.seed (omega arith)
 
-  droppers : IsNumberText 1 64 (decimal run.droppers) run.droppers
-  droppers = number_text 1 64 run.droppers within.droppers.0 within.droppers.1 (omega arith)
+  droppers : IsNumberText 1 most_droppers (decimal wish.droppers) wish.droppers
+  droppers = number_text 1 most_droppers wish.droppers within.plan.some_droppers within.plan.droppers (omega arith)
 
-  drops : IsNumberText 0 1000000 (decimal run.drops) run.drops
-  drops = number_text 0 1000000 run.drops (omega arith) within.drops (omega arith)
+  drops : IsNumberText 0 most_drops (decimal wish.drops) wish.drops
+  drops = number_text 0 most_drops wish.drops (omega arith) within.plan.drops (omega arith)
 
-  epochs : IsNumberText 1 100 (decimal run.epochs) run.epochs
-  epochs = number_text 1 100 run.epochs within.epochs.0 within.epochs.1 (omega arith)
+  epochs : IsNumberText 1 most_epochs (decimal wish.epochs) wish.epochs
+  epochs = number_text 1 most_epochs wish.epochs within.plan.some_epochs within.plan.epochs (omega arith)
 
-  workers : IsNumberText 1 16 (decimal run.workers) run.workers
-  workers = number_text 1 16 run.workers within.workers.0 within.workers.1 (omega arith)
+  workers : IsNumberText 1 most_workers (decimal wish.workers) wish.workers
+  workers = number_text 1 most_workers wish.workers within.plan.some_workers within.plan.workers (omega arith)
 
-  sweeps : IsNumberText 0 1000 (decimal run.sweeps) run.sweeps
-  sweeps = number_text 0 1000 run.sweeps (omega arith) within.sweeps (omega arith)
+  sweeps : IsNumberText 0 most_sweeps (decimal wish.sweeps) wish.sweeps
+  sweeps = number_text 0 most_sweeps wish.sweeps (omega arith) within.plan.sweeps (omega arith)
 
-  observers : IsNumberText 0 16 (decimal run.observers) run.observers
-  observers = number_text 0 16 run.observers (omega arith) within.observers (omega arith)
+  observers : IsNumberText 0 most_observers (decimal wish.observers) wish.observers
+  observers = number_text 0 most_observers wish.observers (omega arith) within.plan.observers (omega arith)
 
   -- the rows of the settings before the last
   abbrev rows : List Row
-  rows = given_row (codes "seed") (decimal run.seed)
-      ∷ given_row (codes "droppers") (decimal run.droppers)
-      ∷ given_row (codes "drops") (decimal run.drops)
-      ∷ given_row (codes "epochs") (decimal run.epochs)
-      ∷ given_row (codes "workers") (decimal run.workers)
-      ∷ given_row (codes "sweeps") (decimal run.sweeps) ∷ []
+  rows = given_row (codes "seed") (decimal wish.seed)
+      ∷ given_row (codes "droppers") (decimal wish.droppers)
+      ∷ given_row (codes "drops") (decimal wish.drops)
+      ∷ given_row (codes "epochs") (decimal wish.epochs)
+      ∷ given_row (codes "workers") (decimal wish.workers)
+      ∷ given_row (codes "sweeps") (decimal wish.sweeps) ∷ []
 
   -- the walk behind a setting, which is still pending, and so many others
   abbrev behind : ℕ → Text → ℕ → Walk
   behind k name n = given (take k rows) name (decimal n)
 
   all : Walk
-  all = behind 6 (codes "observers") run.observers
+  all = behind 6 (codes "observers") wish.observers
 
-  seed_read : Reads lab_built (walk_from nothing_held) (codes "--seed" ∷ decimal run.seed ∷ []) (behind 0 (codes "seed") run.seed)
+  seed_read : Reads lab_built (walk_from nothing_held) (codes "--seed" ∷ decimal wish.seed ∷ []) (behind 0 (codes "seed") wish.seed)
   unfolding clap_on_literals
   seed_read = reads_option lab_built (walk_from nothing_held) [] (codes "--seed") (codes "seed") _ refl refl refl seed.no_option
 
-  droppers_read : Reads lab_built (behind 0 (codes "seed") run.seed) (codes "--droppers" ∷ decimal run.droppers ∷ []) (behind 1 (codes "droppers") run.droppers)
+  droppers_read : Reads lab_built (behind 0 (codes "seed") wish.seed) (codes "--droppers" ∷ decimal wish.droppers ∷ []) (behind 1 (codes "droppers") wish.droppers)
   unfolding clap_on_literals
   droppers_read =
-      reads_option lab_built (behind 0 (codes "seed") run.seed) (take 1 rows) (codes "--droppers") (codes "droppers") _ (rw seed.passes refl) refl refl droppers.no_option
+      reads_option lab_built (behind 0 (codes "seed") wish.seed) (take 1 rows) (codes "--droppers") (codes "droppers") _ (rw seed.passes refl) refl refl droppers.no_option
 
-  drops_read : Reads lab_built (behind 1 (codes "droppers") run.droppers) (codes "--drops" ∷ decimal run.drops ∷ []) (behind 2 (codes "drops") run.drops)
+  drops_read : Reads lab_built (behind 1 (codes "droppers") wish.droppers) (codes "--drops" ∷ decimal wish.drops ∷ []) (behind 2 (codes "drops") wish.drops)
   unfolding clap_on_literals
   drops_read =
-      reads_option lab_built (behind 1 (codes "droppers") run.droppers) (take 2 rows) (codes "--drops") (codes "drops") _ (rw droppers.passes refl) refl refl drops.no_option
+      reads_option lab_built (behind 1 (codes "droppers") wish.droppers) (take 2 rows) (codes "--drops") (codes "drops") _ (rw droppers.passes refl) refl refl drops.no_option
 
-  epochs_read : Reads lab_built (behind 2 (codes "drops") run.drops) (codes "--epochs" ∷ decimal run.epochs ∷ []) (behind 3 (codes "epochs") run.epochs)
+  epochs_read : Reads lab_built (behind 2 (codes "drops") wish.drops) (codes "--epochs" ∷ decimal wish.epochs ∷ []) (behind 3 (codes "epochs") wish.epochs)
   unfolding clap_on_literals
   epochs_read =
-      reads_option lab_built (behind 2 (codes "drops") run.drops) (take 3 rows) (codes "--epochs") (codes "epochs") _ (rw drops.passes refl) refl refl epochs.no_option
+      reads_option lab_built (behind 2 (codes "drops") wish.drops) (take 3 rows) (codes "--epochs") (codes "epochs") _ (rw drops.passes refl) refl refl epochs.no_option
 
-  workers_read : Reads lab_built (behind 3 (codes "epochs") run.epochs) (codes "--workers" ∷ decimal run.workers ∷ []) (behind 4 (codes "workers") run.workers)
+  workers_read : Reads lab_built (behind 3 (codes "epochs") wish.epochs) (codes "--workers" ∷ decimal wish.workers ∷ []) (behind 4 (codes "workers") wish.workers)
   unfolding clap_on_literals
   workers_read =
-      reads_option lab_built (behind 3 (codes "epochs") run.epochs) (take 4 rows) (codes "--workers") (codes "workers") _ (rw epochs.passes refl) refl refl workers.no_option
+      reads_option lab_built (behind 3 (codes "epochs") wish.epochs) (take 4 rows) (codes "--workers") (codes "workers") _ (rw epochs.passes refl) refl refl workers.no_option
 
-  sweeps_read : Reads lab_built (behind 4 (codes "workers") run.workers) (codes "--sweeps" ∷ decimal run.sweeps ∷ []) (behind 5 (codes "sweeps") run.sweeps)
+  sweeps_read : Reads lab_built (behind 4 (codes "workers") wish.workers) (codes "--sweeps" ∷ decimal wish.sweeps ∷ []) (behind 5 (codes "sweeps") wish.sweeps)
   unfolding clap_on_literals
   sweeps_read =
-      reads_option lab_built (behind 4 (codes "workers") run.workers) (take 5 rows) (codes "--sweeps") (codes "sweeps") _ (rw workers.passes refl) refl refl sweeps.no_option
+      reads_option lab_built (behind 4 (codes "workers") wish.workers) (take 5 rows) (codes "--sweeps") (codes "sweeps") _ (rw workers.passes refl) refl refl sweeps.no_option
 
-  observers_read : Reads lab_built (behind 5 (codes "sweeps") run.sweeps) (codes "--observers" ∷ decimal run.observers ∷ []) (behind 6 (codes "observers") run.observers)
+  observers_read : Reads lab_built (behind 5 (codes "sweeps") wish.sweeps) (codes "--observers" ∷ decimal wish.observers ∷ []) (behind 6 (codes "observers") wish.observers)
   unfolding clap_on_literals
   observers_read =
-      reads_option lab_built (behind 5 (codes "sweeps") run.sweeps) (take 6 rows) (codes "--observers") (codes "observers") _ (rw sweeps.passes refl) refl refl observers.no_option
+      reads_option lab_built (behind 5 (codes "sweeps") wish.sweeps) (take 6 rows) (codes "--observers") (codes "observers") _ (rw sweeps.passes refl) refl refl observers.no_option
 
-  settings_read : Reads lab_built (walk_from nothing_held) (settings_of run) all
+  settings_read : Reads lab_built (walk_from nothing_held) (settings_of wish) all
   unfolding all
   settings_read = reads_both seed_read (reads_both droppers_read (reads_both drops_read (reads_both epochs_read (reads_both workers_read (reads_both sweeps_read observers_read)))))
 
@@ -118,7 +119,7 @@ module _ (run : Run) (within : IsRun run) where
   flags_read false Pile = reads_word lab_built all _ (codes "--pile") (rw observers.passes refl) refl
   flags_read false forms.Text = reads_nothing
 
-  words_read : (journal : Bool) (form : Form) → Reads lab_built (walk_from nothing_held) (lab_words run journal form) (end_of (flags_for journal form))
+  words_read : (journal : Bool) (form : Form) → Reads lab_built (walk_from nothing_held) (lab_words wish journal form) (end_of (flags_for journal form))
   words_read journal form = reads_both settings_read (flags_read journal form)
 
   -- the value that is still pending passes
@@ -141,18 +142,18 @@ module _ (run : Run) (within : IsRun run) where
   abbrev read : ℕ → Option ℕ
   read n = number_of 4294967295 (decimal n)
 
-  run_read : with_settings (read run.seed) (read run.droppers) (read run.drops) (read run.epochs) (read run.workers) (read run.sweeps) (read run.observers) ≡ Some run
-  run_read = rw (seed.reads 4294967295 (omega arith), droppers.reads 4294967295 (omega arith), drops.reads 4294967295 (omega arith), epochs.reads 4294967295 (omega arith), workers.reads 4294967295 (omega arith), sweeps.reads 4294967295 (omega arith), observers.reads 4294967295 (omega arith)) refl
+  wish_read : with_settings (read wish.seed) (read wish.droppers) (read wish.drops) (read wish.epochs) (read wish.workers) (read wish.sweeps) (read wish.observers) ≡ Some wish
+  wish_read = rw (seed.reads 4294967295 (omega arith), droppers.reads 4294967295 (omega arith), drops.reads 4294967295 (omega arith), epochs.reads 4294967295 (omega arith), workers.reads 4294967295 (omega arith), sweeps.reads 4294967295 (omega arith), observers.reads 4294967295 (omega arith)) refl
 
   -- the rows at the end say the run
-  end_asks : (journal : Bool) (form : Form) → lab_of (finished lab_built.rules (end_of (flags_for journal form)).held) ≡ Some (Lab run journal form)
+  end_asks : (journal : Bool) (form : Form) → lab_of (finished lab_built.rules (end_of (flags_for journal form)).held) ≡ Some (Lab wish journal form)
   unfolding all clap_on_literals
-  end_asks true Picture = ap (option_map (λ r. Lab r true Picture)) run_read
-  end_asks true Pile = ap (option_map (λ r. Lab r true Pile)) run_read
-  end_asks true forms.Text = ap (option_map (λ r. Lab r true forms.Text)) run_read
-  end_asks false Picture = ap (option_map (λ r. Lab r false Picture)) run_read
-  end_asks false Pile = ap (option_map (λ r. Lab r false Pile)) run_read
-  end_asks false forms.Text = ap (option_map (λ r. Lab r false forms.Text)) run_read
+  end_asks true Picture = ap (option_map (λ r. Lab r true Picture)) wish_read
+  end_asks true Pile = ap (option_map (λ r. Lab r true Pile)) wish_read
+  end_asks true forms.Text = ap (option_map (λ r. Lab r true forms.Text)) wish_read
+  end_asks false Picture = ap (option_map (λ r. Lab r false Picture)) wish_read
+  end_asks false Pile = ap (option_map (λ r. Lab r false Pile)) wish_read
+  end_asks false forms.Text = ap (option_map (λ r. Lab r false forms.Text)) wish_read
 
   -- and go together
   end_free : (journal : Bool) (form : Form) → GoTogether journal form → conflict_of (codes "lab", finished lab_built.rules (end_of (flags_for journal form)).held) ≡ None
@@ -165,13 +166,13 @@ module _ (run : Run) (within : IsRun run) where
   end_free false forms.Text together = refl
 
   -- the level passes
-  pub lab_passes : (journal : Bool) (form : Form) → level_fault lab_built [] nothing_held (lab_words run journal form) false [] ≡ []
+  pub lab_passes : (journal : Bool) (form : Form) → level_fault lab_built [] nothing_held (lab_words wish journal form) false [] ≡ []
   lab_passes journal form = level_ends (words_read journal form) ∙ end_passes journal form
 
   -- and its rows say the task
-  pub lab_reads : (journal : Bool) (form : Form) → lab_of (rows_after lab_built.rules [] (lab_words run journal form)) ≡ Some (Lab run journal form)
+  pub lab_reads : (journal : Bool) (form : Form) → lab_of (rows_after lab_built.rules [] (lab_words wish journal form)) ≡ Some (Lab wish journal form)
   lab_reads journal form = ap lab_of (rows_end (words_read journal form)) ∙ end_asks journal form
 
   -- which go together where the form goes with a journal
-  pub lab_free : (journal : Bool) (form : Form) → GoTogether journal form → conflict_of (codes "lab", rows_after lab_built.rules [] (lab_words run journal form)) ≡ None
+  pub lab_free : (journal : Bool) (form : Form) → GoTogether journal form → conflict_of (codes "lab", rows_after lab_built.rules [] (lab_words wish journal form)) ≡ None
   lab_free journal form together = ap (λ rows. conflict_of (codes "lab", rows)) (rows_end (words_read journal form)) ∙ end_free journal form together

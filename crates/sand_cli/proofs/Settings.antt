@@ -7,12 +7,13 @@ use Rattle.clap.specs.Walk.{has_row, nothing_held, rows_after, settled, walk}
 use Rattle.clap.specs.Faults.{level_fault}
 use Rattle.sand_cli.specs.Line.{lab_line, setting}
 use Rattle.sand_cli.specs.Options.{flag_in, number_of, setting_in, value_of}
-use Rattle.sand_cli.specs.Asked.{GoTogether, conflict_of, form_in, lab_of, run_of}
+use Rattle.sand_plan.specs.Plans.{most_droppers, most_drops, most_epochs, most_observers, most_sweeps, most_workers}
+use Rattle.sand_cli.specs.Asked.{GoTogether, conflict_of, form_in, lab_of, wish_of}
 use Rattle.sand_cli.specs.declared.fault.Conflict.TheVariants.{Forms}
-use Rattle.sand_cli.specs.declared.words.Form.TheVariants.{Picture, Pile}
-use Rattle.sand_cli.specs.declared.words.Form.TheVariants as forms
-use Rattle.sand_cli.specs.declared.words.Run.{Run}
-use Rattle.sand_cli.specs.declared.words.Task.TheVariants.{Lab}
+use Rattle.sand_cli.specs.declared.task.Form.TheVariants.{Picture, Pile}
+use Rattle.sand_cli.specs.declared.task.Form.TheVariants as forms
+use Rattle.sand_plan.specs.declared.wish.Wish.{Wish}
+use Rattle.sand_cli.specs.declared.task.Task.TheVariants.{Lab}
 use Rattle.sand_cli.proofs.Alone.{IsAlone, each_alone}
 use Rattle.sand_cli.proofs.Each.{Each}
 use Rattle.sand_cli.proofs.Passing.{level_fine, row_passes}
@@ -57,13 +58,13 @@ lab_is_sound words passes free =
     let rows = rows_after lab_built.rules [] words in
     let has = each_has_row lab_built.rules (settled lab_built.rules (walk lab_built.rules [] nothing_held words).held).rows in
     let seed = setting_is_number (codes "seed") (codes "0") 0 4294967295 words (omega arith) alone.0 passes (has.0 refl) in
-    let droppers = setting_is_number (codes "droppers") (codes "2") 1 64 words (omega arith) alone.1.0 passes (has.1.0 refl) in
-    let drops = setting_is_number (codes "drops") (codes "100") 0 1000000 words (omega arith) alone.1.1.0 passes (has.1.1.0 refl) in
-    let epochs = setting_is_number (codes "epochs") (codes "1") 1 100 words (omega arith) alone.1.1.1.0 passes (has.1.1.1.0 refl) in
-    let workers = setting_is_number (codes "workers") (codes "1") 1 16 words (omega arith) alone.1.1.1.1.0 passes (has.1.1.1.1.0 refl) in
-    let sweeps = setting_is_number (codes "sweeps") (codes "0") 0 1000 words (omega arith) alone.1.1.1.1.1.0 passes (has.1.1.1.1.1.0 refl) in
-    let observers = setting_is_number (codes "observers") (codes "0") 0 16 words (omega arith) alone.1.1.1.1.1.1.0 passes (has.1.1.1.1.1.1.0 refl) in
-    let run : Run = record {
+    let droppers = setting_is_number (codes "droppers") (codes "2") 1 most_droppers words (omega arith) alone.1.0 passes (has.1.0 refl) in
+    let drops = setting_is_number (codes "drops") (codes "100") 0 most_drops words (omega arith) alone.1.1.0 passes (has.1.1.0 refl) in
+    let epochs = setting_is_number (codes "epochs") (codes "1") 1 most_epochs words (omega arith) alone.1.1.1.0 passes (has.1.1.1.0 refl) in
+    let workers = setting_is_number (codes "workers") (codes "1") 1 most_workers words (omega arith) alone.1.1.1.1.0 passes (has.1.1.1.1.0 refl) in
+    let sweeps = setting_is_number (codes "sweeps") (codes "0") 0 most_sweeps words (omega arith) alone.1.1.1.1.1.0 passes (has.1.1.1.1.1.0 refl) in
+    let observers = setting_is_number (codes "observers") (codes "0") 0 most_observers words (omega arith) alone.1.1.1.1.1.1.0 passes (has.1.1.1.1.1.1.0 refl) in
+    let wish : Wish = record {
       seed = seed.0;
       droppers = droppers.0;
       drops = drops.0;
@@ -72,18 +73,23 @@ lab_is_sound words passes free =
       sweeps = sweeps.0;
       observers = observers.0;
     } in
-    let is : run_of rows ≡ Some run = rw (seed.1, droppers.1, drops.1, epochs.1, workers.1, sweeps.1, observers.1) refl in (
+    let is : wish_of rows ≡ Some wish = rw (seed.1, droppers.1, drops.1, epochs.1, workers.1, sweeps.1, observers.1) refl in (
       _,
       ap (option_map (λ r. Lab r (flag_in (codes "journal") rows) (form_in rows))) is,
       (
         record {
           seed = seed.3;
-          droppers = (droppers.2, droppers.3);
-          drops = drops.3;
-          epochs = (epochs.2, epochs.3);
-          workers = (workers.2, workers.3);
-          sweeps = sweeps.3;
-          observers = observers.3;
+          plan = record {
+            some_droppers = droppers.2;
+            droppers = droppers.3;
+            drops = drops.3;
+            some_epochs = epochs.2;
+            epochs = epochs.3;
+            some_workers = workers.2;
+            workers = workers.3;
+            sweeps = sweeps.3;
+            observers = observers.3;
+          };
         },
         go_together (flag_in (codes "pile") rows) (flag_in (codes "pgm") rows) (flag_in (codes "journal") rows) free,
       ),

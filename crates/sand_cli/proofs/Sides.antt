@@ -10,7 +10,7 @@ use Rattle.clap.specs.declared.error.kind.ErrorKind.TheVariants.{MissingRequired
 use Rattle.sand_cli.specs.Line.{identity_line, side}
 use Rattle.sand_cli.specs.Options.{number_in, number_of, value_of}
 use Rattle.sand_cli.specs.Asked.{IsWithin, identity_of, with_sides}
-use Rattle.sand_cli.specs.declared.words.Task.{Task}
+use Rattle.sand_cli.specs.declared.task.Task.{Task}
 use Rattle.sand_cli.proofs.Alone.{IsAlone, each_alone}
 use Rattle.sand_cli.proofs.Each.{Each}
 use Rattle.sand_cli.proofs.Passing.{given_has_row, level_checks, level_fine, row_passes}

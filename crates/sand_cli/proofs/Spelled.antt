@@ -13,10 +13,10 @@ use Rattle.sand_cli.specs.Line.{command_line}
 use Rattle.sand_cli.specs.Spelling.{Heeds, words_of}
 use Rattle.sand_cli.specs.declared.fault.WordsFault.{WordsFault}
 use Rattle.sand_cli.specs.declared.fault.WordsFault.TheVariants.{Clash, Memory, Usage}
-use Rattle.sand_cli.specs.declared.words.Form.TheVariants.{Picture, Pile}
-use Rattle.sand_cli.specs.declared.words.Form.TheVariants as forms
-use Rattle.sand_cli.specs.declared.words.Task.{Task}
-use Rattle.sand_cli.specs.declared.words.Task.TheVariants.{Add, Burn, Drops, Identity, Inverse, Lab, Recurrent, Settle}
+use Rattle.sand_cli.specs.declared.task.Form.TheVariants.{Picture, Pile}
+use Rattle.sand_cli.specs.declared.task.Form.TheVariants as forms
+use Rattle.sand_cli.specs.declared.task.Task.{Task}
+use Rattle.sand_cli.specs.declared.task.Task.TheVariants.{Add, Burn, Drops, Identity, Inverse, Lab, Recurrent, Settle}
 use Rattle.sand_cli.specs.Options.{flag_in}
 use Rattle.sand_cli.proofs.Draws.{drops_built}
 use Rattle.sand_cli.proofs.DropsLevel.{drops_draw, drops_flag, drops_free, drops_passes, drops_words}
@@ -114,8 +114,8 @@ spelled_is_asked program (Inverse true) within = refl
 spelled_is_asked program (Inverse false) within = refl
 spelled_is_asked program (Recurrent true) within = refl
 spelled_is_asked program (Recurrent false) within = refl
-spelled_is_asked program (Lab run journal form) within =
-    lab_asked program (lab_words run journal form) _ (lab_passes run within.0 journal form) (lab_free run within.0 journal form within.1) (lab_reads run within.0 journal form)
+spelled_is_asked program (Lab wish journal form) within =
+    lab_asked program (lab_words wish journal form) _ (lab_passes wish within.0 journal form) (lab_free wish within.0 journal form within.1) (lab_reads wish within.0 journal form)
 
 -- so an answer that is asked for is the task that is spelled
 pub heeds_by_task : (words : List Text) (t : Task) → asked words ≡ Some t → Heeds words (Ok t)

@@ -14,7 +14,7 @@ use Rattle.sand_cli.specs.Fault.{IsFaultOf, IsOfKinds, IsUsage, ShowsHelp, Tells
 use Rattle.sand_cli.specs.declared.fault.Conflict.{Conflict}
 use Rattle.sand_cli.specs.declared.fault.WordsFault.{WordsFault}
 use Rattle.sand_cli.specs.declared.fault.WordsFault.TheVariants.{Clash, Memory, Usage}
-use Rattle.sand_cli.specs.declared.words.Task.{Task}
+use Rattle.sand_cli.specs.declared.task.Task.{Task}
 use Rattle.sand_cli.proofs.Each.{Each, of_found}
 use Rattle.sand_cli.proofs.Entering.{Enters, enters}
 use Rattle.sand_cli.proofs.HelpAlone.{help_alone}

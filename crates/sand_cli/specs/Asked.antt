@@ -3,16 +3,17 @@ use Rattle.std.specs.Prelude.{◌≡◌, ◌≤◌, ⊤, ℕ, Bool, true, not, �
 use Rattle.std.specs.Str.{bytes_eq}
 use Rattle.clap.specs.Words.{Kinds, Row, Text, fault_of, subcommand_of}
 use Rattle.clap.specs.declared.error.kind.ErrorKind.TheVariants.{DisplayHelp}
+use Rattle.sand_plan.specs.Plans.{IsPlan}
+use Rattle.sand_plan.specs.declared.wish.Wish.{Wish}
 use Rattle.sand_cli.specs.Line.{command_line}
 use Rattle.sand_cli.specs.Options.{flag_in, number_in, setting_in}
 use Rattle.sand_cli.specs.declared.fault.Conflict.{Conflict}
 use Rattle.sand_cli.specs.declared.fault.Conflict.TheVariants.{Forms, Uncounted}
-use Rattle.sand_cli.specs.declared.words.Draw.{Draw}
-use Rattle.sand_cli.specs.declared.words.Form.{Form}
-use Rattle.sand_cli.specs.declared.words.Form.TheVariants as forms
-use Rattle.sand_cli.specs.declared.words.Run.{Run}
-use Rattle.sand_cli.specs.declared.words.Task.{Task}
-use Rattle.sand_cli.specs.declared.words.Task.TheVariants.{Add, Burn, Drops, Identity, Inverse, Lab, Recurrent, Settle}
+use Rattle.sand_cli.specs.declared.task.Draw.{Draw}
+use Rattle.sand_cli.specs.declared.task.Form.{Form}
+use Rattle.sand_cli.specs.declared.task.Form.TheVariants as forms
+use Rattle.sand_cli.specs.declared.task.Task.{Task}
+use Rattle.sand_cli.specs.declared.task.Task.TheVariants.{Add, Burn, Drops, Identity, Inverse, Lab, Recurrent, Settle}
 
 -- the form in which a pile is asked for
 abbrev pub form_in : List Row → Form
@@ -31,8 +32,8 @@ with_sides options _ _ = None
 abbrev pub identity_of : List Row → Option Task
 identity_of options = with_sides options (number_in (codes "width") options) (number_in (codes "height") options)
 
--- the run of the lab, where all settings are there
-abbrev pub with_settings : Option ℕ → Option ℕ → Option ℕ → Option ℕ → Option ℕ → Option ℕ → Option ℕ → Option Run
+-- the wish for a run, if all settings are there
+abbrev pub with_settings : Option ℕ → Option ℕ → Option ℕ → Option ℕ → Option ℕ → Option ℕ → Option ℕ → Option Wish
 with_settings (Some seed) (Some droppers) (Some drops) (Some epochs) (Some workers) (Some sweeps) (Some observers) =
     Some (record {
       seed = seed;
@@ -45,9 +46,9 @@ with_settings (Some seed) (Some droppers) (Some drops) (Some epochs) (Some worke
     })
 with_settings _ _ _ _ _ _ _ = None
 
--- the run of the options of `lab`
-abbrev pub run_of : List Row → Option Run
-run_of options = with_settings
+-- the wish of the options of `lab`
+abbrev pub wish_of : List Row → Option Wish
+wish_of options = with_settings
     (setting_in (codes "seed") options) (setting_in (codes "droppers") options)
     (setting_in (codes "drops") options) (setting_in (codes "epochs") options)
     (setting_in (codes "workers") options) (setting_in (codes "sweeps") options)
@@ -56,8 +57,8 @@ run_of options = with_settings
 -- the task of the options of `lab`
 abbrev pub lab_of : List Row → Option Task
 lab_of options = option_map
-    (λ run. Lab run (flag_in (codes "journal") options) (form_in options))
-    (run_of options)
+    (λ wish. Lab wish (flag_in (codes "journal") options) (form_in options))
+    (wish_of options)
 
 -- a draw of so many sites, from the stream 0 of the seed 0 unless others are given
 abbrev pub draw_by : Option ℕ → Option ℕ → Option ℕ → Option Draw
@@ -127,14 +128,9 @@ abbrev pub AskForHelp : List Text → Type 0
 AskForHelp words = faults words ≡ DisplayHelp ∷ []
 
 -- the settings of the run are in their ranges
-pub record IsRun (run : Run) : Type 0 where
-  pub seed : run.seed ≤ 4294967295
-  pub droppers : (1 ≤ run.droppers) × (run.droppers ≤ 64)
-  pub drops : run.drops ≤ 1000000
-  pub epochs : (1 ≤ run.epochs) × (run.epochs ≤ 100)
-  pub workers : (1 ≤ run.workers) × (run.workers ≤ 16)
-  pub sweeps : run.sweeps ≤ 1000
-  pub observers : run.observers ≤ 16
+pub record IsRun (wish : Wish) : Type 0 where
+  pub seed : wish.seed ≤ 4294967295
+  pub plan : IsPlan wish
 
 -- the numbers of the draw are in their ranges
 pub record IsDraw (draw : Draw) : Type 0 where
@@ -152,5 +148,5 @@ GoTogether journal form = ⊤
 abbrev pub IsWithin : Task → Type 0
 IsWithin (Identity width height cylinder pgm) = (1 ≤ width) × (width ≤ 256) × (1 ≤ height) × (height ≤ 256)
 IsWithin (Drops drawn pile) = IfSome drawn IsDraw
-IsWithin (Lab run journal form) = IsRun run × GoTogether journal form
+IsWithin (Lab wish journal form) = IsRun wish × GoTogether journal form
 IsWithin _ = ⊤

@@ -2,6 +2,7 @@
 use Rattle.std.specs.Prelude.{ℕ, [], ◌∷◌, Some, codes, fold, true}
 use Rattle.clap.specs.Words.{App, Rule, Text, new_app, new_rule, with_rule, with_subcommand}
 use Rattle.clap.specs.Simple.{on_top}
+use Rattle.sand_plan.specs.Plans.{most_droppers, most_drops, most_epochs, most_observers, most_sweeps, most_workers}
 use Rattle.clap.specs.declared.builder.action.ArgAction.TheVariants.{Set, SetTrue}
 use Rattle.clap.specs.declared.builder.value_parser.ValueParser.TheVariants as parser
 
@@ -53,12 +54,12 @@ identity_line = fold with_rule (bare_line (codes "identity"))
 abbrev pub lab_line : App
 lab_line = fold with_rule (bare_line (codes "lab")) (
     setting (codes "seed") 0 4294967295 (codes "0")
-    ∷ setting (codes "droppers") 1 64 (codes "2")
-    ∷ setting (codes "drops") 0 1000000 (codes "100")
-    ∷ setting (codes "epochs") 1 100 (codes "1")
-    ∷ setting (codes "workers") 1 16 (codes "1")
-    ∷ setting (codes "sweeps") 0 1000 (codes "0")
-    ∷ setting (codes "observers") 0 16 (codes "0")
+    ∷ setting (codes "droppers") 1 most_droppers (codes "2")
+    ∷ setting (codes "drops") 0 most_drops (codes "100")
+    ∷ setting (codes "epochs") 1 most_epochs (codes "1")
+    ∷ setting (codes "workers") 1 most_workers (codes "1")
+    ∷ setting (codes "sweeps") 0 most_sweeps (codes "0")
+    ∷ setting (codes "observers") 0 most_observers (codes "0")
     ∷ flag (codes "journal") ∷ flag (codes "pile") ∷ flag (codes "pgm") ∷ []
     )
 

@@ -4,12 +4,12 @@ use Rattle.clap.specs.Words.{Text}
 use Rattle.sand_cli.specs.Asked.{IsWithin}
 use Rattle.sand_cli.specs.declared.fault.WordsFault.{WordsFault}
 use Rattle.sand_cli.specs.declared.fault.WordsFault.TheVariants.{Memory}
-use Rattle.sand_cli.specs.declared.words.Draw.{Draw}
-use Rattle.sand_cli.specs.declared.words.Form.{Form}
-use Rattle.sand_cli.specs.declared.words.Form.TheVariants as forms
-use Rattle.sand_cli.specs.declared.words.Run.{Run}
-use Rattle.sand_cli.specs.declared.words.Task.{Task}
-use Rattle.sand_cli.specs.declared.words.Task.TheVariants.{Add, Burn, Drops, Identity, Inverse, Lab, Recurrent, Settle}
+use Rattle.sand_cli.specs.declared.task.Draw.{Draw}
+use Rattle.sand_cli.specs.declared.task.Form.{Form}
+use Rattle.sand_cli.specs.declared.task.Form.TheVariants as forms
+use Rattle.sand_plan.specs.declared.wish.Wish.{Wish}
+use Rattle.sand_cli.specs.declared.task.Task.{Task}
+use Rattle.sand_cli.specs.declared.task.Task.TheVariants.{Add, Burn, Drops, Identity, Inverse, Lab, Recurrent, Settle}
 
 -- a flag, where it is wanted
 abbrev pub flag_words : Text → Bool → List Text
@@ -22,12 +22,12 @@ form_words forms.Pile = codes "--pile" ∷ []
 form_words forms.Picture = codes "--pgm" ∷ []
 
 -- the settings of a run
-abbrev pub settings_of : Run → List Text
-settings_of run =
-    codes "--seed" ∷ decimal run.seed ∷ codes "--droppers" ∷ decimal run.droppers
-    ∷ codes "--drops" ∷ decimal run.drops ∷ codes "--epochs" ∷ decimal run.epochs
-    ∷ codes "--workers" ∷ decimal run.workers ∷ codes "--sweeps" ∷ decimal run.sweeps
-    ∷ codes "--observers" ∷ decimal run.observers ∷ []
+abbrev pub settings_of : Wish → List Text
+settings_of wish =
+    codes "--seed" ∷ decimal wish.seed ∷ codes "--droppers" ∷ decimal wish.droppers
+    ∷ codes "--drops" ∷ decimal wish.drops ∷ codes "--epochs" ∷ decimal wish.epochs
+    ∷ codes "--workers" ∷ decimal wish.workers ∷ codes "--sweeps" ∷ decimal wish.sweeps
+    ∷ codes "--observers" ∷ decimal wish.observers ∷ []
 
 -- the numbers of a draw, if there is one
 abbrev pub draw_words : Option Draw → List Text
@@ -45,8 +45,8 @@ words_of (Drops drawn pile) = codes "drops" ∷ (draw_words drawn ++ flag_words 
 words_of (Add pgm) = codes "add" ∷ flag_words (codes "--pgm") pgm
 words_of (Inverse pgm) = codes "inverse" ∷ flag_words (codes "--pgm") pgm
 words_of (Recurrent pgm) = codes "recurrent" ∷ flag_words (codes "--pgm") pgm
-words_of (Lab run journal form) =
-    codes "lab" ∷ (settings_of run ++ (flag_words (codes "--journal") journal ++ form_words form))
+words_of (Lab wish journal form) =
+    codes "lab" ∷ (settings_of wish ++ (flag_words (codes "--journal") journal ++ form_words form))
 
 -- words that spell a task, whatever the program's name, are answered with that task, but for want of memory
 abbrev pub Heeds : List Text → Result Task WordsFault → Type 0

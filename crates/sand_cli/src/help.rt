@@ -243,3 +243,19 @@ Example:
   odometer
   3",
 };
+
+// The settings of `lab`, with their limits.
+
+pub(crate) const SEED: &str = "Seed, up to 4294967295";
+
+pub(crate) const DROPPERS: &str = "Droppers, from 1 to 64";
+
+pub(crate) const DROPS_OF_EACH: &str = "Drops of each, up to 1000000";
+
+pub(crate) const EPOCHS: &str = "Epochs, from 1 to 100";
+
+pub(crate) const WORKERS: &str = "Workers, from 1 to 16";
+
+pub(crate) const SWEEPS: &str = "Sweeps of each, up to 1000";
+
+pub(crate) const OBSERVERS: &str = "Observers, up to 16";

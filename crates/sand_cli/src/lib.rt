@@ -5,10 +5,10 @@ mod fault;
 mod help;
 mod line;
 mod options;
-mod words;
+mod task;
 
 pub use fault::{Conflict, WordsFault};
-pub use words::{Draw, Form, Run, Task, task_of};
+pub use task::{Draw, Form, Task, task_of};
 
 #[cfg(test)]
 mod tests;

@@ -8,6 +8,9 @@ ghost use Rattle.sand_cli.specs.Line.{bare_line, command_line, drops_line, flag,
 use crate::help::{self, Help};
 use clap::builder::ValueParser;
 use clap::{Arg, ArgAction, Command};
+use sand_plan::{
+    MOST_DROPPERS, MOST_DROPS, MOST_EPOCHS, MOST_OBSERVERS, MOST_SWEEPS, MOST_WORKERS,
+};
 use std::alloc::{AllocError, Global};
 
 // An option that is there or not.
@@ -45,15 +48,15 @@ fn side<'a>(alloc: Global, name: &'a str, about: &'static str) -> Arg<'a>
 fn setting<'a>(
     alloc: Global,
     name: &'a str,
-    least: u64,
-    most: u64,
+    least: u32,
+    most: u32,
     usual: &'static str,
     about: &'static str,
 ) -> Arg<'a>
     ensures rule { rule_of result ≡ setting name.entry.now least most usual.now }
     ensures local { result.global ≡ false }
 {
-    number(alloc, name, least, most, about).default_value(usual)
+    number(alloc, name, u64::from(least), u64::from(most), about).default_value(usual)
 }
 
 fn pgm<'a>(alloc: Global) -> Arg<'a>
@@ -143,20 +146,13 @@ fn lab_line<'a>(alloc: Global) -> Result<Command<'a>, AllocError>
     ensures line { IfOk result (λ c. app_of c ≡ lab_line) }
     ensures local { IfOk result (λ c. (out-Command c).has_globals ≡ false) }
 {
-    let seed = setting(alloc, "seed", 0, 4294967295, "0", "Seed, up to 4294967295");
-    let droppers = setting(alloc, "droppers", 1, 64, "2", "Droppers, from 1 to 64");
-    let drops = setting(
-        alloc,
-        "drops",
-        0,
-        1000000,
-        "100",
-        "Drops of each, up to 1000000",
-    );
-    let epochs = setting(alloc, "epochs", 1, 100, "1", "Epochs, from 1 to 100");
-    let workers = setting(alloc, "workers", 1, 16, "1", "Workers, from 1 to 16");
-    let sweeps = setting(alloc, "sweeps", 0, 1000, "0", "Sweeps of each, up to 1000");
-    let observers = setting(alloc, "observers", 0, 16, "0", "Observers, up to 16");
+    let seed = setting(alloc, "seed", 0, 4294967295, "0", help::SEED);
+    let droppers = setting(alloc, "droppers", 1, MOST_DROPPERS, "2", help::DROPPERS);
+    let drops = setting(alloc, "drops", 0, MOST_DROPS, "100", help::DROPS_OF_EACH);
+    let epochs = setting(alloc, "epochs", 1, MOST_EPOCHS, "1", help::EPOCHS);
+    let workers = setting(alloc, "workers", 1, MOST_WORKERS, "1", help::WORKERS);
+    let sweeps = setting(alloc, "sweeps", 0, MOST_SWEEPS, "0", help::SWEEPS);
+    let observers = setting(alloc, "observers", 0, MOST_OBSERVERS, "0", help::OBSERVERS);
     bare_line(alloc, "lab", help::LAB)
         .arg(seed)?
         .arg(droppers)?

@@ -1,4 +1,5 @@
-use crate::{Draw, Form, Run, Task, WordsFault, task_of};
+use crate::{Draw, Form, Task, WordsFault, task_of};
+use sand_plan::Wish;
 use std::test::Fail;
 
 // What the words of a line come to: a task, or clap's text and whether that is for the standard error.
@@ -112,7 +113,7 @@ fn asks_for_drops(rt: HostRuntime) -> Result<(), Fail> {
 }
 
 // The run where no setting is given.
-const USUAL: Run = Run {
+const USUAL: Wish = Wish {
     seed: 0,
     droppers: 2,
     drops: 100,
@@ -131,7 +132,7 @@ fn asks_for_runs(rt: HostRuntime) -> Result<(), Fail> {
         (" --pile", USUAL, false, Form::Pile),
         (
             " --drops 3 --epochs=2 --pgm",
-            Run {
+            Wish {
                 drops: 3,
                 epochs: 2,
                 ..USUAL
@@ -141,7 +142,7 @@ fn asks_for_runs(rt: HostRuntime) -> Result<(), Fail> {
         ),
         (
             " --observers 16 --seed 4294967295",
-            Run {
+            Wish {
                 observers: 16,
                 seed: 4294967295,
                 ..USUAL
@@ -151,7 +152,7 @@ fn asks_for_runs(rt: HostRuntime) -> Result<(), Fail> {
         ),
         (
             " --sweeps 1000 --workers 16 --epochs 100 --drops 1000000 --droppers 64",
-            Run {
+            Wish {
                 droppers: 64,
                 drops: 1000000,
                 epochs: 100,
@@ -164,7 +165,7 @@ fn asks_for_runs(rt: HostRuntime) -> Result<(), Fail> {
         ),
         (
             " --drops 0 --droppers +1 --workers 02",
-            Run {
+            Wish {
                 droppers: 1,
                 drops: 0,
                 workers: 2,
@@ -174,9 +175,13 @@ fn asks_for_runs(rt: HostRuntime) -> Result<(), Fail> {
             Form::Text,
         ),
     ];
-    for (options, run, journal, form) in rows {
+    for (options, wish, journal, form) in rows {
         let line = format!(in rt.alloc(); "sandpile lab{options}")?;
-        let task = Task::Lab { run, journal, form };
+        let task = Task::Lab {
+            wish,
+            journal,
+            form,
+        };
         assert_eq!(rt;
             answer_to(&rt, line.as_str())?,
             Answer::Asked(task),

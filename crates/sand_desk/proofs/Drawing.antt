@@ -9,7 +9,7 @@ use Rattle.sand_lab.proofs.TallyOfStreams.{length-stream_sites}
 use Rattle.sand_text.specs.declared.fault.TextFault.{TextFault}
 use Rattle.sand_text.specs.declared.fault.TextFault.TheVariants as text
 use Rattle.sand_text.specs.Reading.{pile_of, ◌>>=◌}
-use Rattle.sand_cli.specs.declared.words.Draw.{Draw}
+use Rattle.sand_cli.specs.declared.task.Draw.{Draw}
 use Rattle.sand_desk.specs.declared.faults.DeskFault.{DeskFault}
 use Rattle.sand_desk.specs.declared.faults.DeskFault.TheVariants as desk
 use Rattle.sand_desk.specs.Answers.{Fails}

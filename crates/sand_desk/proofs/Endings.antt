@@ -6,7 +6,7 @@ use Rattle.std.specs.Io.KnownBytes.{Appends, Keeps}
 use Rattle.sand_text.specs.declared.fault.StreamFault.{StreamFault}
 use Rattle.sand_text.specs.declared.fault.StreamFault.TheVariants as stream
 use Rattle.sand_text.specs.Flow.{GivesAll, IsFurther, IsFurtherByAtMost, IsOfReading, most_bytes}
-use Rattle.sand_cli.specs.declared.words.Task.{Task}
+use Rattle.sand_cli.specs.declared.task.Task.{Task}
 use Rattle.sand_desk.specs.declared.faults.DeskFault.{DeskFault}
 use Rattle.sand_desk.specs.declared.faults.DeskFault.TheVariants as desk
 use Rattle.sand_desk.specs.Faults.{of_stream}

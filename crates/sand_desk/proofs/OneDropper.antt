@@ -8,15 +8,15 @@ use Rattle.sand_model.proofs.Tallies.{tally-append}
 use Rattle.sand_settle.specs.Drops.{OneView, IsAfter}
 use Rattle.sand_settle.specs.Settling.{SettledView}
 use Rattle.sand_shared.specs.Record.{RecordView, IsOneThreads}
-use Rattle.sand_lab.specs.declared.plan.Wish.{Wish}
+use Rattle.sand_plan.specs.declared.wish.Wish.{Wish}
 use Rattle.sand_lab.specs.Reports.{AreEpochs, IsReport, ReportView, SheetView, histories}
 use Rattle.sand_lab.specs.Streams.{stream_of, stream_sites}
 use Rattle.sand_lab.proofs.RunHasOneOutcome.{epoch_tally, one_threads_once}
 use Rattle.sand_text.specs.declared.fault.TextFault.{TextFault}
 use Rattle.sand_text.specs.Reading.{pile_of, ◌>>=◌}
 use Rattle.sand_text.specs.Texts.{text_of}
-use Rattle.sand_cli.specs.declared.words.Draw.{Draw}
-use Rattle.sand_cli.specs.declared.words.Form.{Form}
+use Rattle.sand_cli.specs.declared.task.Draw.{Draw}
+use Rattle.sand_cli.specs.declared.task.Form.{Form}
 use Rattle.sand_desk.specs.Drawing.{DropsTheDraw, LeavesTheSame, WritesTheSamePile}
 use Rattle.sand_desk.specs.Dropping.{with_draw}
 

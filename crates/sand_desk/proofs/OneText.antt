@@ -10,8 +10,8 @@ use Rattle.sand_text.specs.declared.runs.Sums.{Sums}
 use Rattle.sand_text.specs.Pictures.{pgm_text_of}
 use Rattle.sand_text.specs.Runs.{lab_text_of}
 use Rattle.sand_text.specs.Texts.{text_of}
-use Rattle.sand_cli.specs.declared.words.Form.{Form}
-use Rattle.sand_cli.specs.declared.words.Form.TheVariants.{Picture, Pile, Text}
+use Rattle.sand_cli.specs.declared.task.Form.{Form}
+use Rattle.sand_cli.specs.declared.task.Form.TheVariants.{Picture, Pile, Text}
 use Rattle.sand_lab.specs.Laws.{AreAlike, OneOutcome}
 use Rattle.sand_lab.specs.Reports.{ReportView, IsReport}
 use Rattle.sand_desk.specs.Laboratory.{sums_of, lab_text_of_report, report_text_of, OneLabText}

@@ -8,17 +8,17 @@ use Rattle.sand_text.specs.Flow.{GivesAll, IsFurther, IsFurtherByAtMost, most_by
 use Rattle.sand_text.specs.Reading.{pile_of, two_of}
 use Rattle.clap.specs.Words.{Text, kind_of}
 use Rattle.clap.specs.declared.error.kind.ErrorKind.TheVariants.{DisplayHelp}
-use Rattle.sand_lab.specs.declared.plan.Wish.{Wish}
+use Rattle.sand_plan.specs.declared.wish.Wish.{Wish}
 use Rattle.sand_cli.specs.Asked.{AskForHelp}
-use Rattle.sand_cli.specs.declared.words.Draw.{Draw}
-use Rattle.sand_cli.specs.declared.words.Task.{Task}
-use Rattle.sand_cli.specs.declared.words.Task.TheVariants as task
+use Rattle.sand_cli.specs.declared.task.Draw.{Draw}
+use Rattle.sand_cli.specs.declared.task.Task.{Task}
+use Rattle.sand_cli.specs.declared.task.Task.TheVariants as task
 use Rattle.sand_desk.specs.declared.faults.DeskFault.{DeskFault}
 use Rattle.sand_desk.specs.declared.faults.DeskFault.TheVariants as desk
 use Rattle.sand_desk.specs.Dropping.{IsDropsText, IsOverfull, drops_for}
 use Rattle.sand_desk.specs.Faults.{of_shape, of_text}
 use Rattle.sand_desk.specs.Group.{edge_of, IsBurnText, IsIdentityText, IsSumText, IsInverseText, IsRecurrentText, IsUnstable, IsUnfitPile, IsUnfitPair, IsMismatch}
-use Rattle.sand_desk.specs.Laboratory.{IsLabText, IsOvergrown, IsRunnable, wish_of}
+use Rattle.sand_desk.specs.Laboratory.{IsLabText, IsOvergrown, IsRunnable}
 use Rattle.sand_desk.specs.Settling.{IsSettleText}
 use Rattle.sand_model.specs.Piles.{most_grains}
 
@@ -41,7 +41,7 @@ IsTextOf (task.Drops drawn pile) input text = IsDropsText drawn pile input text
 IsTextOf (task.Add pgm) input text = IsSumText pgm input text
 IsTextOf (task.Inverse pgm) input text = IsInverseText pgm input text
 IsTextOf (task.Recurrent pgm) input text = IsRecurrentText pgm input text
-IsTextOf (task.Lab run journal form) input text = IsLabText (wish_of run) journal form input text
+IsTextOf (task.Lab wish journal form) input text = IsLabText wish journal form input text
 
 -- the input doesn't hold what the task wants
 pub record IsUnreadable {A : Type 0} (reading : Result A TextFault) (fault : DeskFault) : Type 0 where
@@ -105,7 +105,7 @@ IsFaultOf (task.Drops drawn pile) input fault = IsDropsFault drawn input fault
 IsFaultOf (task.Add pgm) input fault = IsSumFault input fault
 IsFaultOf (task.Inverse pgm) input fault = IsInverseFault input fault
 IsFaultOf (task.Recurrent pgm) input fault = IsUnreadable (pile_of input) fault
-IsFaultOf (task.Lab run journal form) input fault = IsLabFault (wish_of run) input fault
+IsFaultOf (task.Lab wish journal form) input fault = IsLabFault wish input fault
 
 -- a fault that a task finds in its input, or want of memory; no fault of the words or of a stream
 abbrev pub Finds : (DeskFault → Type 0) → DeskFault → Type 0

@@ -1,9 +1,9 @@
 -- What `drops --count` leaves is what a run of the laboratory with one dropper leaves.
 use Rattle.std.specs.Prelude.{ℕ, ◌≡◌, Bool, true, List, Some}
-use Rattle.sand_lab.specs.declared.plan.Wish.{Wish}
-use Rattle.sand_cli.specs.declared.words.Draw.{Draw}
-use Rattle.sand_cli.specs.declared.words.Form.{Form}
-use Rattle.sand_cli.specs.declared.words.Form.TheVariants.{Pile}
+use Rattle.sand_plan.specs.declared.wish.Wish.{Wish}
+use Rattle.sand_cli.specs.declared.task.Draw.{Draw}
+use Rattle.sand_cli.specs.declared.task.Form.{Form}
+use Rattle.sand_cli.specs.declared.task.Form.TheVariants.{Pile}
 use Rattle.sand_desk.specs.Dropping.{IsDropsText}
 use Rattle.sand_desk.specs.Laboratory.{IsLabText}
 

@@ -8,7 +8,7 @@ use Rattle.sand_model.specs.Grid.{sites}
 use Rattle.sand_lab.specs.Streams.{stream_sites}
 use Rattle.sand_text.specs.declared.fault.TextFault.{TextFault}
 use Rattle.sand_text.specs.Reading.{pile_of, drops_of, ◌>>=◌}
-use Rattle.sand_cli.specs.declared.words.Draw.{Draw}
+use Rattle.sand_cli.specs.declared.task.Draw.{Draw}
 use Rattle.sand_text.specs.Tables.{table_text_of}
 use Rattle.sand_text.specs.Texts.{text_of}
 

@@ -7,18 +7,13 @@ use Rattle.sand_text.specs.Pictures.{pgm_text_of}
 use Rattle.sand_text.specs.Reading.{pile_of}
 use Rattle.sand_text.specs.Runs.{lab_text_of, journal_text_of}
 use Rattle.sand_text.specs.Texts.{text_of}
-use Rattle.sand_cli.specs.declared.words.Form.{Form}
-use Rattle.sand_cli.specs.declared.words.Form.TheVariants.{Picture, Pile, Text}
-use Rattle.sand_cli.specs.declared.words.Run.{Run}
+use Rattle.sand_cli.specs.declared.task.Form.{Form}
+use Rattle.sand_cli.specs.declared.task.Form.TheVariants.{Picture, Pile, Text}
 use Rattle.sand_lab.specs.declared.journal.Entry.{Entry}
-use Rattle.sand_lab.specs.declared.plan.Wish.{Wish}
+use Rattle.sand_plan.specs.declared.wish.Wish.{Wish}
 use Rattle.sand_lab.specs.Laws.{AskTheSame}
-use Rattle.sand_lab.specs.Plans.{all_drops}
+use Rattle.sand_plan.specs.Plans.{all_drops}
 use Rattle.sand_lab.specs.Reports.{SheetView, ReportView, IsReport}
-
--- the run that is asked for, as the laboratory has it
-abbrev pub wish_of : Run → Wish
-wish_of r = record { seed = r.seed; droppers = r.droppers; drops = r.drops; epochs = r.epochs; workers = r.workers; sweeps = r.sweeps; observers = r.observers }
 
 -- what a record came to
 abbrev pub sums_of : RecordView → Sums

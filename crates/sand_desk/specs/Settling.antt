@@ -5,8 +5,8 @@ use Rattle.sand_settle.specs.Settling.{SettledView, IsRecord}
 use Rattle.sand_text.specs.Pictures.{pgm_text_of}
 use Rattle.sand_text.specs.Reading.{pile_of}
 use Rattle.sand_text.specs.Texts.{settle_text_of, text_of}
-use Rattle.sand_cli.specs.declared.words.Form.{Form}
-use Rattle.sand_cli.specs.declared.words.Form.TheVariants.{Picture, Pile, Text}
+use Rattle.sand_cli.specs.declared.task.Form.{Form}
+use Rattle.sand_cli.specs.declared.task.Form.TheVariants.{Picture, Pile, Text}
 
 -- the text of a pile, or its picture
 abbrev pub pile_or_picture : Bool → PileView → List ℕ

@@ -59,7 +59,11 @@ fn perform<T: Threads + Sync>(
         Task::Add { pgm } => sum_input(alloc, input, pgm),
         Task::Inverse { pgm } => inverse_input(alloc, input, pgm),
         Task::Recurrent { pgm } => recurrent_input(alloc, input, pgm),
-        Task::Lab { run, journal, form } => lab_input(rt, alloc, input, run, journal, form),
+        Task::Lab {
+            wish,
+            journal,
+            form,
+        } => lab_input(rt, alloc, input, wish, journal, form),
     }
 }
 

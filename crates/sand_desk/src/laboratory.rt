@@ -4,17 +4,18 @@ ghost use Rattle.std.specs.Prelude.{ℕ, ◌≡◌, ◌+◌, ◌++◌, List, map
 ghost use Rattle.sand_shared.specs.Record.{IsOneThreads};
 ghost use Rattle.sand_text.specs.Runs.{journal_lines};
 ghost use Rattle.sand_cli.specs.Asked.{IsRun};
-ghost use Rattle.sand_cli.specs.declared.words.Form.TheVariants as forms;
-ghost use Rattle.sand_lab.specs.Plans.{all_drops};
+ghost use Rattle.sand_cli.specs.declared.task.Form.TheVariants as forms;
+ghost use Rattle.sand_plan.specs.Plans.{all_drops};
 ghost use Rattle.sand_lab.specs.Reports.{IsReport};
 ghost use Rattle.sand_desk.specs.Commands.{IsLabFault, IsRunFault, Finds};
-ghost use Rattle.sand_desk.specs.Laboratory.{IsLabText, dropper_and_site, journal_text_of_report, lab_text_of_report, report_text_of, sums_of, wish_of};
+ghost use Rattle.sand_desk.specs.Laboratory.{IsLabText, dropper_and_site, journal_text_of_report, lab_text_of_report, report_text_of, sums_of};
 
 use crate::faults::DeskFault;
 use crate::texts::{pgm_text, pile_text, read_pile};
-use sand_cli::{Form, Run};
-use sand_lab::{Album, Entry, LabFault, Open, Plan, Report, Wish, run};
+use sand_cli::Form;
+use sand_lab::{Album, Entry, LabFault, Open, Plan, Report, run};
 use sand_model::Pile;
+use sand_plan::Wish;
 use sand_shared::Record;
 use sand_text::{Sums, push_journal_head, push_journal_line};
 use std::alloc::{AllocError, Global};
@@ -50,14 +51,13 @@ pub fn lab_text(alloc: Global, report: &Report) -> Result<Vec<u8>, DeskFault>
 {
     let total = report.total();
     let epochs = sums_of_all(alloc, report.records())?;
-    let text = sand_text::lab_text(
+    Ok(sand_text::lab_text(
         alloc,
         epochs.as_slice(),
         sums_of(total),
         total.pile(),
         total.odometers(),
-    )?;
-    Ok(text)
+    )?)
 }
 
 // Writes the lines of an epoch's drops, by number.
@@ -92,36 +92,21 @@ pub fn journal_text(alloc: Global, report: &Report) -> Result<Vec<u8>, DeskFault
     Ok(text)
 }
 
-// What is asked of the laboratory.
-fn wish_of(asked: Run) -> Wish
-    ensures { result ≡ wish_of asked }
-{
-    Wish {
-        seed: asked.seed,
-        droppers: asked.droppers,
-        drops: asked.drops,
-        epochs: asked.epochs,
-        workers: asked.workers,
-        sweeps: asked.sweeps,
-        observers: asked.observers,
-    }
-}
-
-// Runs what is asked from a start, by as many threads.
+// Runs what is wished for from a start, by as many threads.
 fn report_on<T: Threads + Sync>(
     rt: &T,
     alloc: Global,
     start: &Pile,
-    asked: Run,
+    wish: Wish,
 ) -> Result<Report, DeskFault>
-    requires { IsRun asked }
-    ensures report { IfOk result (λ p. (album : List ℕ) × IsReport album (wish_of asked) start.now p) }
-    ensures fault { IfErr result (IsRunFault (sum start.now.heights + all_drops (wish_of asked))) }
+    requires { IsRun wish }
+    ensures report { IfOk result (λ p. (album : List ℕ) × IsReport album wish start.now p) }
+    ensures fault { IfErr result (IsRunFault (sum start.now.heights + all_drops wish)) }
 {
-    let Ok(plan) = Plan::new(wish_of(asked)) else {
+    let Ok(plan) = Plan::new(wish) else {
         unreachable!()
     };
-    let Ok(album) = Album::new(alloc, asked.epochs) else {
+    let Ok(album) = Album::new(alloc, wish.epochs) else {
         return Err(DeskFault::Memory);
     };
     match run(rt, alloc, start, &plan, &Open, &album) {
@@ -170,15 +155,15 @@ pub(crate) fn lab_input<T: Threads + Sync>(
     rt: &T,
     alloc: Global,
     input: &[u8],
-    asked: Run,
+    wish: Wish,
     journal: bool,
     form: Form,
 ) -> Result<Vec<u8>, DeskFault>
-    requires { IsRun asked }
-    ensures text { IfOk result (λ text. IsLabText (wish_of asked) journal form input.now text.items) }
-    ensures fault { IfErr result (Finds (IsLabFault (wish_of asked) input.now)) }
+    requires { IsRun wish }
+    ensures text { IfOk result (λ text. IsLabText wish journal form input.now text.items) }
+    ensures fault { IfErr result (Finds (IsLabFault wish input.now)) }
 {
     let start = read_pile(alloc, input)?;
-    let report = report_on(rt, alloc, &start, asked)?;
+    let report = report_on(rt, alloc, &start, wish)?;
     report_text(alloc, &report, journal, form)
 }

@@ -20,8 +20,7 @@ use std::alloc::Global;
 pub fn read_pile(alloc: Global, text: &[u8]) -> Result<Pile, DeskFault>
     ensures { ReadsAs (λ pile. pile) result (pile_of text.now) }
 {
-    let pile = sand_text::read_pile(alloc, text)?;
-    Ok(pile)
+    Ok(sand_text::read_pile(alloc, text)?)
 }
 
 /// The text of a pile.
@@ -29,8 +28,7 @@ pub fn pile_text(alloc: Global, pile: &Pile) -> Result<Vec<u8>, DeskFault>
     ensures text { IfOk result (λ text. text.items ≡ text_of pile.now) }
     ensures memory { IsOkUnless result DeskFault.Memory }
 {
-    let text = sand_text::pile_text(alloc, pile)?;
-    Ok(text)
+    Ok(sand_text::pile_text(alloc, pile)?)
 }
 
 /// The text of a settled pile: the pile, its odometer, the grains lost and the topplings.
@@ -38,8 +36,7 @@ pub fn settle_text(alloc: Global, settled: &Settled) -> Result<Vec<u8>, DeskFaul
     ensures text { IfOk result (λ text. text.items ≡ settle_text_of settled.now) }
     ensures memory { IsOkUnless result DeskFault.Memory }
 {
-    let text = sand_text::settle_text(alloc, settled)?;
-    Ok(text)
+    Ok(sand_text::settle_text(alloc, settled)?)
 }
 
 /// The picture of a stable pile, as plain PGM.
@@ -48,8 +45,7 @@ pub fn pgm_text(alloc: Global, pile: &Pile) -> Result<Vec<u8>, DeskFault>
     ensures text { IfOk result (λ text. text.items ≡ pgm_text_of pile.now) }
     ensures memory { IsOkUnless result DeskFault.Memory }
 {
-    let text = sand_text::pgm_text(alloc, pile)?;
-    Ok(text)
+    Ok(sand_text::pgm_text(alloc, pile)?)
 }
 
 /// The two piles that a text holds, one after the other. Every fault of the text is found before anything grows, and want
@@ -57,8 +53,7 @@ pub fn pgm_text(alloc: Global, pile: &Pile) -> Result<Vec<u8>, DeskFault>
 pub fn read_two(alloc: Global, text: &[u8]) -> Result<(Pile, Pile), DeskFault>
     ensures { ReadsAs (λ piles. piles) result (two_of text.now) }
 {
-    let piles = sand_text::read_two(alloc, text)?;
-    Ok(piles)
+    Ok(sand_text::read_two(alloc, text)?)
 }
 
 /// The text of what the burning test found on a grid of this shape: that the pile is recurrent, or the sites of its
@@ -68,8 +63,7 @@ pub fn burn_text(alloc: Global, shape: Shape, burned: &Burned) -> Result<Vec<u8>
     ensures text { IfOk result (λ text. text.items ≡ burn_text_of shape burned.now) }
     ensures memory { IsOkUnless result DeskFault.Memory }
 {
-    let text = sand_text::burn_text(alloc, shape, burned)?;
-    Ok(text)
+    Ok(sand_text::burn_text(alloc, shape, burned)?)
 }
 
 /// The pile that a text holds and the sites of the drops behind it. Every fault of the text is found before anything
@@ -77,8 +71,7 @@ pub fn burn_text(alloc: Global, shape: Shape, burned: &Burned) -> Result<Vec<u8>
 pub fn read_drops(alloc: Global, text: &[u8]) -> Result<(Pile, Vec<usize>), DeskFault>
     ensures { ReadsAs (λ (pile, drops). (pile, drops.items)) result (drops_of text.now) }
 {
-    let read = sand_text::read_drops(alloc, text)?;
-    Ok(read)
+    Ok(sand_text::read_drops(alloc, text)?)
 }
 
 /// The table of drops: a first line that names the columns, then for each drop its number and its avalanche.
@@ -86,6 +79,5 @@ pub fn table_text(alloc: Global, rows: &[(u64, Avalanche)]) -> Result<Vec<u8>, D
     ensures text { IfOk result (λ text. text.items ≡ table_text_of rows.now) }
     ensures memory { IsOkUnless result DeskFault.Memory }
 {
-    let text = sand_text::table_text(alloc, rows)?;
-    Ok(text)
+    Ok(sand_text::table_text(alloc, rows)?)
 }

@@ -16,7 +16,7 @@ use Rattle.std.proofs.lemmas.Slice.Zip.{AllZip-long}
 use Rattle.sand_lab.specs.declared.crew.Crew.{Crew}
 use Rattle.sand_lab.specs.declared.droppers.Dropper.{Dropper}
 use Rattle.sand_lab.specs.declared.observers.Observer.{Observer}
-use Rattle.sand_lab.specs.declared.plan.Wish.{Wish}
+use Rattle.sand_plan.specs.declared.wish.Wish.{Wish}
 use Rattle.sand_lab.specs.declared.workers.Worker.{Worker}
 use Rattle.sand_lab.specs.Crews.{EachAt, band, due, rowless, banded, IsDropper, IsWorker, IsObserver, IsCrew, HasEmptied, HasTended, HasRead, HasWorked}
 use Rattle.sand_lab.specs.Jobs.{CanDrop, CanSweep, CanWatch, HasDropped, HasSwept, HasWatched, Climbs}

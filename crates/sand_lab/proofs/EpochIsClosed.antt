@@ -17,13 +17,13 @@ use Rattle.sand_lab.specs.declared.crew.Crew.{Crew}
 use Rattle.sand_lab.specs.declared.droppers.Dropper.{Dropper}
 use Rattle.sand_lab.specs.declared.journal.Entry.{Entry}
 use Rattle.sand_lab.specs.declared.observers.Observer.{Observer}
-use Rattle.sand_lab.specs.declared.plan.Wish.{Wish}
+use Rattle.sand_plan.specs.declared.wish.Wish.{Wish}
 use Rattle.sand_lab.specs.declared.workers.Worker.{Worker}
 use Rattle.sand_lab.specs.Crews.{EachAt, band, due, tallies_each, HasEmptied, HasTended, HasRead, HasWorked}
 use Rattle.sand_lab.specs.Gathering.{all_counts, all_swept, readings, HasGathered}
 use Rattle.sand_lab.specs.Jobs.{Climbs, dropped_at}
 use Rattle.sand_lab.specs.Journals.{Ascends, IsJournal}
-use Rattle.sand_lab.specs.Plans.{IsPlan, quota_of}
+use Rattle.sand_plan.specs.Plans.{IsPlan, quota_of}
 use Rattle.sand_lab.specs.Reports.{AreTallies, AreSwept, IsClosed}
 use Rattle.sand_lab.specs.Streams.{stream_of, stream_sites}
 use Rattle.sand_lab.proofs.JournalSites.{journal_sites}

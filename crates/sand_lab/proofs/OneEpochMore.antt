@@ -7,8 +7,8 @@ use Rattle.sand_model.specs.Piles.{PileView, most_grains}
 use Rattle.sand_settle.specs.Settling.{odometer_of}
 use Rattle.sand_shared.specs.Record.{RecordView}
 use Rattle.sand_lab.specs.declared.journal.Entry.{Entry}
-use Rattle.sand_lab.specs.declared.plan.Wish.{Wish}
-use Rattle.sand_lab.specs.Plans.{quota_of, all_drops}
+use Rattle.sand_plan.specs.declared.wish.Wish.{Wish}
+use Rattle.sand_plan.specs.Plans.{quota_of, all_drops}
 use Rattle.sand_lab.specs.Reports.{SheetView, ReportView, IsEpoch, AreEpochs, IsTotal, IsReportOf, IsBoth, HasGrown, last_pile, histories, report_of}
 use Rattle.sand_lab.proofs.RecordBounds.{settled_grains}
 

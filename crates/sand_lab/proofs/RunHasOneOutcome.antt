@@ -10,9 +10,9 @@ use Rattle.sand_model.proofs.Sandpile.{odometer_unique, settled_unique, settled_
 use Rattle.sand_model.proofs.Tallies.{tally-append}
 use Rattle.sand_settle.specs.Settling.{SettledView, IsRecord, odometer_of}
 use Rattle.sand_shared.specs.Record.{RecordView, IsOneThreads, one_of}
-use Rattle.sand_lab.specs.Plans.{quota_of}
+use Rattle.sand_plan.specs.Plans.{quota_of}
 use Rattle.sand_lab.proofs.OneEpochMore.{epoch_drops, dropped_so_far}
-use Rattle.sand_lab.specs.declared.plan.Wish.{Wish}
+use Rattle.sand_plan.specs.declared.wish.Wish.{Wish}
 use Rattle.sand_lab.specs.Laws.{AskTheSame, OneOutcome}
 use Rattle.sand_lab.specs.Reports.{SheetView, IsEpoch, AreEpochs, histories}
 use Rattle.sand_lab.specs.Streams.{stream_of, stream_sites}

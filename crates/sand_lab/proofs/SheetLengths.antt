@@ -3,7 +3,7 @@
 use Rattle.std.proofs.Common.{ℕ, ◌≡◌, ◌+◌, ◌<◌, zero, suc, List, [], ◌∷◌, length, slice_index_or, None, subst, arith}
 use Rattle.sand_model.specs.Piles.{PileView}
 use Rattle.sand_shared.specs.Record.{RecordView}
-use Rattle.sand_lab.specs.declared.plan.Wish.{Wish}
+use Rattle.sand_plan.specs.declared.wish.Wish.{Wish}
 use Rattle.sand_lab.specs.Albums.{IsPlace}
 use Rattle.sand_lab.specs.Reports.{SheetView, ReportView, IsEpoch, AreEpochs, IsReport, sheet_at}
 

@@ -1,6 +1,5 @@
 pub mod Streams
 pub mod Journals
-pub mod Plans
 pub mod Faults
 pub mod Jobs
 pub mod Albums

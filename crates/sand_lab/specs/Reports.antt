@@ -7,12 +7,12 @@ use Rattle.sand_model.specs.Piles.{PileView}
 use Rattle.sand_settle.specs.Settling.{odometer_of}
 use Rattle.sand_shared.specs.Record.{RecordView, IsOneThreads}
 use Rattle.sand_lab.specs.declared.journal.Entry.{Entry}
-use Rattle.sand_lab.specs.declared.plan.Wish.{Wish}
+use Rattle.sand_plan.specs.declared.wish.Wish.{Wish}
 use Rattle.sand_lab.specs.Albums.{PictureView, IsPlace}
 use Rattle.sand_lab.specs.Crews.{band, due, tallies_each}
 use Rattle.sand_lab.specs.Jobs.{Climbs}
 use Rattle.sand_lab.specs.Journals.{FollowsStreams, sites_in}
-use Rattle.sand_lab.specs.Plans.{quota_of}
+use Rattle.sand_plan.specs.Plans.{quota_of}
 
 -- what contracts see of what is kept of an epoch beside its record; `place` names the album's place, and `shown` is what
 -- the note of it knows

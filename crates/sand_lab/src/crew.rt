@@ -5,14 +5,14 @@ ghost use Rattle.std.specs.List.{AllZip};
 ghost use Rattle.std.specs.Thread.{IsSync};
 ghost use Rattle.sand_lab.specs.Crews.{IsCrew, HasBecome, HasWorked, tallies_each};
 ghost use Rattle.sand_lab.specs.Jobs.{CanDrop, CanSweep, CanWatch, HasDropped, HasSwept, HasWatched};
-ghost use Rattle.sand_lab.specs.declared.plan.Wish.{Wish};
+ghost use Rattle.sand_plan.specs.declared.wish.Wish.{Wish};
 
 use crate::droppers::Dropper;
 use crate::gate::{Gate, Open};
 use crate::observers::{Observer, TALLIES};
-use crate::plan::Wish;
 use crate::work::{Work, do_all};
 use crate::workers::Worker;
+use sand_plan::Wish;
 use sand_shared::SharedPile;
 use std::thread::{Threads, join_mut};
 

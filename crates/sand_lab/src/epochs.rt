@@ -10,7 +10,7 @@ ghost use Rattle.std.specs.declared.option.Option.TheVariants.{Some};
 ghost use Rattle.sand_lab.specs.Albums.{IsPlace};
 ghost use Rattle.sand_lab.specs.Crews.{IsCrew, HasBecome, unshared};
 ghost use Rattle.sand_lab.specs.Faults.{IsMemory, IsOfEpoch};
-ghost use Rattle.sand_lab.specs.Plans.{IsPlan, quota_of};
+ghost use Rattle.sand_plan.specs.Plans.{IsPlan, quota_of};
 ghost use Rattle.sand_lab.specs.Reports.{IsClosed, IsEpoch};
 ghost use Rattle.sand_model.specs.Piles.{most_grains};
 
@@ -20,8 +20,8 @@ use crate::faults::LabFault;
 use crate::gate::Gate;
 use crate::gathering::Findings;
 use crate::journal::{Entry, blank_journal, write_journal};
-use crate::plan::Wish;
 use sand_model::Pile;
+use sand_plan::Wish;
 use sand_shared::{CloseFault, Pass, Record, SharedFault, SharedPile};
 use std::alloc::Global;
 use std::marker::Model;

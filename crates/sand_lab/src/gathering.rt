@@ -9,7 +9,7 @@ ghost use Rattle.sand_shared.specs.Rows.{AreApart, no_rows};
 ghost use Rattle.sand_lab.specs.Crews.{EachAt, HasEmptied, HasTended, HasRead, HasWorked, rowless};
 ghost use Rattle.sand_lab.specs.Faults.{IsMemory};
 ghost use Rattle.sand_lab.specs.Gathering.{all_receipts, all_counts, all_swept, readings, HasGathered, HoldsReceipts, HoldsBand, HoldsNothing};
-ghost use Rattle.sand_lab.specs.declared.plan.Wish.{Wish};
+ghost use Rattle.sand_plan.specs.declared.wish.Wish.{Wish};
 
 use crate::crew::Crew;
 use crate::droppers::Dropper;

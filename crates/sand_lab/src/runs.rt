@@ -2,7 +2,7 @@
 
 ghost use Rattle.std.specs.Prelude.{◌≡◌, ◌≢◌, ◌↔◌, ◌+◌, ◌*◌, ◌<◌, ◌≤◌, length, sum, IfOk, IfErr};
 ghost use Rattle.sand_lab.specs.Faults.{IsOfEpoch};
-ghost use Rattle.sand_lab.specs.Plans.{IsPlan, all_drops};
+ghost use Rattle.sand_plan.specs.Plans.{IsPlan, all_drops};
 ghost use Rattle.sand_lab.specs.Reports.{IsReport};
 ghost use Rattle.sand_model.specs.Piles.{most_grains};
 
@@ -10,9 +10,10 @@ use crate::album::Album;
 use crate::epochs::{quota_of, run_epoch, run_first_epoch};
 use crate::faults::LabFault;
 use crate::gate::Gate;
-use crate::plan::{Plan, Wish};
+use crate::plan::Plan;
 use crate::report::Report;
 use sand_model::{GRAIN_LIMIT, Pile};
+use sand_plan::Wish;
 use std::alloc::Global;
 use std::thread::Threads;
 

@@ -16,10 +16,10 @@ use Rattle.sand_model.specs.declared.shape.Edge.{Edge}
 use Rattle.sand_model.specs.declared.shape.Edge.TheVariants.{Open, Cylinder}
 use Rattle.sand_model.specs.Grid.{Grid, IsGrid, grid_of, joins, is_side, sites}
 use Rattle.sand_model.specs.Piles.{PileView, IsPile, most_grains}
-use Rattle.sand_text.specs.declared.words.Word.{Word}
-use Rattle.sand_text.specs.declared.words.Word.TheVariants.{Number, Letter}
+use Rattle.sand_text.specs.declared.tokens.Token.{Token}
+use Rattle.sand_text.specs.declared.tokens.Token.TheVariants.{Number, Letter}
 use Rattle.sand_text.specs.Bytes.{is_digit, is_other, is_space, digits_len}
-use Rattle.sand_text.specs.Words.{word_of, words_from, words_at, words, first_strange, first_large, edge_behind, numbers}
+use Rattle.sand_text.specs.Tokens.{token_of, tokens_from, tokens_at, tokens, first_strange, first_large, edge_behind, numbers}
 use Rattle.sand_text.specs.Texts.{row_text, rows_text, edge_text, text_of}
 use Rattle.sand_text.specs.Reading.{front_of, pile_of}
 use Rattle.sand_text.proofs.Cuts.{one_part}
@@ -38,10 +38,10 @@ digit_no_space b e = grind (arith, nat_tests)
 no_space : (n : ℕ) → n < 2 ^ 64 → All (λ b. is_space b ≡ false) (decimal n)
 no_space n h = λ k d lt. digit_no_space (get_or (decimal n) k d) (digit_in n h k d lt)
 
--- the digits of a number are a word that is the number
-number_word : (at n : ℕ) → n ≤ most_grains → word_of at (decimal n) ≡ Number at n
-unfolding word_of
-number_word at n le =
+-- the digits of a number are a token that is the number
+number_token : (at n : ℕ) → n ≤ most_grains → token_of at (decimal n) ≡ Number at n
+unfolding token_of
+number_token at n le =
     let fits : n < 2 ^ 64 = omega arith in
     let all : digits_len (decimal n) ≡ length (decimal n) = position_or_len_is is_other (decimal n) (length (decimal n)) 0 (omega arith) (λ k lt. ap not (digit_in n fits k 0 lt)) (λ lt. absurd (omega arith)) in
     let test : eqb (digits_len (decimal n)) (length (decimal n)) ≡ true = eq-eqb _ _ all in
@@ -50,57 +50,57 @@ number_word at n le =
     rw (test, value, small) refl
 
 -- a number and white space behind it
-number_first : (at n y : ℕ) (rest : List ℕ) → n ≤ most_grains → is_space y ≡ true → words_at at (decimal n ++ y ∷ rest) ≡ Number at n ∷ words_at (at + length (decimal n) + 1) rest
+number_first : (at n y : ℕ) (rest : List ℕ) → n ≤ most_grains → is_space y ≡ true → tokens_at at (decimal n ++ y ∷ rest) ≡ Number at n ∷ tokens_at (at + length (decimal n) + 1) rest
 number_first at n y rest le e =
     let fits : n < 2 ^ 64 = omega arith in
     let cut = slice_split_at is_space (decimal n) y rest (no_space n fits) e in
     let one = one_part at (length (decimal n)) (decimal n) (slice_split is_space rest) refl (decimal_nonempty n fits) in
-    ap (words_from at) cut ∙ (one ∙ rw (number_word at n le) refl)
+    ap (tokens_from at) cut ∙ (one ∙ rw (number_token at n le) refl)
 
 -- ---- rows of numbers
 
--- the words of numbers, each with one byte behind it
-abbrev number_words : ℕ → List ℕ → List Word
-number_words at [] = []
-number_words at (n ∷ ns) = Number at n ∷ number_words (at + length (decimal n) + 1) ns
+-- the tokens of numbers, each with one byte behind it
+abbrev number_tokens : ℕ → List ℕ → List Token
+number_tokens at [] = []
+number_tokens at (n ∷ ns) = Number at n ∷ number_tokens (at + length (decimal n) + 1) ns
 
 -- the place behind these numbers
 abbrev behind : ℕ → List ℕ → ℕ
 behind at [] = at
 behind at (n ∷ ns) = behind (at + length (decimal n) + 1) ns
 
-number_words-append : (at : ℕ) (xs ys : List ℕ) → number_words at (xs ++ ys) ≡ number_words at xs ++ number_words (behind at xs) ys
-number_words-append at [] ys = refl
-number_words-append at (x ∷ xs) ys = ap (λ ws. Number at x ∷ ws) (number_words-append (at + length (decimal x) + 1) xs ys)
+number_tokens-append : (at : ℕ) (xs ys : List ℕ) → number_tokens at (xs ++ ys) ≡ number_tokens at xs ++ number_tokens (behind at xs) ys
+number_tokens-append at [] ys = refl
+number_tokens-append at (x ∷ xs) ys = ap (λ ws. Number at x ∷ ws) (number_tokens-append (at + length (decimal x) + 1) xs ys)
 
 separators : (n : ℕ) → is_space (if n == 0 then 10 else 32) ≡ true
 separators n = elim (n == 0) as (λ v. is_space (cond v 10 32) ≡ true) [ true ↦ refl | false ↦ refl ]
 
-row_again : (at : ℕ) (ns rest : List ℕ) → All (λ n. n ≤ most_grains) ns → words_at at (row_text ns ++ rest) ≡ number_words at ns ++ words_at (behind at ns) rest
+row_again : (at : ℕ) (ns rest : List ℕ) → All (λ n. n ≤ most_grains) ns → tokens_at at (row_text ns ++ rest) ≡ number_tokens at ns ++ tokens_at (behind at ns) rest
 unfolding row_text
 row_again at [] rest h = refl
 row_again at (n ∷ ns) rest h =
     let more = row_again (at + length (decimal n) + 1) ns rest (λ k d lt. h (suc k) d (omega arith)) in
-    ap (words_at at) (append_assoc (decimal n) ((if length ns == 0 then 10 else 32) ∷ row_text ns) rest) ∙ (number_first at n (if length ns == 0 then 10 else 32) (row_text ns ++ rest) (h 0 0 (omega arith)) (separators (length ns)) ∙ ap (λ ws. Number at n ∷ ws) more)
+    ap (tokens_at at) (append_assoc (decimal n) ((if length ns == 0 then 10 else 32) ∷ row_text ns) rest) ∙ (number_first at n (if length ns == 0 then 10 else 32) (row_text ns ++ rest) (h 0 0 (omega arith)) (separators (length ns)) ∙ ap (λ ws. Number at n ∷ ws) more)
 
 empty : (ns : List ℕ) → length ns ≡ 0 → ns ≡ []
 empty [] e = refl
 empty (n ∷ ns) e = absurd (omega arith)
 
-rows_again : (at n w : ℕ) (ns : List ℕ) → All (λ n. n ≤ most_grains) ns → length ns ≡ n * w → words_at at (rows_text n w ns) ≡ number_words at ns
-unfolding rows_text words_from
-rows_again at zero w ns h e = ap (number_words at) (sym (empty ns (e ∙ zero-mul w)))
+rows_again : (at n w : ℕ) (ns : List ℕ) → All (λ n. n ≤ most_grains) ns → length ns ≡ n * w → tokens_at at (rows_text n w ns) ≡ number_tokens at ns
+unfolding rows_text tokens_from
+rows_again at zero w ns h e = ap (number_tokens at) (sym (empty ns (e ∙ zero-mul w)))
 rows_again at (suc n) w ns h e =
     let m : suc n * w ≡ n * w + w = suc-mul n w in
     let front : All (λ n. n ≤ most_grains) (take w ns) = search (pieces, arith) in
     let back : All (λ n. n ≤ most_grains) (drop w ns) = search (pieces, arith) in
     let first = row_again at (take w ns) (rows_text n w (drop w ns)) front in
     let others = rows_again (behind at (take w ns)) n w (drop w ns) back (omega (arith, length-drop w ns)) in
-    first ∙ (ap (λ ws. number_words at (take w ns) ++ ws) others ∙ (sym (number_words-append at (take w ns) (drop w ns)) ∙ ap (number_words at) (take-append-drop w ns)))
+    first ∙ (ap (λ ws. number_tokens at (take w ns) ++ ws) others ∙ (sym (number_tokens-append at (take w ns) (drop w ns)) ∙ ap (number_tokens at) (take-append-drop w ns)))
 
--- ---- what the words of numbers say
+-- ---- what the tokens of numbers say
 
-none_strange : (spared : List ℕ) (n at : ℕ) (ns : List ℕ) → first_strange spared n (number_words at ns) ≡ None
+none_strange : (spared : List ℕ) (n at : ℕ) (ns : List ℕ) → first_strange spared n (number_tokens at ns) ≡ None
 unfolding first_strange
 none_strange spared n at [] = refl
 none_strange spared n at (x ∷ xs) = none_strange spared (n + 1) (at + length (decimal x) + 1) xs
@@ -108,69 +108,69 @@ none_strange spared n at (x ∷ xs) = none_strange spared (n + 1) (at + length (
 not_large : (n : ℕ) → n ≤ most_grains → ltb most_grains n ≡ false
 not_large n le = grind (arith, nat_tests)
 
-none_large : (at : ℕ) (ns : List ℕ) → All (λ n. n ≤ most_grains) ns → first_large (number_words at ns) ≡ None
+none_large : (at : ℕ) (ns : List ℕ) → All (λ n. n ≤ most_grains) ns → first_large (number_tokens at ns) ≡ None
 unfolding first_large
 none_large at [] h = refl
 none_large at (x ∷ xs) h = rw (not_large x (h 0 0 (omega arith))) (none_large (at + length (decimal x) + 1) xs (λ k d lt. h (suc k) d (omega arith)))
 
-no_letter : (k n at : ℕ) (ns : List ℕ) → edge_behind k n (number_words at ns) ≡ Open
+no_letter : (k n at : ℕ) (ns : List ℕ) → edge_behind k n (number_tokens at ns) ≡ Open
 unfolding edge_behind
 no_letter k n at [] = refl
 no_letter k n at (x ∷ xs) = no_letter k (n + 1) (at + length (decimal x) + 1) xs
 
-same_numbers : (at : ℕ) (ns : List ℕ) → numbers (number_words at ns) ≡ ns
+same_numbers : (at : ℕ) (ns : List ℕ) → numbers (number_tokens at ns) ≡ ns
 same_numbers at [] = refl
 same_numbers at (x ∷ xs) = ap (λ l. x ∷ l) (same_numbers (at + length (decimal x) + 1) xs)
 
 -- ---- the whole text
 
--- the words behind the sides
-abbrev tail_words : Edge → ℕ → List ℕ → List Word
-tail_words Open at ns = number_words at ns
-tail_words Cylinder at ns = Letter at ∷ number_words (at + 1 + 1) ns
+-- the tokens behind the sides
+abbrev tail_tokens : Edge → ℕ → List ℕ → List Token
+tail_tokens Open at ns = number_tokens at ns
+tail_tokens Cylinder at ns = Letter at ∷ number_tokens (at + 1 + 1) ns
 
--- the words of a pile's text
-abbrev pile_words : PileView → List Word
-pile_words p =
+-- the tokens of a pile's text
+abbrev pile_tokens : PileView → List Token
+pile_tokens p =
     let second : ℕ = 0 + length (decimal p.grid.width) + 1 in
-    Number 0 p.grid.width ∷ Number second p.grid.height ∷ tail_words p.grid.edge (second + length (decimal p.grid.height) + 1) p.heights
+    Number 0 p.grid.width ∷ Number second p.grid.height ∷ tail_tokens p.grid.edge (second + length (decimal p.grid.height) + 1) p.heights
 
 heights_small : (p : PileView) → IsPile p → All (λ n. n ≤ most_grains) p.heights
 heights_small p h = λ k d lt. let b = get_or-le-sum_by (λ x. x) p.heights k d lt in omega (arith, b, h.limit)
 
-tail_again : (e : Edge) (at h w : ℕ) (ns : List ℕ) → h ≤ most_grains → All (λ n. n ≤ most_grains) ns → length ns ≡ h * w → words_at at (decimal h ++ (edge_text e ++ rows_text h w ns)) ≡ Number at h ∷ tail_words e (at + length (decimal h) + 1) ns
-unfolding words_from word_of
+tail_again : (e : Edge) (at h w : ℕ) (ns : List ℕ) → h ≤ most_grains → All (λ n. n ≤ most_grains) ns → length ns ≡ h * w → tokens_at at (decimal h ++ (edge_text e ++ rows_text h w ns)) ≡ Number at h ∷ tail_tokens e (at + length (decimal h) + 1) ns
+unfolding tokens_from token_of
 tail_again Open at h w ns le small len =
     number_first at h 10 (rows_text h w ns) le refl ∙ ap (λ ws. Number at h ∷ ws) (rows_again (at + length (decimal h) + 1) h w ns small len)
 tail_again Cylinder at h w ns le small len =
     let next : ℕ = at + length (decimal h) + 1 in
     number_first at h 32 (99 ∷ 10 ∷ rows_text h w ns) le refl ∙ ap (λ ws. Number at h ∷ Letter next ∷ ws) (rows_again (next + 1 + 1) h w ns small len)
 
-words_again : (p : PileView) → IsPile p → words (text_of p) ≡ pile_words p
-words_again p h =
+tokens_again : (p : PileView) → IsPile p → tokens (text_of p) ≡ pile_tokens p
+tokens_again p h =
     let w = p.grid.width in
     let rows = rows_text p.grid.height w p.heights in
     let width_small : w ≤ most_grains = omega (arith, h.grid.width_limit) in
     let height_small : p.grid.height ≤ most_grains = omega (arith, h.grid.height_limit) in
     let cut : text_of p ≡ decimal w ++ 32 ∷ (decimal p.grid.height ++ (edge_text p.grid.edge ++ rows)) = simp append_assoc in
-    ap words cut ∙ (number_first 0 w 32 (decimal p.grid.height ++ (edge_text p.grid.edge ++ rows)) width_small refl ∙ ap (λ ws. Number 0 w ∷ ws) (tail_again p.grid.edge (0 + length (decimal w) + 1) p.grid.height w p.heights height_small (heights_small p h) (h.one_each ∙ mul_comm w p.grid.height)))
+    ap tokens cut ∙ (number_first 0 w 32 (decimal p.grid.height ++ (edge_text p.grid.edge ++ rows)) width_small refl ∙ ap (λ ws. Number 0 w ∷ ws) (tail_again p.grid.edge (0 + length (decimal w) + 1) p.grid.height w p.heights height_small (heights_small p h) (h.one_each ∙ mul_comm w p.grid.height)))
 
-tail_plain : (e : Edge) (at : ℕ) (ns : List ℕ) → first_strange (2 ∷ []) 2 (tail_words e at ns) ≡ None
+tail_plain : (e : Edge) (at : ℕ) (ns : List ℕ) → first_strange (2 ∷ []) 2 (tail_tokens e at ns) ≡ None
 unfolding first_strange
 tail_plain Open at ns = none_strange (2 ∷ []) 2 at ns
 tail_plain Cylinder at ns = none_strange [] 2 (at + 1 + 1) ns
 
-tail_small : (e : Edge) (at : ℕ) (ns : List ℕ) → All (λ n. n ≤ most_grains) ns → first_large (tail_words e at ns) ≡ None
+tail_small : (e : Edge) (at : ℕ) (ns : List ℕ) → All (λ n. n ≤ most_grains) ns → first_large (tail_tokens e at ns) ≡ None
 unfolding first_large
 tail_small Open at ns h = none_large at ns h
 tail_small Cylinder at ns h = none_large (at + 1 + 1) ns h
 
-tail_edge : (e : Edge) (at : ℕ) (ns : List ℕ) → edge_behind 2 2 (tail_words e at ns) ≡ e
+tail_edge : (e : Edge) (at : ℕ) (ns : List ℕ) → edge_behind 2 2 (tail_tokens e at ns) ≡ e
 unfolding edge_behind
 tail_edge Open at ns = no_letter 2 2 at ns
 tail_edge Cylinder at ns = refl
 
-tail_numbers : (e : Edge) (at : ℕ) (ns : List ℕ) → numbers (tail_words e at ns) ≡ ns
+tail_numbers : (e : Edge) (at : ℕ) (ns : List ℕ) → numbers (tail_tokens e at ns) ≡ ns
 tail_numbers Open at ns = same_numbers at ns
 tail_numbers Cylinder at ns = same_numbers (at + 1 + 1) ns
 
@@ -195,4 +195,4 @@ again p h =
     let test : eqb (length p.heights) (sites p.grid) ≡ true = eq-eqb _ _ h.one_each in
     let all : take (sites p.grid) p.heights ≡ p.heights = take_all (sites p.grid) p.heights (omega (arith, h.one_each)) in
     let few : ltb most_grains (sum p.heights) ≡ false = not_large (sum p.heights) h.limit in
-    rw (words_again p h, tail_plain p.grid.edge at p.heights, width_small, height_small, tail_small p.grid.edge at p.heights small, tail_edge p.grid.edge at p.heights, tail_numbers p.grid.edge at p.heights, grid_again p.grid h.grid, test, all, few) refl
+    rw (tokens_again p h, tail_plain p.grid.edge at p.heights, width_small, height_small, tail_small p.grid.edge at p.heights small, tail_edge p.grid.edge at p.heights, tail_numbers p.grid.edge at p.heights, grid_again p.grid h.grid, test, all, few) refl

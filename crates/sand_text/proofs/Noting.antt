@@ -8,9 +8,9 @@ use Rattle.std.proofs.lemmas.List.{get_or-drop, take_all, drop_all, take-append-
 use Rattle.std.proofs.lemmas.List.Sums.{sum_by_push, prefix_len-le-length}
 use Rattle.std.proofs.lemmas.List.Folds.{position_or_len_push}
 use Rattle.std.specs.Option.{option_or}
-use Rattle.sand_text.specs.declared.words.Word.{Word}
+use Rattle.sand_text.specs.declared.tokens.Token.{Token}
 use Rattle.sand_text.specs.Bytes.{capped}
-use Rattle.sand_text.specs.Words.{numbers}
+use Rattle.sand_text.specs.Tokens.{numbers}
 use Rattle.sand_text.specs.Surveys.{noted}
 
 -- the sum of the heights
@@ -72,7 +72,7 @@ no_site_push room value a ns h = elim (cases_lt (length ns) room) [
 ]
 
 -- the numbers behind the sides, with one more
-pub noted-next : (ws : List Word) (k v : ℕ) → 2 ≤ k → k < length (numbers ws) → get_or (numbers ws) k 0 ≡ v → noted (k + 1) ws ≡ noted k ws ++ v ∷ []
+pub noted-next : (ws : List Token) (k v : ℕ) → 2 ≤ k → k < length (numbers ws) → get_or (numbers ws) k 0 ≡ v → noted (k + 1) ws ≡ noted k ws ++ v ∷ []
 noted-next ws k v le lt is =
     let ns = numbers ws in
     let place : k + 1 - 2 ≡ k - 2 + 1 = omega arith in
@@ -80,10 +80,10 @@ noted-next ws k v le lt is =
     let more = take_more (drop 2 ns) (k - 2) 0 (omega (arith, length-drop 2 ns)) in
     ap (λ n. take n (drop 2 ns)) place ∙ (more ∙ ap (λ n. take (k - 2) (drop 2 ns) ++ n ∷ []) there)
 
-pub length-noted : (ws : List Word) (k : ℕ) → k ≤ length (numbers ws) → length (noted k ws) ≡ k - 2
+pub length-noted : (ws : List Token) (k : ℕ) → k ≤ length (numbers ws) → length (noted k ws) ≡ k - 2
 length-noted ws k le = length-take-le (k - 2) (drop 2 (numbers ws)) (omega (arith, length-drop 2 (numbers ws)))
 
-pub noted-none : (ws : List Word) (k : ℕ) → k ≤ 2 → noted k ws ≡ []
+pub noted-none : (ws : List Token) (k : ℕ) → k ≤ 2 → noted k ws ≡ []
 noted-none ws k le = let e : k - 2 ≡ 0 = omega arith in rw e refl
 
 -- one drop more, taken from what is left

@@ -1,4 +1,4 @@
--- One more byte of a word.
+-- One more byte of a token.
 use Rattle.std.proofs.Common.{◌≡◌, ◌≢◌, ℕ, ◌+◌, ◌*◌, ◌<◌, ◌≤◌, List, true, false, length, take, get_or, cond, eqb, refl, sym, ◌∙◌, ap, arith, eq-eqb}
 use Rattle.std.proofs.lemmas.List.{length-take, take_more}
 use Rattle.std.proofs.lemmas.List.Folds.{position_or_len_push}
@@ -7,11 +7,11 @@ use Rattle.std.proofs.lemmas.Bool.Decides.{nat_tests}
 use Rattle.std.proofs.lemmas.Int.Digits.{digits_value_more}
 use Rattle.std.specs.Str.Parse.{digits_value}
 use Rattle.std.specs.Char.{digit_value}
-use Rattle.sand_text.specs.Bytes.{is_digit, is_other, is_space, digits_len, word_len, capped}
+use Rattle.sand_text.specs.Bytes.{is_digit, is_other, is_space, digits_len, token_len, capped}
 
--- a word ends at the first white space
-pub word_ends : (bs : List ℕ) (i : ℕ) → i ≤ length bs → ((k : ℕ) → k < i → is_space (get_or bs k 0) ≡ false) → (i < length bs → is_space (get_or bs i 0) ≡ true) → i ≡ word_len bs
-word_ends bs i le before here = sym (position_or_len_is is_space bs i 0 le before here)
+-- a token ends at the first white space
+pub token_ends : (bs : List ℕ) (i : ℕ) → i ≤ length bs → ((k : ℕ) → k < i → is_space (get_or bs k 0) ≡ false) → (i < length bs → is_space (get_or bs i 0) ≡ true) → i ≡ token_len bs
+token_ends bs i le before here = sym (position_or_len_is is_space bs i 0 le before here)
 
 pushed : (bs : List ℕ) (i : ℕ) → i < length bs → digits_len (take (i + 1) bs) ≡ cond (eqb (digits_len (take i bs)) i) (i + cond (is_other (get_or bs i 0)) 0 1) (digits_len (take i bs))
 pushed bs i lt =

@@ -1,4 +1,4 @@
--- One more word of a survey.
+-- One more token of a survey.
 use Rattle.std.proofs.Common.{◌≡◌, ◌≢◌, ℕ, suc, ◌+◌, ◌-◌, ◌<◌, ◌≤◌, ◌++◌, nat_le, List, [], ◌∷◌, true, false, length, take, drop, get_or, eqb, ltb, refl, sym, ◌∙◌, ap, arith, inl, inr, Option, Some, None, Bool, not, nat_lt, sum, subst}
 use Rattle.std.specs.Bool.{if◌then◌else◌, ◌==◌}
 use Rattle.std.proofs.lemmas.Bool.{cases_lt, cases_eq}
@@ -11,10 +11,10 @@ use Rattle.sand_model.specs.declared.shape.Edge.{Edge}
 use Rattle.sand_model.specs.declared.shape.Edge.TheVariants.{Open, Cylinder}
 use Rattle.sand_text.specs.declared.fault.TextFault.TheVariants.{Text}
 use Rattle.sand_text.specs.declared.survey.Survey.{Survey}
-use Rattle.sand_text.specs.declared.words.Word.{Word}
-use Rattle.sand_text.specs.declared.words.Word.TheVariants.{Number, Letter, Strange}
+use Rattle.sand_text.specs.declared.tokens.Token.{Token}
+use Rattle.sand_text.specs.declared.tokens.Token.TheVariants.{Number, Letter, Strange}
 use Rattle.sand_text.specs.Bytes.{capped}
-use Rattle.sand_text.specs.Words.{first_strange, first_large, edge_behind, numbers}
+use Rattle.sand_text.specs.Tokens.{first_strange, first_large, edge_behind, numbers}
 use Rattle.sand_text.specs.Surveys.{IsUnderway, IsStrangeAt, still_spared, sites_of, grains_with, if_no_site, noted}
 use Rattle.sand_text.proofs.Taking.{next_of}
 use Rattle.sand_text.proofs.Noting.{sum_push, no_site_push, noted-next, length-noted, noted-none}
@@ -37,18 +37,18 @@ drop-nil : (n : ℕ) → drop {A = ℕ} n [] ≡ []
 drop-nil n = drop_all n [] (omega arith)
 
 -- what a survey says of the numbers behind the sides
-abbrev IsBehind : List Word → Survey → Type 0
+abbrev IsBehind : List Token → Survey → Type 0
 IsBehind ws s = (s.grains ≡ capped (sum (take (sites_of s) (noted s.count ws)))) × (s.no_site ≡ position (nat_le (sites_of s)) (drop (sites_of s) (noted s.count ws)))
 
 -- one side more, and no number behind the sides
-side_next : (ws : List Word) (s t : Survey) → s.count < 2 → t.count ≡ s.count + 1 → IsBehind ws s → t.grains ≡ s.grains → t.no_site ≡ s.no_site → IsBehind ws t
+side_next : (ws : List Token) (s t : Survey) → s.count < 2 → t.count ≡ s.count + 1 → IsBehind ws s → t.grains ≡ s.grains → t.no_site ≡ s.no_site → IsBehind ws t
 side_next ws s t low count so_far grains no_site =
     let before : noted s.count ws ≡ [] = noted-none ws s.count (omega arith) in
     let after : noted t.count ws ≡ [] = noted-none ws t.count (omega arith) in
     (grains ∙ (rw (before, take-nil (sites_of s)) at so_far.0 ∙ rw (after, take-nil (sites_of t)) refl), no_site ∙ (rw (before, drop-nil (sites_of s)) at so_far.1 ∙ rw (after, drop-nil (sites_of t)) refl))
 
 -- one number more behind the sides
-behind_next : (ws : List Word) (s t : Survey) (value : ℕ) → 2 ≤ s.count → s.count < length (numbers ws) → get_or (numbers ws) s.count 0 ≡ value → t.count ≡ s.count + 1 → sites_of t ≡ sites_of s → IsBehind ws s → t.grains ≡ grains_with s (s.count - 2) value → t.no_site ≡ option_or s.no_site (if_no_site s (s.count - 2) value) → IsBehind ws t
+behind_next : (ws : List Token) (s t : Survey) (value : ℕ) → 2 ≤ s.count → s.count < length (numbers ws) → get_or (numbers ws) s.count 0 ≡ value → t.count ≡ s.count + 1 → sites_of t ≡ sites_of s → IsBehind ws s → t.grains ≡ grains_with s (s.count - 2) value → t.no_site ≡ option_or s.no_site (if_no_site s (s.count - 2) value) → IsBehind ws t
 behind_next ws s t value high lt here count same so_far grains no_site =
     let next : noted t.count ws ≡ noted s.count ws ++ value ∷ [] = ap (λ n. noted n ws) count ∙ noted-next ws s.count value high lt here in
     let len = length-noted ws s.count (omega arith) in
@@ -57,7 +57,7 @@ behind_next ws s t value high lt here count same so_far grains no_site =
     (rw (next, same) (grains ∙ sums), rw (next, same) (no_site ∙ sites))
 
 -- a number, as a side or behind the sides
-noted_step : (ws rest : List Word) (s t : Survey) (start value : ℕ) → IsUnderway ws (Number start value ∷ rest) s
+noted_step : (ws rest : List Token) (s t : Survey) (start value : ℕ) → IsUnderway ws (Number start value ∷ rest) s
     → t.count ≡ s.count + 1
     → t.width ≡ (if s.count == 0 then value else s.width)
     → t.height ≡ (if s.count == 1 then value else s.height)
@@ -81,7 +81,7 @@ sooner : (n m : ℕ) (more : List ℕ) → n ≤ m → All (λ k. m < k) more �
 sooner n m more le later = λ k d lt. omega (arith, later k d lt)
 
 -- a number
-pub note_step : (ws rest : List Word) (s t : Survey) (start value : ℕ) → IsUnderway ws (Number start value ∷ rest) s
+pub note_step : (ws rest : List Token) (s t : Survey) (start value : ℕ) → IsUnderway ws (Number start value ∷ rest) s
     → t.count ≡ s.count + 1
     → t.width ≡ (if s.count == 0 then value else s.width)
     → t.height ≡ (if s.count == 1 then value else s.height)
@@ -127,7 +127,7 @@ kept n (k ∷ more) later =
     rw (test, rest) refl
 
 -- a letter that is spared
-pub spare_step : (ws rest : List Word) (s t : Survey) (at : ℕ) → IsUnderway ws (Letter at ∷ rest) s → s.count ≡ 2 → s.edge ≡ Open → t ≡ record s { edge = Cylinder } → IsUnderway ws rest t
+pub spare_step : (ws rest : List Token) (s t : Survey) (at : ℕ) → IsUnderway ws (Letter at ∷ rest) s → s.count ≡ 2 → s.edge ≡ Open → t ≡ record s { edge = Cylinder } → IsUnderway ws rest t
 unfolding first_strange first_large edge_behind
 spare_step ws rest s t at h two is_open is = rw is (record {
   plain = λ more later.
@@ -147,7 +147,7 @@ spare_step ws rest s t at h two is_open is = rw is (record {
   no_site = h.no_site;
 })
 
-letter_first : (e : Edge) (n at : ℕ) (rest : List Word) (more : List ℕ) → ((n ≡ 2) × (e ≡ Open) → ⊥) → All (λ k. n < k) more → first_strange (still_spared e more) n (Letter at ∷ rest) ≡ Some at
+letter_first : (e : Edge) (n at : ℕ) (rest : List Token) (more : List ℕ) → ((n ≡ 2) × (e ≡ Open) → ⊥) → All (λ k. n < k) more → first_strange (still_spared e more) n (Letter at ∷ rest) ≡ Some at
 unfolding first_strange
 letter_first Open n at rest more not_spared later =
     let other : n ≢ 2 = λ two. not_spared (two, refl) in
@@ -156,7 +156,7 @@ letter_first Open n at rest more not_spared later =
 letter_first Cylinder n at rest more not_spared later = rw (list_any_none (λ k. k == n) more (others n more later)) refl
 
 -- a letter that is not spared
-pub strange_letter : (ws rest : List Word) (s : Survey) (at : ℕ) → IsUnderway ws (Letter at ∷ rest) s → ((s.count ≡ 2) × (s.edge ≡ Open) → ⊥) → IsStrangeAt ws s (Text at)
+pub strange_letter : (ws rest : List Token) (s : Survey) (at : ℕ) → IsUnderway ws (Letter at ∷ rest) s → ((s.count ≡ 2) × (s.edge ≡ Open) → ⊥) → IsStrangeAt ws s (Text at)
 unfolding first_strange
 strange_letter ws rest s at h not_spared = record {
   at = at;
@@ -165,20 +165,20 @@ strange_letter ws rest s at h not_spared = record {
   bare = λ is_open. sym (h.bare is_open);
 }
 
--- a strange word
-pub strange_word : (ws rest : List Word) (s : Survey) (at : ℕ) → IsUnderway ws (Strange at ∷ rest) s → IsStrangeAt ws s (Text at)
+-- a strange token
+pub strange_token : (ws rest : List Token) (s : Survey) (at : ℕ) → IsUnderway ws (Strange at ∷ rest) s → IsStrangeAt ws s (Text at)
 unfolding first_strange
-strange_word ws rest s at h = record {
+strange_token ws rest s at h = record {
   at = at;
   is = refl;
   strange = λ more later. sym (h.plain more later);
   bare = λ is_open. sym (h.bare is_open);
 }
 
--- the word that the walk comes to
-pub at_word : (ws rest : List Word) (s : Survey) (w v : Word) → w ≡ v → IsUnderway ws (w ∷ rest) s → IsUnderway ws (v ∷ rest) s
-at_word ws rest s w v e h = let P : Word → Type 0 = λ x. IsUnderway ws (x ∷ rest) s in subst P e h
+-- the token that the walk comes to
+pub at_token : (ws rest : List Token) (s : Survey) (w v : Token) → w ≡ v → IsUnderway ws (w ∷ rest) s → IsUnderway ws (v ∷ rest) s
+at_token ws rest s w v e h = let P : Token → Type 0 = λ x. IsUnderway ws (x ∷ rest) s in subst P e h
 
--- the words that are left
-pub at_words : (ws left rest : List Word) (s : Survey) → left ≡ rest → IsUnderway ws left s → IsUnderway ws rest s
-at_words ws left rest s e h = let P : List Word → Type 0 = λ l. IsUnderway ws l s in subst P e h
+-- the tokens that are left
+pub at_tokens : (ws left rest : List Token) (s : Survey) → left ≡ rest → IsUnderway ws left s → IsUnderway ws rest s
+at_tokens ws left rest s e h = let P : List Token → Type 0 = λ l. IsUnderway ws l s in subst P e h

@@ -1,4 +1,4 @@
--- The walk over the words of two piles.
+-- The walk over the tokens of two piles.
 use Rattle.std.proofs.Common.{◌≡◌, ◌≢◌, ℕ, ◌+◌, ◌*◌, ◌<◌, ◌≤◌, List, [], ◌∷◌, All, Bool, true, false, refl, sym, ◌∙◌, arith, inl, inr, Some, None, slice_index, ◌&&◌}
 use Rattle.std.specs.Prelude.{IsTrue}
 use Rattle.std.specs.Bool.{if◌then◌else◌}
@@ -9,9 +9,9 @@ use Rattle.sand_model.specs.Grid.{is_side}
 use Rattle.sand_text.specs.declared.fault.TextFault.{TextFault}
 use Rattle.sand_text.specs.declared.fault.TextFault.TheVariants.{Text}
 use Rattle.sand_text.specs.declared.survey.Survey.{Survey}
-use Rattle.sand_text.specs.declared.words.Word.{Word}
-use Rattle.sand_text.specs.declared.words.Word.TheVariants.{Number, Letter, Strange}
-use Rattle.sand_text.specs.Words.{first_strange, numbers}
+use Rattle.sand_text.specs.declared.tokens.Token.{Token}
+use Rattle.sand_text.specs.declared.tokens.Token.TheVariants.{Number, Letter, Strange}
+use Rattle.sand_text.specs.Tokens.{first_strange, numbers}
 use Rattle.sand_text.specs.Reading.{second_letter, second_spared}
 use Rattle.sand_text.specs.Bytes.{has_large}
 use Rattle.sand_text.proofs.Shapes.{both}
@@ -19,8 +19,8 @@ use Rattle.sand_text.specs.Surveys.{IsUnderway, IsStrangeAt, IsFull, IsWithinPil
 
 -- ---- the first pile
 
--- one word more, of a pile that is not full
-pub one_further : (ws left rest : List Word) (s t : Survey) → IsUnderway ws left s → IsUnderway ws rest t → IsWithinPile s → (IsFull s → ⊥) → t.count ≤ s.count + 1 → IsWithinPile t
+-- one token more, of a pile that is not full
+pub one_further : (ws left rest : List Token) (s t : Survey) → IsUnderway ws left s → IsUnderway ws rest t → IsWithinPile s → (IsFull s → ⊥) → t.count ≤ s.count + 1 → IsWithinPile t
 one_further ws left rest s t before after within is_open few some width height = elim (cases_lt t.count 3) [
   | inl low ↦ omega arith
   | inr high ↦
@@ -55,42 +55,42 @@ letter_later false (w ∷ h ∷ ns) s width height within = by_sides (is_side w 
       omega arith
 ])
 
-pub later_letter : (over : Bool) (ws rest : List Word) (s : Survey) → IsUnderway ws rest s → IsWithinPile s → All (λ k. s.count < k) (second_letter over (numbers ws))
+pub later_letter : (over : Bool) (ws rest : List Token) (s : Survey) → IsUnderway ws rest s → IsWithinPile s → All (λ k. s.count < k) (second_letter over (numbers ws))
 later_letter over ws rest s h within = letter_later over (numbers ws) s h.width h.height within
 
-pub strange_in_first : (over : Bool) (ws rest : List Word) (s : Survey) (e : TextFault) → IsUnderway ws rest s → IsWithinPile s → IsStrangeAt ws s e → IsFirstStrange (2 ∷ second_letter over (numbers ws)) ws e
+pub strange_in_first : (over : Bool) (ws rest : List Token) (s : Survey) (e : TextFault) → IsUnderway ws rest s → IsWithinPile s → IsStrangeAt ws s e → IsFirstStrange (2 ∷ second_letter over (numbers ws)) ws e
 strange_in_first over ws rest s e h within strange = (strange.at, strange.is, strange.strange (second_letter over (numbers ws)) (later_letter over ws rest s h within))
 
 -- ---- the second pile
 
-barred_letter : (over : Bool) (ws rest : List Word) (s : Survey) (word : Word) (at : ℕ) → IsUnderway ws (word ∷ rest) s → (over ≡ true → s.edge ≡ Open) → barred_at over word ≡ Some at → first_strange (if over then [] else 2 ∷ []) 0 ws ≡ Some at
+barred_letter : (over : Bool) (ws rest : List Token) (s : Survey) (token : Token) (at : ℕ) → IsUnderway ws (token ∷ rest) s → (over ≡ true → s.edge ≡ Open) → barred_at over token ≡ Some at → first_strange (if over then [] else 2 ∷ []) 0 ws ≡ Some at
 unfolding first_strange
 barred_letter true ws rest s (Letter place) at h is_open is = sym (h.bare (is_open refl)) ∙ is
 barred_letter true ws rest s (Number place value) at h is_open is = absurd (cc)
 barred_letter true ws rest s (Strange place) at h is_open is = absurd (cc)
-barred_letter false ws rest s word at h is_open is = absurd (cc)
+barred_letter false ws rest s token at h is_open is = absurd (cc)
 
-pub barred : (text : List ℕ) (ws rest : List Word) (s : Survey) (word : Word) (at : ℕ) → IsUnderway ws (word ∷ rest) s → (has_large text ≡ true → s.edge ≡ Open) → barred_at (has_large text) word ≡ Some at → IsFirstStrange (second_spared text) ws (Text at)
-barred text ws rest s word at h is_open is = (at, refl, barred_letter (has_large text) ws rest s word at h is_open is)
+pub barred : (text : List ℕ) (ws rest : List Token) (s : Survey) (token : Token) (at : ℕ) → IsUnderway ws (token ∷ rest) s → (has_large text ≡ true → s.edge ≡ Open) → barred_at (has_large text) token ≡ Some at → IsFirstStrange (second_spared text) ws (Text at)
+barred text ws rest s token at h is_open is = (at, refl, barred_letter (has_large text) ws rest s token at h is_open is)
 
-by_bar : (over : Bool) (ws : List Word) (s : Survey) (e : TextFault) → (over ≡ true → s.edge ≡ Open) → IsStrangeAt ws s e → IsFirstStrange (if over then [] else 2 ∷ []) ws e
+by_bar : (over : Bool) (ws : List Token) (s : Survey) (e : TextFault) → (over ≡ true → s.edge ≡ Open) → IsStrangeAt ws s e → IsFirstStrange (if over then [] else 2 ∷ []) ws e
 by_bar true ws s e is_open strange = (strange.at, strange.is, strange.bare (is_open refl))
 by_bar false ws s e is_open strange = (strange.at, strange.is, strange.strange [] (λ i d lt. absurd (omega arith)))
 
-pub strange_in_second : (text : List ℕ) (ws : List Word) (s : Survey) (e : TextFault) → (has_large text ≡ true → s.edge ≡ Open) → IsStrangeAt ws s e → IsFirstStrange (second_spared text) ws e
+pub strange_in_second : (text : List ℕ) (ws : List Token) (s : Survey) (e : TextFault) → (has_large text ≡ true → s.edge ≡ Open) → IsStrangeAt ws s e → IsFirstStrange (second_spared text) ws e
 strange_in_second text ws s e is_open strange = by_bar (has_large text) ws s e is_open strange
 
-none_at_end : (over : Bool) (ws : List Word) (s : Survey) → IsUnderway ws [] s → (over ≡ true → s.edge ≡ Open) → first_strange (if over then [] else 2 ∷ []) 0 ws ≡ None
+none_at_end : (over : Bool) (ws : List Token) (s : Survey) → IsUnderway ws [] s → (over ≡ true → s.edge ≡ Open) → first_strange (if over then [] else 2 ∷ []) 0 ws ≡ None
 unfolding first_strange
 none_at_end true ws s h is_open = sym (h.bare (is_open refl))
 none_at_end false ws s h is_open = sym (h.plain [] (λ i d lt. absurd (omega arith)))
 
-pub plain_second : (text : List ℕ) (ws : List Word) (s : Survey) → IsUnderway ws [] s → (has_large text ≡ true → s.edge ≡ Open) → first_strange (second_spared text) 0 ws ≡ None
+pub plain_second : (text : List ℕ) (ws : List Token) (s : Survey) → IsUnderway ws [] s → (has_large text ≡ true → s.edge ≡ Open) → first_strange (second_spared text) 0 ws ≡ None
 plain_second text ws s h is_open = none_at_end (has_large text) ws s h is_open
 
--- a word that is not barred leaves the edge is_open
-pub still_open : (over : Bool) (word : Word) (e f : Edge) → barred_at over word ≡ None → over ≡ true → e ≡ Open → f ≡ edge_with e word → f ≡ Open
+-- a token that is not barred leaves the edge is_open
+pub still_open : (over : Bool) (token : Token) (e f : Edge) → barred_at over token ≡ None → over ≡ true → e ≡ Open → f ≡ edge_with e token → f ≡ Open
 still_open true (Letter at) e f none is is_open with = absurd (cc)
 still_open true (Number at value) e f none is is_open with = with ∙ is_open
 still_open true (Strange at) e f none is is_open with = with ∙ is_open
-still_open false word e f none is is_open with = absurd (cc)
+still_open false token e f none is is_open with = absurd (cc)

@@ -9,7 +9,7 @@ use Rattle.sand_group.specs.declared.burning.Burned.TheVariants.{Recurrent, Forb
 abbrev pub place_text : Grid → ℕ → List ℕ
 place_text g i = decimal (column g i) ++ codes " " ++ decimal (row g i) ++ codes "\n"
 
--- one word for a recurrent pile; else how many sites the forbidden set has, and a line for each
+-- the line `recurrent`; else how many sites the forbidden set has, and a line for each
 abbrev pub burn_text_of : Grid → Burned → List ℕ
 burn_text_of g (Recurrent order) = codes "recurrent\n"
 burn_text_of g (Forbidden set) = codes "forbidden " ++ decimal (length set.items) ++ codes "\n" ++ flat_map (place_text g) set.items

@@ -19,12 +19,12 @@ abbrev pub digits_len : List ℕ → ℕ
 digits_len bytes = position_or_len is_other bytes
 
 -- how many bytes stand before the first white space
-abbrev pub word_len : List ℕ → ℕ
-word_len text = position_or_len is_space text
+abbrev pub token_len : List ℕ → ℕ
+token_len text = position_or_len is_space text
 
 -- the letter `c` alone
 abbrev pub is_letter : List ℕ → Bool
-is_letter word = length word == 1 && slice_index word 0 == 99
+is_letter token = length token == 1 && slice_index token 0 == 99
 
 -- a value, or one over the grain limit where it is larger
 abbrev pub capped : ℕ → ℕ

@@ -10,4 +10,4 @@ pub mod Runs
 pub mod Surveys
 pub mod Tables
 pub mod Texts
-pub mod Words
+pub mod Tokens

@@ -9,9 +9,9 @@ use Rattle.sand_text.specs.declared.fault.TextFault.{TextFault}
 use Rattle.sand_text.specs.declared.fault.TextFault.TheVariants.{Text, TooLarge, Side, Narrow, Length, TooManyGrains, NoSite}
 use Rattle.sand_text.specs.declared.fault.ReadFault.{ReadFault}
 use Rattle.sand_text.specs.declared.fault.ReadFault.TheVariants as faults
-use Rattle.sand_text.specs.declared.words.Word.{Word}
+use Rattle.sand_text.specs.declared.tokens.Token.{Token}
 use Rattle.sand_text.specs.Bytes.{has_large}
-use Rattle.sand_text.specs.Words.{words, first_strange, first_large, edge_behind, numbers}
+use Rattle.sand_text.specs.Tokens.{tokens, first_strange, first_large, edge_behind, numbers}
 
 infixl 10 ◌>>=◌
 abbrev pub ◌>>=◌ : {A B : Type 0} → Result A TextFault → (A → Result B TextFault) → Result B TextFault
@@ -23,9 +23,9 @@ abbrev pub unless_at : {A : Type 0} → Option ℕ → (ℕ → TextFault) → R
 unless_at None fault read = read
 unless_at (Some at) fault read = Err (fault at)
 
--- the words of a text with no strange byte and no number over the limit, where letters are spared behind these counts of numbers
-abbrev pub plain_words : List ℕ → List ℕ → Result (List Word) TextFault
-plain_words spared text = let ws = words text in unless_at (first_strange spared 0 ws) Text (unless_at (first_large ws) TooLarge (Ok ws))
+-- the tokens of a text with no strange byte and no number over the limit, where letters are spared behind these counts of numbers
+abbrev pub plain_tokens : List ℕ → List ℕ → Result (List Token) TextFault
+plain_tokens spared text = let ws = tokens text in unless_at (first_strange spared 0 ws) Text (unless_at (first_large ws) TooLarge (Ok ws))
 
 abbrev pub of_shape : ShapeFault → TextFault
 of_shape shape_faults.Side = Side
@@ -51,7 +51,7 @@ pile_at edge last end (w ∷ h ∷ ns) = filled last (grid_of w h edge) ns
 -- the pile at the front of a text, and the numbers behind it: a letter is spared behind the second number
 unfoldable pub front_of : Bool → List ℕ → Result (PileView × List ℕ) TextFault
 front_of last text = do
-  ws ← plain_words (2 ∷ []) text
+  ws ← plain_tokens (2 ∷ []) text
   pile_at (edge_behind 2 0 ws) last (length text) (numbers ws)
 
 -- the pile that a text holds
@@ -81,12 +81,12 @@ second_letter false (w ∷ h ∷ ns) = if is_side w && is_side h then (w * h + 4
 
 -- behind how many numbers the letters of two piles are spared
 abbrev pub two_letters : List ℕ → List ℕ
-two_letters text = 2 ∷ second_letter (has_large text) (numbers (words text))
+two_letters text = 2 ∷ second_letter (has_large text) (numbers (tokens text))
 
 -- the two piles that a text holds, one after the other
 unfoldable pub two_of : List ℕ → Result (PileView × PileView) TextFault
 two_of text = do
-  ws ← plain_words (two_letters text) text
+  ws ← plain_tokens (two_letters text) text
   first ← pile_at (edge_behind 2 0 ws) false (length text) (numbers ws)
   second ← pile_at (edge_behind (sites first.0.grid + 4) 0 ws) true (length text) first.1
   Ok (first.0, second.0)
@@ -106,11 +106,11 @@ Reads result read = ReadsAs (λ pile. pile) result read
 
 -- the heights of the pile on this grid at the front of a text
 abbrev pub heights_on : Grid → List ℕ → List ℕ
-heights_on g text = take (sites g) (drop 2 (numbers (words text)))
+heights_on g text = take (sites g) (drop 2 (numbers (tokens text)))
 
 -- the numbers behind the pile on this grid at the front of a text
 abbrev pub behind_heights : Grid → List ℕ → List ℕ
-behind_heights g text = drop (sites g) (drop 2 (numbers (words text)))
+behind_heights g text = drop (sites g) (drop 2 (numbers (tokens text)))
 
 -- the heights of the pile on the second grid, behind the pile on the first
 abbrev pub heights_behind : Grid → Grid → List ℕ → List ℕ

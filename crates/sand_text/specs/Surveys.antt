@@ -1,4 +1,4 @@
--- What the walk over a text's words knows at each word.
+-- What the walk over a text's tokens knows at each token.
 use Rattle.std.specs.Prelude.{◌≡◌, ℕ, ◌+◌, ◌-◌, ◌*◌, ◌^◌, ◌<◌, ◌≤◌, ◌⊎◌, List, [], ◌∷◌, Bool, true, false, All, IsTrue, nat_lt, nat_le, min, length, take, drop, sum, position, slice_index, Option, Some, None, Ok, if◌then◌else◌}
 use Rattle.std.specs.Option.{option_or}
 use Rattle.sand_model.specs.declared.shape.Edge.{Edge}
@@ -8,10 +8,10 @@ use Rattle.sand_model.specs.Piles.{PileView, most_grains}
 use Rattle.sand_text.specs.declared.fault.TextFault.{TextFault}
 use Rattle.sand_text.specs.declared.fault.TextFault.TheVariants.{Text}
 use Rattle.sand_text.specs.declared.survey.Survey.{Survey}
-use Rattle.sand_text.specs.declared.words.Word.{Word}
-use Rattle.sand_text.specs.declared.words.Word.TheVariants.{Number, Letter, Strange}
+use Rattle.sand_text.specs.declared.tokens.Token.{Token}
+use Rattle.sand_text.specs.declared.tokens.Token.TheVariants.{Number, Letter, Strange}
 use Rattle.sand_text.specs.Bytes.{capped}
-use Rattle.sand_text.specs.Words.{first_strange, first_large, edge_behind, numbers}
+use Rattle.sand_text.specs.Tokens.{first_strange, first_large, edge_behind, numbers}
 use Rattle.sand_text.specs.Reading.{pile_at}
 
 -- the letter behind the second number is spared once, and letters behind more numbers
@@ -19,7 +19,7 @@ abbrev pub still_spared : Edge → List ℕ → List ℕ
 still_spared Open more = 2 ∷ more
 still_spared Cylinder more = more
 
--- a letter that was found, or else what the words that are left say
+-- a letter that was found, or else what the tokens that are left say
 abbrev pub edge_or : Edge → Edge → Edge
 edge_or Open later = later
 edge_or Cylinder later = Cylinder
@@ -37,12 +37,12 @@ abbrev pub if_no_site : Survey → ℕ → ℕ → Option ℕ
 if_no_site s place value = if nat_lt place (sites_of s) then None else (if nat_le (sites_of s) value then Some (place - sites_of s) else None)
 
 -- those of the first so many numbers that stand behind the sides
-abbrev pub noted : ℕ → List Word → List ℕ
+abbrev pub noted : ℕ → List Token → List ℕ
 noted count ws = take (count - 2) (drop 2 (numbers ws))
 
--- the survey of the words before the rest of ws, none of them strange where letters are spared behind the second number
+-- the survey of the tokens before the rest of ws, none of them strange where letters are spared behind the second number
 -- and behind counts of numbers that are still to come
-pub record IsUnderway (ws rest : List Word) (s : Survey) : Type 0 where
+pub record IsUnderway (ws rest : List Token) (s : Survey) : Type 0 where
   pub plain : (more : List ℕ) → All (λ k. s.count < k) more → first_strange (still_spared s.edge more) s.count rest ≡ first_strange (2 ∷ more) 0 ws
   pub bare : s.edge ≡ Open → first_strange [] s.count rest ≡ first_strange [] 0 ws
   pub edge : edge_or s.edge (edge_behind 2 s.count rest) ≡ edge_behind 2 0 ws
@@ -55,15 +55,15 @@ pub record IsUnderway (ws rest : List Word) (s : Survey) : Type 0 where
   pub grains : s.grains ≡ capped (sum (take (sites_of s) (noted s.count ws)))
   pub no_site : s.no_site ≡ position (nat_le (sites_of s)) (drop (sites_of s) (noted s.count ws))
 
--- the edge with one word more
-abbrev pub edge_with : Edge → Word → Edge
+-- the edge with one token more
+abbrev pub edge_with : Edge → Token → Edge
 edge_with e (Number at value) = e
 edge_with e (Letter at) = Cylinder
 edge_with e (Strange at) = e
 
 -- the fault is the first strange byte of ws, where letters are spared behind the second number and behind counts of
 -- numbers that are still to come
-pub record IsStrangeAt (ws : List Word) (s : Survey) (fault : TextFault) : Type 0 where
+pub record IsStrangeAt (ws : List Token) (s : Survey) (fault : TextFault) : Type 0 where
   pub at : ℕ
   pub is : fault ≡ Text at
   pub strange : (more : List ℕ) → All (λ k. s.count < k) more → first_strange (2 ∷ more) 0 ws ≡ Some at
@@ -76,7 +76,7 @@ pub record IsFull (s : Survey) : Type 0 where
   pub count : s.count ≡ s.width * s.height + 2
 
 -- a survey of a pile ends at its last height, or with the text; that of the last pile in a text ends with the text
-abbrev pub IsEnd : Bool → List Word → Survey → Type 0
+abbrev pub IsEnd : Bool → List Token → Survey → Type 0
 IsEnd true rest s = rest ≡ []
 IsEnd false rest s = (rest ≡ []) ⊎ IsFull s
 
@@ -85,7 +85,7 @@ abbrev pub pile_among : Grid → List ℕ → PileView × List ℕ
 pile_among g ns = (record { grid = g; heights = take (sites g) (drop 2 ns) }, drop (sites g) (drop 2 ns))
 
 -- the pile at the front of ws is on this grid, and its grains are those that the survey counted
-pub record IsShaped (last : Bool) (end : ℕ) (ws : List Word) (s : Survey) (g : Grid) : Type 0 where
+pub record IsShaped (last : Bool) (end : ℕ) (ws : List Token) (s : Survey) (g : Grid) : Type 0 where
   pub read : pile_at (edge_behind 2 0 ws) last end (numbers ws) ≡ Ok (pile_among g (numbers ws))
   pub width : IsTrue (is_side s.width)
   pub height : IsTrue (is_side s.height)
@@ -100,16 +100,16 @@ abbrev pub IsWithinPile : Survey → Type 0
 IsWithinPile s = 1 < s.count → IsTrue (is_side s.width) → IsTrue (is_side s.height) → s.count ≤ s.width * s.height + 2
 
 -- the survey of the first pile of a text, and no further
-pub record IsFront (ws rest : List Word) (s : Survey) : Type 0 where
+pub record IsFront (ws rest : List Token) (s : Survey) : Type 0 where
   pub underway : IsUnderway ws rest s
   pub end : IsEnd false rest s
   pub within : IsWithinPile s
 
 -- where a letter stands that no pile of the text may have but the first
-abbrev pub barred_at : Bool → Word → Option ℕ
+abbrev pub barred_at : Bool → Token → Option ℕ
 barred_at true (Letter at) = Some at
 barred_at over _ = None
 
 -- the fault is the first strange byte of ws, where letters are spared behind these counts of numbers
-abbrev pub IsFirstStrange : List ℕ → List Word → TextFault → Type 0
+abbrev pub IsFirstStrange : List ℕ → List Token → TextFault → Type 0
 IsFirstStrange spared ws fault = (at : ℕ) × (fault ≡ Text at) × (first_strange spared 0 ws ≡ Some at)

@@ -1,13 +1,13 @@
-//! What stands at the front of a text: white space, or a word.
+//! What stands at the front of a text: white space, or a token.
 //!
-//! A word's length, its digits and their value are found in one walk over its bytes. The value grows digit by digit and
+//! A token's length, its digits and their value are found in one walk over its bytes. The value grows digit by digit and
 //! stops at one over the grain limit, so it never leaves its type.
 
 ghost use Rattle.std.specs.Prelude.{◌≡◌, ℕ, ◌+◌, ◌*◌, ◌<◌, ◌≤◌, length, take, not, position, true, if◌then◌else◌};
 ghost use Rattle.std.specs.List.{position_or_len};
 ghost use Rattle.std.specs.Char.{digit_value};
 ghost use Rattle.std.specs.Str.Parse.{digits_value};
-ghost use Rattle.sand_text.specs.Bytes.{is_digit, is_space, digits_len, word_len, capped, has_large};
+ghost use Rattle.sand_text.specs.Bytes.{is_digit, is_space, digits_len, token_len, capped, has_large};
 ghost use Rattle.sand_model.specs.Piles.{most_grains};
 
 use sand_model::GRAIN_LIMIT;
@@ -45,7 +45,7 @@ fn grown(value: u64, digit: u8) -> u64
 }
 
 // Where the first byte stands that is no white space.
-fn word_start(text: &[u8]) -> Option<usize>
+fn token_start(text: &[u8]) -> Option<usize>
     ensures { result ≡ position (λ b. not (is_space b)) text.now }
 {
     text.iter().position(|byte| !is_space(*byte))
@@ -56,12 +56,12 @@ pub(crate) fn space_len(text: &[u8]) -> usize
     ensures first { result ≡ position_or_len (λ b. not (is_space b)) text.now }
     ensures within { result ≤ length text.now }
 {
-    word_start(text).unwrap_or(text.len())
+    token_start(text).unwrap_or(text.len())
 }
 
 /// What stands at the front of a text up to its first white space.
 pub(crate) fn span_of(text: &[u8]) -> Span
-    ensures len { result.len ≡ word_len text.now }
+    ensures len { result.len ≡ token_len text.now }
     ensures within { result.len ≤ length text.now }
     ensures digits { result.digits ≡ digits_len (take result.len text.now) }
     ensures value { result.value ≡ capped (digits_value 10 (take result.digits text.now)) }

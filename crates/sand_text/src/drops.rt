@@ -2,7 +2,7 @@
 
 ghost use Rattle.std.specs.Prelude.{◌≡◌, ◌+◌, ◌≤◌, length, sum, IfOk, IfErr};
 ghost use Rattle.sand_model.specs.Grid.{sites};
-ghost use Rattle.sand_text.specs.Words.{words, numbers};
+ghost use Rattle.sand_text.specs.Tokens.{tokens, numbers};
 ghost use Rattle.sand_text.specs.Reading.{ReadsAs, drops_of, heights_on, behind_heights};
 ghost use Rattle.sand_model.specs.Piles.{most_grains};
 
@@ -16,7 +16,7 @@ use std::alloc::Global;
 // fault.
 fn shape_of(text: &[u8]) -> Result<(Shape, u64, usize), TextFault>
     ensures drops { IfOk result (λ (g, _, _). drops_of text.now ≡ Ok (record { grid = g; heights = heights_on g text.now }, behind_heights g text.now)) }
-    ensures enough { IfOk result (λ (g, _, _). 2 + sites g ≤ length (numbers (words text.now))) }
+    ensures enough { IfOk result (λ (g, _, _). 2 + sites g ≤ length (numbers (tokens text.now))) }
     ensures one_each { IfOk result (λ (g, _, _). length (heights_on g text.now) ≡ sites g) }
     ensures grains { IfOk result (λ (g, grains, _). (grains ≡ sum (heights_on g text.now)) × (grains ≤ most_grains)) }
     ensures count { IfOk result (λ (g, _, count). length (behind_heights g text.now) ≡ count) }

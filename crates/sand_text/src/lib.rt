@@ -15,8 +15,8 @@ mod rows;
 mod runs;
 mod survey;
 mod tables;
+mod tokens;
 mod two_piles;
-mod words;
 
 pub use burning::burn_text;
 pub use drops::read_drops;

@@ -2,24 +2,24 @@
 
 ghost use Rattle.std.specs.Prelude.{◌≡◌, ◌+◌, ◌≤◌, length, take, drop, IfOk, OnOk};
 ghost use Rattle.std.specs.Iterator.{item_count, YieldsFirst};
-ghost use Rattle.sand_text.specs.Words.{words, numbers};
+ghost use Rattle.sand_text.specs.Tokens.{tokens, numbers};
 ghost use Rattle.sand_text.specs.Left.{numbers_left};
 
-use crate::words::{Word, Words};
+use crate::tokens::{Token, Tokens};
 use std::alloc::{AllocError, Global};
 
-/// The values of those words that are numbers.
+/// The values of those tokens that are numbers.
 #[derive(Clone, Copy)]
 pub(crate) struct Numbers<'a> {
-    words: Words<'a>,
+    tokens: Tokens<'a>,
 }
 
 impl<'a> Numbers<'a> {
     pub(crate) fn new(text: &'a [u8]) -> Numbers<'a>
-        ensures { numbers_left result ≡ numbers (words text.entry.now) }
+        ensures { numbers_left result ≡ numbers (tokens text.entry.now) }
     {
         Numbers {
-            words: Words::new(text),
+            tokens: Tokens::new(text),
         }
     }
 
@@ -67,8 +67,8 @@ impl<'a> Iterator for Numbers<'a> {
     ghost remaining = { item_count numbers_left };
 
     fn next(&mut self) -> Option<u64> {
-        'words: while let Some(word) = self.words.next() {
-            if let Word::Number { value, .. } = word {
+        'tokens: while let Some(token) = self.tokens.next() {
+            if let Token::Number { value, .. } = token {
                 return Some(value);
             }
         }

@@ -2,7 +2,7 @@
 
 ghost use Rattle.std.specs.Prelude.{◌≡◌, ◌+◌, ◌≤◌, ◌++◌, length, sum, OnOk, IfOk, IfErr};
 ghost use Rattle.sand_model.specs.Grid.{sites};
-ghost use Rattle.sand_text.specs.Words.{words, numbers};
+ghost use Rattle.sand_text.specs.Tokens.{tokens, numbers};
 ghost use Rattle.sand_text.specs.Reading.{Reads, pile_of, heights_on};
 ghost use Rattle.sand_text.specs.Texts.{shape_text, text_of, odometer_text, settle_text_of};
 ghost use Rattle.sand_model.specs.Piles.{most_grains};
@@ -18,7 +18,7 @@ use std::alloc::{AllocError, Global};
 // The shape and the grains of the pile that a text holds, where the text has no fault.
 fn shape_of(text: &[u8]) -> Result<(Shape, u64), TextFault>
     ensures pile { IfOk result (λ (g, _). pile_of text.now ≡ Ok (record { grid = g; heights = heights_on g text.now })) }
-    ensures enough { IfOk result (λ (g, _). 2 + sites g ≤ length (numbers (words text.now))) }
+    ensures enough { IfOk result (λ (g, _). 2 + sites g ≤ length (numbers (tokens text.now))) }
     ensures one_each { IfOk result (λ (g, _). length (heights_on g text.now) ≡ sites g) }
     ensures grains { IfOk result (λ (g, grains). (grains ≡ sum (heights_on g text.now)) × (grains ≤ most_grains)) }
     ensures err { IfErr result (λ e. pile_of text.now ≡ Err e) }

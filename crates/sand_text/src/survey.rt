@@ -1,19 +1,19 @@
-//! What the words of a text say of a pile: its sides, its edge, the sum of its heights, and where the faults stand.
+//! What the tokens of a text say of a pile: its sides, its edge, the sum of its heights, and where the faults stand.
 //!
 //! A survey keeps what the faults need and no list, so each fault is found before anything grows.
 
 ghost use Rattle.std.specs.Prelude.{◌≡◌, ℕ, ◌+◌, ◌-◌, ◌^◌, List, [], ◌∷◌, Bool, ◌<◌, ◌≤◌, ◌↔◌, ◌==◌, nat_lt, IsTrue, IfOk, IfErr, OnOk, if◌then◌else◌};
 ghost use Rattle.std.specs.Option.{option_or};
-ghost use Rattle.sand_text.specs.Words.{words, edge_behind, numbers};
-ghost use Rattle.sand_text.specs.Reading.{is_count, pile_at, plain_words};
+ghost use Rattle.sand_text.specs.Tokens.{tokens, edge_behind, numbers};
+ghost use Rattle.sand_text.specs.Reading.{is_count, pile_at, plain_tokens};
 ghost use Rattle.sand_text.specs.Surveys.{IsUnderway, IsStrangeAt, IsFull, IsEnd, IsShaped, edge_with, sites_of, grains_with, if_no_site};
 ghost use Rattle.sand_model.specs.Piles.{most_grains};
 
 use crate::fault::TextFault;
-use crate::words::{Word, Words};
+use crate::tokens::{Token, Tokens};
 use sand_model::{Edge, GRAIN_LIMIT, SIDE_LIMIT, Shape};
 
-/// What the words of a pile's text say so far, where none is strange.
+/// What the tokens of a pile's text say so far, where none is strange.
 #[derive(Clone, Copy)]
 pub(crate) struct Survey {
     /// How many numbers there are.
@@ -45,7 +45,7 @@ fn is_count(last: bool, count: usize, wanted: usize) -> bool
 
 impl Survey {
     pub(crate) fn new() -> Survey
-        ensures underway { (ws : List Word) → IsUnderway ws ws result }
+        ensures underway { (ws : List Token) → IsUnderway ws ws result }
         ensures empty { (result.count ≡ 0) × (result.edge ≡ Edge.Open) }
     {
         Survey {
@@ -112,22 +112,22 @@ impl Survey {
         true
     }
 
-    /// Takes a word. Refuses a strange one (Text).
-    pub(crate) fn take(&mut self, word: Word) -> Result<(), TextFault>
+    /// Takes a token. Refuses a strange one (Text).
+    pub(crate) fn take(&mut self, token: Token) -> Result<(), TextFault>
         requires { self.old.count < 2 ^ 63 }
-        ensures taken { OnOk result ((ws rest : List Word) → IsUnderway ws (word ∷ rest) self.old → IsUnderway ws rest self.new) }
-        ensures strange { IfErr result (λ e. (ws rest : List Word) → IsUnderway ws (word ∷ rest) self.old → IsStrangeAt ws self.old e) }
-        ensures edge { OnOk result (self.new.edge ≡ edge_with self.old.edge word) }
+        ensures taken { OnOk result ((ws rest : List Token) → IsUnderway ws (token ∷ rest) self.old → IsUnderway ws rest self.new) }
+        ensures strange { IfErr result (λ e. (ws rest : List Token) → IsUnderway ws (token ∷ rest) self.old → IsStrangeAt ws self.old e) }
+        ensures edge { OnOk result (self.new.edge ≡ edge_with self.old.edge token) }
         ensures count { OnOk result (self.new.count ≤ self.old.count + 1) }
     {
-        match word {
-            Word::Number { start, value } => self.note(start, value),
-            Word::Letter(at) => {
+        match token {
+            Token::Number { start, value } => self.note(start, value),
+            Token::Letter(at) => {
                 if !self.spare() {
                     return Err(TextFault::Text(at));
                 }
             }
-            Word::Strange(at) => return Err(TextFault::Text(at)),
+            Token::Strange(at) => return Err(TextFault::Text(at)),
         }
         Ok(())
     }
@@ -147,8 +147,8 @@ impl Survey {
     /// strange bytes and numbers over the limit: fewer than two numbers (Text), Side, Narrow, Length, TooManyGrains.
     /// Only where the pile is not the last in its text may more numbers follow than it has sites.
     pub(crate) fn shape(&self, last: bool, end: usize) -> Result<Shape, TextFault>
-        ensures ok { IfOk result (λ g. (ws rest : List Word) → IsUnderway ws rest self.now → IsEnd last rest self.now → IsShaped last end ws self.now g) }
-        ensures err { IfErr result (λ e. (ws rest : List Word) → IsUnderway ws rest self.now → IsEnd last rest self.now
+        ensures ok { IfOk result (λ g. (ws rest : List Token) → IsUnderway ws rest self.now → IsEnd last rest self.now → IsShaped last end ws self.now g) }
+        ensures err { IfErr result (λ e. (ws rest : List Token) → IsUnderway ws rest self.now → IsEnd last rest self.now
             → pile_at (edge_behind 2 0 ws) last end (numbers ws) ≡ Err e) }
     {
         if self.count < 2 {
@@ -165,14 +165,14 @@ impl Survey {
     }
 }
 
-// The survey of all words of a text, or its first strange byte as the fault.
+// The survey of all tokens of a text, or its first strange byte as the fault.
 fn survey_of(text: &[u8]) -> Result<Survey, TextFault>
-    ensures ok { IfOk result (IsUnderway (words text.now) []) }
-    ensures err { IfErr result (λ e. plain_words (2 ∷ []) text.now ≡ Err e) }
+    ensures ok { IfOk result (IsUnderway (tokens text.now) []) }
+    ensures err { IfErr result (λ e. plain_tokens (2 ∷ []) text.now ≡ Err e) }
 {
     let mut survey = Survey::new();
-    for word in Words::new(text) {
-        survey.take(word)?;
+    for token in Tokens::new(text) {
+        survey.take(token)?;
     }
     Ok(survey)
 }
@@ -180,9 +180,9 @@ fn survey_of(text: &[u8]) -> Result<Survey, TextFault>
 /// The survey of a text in which no byte is strange and no number over the limit; else the first such byte (Text), or the
 /// first such number (TooLarge).
 pub(crate) fn plain_survey(text: &[u8]) -> Result<Survey, TextFault>
-    ensures ok { IfOk result (IsUnderway (words text.now) []) }
-    ensures plain { IfOk result (λ s. plain_words (2 ∷ []) text.now ≡ Ok (words text.now)) }
-    ensures err { IfErr result (λ e. plain_words (2 ∷ []) text.now ≡ Err e) }
+    ensures ok { IfOk result (IsUnderway (tokens text.now) []) }
+    ensures plain { IfOk result (λ s. plain_tokens (2 ∷ []) text.now ≡ Ok (tokens text.now)) }
+    ensures err { IfErr result (λ e. plain_tokens (2 ∷ []) text.now ≡ Err e) }
 {
     let survey = survey_of(text)?;
     match survey.large {

@@ -1,16 +1,16 @@
 //! Two piles from one text, one after the other.
 //!
-//! One walk over the words surveys the first pile until it is full, and then the second. Where the second may have its
-//! letter the words before it decide, but for one thing: in a text with a number over the limit, wherever that stands, it
+//! One walk over the tokens surveys the first pile until it is full, and then the second. Where the second may have its
+//! letter the tokens before it decide, but for one thing: in a text with a number over the limit, wherever that stands, it
 //! may have none. So at a letter the text is looked through for such a number.
 
 ghost use Rattle.std.specs.Prelude.{◌≡◌, ◌+◌, ◌≤◌, List, [], ◌∷◌, Bool, length, take, drop, sum, None, IfOk, IfErr};
 ghost use Rattle.sand_model.specs.Grid.{sites};
-ghost use Rattle.sand_text.specs.declared.words.Word.{Word};
-ghost use Rattle.sand_text.specs.Words.{words, first_strange, numbers};
-ghost use Rattle.sand_text.specs.Left.{words_left};
+ghost use Rattle.sand_text.specs.declared.tokens.Token.{Token};
+ghost use Rattle.sand_text.specs.Tokens.{tokens, first_strange, numbers};
+ghost use Rattle.sand_text.specs.Left.{tokens_left};
 ghost use Rattle.sand_text.specs.Bytes.{has_large};
-ghost use Rattle.sand_text.specs.Reading.{ReadsAs, plain_words, second_letter, second_spared, two_letters, two_of, heights_on, behind_heights, heights_behind};
+ghost use Rattle.sand_text.specs.Reading.{ReadsAs, plain_tokens, second_letter, second_spared, two_letters, two_of, heights_on, behind_heights, heights_behind};
 ghost use Rattle.sand_text.specs.Surveys.{IsUnderway, IsFront, IsFirstStrange, barred_at};
 ghost use Rattle.sand_model.specs.Piles.{most_grains};
 
@@ -18,47 +18,47 @@ use crate::bytes::has_large;
 use crate::fault::{ReadFault, TextFault};
 use crate::numbers::Numbers;
 use crate::survey::Survey;
-use crate::words::{Word, Words};
+use crate::tokens::{Token, Tokens};
 use sand_model::{Pile, Shape};
 use std::alloc::Global;
 
-// The survey of the first pile. The words behind it are left.
-fn first_survey(words: &mut Words<'_>) -> Result<Survey, TextFault>
-    ensures ok { IfOk result (IsFront (words_left words.old) (words_left words.new)) }
-    ensures err { IfErr result (λ e. (over : Bool) → IsFirstStrange (2 ∷ second_letter over (numbers (words_left words.old))) (words_left words.old) e) }
+// The survey of the first pile. The tokens behind it are left.
+fn first_survey(tokens: &mut Tokens<'_>) -> Result<Survey, TextFault>
+    ensures ok { IfOk result (IsFront (tokens_left tokens.old) (tokens_left tokens.new)) }
+    ensures err { IfErr result (λ e. (over : Bool) → IsFirstStrange (2 ∷ second_letter over (numbers (tokens_left tokens.old))) (tokens_left tokens.old) e) }
 {
     let mut survey = Survey::new();
     'pile: while !survey.is_full() {
-        let Some(word) = words.next() else {
+        let Some(token) = tokens.next() else {
             break;
         };
-        survey.take(word)?;
+        survey.take(token)?;
     }
     Ok(survey)
 }
 
 // Where a letter stands that the second pile may not have, since a number of the text is over the limit.
-fn barred_at(word: Word, text: &[u8]) -> Option<usize>
-    ensures { result ≡ barred_at (has_large text.now) word }
+fn barred_at(token: Token, text: &[u8]) -> Option<usize>
+    ensures { result ≡ barred_at (has_large text.now) token }
 {
-    match word {
-        Word::Letter(at) if has_large(text) => Some(at),
+    match token {
+        Token::Letter(at) if has_large(text) => Some(at),
         _ => None,
     }
 }
 
-// The survey of the second pile, of which these are all words.
-fn second_survey(words: Words<'_>, text: &[u8]) -> Result<Survey, TextFault>
-    ensures ok { IfOk result (IsUnderway (words_left words.entry) []) }
-    ensures plain { IfOk result (λ s. first_strange (second_spared text.now) 0 (words_left words.entry) ≡ None) }
-    ensures err { IfErr result (IsFirstStrange (second_spared text.now) (words_left words.entry)) }
+// The survey of the second pile, of which these are all tokens.
+fn second_survey(tokens: Tokens<'_>, text: &[u8]) -> Result<Survey, TextFault>
+    ensures ok { IfOk result (IsUnderway (tokens_left tokens.entry) []) }
+    ensures plain { IfOk result (λ s. first_strange (second_spared text.now) 0 (tokens_left tokens.entry) ≡ None) }
+    ensures err { IfErr result (IsFirstStrange (second_spared text.now) (tokens_left tokens.entry)) }
 {
     let mut survey = Survey::new();
-    for word in words {
-        if let Some(at) = barred_at(word, text) {
+    for token in tokens {
+        if let Some(at) = barred_at(token, text) {
             return Err(TextFault::Text(at));
         }
-        survey.take(word)?;
+        survey.take(token)?;
     }
     Ok(survey)
 }
@@ -66,13 +66,13 @@ fn second_survey(words: Words<'_>, text: &[u8]) -> Result<Survey, TextFault>
 // The surveys of the two piles of a text in which no byte is strange and no number over the limit; else the first such byte
 // (Text), or the first such number (TooLarge).
 fn two_surveys(text: &[u8]) -> Result<(Survey, Survey), TextFault>
-    ensures piles { IfOk result (λ (first, second). (rest : List Word) × IsFront (words text.now) rest first × IsUnderway rest [] second) }
-    ensures plain { IfOk result (λ _. plain_words (two_letters text.now) text.now ≡ Ok (words text.now)) }
-    ensures err { IfErr result (λ e. plain_words (two_letters text.now) text.now ≡ Err e) }
+    ensures piles { IfOk result (λ (first, second). (rest : List Token) × IsFront (tokens text.now) rest first × IsUnderway rest [] second) }
+    ensures plain { IfOk result (λ _. plain_tokens (two_letters text.now) text.now ≡ Ok (tokens text.now)) }
+    ensures err { IfErr result (λ e. plain_tokens (two_letters text.now) text.now ≡ Err e) }
 {
-    let mut words = Words::new(text);
-    let first = first_survey(&mut words)?;
-    let second = second_survey(words, text)?;
+    let mut tokens = Tokens::new(text);
+    let first = first_survey(&mut tokens)?;
+    let second = second_survey(tokens, text)?;
     match first.large.or(second.large) {
         Some(at) => Err(TextFault::TooLarge(at)),
         None => Ok((first, second)),
@@ -82,7 +82,7 @@ fn two_surveys(text: &[u8]) -> Result<(Survey, Survey), TextFault>
 // The shapes and the grains of the two piles that a text holds, where the text has no fault.
 fn shapes_of(text: &[u8]) -> Result<((Shape, u64), (Shape, u64)), TextFault>
     ensures piles { IfOk result (λ ((g, _), (h, _)). two_of text.now ≡ Ok (record { grid = g; heights = heights_on g text.now }, record { grid = h; heights = heights_behind g h text.now })) }
-    ensures enough { IfOk result (λ ((g, _), (h, _)). (2 + sites g ≤ length (numbers (words text.now))) × (2 + sites h ≤ length (behind_heights g text.now))) }
+    ensures enough { IfOk result (λ ((g, _), (h, _)). (2 + sites g ≤ length (numbers (tokens text.now))) × (2 + sites h ≤ length (behind_heights g text.now))) }
     ensures one_each { IfOk result (λ ((g, _), (h, _)). (length (heights_on g text.now) ≡ sites g) × (length (heights_behind g h text.now) ≡ sites h)) }
     ensures grains { IfOk result (λ ((g, n), (h, m)). (n ≡ sum (heights_on g text.now)) × (m ≡ sum (heights_behind g h text.now))) }
     ensures limit { IfOk result (λ ((_, n), (_, m)). (n ≤ most_grains) × (m ≤ most_grains)) }

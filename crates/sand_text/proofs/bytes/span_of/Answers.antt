@@ -1,12 +1,12 @@
 use Rattle.std.proofs.Common.{arith, below_more, sym, ◌∙◌, ap, take}
 use Rattle.std.specs.Str.Parse.{digits_value}
 use Rattle.sand_text.specs.Bytes.{capped}
-use Rattle.sand_text.proofs.Spans.{word_ends, more_digits, no_more_digits, digits_ended, more_value}
+use Rattle.sand_text.proofs.Spans.{token_ends, more_digits, no_more_digits, digits_ended, more_value}
 use Rattle.sand_text.proofs.bytes.span_of.Goals as goal
 use Rattle.sand_text.proofs.bytes.span_of.Goals.{then-is_digit+then-digits-len, else-is_digit, else-is_digit-via-then-is_digit+else-digits-len, else-is_digit-via-else-is_digit}
 
 pub returns-then-is_space-clause-len : goal.returns-then-is_space-clause-len
-returns-then-is_space-clause-len c = word_ends c.args.text.now c.loop-len.len (omega arith) c.loop-len.invariant.no_space (λ _. sym c.is_space.ensures ∙ c.if-is_space.true)
+returns-then-is_space-clause-len c = token_ends c.args.text.now c.loop-len.len (omega arith) c.loop-len.invariant.no_space (λ _. sym c.is_space.ensures ∙ c.if-is_space.true)
 
 pub loop-len-preserved : goal.loop-len-preserved
 loop-len-preserved c =
@@ -28,4 +28,4 @@ loop-len-preserved c =
     ]
 
 pub returns-clause-len : goal.returns-clause-len
-returns-clause-len c = word_ends c.args.text.now _ (omega arith) (λ k lt. c.loop-len.invariant.no_space k (omega arith)) (λ lt. absurd (omega arith))
+returns-clause-len c = token_ends c.args.text.now _ (omega arith) (λ k lt. c.loop-len.invariant.no_space k (omega arith)) (λ lt. absurd (omega arith))

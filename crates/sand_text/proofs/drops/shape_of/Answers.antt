@@ -1,6 +1,6 @@
 use Rattle.std.proofs.Common.{arith, ap, inl, refl, sym, ◌∙◌, ◌-◌}
 use Rattle.std.proofs.lemmas.Result.{err_from_is_err_and}
-use Rattle.sand_text.specs.Words.{words}
+use Rattle.sand_text.specs.Tokens.{tokens}
 use Rattle.sand_text.proofs.Shapes.{count_at_end}
 use Rattle.sand_text.proofs.Readings.{faulty_drops, misshapen_drops, no_such_site, good_drops, drop_count, one_each}
 use Rattle.sand_text.proofs.drops.shape_of.Goals as goal
@@ -13,43 +13,43 @@ returns-in_err-survey-clause-err c =
 pub returns-in_err-shape-clause-err : goal.returns-in_err-shape-clause-err
 returns-in_err-shape-clause-err c =
     let p = err_from_is_err_and c.from_residual-in_err-shape.result c.from_residual-in_err-shape.ensures.1 in
-    let err = c.in_err-shape.ensures.err (words c.args.text.now) _ c.in_ok-survey.ensures.ok (inl refl) in
+    let err = c.in_err-shape.ensures.err (tokens c.args.text.now) _ c.in_ok-survey.ensures.ok (inl refl) in
     rw (p.1, p.2) (misshapen_drops c.args.text.now c.in_err-shape.field-0.0 c.in_ok-survey.ensures.plain err)
 
 pub overflow_sub-result : goal.overflow_sub-result
 overflow_sub-result c =
-    let shaped = c.in_ok-shape.ensures.ok (words c.args.text.now) _ c.in_ok-survey.ensures.ok (inl refl) in
-    omega (arith, shaped.enough, count_at_end (words c.args.text.now) c.in_ok-survey.survey c.in_ok-survey.ensures.ok)
+    let shaped = c.in_ok-shape.ensures.ok (tokens c.args.text.now) _ c.in_ok-survey.ensures.ok (inl refl) in
+    omega (arith, shaped.enough, count_at_end (tokens c.args.text.now) c.in_ok-survey.survey c.in_ok-survey.ensures.ok)
 
 pub overflow_sub-result-in-None : goal.overflow_sub-result-in-None
 overflow_sub-result-in-None c =
-    let shaped = c.in_ok-shape.ensures.ok (words c.args.text.now) _ c.in_ok-survey.ensures.ok (inl refl) in
-    omega (arith, shaped.enough, c.sites.ensures.value, count_at_end (words c.args.text.now) c.in_ok-survey.survey c.in_ok-survey.ensures.ok)
+    let shaped = c.in_ok-shape.ensures.ok (tokens c.args.text.now) _ c.in_ok-survey.ensures.ok (inl refl) in
+    omega (arith, shaped.enough, c.sites.ensures.value, count_at_end (tokens c.args.text.now) c.in_ok-survey.survey c.in_ok-survey.ensures.ok)
 
 pub returns-in-Some-clause-err : goal.returns-in-Some-clause-err
 returns-in-Some-clause-err c =
-    let shaped = c.in_ok-shape.ensures.ok (words c.args.text.now) _ c.in_ok-survey.ensures.ok (inl refl) in
+    let shaped = c.in_ok-shape.ensures.ok (tokens c.args.text.now) _ c.in_ok-survey.ensures.ok (inl refl) in
     no_such_site c.args.text.now c.in_ok-survey.survey c.in_ok-shape.shape c.in-Some.index c.in_ok-survey.ensures.plain c.in_ok-survey.ensures.ok shaped c.in-Some.is
 
 pub returns-in-None-clause-drops : goal.returns-in-None-clause-drops
 returns-in-None-clause-drops c =
-    let shaped = c.in_ok-shape.ensures.ok (words c.args.text.now) _ c.in_ok-survey.ensures.ok (inl refl) in
+    let shaped = c.in_ok-shape.ensures.ok (tokens c.args.text.now) _ c.in_ok-survey.ensures.ok (inl refl) in
     good_drops c.args.text.now c.in_ok-survey.survey c.in_ok-shape.shape c.in_ok-survey.ensures.plain c.in_ok-survey.ensures.ok shaped c.in-None.is
 
 pub returns-in-None-clause-enough : goal.returns-in-None-clause-enough
-returns-in-None-clause-enough c = (c.in_ok-shape.ensures.ok (words c.args.text.now) _ c.in_ok-survey.ensures.ok (inl refl)).enough
+returns-in-None-clause-enough c = (c.in_ok-shape.ensures.ok (tokens c.args.text.now) _ c.in_ok-survey.ensures.ok (inl refl)).enough
 
 pub returns-in-None-clause-one_each : goal.returns-in-None-clause-one_each
 returns-in-None-clause-one_each c =
-    let shaped = c.in_ok-shape.ensures.ok (words c.args.text.now) _ c.in_ok-survey.ensures.ok (inl refl) in
-    one_each _ _ (words c.args.text.now) c.in_ok-survey.survey c.in_ok-shape.shape shaped
+    let shaped = c.in_ok-shape.ensures.ok (tokens c.args.text.now) _ c.in_ok-survey.ensures.ok (inl refl) in
+    one_each _ _ (tokens c.args.text.now) c.in_ok-survey.survey c.in_ok-shape.shape shaped
 
 pub returns-in-None-clause-grains : goal.returns-in-None-clause-grains
 returns-in-None-clause-grains c =
-    let shaped = c.in_ok-shape.ensures.ok (words c.args.text.now) _ c.in_ok-survey.ensures.ok (inl refl) in
+    let shaped = c.in_ok-shape.ensures.ok (tokens c.args.text.now) _ c.in_ok-survey.ensures.ok (inl refl) in
     (shaped.grains, shaped.limit)
 
 pub returns-in-None-clause-count : goal.returns-in-None-clause-count
 returns-in-None-clause-count c =
-    let shaped = c.in_ok-shape.ensures.ok (words c.args.text.now) _ c.in_ok-survey.ensures.ok (inl refl) in
-    drop_count _ (words c.args.text.now) c.in_ok-survey.survey c.in_ok-shape.shape c.in_ok-survey.ensures.ok shaped ∙ ap (λ n. c.in_ok-survey.survey.count - 2 - n) (sym c.sites.ensures.value)
+    let shaped = c.in_ok-shape.ensures.ok (tokens c.args.text.now) _ c.in_ok-survey.ensures.ok (inl refl) in
+    drop_count _ (tokens c.args.text.now) c.in_ok-survey.survey c.in_ok-shape.shape c.in_ok-survey.ensures.ok shaped ∙ ap (λ n. c.in_ok-survey.survey.count - 2 - n) (sym c.sites.ensures.value)

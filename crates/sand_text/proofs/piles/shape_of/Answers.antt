@@ -1,6 +1,6 @@
 use Rattle.std.proofs.Common.{refl}
 use Rattle.std.proofs.lemmas.Result.{err_from_is_err_and}
-use Rattle.sand_text.specs.Words.{words}
+use Rattle.sand_text.specs.Tokens.{tokens}
 use Rattle.sand_text.proofs.Readings.{faulty_pile, misshapen_pile, good_pile, one_each}
 use Rattle.sand_text.proofs.piles.shape_of.Goals as goal
 
@@ -12,23 +12,23 @@ returns-in_err-survey-clause-err c =
 pub returns-in_err-shape-clause-err : goal.returns-in_err-shape-clause-err
 returns-in_err-shape-clause-err c =
     let p = err_from_is_err_and c.from_residual-in_err-shape.result c.from_residual-in_err-shape.ensures.1 in
-    let err = c.in_err-shape.ensures.err (words c.args.text.now) _ c.in_ok-survey.ensures.ok refl in
+    let err = c.in_err-shape.ensures.err (tokens c.args.text.now) _ c.in_ok-survey.ensures.ok refl in
     rw (p.1, p.2) (misshapen_pile c.args.text.now c.in_err-shape.field-0.0 c.in_ok-survey.ensures.plain err)
 
 pub returns-clause-pile : goal.returns-clause-pile
 returns-clause-pile c =
-    let shaped = c.in_ok-shape.ensures.ok (words c.args.text.now) _ c.in_ok-survey.ensures.ok refl in
+    let shaped = c.in_ok-shape.ensures.ok (tokens c.args.text.now) _ c.in_ok-survey.ensures.ok refl in
     good_pile c.args.text.now c.in_ok-survey.survey c.in_ok-shape.shape c.in_ok-survey.ensures.plain shaped
 
 pub returns-clause-enough : goal.returns-clause-enough
-returns-clause-enough c = (c.in_ok-shape.ensures.ok (words c.args.text.now) _ c.in_ok-survey.ensures.ok refl).enough
+returns-clause-enough c = (c.in_ok-shape.ensures.ok (tokens c.args.text.now) _ c.in_ok-survey.ensures.ok refl).enough
 
 pub returns-clause-one_each : goal.returns-clause-one_each
 returns-clause-one_each c =
-    let shaped = c.in_ok-shape.ensures.ok (words c.args.text.now) _ c.in_ok-survey.ensures.ok refl in
-    one_each _ _ (words c.args.text.now) c.in_ok-survey.survey c.in_ok-shape.shape shaped
+    let shaped = c.in_ok-shape.ensures.ok (tokens c.args.text.now) _ c.in_ok-survey.ensures.ok refl in
+    one_each _ _ (tokens c.args.text.now) c.in_ok-survey.survey c.in_ok-shape.shape shaped
 
 pub returns-clause-grains : goal.returns-clause-grains
 returns-clause-grains c =
-    let shaped = c.in_ok-shape.ensures.ok (words c.args.text.now) _ c.in_ok-survey.ensures.ok refl in
+    let shaped = c.in_ok-shape.ensures.ok (tokens c.args.text.now) _ c.in_ok-survey.ensures.ok refl in
     (shaped.grains, shaped.limit)

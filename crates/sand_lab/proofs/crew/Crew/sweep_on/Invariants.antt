@@ -1,5 +1,5 @@
 use Rattle.std.proofs.Common.{ℕ}
-use Rattle.sand_lab.specs.declared.plan.Wish.{Wish}
+use Rattle.sand_plan.specs.declared.wish.Wish.{Wish}
 use Rattle.sand_lab.specs.Crews.{HasWorked}
 use Rattle.sand_lab.proofs.crew.Crew.sweep_on.Given as goal
 

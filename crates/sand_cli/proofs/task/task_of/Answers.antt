@@ -5,7 +5,7 @@ use Rattle.sand_cli.specs.Asked.{IsWithin, conflict_of, task_named}
 use Rattle.sand_cli.proofs.Spelled.{heeds_by_fault, heeds_by_task}
 use Rattle.sand_cli.proofs.Taken.{fails_by_kind, names, refused_ask_nothing, shows_help, taken, taken_are_sound, taken_ask, tells_nothing}
 use Rattle.sand_cli.specs.declared.fault.WordsFault.TheVariants.{Clash}
-use Rattle.sand_cli.proofs.words.task_of.Goals as goal
+use Rattle.sand_cli.proofs.task.task_of.Goals as goal
 
 pub returns-in_err-matches : goal.returns-in_err-matches
 returns-in_err-matches c =

@@ -2,7 +2,7 @@
 
 ghost use Rattle.std.specs.Prelude.{◌≡◌, ◌↔◌, IfErr, IfOk, Some, None, map, option_and_then, string_bytes};
 ghost use Rattle.clap.specs.Words.{found_of, rows_of, subcommand_rows_of};
-ghost use Rattle.sand_cli.specs.Asked.{AskForHelp, IsWithin, asked, conflict_among, conflict_of, draw_of, faults, form_in, identity_of, lacks_count, run_of, task_named, two_forms};
+ghost use Rattle.sand_cli.specs.Asked.{AskForHelp, IsWithin, asked, conflict_among, conflict_of, draw_of, faults, form_in, identity_of, lacks_count, task_named, two_forms, wish_of};
 ghost use Rattle.sand_cli.specs.Spelling.{Heeds};
 ghost use Rattle.sand_cli.specs.Fault.{IsOfKinds, IsUsage, ShowsHelp, TellsConflict};
 
@@ -10,26 +10,8 @@ use crate::fault::{Conflict, WordsFault};
 use crate::line::command_line;
 use crate::options::{flag_in, number_in, setting_in};
 use clap::ArgMatches;
+use sand_plan::Wish;
 use std::alloc::Global;
-
-/// A run of the lab: what it drops, and by how many threads.
-#[derive(Clone, Copy, Debug, PartialEq, Eq)]
-pub struct Run {
-    /// The seed of the droppers' streams, at most 4,294,967,295.
-    pub seed: u64,
-    /// Droppers in each epoch, from 1 to 64.
-    pub droppers: u32,
-    /// Drops of each dropper in an epoch, at most 1,000,000.
-    pub drops: u32,
-    /// Epochs, from 1 to 100.
-    pub epochs: u32,
-    /// Workers in each epoch, from 1 to 16.
-    pub workers: u32,
-    /// Sweeps of each worker beside the droppers, at most 1,000.
-    pub sweeps: u32,
-    /// Observers in each epoch, at most 16.
-    pub observers: u32,
-}
 
 /// Drops at the sites of a stream.
 #[derive(Clone, Copy, Debug, PartialEq, Eq)]
@@ -88,7 +70,7 @@ pub enum Task {
     },
     /// Drops grains on a pile by many threads at once. `journal` asks for a line for each drop in a text.
     Lab {
-        run: Run,
+        wish: Wish,
         journal: bool,
         form: Form,
     },
@@ -119,10 +101,10 @@ fn identity_of(options: &ArgMatches<'_>) -> Option<Task>
     })
 }
 
-fn run_of(options: &ArgMatches<'_>) -> Option<Run>
-    ensures { result ≡ run_of (rows_of (found_of options.now)) }
+fn wish_of(options: &ArgMatches<'_>) -> Option<Wish>
+    ensures { result ≡ wish_of (rows_of (found_of options.now)) }
 {
-    Some(Run {
+    Some(Wish {
         seed: u64::from(setting_in(options, "seed")?),
         droppers: setting_in(options, "droppers")?,
         drops: setting_in(options, "drops")?,
@@ -163,7 +145,7 @@ fn task_named(name: &str, options: &ArgMatches<'_>) -> Option<Task>
         "inverse" => Some(Task::Inverse { pgm }),
         "recurrent" => Some(Task::Recurrent { pgm }),
         "lab" => Some(Task::Lab {
-            run: run_of(options)?,
+            wish: wish_of(options)?,
             journal: flag_in(options, "journal"),
             form: form_in(options),
         }),

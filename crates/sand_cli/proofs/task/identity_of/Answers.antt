@@ -2,8 +2,8 @@ use Rattle.std.proofs.Common.{◌∙◌, Some, ap, ap₂, codes}
 use Rattle.clap.specs.Words.{found_of, rows_of}
 use Rattle.sand_cli.specs.Asked.{with_sides}
 use Rattle.sand_cli.specs.Options.{number_in}
-use Rattle.sand_cli.specs.declared.words.Task.TheVariants.{Identity}
-use Rattle.sand_cli.proofs.words.identity_of.Goals as goal
+use Rattle.sand_cli.specs.declared.task.Task.TheVariants.{Identity}
+use Rattle.sand_cli.proofs.task.identity_of.Goals as goal
 
 pub returns-in_err-width : goal.returns-in_err-width
 returns-in_err-width c =

@@ -1,0 +1,86 @@
+//! The tokens of a text, one after another. A token's bytes are looked at once.
+
+ghost use Rattle.std.specs.Prelude.{◌≡◌, ℕ, ◌+◌, ◌<◌, ◌≤◌, ◌^◌, length, take};
+ghost use Rattle.std.specs.Iterator.{item_count, YieldsFirst};
+ghost use Rattle.std.specs.Str.Parse.{digits_value};
+ghost use Rattle.sand_text.specs.Bytes.{digits_len, capped};
+ghost use Rattle.sand_text.specs.Tokens.{token_of};
+
+use crate::bytes::{Span, space_len, span_of};
+
+/// What a token of a text is, with its place.
+#[derive(Clone, Copy)]
+pub(crate) enum Token {
+    /// Digits alone. A value over the grain limit counts as one over it.
+    Number { start: usize, value: u64 },
+    /// The letter `c` alone.
+    Letter(usize),
+    /// Anything else, with the place of its first byte that is no digit.
+    Strange(usize),
+}
+
+/// The tokens of a text, from a place on at which no token goes on.
+#[derive(Clone, Copy)]
+pub(crate) struct Tokens<'a> {
+    at: usize,
+    rest: &'a [u8],
+    ghost room: { at + length rest.now < 2 ^ 63 },
+}
+
+// What a token at a place is, by its span.
+#[tactic(auto, unfolding(crate::specs::Tokens::token_of))]
+fn token_at(start: usize, token: &[u8], span: Span) -> Token
+    requires len { span.len ≡ length token.now }
+    requires digits { span.digits ≡ digits_len token.now }
+    requires value { span.value ≡ capped (digits_value 10 (take span.digits token.now)) }
+    requires room { start + length token.now < 2 ^ 64 }
+    ensures { result ≡ token_of start token.now }
+{
+    if span.digits == span.len {
+        Token::Number {
+            start,
+            value: span.value,
+        }
+    } else if token.len() == 1 && token[0] == b'c' {
+        Token::Letter(start)
+    } else {
+        Token::Strange(start + span.digits)
+    }
+}
+
+impl<'a> Tokens<'a> {
+    ghost use Rattle.sand_text.specs.Tokens.{tokens};
+    ghost use Rattle.sand_text.specs.Left.{tokens_left};
+
+    pub(crate) fn new(text: &'a [u8]) -> Tokens<'a>
+        ensures { tokens_left result ≡ tokens text.entry.now }
+    {
+        Tokens { at: 0, rest: text }
+    }
+}
+
+impl<'a> Iterator for Tokens<'a> {
+    ghost use Rattle.sand_text.specs.Left.{tokens_left};
+
+    type Item = Token;
+
+    ghost next_gives = { YieldsFirst tokens_left };
+
+    ghost remaining = { item_count tokens_left };
+
+    fn next(&mut self) -> Option<Token> {
+        let skipped = space_len(self.rest);
+        let (_, text) = self.rest.split_at(skipped);
+        if text.is_empty() {
+            return None;
+        }
+        let start = self.at + skipped;
+        let span = span_of(text);
+        let (token, rest) = text.split_at(span.len);
+        *self = Tokens {
+            at: start + span.len,
+            rest,
+        };
+        Some(token_at(start, token, span))
+    }
+}
