@@ -41,7 +41,13 @@ impl Model for Sheet {
 
     ghost Value = { SheetView };
 
-    ghost view = { λ s. record { journal = s.journal.items; tallies = map (λ ts. ts.items) s.findings.tallies.items; swept = s.findings.swept.items; place = s.note.cell; shown = s.note.known } };
+    ghost view = { λ s. record {
+      journal = s.journal.items;
+      tallies = map (λ ts. ts.items) s.findings.tallies.items;
+      swept = s.findings.swept.items;
+      place = s.note.cell;
+      shown = s.note.known;
+    } };
 }
 
 // What a closed epoch leaves: its record, for the report and for the album, and what is kept beside it.
@@ -180,7 +186,8 @@ fn closed_epoch<R: Threads + Sync, G: Gate>(
 ) -> Result<ClosedEpoch, LabFault>
     requires plan { IsPlan wish }
     requires limit { sum start.now.heights + quota_of wish ≤ most_grains }
-    ensures closed { IfOk result (λ c. IsClosed wish start.now epoch c.closed c.journal.items (map (λ ts. ts.items) c.findings.tallies.items) c.findings.swept.items) }
+    ensures closed { IfOk result (λ c.
+        IsClosed wish start.now epoch c.closed c.journal.items (map (λ ts. ts.items) c.findings.tallies.items) c.findings.swept.items) }
     ensures shown { IfOk result (λ c. c.shown ≡ c.closed) }
     ensures memory { IfErr result IsMemory }
 {

@@ -52,7 +52,7 @@ pub(crate) fn fill(history: &mut Vec<usize>, receipts: &[Receipt])
 }
 
 impl SharedPile {
-    /// Closes the pile with a pass that has gathered all, and answers its record. Refuses a pass that lacks quota,
+    /// Closes the pile with a pass that has gathered all, and returns its record. Refuses a pass that lacks quota,
     /// receipts or rows (Missing), then Memory, before anything topples; the pile and the pass then come back.
     ///
     /// `SharedPile::settle` returns the same record, and is faster when much is left to topple.
@@ -68,7 +68,7 @@ impl SharedPile {
         ensures one_threads { IfOk result IsOneThreads }
         ensures start { IfOk result (λ r. r.start ≡ self.terms.start) }
 
-        // Each drop call once, at the number that it answered, and after all that its pass had seen.
+        // Each drop call once, at the number that it returned, and after all that its pass had seen.
         ensures history { IfOk result (λ r. Tells pass.receipts r.history) }
         ensures each_drop_once { IfOk result (λ r. length r.history ≡ length pass.receipts) }
         ensures all_seen { IfOk result (λ r. pass.seen ≡ length r.history) }

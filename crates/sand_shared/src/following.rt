@@ -25,7 +25,9 @@ impl Record {
         ensures start { OnOk result (self.new.start ≡ self.old.start) }
         ensures history { OnOk result (self.new.history ≡ self.old.history ++ next.now.history) }
         ensures pile { OnOk result (self.new.settled.pile ≡ next.now.settled.pile) }
-        ensures odometer { OnOk result ((i : ℕ) → i < sites self.old.start.grid → odometer_of self.new.settled i ≡ odometer_of self.old.settled i + odometer_of next.now.settled i) }
+        ensures odometer { OnOk result (
+            (i : ℕ) → i < sites self.old.start.grid →
+            odometer_of self.new.settled i ≡ odometer_of self.old.settled i + odometer_of next.now.settled i) }
         ensures topplings { OnOk result (self.new.settled.topplings ≡ self.old.settled.topplings + next.now.settled.topplings) }
         ensures lost { OnOk result (self.new.settled.lost ≡ self.old.settled.lost + next.now.settled.lost) }
         ensures unchanged { OnErr result (self.new ≡ self.old) }
@@ -48,7 +50,9 @@ impl Record {
         ensures start { IfOk result (λ r. r.start ≡ self.now.start) }
         ensures history { IfOk result (λ r. r.history ≡ self.now.history ++ next.now.history) }
         ensures pile { IfOk result (λ r. r.settled.pile ≡ next.now.settled.pile) }
-        ensures odometer { IfOk result (λ r. (i : ℕ) → i < sites self.now.start.grid → odometer_of r.settled i ≡ odometer_of self.now.settled i + odometer_of next.now.settled i) }
+        ensures odometer { IfOk result (λ r.
+            (i : ℕ) → i < sites self.now.start.grid →
+            odometer_of r.settled i ≡ odometer_of self.now.settled i + odometer_of next.now.settled i) }
         ensures topplings { IfOk result (λ r. r.settled.topplings ≡ self.now.settled.topplings + next.now.settled.topplings) }
         ensures lost { IfOk result (λ r. r.settled.lost ≡ self.now.settled.lost + next.now.settled.lost) }
         ensures memory { IsOkUnless result (SharedFault.Memory alloc_error) }

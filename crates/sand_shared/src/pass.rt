@@ -37,9 +37,25 @@ impl Model for Pass {
 
     ghost Value = { PassView };
 
-    ghost view = { λ p. record { table = p.seat.table_id; grid = p.shape; left = p.left; seen = p.seen; receipts = p.receipts.items; rows = p.rows; counts = p.counts.items } };
+    ghost view = { λ p. record {
+      table = p.seat.table_id;
+      grid = p.shape;
+      left = p.left;
+      seen = p.seen;
+      receipts = p.receipts.items;
+      rows = p.rows;
+      counts = p.counts.items;
+    } };
 
-    ghost invariant = { λ p. IsPass p.seat (record { table = p.seat.table_id; grid = p.shape; left = p.left; seen = p.seen; receipts = p.receipts.items; rows = p.rows; counts = p.counts.items }) (vec_capacity p.receipts) };
+    ghost invariant = { λ p. IsPass p.seat (record {
+      table = p.seat.table_id;
+      grid = p.shape;
+      left = p.left;
+      seen = p.seen;
+      receipts = p.receipts.items;
+      rows = p.rows;
+      counts = p.counts.items;
+    }) (vec_capacity p.receipts) };
 }
 
 // Writes to all room of a list.

@@ -87,7 +87,7 @@ impl SharedPile {
         ensures one_threads { IfOk result IsOneThreads }
         ensures start { IfOk result (λ r. r.start ≡ self.terms.start) }
 
-        // Each drop call once, at the number that it answered, and after all that its pass had seen.
+        // Each drop call once, at the number that it returned, and after all that its pass had seen.
         ensures history { IfOk result (λ r. Tells pass.receipts r.history) }
         ensures each_drop_once { IfOk result (λ r. length r.history ≡ length pass.receipts) }
         ensures all_seen { IfOk result (λ r. pass.seen ≡ length r.history) }
