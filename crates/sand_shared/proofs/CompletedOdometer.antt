@@ -16,13 +16,13 @@ use Rattle.sand_shared.specs.declared.view.View.{View}
 use Rattle.sand_shared.specs.declared.view.Terms.{Terms}
 use Rattle.sand_shared.specs.OpenPile.{grid_of, dropped, poured, toppled_by}
 use Rattle.sand_shared.specs.Events.{look}
-use Rattle.sand_shared.specs.Passes.{PassView, SharedView, at_rest, IsPass, IsWhole}
+use Rattle.sand_shared.specs.Passes.{PassView, SharedView, at_rest, IsPass, IsPassOf, IsWhole}
 use Rattle.sand_shared.specs.Rows.{count_of}
 use Rattle.sand_shared.specs.Record.{Tells}
 use Rattle.sand_shared.specs.Running.{Stands, Happened}
 use Rattle.sand_shared.specs.Sweeps.{HasAll, IsRestOf, laid}
 use Rattle.sand_shared.proofs.GrainsAtSite.{toppled_from}
-use Rattle.sand_shared.proofs.LastPileIsSettled.{HasGathered, has_all, drawn_is, seen_is}
+use Rattle.sand_shared.proofs.LastPileIsSettled.{HasGathered, gathered, has_all, drawn_is, seen_is}
 use Rattle.sand_shared.proofs.PassAfterEvent.{known_is}
 use Rattle.sand_shared.proofs.PassKnowsPile.{its_drops, stands_sparing, looked_at_most, looked_at_least}
 use Rattle.sand_shared.proofs.RecordSums.{LeadsTo}
@@ -73,12 +73,12 @@ pub record IsCompletedBy (t : Terms) (p : PassView) (r : SettledView) (a : ℕ) 
   pub all : HasGathered t p
   pub rest : IsRestOf t p r
 
-pub completed_by : {w w' : SharedView} {p p' : PassView} {r : SettledView} {seat : Seat ℕ View} {room a : ℕ} {v : View} → w ≡ w' → p ≡ p' → HasGathered w.terms p → IsPass seat p room → IsRestOf w'.terms p' r → v ≡ seat.me.0
+pub completed_by : {w w' : SharedView} {p p' : PassView} {r : SettledView} {seat : Seat ℕ View} {room a : ℕ} {v : View} → w ≡ w' → p ≡ p' → IsPass seat p room → IsPassOf w' p' → IsWhole w'.terms p' → IsRestOf w'.terms p' r → v ≡ seat.me.0
     → Stands w.terms a v → IsCompletedBy w.terms p r a v
-completed_by {r = r} {v = v} pile_is pass_is all inv rest kept stands = record {
+completed_by {r = r} {v = v} pile_is pass_is inv of_pile whole rest kept stands = record {
   stands = stands;
   me = known_is v _ (kept ∙ (λ i. (inv.me i).0));
-  all = all;
+  all = gathered pile_is pass_is inv of_pile whole;
   rest = subst (λ (z : SharedView × PassView). IsRestOf z.0.terms z.1 r) (λ i. (sym pile_is i, sym pass_is i)) rest;
 }
 

@@ -140,14 +140,15 @@ pub record IsClosedBy (t : Terms) (p : PassView) (counts heights : List ℕ) (a 
   pub same_rows : length counts ≡ length p.counts
   pub calm : IsCalm t (record (at_rest p) { counts = counts })
 
-pub closed_by : {t : Terms} {p : PassView} {seat : Seat ℕ View} {room a : ℕ} {v : View} {counts heights : List ℕ} → HasGathered t p → IsPass seat p room → IsLast t a v heights
-    → v ≡ record (looked seat.me.0 v.spot v.least) { counts = counts } → length counts ≡ length p.counts → IsCalm t (with_counts seat.me.0 counts) → IsClosedBy t p counts heights a v
-closed_by {t = t} {v = v} {counts = counts} all inv last swept long calm = record {
+pub closed_by : {w w' : SharedView} {p p' : PassView} {seat : Seat ℕ View} {room a : ℕ} {v : View} {counts heights : List ℕ} → w ≡ w' → p ≡ p' → IsPass seat p room → IsPassOf w' p' → IsWhole w'.terms p'
+    → IsLast w.terms a v heights → v ≡ record (looked seat.me.0 v.spot v.least) { counts = counts } → length counts ≡ length p.counts → IsCalm w.terms (with_counts seat.me.0 counts)
+    → IsClosedBy w.terms p counts heights a v
+closed_by {w = w} {v = v} {counts = counts} pile_is pass_is inv of_pile whole last swept long calm = record {
   last = last;
   me = swept ∙ (λ i. record (looked (inv.me i).0 v.spot v.least) { counts = counts });
-  all = all;
+  all = gathered pile_is pass_is inv of_pile whole;
   same_rows = long;
-  calm = subst (λ (m : Me ℕ View). IsCalm t (with_counts m.0 counts)) inv.me calm;
+  calm = subst (λ (m : Me ℕ View). IsCalm w.terms (with_counts m.0 counts)) inv.me calm;
 }
 
 module _ {t : Terms} {p : PassView} {counts heights : List ℕ} {a : ℕ} {v : View} (b : IsClosedBy t p counts heights a v) where

@@ -4,22 +4,20 @@ use Rattle.sand_shared.specs.declared.view.Terms.{Terms}
 use Rattle.sand_shared.specs.Passes.{PassView, EachOnce}
 use Rattle.sand_shared.specs.Record.{Tells}
 use Rattle.sand_shared.proofs.RecordSums.{LeadsTo}
-use Rattle.sand_shared.proofs.LastPileIsSettled.{gathered, numbers_inside, closed_by, closed_seen, closed_leads}
+use Rattle.sand_shared.proofs.LastPileIsSettled.{numbers_inside, closed_by, closed_seen, closed_leads}
 use Rattle.sand_shared.proofs.shared_pile.SharedPile.topple_out.Goals as goal
 
 pub fill-requires-clause-inside : goal.fill-requires-clause-inside
 fill-requires-clause-inside c =
-    let all = gathered c.self.view_is c.pass.view_is c.pass.invariant c.requires.pass c.requires.whole in
-    let b = closed_by all c.pass.invariant c.close-start.ensures.last c.sweep_out.ensures.view c.sweep_out.ensures.long c.sweep_out.ensures.calm in
-    numbers_inside c.args.history.items c.as_slice.ensures.value all.below (closed_seen b) (c.requires.history ∙ ap (λ (q : PassView). length q.receipts) (sym c.pass.view_is))
+    let b = closed_by c.self.view_is c.pass.view_is c.pass.invariant c.requires.pass c.requires.whole c.close-start.ensures.last c.sweep_out.ensures.view c.sweep_out.ensures.long c.sweep_out.ensures.calm in
+    numbers_inside c.args.history.items c.as_slice.ensures.value b.all.below (closed_seen b) (c.requires.history ∙ ap (λ (q : PassView). length q.receipts) (sym c.pass.view_is))
 
 pub fill-requires-clause-once : goal.fill-requires-clause-once
 fill-requires-clause-once c = subst EachOnce (sym c.as_slice.ensures.value) c.pass.invariant.once
 
 pub of_lists-requires : goal.of_lists-requires
 of_lists-requires c =
-    let all = gathered c.self.view_is c.pass.view_is c.pass.invariant c.requires.pass c.requires.whole in
-    let b = closed_by all c.pass.invariant c.close-start.ensures.last c.sweep_out.ensures.view c.sweep_out.ensures.long c.sweep_out.ensures.calm in
+    let b = closed_by c.self.view_is c.pass.view_is c.pass.invariant c.requires.pass c.requires.whole c.close-start.ensures.last c.sweep_out.ensures.view c.sweep_out.ensures.long c.sweep_out.ensures.calm in
     let told = subst (λ (l : List Receipt). Tells l c.fill.new.history.items) c.as_slice.ensures.value c.fill.ensures.tells in
     let long = c.fill.ensures.length ∙ c.requires.history ∙ ap (λ (q : PassView). length q.receipts) (sym c.pass.view_is) in
     let inside = closed_leads b c.fill.new.history.items long told in
@@ -28,7 +26,6 @@ of_lists-requires c =
 
 pub returns-clause-all_seen : goal.returns-clause-all_seen
 returns-clause-all_seen c =
-    let all = gathered c.self.view_is c.pass.view_is c.pass.invariant c.requires.pass c.requires.whole in
-    let b = closed_by all c.pass.invariant c.close-start.ensures.last c.sweep_out.ensures.view c.sweep_out.ensures.long c.sweep_out.ensures.calm in
+    let b = closed_by c.self.view_is c.pass.view_is c.pass.invariant c.requires.pass c.requires.whole c.close-start.ensures.last c.sweep_out.ensures.view c.sweep_out.ensures.long c.sweep_out.ensures.calm in
     let long = c.fill.ensures.length ∙ c.requires.history ∙ ap (λ (q : PassView). length q.receipts) (sym c.pass.view_is) in
     ap (λ (q : PassView). q.seen) (sym c.pass.view_is) ∙ closed_seen b ∙ sym long ∙ ap (λ (l : List ℕ). length l) (sym c.of_lists.ensures.history)
