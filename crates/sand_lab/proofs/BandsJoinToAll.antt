@@ -1,5 +1,5 @@
 -- The bands of the workers, joined in their order, are all rows.
-use Rattle.std.proofs.Common.{◌≡◌, ℕ, zero, suc, ◌+◌, ◌*◌, ◌/◌, ◌<◌, ◌≤◌, ⊎_elim, Bool, true, false, max, cond, eqb, List, [], ◌∷◌, ◌++◌, length, Some, refl, sym, ap, ap₂, ◌∙◌, arith, append-nil}
+use Rattle.std.proofs.Common.{◌≡◌, ℕ, zero, suc, ◌+◌, ◌*◌, ◌/◌, ◌<◌, ◌≤◌, ⊎_elim, Bool, true, false, max, cond, eqb, List, [], ◌∷◌, ◌++◌, length, Some, refl, ap, ap₂, ◌∙◌, arith, append-nil}
 use Rattle.std.specs.Prelude.{slice_get, ◌||◌}
 use Rattle.std.proofs.lemmas.Bool.{cases_lt, eq-eqb}
 use Rattle.std.proofs.lemmas.Nat.{le-div}
@@ -7,7 +7,7 @@ use Rattle.std.proofs.Math.Nat.{div-mul-le_self}
 use Rattle.sand_shared.specs.declared.rows.Rows.{Rows}
 use Rattle.sand_shared.specs.declared.view.Receipt.{Receipt}
 use Rattle.sand_shared.specs.Passes.{SharedView, PassView, together}
-use Rattle.sand_shared.specs.Rows.{rows_between, rows_follow, rows_together, count_of, AreApart}
+use Rattle.sand_shared.specs.Rows.{rows_between, rows_follow, rows_together, count_of}
 use Rattle.sand_shared.proofs.RowsSplit.{between_some, between_none}
 use Rattle.sand_lab.specs.Crews.{banded}
 use Rattle.sand_lab.proofs.RowsInBands.{top, count_between}
@@ -23,13 +23,6 @@ follow_band : (b e : ℕ) → rows_follow (top b) (rows_between b e) ≡ true
 follow_band b e = ⊎_elim
     (λ (lt : b < e). ap (rows_follow (top b)) (between_some b e lt) ∙ follow_self b e)
     (λ (ge : e ≤ b). ap (rows_follow (top b)) (between_none b e ge))
-    (cases_lt b e)
-
--- a band does not stand apart from the rows above it
-pub band_touches : (b e : ℕ) (r q : Rows) → r ≡ top b → q ≡ rows_between b e → ¬ AreApart r q
-band_touches b e r q above is apart = ⊎_elim
-    (λ (lt : b < e). apart.not_after (ap (λ (x : Rows). x.end) above ∙ sym (ap (λ (x : Rows). x.first) (is ∙ between_some b e lt))))
-    (λ (ge : e ≤ b). apart.some_second (ap (λ (x : Rows). x.first) (is ∙ between_none b e ge) ∙ sym (ap (λ (x : Rows). x.end) (is ∙ between_none b e ge))))
     (cases_lt b e)
 
 rows_joined : (b e : ℕ) → b ≤ e → rows_together (top b) (rows_between b e) ≡ top e

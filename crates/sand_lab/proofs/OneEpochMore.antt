@@ -9,7 +9,7 @@ use Rattle.sand_shared.specs.Record.{RecordView}
 use Rattle.sand_lab.specs.declared.journal.Entry.{Entry}
 use Rattle.sand_plan.specs.declared.wish.Wish.{Wish}
 use Rattle.sand_plan.specs.Plans.{quota_of, all_drops}
-use Rattle.sand_lab.specs.Reports.{SheetView, ReportView, IsEpoch, AreEpochs, IsTotal, IsReportOf, IsBoth, HasGrown, last_pile, histories, report_of}
+use Rattle.sand_lab.specs.Reports.{SheetView, ReportView, IsEpoch, AreEpochs, IsTotal, IsReportOf, IsBoth, HasGrown, last_pile, histories}
 use Rattle.sand_lab.proofs.RecordBounds.{settled_grains}
 
 epochs_push : (album : List ℕ) (w : Wish) (start : PileView) (t : ℕ) (rs : List RecordView) (ss : List SheetView) (r : RecordView) (s : SheetView) → AreEpochs album w start t rs ss
@@ -34,22 +34,6 @@ sum_push f rs r = let both = sum_by-append f rs (r ∷ []) in let one = sum_by-c
 
 sum_one : (f : RecordView → ℕ) (r : RecordView) → f r ≡ sum_by f (r ∷ [])
 sum_one f r = let one = sum_by-cons f r [] in omega (arith, one)
-
--- the first epoch's record is all there is
-pub report_first : (album : List ℕ) (w : Wish) (start : PileView) (r : RecordView) (s : SheetView) → IsEpoch album w start 0 r s → IsReportOf album w start 1 (report_of r s)
-report_first album w start r s e = record {
-  all = refl;
-  epochs = (e, tt);
-  total = record {
-    one_threads = e.closed.one_threads;
-    from_start = e.closed.from_start;
-    history = sym (append-nil r.history);
-    pile = refl;
-    odometer = λ i l. sum_one (λ x. odometer_of x.settled i) r;
-    topplings = sum_one (λ x. x.settled.topplings) r;
-    lost = sum_one (λ x. x.settled.lost) r;
-  };
-}
 
 total_more : (start : PileView) (rs : List RecordView) (p r q : RecordView) → IsTotal start rs p → IsBoth p r q → IsTotal start (rs ++ r ∷ []) q
 total_more start rs p r q t b = record {

@@ -13,9 +13,6 @@ use Rattle.sand_shared.proofs.RecordSums.{leads_of, grains_left}
 pub settled_grains : (r : RecordView) → IsOneThreads r → sum r.settled.pile.heights ≤ sum r.start.heights + length r.history
 settled_grains r one = let left = grains_left r.start r.history r.settled.pile.heights r.settled.odometer (leads_of r one) in omega arith
 
-pub settled_grid : (r : RecordView) → IsOneThreads r → r.settled.pile.grid ≡ r.start.grid
-settled_grid r one = one.one.settled.grid
-
 -- counts that are at most the odometer at each site come to no more than all topplings
 pub counts_below : (r : RecordView) (cs : List ℕ) → IsOneThreads r → length cs ≡ sites r.start.grid → ((i : ℕ) → slice_index cs i ≤ odometer_of r.settled i) → sum cs ≤ r.settled.topplings
 counts_below r cs one long below =

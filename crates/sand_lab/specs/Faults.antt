@@ -14,7 +14,7 @@ abbrev pub IsMemory : LabFault → Type 0
 IsMemory (Memory e) = ⊤
 IsMemory _ = ⊥
 
--- want of memory, or an album's place that was set before
+-- an allocation that failed, or an album's place that was set before
 abbrev pub IsOfEpoch : LabFault → Type 0
 IsOfEpoch (Memory e) = ⊤
 IsOfEpoch Taken = ⊤

@@ -19,7 +19,7 @@ sites_by dropper journal = sites_in (filter (λ e. e.dropper == dropper) journal
 abbrev pub Ascends : List Receipt → Type 0
 Ascends receipts = AllPairs (λ r s. r.number < s.number) receipts
 
--- the receipts of the droppers stand one dropper's after another's, so many each, and the entry of each stands at its number
+-- the receipts of the droppers come one dropper's after another's, so many each, and the entry of each is at its number
 pub record IsJournal (drops : ℕ) (receipts : List Receipt) (journal : List Entry) : Type 0 where
   pub one_each : length journal ≡ length receipts
   pub noted : (i : ℕ) (r : Receipt) → slice_get receipts i ≡ Some r → slice_get journal r.number ≡ Some (entry (i / drops) r.site)

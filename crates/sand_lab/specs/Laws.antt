@@ -18,6 +18,7 @@ pub record AreAlike (p q : ReportView) : Type 0 where
   pub epochs : map one_of p.records ≡ map one_of q.records
   pub total : one_of p.total ≡ one_of q.total
 
--- however the drops of two runs interleaved, and whoever swept beside them
+-- however the drops of two runs interleaved, and whoever swept concurrently
 abbrev pub OneOutcome : Type 0
-OneOutcome = (album album' : List ℕ) (w v : Wish) (start : PileView) (p q : ReportView) → AskTheSame w v → IsReport album w start p → IsReport album' v start q → AreAlike p q
+OneOutcome = (album album' : List ℕ) (w v : Wish) (start : PileView) (p q : ReportView) → AskTheSame w v
+    → IsReport album w start p → IsReport album' v start q → AreAlike p q

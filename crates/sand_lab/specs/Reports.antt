@@ -14,7 +14,7 @@ use Rattle.sand_lab.specs.Jobs.{Climbs}
 use Rattle.sand_lab.specs.Journals.{FollowsStreams, sites_in}
 use Rattle.sand_plan.specs.Plans.{quota_of}
 
--- what contracts see of what is kept of an epoch beside its record; `place` names the album's place, and `shown` is what
+-- what contracts see of what is kept of an epoch with its record; `place` names the album's place, and `shown` is what
 -- the note of it knows
 pub record SheetView : Type 0 where
   pub journal : List Entry
@@ -42,7 +42,8 @@ pub record AreSwept (w : Wish) (start : PileView) (r : RecordView) (swept : List
 
 -- a closed epoch t, from a start: the drops of its history are those of the journal, and of each dropper the journal has
 -- the sites of its stream
-pub record IsClosed (w : Wish) (start : PileView) (t : ℕ) (r : RecordView) (journal : List Entry) (tallies : List (List ℕ)) (swept : List ℕ) : Type 0 where
+pub record IsClosed (w : Wish) (start : PileView) (t : ℕ) (r : RecordView)
+    (journal : List Entry) (tallies : List (List ℕ)) (swept : List ℕ) : Type 0 where
   pub one_threads : IsOneThreads r
   pub from_start : r.start ≡ start
   pub history : sites_in journal ≡ r.history
@@ -98,7 +99,7 @@ sheet_at p t = slice_index_or p.sheets t (record { journal = []; tallies = []; s
 abbrev pub report_of : RecordView → SheetView → ReportView
 report_of r s = record { records = r ∷ []; sheets = s ∷ []; total = r }
 
--- two records as one, where the next starts from the pile of the first
+-- two records as one, if the next starts from the pile of the first
 pub record IsBoth (first next both : RecordView) : Type 0 where
   pub one_threads : IsOneThreads both
   pub start : both.start ≡ first.start

@@ -72,7 +72,8 @@ impl Model for Album {
 }
 
 impl Album {
-    /// An album with a place for each epoch, none of them set. Refuses want of memory alone.
+    /// An album with a place for each epoch, none of them set. Returns Memory if an allocation fails, and
+    /// no other fault.
     pub fn new(alloc: Global, epochs: u32) -> Result<Album, LabFault>
         ensures places { IfOk result (λ a. length a ≡ epochs) }
         ensures memory { IsOkUnless result (LabFault.Memory alloc_error) }
@@ -100,12 +101,14 @@ impl Album {
         self.places[k as usize].note()
     }
 
-    /// The picture at place `k`, where one is found. A note that knows a picture finds that one, and a note that finds
-    /// one knows it from then on.
+    /// The picture at place `k`, if one is found. A note that knows a picture finds that one, and a note that finds one
+    /// knows it from then on.
     pub fn look<'a>(&'a self, k: u32, note: &mut Note) -> Option<&'a Picture>
         requires { IsPlace self.now k note.old.cell }
         ensures place { note.new.cell ≡ note.old.cell }
-        ensures picture { MatchOption result ((note.old.known ≡ None) × (note.new.known ≡ None)) (λ r. (note.new.known ≡ Some r.now) × Agrees note.old.known r.now) }
+        ensures picture { MatchOption result
+            ((note.old.known ≡ None) × (note.new.known ≡ None))
+            (λ r. (note.new.known ≡ Some r.now) × Agrees note.old.known r.now) }
     {
         self.places[k as usize].get_as(note)
     }
@@ -120,8 +123,8 @@ impl Album {
         note.compare(other);
     }
 
-    /// Sets place `k`, and answers a note that knows the picture. Refuses want of memory, and a place that was set
-    /// before (Taken).
+    /// Sets place `k`, and returns a note that knows the picture. Returns Memory if an allocation fails, and Taken if the
+    /// place was set before.
     pub(crate) fn publish(&self, alloc: Global, k: u32, picture: Picture) -> Result<Note, LabFault>
         requires { k < length self.now }
         ensures place { IfOk result (λ n. IsPlace self.now k n.cell) }

@@ -1,4 +1,4 @@
-//! The crew of an epoch: droppers, workers and observers, who work beside each other.
+//! The crew of an epoch: droppers, workers and observers, who work concurrently.
 
 ghost use Rattle.std.specs.Prelude.{◌≡◌, ℕ, All};
 ghost use Rattle.std.specs.List.{AllZip};
@@ -38,7 +38,7 @@ fn do_list<R: Threads + Sync, G: Gate, W: Work>(
     do_all(rt, pile, gate, turns, works.as_mut_slice());
 }
 
-// The workers' sweeps, and the observers' tallies beside them.
+// The workers' sweeps and, concurrently, the observers' tallies.
 fn sweep_and_watch<R: Threads + Sync, G: Gate>(
     rt: &R,
     pile: &SharedPile,
@@ -65,7 +65,7 @@ fn sweep_and_watch<R: Threads + Sync, G: Gate>(
     );
 }
 
-// All work of an epoch, beside each other.
+// All work of an epoch, done concurrently.
 fn all_work<R: Threads + Sync, G: Gate>(
     rt: &R,
     pile: &SharedPile,
@@ -97,7 +97,7 @@ fn all_work<R: Threads + Sync, G: Gate>(
 }
 
 impl Crew {
-    /// Droppers drop, workers sweep and observers read the tally, all beside each other.
+    /// Droppers drop, workers sweep and observers read the tally, all concurrently.
     pub(crate) fn work<R: Threads + Sync, G: Gate>(
         &mut self,
         rt: &R,

@@ -40,7 +40,8 @@ impl Dropper {
     // Drops on the sites that were read.
     fn drop_turn(&mut self, pile: &SharedPile)
         requires { (turns : ℕ) × (read : ℕ) × (first : Dropper) × IsDropping pile.now turns read first self.old }
-        ensures dropped { (turns : ℕ) (read : ℕ) (first : Dropper) → IsDropping pile.now turns read first self.old → IsDropping pile.now turns read first self.new }
+        ensures dropped { (turns : ℕ) (read : ℕ) (first : Dropper)
+            → IsDropping pile.now turns read first self.old → IsDropping pile.now turns read first self.new }
         ensures all { self.new.turn.items ≡ [] }
     {
         let turn = self.turn.as_slice();

@@ -3,6 +3,7 @@
 ghost use Rattle.std.specs.Prelude.{◌≡◌};
 ghost use Rattle.sand_lab.specs.declared.faults.LabFault.TheVariants.{Memory};
 
+use sand_shared::{CloseFault, JoinFault, SharedFault, SplitFault};
 use std::alloc::AllocError;
 use thiserror::Error;
 
@@ -42,6 +43,57 @@ impl LabFault {
             LabFault::Plan => 15,
             LabFault::AlbumSize => 16,
             LabFault::Taken => 17,
+        }
+    }
+}
+
+// A run asks a shared pile for nothing that it would refuse, so its faults are those of memory.
+impl LabFault {
+    ghost use Rattle.std.specs.Prelude.{◌≢◌};
+    ghost use Rattle.sand_lab.specs.Faults.{IsMemory};
+
+    /// The fault of a shared pile or of a record, if their grains keep within the limit.
+    pub(crate) fn of_shared(fault: SharedFault) -> LabFault
+        requires { fault ≢ SharedFault.TooManyGrains }
+        ensures { IsMemory result }
+    {
+        match fault {
+            SharedFault::Memory(error) => error.into(),
+            SharedFault::TooManyGrains => unreachable!(),
+        }
+    }
+
+    /// The fault of a split, if the pass has the quota and the rows that it gives away.
+    pub(crate) fn of_split(fault: SplitFault) -> LabFault
+        requires quota { fault ≢ SplitFault.TooMuch }
+        requires rows { fault ≢ SplitFault.Rows }
+        ensures { IsMemory result }
+    {
+        match fault {
+            SplitFault::Memory(error) => error.into(),
+            SplitFault::TooMuch | SplitFault::Rows => unreachable!(),
+        }
+    }
+
+    /// The fault of a join, if the rows touch.
+    pub(crate) fn of_join(fault: JoinFault) -> LabFault
+        requires { fault ≢ JoinFault.Apart }
+        ensures { IsMemory result }
+    {
+        match fault {
+            JoinFault::Memory(error) => error.into(),
+            JoinFault::Apart => unreachable!(),
+        }
+    }
+
+    /// The fault of a close, if the pass has gathered all.
+    pub(crate) fn of_close(fault: CloseFault) -> LabFault
+        requires { fault ≢ CloseFault.Missing }
+        ensures { IsMemory result }
+    {
+        match fault {
+            CloseFault::Memory(error) => error.into(),
+            CloseFault::Missing => unreachable!(),
         }
     }
 }

@@ -16,7 +16,7 @@ use crate::droppers::Dropper;
 use crate::faults::LabFault;
 use crate::observers::Observer;
 use crate::workers::Worker;
-use sand_shared::{JoinFault, Pass, SharedPile};
+use sand_shared::{Pass, SharedPile};
 use std::alloc::Global;
 
 /// What the workers and the observers of an epoch found.
@@ -37,8 +37,7 @@ fn take_in(alloc: Global, pile: &SharedPile, first: &mut Pass, other: Pass) -> R
 {
     match pile.join(alloc, first, other) {
         Ok(()) => Ok(()),
-        Err((JoinFault::Memory(refused), _)) => Err(refused.into()),
-        Err((JoinFault::Apart, _)) => unreachable!(),
+        Err((fault, _)) => Err(LabFault::of_join(fault)),
     }
 }
 
@@ -84,7 +83,7 @@ fn gather_droppers(
     Ok(())
 }
 
-// Takes in the passes of workers, in the order of their bands. Answers what each has swept.
+// Takes in the passes of workers, in the order of their bands. Returns what each has swept.
 fn gather_workers(
     alloc: Global,
     pile: &SharedPile,
@@ -96,7 +95,11 @@ fn gather_workers(
     requires workers { EachAt (HoldsBand pile.now (length workers.items)) workers.items }
     requires some { 0 < length workers.items }
     ensures of_pile { IsPassOf pile.now first.new }
-    ensures first { OnOk result (first.new ≡ record first.old { seen = first.new.seen; rows = record { first = 0; end = (grid_of pile.now.terms).height }; counts = all_counts workers.items }) }
+    ensures first { OnOk result (first.new ≡ record first.old {
+      seen = first.new.seen;
+      rows = record { first = 0; end = (grid_of pile.now.terms).height };
+      counts = all_counts workers.items;
+    }) }
     ensures swept { IfOk result (λ v. v.items ≡ all_swept workers.items) }
     ensures memory { IfErr result IsMemory }
 {
@@ -114,7 +117,7 @@ fn gather_workers(
     Ok(all)
 }
 
-// Takes in the passes of observers. Answers what each has read.
+// Takes in the passes of observers. Returns what each has read.
 fn gather_observers(
     alloc: Global,
     pile: &SharedPile,
@@ -142,8 +145,8 @@ fn gather_observers(
 }
 
 impl Crew {
-    /// The first pass takes in all passes of the crew. Answers what workers and observers found. Refuses want of memory
-    /// alone.
+    /// The first pass takes in all passes of the crew. Returns what workers and observers found, or Memory if an
+    /// allocation fails, and no other fault.
     pub(crate) fn gather(
         self,
         alloc: Global,

@@ -16,7 +16,7 @@ use crate::streams::{SiteReader, stream_of};
 use crate::workers::Worker;
 use sand_model::Shape;
 use sand_plan::Wish;
-use sand_shared::{Pass, SharedPile, SiteCounts, SplitFault};
+use sand_shared::{Pass, SharedPile, SiteCounts};
 use std::alloc::{AllocError, Global};
 
 // A pass with so much of the quota that the first one has left.
@@ -35,8 +35,7 @@ fn split_quota(
 {
     match pile.split(alloc, first, quota) {
         Ok(pass) => Ok(pass),
-        Err(SplitFault::Memory(refused)) => Err(refused.into()),
-        Err(_) => unreachable!(),
+        Err(fault) => Err(LabFault::of_split(fault)),
     }
 }
 
@@ -99,14 +98,21 @@ fn split_band(
     requires of_pile { IsPassOf pile.now first.old }
     requires rows { rows ≤ count_of first.old.rows }
     ensures of_pile { IsPassOf pile.now first.new }
-    ensures first { OnOk result (first.new ≡ record first.old { rows = upper_rows first.old.rows rows; counts = take (sites_kept first.old rows) first.old.counts }) }
-    ensures child { IfOk result (λ c. c ≡ record first.old { left = 0; receipts = []; rows = lower_rows first.old.rows rows; counts = drop (sites_kept first.old rows) first.old.counts }) }
+    ensures first { OnOk result (first.new ≡ record first.old {
+      rows = upper_rows first.old.rows rows;
+      counts = take (sites_kept first.old rows) first.old.counts;
+    }) }
+    ensures child { IfOk result (λ c. c ≡ record first.old {
+      left = 0;
+      receipts = [];
+      rows = lower_rows first.old.rows rows;
+      counts = drop (sites_kept first.old rows) first.old.counts;
+    }) }
     ensures memory { IfErr result IsMemory }
 {
     match pile.split_rows(alloc, first, rows) {
         Ok(pass) => Ok(pass),
-        Err(SplitFault::Memory(refused)) => Err(refused.into()),
-        Err(_) => unreachable!(),
+        Err(fault) => Err(LabFault::of_split(fault)),
     }
 }
 
@@ -168,8 +174,8 @@ fn hire_observers(
 }
 
 impl Crew {
-    /// A crew for one epoch of a plan, who take the whole quota and all rows of the first pass. Refuses want of memory
-    /// alone.
+    /// A crew for one epoch of a plan, who take the whole quota and all rows of the first pass. Returns Memory if an
+    /// allocation fails, and no other fault.
     pub(crate) fn hire(
         alloc: Global,
         pile: &SharedPile,

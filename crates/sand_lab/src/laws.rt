@@ -9,7 +9,7 @@
 
 ghost use Rattle.sand_lab.specs.Laws.{OneOutcome};
 
-/// However the drops of two runs interleaved, and whoever swept beside them, both leave the same piles, odometers,
+/// However the drops of two runs interleaved, and whoever swept concurrently, both leave the same piles, odometers,
 /// topplings and grains lost.
 pub fn one_outcome()
     ensures { OneOutcome }

@@ -9,7 +9,7 @@ use crate::album::Note;
 use crate::epochs::Sheet;
 use crate::faults::LabFault;
 use crate::journal::Entry;
-use sand_shared::{Record, SharedFault};
+use sand_shared::Record;
 use std::alloc::Global;
 use std::marker::Model;
 
@@ -67,7 +67,7 @@ impl Report {
         sheet.findings.tallies[observer as usize].as_slice()
     }
 
-    /// How many topplings the sweeps of a worker answered in an epoch.
+    /// How many topplings the sweeps of a worker returned in an epoch.
     pub fn swept(&self, epoch: u32, worker: u32) -> u64
         requires epoch { epoch < length self.now.sheets }
         requires worker { worker < length (sheet_at self.now epoch).swept }
@@ -109,8 +109,7 @@ fn append(alloc: Global, total: &mut Record, next: &Record) -> Result<(), LabFau
 {
     match total.append(alloc, next) {
         Ok(()) => Ok(()),
-        Err(SharedFault::Memory(refused)) => Err(refused.into()),
-        Err(SharedFault::TooManyGrains) => unreachable!(),
+        Err(fault) => Err(LabFault::of_shared(fault)),
     }
 }
 

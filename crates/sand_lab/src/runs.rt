@@ -49,11 +49,11 @@ fn run_all<R: Threads + Sync, G: Gate>(
 /// droppers have ended.
 ///
 /// What is left is a function of the start and of the plan's seed, droppers, drops and epochs alone
-/// (`laws::one_outcome`), but for the order in which drops interleave.
+/// (`laws::one_outcome`), except for the order in which drops interleave.
 ///
-/// Refuses an album that hasn't one place per epoch (AlbumSize); a start that has, with all drops, more grains than the
-/// limit (TooManyGrains); then, as each epoch's work meets them, want of memory and a place that was set before (Taken).
-/// After these two the places that are published stay so, and nothing else of the run remains.
+/// Returns AlbumSize if the album hasn't one place per epoch; TooManyGrains if the start has, with all drops, more grains
+/// than the limit; then, in the epoch in which it occurs, Memory if an allocation fails, and Taken if the epoch's place was
+/// set before. After these two the places that are published stay so, and nothing else of the run remains.
 pub fn run<R: Threads + Sync, G: Gate>(
     rt: &R,
     alloc: Global,
@@ -63,7 +63,8 @@ pub fn run<R: Threads + Sync, G: Gate>(
     album: &Album,
 ) -> Result<Report, LabFault>
     ensures album_size { (result ≡ Err LabFault.AlbumSize) ↔ (length album.now ≢ plan.now.epochs) }
-    ensures grains { (result ≡ Err LabFault.TooManyGrains) ↔ ((length album.now ≡ plan.now.epochs) × (most_grains < sum start.now.heights + all_drops plan.now)) }
+    ensures grains { (result ≡ Err LabFault.TooManyGrains)
+        ↔ ((length album.now ≡ plan.now.epochs) × (most_grains < sum start.now.heights + all_drops plan.now)) }
     ensures no_plan { result ≢ Err LabFault.Plan }
     ensures report { IfOk result (IsReport album.now plan.now start.now) }
 {

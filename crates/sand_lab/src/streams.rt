@@ -76,8 +76,8 @@ impl SiteReader {
     }
 }
 
-/// The first `count` sites of a stream: its 32-bit words from place 0 on, modulo the sites of the shape. Refuses want
-/// of memory alone.
+/// The first `count` sites of a stream: its 32-bit words from place 0 on, modulo the sites of the shape.
+/// Returns Memory if an allocation fails, and no other fault.
 pub fn sites_of(
     alloc: Global,
     shape: Shape,

@@ -26,7 +26,7 @@ pub(crate) trait Work: Send {
         ensures { done pile.now turns self.old self.new };
 }
 
-/// Does all works of a list, each in so many turns, in a thread of its own where one can be made.
+/// Does all works of a list, each in so many turns, in a thread of its own if one can be made.
 #[cycle(works)]
 #[tactic(auto, using(crate::proofs::OneTurnMore::zip_append))]
 pub(crate) fn do_all<R: Threads + Sync, G: Gate, W: Work>(
@@ -50,7 +50,7 @@ pub(crate) fn do_all<R: Threads + Sync, G: Gate, W: Work>(
     do_both(rt, pile, gate, turns, front, back);
 }
 
-// The two halves, one in another thread where one can be made.
+// The two halves, one in another thread if one can be made.
 #[cycle(works)]
 fn do_both<R: Threads + Sync, G: Gate, W: Work>(
     rt: &R,

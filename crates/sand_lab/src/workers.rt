@@ -8,9 +8,9 @@ use sand_shared::{Pass, SharedPile};
 #[derive(Drop)]
 pub(crate) struct Worker {
     pub(crate) who: u32,
-    /// How many topplings its sweeps have answered in all.
+    /// How many topplings its sweeps have returned in all.
     pub(crate) swept: u64,
-    /// How many the last of them answered.
+    /// How many the last of them returned.
     pub(crate) last: u64,
     pub(crate) pass: Pass,
 }
