@@ -22,7 +22,7 @@ form_in options =
     else if flag_in (codes "pgm") options then forms.Picture
     else forms.Text
 
--- the identity of a grid, where both sides are there
+-- the identity of a grid, if both sides are there
 abbrev pub with_sides : List Row → Option ℕ → Option ℕ → Option Task
 with_sides options (Some width) (Some height) =
     Some (Identity width height (flag_in (codes "cylinder") options) (flag_in (codes "pgm") options))
@@ -83,11 +83,11 @@ task_named (name, options) =
     else if bytes_eq name (codes "lab") then lab_of options
     else None
 
--- the kinds of error that clap gives at the words: none where the command line takes them
+-- the kinds of error that clap gives at the words: none if the command line takes them
 abbrev pub faults : List Text → Kinds
 faults words = fault_of command_line words
 
--- the answer, where there are no faults
+-- the task, if there are no faults
 abbrev pub unless : {A : Type 0} → Kinds → Option A → Option A
 unless [] answer = answer
 unless (k ∷ ks) answer = None
@@ -114,12 +114,12 @@ conflict_of (name, options) =
 abbrev pub conflict_among : List Text → Option Conflict
 conflict_among words = option_and_then conflict_of (subcommand_of command_line words)
 
--- the task, where its options go together
+-- the task, if its options go together
 abbrev pub freely : Option Conflict → Option Task → Option Task
 freely None task = task
 freely (Some conflict) task = None
 
--- the task that the words ask for, where the command line takes them and their options go together
+-- the task that the words ask for, if the command line takes them and their options go together
 abbrev pub asked : List Text → Option Task
 asked words = unless (faults words) (freely (conflict_among words) (option_and_then task_named (subcommand_of command_line words)))
 

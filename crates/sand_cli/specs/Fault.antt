@@ -31,7 +31,7 @@ TellsConflict among Memory = ⊤
 TellsConflict among (Usage error) = ⊤
 TellsConflict among (Clash conflict) = among ≡ Some conflict
 
--- clap's error as a fault: it is kept, but for want of memory
+-- clap's error as a fault: it is kept, unless memory ran out
 abbrev pub IsFaultOf : Error → WordsFault → Type 0
 IsFaultOf error Memory = kind_of error ≡ OutOfMemory
 IsFaultOf error (Usage kept) = (kept ≡ error) × (kind_of error ≢ OutOfMemory)

@@ -22,7 +22,7 @@ number name least most = record (new_rule name) {
 abbrev pub side : Text → Rule
 side name = record (number name 1 256) { required = true }
 
--- an option with a number that is `usual` where it isn't given
+-- an option with a number that is `usual` if it isn't given
 abbrev pub setting : Text → ℕ → ℕ → Text → Rule
 setting name least most usual = record (number name least most) { defaults = usual ∷ [] }
 

@@ -14,7 +14,7 @@ flag_in name options = option_map_or (λ text. bytes_eq text (codes "true")) (on
 abbrev pub value_of : Text → ℕ
 value_of text = digits_value 10 (without_leading_plus text)
 
--- the number that the text writes, where it is at most `most`
+-- the number that the text writes, if it is at most `most`
 abbrev pub number_of : ℕ → Text → Option ℕ
 number_of most text = if is_unsigned_in 0 most text then Some (value_of text) else None
 

@@ -11,7 +11,7 @@ use Rattle.sand_plan.specs.declared.wish.Wish.{Wish}
 use Rattle.sand_cli.specs.declared.task.Task.{Task}
 use Rattle.sand_cli.specs.declared.task.Task.TheVariants.{Add, Burn, Drops, Identity, Inverse, Lab, Recurrent, Settle}
 
--- a flag, where it is wanted
+-- a flag, if it is wanted
 abbrev pub flag_words : Text → Bool → List Text
 flag_words flag wanted = if wanted then flag ∷ [] else []
 
@@ -34,7 +34,7 @@ abbrev pub draw_words : Option Draw → List Text
 draw_words None = []
 draw_words (Some draw) = codes "--count" ∷ decimal draw.count ∷ codes "--seed" ∷ decimal draw.seed ∷ codes "--stream" ∷ decimal draw.stream ∷ []
 
--- what stands behind the program's name
+-- what follows the program's name
 abbrev pub words_of : Task → List Text
 words_of (Settle form) = codes "settle" ∷ form_words form
 words_of Burn = codes "burn" ∷ []
@@ -48,7 +48,7 @@ words_of (Recurrent pgm) = codes "recurrent" ∷ flag_words (codes "--pgm") pgm
 words_of (Lab wish journal form) =
     codes "lab" ∷ (settings_of wish ++ (flag_words (codes "--journal") journal ++ form_words form))
 
--- words that spell a task, whatever the program's name, are answered with that task, but for want of memory
+-- words that spell a task, whatever the program's name, return that task, unless memory runs out
 abbrev pub Heeds : List Text → Result Task WordsFault → Type 0
 Heeds words answer = (program : Text) (task : Task) → IsWithin task → words ≡ program ∷ words_of task
     → MatchResult answer (λ t. t ≡ task) (λ fault. fault ≡ Memory)

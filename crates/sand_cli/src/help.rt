@@ -1,11 +1,13 @@
 //! The texts of help: what goes in, what comes out, the limits, and an example.
+//!
+//! The help of the program says what holds for all commands, once: how a pile is written, the limits, and the faults.
 
 /// What help says of the program or of one command.
 #[derive(Clone, Copy)]
 pub(crate) struct Help {
     /// What it does, in one line.
     pub(crate) about: &'static str,
-    /// What stands behind the options.
+    /// What follows the options.
     pub(crate) details: &'static str,
 }
 
@@ -15,19 +17,37 @@ pub(crate) const PROGRAM: Help = Help {
 A site that holds 4 grains or more topples: it gives a grain to each neighbour,
 and grains that leave the grid are lost.
 
-Input: a text on standard input. A pile is numbers with white space between:
+Input: text on standard input. A pile is numbers with white space between them:
   its width, its height, and the grains of each site, row by row. A letter c
-  behind the height makes it a cylinder, whose rows go round.
+  after the height makes it a cylinder, whose rows go round.
 
-Output: a text on standard output, or with --pgm a picture (plain PGM). Nothing
-  is written before all of it stands. With --pile a command writes its pile
-  alone, which other commands read.
+Output: text on standard output, or with --pgm a picture (plain PGM). Nothing is
+  written before the whole text is there. A pile is written as it is read:
+  'identity', 'add', 'inverse' and 'recurrent' write a pile alone, 'settle',
+  'drops' and 'lab' do so with --pile, and each other command can read it.
 
 Limits: width and height from 1 to 256, a cylinder at least 3 wide; at most
   1,099,511,627,775 grains; at most 1,048,576 bytes of input.
 
-Status: 0 where all went well. A refusal is one line 'fault NUMBER NAME' on
-  standard error, with status 1; misuse of the command line has status 2.
+Faults: one line on standard error, 'fault NUMBER NAME', and no other output.
+
+   1 Side           width or height outside 1 to 256
+   2 Length         wrong number of heights; give width times height of them
+   3 TooManyGrains  more grains than the limit, with all drops of 'lab'
+   4 Memory         out of memory; free some, or use a smaller pile
+   6 Full           one drop more would exceed the grain limit; drop fewer
+   7 Unstable       a height over 3; 'settle --pile' writes the settled pile
+   8 NotRecurrent   a forbidden set exists; 'burn' shows it
+   9 Shapes         two piles of different shapes
+  18 Text           not the text of a pile, at byte N, counted from 0
+  19 TooLarge       a number over the limit, at byte N, counted from 0
+  20 Read           the reader failed; look at file or pipe
+  21 Write          the writer failed after N bytes; look at file or pipe
+  22 TooLong        more input than the limit
+  24 Narrow         a cylinder of width below 3
+  25 NoSite         no such site, at drop N, counted from 0
+
+Status: 0 if all went well, 1 for a fault, 2 for misuse of the command line.
 
 Example: a pile 3 wide and 1 high, with 4 grains in the middle.
 
@@ -45,17 +65,11 @@ Example: a pile 3 wide and 1 high, with 4 grains in the middle.
 pub(crate) const SETTLE: Help = Help {
     about: "Settles a pile: topples sites until each holds at most 3 grains",
     details: "\
-Input: a pile, as numbers with white space between: its width, its height, and
-  the grains of each site, row by row. A letter c behind the height makes it a
-  cylinder, whose rows go round.
+Input: a pile ('sandpile --help' says how a pile is written).
 
 Output: the settled pile; the line 'odometer', and how often each site toppled;
   'lost N', the grains that left the grid; 'topplings N', all topplings. With
-  --pile the settled pile alone, as other commands read it; with --pgm only a
-  picture of it.
-
-Limits: width and height from 1 to 256, a cylinder at least 3 wide; at most
-  1,099,511,627,775 grains; at most 1,048,576 bytes of input.
+  --pile the settled pile alone; with --pgm only a picture of it.
 
 Example:
 
@@ -71,15 +85,11 @@ Example:
 pub(crate) const BURN: Help = Help {
     about: "Tests by burning whether a pile is recurrent",
     details: "\
-Input: a pile, as numbers with white space between: its width, its height, and
-  the grains of each site, row by row, at most 3 each. A letter c behind the
-  height makes it a cylinder, whose rows go round.
+Input: a pile ('sandpile --help' says how a pile is written), with at most 3
+  grains on each site.
 
 Output: 'recurrent'; or 'forbidden N' and the N sites of the greatest forbidden
   set, each as its column and its row, both from 0.
-
-Limits: width and height from 1 to 256, a cylinder at least 3 wide; at most
-  1,048,576 bytes of input.
 
 Example:
 
@@ -94,9 +104,8 @@ pub(crate) const IDENTITY: Help = Help {
     details: "\
 Input: none is read.
 
-Output: the recurrent pile that changes no recurrent pile when it is added: its
-  width, its height, c for a cylinder, and the grains of each site, row by row.
-  With --pgm a picture of it.
+Output: the recurrent pile that changes no recurrent pile when it is added. With
+  --pgm a picture of it.
 
 Limits: width and height from 1 to 256, a cylinder at least 3 wide.
 
@@ -111,22 +120,18 @@ Example:
 pub(crate) const DROPS: Help = Help {
     about: "Settles a pile, then drops grains on it, one after another",
     details: "\
-Input: a pile, as numbers with white space between: its width, its height, and
-  the grains of each site, row by row. A letter c behind the height makes it a
-  cylinder, whose rows go round. Then the site of each drop, by its number: from
-  0, row by row. With --count the pile alone: then the sites are drawn from
-  ChaCha8 stream --stream of the seed, so that stream 0 is that of the first
-  dropper of 'sandpile lab'.
+Input: a pile ('sandpile --help' says how a pile is written), then the site of
+  each drop, by its number: from 0, row by row. With --count the pile alone: the
+  sites are drawn from ChaCha8 stream --stream of the seed. Stream 0 is that of
+  the first dropper of 'sandpile lab'.
 
 Output: a table with a line for each drop: its number, from 0, and its site; of
-  its avalanche the topplings (size), the sites that toppled (area), how far
-  from the drop they lie at most (reach), and the grains that left the grid
-  (lost). Then the pile; 'lost N' and 'topplings N', with those of settling it.
-  With --pile the pile alone, as other commands read it.
+  its avalanche the topplings (size), the sites that toppled (area), the
+  greatest distance of one of them from the drop (reach), and the grains that
+  left the grid (lost). Then the pile; 'lost N' and 'topplings N', with those of
+  settling it. With --pile the pile alone.
 
-Limits: width and height from 1 to 256, a cylinder at least 3 wide; at most
-  1,099,511,627,775 grains, drops included; at most 10,000,000 drops by --count;
-  at most 1,048,576 bytes of input.
+Limits: at most 10,000,000 drops by --count. Drops count as grains.
 
 Example:
 
@@ -145,16 +150,10 @@ Example:
 pub(crate) const ADD: Help = Help {
     about: "Adds two recurrent piles: site by site, and then settles",
     details: "\
-Input: two recurrent piles of one shape, one after the other. Each is numbers
-  with white space between: its width, its height, and the grains of each site,
-  row by row. A letter c behind the height makes it a cylinder, whose rows go
-  round.
+Input: two recurrent piles of one shape, one after the other ('sandpile --help'
+  says how a pile is written).
 
-Output: the settled sum, a recurrent pile: its width, its height, c for a
-  cylinder, and the grains of each site, row by row. With --pgm a picture of it.
-
-Limits: width and height from 1 to 256, a cylinder at least 3 wide; at most
-  1,048,576 bytes of input.
+Output: the settled sum, a recurrent pile. With --pgm a picture of it.
 
 Example:
 
@@ -166,16 +165,10 @@ Example:
 pub(crate) const INVERSE: Help = Help {
     about: "Writes the inverse of a recurrent pile in the group",
     details: "\
-Input: a recurrent pile, as numbers with white space between: its width, its
-  height, and the grains of each site, row by row. A letter c behind the height
-  makes it a cylinder, whose rows go round.
+Input: a recurrent pile ('sandpile --help' says how a pile is written).
 
-Output: the recurrent pile whose sum with the input is the identity: its width,
-  its height, c for a cylinder, and the grains of each site, row by row. With
-  --pgm a picture of it.
-
-Limits: width and height from 1 to 256, a cylinder at least 3 wide; at most
-  1,048,576 bytes of input.
+Output: the recurrent pile whose sum with the input is the identity. With --pgm
+  a picture of it.
 
 Example:
 
@@ -187,18 +180,11 @@ Example:
 pub(crate) const RECURRENT: Help = Help {
     about: "Writes the one recurrent pile that is equivalent to a pile",
     details: "\
-Input: a pile, as numbers with white space between: its width, its height, and
-  the grains of each site, row by row. A letter c behind the height makes it a
-  cylinder, whose rows go round.
+Input: a pile ('sandpile --help' says how a pile is written).
 
 Output: the recurrent pile that differs from the input by topplings, forward or
   back. It is the input itself if that is recurrent, and otherwise the settled
-  sum of the settled input and the identity. First its width, its height, and c
-  for a cylinder; then the grains of each site, row by row. With --pgm a picture
-  of it.
-
-Limits: width and height from 1 to 256, a cylinder at least 3 wide; at most
-  1,099,511,627,775 grains; at most 1,048,576 bytes of input.
+  sum of the settled input and the identity. With --pgm a picture of it.
 
 Example:
 
@@ -210,26 +196,27 @@ Example:
 pub(crate) const LAB: Help = Help {
     about: "Drops grains on a pile by many threads at once, in epochs",
     details: "\
-Input: a pile, as numbers with white space between: its width, its height, and
-  the grains of each site, row by row. A letter c behind the height makes it a
-  cylinder, whose rows go round.
+Input: a pile ('sandpile --help' says how a pile is written).
 
 Output: a table with a line for each epoch: its number, from 0; its drops; its
   topplings; the grains that left the grid (lost); the grains on the pile after
   it. Then 'total' with the same of all epochs; the pile after the last epoch;
   the line 'odometer', and how often each site toppled. With --journal then the
   line 'journal', and for each drop its epoch, its number in the epoch, its
-  dropper and its site. With --pile the pile alone, as other commands read it;
-  with --pgm only a picture of it.
+  dropper and its site. With --pile the pile alone; with --pgm only a picture of
+  it.
 
-Threads: in each epoch droppers drop grains while workers topple bands of rows
-  and observers count the drops. Dropper k of epoch t drops at the sites of
-  ChaCha8 stream t*64 + k of the seed. Of the numbers, seed, droppers, drops and
-  epochs alone decide what is written, but for the order within the journal,
-  however many threads there are.
+Epochs: in an epoch droppers drop grains on one shared pile, workers topple it
+  and observers count the drops, each in its own thread. Then the pile settles,
+  and the next epoch starts from it.
 
-Limits: width and height from 1 to 256, a cylinder at least 3 wide; at most
-  1,099,511,627,775 grains, drops included; at most 1,048,576 bytes of input.
+Threads: dropper k of epoch t drops at the sites of ChaCha8 stream t*64 + k of
+  the seed. So seed, droppers, drops and epochs decide what is written, except
+  for the order of the journal. --workers, --sweeps and --observers change
+  nothing else: workers can save time if much topples while grains drop and
+  processors are idle, and only if --sweeps is not 0; observers save none.
+
+Limits: drops count as grains.
 
 Example:
 

@@ -44,7 +44,7 @@ fn side<'a>(alloc: Global, name: &'a str, about: &'static str) -> Arg<'a>
     number(alloc, name, 1, 256, about).required(true)
 }
 
-// An option with a number that is `usual` where it isn't given.
+// An option with a number that is `usual` if it isn't given.
 fn setting<'a>(
     alloc: Global,
     name: &'a str,

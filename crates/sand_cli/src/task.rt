@@ -197,7 +197,7 @@ fn chosen(matches: &ArgMatches<'_>) -> Option<Task>
 }
 
 /// The task that the words ask for. The first word is the program's name. Refuses words that the command line doesn't
-/// take, and those that ask for help (Usage), options that do not go together (Clash), and want of memory (Memory).
+/// take, and those that ask for help (Usage), options that do not go together (Clash), and out of memory (Memory).
 pub fn task_of<'a>(alloc: Global, words: &'a [String]) -> Result<Task, WordsFault>
     ensures ok { IfOk result (λ t. asked (map string_bytes words.now) ≡ Some t) }
     ensures spelled { Heeds (map string_bytes words.now) result }

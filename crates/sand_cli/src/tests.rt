@@ -1,5 +1,7 @@
-use crate::{Draw, Form, Task, WordsFault, task_of};
-use sand_plan::Wish;
+use crate::{Conflict, Draw, Form, Task, WordsFault, task_of};
+use sand_plan::{
+    MOST_DROPPERS, MOST_DROPS, MOST_EPOCHS, MOST_OBSERVERS, MOST_SWEEPS, MOST_WORKERS, Wish,
+};
 use std::test::Fail;
 
 // What the words of a line come to: a task, or clap's text and whether that is for the standard error.
@@ -112,7 +114,7 @@ fn asks_for_drops(rt: HostRuntime) -> Result<(), Fail> {
     Ok(())
 }
 
-// The run where no setting is given.
+// The run if no setting is given.
 const USUAL: Wish = Wish {
     seed: 0,
     droppers: 2,
@@ -263,24 +265,19 @@ fn tells_misuse(rt: HostRuntime) -> Result<(), Fail> {
 
 #[test]
 fn tells_which_options_do_not_go_together(rt: HostRuntime) -> Result<(), Fail> {
-    let forms =
-        "error: the argument '--pile' cannot be used with '--pgm' or '--journal'\n\nFor more information, try '--help'.";
-    let count =
-        "error: the arguments '--seed' and '--stream' cannot be used without '--count'\n\nFor more information, try '--help'.";
     let rows = [
-        ("sandpile settle --pile --pgm", forms),
-        ("sandpile settle --pgm --pile", forms),
-        ("sandpile lab --pile --journal", forms),
-        ("sandpile lab --journal --drops 3 --pile", forms),
-        ("sandpile lab --pgm --pile", forms),
-        ("sandpile drops --seed 7", count),
-        ("sandpile drops --pile --stream 0", count),
+        ("sandpile settle --pile --pgm", Conflict::Forms),
+        ("sandpile settle --pgm --pile", Conflict::Forms),
+        ("sandpile lab --pile --journal", Conflict::Forms),
+        ("sandpile lab --journal --drops 3 --pile", Conflict::Forms),
+        ("sandpile lab --pgm --pile", Conflict::Forms),
+        ("sandpile drops --seed 7", Conflict::Uncounted),
+        ("sandpile drops --pile --stream 0", Conflict::Uncounted),
     ];
-    for (line, want) in rows {
-        match answer_to(&rt, line)? {
-            Answer::Told(true, text) => assert_eq!(rt; text.as_str(), want, "{line}"),
-            _ => return Err("a task".into()),
-        }
+    for (line, conflict) in rows {
+        let text = format!(in rt.alloc(); "{conflict}")?;
+        assert!(rt; text.starts_with("error: the argument"), "{text}");
+        assert_eq!(rt; answer_to(&rt, line)?, Answer::Told(true, text), "{line}");
     }
     Ok(())
 }
@@ -295,52 +292,27 @@ fn help(rt: &HostRuntime, line: &str) -> Result<String, Fail> {
 
 #[test]
 fn helps(rt: HostRuntime) -> Result<(), Fail> {
-    let rows = [
-        (
-            "settle ",
-            "'3 1  0 4 0' | sandpile settle\n  3 1\n  1 0 1\n  odometer\n  0 1 0\n  lost 2\n  topplings 1\n",
-        ),
-        (
-            "burn ",
-            "'2 1  0 0' | sandpile burn\n  forbidden 2\n  0 0\n  1 0\n",
-        ),
-        (
-            "identity ",
-            "$ sandpile identity --width 2 --height 2\n  2 2\n  2 2\n  2 2\n",
-        ),
-        (
-            "drops ",
-            "'3 3  3 3 3  3 3 3  3 3 3  4 0' | sandpile drops\n  number site size area reach lost\n  0 4 10 9 2 12\n  1 0 0 0 0 0\n  3 3\n  2 3 1\n  3 0 3\n  1 3 1\n  lost 12\n  topplings 10\n",
-        ),
-        (
-            "add ",
-            "'2 1  3 1  2 1  3 3' | sandpile add\n  2 1\n  3 1\n",
-        ),
-        ("inverse ", "'2 1  3 1' | sandpile inverse\n  2 1\n  0 2\n"),
-        (
-            "recurrent ",
-            "'2 1  0 0' | sandpile recurrent\n  2 1\n  3 3\n",
-        ),
-        (
-            "lab ",
-            "'1 1  0' | sandpile lab --droppers 2 --drops 3 --epochs 2\n  epoch drops topplings lost grains\n  0 6 1 4 2\n  1 6 2 8 0\n  total 12 3 12 0\n  1 1\n  0\n  odometer\n  3\n",
-        ),
-        ("", "'3 1  0 4 0' | sandpile settle\n  3 1\n  1 0 1\n"),
+    let commands = [
+        "",
+        "settle ",
+        "burn ",
+        "identity ",
+        "drops ",
+        "add ",
+        "inverse ",
+        "recurrent ",
+        "lab ",
     ];
-    let parts = [
-        "\n\nInput: ",
-        "\n\nOutput: ",
-        "\n\nLimits: width and height from 1 to 256",
-        "\n\nExample:",
-    ];
-    for (command, example) in rows {
+    for command in commands {
         let long = format!(in rt.alloc(); "sandpile {command}--help")?;
         let short = format!(in rt.alloc(); "sandpile {command}-h")?;
         let text = help(&rt, long.as_str())?;
         assert_eq!(rt; help(&rt, short.as_str())?, text, "{command}");
-        assert!(rt; text.contains(example), "{command}: {text}");
-        for part in parts {
+        for part in ["\n\nInput: ", "\n\nOutput: ", "\n\nExample:", "  $ "] {
             assert!(rt; text.contains(part), "{command} {part}: {text}");
+        }
+        for line in text.split('\n') {
+            assert!(rt; line.len() <= 80, "{command}: {line}");
         }
     }
     Ok(())
@@ -368,9 +340,8 @@ fn lists_the_commands(rt: HostRuntime) -> Result<(), Fail> {
 
 #[test]
 fn help_of_settle(rt: HostRuntime) -> Result<(), Fail> {
-    assert_eq!(rt;
-        help(&rt, "sandpile settle --help")?.as_str(),
-        "\
+    let text = help(&rt, "sandpile settle --help")?;
+    let start = "\
 Settles a pile: topples sites until each holds at most 3 grains
 
 Usage: sandpile settle [OPTIONS]
@@ -380,50 +351,26 @@ Options:
       --pgm   Write a picture (plain PGM), not text
   -h, --help  Print help
 
-Input: a pile, as numbers with white space between: its width, its height, and
-  the grains of each site, row by row. A letter c behind the height makes it a
-  cylinder, whose rows go round.
-
-Output: the settled pile; the line 'odometer', and how often each site toppled;
-  'lost N', the grains that left the grid; 'topplings N', all topplings. With
-  --pile the settled pile alone, as other commands read it; with --pgm only a
-  picture of it.
-
-Limits: width and height from 1 to 256, a cylinder at least 3 wide; at most
-  1,099,511,627,775 grains; at most 1,048,576 bytes of input.
-
-Example:
-
-  $ echo '3 1  0 4 0' | sandpile settle
-  3 1
-  1 0 1
-  odometer
-  0 1 0
-  lost 2
-  topplings 1
-"
-    );
+Input: ";
+    assert!(rt; text.starts_with(start), "{text}");
     Ok(())
 }
 
+// The settings of `lab` state the limits and the defaults that are taken.
 #[test]
 fn help_of_lab(rt: HostRuntime) -> Result<(), Fail> {
     let text = help(&rt, "sandpile lab --help")?;
-    let options = "\
-Usage: sandpile lab [OPTIONS]
-
-Options:
-      --seed <seed>            Seed, up to 4294967295 [default: 0]
-      --droppers <droppers>    Droppers, from 1 to 64 [default: 2]
-      --drops <drops>          Drops of each, up to 1000000 [default: 100]
-      --epochs <epochs>        Epochs, from 1 to 100 [default: 1]
-      --workers <workers>      Workers, from 1 to 16 [default: 1]
-      --sweeps <sweeps>        Sweeps of each, up to 1000 [default: 0]
-      --observers <observers>  Observers, up to 16 [default: 0]
-      --journal                Write a line for each drop, too
-      --pile                   Write the pile alone, as it is read
-      --pgm                    Write a picture (plain PGM), not text
-";
-    assert!(rt; text.contains(options), "{text}");
+    let rows = [
+        ("Droppers, from 1 to", MOST_DROPPERS, USUAL.droppers),
+        ("Drops of each, up to", MOST_DROPS, USUAL.drops),
+        ("Epochs, from 1 to", MOST_EPOCHS, USUAL.epochs),
+        ("Workers, from 1 to", MOST_WORKERS, USUAL.workers),
+        ("Sweeps of each, up to", MOST_SWEEPS, USUAL.sweeps),
+        ("Observers, up to", MOST_OBSERVERS, USUAL.observers),
+    ];
+    for (words, most, usual) in rows {
+        let line = format!(in rt.alloc(); "  {words} {most} [default: {usual}]\n")?;
+        assert!(rt; text.contains(line.as_str()), "{line}: {text}");
+    }
     Ok(())
 }
