@@ -1,7 +1,6 @@
 -- One drop more on a settled pile, and what a list of drops leads to.
-use Rattle.std.proofs.Common.{ℕ, ◌≡◌, ◌≢◌, ◌+◌, ◌-◌, ◌*◌, ◌<◌, ◌≤◌, ◌^◌, refl, sym, ◌∙◌, ap, subst, arith, List, [], ◌∷◌, ◌++◌, length, sum, get_or, append_assoc, ⊎_elim, Option, Some}
+use Rattle.std.proofs.Common.{ℕ, ◌≡◌, ◌≢◌, ◌+◌, ◌-◌, ◌*◌, ◌<◌, ◌≤◌, ◌^◌, refl, sym, ◌∙◌, ap, subst, arith, List, [], ◌∷◌, ◌++◌, length, sum, get_or, append_assoc, Option, Some}
 use Rattle.std.proofs.Math.ListN.{set}
-use Rattle.std.proofs.lemmas.Bool.{cases_eq}
 use Rattle.std.proofs.lemmas.List.{length-append, append-nil, length-set, get_or_default}
 use Rattle.std.proofs.lemmas.List.Elements.{All-push}
 use Rattle.sand_model.specs.Grid.{Grid, IsGrid, sites}
@@ -15,7 +14,7 @@ use Rattle.sand_model.proofs.Bounds.{weight_bound, topplings_bound}
 use Rattle.sand_model.proofs.Underway.{underway_start, underway_end}
 use Rattle.sand_settle.specs.Settling.{SettledView, IsRecord}
 use Rattle.sand_settle.specs.Drops.{OneView, IsAfter, topplings_between, TakesGrain, Drops, DropsAll, IsPaid, settled_in, one_view, IsOnePile}
-use Rattle.sand_settle.proofs.Underway.{topplings_at}
+use Rattle.sand_settle.proofs.Underway.{topplings_at, all_stable}
 use Rattle.sand_settle.specs.declared.avalanche.Avalanche.{Avalanche}
 use Rattle.sand_settle.specs.Avalanches.{IsAvalanche}
 use Rattle.sand_settle.proofs.Collected.{lost_sum, avalanche_same}
@@ -213,10 +212,7 @@ avalanche_between g k site u old new a same counts done =
 pub settled_calm : (g : Grid) (h u : List ℕ) (site : ℕ) → get_or h site 0 < 4 → ((j : ℕ) → j < sites g → j ≢ site → get_or h j 0 ≤ 3) → IsSettled g (λ j. get_or h j 0) (λ j. get_or u j 0 - get_or u j 0) (λ j. get_or h j 0)
 settled_calm g h u site low others =
     settled_already g (λ j. get_or h j 0) (λ j. get_or u j 0 - get_or u j 0)
-    (λ j l.
-    ⊎_elim (λ (e : j ≡ site). let same = ap (λ k. get_or h k 0) e in omega arith)
-    (λ (ne : j ≡ site → ⊥). others j l ne)
-    (cases_eq j site))
+    (all_stable g (λ j. get_or h j 0) site (omega arith) others)
     (λ j l. omega arith)
 
 -- ---- a drop in the code

@@ -1,21 +1,21 @@
 -- A wave of topplings, in which each site topples once at most, and one is held back once it has.
-use Rattle.std.proofs.Common.{ℕ, Bool, true, false, cond, eqb, ltb, ◌&&◌, Option, Some, None, map, ◌≡◌, ◌≢◌, ◌+◌, ◌-◌, ◌*◌, ◌<◌, ◌≤◌, refl, sym, ◌∙◌, ap, subst, take, drop, arith, List, [], ◌∷◌, ◌++◌, length, sum, get_or, leb, length-append, ⊎_elim}
+use Rattle.std.proofs.Common.{ℕ, Bool, eqb, ◌≡◌, ◌≢◌, ◌+◌, ◌-◌, ◌*◌, ◌<◌, ◌≤◌, sym, ◌∙◌, ap, subst, take, drop, arith, List, [], ◌∷◌, ◌++◌, length, sum, get_or, leb, length-append, ⊎_elim}
 use Rattle.std.proofs.Math.ListN.{set}
-use Rattle.std.proofs.lemmas.Bool.{cases_eq, cases_lt, cases_Bool, lt-leb, le-leb}
-use Rattle.std.proofs.lemmas.List.{get_or-set_other, take-append-le, take-append-drop, take_more, length-map, drop-append-le, drop_all, length-drop, length-set}
-use Rattle.sand_model.specs.Grid.{Grid, sites, places}
-use Rattle.sand_model.specs.Sand.{one_at, tally, value_at, flow, IsToppled, topplings}
+use Rattle.std.proofs.lemmas.Bool.{cases_eq, cases_lt, lt-leb, le-leb}
+use Rattle.std.proofs.lemmas.List.{get_or-set_other, take-append-drop, take_more, drop_all, length-drop, length-set}
+use Rattle.sand_model.specs.Grid.{Grid, sites}
+use Rattle.sand_model.specs.Sand.{one_at, tally, flow, IsToppled, topplings}
 use Rattle.sand_model.specs.Lists.{Lists, one_if}
 use Rattle.sand_model.proofs.Totals.{total_same, total_le, total-add, total-ones, total-one_at, one_at_same, one_at_other}
 use Rattle.sand_model.proofs.Tallies.{tally-append, tally-cons, tally-push}
-use Rattle.sand_model.proofs.Flow.{flow_le, flow_same, flow-add, flow-scale, flow-one_at}
-use Rattle.sand_model.proofs.Neighbours.{flow_four}
+use Rattle.sand_model.proofs.Flow.{flow_le, flow_same, flow-add}
 use Rattle.sand_model.proofs.Sandpile.{flow_ones}
 use Rattle.sand_model.proofs.Heights.{get_or-written}
 use Rattle.sand_model.proofs.Lists.{length-listing, lists_from, listed, lists_of, at_most_once, at_most_one}
 use Rattle.sand_settle.specs.Lists.{may_topple}
-use Rattle.sand_settle.proofs.Queue.{queued, turn_of, turn_inside, turn_high, leaves, front_is_high}
+use Rattle.sand_settle.proofs.Queue.{turn_of, turn_inside, turn_high, leaves, front_is_high}
 use Rattle.sand_settle.specs.Underway.{Advances}
+use Rattle.sand_settle.proofs.Joined.{spread_from}
 use Rattle.sand_settle.proofs.Underway.{topplings_more, sum_falls}
 use Rattle.std.proofs.lemmas.List.Sums.{sum_by-set}
 
@@ -38,12 +38,6 @@ lowered_at h site inside high j =
     let rest : get_or h site 0 - 4 + 4 ≡ get_or h site 0 = omega arith in
     let taken = ap (λ q. q * one_at site j) rest in
     omega arith
-
--- what one site gives, it has lost
-pub spread_once : (g : Grid) (i : ℕ) (r q : ℕ → ℕ) → ((j : ℕ) → j < sites g → q j + 4 * one_at i j ≡ r j + flow g (one_at i) j) → IsToppled g r (λ j. 1 * one_at i j) q
-spread_once g i r q each = record {
-  balance = λ j l. let e = each j l in let one = flow-scale g 1 (one_at i) j in omega arith;
-}
 
 -- the state of a wave that began with the heights h, after so many turns, in which each site toppled v times
 pub record IsWave (g : Grid) (site : ℕ) (h k list : List ℕ) (v : ℕ → ℕ) (turn : ℕ) : Type 0 where
@@ -90,47 +84,12 @@ wave_few g site h k list v turn inside wave =
     let one = total-one_at (sites g) site (λ j. 1) inside in
     omega arith
 
--- the queue from one turn on, after a site has got grains, and joined it if it may topple from now on
-pub queued_from : (h front list : List ℕ) (turn i v : ℕ) → turn ≤ length list → i < length h → get_or h i 0 ≤ v → Lists (length h) (may_topple (λ j. get_or h j 0)) (front ++ drop turn list) → Lists (length h) (may_topple (λ j. get_or (set h i v) j 0)) (front ++ drop turn (cond (ltb (get_or h i 0) 4 && leb 4 v) (list ++ i ∷ []) list))
-queued_from h front list turn i v within inside more all =
-    ⊎_elim
-    (λ (joins : (ltb (get_or h i 0) 4 && leb 4 v) ≡ true).
-    let was = queued h front (drop turn list) i v inside more all in
-    rw (joins, drop-append-le turn list (i ∷ []) within) (rw joins at was))
-    (λ (not : (ltb (get_or h i 0) 4 && leb 4 v) ≡ false).
-    let was = queued h front (drop turn list) i v inside more all in
-    rw not (rw not at was))
-    (cases_Bool (ltb (get_or h i 0) 4 && leb 4 v))
-
--- what the four places of a site get
-pub four_places : (g : Grid) (i j : ℕ) (ps : List (Option ℕ)) → ps ≡ places g i → i < sites g → j < sites g → flow g (one_at i) j ≡ value_at (λ m. one_at m j) (get_or ps 0 None) + value_at (λ m. one_at m j) (get_or ps 1 None) + value_at (λ m. one_at m j) (get_or ps 2 None) + value_at (λ m. one_at m j) (get_or ps 3 None)
-four_places g i j ps e l m = rw e (flow-one_at g i j l m ∙ flow_four g (λ q. one_at q j) i)
-
--- four sites as places
-four_of : (xs : List ℕ) → length xs ≡ 4 → (Some (get_or xs 0 0) ∷ Some (get_or xs 1 0) ∷ Some (get_or xs 2 0) ∷ Some (get_or xs 3 0) ∷ []) ≡ map Some xs
-four_of [] e = absurd (omega arith)
-four_of (a ∷ []) e = absurd (omega arith)
-four_of (a ∷ b ∷ []) e = absurd (omega arith)
-four_of (a ∷ b ∷ c ∷ []) e = absurd (omega arith)
-four_of (a ∷ b ∷ c ∷ d ∷ []) e = refl
-four_of (a ∷ b ∷ c ∷ d ∷ x ∷ xs) e = absurd (omega arith)
-
-pub some_four : (g : Grid) (i : ℕ) (xs : List ℕ) → map Some xs ≡ places g i → (Some (get_or xs 0 0) ∷ Some (get_or xs 1 0) ∷ Some (get_or xs 2 0) ∷ Some (get_or xs 3 0) ∷ []) ≡ places g i
-some_four g i xs e =
-    let long : length xs ≡ 4 = sym (length-map xs Some) ∙ ap length e in
-    four_of xs long ∙ e
-
 -- a list has a site as often as any part of it, or more often
 pub tally_part : (xs : List ℕ) (n j : ℕ) → tally (take n xs) j ≤ tally xs j
 tally_part xs n j =
     let parts = tally-append (take n xs) (drop n xs) j in
     let whole = ap (λ ys. tally ys j) (take-append-drop n xs) in
     omega arith
-
--- one that joins a list, or does not, changes nothing before it
-pub kept_from : (list : List ℕ) (turn i : ℕ) (joins : Bool) → turn ≤ length list → take turn (cond joins (list ++ i ∷ []) list) ≡ take turn list
-kept_from list turn i true within = take-append-le turn list (i ∷ []) within
-kept_from list turn i false within = refl
 
 -- the sites that have toppled after one turn more
 pub turn_tally : (list longer : List ℕ) (turn i : ℕ) → i ≡ get_or list turn 0 → turn < length list → take (turn + 1) longer ≡ take (turn + 1) list → (take (turn + 1) longer ≡ take turn list ++ i ∷ []) × ((j : ℕ) → tally (take (turn + 1) longer) j ≡ tally (take turn list) j + one_at i j)
@@ -236,12 +195,12 @@ wave_ends g site h k list v turn done each inside wave j l ne =
 
 pub first_toppled : (g : Grid) (site : ℕ) (h k : List ℕ) → site < sites g → length k ≡ sites g → 4 ≤ get_or h site 0 → ((j : ℕ) → j < sites g → get_or k j 0 ≡ get_or h j 0 + flow g (one_at site) j) → IsToppled g (λ j. get_or h j 0) (λ j. 1 * one_at site j) (λ j. get_or (lowered k site) j 0)
 first_toppled g site h k inside each high gives =
-    spread_once g site (λ j. get_or h j 0) (λ j. get_or (lowered k site) j 0)
+    spread_from g site 1 (λ j. get_or h j 0) (λ j. get_or (lowered k site) j 0)
     (λ j l. let lower = lowered_at k site (omega arith) (let e = gives site inside in omega arith) j in let e = gives j l in omega arith)
 
 pub turn_toppled : (g : Grid) (site i : ℕ) (k q : List ℕ) → site < sites g → i < sites g → i ≢ site → length k ≡ sites g → length q ≡ sites g → 4 ≤ get_or k site 0 → 4 ≤ get_or k i 0 → 4 ≤ get_or q site 0 → ((j : ℕ) → j < sites g → get_or q j 0 ≡ get_or (set k i (get_or k i 0 - 4)) j 0 + flow g (one_at i) j) → IsToppled g (λ j. get_or (lowered k site) j 0) (λ j. 1 * one_at i j) (λ j. get_or (lowered q site) j 0)
 turn_toppled g site i k q inside there ne each each' high some high' gives =
-    spread_once g i (λ j. get_or (lowered k site) j 0) (λ j. get_or (lowered q site) j 0)
+    spread_from g i 1 (λ j. get_or (lowered k site) j 0) (λ j. get_or (lowered q site) j 0)
     (λ j l.
     let a = lowered_at k site (omega arith) high j in
     let b = lowered_at q site (omega arith) high' j in

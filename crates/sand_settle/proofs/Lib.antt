@@ -1,4 +1,5 @@
 pub mod Queue
+pub mod Joined
 pub mod Underway
 pub mod Records
 pub mod Collected

@@ -1,12 +1,13 @@
 -- A pile that is being settled, turn by turn.
-use Rattle.std.proofs.Common.{ℕ, ◌≡◌, ◌+◌, ◌*◌, ◌^◌, ◌<◌, ◌≤◌, arith, List, length, sum, get_or}
+use Rattle.std.proofs.Common.{ℕ, ◌≡◌, ◌≢◌, ◌+◌, ◌*◌, ◌^◌, ◌<◌, ◌≤◌, ap, arith, List, length, sum, get_or, ⊎_elim}
+use Rattle.std.proofs.lemmas.Bool.{cases_eq}
 use Rattle.sand_model.specs.Grid.{Grid, IsGrid, sites}
-use Rattle.sand_model.specs.Sand.{one_at, IsToppled, topplings, weight}
+use Rattle.sand_model.specs.Sand.{one_at, IsToppled, IsSettled, topplings, weight}
 use Rattle.sand_model.proofs.Totals.{total_same, total-add, total-zero, total-one_at}
 use Rattle.sand_model.proofs.Sandpile.{weight_after, laplacian_sum}
 use Rattle.sand_model.proofs.Heights.{sum_is_grains}
 use Rattle.sand_model.proofs.Bounds.{weight_bound, at_most_total}
-use Rattle.sand_model.proofs.Underway.{underway_step}
+use Rattle.sand_model.proofs.Underway.{underway_start, underway_step, underway_end}
 use Rattle.sand_settle.specs.Underway.{Advances}
 use Rattle.sand_model.specs.Piles.{most_grains}
 
@@ -69,3 +70,14 @@ few_at_first g u h sides each limit none =
     let zeros = total_same (sites g) u (λ j. 0) (λ j l. none j) in
     let nothing = total-zero (sites g) in
     omega arith
+
+-- ---- at the end
+
+-- no site may topple but this one, and it may not either
+pub all_stable : (g : Grid) (t : ℕ → ℕ) (site : ℕ) → t site ≤ 3 → ((j : ℕ) → j < sites g → j ≢ site → t j ≤ 3) → (j : ℕ) → j < sites g → t j ≤ 3
+all_stable g t site low others j l =
+    ⊎_elim (λ (e : j ≡ site). let same = ap t e in omega arith) (λ (ne : j ≡ site → ⊥). others j l ne) (cases_eq j site)
+
+-- the counts, which were 0, are the odometer
+pub settled_at_last : (g : Grid) (s u v t : ℕ → ℕ) → ((j : ℕ) → u j ≡ 0) → Advances g u s v t → ((j : ℕ) → j < sites g → t j ≤ 3) → IsSettled g s v t
+settled_at_last g s u v t none all low = underway_end g s v t (all.underway s (underway_start g s u (λ j l. none j))) low

@@ -1,5 +1,6 @@
 -- Lists of sites, and the tests that their sites pass.
-use Rattle.std.specs.Prelude.{ℕ, Bool, List, nat_le, nat_lt}
+use Rattle.std.specs.Prelude.{ℕ, Bool, List, ◌≡◌, ◌+◌, ◌≤◌, ◌++◌, length, take, drop, slice_index, nat_le, nat_lt}
+use Rattle.sand_model.specs.Lists.{Lists}
 
 -- what contracts see of a list of sites with room made beforehand
 pub record ListView : Type 0 where
@@ -13,3 +14,12 @@ may_topple s j = nat_le 4 (s j)
 -- whether a site has toppled
 abbrev pub has_toppled : (ℕ → ℕ) → ℕ → Bool
 has_toppled u j = nat_lt 0 (u j)
+
+-- while the heights h become k, at most so many sites join the end of a list: those that may topple from then on,
+-- whatever sites wait in front of it from a turn on
+pub record Joins (most : ℕ) (h k : List ℕ) (l m : ListView) : Type 0 where
+  pub room : m.room ≡ l.room
+  pub longer : length l.sites ≤ length m.sites
+  pub few : length m.sites ≤ length l.sites + most
+  pub kept : (turn : ℕ) → turn ≤ length l.sites → take turn m.sites ≡ take turn l.sites
+  pub waiting : (n turn : ℕ) (front : List ℕ) → n ≡ length h → turn ≤ length l.sites → Lists n (may_topple (slice_index h)) (front ++ drop turn l.sites) → Lists n (may_topple (slice_index k)) (front ++ drop turn m.sites)

@@ -12,6 +12,7 @@ ghost use Rattle.sand_settle.specs.Lists.{has_toppled};
 ghost use Rattle.sand_settle.specs.Avalanches.{IsAvalanche};
 
 use crate::site_list::SiteList;
+use crate::spreading::knows_sides;
 use sand_model::Lattice;
 
 /// What one drop set off.
@@ -66,8 +67,7 @@ pub(crate) fn collect(
     ensures odometer { (j : ℕ) → slice_index odometer.new j ≡ slice_index odometer.old j + slice_index counts.old j }
     ensures uncounted { (j : ℕ) → slice_index counts.new j ≡ 0 }
 {
-    // The sides are at most 256, so the number of the sites that toppled fits 32 bits.
-    let _ = lattice.shape();
+    knows_sides(lattice);
     let mut avalanche = begun(site, toppled.len() as u32);
     for turn in 0..toppled.len() {
         let place = toppled.site(turn);

@@ -9,6 +9,7 @@ mod one_pile;
 mod settled;
 mod settling;
 mod site_list;
+mod spreading;
 #[cfg(test)]
 mod tests;
 mod waves;

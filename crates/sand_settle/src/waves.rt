@@ -12,98 +12,26 @@
 //!   those that wait in the list and the held site.
 //! - **It ends**, since each toppling lowers the weight of the pile by 2 at least.
 //! - **It is right**: each toppling is legal and the end is stable, so what has toppled is the least odometer
-//!   (`sand_model::laws`, least action). `drain_from` says so: `settled`.
+//!   (`sand_model::laws`, least action). `Workspace::settle_at` says so: `settled`.
 //!
 //! The held site keeps the 4 grains that it loses until the end of its wave. So its height never passes from 3 to 4, and no
 //! test is needed to keep it off the list. Topplings are counted in a second pass over the list: the loop over the
 //! heights is shorter for it, and faster.
 
-ghost use Rattle.std.specs.Prelude.{◌≡◌, ◌≢◌, ℕ, ◌+◌, ◌*◌, ◌^◌, ◌<◌, ◌≤◌, List, [], ◌++◌, length, sum, take, drop, slice_index, slice_index_or, All, None, IfSome};
-ghost use Rattle.sand_model.specs.Grid.{Grid, sites, places};
-ghost use Rattle.sand_model.specs.Sand.{IsSettled, one_at, tally, value_at, flow, topplings, weight};
+ghost use Rattle.std.specs.Prelude.{◌≡◌, ◌≢◌, ℕ, ◌+◌, ◌-◌, ◌*◌, ◌^◌, ◌<◌, ◌≤◌, length, sum, slice_index, All};
+ghost use Rattle.sand_model.specs.Grid.{sites};
+ghost use Rattle.sand_model.specs.Sand.{IsSettled, tally, topplings};
 ghost use Rattle.sand_model.specs.Lists.{Lists};
-ghost use Rattle.sand_settle.specs.Lists.{may_topple, has_toppled};
-ghost use Rattle.sand_settle.specs.Underway.{Advances};
 ghost use Rattle.sand_model.specs.Piles.{most_grains};
+ghost use Rattle.sand_settle.specs.Avalanches.{IsAvalanche};
+ghost use Rattle.sand_settle.specs.Lists.{has_toppled};
+ghost use Rattle.sand_settle.specs.Underway.{Advances};
 
-use crate::settling::count;
+use crate::avalanche::{Avalanche, calm, collect};
 use crate::site_list::SiteList;
+use crate::spreading::{knows_sides, spread};
+use crate::workspace::Workspace;
 use sand_model::{Lattice, TOPPLING_HEIGHT};
-
-// Gives a grain to a place if it is in the grid, and lists its site if that becomes 4.
-#[inline(always)]
-fn give(heights: &mut [u64], list: &mut SiteList, place: Option<usize>)
-    requires inside { IfSome place (λ j. j < length heights.old) }
-    requires limit { sum heights.old < 2 ^ 63 }
-    requires small { length heights.old ≤ 65536 }
-    requires room { length list.old.sites < list.old.room }
-    ensures each { (j : ℕ) → slice_index heights.new j ≡ slice_index heights.old j + value_at (λ k. one_at k j) place }
-    ensures total { sum heights.new ≤ sum heights.old + 1 }
-    ensures room { list.new.room ≡ list.old.room }
-    ensures longer { length list.old.sites ≤ length list.new.sites }
-    ensures at_most_one { length list.new.sites ≤ length list.old.sites + 1 }
-
-    ensures kept { (turn : ℕ) → turn ≤ length list.old.sites → take turn list.new.sites ≡ take turn list.old.sites }
-
-    // Whatever sites wait before those of the list, from one turn on.
-    ensures waiting { (n turn : ℕ) (front : List ℕ) → n ≡ length heights.old → turn ≤ length list.old.sites → Lists n (may_topple (slice_index heights.old)) (front ++ drop turn list.old.sites) → Lists n (may_topple (slice_index heights.new)) (front ++ drop turn list.new.sites) }
-{
-    if let Some(site) = place {
-        let before = heights[site];
-        let after = before + 1;
-        heights[site] = after;
-        let joins = (before < TOPPLING_HEIGHT) & (after >= TOPPLING_HEIGHT);
-        list.push_if(site, joins);
-    }
-}
-
-// Gives a grain to each of the places round a site that is in the grid, and lists the sites that become 4.
-#[inline(always)]
-fn give_four(heights: &mut [u64], list: &mut SiteList, around: [Option<usize>; 4])
-    requires inside { (k : ℕ) → IfSome (slice_index_or around k None) (λ j. j < length heights.old) }
-    requires limit { sum heights.old < 2 ^ 62 }
-    requires small { length heights.old ≤ 65536 }
-    requires room { length list.old.sites + 4 ≤ list.old.room }
-    ensures each { (g : Grid) (site : ℕ) → around ≡ places g site → site < sites g → (j : ℕ) → j < sites g → slice_index heights.new j ≡ slice_index heights.old j + flow g (one_at site) j }
-    ensures room { list.new.room ≡ list.old.room }
-    ensures longer { length list.old.sites ≤ length list.new.sites }
-    ensures kept { (turn : ℕ) → turn ≤ length list.old.sites → take turn list.new.sites ≡ take turn list.old.sites }
-    ensures waiting { (n turn : ℕ) (front : List ℕ) → n ≡ length heights.old → turn ≤ length list.old.sites → Lists n (may_topple (slice_index heights.old)) (front ++ drop turn list.old.sites) → Lists n (may_topple (slice_index heights.new)) (front ++ drop turn list.new.sites) }
-{
-    let [north, west, east, south] = around;
-    give(heights, list, north);
-    give(heights, list, west);
-    give(heights, list, east);
-    give(heights, list, south);
-}
-
-// Gives a grain to each neighbour of a site, and lists those that become 4. Most sites are inner, so the test for this one
-// spares those for each place.
-#[inline(always)]
-fn spread(lattice: &Lattice, heights: &mut [u64], list: &mut SiteList, site: usize)
-    requires site { site < sites lattice.now }
-    requires one_each { length heights.old ≡ sites lattice.now }
-    requires limit { sum heights.old < 2 ^ 62 }
-    requires room { length list.old.sites + 4 ≤ list.old.room }
-    ensures each { (j : ℕ) → j < sites lattice.now → slice_index heights.new j ≡ slice_index heights.old j + flow lattice.now (one_at site) j }
-    ensures room { list.new.room ≡ list.old.room }
-    ensures longer { length list.old.sites ≤ length list.new.sites }
-    ensures kept { (turn : ℕ) → turn ≤ length list.old.sites → take turn list.new.sites ≡ take turn list.old.sites }
-    ensures waiting { (turn : ℕ) (front : List ℕ) → turn ≤ length list.old.sites → Lists (sites lattice.now) (may_topple (slice_index heights.old)) (front ++ drop turn list.old.sites) → Lists (sites lattice.now) (may_topple (slice_index heights.new)) (front ++ drop turn list.new.sites) }
-{
-    // The sides are at most 256, so there are at most 65,536 sites.
-    let _ = lattice.shape();
-    if lattice.is_inner(site) {
-        let [north, west, east, south] = lattice.inner_neighbours(site);
-        give_four(
-            heights,
-            list,
-            [Some(north), Some(west), Some(east), Some(south)],
-        );
-    } else {
-        give_four(heights, list, lattice.neighbours(site));
-    }
-}
 
 // One wave: topples a site that may, and then, each once, all others that this brings to 4. Lists the sites that topple.
 fn topple_once(lattice: &Lattice, heights: &mut [u64], list: &mut SiteList, site: usize)
@@ -121,22 +49,21 @@ fn topple_once(lattice: &Lattice, heights: &mut [u64], list: &mut SiteList, site
     ensures others_low { (j : ℕ) → j < sites lattice.now → j ≢ site → slice_index heights.new j ≤ 3 }
     ensures room { list.new.room ≡ list.old.room }
 {
-    // The sides are at most 256, so each site fits the list's 32 bits.
-    let _ = lattice.shape();
+    knows_sides(lattice);
     list.clear();
     list.push_if(site, true);
-    spread(lattice, heights, list, site);
+    spread(lattice, heights, list, site, 1);
     let mut turn = 1usize;
     'turns: while turn < list.len() {
         let other = list.site(turn);
         heights[other] -= TOPPLING_HEIGHT;
-        spread(lattice, heights, list, other);
+        spread(lattice, heights, list, other, 1);
         turn += 1;
     }
     heights[site] -= TOPPLING_HEIGHT;
 }
 
-// Counts one toppling of each site of a list.
+// Counts one toppling of each site of a list, and notes a site at its first.
 fn count_each(counts: &mut [u64], toppled: &mut SiteList, list: &SiteList)
     requires inside { All (λ j. j < length counts.old) list.now.sites }
     requires fits { (j : ℕ) → j < length counts.old → slice_index counts.old j + tally list.now.sites j < 2 ^ 64 }
@@ -148,34 +75,47 @@ fn count_each(counts: &mut [u64], toppled: &mut SiteList, list: &SiteList)
     ensures room { toppled.new.room ≡ toppled.old.room }
 {
     for turn in 0..list.len() {
-        count(counts, toppled, list.site(turn), 1);
+        let site = list.site(turn);
+        let before = counts[site];
+        counts[site] = before + 1;
+        toppled.push_if(site, before == 0);
     }
 }
 
-// Topples until no site may topple. Counts how often each site topples, and lists the sites that do.
-pub(crate) fn drain_from(
-    lattice: &Lattice,
-    heights: &mut [u64],
-    counts: &mut [u64],
-    toppled: &mut SiteList,
-    list: &mut SiteList,
-    site: usize,
-)
-    requires site { site < sites lattice.now }
-    requires one_each { (length heights.old ≡ sites lattice.now) × (length counts.old ≡ sites lattice.now) }
-    requires limit { sum heights.old ≤ most_grains }
-    requires others_low { (j : ℕ) → j < sites lattice.now → j ≢ site → slice_index heights.old j ≤ 3 }
-    requires uncounted { (j : ℕ) → slice_index counts.old j ≡ 0 }
-    requires unnoted { toppled.old.sites ≡ [] }
-    requires room { (sites lattice.now + 4 ≤ list.old.room) × (sites lattice.now < toppled.old.room) }
-    ensures settled { IsSettled lattice.now (slice_index heights.old) (slice_index counts.new) (slice_index heights.new) }
-    ensures noted { Lists (sites lattice.now) (has_toppled (slice_index counts.new)) toppled.new.sites }
-    ensures room { (list.new.room ≡ list.old.room) × (toppled.new.room ≡ toppled.old.room) }
-{
-    // The sides are at most 256, so the weight is below 2^55, and the topplings to come are at most half of it.
-    let _ = lattice.shape();
-    'waves: while heights[site] >= TOPPLING_HEIGHT {
-        topple_once(lattice, heights, list, site);
-        count_each(counts, toppled, list);
+impl Workspace {
+    /// Settles a pile in which no site but this one may topple, and adds what toppled to the odometer.
+    #[inline(always)]
+    pub(crate) fn settle_at(
+        &mut self,
+        heights: &mut [u64],
+        odometer: &mut [u64],
+        site: usize,
+    ) -> Avalanche
+        requires site { site < sites self.old }
+        requires one_each { (length heights.old ≡ sites self.old) × (length odometer.old ≡ sites self.old) }
+        requires limit { sum heights.old ≤ most_grains }
+        requires others_low { (j : ℕ) → j < sites self.old → j ≢ site → slice_index heights.old j ≤ 3 }
+        requires few { topplings self.old (slice_index odometer.old) < 2 ^ 54 }
+        ensures room { self.new ≡ self.old }
+        ensures settled { IsSettled self.old (slice_index heights.old) (λ j. slice_index odometer.new j - slice_index odometer.old j) (slice_index heights.new) }
+        ensures avalanche { IsAvalanche self.old site (λ j. slice_index odometer.new j - slice_index odometer.old j) result }
+        ensures never_falls { (j : ℕ) → slice_index odometer.old j ≤ slice_index odometer.new j }
+    {
+        if heights[site] < TOPPLING_HEIGHT {
+            return calm(site);
+        }
+        let Workspace {
+            lattice,
+            counts,
+            wave,
+            spare: toppled,
+        } = self;
+        let counts = counts.as_mut_slice();
+        toppled.clear();
+        'waves: while heights[site] >= TOPPLING_HEIGHT {
+            topple_once(lattice, heights, wave, site);
+            count_each(counts, toppled, wave);
+        }
+        collect(lattice, site, counts, odometer, toppled)
     }
 }

@@ -11,14 +11,14 @@ use Rattle.sand_settle.proofs.avalanche.collect.Goals as goal
 pub overflow_cast-len : goal.overflow_cast-len
 overflow_cast-len c =
     let few = lists_length _ _ _ c.requires.noted in
-    let small = sites_limit c.args.lattice.now c.shape.ensures.sides in
+    let small = sites_limit c.args.lattice.now c.knows_sides.ensures in
     omega (arith, c.len.ensures.value)
 
 pub offset_bounds-counts-place : goal.offset_bounds-counts-place
 offset_bounds-counts-place c =
     let turn : c.loop-turn.turn < length c.args.toppled.now.sites = omega (arith, c.len-turn-end.ensures.value) in
     let inside = rest_inside (sites c.args.lattice.now) c.loop-turn.counts c.args.toppled.now.sites c.loop-turn.turn c.site-place.result c.site-place.ensures turn c.loop-turn.invariant.noted in
-    let small = sites_limit c.args.lattice.now c.shape.ensures.sides in
+    let small = sites_limit c.args.lattice.now c.knows_sides.ensures in
     omega arith
 
 pub bounds-counts-place : goal.bounds-counts-place

@@ -1,5 +1,4 @@
-use Rattle.std.proofs.Common.{rules, ap, arith, length, IsSome, get_or}
-use Rattle.sand_model.proofs.Heights.{sum_left}
+use Rattle.std.proofs.Common.{rules, ap, arith, length, IsSome}
 use Rattle.sand_settle.proofs.choice.settle_by_guess.Goals as goal
 
 pub returns : goal.returns
@@ -9,10 +8,8 @@ returns c =
     let certificate = c.in_ok-heights.ensures.exactly.0 there in
     let settled = rw (c.in-Some-2.is, counts) at c.in_ok-heights.ensures.settled in
     let one_each = rw c.in-Some-2.is at c.in_ok-heights.ensures.one_each in
-    let left = sum_left c.args.pile.now.grid c.args.pile.now.heights c.in-Some-2.heights.items (λ j. get_or c.in-Some.claim.counts.items j 0) c.shape.ensures.pile.one_each one_each settled.toppled in
     record {
       heights_each = one_each;
       odometer_each = omega (arith, ap length counts, certificate.counts_each);
       settled = settled;
-      limit = omega arith;
     }

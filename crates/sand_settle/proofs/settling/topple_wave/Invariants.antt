@@ -2,7 +2,7 @@ use Rattle.std.proofs.Common.{◌≡◌, ◌+◌, ◌≤◌, ◌++◌, length, d
 use Rattle.sand_model.specs.Grid.{sites}
 use Rattle.sand_model.specs.Sand.{topplings}
 use Rattle.sand_model.specs.Lists.{Lists}
-use Rattle.sand_settle.specs.Lists.{may_topple, has_toppled}
+use Rattle.sand_settle.specs.Lists.{may_topple}
 use Rattle.sand_settle.specs.Underway.{Advances}
 use Rattle.sand_settle.proofs.settling.topple_wave.Given as goal
 
@@ -13,7 +13,5 @@ invariant-loop-turn l = record {
   advances : Advances l.lattice (λ j. get_or l.initial.counts j 0) (λ j. get_or l.initial.heights j 0) (λ j. get_or l.counts j 0) (λ j. get_or l.heights j 0);
   each_topples : topplings l.lattice (λ j. get_or l.initial.counts j 0) + l.turn ≤ topplings l.lattice (λ j. get_or l.counts j 0);
   waiting : Lists (sites l.lattice) (may_topple (λ j. get_or l.heights j 0)) (drop l.turn l.wave.sites ++ l.next.sites);
-  noted : Lists (sites l.lattice) (has_toppled (λ j. get_or l.counts j 0)) l.toppled.sites;
-  next_room : l.next.room ≡ l.initial.next.room;
-  toppled_room : l.toppled.room ≡ l.initial.toppled.room;
+  room : l.next.room ≡ l.fn.next.room;
 }

@@ -15,24 +15,24 @@ turns-init c =
     let each : length c.spread.new.heights ≡ sites c.args.lattice.now = omega (arith, c.spread.auto.heights, c.requires.one_each) in
     let listed : c.push_if.new.self.sites ≡ c.args.site ∷ [] = ap (λ (l : ListView). l.sites) c.push_if.ensures ∙ ap (λ (l : ListView). l.sites ++ c.args.site ∷ []) c.clear.ensures in
     let one : length c.push_if.new.self.sites ≡ 1 = ap length listed in
-    let first : take 1 c.spread.new.list.sites ≡ c.args.site ∷ [] = c.spread.ensures.kept 1 (omega arith) ∙ ap (take 1) listed in
+    let first : take 1 c.spread.new.list.sites ≡ c.args.site ∷ [] = c.spread.ensures.joins.kept 1 (omega arith) ∙ ap (take 1) listed in
     let counts : (j : ℕ) → tally (take 1 c.spread.new.list.sites) j ≡ one_at c.args.site j = λ j. ap (λ xs. tally xs j) first ∙ (let cons = tally-cons c.args.site [] j in omega arith) in
     let waits = first_waits c.args.lattice.now c.args.site c.args.heights.now c.push_if.new.self.sites listed c.requires.site c.requires.high c.requires.others_low in
     record {
       heights_each = each;
       some = omega arith;
       advances = λ u v more. advance_turn c.args.lattice.now u (λ j. get_or c.args.heights.now j 0) v (λ j. get_or (lowered c.spread.new.heights c.args.site) j 0) c.args.site 1 c.requires.site (omega (arith, c.requires.high)) (λ j l. let m = more j l in let n = counts j in omega arith)
-          (first_toppled c.args.lattice.now c.args.site c.args.heights.now c.spread.new.heights c.requires.site each c.requires.high c.spread.ensures.each);
-      wave = wave_begins c.args.lattice.now c.args.site c.args.heights.now c.spread.new.heights c.spread.new.list.sites (tally (take 1 c.spread.new.list.sites)) c.requires.site (omega (arith, c.spread.ensures.longer)) c.requires.others_low counts c.spread.ensures.each (c.spread.ensures.waiting 1 (c.args.site ∷ []) (omega arith) waits);
+          (first_toppled c.args.lattice.now c.args.site c.args.heights.now c.spread.new.heights c.requires.site each c.requires.high (λ j l. let e = c.spread.ensures.each j l in omega arith));
+      wave = wave_begins c.args.lattice.now c.args.site c.args.heights.now c.spread.new.heights c.spread.new.list.sites (tally (take 1 c.spread.new.list.sites)) c.requires.site (omega (arith, c.spread.ensures.joins.longer)) c.requires.others_low counts (λ j l. let e = c.spread.ensures.each j l in omega arith) (c.spread.ensures.joins.waiting (sites c.args.lattice.now) 1 (c.args.site ∷ []) (sym c.requires.one_each) (omega arith) waits);
       inside = rw first (All-push (λ j. j < sites c.args.lattice.now) [] c.args.site (λ k d l. absurd (omega arith)) c.requires.site);
-      list_room = c.spread.ensures.room ∙ ap (λ (l : ListView). l.room) c.push_if.ensures ∙ ap (λ (l : ListView). l.room) c.clear.ensures;
+      list_room = c.spread.ensures.joins.room ∙ ap (λ (l : ListView). l.room) c.push_if.ensures ∙ ap (λ (l : ListView). l.room) c.clear.ensures;
     }
 
 pub offset_bounds-heights-other : goal.offset_bounds-heights-other
 offset_bounds-heights-other c =
     let turn : c.turns.turn < length c.turns.list.sites = omega (arith, c.turns-test.true, c.len.ensures.value) in
     let here = wave_turn c.args.lattice.now c.args.site c.site-other.result c.args.heights.now c.turns.heights c.turns.list.sites (tally (take c.turns.turn c.turns.list.sites)) c.turns.turn c.site-other.ensures turn c.turns.invariant.wave in
-    let small = sites_limit c.args.lattice.now c.shape.ensures.sides in
+    let small = sites_limit c.args.lattice.now c.knows_sides.ensures in
     let inside = here.0 in
     omega arith
 
@@ -89,12 +89,12 @@ turns-preserved c =
     let done : ℕ → ℕ = tally (take c.turns.turn c.turns.list.sites) in
     let more : ℕ → ℕ = tally (take (c.turns.turn + 1) c.spread-in-turns.new.list.sites) in
     let each : length c.spread-in-turns.new.heights ≡ sites c.args.lattice.now = omega (arith, c.spread-in-turns.auto.heights, length-set {A = ℕ}, c.turns.invariant.heights_each) in
-    let joined = turn_tally c.turns.list.sites c.spread-in-turns.new.list.sites c.turns.turn i c.site-other.ensures turn (c.spread-in-turns.ensures.kept (c.turns.turn + 1) (omega arith)) in
+    let joined = turn_tally c.turns.list.sites c.spread-in-turns.new.list.sites c.turns.turn i c.site-other.ensures turn (c.spread-in-turns.ensures.joins.kept (c.turns.turn + 1) (omega arith)) in
     let waits = wave_waits c.args.lattice.now c.args.site i c.args.heights.now c.turns.heights c.turns.list.sites (tally (take c.turns.turn c.turns.list.sites)) c.turns.turn c.turns.invariant.heights_each c.site-other.ensures turn c.turns.invariant.wave in
-    let wave = wave_goes_on c.args.lattice.now c.args.site i c.args.heights.now c.turns.heights c.turns.list.sites c.spread-in-turns.new.heights c.spread-in-turns.new.list.sites (tally (take c.turns.turn c.turns.list.sites)) (tally (take (c.turns.turn + 1) c.spread-in-turns.new.list.sites)) c.turns.turn c.turns.invariant.heights_each c.site-other.ensures turn c.turns.invariant.wave joined.1 c.spread-in-turns.ensures.each c.spread-in-turns.ensures.longer (c.spread-in-turns.ensures.waiting (c.turns.turn + 1) (c.args.site ∷ []) (omega arith) waits) in
+    let wave = wave_goes_on c.args.lattice.now c.args.site i c.args.heights.now c.turns.heights c.turns.list.sites c.spread-in-turns.new.heights c.spread-in-turns.new.list.sites (tally (take c.turns.turn c.turns.list.sites)) (tally (take (c.turns.turn + 1) c.spread-in-turns.new.list.sites)) c.turns.turn c.turns.invariant.heights_each c.site-other.ensures turn c.turns.invariant.wave joined.1 (λ j l. let e = c.spread-in-turns.ensures.each j l in omega arith) c.spread-in-turns.ensures.joins.longer (c.spread-in-turns.ensures.joins.waiting (sites c.args.lattice.now) (c.turns.turn + 1) (c.args.site ∷ []) (omega (arith, length-set {A = ℕ}, c.turns.invariant.heights_each)) (omega arith) waits) in
     let high' = wave_held c.args.lattice.now c.args.site c.args.heights.now c.spread-in-turns.new.heights c.spread-in-turns.new.list.sites (tally (take (c.turns.turn + 1) c.spread-in-turns.new.list.sites)) (c.turns.turn + 1) wave in
     let other = lowered_other c.turns.heights c.args.site i here.2 in
-    let legal = turn_toppled c.args.lattice.now c.args.site i c.turns.heights c.spread-in-turns.new.heights c.requires.site here.0 here.2 c.turns.invariant.heights_each each high here.1 high' c.spread-in-turns.ensures.each in
+    let legal = turn_toppled c.args.lattice.now c.args.site i c.turns.heights c.spread-in-turns.new.heights c.requires.site here.0 here.2 c.turns.invariant.heights_each each high here.1 high' (λ j l. let e = c.spread-in-turns.ensures.each j l in omega arith) in
     record {
       heights_each = each;
       some = omega (arith, c.turns.invariant.some);
@@ -102,7 +102,7 @@ turns-preserved c =
           (advance_turn c.args.lattice.now (λ j. u j + tally (take c.turns.turn c.turns.list.sites) j) (λ j. get_or (lowered c.turns.heights c.args.site) j 0) v (λ j. get_or (lowered c.spread-in-turns.new.heights c.args.site) j 0) i 1 here.0 (omega arith) (λ j l. let s = sums j l in let t = joined.1 j in omega arith) legal);
       wave = wave;
       inside = rw joined.0 (All-push (λ j. j < sites c.args.lattice.now) (take c.turns.turn c.turns.list.sites) i c.turns.invariant.inside here.0);
-      list_room = c.spread-in-turns.ensures.room ∙ c.turns.invariant.list_room;
+      list_room = c.spread-in-turns.ensures.joins.room ∙ c.turns.invariant.list_room;
     }
 
 pub returns-clause-advances : goal.returns-clause-advances

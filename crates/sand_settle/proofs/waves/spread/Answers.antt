@@ -1,9 +1,0 @@
-use Rattle.sand_model.proofs.Neighbours.{place_inside}
-use Rattle.sand_settle.proofs.Held.{some_four}
-use Rattle.sand_settle.proofs.waves.spread.Goals as goal
-
-pub give_four-requires-clause-inside : goal.give_four-requires-clause-inside
-give_four-requires-clause-inside c k = place_inside c.args.lattice.now c.args.site _ k _ (some_four c.args.lattice.now c.args.site c.inner_neighbours.result c.inner_neighbours.ensures) c.requires.site c.requires.one_each
-
-pub give_four-requires-else-is_inner-clause-inside : goal.give_four-requires-else-is_inner-clause-inside
-give_four-requires-else-is_inner-clause-inside c k = place_inside c.args.lattice.now c.args.site _ k _ c.neighbours.ensures.places c.requires.site c.requires.one_each

@@ -1,0 +1,81 @@
+//! Giving the grains that a site loses to its neighbours, and listing those that may topple from then on.
+
+ghost use Rattle.std.specs.Prelude.{◌≡◌, ℕ, ◌+◌, ◌*◌, ◌^◌, ◌<◌, ◌≤◌, length, sum, slice_index, slice_index_or, None, IfSome};
+ghost use Rattle.sand_model.specs.Grid.{Grid, IsGrid, sites, places};
+ghost use Rattle.sand_model.specs.Sand.{one_at, value_at, flow};
+ghost use Rattle.sand_settle.specs.Lists.{Joins};
+
+use crate::site_list::SiteList;
+use sand_model::{Lattice, TOPPLING_HEIGHT};
+
+/// Does nothing, but tells that no side of the grid is above 256: there are at most 65,536 sites, so each fits 32 bits.
+#[inline(always)]
+pub(crate) fn knows_sides(lattice: &Lattice)
+    ensures { IsGrid lattice.now }
+{
+    let _ = lattice.shape();
+}
+
+// Gives grains to a place if it is in the grid, and lists its site if it may topple from now on.
+#[inline(always)]
+fn deliver(heights: &mut [u64], list: &mut SiteList, place: Option<usize>, times: u64)
+    requires inside { IfSome place (λ j. j < length heights.old) }
+    requires limit { sum heights.old + times < 2 ^ 63 }
+    requires small { length heights.old ≤ 65536 }
+    requires room { length list.old.sites < list.old.room }
+    ensures each { (j : ℕ) → slice_index heights.new j ≡ slice_index heights.old j + times * value_at (λ k. one_at k j) place }
+    ensures total { sum heights.new ≤ sum heights.old + times }
+    ensures joins { Joins 1 heights.old heights.new list.old list.new }
+{
+    if let Some(site) = place {
+        let before = heights[site];
+        let after = before + times;
+        heights[site] = after;
+        let joins = (before < TOPPLING_HEIGHT) & (after >= TOPPLING_HEIGHT);
+        list.push_if(site, joins);
+    }
+}
+
+// Gives grains to each of the places round a site that is in the grid.
+#[inline(always)]
+fn deliver_four(heights: &mut [u64], list: &mut SiteList, around: [Option<usize>; 4], times: u64)
+    requires inside { (k : ℕ) → IfSome (slice_index_or around k None) (λ j. j < length heights.old) }
+    requires limit { sum heights.old + 4 * times < 2 ^ 63 }
+    requires small { length heights.old ≤ 65536 }
+    requires room { length list.old.sites + 4 ≤ list.old.room }
+    ensures each { (g : Grid) (site : ℕ) → around ≡ places g site → site < sites g → (j : ℕ) → j < sites g → slice_index heights.new j ≡ slice_index heights.old j + times * flow g (one_at site) j }
+    ensures joins { Joins 4 heights.old heights.new list.old list.new }
+{
+    let [north, west, east, south] = around;
+    deliver(heights, list, north, times);
+    deliver(heights, list, west, times);
+    deliver(heights, list, east, times);
+    deliver(heights, list, south, times);
+}
+
+/// Gives grains to each neighbour of a site, and lists those that may topple from now on. Most sites are inner, and the
+/// test for this spares one for each place.
+#[inline(always)]
+pub(crate) fn spread(
+    lattice: &Lattice,
+    heights: &mut [u64],
+    list: &mut SiteList,
+    site: usize,
+    times: u64,
+)
+    requires site { site < sites lattice.now }
+    requires one_each { length heights.old ≡ sites lattice.now }
+    requires limit { sum heights.old + 4 * times < 2 ^ 63 }
+    requires room { length list.old.sites + 4 ≤ list.old.room }
+    ensures each { (j : ℕ) → j < sites lattice.now → slice_index heights.new j ≡ slice_index heights.old j + times * flow lattice.now (one_at site) j }
+    ensures joins { Joins 4 heights.old heights.new list.old list.new }
+{
+    knows_sides(lattice);
+    if lattice.is_inner(site) {
+        let [north, west, east, south] = lattice.inner_neighbours(site);
+        let around = [Some(north), Some(west), Some(east), Some(south)];
+        deliver_four(heights, list, around, times);
+    } else {
+        deliver_four(heights, list, lattice.neighbours(site), times);
+    }
+}
