@@ -22,7 +22,7 @@ use crate::gathering::Findings;
 use crate::journal::{Entry, blank_journal, write_journal};
 use sand_model::Pile;
 use sand_plan::Wish;
-use sand_shared::{CloseFault, Pass, Record, SharedFault, SharedPile};
+use sand_shared::{Pass, Record, SharedPile};
 use std::alloc::Global;
 use std::marker::Model;
 use std::thread::{Threads, join_mut};
@@ -75,8 +75,7 @@ fn share(alloc: Global, start: &Pile, quota: u64) -> Result<(SharedPile, Pass), 
 {
     match SharedPile::new(alloc, start, quota) {
         Ok(shared) => Ok(shared),
-        Err(SharedFault::Memory(refused)) => Err(refused.into()),
-        Err(SharedFault::TooManyGrains) => unreachable!(),
+        Err(fault) => Err(LabFault::of_shared(fault)),
     }
 }
 
@@ -93,8 +92,7 @@ fn close(alloc: Global, pile: SharedPile, all: Pass) -> Result<Record, LabFault>
 {
     match pile.settle(alloc, all) {
         Ok(record) => Ok(record),
-        Err((CloseFault::Memory(refused), _, _)) => Err(refused.into()),
-        Err((CloseFault::Missing, _, _)) => unreachable!(),
+        Err((fault, _, _)) => Err(LabFault::of_close(fault)),
     }
 }
 
@@ -170,8 +168,7 @@ fn copy_to_grow(alloc: Global, closed: &Record, drops: u64) -> Result<Record, La
     };
     match copied {
         Ok(copy) => Ok(copy),
-        Err(SharedFault::Memory(refused)) => Err(refused.into()),
-        Err(SharedFault::TooManyGrains) => unreachable!(),
+        Err(fault) => Err(LabFault::of_shared(fault)),
     }
 }
 
