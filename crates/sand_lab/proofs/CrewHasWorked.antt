@@ -75,7 +75,7 @@ quarters (h ∷ hs) (c ∷ cs) le each =
     let first = each 0 (omega arith) in
     omega (arith, rest, first, sum_by-cons (λ n. n / 4) h hs, sum_by-cons (λ n. n) c cs)
 
--- where nothing has toppled, each site has less than four grains for each time that it topples
+-- if nothing has toppled, each site has less than four grains for each time that it topples
 few_left : (s : SharedView) (v : PassView) (i n : ℕ) → LeavesAtMost s.terms (at_rest v) i (4 * n + 3) → toppled_by (at_rest v) i ≡ 0 → height_of s.terms.start i / 4 ≤ n
 few_left s v i n most none =
     let low : height_of s.terms.start i ≤ 4 * n + 3 = omega (arith, most, none) in

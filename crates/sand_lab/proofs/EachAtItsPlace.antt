@@ -13,7 +13,7 @@ module _ {A : Type 0} where
   each_push P (z ∷ xs) x h p zero y e = h zero y e
   each_push P (z ∷ xs) x h p (suc i) y e = each_push (λ j. P (suc j)) xs x (λ j w g. h (suc j) w g) p i y e
 
-  -- one more in front, where the places are counted from n
+  -- one more in front, if the places are counted from n
   pub each_first : (P : ℕ → A → Type 0) (n : ℕ) (xs : List A) (x : A) → EachAt (λ i. P (suc n + i)) xs → P n x → EachAt (λ i. P (n + i)) (x ∷ xs)
   each_first P n xs x h p zero y e = let same : n ≡ n + 0 = omega arith in subst (λ (m : ℕ). P m y) same (subst (λ (z : A). P n z) (same_Some _ _ e) p)
   each_first P n xs x h p (suc i) y e = let same : suc n + i ≡ n + suc i = omega arith in subst (λ (m : ℕ). P m y) same (h i y e)

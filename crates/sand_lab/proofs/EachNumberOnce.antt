@@ -1,4 +1,4 @@
--- The numbers of receipts: with each at most once and all below their count, each number below it stands on one receipt.
+-- The numbers of receipts: with each at most once and all below their count, each number below it is that of one receipt.
 use Rattle.std.proofs.Common.{ℕ, suc, ◌≡◌, ◌<◌, ◌≤◌, List, [], ◌∷◌, map, length, get_or, eqb, Some, refl, sym, ap, ◌∙◌, ⊎_elim, arith}
 use Rattle.std.proofs.lemmas.Bool.{cases_eq, cases_lt}
 use Rattle.std.proofs.lemmas.List.{length-map}
@@ -58,7 +58,7 @@ some_receipt (r ∷ rs) n some =
 pub receipt_of : (rs : List Receipt) → EachOnce rs → AllBelow (length rs) rs → (n : ℕ) → n < length rs → HasNumber rs n
 receipt_of rs once below n inside = let one = each_number rs once below n inside in some_receipt rs n (omega arith)
 
--- two receipts with one number stand at one place
+-- two receipts with the same number are at the same place
 pub one_place : (rs : List Receipt) (i j : ℕ) (r q : Receipt) → EachOnce rs → slice_get rs i ≡ Some r → slice_get rs j ≡ Some q → r.number ≡ q.number → i ≡ j
 one_place rs i j r q once here there same =
     ⊎_elim

@@ -11,7 +11,7 @@ use Rattle.sand_lab.specs.Journals.{entry, IsJournal}
 use Rattle.sand_lab.proofs.EachNumberOnce.{one_place}
 
 module _ {X : Type 0} where
-  -- what was written at a place stands there
+  -- what was written at a place is there
   written : (xs : List X) (i : ℕ) (x : X) → i < length xs → slice_get (set xs i x) i ≡ Some x
   written xs i x inside =
       let long = length-set xs i x in
@@ -24,7 +24,7 @@ module _ {X : Type 0} where
       let inside = slice_get_within xs j y there in
       slice_get-get_or (set xs i x) j y (omega arith) ∙ ap Some (get_or-set_other xs i j x y other ∙ get_or_from_slice_get xs j y y there)
 
--- the entry of each receipt before the i-th stands at its number
+-- the entry of each receipt before the i-th is at its number
 abbrev pub NotedBelow : ℕ → ℕ → List Receipt → List Entry → Type 0
 NotedBelow drops i rs js = (j : ℕ) (r : Receipt) → j < i → slice_get rs j ≡ Some r → slice_get js r.number ≡ Some (entry (j / drops) r.site)
 

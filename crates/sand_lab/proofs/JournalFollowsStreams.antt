@@ -56,7 +56,7 @@ module _ (drops : ℕ) (parts : List (List Receipt)) (rs : List Receipt) (are : 
     ascends : Ascends part
     ascends = subst Ascends read (are.ascend k [] (slice_get_within parts k part there))
 
-    -- the i-th receipt of the k-th part stands at k * drops + i
+    -- the i-th receipt of the k-th part is at k * drops + i
     same_receipt : (i : ℕ) (d : Receipt) → i < drops → get_or rs (k * drops + i) d ≡ get_or part i d
     same_receipt i d inside =
         let within = slice_get_within parts k part there in
@@ -103,7 +103,7 @@ module _ (drops : ℕ) (parts : List (List Receipt)) (rs : List Receipt) (are : 
       pub part_sites : sites_by k js ≡ sites_of part
       part_sites = picked k js zero part (record { ascends = ascends; entries = entries; receipts = receipts })
 
--- where the sites of the k-th part are those of the k-th dropper's stream, the journal follows the streams
+-- if the sites of the k-th part are those of the k-th dropper's stream, the journal follows the streams
 pub follows_streams : (sites seed droppers drops epoch : ℕ) (parts : List (List Receipt)) (rs : List Receipt) (js : List Entry) → AreParts drops parts rs → length parts ≡ droppers
     → EachOnce rs → AllBelow (length rs) rs → IsJournal drops rs js
     → ((k : ℕ) (part : List Receipt) → slice_get parts k ≡ Some part → sites_of part ≡ stream_sites sites seed (stream_of epoch k) drops)

@@ -32,9 +32,6 @@ histories_push (x ∷ rs) r = ap (λ (ns : List ℕ). x.history ++ ns) (historie
 sum_push : (f : RecordView → ℕ) (rs : List RecordView) (r : RecordView) → sum_by f (rs ++ r ∷ []) ≡ sum_by f rs + f r
 sum_push f rs r = let both = sum_by-append f rs (r ∷ []) in let one = sum_by-cons f r [] in omega (arith, both, one)
 
-sum_one : (f : RecordView → ℕ) (r : RecordView) → f r ≡ sum_by f (r ∷ [])
-sum_one f r = let one = sum_by-cons f r [] in omega (arith, one)
-
 total_more : (start : PileView) (rs : List RecordView) (p r q : RecordView) → IsTotal start rs p → IsBoth p r q → IsTotal start (rs ++ r ∷ []) q
 total_more start rs p r q t b = record {
   one_threads = b.one_threads;

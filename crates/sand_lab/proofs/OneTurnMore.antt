@@ -61,9 +61,9 @@ abbrev pub EnoughSince : Terms → PassView → List ℕ → Type 0
 EnoughSince t p counts = (j : ℕ) → j < length p.counts → LeavesAtMost t (at_rest p) ((at_rest p).base + j) (4 * (slice_index counts j - slice_index p.counts j) + 3)
 
 -- the first sweep does enough, and the next ones undo nothing
-pub enough_after : (t : Terms) (p q : PassView) (counts : List ℕ) (answer turn : ℕ) → (turn ≡ 0 → q ≡ p) → (0 < turn → EnoughSince t p q.counts) → Swept t (at_rest q) counts answer → EnoughSince t p counts
-enough_after t p q counts answer zero begun before swept j lt = (subst (λ (x : PassView). Swept t (at_rest x) counts answer) (begun refl) swept).enough j lt
-enough_after t p q counts answer (suc n) begun before swept j lt =
+pub enough_after : (t : Terms) (p q : PassView) (counts : List ℕ) (topplings turn : ℕ) → (turn ≡ 0 → q ≡ p) → (0 < turn → EnoughSince t p q.counts) → Swept t (at_rest q) counts topplings → EnoughSince t p counts
+enough_after t p q counts topplings zero begun before swept j lt = (subst (λ (x : PassView). Swept t (at_rest x) counts topplings) (begun refl) swept).enough j lt
+enough_after t p q counts topplings (suc n) begun before swept j lt =
     let was = before (omega arith) j lt in
     let up = swept.never_fall j in
     omega (arith, was, up)

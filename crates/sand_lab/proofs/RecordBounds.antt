@@ -1,5 +1,4 @@
--- What a record of one thread has of its own numbers: how many grains its pile has, on which grid it lies, and how many
--- topplings there were at least.
+-- What a record of one thread bounds: how many grains its pile has at most, and how many topplings there were at least.
 use Rattle.std.proofs.Common.{ℕ, ◌≡◌, ◌+◌, ◌≤◌, List, length, sum, arith}
 use Rattle.std.specs.Prelude.{slice_index}
 use Rattle.sand_model.specs.Grid.{sites}

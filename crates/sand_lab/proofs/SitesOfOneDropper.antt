@@ -14,7 +14,7 @@ sites_of rs = map (λ (r : Receipt). r.site) rs
 
 -- Below, js is the end of a journal, whose entries have the numbers from m on.
 
--- the entry of the receipt r, as one of dropper k, stands there at its number
+-- the entry of the receipt r, as one of dropper k, is there at its number
 abbrev pub HasEntry : ℕ → ℕ → List Entry → Receipt → Type 0
 HasEntry k m js r = (n : ℕ) × (r.number ≡ m + n) × (slice_get js n ≡ Some (entry k r.site))
 
@@ -33,7 +33,7 @@ below_later r rs up i q there =
 ascends_later : (r : Receipt) (rs : List Receipt) → Ascends (r ∷ rs) → Ascends rs
 ascends_later r rs up = λ i j d before inside. up (suc i) (suc j) d (omega arith) (omega arith)
 
--- where the first entry is the dropper's, the first receipt has its number
+-- if the first entry is the dropper's, the first receipt has its number
 first_number : (k m : ℕ) (e : Entry) (js : List Entry) (r : Receipt) (rs : List Receipt) → Matches k m (e ∷ js) (r ∷ rs) → e.dropper ≡ k → r.number ≡ m
 first_number k m e js r rs given is = at_first (given.receipts zero e refl is)
   where
@@ -51,7 +51,7 @@ first_site k m e js r rs given first = at_first (given.entries zero r refl)
     at_first (zero, number, there) = ap (λ (x : Entry). x.site) (same_Some e (entry k r.site) there)
     at_first (suc n, number, there) = absurd (omega arith)
 
--- an entry with a greater number than the first stands in the rest
+-- an entry with a greater number than the first is in the rest
 in_rest : (k m : ℕ) (e : Entry) (js : List Entry) (r : Receipt) → m < r.number → HasEntry k m (e ∷ js) r → HasEntry k (m + 1) js r
 in_rest k m e js r later (zero, number, there) = absurd (omega arith)
 in_rest k m e js r later (suc n, number, there) = (n, omega arith, there)

@@ -1,4 +1,4 @@
--- How often a site stands in a journal that follows the streams: as often as in all of them.
+-- How often a site is in a journal that follows the streams: as often as in all of them.
 use Rattle.std.proofs.Common.{ℕ, zero, suc, Bool, true, false, cond, ltb, eqb, ◌≡◌, ◌+◌, ◌*◌, ◌<◌, ◌≤◌, List, [], ◌∷◌, filter, sum_by, length, refl, sym, ap, ◌∙◌, ⊎_elim, arith, length-append}
 use Rattle.std.proofs.lemmas.Bool.{cases_Bool, cases_lt, lt-ltb, le-ltb}
 use Rattle.std.proofs.lemmas.List.{length-map}
@@ -30,7 +30,7 @@ sum_by-kept : (w : Entry → ℕ) (passes : Bool) (e : Entry) (js : List Entry) 
 sum_by-kept w true e js = let both = sum_by-cons w e js in omega arith
 sum_by-kept w false e js = omega arith
 
--- of the numbers below n one is x, where x is below n
+-- of the numbers below n one is x, if x is below n
 total-below : (n x w : ℕ) → total n (λ k. w * one_at x k) ≡ w * cond (ltb x n) 1 0
 total-below n x w =
     ⊎_elim
@@ -48,7 +48,7 @@ total-droppers w n (e ∷ js) =
     let rest = total-droppers w n js in
     let all = sum_by-kept w (ltb e.dropper n) e (of_first n js) in omega arith
 
--- where no fewer pass than there are, all pass
+-- if no fewer pass than there are, all pass
 all_pass : (p : Entry → Bool) (js : List Entry) → length (filter p js) ≡ length js → filter p js ≡ js
 all_pass p [] as_many = refl
 all_pass p (e ∷ js) as_many =
@@ -84,7 +84,7 @@ module _ (sites seed droppers drops epoch : ℕ) (js : List Entry) (follows : Fo
       let long = length-map (of_first droppers js) (λ (e : Entry). e.site) in
       let many = as_many in all_pass (λ (e : Entry). ltb e.dropper droppers) js (omega arith)
 
-  -- and a site stands in the journal as often as in all streams
+  -- and a site is in the journal as often as in all streams
   pub tally_of_streams : (i : ℕ) → tally (sites_in js) i ≡ total droppers (λ k. tally (stream_sites sites seed (stream_of epoch k) drops) i)
   tally_of_streams i =
       let w = λ (e : Entry). one_at e.site i in

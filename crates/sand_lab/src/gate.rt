@@ -22,7 +22,7 @@ pub trait Gate: Sync {
     fn turn(&self, role: Role, who: u32, turn: u32);
 }
 
-/// A gate that holds nobody.
+/// A gate that holds no thread.
 #[derive(Clone, Copy, Debug)]
 pub struct Open;
 

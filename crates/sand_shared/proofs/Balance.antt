@@ -18,7 +18,7 @@ balance_kept g s u r s' u' r' still even b = record {
 pub stabilises_fewer : (g : Grid) (s s' w : ℕ → ℕ) → ((i : ℕ) → i < sites g → s i ≤ s' i) → Stabilises g s' w → Stabilises g s w
 stabilises_fewer g s s' w fewer stab = record { at_most_three = λ i l. let a = stab.at_most_three i l in let b = fewer i l in omega arith }
 
--- where no site has toppled nothing flows
+-- if no site has toppled, nothing flows
 pub flow_none : (g : Grid) (u : ℕ → ℕ) (i : ℕ) → i < sites g → ((j : ℕ) → j < sites g → u j ≡ 0) → flow g u i ≡ 0
 flow_none g u i l none =
     let a = flow_same g u (λ j. 0 * u j) (λ j m. let z = none j m in omega arith) i l in

@@ -60,7 +60,7 @@ module _ (n : ℕ) where
   held-one_for_each : (is : List ℕ) (j : ℕ) → held (one_for_each is) j ≡ tally is j
   held-one_for_each is j = sum_by-map (λ (g : Grains). amount_at g.site g.amount j) (λ i. grains i 1) is
 
-  -- where all are single, as many entries are for a site as grains
+  -- if all are single, as many entries are for a site as grains
   pub count_is : (i : ℕ) (hand : List Grains) → All (λ g. (g.site < n) × (g.amount ≡ 1)) hand → count_by (are_for i 1) hand ≡ held hand i
   count_is i [] single = refl
   count_is i (g ∷ gs) single =

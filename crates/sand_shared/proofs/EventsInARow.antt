@@ -79,7 +79,7 @@ shows_row t word a e (f ∷ es) p s fits one ones terms r may h =
     let w = pass_at (after_all t q (f ∷ es)) a in
     subst (Shows t (after_all t q (f ∷ es))) (ap (λ z. stepped_to s' word z a w) sum ∙ stepped_twice s word x ((n + suc (suc (length es))) % 2 ^ 64) a v w) rest
 
--- a step may be taken where its events may happen whatever else did
+-- a step may be taken if its events may happen, whatever else has happened
 takes_row : (t : Terms) (a word k : ℕ) (e : Event) (es : List Event) (slots : ℕ) (m : Me ℕ View) → word < sites (grid_of t) + 2 → AddsOne t word a e → AllAddOne t word a es → suc (length es) ≡ k
     → ((p : OpenPile) → a < length p.passes → pass_at p a ≡ m.0 → AllHappen t p (e ∷ es))
     → Allows (IsRunning t) slots a m word (λ n. (n + k) % 2 ^ 64) (TakesInARow t a (e ∷ es) m)
@@ -147,7 +147,7 @@ module _ (t : Terms) (a : ℕ) where
   pass_after_some p [] there many = absurd (omega arith)
   pass_after_some p (i ∷ is) there many = pass_after_first p i is there (λ q. pass_after_all q is)
 
-  -- they may happen where so much is left
+  -- they may happen if so much is left
   all_may : (p : OpenPile) (is : List ℕ) → a < length p.passes → length is ≤ (pass_at p a).left → All (λ i. i < sites (grid_of t)) is → AllHappen t p (all_draws a is)
   all_may p [] there left inside = tt
   all_may p (i ∷ is) there left inside =
@@ -183,7 +183,7 @@ module _ (t : Terms) (a i : ℕ) where
   pass_after_places p (suc k) there =
       pass_after_places (after t p (place a i)) k (there_still p there) ∙ ap (λ (v : View). record v { hand = laid_on i k v.hand }) (pass_after_place p there)
 
-  -- they may happen where so many grains are in hand for the site
+  -- they may happen if so many grains are in hand for the site
   all_laid_may : (p : OpenPile) (k : ℕ) → a < length p.passes → k ≤ count_by (are_for i 1) (pass_at p a).hand → i < sites (grid_of t) → AllHappen t p (all_places a i k)
   all_laid_may p zero there enough inside = tt
   all_laid_may p (suc k) there enough inside =
@@ -264,6 +264,6 @@ once_row m n (i ∷ is) rs le below once =
 pub note_more : (rs : List Receipt) (n i : ℕ) (is : List ℕ) → (rs ++ receipt n i ∷ []) ++ receipts_from (n + 1) is ≡ rs ++ receipts_from n (i ∷ is)
 note_more rs n i is = append_assoc rs (receipt n i ∷ []) (receipts_from (n + 1) is)
 
--- what stands from a place on begins with what stands there
+-- what is in a list from a place on begins with what is at that place
 pub from_here : (is : List ℕ) (k : ℕ) → k < length is → drop k is ≡ get_or is k 0 ∷ drop (k + 1) is
 from_here is k inside = drop-cons is k 0 inside ∙ ap (λ n. get_or is k 0 ∷ drop n is) {x = suc k} {y = k + 1} (omega arith)

@@ -56,7 +56,7 @@ toppled_from v i le = let t : leb v.base i ≡ true = grind (arith, nat_tests) i
 pub toppled_before : (v : View) (i : ℕ) → i < v.base → toppled_by v i ≡ 0
 toppled_before v i lt = let t : leb v.base i ≡ false = grind (arith, nat_tests) in rw t
 
--- a site has toppled as often as it had, and k times more where the pass toppled it k times
+-- a site has toppled as often as it had, and k times more if the pass toppled it k times
 pub toppled-unloaded : (t : Terms) (v : View) (i k j : ℕ) → holds_site v i ≡ true → toppled_by (unloaded t v i k) j ≡ toppled_by v j + amount_at i k j
 toppled-unloaded t v i k j own =
     let at = place_inside v i own in

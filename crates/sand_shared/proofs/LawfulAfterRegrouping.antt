@@ -28,7 +28,7 @@ pub record SharesOut (v w x y : View) : Type 0 where
 none_held : (i : ℕ) → one_if (holds_site nobody i) ≡ 0
 none_held i = grind (arith, nat_tests)
 
--- where v and w gave way to x and y, and all that passes have together stayed
+-- if v and w are replaced by x and y, and what all passes have together is the same
 regrouped : (t : Terms) (p : OpenPile) (views : List View) (v w x y : View) → IsLawful t p → SharesOut v w x y
     → ((f : View → ℕ) → f x + f y ≡ f v + f w → f nobody ≡ 0 → sum_by f views ≡ sum_by f p.passes)
     → All (IsLawfulPass t (record p { passes = views })) views → IsLawful t (record p { passes = views })

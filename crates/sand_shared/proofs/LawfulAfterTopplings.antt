@@ -1,5 +1,5 @@
 -- A pass takes grains from a site of its rows, to send them to the neighbours: the pile stays lawful.
--- That the site topples no more often than needed is least action: the grains lie on it, so w has to topple it too.
+-- That the site topples no more often than needed is least action: the grains are on it, so w has to topple it too.
 use Rattle.std.proofs.Common.{◌≡◌, ℕ, ◌+◌, ◌-◌, ◌*◌, ◌<◌, ◌≤◌, ◌≢◌, Bool, true, false, length, set, get_or, sym, refl, ap, ◌∙◌, subst, ⊎_elim, arith}
 use Rattle.std.proofs.lemmas.Bool.{cases_eq}
 use Rattle.std.proofs.lemmas.List.{get_or-set_same, get_or-set_other, length-set}

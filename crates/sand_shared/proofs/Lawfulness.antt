@@ -52,7 +52,7 @@ pub happen_push : (t : Terms) (p : OpenPile) (es : List Event) (e : Event) → A
 happen_push t p [] e happen may = (may, tt)
 happen_push t p (x ∷ xs) e happen may = (happen.0, happen_push t (after t p x) xs e happen.1 may)
 
--- the grains that lie on a site and those in hand for it are at most all grains of the start and the quota
+-- the grains on a site and those in hand for it are at most all grains of the start and the quota
 pub few_present : (t : Terms) (p : OpenPile) → AreTerms t → IsLawful t p → (i : ℕ) → i < sites (grid_of t) → present p i ≤ sum t.start.heights + t.quota
 few_present t p terms r i inside =
     let g = grid_of t in

@@ -1,4 +1,4 @@
--- The receipts of a pass: no number stands twice, and each is below what the pass has seen.
+-- The receipts of a pass: no two have the same number, and each number is below what the pass has seen.
 use Rattle.std.proofs.Common.{◌≡◌, ℕ, ◌+◌, ◌<◌, ◌≤◌, ◌≢◌, max, List, [], ◌∷◌, ◌++◌, Bool, true, false, length, get_or, eqb, ap, ⊎_elim, arith}
 use Rattle.std.specs.Prelude.{nat_lt}
 use Rattle.std.proofs.lemmas.Bool.{cases_eq, eq-eqb, ne_eqb}

@@ -5,7 +5,7 @@ use Rattle.sand_shared.specs.declared.view.View.{View}
 use Rattle.sand_shared.specs.declared.view.Terms.{Terms}
 use Rattle.sand_shared.specs.Sweeps.{LeavesAtMost, LeavesAtLeast, HasAll, with_counts, coming_to, Swept}
 
--- what lies on a site allows one number of topplings
+-- the grains on a site allow one number of topplings
 at_most_allowed : (t : Terms) (u : View) (i a b : ℕ) → LeavesAtLeast t u i (4 * a) → LeavesAtMost t u i (4 * b + 3) → a ≤ b
 at_most_allowed t u i a b least most = omega arith
 
@@ -37,5 +37,5 @@ module _ (t : Terms) (v : View) (cs ds : List ℕ) (m n : ℕ) (all : HasAll t v
       let long' = r.same_rows in
       let same : cs ≡ ds = sym (take_all k cs (omega arith)) ∙ (same_so_far k (omega arith) ∙ take_all k ds (omega arith)) in
       let sums = ap sum same in
-      let a = s.answered in
-      let b = r.answered in (same, omega arith)
+      let a = s.risen in
+      let b = r.risen in (same, omega arith)

@@ -111,7 +111,7 @@ module _ (t : Terms) (p : OpenPile) (r : IsLawful t p) (a : ℕ) (there : a < le
       let mine = total_le (sites g) (toppled_by v) (toppled p) (λ j _. get_or-le-sum_by (λ (u : View). toppled_by u j) p.passes a nobody there) in
       let counts = sum_counts v (sites g) fits in omega arith
 
--- the same of what a pass has, wherever it stands
+-- the same of what a pass has, on whichever lawful pile
 
 pub stands_few : (t : Terms) (a : ℕ) (v : View) → Stands t a v → v.base + length v.counts ≤ sites (grid_of t) → sum v.counts < 2 ^ 54
 stands_few t a v s fits = subst (λ (u : View). sum u.counts < 2 ^ 54) s.pass (few t s.pile s.lawful a s.there s.terms (subst (λ (u : View). u.base + length u.counts ≤ sites (grid_of t)) (sym s.pass) fits))
@@ -130,7 +130,7 @@ looked_at_least t a i v w n h free all =
     let s = h.before in
     subst (λ (z : View × ℕ). LeavesAtLeast t z.0 i z.1) (λ q. (s.pass q, sym h.number q)) (at_least t s.pile s.lawful a s.there (subst (HasAll t) (sym s.pass) all) i h.may.inside (ap (λ (u : View). u.hand) s.pass ∙ free))
 
--- a pass still stands on a lawful pile after an unload
+-- after an unload the pass is still one of a lawful pile
 pub stands_unloaded : (t : Terms) (a i k : ℕ) (v w : View) (n : ℕ) → Happened t (unload a i k) v n w → Stands t a w
 stands_unloaded t a i k v w n h =
     let s = h.before in

@@ -1,4 +1,4 @@
--- A history that is written from receipts: each receipt's site stands at its number.
+-- A history that is written from receipts: each receipt's site is at its number.
 use Rattle.std.proofs.Common.{◌≡◌, ℕ, zero, suc, ◌+◌, ◌-◌, ◌<◌, ◌≤◌, ◌≢◌, List, [], ◌∷◌, Some, true, length, set, get_or, eqb, ltb, sym, refl, ap, ◌∙◌, ⊎_elim, arith}
 use Rattle.std.specs.Prelude.{slice_get, nat_lt}
 use Rattle.std.proofs.lemmas.Bool.{cases_eq, lt-ltb}

@@ -41,7 +41,7 @@ module _ (start : PileView) (history heights odometer : List ℕ) (l : LeadsTo s
       let bound = topplings_bound g (λ i. height_of start i + tally history i) (slice_index odometer) (slice_index heights) l.pile.grid (omega arith) l.settled.toppled in
       let counts = sum_is_grains g odometer l.odometer_each in omega arith
 
-  -- the grains that came lie on the pile or were lost
+  -- the grains that came are on the pile or were lost
   pub grains_left : sum start.heights + length history ≡ sum heights + lost start.grid (slice_index odometer)
   grains_left =
       let g = start.grid in

@@ -9,7 +9,7 @@ use Rattle.sand_shared.specs.Rows.{count_of, HoldsSite, AreRowsOf}
 pub times_plus : (a b w : ℕ) → (a + b) * w ≡ a * w + b * w
 times_plus a b w = grind arith
 
--- where rows begin, how many sites they have, and where they end
+-- at which site rows begin, how many sites they have, and at which site they end
 pub rows_end : (r : Rows) (w : ℕ) → r.first ≤ r.end → r.first * w + count_of r * w ≡ r.end * w
 rows_end r w le = sym (times_plus r.first (count_of r) w) ∙ ap (λ n. n * w) (omega arith)
 

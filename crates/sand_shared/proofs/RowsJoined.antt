@@ -20,7 +20,7 @@ touching_rows r q touch apart =
     let d = ne_eqb r.first q.end (λ e. apart.not_before (sym e)) in
     let none : (rows_follow r q || rows_follow q r) ≡ false = λ i. (a i || b i) || (c i || d i) in cc
 
--- the rows of both, in the one order or in the other
+-- the rows of both, in either order
 abbrev pub either_rows : Rows → Rows → Bool → Rows
 either_rows r q b = if b then record { first = r.first; end = r.end + count_of q } else record { first = q.first; end = q.end + count_of r }
 
@@ -78,7 +78,7 @@ module _ (p q : PassView) (sides : IsGrid p.grid) (same : q.grid ≡ p.grid) (ro
       (λ e. let z = ap (λ n. n * w) e in omega arith) in
       λ i. none i || next i
 
-  -- the pass that the rule makes of both is the one that has both's things
+  -- the pass that the rule makes of both has what both have
   pub joined_rest : (s l s' l' : ℕ) → joined (record (at_rest p) { spot = s; least = l }) (record (at_rest q) { spot = s'; least = l' }) ≡ at_rest (together p q)
   joined_rest s l s' l' =
       let x = at_rest p in

@@ -1,4 +1,4 @@
--- Rows that a pass keeps and gives away: where they begin and how many sites they have.
+-- Rows that a pass keeps and gives away: at which site they begin, and how many sites they have.
 use Rattle.std.proofs.Common.{◌≡◌, ℕ, ◌+◌, ◌-◌, ◌*◌, ◌<◌, ◌≤◌, List, [], true, false, eqb, ltb, take, drop, length, sym, refl, ap, ◌∙◌, subst, ⊎_elim, arith}
 use Rattle.std.proofs.Math.Nat.{mul-le-mul_right}
 use Rattle.std.proofs.lemmas.Bool.{cases_lt, eq-eqb, ne_eqb, lt-ltb, le-ltb}

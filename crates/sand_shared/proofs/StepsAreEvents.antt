@@ -53,7 +53,7 @@ module _ (t : Terms) (s : State ℕ View) (h : IsRunning t s) (a : ℕ) (v : Vie
   pub pass_is : pass_at (pile_of t s h) a ≡ v
   pass_is = ap (λ (l : List View). get_or l a nobody) (sym h.shown.passes) ∙ some_there s.views a v nobody at
 
--- a step may be taken where its event may happen whatever else did, and the words show it
+-- a step may be taken if its event may happen, whatever else has happened, and the words show it
 takes : (t : Terms) (e : Event) (slots : ℕ) (m : Me ℕ View) (word : ℕ) (f : ℕ → ℕ)
     → ((p : OpenPile) → IsLawful t p → actor e < length p.passes → pass_at p (actor e) ≡ m.0 → May t p e)
     → ((p : OpenPile) (s : State ℕ View) → AreTerms t → IsLawful t p → May t p e → Shows t p s

@@ -1,4 +1,4 @@
--- Sums over the passes of a pile, where one pass changes, where one has all, and in two orders.
+-- Sums over the passes of a pile: if one pass changes, if one has all, and in two orders.
 use Rattle.std.proofs.Common.{◌≡◌, ℕ, zero, suc, ◌+◌, ◌<◌, ◌≤◌, ◌≢◌, List, [], ◌∷◌, map, length, set, get_or, sum_by, All, sym, refl, ap, subst, ⊎_elim, arith}
 use Rattle.std.proofs.lemmas.Bool.{cases_eq}
 use Rattle.std.proofs.lemmas.List.{get_or-set_same, get_or-set_other, length-set}
@@ -55,7 +55,7 @@ module _ {A : Type 0} where
       let a = sum_by-cons f x xs in
       let b = sum_by_two f xs i j d (omega arith) (omega arith) (λ e. ne (ap suc e)) in omega arith
 
-  -- where all others have none, all have what one has
+  -- if all others have none, all have what one has
   pub sum_by_only : (f : A → ℕ) (l : List A) (i : ℕ) (d : A) → i < length l → ((j : ℕ) → j < length l → j ≢ i → f (get_or l j d) ≡ 0) → sum_by f l ≡ f (get_or l i d)
   sum_by_only f [] i d inside none = absurd (omega arith)
   sum_by_only f (x ∷ xs) zero d inside none =
@@ -66,7 +66,7 @@ module _ {A : Type 0} where
       let here = none 0 (omega arith) (λ e. omega arith) in
       let rest = sum_by_only f xs i d (omega arith) (λ j l ne. none (suc j) (omega arith) (λ e. ne (omega arith))) in omega arith
 
-  -- where one has no f, the f of all and its g are at most the g of all
+  -- if one has no f, the f of all and its g are at most the g of all
   pub sum_by_beside : (f g : A → ℕ) (l : List A) (i : ℕ) (d : A) → i < length l → f (get_or l i d) ≡ 0 → ((j : ℕ) → j < length l → f (get_or l j d) ≤ g (get_or l j d)) → sum_by f l + g (get_or l i d) ≤ sum_by g l
   sum_by_beside f g [] i d inside zero_here le = absurd (omega arith)
   sum_by_beside f g (x ∷ xs) zero d inside zero_here le =

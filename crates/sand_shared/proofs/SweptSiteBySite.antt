@@ -18,14 +18,14 @@ use Rattle.sand_shared.proofs.SitesInTurn.{AllInTurn, one_in_turn}
 use Rattle.std.proofs.lemmas.Bool.{cases_lt}
 
 -- the first k of a pass's sites are swept
-pub record Sweeps (t : Terms) (v : View) (cs : List ℕ) (k answer : ℕ) : Type 0 where
+pub record Sweeps (t : Terms) (v : View) (cs : List ℕ) (k topplings : ℕ) : Type 0 where
   pub same_rows : length cs ≡ length v.counts
-  pub answered : sum cs ≡ sum v.counts + answer
+  pub risen : sum cs ≡ sum v.counts + topplings
   pub never_fall : (j : ℕ) → slice_index v.counts j ≤ slice_index cs j
   pub rest : (j : ℕ) → k ≤ j → slice_index cs j ≡ slice_index v.counts j
   pub enough : (j : ℕ) → j < k → LeavesAtMost t v (v.base + j) (4 * (slice_index cs j - slice_index v.counts j) + 3)
-  pub idle : answer ≡ 0 → cs ≡ v.counts
-  pub calm : HasAll t v → IsCalm t v → answer ≡ 0
+  pub idle : topplings ≡ 0 → cs ≡ v.counts
+  pub calm : HasAll t v → IsCalm t v → topplings ≡ 0
   pub in_turn : HasAll t v → AllInTurn t v cs k
   pub few : 0 < k → sum cs < 2 ^ 54
   pub sparing : 0 < k → HasAll t v → IsSparing t (with_counts v cs)
@@ -47,17 +47,17 @@ at_most_before : (t : Terms) (v : View) (cs : List ℕ) (i n : ℕ) → i < site
 at_most_before t v cs i n inside more same left =
     let around = flow_le (grid_of t) (toppled_by v) (toppled_by (with_counts v cs)) (λ j _. toppled_more v cs more j) i inside in omega arith
 
-pub sweeps_more : (t : Terms) (v : View) (cs : List ℕ) (k answer times spot least : ℕ) → v.base + length v.counts ≤ sites (grid_of t) → k < length v.counts → Sweeps t v cs k answer
+pub sweeps_more : (t : Terms) (v : View) (cs : List ℕ) (k topplings times spot least : ℕ) → v.base + length v.counts ≤ sites (grid_of t) → k < length v.counts → Sweeps t v cs k topplings
     → LeavesAtMost t (with_counts v cs) (v.base + k) (4 * times + 3)
     → sum (raised (with_counts v cs) (v.base + k) times) < 2 ^ 54
     → (HasAll t (with_counts v cs) → LeavesAtLeast t (with_counts v cs) (v.base + k) (4 * times))
     → (HasAll t (with_counts v cs) → IsSparing t (record v { counts = raised (with_counts v cs) (v.base + k) times; spot = spot; least = least }))
-    → Sweeps t v (set cs k (get_or cs k 0 + times)) (k + 1) (answer + times)
-sweeps_more t v cs k answer times spot least rows inside s left few no_more spares =
+    → Sweeps t v (set cs k (get_or cs k 0 + times)) (k + 1) (topplings + times)
+sweeps_more t v cs k topplings times spot least rows inside s left few no_more spares =
     let n = get_or cs k 0 in
     let ds = set cs k (n + times) in
     let long = s.same_rows in
-    let sums = s.answered in
+    let sums = s.risen in
     let new : get_or ds k 0 ≡ n + times = get_or-set_same cs k (n + times) 0 (omega arith) in
     let old : (j : ℕ) → j ≢ k → get_or ds j 0 ≡ get_or cs j 0 = λ j ne. get_or-set_other cs k j (n + times) 0 ne in
     let was = s.rest k (omega arith) in
@@ -67,7 +67,7 @@ sweeps_more t v cs k answer times spot least rows inside s left few no_more spar
     let here : toppled_by (with_counts v cs) (v.base + k) ≡ toppled_by v (v.base + k) = toppled-row (with_counts v cs) k ∙ (was ∙ sym (toppled-row v k)) in
     record {
       same_rows = length-set cs k (n + times) ∙ s.same_rows;
-      answered = omega arith;
+      risen = omega arith;
       never_fall = λ j. ⊎_elim
           (λ (e : j ≡ k). let g = s.never_fall j in let a = ap (λ z. get_or ds z 0) e in let b = ap (λ z. get_or cs z 0) e in omega arith)
           (λ (ne : j ≡ k → ⊥). let g = s.never_fall j in let o = old j ne in omega arith)
@@ -103,11 +103,11 @@ module _ (t : Terms) (v me new : View) (cs : List ℕ) (base k times : ℕ) (fro
       let place : (v.base + k) - v.base ≡ k = omega arith in
       new_is ∙ (λ q. record (looked v (sym spot q) new.least) { counts = set cs (place q) (get_or cs (place q) 0 + times) })
 
-  pub next_swept : (answer : ℕ) → v.base + length v.counts ≤ sites (grid_of t) → k < length v.counts → Sweeps t v cs k answer → LeavesAtMost t me (base + k) (4 * times + 3) → sum new.counts < 2 ^ 54
-      → (HasAll t me → LeavesAtLeast t me (base + k) (4 * times)) → (HasAll t me → IsSparing t new) → Sweeps t v (set cs k (get_or cs k 0 + times)) (k + 1) (answer + times)
-  next_swept answer rows inside s left few no_more spares =
+  pub next_swept : (topplings : ℕ) → v.base + length v.counts ≤ sites (grid_of t) → k < length v.counts → Sweeps t v cs k topplings → LeavesAtMost t me (base + k) (4 * times + 3) → sum new.counts < 2 ^ 54
+      → (HasAll t me → LeavesAtLeast t me (base + k) (4 * times)) → (HasAll t me → IsSparing t new) → Sweeps t v (set cs k (get_or cs k 0 + times)) (k + 1) (topplings + times)
+  next_swept topplings rows inside s left few no_more spares =
       let still = λ (all : HasAll t (with_counts v cs)). subst (HasAll t) (sym view) record { quota = all.quota; all_sites = all.all_sites } in
-      sweeps_more t v cs k answer times (v.base + k) new.least rows inside s
+      sweeps_more t v cs k topplings times (v.base + k) new.least rows inside s
       (subst (λ (z : View × ℕ). LeavesAtMost t z.0 (z.1 + k) (4 * times + 3)) (λ q. (view q, sym from q)) left)
       (subst (λ (z : View). sum z.counts < 2 ^ 54) new_is few)
       (λ all. subst (λ (z : View × ℕ). LeavesAtLeast t z.0 (z.1 + k) (4 * times)) (λ q. (view q, sym from q)) (no_more (still all)))
@@ -121,19 +121,19 @@ module _ (t : Terms) (v me new : View) (cs : List ℕ) (base k times : ℕ) (fro
     pub kept_view : new ≡ record (looked v new.spot new.least) { counts = cs }
     kept_view = next_view ∙ (λ q. record (looked v new.spot new.least) { counts = kept q })
 
-    pub kept_swept : (answer : ℕ) → v.base + length v.counts ≤ sites (grid_of t) → k < length v.counts → Sweeps t v cs k answer → LeavesAtMost t me (base + k) (4 * times + 3) → sum new.counts < 2 ^ 54
-        → (HasAll t me → LeavesAtLeast t me (base + k) (4 * times)) → (HasAll t me → IsSparing t new) → Sweeps t v cs (k + 1) answer
-    kept_swept answer rows inside s left few no_more spares =
-        subst (λ (l : List ℕ). Sweeps t v l (k + 1) answer) kept
-        (subst (Sweeps t v (set cs k (get_or cs k 0 + times)) (k + 1)) {x = answer + times} {y = answer} (omega arith) (next_swept answer rows inside s left few no_more spares))
+    pub kept_swept : (topplings : ℕ) → v.base + length v.counts ≤ sites (grid_of t) → k < length v.counts → Sweeps t v cs k topplings → LeavesAtMost t me (base + k) (4 * times + 3) → sum new.counts < 2 ^ 54
+        → (HasAll t me → LeavesAtLeast t me (base + k) (4 * times)) → (HasAll t me → IsSparing t new) → Sweeps t v cs (k + 1) topplings
+    kept_swept topplings rows inside s left few no_more spares =
+        subst (λ (l : List ℕ). Sweeps t v l (k + 1) topplings) kept
+        (subst (Sweeps t v (set cs k (get_or cs k 0 + times)) (k + 1)) {x = topplings + times} {y = topplings} (omega arith) (next_swept topplings rows inside s left few no_more spares))
 
 no_sum : (l : List ℕ) → length l ≡ 0 → sum l ≡ 0
 no_sum [] e = refl
 no_sum (x ∷ xs) e = absurd (omega arith)
 
 -- with all sites, a sweep that topples nothing found nothing left anywhere
-calm_back : (t : Terms) (v : View) (cs : List ℕ) (answer : ℕ) → HasAll t v → Sweeps t v cs (length v.counts) answer → answer ≡ 0 → IsCalm t v
-calm_back t v cs answer all s none i inside =
+calm_back : (t : Terms) (v : View) (cs : List ℕ) (topplings : ℕ) → HasAll t v → Sweeps t v cs (length v.counts) topplings → topplings ≡ 0 → IsCalm t v
+calm_back t v cs topplings all s none i inside =
     let own = all.all_sites i inside in
     let at = place_inside v i own in
     let from = at.0 in
@@ -142,17 +142,17 @@ calm_back t v cs answer all s none i inside =
     subst (λ z. LeavesAtMost t v z 3) {x = v.base + (i - v.base)} {y = i} (omega arith)
     (subst (λ n. LeavesAtMost t v (v.base + (i - v.base)) n) {x = 4 * (get_or cs (i - v.base) 0 - get_or v.counts (i - v.base) 0) + 3} {y = 3} (omega arith) low)
 
-pub sweeps_end : (t : Terms) (v : View) (cs : List ℕ) (answer : ℕ) → Sweeps t v cs (length v.counts) answer → Swept t v cs answer
-sweeps_end t v cs answer s =
+pub sweeps_end : (t : Terms) (v : View) (cs : List ℕ) (topplings : ℕ) → Sweeps t v cs (length v.counts) topplings → Swept t v cs topplings
+sweeps_end t v cs topplings s =
     let long = s.same_rows in
     record {
       same_rows = s.same_rows;
-      answered = s.answered;
+      risen = s.risen;
       idle = s.idle;
       never_fall = s.never_fall;
       enough = s.enough;
       in_turn = λ all j l. s.in_turn all j l;
-      calm = λ all. (calm_back t v cs answer all s, s.calm all);
+      calm = λ all. (calm_back t v cs topplings all s, s.calm all);
       sparing = λ all. ⊎_elim
           (λ (none : length v.counts ≡ 0). record {
             needed = λ w stab i inside. (let z = none_toppled (with_counts v cs) i (omega arith) in omega arith);
@@ -162,17 +162,17 @@ sweeps_end t v cs answer s =
           (cases_eq (length v.counts) 0);
     }
 
-pub sweeps_few : (t : Terms) (v : View) (cs : List ℕ) (answer : ℕ) → Sweeps t v cs (length v.counts) answer → sum cs < 2 ^ 54
-sweeps_few t v cs answer s = let long = s.same_rows in ⊎_elim
+pub sweeps_few : (t : Terms) (v : View) (cs : List ℕ) (topplings : ℕ) → Sweeps t v cs (length v.counts) topplings → sum cs < 2 ^ 54
+sweeps_few t v cs topplings s = let long = s.same_rows in ⊎_elim
     (λ (none : length v.counts ≡ 0). let z = no_sum cs (omega arith) in omega arith)
     (λ (some : length v.counts ≡ 0 → ⊥). s.few (omega arith))
     (cases_eq (length v.counts) 0)
 
 -- a sweep says the same of a pass that knows other heights
-pub swept_as : (t : Terms) (v : View) (cs : List ℕ) (answer spot least : ℕ) → Swept t v cs answer → Swept t (record v { spot = spot; least = least }) cs answer
-swept_as t v cs answer spot least s = record {
+pub swept_as : (t : Terms) (v : View) (cs : List ℕ) (topplings spot least : ℕ) → Swept t v cs topplings → Swept t (record v { spot = spot; least = least }) cs topplings
+swept_as t v cs topplings spot least s = record {
   same_rows = s.same_rows;
-  answered = s.answered;
+  risen = s.risen;
   idle = s.idle;
   never_fall = s.never_fall;
   enough = s.enough;
@@ -182,8 +182,8 @@ swept_as t v cs answer spot least s = record {
 }
 
 -- a sweep over all sites that topples nothing found nothing left anywhere, whatever pass swept
-pub calm_at_rest : (t : Terms) (v me : View) (cs new : List ℕ) (answer : ℕ) → v.base ≡ 0 → length cs ≡ sites (grid_of t) → me ≡ record (looked v me.spot me.least) { counts = cs } → Swept t me new answer → answer ≡ 0 → IsCalm t (with_counts v new)
-calm_at_rest t v me cs new answer base long is s none i inside =
+pub calm_at_rest : (t : Terms) (v me : View) (cs new : List ℕ) (topplings : ℕ) → v.base ≡ 0 → length cs ≡ sites (grid_of t) → me ≡ record (looked v me.spot me.least) { counts = cs } → Swept t me new topplings → topplings ≡ 0 → IsCalm t (with_counts v new)
+calm_at_rest t v me cs new topplings base long is s none i inside =
     let counts : me.counts ≡ cs = ap (λ (u : View). u.counts) is in
     let kept : new ≡ cs = s.idle none ∙ counts in
     let all = ap (λ (l : List ℕ). length l) counts in

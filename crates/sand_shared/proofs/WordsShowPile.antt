@@ -67,7 +67,7 @@ height_shown t p q s i x inside h here others j l = let wide = h.wide in ⊎_eli
     (λ (ne : i ≡ j → ⊥). get_or-set_other s.words (i + 2) (j + 2) x 0 (λ e. ne (omega arith)) ∙ (h.heights j l ∙ sym (others j ne)))
     (cases_eq i j)
 
--- grains that lie down on a site are added to its word
+-- grains that are laid on a site are added to its word
 pub shows_arrived : (t : Terms) (p : OpenPile) (s : State ℕ View) (a i k : ℕ) → AreTerms t → IsLawful t p → a < length p.passes → 0 < count_by (are_for i k) (pass_at p a).hand → i < sites (grid_of t) → Shows t p s
     → Shows t (arrived p a i k) (stepped_to s (i + 2) ((slice_index s.words (i + 2) + k) % 2 ^ 64) a (pass_at (arrived p a i k) a))
 shows_arrived t p s a i k terms r there in_hand inside h =

@@ -50,17 +50,17 @@ abbrev pub TopplesInTurn : Terms → View → List ℕ → ℕ → Type 0
 TopplesInTurn t v counts j = let times = slice_index counts j - slice_index v.counts j in
     LeavesAtLeast t (coming_to v counts j) (v.base + j) (4 * times) × LeavesAtMost t (coming_to v counts j) (v.base + j) (4 * times + 3)
 
--- a sweep over the rows of v that left these counts
-pub record Swept (t : Terms) (v : View) (counts : List ℕ) (answer : ℕ) : Type 0 where
+-- a sweep over the rows of v, with the counts that it leaves and the topplings that it returns
+pub record Swept (t : Terms) (v : View) (counts : List ℕ) (topplings : ℕ) : Type 0 where
   pub same_rows : length counts ≡ length v.counts
-  -- it returns by how much the counts rose
-  pub answered : sum counts ≡ sum v.counts + answer
-  pub idle : answer ≡ 0 → counts ≡ v.counts
+  -- the counts rose by these topplings
+  pub risen : sum counts ≡ sum v.counts + topplings
+  pub idle : topplings ≡ 0 → counts ≡ v.counts
   pub never_fall : (j : ℕ) → slice_index v.counts j ≤ slice_index counts j
   -- a site with k of 4 or more has toppled at least k div 4 times
   pub enough : (j : ℕ) → j < length v.counts → LeavesAtMost t v (v.base + j) (4 * (slice_index counts j - slice_index v.counts j) + 3)
   -- a pass that has all topples nothing if and only if nothing is left to topple
-  pub calm : HasAll t v → (answer ≡ 0) ↔ IsCalm t v
+  pub calm : HasAll t v → (topplings ≡ 0) ↔ IsCalm t v
   pub sparing : HasAll t v → IsSparing t (with_counts v counts)
   -- a pass that has all goes to each site once, in turn, and topples it just as often as the grains on it then allow
   pub in_turn : HasAll t v → (j : ℕ) → j < length v.counts → TopplesInTurn t v counts j

@@ -50,7 +50,7 @@ impl Rows {
         other.first == other.end || other.first == self.end
     }
 
-    /// Whether the one come directly after the other, in either order, or either are none.
+    /// Whether these rows come directly after the others, or the others after these, or either are none.
     pub(crate) fn touch(self, other: Rows) -> bool
         ensures { result ≡ (rows_follow self other || rows_follow other self) }
     {

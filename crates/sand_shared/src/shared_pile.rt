@@ -20,7 +20,7 @@ use std::marker::{Brand, Model};
 
 /// A pile of sand that many threads share by reference, each with a pass of its own.
 ///
-/// Calls on it take single atomic steps and wait for nobody. At every moment its words and its passes are an open
+/// Calls on it take single atomic steps and never wait for another thread. At every moment its words and its passes are an open
 /// pile to which the events of `specs/Events` have led, and so a lawful one (`laws::lawful_at_every_moment`).
 #[derive(Drop)]
 pub struct SharedPile {

@@ -9,7 +9,7 @@ loop-turn-preserved g c =
     record {
       begun = λ e. absurd (omega (arith, e));
       who = search rules;
-      can = record { of_pile = search rules; swept = omega (arith, i.can.swept, swept.answered) };
+      can = record { of_pile = search rules; swept = omega (arith, i.can.swept, swept.risen) };
       kept = search rules;
       same_rows = omega (arith, swept.same_rows, i.same_rows);
       never_fall = λ j. omega (arith, i.never_fall j, swept.never_fall j);
