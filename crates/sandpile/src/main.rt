@@ -1,4 +1,4 @@
-//! The program `sandpile`: hands its words, its standard input and its standard output to `sand_desk`, and tells how
+//! The program `sandpile`: passes its words, its standard input and its standard output to `sand_desk`, and reports how
 //! that ended by a line on the standard error and by its exit status.
 #![tactic(auto)]
 
