@@ -59,7 +59,8 @@ Example: a pile 3 wide and 1 high, with 4 grains in the middle.
   lost 2
   topplings 1
 
-'sandpile COMMAND --help' says what a command reads and writes.",
+'sandpile COMMAND --help' says what a command reads and writes. 'sandpile
+--version' writes the version, and the toolchain and the logic of its proofs.",
 };
 
 pub(crate) const SETTLE: Help = Help {

@@ -1,6 +1,6 @@
 -- The drops of a draw and those of one dropper are tallied alike, so they leave one settled record.
-use Rattle.std.proofs.Common.{◌≡◌, ◌+◌, ℕ, Bool, true, List, [], ◌∷◌, ◌++◌, length, refl, sym, ap, ◌∙◌, subst, arith}
-use Rattle.std.specs.Prelude.{Some, Result, Ok, Err}
+use Rattle.std.proofs.Common.{◌≡◌, ◌+◌, ℕ, true, List, [], ◌∷◌, length, refl, sym, ap, ◌∙◌, subst, arith}
+use Rattle.std.specs.Prelude.{Result, Ok, Err}
 use Rattle.sand_model.specs.Grid.{sites}
 use Rattle.sand_model.specs.Piles.{PileView}
 use Rattle.sand_model.specs.Sand.{tally, total}
@@ -13,10 +13,9 @@ use Rattle.sand_lab.specs.Reports.{AreEpochs, IsReport, ReportView, SheetView, h
 use Rattle.sand_lab.specs.Streams.{stream_of, stream_sites}
 use Rattle.sand_lab.proofs.RunHasOneOutcome.{epoch_tally, one_threads_once}
 use Rattle.sand_text.specs.declared.fault.TextFault.{TextFault}
-use Rattle.sand_text.specs.Reading.{pile_of, ◌>>=◌}
+use Rattle.sand_text.specs.Reading.{◌>>=◌}
 use Rattle.sand_text.specs.Texts.{text_of}
 use Rattle.sand_cli.specs.declared.task.Draw.{Draw}
-use Rattle.sand_cli.specs.declared.task.Form.{Form}
 use Rattle.sand_desk.specs.Drawing.{DropsTheDraw, LeavesTheSame, WritesTheSamePile}
 use Rattle.sand_desk.specs.Dropping.{with_draw}
 

@@ -107,7 +107,7 @@ IsFaultOf (task.Inverse pgm) input fault = IsInverseFault input fault
 IsFaultOf (task.Recurrent pgm) input fault = IsUnreadable (pile_of input) fault
 IsFaultOf (task.Lab wish journal form) input fault = IsLabFault wish input fault
 
--- a fault that a task finds in its input, or want of memory; no fault of the words or of a stream
+-- a fault that a task finds in its input, or out of memory; no fault of the words or of a stream
 abbrev pub Finds : (DeskFault → Type 0) → DeskFault → Type 0
 Finds IsFault desk.Memory = Unit {0}
 Finds IsFault (desk.Usage error) = ⊥
@@ -177,7 +177,7 @@ pub record IsMisuse (asked : Option Task) (left left' held held' : Option (List 
   pub unread : Keeps left left'
   pub unwritten : Keeps held held'
 
--- memory ran out, and nothing was written: the reader gave some bytes within the limit, or none where no input was asked for
+-- memory ran out, and nothing was written: the reader gave some bytes within the limit, or none if no input was asked for
 pub record IsStarved (asked : Option Task) (left left' held held' : Option (List ℕ)) : Type 0 where
   pub further : IsFurtherByAtMost left left' most_bytes
   pub unread : asks_for_input asked ≡ false → Keeps left left'

@@ -87,7 +87,7 @@ place_of (Clash conflict) = []
 place_of Narrow = []
 place_of (NoSite index) = codes " at " ++ decimal index
 
--- the line that tells a fault
+-- the line that reports a fault
 abbrev pub fault_line : DeskFault → List ℕ
 fault_line fault = codes "fault " ++ decimal (number_of fault) ++ codes " " ++ name_of fault ++ place_of fault ++ codes "\n"
 

@@ -1,8 +1,8 @@
 //! A command, from its words and its input to the text that it writes.
 //!
-//! Faults come in one order: misuse of the words; the reader's, too much input or want of memory, whichever is met
-//! first; the input's; the command's own; want of memory for the text; the writer's. Nothing is written before the
-//! whole text stands.
+//! Faults come in one order: misuse of the words; the reader's, too much input or out of memory, whichever is met
+//! first; the input's; the command's own; out of memory for the text; the writer's. Nothing is written before the
+//! whole text is there.
 
 ghost use Rattle.std.specs.Prelude.{◌≡◌, ◌≢◌, ◌+◌, ◌≤◌, ◌<◌, true, length, map, string_bytes, IfOk, IfErr, OnOk, IsErrOf};
 ghost use Rattle.sand_text.specs.Flow.{IsFurther, IsFurtherByAtMost, IsOfReading, most_bytes};
@@ -68,12 +68,12 @@ fn perform<T: Threads + Sync>(
 }
 
 /// Runs the command that the words name, the program's name being the first: reads all input, and writes the whole text
-/// of the command or, where it finds a fault, nothing.
+/// of the command or, if it finds a fault, nothing.
 ///
-/// Refuses, in this order: words that the command line doesn't take (Usage) and options that do not go together (Clash),
-/// and then nothing is read; a reader that fails
-/// (Read), more than 1,048,576 bytes (TooLong) or want of memory, whichever is met first; the faults of the text; those
-/// of the command; want of memory for the text; a writer that fails (Write, with how many bytes it took).
+/// The faults, in this order: words that the command line does not take (Usage) and options that do not go together
+/// (Clash), and then nothing is read; a reader that fails (Read), more than 1,048,576 bytes (TooLong) or out of memory,
+/// whichever comes first; the faults of the text; those of the command; out of memory for the text; a writer that fails
+/// (Write, with how many bytes it took).
 pub fn run_command<T: Threads + Sync, R: Read, W: Write>(
     rt: &T,
     alloc: Global,

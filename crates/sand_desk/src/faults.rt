@@ -39,7 +39,7 @@ pub enum DeskFault {
     Shapes,
     #[error("the album's place of an epoch was set before")]
     Taken,
-    /// A byte that stands in no text of a pile, with its offset; or fewer than two numbers, with the text's length.
+    /// A byte that is in no text of a pile, with its offset; or fewer than two numbers, with the text's length.
     #[error("not the text of a pile, at byte {0}")]
     Text(usize),
     /// A number over the grain limit, with the offset of its first byte.
@@ -263,7 +263,7 @@ fn push_place(line: &mut ArrayString<LINE_ROOM>, fault: &DeskFault)
     }
 }
 
-// The line that tells a fault.
+// The line that reports a fault.
 fn line_of(fault: &DeskFault) -> ArrayString<LINE_ROOM>
     ensures { result.bytes ≡ fault_line fault.now }
 {

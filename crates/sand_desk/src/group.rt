@@ -59,7 +59,7 @@ pub(crate) fn identity_text(
     pile_or_picture(alloc, neutral.pile(), pgm)
 }
 
-/// The sum of the two piles that the input holds, as text or as a picture. Refuses the first pile, then the second, where
+/// The sum of the two piles that the input holds, as text or as a picture. Refuses the first pile, then the second, if
 /// it isn't recurrent (Unstable, NotRecurrent), then two shapes (Shapes).
 pub(crate) fn sum_input(alloc: Global, input: &[u8], pgm: bool) -> Result<Vec<u8>, DeskFault>
     ensures text { IfOk result (λ text. IsSumText pgm input.now text.items) }

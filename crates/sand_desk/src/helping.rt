@@ -23,9 +23,8 @@ fn show<D: Display, W: Write>(alloc: Global, value: &D, writer: &mut W) -> Resul
 
 /// Writes the help that the words asked for, as a fault of `run_command` says.
 ///
-/// Refuses a writer that fails (Write, with how many bytes it took) and want of memory for the text (Memory). Any other
-/// fault is returned as it is, and nothing is written. So a program that ends with what is refused here never ends with
-/// status 0.
+/// Fails if the writer fails (Write, with how many bytes it took) or if memory runs out for the text (Memory). Any other
+/// fault is returned unchanged, and nothing is written. No fault that is returned has status 0.
 pub fn show_help<W: Write>(alloc: Global, fault: DeskFault, writer: &mut W) -> Result<(), DeskFault>
     ensures shown { OnOk result (IsHelped fault (W.contents writer.old) (W.contents writer.new)) }
     ensures fault { IfErr result (IsUnhelped fault (W.contents writer.old) (W.contents writer.new)) }

@@ -16,7 +16,7 @@ use sand_model::{Pile, Shape};
 use sand_settle::{Avalanche, Settled};
 use std::alloc::Global;
 
-/// The pile that a text holds. Every fault of the text is found before anything grows, and want of memory comes last.
+/// The pile that a text holds. Every fault of the text is found before anything grows, and out of memory comes last.
 pub fn read_pile(alloc: Global, text: &[u8]) -> Result<Pile, DeskFault>
     ensures { ReadsAs (λ pile. pile) result (pile_of text.now) }
 {
@@ -67,7 +67,7 @@ pub fn burn_text(alloc: Global, shape: Shape, burned: &Burned) -> Result<Vec<u8>
 }
 
 /// The pile that a text holds and the sites of the drops behind it. Every fault of the text is found before anything
-/// grows, and want of memory comes last.
+/// grows, and out of memory comes last.
 pub fn read_drops(alloc: Global, text: &[u8]) -> Result<(Pile, Vec<usize>), DeskFault>
     ensures { ReadsAs (λ (pile, drops). (pile, drops.items)) result (drops_of text.now) }
 {

@@ -12,6 +12,8 @@ mod faults;
 #[cfg(test)]
 mod group;
 #[cfg(test)]
+mod help;
+#[cfg(test)]
 mod journals;
 #[cfg(test)]
 mod laboratory;

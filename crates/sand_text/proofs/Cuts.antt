@@ -1,4 +1,4 @@
--- What stands at the front of a text: white space, or a token.
+-- What is at the front of a text: white space, or a token.
 use Rattle.std.proofs.Common.{◌≡◌, ℕ, suc, ◌+◌, ◌<◌, ◌≤◌, List, [], ◌∷◌, Bool, true, false, not, length, take, drop, get_or, refl, sym, ◌∙◌, ap, arith, add-zero, add-one, drop-cons, length-drop, inl, inr, eqb}
 use Rattle.std.proofs.lemmas.Grind.{common_steps}
 use Rattle.std.specs.List.{position_or_len, slice_split, position}

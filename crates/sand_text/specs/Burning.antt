@@ -1,4 +1,4 @@
--- The one text in which the answer of the burning test is written.
+-- The one text of what the burning test returns.
 use Rattle.std.specs.Prelude.{ℕ, List, ◌++◌, All, ◌<◌, length, decimal, codes}
 use Rattle.std.specs.List.{flat_map}
 use Rattle.sand_model.specs.Grid.{Grid, column, row, sites}
@@ -14,7 +14,7 @@ abbrev pub burn_text_of : Grid → Burned → List ℕ
 burn_text_of g (Recurrent order) = codes "recurrent\n"
 burn_text_of g (Forbidden set) = codes "forbidden " ++ decimal (length set.items) ++ codes "\n" ++ flat_map (place_text g) set.items
 
--- the sites of an answer are sites of the grid
+-- the sites of a result are sites of the grid
 abbrev pub AreSitesOf : Grid → Burned → Type 0
 AreSitesOf g (Recurrent order) = All (λ i. i < sites g) order.items
 AreSitesOf g (Forbidden set) = All (λ i. i < sites g) set.items

@@ -7,7 +7,7 @@ use Rattle.sand_text.specs.declared.fault.StreamFault.TheVariants.{Memory, Read,
 abbrev pub most_bytes : ℕ
 most_bytes = 1048576
 
--- the reader gave all its bytes, these, and none is left
+-- the reader gave all its bytes, these, and has no more
 abbrev pub GivesAll : Option (List ℕ) → Option (List ℕ) → List ℕ → Type 0
 GivesAll None new bytes = Unit {0}
 GivesAll (Some all) new bytes = (bytes ≡ all) × (new ≡ Some [])

@@ -31,7 +31,7 @@ abbrev pub of_shape : ShapeFault → TextFault
 of_shape shape_faults.Side = Side
 of_shape shape_faults.Narrow = Narrow
 
--- how many numbers follow, against how many heights are wanted: no more where the pile is the last in its text
+-- how many numbers follow, against how many heights are wanted: no more if the pile is the last in its text
 abbrev pub is_count : Bool → ℕ → ℕ → Bool
 is_count last count wanted = if last then count == wanted else nat_le wanted count
 
@@ -91,7 +91,7 @@ two_of text = do
   second ← pile_at (edge_behind (sites first.0.grid + 4) 0 ws) true (length text) first.1
   Ok (first.0, second.0)
 
--- A reader answers what the text means. Memory runs out only where the text has no fault.
+-- A reader returns what the text means. Memory runs out only if the text has no fault.
 abbrev pub Fails : {A : Type 0} → ReadFault → Result A TextFault → Type 0
 Fails faults.Memory read = IsOk read
 Fails (faults.Text fault) read = read ≡ Err fault

@@ -36,7 +36,7 @@ grains_with s place value = if nat_lt place (sites_of s) then capped (s.grains +
 abbrev pub if_no_site : Survey → ℕ → ℕ → Option ℕ
 if_no_site s place value = if nat_lt place (sites_of s) then None else (if nat_le (sites_of s) value then Some (place - sites_of s) else None)
 
--- those of the first so many numbers that stand behind the sides
+-- those of the first so many numbers that follow the sides
 abbrev pub noted : ℕ → List Token → List ℕ
 noted count ws = take (count - 2) (drop 2 (numbers ws))
 
@@ -69,7 +69,7 @@ pub record IsStrangeAt (ws : List Token) (s : Survey) (fault : TextFault) : Type
   pub strange : (more : List ℕ) → All (λ k. s.count < k) more → first_strange (2 ∷ more) 0 ws ≡ Some at
   pub bare : s.edge ≡ Open → first_strange [] 0 ws ≡ Some at
 
--- the sides are in range, and as many heights as they make sites stand behind them
+-- the sides are in range, and as many heights as they make sites follow them
 pub record IsFull (s : Survey) : Type 0 where
   pub width : IsTrue (is_side s.width)
   pub height : IsTrue (is_side s.height)
@@ -95,7 +95,7 @@ pub record IsShaped (last : Bool) (end : ℕ) (ws : List Token) (s : Survey) (g 
   pub grains : s.grains ≡ sum (take (sites g) (drop 2 (numbers ws)))
   pub limit : s.grains ≤ most_grains
 
--- no number stands behind the last height
+-- no number follows the last height
 abbrev pub IsWithinPile : Survey → Type 0
 IsWithinPile s = 1 < s.count → IsTrue (is_side s.width) → IsTrue (is_side s.height) → s.count ≤ s.width * s.height + 2
 
@@ -105,7 +105,7 @@ pub record IsFront (ws rest : List Token) (s : Survey) : Type 0 where
   pub end : IsEnd false rest s
   pub within : IsWithinPile s
 
--- where a letter stands that no pile of the text may have but the first
+-- the place of a letter that only the first pile of the text may have
 abbrev pub barred_at : Bool → Token → Option ℕ
 barred_at true (Letter at) = Some at
 barred_at over _ = None

@@ -6,7 +6,7 @@ use Rattle.sand_model.specs.Grid.{Grid}
 use Rattle.sand_model.specs.Piles.{PileView}
 use Rattle.sand_settle.specs.Settling.{SettledView}
 
--- numbers with a space between two, and a line end behind the last
+-- numbers with a space between two, and a line end after the last
 unfoldable pub row_text : List ℕ → List ℕ
 row_text [] = []
 row_text (n ∷ ns) = decimal n ++ (if length ns == 0 then 10 else 32) ∷ row_text ns
@@ -20,7 +20,7 @@ rows_text (suc height) width ns = row_text (take width ns) ++ rows_text height w
 abbrev pub sites_text : Grid → List ℕ → List ℕ
 sites_text g ns = rows_text g.height g.width ns
 
--- what stands behind the sides in the first line
+-- what follows the sides in the first line
 abbrev pub edge_text : Edge → List ℕ
 edge_text Open = codes "\n"
 edge_text Cylinder = codes " c\n"

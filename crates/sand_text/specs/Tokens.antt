@@ -1,5 +1,5 @@
 -- The tokens of a text of piles, and what they say.
--- White space sets tokens apart. A text without a strange byte has tokens of digits alone and the letters that are spared,
+-- Tokens are separated by white space. A text without a strange byte has tokens of digits alone and the letters that are spared,
 -- so there each longest run of digits is a token: specs/Laws says so of the bytes themselves.
 use Rattle.std.specs.Prelude.{ℕ, ◌+◌, List, [], ◌∷◌, not, ◌==◌, nat_lt, length, filter, Option, Some, None, if◌then◌else◌}
 use Rattle.std.specs.List.{slice_split, filter_map, list_any}
@@ -11,16 +11,16 @@ use Rattle.sand_text.specs.declared.tokens.Token.TheVariants.{Number, Letter, St
 use Rattle.sand_text.specs.Bytes.{is_space, digits_len, is_letter, capped}
 use Rattle.sand_model.specs.Piles.{most_grains}
 
--- what a token at this place is: a number, the letter `c`, or neither, and then where its first byte stands that is no digit
+-- what a token at this place is: a number, the letter `c`, or neither, with the place of its first byte that is no digit
 unfoldable pub token_of : ℕ → List ℕ → Token
 token_of at token = if digits_len token == length token then Number at (capped (digits_value 10 token)) else (if is_letter token then Letter at else Strange (at + digits_len token))
 
--- the tokens among the parts that white space sets apart, where the first part stands at this place
+-- the tokens among the parts that white space separates, the first of which begins at this place
 unfoldable pub tokens_from : ℕ → List (List ℕ) → List Token
 tokens_from at [] = []
 tokens_from at (part ∷ more) = if length part == 0 then tokens_from (at + 1) more else (token_of at part ∷ tokens_from (at + length part + 1) more)
 
--- the tokens of a text that stands at this place
+-- the tokens of a text that begins at this place
 abbrev pub tokens_at : ℕ → List ℕ → List Token
 tokens_at at text = tokens_from at (slice_split is_space text)
 
@@ -41,7 +41,7 @@ first_large (Number at value ∷ more) = if nat_lt most_grains value then Some a
 first_large (Letter at ∷ more) = first_large more
 first_large (Strange at ∷ more) = first_large more
 
--- a cylinder where a letter stands behind k numbers, of which n stand before these tokens
+-- a cylinder where a letter follows k numbers, of which n stand before these tokens
 unfoldable pub edge_behind : ℕ → ℕ → List Token → Edge
 edge_behind k n [] = Open
 edge_behind k n (Number at value ∷ more) = edge_behind k (n + 1) more

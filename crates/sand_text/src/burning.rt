@@ -1,4 +1,4 @@
-//! The answer of the burning test as text.
+//! The result of the burning test as text.
 
 ghost use Rattle.std.specs.Prelude.{◌≡◌, ◌++◌, ◌<◌, All, OnOk, IfOk};
 ghost use Rattle.std.specs.List.{flat_map};

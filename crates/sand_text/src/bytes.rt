@@ -1,4 +1,4 @@
-//! What stands at the front of a text: white space, or a token.
+//! What is at the front of a text: white space, or a token.
 //!
 //! A token's length, its digits and their value are found in one walk over its bytes. The value grows digit by digit and
 //! stops at one over the grain limit, so it never leaves its type.
@@ -12,14 +12,14 @@ ghost use Rattle.sand_model.specs.Piles.{most_grains};
 
 use sand_model::GRAIN_LIMIT;
 
-/// What stands in a text up to its first white space.
+/// What is in a text up to its first white space.
 #[derive(Clone, Copy)]
 pub(crate) struct Span {
     /// How many bytes.
     pub len: usize,
     /// How many of them are digits before the first that isn't one.
     pub digits: usize,
-    /// The value of these digits, or one over the grain limit where it is larger.
+    /// The value of these digits, or one over the grain limit if it is larger.
     pub value: u64,
 }
 
@@ -44,14 +44,14 @@ fn grown(value: u64, digit: u8) -> u64
     (value * 10 + u64::from(digit - b'0')).min(GRAIN_LIMIT + 1)
 }
 
-// Where the first byte stands that is no white space.
+// The place of the first byte that is no white space.
 fn token_start(text: &[u8]) -> Option<usize>
     ensures { result ≡ position (λ b. not (is_space b)) text.now }
 {
     text.iter().position(|byte| !is_space(*byte))
 }
 
-/// How many bytes of white space stand at the front.
+/// How many bytes of white space are at the front.
 pub(crate) fn space_len(text: &[u8]) -> usize
     ensures first { result ≡ position_or_len (λ b. not (is_space b)) text.now }
     ensures within { result ≤ length text.now }
@@ -59,7 +59,7 @@ pub(crate) fn space_len(text: &[u8]) -> usize
     token_start(text).unwrap_or(text.len())
 }
 
-/// What stands at the front of a text up to its first white space.
+/// What is at the front of a text up to its first white space.
 pub(crate) fn span_of(text: &[u8]) -> Span
     ensures len { result.len ≡ token_len text.now }
     ensures within { result.len ≤ length text.now }
@@ -96,7 +96,7 @@ fn run_value(value: u64, byte: u8) -> u64
     }
 }
 
-/// Whether a run of digits, wherever it stands in a text, is a number over the grain limit.
+/// Whether a run of digits, wherever it is in a text, is a number over the grain limit.
 pub(crate) fn has_large(text: &[u8]) -> bool
     ensures { result ≡ has_large text.now }
 {

@@ -12,7 +12,7 @@ use crate::survey::plain_survey;
 use sand_model::{Pile, Shape};
 use std::alloc::Global;
 
-// The shape and the grains of the pile at the front of a text, and how many drops stand behind it, where the text has no
+// The shape and the grains of the pile at the front of a text, and how many drops follow it, if the text has no
 // fault.
 fn shape_of(text: &[u8]) -> Result<(Shape, u64, usize), TextFault>
     ensures drops { IfOk result (λ (g, _, _). drops_of text.now ≡ Ok (record { grid = g; heights = heights_on g text.now }, behind_heights g text.now)) }

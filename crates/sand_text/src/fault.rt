@@ -11,7 +11,7 @@ use thiserror::Error;
 /// What is wrong with a text.
 #[derive(Clone, Copy, Debug, PartialEq, Eq, Error)]
 pub enum TextFault {
-    /// A byte that stands in no text of a pile, with its offset; or fewer than two numbers, with the text's length.
+    /// A byte that is in no text of a pile, with its offset; or fewer than two numbers, with the text's length.
     #[error("not the text of a pile, at byte {0}")]
     Text(usize),
     /// A number over the grain limit, with the offset of its first byte.

@@ -16,13 +16,13 @@ pub const INPUT_LIMIT: usize = 1_048_576;
 /// The most bytes that are asked of a reader at once. They are on the stack, so a greater number makes the program need more.
 const CHUNK: usize = 4_096;
 
-/// All that a reader gives. Refuses a reader that fails (Read), one that gives more than `INPUT_LIMIT` bytes (TooLong),
-/// of which it takes one over the limit, and want of memory (Memory).
+/// All that a reader gives. Fails if the reader fails (Read), if it gives more than `INPUT_LIMIT` bytes (TooLong), of which
+/// one more than the limit is taken, or if memory runs out (Memory).
 pub fn read_all<R: Read>(alloc: Global, reader: &mut R) -> Result<Vec<u8>, StreamFault>
     ensures all { IfOk result (λ text. GivesAll (R.remaining reader.old) (R.remaining reader.new) text.items) }
     ensures within { IfOk result (λ text. length text.items ≤ most_bytes) }
 
-    // Where the reader stands after a fault.
+    // Where the reader is after a fault.
     ensures too_long { IsErrOf result StreamFault.TooLong → IsFurther (R.remaining reader.old) (R.remaining reader.new) (most_bytes + 1) }
     ensures failed { IfErr result (λ e. e ≢ StreamFault.TooLong → IsFurtherByAtMost (R.remaining reader.old) (R.remaining reader.new) most_bytes) }
     ensures fault { IfErr result IsOfReading }

@@ -1,7 +1,7 @@
 //! The laws of a pile's text, as contracts of functions that do nothing.
 //!
 //! **By tokens and by bytes.** A text is read by its tokens, since white space ends a number. Said of the bytes, the first
-//! strange byte is the first that is neither a digit nor white space, but for the letters that are spared, and where
+//! strange byte is the first that is neither a digit nor white space, except for the letters that are allowed, and where
 //! there is none the numbers are the longest runs of digits.
 //!
 //! **Round trip.** What is written of a pile is read as the same pile.

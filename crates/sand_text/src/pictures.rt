@@ -15,10 +15,10 @@ use std::alloc::{AllocError, Global};
 /// The most values on a line.
 const LINE_VALUES: usize = 35;
 
-/// The most bytes before the first value, where each side has three digits.
+/// The most bytes before the first value, if each side has three digits.
 const HEAD_BYTES: usize = 13;
 
-// Writes what stands before the first value: the magic, the sides, and the greatest value.
+// Writes what is before the first value: the magic, the sides, and the greatest value.
 fn push_head(text: &mut Vec<u8>, shape: Shape) -> Result<(), AllocError>
     ensures { OnOk result (text.new.items ≡ text.old.items ++ head_text shape) }
 {

@@ -15,7 +15,7 @@ use sand_model::{Edge, Pile, Shape};
 use sand_settle::Settled;
 use std::alloc::{AllocError, Global};
 
-// The shape and the grains of the pile that a text holds, where the text has no fault.
+// The shape and the grains of the pile that a text holds, if the text has no fault.
 fn shape_of(text: &[u8]) -> Result<(Shape, u64), TextFault>
     ensures pile { IfOk result (λ (g, _). pile_of text.now ≡ Ok (record { grid = g; heights = heights_on g text.now })) }
     ensures enough { IfOk result (λ (g, _). 2 + sites g ≤ length (numbers (tokens text.now))) }
@@ -28,7 +28,7 @@ fn shape_of(text: &[u8]) -> Result<(Shape, u64), TextFault>
     Ok((shape, survey.grains))
 }
 
-/// The pile that a text holds, or its first fault. Every fault but want of memory is found before anything grows.
+/// The pile that a text holds, or its first fault. Every fault except out of memory is found before anything grows.
 pub fn read_pile(alloc: Global, text: &[u8]) -> Result<Pile, ReadFault>
     ensures { Reads result (pile_of text.now) }
 {

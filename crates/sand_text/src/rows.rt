@@ -24,7 +24,7 @@ fn separator(place: usize, count: usize) -> u8
     if place + 1 == count { b'\n' } else { b' ' }
 }
 
-/// Writes numbers with a space between two, and a line end behind the last.
+/// Writes numbers with a space between two, and a line end after the last.
 pub(crate) fn push_row(text: &mut Vec<u8>, numbers: &[u64]) -> Result<(), AllocError>
     ensures { OnOk result (text.new.items ≡ text.old.items ++ row_text numbers.now) }
 {

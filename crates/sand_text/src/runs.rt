@@ -20,7 +20,7 @@ pub struct Sums {
     pub grains: u64,
 }
 
-// Writes sums, with a line end behind the last.
+// Writes sums, with a line end after the last.
 fn push_sums(text: &mut Vec<u8>, sums: Sums) -> Result<(), AllocError>
     ensures { OnOk result (text.new.items ≡ text.old.items ++ sums_text sums) }
 {

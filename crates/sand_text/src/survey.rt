@@ -1,4 +1,4 @@
-//! What the tokens of a text say of a pile: its sides, its edge, the sum of its heights, and where the faults stand.
+//! What the tokens of a text say of a pile: its sides, its edge, the sum of its heights, and where the faults are.
 //!
 //! A survey keeps what the faults need and no list, so each fault is found before anything grows.
 
@@ -13,7 +13,7 @@ use crate::fault::TextFault;
 use crate::tokens::{Token, Tokens};
 use sand_model::{Edge, GRAIN_LIMIT, SIDE_LIMIT, Shape};
 
-/// What the tokens of a pile's text say so far, where none is strange.
+/// What the tokens of a pile's text say so far, if none is strange.
 #[derive(Clone, Copy)]
 pub(crate) struct Survey {
     /// How many numbers there are.
@@ -22,9 +22,9 @@ pub(crate) struct Survey {
     pub width: u64,
     /// The second number.
     pub height: u64,
-    /// A cylinder where a letter stands behind the second number.
+    /// A cylinder where a letter follows the second number.
     pub edge: Edge,
-    /// The sum of the heights, or one over the grain limit where it is larger.
+    /// The sum of the heights, or one over the grain limit if it is larger.
     pub grains: u64,
     /// Where the first number begins that is over the limit.
     pub large: Option<usize>,
@@ -32,7 +32,7 @@ pub(crate) struct Survey {
     pub no_site: Option<usize>,
 }
 
-// Whether so many numbers are the heights that are wanted: no more where the pile is the last in its text.
+// Whether so many numbers are the heights that are wanted: no more if the pile is the last in its text.
 fn is_count(last: bool, count: usize, wanted: usize) -> bool
     ensures { result ≡ is_count last count wanted }
 {
@@ -100,7 +100,7 @@ impl Survey {
         self.count += 1;
     }
 
-    // Takes a letter where it is spared, and says whether it is.
+    // Takes a letter if it is allowed, and returns whether it is.
     fn spare(&mut self) -> bool
         ensures spared { IsTrue result ↔ ((self.old.count ≡ 2) × (self.old.edge ≡ Edge.Open)) }
         ensures edge { self.new ≡ record self.old { edge = (if result then Edge.Cylinder else self.old.edge) } }
@@ -132,7 +132,7 @@ impl Survey {
         Ok(())
     }
 
-    /// Whether the sides are in range, and a height for each site stands behind them.
+    /// Whether the sides are in range, and a height for each site follows them.
     pub(crate) fn is_full(&self) -> bool
         ensures { IsTrue result ↔ IsFull self.now }
     {
@@ -145,7 +145,7 @@ impl Survey {
 
     /// The shape of the pile that was surveyed, in a text of so many bytes, or the first of the faults that come behind
     /// strange bytes and numbers over the limit: fewer than two numbers (Text), Side, Narrow, Length, TooManyGrains.
-    /// Only where the pile is not the last in its text may more numbers follow than it has sites.
+    /// Only if the pile is not the last in its text may more numbers follow than it has sites.
     pub(crate) fn shape(&self, last: bool, end: usize) -> Result<Shape, TextFault>
         ensures ok { IfOk result (λ g. (ws rest : List Token) → IsUnderway ws rest self.now → IsEnd last rest self.now → IsShaped last end ws self.now g) }
         ensures err { IfErr result (λ e. (ws rest : List Token) → IsUnderway ws rest self.now → IsEnd last rest self.now

@@ -1,7 +1,7 @@
 //! Two piles from one text, one after the other.
 //!
 //! One walk over the tokens surveys the first pile until it is full, and then the second. Where the second may have its
-//! letter the tokens before it decide, but for one thing: in a text with a number over the limit, wherever that stands, it
+//! letter the tokens before it decide, with one exception: in a text with a number over the limit, wherever that is, it
 //! may have none. So at a letter the text is looked through for such a number.
 
 ghost use Rattle.std.specs.Prelude.{◌≡◌, ◌+◌, ◌≤◌, List, [], ◌∷◌, Bool, length, take, drop, sum, None, IfOk, IfErr};
@@ -37,7 +37,7 @@ fn first_survey(tokens: &mut Tokens<'_>) -> Result<Survey, TextFault>
     Ok(survey)
 }
 
-// Where a letter stands that the second pile may not have, since a number of the text is over the limit.
+// The place of a letter that the second pile may not have, since a number of the text is over the limit.
 fn barred_at(token: Token, text: &[u8]) -> Option<usize>
     ensures { result ≡ barred_at (has_large text.now) token }
 {
@@ -79,7 +79,7 @@ fn two_surveys(text: &[u8]) -> Result<(Survey, Survey), TextFault>
     }
 }
 
-// The shapes and the grains of the two piles that a text holds, where the text has no fault.
+// The shapes and the grains of the two piles that a text holds, if the text has no fault.
 fn shapes_of(text: &[u8]) -> Result<((Shape, u64), (Shape, u64)), TextFault>
     ensures piles { IfOk result (λ ((g, _), (h, _)). two_of text.now ≡ Ok (record { grid = g; heights = heights_on g text.now }, record { grid = h; heights = heights_behind g h text.now })) }
     ensures enough { IfOk result (λ ((g, _), (h, _)). (2 + sites g ≤ length (numbers (tokens text.now))) × (2 + sites h ≤ length (behind_heights g text.now))) }
@@ -94,7 +94,7 @@ fn shapes_of(text: &[u8]) -> Result<((Shape, u64), (Shape, u64)), TextFault>
     Ok(((first_shape, first.grains), (second_shape, second.grains)))
 }
 
-/// The two piles that a text holds, one after the other, or its first fault. Every fault but want of memory is found before
+/// The two piles that a text holds, one after the other, or its first fault. Every fault except out of memory is found before
 /// anything grows.
 pub fn read_two(alloc: Global, text: &[u8]) -> Result<(Pile, Pile), ReadFault>
     ensures { ReadsAs (λ piles. piles) result (two_of text.now) }
