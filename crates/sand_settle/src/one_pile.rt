@@ -1,10 +1,11 @@
 //! The pile of one thread: grains are dropped on it one after another, and each settles before the next.
 //!
 //! A drop takes the record out and puts the new one in its place (`replace_with`). Its pile is taken apart, its list of
-//! heights topples in place, and the new pile has the grains that are left, which are known without a sum. So a drop costs work in proportion to the sites that topple in it. The room of the first drop
-//! serves all later ones, so none of these runs out of memory (`room_is_kept`). That the record is the same as if all
-//! grains had lain on the start together is `laws::drops_add_up`; that no count outgrows its number follows from the
-//! weight, of which a grain has 16,512 at most and a toppling takes 2 (`IsPaid`).
+//! heights topples in place, and the new pile has the grains that are left, which are known without a sum. So a drop costs
+//! work in proportion to the sites that topple in it. The room of the first drop serves all later ones, so none of these
+//! runs out of memory (`room_is_kept`). The record is the same as if all grains had been on the start together
+//! (`laws::drops_add_up`). No count outgrows its number, because of the weight: a grain has 16,512 at most, and a toppling
+//! takes 2 (`IsPaid`).
 
 ghost use Rattle.std.specs.Prelude.{◌≡◌, ℕ, ◌+◌, ◌^◌, ◌<◌, ◌≤◌, ◌↔◌, List, [], ◌∷◌, ◌++◌, length, sum, IfOk, IfErr, IfSome, IsSome, IsOk, OnOk, OnErr, IsTrue, IsOkUnless, alloc_error};
 ghost use Rattle.sand_model.specs.Grid.{sites};
@@ -91,7 +92,7 @@ fn take_workspace(
 }
 
 impl OnePile {
-    /// The settled start, before any drop. Refuses want of memory alone.
+    /// The settled start, before any drop. Fails only with Memory.
     pub fn new(alloc: Global, start: &Pile) -> Result<OnePile, OneFault>
         ensures settled { IfOk result (λ v. IsAfter start.now [] v) }
         ensures memory { IsOkUnless result (OneFault.Memory alloc_error) }
@@ -106,15 +107,15 @@ impl OnePile {
         })
     }
 
-    /// Drops a grain at a site and lets it topple. Answers the number of the drop, of which the first is 0, and its
-    /// avalanche. Refuses a grain above the limit on those of the start and of all drops (Full), then want of memory
-    /// (Memory), and then leaves all as it was. Once a grain was dropped, it is not refused for memory again.
+    /// Drops a grain at a site and lets it topple. Returns the number of the drop, of which the first is 0, and its
+    /// avalanche. Fails if the start and all drops have as many grains as the limit (Full), then if an allocation fails
+    /// (Memory), and then changes nothing. After the first drop no other fails with Memory.
     pub fn drop_at(&mut self, alloc: Global, site: usize) -> Result<(u64, Avalanche), OneFault>
         requires { site < sites (grid_of_one self.old) }
         ensures number { IfOk result (λ r. r.0 ≡ self.old.number) }
         ensures avalanche { IfOk result (λ r. IsAvalanche (grid_of_one self.old) site (topplings_between self.old.settled self.new.settled) r.1) }
 
-        // From where it was, and from whatever start and drops lead there.
+        // From the record before, and from whatever start and drops lead to it.
         ensures drops { OnOk result (Drops self.old site self.new) }
         ensures after { OnOk result ((start : PileView) (history : List ℕ) → IsAfter start history self.old → IsAfter start (history ++ site ∷ []) self.new) }
 
