@@ -13,7 +13,7 @@ use Rattle.sand_model.proofs.Heights.{sum_is_grains, counted}
 use Rattle.sand_model.proofs.Bounds.{weight_bound, topplings_bound}
 use Rattle.sand_model.proofs.Underway.{underway_start, underway_end}
 use Rattle.sand_settle.specs.Settling.{SettledView, IsRecord}
-use Rattle.sand_settle.specs.Drops.{OneView, IsAfter, topplings_between, TakesGrain, Drops, DropsAll, IsPaid, settled_in, one_view, IsOnePile}
+use Rattle.sand_settle.specs.Drops.{OneView, IsAfter, topplings_between, TakesGrain, Drops, DropsAll, IsPaid, one_view, IsOnePile}
 use Rattle.sand_settle.proofs.Underway.{topplings_at, all_stable}
 use Rattle.sand_settle.specs.declared.avalanche.Avalanche.{Avalanche}
 use Rattle.sand_settle.specs.Avalanches.{IsAvalanche}
@@ -301,24 +301,18 @@ poured_avalanche r site k new u a all counts =
 
 -- ---- the pile of one thread after a drop
 
-pub kept_after : (o : Option SettledView) (w : Option Grid) (number : ℕ) (site : ℕ) (r q : SettledView) (g : Grid) → IsOnePile o w number → o ≡ Some r → site < sites r.pile.grid → sum r.pile.heights + r.lost < most_grains → TakesGrain r site q → g ≡ r.pile.grid → IsOnePile (Some q) (Some g) (number + 1)
-kept_after o w number site r q g before there inside room taken same =
-    let is = ap settled_in there in
-    let paid = rw is at before.paid in
-    let few = rw is at before.few in
-    record {
-      there = refl;
-      paid = paid_after r q site paid inside room taken;
-      few = let more = grains_after r q site paid inside taken in omega arith;
-      room = same ∙ sym taken.grid;
-      kept = λ _. refl;
-    }
+pub kept_after : (w : Option Grid) (number : ℕ) (site : ℕ) (r q : SettledView) (g : Grid) → IsOnePile r w number → site < sites r.pile.grid → sum r.pile.heights + r.lost < most_grains → TakesGrain r site q → g ≡ r.pile.grid → IsOnePile q (Some g) (number + 1)
+kept_after w number site r q g before inside room taken same = record {
+  paid = paid_after r q site before.paid inside room taken;
+  few = let few = before.few in let more = grains_after r q site before.paid inside taken in omega arith;
+  room = same ∙ sym taken.grid;
+  kept = λ _. refl;
+}
 
-pub drops_from : (o : Option SettledView) (w : Option Grid) (number : ℕ) (site : ℕ) (r q : SettledView) (v : OneView) → IsOnePile o w number → one_view o number ≡ v → o ≡ Some r → site < sites r.pile.grid → sum r.pile.heights + r.lost < most_grains → TakesGrain r site q → Drops v site (one_view (Some q) (number + 1))
-drops_from o w number site r q v before seen there inside room taken =
-    let paid = rw (ap settled_in there) at before.paid in
-    let P : OneView → Type 0 = λ u. Drops u site (one_view (Some q) (number + 1)) in
-    subst P (ap (λ p. one_view p number) (sym there) ∙ seen)
+pub drops_from : (number : ℕ) (site : ℕ) (r q : SettledView) (v : OneView) → IsPaid r → one_view r number ≡ v → site < sites r.pile.grid → sum r.pile.heights + r.lost < most_grains → TakesGrain r site q → Drops v site (one_view q (number + 1))
+drops_from number site r q v paid seen inside room taken =
+    let P : OneView → Type 0 = λ u. Drops u site (one_view q (number + 1)) in
+    subst P seen
     (record {
       inside = inside;
       room = room;

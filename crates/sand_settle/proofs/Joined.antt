@@ -36,16 +36,6 @@ one_more : (joins : Bool) (list : List ℕ) (i : ℕ) → (length list ≤ lengt
 one_more true list i = let e = length-append list (i ∷ []) in (omega arith, omega arith)
 one_more false list i = (omega arith, omega arith)
 
--- no site gets a grain
-pub joins_none : (h : List ℕ) (l : ListView) → Joins 1 h h l l
-joins_none h l = record {
-  room = refl;
-  longer = omega arith;
-  few = omega arith;
-  kept = λ turn within. refl;
-  waiting = λ n turn front each within all. all;
-}
-
 -- the site i gets grains
 pub joins_one : (h : List ℕ) (l m : ListView) (i v : ℕ) → i < length h → get_or h i 0 ≤ v → m ≡ record l { sites = cond (ltb (get_or h i 0) 4 && leb 4 v) (l.sites ++ i ∷ []) l.sites } → Joins 1 h (set h i v) l m
 joins_one h l m i v inside more is =
@@ -96,8 +86,8 @@ spread_from g i k r q each = record {
   balance = λ j l. let e = each j l in let one = flow-scale g k (one_at i) j in omega arith;
 }
 
-pub spread_toppled : (g : Grid) (i k : ℕ) (h q : List ℕ) → i < sites g → length h ≡ sites g → 4 * k ≤ get_or h i 0 → ((j : ℕ) → j < sites g → get_or q j 0 ≡ get_or (set h i (get_or h i 0 - 4 * k)) j 0 + k * flow g (one_at i) j) → IsToppled g (λ j. get_or h j 0) (λ j. k * one_at i j) (λ j. get_or q j 0)
-spread_toppled g i k h q inside each high gives =
+pub toppled_times : (g : Grid) (i k : ℕ) (h q : List ℕ) → i < sites g → length h ≡ sites g → 4 * k ≤ get_or h i 0 → ((j : ℕ) → j < sites g → get_or q j 0 ≡ get_or (set h i (get_or h i 0 - 4 * k)) j 0 + k * flow g (one_at i) j) → IsToppled g (λ j. get_or h j 0) (λ j. k * one_at i j) (λ j. get_or q j 0)
+toppled_times g i k h q inside each high gives =
     spread_from g i k (λ j. get_or h j 0) (λ j. get_or q j 0)
     (λ j l.
     let e = gives j l in

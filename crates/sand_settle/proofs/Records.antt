@@ -1,19 +1,12 @@
 -- What a drained pile has of the settled record.
-use Rattle.std.proofs.Common.{ℕ, ◌≡◌, ◌-◌, ◌*◌, ◌^◌, ◌<◌, ◌≤◌, ◌∙◌, subst, arith, List, length, sum, get_or}
-use Rattle.sand_model.specs.Grid.{Grid, sites}
+use Rattle.std.proofs.Common.{ℕ, ◌≡◌, ◌-◌, ◌*◌, ◌^◌, ◌<◌, ◌≤◌, ◌∙◌, arith, List, length, sum, get_or}
+use Rattle.sand_model.specs.Grid.{sites}
 use Rattle.sand_model.specs.Sand.{IsSettled, weight}
 use Rattle.sand_model.specs.Piles.{PileView, IsPile}
 use Rattle.sand_model.proofs.Sandpile.{weight_after}
 use Rattle.sand_model.proofs.Heights.{sum_is_grains, sum_left}
 use Rattle.sand_model.proofs.Bounds.{topplings_bound}
 use Rattle.sand_settle.specs.Settling.{SettledView, IsRecord}
-
--- the same grid and the same start, under other names
-pub settled_for : (g k : Grid) (h s u t : List ℕ) → g ≡ k → h ≡ s → IsSettled g (λ j. get_or h j 0) (λ j. get_or u j 0) (λ j. get_or t j 0) → IsSettled k (λ j. get_or s j 0) (λ j. get_or u j 0) (λ j. get_or t j 0)
-settled_for g k h s u t grids starts done =
-    let P : Grid → Type 0 = λ q. IsSettled q (λ j. get_or h j 0) (λ j. get_or u j 0) (λ j. get_or t j 0) in
-    let Q : List ℕ → Type 0 = λ q. IsSettled k (λ j. get_or q j 0) (λ j. get_or u j 0) (λ j. get_or t j 0) in
-    subst Q starts (subst P grids done)
 
 pub sum_bound : (start : PileView) (u h : List ℕ) → IsPile start → length u ≡ sites start.grid → IsSettled start.grid (λ j. get_or start.heights j 0) (λ j. get_or u j 0) (λ j. get_or h j 0) → sum u < 2 ^ 54
 sum_bound start u h pile counts done =

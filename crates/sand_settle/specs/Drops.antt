@@ -1,7 +1,6 @@
 -- What contracts see of the pile of one thread, and what makes it the settled record of its start and its drops.
 -- Source: chip-firing; settling in two parts is settling at once, so drops may settle one after another (Dhar 1990).
-use Rattle.std.specs.Prelude.{ℕ, Option, Some, None, IsSome, IfSome, ◌≡◌, ◌+◌, ◌-◌, ◌*◌, ◌<◌, ◌≤◌, List, [], ◌∷◌, All, length, sum}
-use Rattle.sand_model.specs.declared.shape.Edge.TheVariants.{Open}
+use Rattle.std.specs.Prelude.{ℕ, Option, IsSome, IfSome, ◌≡◌, ◌+◌, ◌-◌, ◌*◌, ◌<◌, ◌≤◌, List, [], ◌∷◌, All, length, sum}
 use Rattle.sand_model.specs.Grid.{Grid, IsGrid, sites}
 use Rattle.sand_model.specs.Sand.{IsStable, IsSettled, one_at, tally, topplings, lost, weight}
 use Rattle.sand_model.specs.Piles.{PileView, IsPile, height_of, most_grains}
@@ -63,19 +62,13 @@ pub record IsPaid (r : SettledView) : Type 0 where
   pub all_topplings : r.topplings ≡ topplings r.pile.grid (odometer_of r)
   pub paid : 2 * r.topplings + weight r.pile.grid (height_of r.pile) ≤ 16512 * (sum r.pile.heights + r.lost)
 
--- the settled record where it is there, as it is between two calls
-abbrev pub settled_in : Option SettledView → SettledView
-settled_in (Some r) = r
-settled_in None = record { pile = record { grid = record { width = 0; height = 0; edge = Open }; heights = [] }; odometer = []; topplings = 0; lost = 0 }
+-- a record is seen with the grains that lie on the pile or were lost
+abbrev pub one_view : SettledView → ℕ → OneView
+one_view r number = record { settled = r; number = number; grains = sum r.pile.heights + r.lost }
 
--- what is there is seen with the grains that lie on the pile or were lost
-abbrev pub one_view : Option SettledView → ℕ → OneView
-one_view settled number = let r = settled_in settled in record { settled = r; number = number; grains = sum r.pile.heights + r.lost }
-
--- the record is there and right, each drop brought a grain, a workspace is one for the grid, and a drop leaves one
-pub record IsOnePile (settled : Option SettledView) (workspace : Option Grid) (number : ℕ) : Type 0 where
-  pub there : IsSome settled
-  pub paid : IsPaid (settled_in settled)
-  pub few : number ≤ sum (settled_in settled).pile.heights + (settled_in settled).lost
-  pub room : IfSome workspace (λ g. g ≡ (settled_in settled).pile.grid)
+-- the record is right, each drop brought a grain, a workspace is one for the grid, and a drop leaves one
+pub record IsOnePile (r : SettledView) (workspace : Option Grid) (number : ℕ) : Type 0 where
+  pub paid : IsPaid r
+  pub few : number ≤ sum r.pile.heights + r.lost
+  pub room : IfSome workspace (λ g. g ≡ r.pile.grid)
   pub kept : 0 < number → IsSome workspace

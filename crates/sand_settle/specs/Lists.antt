@@ -1,5 +1,5 @@
 -- Lists of sites, and the tests that their sites pass.
-use Rattle.std.specs.Prelude.{ℕ, Bool, List, ◌≡◌, ◌+◌, ◌≤◌, ◌++◌, length, take, drop, slice_index, nat_le, nat_lt}
+use Rattle.std.specs.Prelude.{ℕ, Bool, List, ◌≡◌, ◌+◌, ◌-◌, ◌≤◌, ◌++◌, length, take, drop, slice_index, nat_le, nat_lt}
 use Rattle.sand_model.specs.Lists.{Lists}
 
 -- what contracts see of a list of sites with room made beforehand
@@ -15,6 +15,14 @@ may_topple s j = nat_le 4 (s j)
 abbrev pub has_toppled : (ℕ → ℕ) → ℕ → Bool
 has_toppled u j = nat_lt 0 (u j)
 
+-- xs has each of n sites that may topple at the heights h, once, and no other
+abbrev pub ListsUnstable : ℕ → List ℕ → List ℕ → Type 0
+ListsUnstable n h xs = Lists n (may_topple (slice_index h)) xs
+
+-- by how much each number of a list has grown
+abbrev pub grown : List ℕ → List ℕ → ℕ → ℕ
+grown u v j = slice_index v j - slice_index u j
+
 -- while the heights h become k, at most so many sites join the end of a list: those that may topple from then on,
 -- whatever sites wait in front of it from a turn on
 pub record Joins (most : ℕ) (h k : List ℕ) (l m : ListView) : Type 0 where
@@ -22,4 +30,4 @@ pub record Joins (most : ℕ) (h k : List ℕ) (l m : ListView) : Type 0 where
   pub longer : length l.sites ≤ length m.sites
   pub few : length m.sites ≤ length l.sites + most
   pub kept : (turn : ℕ) → turn ≤ length l.sites → take turn m.sites ≡ take turn l.sites
-  pub waiting : (n turn : ℕ) (front : List ℕ) → n ≡ length h → turn ≤ length l.sites → Lists n (may_topple (slice_index h)) (front ++ drop turn l.sites) → Lists n (may_topple (slice_index k)) (front ++ drop turn m.sites)
+  pub waiting : (n turn : ℕ) (front : List ℕ) → n ≡ length h → turn ≤ length l.sites → ListsUnstable n h (front ++ drop turn l.sites) → ListsUnstable n k (front ++ drop turn m.sites)

@@ -24,7 +24,7 @@ pub struct Avalanche {
     pub size: u64,
     /// How many sites toppled.
     pub area: u32,
-    /// The greatest distance from the drop to a site that toppled, in columns and rows, or 0 where none did.
+    /// The greatest distance from the drop to a site that toppled, in columns and rows, or 0 if none did.
     pub reach: u32,
     /// How many grains fell into the sink.
     pub lost: u64,

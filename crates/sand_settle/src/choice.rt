@@ -4,7 +4,7 @@
 //! as a guess takes, unless the pile is seen to be high (`sand_guess::is_high`): then the queue is given no turn. If the
 //! queue did not settle the pile, the odometer is guessed (`sand_guess::guessed`) and the guess is certified
 //! (`sand_certify`), which is a proof. If that is refused, the queue settles the pile from nothing, in whatever time it
-//! takes. Nothing is claimed of what `sand_guess` says: a wrong word of it costs time, never the answer.
+//! takes. Nothing is claimed of what `sand_guess` returns: if it is wrong, that costs time, and the result is the same.
 
 ghost use Rattle.std.specs.Prelude.{◌≤◌, ◌^◌, IfOk, IfSome, IsSome};
 ghost use Rattle.sand_settle.specs.Rests.{IsSettledRest};

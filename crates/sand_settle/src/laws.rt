@@ -1,7 +1,7 @@
 //! The law of the pile of one thread, as the contract of a function that does nothing.
 //!
 //! Settling in two parts is settling at once (`sand_model::laws::abelian`). So grains that are dropped one by one, each
-//! when the pile has come to rest, lead where all of them together would have led, and the odometers add up.
+//! when the pile has come to rest, lead to the same pile as all of them together, and the odometers add up.
 
 ghost use Rattle.sand_settle.specs.Laws.{DropsAddUp};
 

@@ -1,10 +1,11 @@
 //! The pile of one thread: grains are dropped on it one after another, and each settles before the next.
 //!
-//! The pile is taken apart, its list of heights topples in place, and it is put back with the grains that are left, which
-//! are known without a sum. So a drop costs work in proportion to the sites that topple in it. The room of the first drop
-//! serves all later ones, so none of these runs out of memory (`room_is_kept`). That the record is the same as if all
-//! grains had lain on the start together is `laws::drops_add_up`; that no count outgrows its number follows from the
-//! weight, of which a grain has 16,512 at most and a toppling takes 2 (`IsPaid`).
+//! A drop takes the record out and puts the new one in its place (`replace_with`). Its pile is taken apart, its list of
+//! heights topples in place, and the new pile has the grains that are left, which are known without a sum. So a drop costs
+//! work in proportion to the sites that topple in it. The room of the first drop serves all later ones, so none of these
+//! runs out of memory (`room_is_kept`). The record is the same as if all grains had been on the start together
+//! (`laws::drops_add_up`). No count outgrows its number, because of the weight: a grain has 16,512 at most, and a toppling
+//! takes 2 (`IsPaid`).
 
 ghost use Rattle.std.specs.Prelude.{◌≡◌, ℕ, ◌+◌, ◌^◌, ◌<◌, ◌≤◌, ◌↔◌, List, [], ◌∷◌, ◌++◌, length, sum, IfOk, IfErr, IfSome, IsSome, IsOk, OnOk, OnErr, IsTrue, IsOkUnless, alloc_error};
 ghost use Rattle.sand_model.specs.Grid.{sites};
@@ -18,6 +19,7 @@ use crate::faults::OneFault;
 use crate::settled::Settled;
 use crate::settling::settle;
 use crate::workspace::Workspace;
+use core::mem::replace_with;
 use sand_model::{GRAIN_LIMIT, Pile, Shape};
 use std::alloc::Global;
 use std::marker::Model;
@@ -25,8 +27,7 @@ use std::marker::Model;
 /// A pile on which one thread drops grains, one after another, with all that toppled since its start.
 #[derive(Debug, Drop)]
 pub struct OnePile {
-    // Taken out while a grain drops, and there between two calls.
-    settled: Option<Settled>,
+    settled: Settled,
     // Made at the first drop.
     workspace: Option<Workspace>,
     number: u64,
@@ -42,16 +43,17 @@ impl Model for OnePile {
     ghost invariant = { λ p. IsOnePile p.settled p.workspace p.number };
 }
 
-// Drops a grain on a settled pile, lets it settle, and adds what toppled to the record.
-fn drop_grain(workspace: &mut Workspace, settled: Settled, site: usize) -> (Settled, Avalanche)
-    requires site { site < sites settled.pile.grid }
-    requires room { workspace.old ≡ settled.pile.grid }
+// Drops a grain at a site of a settled pile, settles it in the workspace, and adds what toppled to the record.
+fn drop_grain(settled: Settled, drop: (Workspace, usize)) -> (Settled, (Workspace, Avalanche))
+    requires site { drop.1 < sites settled.pile.grid }
+    requires room { drop.0 ≡ settled.pile.grid }
     requires paid { IsPaid settled }
     requires limit { sum settled.pile.heights + settled.lost < most_grains }
-    ensures room { workspace.new ≡ workspace.old }
-    ensures taken { TakesGrain settled site result.0 }
-    ensures avalanche { IsAvalanche settled.pile.grid site (topplings_between settled result.0) result.1 }
+    ensures room { result.1.0 ≡ settled.pile.grid }
+    ensures taken { TakesGrain settled drop.1 result.0 }
+    ensures avalanche { IsAvalanche settled.pile.grid drop.1 (topplings_between settled result.0) result.1.1 }
 {
+    let (mut workspace, site) = drop;
     let Settled {
         pile,
         mut odometer,
@@ -68,7 +70,7 @@ fn drop_grain(workspace: &mut Workspace, settled: Settled, site: usize) -> (Sett
         topplings: topplings + avalanche.size,
         lost: lost + avalanche.lost,
     };
-    (record, avalanche)
+    (record, (workspace, avalanche))
 }
 
 // The workspace of the last drop, or a new one.
@@ -90,7 +92,7 @@ fn take_workspace(
 }
 
 impl OnePile {
-    /// The settled start, before any drop. Refuses want of memory alone.
+    /// The settled start, before any drop. Fails only with Memory.
     pub fn new(alloc: Global, start: &Pile) -> Result<OnePile, OneFault>
         ensures settled { IfOk result (λ v. IsAfter start.now [] v) }
         ensures memory { IsOkUnless result (OneFault.Memory alloc_error) }
@@ -99,21 +101,21 @@ impl OnePile {
         // The start's grains are within the limit, and so are those that lie on the settled pile or were lost.
         let _ = start.grains();
         Ok(OnePile {
-            settled: Some(settled),
+            settled,
             workspace: None,
             number: 0,
         })
     }
 
-    /// Drops a grain at a site and lets it topple. Answers the number of the drop, of which the first is 0, and its
-    /// avalanche. Refuses a grain above the limit on those of the start and of all drops (Full), then want of memory
-    /// (Memory), and then leaves all as it was. Once a grain was dropped, it is not refused for memory again.
+    /// Drops a grain at a site and lets it topple. Returns the number of the drop, of which the first is 0, and its
+    /// avalanche. Fails if the start and all drops have as many grains as the limit (Full), then if an allocation fails
+    /// (Memory), and then changes nothing. After the first drop no other fails with Memory.
     pub fn drop_at(&mut self, alloc: Global, site: usize) -> Result<(u64, Avalanche), OneFault>
         requires { site < sites (grid_of_one self.old) }
         ensures number { IfOk result (λ r. r.0 ≡ self.old.number) }
         ensures avalanche { IfOk result (λ r. IsAvalanche (grid_of_one self.old) site (topplings_between self.old.settled self.new.settled) r.1) }
 
-        // From where it was, and from whatever start and drops lead there.
+        // From the record before, and from whatever start and drops lead to it.
         ensures drops { OnOk result (Drops self.old site self.new) }
         ensures after { OnOk result ((start : PileView) (history : List ℕ) → IsAfter start history self.old → IsAfter start (history ++ site ∷ []) self.new) }
 
@@ -127,12 +129,10 @@ impl OnePile {
             return Err(OneFault::Full);
         }
         let shape = self.pile().shape();
-        let mut workspace = take_workspace(alloc, shape, &mut self.workspace)?;
-        let number = self.number;
-        let settled = self.settled.take().unwrap();
-        let (record, avalanche) = drop_grain(&mut workspace, settled, site);
-        self.settled = Some(record);
+        let workspace = take_workspace(alloc, shape, &mut self.workspace)?;
+        let (workspace, avalanche) = replace_with(&mut self.settled, (workspace, site), drop_grain);
         self.workspace = Some(workspace);
+        let number = self.number;
         self.number = number + 1;
         Ok((number, avalanche))
     }
@@ -151,7 +151,7 @@ impl OnePile {
         ensures paid { IsPaid self.now.settled }
         ensures grains { self.now.grains ≡ sum self.now.settled.pile.heights + self.now.settled.lost }
     {
-        self.settled.as_ref().unwrap()
+        &self.settled
     }
 
     /// How many drops there were.

@@ -13,10 +13,9 @@
 ghost use Rattle.std.specs.Prelude.{◌≡◌, ◌+◌, ◌*◌, ◌^◌, ◌<◌, ◌≤◌, length, sum, slice_index, IfOk, IfSome, IsSome};
 ghost use Rattle.sand_model.specs.Grid.{sites};
 ghost use Rattle.sand_model.specs.Sand.{IsSettled, topplings, weight};
-ghost use Rattle.sand_model.specs.Lists.{Lists};
 ghost use Rattle.sand_model.specs.Piles.{height_of, most_grains};
 ghost use Rattle.sand_settle.specs.Settling.{IsRecord};
-ghost use Rattle.sand_settle.specs.Lists.{may_topple};
+ghost use Rattle.sand_settle.specs.Lists.{ListsUnstable};
 ghost use Rattle.sand_settle.specs.Rests.{IsSettledRest};
 ghost use Rattle.sand_settle.specs.Underway.{Advances};
 
@@ -41,11 +40,11 @@ fn topple_wave(
     requires one_each { (length heights.old ≡ sites lattice.now) × (length counts.old ≡ sites lattice.now) }
     requires limit { sum heights.old ≤ most_grains }
     requires few { 2 * topplings lattice.now (slice_index counts.old) + weight lattice.now (slice_index heights.old) < 2 ^ 55 }
-    requires waiting { Lists (sites lattice.now) (may_topple (slice_index heights.old)) wave.now.sites }
+    requires waiting { ListsUnstable (sites lattice.now) heights.old wave.now.sites }
     requires room { sites lattice.now + 4 ≤ next.old.room }
     ensures advances { Advances lattice.now (slice_index counts.old) (slice_index heights.old) (slice_index counts.new) (slice_index heights.new) }
     ensures each_topples { topplings lattice.now (slice_index counts.old) + length wave.now.sites ≤ topplings lattice.now (slice_index counts.new) }
-    ensures waiting { Lists (sites lattice.now) (may_topple (slice_index heights.new)) next.new.sites }
+    ensures waiting { ListsUnstable (sites lattice.now) heights.new next.new.sites }
     ensures room { next.new.room ≡ next.old.room }
 {
     knows_sides(lattice);
@@ -63,7 +62,7 @@ fn topple_wave(
 fn list_unstable(heights: &[u64], wave: &mut SiteList)
     requires small { length heights.now ≤ 65536 }
     requires room { length heights.now < wave.old.room }
-    ensures waiting { Lists (length heights.now) (may_topple (slice_index heights.now)) wave.new.sites }
+    ensures waiting { ListsUnstable (length heights.now) heights.now wave.new.sites }
     ensures room { wave.new.room ≡ wave.old.room }
 {
     wave.clear();

@@ -55,7 +55,7 @@ impl SiteList {
         self.len = 0;
     }
 
-    /// Adds a site where the test holds. The site is written either way, so that a test whose outcome no processor can
+    /// Adds a site if the test is true. The site is written either way, so that a test whose outcome no processor can
     /// foresee costs no branch.
     #[inline(always)]
     pub(crate) fn push_if(&mut self, site: usize, test: bool)

@@ -2,13 +2,15 @@
 
 ghost use Rattle.std.specs.Prelude.{◌≡◌, ℕ, ◌+◌, ◌*◌, ◌^◌, ◌<◌, ◌≤◌, length, sum, slice_index, slice_index_or, None, IfSome};
 ghost use Rattle.sand_model.specs.Grid.{Grid, IsGrid, sites, places};
-ghost use Rattle.sand_model.specs.Sand.{one_at, value_at, flow};
+ghost use Rattle.sand_model.specs.Sand.{one_at, value_at};
 ghost use Rattle.sand_settle.specs.Lists.{Joins};
+ghost use Rattle.sand_settle.specs.Underway.{NeighboursGain};
 
 use crate::site_list::SiteList;
 use sand_model::{Lattice, TOPPLING_HEIGHT};
 
-/// Does nothing, but tells that no side of the grid is above 256: there are at most 65,536 sites, so each fits 32 bits.
+/// Does nothing at run time. A proof learns that no side of the grid is above 256: there are at most 65,536 sites, so each
+/// fits 32 bits.
 #[inline(always)]
 pub(crate) fn knows_sides(lattice: &Lattice)
     ensures { IsGrid lattice.now }
@@ -43,7 +45,7 @@ fn deliver_four(heights: &mut [u64], list: &mut SiteList, around: [Option<usize>
     requires limit { sum heights.old + 4 * times < 2 ^ 63 }
     requires small { length heights.old ≤ 65536 }
     requires room { length list.old.sites + 4 ≤ list.old.room }
-    ensures each { (g : Grid) (site : ℕ) → around ≡ places g site → site < sites g → (j : ℕ) → j < sites g → slice_index heights.new j ≡ slice_index heights.old j + times * flow g (one_at site) j }
+    ensures each { (g : Grid) (site : ℕ) → around ≡ places g site → site < sites g → NeighboursGain g site times heights.old heights.new }
     ensures joins { Joins 4 heights.old heights.new list.old list.new }
 {
     let [north, west, east, south] = around;
@@ -67,7 +69,7 @@ pub(crate) fn spread(
     requires one_each { length heights.old ≡ sites lattice.now }
     requires limit { sum heights.old + 4 * times < 2 ^ 63 }
     requires room { length list.old.sites + 4 ≤ list.old.room }
-    ensures each { (j : ℕ) → j < sites lattice.now → slice_index heights.new j ≡ slice_index heights.old j + times * flow lattice.now (one_at site) j }
+    ensures each { NeighboursGain lattice.now site times heights.old heights.new }
     ensures joins { Joins 4 heights.old heights.new list.old list.new }
 {
     knows_sides(lattice);

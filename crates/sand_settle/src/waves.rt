@@ -18,14 +18,14 @@
 //! test is needed to keep it off the list. Topplings are counted in a second pass over the list: the loop over the
 //! heights is shorter for it, and faster.
 
-ghost use Rattle.std.specs.Prelude.{◌≡◌, ◌≢◌, ℕ, ◌+◌, ◌-◌, ◌*◌, ◌^◌, ◌<◌, ◌≤◌, length, sum, slice_index, All};
+ghost use Rattle.std.specs.Prelude.{◌≡◌, ◌≢◌, ℕ, ◌+◌, ◌*◌, ◌^◌, ◌<◌, ◌≤◌, length, sum, slice_index, All};
 ghost use Rattle.sand_model.specs.Grid.{sites};
 ghost use Rattle.sand_model.specs.Sand.{IsSettled, tally, topplings};
 ghost use Rattle.sand_model.specs.Lists.{Lists};
 ghost use Rattle.sand_model.specs.Piles.{most_grains};
 ghost use Rattle.sand_settle.specs.Avalanches.{IsAvalanche};
-ghost use Rattle.sand_settle.specs.Lists.{has_toppled};
-ghost use Rattle.sand_settle.specs.Underway.{Advances};
+ghost use Rattle.sand_settle.specs.Lists.{grown, has_toppled};
+ghost use Rattle.sand_settle.specs.Underway.{TopplesListed};
 
 use crate::avalanche::{Avalanche, calm, collect};
 use crate::site_list::SiteList;
@@ -42,8 +42,7 @@ fn topple_once(lattice: &Lattice, heights: &mut [u64], list: &mut SiteList, site
     requires others_low { (j : ℕ) → j < sites lattice.now → j ≢ site → slice_index heights.old j ≤ 3 }
     requires room { sites lattice.now + 4 ≤ list.old.room }
 
-    // Each site topples as often as it is listed, whatever toppled before.
-    ensures advances { (u v : ℕ → ℕ) → ((j : ℕ) → j < sites lattice.now → v j ≡ u j + tally list.new.sites j) → Advances lattice.now u (slice_index heights.old) v (slice_index heights.new) }
+    ensures advances { TopplesListed lattice.now list.new.sites heights.old heights.new }
     ensures some { 0 < length list.new.sites }
     ensures inside { All (λ j. j < sites lattice.now) list.new.sites }
     ensures others_low { (j : ℕ) → j < sites lattice.now → j ≢ site → slice_index heights.new j ≤ 3 }
@@ -97,8 +96,8 @@ impl Workspace {
         requires others_low { (j : ℕ) → j < sites self.old → j ≢ site → slice_index heights.old j ≤ 3 }
         requires few { topplings self.old (slice_index odometer.old) < 2 ^ 54 }
         ensures room { self.new ≡ self.old }
-        ensures settled { IsSettled self.old (slice_index heights.old) (λ j. slice_index odometer.new j - slice_index odometer.old j) (slice_index heights.new) }
-        ensures avalanche { IsAvalanche self.old site (λ j. slice_index odometer.new j - slice_index odometer.old j) result }
+        ensures settled { IsSettled self.old (slice_index heights.old) (grown odometer.old odometer.new) (slice_index heights.new) }
+        ensures avalanche { IsAvalanche self.old site (grown odometer.old odometer.new) result }
         ensures never_falls { (j : ℕ) → slice_index odometer.old j ≤ slice_index odometer.new j }
     {
         if heights[site] < TOPPLING_HEIGHT {

@@ -67,7 +67,7 @@ impl Numbers {
     }
 }
 
-// Whether both ways end alike, or None where the queue takes long.
+// Whether both ways end alike, or None if the queue takes long.
 fn settle_alike(alloc: Global, pile: &Pile) -> Result<Option<bool>, AllocError> {
     let Some(plain) = settle_by_queue(alloc, pile, TURNS)? else {
         return Ok(None);

@@ -8,7 +8,7 @@ use Rattle.sand_model.proofs.Bounds.{sites_limit}
 use Rattle.sand_model.proofs.Heights.{counted}
 use Rattle.sand_model.proofs.Lists.{lists_of}
 use Rattle.sand_settle.specs.Lists.{ListView}
-use Rattle.sand_settle.proofs.Joined.{spread_toppled}
+use Rattle.sand_settle.proofs.Joined.{toppled_times}
 use Rattle.sand_settle.proofs.Queue.{turn_inside, turn_high, others_wait, queue_room}
 use Rattle.sand_settle.proofs.Underway.{advance_more, advance_turn, turn_counts, counts_small, sum_falls}
 use Rattle.sand_settle.proofs.settling.topple_wave.Goals as goal
@@ -71,7 +71,7 @@ loop-turn-preserved c =
     let k : ℕ = get_or c.loop-turn.heights i 0 / 4 in
     let high = turn_high (sites c.args.lattice.now) (λ j. get_or c.loop-turn.heights j 0) c.args.wave.now.sites c.loop-turn.next.sites c.loop-turn.turn i c.site-site.ensures turn c.loop-turn.invariant.waiting in
     let each : length (set c.loop-turn.heights i (get_or c.loop-turn.heights i 0 - 4 * k)) ≡ sites c.args.lattice.now = length-set c.loop-turn.heights i (get_or c.loop-turn.heights i 0 - 4 * k) ∙ c.loop-turn.invariant.heights_each in
-    let done = spread_toppled c.args.lattice.now i k c.loop-turn.heights c.spread.new.heights inside c.loop-turn.invariant.heights_each (omega arith) c.spread.ensures.each in
+    let done = toppled_times c.args.lattice.now i k c.loop-turn.heights c.spread.new.heights inside c.loop-turn.invariant.heights_each (omega arith) c.spread.ensures.each in
     let counts : (j : ℕ) → get_or (set c.loop-turn.counts i (get_or c.loop-turn.counts i 0 + k)) j 0 ≡ get_or c.loop-turn.counts j 0 + k * one_at i j = λ j. counted i k c.loop-turn.counts _ (omega (arith, c.loop-turn.invariant.counts_each)) refl j in
     let more = advance_turn c.args.lattice.now (λ j. get_or c.loop-turn.counts j 0) (λ j. get_or c.loop-turn.heights j 0) (λ j. get_or (set c.loop-turn.counts i (get_or c.loop-turn.counts i 0 + k)) j 0) (λ j. get_or c.spread.new.heights j 0) i k inside (omega arith) (λ j l. counts j) done in
     let one = turn_counts c.args.lattice.now (λ j. get_or c.loop-turn.counts j 0) (λ j. get_or (set c.loop-turn.counts i (get_or c.loop-turn.counts i 0 + k)) j 0) i k inside (λ j l. counts j) (omega arith) in

@@ -1,10 +1,9 @@
-use Rattle.std.proofs.Common.{refl, arith}
+use Rattle.std.proofs.Common.{arith}
 use Rattle.sand_settle.proofs.Drops.{paid_start, after_start}
 use Rattle.sand_settle.proofs.one_pile.OnePile.new.Goals as goal
 
 pub invariant_of-result : goal.invariant_of-result
 invariant_of-result c = record {
-  there = refl;
   paid = paid_start c.args.start.now c.in_ok-settled.settled c.grains.ensures.pile c.in_ok-settled.ensures.record;
   few = omega arith;
   room = tt;
