@@ -7,3 +7,4 @@ pub mod Helping
 pub mod Settling
 pub mod Laboratory
 pub mod Drawing
+pub mod Version

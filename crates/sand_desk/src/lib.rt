@@ -1,7 +1,8 @@
 //! The program's commands: from words and bytes to bytes.
 //!
 //! `commands` asks `sand_cli` for the task that the words name, reads the input, does the task and writes its text.
-//! `texts` has the readings and the texts of `sand_text`, `faults` the one fault type of it all, and `helping` shows help.
+//! `texts` has the readings and the texts of `sand_text`, `faults` the one fault type of it all, `helping` shows help, and
+//! `version` writes the version.
 #![tactic(auto)]
 
 mod commands;
@@ -13,6 +14,7 @@ mod laboratory;
 pub mod laws;
 mod settling;
 mod texts;
+mod version;
 
 pub use commands::run_command;
 pub use faults::{DeskFault, status, write_fault};
@@ -21,3 +23,4 @@ pub use laboratory::{journal_text, lab_text};
 pub use texts::{
     burn_text, pgm_text, pile_text, read_drops, read_pile, read_two, settle_text, table_text,
 };
+pub use version::{asks_for_version, write_version};

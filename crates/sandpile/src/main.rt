@@ -5,7 +5,9 @@
 ghost use Rattle.std.specs.Prelude.{◌≡◌, ◌≢◌, ◌<◌, IfErr, false, length};
 ghost use Rattle.sand_desk.specs.Faults.{status_of};
 
-use sand_desk::{DeskFault, run_command, show_help, status, write_fault};
+use sand_desk::{
+    DeskFault, asks_for_version, run_command, show_help, status, write_fault, write_version,
+};
 use std::alloc::Global;
 use std::io::{Read, Write};
 use std::process::ExitCode;
@@ -40,7 +42,7 @@ fn main(rt: HostRuntime) -> ExitCode {
     }
 }
 
-// Runs the command that the words name, or writes the help that they ask for.
+// Runs the command that the words name, or writes the version or the help that they ask for.
 fn answer<T: Threads + Sync, R: Read, W: Write>(
     rt: &T,
     alloc: Global,
@@ -51,6 +53,9 @@ fn answer<T: Threads + Sync, R: Read, W: Write>(
     requires { 0 < length words.now }
     ensures { IfErr result (λ e. status_of e ≢ 0) }
 {
+    if asks_for_version(words) {
+        return write_version(output);
+    }
     match run_command(rt, alloc, words, input, output) {
         Ok(()) => Ok(()),
         Err(fault) => show_help(alloc, fault, output),

@@ -1,0 +1,33 @@
+//! What `sandpile --version` writes: the version, the toolchain that proved the program, and the logic of its proofs.
+
+ghost use Rattle.std.specs.Prelude.{◌≡◌, ℕ, ◌≤◌, length, map, string_bytes, take, IfErr, OnOk};
+ghost use Rattle.std.specs.Io.KnownBytes.{Appends};
+ghost use Rattle.sand_desk.specs.Version.{asks_for_version, version_text};
+
+use crate::faults::DeskFault;
+use sand_text::write_text;
+use std::io::Write;
+
+/// Whether the words, of which the first is the program's name, ask for the version.
+pub fn asks_for_version(words: &[String]) -> bool
+    ensures { result ≡ asks_for_version (map string_bytes words.now) }
+{
+    match words {
+        [_, word] => word.as_str() == "--version",
+        _ => false,
+    }
+}
+
+/// Writes the version. It takes no memory. Fails if the writer fails (Write, with how many bytes it took).
+pub fn write_version<W: Write>(writer: &mut W) -> Result<(), DeskFault>
+    ensures ok { OnOk result (Appends (W.contents writer.old) (W.contents writer.new) version_text) }
+    ensures err { IfErr result (λ e. (sent : ℕ) × (e ≡ DeskFault.Write sent) × (sent ≤ length version_text)
+        × Appends (W.contents writer.old) (W.contents writer.new) (take sent version_text)) }
+{
+    // `docs/try-examples` compares it with what `rt version` prints.
+    write_text(
+        writer,
+        b"sandpile 1.0.0, proved with rattle-kit-13b, logic dac8208d650f15bf\n",
+    )?;
+    Ok(())
+}
