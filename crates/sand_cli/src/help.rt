@@ -22,14 +22,15 @@ Input: text on standard input. A pile is numbers with white space between them:
   after the height makes it a cylinder, whose rows go round.
 
 Output: text on standard output, or with --pgm a picture (plain PGM). Nothing is
-  written before the whole text is there. A pile is written as it is read:
-  'identity', 'add', 'inverse' and 'recurrent' write a pile alone, 'settle',
-  'drops' and 'lab' do so with --pile, and each other command can read it.
+  written before the whole text is there. A pile is written as it is read, so
+  commands can be chained: 'identity', 'add', 'inverse' and 'recurrent' write a
+  pile alone, and 'settle', 'drops' and 'lab' do so with --pile.
 
 Limits: width and height from 1 to 256, a cylinder at least 3 wide; at most
   1,099,511,627,775 grains; at most 1,048,576 bytes of input.
 
-Faults: one line on standard error, 'fault NUMBER NAME', and no other output.
+Faults: one line on standard error, 'fault NUMBER NAME'. There is no output, or
+  the first N bytes if the writer failed.
 
    1 Side           width or height outside 1 to 256
    2 Length         wrong number of heights; give width times height of them

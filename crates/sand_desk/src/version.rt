@@ -8,9 +8,6 @@ use crate::faults::DeskFault;
 use sand_text::write_text;
 use std::io::Write;
 
-// `docs/try-examples` compares it with what `rt version` prints.
-const VERSION: &str = "sandpile 1.0.0, proved with rattle-kit-13b, logic dac8208d650f15bf\n";
-
 /// Whether the words, of which the first is the program's name, ask for the version.
 pub fn asks_for_version(words: &[String]) -> bool
     ensures { result ≡ asks_for_version (map string_bytes words.now) }
@@ -27,6 +24,10 @@ pub fn write_version<W: Write>(writer: &mut W) -> Result<(), DeskFault>
     ensures err { IfErr result (λ e. (sent : ℕ) × (e ≡ DeskFault.Write sent) × (sent ≤ length version_text)
         × Appends (W.contents writer.old) (W.contents writer.new) (take sent version_text)) }
 {
-    write_text(writer, VERSION.as_bytes())?;
+    // `docs/try-examples` compares it with what `rt version` prints.
+    write_text(
+        writer,
+        b"sandpile 1.0.0, proved with rattle-kit-13b, logic dac8208d650f15bf\n",
+    )?;
     Ok(())
 }
