@@ -95,7 +95,6 @@ impl SharedPile {
         ensures history { IfOk result (λ r. length r.0.items ≡ length pass.now.receipts) }
         ensures heights { IfOk result (λ r. (r.1.items ≡ []) × (length pass.now.counts ≤ vec_capacity r.1)) }
     {
-        let _ = &self.words;
         if !self.is_whole(pass) {
             return Err(CloseFault::Missing);
         }

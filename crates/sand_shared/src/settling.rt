@@ -118,7 +118,6 @@ impl SharedPile {
         ensures grid { result.grid ≡ grid_of self.now.terms }
         ensures underway { IsUnderway (grid_of self.now.terms) (laid self.now.terms (at_rest pass.old)) (slice_index pass.old.counts) (height_of result) }
     {
-        let _ = &self.words;
         self.words.read(&mut pass.seat, &mut heights);
         Pile::from_vec(pass.shape, heights)
     }
