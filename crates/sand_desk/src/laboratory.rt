@@ -92,6 +92,17 @@ pub fn journal_text(alloc: Global, report: &Report) -> Result<Vec<u8>, DeskFault
     Ok(text)
 }
 
+// The plan of a run that the command line asks for, with all of its settings.
+fn plan_of(wish: Wish) -> Plan
+    requires { IsRun wish }
+    ensures { result ≡ wish }
+{
+    let Ok(plan) = Plan::new(wish) else {
+        unreachable!()
+    };
+    plan
+}
+
 // Runs what is wished for from a start, by as many threads.
 fn report_on<T: Threads + Sync>(
     rt: &T,
@@ -103,9 +114,7 @@ fn report_on<T: Threads + Sync>(
     ensures report { IfOk result (λ p. (album : List ℕ) × IsReport album wish start.now p) }
     ensures fault { IfErr result (IsRunFault (sum start.now.heights + all_drops wish)) }
 {
-    let Ok(plan) = Plan::new(wish) else {
-        unreachable!()
-    };
+    let plan = plan_of(wish);
     let Ok(album) = Album::new(alloc, wish.epochs) else {
         return Err(DeskFault::Memory);
     };
