@@ -1,4 +1,4 @@
-//! Eight threads that drop, by ones and by lists, and sweep on one pile, against one thread that drops the same history.
+//! Eight threads that drop single grains and lists and sweep on one pile, against one thread that drops the same history.
 
 ghost use Rattle.std.specs.Prelude.{◌≡◌, ◌<◌, IfSome};
 ghost use Rattle.std.specs.Thread.{IsSync};
@@ -7,9 +7,11 @@ ghost use Rattle.sand_shared.specs.OpenPile.{grid_of};
 ghost use Rattle.sand_shared.specs.Passes.{IsPassOf};
 
 use crate::meeting::Meeting;
-use sand_model::{Edge, Pile, Shape};
+use sand_model::{Pile, Shape};
 use sand_settle::OnePile;
 use sand_shared::{Pass, Record, SharedPile, SiteCounts};
+use sand_testing::piles::open_pile;
+use sand_testing::records::is_record;
 use std::alloc::Global;
 use std::process::Abort;
 use std::test::Fail;
@@ -75,7 +77,7 @@ fn gathered(
     Some(one)
 }
 
-// So many threads as 2 to the depth, each with its part of the pass.
+// As many threads as 2 to the depth, each with its part of the pass.
 fn crew<R: Threads + Sync>(
     rt: &R,
     alloc: Global,
@@ -136,15 +138,18 @@ fn is_one_threads(rt: &impl Abort, alloc: Global, start: &Pile, record: &Record)
             return false;
         }
     }
-    one.pile().heights() == record.pile().heights()
-        && one.odometers() == record.odometers()
-        && one.lost() == record.lost()
+    is_record(
+        record,
+        record.history(),
+        one.pile().heights(),
+        one.odometers(),
+        one.lost(),
+    )
 }
 
 #[test]
 fn eight_threads_are_as_one(rt: HostRuntime) -> Result<(), Fail> {
-    let shape = Shape::with_edge(3, 8, Edge::Open)?;
-    let start = Pile::new(rt.alloc(), shape, &[3; 24])?;
+    let start = open_pile(rt.alloc(), 3, 8, &[3; 24])?;
     for round in 0..ROUNDS {
         let site = round % 24;
         assert!(rt; site < start.shape().sites());

@@ -1,20 +1,13 @@
 //! Rows that passes hand on, and passes that are gathered.
 
-use sand_model::{Pile, Shape};
-use sand_shared::{CloseFault, DropFault, JoinFault, SharedFault, SharedPile, SplitFault};
-use std::alloc::{AllocError, Global};
+use sand_shared::{CloseFault, DropFault, JoinFault, SharedFault, SplitFault};
+use sand_testing::shared::{closed, shared_pile};
+use std::alloc::AllocError;
 use std::test::Fail;
-
-fn column(alloc: Global, heights: &[u64]) -> Result<Pile, Fail> {
-    let shape = Shape::new(1, heights.len())?;
-    let pile = Pile::new(alloc, shape, heights)?;
-    Ok(pile)
-}
 
 #[test]
 fn rows_are_handed_on(rt: HostRuntime) -> Result<(), Fail> {
-    let start = column(rt.alloc(), &[0, 0, 0])?;
-    let (pile, mut pass) = SharedPile::new(rt.alloc(), &start, 0)?;
+    let (pile, mut pass) = shared_pile(rt.alloc(), 1, 3, &[0, 0, 0], 0)?;
     assert_eq!(rt; pass.rows(), (0, 3));
     assert!(rt;
         matches!(
@@ -34,8 +27,7 @@ fn rows_are_handed_on(rt: HostRuntime) -> Result<(), Fail> {
 
 #[test]
 fn rows_that_do_not_touch_stay_apart(rt: HostRuntime) -> Result<(), Fail> {
-    let start = column(rt.alloc(), &[0, 0, 0])?;
-    let (pile, mut pass) = SharedPile::new(rt.alloc(), &start, 0)?;
+    let (pile, mut pass) = shared_pile(rt.alloc(), 1, 3, &[0, 0, 0], 0)?;
     let last = pile.split_rows(rt.alloc(), &mut pass, 1)?;
     let middle = pile.split_rows(rt.alloc(), &mut pass, 1)?;
     let Err((fault, last)) = pile.join(rt.alloc(), &mut pass, last) else {
@@ -51,8 +43,7 @@ fn rows_that_do_not_touch_stay_apart(rt: HostRuntime) -> Result<(), Fail> {
 
 #[test]
 fn rows_are_joined_in_any_order(rt: HostRuntime) -> Result<(), Fail> {
-    let start = column(rt.alloc(), &[0, 0, 0])?;
-    let (pile, mut pass) = SharedPile::new(rt.alloc(), &start, 0)?;
+    let (pile, mut pass) = shared_pile(rt.alloc(), 1, 3, &[0, 0, 0], 0)?;
     let mut last = pile.split_rows(rt.alloc(), &mut pass, 1)?;
     let none = pile.split_rows(rt.alloc(), &mut pass, 0)?;
     assert_eq!(rt; none.rows(), (0, 0));
@@ -68,9 +59,7 @@ fn rows_are_joined_in_any_order(rt: HostRuntime) -> Result<(), Fail> {
 
 #[test]
 fn a_pass_is_whole_once_all_are_gathered(rt: HostRuntime) -> Result<(), Fail> {
-    let start = column(rt.alloc(), &[0, 0])?;
-    assert!(rt; 1 < start.shape().sites());
-    let (pile, mut pass) = SharedPile::new(rt.alloc(), &start, 1)?;
+    let (pile, mut pass) = shared_pile(rt.alloc(), 1, 2, &[0, 0], 1)?;
     let rows = pile.split_rows(rt.alloc(), &mut pass, 1)?;
     let mut quota = pile.split(rt.alloc(), &mut pass, 1)?;
     assert_eq!(rt; pile.drop_at(&mut quota, 1), Ok(0));
@@ -84,9 +73,7 @@ fn a_pass_is_whole_once_all_are_gathered(rt: HostRuntime) -> Result<(), Fail> {
 
 #[test]
 fn receipts_stand_in_the_order_of_joining(rt: HostRuntime) -> Result<(), Fail> {
-    let start = column(rt.alloc(), &[0, 0])?;
-    assert!(rt; 1 < start.shape().sites());
-    let (pile, mut pass) = SharedPile::new(rt.alloc(), &start, 2)?;
+    let (pile, mut pass) = shared_pile(rt.alloc(), 1, 2, &[0, 0], 2)?;
     let mut child = pile.split(rt.alloc(), &mut pass, 1)?;
     assert_eq!(rt; pile.drop_at(&mut child, 1), Ok(0));
     assert_eq!(rt; pile.drop_at(&mut pass, 0), Ok(1));
@@ -95,7 +82,7 @@ fn receipts_stand_in_the_order_of_joining(rt: HostRuntime) -> Result<(), Fail> {
     assert_eq!(rt; receipts.len(), 2);
     assert_eq!(rt; (receipts[0].number, receipts[0].site), (1, 0));
     assert_eq!(rt; (receipts[1].number, receipts[1].site), (0, 1));
-    let record = pile.close(rt.alloc(), pass).ok().ok_or("close")?;
+    let record = closed(rt.alloc(), pile, pass)?;
     assert!(rt; record.history() == [1, 0].as_slice());
     Ok(())
 }

@@ -1,6 +1,6 @@
-//! A place where threads meet, and passes that drop there at once.
+//! A place where threads meet, and two threads that drop or sweep at the same time.
 
-ghost use Rattle.std.specs.Prelude.{◌<◌};
+ghost use Rattle.std.specs.Prelude.{◌<◌, IfSome};
 ghost use Rattle.sand_model.specs.Grid.{sites};
 ghost use Rattle.sand_shared.specs.OpenPile.{grid_of};
 ghost use Rattle.sand_shared.specs.Passes.{IsPassOf};
@@ -13,7 +13,7 @@ use std::thread::{Threads, join};
 // How often a thread looks for the others before it gives up.
 const PATIENCE: u64 = 1_000_000_000;
 
-/// Where threads meet: each counts itself in, and looks until all have begun.
+/// Where threads meet: each counts itself, and looks until all have begun.
 #[derive(Drop)]
 pub struct Meeting {
     begun: AtomicU64,
@@ -26,7 +26,7 @@ impl Meeting {
         }
     }
 
-    /// Whether so many have begun, as soon as they have.
+    /// Returns true as soon as so many have begun, and false if they do not.
     pub fn met(&self, all: u64) -> bool {
         self.begun.fetch_add(1, SeqCst);
         for _ in 0..PATIENCE {
@@ -38,30 +38,41 @@ impl Meeting {
     }
 }
 
-// Meets one other thread, and drops two grains.
-fn drop_two(pile: &SharedPile, meeting: &Meeting, mut pass: Pass, site: usize) -> (Pass, bool)
+// Meets one other thread; then drops two grains on a site, or sweeps if it has none.
+fn take_part(
+    pile: &SharedPile,
+    meeting: &Meeting,
+    mut pass: Pass,
+    site: Option<usize>,
+) -> (Pass, bool)
     requires pass { IsPassOf pile.now pass }
-    requires site { site < sites (grid_of pile.now.terms) }
+    requires site { IfSome site (λ s. s < sites (grid_of pile.now.terms)) }
     ensures { IsPassOf pile.now result.0 }
 {
     let met = meeting.met(2);
+    let Some(site) = site else {
+        pile.sweep(&mut pass);
+        return (pass, met);
+    };
     let first = pile.drop_at(&mut pass, site);
     let second = pile.drop_at(&mut pass, site);
     (pass, met && first.is_ok() && second.is_ok())
 }
 
-/// Two threads drop two grains each, at once. Answers also whether they met and all were dropped.
-pub fn both_drop<R: Threads + Sync>(
+/// Two threads meet; then each drops two grains on its site, or sweeps if it has none. Also returns whether they met and all
+/// grains were dropped.
+pub fn both_at_once<R: Threads + Sync>(
     rt: &R,
     pile: &SharedPile,
     one: Pass,
     other: Pass,
-    here: usize,
-    there: usize,
+    here: Option<usize>,
+    there: Option<usize>,
 ) -> (Pass, Pass, bool)
     requires one { IsPassOf pile.now one }
     requires other { IsPassOf pile.now other }
-    requires inside { (here < sites (grid_of pile.now.terms)) × (there < sites (grid_of pile.now.terms)) }
+    requires here { IfSome here (λ s. s < sites (grid_of pile.now.terms)) }
+    requires there { IfSome there (λ s. s < sites (grid_of pile.now.terms)) }
     ensures one { IsPassOf pile.now result.0 }
     ensures other { IsPassOf pile.now result.1 }
 {
@@ -70,13 +81,13 @@ pub fn both_drop<R: Threads + Sync>(
     let (first, second) = join(
         rt,
         move || -> (Pass, bool)
-            requires { IsPassOf pile.now one × (here < sites (grid_of pile.now.terms)) }
+            requires { IsPassOf pile.now one × IfSome here (λ s. s < sites (grid_of pile.now.terms)) }
             ensures { IsPassOf pile.entry.now result.0 }
-        { drop_two(pile, place, one, here) },
+        { take_part(pile, place, one, here) },
         move || -> (Pass, bool)
-            requires { IsPassOf pile.now other × (there < sites (grid_of pile.now.terms)) }
+            requires { IsPassOf pile.now other × IfSome there (λ s. s < sites (grid_of pile.now.terms)) }
             ensures { IsPassOf pile.entry.now result.0 }
-        { drop_two(pile, place, other, there) },
+        { take_part(pile, place, other, there) },
     );
     (first.0, second.0, first.1 && second.1)
 }

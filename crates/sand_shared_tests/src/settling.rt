@@ -1,12 +1,14 @@
-//! Settling what the passes left, on values that were worked out by hand, and beside closing.
+//! Settling what the passes left, on values that were worked out by hand, and compared with closing.
 
 ghost use Rattle.std.specs.Prelude.{◌<◌, IfSome};
 ghost use Rattle.sand_model.specs.Grid.{sites};
 ghost use Rattle.sand_shared.specs.Passes.{IsPassOf};
 
-use crate::closing::{assert_record, pile_on};
 use sand_model::{Edge, Pile};
 use sand_shared::{CloseFault, Pass, SharedPile};
+use sand_testing::piles::{open_pile, pile_on};
+use sand_testing::records::is_record;
+use sand_testing::shared::shared_pile;
 use std::alloc::Global;
 use std::process::Abort;
 use std::test::Fail;
@@ -34,13 +36,14 @@ fn assert_settles_as_closed(rt: &impl Abort, alloc: Global, start: &Pile) -> Res
     let closed = pile.close(alloc, pass).ok().ok_or("close")?;
     let (pile, pass) = swept_by_two(alloc, start, site).ok_or("swept")?;
     let settled = pile.settle(alloc, pass).ok().ok_or("settle")?;
-    assert_record(
-        rt,
-        &settled,
-        closed.history(),
-        closed.pile().heights(),
-        closed.odometers(),
-        closed.lost(),
+    assert!(rt;
+        is_record(
+            &settled,
+            closed.history(),
+            closed.pile().heights(),
+            closed.odometers(),
+            closed.lost()
+        )
     );
     assert!(rt; settled.start().heights() == start.heights());
     Ok(())
@@ -48,35 +51,30 @@ fn assert_settles_as_closed(rt: &impl Abort, alloc: Global, start: &Pile) -> Res
 
 #[test]
 fn settles_as_it_closes(rt: HostRuntime) -> Result<(), Fail> {
-    let column = pile_on(rt.alloc(), 1, 5, Edge::Open, &[9, 0, 3, 70, 4])?;
+    let column = open_pile(rt.alloc(), 1, 5, &[9, 0, 3, 70, 4])?;
     assert_settles_as_closed(&rt, rt.alloc(), &column)?;
     let cylinder = pile_on(rt.alloc(), 3, 2, Edge::Cylinder, &[3, 8, 3, 4, 0, 25])?;
     assert_settles_as_closed(&rt, rt.alloc(), &cylinder)?;
-    let full = pile_on(rt.alloc(), 4, 4, Edge::Open, &[3; 16])?;
+    let full = open_pile(rt.alloc(), 4, 4, &[3; 16])?;
     assert_settles_as_closed(&rt, rt.alloc(), &full)
 }
 
 // The first row has toppled twice in place, and the other one topples twice when it is settled.
 #[test]
 fn settles_what_a_row_left(rt: HostRuntime) -> Result<(), Fail> {
-    let start = pile_on(rt.alloc(), 1, 2, Edge::Open, &[8, 7])?;
-    assert!(rt; 1 < start.shape().sites());
-    let (pile, mut pass) = SharedPile::new(rt.alloc(), &start, 2)?;
+    let (pile, mut pass) = shared_pile(rt.alloc(), 1, 2, &[8, 7], 2)?;
     assert_eq!(rt; pile.drop_at(&mut pass, 1), Ok(0));
     let last = pile.split_rows(rt.alloc(), &mut pass, 1)?;
     assert_eq!(rt; pile.sweep(&mut pass), 2);
     assert!(rt; pile.join(rt.alloc(), &mut pass, last).is_ok());
     let record = pile.settle(rt.alloc(), pass).ok().ok_or("settle")?;
-    assert_record(&rt, &record, &[1], &[2, 2], &[2, 2], 12);
-    assert_eq!(rt; record.topplings(), 4);
+    assert!(rt; is_record(&record, &[1], &[2, 2], &[2, 2], 12));
     Ok(())
 }
 
 #[test]
 fn settles_once_all_is_gathered(rt: HostRuntime) -> Result<(), Fail> {
-    let start = pile_on(rt.alloc(), 1, 2, Edge::Open, &[4, 0])?;
-    assert!(rt; 1 < start.shape().sites());
-    let (pile, mut pass) = SharedPile::new(rt.alloc(), &start, 1)?;
+    let (pile, mut pass) = shared_pile(rt.alloc(), 1, 2, &[4, 0], 1)?;
     let mut child = pile.split(rt.alloc(), &mut pass, 1)?;
     assert_eq!(rt; pile.drop_at(&mut child, 1), Ok(0));
     let Err((fault, pile, mut pass)) = pile.settle(rt.alloc(), pass) else {
@@ -85,6 +83,6 @@ fn settles_once_all_is_gathered(rt: HostRuntime) -> Result<(), Fail> {
     assert!(rt; matches!(fault, CloseFault::Missing));
     assert!(rt; pile.join(rt.alloc(), &mut pass, child).is_ok());
     let record = pile.settle(rt.alloc(), pass).ok().ok_or("settle")?;
-    assert_record(&rt, &record, &[1], &[0, 2], &[1, 0], 3);
+    assert!(rt; is_record(&record, &[1], &[0, 2], &[1, 0], 3));
     Ok(())
 }

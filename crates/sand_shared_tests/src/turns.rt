@@ -3,8 +3,10 @@
 ghost use Rattle.std.specs.Prelude.{◌≡◌};
 ghost use Rattle.sand_model.specs.Grid.{sites};
 
-use sand_model::{Pile, Shape};
+use sand_model::Pile;
 use sand_shared::{Record, SharedPile, SiteCounts};
+use sand_testing::piles::open_pile;
+use sand_testing::records::is_record;
 use std::alloc::Global;
 use std::test::Fail;
 
@@ -23,13 +25,11 @@ fn one_and_three(alloc: Global, start: &Pile) -> Option<(u64, Record)>
 
 #[test]
 fn a_list_is_dropped_in_its_order(rt: HostRuntime) -> Result<(), Fail> {
-    let start = Pile::new(rt.alloc(), Shape::new(3, 1)?, &[0, 3, 0])?;
+    let start = open_pile(rt.alloc(), 3, 1, &[0, 3, 0])?;
     assert!(rt; start.shape().sites() == 3);
     let (tally, record) = one_and_three(rt.alloc(), &start).ok_or("four drops")?;
     assert_eq!(rt; tally, 4);
-    assert!(rt; record.history() == [2, 1, 0, 1].as_slice());
-    assert!(rt; record.pile().heights() == [2, 1, 2].as_slice());
-    assert!(rt; record.odometers() == [0, 1, 0].as_slice());
+    assert!(rt; is_record(&record, &[2, 1, 0, 1], &[2, 1, 2], &[0, 1, 0], 2));
     Ok(())
 }
 
@@ -48,7 +48,7 @@ fn four_of_five(alloc: Global, start: &Pile) -> Option<(u32, u64, u64)>
 
 #[test]
 fn no_list_past_what_is_left(rt: HostRuntime) -> Result<(), Fail> {
-    let start = Pile::new(rt.alloc(), Shape::new(3, 1)?, &[0, 0, 0])?;
+    let start = open_pile(rt.alloc(), 3, 1, &[0, 0, 0])?;
     assert!(rt; start.shape().sites() == 3);
     let told = four_of_five(rt.alloc(), &start);
     assert_eq!(rt; told, Some((13, 4, 4)));

@@ -1,0 +1,39 @@
+//! Runs of the laboratory.
+
+ghost use Rattle.std.specs.Prelude.{◌≡◌, ℕ, ◌<◌, IfOk, length};
+ghost use Rattle.sand_lab.specs.Albums.{IsPlace};
+ghost use Rattle.sand_lab.specs.Reports.{sheet_at};
+
+use sand_lab::{Album, Gate, LabFault, Plan, Report, Wish, run};
+use sand_model::Pile;
+use std::alloc::Global;
+use std::thread::Threads;
+
+/// One epoch of one dropper that drops nothing and one worker that sweeps nothing.
+pub const QUIET: Wish = Wish {
+    seed: 0,
+    droppers: 1,
+    drops: 0,
+    epochs: 1,
+    workers: 1,
+    sweeps: 0,
+    observers: 0,
+};
+
+/// The report of a run into an album.
+pub fn run_into<R: Threads + Sync, G: Gate>(
+    rt: &R,
+    alloc: Global,
+    start: &Pile,
+    wish: Wish,
+    gate: &G,
+    album: &Album,
+) -> Result<Report, LabFault>
+    ensures epochs { IfOk result (λ p. length p.sheets ≡ wish.epochs) }
+    ensures tallies { IfOk result (λ p. (t : ℕ) → t < wish.epochs → length (sheet_at p t).tallies ≡ wish.observers) }
+    ensures swept { IfOk result (λ p. (t : ℕ) → t < wish.epochs → length (sheet_at p t).swept ≡ wish.workers) }
+    ensures places { IfOk result (λ p. (t : ℕ) → t < wish.epochs → IsPlace album.now t (sheet_at p t).place) }
+{
+    let plan = Plan::new(wish)?;
+    run(rt, alloc, start, &plan, gate, album)
+}
