@@ -3,7 +3,7 @@
 use crate::runs::{Row, holds, written};
 use std::test::Fail;
 
-const SETTLED: [Row; 12] = [
+const SETTLED: [Row; 14] = [
     (
         "sandpile settle",
         "1 1\n0\n",
@@ -53,6 +53,16 @@ const SETTLED: [Row; 12] = [
         "sandpile settle",
         "1 2\n0\n4\n",
         "1 2\n1\n0\nodometer\n0\n1\nlost 3\ntopplings 1\n",
+    ),
+    (
+        "sandpile settle",
+        "3 3\n3 3 3\n3 4 3\n3 3 3\n",
+        "3 3\n1 3 1\n3 0 3\n1 3 1\nodometer\n1 1 1\n1 2 1\n1 1 1\nlost 12\ntopplings 10\n",
+    ),
+    (
+        "sandpile settle",
+        "4 1 c\n4 0 0 0\n",
+        "4 1 c\n0 1 0 1\nodometer\n1 0 0 0\nlost 2\ntopplings 1\n",
     ),
     ("sandpile settle --pile", "3 1\n0 4 0\n", "3 1\n1 0 1\n"),
     ("sandpile settle --pile", "3 1 c\n4 4 4\n", "3 1 c\n2 2 2\n"),

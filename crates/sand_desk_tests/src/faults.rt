@@ -1,8 +1,8 @@
 //! The line, the number and the exit status of each fault.
 
-use crate::runs::words_of;
 use crate::stopping::Sluggish;
 use sand_desk::{DeskFault, run_command, show_help, status, write_fault};
+use sand_testing::words::words_of;
 use std::alloc::Global;
 use std::io::Write;
 use std::process::Abort;
@@ -54,9 +54,9 @@ fn a_line_that_does_not_fit(rt: HostRuntime) -> Result<(), Fail> {
     Ok(())
 }
 
-// Misuse ends with 2, and a call for help with 0; neither reads nor writes.
+// Misuse ends with 2, and a request for help with 0; neither reads nor writes.
 #[test]
-fn misuse_and_help(rt: HostRuntime) -> Result<(), Fail> {
+fn the_status_of_misuse_and_of_help(rt: HostRuntime) -> Result<(), Fail> {
     let alloc = rt.alloc();
     for (line, want) in [
         ("sandpile", 2),
@@ -103,7 +103,7 @@ fn misuse_and_help(rt: HostRuntime) -> Result<(), Fail> {
     Ok(())
 }
 
-// How it ends to show the help that a command line asks for.
+// How showing the help that a command line asks for ends.
 fn helped<T: Threads + Sync, W: Write>(
     rt: &T,
     alloc: Global,
@@ -121,7 +121,7 @@ fn helped<T: Threads + Sync, W: Write>(
     }
 }
 
-// Help is written whole, or a fault says how many of its bytes went out.
+// Help is written whole, or a fault says how many of its bytes were written.
 fn helps_up_to<T: Threads + Sync + Abort>(
     rt: &T,
     alloc: Global,

@@ -1,6 +1,6 @@
 //! Tests that cross crates: whole commands over memory, and over readers and writers that stop.
 //!
-//! `stopping` has these readers and writers. They are no tests themselves: each tells its bytes, and is proved to.
+//! `stopping` has these readers and writers. They are not tests: each says its bytes, and is proved to.
 #![tactic(auto)]
 
 #[cfg(test)]
@@ -14,11 +14,7 @@ mod group;
 #[cfg(test)]
 mod help;
 #[cfg(test)]
-mod journals;
-#[cfg(test)]
 mod laboratory;
-#[cfg(test)]
-mod model;
 #[cfg(test)]
 mod pictures;
 #[cfg(test)]

@@ -1,30 +1,22 @@
 //! A command that is run over memory.
 
 use sand_desk::{DeskFault, run_command, write_fault};
-use std::alloc::{AllocError, Global};
+use sand_testing::words::words_of;
+use std::alloc::Global;
 use std::io::{Read, Write};
 use std::process::Abort;
 use std::test::Fail;
 use std::thread::Threads;
 
-// Words of the command line, the program's name first.
-pub(crate) fn words_of(alloc: Global, line: &str) -> Result<Vec<String>, AllocError> {
-    let mut words = Vec::new(alloc);
-    for word in line.split_whitespace() {
-        words.push(String::from_str(alloc, word)?)?;
-    }
-    Ok(words)
-}
-
 /// How a command ended.
 #[derive(Drop)]
 pub(crate) struct Ending {
     pub(crate) is_usage: bool,
-    /// The line of the fault, empty where there is none.
+    /// The line of the fault, empty if there is none.
     pub(crate) line: Vec<u8>,
 }
 
-// How it ended, told as the program tells it.
+// How it ended, reported as the program reports it.
 pub(crate) fn ending_of(alloc: Global, answer: Result<(), DeskFault>) -> Result<Ending, Fail> {
     let mut line = Vec::new(alloc);
     let mut is_usage = false;
@@ -86,14 +78,5 @@ pub(crate) fn written<T: Threads + Sync>(
         text.extend_from_slice(b"usage")?;
     }
     text.extend_from_slice(ending.line.as_slice())?;
-    Ok(text)
-}
-
-// The text of a pile of this shape, which has so many sites, with three grains on each.
-pub(crate) fn threes(alloc: Global, shape: &str, sites: usize) -> Result<String, AllocError> {
-    let mut text = String::from_str(alloc, shape)?;
-    for _ in 0..sites {
-        text.push_str(" 3")?;
-    }
     Ok(text)
 }

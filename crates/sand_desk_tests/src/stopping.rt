@@ -1,19 +1,19 @@
 //! A writer and readers that stop, for the tests.
 //!
-//! A command promises most where the bytes of its reader and its writer are known, so these tell theirs: what the writer
-//! has taken, and what a reader has left.
+//! A command promises most if the bytes of its reader and its writer are known. So these say theirs: what the writer has taken,
+//! and what a reader has left.
 
 ghost use Rattle.std.specs.Prelude.{Some};
 
 use std::io;
 use std::io::{ErrorKind, Read, Write};
 
-/// Takes one byte a call, and stops after so many.
+/// Takes one byte a call, and stops after so many bytes.
 #[derive(Drop)]
 pub struct Sluggish {
     pub taken: Vec<u8>,
     pub room: usize,
-    /// Whether it answers 0 bytes then, in place of an error.
+    /// Whether it then returns 0 bytes instead of an error.
     pub is_full: bool,
     pub flushes: bool,
 }
@@ -64,7 +64,7 @@ impl Read for Failing<'_> {
     }
 }
 
-/// Gives its bytes as fast as it is asked for them, and fails after the last.
+/// Gives as many bytes as are requested, and fails after the last.
 #[derive(Drop)]
 pub struct Cut<'a> {
     pub bytes: &'a [u8],

@@ -11,7 +11,7 @@ const PILE: &[u8] = b"3 1\n0 4 0\n";
 
 const SETTLED: &[u8] = b"3 1\n1 0 1\nodometer\n0 1 0\nlost 2\ntopplings 1\n";
 
-// A writer that stops after so many bytes, whichever way, has them of the text, and the fault tells how many.
+// A writer that stops after so many bytes, in either way, has the first bytes of the text, and the fault says how many.
 fn stops_after<T: Threads + Sync + Abort>(
     rt: &T,
     alloc: Global,

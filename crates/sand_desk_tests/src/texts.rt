@@ -1,16 +1,17 @@
-//! Each reading and each text of the desk, called once by itself.
+//! Each reading and each text of the desk, called once.
 
 use sand_desk::{
     burn_text, journal_text, lab_text, pgm_text, pile_text, read_drops, read_pile, read_two,
     settle_text, table_text,
 };
 use sand_group::burn;
-use sand_lab::{Album, Open, Plan, Wish, run};
+use sand_lab::{Album, Open, Wish};
 use sand_settle::{Avalanche, settle};
+use sand_testing::runs::{QUIET, run_into};
 use std::test::Fail;
 
 #[test]
-fn readings(rt: HostRuntime) -> Result<(), Fail> {
+fn each_reading_returns_what_the_text_has(rt: HostRuntime) -> Result<(), Fail> {
     let alloc = rt.alloc();
     let pile = read_pile(alloc, b"2 1\n0 7").map_err(|_| "no pile")?;
     assert_eq!(rt; pile.heights(), [0, 7].as_slice());
@@ -26,7 +27,7 @@ fn readings(rt: HostRuntime) -> Result<(), Fail> {
 }
 
 #[test]
-fn texts(rt: HostRuntime) -> Result<(), Fail> {
+fn the_text_of_each_value(rt: HostRuntime) -> Result<(), Fail> {
     let alloc = rt.alloc();
     let pile = read_pile(alloc, b"2 1\n0 2").map_err(|_| "no pile")?;
     let text = pile_text(alloc, &pile).map_err(|_| "no text")?;
@@ -59,20 +60,18 @@ fn texts(rt: HostRuntime) -> Result<(), Fail> {
 }
 
 #[test]
-fn texts_of_a_report(rt: HostRuntime) -> Result<(), Fail> {
+fn the_texts_of_a_report(rt: HostRuntime) -> Result<(), Fail> {
     let alloc = rt.alloc();
     let start = read_pile(alloc, b"1 1\n3").map_err(|_| "no pile")?;
-    let plan = Plan::new(Wish {
-        seed: 0,
-        droppers: 1,
+    let wish = Wish {
         drops: 2,
         epochs: 2,
-        workers: 1,
         sweeps: 1,
         observers: 1,
-    })?;
+        ..QUIET
+    };
     let album = Album::new(alloc, 2)?;
-    let report = run(&rt, alloc, &start, &plan, &Open, &album)?;
+    let report = run_into(&rt, alloc, &start, wish, &Open, &album)?;
     let text = lab_text(alloc, &report).map_err(|_| "no text")?;
     assert_eq!(rt;
         text.as_slice(),

@@ -1,10 +1,11 @@
-//! What a reader sees of an album, before a run, beside it and after it.
+//! What a reader sees of an album before, during and after a run.
 
 ghost use Rattle.std.specs.Prelude.{◌≡◌};
 ghost use Rattle.sand_lab.specs.Albums.{IsPlace};
 
-use crate::setup::{QUIET, one_site, run_into};
 use sand_lab::{Album, Gate, LabFault, Note, Open, Role, Wish};
+use sand_testing::piles::one_site;
+use sand_testing::runs::{QUIET, run_into};
 use std::sync::atomic::AtomicU64;
 use std::sync::atomic::Ordering::SeqCst;
 use std::test::Fail;
@@ -91,7 +92,7 @@ fn two_threads_see_the_same(rt: HostRuntime) -> Result<(), Fail> {
     Ok(())
 }
 
-// Counts the places that show a picture, at each turn anew.
+// Counts, at each turn, the places that show a picture.
 #[derive(Drop)]
 struct Watch<'a> {
     album: &'a Album,

@@ -1,9 +1,10 @@
 //! Runs whose gates hold threads until others have begun a turn.
 
 use crate::holding::{Hold, Holds, dropper, observer, worker};
-use crate::setup::{QUIET, one_site, pile_on, run_gated};
+use crate::setup::run_gated;
 use sand_lab::Wish;
-use sand_model::Edge;
+use sand_testing::piles::{one_site, open_pile};
+use sand_testing::runs::QUIET;
 use std::alloc::Global;
 use std::process::Abort;
 use std::test::Fail;
@@ -45,7 +46,7 @@ fn a_worker_and_an_observer_meet(rt: HostRuntime) -> Result<(), Fail> {
     Ok(())
 }
 
-// The first tally of an observer, read after the gate was called before this drop and before the drop is made.
+// The first tally of an observer. It is read after the gate is called for this drop, and before the drop is made.
 fn tally_before<R: Threads + Sync + Abort>(
     rt: &R,
     alloc: Global,
@@ -74,8 +75,8 @@ fn an_observer_reads_between_two_drops(rt: HostRuntime) -> Result<(), Fail> {
     Ok(())
 }
 
-// One dropper is held until the other has dropped once, and this one is then held until the first has. So the journal
-// begins with a drop of each, in that order, whatever the threads would have done.
+// One dropper is held until the other has dropped once, and the other is then held until the first has dropped. So the
+// journal begins with a drop of each, in that order, however the threads are scheduled.
 fn drops_in_order<R: Threads + Sync + Abort>(
     rt: &R,
     alloc: Global,
@@ -116,7 +117,7 @@ fn the_drops_of_a_turn_are_made_together(rt: HostRuntime) -> Result<(), Fail> {
 
 // The dropper drops after the first sweep, and the worker sweeps again once it has begun.
 #[test]
-fn a_worker_sweeps_beside_a_dropper(rt: HostRuntime) -> Result<(), Fail> {
+fn a_worker_sweeps_while_a_dropper_drops(rt: HostRuntime) -> Result<(), Fail> {
     let start = one_site(rt.alloc(), 0)?;
     let wish = Wish {
         drops: 1,
@@ -133,10 +134,10 @@ fn a_worker_sweeps_beside_a_dropper(rt: HostRuntime) -> Result<(), Fail> {
     Ok(())
 }
 
-// Both droppers wait for the worker's last turn beside them, so it toppled nothing before, and one sweep is not enough.
+// Both droppers wait for the worker's last turn, so it topples nothing before, and one sweep is not enough.
 #[test]
 fn rounds_sweep_until_nothing_topples(rt: HostRuntime) -> Result<(), Fail> {
-    let start = pile_on(rt.alloc(), 8, 8, Edge::Open, &[3; 64])?;
+    let start = open_pile(rt.alloc(), 8, 8, &[3; 64])?;
     let wish = Wish {
         seed: 42,
         droppers: 2,

@@ -1,4 +1,4 @@
-//! A gate that holds threads until others have begun a turn: they get past it only where they work beside each other.
+//! A gate that holds threads until others have begun a turn: they get past it only if they work at the same time.
 
 use sand_lab::{Gate, Role};
 use std::sync::atomic::AtomicBool;
@@ -15,7 +15,7 @@ pub struct Turn {
     turn: u32,
 }
 
-/// Who is held at a turn, until which turn has begun.
+/// A turn at which a thread is held until another turn has begun.
 #[derive(Drop)]
 pub struct Hold {
     held: Turn,
@@ -32,7 +32,7 @@ impl Hold {
         }
     }
 
-    // Whether the turn has begun that is waited for, as soon as it has.
+    // Returns true as soon as the turn that is waited for has begun, and false if it does not begin.
     fn has_begun(&self) -> bool {
         for _ in 0..PATIENCE {
             if self.begun.load(SeqCst) {
@@ -43,7 +43,7 @@ impl Hold {
     }
 }
 
-/// Two holds, and whether one of them let go too early.
+/// Two holds, and whether one of them released its thread early.
 #[derive(Drop)]
 pub struct Holds {
     holds: [Hold; 2],
@@ -58,12 +58,12 @@ impl Holds {
         }
     }
 
-    /// Whether nobody was let go before the turn had begun that was waited for.
+    /// Whether no thread was released early.
     pub fn have_held(&self) -> bool {
         !self.failed.load(SeqCst)
     }
 
-    // Tells those who wait for a turn that it has begun.
+    // Tells the holds that wait for a turn that it has begun.
     fn begin(&self, turn: Turn) {
         for hold in &self.holds {
             if hold.until == turn {

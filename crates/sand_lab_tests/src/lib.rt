@@ -1,5 +1,5 @@
-//! Tests of `sand_lab`: worked examples, and what no clause says, that a call succeeds, that the threads of a run work
-//! beside each other, and that each calls the gate before each of its turns.
+//! Tests of `sand_lab`: worked examples, and what no clause says: that a call succeeds, that the threads of a run work at
+//! the same time, and that each calls the gate before each of its turns.
 #![tactic(auto)]
 
 #[cfg(test)]
@@ -7,8 +7,6 @@ mod album;
 #[cfg(test)]
 mod gates;
 pub mod holding;
-#[cfg(test)]
-mod likeness;
 #[cfg(test)]
 mod plan;
 #[cfg(test)]
@@ -22,6 +20,6 @@ mod spreading;
 #[cfg(test)]
 mod streams;
 #[cfg(test)]
-mod tallies;
+mod sweeps;
 #[cfg(test)]
 mod turns;

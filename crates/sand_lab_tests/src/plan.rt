@@ -1,7 +1,7 @@
 //! The limits of a plan, and the numbers of the faults.
 
-use crate::setup::QUIET;
 use sand_lab::{LabFault, Plan, Wish};
+use sand_testing::runs::QUIET;
 use std::alloc::AllocError;
 use std::test::Fail;
 
@@ -53,15 +53,6 @@ fn a_field_outside_its_limits(rt: HostRuntime) -> Result<(), Fail> {
 
 #[test]
 fn each_field_at_its_limits(rt: HostRuntime) -> Result<(), Fail> {
-    let least = Wish {
-        seed: 0,
-        droppers: 1,
-        drops: 0,
-        epochs: 1,
-        workers: 1,
-        sweeps: 0,
-        observers: 0,
-    };
     let greatest = Wish {
         seed: u64::MAX,
         droppers: 64,
@@ -71,7 +62,7 @@ fn each_field_at_its_limits(rt: HostRuntime) -> Result<(), Fail> {
         sweeps: 1000,
         observers: 16,
     };
-    for wish in [least, greatest] {
+    for wish in [QUIET, greatest] {
         let plan = Plan::new(wish)?;
         assert_eq!(rt; plan.wish(), wish);
     }

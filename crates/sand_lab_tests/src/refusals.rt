@@ -1,8 +1,10 @@
-//! What a run refuses, and which of two faults is told.
+//! What a run refuses, and which of two faults is reported.
 
-use crate::setup::{QUIET, assert_one_left, one_site, run_into, run_on};
+use crate::setup::{assert_one_left, run_on};
 use sand_lab::{Album, LabFault, Open, Report, Wish};
 use sand_model::GRAIN_LIMIT;
+use sand_testing::piles::one_site;
+use sand_testing::runs::{QUIET, run_into};
 use std::test::Fail;
 
 // The number of a fault, or 0.

@@ -1,8 +1,10 @@
 //! Runs on piles that were worked out by hand.
 
-use crate::setup::{Left, QUIET, assert_left, assert_one_left, one_site, pile_on, run_on};
+use crate::setup::{Left, assert_left, assert_one_left, run_on};
 use sand_lab::{Entry, Wish};
 use sand_model::Edge;
+use sand_testing::piles::{one_site, open_pile, pile_on};
+use sand_testing::runs::QUIET;
 use std::test::Fail;
 
 #[test]
@@ -77,7 +79,7 @@ fn droppers_that_drop_nothing(rt: HostRuntime) -> Result<(), Fail> {
 
 #[test]
 fn more_workers_than_rows(rt: HostRuntime) -> Result<(), Fail> {
-    let start = pile_on(rt.alloc(), 3, 1, Edge::Open, &[4, 4, 4])?;
+    let start = open_pile(rt.alloc(), 3, 1, &[4, 4, 4])?;
     let wish = Wish {
         workers: 16,
         sweeps: 2,
@@ -89,6 +91,30 @@ fn more_workers_than_rows(rt: HostRuntime) -> Result<(), Fail> {
         odometer: &[1, 1, 1],
         topplings: 3,
         lost: 8,
+    };
+    assert_left(&rt, report.total(), left);
+    Ok(())
+}
+
+#[test]
+fn three_droppers_on_a_cylinder(rt: HostRuntime) -> Result<(), Fail> {
+    let heights = [2, 3, 1, 3, 5, 3, 3, 3, 0, 2, 3, 9, 3, 3, 1];
+    let start = pile_on(rt.alloc(), 5, 3, Edge::Cylinder, &heights)?;
+    let wish = Wish {
+        seed: 11,
+        droppers: 3,
+        drops: 40,
+        epochs: 2,
+        workers: 2,
+        sweeps: 5,
+        ..QUIET
+    };
+    let report = run_on(&rt, rt.alloc(), &start, wish)?;
+    let left = Left {
+        heights: &[3, 1, 3, 3, 2, 2, 1, 1, 3, 1, 3, 3, 1, 3, 2],
+        odometer: &[24, 26, 23, 24, 24, 35, 36, 33, 34, 35, 26, 28, 26, 25, 26],
+        topplings: 425,
+        lost: 252,
     };
     assert_left(&rt, report.total(), left);
     Ok(())

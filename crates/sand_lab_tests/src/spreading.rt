@@ -1,10 +1,9 @@
 //! What a run leaves is the same however its work is spread over threads, and however they take turns.
 
-use crate::setup::{Left, QUIET, assert_left, pile_on, run_on};
-use sand_lab::{Report, Wish, sites_of};
-use sand_model::{Edge, Shape};
-use std::alloc::Global;
-use std::process::Abort;
+use crate::setup::{Left, assert_left, run_on};
+use sand_lab::Wish;
+use sand_testing::piles::open_pile;
+use sand_testing::runs::QUIET;
 use std::test::Fail;
 
 const SQUARE: Wish = Wish {
@@ -43,29 +42,9 @@ const LEFT: Left<'static> = Left {
     lost: 272,
 };
 
-// In each epoch's journal each of two droppers has the sites of its own stream, in order.
-fn assert_streams(
-    rt: &impl Abort,
-    alloc: Global,
-    report: &Report,
-    shape: Shape,
-) -> Result<(), Fail> {
-    for (epoch, dropper, stream) in [(0, 0, 0), (0, 1, 1), (1, 0, 64), (1, 1, 65)] {
-        assert!(rt; (epoch as usize) < report.records().len());
-        let dropped = report
-            .journal(epoch)
-            .iter()
-            .filter(|entry| entry.dropper == dropper)
-            .map(|entry| entry.site);
-        let sites = sites_of(alloc, shape, SQUARE.seed, stream, SQUARE.drops)?;
-        assert!(rt; dropped.eq(sites.iter().copied()), "stream {stream}");
-    }
-    Ok(())
-}
-
 #[test]
 fn the_same_however_it_is_spread(rt: HostRuntime) -> Result<(), Fail> {
-    let start = pile_on(rt.alloc(), 8, 8, Edge::Open, &[3; 64])?;
+    let start = open_pile(rt.alloc(), 8, 8, &[3; 64])?;
     for (workers, sweeps, observers) in SPREADS {
         let wish = Wish {
             workers,
@@ -75,14 +54,13 @@ fn the_same_however_it_is_spread(rt: HostRuntime) -> Result<(), Fail> {
         };
         let report = run_on(&rt, rt.alloc(), &start, wish)?;
         assert_left(&rt, report.total(), LEFT);
-        assert_streams(&rt, rt.alloc(), &report, start.shape())?;
     }
     Ok(())
 }
 
 #[test]
 fn a_hundred_runs_are_alike(rt: HostRuntime) -> Result<(), Fail> {
-    let start = pile_on(rt.alloc(), 4, 4, Edge::Open, &[3; 16])?;
+    let start = open_pile(rt.alloc(), 4, 4, &[3; 16])?;
     let wish = Wish {
         seed: 5,
         droppers: 3,

@@ -4,68 +4,59 @@ use sand_lab::sites_of;
 use sand_model::Shape;
 use std::test::Fail;
 
-// The first eighteen sites of a stream, of which two are of the second block.
-#[derive(Clone, Copy)]
-struct Row {
-    seed: u64,
-    stream: u64,
-    sites: [usize; 18],
-}
-
-// The first row is the published keystream of ChaCha8 under the key of zeros, which begins 3e 00 ef 2f 89 5f 40 d6.
+// Seeds, streams, and the first eighteen sites, of which two are of the second block. The first row is the published keystream
+// of ChaCha8 under the key of zeros, which begins 3e 00 ef 2f 89 5f 40 d6.
 #[test]
 fn the_low_halves_of_the_words(rt: HostRuntime) -> Result<(), Fail> {
     let rows = [
-        Row {
-            seed: 0,
-            stream: 0,
-            sites: [
+        (
+            0,
+            0,
+            [
                 62, 24457, 23423, 2335, 33836, 39630, 6936, 29167, 19608, 8633, 17567, 27973,
                 18993, 34522, 31544, 3086, 44754, 42474,
             ],
-        },
-        Row {
-            seed: 1,
-            stream: 0,
-            sites: [
+        ),
+        (
+            1,
+            0,
+            [
                 24271, 19017, 1342, 23410, 62482, 25582, 12602, 1140, 40232, 30012, 60246, 39140,
                 55436, 25399, 8850, 64216, 13748, 56723,
             ],
-        },
-        Row {
-            seed: 0,
-            stream: 1,
-            sites: [
+        ),
+        (
+            0,
+            1,
+            [
                 36651, 33657, 12369, 36175, 41018, 48833, 3849, 55200, 61567, 45675, 14869, 35784,
                 49667, 30932, 47138, 219, 2887, 35012,
             ],
-        },
-        Row {
-            seed: 0,
-            stream: 64,
-            sites: [
+        ),
+        (
+            0,
+            64,
+            [
                 23209, 57188, 43968, 49684, 3679, 23711, 38479, 47073, 29433, 17779, 37008, 58848,
                 49045, 32499, 1157, 46118, 40663, 59953,
             ],
-        },
-        Row {
-            seed: 0x0123_4567_89ab_cdef,
-            stream: 4_294_967_301,
-            sites: [
+        ),
+        (
+            0x0123_4567_89ab_cdef,
+            4_294_967_301,
+            [
                 51062, 45171, 36068, 19438, 6527, 11341, 37981, 17973, 3937, 57268, 39276, 7276,
                 48535, 64991, 23825, 64282, 62618, 54091,
             ],
-        },
+        ),
     ];
     let square = Shape::new(256, 256)?;
-    for row in rows {
-        let sites = sites_of(rt.alloc(), square, row.seed, row.stream, 18)?;
+    for (seed, stream, first) in rows {
+        let sites = sites_of(rt.alloc(), square, seed, stream, 18)?;
         assert_eq!(rt;
             sites.as_slice(),
-            row.sites.as_slice(),
-            "of seed {}, stream {}",
-            row.seed,
-            row.stream
+            first.as_slice(),
+            "of seed {seed}, stream {stream}"
         );
     }
     Ok(())

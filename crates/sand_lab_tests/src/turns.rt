@@ -1,7 +1,9 @@
 //! How often a gate is called.
 
-use crate::setup::{QUIET, one_site, run_gated};
+use crate::setup::run_gated;
 use sand_lab::{Gate, Role, Wish};
+use sand_testing::piles::one_site;
+use sand_testing::runs::QUIET;
 use std::sync::atomic::Ordering::SeqCst;
 use std::sync::atomic::{AtomicBool, AtomicU32};
 use std::test::Fail;
@@ -84,7 +86,7 @@ fn a_gate_is_called_before_each_turn(rt: HostRuntime) -> Result<(), Fail> {
     Ok(())
 }
 
-// So many drops make turns of more than one, and a last one that is shorter.
+// These numbers of drops make turns of more than one drop, and a shorter last turn.
 #[test]
 fn a_gate_is_called_before_each_drop_of_a_turn(rt: HostRuntime) -> Result<(), Fail> {
     let start = one_site(rt.alloc(), 0)?;

@@ -1,24 +1,16 @@
-//! Whole commands, from bytes to bytes: nothing is written where memory was refused.
+//! Whole commands, from bytes to bytes: nothing is written if an allocation fails.
 
 use crate::memory::{refuse, was_refused};
 use crate::trying::{MEMORY, MOST_REQUESTS, Refused, Spares, tell_refused};
 use sand_desk::run_command;
-use std::alloc::{AllocError, Global};
+use sand_testing::words::words_of;
+use std::alloc::Global;
 use std::process::Abort;
 use std::test::Fail;
 use std::thread::Threads;
 
-// Words of the command line, the program's name first.
-fn words_of(alloc: Global, line: &str) -> Result<Vec<String>, AllocError> {
-    let mut words = Vec::new(alloc);
-    for word in line.split_whitespace() {
-        words.push(String::from_str(alloc, word)?)?;
-    }
-    Ok(words)
-}
-
-// One try of a command, over a new reader and a writer that has room, and where it was refused memory one more. Answers
-// whether a request was refused, and whether it did without.
+// One try of a command, over a new reader and a writer that has room, and one more if it ran out of memory. Returns whether a
+// request was refused, and whether the command did without it.
 fn tried_at<R: Threads + Sync + Abort>(
     rt: &R,
     alloc: Global,
@@ -77,7 +69,7 @@ fn each_refused_of<R: Threads + Sync + Print + Abort>(
 }
 
 #[test]
-fn settle(rt: HostRuntime) -> Result<(), Fail> {
+fn settle_reports_out_of_memory(rt: HostRuntime) -> Result<(), Fail> {
     let alloc = rt.alloc();
     each_refused_of(
         &rt,
@@ -103,7 +95,7 @@ fn settle(rt: HostRuntime) -> Result<(), Fail> {
 }
 
 #[test]
-fn burn(rt: HostRuntime) -> Result<(), Fail> {
+fn burn_reports_out_of_memory(rt: HostRuntime) -> Result<(), Fail> {
     each_refused_of(
         &rt,
         rt.alloc(),
@@ -114,19 +106,19 @@ fn burn(rt: HostRuntime) -> Result<(), Fail> {
 }
 
 #[test]
-fn identity(rt: HostRuntime) -> Result<(), Fail> {
+fn identity_reports_out_of_memory(rt: HostRuntime) -> Result<(), Fail> {
     let line = "sandpile identity --width 3 --height 3";
     each_refused_of(&rt, rt.alloc(), line, b"", Spares::Nothing)
 }
 
 #[test]
-fn add(rt: HostRuntime) -> Result<(), Fail> {
+fn add_reports_out_of_memory(rt: HostRuntime) -> Result<(), Fail> {
     let sum = b"2 1\n3 1\n2 1\n3 3\n";
     each_refused_of(&rt, rt.alloc(), "sandpile add", sum, Spares::Nothing)
 }
 
 #[test]
-fn inverse(rt: HostRuntime) -> Result<(), Fail> {
+fn inverse_reports_out_of_memory(rt: HostRuntime) -> Result<(), Fail> {
     each_refused_of(
         &rt,
         rt.alloc(),
@@ -137,7 +129,7 @@ fn inverse(rt: HostRuntime) -> Result<(), Fail> {
 }
 
 #[test]
-fn recurrent(rt: HostRuntime) -> Result<(), Fail> {
+fn recurrent_reports_out_of_memory(rt: HostRuntime) -> Result<(), Fail> {
     each_refused_of(
         &rt,
         rt.alloc(),
@@ -148,31 +140,31 @@ fn recurrent(rt: HostRuntime) -> Result<(), Fail> {
 }
 
 #[test]
-fn drops(rt: HostRuntime) -> Result<(), Fail> {
+fn drops_reports_out_of_memory(rt: HostRuntime) -> Result<(), Fail> {
     let full = b"3 3\n3 3 3\n3 3 3\n3 3 3\n4 0\n";
     each_refused_of(&rt, rt.alloc(), "sandpile drops", full, Spares::Nothing)
 }
 
 #[test]
-fn drops_at_random(rt: HostRuntime) -> Result<(), Fail> {
+fn drawn_drops_report_out_of_memory(rt: HostRuntime) -> Result<(), Fail> {
     let line = "sandpile drops --count 3 --seed 7";
     each_refused_of(&rt, rt.alloc(), line, b"3 1\n0 4 0\n", Spares::Nothing)
 }
 
 #[test]
-fn lab(rt: HostRuntime) -> Result<(), Fail> {
+fn lab_reports_out_of_memory(rt: HostRuntime) -> Result<(), Fail> {
     let line = "sandpile lab --droppers 2 --drops 3 --epochs 2";
     each_refused_of(&rt, rt.alloc(), line, b"1 1\n0\n", Spares::Thread)
 }
 
 #[test]
-fn lab_of_a_pile_alone(rt: HostRuntime) -> Result<(), Fail> {
+fn lab_of_a_pile_alone_reports_out_of_memory(rt: HostRuntime) -> Result<(), Fail> {
     let line = "sandpile lab --droppers 2 --drops 3 --epochs 2 --pile";
     each_refused_of(&rt, rt.alloc(), line, b"1 1\n0\n", Spares::Thread)
 }
 
 #[test]
-fn lab_with_a_journal(rt: HostRuntime) -> Result<(), Fail> {
+fn lab_with_a_journal_reports_out_of_memory(rt: HostRuntime) -> Result<(), Fail> {
     let line = "sandpile lab --droppers 1 --drops 2 --journal";
     each_refused_of(&rt, rt.alloc(), line, b"1 1\n0\n", Spares::Thread)
 }

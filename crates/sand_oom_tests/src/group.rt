@@ -1,53 +1,53 @@
 //! The burning test and the group of recurrent piles.
 
-use crate::piles::pile_on;
 use crate::trying::{Spares, each_refused};
 use sand_group::{Recurrent, act, add, burn, equivalent_recurrent, identity, inverse};
 use sand_model::{Pile, Shape};
+use sand_testing::piles::open_pile;
 use std::alloc::Global;
 use std::test::Fail;
 
 // Two sites of so many grains, which are recurrent.
 fn recurrent(alloc: Global, heights: [u64; 2]) -> Result<Recurrent, Fail> {
-    let pile = pile_on(alloc, 2, 1, &heights)?;
+    let pile = open_pile(alloc, 2, 1, &heights)?;
     let recurrent = Recurrent::from_pile(alloc, &pile)?;
     Ok(recurrent)
 }
 
 #[test]
-fn burning_all(rt: HostRuntime) -> Result<(), Fail> {
+fn burn_of_a_recurrent_pile_reports_out_of_memory(rt: HostRuntime) -> Result<(), Fail> {
     each_refused(
         &rt,
         rt.alloc(),
         "burn, where the pile is recurrent",
         Spares::Nothing,
-        |alloc: Global| pile_on(alloc, 3, 1, &[1, 0, 1]),
+        |alloc: Global| open_pile(alloc, 3, 1, &[1, 0, 1]),
         |alloc: Global, pile: &mut Pile| burn(alloc, pile).map_err(|fault| fault.number()),
     )?;
     Ok(())
 }
 
 #[test]
-fn burning_some(rt: HostRuntime) -> Result<(), Fail> {
+fn burn_with_a_forbidden_set_reports_out_of_memory(rt: HostRuntime) -> Result<(), Fail> {
     each_refused(
         &rt,
         rt.alloc(),
         "burn, where a set is forbidden",
         Spares::Nothing,
-        |alloc: Global| pile_on(alloc, 3, 1, &[0, 0, 3]),
+        |alloc: Global| open_pile(alloc, 3, 1, &[0, 0, 3]),
         |alloc: Global, pile: &mut Pile| burn(alloc, pile).map_err(|fault| fault.number()),
     )?;
     Ok(())
 }
 
 #[test]
-fn taking_a_pile(rt: HostRuntime) -> Result<(), Fail> {
+fn from_pile_reports_out_of_memory(rt: HostRuntime) -> Result<(), Fail> {
     each_refused(
         &rt,
         rt.alloc(),
         "Recurrent::from_pile",
         Spares::Nothing,
-        |alloc: Global| pile_on(alloc, 2, 1, &[3, 1]),
+        |alloc: Global| open_pile(alloc, 2, 1, &[3, 1]),
         |alloc: Global, pile: &mut Pile| {
             Recurrent::from_pile(alloc, pile).map_err(|fault| fault.number())
         },
@@ -56,7 +56,7 @@ fn taking_a_pile(rt: HostRuntime) -> Result<(), Fail> {
 }
 
 #[test]
-fn adding(rt: HostRuntime) -> Result<(), Fail> {
+fn add_reports_out_of_memory(rt: HostRuntime) -> Result<(), Fail> {
     each_refused(
         &rt,
         rt.alloc(),
@@ -71,7 +71,7 @@ fn adding(rt: HostRuntime) -> Result<(), Fail> {
 }
 
 #[test]
-fn neutral(rt: HostRuntime) -> Result<(), Fail> {
+fn identity_reports_out_of_memory(rt: HostRuntime) -> Result<(), Fail> {
     let shape = Shape::new(3, 3)?;
     each_refused(
         &rt,
@@ -85,7 +85,7 @@ fn neutral(rt: HostRuntime) -> Result<(), Fail> {
 }
 
 #[test]
-fn inverting(rt: HostRuntime) -> Result<(), Fail> {
+fn inverse_reports_out_of_memory(rt: HostRuntime) -> Result<(), Fail> {
     each_refused(
         &rt,
         rt.alloc(),
@@ -98,7 +98,7 @@ fn inverting(rt: HostRuntime) -> Result<(), Fail> {
 }
 
 #[test]
-fn acting(rt: HostRuntime) -> Result<(), Fail> {
+fn act_reports_out_of_memory(rt: HostRuntime) -> Result<(), Fail> {
     each_refused(
         &rt,
         rt.alloc(),
@@ -116,13 +116,13 @@ fn acting(rt: HostRuntime) -> Result<(), Fail> {
 }
 
 #[test]
-fn finding_the_equivalent(rt: HostRuntime) -> Result<(), Fail> {
+fn equivalent_recurrent_reports_out_of_memory(rt: HostRuntime) -> Result<(), Fail> {
     each_refused(
         &rt,
         rt.alloc(),
         "equivalent_recurrent",
         Spares::Nothing,
-        |alloc: Global| pile_on(alloc, 3, 1, &[5, 0, 1]),
+        |alloc: Global| open_pile(alloc, 3, 1, &[5, 0, 1]),
         |alloc: Global, pile: &mut Pile| {
             equivalent_recurrent(alloc, pile).map_err(|fault| fault.number())
         },

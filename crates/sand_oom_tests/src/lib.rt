@@ -1,13 +1,12 @@
 //! Each call that takes memory, with each of its requests refused in turn; and each call that takes none, with all
 //! refused.
 //!
-//! A call is made again and again. First its first request for memory is refused, then its second, and so on until none
-//! is. Each time it answers want of memory and nothing else, leaves what it was lent as it was, and then, made once more
-//! on the same things, answers what a call answers that nobody disturbs.
+//! A call is made again and again. First its first request for memory is refused, then its second, and so on until none is.
+//! Each time it returns out of memory and nothing else, and leaves what it borrowed unchanged. Then it is made once more on
+//! the same things, and returns what it always returns.
 //!
 //! No program can refuse itself memory. `refusals/run`, which the gate calls, loads a library that does; under `rt ci`
-//! alone nothing is refused, so that each call is only made, and made again. Each trial tells how many requests of its
-//! call were refused.
+//! alone nothing is refused, and each call is only made twice. Each trial prints how many requests of its call were refused.
 #![tactic(auto)]
 
 #[cfg(test)]

@@ -1,8 +1,8 @@
 //! Requests for memory that are refused at will.
 //!
-//! The library that refuses answers every request of the program. So a request for more than any machine has is a word to
-//! it: by how much it is more says what is wanted, and whether it is granted is the answer. Without the library no such
-//! request is granted, and nothing else is refused.
+//! The library that refuses sees every request of the program. So a request for more than any machine has is a message to it:
+//! the amount says what is wanted, and whether it is granted is the reply. Without the library no such request is granted, and
+//! nothing else is refused.
 
 use std::alloc::Global;
 
@@ -12,13 +12,13 @@ const END: usize = IS_HERE + 1;
 
 const BEGIN: usize = IS_HERE + 2;
 
-// The library keeps to its own the memory that it grants here, so none of it may be used.
+// The memory that the library grants here must not be used.
 fn is_granted(alloc: Global, wish: usize) -> bool {
     let mut block: Vec<u8> = Vec::new(alloc);
     block.reserve_exact(wish).is_ok()
 }
 
-/// Whether the library is here.
+/// Whether the library is loaded.
 pub fn can_refuse(alloc: Global) -> bool {
     is_granted(alloc, IS_HERE)
 }
@@ -28,7 +28,7 @@ pub fn refuse(alloc: Global, number: u32) {
     is_granted(alloc, BEGIN + number as usize);
 }
 
-/// From now on no request is refused. Answers whether one was.
+/// From now on no request is refused. Returns whether one was.
 pub fn was_refused(alloc: Global) -> bool {
     is_granted(alloc, END)
 }

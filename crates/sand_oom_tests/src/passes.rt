@@ -3,11 +3,14 @@
 ghost use Rattle.std.specs.Prelude.{◌≡◌, IfOk};
 
 use crate::memory::{refuse, was_refused};
-use crate::piles::{full, pile_on};
+use crate::piles::full;
 use crate::telling::Told;
 use crate::trying::{MEMORY, MOST_REQUESTS, Refused, Spares, each_refused, tell_refused};
 use sand_model::{GRAIN_LIMIT, Pile, Shape};
 use sand_shared::{CloseFault, JoinFault, Pass, Record, SharedPile, SiteCounts, SplitFault};
+use sand_testing::piles::{one_site, open_pile};
+use sand_testing::records::is_record;
+use sand_testing::shared;
 use std::alloc::Global;
 use std::process::Abort;
 use std::test::Fail;
@@ -27,23 +30,8 @@ fn view(pass: &Pass) -> (u64, usize, u64, (u16, u16)) {
     (pass.left(), pass.receipts().len(), pass.seen(), pass.rows())
 }
 
-// The history, the heights, the odometer and the grains lost.
-fn assert_record(
-    rt: &impl Abort,
-    record: &Record,
-    history: &[usize],
-    heights: &[u64],
-    odometer: &[u64],
-    lost: u64,
-) {
-    assert!(rt; record.history() == history);
-    assert!(rt; record.pile().heights() == heights);
-    assert!(rt; record.odometers() == odometer);
-    assert_eq!(rt; record.lost(), lost);
-}
-
 #[test]
-fn sharing(rt: HostRuntime) -> Result<(), Fail> {
+fn new_shared_pile_reports_out_of_memory(rt: HostRuntime) -> Result<(), Fail> {
     each_refused(
         &rt,
         rt.alloc(),
@@ -58,7 +46,7 @@ fn sharing(rt: HostRuntime) -> Result<(), Fail> {
 }
 
 #[test]
-fn making_room_for_counts(rt: HostRuntime) -> Result<(), Fail> {
+fn new_site_counts_report_out_of_memory(rt: HostRuntime) -> Result<(), Fail> {
     let shape = Shape::new(3, 3)?;
     each_refused(
         &rt,
@@ -76,7 +64,7 @@ fn making_room_for_counts(rt: HostRuntime) -> Result<(), Fail> {
 }
 
 #[test]
-fn splitting(rt: HostRuntime) -> Result<(), Fail> {
+fn split_reports_out_of_memory(rt: HostRuntime) -> Result<(), Fail> {
     let alloc = rt.alloc();
     let start = full(alloc)?;
     for number in 1..MOST_REQUESTS {
@@ -105,7 +93,7 @@ fn splitting(rt: HostRuntime) -> Result<(), Fail> {
 }
 
 #[test]
-fn splitting_rows(rt: HostRuntime) -> Result<(), Fail> {
+fn split_rows_reports_out_of_memory(rt: HostRuntime) -> Result<(), Fail> {
     let alloc = rt.alloc();
     let start = full(alloc)?;
     for number in 1..MOST_REQUESTS {
@@ -135,9 +123,9 @@ fn splitting_rows(rt: HostRuntime) -> Result<(), Fail> {
 
 // A pass of quota 2 that has dropped twice is joined to a child of quota 2, which has to grow for its receipts.
 #[test]
-fn joining(rt: HostRuntime) -> Result<(), Fail> {
+fn join_reports_out_of_memory(rt: HostRuntime) -> Result<(), Fail> {
     let alloc = rt.alloc();
-    let start = pile_on(alloc, 1, 1, &[0])?;
+    let start = one_site(alloc, 0)?;
     assert!(rt; 0 < start.shape().sites());
     for number in 1..MOST_REQUESTS {
         let (pile, mut pass) = SharedPile::new(alloc, &start, 4)?;
@@ -161,8 +149,8 @@ fn joining(rt: HostRuntime) -> Result<(), Fail> {
             assert!(rt; pile.join(alloc, &mut child, pass).is_ok());
         }
         assert!(rt; view(&child) == (0, 4, 4, (0, 1)));
-        let record = pile.close(alloc, child).ok().ok_or("close")?;
-        assert_record(&rt, &record, &[0, 0, 0, 0], &[0], &[1], 4);
+        let record = shared::closed(alloc, pile, child)?;
+        assert!(rt; is_record(&record, &[0, 0, 0, 0], &[0], &[1], 4));
         if !was_refused {
             return tell_refused(&rt, alloc, "SharedPile::join", every(number - 1));
         }
@@ -171,9 +159,9 @@ fn joining(rt: HostRuntime) -> Result<(), Fail> {
 }
 
 #[test]
-fn closing(rt: HostRuntime) -> Result<(), Fail> {
+fn close_reports_out_of_memory(rt: HostRuntime) -> Result<(), Fail> {
     let alloc = rt.alloc();
-    let start = pile_on(alloc, 2, 1, &[4, 4])?;
+    let start = open_pile(alloc, 2, 1, &[4, 4])?;
     for number in 1..MOST_REQUESTS {
         let (pile, pass) = SharedPile::new(alloc, &start, 0)?;
         refuse(alloc, number);
@@ -189,10 +177,10 @@ fn closing(rt: HostRuntime) -> Result<(), Fail> {
                 assert!(rt; view(&pass) == (0, 0, 0, (0, 1)));
                 // Nothing has toppled: a sweep still finds both sites.
                 assert_eq!(rt; pile.sweep(&mut pass), 2);
-                pile.close(alloc, pass).ok().ok_or("close")?
+                shared::closed(alloc, pile, pass)?
             }
         };
-        assert_record(&rt, &record, &[], &[1, 1], &[1, 1], 6);
+        assert!(rt; is_record(&record, &[], &[1, 1], &[1, 1], 6));
         if !was_refused {
             return tell_refused(&rt, alloc, "SharedPile::close", every(number - 1));
         }
@@ -202,9 +190,9 @@ fn closing(rt: HostRuntime) -> Result<(), Fail> {
 
 // A pass that has swept keeps its counts, and nothing topples a second time.
 #[test]
-fn closing_what_was_swept(rt: HostRuntime) -> Result<(), Fail> {
+fn close_after_a_sweep_reports_out_of_memory(rt: HostRuntime) -> Result<(), Fail> {
     let alloc = rt.alloc();
-    let start = pile_on(alloc, 2, 1, &[4, 4])?;
+    let start = open_pile(alloc, 2, 1, &[4, 4])?;
     assert!(rt; start.shape().width() == 2 && start.shape().height() == 1);
     for number in 1..MOST_REQUESTS {
         let (pile, mut pass) = SharedPile::new(alloc, &start, 0)?;
@@ -221,10 +209,10 @@ fn closing_what_was_swept(rt: HostRuntime) -> Result<(), Fail> {
                 assert!(rt; was_refused && matches!(fault, CloseFault::Memory(_)));
                 assert_eq!(rt; (pass.toppled(0), pass.toppled(1)), (1, 1));
                 assert_eq!(rt; pile.sweep(&mut pass), 0);
-                pile.close(alloc, pass).ok().ok_or("close")?
+                shared::closed(alloc, pile, pass)?
             }
         };
-        assert_record(&rt, &record, &[], &[1, 1], &[1, 1], 6);
+        assert!(rt; is_record(&record, &[], &[1, 1], &[1, 1], 6));
         if !was_refused {
             return tell_refused(
                 &rt,
@@ -239,9 +227,9 @@ fn closing_what_was_swept(rt: HostRuntime) -> Result<(), Fail> {
 
 // What toppled in place stays counted, and the rest is still there to be settled.
 #[test]
-fn settling_what_was_swept(rt: HostRuntime) -> Result<(), Fail> {
+fn settle_after_a_sweep_reports_out_of_memory(rt: HostRuntime) -> Result<(), Fail> {
     let alloc = rt.alloc();
-    let start = pile_on(alloc, 2, 1, &[7, 7])?;
+    let start = open_pile(alloc, 2, 1, &[7, 7])?;
     assert!(rt; start.shape().width() == 2 && start.shape().height() == 1);
     for number in 1..MOST_REQUESTS {
         let (pile, mut pass) = SharedPile::new(alloc, &start, 1)?;
@@ -262,7 +250,7 @@ fn settling_what_was_swept(rt: HostRuntime) -> Result<(), Fail> {
                 pile.settle(alloc, pass).ok().ok_or("settle")?
             }
         };
-        assert_record(&rt, &record, &[1], &[1, 2], &[2, 2], 12);
+        assert!(rt; is_record(&record, &[1], &[1, 2], &[2, 2], 12));
         if !was_refused {
             return tell_refused(
                 &rt,
@@ -289,7 +277,7 @@ fn closed(rt: &impl Abort, alloc: Global, start: &Pile, drops: usize) -> Result<
 }
 
 #[test]
-fn copying_a_record(rt: HostRuntime) -> Result<(), Fail> {
+fn copy_of_a_record_reports_out_of_memory(rt: HostRuntime) -> Result<(), Fail> {
     let start = full(rt.alloc())?;
     let record = closed(&rt, rt.alloc(), &start, 5)?;
     each_refused(
@@ -304,7 +292,7 @@ fn copying_a_record(rt: HostRuntime) -> Result<(), Fail> {
 }
 
 #[test]
-fn following(rt: HostRuntime) -> Result<(), Fail> {
+fn followed_by_reports_out_of_memory(rt: HostRuntime) -> Result<(), Fail> {
     let start = full(rt.alloc())?;
     let first = closed(&rt, rt.alloc(), &start, 5)?;
     let second = closed(&rt, rt.alloc(), first.pile(), 3)?;

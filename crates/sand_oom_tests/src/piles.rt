@@ -2,23 +2,17 @@
 
 use crate::trying::{Spares, each_refused};
 use sand_model::{Pile, Shape};
+use sand_testing::piles::open_pile;
 use std::alloc::Global;
 use std::test::Fail;
 
 /// Three by three sites of three grains.
 pub fn full(alloc: Global) -> Result<Pile, Fail> {
-    pile_on(alloc, 3, 3, &[3; 9])
-}
-
-/// A pile on a grid with open edges.
-pub fn pile_on(alloc: Global, width: usize, height: usize, heights: &[u64]) -> Result<Pile, Fail> {
-    let shape = Shape::new(width, height)?;
-    let pile = Pile::new(alloc, shape, heights)?;
-    Ok(pile)
+    open_pile(alloc, 3, 3, &[3; 9])
 }
 
 #[test]
-fn making(rt: HostRuntime) -> Result<(), Fail> {
+fn new_pile_reports_out_of_memory(rt: HostRuntime) -> Result<(), Fail> {
     let shape = Shape::new(3, 1)?;
     let made = each_refused(
         &rt,
@@ -35,7 +29,7 @@ fn making(rt: HostRuntime) -> Result<(), Fail> {
 }
 
 #[test]
-fn copying(rt: HostRuntime) -> Result<(), Fail> {
+fn copy_of_a_pile_reports_out_of_memory(rt: HostRuntime) -> Result<(), Fail> {
     each_refused(
         &rt,
         rt.alloc(),

@@ -1,22 +1,20 @@
-//! Calls that take no memory: with every request refused they answer as ever, and no request was made.
-
-ghost use Rattle.std.specs.Prelude.{◌≡◌, ℕ, ◌<◌, IfOk, length};
-ghost use Rattle.sand_lab.specs.Reports.{sheet_at};
+//! Calls that take no memory: if every request is refused, they return what they always return, and no request was made.
 
 use crate::memory::{refuse, was_refused};
-use crate::piles::{full, pile_on};
+use crate::piles::full;
 use sand_desk::{DeskFault, read_pile, status, write_fault};
 use sand_group::Recurrent;
-use sand_lab::{Album, Gate, LabFault, Open, Plan, Report, Role, Wish, run};
-use sand_model::{Edge, GRAIN_LIMIT, Pile, Shape, laws, topple};
+use sand_lab::{Album, Gate, Open, Plan, Role, Wish};
+use sand_model::{Edge, GRAIN_LIMIT, Pile, Shape, topple};
 use sand_settle::{OnePile, settle};
 use sand_shared::{SharedPile, SiteCounts};
-use std::alloc::Global;
+use sand_testing::piles::{one_site, open_pile};
+use sand_testing::runs::{QUIET, run_into};
+use sand_testing::shared::closed;
 use std::test::Fail;
-use std::thread::Threads;
 
 #[test]
-fn shapes(rt: HostRuntime) -> Result<(), Fail> {
+fn shapes_take_no_memory(rt: HostRuntime) -> Result<(), Fail> {
     let alloc = rt.alloc();
     refuse(alloc, 0);
     assert!(rt; Shape::new(0, 1).is_err());
@@ -33,7 +31,7 @@ fn shapes(rt: HostRuntime) -> Result<(), Fail> {
 }
 
 #[test]
-fn piles(rt: HostRuntime) -> Result<(), Fail> {
+fn piles_take_no_memory(rt: HostRuntime) -> Result<(), Fail> {
     let alloc = rt.alloc();
     let shape = Shape::new(2, 1)?;
     let mut heights = Vec::new(alloc);
@@ -55,9 +53,9 @@ fn piles(rt: HostRuntime) -> Result<(), Fail> {
 }
 
 #[test]
-fn a_pile_at_the_limit(rt: HostRuntime) -> Result<(), Fail> {
+fn a_pile_at_the_limit_takes_no_memory(rt: HostRuntime) -> Result<(), Fail> {
     let alloc = rt.alloc();
-    let mut pile = pile_on(alloc, 1, 1, &[GRAIN_LIMIT])?;
+    let mut pile = one_site(alloc, GRAIN_LIMIT)?;
     assert!(rt; 0 < pile.shape().sites());
     refuse(alloc, 0);
     assert!(rt; pile.add_grain(0).is_err_and(|fault| fault.number() == 3));
@@ -66,22 +64,9 @@ fn a_pile_at_the_limit(rt: HostRuntime) -> Result<(), Fail> {
 }
 
 #[test]
-fn laws_of_sand(rt: HostRuntime) -> Result<(), Fail> {
+fn settled_piles_take_no_memory(rt: HostRuntime) -> Result<(), Fail> {
     let alloc = rt.alloc();
-    refuse(alloc, 0);
-    laws::least_action();
-    laws::weight_falls();
-    laws::laplacian_sum();
-    laws::each_settles();
-    laws::abelian();
-    assert!(rt; !was_refused(alloc));
-    Ok(())
-}
-
-#[test]
-fn settled_piles(rt: HostRuntime) -> Result<(), Fail> {
-    let alloc = rt.alloc();
-    let settled = settle(alloc, &pile_on(alloc, 3, 1, &[0, 4, 0])?)?;
+    let settled = settle(alloc, &open_pile(alloc, 3, 1, &[0, 4, 0])?)?;
     assert!(rt; settled.pile().shape().sites() == 3);
     refuse(alloc, 0);
     assert!(rt; settled.pile().heights() == [1, 0, 1].as_slice());
@@ -95,7 +80,7 @@ fn settled_piles(rt: HostRuntime) -> Result<(), Fail> {
 }
 
 #[test]
-fn piles_of_one_thread(rt: HostRuntime) -> Result<(), Fail> {
+fn piles_of_one_thread_take_no_memory(rt: HostRuntime) -> Result<(), Fail> {
     let alloc = rt.alloc();
     let mut one = OnePile::new(alloc, &full(alloc)?)?;
     assert!(rt; one.pile().shape().sites() == 9);
@@ -112,11 +97,11 @@ fn piles_of_one_thread(rt: HostRuntime) -> Result<(), Fail> {
     Ok(())
 }
 
-// A drop asks for memory once: the room of a first drop, in which nothing topples, serves drops in which all sites do.
+// Only the first drop requests memory: the room that it made, though nothing toppled, is enough for drops in which all sites do.
 #[test]
-fn drops_after_the_first(rt: HostRuntime) -> Result<(), Fail> {
+fn drops_after_the_first_take_no_memory(rt: HostRuntime) -> Result<(), Fail> {
     let alloc = rt.alloc();
-    let mut one = OnePile::new(alloc, &pile_on(alloc, 2, 1, &[3, 2])?)?;
+    let mut one = OnePile::new(alloc, &open_pile(alloc, 2, 1, &[3, 2])?)?;
     assert!(rt; one.pile().shape().sites() == 2);
     one.drop_at(alloc, 1)?;
     refuse(alloc, 0);
@@ -128,9 +113,9 @@ fn drops_after_the_first(rt: HostRuntime) -> Result<(), Fail> {
 }
 
 #[test]
-fn recurrent_piles(rt: HostRuntime) -> Result<(), Fail> {
+fn recurrent_piles_take_no_memory(rt: HostRuntime) -> Result<(), Fail> {
     let alloc = rt.alloc();
-    let recurrent = Recurrent::from_pile(alloc, &pile_on(alloc, 2, 1, &[3, 1])?)?;
+    let recurrent = Recurrent::from_pile(alloc, &open_pile(alloc, 2, 1, &[3, 1])?)?;
     refuse(alloc, 0);
     assert!(rt; recurrent.pile().heights() == [3, 1].as_slice());
     assert!(rt; !was_refused(alloc));
@@ -138,9 +123,9 @@ fn recurrent_piles(rt: HostRuntime) -> Result<(), Fail> {
 }
 
 #[test]
-fn passes(rt: HostRuntime) -> Result<(), Fail> {
+fn passes_take_no_memory(rt: HostRuntime) -> Result<(), Fail> {
     let alloc = rt.alloc();
-    let start = pile_on(alloc, 1, 2, &[4, 4])?;
+    let start = open_pile(alloc, 1, 2, &[4, 4])?;
     assert!(rt; start.shape().sites() == 2);
     assert!(rt; start.shape().width() == 1 && start.shape().height() == 2);
     let (pile, mut pass) = SharedPile::new(alloc, &start, 1)?;
@@ -163,9 +148,9 @@ fn passes(rt: HostRuntime) -> Result<(), Fail> {
 }
 
 #[test]
-fn lists_of_drops(rt: HostRuntime) -> Result<(), Fail> {
+fn lists_of_drops_take_no_memory(rt: HostRuntime) -> Result<(), Fail> {
     let alloc = rt.alloc();
-    let start = pile_on(alloc, 1, 2, &[0, 0])?;
+    let start = open_pile(alloc, 1, 2, &[0, 0])?;
     assert!(rt; start.shape().sites() == 2);
     let (pile, mut pass) = SharedPile::new(alloc, &start, 2)?;
     let mut counts = SiteCounts::new(alloc, start.shape())?;
@@ -179,13 +164,13 @@ fn lists_of_drops(rt: HostRuntime) -> Result<(), Fail> {
 }
 
 #[test]
-fn records(rt: HostRuntime) -> Result<(), Fail> {
+fn records_take_no_memory(rt: HostRuntime) -> Result<(), Fail> {
     let alloc = rt.alloc();
-    let start = pile_on(alloc, 1, 1, &[3])?;
+    let start = one_site(alloc, 3)?;
     assert!(rt; start.shape().sites() == 1);
     let (pile, mut pass) = SharedPile::new(alloc, &start, 1)?;
     assert!(rt; pile.drop_at(&mut pass, 0).is_ok());
-    let record = pile.close(alloc, pass).ok().ok_or("close")?;
+    let record = closed(alloc, pile, pass)?;
     assert!(rt; record.start().shape().sites() == 1);
     refuse(alloc, 0);
     assert!(rt; record.start().heights() == [3].as_slice());
@@ -201,7 +186,7 @@ fn records(rt: HostRuntime) -> Result<(), Fail> {
 }
 
 #[test]
-fn plans_and_gates(rt: HostRuntime) -> Result<(), Fail> {
+fn plans_and_gates_take_no_memory(rt: HostRuntime) -> Result<(), Fail> {
     let alloc = rt.alloc();
     refuse(alloc, 0);
     let plan = Plan::new(ONE_EPOCH)?;
@@ -218,37 +203,19 @@ fn plans_and_gates(rt: HostRuntime) -> Result<(), Fail> {
 
 // One epoch with a dropper, a worker and an observer.
 const ONE_EPOCH: Wish = Wish {
-    seed: 0,
-    droppers: 1,
     drops: 3,
-    epochs: 1,
-    workers: 1,
     sweeps: 1,
     observers: 1,
+    ..QUIET
 };
 
-fn report_into<R: Threads + Sync>(
-    rt: &R,
-    alloc: Global,
-    start: &Pile,
-    wish: Wish,
-    album: &Album,
-) -> Result<Report, LabFault>
-    ensures epochs { IfOk result (λ p. length p.sheets ≡ wish.epochs) }
-    ensures tallies { IfOk result (λ p. (t : ℕ) → t < wish.epochs → length (sheet_at p t).tallies ≡ wish.observers) }
-    ensures swept { IfOk result (λ p. (t : ℕ) → t < wish.epochs → length (sheet_at p t).swept ≡ wish.workers) }
-{
-    let plan = Plan::new(wish)?;
-    run(rt, alloc, start, &plan, &Open, album)
-}
-
 #[test]
-fn albums_and_reports(rt: HostRuntime) -> Result<(), Fail> {
+fn albums_and_reports_take_no_memory(rt: HostRuntime) -> Result<(), Fail> {
     let alloc = rt.alloc();
-    let start = pile_on(alloc, 1, 1, &[0])?;
+    let start = one_site(alloc, 0)?;
     let album = Album::new(alloc, 1)?;
     assert!(rt; album.places() == 1);
-    let mut report = report_into(&rt, alloc, &start, ONE_EPOCH, &album)?;
+    let mut report = run_into(&rt, alloc, &start, ONE_EPOCH, &Open, &album)?;
     refuse(alloc, 0);
     assert_eq!(rt; (album.places(), report.records().len()), (1, 1));
     let mut note = album.note(0);
@@ -268,7 +235,7 @@ fn albums_and_reports(rt: HostRuntime) -> Result<(), Fail> {
 }
 
 #[test]
-fn faults(rt: HostRuntime) -> Result<(), Fail> {
+fn faults_take_no_memory(rt: HostRuntime) -> Result<(), Fail> {
     let alloc = rt.alloc();
     let mut line: Vec<u8> = Vec::with_capacity(alloc, 64)?;
     refuse(alloc, 0);
@@ -282,7 +249,7 @@ fn faults(rt: HostRuntime) -> Result<(), Fail> {
 
 // A fault of the text is found before anything grows.
 #[test]
-fn texts_with_a_fault(rt: HostRuntime) -> Result<(), Fail> {
+fn texts_with_a_fault_take_no_memory(rt: HostRuntime) -> Result<(), Fail> {
     let alloc = rt.alloc();
     refuse(alloc, 0);
     for (text, number) in [

@@ -1,16 +1,17 @@
 //! The laboratory: streams, albums and runs, and the texts of a report.
 //!
-//! A run may spare a request: where a thread cannot be started, its work is done by the thread that wanted it.
+//! A run may do without a request: if a thread cannot be started, the thread that wanted it does its work.
 
 ghost use Rattle.std.specs.Prelude.{◌≡◌};
 ghost use Rattle.sand_lab.specs.Albums.{IsPlace};
 
 use crate::memory::{refuse, was_refused};
-use crate::piles::pile_on;
 use crate::trying::{MEMORY, MOST_REQUESTS, Refused, Spares, each_refused, tell_refused};
 use sand_desk::{journal_text, lab_text};
 use sand_lab::{Album, Note, Open, Plan, Report, Wish, run, sites_of};
 use sand_model::{Pile, Shape};
+use sand_testing::piles::{one_site, open_pile};
+use sand_testing::runs::QUIET;
 use std::alloc::Global;
 use std::process::Abort;
 use std::test::Fail;
@@ -19,13 +20,10 @@ use std::thread::Threads;
 const WITHOUT_END: &str = "a run that makes requests without end";
 
 const TWO_EPOCHS: Wish = Wish {
-    seed: 0,
     droppers: 2,
     drops: 3,
     epochs: 2,
-    workers: 1,
-    sweeps: 0,
-    observers: 0,
+    ..QUIET
 };
 
 const MANY: Wish = Wish {
@@ -39,7 +37,7 @@ const MANY: Wish = Wish {
 };
 
 #[test]
-fn reading_a_stream(rt: HostRuntime) -> Result<(), Fail> {
+fn sites_of_reports_out_of_memory(rt: HostRuntime) -> Result<(), Fail> {
     let shape = Shape::new(3, 3)?;
     each_refused(
         &rt,
@@ -55,7 +53,7 @@ fn reading_a_stream(rt: HostRuntime) -> Result<(), Fail> {
 }
 
 #[test]
-fn making_an_album(rt: HostRuntime) -> Result<(), Fail> {
+fn new_album_reports_out_of_memory(rt: HostRuntime) -> Result<(), Fail> {
     each_refused(
         &rt,
         rt.alloc(),
@@ -122,14 +120,14 @@ fn each_refused_of_a_run<R: Threads + Sync + Print + Abort>(
 }
 
 #[test]
-fn running(rt: HostRuntime) -> Result<(), Fail> {
-    let start = pile_on(rt.alloc(), 1, 1, &[0])?;
+fn run_reports_out_of_memory(rt: HostRuntime) -> Result<(), Fail> {
+    let start = one_site(rt.alloc(), 0)?;
     each_refused_of_a_run(&rt, rt.alloc(), "run", &start, TWO_EPOCHS)
 }
 
 #[test]
-fn running_many(rt: HostRuntime) -> Result<(), Fail> {
-    let start = pile_on(rt.alloc(), 3, 3, &[3; 9])?;
+fn run_of_many_threads_reports_out_of_memory(rt: HostRuntime) -> Result<(), Fail> {
+    let start = open_pile(rt.alloc(), 3, 3, &[3; 9])?;
     each_refused_of_a_run(
         &rt,
         rt.alloc(),
@@ -156,11 +154,11 @@ fn heights_in(rt: &impl Abort, album: &Album) -> (Option<u64>, Option<u64>) {
     )
 }
 
-// What the first epoch published stays where the second is refused: its place is taken, and nothing else is.
+// If the second epoch runs out of memory, what the first epoch published stays: its place is taken, and no other is.
 #[test]
-fn refused_in_the_second_epoch(rt: HostRuntime) -> Result<(), Fail> {
+fn the_first_epoch_stays_published_if_the_second_fails(rt: HostRuntime) -> Result<(), Fail> {
     let alloc = rt.alloc();
-    let start = pile_on(alloc, 1, 1, &[0])?;
+    let start = one_site(alloc, 0)?;
     let plan = Plan::new(TWO_EPOCHS)?;
     let mut met = 0u32;
     for number in 1..MOST_REQUESTS {
@@ -195,8 +193,8 @@ fn refused_in_the_second_epoch(rt: HostRuntime) -> Result<(), Fail> {
 }
 
 #[test]
-fn text_of_a_report(rt: HostRuntime) -> Result<(), Fail> {
-    let start = pile_on(rt.alloc(), 1, 1, &[0])?;
+fn texts_of_a_report_report_out_of_memory(rt: HostRuntime) -> Result<(), Fail> {
+    let start = one_site(rt.alloc(), 0)?;
     let plan = Plan::new(TWO_EPOCHS)?;
     let album = Album::new(rt.alloc(), 2)?;
     let report = run(&rt, rt.alloc(), &start, &plan, &Open, &album)?;

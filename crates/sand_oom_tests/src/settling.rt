@@ -1,27 +1,28 @@
 //! Settling, and the pile of one thread.
 
-use crate::piles::{full, pile_on};
+use crate::piles::full;
 use crate::trying::{Spares, each_refused};
 use sand_model::Pile;
 use sand_settle::{OnePile, settle};
+use sand_testing::piles::open_pile;
 use std::alloc::Global;
 use std::test::Fail;
 
 #[test]
-fn settling(rt: HostRuntime) -> Result<(), Fail> {
+fn settle_reports_out_of_memory(rt: HostRuntime) -> Result<(), Fail> {
     each_refused(
         &rt,
         rt.alloc(),
         "settle",
         Spares::Nothing,
-        |alloc: Global| pile_on(alloc, 2, 1, &[4, 4]),
+        |alloc: Global| open_pile(alloc, 2, 1, &[4, 4]),
         |alloc: Global, pile: &mut Pile| settle(alloc, pile).map_err(|fault| fault.number()),
     )?;
     Ok(())
 }
 
 #[test]
-fn settling_by_a_guess(rt: HostRuntime) -> Result<(), Fail> {
+fn settle_by_a_guess_reports_out_of_memory(rt: HostRuntime) -> Result<(), Fail> {
     let mut heights = [0; 256];
     heights[120] = 100_000;
     each_refused(
@@ -29,27 +30,27 @@ fn settling_by_a_guess(rt: HostRuntime) -> Result<(), Fail> {
         rt.alloc(),
         "settle, by a guess",
         Spares::Nothing,
-        |alloc: Global| pile_on(alloc, 16, 16, &heights),
+        |alloc: Global| open_pile(alloc, 16, 16, &heights),
         |alloc: Global, pile: &mut Pile| settle(alloc, pile).map_err(|fault| fault.number()),
     )?;
     Ok(())
 }
 
 #[test]
-fn making_a_pile_of_one_thread(rt: HostRuntime) -> Result<(), Fail> {
+fn new_one_pile_reports_out_of_memory(rt: HostRuntime) -> Result<(), Fail> {
     each_refused(
         &rt,
         rt.alloc(),
         "OnePile::new",
         Spares::Nothing,
-        |alloc: Global| pile_on(alloc, 2, 1, &[4, 4]),
+        |alloc: Global| open_pile(alloc, 2, 1, &[4, 4]),
         |alloc: Global, pile: &mut Pile| OnePile::new(alloc, pile).map_err(|fault| fault.number()),
     )?;
     Ok(())
 }
 
 #[test]
-fn dropping(rt: HostRuntime) -> Result<(), Fail> {
+fn drop_at_reports_out_of_memory(rt: HostRuntime) -> Result<(), Fail> {
     let tried = each_refused(
         &rt,
         rt.alloc(),

@@ -7,7 +7,7 @@ use sand_settle::{Avalanche, OnePile, Settled};
 use sand_shared::{Pass, Record, SharedPile};
 use std::alloc::AllocError;
 
-/// A value of which all that its readers answer can be told.
+/// A value of which all that its readers return can be listed.
 pub trait Told {
     fn tell(&self, numbers: &mut Vec<u64>) -> Result<(), AllocError>;
 }
@@ -121,7 +121,7 @@ impl Told for Pass {
     }
 }
 
-// A shared pile tells nothing but to its passes.
+// A shared pile shows nothing except to its passes.
 impl Told for SharedPile {
     fn tell(&self, _: &mut Vec<u64>) -> Result<(), AllocError> {
         Ok(())

@@ -1,6 +1,6 @@
 //! Texts that are read, and texts that are written.
 
-use crate::piles::{full, pile_on};
+use crate::piles::full;
 use crate::trying::{Spares, each_refused};
 use sand_desk::{
     burn_text, pgm_text, pile_text, read_drops, read_pile, read_two, settle_text, table_text,
@@ -8,11 +8,12 @@ use sand_desk::{
 use sand_group::burn;
 use sand_model::Pile;
 use sand_settle::{Avalanche, settle};
+use sand_testing::piles::open_pile;
 use std::alloc::Global;
 use std::test::Fail;
 
 #[test]
-fn reading_a_pile(rt: HostRuntime) -> Result<(), Fail> {
+fn read_pile_reports_out_of_memory(rt: HostRuntime) -> Result<(), Fail> {
     let read = each_refused(
         &rt,
         rt.alloc(),
@@ -28,7 +29,7 @@ fn reading_a_pile(rt: HostRuntime) -> Result<(), Fail> {
 }
 
 #[test]
-fn reading_two_piles(rt: HostRuntime) -> Result<(), Fail> {
+fn read_two_reports_out_of_memory(rt: HostRuntime) -> Result<(), Fail> {
     let read = each_refused(
         &rt,
         rt.alloc(),
@@ -44,7 +45,7 @@ fn reading_two_piles(rt: HostRuntime) -> Result<(), Fail> {
 }
 
 #[test]
-fn reading_drops(rt: HostRuntime) -> Result<(), Fail> {
+fn read_drops_reports_out_of_memory(rt: HostRuntime) -> Result<(), Fail> {
     let read = each_refused(
         &rt,
         rt.alloc(),
@@ -60,7 +61,7 @@ fn reading_drops(rt: HostRuntime) -> Result<(), Fail> {
 }
 
 #[test]
-fn text_of_a_pile(rt: HostRuntime) -> Result<(), Fail> {
+fn pile_text_reports_out_of_memory(rt: HostRuntime) -> Result<(), Fail> {
     each_refused(
         &rt,
         rt.alloc(),
@@ -73,8 +74,8 @@ fn text_of_a_pile(rt: HostRuntime) -> Result<(), Fail> {
 }
 
 #[test]
-fn text_of_a_settled_pile(rt: HostRuntime) -> Result<(), Fail> {
-    let start = pile_on(rt.alloc(), 3, 1, &[0, 4, 0])?;
+fn settle_text_reports_out_of_memory(rt: HostRuntime) -> Result<(), Fail> {
+    let start = open_pile(rt.alloc(), 3, 1, &[0, 4, 0])?;
     let settled = settle(rt.alloc(), &start)?;
     each_refused(
         &rt,
@@ -88,7 +89,7 @@ fn text_of_a_settled_pile(rt: HostRuntime) -> Result<(), Fail> {
 }
 
 #[test]
-fn picture_of_a_pile(rt: HostRuntime) -> Result<(), Fail> {
+fn pgm_text_reports_out_of_memory(rt: HostRuntime) -> Result<(), Fail> {
     each_refused(
         &rt,
         rt.alloc(),
@@ -106,8 +107,8 @@ fn picture_of_a_pile(rt: HostRuntime) -> Result<(), Fail> {
 }
 
 #[test]
-fn text_of_what_burned(rt: HostRuntime) -> Result<(), Fail> {
-    let pile = pile_on(rt.alloc(), 3, 1, &[0, 0, 3])?;
+fn burn_text_reports_out_of_memory(rt: HostRuntime) -> Result<(), Fail> {
+    let pile = open_pile(rt.alloc(), 3, 1, &[0, 0, 3])?;
     let burned = burn(rt.alloc(), &pile)?;
     each_refused(
         &rt,
@@ -123,7 +124,7 @@ fn text_of_what_burned(rt: HostRuntime) -> Result<(), Fail> {
 }
 
 #[test]
-fn text_of_a_table(rt: HostRuntime) -> Result<(), Fail> {
+fn table_text_reports_out_of_memory(rt: HostRuntime) -> Result<(), Fail> {
     let rows = [(
         0,
         Avalanche {

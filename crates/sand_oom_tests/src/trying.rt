@@ -9,10 +9,10 @@ use std::test::Fail;
 /// No call of the tests makes so many requests.
 pub const MOST_REQUESTS: u32 = 100_000;
 
-/// The number of want of memory.
+/// The number of the fault out of memory.
 pub const MEMORY: u32 = 4;
 
-/// What can be read of that which a call is lent, before the call, and of that and its answer after it.
+/// What can be read of the things that a call borrows before the call, and of these and its result after it.
 #[derive(Drop)]
 pub struct Undisturbed {
     pub before: Vec<u64>,
@@ -26,7 +26,7 @@ fn told<L: Told, A: Told>(alloc: Global, lent: &L, answer: &A) -> Result<Vec<u64
     Ok(numbers)
 }
 
-// The call, made once with all memory that it wants.
+// The call, made once with all the memory that it requests.
 fn made_alone<L, A, M, C>(alloc: Global, make: &M, call: &C) -> Result<Undisturbed, Fail>
 where
     L: Told + Drop,
@@ -43,7 +43,7 @@ where
     Ok(Undisturbed { before, after })
 }
 
-/// What a call may do without, where it is refused memory for it.
+/// What a call may do without if its request for memory is refused.
 #[derive(Clone, Copy, Debug, PartialEq, Eq)]
 pub enum Spares {
     Nothing,
@@ -51,14 +51,14 @@ pub enum Spares {
     Thread,
 }
 
-/// How many requests of a call were refused, and of these how many it did without.
+/// How many requests of a call were refused, and how many of these it did without.
 #[derive(Clone, Copy)]
 pub struct Refused {
     pub requests: u32,
     pub spared: u32,
 }
 
-/// Tells what was refused to a call before it was let do, which is nothing only where nothing can refuse.
+/// Prints how many requests of a call were refused. There are none only if the library is not loaded.
 pub fn tell_refused<R: Print + Abort>(
     rt: &R,
     alloc: Global,
@@ -74,7 +74,7 @@ pub fn tell_refused<R: Print + Abort>(
     Ok(())
 }
 
-/// Tries a call. `make` makes what it is lent, and `call` makes the call and answers its answer or the number of its
+/// Tries a call. `make` makes what the call borrows, and `call` makes the call and returns its result or the number of its
 /// fault.
 pub fn each_refused<R, L, A, M, C>(
     rt: &R,

@@ -15,7 +15,7 @@ fn burned(rt: &HostRuntime, edge: Edge, heights: &[u64]) -> Result<Vec<u8>, Fail
 }
 
 #[test]
-fn tells_what_burned(rt: HostRuntime) -> Result<(), Fail> {
+fn a_recurrent_pile_and_a_forbidden_set(rt: HostRuntime) -> Result<(), Fail> {
     assert_eq!(rt;
         burned(&rt, Edge::Open, &[0])?.as_slice(),
         b"recurrent\n".as_slice()

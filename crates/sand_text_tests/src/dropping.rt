@@ -1,20 +1,13 @@
-//! Texts of a pile and drops and what they are read as, and the table of what drops set off.
+//! Texts of a pile and drops, what they are read as, and the table of avalanches.
 
+use crate::reading::fault_of;
 use sand_model::Edge;
 use sand_settle::Avalanche;
-use sand_text::{ReadFault, TextFault, read_drops, table_text};
+use sand_text::{TextFault, read_drops, table_text};
 use std::test::Fail;
 
-// What is wrong with a text.
-fn fault_of(rt: &HostRuntime, text: &str) -> Option<TextFault> {
-    match read_drops(rt.alloc(), text.as_bytes()) {
-        Err(ReadFault::Text(fault)) => Some(fault),
-        _ => None,
-    }
-}
-
 #[test]
-fn refuses(rt: HostRuntime) -> Result<(), Fail> {
+fn faults_of_a_pile_and_drops(rt: HostRuntime) -> Result<(), Fail> {
     for (text, fault) in [
         ("1 1\n0 0 1", TextFault::NoSite(1)),
         ("1 1\n0 1 7 0", TextFault::NoSite(0)),
@@ -27,13 +20,17 @@ fn refuses(rt: HostRuntime) -> Result<(), Fail> {
         ("1 1\n0 7 c", TextFault::Text(8)),
         ("3 ", TextFault::Text(2)),
     ] {
-        assert_eq!(rt; fault_of(&rt, text), Some(fault), "at {text}");
+        assert_eq!(rt;
+            fault_of(read_drops(rt.alloc(), text.as_bytes())),
+            Some(fault),
+            "at {text}"
+        );
     }
     Ok(())
 }
 
 #[test]
-fn reads(rt: HostRuntime) -> Result<(), Fail> {
+fn a_pile_and_the_sites_after_it(rt: HostRuntime) -> Result<(), Fail> {
     for (text, width, edge, heights, sites) in [
         ("1 1\n0", 1, Edge::Open, [0].as_slice(), [].as_slice()),
         (
@@ -68,7 +65,7 @@ fn reads(rt: HostRuntime) -> Result<(), Fail> {
 }
 
 #[test]
-fn writes_tables(rt: HostRuntime) -> Result<(), Fail> {
+fn a_table_has_a_row_for_each_drop(rt: HostRuntime) -> Result<(), Fail> {
     let large = Avalanche {
         site: 4,
         size: 10,

@@ -1,4 +1,4 @@
-//! Journals, byte by byte. They are written from entries of a type that `sand_text` does not know.
+//! Journals, byte by byte, written from entries of a type that `sand_text` does not know.
 
 ghost use Rattle.std.specs.Prelude.{◌≡◌, ℕ, ◌++◌, ◌≤◌, length, map, IfOk, OnOk};
 ghost use Rattle.sand_text.specs.Runs.{journal_lines, journal_text_of};
@@ -8,7 +8,7 @@ use sand_text::{push_journal_head, push_journal_line};
 use std::alloc::{AllocError, Global};
 use std::test::Fail;
 
-/// A drop, as whoever has a journal may keep it.
+/// A drop, as the owner of a journal may keep it.
 #[derive(Clone, Copy)]
 pub struct Entry {
     pub site: usize,
@@ -44,15 +44,15 @@ fn drop_by(dropper: u32, site: usize) -> Entry {
 }
 
 #[test]
-fn writes_drops(rt: HostRuntime) -> Result<(), Fail> {
+fn drops_are_numbered_in_order(rt: HostRuntime) -> Result<(), Fail> {
     let text = journal_of(rt.alloc(), &[&[drop_by(0, 0), drop_by(0, 0)]])?;
     assert_eq!(rt; text.as_slice(), b"journal\n0 0 0 0\n0 1 0 0\n".as_slice());
     Ok(())
 }
 
-// Numbers begin at 0 in each epoch, and an epoch without a drop has no line.
+// An epoch without a drop has no line.
 #[test]
-fn writes_epochs(rt: HostRuntime) -> Result<(), Fail> {
+fn numbers_begin_at_0_in_each_epoch(rt: HostRuntime) -> Result<(), Fail> {
     let first = [drop_by(1, 4), drop_by(0, 65535), drop_by(1, 2)];
     let text = journal_of(rt.alloc(), &[&first, &[], &[drop_by(63, 7)]])?;
     assert_eq!(rt;
@@ -63,7 +63,7 @@ fn writes_epochs(rt: HostRuntime) -> Result<(), Fail> {
 }
 
 #[test]
-fn writes_nothing_but_its_head(rt: HostRuntime) -> Result<(), Fail> {
+fn a_journal_of_no_epochs(rt: HostRuntime) -> Result<(), Fail> {
     let text = journal_of(rt.alloc(), &[])?;
     assert_eq!(rt; text.as_slice(), b"journal\n".as_slice());
     Ok(())

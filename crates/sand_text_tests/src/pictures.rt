@@ -23,7 +23,7 @@ fn draws(
 }
 
 #[test]
-fn draws_rows(rt: HostRuntime) -> Result<(), Fail> {
+fn each_row_is_a_line(rt: HostRuntime) -> Result<(), Fail> {
     let square = Shape::new(2, 2)?;
     draws(&rt, square, &[2, 2, 2, 2], "P2\n2 2\n3\n2 2\n2 2\n")?;
     let column = Shape::new(1, 2)?;
@@ -32,9 +32,9 @@ fn draws_rows(rt: HostRuntime) -> Result<(), Fail> {
     draws(&rt, cylinder, &[0, 1, 2], "P2\n3 1\n3\n0 1 2\n")
 }
 
-// A row ends its line after each 35 values, and no line is empty.
+// A row begins a new line after each 35 values, and no line is empty.
 #[test]
-fn breaks_long_rows(rt: HostRuntime) -> Result<(), Fail> {
+fn a_line_has_at_most_35_values(rt: HostRuntime) -> Result<(), Fail> {
     let alloc = rt.alloc();
     let full = format!(in alloc; "P2\n35 1\n3\n{LINE}")?;
     draws(&rt, Shape::new(35, 1)?, &[0; 35], full.as_str())?;

@@ -1,23 +1,19 @@
-//! Texts and what they are read as, and the texts of piles.
-
-ghost use Rattle.std.specs.Prelude.{◌≡◌, [], ◌∷◌, codes};
-ghost use Rattle.sand_model.specs.declared.shape.Edge.TheVariants.{Open};
-ghost use Rattle.sand_text.specs.Texts.{settle_text_of};
+//! Texts of a pile, what they are read as, and how a pile is written.
 
 use sand_model::{Edge, Pile, Shape};
 use sand_text::{ReadFault, TextFault, pile_text, read_pile};
 use std::test::Fail;
 
-// What is wrong with a text.
-fn fault_of(rt: &HostRuntime, text: &[u8]) -> Option<TextFault> {
-    match read_pile(rt.alloc(), text) {
+// The fault of a text that is not read.
+pub(crate) fn fault_of<T: Drop>(read: Result<T, ReadFault>) -> Option<TextFault> {
+    match read {
         Err(ReadFault::Text(fault)) => Some(fault),
         _ => None,
     }
 }
 
 #[test]
-fn refuses(rt: HostRuntime) -> Result<(), Fail> {
+fn faults_of_a_pile(rt: HostRuntime) -> Result<(), Fail> {
     for (text, fault) in [
         ("2 1\n3", TextFault::Length),
         ("2 1\n3 x", TextFault::Text(6)),
@@ -50,14 +46,21 @@ fn refuses(rt: HostRuntime) -> Result<(), Fail> {
         ("3", TextFault::Text(1)),
         ("3 ", TextFault::Text(2)),
     ] {
-        assert_eq!(rt; fault_of(&rt, text.as_bytes()), Some(fault), "at {text}");
+        assert_eq!(rt;
+            fault_of(read_pile(rt.alloc(), text.as_bytes())),
+            Some(fault),
+            "at {text}"
+        );
     }
-    assert_eq!(rt; fault_of(&rt, &[255]), Some(TextFault::Text(0)));
+    assert_eq!(rt;
+        fault_of(read_pile(rt.alloc(), &[255])),
+        Some(TextFault::Text(0))
+    );
     Ok(())
 }
 
 #[test]
-fn reads(rt: HostRuntime) -> Result<(), Fail> {
+fn heights_and_edge_of_a_pile(rt: HostRuntime) -> Result<(), Fail> {
     for (text, width, edge, heights) in [
         ("1 1\n4294967296", 1, Edge::Open, [4_294_967_296].as_slice()),
         (" 01\t1\r\n007 ", 1, Edge::Open, [7].as_slice()),
@@ -79,7 +82,7 @@ fn reads(rt: HostRuntime) -> Result<(), Fail> {
 
 // Each prefix of a pile's text: too few numbers, too few heights, and the pile with and without its last byte.
 #[test]
-fn reads_prefixes(rt: HostRuntime) -> Result<(), Fail> {
+fn faults_of_each_prefix_of_a_pile(rt: HostRuntime) -> Result<(), Fail> {
     let text = b"3 1\n0 4 0\n";
     for len in 0..=text.len() {
         let (prefix, _) = text.split_at(len);
@@ -88,7 +91,7 @@ fn reads_prefixes(rt: HostRuntime) -> Result<(), Fail> {
             3..=8 => Some(TextFault::Length),
             _ => None,
         };
-        assert_eq!(rt; fault_of(&rt, prefix), want, "at {len}");
+        assert_eq!(rt; fault_of(read_pile(rt.alloc(), prefix)), want, "at {len}");
     }
     let pile = read_pile(rt.alloc(), text)?;
     assert_eq!(rt; pile.heights(), [0, 4, 0].as_slice());
@@ -96,7 +99,7 @@ fn reads_prefixes(rt: HostRuntime) -> Result<(), Fail> {
 }
 
 #[test]
-fn writes(rt: HostRuntime) -> Result<(), Fail> {
+fn the_text_of_a_pile(rt: HostRuntime) -> Result<(), Fail> {
     let alloc = rt.alloc();
     let open = Pile::new(alloc, Shape::new(2, 2)?, &[0, 10, 1_099_511_627_762, 3])?;
     assert_eq!(rt;
@@ -109,19 +112,4 @@ fn writes(rt: HostRuntime) -> Result<(), Fail> {
         b"3 1 c\n4 0 7\n".as_slice()
     );
     Ok(())
-}
-
-// The text of a settled pile, byte by byte.
-fn settled_example()
-    ensures { settle_text_of (record {
-      pile = record { grid = record { width = 3; height = 1; edge = Open }; heights = 1 ∷ 0 ∷ 1 ∷ [] };
-      odometer = 0 ∷ 1 ∷ 0 ∷ [];
-      topplings = 1;
-      lost = 2;
-    }) ≡ codes "3 1\n1 0 1\nodometer\n0 1 0\nlost 2\ntopplings 1\n" }
-{}
-
-#[test]
-fn writes_settled() {
-    settled_example();
 }

@@ -14,7 +14,7 @@ fn sums(drops: u64, topplings: u64, lost: u64, grains: u64) -> Sums {
 }
 
 #[test]
-fn writes_epochs(rt: HostRuntime) -> Result<(), Fail> {
+fn a_line_for_each_epoch_and_for_all(rt: HostRuntime) -> Result<(), Fail> {
     let alloc = rt.alloc();
     let pile = Pile::new(alloc, Shape::new(1, 1)?, &[0])?;
     let epochs = [sums(6, 1, 4, 2), sums(6, 2, 8, 0)];
@@ -26,9 +26,9 @@ fn writes_epochs(rt: HostRuntime) -> Result<(), Fail> {
     Ok(())
 }
 
-// A northern row of fours settles: each of them loses a grain to the north and gives one to the south.
+// Each site of a northern row of fours topples once: it loses a grain to the north and gives one to the south.
 #[test]
-fn writes_a_cylinder(rt: HostRuntime) -> Result<(), Fail> {
+fn a_run_on_a_cylinder(rt: HostRuntime) -> Result<(), Fail> {
     let alloc = rt.alloc();
     let shape = Shape::with_edge(3, 2, Edge::Cylinder)?;
     let pile = Pile::new(alloc, shape, &[2, 2, 2, 1, 1, 1])?;

@@ -1,11 +1,11 @@
-//! Readers and writers that stop early, fail, or give and take little.
+//! Readers and writers that stop early, fail, or move few bytes in a call.
 
 use sand_text::{INPUT_LIMIT, StreamFault, read_all, write_text};
 use std::io;
 use std::io::{Read, Write};
 use std::test::Fail;
 
-/// Gives so many bytes, a few at a call, and fails at one call alone. It counts how often it is called.
+/// Gives so many bytes, a few in each call, and fails in one call. It counts how often it is called.
 #[derive(Drop)]
 struct Giver {
     left: usize,
@@ -27,7 +27,7 @@ impl Read for Giver {
     }
 }
 
-/// Takes a few bytes at a call, until it holds so many; then it fails, or takes nothing.
+/// Takes a few bytes in each call until it has so many; then it fails, or takes nothing.
 #[derive(Drop)]
 struct Taker {
     taken: Vec<u8>,
@@ -59,7 +59,7 @@ impl Write for Taker {
 
 // A reader is called once after its last byte, and never after it failed, or gave too much.
 #[test]
-fn reads_all(rt: HostRuntime) -> Result<(), Fail> {
+fn a_reader_is_read_to_its_end(rt: HostRuntime) -> Result<(), Fail> {
     for (left, step, fails_at, calls, want) in [
         (0, 1, 0, 1, Ok(0)),
         (5, 1, 0, 6, Ok(5)),
@@ -93,7 +93,7 @@ fn reads_all(rt: HostRuntime) -> Result<(), Fail> {
 }
 
 #[test]
-fn writes_all(rt: HostRuntime) -> Result<(), Fail> {
+fn a_text_is_written_up_to_where_the_writer_stops(rt: HostRuntime) -> Result<(), Fail> {
     let text = b"3 1\n0 4 0\n";
     for (step, room, fails, flushes, want) in [
         (1, 10, true, true, Ok(())),
@@ -118,7 +118,7 @@ fn writes_all(rt: HostRuntime) -> Result<(), Fail> {
     Ok(())
 }
 
-/// Takes one byte at a call, and stops at one call alone: it fails, or takes nothing. It counts how often it is called.
+/// Takes one byte in each call, and stops in one call: it fails, or takes nothing. It counts how often it is called.
 #[derive(Drop)]
 struct Once {
     taken: Vec<u8>,
@@ -147,9 +147,9 @@ impl Write for Once {
     }
 }
 
-// A writer that stopped once is not called again, though it would take more.
+// The writer would take more.
 #[test]
-fn stops_for_good(rt: HostRuntime) -> Result<(), Fail> {
+fn a_writer_that_stopped_is_not_called_again(rt: HostRuntime) -> Result<(), Fail> {
     let text = b"3 1\n0 4 0\n";
     for fails in [false, true] {
         for stops_at in 1..text.len() + 1 {
@@ -166,17 +166,5 @@ fn stops_for_good(rt: HostRuntime) -> Result<(), Fail> {
             assert_eq!(rt; writer.taken.as_slice(), &text[..sent]);
         }
     }
-    Ok(())
-}
-
-// At a reader and a writer whose bytes are known, the contracts say the bytes.
-#[test]
-fn moves_known_bytes(rt: HostRuntime) -> Result<(), Fail> {
-    let mut input = b"3 1\n0 4 0\n".as_slice();
-    let text = read_all(rt.alloc(), &mut input)?;
-    assert!(rt; input.is_empty());
-    let mut output = Vec::new(rt.alloc());
-    write_text(&mut output, text.as_slice())?;
-    assert_eq!(rt; output.as_slice(), b"3 1\n0 4 0\n".as_slice());
     Ok(())
 }

@@ -1,19 +1,12 @@
-//! Texts of two piles and what they are read as.
+//! Texts of two piles, and what they are read as.
 
+use crate::reading::fault_of;
 use sand_model::Edge;
-use sand_text::{ReadFault, TextFault, read_two};
+use sand_text::{TextFault, read_two};
 use std::test::Fail;
 
-// What is wrong with a text.
-fn fault_of(rt: &HostRuntime, text: &str) -> Option<TextFault> {
-    match read_two(rt.alloc(), text.as_bytes()) {
-        Err(ReadFault::Text(fault)) => Some(fault),
-        _ => None,
-    }
-}
-
 #[test]
-fn refuses(rt: HostRuntime) -> Result<(), Fail> {
+fn faults_of_two_piles(rt: HostRuntime) -> Result<(), Fail> {
     for (text, fault) in [
         ("", TextFault::Text(0)),
         ("2 1\n0 0\n", TextFault::Text(8)),
@@ -24,13 +17,17 @@ fn refuses(rt: HostRuntime) -> Result<(), Fail> {
         ("2 1\n1099511627775 1\n0 1", TextFault::TooManyGrains),
         ("1 1\n0\n2 1\n1099511627775 1", TextFault::TooManyGrains),
     ] {
-        assert_eq!(rt; fault_of(&rt, text), Some(fault), "at {text}");
+        assert_eq!(rt;
+            fault_of(read_two(rt.alloc(), text.as_bytes())),
+            Some(fault),
+            "at {text}"
+        );
     }
     Ok(())
 }
 
 #[test]
-fn spares_a_letter_in_its_place(rt: HostRuntime) -> Result<(), Fail> {
+fn where_the_letter_c_may_be(rt: HostRuntime) -> Result<(), Fail> {
     for (text, fault) in [
         ("2 1 c\n0 0\n1 1\n0", TextFault::Narrow),
         ("1 1\n0\n2 1 c\n0 0", TextFault::Narrow),
@@ -46,13 +43,17 @@ fn spares_a_letter_in_its_place(rt: HostRuntime) -> Result<(), Fail> {
             TextFault::TooLarge(20),
         ),
     ] {
-        assert_eq!(rt; fault_of(&rt, text), Some(fault), "at {text}");
+        assert_eq!(rt;
+            fault_of(read_two(rt.alloc(), text.as_bytes())),
+            Some(fault),
+            "at {text}"
+        );
     }
     Ok(())
 }
 
 #[test]
-fn reads(rt: HostRuntime) -> Result<(), Fail> {
+fn heights_and_edges_of_two_piles(rt: HostRuntime) -> Result<(), Fail> {
     let alloc = rt.alloc();
     for (text, first, second) in [
         ("3 1\n3 1 2\n3 1\n0 7 0\n", Edge::Open, Edge::Open),
