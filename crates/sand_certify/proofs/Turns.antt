@@ -4,7 +4,7 @@ use Rattle.std.proofs.lemmas.Bool.{cases_Bool, cases_lt, cases_eq, le-leb}
 use Rattle.sand_model.specs.Grid.{Grid, sites, neighbours}
 use Rattle.sand_model.specs.Sand.{IsToppled, IsSettled}
 use Rattle.sand_model.proofs.Flow.{flow_le, count_is_flow, indicator}
-use Rattle.sand_certify.specs.Certificate.{no_earlier, BurnInTurns, IsShown, IsCertificate}
+use Rattle.sand_certify.specs.Certificate.{no_earlier, ToppledSitesBurn, IsShownEverywhere, IsCertificate}
 use Rattle.sand_model.specs.Forbidden.{IsTight}
 use Rattle.sand_model.proofs.Tight.{settled_if_tight}
 
@@ -100,7 +100,7 @@ set_is_no_earlier g set turn i best =
     (flow_le g (indicator set) (indicator (λ j. leb (turn i) (turn j)))
     (λ j m. one_if_le (set j) (leb (turn i) (turn j)) (λ member. le-leb (turn i) (turn j) (best.first j m member))) i best.inside)
 
-pub tight_if_burning : (g : Grid) (t u turn : ℕ → ℕ) → BurnInTurns g t u turn → IsTight g t u
+pub tight_if_burning : (g : Grid) (t u turn : ℕ → ℕ) → ToppledSitesBurn g t u turn → IsTight g t u
 tight_if_burning g t u turn burning = record {
   none = λ set forbidden toppled.
       let best = earliest (sites g) set turn forbidden.some.0 forbidden.some.1 forbidden.some.2 in
@@ -113,7 +113,7 @@ tight_if_burning g t u turn burning = record {
       omega arith;
 }
 
-pub settled_if_left : (g : Grid) (s u t turn : ℕ → ℕ) → IsShown g s u turn → IsToppled g s u t → IsSettled g s u t
+pub settled_if_left : (g : Grid) (s u t turn : ℕ → ℕ) → IsShownEverywhere g s u turn → IsToppled g s u t → IsSettled g s u t
 settled_if_left g s u t turn shown done =
     settled_if_tight g s u t done
     (record { low = λ i l. let e = done.balance i l in let three = (shown.each i l).at_most_three in omega arith })

@@ -10,7 +10,7 @@ abbrev pub no_earlier : Grid → (ℕ → ℕ) → ℕ → ℕ
 no_earlier g turn i = count_by (λ j. nat_le (turn i) (turn j)) (neighbours g i)
 
 -- each site that has toppled burns at its turn, when its neighbours of earlier turns have burnt
-pub record BurnInTurns (g : Grid) (t u turn : ℕ → ℕ) : Type 0 where
+pub record ToppledSitesBurn (g : Grid) (t u turn : ℕ → ℕ) : Type 0 where
   pub each : (i : ℕ) → i < sites g → 0 < u i → no_earlier g turn i ≤ t i
 
 -- s - Lu is from 0 to 3 at the site i, and i burns at its turn if it has toppled
@@ -20,7 +20,7 @@ pub record IsShownAt (g : Grid) (s u turn : ℕ → ℕ) (i : ℕ) : Type 0 wher
   pub burns : 0 < u i → 4 * u i + no_earlier g turn i ≤ s i + flow g u i
 
 -- each site is shown
-pub record IsShown (g : Grid) (s u turn : ℕ → ℕ) : Type 0 where
+pub record IsShownEverywhere (g : Grid) (s u turn : ℕ → ℕ) : Type 0 where
   pub each : (i : ℕ) → i < sites g → IsShownAt g s u turn i
 
 -- counts and turns that show how often each site topples
@@ -28,7 +28,7 @@ pub record IsCertificate (g : Grid) (s : ℕ → ℕ) (counts turns : List ℕ) 
   pub counts_each : length counts ≡ sites g
   pub turns_each : length turns ≡ sites g
   pub few : All (λ n. n < 2 ^ 54) counts
-  pub shown : IsShown g s (slice_index counts) (slice_index turns)
+  pub shown : IsShownEverywhere g s (slice_index counts) (slice_index turns)
 
 -- the site i is shown, and s - Lu is h there
 pub record IsLeftAt (g : Grid) (s u turn : ℕ → ℕ) (i h : ℕ) : Type 0 where

@@ -3,11 +3,11 @@ use Rattle.std.specs.Prelude.{ℕ, List, slice_index}
 use Rattle.sand_model.specs.Grid.{Grid}
 use Rattle.sand_model.specs.Sand.{IsToppled, IsSettled}
 use Rattle.sand_model.specs.Forbidden.{IsTight}
-use Rattle.sand_certify.specs.Certificate.{BurnInTurns, IsCertificate}
+use Rattle.sand_certify.specs.Certificate.{ToppledSitesBurn, IsCertificate}
 
 -- where each site that has toppled burns at its turn, no set of such sites is forbidden
 abbrev pub TightIfBurning : Type 0
-TightIfBurning = (g : Grid) (t u turn : ℕ → ℕ) → BurnInTurns g t u turn → IsTight g t u
+TightIfBurning = (g : Grid) (t u turn : ℕ → ℕ) → ToppledSitesBurn g t u turn → IsTight g t u
 
 -- a certificate shows the odometer
 abbrev pub SettledIfShown : Type 0

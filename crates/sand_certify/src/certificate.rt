@@ -9,7 +9,7 @@ ghost use Rattle.std.specs.Prelude.{◌≡◌, ℕ, ◌+◌, ◌*◌, ◌^◌, �
 ghost use Rattle.sand_model.specs.Grid.{sites};
 ghost use Rattle.sand_model.specs.Sand.{flow, value_at, IsSettled};
 ghost use Rattle.sand_model.specs.Piles.{height_of, most_grains};
-ghost use Rattle.sand_certify.specs.Certificate.{no_earlier, IsShownAt, IsLeftAt, IsShown, IsCertificate};
+ghost use Rattle.sand_certify.specs.Certificate.{no_earlier, IsShownAt, IsLeftAt, IsShownEverywhere, IsCertificate};
 
 use sand_model::{Lattice, Pile};
 use std::alloc::{AllocError, Global};
@@ -126,7 +126,7 @@ fn heights_left(
     requires turns_each { length turns.now ≡ sites lattice.now }
     requires few { (j : ℕ) → slice_index counts.now j < 2 ^ 54 }
     requires low { (j : ℕ) → slice_index start.now j ≤ most_grains }
-    ensures exactly { IfOk result (λ o. IsSome o ↔ IsShown lattice.now (slice_index start.now) (slice_index counts.now) (slice_index turns.now)) }
+    ensures exactly { IfOk result (λ o. IsSome o ↔ IsShownEverywhere lattice.now (slice_index start.now) (slice_index counts.now) (slice_index turns.now)) }
     ensures one_each { IfOk result (λ o. IfSome o (λ heights. length heights.items ≡ sites lattice.now)) }
     ensures settled { IfOk result (λ o. IfSome o (λ heights. IsSettled lattice.now (slice_index start.now) (slice_index counts.now) (slice_index heights.items))) }
 {

@@ -3,7 +3,7 @@ use Rattle.std.proofs.Common.{◌≡◌, ◌+◌, ℕ, true, List, [], ◌∷◌
 use Rattle.std.specs.Prelude.{Result, Ok, Err}
 use Rattle.sand_model.specs.Grid.{sites}
 use Rattle.sand_model.specs.Piles.{PileView}
-use Rattle.sand_model.specs.Sand.{tally, total}
+use Rattle.sand_model.specs.Sand.{tally, sum_below}
 use Rattle.sand_model.proofs.Tallies.{tally-append}
 use Rattle.sand_settle.specs.Drops.{OneView, IsAfter}
 use Rattle.sand_settle.specs.Settling.{SettledView}
@@ -25,12 +25,12 @@ drawn_on draw start = stream_sites (sites start.grid) draw.seed draw.stream draw
 
 -- one dropper drops on each site in one epoch as often as the draw
 epoch_of_draw : (draw : Draw) (w : Wish) → DropsTheDraw draw w → (start : PileView) (i : ℕ)
-    → total w.droppers (λ k. tally (stream_sites (sites start.grid) w.seed (stream_of 0 k) w.drops) i) ≡ tally (drawn_on draw start) i
-unfolding total
+    → sum_below w.droppers (λ k. tally (stream_sites (sites start.grid) w.seed (stream_of 0 k) w.drops) i) ≡ tally (drawn_on draw start) i
+unfolding sum_below
 epoch_of_draw draw w asks start i =
     let each : ℕ → ℕ = λ k. tally (stream_sites (sites start.grid) w.seed (stream_of 0 k) w.drops) i in
-    let one : total w.droppers each ≡ total 1 each = ap (λ n. total n each) asks.droppers in
-    let alone : total 1 each ≡ 0 + each 0 = refl in
+    let one : sum_below w.droppers each ≡ sum_below 1 each = ap (λ n. sum_below n each) asks.droppers in
+    let alone : sum_below 1 each ≡ 0 + each 0 = refl in
     let first : each 0 ≡ tally (drawn_on draw start) i = λ k. tally (stream_sites (sites start.grid) (asks.seed k) (sym asks.stream k) (asks.drops k)) i in
     omega (arith, one, alone, first)
 

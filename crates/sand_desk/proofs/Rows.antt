@@ -2,10 +2,10 @@
 use Rattle.std.proofs.Common.{ℕ, List, [], ◌∷◌, ◌++◌, refl, sym, ap, subst}
 use Rattle.sand_settle.specs.declared.avalanche.Avalanche.{Avalanche}
 use Rattle.sand_settle.specs.Avalanches.{IsAvalanche}
-use Rattle.sand_settle.specs.Drops.{OneView, grid_of_one, topplings_between, Drops}
+use Rattle.sand_settle.specs.Drops.{OneView, grid_of_one_pile, topplings_between, Drops}
 use Rattle.sand_desk.specs.Dropping.{AreRows}
 
-pub rows_push : (v u w : OneView) (sites : List ℕ) (rows : List (ℕ × Avalanche)) (site : ℕ) (a : Avalanche) → AreRows v sites rows u → Drops u site w → IsAvalanche (grid_of_one u) site (topplings_between u.settled w.settled) a
+pub rows_push : (v u w : OneView) (sites : List ℕ) (rows : List (ℕ × Avalanche)) (site : ℕ) (a : Avalanche) → AreRows v sites rows u → Drops u site w → IsAvalanche (grid_of_one_pile u) site (topplings_between u.settled w.settled) a
     → AreRows v (sites ++ site ∷ []) (rows ++ (u.number, a) ∷ []) w
 rows_push v u w [] rows site a (none, same) drop is =
     let P : OneView → Type 0 = λ x. AreRows x (site ∷ []) (rows ++ (u.number, a) ∷ []) w in

@@ -2,7 +2,7 @@
 use Rattle.std.specs.Prelude.{ℕ, ⊤, ◌≡◌, ◌↔◌, ◌⊎◌, ◌+◌, ◌<◌, ◌≤◌, Bool, true, false, List, [], length, take, Option, Some, None, Result, Err}
 use Rattle.std.specs.Io.KnownBytes.{Appends, Keeps}
 use Rattle.sand_model.specs.declared.faults.ShapeFault.{ShapeFault}
-use Rattle.sand_model.specs.Grid.{grid_of}
+use Rattle.sand_model.specs.Grid.{grid_with_edge}
 use Rattle.sand_text.specs.declared.fault.TextFault.{TextFault}
 use Rattle.sand_text.specs.Flow.{GivesAll, IsFurther, IsFurtherByAtMost, most_bytes}
 use Rattle.sand_text.specs.Reading.{pile_of, two_of}
@@ -67,7 +67,7 @@ IsBurnFault input fault = IsUnreadable (pile_of input) fault
 -- the grid has no such shape
 pub record IsShapeless (width height : ℕ) (cylinder : Bool) (fault : DeskFault) : Type 0 where
   pub why : ShapeFault
-  pub unmade : grid_of width height (edge_of cylinder) ≡ Err why
+  pub unmade : grid_with_edge width height (edge_of cylinder) ≡ Err why
   pub told : fault ≡ of_shape why
 
 -- a sum wants two recurrent piles of one shape: the first pile's fault comes before the second's

@@ -3,7 +3,7 @@ use Rattle.std.specs.Prelude.{ℕ, ◌≡◌, ◌+◌, ◌<◌, Bool, if◌then�
 use Rattle.sand_model.specs.Piles.{PileView, most_grains}
 use Rattle.sand_settle.specs.declared.avalanche.Avalanche.{Avalanche}
 use Rattle.sand_settle.specs.Avalanches.{IsAvalanche}
-use Rattle.sand_settle.specs.Drops.{OneView, grid_of_one, topplings_between, IsAfter, Drops}
+use Rattle.sand_settle.specs.Drops.{OneView, grid_of_one_pile, topplings_between, IsAfter, Drops}
 use Rattle.sand_model.specs.Grid.{sites}
 use Rattle.sand_lab.specs.Streams.{stream_sites}
 use Rattle.sand_text.specs.declared.fault.TextFault.{TextFault}
@@ -25,7 +25,7 @@ drops_for (Some draw) input = pile_of input >>= with_draw draw
 abbrev pub AreRows : OneView → List ℕ → List (ℕ × Avalanche) → OneView → Type 0
 AreRows v [] rows w = (rows ≡ []) × (v ≡ w)
 AreRows v (site ∷ sites) rows w = (u : OneView) × (avalanche : Avalanche) × (others : List (ℕ × Avalanche))
-    × Drops v site u × IsAvalanche (grid_of_one v) site (topplings_between v.settled u.settled) avalanche
+    × Drops v site u × IsAvalanche (grid_of_one_pile v) site (topplings_between v.settled u.settled) avalanche
     × (rows ≡ (v.number, avalanche) ∷ others) × AreRows u sites others w
 
 -- a line that names a sum

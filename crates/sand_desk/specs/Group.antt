@@ -2,7 +2,7 @@
 use Rattle.std.specs.Prelude.{ℕ, ◌≡◌, ◌≢◌, ◌⊎◌, Bool, true, false, List, length, Ok}
 use Rattle.sand_model.specs.declared.shape.Edge.{Edge}
 use Rattle.sand_model.specs.declared.shape.Edge.TheVariants.{Open, Cylinder}
-use Rattle.sand_model.specs.Grid.{Grid, grid_of, sites}
+use Rattle.sand_model.specs.Grid.{Grid, grid_with_edge, sites}
 use Rattle.sand_model.specs.Integers.{whole}
 use Rattle.sand_model.specs.Piles.{PileView, height_of}
 use Rattle.sand_model.specs.Sand.{IsStable}
@@ -42,7 +42,7 @@ pub record IsPileText (g : Grid) (IsWanted : (ℕ → ℕ) → Type 0) (pgm : Bo
 -- the identity of the group on the grid of these sides
 pub record IsIdentityText (width height : ℕ) (cylinder pgm : Bool) (text : List ℕ) : Type 0 where
   pub grid : Grid
-  pub made : grid_of width height (edge_of cylinder) ≡ Ok grid
+  pub made : grid_with_edge width height (edge_of cylinder) ≡ Ok grid
   pub answer : IsPileText grid (IsIdentity grid) pgm text
 
 -- the sum of the two piles that the input holds, which are recurrent and of one shape

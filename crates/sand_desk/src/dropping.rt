@@ -3,7 +3,7 @@
 ghost use Rattle.std.specs.Prelude.{◌≡◌, ◌+◌, ◌<◌, [], ◌++◌, length, All, Some, None, IfSome, IfOk, IfErr, OnOk, IsOkUnless};
 ghost use Rattle.sand_model.specs.Grid.{sites};
 ghost use Rattle.sand_model.specs.Piles.{PileView};
-ghost use Rattle.sand_settle.specs.Drops.{grid_of_one, IsAfter};
+ghost use Rattle.sand_settle.specs.Drops.{grid_of_one_pile, IsAfter};
 ghost use Rattle.sand_lab.specs.Streams.{stream_sites};
 ghost use Rattle.sand_cli.specs.Asked.{IsDraw};
 ghost use Rattle.sand_desk.specs.Commands.{IsDropFault, IsDropsFault, Finds};
@@ -23,7 +23,7 @@ fn drop_all(
     pile: &mut OnePile,
     drops: &[usize],
 ) -> Result<Vec<(u64, Avalanche)>, DeskFault>
-    requires { All (λ site. site < sites (grid_of_one pile.old)) drops.now }
+    requires { All (λ site. site < sites (grid_of_one_pile pile.old)) drops.now }
     ensures rows { IfOk result (λ rows. AreRows pile.old drops.now rows.items pile.new) }
     ensures after { OnOk result ((start : PileView) → IsAfter start [] pile.old → IsAfter start drops.now pile.new) }
     ensures fault { IfErr result (IsDropFault (pile.old.grains + length drops.now)) }
@@ -43,8 +43,8 @@ fn drop_drawn(
     draw: Draw,
 ) -> Result<Vec<(u64, Avalanche)>, DeskFault>
     requires { IsDraw draw }
-    ensures rows { IfOk result (λ rows. AreRows pile.old (stream_sites (sites (grid_of_one pile.old)) draw.seed draw.stream draw.count) rows.items pile.new) }
-    ensures after { OnOk result ((start : PileView) → IsAfter start [] pile.old → IsAfter start (stream_sites (sites (grid_of_one pile.old)) draw.seed draw.stream draw.count) pile.new) }
+    ensures rows { IfOk result (λ rows. AreRows pile.old (stream_sites (sites (grid_of_one_pile pile.old)) draw.seed draw.stream draw.count) rows.items pile.new) }
+    ensures after { OnOk result ((start : PileView) → IsAfter start [] pile.old → IsAfter start (stream_sites (sites (grid_of_one_pile pile.old)) draw.seed draw.stream draw.count) pile.new) }
     ensures fault { IfErr result (IsDropFault (pile.old.grains + draw.count)) }
 {
     let mut reader = SiteReader::new(pile.pile().shape(), draw.seed, draw.stream);

@@ -3,23 +3,23 @@ use Rattle.std.proofs.Common.{ℕ, zero, suc, ◌≡◌, ◌*◌, ◌<◌, arith
 use Rattle.std.specs.Prelude.{ℤ, pos, ◌+ℤ◌, ◌-ℤ◌}
 use Rattle.std.proofs.lemmas.Int.{ints}
 use Rattle.sand_model.specs.Grid.{Grid, sites, neighbours}
-use Rattle.sand_model.specs.Integers.{sum_over, laplacian, IsEquivalent}
+use Rattle.sand_model.specs.Integers.{whole_sum_by, laplacian, IsEquivalent}
 
-sum_over-add : (z w : ℕ → ℤ) (js : List ℕ) → sum_over (λ j. z j +ℤ w j) js ≡ sum_over z js +ℤ sum_over w js
-sum_over-add z w [] = omega (arith, ints)
-sum_over-add z w (j ∷ js) = let rest = sum_over-add z w js in omega (arith, ints)
+whole_sum_by-add : (z w : ℕ → ℤ) (js : List ℕ) → whole_sum_by (λ j. z j +ℤ w j) js ≡ whole_sum_by z js +ℤ whole_sum_by w js
+whole_sum_by-add z w [] = omega (arith, ints)
+whole_sum_by-add z w (j ∷ js) = let rest = whole_sum_by-add z w js in omega (arith, ints)
 
-sum_over-minus : (z : ℕ → ℤ) (js : List ℕ) → sum_over (λ j. pos 0 -ℤ z j) js ≡ pos 0 -ℤ sum_over z js
-sum_over-minus z [] = omega (arith, ints)
-sum_over-minus z (j ∷ js) = let rest = sum_over-minus z js in omega (arith, ints)
+whole_sum_by-minus : (z : ℕ → ℤ) (js : List ℕ) → whole_sum_by (λ j. pos 0 -ℤ z j) js ≡ pos 0 -ℤ whole_sum_by z js
+whole_sum_by-minus z [] = omega (arith, ints)
+whole_sum_by-minus z (j ∷ js) = let rest = whole_sum_by-minus z js in omega (arith, ints)
 
 laplacian-add : (g : Grid) (z w : ℕ → ℤ) (i : ℕ) → laplacian g (λ j. z j +ℤ w j) i ≡ laplacian g z i +ℤ laplacian g w i
 unfolding laplacian
-laplacian-add g z w i = let all = sum_over-add z w (neighbours g i) in omega (arith, ints)
+laplacian-add g z w i = let all = whole_sum_by-add z w (neighbours g i) in omega (arith, ints)
 
 laplacian-minus : (g : Grid) (z : ℕ → ℤ) (i : ℕ) → laplacian g (λ j. pos 0 -ℤ z j) i ≡ pos 0 -ℤ laplacian g z i
 unfolding laplacian
-laplacian-minus g z i = let all = sum_over-minus z (neighbours g i) in omega (arith, ints)
+laplacian-minus g z i = let all = whole_sum_by-minus z (neighbours g i) in omega (arith, ints)
 
 pub equivalent_sym : (g : Grid) (s t : ℕ → ℤ) → IsEquivalent g s t → IsEquivalent g t s
 equivalent_sym g s t same = record {

@@ -5,10 +5,10 @@ use Rattle.std.specs.Prelude.{ℤ, pos, ◌+ℤ◌, ◌-ℤ◌}
 use Rattle.std.proofs.lemmas.Int.{ints}
 use Rattle.std.proofs.Math.Nat.{mul-le-mul_left}
 use Rattle.sand_model.specs.Grid.{Grid, sites}
-use Rattle.sand_model.specs.Sand.{total, IsSettled}
+use Rattle.sand_model.specs.Sand.{sum_below, IsSettled}
 use Rattle.sand_model.specs.Integers.{whole, IsEquivalent}
 use Rattle.sand_model.proofs.Sandpile.{settled_in_parts, settled_same, settled_stable}
-use Rattle.sand_model.proofs.Bounds.{at_most_total}
+use Rattle.sand_model.proofs.Bounds.{at_most_sum_below}
 use Rattle.sand_model.proofs.IntegerFlow.{above, below, parts, settled_equivalent}
 use Rattle.sand_group.specs.Recurrence.{IsRecurrent}
 use Rattle.sand_group.specs.Group.{SettlesTo, IsSurplus, Represents, IsSum, IsIdentity, IsInverse}
@@ -107,10 +107,10 @@ inverse_is_settled g c d u r recurrent is done =
 pub class_has_one : (g : Grid) (x : ℕ → ℤ) → (c : ℕ → ℕ) × Represents g x c
 class_has_one g x =
     let d = some_surplus g in
-    let k = total (sites g) (λ i. below (x i)) + 1 in
+    let k = sum_below (sites g) (λ i. below (x i)) + 1 in
     let s : ℕ → ℕ = λ i. above (x i) + k * d.0 i - below (x i) in
     let enough : (i : ℕ) → i < sites g → below (x i) + 3 ≤ k * d.0 i = λ i l.
-    (let most = at_most_total (sites g) (λ j. below (x j)) i l in
+    (let most = at_most_sum_below (sites g) (λ j. below (x j)) i l in
     let product = mul-le-mul_left k (surplus_high g d.0 d.1 i l) in
     omega arith) in
     let done = settles g s in

@@ -8,13 +8,13 @@ use Rattle.std.proofs.lemmas.Bool.{cases_eq, cases_Bool, eq-eqb, ne_eqb, lt-ltb,
 use Rattle.std.proofs.lemmas.Nat.{div-add-mod', div_below}
 use Rattle.std.proofs.lemmas.List.Elements.{All-nil, All-cons, All-head, All-tail}
 use Rattle.sand_model.specs.Grid.{Grid, IsGrid, joins, sites, neighbours, north, west, east, south}
-use Rattle.sand_model.specs.Sand.{total, flow, tally, one_at, value_at, IsStable}
-use Rattle.sand_model.proofs.Totals.{total_same, total-add, total-one_at, one_at_other}
+use Rattle.sand_model.specs.Sand.{sum_below, flow, tally, one_at, value_at, IsStable}
+use Rattle.sand_model.proofs.SumsBelow.{sum_below_same, sum_below-add, sum_below-one_at, one_at_other}
 use Rattle.sand_model.proofs.Neighbours.{flow_four, some_width}
 use Rattle.sand_model.proofs.Flow.{flow_same, flow-add, indicator}
 use Rattle.sand_model.proofs.Tallies.{tally-cons}
 use Rattle.sand_model.proofs.Lists.{at_most_one, all_or_one}
-use Rattle.sand_group.specs.Recurrence.{IsRecurrent, is_in, BurnInTurn, IsBurningOrder}
+use Rattle.sand_group.specs.Recurrence.{IsRecurrent, is_in, BurnsInOrder, IsBurningOrder}
 use Rattle.sand_model.specs.Forbidden.{IsForbidden}
 use Rattle.sand_group.proofs.Sets.{count_within}
 
@@ -97,7 +97,7 @@ record Orders (g : Grid) (s : ℕ → ℕ) (set : ℕ → Bool) : Type 0 where
   order : List ℕ
   only_sites : All (λ i. i < sites g) order
   each : (i : ℕ) → i < sites g → tally order i ≡ indicator set i
-  in_turn : BurnInTurn g s order
+  in_turn : BurnsInOrder g s order
 
 none_in : (g : Grid) (s : ℕ → ℕ) (set : ℕ → Bool) → ((i : ℕ) → i < sites g → set i ≡ false) → Orders g s set
 none_in g s set none = record {
@@ -146,15 +146,15 @@ some_goes g s set recurrent i l here =
     (λ (one : (k : ℕ) × (k < sites g) × (not (may_go g s set k) ≡ false)). (one.0, one.1, not-false (may_go g s set one.0) one.2))
     (all_or_one (sites g) (λ k. not (may_go g s set k)))
 
-one_less : (g : Grid) (set : ℕ → Bool) (i : ℕ) → i < sites g → set i ≡ true → total (sites g) (indicator set) ≡ total (sites g) (indicator (without set i)) + 1
+one_less : (g : Grid) (set : ℕ → Bool) (i : ℕ) → i < sites g → set i ≡ true → sum_below (sites g) (indicator set) ≡ sum_below (sites g) (indicator (without set i)) + 1
 one_less g set i l here =
-    let split = total_same (sites g) (indicator set) (λ j. indicator (without set i) j + 1 * one_at i j) (λ j m. let e = without_one set i j here in omega arith) in
-    let both = total-add (sites g) (indicator (without set i)) (λ j. 1 * one_at i j) in
-    let one : total (sites g) (λ j. 1 * one_at i j) ≡ 1 = total-one_at (sites g) i (λ j. 1) l in
+    let split = sum_below_same (sites g) (indicator set) (λ j. indicator (without set i) j + 1 * one_at i j) (λ j m. let e = without_one set i j here in omega arith) in
+    let both = sum_below-add (sites g) (indicator (without set i)) (λ j. 1 * one_at i j) in
+    let one : sum_below (sites g) (λ j. 1 * one_at i j) ≡ 1 = sum_below-one_at (sites g) i (λ j. 1) l in
     omega arith
 
 -- the sites of a set may burn one after another
-order_from : (n : ℕ) (g : Grid) (s : ℕ → ℕ) (set : ℕ → Bool) → IsRecurrent g s → total (sites g) (indicator set) ≤ n → Orders g s set
+order_from : (n : ℕ) (g : Grid) (s : ℕ → ℕ) (set : ℕ → Bool) → IsRecurrent g s → sum_below (sites g) (indicator set) ≤ n → Orders g s set
 order_from zero g s set recurrent few =
     none_in g s set (λ i l. ⊎_elim (λ (here : set i ≡ true). let less = one_less g set i l here in absurd (omega arith)) (λ (out : set i ≡ false). out) (cases_Bool (set i)))
 order_from (suc n) g s set recurrent few =
@@ -169,7 +169,7 @@ order_from (suc n) g s set recurrent few =
 
 order_of : (g : Grid) (s : ℕ → ℕ) → IsRecurrent g s → (order : List ℕ) × IsBurningOrder g s order
 order_of g s recurrent =
-    let all = order_from (total (sites g) (λ i. 1)) g s (λ i. true) recurrent (omega arith) in (
+    let all = order_from (sum_below (sites g) (λ i. 1)) g s (λ i. true) recurrent (omega arith) in (
       all.order,
       record {
         only_sites = all.only_sites;
@@ -197,7 +197,7 @@ first_has_others g set i later grid l here among =
     let none = not_own g i grid l in
     omega arith
 
-no_forbidden : (g : Grid) (s : ℕ → ℕ) (set : ℕ → Bool) (order : List ℕ) → IsGrid g → IsForbidden g s set → All (λ i. i < sites g) order → BurnInTurn g s order → ((j : ℕ) → j < sites g → set j ≡ true → 1 ≤ tally order j) → ⊥
+no_forbidden : (g : Grid) (s : ℕ → ℕ) (set : ℕ → Bool) (order : List ℕ) → IsGrid g → IsForbidden g s set → All (λ i. i < sites g) order → BurnsInOrder g s order → ((j : ℕ) → j < sites g → set j ≡ true → 1 ≤ tally order j) → ⊥
 no_forbidden g s set [] grid bad below turn among = let none = among bad.some.0 bad.some.1 bad.some.2 in absurd (omega arith)
 no_forbidden g s set (i ∷ later) grid bad below turn among =
     let site = All-head (λ j. j < sites g) i later below in

@@ -7,25 +7,25 @@ use Rattle.std.proofs.lemmas.List.Elements.{All-head, All-tail}
 use Rattle.sand_model.specs.Grid.{Grid, sites, neighbours, missing, places}
 use Rattle.sand_model.specs.Sand.{flow, tally, one_at, value_at, IsStable}
 use Rattle.sand_model.specs.Lists.{Lists}
-use Rattle.sand_model.proofs.Totals.{one_at_same, one_at_other}
+use Rattle.sand_model.proofs.SumsBelow.{one_at_same, one_at_other}
 use Rattle.sand_model.proofs.Neighbours.{neighbours_mutual, neighbours_at_most_four, flow_four}
 use Rattle.sand_model.proofs.Flow.{flow_same, flow-add, indicator}
 use Rattle.sand_model.proofs.Sandpile.{sum_by_ones}
 use Rattle.sand_model.proofs.Tallies.{tally-push, tally-cons}
 use Rattle.sand_model.proofs.Lists.{listed, at_most_once, lists_below, lists_all, lists_leave}
-use Rattle.sand_group.specs.Recurrence.{IsRecurrent, is_in, BurnInTurn, IsBurningOrder, IsGreatestForbidden}
+use Rattle.sand_group.specs.Recurrence.{IsRecurrent, is_in, BurnsInOrder, IsBurningOrder, IsGreatestForbidden}
 use Rattle.sand_model.specs.Forbidden.{IsForbidden}
-use Rattle.sand_group.specs.Fire.{may_burn, is_out, BurnAfter, CountsUnburnt}
+use Rattle.sand_group.specs.Fire.{may_burn, is_out, FireSpreadsFrom, CountsUnburnt}
 use Rattle.sand_group.proofs.Sets.{count_within}
 use Rattle.sand_group.proofs.Listing.{is_out-none, is_out-some, is_in_listing, is_out_of_listing}
 
 -- one more site burns
-pub burn_after_push : (g : Grid) (s : ℕ → ℕ) (before xs : List ℕ) (i : ℕ) → BurnAfter g s before xs → count_by (is_out (before ++ xs)) (neighbours g i) ≤ s i → BurnAfter g s before (xs ++ i ∷ [])
-burn_after_push g s before [] i burnt high = (rw (sym (append-nil before)) high, tt)
-burn_after_push g s before (x ∷ xs) i burnt high = (burnt.0, burn_after_push g s (before ++ x ∷ []) xs i burnt.1 (rw (append_assoc before (x ∷ []) xs) high))
+pub fire_spreads_push : (g : Grid) (s : ℕ → ℕ) (before xs : List ℕ) (i : ℕ) → FireSpreadsFrom g s before xs → count_by (is_out (before ++ xs)) (neighbours g i) ≤ s i → FireSpreadsFrom g s before (xs ++ i ∷ [])
+fire_spreads_push g s before [] i burnt high = (rw (sym (append-nil before)) high, tt)
+fire_spreads_push g s before (x ∷ xs) i burnt high = (burnt.0, fire_spreads_push g s (before ++ x ∷ []) xs i burnt.1 (rw (append_assoc before (x ∷ []) xs) high))
 
 -- no site of a forbidden set burns
-pub forbidden_unburnt : (g : Grid) (s : ℕ → ℕ) (set : ℕ → Bool) (before xs : List ℕ) → IsForbidden g s set → All (λ i. i < sites g) xs → ((j : ℕ) → set j ≡ true → tally before j ≡ 0) → BurnAfter g s before xs → (j : ℕ) → set j ≡ true → tally xs j ≡ 0
+pub forbidden_unburnt : (g : Grid) (s : ℕ → ℕ) (set : ℕ → Bool) (before xs : List ℕ) → IsForbidden g s set → All (λ i. i < sites g) xs → ((j : ℕ) → set j ≡ true → tally before j ≡ 0) → FireSpreadsFrom g s before xs → (j : ℕ) → set j ≡ true → tally xs j ≡ 0
 forbidden_unburnt g s set before [] bad below none burnt j in' = refl
 forbidden_unburnt g s set before (x ∷ xs) bad below none burnt j in' =
     let site = All-head (λ i. i < sites g) x xs below in
@@ -46,7 +46,7 @@ forbidden_unburnt g s set before (x ∷ xs) bad below none burnt j in' =
     omega arith
 
 -- the order of burning is a burning order
-pub in_turn : (g : Grid) (s : ℕ → ℕ) (before xs : List ℕ) → All (λ i. i < sites g) xs → ((j : ℕ) → tally before j + tally xs j ≤ 1) → BurnAfter g s before xs → BurnInTurn g s xs
+pub in_turn : (g : Grid) (s : ℕ → ℕ) (before xs : List ℕ) → All (λ i. i < sites g) xs → ((j : ℕ) → tally before j + tally xs j ≤ 1) → FireSpreadsFrom g s before xs → BurnsInOrder g s xs
 in_turn g s before [] below once burnt = tt
 in_turn g s before (x ∷ xs) below once burnt = (
   (let site = All-head (λ i. i < sites g) x xs below in
@@ -147,7 +147,7 @@ kept_longer before after n len kept =
 -- ---- what the fire leaves
 
 -- a fire that reaches all sites burns them in a burning order, and the pile is recurrent
-pub burned_recurrent : (g : Grid) (s unburnt : ℕ → ℕ) (burnt : List ℕ) → IsStable g s → Lists (sites g) (may_burn s unburnt) burnt → BurnAfter g s [] burnt → length burnt ≡ sites g → IsRecurrent g s × IsBurningOrder g s burnt
+pub burned_recurrent : (g : Grid) (s unburnt : ℕ → ℕ) (burnt : List ℕ) → IsStable g s → Lists (sites g) (may_burn s unburnt) burnt → FireSpreadsFrom g s [] burnt → length burnt ≡ sites g → IsRecurrent g s × IsBurningOrder g s burnt
 burned_recurrent g s unburnt burnt stable list order full = (
   record {
     stable = stable;
@@ -165,7 +165,7 @@ burned_recurrent g s unburnt burnt stable list order full = (
 )
 
 -- what a fire does not reach is the greatest forbidden set
-pub burned_forbidden : (g : Grid) (s unburnt : ℕ → ℕ) (burnt left : List ℕ) → CountsUnburnt g burnt unburnt → Lists (sites g) (may_burn s unburnt) burnt → BurnAfter g s [] burnt → (length burnt ≡ sites g → ⊥) → Lists (sites g) (λ i. not (may_burn s unburnt i)) left → IsStrictlyIncreasing left → IsGreatestForbidden g s left
+pub burned_forbidden : (g : Grid) (s unburnt : ℕ → ℕ) (burnt left : List ℕ) → CountsUnburnt g burnt unburnt → Lists (sites g) (may_burn s unburnt) burnt → FireSpreadsFrom g s [] burnt → (length burnt ≡ sites g → ⊥) → Lists (sites g) (λ i. not (may_burn s unburnt i)) left → IsStrictlyIncreasing left → IsGreatestForbidden g s left
 burned_forbidden g s unburnt burnt left counts list order short rest rises =
     let member : (i : ℕ) → i < sites g → is_in left i ≡ not (may_burn s unburnt i) = λ i l. is_in_listing (sites g) (λ j. not (may_burn s unburnt j)) left i rest l in
     let out : (i : ℕ) → i < sites g → is_out burnt i ≡ not (may_burn s unburnt i) = λ i l. is_out_of_listing (sites g) (may_burn s unburnt) burnt i list l in

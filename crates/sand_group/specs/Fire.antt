@@ -21,9 +21,9 @@ abbrev pub is_out : List ℕ → ℕ → Bool
 is_out xs i = not (is_in xs i)
 
 -- each height is at least the number of the site's neighbours that did not burn before it
-abbrev pub BurnAfter : Grid → (ℕ → ℕ) → List ℕ → List ℕ → Type 0
-BurnAfter g s before [] = Unit {0}
-BurnAfter g s before (i ∷ later) = (count_by (is_out before) (neighbours g i) ≤ s i) × BurnAfter g s (before ++ i ∷ []) later
+abbrev pub FireSpreadsFrom : Grid → (ℕ → ℕ) → List ℕ → List ℕ → Type 0
+FireSpreadsFrom g s before [] = Unit {0}
+FireSpreadsFrom g s before (i ∷ later) = (count_by (is_out before) (neighbours g i) ≤ s i) × FireSpreadsFrom g s (before ++ i ∷ []) later
 
 -- for each site the number of its neighbours that are not in the list
 pub record CountsUnburnt (g : Grid) (burnt : List ℕ) (unburnt : ℕ → ℕ) : Type 0 where

@@ -23,12 +23,12 @@ abbrev pub EachClassHasOne : Type 0
 EachClassHasOne = (g : Grid) (x : ℕ → ℤ) → (c : ℕ → ℕ) × Represents g x c
 
 -- two equivalent recurrent piles are equal
-abbrev pub RecurrentOnce : Type 0
-RecurrentOnce = (g : Grid) (c e : ℕ → ℕ) → IsRecurrent g c → IsRecurrent g e → IsEquivalent g (whole c) (whole e) → (i : ℕ) → i < sites g → c i ≡ e i
+abbrev pub EquivalentRecurrentsAreEqual : Type 0
+EquivalentRecurrentsAreEqual = (g : Grid) (c e : ℕ → ℕ) → IsRecurrent g c → IsRecurrent g e → IsEquivalent g (whole c) (whole e) → (i : ℕ) → i < sites g → c i ≡ e i
 
 -- so each class has one recurrent pile alone: there is one sum, one identity and one inverse
-abbrev pub RepresentedOnce : Type 0
-RepresentedOnce = (g : Grid) (x : ℕ → ℤ) (c e : ℕ → ℕ) → Represents g x c → Represents g x e → (i : ℕ) → i < sites g → c i ≡ e i
+abbrev pub RepresentativesAreEqual : Type 0
+RepresentativesAreEqual = (g : Grid) (x : ℕ → ℤ) (c e : ℕ → ℕ) → Represents g x c → Represents g x e → (i : ℕ) → i < sites g → c i ≡ e i
 
 -- the sum of a and b is what a + b settles to
 abbrev pub SumIsSettled : Type 0

@@ -16,15 +16,15 @@ abbrev pub is_in : List ℕ → ℕ → Bool
 is_in xs i = nat_lt 0 (tally xs i)
 
 -- the height of each site of the list is at least the number of its neighbours that come later
-abbrev pub BurnInTurn : Grid → (ℕ → ℕ) → List ℕ → Type 0
-BurnInTurn g s [] = Unit {0}
-BurnInTurn g s (i ∷ later) = (count_by (is_in later) (neighbours g i) ≤ s i) × BurnInTurn g s later
+abbrev pub BurnsInOrder : Grid → (ℕ → ℕ) → List ℕ → Type 0
+BurnsInOrder g s [] = Unit {0}
+BurnsInOrder g s (i ∷ later) = (count_by (is_in later) (neighbours g i) ≤ s i) × BurnsInOrder g s later
 
 -- all sites, each once, and each burns in its turn
 pub record IsBurningOrder (g : Grid) (s : ℕ → ℕ) (order : List ℕ) : Type 0 where
   pub only_sites : All (λ i. i < sites g) order
   pub each_once : (i : ℕ) → i < sites g → tally order i ≡ 1
-  pub in_turn : BurnInTurn g s order
+  pub in_turn : BurnsInOrder g s order
 
 -- the sites of a forbidden set that includes every forbidden set, ascending, each once
 pub record IsGreatestForbidden (g : Grid) (s : ℕ → ℕ) (set : List ℕ) : Type 0 where

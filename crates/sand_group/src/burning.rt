@@ -14,7 +14,7 @@ ghost use Rattle.std.specs.List.Sorted.{IsStrictlyIncreasing};
 ghost use Rattle.sand_model.specs.Grid.{sites, neighbours};
 ghost use Rattle.sand_model.specs.Sand.{IsStable, tally, one_at, value_at};
 ghost use Rattle.sand_model.specs.Piles.{height_of};
-ghost use Rattle.sand_group.specs.Fire.{ListsBurning, ListsUnburnt, BurnAfter, CountsUnburnt};
+ghost use Rattle.sand_group.specs.Fire.{ListsBurning, ListsUnburnt, FireSpreadsFrom, CountsUnburnt};
 ghost use Rattle.sand_group.specs.Burned.{IsBurned};
 
 use crate::faults::GroupFault;
@@ -123,7 +123,7 @@ fn burn_out(shape: Shape, heights: &[u64], unburnt: &mut Vec<u8>, burnt: &mut Ve
     ensures one_each { length unburnt.new.items ≡ sites shape }
     ensures counts { CountsUnburnt shape burnt.new.items (slice_index unburnt.new.items) }
     ensures all { ListsBurning (sites shape) heights.now unburnt.new.items burnt.new.items }
-    ensures in_turn { BurnAfter shape (slice_index heights.now) [] burnt.new.items }
+    ensures in_turn { FireSpreadsFrom shape (slice_index heights.now) [] burnt.new.items }
 {
     let mut head = 0;
     while head < burnt.len() {

@@ -16,7 +16,7 @@
 //! second, unless z is at most 0; and the same for -z. So a recurrent c is what c + d settles to, where d is
 //! 2m - settled(2m): d is equivalent to all 0 and at least m.
 
-ghost use Rattle.sand_group.specs.Laws.{BurningDecides, RecurrentFromFull, StaysRecurrent, EachClassHasOne, RecurrentOnce, RepresentedOnce, SumIsSettled, EachGridHasSurplus, IdentityIsSettled, InverseIsSettled, IdentityIsNeutral, InverseCancels, EquivalentIsSettled, RepresentsItself, EquivalentsAddUp};
+ghost use Rattle.sand_group.specs.Laws.{BurningDecides, RecurrentFromFull, StaysRecurrent, EachClassHasOne, EquivalentRecurrentsAreEqual, RepresentativesAreEqual, SumIsSettled, EachGridHasSurplus, IdentityIsSettled, InverseIsSettled, IdentityIsNeutral, InverseCancels, EquivalentIsSettled, RepresentsItself, EquivalentsAddUp};
 
 /// A stable pile is recurrent exactly where all its sites burn in some order.
 pub fn burning_decides()
@@ -32,8 +32,8 @@ pub fn recurrent_from_full()
 /// Each class of equivalent piles has one recurrent pile.
 pub fn one_in_each_class()
     ensures some { EachClassHasOne }
-    ensures equivalent { RecurrentOnce }
-    ensures represented { RepresentedOnce }
+    ensures equivalent { EquivalentRecurrentsAreEqual }
+    ensures represented { RepresentativesAreEqual }
 {}
 
 /// Settling gives the sum, the identity and the inverse.

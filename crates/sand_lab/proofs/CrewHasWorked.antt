@@ -7,7 +7,7 @@ use Rattle.sand_model.specs.Piles.{height_of}
 use Rattle.std.proofs.lemmas.List.{get_or-take, get_or-drop, length-replicate, length-take}
 use Rattle.std.proofs.lemmas.List.Sums.{sum_by-cons}
 use Rattle.sand_shared.specs.Events.{zeros}
-use Rattle.sand_shared.specs.OpenPile.{grid_of, dropped, toppled_by}
+use Rattle.sand_shared.specs.OpenPile.{grid_of_terms, dropped, toppled_by}
 use Rattle.sand_shared.specs.Passes.{SharedView, PassView, IsPassOf, at_rest}
 use Rattle.sand_shared.specs.Rows.{count_of}
 use Rattle.sand_shared.specs.Sweeps.{LeavesAtMost}
@@ -24,7 +24,7 @@ use Rattle.sand_lab.proofs.EachAtItsPlace.{each_zip}
 use Rattle.sand_lab.specs.Streams.{Reading, stream_sites}
 
 -- a pass that has the table and the grid of a pile is of that pile
-of_pile : (s : SharedView) (p q : PassView) → p ≡ q → q.table ≡ s.table → q.grid ≡ grid_of s.terms → IsPassOf s p
+of_pile : (s : SharedView) (p q : PassView) → p ≡ q → q.table ≡ s.table → q.grid ≡ grid_of_terms s.terms → IsPassOf s p
 of_pile s p q e table grid = record { table = ap (λ (x : PassView). x.table) e ∙ table; grid = ap (λ (x : PassView). x.grid) e ∙ grid }
 
 pub can_drop : (s : SharedView) (w : Wish) (t k : ℕ) (d : Dropper) → IsDropper s w t k d → CanDrop s w.drops d
@@ -45,8 +45,8 @@ sum_zeros (suc n) = sum_zeros n
 
 pub can_sweep : (s : SharedView) (n j : ℕ) (x : Worker) → IsWorker s n j x → CanSweep s x
 can_sweep s n j x is = record {
-  of_pile = of_pile s x.pass (banded s (band (grid_of s.terms).height n j)) is.pass refl refl;
-  swept = is.swept ∙ sym (ap (λ (p : PassView). sum p.counts) is.pass ∙ sum_zeros (count_of (band (grid_of s.terms).height n j) * (grid_of s.terms).width));
+  of_pile = of_pile s x.pass (banded s (band (grid_of_terms s.terms).height n j)) is.pass refl refl;
+  swept = is.swept ∙ sym (ap (λ (p : PassView). sum p.counts) is.pass ∙ sum_zeros (count_of (band (grid_of_terms s.terms).height n j) * (grid_of_terms s.terms).width));
 }
 
 pub can_watch : (s : SharedView) (i : ℕ) (o : Observer) → IsObserver s i o → CanWatch s 16 o
@@ -54,7 +54,7 @@ can_watch s i o is = record { of_pile = of_pile s o.pass (rowless s 0) is.pass r
 
 pub can_tend : (s : SharedView) (w : Wish) (j : ℕ) (x : Worker) → HasTended s w j x → CanSweep s x
 can_tend s w j x is = record {
-  of_pile = of_pile s x.pass (record (banded s (band (grid_of s.terms).height w.workers j)) { counts = x.pass.counts }) is.pass refl refl;
+  of_pile = of_pile s x.pass (record (banded s (band (grid_of_terms s.terms).height w.workers j)) { counts = x.pass.counts }) is.pass refl refl;
   swept = is.swept;
 }
 
@@ -94,7 +94,7 @@ none_toppled v n i e =
 -- a first perform of at least one sweep does what is due
 due_swept : (s : SharedView) (rows : Rows) (turns : ℕ) (w x : Worker) → w.pass ≡ banded s rows → 0 < turns → HasSwept s turns w x → due s.terms.start rows ≤ x.swept
 due_swept s rows turns w x is some has =
-    let width = (grid_of s.terms).width in
+    let width = (grid_of_terms s.terms).width in
     let many = count_of rows * width in
     let first = rows.first * width in
     let hs = take many (drop first s.terms.start.heights) in
@@ -116,7 +116,7 @@ pub tended : (s : SharedView) (w : Wish) (j : ℕ) (x y : Worker) → IsWorker s
 tended s w j x y is has = record {
   pass = has.kept ∙ ap (λ (p : PassView). record p { counts = y.pass.counts }) is.pass;
   swept = has.can.swept;
-  enough = λ some. due_swept s (band (grid_of s.terms).height w.workers j) w.sweeps x y is.pass some has;
+  enough = λ some. due_swept s (band (grid_of_terms s.terms).height w.workers j) w.sweeps x y is.pass some has;
 }
 
 sums_up : (xs ys : List ℕ) → length ys ≡ length xs → ((j : ℕ) → get_or xs j 0 ≤ get_or ys j 0) → sum xs ≤ sum ys

@@ -5,7 +5,7 @@ use Rattle.std.specs.Int.{div_ceil}
 use Rattle.std.proofs.lemmas.Grind.{div_ceil_times}
 use Rattle.std.proofs.lemmas.List.Elements.{All-push, All-nil}
 use Rattle.sand_model.specs.Grid.{sites}
-use Rattle.sand_shared.specs.OpenPile.{grid_of}
+use Rattle.sand_shared.specs.OpenPile.{grid_of_terms}
 use Rattle.sand_shared.specs.Passes.{SharedView, PassView, IsPassOf, AllBelow}
 use Rattle.sand_lab.specs.declared.droppers.Dropper.{Dropper}
 use Rattle.sand_lab.specs.Jobs.{CanDrop, IsDropping, HasDropped, dropped_at}
@@ -30,7 +30,7 @@ begins s turns d can =
       room = refl;
       counts = can.counts;
       reading = (λ i. record d.sites { read = can.unread i });
-      inside = subst (All (λ i. i < sites (grid_of s.terms))) (sym none) (All-nil (λ i. i < sites (grid_of s.terms)));
+      inside = subst (All (λ i. i < sites (grid_of_terms s.terms))) (sym none) (All-nil (λ i. i < sites (grid_of_terms s.terms)));
       sites = λ i. dropped_at (bare i) ++ none i;
       ascends = subst Ascends (sym bare) (λ i j e before inside. absurd (omega (arith, before, inside)));
       within = subst (AllBelow s.terms.quota) (sym bare) (All-nil (λ r. r.number < s.terms.quota));
@@ -38,12 +38,12 @@ begins s turns d can =
     }
 
 -- it reads the next site
-pub reads_one : (s : SharedView) (turns n : ℕ) (d e f : Dropper) (site : ℕ) → d.sites.sites ≡ sites (grid_of s.terms) → IsDropping s turns n d e → n < turns → f.who ≡ e.who → f.pass ≡ e.pass → f.counts ≡ e.counts
+pub reads_one : (s : SharedView) (turns n : ℕ) (d e f : Dropper) (site : ℕ) → d.sites.sites ≡ sites (grid_of_terms s.terms) → IsDropping s turns n d e → n < turns → f.who ≡ e.who → f.pass ≡ e.pass → f.counts ≡ e.counts
     → f.sites ≡ record e.sites { read = e.sites.read + 1 } → f.turn.items ≡ e.turn.items ++ site ∷ [] → vec_capacity f.turn ≡ vec_capacity e.turn
     → site ≡ site_at e.sites.sites e.sites.seed e.sites.stream e.sites.read → site < e.sites.sites → IsDropping s turns (n + 1) d f
 reads_one s turns n d e f site grid h more who pass counts reading items room is inside =
     let next : site ≡ site_at d.sites.sites d.sites.seed d.sites.stream n = is ∙ ap (λ (r : Reading). site_at r.sites r.seed r.stream r.read) h.reading in
-    let many : e.sites.sites ≡ sites (grid_of s.terms) = ap (λ (r : Reading). r.sites) h.reading ∙ grid in
+    let many : e.sites.sites ≡ sites (grid_of_terms s.terms) = ap (λ (r : Reading). r.sites) h.reading ∙ grid in
     record {
       who = who ∙ h.who;
       of_pile = subst (IsPassOf s) (sym pass) h.of_pile;
@@ -53,7 +53,7 @@ reads_one s turns n d e f site grid h more who pass counts reading items room is
       room = room ∙ h.room;
       counts = counts ∙ h.counts;
       reading = reading ∙ ap (λ (r : Reading). record r { read = r.read + 1 }) h.reading;
-      inside = subst (All (λ i. i < sites (grid_of s.terms))) (sym items) (All-push (λ i. i < sites (grid_of s.terms)) e.turn.items site h.inside (omega (arith, inside, many)));
+      inside = subst (All (λ i. i < sites (grid_of_terms s.terms))) (sym items) (All-push (λ i. i < sites (grid_of_terms s.terms)) e.turn.items site h.inside (omega (arith, inside, many)));
       sites = rw add-one ((λ i. dropped_at (pass i).receipts ++ items i) ∙ sym (append_assoc (dropped_at e.pass.receipts) e.turn.items (site ∷ [])) ∙ (λ i. h.sites i ++ next i ∷ []));
       ascends = subst (λ (p : PassView). Ascends p.receipts) (sym pass) h.ascends;
       within = subst (λ (p : PassView). AllBelow s.terms.quota p.receipts) (sym pass) h.within;

@@ -6,10 +6,10 @@ use Rattle.std.proofs.lemmas.List.Elements.{All-map}
 use Rattle.std.proofs.lemmas.List.Sums.{sum_by-cons}
 use Rattle.std.proofs.lemmas.Option.{get_or_from_slice_get, slice_get_within}
 use Rattle.std.specs.Prelude.{slice_get}
-use Rattle.sand_model.specs.Sand.{total, tally, one_at}
+use Rattle.sand_model.specs.Sand.{sum_below, tally, one_at}
 use Rattle.sand_model.specs.Lists.{one_if}
 use Rattle.sand_model.proofs.Bounds.{fewer_than_all}
-use Rattle.sand_model.proofs.Tallies.{total-tally}
+use Rattle.sand_model.proofs.Tallies.{sum_below-tally}
 use Rattle.sand_shared.specs.declared.view.Receipt.{Receipt}
 use Rattle.sand_shared.specs.OpenPile.{numbered}
 use Rattle.sand_shared.specs.Passes.{EachOnce, AllBelow}
@@ -27,7 +27,7 @@ tally-numbers rs n = sum_by-map (λ j. one_at j n) (λ (r : Receipt). r.number) 
 -- with as many receipts as there are numbers, and no number twice, no number is left out
 pub each_number : (rs : List Receipt) → EachOnce rs → AllBelow (length rs) rs → (n : ℕ) → n < length rs → numbered rs n ≡ 1
 each_number rs once below n inside =
-    let all : total (length rs) (tally (numbers_of rs)) ≡ length (numbers_of rs) = total-tally (length rs) (numbers_of rs) (All-map (λ j. j < length rs) (λ (r : Receipt). r.number) rs below) in
+    let all : sum_below (length rs) (tally (numbers_of rs)) ≡ length (numbers_of rs) = sum_below-tally (length rs) (numbers_of rs) (All-map (λ j. j < length rs) (λ (r : Receipt). r.number) rs below) in
     let long : length (numbers_of rs) ≡ length rs = length-map rs (λ (r : Receipt). r.number) in
     let here = once n in
     let same = tally-numbers rs n in

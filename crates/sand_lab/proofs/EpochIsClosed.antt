@@ -10,7 +10,7 @@ use Rattle.std.proofs.lemmas.Option.{slice_get-get_or}
 use Rattle.sand_model.specs.Grid.{sites}
 use Rattle.sand_settle.specs.Settling.{odometer_of}
 use Rattle.sand_shared.specs.declared.view.Receipt.{Receipt}
-use Rattle.sand_shared.specs.OpenPile.{grid_of}
+use Rattle.sand_shared.specs.OpenPile.{grid_of_terms}
 use Rattle.sand_shared.specs.Passes.{SharedView, PassView, EachOnce, AllBelow, IsWhole}
 use Rattle.sand_shared.specs.Record.{RecordView, IsOneThreads, Tells}
 use Rattle.sand_lab.specs.declared.crew.Crew.{Crew}
@@ -75,7 +75,7 @@ module _ (s : SharedView) (w : Wish) (t : ℕ) (c : Crew) (p : PassView) (quota 
   parts = record {
     whole = flat_map-map (λ (part : List Receipt). part) (λ (d : Dropper). d.pass.receipts) c.droppers.items ∙ sym gathered.receipts;
     long = all_map (HasEmptied s w t) (λ (part : List Receipt). length part ≡ w.drops) (λ (d : Dropper). d.pass.receipts) c.droppers.items has.droppers
-        (λ k d h. sym (length-map d.pass.receipts (λ (r : Receipt). r.site)) ∙ ap length h.sites ∙ length-stream_sites (sites (grid_of s.terms)) w.seed (stream_of t k) w.drops);
+        (λ k d h. sym (length-map d.pass.receipts (λ (r : Receipt). r.site)) ∙ ap length h.sites ∙ length-stream_sites (sites (grid_of_terms s.terms)) w.seed (stream_of t k) w.drops);
     ascend = all_map (HasEmptied s w t) Ascends (λ (d : Dropper). d.pass.receipts) c.droppers.items has.droppers (λ k d h. h.ascends);
   }
 
@@ -113,11 +113,11 @@ module _ (s : SharedView) (w : Wish) (t : ℕ) (c : Crew) (p : PassView) (quota 
       let same : sum (all_swept c.workers.items) ≡ sum (all_counts c.workers.items) = swept_counts c.workers.items (λ i j x at. (has.workers j x at).swept) in
       let few = counts_few r p.counts one below in
       let long : length swept ≡ w.workers = ap length e ∙ length-map c.workers.items (λ (x : Worker). x.swept) ∙ has.all_workers in
-      let each = each_map (HasTended s w) (λ j n. 0 < w.sweeps → due s.terms.start (band (grid_of s.terms).height w.workers j) ≤ n) (λ (x : Worker). x.swept) c.workers.items has.workers (λ j x h. h.enough) in
+      let each = each_map (HasTended s w) (λ j n. 0 < w.sweeps → due s.terms.start (band (grid_of_terms s.terms).height w.workers j) ≤ n) (λ (x : Worker). x.swept) c.workers.items has.workers (λ j x h. h.enough) in
       record {
         all = long;
         few = omega (arith, ap (λ (ns : List ℕ). sum ns) e, same, ap (λ (ns : List ℕ). sum ns) gathered.counts, few);
-        enough = λ some j lt. subst (λ (ns : List ℕ). due s.terms.start (band (grid_of s.terms).height w.workers j) ≤ slice_index ns j) (sym e)
+        enough = λ some j lt. subst (λ (ns : List ℕ). due s.terms.start (band (grid_of_terms s.terms).height w.workers j) ≤ slice_index ns j) (sym e)
             (each j (slice_index (all_swept c.workers.items) j) (slice_get-get_or (all_swept c.workers.items) j 0 (omega (arith, lt, long, ap length e))) some);
       }
 
@@ -128,8 +128,8 @@ module _ (s : SharedView) (w : Wish) (t : ℕ) (c : Crew) (p : PassView) (quota 
     one_threads = one;
     from_start = start;
     history = journal_sites w.drops p.receipts js r.history journal told once within long;
-    streams = follows_streams (sites (grid_of s.terms)) w.seed w.droppers w.drops t (parts_of c) p.receipts js parts many_parts once within journal
-        (each_map (HasEmptied s w t) (λ k part. dropped_at part ≡ stream_sites (sites (grid_of s.terms)) w.seed (stream_of t k) w.drops) (λ (d : Dropper). d.pass.receipts) c.droppers.items has.droppers (λ k d h. h.sites));
+    streams = follows_streams (sites (grid_of_terms s.terms)) w.seed w.droppers w.drops t (parts_of c) p.receipts js parts many_parts once within journal
+        (each_map (HasEmptied s w t) (λ k part. dropped_at part ≡ stream_sites (sites (grid_of_terms s.terms)) w.seed (stream_of t k) w.drops) (λ (d : Dropper). d.pass.receipts) c.droppers.items has.droppers (λ k d h. h.sites));
     read = tallied tallies read;
     tended = tended r swept one below found;
   }

@@ -4,7 +4,7 @@ use Rattle.std.proofs.lemmas.Bool.{cases_lt}
 use Rattle.std.proofs.lemmas.List.{drop-replicate, take-replicate, length-replicate}
 use Rattle.sand_shared.specs.declared.rows.Rows.{Rows}
 use Rattle.sand_shared.specs.Events.{zeros}
-use Rattle.sand_shared.specs.OpenPile.{grid_of}
+use Rattle.sand_shared.specs.OpenPile.{grid_of_terms}
 use Rattle.sand_shared.specs.Passes.{SharedView, sites_kept}
 use Rattle.sand_shared.specs.Rows.{rows_between, count_of, upper_rows, lower_rows}
 use Rattle.sand_shared.proofs.RowsSplit.{between_some, between_none}
@@ -35,7 +35,7 @@ rest w b e le = let d = e - b in let same : b + d ≡ e = omega arith in grind a
 
 module _ (s : SharedView) (b e : ℕ) (le : b ≤ e) where
   abbrev pub w : ℕ
-  w = (grid_of s.terms).width
+  w = (grid_of_terms s.terms).width
 
   kept_sites : sites_kept (upper_part s 0 e) (e - b) ≡ w * b
   kept_sites = ap (λ (n : ℕ). n - (e - b) * w) (length-replicate (w * e) 0) ∙ kept w b e le

@@ -5,7 +5,7 @@ use Rattle.std.specs.Prelude.{slice_index}
 use Rattle.std.proofs.lemmas.List.{ext_get_or}
 use Rattle.sand_model.specs.Grid.{Grid, sites}
 use Rattle.sand_model.specs.Piles.{PileView, height_of}
-use Rattle.sand_model.specs.Sand.{IsSettled, total, tally, topplings, lost}
+use Rattle.sand_model.specs.Sand.{IsSettled, sum_below, tally, topplings, lost}
 use Rattle.sand_model.proofs.Sandpile.{odometer_unique, settled_unique, settled_same}
 use Rattle.sand_model.proofs.Tallies.{tally-append}
 use Rattle.sand_settle.specs.Settling.{SettledView, IsRecord, odometer_of}
@@ -51,7 +51,7 @@ one_threads_once r q one other starts tallies =
 
 -- an epoch tallies what the streams do
 pub epoch_tally : (album : List ℕ) (w : Wish) (start : PileView) (t : ℕ) (r : RecordView) (s : SheetView) → IsEpoch album w start t r s → (i : ℕ)
-    → tally r.history i ≡ total w.droppers (λ k. tally (stream_sites (sites start.grid) w.seed (stream_of t k) w.drops) i)
+    → tally r.history i ≡ sum_below w.droppers (λ k. tally (stream_sites (sites start.grid) w.seed (stream_of t k) w.drops) i)
 epoch_tally album w start t r s epoch i =
     ap (λ (h : List ℕ). tally h i) (sym epoch.closed.history) ∙ tally_of_streams (sites start.grid) w.seed w.droppers w.drops t s.journal epoch.closed.streams i
 
@@ -87,8 +87,8 @@ module _ (album album' : List ℕ) (w v : Wish) (asks : AskTheSame w v) where
   epochs_alike start start' t (r ∷ rs) (q ∷ qs) [] us starts long mine theirs = absurd mine
   epochs_alike start start' t (r ∷ rs) (q ∷ qs) (s ∷ ss) [] starts long mine theirs = absurd theirs
   epochs_alike start start' t (r ∷ rs) (q ∷ qs) (s ∷ ss) (u ∷ us) starts long (mine, more) (theirs, others) =
-      let streams : (i : ℕ) → total w.droppers (λ k. tally (stream_sites (sites start.grid) w.seed (stream_of t k) w.drops) i) ≡ total v.droppers (λ k. tally (stream_sites (sites start'.grid) v.seed (stream_of t k) v.drops) i) =
-      λ i j. total (asks.droppers j) (λ k. tally (stream_sites (sites (starts j).grid) (asks.seed j) (stream_of t k) (asks.drops j)) i) in
+      let streams : (i : ℕ) → sum_below w.droppers (λ k. tally (stream_sites (sites start.grid) w.seed (stream_of t k) w.drops) i) ≡ sum_below v.droppers (λ k. tally (stream_sites (sites start'.grid) v.seed (stream_of t k) v.drops) i) =
+      λ i j. sum_below (asks.droppers j) (λ k. tally (stream_sites (sites (starts j).grid) (asks.seed j) (stream_of t k) (asks.drops j)) i) in
       let tallies : (i : ℕ) → tally r.history i ≡ tally q.history i =
       λ i. epoch_tally album w start t r s mine i ∙ streams i ∙ sym (epoch_tally album' v start' t q u theirs i) in
       let from : r.start ≡ q.start = mine.closed.from_start ∙ starts ∙ sym theirs.closed.from_start in

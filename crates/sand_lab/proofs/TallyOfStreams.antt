@@ -3,8 +3,8 @@ use Rattle.std.proofs.Common.{ℕ, zero, suc, Bool, true, false, cond, ltb, eqb,
 use Rattle.std.proofs.lemmas.Bool.{cases_Bool, cases_lt, lt-ltb, le-ltb}
 use Rattle.std.proofs.lemmas.List.{length-map}
 use Rattle.std.proofs.lemmas.List.Sums.{sum_by-cons, length-filter, count_by-le-length}
-use Rattle.sand_model.specs.Sand.{total, tally, one_at}
-use Rattle.sand_model.proofs.Totals.{total_same, total-add, total-ones, total-scale, total-zero, total-one_at, total-one_at_past}
+use Rattle.sand_model.specs.Sand.{sum_below, tally, one_at}
+use Rattle.sand_model.proofs.SumsBelow.{sum_below_same, sum_below-add, sum_below-ones, sum_below-scale, sum_below-zero, sum_below-one_at, sum_below-one_at_past}
 use Rattle.sand_model.proofs.Sandpile.{sum_by_ones}
 use Rattle.sand_shared.proofs.SumsOverPasses.{sum_by-map}
 use Rattle.sand_lab.specs.declared.journal.Entry.{Entry}
@@ -31,21 +31,21 @@ sum_by-kept w true e js = let both = sum_by-cons w e js in omega arith
 sum_by-kept w false e js = omega arith
 
 -- of the numbers below n one is x, if x is below n
-total-below : (n x w : ℕ) → total n (λ k. w * one_at x k) ≡ w * cond (ltb x n) 1 0
-total-below n x w =
+sum_below-one_at_before : (n x w : ℕ) → sum_below n (λ k. w * one_at x k) ≡ w * cond (ltb x n) 1 0
+sum_below-one_at_before n x w =
     ⊎_elim
-    (λ (less : x < n). let one = total-one_at n x (λ k. w) less in rw (lt-ltb x n less) (omega arith))
-    (λ (past : n ≤ x). let none = total-one_at_past n x (λ k. w) past in rw (le-ltb x n past) (omega arith))
+    (λ (less : x < n). let one = sum_below-one_at n x (λ k. w) less in rw (lt-ltb x n less) (omega arith))
+    (λ (past : n ≤ x). let none = sum_below-one_at_past n x (λ k. w) past in rw (le-ltb x n past) (omega arith))
     (cases_lt x n)
 
 -- what the first n droppers have one by one, they have together
-total-droppers : (w : Entry → ℕ) (n : ℕ) (js : List Entry) → total n (λ k. sum_by w (of_dropper k js)) ≡ sum_by w (of_first n js)
-total-droppers w n [] = total-zero n
-total-droppers w n (e ∷ js) =
-    let each = total_same n (λ k. sum_by w (of_dropper k (e ∷ js))) (λ k. w e * one_at e.dropper k + sum_by w (of_dropper k js)) (λ k less. sum_by-kept w (eqb e.dropper k) e (of_dropper k js)) in
-    let split = total-add n (λ k. w e * one_at e.dropper k) (λ k. sum_by w (of_dropper k js)) in
-    let first = total-below n e.dropper (w e) in
-    let rest = total-droppers w n js in
+sum_below-droppers : (w : Entry → ℕ) (n : ℕ) (js : List Entry) → sum_below n (λ k. sum_by w (of_dropper k js)) ≡ sum_by w (of_first n js)
+sum_below-droppers w n [] = sum_below-zero n
+sum_below-droppers w n (e ∷ js) =
+    let each = sum_below_same n (λ k. sum_by w (of_dropper k (e ∷ js))) (λ k. w e * one_at e.dropper k + sum_by w (of_dropper k js)) (λ k less. sum_by-kept w (eqb e.dropper k) e (of_dropper k js)) in
+    let split = sum_below-add n (λ k. w e * one_at e.dropper k) (λ k. sum_by w (of_dropper k js)) in
+    let first = sum_below-one_at_before n e.dropper (w e) in
+    let rest = sum_below-droppers w n js in
     let all = sum_by-kept w (ltb e.dropper n) e (of_first n js) in omega arith
 
 -- if no fewer pass than there are, all pass
@@ -67,28 +67,28 @@ sum_by-ones js = sym (sum_by-map (λ j. 1) (λ (e : Entry). e.site) js) ∙ sum_
 
 module _ (sites seed droppers drops epoch : ℕ) (js : List Entry) (follows : FollowsStreams sites seed droppers drops epoch js) where
   -- the droppers have as many entries as there are
-  as_many : total droppers (λ k. length (sites_by k js)) ≡ length js
+  as_many : sum_below droppers (λ k. length (sites_by k js)) ≡ length js
   as_many =
-      let each = total_same droppers (λ k. length (sites_by k js)) (λ k. drops * 1)
+      let each = sum_below_same droppers (λ k. length (sites_by k js)) (λ k. drops * 1)
       (λ k less. ap length (follows.each k less) ∙ (let long = length-stream_sites sites seed (stream_of epoch k) drops in omega arith)) in
-      let scaled = total-scale droppers drops (λ k. 1) in
-      let times = ap (λ n. drops * n) (total-ones droppers) in
+      let scaled = sum_below-scale droppers drops (λ k. 1) in
+      let times = ap (λ n. drops * n) (sum_below-ones droppers) in
       let all = follows.all in omega arith
 
   -- so every entry is one of theirs
   all_of_droppers : of_first droppers js ≡ js
   all_of_droppers =
-      let each = total_same droppers (λ k. sum_by (λ e. 1) (of_dropper k js)) (λ k. length (sites_by k js)) (λ k less. sum_by-ones (of_dropper k js)) in
-      let together = total-droppers (λ e. 1) droppers js in
+      let each = sum_below_same droppers (λ k. sum_by (λ e. 1) (of_dropper k js)) (λ k. length (sites_by k js)) (λ k less. sum_by-ones (of_dropper k js)) in
+      let together = sum_below-droppers (λ e. 1) droppers js in
       let all = sum_by-ones (of_first droppers js) in
       let long = length-map (of_first droppers js) (λ (e : Entry). e.site) in
       let many = as_many in all_pass (λ (e : Entry). ltb e.dropper droppers) js (omega arith)
 
   -- and a site is in the journal as often as in all streams
-  pub tally_of_streams : (i : ℕ) → tally (sites_in js) i ≡ total droppers (λ k. tally (stream_sites sites seed (stream_of epoch k) drops) i)
+  pub tally_of_streams : (i : ℕ) → tally (sites_in js) i ≡ sum_below droppers (λ k. tally (stream_sites sites seed (stream_of epoch k) drops) i)
   tally_of_streams i =
       let w = λ (e : Entry). one_at e.site i in
       let tallied = λ (es : List Entry). sum_by-map (λ j. one_at j i) (λ (e : Entry). e.site) es in
-      let each = total_same droppers (λ k. sum_by w (of_dropper k js)) (λ k. tally (stream_sites sites seed (stream_of epoch k) drops) i)
+      let each = sum_below_same droppers (λ k. sum_by w (of_dropper k js)) (λ k. tally (stream_sites sites seed (stream_of epoch k) drops) i)
       (λ k less. sym (tallied (of_dropper k js)) ∙ ap (λ (xs : List ℕ). tally xs i) (follows.each k less)) in
-      tallied js ∙ (ap (sum_by w) (sym all_of_droppers) ∙ (sym (total-droppers w droppers js) ∙ each))
+      tallied js ∙ (ap (sum_by w) (sym all_of_droppers) ∙ (sym (sum_below-droppers w droppers js) ∙ each))

@@ -5,7 +5,7 @@ use Rattle.sand_model.specs.Grid.{sites}
 use Rattle.sand_model.specs.Piles.{PileView}
 use Rattle.sand_shared.specs.declared.rows.Rows.{Rows}
 use Rattle.sand_shared.specs.Events.{zeros}
-use Rattle.sand_shared.specs.OpenPile.{grid_of}
+use Rattle.sand_shared.specs.OpenPile.{grid_of_terms}
 use Rattle.sand_shared.specs.Passes.{SharedView, PassView, AllBelow}
 use Rattle.sand_shared.specs.Rows.{no_rows, rows_between, count_of}
 use Rattle.sand_lab.specs.declared.crew.Crew.{Crew}
@@ -38,34 +38,34 @@ due p rows = sum_by (λ h. h / 4) (take (count_of rows * p.grid.width) (drop (ro
 
 -- a pass with a quota and no rows
 abbrev pub rowless : SharedView → ℕ → PassView
-rowless s quota = record { table = s.table; grid = grid_of s.terms; left = quota; seen = 0; receipts = []; rows = no_rows; counts = [] }
+rowless s quota = record { table = s.table; grid = grid_of_terms s.terms; left = quota; seen = 0; receipts = []; rows = no_rows; counts = [] }
 
 -- a pass with a quota and the rows above one of them, in which nothing has toppled
 abbrev pub upper_part : SharedView → ℕ → ℕ → PassView
-upper_part s quota end = record (rowless s quota) { rows = record { first = 0; end = end }; counts = zeros ((grid_of s.terms).width * end) }
+upper_part s quota end = record (rowless s quota) { rows = record { first = 0; end = end }; counts = zeros ((grid_of_terms s.terms).width * end) }
 
 -- a pass with a quota and all rows, as the first one is
 abbrev pub unshared : SharedView → ℕ → PassView
-unshared s quota = upper_part s quota (grid_of s.terms).height
+unshared s quota = upper_part s quota (grid_of_terms s.terms).height
 
 -- a pass with rows in which nothing has toppled, and no quota
 abbrev pub banded : SharedView → Rows → PassView
-banded s rows = record (rowless s 0) { rows = rows; counts = zeros (count_of rows * (grid_of s.terms).width) }
+banded s rows = record (rowless s 0) { rows = rows; counts = zeros (count_of rows * (grid_of_terms s.terms).width) }
 
 -- Before
 
 pub record IsDropper (s : SharedView) (w : Wish) (epoch k : ℕ) (d : Dropper) : Type 0 where
   pub who : d.who ≡ k
-  pub sites : d.sites ≡ record { sites = sites (grid_of s.terms); seed = w.seed; stream = stream_of epoch k; read = 0 }
+  pub sites : d.sites ≡ record { sites = sites (grid_of_terms s.terms); seed = w.seed; stream = stream_of epoch k; read = 0 }
   pub pass : d.pass ≡ rowless s w.drops
   pub none_read : d.turn.items ≡ []
   pub room : div_ceil w.drops 16 ≤ vec_capacity d.turn
-  pub counts : d.counts ≡ grid_of s.terms
+  pub counts : d.counts ≡ grid_of_terms s.terms
 
 pub record IsWorker (s : SharedView) (workers j : ℕ) (x : Worker) : Type 0 where
   pub who : x.who ≡ j
   pub swept : x.swept ≡ 0
-  pub pass : x.pass ≡ banded s (band (grid_of s.terms).height workers j)
+  pub pass : x.pass ≡ banded s (band (grid_of_terms s.terms).height workers j)
 
 pub record IsObserver (s : SharedView) (i : ℕ) (o : Observer) : Type 0 where
   pub who : o.who ≡ i
@@ -87,15 +87,15 @@ pub record IsCrew (s : SharedView) (w : Wish) (epoch : ℕ) (c : Crew) : Type 0 
 -- it dropped its whole quota at the sites of its stream, in order
 pub record HasEmptied (s : SharedView) (w : Wish) (epoch k : ℕ) (d : Dropper) : Type 0 where
   pub pass : d.pass ≡ record (rowless s 0) { seen = d.pass.seen; receipts = d.pass.receipts }
-  pub sites : dropped_at d.pass.receipts ≡ stream_sites (sites (grid_of s.terms)) w.seed (stream_of epoch k) w.drops
+  pub sites : dropped_at d.pass.receipts ≡ stream_sites (sites (grid_of_terms s.terms)) w.seed (stream_of epoch k) w.drops
   pub ascends : Ascends d.pass.receipts
   pub within : AllBelow s.terms.quota d.pass.receipts
 
 -- it swept its band; if at least once, then what was due there
 pub record HasTended (s : SharedView) (w : Wish) (j : ℕ) (x : Worker) : Type 0 where
-  pub pass : x.pass ≡ record (banded s (band (grid_of s.terms).height w.workers j)) { counts = x.pass.counts }
+  pub pass : x.pass ≡ record (banded s (band (grid_of_terms s.terms).height w.workers j)) { counts = x.pass.counts }
   pub swept : x.swept ≡ sum x.pass.counts
-  pub enough : 0 < w.sweeps → due s.terms.start (band (grid_of s.terms).height w.workers j) ≤ x.swept
+  pub enough : 0 < w.sweeps → due s.terms.start (band (grid_of_terms s.terms).height w.workers j) ≤ x.swept
 
 -- it read its tallies, which never fell and were at most the quota
 pub record HasRead (s : SharedView) (i : ℕ) (o : Observer) : Type 0 where

@@ -2,7 +2,7 @@
 use Rattle.std.specs.Prelude.{ℕ, ◌≡◌, List, map}
 use Rattle.std.specs.List.{flat_map}
 use Rattle.sand_shared.specs.declared.view.Receipt.{Receipt}
-use Rattle.sand_shared.specs.OpenPile.{grid_of}
+use Rattle.sand_shared.specs.OpenPile.{grid_of_terms}
 use Rattle.sand_shared.specs.Passes.{SharedView, PassView, IsPassOf}
 use Rattle.sand_lab.specs.declared.crew.Crew.{Crew}
 use Rattle.sand_lab.specs.declared.droppers.Dropper.{Dropper}
@@ -20,7 +20,7 @@ HoldsNothing s p = p ≡ record (rowless s 0) { seen = p.seen }
 
 -- the pass of worker j of n: it has the rows of the worker's band, and nothing else
 abbrev pub HoldsBand : SharedView → ℕ → ℕ → Worker → Type 0
-HoldsBand s n j x = x.pass ≡ record (banded s (band (grid_of s.terms).height n j)) { counts = x.pass.counts }
+HoldsBand s n j x = x.pass ≡ record (banded s (band (grid_of_terms s.terms).height n j)) { counts = x.pass.counts }
 
 -- the receipts of the droppers, one dropper's after another's
 abbrev pub all_receipts : List Dropper → List Receipt
@@ -43,5 +43,5 @@ pub record HasGathered (s : SharedView) (c : Crew) (p : PassView) : Type 0 where
   pub of_pile : IsPassOf s p
   pub left : p.left ≡ 0
   pub receipts : p.receipts ≡ all_receipts c.droppers.items
-  pub rows : p.rows ≡ record { first = 0; end = (grid_of s.terms).height }
+  pub rows : p.rows ≡ record { first = 0; end = (grid_of_terms s.terms).height }
   pub counts : p.counts ≡ all_counts c.workers.items

@@ -3,7 +3,7 @@ use Rattle.std.specs.Prelude.{ℕ, ◌≡◌, ◌+◌, ◌-◌, ◌*◌, ◌<◌
 use Rattle.std.specs.Int.{div_ceil}
 use Rattle.sand_model.specs.Grid.{sites}
 use Rattle.sand_shared.specs.declared.view.Receipt.{Receipt}
-use Rattle.sand_shared.specs.OpenPile.{grid_of}
+use Rattle.sand_shared.specs.OpenPile.{grid_of_terms}
 use Rattle.sand_shared.specs.Passes.{SharedView, IsPassOf, AllBelow, at_rest}
 use Rattle.sand_shared.specs.Sweeps.{LeavesAtMost}
 use Rattle.sand_lab.specs.Journals.{Ascends}
@@ -24,10 +24,10 @@ pub record CanDrop (s : SharedView) (turns : ℕ) (d : Dropper) : Type 0 where
   pub left : d.pass.left ≡ turns
   pub no_receipts : d.pass.receipts ≡ []
   pub unread : d.sites.read ≡ 0
-  pub grid : d.sites.sites ≡ sites (grid_of s.terms)
+  pub grid : d.sites.sites ≡ sites (grid_of_terms s.terms)
   pub none_read : d.turn.items ≡ []
   pub room : div_ceil turns 16 ≤ vec_capacity d.turn
-  pub counts : d.counts ≡ grid_of s.terms
+  pub counts : d.counts ≡ grid_of_terms s.terms
 
 -- it was d, has read so many sites of its stream, and has dropped on all of them except those of a turn that it holds
 pub record IsDropping (s : SharedView) (turns read : ℕ) (d e : Dropper) : Type 0 where
@@ -37,9 +37,9 @@ pub record IsDropping (s : SharedView) (turns read : ℕ) (d e : Dropper) : Type
   pub left : e.pass.left + read ≡ turns + length e.turn.items
   pub may_read : read ≤ turns
   pub room : vec_capacity e.turn ≡ vec_capacity d.turn
-  pub counts : e.counts ≡ grid_of s.terms
+  pub counts : e.counts ≡ grid_of_terms s.terms
   pub reading : e.sites ≡ record d.sites { read = read }
-  pub inside : All (λ i. i < sites (grid_of s.terms)) e.turn.items
+  pub inside : All (λ i. i < sites (grid_of_terms s.terms)) e.turn.items
   pub sites : dropped_at e.pass.receipts ++ e.turn.items ≡ stream_sites d.sites.sites d.sites.seed d.sites.stream read
   pub ascends : Ascends e.pass.receipts
   pub within : AllBelow s.terms.quota e.pass.receipts

@@ -2,7 +2,7 @@
 
 ghost use Rattle.std.specs.Prelude.{◌≡◌, ◌≢◌, ℕ, ◌+◌, ◌*◌, ◌<◌, ◌≤◌, [], length, sum, map, slice_index, vec_len, IfOk, IfErr};
 ghost use Rattle.sand_settle.specs.Settling.{odometer_of};
-ghost use Rattle.sand_shared.specs.OpenPile.{grid_of};
+ghost use Rattle.sand_shared.specs.OpenPile.{grid_of_terms};
 ghost use Rattle.sand_shared.specs.Passes.{IsPassOf, IsWhole};
 ghost use Rattle.sand_shared.specs.Record.{IsOneThreads, Tells};
 ghost use Rattle.std.specs.Thread.{IsSync};

@@ -3,7 +3,7 @@
 
 ghost use Rattle.std.specs.Prelude.{◌≡◌, ℕ, ◌+◌, ◌<◌, ◌≤◌, ◌++◌, [], length, map, All, IfOk, IfErr, OnOk};
 ghost use Rattle.std.specs.List.{flat_map};
-ghost use Rattle.sand_shared.specs.OpenPile.{grid_of};
+ghost use Rattle.sand_shared.specs.OpenPile.{grid_of_terms};
 ghost use Rattle.sand_shared.specs.Passes.{IsPassOf, together};
 ghost use Rattle.sand_shared.specs.Rows.{AreApart, no_rows};
 ghost use Rattle.sand_lab.specs.Crews.{EachAt, HasEmptied, HasTended, HasRead, HasWorked, rowless};
@@ -97,7 +97,7 @@ fn gather_workers(
     ensures of_pile { IsPassOf pile.now first.new }
     ensures first { OnOk result (first.new ≡ record first.old {
       seen = first.new.seen;
-      rows = record { first = 0; end = (grid_of pile.now.terms).height };
+      rows = record { first = 0; end = (grid_of_terms pile.now.terms).height };
       counts = all_counts workers.items;
     }) }
     ensures swept { IfOk result (λ v. v.items ≡ all_swept workers.items) }

@@ -1,7 +1,7 @@
 //! How a crew is hired: each gets a pass of its own, which is split off the first one.
 
 ghost use Rattle.std.specs.Prelude.{◌≡◌, ℕ, ◌+◌, ◌-◌, ◌*◌, ◌/◌, ◌<◌, ◌≤◌, [], length, take, drop, IfOk, OnOk, IfErr};
-ghost use Rattle.sand_shared.specs.OpenPile.{grid_of};
+ghost use Rattle.sand_shared.specs.OpenPile.{grid_of_terms};
 ghost use Rattle.sand_shared.specs.Passes.{IsPassOf, sites_kept};
 ghost use Rattle.sand_shared.specs.Rows.{no_rows, count_of, upper_rows, lower_rows};
 ghost use Rattle.sand_lab.specs.Crews.{EachAt, IsCrew, IsDropper, IsWorker, IsObserver, rowless, unshared};
@@ -49,7 +49,7 @@ fn hire_droppers(
     epoch: u32,
 ) -> Result<Vec<Dropper>, LabFault>
     requires plan { IsPlan wish }
-    requires shape { shape ≡ grid_of pile.now.terms }
+    requires shape { shape ≡ grid_of_terms pile.now.terms }
     requires first { first.old ≡ unshared pile.now (quota_of wish) }
     ensures droppers { IfOk result (λ v. EachAt (IsDropper pile.now wish epoch) v.items) }
     ensures all { IfOk result (λ v. length v.items ≡ wish.droppers) }
@@ -125,7 +125,7 @@ fn hire_workers(
     workers: u32,
 ) -> Result<Vec<Worker>, LabFault>
     requires some { (0 < workers) × (workers ≤ 16) }
-    requires shape { shape ≡ grid_of pile.now.terms }
+    requires shape { shape ≡ grid_of_terms pile.now.terms }
     requires first { first.old ≡ unshared pile.now 0 }
     ensures workers { IfOk result (λ v. EachAt (IsWorker pile.now workers) v.items) }
     ensures all { IfOk result (λ v. length v.items ≡ workers) }
@@ -185,7 +185,7 @@ impl Crew {
         epoch: u32,
     ) -> Result<Crew, LabFault>
         requires plan { IsPlan wish }
-        requires shape { shape ≡ grid_of pile.now.terms }
+        requires shape { shape ≡ grid_of_terms pile.now.terms }
         requires first { first.old ≡ unshared pile.now (quota_of wish) }
         ensures crew { IfOk result (IsCrew pile.now wish epoch) }
         ensures first { OnOk result (first.new ≡ rowless pile.now 0) }

@@ -4,8 +4,8 @@ use Rattle.std.proofs.lemmas.Bool.{cases_lt}
 use Rattle.std.proofs.lemmas.Nat.{mul-le, div-add-mod', div_below}
 use Rattle.std.proofs.Math.Nat.{mul-le-mul_left}
 use Rattle.sand_model.specs.Grid.{Grid, IsGrid, sites, row}
-use Rattle.sand_model.specs.Sand.{total, IsToppled, grains, topplings, weight, grain_weight}
-use Rattle.sand_model.proofs.Totals.{total_le, total-scale, total-ones}
+use Rattle.sand_model.specs.Sand.{sum_below, IsToppled, grains, topplings, weight, grain_weight}
+use Rattle.sand_model.proofs.SumsBelow.{sum_below_le, sum_below-scale, sum_below-ones}
 use Rattle.sand_model.proofs.Neighbours.{some_width}
 use Rattle.sand_model.proofs.Sandpile.{weight_after, grain_weight_is}
 use Rattle.sand_model.specs.Piles.{most_grains}
@@ -36,9 +36,9 @@ grain_weight_bound g i sides l =
 
 pub weight_bound : (g : Grid) (s : ℕ → ℕ) → IsGrid g → weight g s ≤ 16512 * grains g s
 weight_bound g s sides =
-    let each = total_le (sites g) (λ i. s i * grain_weight g i) (λ i. 16512 * s i)
+    let each = sum_below_le (sites g) (λ i. s i * grain_weight g i) (λ i. 16512 * s i)
     (λ i l. let e = mul-le-mul_left (s i) (grain_weight_bound g i sides l) in omega arith) in
-    let scaled = total-scale (sites g) 16512 s in
+    let scaled = sum_below-scale (sites g) 16512 s in
     omega arith
 
 -- topplings are at most half the weight, whether legal or not, as long as no height falls below 0
@@ -49,23 +49,23 @@ topplings_bound g s u t sides few done =
     omega arith
 
 -- one number is at most the sum of all
-pub at_most_total : (n : ℕ) (f : ℕ → ℕ) (i : ℕ) → i < n → f i ≤ total n f
-unfolding total
-at_most_total zero f i l = absurd (omega arith)
-at_most_total (suc n) f i l =
-    ⊎_elim (λ (less : i < n). let below = at_most_total n f i less in omega arith)
+pub at_most_sum_below : (n : ℕ) (f : ℕ → ℕ) (i : ℕ) → i < n → f i ≤ sum_below n f
+unfolding sum_below
+at_most_sum_below zero f i l = absurd (omega arith)
+at_most_sum_below (suc n) f i l =
+    ⊎_elim (λ (less : i < n). let below = at_most_sum_below n f i less in omega arith)
     (λ (last : n ≤ i). let e : i ≡ n = omega arith in let same = ap f e in omega arith)
     (cases_lt i n)
 
-pub at_most_all : (n : ℕ) (f : ℕ → ℕ) → ((i : ℕ) → i < n → f i ≤ 1) → total n f ≤ n
+pub at_most_all : (n : ℕ) (f : ℕ → ℕ) → ((i : ℕ) → i < n → f i ≤ 1) → sum_below n f ≤ n
 at_most_all n f few =
-    let le = total_le n f (λ i. 1) few in
-    let ones = total-ones n in
+    let le = sum_below_le n f (λ i. 1) few in
+    let ones = sum_below-ones n in
     omega arith
 
 -- numbers of at most 1, one of which is 0, are fewer than all in sum
-pub fewer_than_all : (n : ℕ) (f : ℕ → ℕ) (j : ℕ) → ((i : ℕ) → i < n → f i ≤ 1) → j < n → f j ≡ 0 → total n f < n
-unfolding total
+pub fewer_than_all : (n : ℕ) (f : ℕ → ℕ) (j : ℕ) → ((i : ℕ) → i < n → f i ≤ 1) → j < n → f j ≡ 0 → sum_below n f < n
+unfolding sum_below
 fewer_than_all zero f j few l none = absurd (omega arith)
 fewer_than_all (suc n) f j few l none =
     let last = few n (omega arith) in

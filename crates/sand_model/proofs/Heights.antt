@@ -5,26 +5,26 @@ use Rattle.std.proofs.lemmas.Bool.{cases_eq, eq-eqb}
 use Rattle.std.proofs.lemmas.List.{get_or-set_same, get_or-set_other}
 use Rattle.std.proofs.lemmas.List.Sums.{sum_by-cons}
 use Rattle.sand_model.specs.Grid.{Grid, sites, places, missing}
-use Rattle.sand_model.specs.Sand.{total, one_at, value_at, grains, lost, IsToppled}
-use Rattle.sand_model.proofs.Totals.{total_same, total-scale, total-one_at, one_at_other}
+use Rattle.sand_model.specs.Sand.{sum_below, one_at, value_at, grains, lost, IsToppled}
+use Rattle.sand_model.proofs.SumsBelow.{sum_below_same, sum_below-scale, sum_below-one_at, one_at_other}
 use Rattle.sand_model.proofs.Neighbours.{flow_four}
 use Rattle.sand_model.proofs.Flow.{flow-one_at, flow-scale}
 use Rattle.sand_model.proofs.Sandpile.{laplacian_sum}
 
-total-first : (n : ℕ) (f : ℕ → ℕ) → total (suc n) f ≡ f 0 + total n (λ i. f (suc i))
-unfolding total
-total-first zero f = omega arith
-total-first (suc n) f = let rest = total-first n f in omega arith
+sum_below-first : (n : ℕ) (f : ℕ → ℕ) → sum_below (suc n) f ≡ f 0 + sum_below n (λ i. f (suc i))
+unfolding sum_below
+sum_below-first zero f = omega arith
+sum_below-first (suc n) f = let rest = sum_below-first n f in omega arith
 
 -- the sum of a list is the sum over its places
-pub sum_is_total : (xs : List ℕ) → sum xs ≡ total (length xs) (λ i. get_or xs i 0)
-unfolding total
-sum_is_total [] = refl
-sum_is_total (x ∷ xs) =
-    sum_by-cons (λ y. y) x xs ∙ ap (λ k. x + k) (sum_is_total xs) ∙ sym (total-first (length xs) (λ i. get_or (x ∷ xs) i 0))
+pub sum_is_sum_below : (xs : List ℕ) → sum xs ≡ sum_below (length xs) (λ i. get_or xs i 0)
+unfolding sum_below
+sum_is_sum_below [] = refl
+sum_is_sum_below (x ∷ xs) =
+    sum_by-cons (λ y. y) x xs ∙ ap (λ k. x + k) (sum_is_sum_below xs) ∙ sym (sum_below-first (length xs) (λ i. get_or (x ∷ xs) i 0))
 
 pub sum_is_grains : (g : Grid) (xs : List ℕ) → length xs ≡ sites g → sum xs ≡ grains g (λ i. get_or xs i 0)
-sum_is_grains g xs e = sum_is_total xs ∙ ap (λ n. total n (λ i. get_or xs i 0)) e
+sum_is_grains g xs e = sum_is_sum_below xs ∙ ap (λ n. sum_below n (λ i. get_or xs i 0)) e
 
 -- a number that is written, seen from each place
 pub get_or-written : (u : List ℕ) (i v j : ℕ) → i < length u → get_or (set u i v) j 0 + get_or u i 0 * one_at i j ≡ get_or u j 0 + v * one_at i j
@@ -51,9 +51,9 @@ counted i k u v inside e j = let all = get_or-written u i (get_or u i 0 + k) j i
 
 pub lost_at : (g : Grid) (i t : ℕ) → i < sites g → lost g (λ j. t * one_at i j) ≡ t * missing g i
 lost_at g i t l =
-    total_same (sites g) (λ j. missing g j * (t * one_at i j)) (λ j. t * (missing g j * one_at i j)) (λ j m. omega arith)
-    ∙ total-scale (sites g) t (λ j. missing g j * one_at i j)
-    ∙ ap (λ k. t * k) (total-one_at (sites g) i (missing g) l)
+    sum_below_same (sites g) (λ j. missing g j * (t * one_at i j)) (λ j. t * (missing g j * one_at i j)) (λ j m. omega arith)
+    ∙ sum_below-scale (sites g) t (λ j. missing g j * one_at i j)
+    ∙ ap (λ k. t * k) (sum_below-one_at (sites g) i (missing g) l)
 
 -- the heights after a site gave t to each of its places
 pub spread_toppled : (g : Grid) (i t : ℕ) (h k : List ℕ) (ps : List (Option ℕ)) → ps ≡ places g i → i < sites g → length h ≡ sites g → 4 * t ≤ get_or h i 0 → ((j : ℕ) → get_or k j 0 ≡ get_or (set h i (get_or h i 0 - 4 * t)) j 0 + t * value_at (λ m. one_at m j) (get_or ps 0 None) + t * value_at (λ m. one_at m j) (get_or ps 1 None) + t * value_at (λ m. one_at m j) (get_or ps 2 None) + t * value_at (λ m. one_at m j) (get_or ps 3 None)) → IsToppled g (λ j. get_or h j 0) (λ j. t * one_at i j) (λ j. get_or k j 0)
@@ -91,5 +91,5 @@ sum_left g h k v before after done =
 pub spread_sum : (g : Grid) (i : ℕ) (h k : List ℕ) → i < sites g → length h ≡ sites g → length k ≡ sites g → IsToppled g (λ j. get_or h j 0) (one_at i) (λ j. get_or k j 0) → sum k + missing g i ≡ sum h
 spread_sum g i h k l lh lk done =
     let left = sum_left g h k (one_at i) lh lk done in
-    let out = total-one_at (sites g) i (missing g) l in
+    let out = sum_below-one_at (sites g) i (missing g) l in
     omega arith

@@ -4,9 +4,9 @@ use Rattle.std.specs.Prelude.{ℤ, pos, negsuc, ◌+ℤ◌, ◌-ℤ◌, ◌*ℤ�
 use Rattle.std.proofs.lemmas.Int.{ints}
 use Rattle.std.proofs.lemmas.List.Sums.{sum_by-cons}
 use Rattle.sand_model.specs.Grid.{Grid, sites, neighbours, missing}
-use Rattle.sand_model.specs.Sand.{total, flow, IsToppled, Stabilises, IsSettled}
-use Rattle.sand_model.specs.Integers.{sum_over, total_over, laplacian, whole, IsEquivalent}
-use Rattle.sand_model.proofs.Totals.{total-add, total-scale}
+use Rattle.sand_model.specs.Sand.{sum_below, flow, IsToppled, Stabilises, IsSettled}
+use Rattle.sand_model.specs.Integers.{whole_sum_by, whole_sum_below, laplacian, whole, IsEquivalent}
+use Rattle.sand_model.proofs.SumsBelow.{sum_below-add, sum_below-scale}
 use Rattle.sand_model.proofs.Sandpile.{flow_and_lost}
 
 -- ---- a whole number in two parts
@@ -25,28 +25,28 @@ unfolding above below
 parts (pos n) = omega (arith, ints)
 parts (negsuc n) = omega (arith, ints)
 
-pub sum_over_parts : (z : ℕ → ℤ) (js : List ℕ) → sum_over z js ≡ pos (sum_by (λ j. above (z j)) js) -ℤ pos (sum_by (λ j. below (z j)) js)
-sum_over_parts z [] = omega (arith, ints)
-sum_over_parts z (j ∷ js) =
-    let rest = sum_over_parts z js in
+pub whole_sum_by_parts : (z : ℕ → ℤ) (js : List ℕ) → whole_sum_by z js ≡ pos (sum_by (λ j. above (z j)) js) -ℤ pos (sum_by (λ j. below (z j)) js)
+whole_sum_by_parts z [] = omega (arith, ints)
+whole_sum_by_parts z (j ∷ js) =
+    let rest = whole_sum_by_parts z js in
     let here = parts (z j) in
     rw (sum_by-cons (λ j. above (z j)) j js, sum_by-cons (λ j. below (z j)) j js) (omega (arith, ints))
 
 -- ---- the Laplacian
 
-sum_over_naturals : (u : ℕ → ℕ) (js : List ℕ) → sum_over (whole u) js ≡ pos (sum_by u js)
-sum_over_naturals u [] = refl
-sum_over_naturals u (j ∷ js) = let rest = sum_over_naturals u js in rw (sum_by-cons u j js) (omega (arith, ints))
+whole_sum_by_naturals : (u : ℕ → ℕ) (js : List ℕ) → whole_sum_by (whole u) js ≡ pos (sum_by u js)
+whole_sum_by_naturals u [] = refl
+whole_sum_by_naturals u (j ∷ js) = let rest = whole_sum_by_naturals u js in rw (sum_by-cons u j js) (omega (arith, ints))
 
 pub laplacian-whole : (g : Grid) (u : ℕ → ℕ) (i : ℕ) → laplacian g (whole u) i ≡ pos (4 * u i) -ℤ pos (flow g u i)
 unfolding laplacian flow
-laplacian-whole g u i = let all = sum_over_naturals u (neighbours g i) in omega (arith, ints)
+laplacian-whole g u i = let all = whole_sum_by_naturals u (neighbours g i) in omega (arith, ints)
 
 pub laplacian-parts : (g : Grid) (z : ℕ → ℤ) (i : ℕ) → laplacian g z i ≡ (pos (4 * above (z i)) +ℤ pos (flow g (λ j. below (z j)) i)) -ℤ (pos (4 * below (z i)) +ℤ pos (flow g (λ j. above (z j)) i))
 unfolding laplacian flow
 laplacian-parts g z i =
     let here = parts (z i) in
-    let around = sum_over_parts z (neighbours g i) in
+    let around = whole_sum_by_parts z (neighbours g i) in
     omega (arith, ints)
 
 -- t = s - Lu
@@ -93,18 +93,18 @@ settled_equivalent g s u t done = record {
 
 -- ---- the sum over all sites
 
-total_over_parts : (n : ℕ) (p q : ℕ → ℕ) (z : ℕ → ℤ) → ((i : ℕ) → i < n → z i ≡ pos (p i) -ℤ pos (q i)) → total_over n z ≡ pos (total n p) -ℤ pos (total n q)
-unfolding total_over total
-total_over_parts zero p q z e = omega (arith, ints)
-total_over_parts (suc n) p q z e =
-    let below = total_over_parts n p q z (λ i l. e i (omega arith)) in
+whole_sum_below_parts : (n : ℕ) (p q : ℕ → ℕ) (z : ℕ → ℤ) → ((i : ℕ) → i < n → z i ≡ pos (p i) -ℤ pos (q i)) → whole_sum_below n z ≡ pos (sum_below n p) -ℤ pos (sum_below n q)
+unfolding whole_sum_below sum_below
+whole_sum_below_parts zero p q z e = omega (arith, ints)
+whole_sum_below_parts (suc n) p q z e =
+    let below = whole_sum_below_parts n p q z (λ i l. e i (omega arith)) in
     let last = e n (omega arith) in
     omega (arith, ints)
 
-total_over_split : (n : ℕ) (s z : ℕ → ℤ) → total_over n s ≡ total_over n (λ i. s i -ℤ z i) +ℤ total_over n z
-unfolding total_over
-total_over_split zero s z = omega (arith, ints)
-total_over_split (suc n) s z = let below = total_over_split n s z in omega (arith, ints)
+whole_sum_below_split : (n : ℕ) (s z : ℕ → ℤ) → whole_sum_below n s ≡ whole_sum_below n (λ i. s i -ℤ z i) +ℤ whole_sum_below n z
+unfolding whole_sum_below
+whole_sum_below_split zero s z = omega (arith, ints)
+whole_sum_below_split (suc n) s z = let below = whole_sum_below_split n s z in omega (arith, ints)
 
 product-parts : (m : ℕ) (z : ℤ) → pos m *ℤ z ≡ pos (m * above z) -ℤ pos (m * below z)
 unfolding above below
@@ -112,22 +112,22 @@ product-parts m (pos n) = omega (arith, ints)
 product-parts m (negsuc n) = omega (arith, ints)
 
 -- the Laplacian of every u sums up to what u loses
-total-laplacian : (g : Grid) (u : ℕ → ℤ) → total_over (sites g) (laplacian g u) ≡ total_over (sites g) (λ i. pos (missing g i) *ℤ u i)
-total-laplacian g u =
+whole_sum_below-laplacian : (g : Grid) (u : ℕ → ℤ) → whole_sum_below (sites g) (laplacian g u) ≡ whole_sum_below (sites g) (λ i. pos (missing g i) *ℤ u i)
+whole_sum_below-laplacian g u =
     let a : ℕ → ℕ = λ i. above (u i) in
     let b : ℕ → ℕ = λ i. below (u i) in
-    let of_laplacian = total_over_parts (sites g) (λ i. 4 * a i + flow g b i) (λ i. 4 * b i + flow g a i) (laplacian g u) (λ i l. let e = laplacian-parts g u i in omega (arith, ints)) in
-    let of_lost = total_over_parts (sites g) (λ i. missing g i * a i) (λ i. missing g i * b i) (λ i. pos (missing g i) *ℤ u i) (λ i l. product-parts (missing g i) (u i)) in
-    let four_a = total-scale (sites g) 4 a in
-    let four_b = total-scale (sites g) 4 b in
-    let sum_a = total-add (sites g) (λ i. 4 * a i) (flow g b) in
-    let sum_b = total-add (sites g) (λ i. 4 * b i) (flow g a) in
+    let of_laplacian = whole_sum_below_parts (sites g) (λ i. 4 * a i + flow g b i) (λ i. 4 * b i + flow g a i) (laplacian g u) (λ i l. let e = laplacian-parts g u i in omega (arith, ints)) in
+    let of_lost = whole_sum_below_parts (sites g) (λ i. missing g i * a i) (λ i. missing g i * b i) (λ i. pos (missing g i) *ℤ u i) (λ i l. product-parts (missing g i) (u i)) in
+    let four_a = sum_below-scale (sites g) 4 a in
+    let four_b = sum_below-scale (sites g) 4 b in
+    let sum_a = sum_below-add (sites g) (λ i. 4 * a i) (flow g b) in
+    let sum_b = sum_below-add (sites g) (λ i. 4 * b i) (flow g a) in
     let lost_a = flow_and_lost g a in
     let lost_b = flow_and_lost g b in
     omega (arith, ints)
 
-pub laplacian_sum_over_integers : (g : Grid) (s u : ℕ → ℤ) → total_over (sites g) s ≡ total_over (sites g) (λ i. s i -ℤ laplacian g u i) +ℤ total_over (sites g) (λ i. pos (missing g i) *ℤ u i)
+pub laplacian_sum_over_integers : (g : Grid) (s u : ℕ → ℤ) → whole_sum_below (sites g) s ≡ whole_sum_below (sites g) (λ i. s i -ℤ laplacian g u i) +ℤ whole_sum_below (sites g) (λ i. pos (missing g i) *ℤ u i)
 laplacian_sum_over_integers g s u =
-    let split = total_over_split (sites g) s (laplacian g u) in
-    let all = total-laplacian g u in
+    let split = whole_sum_below_split (sites g) s (laplacian g u) in
+    let all = whole_sum_below-laplacian g u in
     omega (arith, ints)

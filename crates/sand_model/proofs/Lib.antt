@@ -1,4 +1,4 @@
-pub mod Totals
+pub mod SumsBelow
 pub mod Neighbours
 pub mod Borders
 pub mod Flow

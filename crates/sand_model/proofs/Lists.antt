@@ -4,10 +4,10 @@ use Rattle.std.proofs.lemmas.Bool.{cases_eq, cases_lt, cases_Bool, lt-ltb, le-lt
 use Rattle.std.proofs.lemmas.List.{get_or_read}
 use Rattle.std.proofs.lemmas.List.Sums.{sum_by_more_le, get_or-le-sum_by}
 use Rattle.std.proofs.lemmas.List.Elements.{All-from_get_or, All-head}
-use Rattle.sand_model.specs.Sand.{total, tally, one_at}
+use Rattle.sand_model.specs.Sand.{sum_below, tally, one_at}
 use Rattle.sand_model.specs.Lists.{Lists, one_if}
-use Rattle.sand_model.proofs.Totals.{total_same, total-ones, one_at_same, one_at_other}
-use Rattle.sand_model.proofs.Tallies.{tally-cons, tally-push, total-tally}
+use Rattle.sand_model.proofs.SumsBelow.{sum_below_same, sum_below-ones, one_at_same, one_at_other}
+use Rattle.sand_model.proofs.Tallies.{tally-cons, tally-push, sum_below-tally}
 use Rattle.sand_model.proofs.Bounds.{at_most_all, fewer_than_all}
 
 pub at_most_one : (b : Bool) → one_if b ≤ 1
@@ -114,9 +114,9 @@ none_passes n p list i l =
 
 -- ---- how long a listing is
 
-pub length-listing : (n : ℕ) (p : ℕ → Bool) (xs : List ℕ) → Lists n p xs → length xs ≡ total n (λ i. one_if (p i))
+pub length-listing : (n : ℕ) (p : ℕ → Bool) (xs : List ℕ) → Lists n p xs → length xs ≡ sum_below n (λ i. one_if (p i))
 length-listing n p xs list =
-    sym (total-tally n xs (lists_below n p xs list)) ∙ total_same n (tally xs) (λ i. one_if (p i)) (λ i l. tally-listing n p xs i list l)
+    sym (sum_below-tally n xs (lists_below n p xs list)) ∙ sum_below_same n (tally xs) (λ i. one_if (p i)) (λ i l. tally-listing n p xs i list l)
 
 pub lists_length : (n : ℕ) (p : ℕ → Bool) (xs : List ℕ) → Lists n p xs → length xs ≤ n
 lists_length n p xs list =
@@ -141,7 +141,7 @@ pub lists_leave : (n : ℕ) (p : ℕ → Bool) (xs : List ℕ) → Lists n p xs 
 lists_leave n p xs list short =
     ⊎_elim
     (λ (all : (i : ℕ) → i < n → p i ≡ true).
-    absurd (short (length-listing n p xs list ∙ total_same n (λ i. one_if (p i)) (λ i. 1) (λ i l. ap one_if (all i l)) ∙ total-ones n)))
+    absurd (short (length-listing n p xs list ∙ sum_below_same n (λ i. one_if (p i)) (λ i. 1) (λ i l. ap one_if (all i l)) ∙ sum_below-ones n)))
     (λ (one : (i : ℕ) × (i < n) × (p i ≡ false)). one)
     (all_or_one n p)
 

@@ -5,9 +5,9 @@ use Rattle.std.proofs.lemmas.Nat.{div_below, div-add-mod', mod_below, div-mul-ad
 use Rattle.std.proofs.lemmas.List.Sums.{sum_by-cons}
 use Rattle.std.proofs.Math.Nat.{mul-le-mul_left}
 use Rattle.sand_model.specs.Grid.{Grid, joins, sites, neighbours, missing, row, north, west, east, south}
-use Rattle.sand_model.specs.Laws.{MayTopple, AreLegal}
-use Rattle.sand_model.specs.Sand.{total, tally, flow, IsStable, IsToppled, Stabilises, IsUnderway, IsLeast, IsSettled, grains, topplings, lost, weight, grain_weight, value_at, one_at}
-use Rattle.sand_model.proofs.Totals.{total-one_at, one_at_same, one_at_other, total_same, total_le, total-add, total-scale}
+use Rattle.sand_model.specs.Laws.{MayToppleAfter, AreLegal}
+use Rattle.sand_model.specs.Sand.{sum_below, tally, flow, IsStable, IsToppled, Stabilises, IsUnderway, IsLeast, IsSettled, grains, topplings, lost, weight, grain_weight, value_at, one_at}
+use Rattle.sand_model.proofs.SumsBelow.{sum_below-one_at, one_at_same, one_at_other, sum_below_same, sum_below_le, sum_below-add, sum_below-scale}
 use Rattle.sand_model.proofs.Neighbours.{neighbours_at_most_four, flow_four, some_width}
 use Rattle.sand_model.proofs.Flow.{flow_le, flow_same, flow-add, flow_self_adjoint}
 
@@ -119,13 +119,13 @@ settled_same g s s' u u' t t' starts counts piles done = record {
 
 -- ---- sums
 
-balance_total : (g : Grid) (f s u t : ℕ → ℕ) → IsToppled g s u t → total (sites g) (λ i. t i * f i) + 4 * total (sites g) (λ i. u i * f i) ≡ total (sites g) (λ i. s i * f i) + total (sites g) (λ i. u i * flow g f i)
+balance_total : (g : Grid) (f s u t : ℕ → ℕ) → IsToppled g s u t → sum_below (sites g) (λ i. t i * f i) + 4 * sum_below (sites g) (λ i. u i * f i) ≡ sum_below (sites g) (λ i. s i * f i) + sum_below (sites g) (λ i. u i * flow g f i)
 balance_total g f s u t done =
-    let four = total-scale (sites g) 4 (λ i. u i * f i) in
-    let left = total-add (sites g) (λ i. t i * f i) (λ i. 4 * (u i * f i)) in
-    let right = total-add (sites g) (λ i. s i * f i) (λ i. f i * flow g u i) in
-    let same : total (sites g) (λ i. t i * f i + 4 * (u i * f i)) ≡ total (sites g) (λ i. s i * f i + f i * flow g u i) =
-    total_same (sites g) (λ i. t i * f i + 4 * (u i * f i)) (λ i. s i * f i + f i * flow g u i)
+    let four = sum_below-scale (sites g) 4 (λ i. u i * f i) in
+    let left = sum_below-add (sites g) (λ i. t i * f i) (λ i. 4 * (u i * f i)) in
+    let right = sum_below-add (sites g) (λ i. s i * f i) (λ i. f i * flow g u i) in
+    let same : sum_below (sites g) (λ i. t i * f i + 4 * (u i * f i)) ≡ sum_below (sites g) (λ i. s i * f i + f i * flow g u i) =
+    sum_below_same (sites g) (λ i. t i * f i + 4 * (u i * f i)) (λ i. s i * f i + f i * flow g u i)
     (λ i l. let e = ap (λ k. k * f i) (done.balance i l) in omega arith) in
     let turned = flow_self_adjoint g f u in
     omega arith
@@ -142,24 +142,24 @@ flow_ones g i =
     omega arith
 
 -- of four grains that a toppling takes, some reach a neighbour and the others are lost
-pub flow_and_lost : (g : Grid) (u : ℕ → ℕ) → total (sites g) (flow g u) + lost g u ≡ 4 * total (sites g) u
+pub flow_and_lost : (g : Grid) (u : ℕ → ℕ) → sum_below (sites g) (flow g u) + lost g u ≡ 4 * sum_below (sites g) u
 flow_and_lost g u =
     let turned = flow_self_adjoint g (λ j. 1) u in
-    let ones : total (sites g) (λ i. 1 * flow g u i) ≡ total (sites g) (flow g u) = total_same (sites g) (λ i. 1 * flow g u i) (flow g u) (λ i l. omega arith) in
-    let both = total-add (sites g) (λ i. u i * flow g (λ j. 1) i) (λ i. missing g i * u i) in
-    let fours : total (sites g) (λ i. u i * flow g (λ j. 1) i + missing g i * u i) ≡ total (sites g) (λ i. 4 * u i) =
-    total_same (sites g) (λ i. u i * flow g (λ j. 1) i + missing g i * u i) (λ i. 4 * u i)
+    let ones : sum_below (sites g) (λ i. 1 * flow g u i) ≡ sum_below (sites g) (flow g u) = sum_below_same (sites g) (λ i. 1 * flow g u i) (flow g u) (λ i l. omega arith) in
+    let both = sum_below-add (sites g) (λ i. u i * flow g (λ j. 1) i) (λ i. missing g i * u i) in
+    let fours : sum_below (sites g) (λ i. u i * flow g (λ j. 1) i + missing g i * u i) ≡ sum_below (sites g) (λ i. 4 * u i) =
+    sum_below_same (sites g) (λ i. u i * flow g (λ j. 1) i + missing g i * u i) (λ i. 4 * u i)
     (λ i l. let e = ap (λ k. u i * k) (flow_ones g i) in omega arith) in
-    let scaled = total-scale (sites g) 4 u in
+    let scaled = sum_below-scale (sites g) 4 u in
     omega arith
 
 -- grains before are grains after and grains lost
 pub laplacian_sum : (g : Grid) (s u t : ℕ → ℕ) → IsToppled g s u t → grains g s ≡ grains g t + lost g u
 laplacian_sum g s u t done =
-    let four = total-scale (sites g) 4 u in
-    let left = total-add (sites g) t (λ i. 4 * u i) in
-    let right = total-add (sites g) s (flow g u) in
-    let same : total (sites g) (λ i. t i + 4 * u i) ≡ total (sites g) (λ i. s i + flow g u i) = total_same (sites g) (λ i. t i + 4 * u i) (λ i. s i + flow g u i) done.balance in
+    let four = sum_below-scale (sites g) 4 u in
+    let left = sum_below-add (sites g) t (λ i. 4 * u i) in
+    let right = sum_below-add (sites g) s (flow g u) in
+    let same : sum_below (sites g) (λ i. t i + 4 * u i) ≡ sum_below (sites g) (λ i. s i + flow g u i) = sum_below_same (sites g) (λ i. t i + 4 * u i) (λ i. s i + flow g u i) done.balance in
     let all = flow_and_lost g u in
     omega arith
 
@@ -272,16 +272,16 @@ grain_weight_falls g i l =
 pub weight_after : (g : Grid) (s u t : ℕ → ℕ) → IsToppled g s u t → weight g t + 2 * topplings g u ≤ weight g s
 weight_after g s u t done =
     let all = balance_total g (grain_weight g) s u t done in
-    let twice = total-scale (sites g) 2 u in
-    let fours = total-scale (sites g) 4 (λ i. u i * grain_weight g i) in
-    let both = total-add (sites g) (λ i. u i * flow g (grain_weight g) i) (λ i. 2 * u i) in
-    let falls : total (sites g) (λ i. u i * flow g (grain_weight g) i + 2 * u i) ≤ total (sites g) (λ i. 4 * (u i * grain_weight g i)) =
-    total_le (sites g) (λ i. u i * flow g (grain_weight g) i + 2 * u i) (λ i. 4 * (u i * grain_weight g i))
+    let twice = sum_below-scale (sites g) 2 u in
+    let fours = sum_below-scale (sites g) 4 (λ i. u i * grain_weight g i) in
+    let both = sum_below-add (sites g) (λ i. u i * flow g (grain_weight g) i) (λ i. 2 * u i) in
+    let falls : sum_below (sites g) (λ i. u i * flow g (grain_weight g) i + 2 * u i) ≤ sum_below (sites g) (λ i. 4 * (u i * grain_weight g i)) =
+    sum_below_le (sites g) (λ i. u i * flow g (grain_weight g) i + 2 * u i) (λ i. 4 * (u i * grain_weight g i))
     (λ i l. let e = mul-le-mul_left (u i) (grain_weight_falls g i l) in omega arith) in
     omega arith
 
 -- one toppling more stays below what stabilises
-one_more : (g : Grid) (s u w : ℕ → ℕ) (i : ℕ) → Stabilises g s w → ((j : ℕ) → j < sites g → u j ≤ w j) → MayTopple g s u i → (j : ℕ) → j < sites g → u j + one_at i j ≤ w j
+one_more : (g : Grid) (s u w : ℕ → ℕ) (i : ℕ) → Stabilises g s w → ((j : ℕ) → j < sites g → u j ≤ w j) → MayToppleAfter g s u i → (j : ℕ) → j < sites g → u j + one_at i j ≤ w j
 one_more g s u w i stable below may j l =
     ⊎_elim
     (λ (e : i ≡ j).
@@ -311,6 +311,6 @@ settled_once g s u v t r a b i l = (odometer_unique g s u v a.odometer b.odomete
 pub one_lighter : (g : Grid) (s t : ℕ → ℕ) (i : ℕ) → i < sites g → IsToppled g s (one_at i) t → weight g t + 2 ≤ weight g s
 one_lighter g s t i l done =
     let all = weight_after g s (one_at i) t done in
-    let ones : total (sites g) (λ j. 1 * one_at i j) ≡ 1 = total-one_at (sites g) i (λ j. 1) l in
-    let same : total (sites g) (λ j. 1 * one_at i j) ≡ total (sites g) (one_at i) = total_same (sites g) (λ j. 1 * one_at i j) (one_at i) (λ j m. omega arith) in
+    let ones : sum_below (sites g) (λ j. 1 * one_at i j) ≡ 1 = sum_below-one_at (sites g) i (λ j. 1) l in
+    let same : sum_below (sites g) (λ j. 1 * one_at i j) ≡ sum_below (sites g) (one_at i) = sum_below_same (sites g) (λ j. 1 * one_at i j) (one_at i) (λ j m. omega arith) in
     omega arith

@@ -3,7 +3,7 @@ use Rattle.std.proofs.Common.{ℕ, zero, suc, true, false, leb, ◌≡◌, ◌+�
 use Rattle.std.proofs.lemmas.Bool.{cases_eq, leb-true, leb-false}
 use Rattle.sand_model.specs.Grid.{Grid, sites}
 use Rattle.sand_model.specs.Sand.{flow, one_at, IsToppled, IsUnderway, IsSettled, weight}
-use Rattle.sand_model.proofs.Totals.{one_at_same, one_at_other}
+use Rattle.sand_model.proofs.SumsBelow.{one_at_same, one_at_other}
 use Rattle.sand_model.proofs.Flow.{flow-scale}
 use Rattle.sand_model.proofs.Sandpile.{one_lighter}
 use Rattle.sand_model.proofs.Underway.{underway_start, underway_step, underway_end}

@@ -1,8 +1,8 @@
 -- How often a site stands in a list of sites.
 use Rattle.std.proofs.Common.{ℕ, ◌≡◌, ◌+◌, ◌*◌, ◌<◌, sym, ◌∙◌, arith, List, [], ◌∷◌, ◌++◌, length, All}
 use Rattle.std.proofs.lemmas.List.Sums.{sum_by-cons, sum_by_push, sum_by-append}
-use Rattle.sand_model.specs.Sand.{total, tally, one_at}
-use Rattle.sand_model.proofs.Totals.{total_same}
+use Rattle.sand_model.specs.Sand.{sum_below, tally, one_at}
+use Rattle.sand_model.proofs.SumsBelow.{sum_below_same}
 use Rattle.sand_model.proofs.Flow.{sum_by_spread}
 use Rattle.sand_model.proofs.Sandpile.{sum_by_ones}
 
@@ -16,7 +16,7 @@ pub tally-append : (xs ys : List ℕ) (j : ℕ) → tally (xs ++ ys) j ≡ tally
 tally-append xs ys j = sum_by-append (λ k. one_at k j) xs ys
 
 -- a list of sites is as long as its tally is in all
-pub total-tally : (n : ℕ) (xs : List ℕ) → All (λ j. j < n) xs → total n (tally xs) ≡ length xs
-total-tally n xs below =
-    total_same n (tally xs) (λ j. 1 * tally xs j) (λ j l. omega arith)
+pub sum_below-tally : (n : ℕ) (xs : List ℕ) → All (λ j. j < n) xs → sum_below n (tally xs) ≡ length xs
+sum_below-tally n xs below =
+    sum_below_same n (tally xs) (λ j. 1 * tally xs j) (λ j l. omega arith)
     ∙ sym (sum_by_spread n (λ j. 1) xs below) ∙ sum_by_ones xs

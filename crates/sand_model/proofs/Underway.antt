@@ -3,7 +3,7 @@ use Rattle.std.proofs.Common.{ℕ, ◌≡◌, ◌+◌, ◌*◌, ◌<◌, ◌≤�
 use Rattle.std.proofs.lemmas.Bool.{cases_eq}
 use Rattle.sand_model.specs.Grid.{Grid, sites}
 use Rattle.sand_model.specs.Sand.{one_at, IsToppled, IsUnderway, IsSettled}
-use Rattle.sand_model.proofs.Totals.{one_at_same, one_at_other}
+use Rattle.sand_model.proofs.SumsBelow.{one_at_same, one_at_other}
 use Rattle.sand_model.proofs.Flow.{flow_same, flow-add, flow-scale}
 use Rattle.sand_model.proofs.Sandpile.{least_action}
 

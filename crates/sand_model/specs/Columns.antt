@@ -2,10 +2,10 @@
 use Rattle.std.specs.Prelude.{ℕ, ◌≡◌, ◌<◌, List, length, slice_index}
 use Rattle.sand_model.specs.Grid.{Grid, sites, column, row}
 
-pub record AreColumns (g : Grid) (columns : List ℕ) : Type 0 where
+pub record AreSiteColumns (g : Grid) (columns : List ℕ) : Type 0 where
   pub one_each : length columns ≡ sites g
   pub each : (i : ℕ) → i < sites g → slice_index columns i ≡ column g i
 
-pub record AreRows (g : Grid) (rows : List ℕ) : Type 0 where
+pub record AreSiteRows (g : Grid) (rows : List ℕ) : Type 0 where
   pub one_each : length rows ≡ sites g
   pub each : (i : ℕ) → i < sites g → slice_index rows i ≡ row g i

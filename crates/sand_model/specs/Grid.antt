@@ -34,8 +34,8 @@ abbrev pub is_side : ℕ → Bool
 is_side n = nat_le 1 n && nat_le n 256
 
 -- the grid with these sides and this edge, or the fault that it would have
-abbrev pub grid_of : ℕ → ℕ → Edge → Result Grid ShapeFault
-grid_of w h edge = if is_side w && is_side h then (if joins edge && nat_lt w 3 then Err Narrow else Ok (record { width = w; height = h; edge = edge })) else Err Side
+abbrev pub grid_with_edge : ℕ → ℕ → Edge → Result Grid ShapeFault
+grid_with_edge w h edge = if is_side w && is_side h then (if joins edge && nat_lt w 3 then Err Narrow else Ok (record { width = w; height = h; edge = edge })) else Err Side
 
 abbrev pub column : Grid → ℕ → ℕ
 column g i = i % g.width

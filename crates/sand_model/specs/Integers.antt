@@ -4,18 +4,18 @@ use Rattle.std.specs.Prelude.{ℕ, zero, suc, ℤ, pos, ◌≡◌, ◌+ℤ◌, �
 use Rattle.sand_model.specs.Grid.{Grid, sites, neighbours}
 
 -- the sum of z over a list of sites
-abbrev pub sum_over : (ℕ → ℤ) → List ℕ → ℤ
-sum_over z [] = pos 0
-sum_over z (j ∷ js) = z j +ℤ sum_over z js
+abbrev pub whole_sum_by : (ℕ → ℤ) → List ℕ → ℤ
+whole_sum_by z [] = pos 0
+whole_sum_by z (j ∷ js) = z j +ℤ whole_sum_by z js
 
 -- the sum of z over the numbers below n
-unfoldable pub total_over : ℕ → (ℕ → ℤ) → ℤ
-total_over zero z = pos 0
-total_over (suc n) z = total_over n z +ℤ z n
+unfoldable pub whole_sum_below : ℕ → (ℕ → ℤ) → ℤ
+whole_sum_below zero z = pos 0
+whole_sum_below (suc n) z = whole_sum_below n z +ℤ z n
 
 -- (Lz)(i) = 4 * z(i) - the sum of z over the neighbours of i
 unfoldable pub laplacian : Grid → (ℕ → ℤ) → ℕ → ℤ
-laplacian g z i = (pos 4 *ℤ z i) -ℤ sum_over z (neighbours g i)
+laplacian g z i = (pos 4 *ℤ z i) -ℤ whole_sum_by z (neighbours g i)
 
 -- numbers over the sites, as whole numbers
 abbrev pub whole : (ℕ → ℕ) → ℕ → ℤ

@@ -3,17 +3,17 @@ use Rattle.std.specs.Prelude.{ℕ, ℤ, pos, ◌≡◌, ◌+◌, ◌*◌, ◌<�
 use Rattle.sand_model.specs.Grid.{Grid, sites, missing}
 use Rattle.sand_model.specs.Forbidden.{IsTight}
 use Rattle.sand_model.specs.Sand.{flow, tally, one_at, IsStable, IsToppled, Stabilises, IsUnderway, IsSettled, grains, lost, weight}
-use Rattle.sand_model.specs.Integers.{laplacian, total_over, whole, IsEquivalent}
+use Rattle.sand_model.specs.Integers.{laplacian, whole_sum_below, whole, IsEquivalent}
 
 -- after each site toppled u times, the site i may topple: s - Lu is 4 or more there
-pub record MayTopple (g : Grid) (s u : ℕ → ℕ) (i : ℕ) : Type 0 where
+pub record MayToppleAfter (g : Grid) (s u : ℕ → ℕ) (i : ℕ) : Type 0 where
   pub site : i < sites g
   pub high : 4 * u i + 4 ≤ s i + flow g u i
 
 -- the sites of the list topple one after another, and each may when its turn comes
 abbrev pub AreLegal : Grid → (ℕ → ℕ) → (ℕ → ℕ) → List ℕ → Type 0
 AreLegal g s u [] = Unit {0}
-AreLegal g s u (i ∷ order) = MayTopple g s u i × AreLegal g s (λ j. u j + one_at i j) order
+AreLegal g s u (i ∷ order) = MayToppleAfter g s u i × AreLegal g s (λ j. u j + one_at i j) order
 
 -- legal topplings stay at or below whatever stabilises the pile
 abbrev pub LeastAction : Type 0
@@ -29,7 +29,7 @@ LaplacianSum = (g : Grid) (s u t : ℕ → ℕ) → IsToppled g s u t → grains
 
 -- the same over the whole numbers, for every u, legal or not
 abbrev pub LaplacianSumOverIntegers : Type 0
-LaplacianSumOverIntegers = (g : Grid) (s u : ℕ → ℤ) → total_over (sites g) s ≡ total_over (sites g) (λ i. s i -ℤ laplacian g u i) +ℤ total_over (sites g) (λ i. pos (missing g i) *ℤ u i)
+LaplacianSumOverIntegers = (g : Grid) (s u : ℕ → ℤ) → whole_sum_below (sites g) s ≡ whole_sum_below (sites g) (λ i. s i -ℤ laplacian g u i) +ℤ whole_sum_below (sites g) (λ i. pos (missing g i) *ℤ u i)
 
 -- each pile settles: it has a settled pile, with a least odometer, for all heights
 abbrev pub EachSettles : Type 0

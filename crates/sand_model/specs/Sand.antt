@@ -5,9 +5,9 @@ use Rattle.std.specs.Prelude.{ℕ, zero, suc, ◌≡◌, ◌+◌, ◌-◌, ◌*�
 use Rattle.sand_model.specs.Grid.{Grid, sites, neighbours, missing, row}
 
 -- the sum of f over the numbers below n
-unfoldable pub total : ℕ → (ℕ → ℕ) → ℕ
-total zero f = 0
-total (suc n) f = total n f + f n
+unfoldable pub sum_below : ℕ → (ℕ → ℕ) → ℕ
+sum_below zero f = 0
+sum_below (suc n) f = sum_below n f + f n
 
 -- how often a site stands in a list of sites
 abbrev pub tally : List ℕ → ℕ → ℕ
@@ -54,18 +54,18 @@ pub record IsSettled (g : Grid) (s u t : ℕ → ℕ) : Type 0 where
   pub odometer : IsLeast g s u
 
 abbrev pub grains : Grid → (ℕ → ℕ) → ℕ
-grains g s = total (sites g) s
+grains g s = sum_below (sites g) s
 
 abbrev pub topplings : Grid → (ℕ → ℕ) → ℕ
-topplings g u = total (sites g) u
+topplings g u = sum_below (sites g) u
 
 -- the grains that fall into the sink
 abbrev pub lost : Grid → (ℕ → ℕ) → ℕ
-lost g u = total (sites g) (λ i. missing g i * u i)
+lost g u = sum_below (sites g) (λ i. missing g i * u i)
 
 -- what a grain weighs: (y + 1) * (height - y), in row y
 unfoldable pub grain_weight : Grid → ℕ → ℕ
 grain_weight g i = (row g i + 1) * (g.height - row g i)
 
 abbrev pub weight : Grid → (ℕ → ℕ) → ℕ
-weight g s = total (sites g) (λ i. s i * grain_weight g i)
+weight g s = sum_below (sites g) (λ i. s i * grain_weight g i)

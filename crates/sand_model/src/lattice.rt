@@ -5,7 +5,7 @@
 
 ghost use Rattle.std.specs.Prelude.{◌≡◌, ◌<◌, Some, is_none, IfOk, IsTrue, map, if◌then◌else◌};
 ghost use Rattle.sand_model.specs.Grid.{IsGrid, sites, north, west, east, south, places, is_inner, missing, distance};
-ghost use Rattle.sand_model.specs.Columns.{AreColumns, AreRows};
+ghost use Rattle.sand_model.specs.Columns.{AreSiteColumns, AreSiteRows};
 
 use crate::shape::{Edge, Shape};
 use std::alloc::{AllocError, Global};
@@ -25,19 +25,19 @@ pub struct Lattice {
 impl Model for Lattice {
     ghost use Rattle.std.specs.Prelude.{◌≡◌};
     ghost use Rattle.sand_model.specs.Grid.{Grid, IsGrid, sites, joins};
-    ghost use Rattle.sand_model.specs.Columns.{AreColumns, AreRows};
+    ghost use Rattle.sand_model.specs.Columns.{AreSiteColumns, AreSiteRows};
 
     ghost Value = { Grid };
 
     ghost view = { λ l. l.shape };
 
-    ghost invariant = { λ l. IsGrid l.shape × (l.width ≡ l.shape.width) × (l.end ≡ sites l.shape) × (l.is_cylinder ≡ joins l.shape.edge) × AreColumns l.shape l.columns.items × AreRows l.shape l.rows.items };
+    ghost invariant = { λ l. IsGrid l.shape × (l.width ≡ l.shape.width) × (l.end ≡ sites l.shape) × (l.is_cylinder ≡ joins l.shape.edge) × AreSiteColumns l.shape l.columns.items × AreSiteRows l.shape l.rows.items };
 }
 
 // The columns and the rows of all sites, by site.
 fn tables_of(alloc: Global, shape: Shape) -> Result<(Vec<u8>, Vec<u8>), AllocError>
-    ensures columns { IfOk result (λ t. AreColumns shape t.0.items) }
-    ensures rows { IfOk result (λ t. AreRows shape t.1.items) }
+    ensures columns { IfOk result (λ t. AreSiteColumns shape t.0.items) }
+    ensures rows { IfOk result (λ t. AreSiteRows shape t.1.items) }
 {
     let width = shape.width();
     let mut columns = Vec::with_capacity(alloc, shape.sites())?;

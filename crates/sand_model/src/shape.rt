@@ -3,7 +3,7 @@
 //! Sites are numbered row by row from the north-west corner: the site in column `x` and row `y` is `y * width + x`.
 
 ghost use Rattle.std.specs.Prelude.{◌≡◌, ◌<◌};
-ghost use Rattle.sand_model.specs.Grid.{IsGrid, grid_of, sites, column, row, north, west, east, south, places, missing, site_at};
+ghost use Rattle.sand_model.specs.Grid.{IsGrid, grid_with_edge, sites, column, row, north, west, east, south, places, missing, site_at};
 ghost use Rattle.sand_model.specs.declared.shape.Edge.TheVariants.{Open};
 
 use crate::faults::ShapeFault;
@@ -47,14 +47,14 @@ impl Model for Shape {
 impl Shape {
     /// A grid with open edges. Refuses sides outside 1 to 256 (Side).
     pub fn new(w: usize, h: usize) -> Result<Shape, ShapeFault>
-        ensures { result ≡ grid_of w h Open }
+        ensures { result ≡ grid_with_edge w h Open }
     {
         Shape::with_edge(w, h, Edge::Open)
     }
 
     /// A grid with this edge. Refuses sides outside 1 to 256 (Side), then a cylinder less than 3 wide (Narrow).
     pub fn with_edge(w: usize, h: usize, edge: Edge) -> Result<Shape, ShapeFault>
-        ensures { result ≡ grid_of w h edge }
+        ensures { result ≡ grid_with_edge w h edge }
     {
         if w < 1 || w > SIDE_LIMIT || h < 1 || h > SIDE_LIMIT {
             return Err(ShapeFault::Side);

@@ -6,11 +6,11 @@ use Rattle.std.proofs.lemmas.List.{get_or_past, drop_more}
 use Rattle.sand_model.specs.Grid.{Grid, sites, missing, distance}
 use Rattle.sand_model.specs.Sand.{one_at, topplings, lost}
 use Rattle.sand_model.specs.Lists.{Lists, one_if}
-use Rattle.sand_model.proofs.Totals.{total_same, total-add, total-zero, one_at_same, one_at_other}
+use Rattle.sand_model.proofs.SumsBelow.{sum_below_same, sum_below-add, sum_below-zero, one_at_same, one_at_other}
 use Rattle.sand_model.proofs.Heights.{lost_at, get_or-written}
 use Rattle.sand_model.proofs.Lists.{length-listing, front_below, front_passes, none_passes}
 use Rattle.sand_settle.specs.declared.avalanche.Avalanche.{Avalanche}
-use Rattle.sand_settle.specs.Lists.{has_toppled}
+use Rattle.sand_settle.specs.SiteLists.{has_toppled}
 use Rattle.sand_settle.specs.Avalanches.{IsAvalanche, IsReached}
 use Rattle.sand_settle.proofs.Queue.{leaves}
 use Rattle.sand_settle.proofs.Underway.{topplings_more}
@@ -25,8 +25,8 @@ pub record Collects (g : Grid) (site : ℕ) (before now : ℕ → ℕ) (a : Aval
 
 pub lost_sum : (g : Grid) (u v w : ℕ → ℕ) → ((j : ℕ) → j < sites g → w j ≡ u j + v j) → lost g w ≡ lost g u + lost g v
 lost_sum g u v w e =
-    total_same (sites g) (λ j. missing g j * w j) (λ j. missing g j * u j + missing g j * v j) (λ j l. let k = ap (λ m. missing g j * m) (e j l) in omega arith)
-    ∙ total-add (sites g) (λ j. missing g j * u j) (λ j. missing g j * v j)
+    sum_below_same (sites g) (λ j. missing g j * w j) (λ j. missing g j * u j + missing g j * v j) (λ j l. let k = ap (λ m. missing g j * m) (e j l) in omega arith)
+    ∙ sum_below-add (sites g) (λ j. missing g j * u j) (λ j. missing g j * v j)
 
 -- the count k of the site i is read
 pub collects_more : (g : Grid) (site : ℕ) (before now next : ℕ → ℕ) (a b : Avalanche) (i k : ℕ) → Collects g site before now a → i < sites g → 0 < k → next i ≡ 0 → ((j : ℕ) → j < sites g → now j ≡ next j + k * one_at i j) → b.size ≡ a.size + k → b.lost ≡ a.lost + k * missing g i → b.reach ≡ max a.reach (distance g site i) → Collects g site before next b
@@ -60,10 +60,10 @@ collects_more g site before now next a b i k all l some none counts size gone re
     }
 
 pub no_topplings : (g : Grid) (v : ℕ → ℕ) → ((j : ℕ) → j < sites g → v j ≡ 0) → topplings g v ≡ 0
-no_topplings g v none = total_same (sites g) v (λ j. 0) none ∙ total-zero (sites g)
+no_topplings g v none = sum_below_same (sites g) v (λ j. 0) none ∙ sum_below-zero (sites g)
 
 pub nothing_lost : (g : Grid) (v : ℕ → ℕ) → ((j : ℕ) → j < sites g → v j ≡ 0) → lost g v ≡ 0
-nothing_lost g v none = total_same (sites g) (λ j. missing g j * v j) (λ j. 0) (λ j l. let e = ap (λ m. missing g j * m) (none j l) in omega arith) ∙ total-zero (sites g)
+nothing_lost g v none = sum_below_same (sites g) (λ j. missing g j * v j) (λ j. 0) (λ j l. let e = ap (λ m. missing g j * m) (none j l) in omega arith) ∙ sum_below-zero (sites g)
 
 -- every count has been read
 pub collects_all : (g : Grid) (site : ℕ) (before now : ℕ → ℕ) (a : Avalanche) (xs : List ℕ) → Collects g site before now a → ((j : ℕ) → j < sites g → now j ≡ 0) → Lists (sites g) (has_toppled before) xs → a.area ≡ length xs → a.site ≡ site → IsAvalanche g site before a
@@ -80,11 +80,11 @@ collects_all g site before now a xs all none listed area origin = record {
 pub avalanche_same : (g : Grid) (site : ℕ) (u v : ℕ → ℕ) (a : Avalanche) → ((j : ℕ) → j < sites g → u j ≡ v j) → IsAvalanche g site u a → IsAvalanche g site v a
 avalanche_same g site u v a same was = record {
   origin = was.origin;
-  size = was.size ∙ total_same (sites g) u v same;
-  area = was.area ∙ total_same (sites g) (λ j. one_if (has_toppled u j)) (λ j. one_if (has_toppled v j)) (λ j l. ap (λ m. one_if (ltb 0 m)) (same j l));
+  size = was.size ∙ sum_below_same (sites g) u v same;
+  area = was.area ∙ sum_below_same (sites g) (λ j. one_if (has_toppled u j)) (λ j. one_if (has_toppled v j)) (λ j l. ap (λ m. one_if (ltb 0 m)) (same j l));
   within = λ j l some. was.within j l (let e = same j l in omega arith);
   reached = λ far. let one = was.reached far in (one.0, one.1, let e = same one.0 one.1 in let some = one.2 in omega arith, one.3);
-  all_lost = was.all_lost ∙ total_same (sites g) (λ j. missing g j * u j) (λ j. missing g j * v j) (λ j l. ap (λ m. missing g j * m) (same j l));
+  all_lost = was.all_lost ∙ sum_below_same (sites g) (λ j. missing g j * u j) (λ j. missing g j * v j) (λ j l. ap (λ m. missing g j * m) (same j l));
 }
 
 -- where no site topples
@@ -92,7 +92,7 @@ pub avalanche_none : (g : Grid) (site : ℕ) (v : ℕ → ℕ) (a : Avalanche) �
 avalanche_none g site v a none calm = record {
   origin = ap (λ (b : Avalanche). b.site) calm;
   size = ap (λ (b : Avalanche). b.size) calm ∙ sym (no_topplings g v none);
-  area = ap (λ (b : Avalanche). b.area) calm ∙ sym (total_same (sites g) (λ j. one_if (has_toppled v j)) (λ j. 0) (λ j l. rw (none j l) refl) ∙ total-zero (sites g));
+  area = ap (λ (b : Avalanche). b.area) calm ∙ sym (sum_below_same (sites g) (λ j. one_if (has_toppled v j)) (λ j. 0) (λ j l. rw (none j l) refl) ∙ sum_below-zero (sites g));
   within = λ j l some. absurd (let e = none j l in omega arith);
   reached = λ far. absurd (let e = ap (λ (b : Avalanche). b.reach) calm in omega arith);
   all_lost = ap (λ (b : Avalanche). b.lost) calm ∙ sym (nothing_lost g v none);

@@ -6,7 +6,7 @@ use Rattle.std.proofs.lemmas.List.Elements.{All-push}
 use Rattle.sand_model.specs.Grid.{Grid, IsGrid, sites}
 use Rattle.sand_model.specs.Sand.{tally, one_at, IsSettled, grains, topplings, lost, weight, grain_weight}
 use Rattle.sand_model.specs.Piles.{PileView, IsPile, most_grains}
-use Rattle.sand_model.proofs.Totals.{total-add, total_same}
+use Rattle.sand_model.proofs.SumsBelow.{sum_below-add, sum_below_same}
 use Rattle.sand_model.proofs.Tallies.{tally-push}
 use Rattle.sand_model.proofs.Sandpile.{laplacian_sum, weight_after, settled_in_parts, settled_same, settled_stable}
 use Rattle.sand_model.proofs.Heights.{sum_is_grains, counted}
@@ -83,17 +83,17 @@ after_start start r pile done = record {
 -- ---- a grain more
 
 one_grain : (g : Grid) (site : ℕ) → site < sites g → grains g (one_at site) ≡ 1
-one_grain g site l = total_same (sites g) (one_at site) (λ j. 1 * one_at site j) (λ j m. omega arith) ∙ topplings_at g site 1 l
+one_grain g site l = sum_below_same (sites g) (one_at site) (λ j. 1 * one_at site j) (λ j m. omega arith) ∙ topplings_at g site 1 l
 
 weight-add : (g : Grid) (a b : ℕ → ℕ) → weight g (λ j. a j + b j) ≡ weight g a + weight g b
 weight-add g a b =
-    total_same (sites g) (λ i. (a i + b i) * grain_weight g i) (λ i. a i * grain_weight g i + b i * grain_weight g i) (λ i l. omega arith)
-    ∙ total-add (sites g) (λ i. a i * grain_weight g i) (λ i. b i * grain_weight g i)
+    sum_below_same (sites g) (λ i. (a i + b i) * grain_weight g i) (λ i. a i * grain_weight g i + b i * grain_weight g i) (λ i l. omega arith)
+    ∙ sum_below-add (sites g) (λ i. a i * grain_weight g i) (λ i. b i * grain_weight g i)
 
 pub grains_after : (r q : SettledView) (site : ℕ) → IsPaid r → site < sites r.pile.grid → TakesGrain r site q → sum q.pile.heights + q.lost ≡ sum r.pile.heights + r.lost + 1
 grains_after r q site paid inside taken =
     let all = laplacian_sum r.pile.grid (λ j. get_or r.pile.heights j 0 + one_at site j) (topplings_between r q) (λ j. get_or q.pile.heights j 0) taken.settled.toppled in
-    let both = total-add (sites r.pile.grid) (λ j. get_or r.pile.heights j 0) (one_at site) in
+    let both = sum_below-add (sites r.pile.grid) (λ j. get_or r.pile.heights j 0) (one_at site) in
     let one = one_grain r.pile.grid site inside in
     let first = sum_is_grains r.pile.grid r.pile.heights paid.heights_each in
     let last = sum_is_grains r.pile.grid q.pile.heights taken.heights_each in
@@ -102,8 +102,8 @@ grains_after r q site paid inside taken =
 
 topplings_after : (r q : SettledView) (site : ℕ) → IsPaid r → TakesGrain r site q → q.topplings ≡ topplings r.pile.grid (λ j. get_or q.odometer j 0)
 topplings_after r q site paid taken =
-    let same = total_same (sites r.pile.grid) (λ j. get_or q.odometer j 0) (λ j. get_or r.odometer j 0 + topplings_between r q j) (λ j l. let rises = taken.never_falls j in omega arith) in
-    let both = total-add (sites r.pile.grid) (λ j. get_or r.odometer j 0) (topplings_between r q) in
+    let same = sum_below_same (sites r.pile.grid) (λ j. get_or q.odometer j 0) (λ j. get_or r.odometer j 0 + topplings_between r q j) (λ j l. let rises = taken.never_falls j in omega arith) in
+    let both = sum_below-add (sites r.pile.grid) (λ j. get_or r.odometer j 0) (topplings_between r q) in
     let before = paid.all_topplings in
     let more = taken.more_topplings in
     omega arith
@@ -148,8 +148,8 @@ record_after g s history site r q before taken =
           (λ i l. let e = tally-push history site i in omega arith) (λ i l. sym (counts i)) (λ i l. refl)
           (settled_in_parts g (λ j. s j + tally history j) (one_at site) (λ j. get_or r.odometer j 0) (λ j. get_or r.pile.heights j 0) (topplings_between r q) (λ j. get_or q.pile.heights j 0) before.settled here);
       all_topplings =
-          let same = total_same (sites g) (λ j. get_or q.odometer j 0) (λ j. get_or r.odometer j 0 + topplings_between r q j) (λ j l. counts j) in
-          let both = total-add (sites g) (λ j. get_or r.odometer j 0) (topplings_between r q) in
+          let same = sum_below_same (sites g) (λ j. get_or q.odometer j 0) (λ j. get_or r.odometer j 0 + topplings_between r q j) (λ j l. counts j) in
+          let both = sum_below-add (sites g) (λ j. get_or r.odometer j 0) (topplings_between r q) in
           let old = before.all_topplings in
           let more = taken.more_topplings ∙ ap (λ h. r.topplings + topplings h (topplings_between r q)) before.grid in
           omega arith;
@@ -261,7 +261,7 @@ pours r site g h k old new a paid inside room grids list same heights counts ris
 pub poured_sum : (r : SettledView) (site : ℕ) (k new : List ℕ) (a : Avalanche) → Pours r site k new a → sum k + a.lost ≡ sum r.pile.heights + 1
 poured_sum r site k new a all =
     let falls = laplacian_sum r.pile.grid (λ j. get_or r.pile.heights j 0 + one_at site j) (λ j. get_or new j 0 - get_or r.odometer j 0) (λ j. get_or k j 0) all.settled.toppled in
-    let both = total-add (sites r.pile.grid) (λ j. get_or r.pile.heights j 0) (one_at site) in
+    let both = sum_below-add (sites r.pile.grid) (λ j. get_or r.pile.heights j 0) (one_at site) in
     let one = one_grain r.pile.grid site all.inside in
     let first = sum_is_grains r.pile.grid r.pile.heights all.paid.heights_each in
     let last = sum_is_grains r.pile.grid k all.heights_each in
@@ -270,7 +270,7 @@ poured_sum r site k new a all =
 
 pub poured_size : (r : SettledView) (site : ℕ) (k new : List ℕ) (a : Avalanche) → Pours r site k new a → r.topplings + a.size < 2 ^ 64
 poured_size r site k new a all =
-    let both = total-add (sites r.pile.grid) (λ j. get_or r.pile.heights j 0) (one_at site) in
+    let both = sum_below-add (sites r.pile.grid) (λ j. get_or r.pile.heights j 0) (one_at site) in
     let one = one_grain r.pile.grid site all.inside in
     let first = sum_is_grains r.pile.grid r.pile.heights all.paid.heights_each in
     let room = all.room in

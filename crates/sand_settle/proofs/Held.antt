@@ -6,13 +6,13 @@ use Rattle.std.proofs.lemmas.List.{get_or-set_other, take-append-drop, take_more
 use Rattle.sand_model.specs.Grid.{Grid, sites}
 use Rattle.sand_model.specs.Sand.{one_at, tally, flow, IsToppled, topplings}
 use Rattle.sand_model.specs.Lists.{Lists, one_if}
-use Rattle.sand_model.proofs.Totals.{total_same, total_le, total-add, total-ones, total-one_at, one_at_same, one_at_other}
+use Rattle.sand_model.proofs.SumsBelow.{sum_below_same, sum_below_le, sum_below-add, sum_below-ones, sum_below-one_at, one_at_same, one_at_other}
 use Rattle.sand_model.proofs.Tallies.{tally-append, tally-cons, tally-push}
 use Rattle.sand_model.proofs.Flow.{flow_le, flow_same, flow-add}
 use Rattle.sand_model.proofs.Sandpile.{flow_ones}
 use Rattle.sand_model.proofs.Heights.{get_or-written}
 use Rattle.sand_model.proofs.Lists.{length-listing, lists_from, listed, lists_of, at_most_once, at_most_one}
-use Rattle.sand_settle.specs.Lists.{may_topple}
+use Rattle.sand_settle.specs.SiteLists.{may_topple}
 use Rattle.sand_settle.proofs.Queue.{turn_of, turn_inside, turn_high, leaves, front_is_high}
 use Rattle.sand_settle.specs.Underway.{Advances}
 use Rattle.sand_settle.proofs.Joined.{spread_from}
@@ -67,8 +67,8 @@ wave_few g site h k list v turn inside wave =
     let within = wave.within in
     let front = length-append (site ∷ []) (drop turn list) in
     let turns = wave.turns in
-    let both = total-add (sites g) v (λ j. one_if (leb 4 (get_or k j 0))) in
-    let bound = total_le (sites g) (λ j. v j + one_if (leb 4 (get_or k j 0))) (λ j. 1 + 1 * one_at site j)
+    let both = sum_below-add (sites g) v (λ j. one_if (leb 4 (get_or k j 0))) in
+    let bound = sum_below_le (sites g) (λ j. v j + one_if (leb 4 (get_or k j 0))) (λ j. 1 + 1 * one_at site j)
     (λ j l.
     let o = wave.once j l in
     ⊎_elim
@@ -79,9 +79,9 @@ wave_few g site h k list v turn inside wave =
     let low = toppled_low g site h k list v turn j wave l (λ e. ne (sym e)) in
     ⊎_elim (λ (less : get_or k j 0 < 4). rw (lt-leb 4 (get_or k j 0) less) (omega arith)) (λ (more : 4 ≤ get_or k j 0). rw (le-leb 4 (get_or k j 0) more) (omega arith)) (cases_lt (get_or k j 0) 4))
     (cases_eq site j)) in
-    let ones = total-add (sites g) (λ j. 1) (λ j. 1 * one_at site j) in
-    let all = total-ones (sites g) in
-    let one = total-one_at (sites g) site (λ j. 1) inside in
+    let ones = sum_below-add (sites g) (λ j. 1) (λ j. 1 * one_at site j) in
+    let all = sum_below-ones (sites g) in
+    let one = sum_below-one_at (sites g) site (λ j. 1) inside in
     omega arith
 
 -- a list has a site as often as any part of it, or more often
@@ -111,7 +111,7 @@ wave_begins g site h k list v inside some low counts gives waiting = record {
       let gets = gives j l in
       let same = flow_same g v (one_at site) (λ m lm. counts m) j l in
       omega arith;
-  turns = total_same (sites g) v (λ j. 1 * one_at site j) (λ j l. let e = counts j in omega arith) ∙ total-one_at (sites g) site (λ j. 1) inside;
+  turns = sum_below_same (sites g) v (λ j. 1 * one_at site j) (λ j l. let e = counts j in omega arith) ∙ sum_below-one_at (sites g) site (λ j. 1) inside;
   waiting = waiting;
 }
 

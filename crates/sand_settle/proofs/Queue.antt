@@ -5,7 +5,7 @@ use Rattle.std.proofs.lemmas.Bool.{cases_eq, cases_lt, lt-leb, le-leb, lt-ltb, l
 use Rattle.std.proofs.lemmas.List.{get_or-set_same, get_or-set_other, drop_more}
 use Rattle.sand_model.specs.Lists.{Lists}
 use Rattle.sand_model.proofs.Lists.{lists_length, lists_same, lists_push, lists_pop, lists_of, front_below, front_passes, none_passes}
-use Rattle.sand_settle.specs.Lists.{may_topple, has_toppled}
+use Rattle.sand_settle.specs.SiteLists.{may_topple, has_toppled}
 
 others_kept : (test : ℕ → Bool) (h : List ℕ) (i v j : ℕ) → j ≢ i → test (get_or h j 0) ≡ test (get_or (set h i v) j 0)
 others_kept test h i v j ne = ap test (sym (get_or-set_other h i j v 0 ne))

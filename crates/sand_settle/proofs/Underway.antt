@@ -3,16 +3,16 @@ use Rattle.std.proofs.Common.{ℕ, ◌≡◌, ◌≢◌, ◌+◌, ◌*◌, ◌^�
 use Rattle.std.proofs.lemmas.Bool.{cases_eq}
 use Rattle.sand_model.specs.Grid.{Grid, IsGrid, sites}
 use Rattle.sand_model.specs.Sand.{one_at, IsToppled, IsSettled, topplings, weight}
-use Rattle.sand_model.proofs.Totals.{total_same, total-add, total-zero, total-one_at}
+use Rattle.sand_model.proofs.SumsBelow.{sum_below_same, sum_below-add, sum_below-zero, sum_below-one_at}
 use Rattle.sand_model.proofs.Sandpile.{weight_after, laplacian_sum}
 use Rattle.sand_model.proofs.Heights.{sum_is_grains}
-use Rattle.sand_model.proofs.Bounds.{weight_bound, at_most_total}
+use Rattle.sand_model.proofs.Bounds.{weight_bound, at_most_sum_below}
 use Rattle.sand_model.proofs.Underway.{underway_start, underway_step, underway_end}
 use Rattle.sand_settle.specs.Underway.{Advances}
 use Rattle.sand_model.specs.Piles.{most_grains}
 
 pub topplings_at : (g : Grid) (i k : ℕ) → i < sites g → topplings g (λ j. k * one_at i j) ≡ k
-topplings_at g i k l = total-one_at (sites g) i (λ j. k) l
+topplings_at g i k l = sum_below-one_at (sites g) i (λ j. k) l
 
 -- what k topplings of one site leave of the weight
 pub weight_step : (g : Grid) (i k : ℕ) (t r : ℕ → ℕ) → i < sites g → IsToppled g t (λ j. k * one_at i j) r → weight g r + 2 * k ≤ weight g t
@@ -32,8 +32,8 @@ advance_more g u t v r w q first second = record {
 
 pub topplings_more : (g : Grid) (v w : ℕ → ℕ) (i k : ℕ) → i < sites g → ((j : ℕ) → j < sites g → w j ≡ v j + k * one_at i j) → topplings g w ≡ topplings g v + k
 topplings_more g v w i k l counts =
-    let same = total_same (sites g) w (λ j. v j + k * one_at i j) counts in
-    let both = total-add (sites g) v (λ j. k * one_at i j) in
+    let same = sum_below_same (sites g) w (λ j. v j + k * one_at i j) counts in
+    let both = sum_below-add (sites g) v (λ j. k * one_at i j) in
     let here = topplings_at g i k l in
     omega arith
 
@@ -51,7 +51,7 @@ turn_counts g v w i k l counts some = let count = topplings_more g v w i k l cou
 -- what has been counted stays small, and so do the grains
 pub counts_small : (g : Grid) (u t v r : ℕ → ℕ) (i : ℕ) → Advances g u t v r → 2 * topplings g u + weight g t < 2 ^ 55 → i < sites g → v i < 2 ^ 54
 counts_small g u t v r i advances few l =
-    let part = at_most_total (sites g) v i l in
+    let part = at_most_sum_below (sites g) v i l in
     let pays = advances.weight_pays in
     omega arith
 
@@ -67,8 +67,8 @@ pub few_at_first : (g : Grid) (u : ℕ → ℕ) (h : List ℕ) → IsGrid g → 
 few_at_first g u h sides each limit none =
     let heavy = weight_bound g (λ j. get_or h j 0) sides in
     let grains_are = sum_is_grains g h each in
-    let zeros = total_same (sites g) u (λ j. 0) (λ j l. none j) in
-    let nothing = total-zero (sites g) in
+    let zeros = sum_below_same (sites g) u (λ j. 0) (λ j l. none j) in
+    let nothing = sum_below-zero (sites g) in
     omega arith
 
 -- ---- at the end

@@ -2,14 +2,14 @@
 -- Source: chip-firing (size, area, lost); the reach is this project's own.
 use Rattle.std.specs.Prelude.{ℕ, ◌≡◌, ◌<◌, ◌≤◌}
 use Rattle.sand_model.specs.Grid.{Grid, sites, distance}
-use Rattle.sand_model.specs.Sand.{total, topplings, lost}
+use Rattle.sand_model.specs.Sand.{sum_below, topplings, lost}
 use Rattle.sand_model.specs.Lists.{one_if}
-use Rattle.sand_settle.specs.Lists.{has_toppled}
+use Rattle.sand_settle.specs.SiteLists.{has_toppled}
 use Rattle.sand_settle.specs.declared.avalanche.Avalanche.{Avalanche}
 
 -- how many sites topple
 abbrev pub area_of : Grid → (ℕ → ℕ) → ℕ
-area_of g v = total (sites g) (λ j. one_if (has_toppled v j))
+area_of g v = sum_below (sites g) (λ j. one_if (has_toppled v j))
 
 -- d is the distance from a site to a site that topples
 abbrev pub IsReached : Grid → ℕ → (ℕ → ℕ) → ℕ → Type 0

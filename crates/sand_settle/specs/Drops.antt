@@ -13,8 +13,8 @@ pub record OneView : Type 0 where
   pub grains : ℕ
 
 -- the grid of the pile
-abbrev pub grid_of_one : OneView → Grid
-grid_of_one v = v.settled.pile.grid
+abbrev pub grid_of_one_pile : OneView → Grid
+grid_of_one_pile v = v.settled.pile.grid
 
 -- v is what this start and these drops lead to: the settled record of the start and the tally of the drops
 pub record IsAfter (start : PileView) (history : List ℕ) (v : OneView) : Type 0 where
@@ -41,7 +41,7 @@ pub record TakesGrain (r : SettledView) (site : ℕ) (q : SettledView) : Type 0 
 
 -- a drop at a site leads from v to w
 pub record Drops (v : OneView) (site : ℕ) (w : OneView) : Type 0 where
-  pub inside : site < sites (grid_of_one v)
+  pub inside : site < sites (grid_of_one_pile v)
   pub room : v.grains < most_grains
   pub settled : TakesGrain v.settled site w.settled
   pub number : w.number ≡ v.number + 1

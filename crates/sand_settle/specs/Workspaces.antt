@@ -1,7 +1,7 @@
 -- The room in which sand settles, before a settling and after a drop.
 use Rattle.std.specs.Prelude.{ℕ, ◌≡◌, ◌+◌, ◌≤◌, List, length, slice_index}
 use Rattle.sand_model.specs.Grid.{Grid, IsGrid, sites}
-use Rattle.sand_settle.specs.Lists.{ListView}
+use Rattle.sand_settle.specs.SiteLists.{ListView}
 
 -- a count of 0 for each site, and lists with room for all sites and some more
 pub record IsIdle (g : Grid) (counts : List ℕ) (wave spare : ListView) : Type 0 where

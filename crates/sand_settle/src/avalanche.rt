@@ -8,7 +8,7 @@ ghost use Rattle.std.specs.Prelude.{◌≡◌, ℕ, ◌+◌, ◌^◌, ◌<◌, l
 ghost use Rattle.sand_model.specs.Grid.{sites};
 ghost use Rattle.sand_model.specs.Sand.{topplings, lost};
 ghost use Rattle.sand_model.specs.Lists.{Lists};
-ghost use Rattle.sand_settle.specs.Lists.{has_toppled};
+ghost use Rattle.sand_settle.specs.SiteLists.{has_toppled};
 ghost use Rattle.sand_settle.specs.Avalanches.{IsAvalanche};
 
 use crate::site_list::SiteList;

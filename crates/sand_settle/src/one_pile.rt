@@ -12,7 +12,7 @@ ghost use Rattle.sand_model.specs.Grid.{sites};
 ghost use Rattle.sand_model.specs.Piles.{PileView, IsPile, height_of, most_grains};
 ghost use Rattle.sand_settle.specs.Settling.{odometer_of};
 ghost use Rattle.sand_settle.specs.Avalanches.{IsAvalanche};
-ghost use Rattle.sand_settle.specs.Drops.{grid_of_one, topplings_between, IsAfter, Drops, TakesGrain, IsPaid};
+ghost use Rattle.sand_settle.specs.Drops.{grid_of_one_pile, topplings_between, IsAfter, Drops, TakesGrain, IsPaid};
 
 use crate::avalanche::Avalanche;
 use crate::faults::OneFault;
@@ -111,9 +111,9 @@ impl OnePile {
     /// avalanche. Fails if the start and all drops have as many grains as the limit (Full), then if an allocation fails
     /// (Memory), and then changes nothing. After the first drop no other fails with Memory.
     pub fn drop_at(&mut self, alloc: Global, site: usize) -> Result<(u64, Avalanche), OneFault>
-        requires { site < sites (grid_of_one self.old) }
+        requires { site < sites (grid_of_one_pile self.old) }
         ensures number { IfOk result (λ r. r.0 ≡ self.old.number) }
-        ensures avalanche { IfOk result (λ r. IsAvalanche (grid_of_one self.old) site (topplings_between self.old.settled self.new.settled) r.1) }
+        ensures avalanche { IfOk result (λ r. IsAvalanche (grid_of_one_pile self.old) site (topplings_between self.old.settled self.new.settled) r.1) }
 
         // From the record before, and from whatever start and drops lead to it.
         ensures drops { OnOk result (Drops self.old site self.new) }
@@ -169,7 +169,7 @@ impl OnePile {
     }
 
     pub fn height(&self, site: usize) -> u64
-        requires { site < sites (grid_of_one self.now) }
+        requires { site < sites (grid_of_one_pile self.now) }
         ensures { result ≡ height_of self.now.settled.pile site }
     {
         self.pile().height(site)
@@ -177,7 +177,7 @@ impl OnePile {
 
     /// How often a site toppled since the start, its settling included.
     pub fn odometer(&self, site: usize) -> u64
-        requires { site < sites (grid_of_one self.now) }
+        requires { site < sites (grid_of_one_pile self.now) }
         ensures { result ≡ odometer_of self.now.settled site }
     {
         self.settled().odometer(site)
@@ -186,7 +186,7 @@ impl OnePile {
     /// How often each site toppled since the start, its settling included, by site.
     pub fn odometers(&self) -> &[u64]
         ensures value { result.now ≡ self.now.settled.odometer }
-        ensures one_each { length self.now.settled.odometer ≡ sites (grid_of_one self.now) }
+        ensures one_each { length self.now.settled.odometer ≡ sites (grid_of_one_pile self.now) }
     {
         self.settled().odometers()
     }

@@ -15,7 +15,7 @@ ghost use Rattle.sand_model.specs.Grid.{sites};
 ghost use Rattle.sand_model.specs.Sand.{IsSettled, topplings, weight};
 ghost use Rattle.sand_model.specs.Piles.{height_of, most_grains};
 ghost use Rattle.sand_settle.specs.Settling.{IsRecord};
-ghost use Rattle.sand_settle.specs.Lists.{ListsUnstable};
+ghost use Rattle.sand_settle.specs.SiteLists.{ListsUnstable};
 ghost use Rattle.sand_settle.specs.Rests.{IsSettledRest};
 ghost use Rattle.sand_settle.specs.Underway.{Advances};
 

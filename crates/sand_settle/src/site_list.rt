@@ -14,7 +14,7 @@ pub(crate) struct SiteList {
 
 impl Model for SiteList {
     ghost use Rattle.std.specs.Prelude.{◌≤◌, length, take};
-    ghost use Rattle.sand_settle.specs.Lists.{ListView};
+    ghost use Rattle.sand_settle.specs.SiteLists.{ListView};
 
     ghost Value = { ListView };
 

@@ -3,7 +3,7 @@
 ghost use Rattle.std.specs.Prelude.{◌≡◌, ℕ, ◌+◌, ◌*◌, ◌^◌, ◌<◌, ◌≤◌, length, sum, slice_index, slice_index_or, None, IfSome};
 ghost use Rattle.sand_model.specs.Grid.{Grid, IsGrid, sites, places};
 ghost use Rattle.sand_model.specs.Sand.{one_at, value_at};
-ghost use Rattle.sand_settle.specs.Lists.{Joins};
+ghost use Rattle.sand_settle.specs.SiteLists.{Joins};
 ghost use Rattle.sand_settle.specs.Underway.{NeighboursGain};
 
 use crate::site_list::SiteList;

@@ -24,7 +24,7 @@ ghost use Rattle.sand_model.specs.Sand.{IsSettled, tally, topplings};
 ghost use Rattle.sand_model.specs.Lists.{Lists};
 ghost use Rattle.sand_model.specs.Piles.{most_grains};
 ghost use Rattle.sand_settle.specs.Avalanches.{IsAvalanche};
-ghost use Rattle.sand_settle.specs.Lists.{grown, has_toppled};
+ghost use Rattle.sand_settle.specs.SiteLists.{grown, has_toppled};
 ghost use Rattle.sand_settle.specs.Underway.{TopplesListed};
 
 use crate::avalanche::{Avalanche, calm, collect};

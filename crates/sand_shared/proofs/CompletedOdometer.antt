@@ -4,17 +4,17 @@ use Rattle.std.specs.Prelude.{slice_index}
 use Rattle.std.proofs.lemmas.Bool.{cases_eq}
 use Rattle.atomic_table.specs.declared.shared.Seat.{Seat}
 use Rattle.sand_model.specs.Grid.{Grid, sites}
-use Rattle.sand_model.specs.Sand.{IsSettled, IsUnderway, IsToppled, flow, total, grains, tally}
+use Rattle.sand_model.specs.Sand.{IsSettled, IsUnderway, IsToppled, flow, sum_below, grains, tally}
 use Rattle.sand_model.specs.Piles.{PileView, height_of, most_grains}
-use Rattle.sand_model.proofs.Totals.{total_same, total-add}
-use Rattle.sand_model.proofs.Tallies.{total-tally}
+use Rattle.sand_model.proofs.SumsBelow.{sum_below_same, sum_below-add}
+use Rattle.sand_model.proofs.Tallies.{sum_below-tally}
 use Rattle.sand_model.proofs.Heights.{sum_is_grains}
 use Rattle.sand_model.proofs.Bounds.{topplings_bound}
 use Rattle.sand_model.proofs.Sandpile.{laplacian_sum, settles_after, settled_same}
 use Rattle.sand_settle.specs.Settling.{SettledView, IsRecord, odometer_of}
 use Rattle.sand_shared.specs.declared.view.View.{View}
 use Rattle.sand_shared.specs.declared.view.Terms.{Terms}
-use Rattle.sand_shared.specs.OpenPile.{grid_of, dropped, poured, toppled_by}
+use Rattle.sand_shared.specs.OpenPile.{grid_of_terms, dropped, poured, toppled_by}
 use Rattle.sand_shared.specs.Events.{look}
 use Rattle.sand_shared.specs.Passes.{PassView, SharedView, at_rest, IsPass, IsPassOf, IsWhole}
 use Rattle.sand_shared.specs.Rows.{count_of}
@@ -28,16 +28,16 @@ use Rattle.sand_shared.proofs.PassKnowsPile.{its_drops, stands_sparing, looked_a
 use Rattle.sand_shared.proofs.RecordSums.{LeadsTo}
 use Rattle.sand_shared.proofs.WholeHasAll.{whole_base, whole_counts, swept_has_all}
 
-total_above : (n : ℕ) (f : ℕ → ℕ) (i : ℕ) → i < n → f i ≤ total n f
-unfolding total
-total_above zero f i l = absurd (omega arith)
-total_above (suc n) f i l = ⊎_elim
+sum_below_above : (n : ℕ) (f : ℕ → ℕ) (i : ℕ) → i < n → f i ≤ sum_below n f
+unfolding sum_below
+sum_below_above zero f i l = absurd (omega arith)
+sum_below_above (suc n) f i l = ⊎_elim
     (λ (e : i ≡ n). let x = ap f e in omega arith)
-    (λ (ne : i ≡ n → ⊥). let r = total_above n f i (omega arith) in omega arith)
+    (λ (ne : i ≡ n → ⊥). let r = sum_below_above n f i (omega arith) in omega arith)
     (cases_eq i n)
 
 -- a look by a pass that has all tells what is left there
-pub looked_exactly : (t : Terms) (a i : ℕ) (v w : View) (n : ℕ) → Happened t (look a i) v n w → v.hand ≡ [] → HasAll t v → n + 4 * toppled_by v i ≡ laid t v i + flow (grid_of t) (toppled_by v) i
+pub looked_exactly : (t : Terms) (a i : ℕ) (v w : View) (n : ℕ) → Happened t (look a i) v n w → v.hand ≡ [] → HasAll t v → n + 4 * toppled_by v i ≡ laid t v i + flow (grid_of_terms t) (toppled_by v) i
 looked_exactly t a i v w n h free all =
     let most = looked_at_most t a i v w n h free in
     let least = looked_at_least t a i v w n h free all in omega arith
@@ -46,24 +46,24 @@ module _ (t : Terms) (a : ℕ) (v : View) (s : Stands t a v) (all : HasAll t v) 
   pub its_all : (i : ℕ) → tally s.pile.drawn i ≡ dropped v.receipts i
   its_all i = its_drops t s.pile s.lawful a s.there (has_all t a v s all) i ∙ ap (λ (u : View). dropped u.receipts i) s.pass
 
-  pub laid_few : grains (grid_of t) (laid t v) ≤ most_grains
+  pub laid_few : grains (grid_of_terms t) (laid t v) ≤ most_grains
   laid_few =
-      let g = grid_of t in
+      let g = grid_of_terms t in
       let p = s.pile in
-      let same = total_same (sites g) (laid t v) (poured t p) (λ i _. let d = its_all i in omega arith) in
-      let parts = total-add (sites g) (height_of t.start) (tally p.drawn) in
+      let same = sum_below_same (sites g) (laid t v) (poured t p) (λ i _. let d = its_all i in omega arith) in
+      let parts = sum_below-add (sites g) (height_of t.start) (tally p.drawn) in
       let start = sum_is_grains g t.start.heights s.terms.pile.one_each in
-      let drops = total-tally (sites g) p.drawn s.lawful.all_sites in
+      let drops = sum_below-tally (sites g) p.drawn s.lawful.all_sites in
       let quota = s.lawful.quota in
       let limit = s.terms.limit in omega arith
 
-  pub left_few : (u : ℕ → ℕ) (heights : List ℕ) → length heights ≡ sites (grid_of t) → IsToppled (grid_of t) (laid t v) u (slice_index heights) → sum heights ≤ most_grains
+  pub left_few : (u : ℕ → ℕ) (heights : List ℕ) → length heights ≡ sites (grid_of_terms t) → IsToppled (grid_of_terms t) (laid t v) u (slice_index heights) → sum heights ≤ most_grains
   left_few u heights long toppled =
       let few = laid_few in
-      let out = laplacian_sum (grid_of t) (laid t v) u (slice_index heights) toppled in
-      let all_of = sum_is_grains (grid_of t) heights long in omega arith
+      let out = laplacian_sum (grid_of_terms t) (laid t v) u (slice_index heights) toppled in
+      let all_of = sum_is_grains (grid_of_terms t) heights long in omega arith
 
-  pub is_underway : v.base + length v.counts ≤ sites (grid_of t) → (h : ℕ → ℕ) → IsToppled (grid_of t) (laid t v) (toppled_by v) h → IsUnderway (grid_of t) (laid t v) (toppled_by v) h
+  pub is_underway : v.base + length v.counts ≤ sites (grid_of_terms t) → (h : ℕ → ℕ) → IsToppled (grid_of_terms t) (laid t v) (toppled_by v) h → IsUnderway (grid_of_terms t) (laid t v) (toppled_by v) h
   is_underway fits h toppled = record { toppled = toppled; bounded = (stands_sparing t a v s all fits).needed }
 
 -- a pass that has gathered all stands, and the rest of its pile is settled
@@ -98,19 +98,19 @@ module _ {t : Terms} {p : PassView} {r : SettledView} {a : ℕ} {v : View} (b : 
   unfolding resting
   completed_seen = seen_is t a resting stands_resting all_resting b.all.below
 
-  pub completed_small : (i : ℕ) → i < sites (grid_of t) → slice_index p.counts i + odometer_of r i < 2 ^ 54
+  pub completed_small : (i : ℕ) → i < sites (grid_of_terms t) → slice_index p.counts i + odometer_of r i < 2 ^ 54
   unfolding resting
   completed_small i l =
-      let g = grid_of t in
+      let g = grid_of_terms t in
       let few = laid_few t a resting stands_resting all_resting in
       let bound = topplings_bound g (laid t (at_rest p)) (λ j. slice_index p.counts j + odometer_of r j) (height_of r.pile) stands_resting.terms.pile.grid few b.rest.settled.toppled in
-      let le = total_above (sites g) (λ j. slice_index p.counts j + odometer_of r j) i l in omega arith
+      let le = sum_below_above (sites g) (λ j. slice_index p.counts j + odometer_of r j) i l in omega arith
 
   pub completed_leads : (history sums heights odometers : List ℕ) → length history ≡ length p.receipts → Tells p.receipts history → heights ≡ r.pile.heights → odometers ≡ r.odometer → length sums ≡ length p.counts
       → ((i : ℕ) → i < length odometers → slice_index sums i ≡ slice_index p.counts i + slice_index odometers i) → LeadsTo t.start history heights sums
   unfolding resting
   completed_leads history sums heights odometers long told heights_are odometers_are each added =
-      let g = grid_of t in
+      let g = grid_of_terms t in
       let s = stands_resting in
       let drawn = drawn_is t a resting s all_resting history long told in
       let same = ap (λ (l : List ℕ). length l) drawn in
@@ -131,17 +131,17 @@ module _ {t : Terms} {p : PassView} {r : SettledView} {a : ℕ} {v : View} (b : 
       }
 
 -- a whole pass's counts are by site
-pub left_underway : (t : Terms) (p : PassView) → p.grid ≡ grid_of t → length p.counts ≡ count_of p.rows * p.grid.width → IsWhole t p → (h : ℕ → ℕ)
-    → IsUnderway (grid_of t) (laid t (at_rest p)) (toppled_by (at_rest p)) h → IsUnderway (grid_of t) (laid t (at_rest p)) (slice_index p.counts) h
+pub left_underway : (t : Terms) (p : PassView) → p.grid ≡ grid_of_terms t → length p.counts ≡ count_of p.rows * p.grid.width → IsWhole t p → (h : ℕ → ℕ)
+    → IsUnderway (grid_of_terms t) (laid t (at_rest p)) (toppled_by (at_rest p)) h → IsUnderway (grid_of_terms t) (laid t (at_rest p)) (slice_index p.counts) h
 left_underway t p same each whole h =
     let base = whole_base t p same each whole in
     let is : (i : ℕ) → toppled_by (at_rest p) i ≡ slice_index p.counts i = λ i. toppled_from (at_rest p) i (omega arith) ∙ ap (slice_index p.counts) {x = i - (at_rest p).base} {y = i} (omega arith) in
-    subst (λ (f : ℕ → ℕ). IsUnderway (grid_of t) (laid t (at_rest p)) f h) (λ k i. is i k)
+    subst (λ (f : ℕ → ℕ). IsUnderway (grid_of_terms t) (laid t (at_rest p)) f h) (λ k i. is i k)
 
-pub rest_of : (t : Terms) (p : PassView) (q : PileView) (r : SettledView) → q.grid ≡ grid_of t → IsUnderway (grid_of t) (laid t (at_rest p)) (slice_index p.counts) (height_of q) → IsRecord q.grid (height_of q) r → IsRestOf t p r
+pub rest_of : (t : Terms) (p : PassView) (q : PileView) (r : SettledView) → q.grid ≡ grid_of_terms t → IsUnderway (grid_of_terms t) (laid t (at_rest p)) (slice_index p.counts) (height_of q) → IsRecord q.grid (height_of q) r → IsRestOf t p r
 rest_of t p q r same under settled = record {
   grid = settled.grid ∙ same;
   heights_each = settled.heights_each ∙ ap sites same;
   odometer_each = settled.odometer_each ∙ ap sites same;
-  settled = settles_after (grid_of t) (laid t (at_rest p)) (slice_index p.counts) (height_of q) (odometer_of r) (height_of r.pile) under (subst (λ (g : Grid). IsSettled g (height_of q) (odometer_of r) (height_of r.pile)) same settled.settled);
+  settled = settles_after (grid_of_terms t) (laid t (at_rest p)) (slice_index p.counts) (height_of q) (odometer_of r) (height_of r.pile) under (subst (λ (g : Grid). IsSettled g (height_of q) (odometer_of r) (height_of r.pile)) same settled.settled);
 }

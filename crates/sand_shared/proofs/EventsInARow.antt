@@ -7,7 +7,7 @@ use Rattle.sand_model.specs.Grid.{sites}
 use Rattle.sand_shared.specs.declared.view.View.{View}
 use Rattle.sand_shared.specs.declared.view.Receipt.{Receipt}
 use Rattle.sand_shared.specs.declared.view.Terms.{Terms}
-use Rattle.sand_shared.specs.OpenPile.{OpenPile, nobody, grid_of, pass_at, AreTerms, IsLawful}
+use Rattle.sand_shared.specs.OpenPile.{OpenPile, nobody, grid_of_terms, pass_at, AreTerms, IsLawful}
 use Rattle.sand_shared.specs.Events.{Event, begin, draw, place, receipt, grains, are_for, drew, drew_all, laid_down, receipts_from, one_for_each, all_draws, all_places, unopened, May, after, AllHappen, after_all}
 use Rattle.sand_shared.specs.Running.{Shows, IsRunning, found, found_first, HappenedInARow, TakesInARow}
 use Rattle.sand_shared.specs.Passes.{EachOnce, AllBelow}
@@ -61,7 +61,7 @@ stepped_twice : (s : State ℕ View) (word x y a : ℕ) (v w : View) → stepped
 stepped_twice s word x y a v w = λ q. record { words = set-set s.words word x y q; homes = s.homes; views = set-set s.views a v w q }
 
 -- together they add as many as they are
-shows_row : (t : Terms) (word a : ℕ) (e : Event) (es : List Event) (p : OpenPile) (s : State ℕ View) → word < sites (grid_of t) + 2 → AddsOne t word a e → AllAddOne t word a es
+shows_row : (t : Terms) (word a : ℕ) (e : Event) (es : List Event) (p : OpenPile) (s : State ℕ View) → word < sites (grid_of_terms t) + 2 → AddsOne t word a e → AllAddOne t word a es
     → AreTerms t → IsLawful t p → AllHappen t p (e ∷ es) → Shows t p s
     → Shows t (after_all t p (e ∷ es)) (stepped_to s word ((slice_index s.words word + suc (length es)) % 2 ^ 64) a (pass_at (after_all t p (e ∷ es)) a))
 shows_row t word a e [] p s fits one ones terms r may h = (one p s terms r may.0 h).1
@@ -80,7 +80,7 @@ shows_row t word a e (f ∷ es) p s fits one ones terms r may h =
     subst (Shows t (after_all t q (f ∷ es))) (ap (λ z. stepped_to s' word z a w) sum ∙ stepped_twice s word x ((n + suc (suc (length es))) % 2 ^ 64) a v w) rest
 
 -- a step may be taken if its events may happen, whatever else has happened
-takes_row : (t : Terms) (a word k : ℕ) (e : Event) (es : List Event) (slots : ℕ) (m : Me ℕ View) → word < sites (grid_of t) + 2 → AddsOne t word a e → AllAddOne t word a es → suc (length es) ≡ k
+takes_row : (t : Terms) (a word k : ℕ) (e : Event) (es : List Event) (slots : ℕ) (m : Me ℕ View) → word < sites (grid_of_terms t) + 2 → AddsOne t word a e → AllAddOne t word a es → suc (length es) ≡ k
     → ((p : OpenPile) → a < length p.passes → pass_at p a ≡ m.0 → AllHappen t p (e ∷ es))
     → Allows (IsRunning t) slots a m word (λ n. (n + k) % 2 ^ 64) (TakesInARow t a (e ∷ es) m)
 takes_row t a word k e es slots m fits one ones long can s h _ at inside =
@@ -148,7 +148,7 @@ module _ (t : Terms) (a : ℕ) where
   pass_after_some p (i ∷ is) there many = pass_after_first p i is there (λ q. pass_after_all q is)
 
   -- they may happen if so much is left
-  all_may : (p : OpenPile) (is : List ℕ) → a < length p.passes → length is ≤ (pass_at p a).left → All (λ i. i < sites (grid_of t)) is → AllHappen t p (all_draws a is)
+  all_may : (p : OpenPile) (is : List ℕ) → a < length p.passes → length is ≤ (pass_at p a).left → All (λ i. i < sites (grid_of_terms t)) is → AllHappen t p (all_draws a is)
   all_may p [] there left inside = tt
   all_may p (i ∷ is) there left inside =
       let here = ap (λ (v : View). v.left) (pass_after_draw p i there) in (
@@ -161,7 +161,7 @@ module _ (t : Terms) (a : ℕ) where
   draws_add_one (i ∷ is) = (λ p s terms r may h. (h.number, shows_draw t p s a i terms r may h), draws_add_one is)
 
   -- the step may be taken at any moment
-  pub draws_row : (is : List ℕ) (slots : ℕ) (m : Me ℕ View) → 0 < length is → length is ≤ m.0.left → All (λ i. i < sites (grid_of t)) is
+  pub draws_row : (is : List ℕ) (slots : ℕ) (m : Me ℕ View) → 0 < length is → length is ≤ m.0.left → All (λ i. i < sites (grid_of_terms t)) is
       → Allows (IsRunning t) slots a m 1 (λ n. (n + length is) % 2 ^ 64) (TakesInARow t a (all_draws a is) m)
   draws_row [] slots m some_drops left inside = absurd (omega arith)
   draws_row (i ∷ is) slots m some_drops left inside =
@@ -184,7 +184,7 @@ module _ (t : Terms) (a i : ℕ) where
       pass_after_places (after t p (place a i)) k (there_still p there) ∙ ap (λ (v : View). record v { hand = laid_on i k v.hand }) (pass_after_place p there)
 
   -- they may happen if so many grains are in hand for the site
-  all_laid_may : (p : OpenPile) (k : ℕ) → a < length p.passes → k ≤ count_by (are_for i 1) (pass_at p a).hand → i < sites (grid_of t) → AllHappen t p (all_places a i k)
+  all_laid_may : (p : OpenPile) (k : ℕ) → a < length p.passes → k ≤ count_by (are_for i 1) (pass_at p a).hand → i < sites (grid_of_terms t) → AllHappen t p (all_places a i k)
   all_laid_may p zero there enough inside = tt
   all_laid_may p (suc k) there enough inside =
       let less = count-without i 1 (pass_at p a).hand (omega arith) in
@@ -193,12 +193,12 @@ module _ (t : Terms) (a i : ℕ) where
         all_laid_may (after t p (place a i)) k (there_still p there) (omega arith) inside,
       )
 
-  places_add_one : i < sites (grid_of t) → (k : ℕ) → AllAddOne t (i + 2) a (all_places a i k)
+  places_add_one : i < sites (grid_of_terms t) → (k : ℕ) → AllAddOne t (i + 2) a (all_places a i k)
   places_add_one inside zero = tt
   places_add_one inside (suc k) = (λ p s terms r may h. (h.heights i inside, shows_arrived t p s a i 1 terms r may.there may.in_hand inside h), places_add_one inside k)
 
   -- the step may be taken at any moment
-  pub places_row : (k slots : ℕ) (m : Me ℕ View) → 0 < k → k ≤ count_by (are_for i 1) m.0.hand → i < sites (grid_of t)
+  pub places_row : (k slots : ℕ) (m : Me ℕ View) → 0 < k → k ≤ count_by (are_for i 1) m.0.hand → i < sites (grid_of_terms t)
       → Allows (IsRunning t) slots a m (i + 2) (λ n. (n + k) % 2 ^ 64) (TakesInARow t a (all_places a i k) m)
   places_row zero slots m some_grains in_hand inside = absurd (omega arith)
   places_row (suc k) slots m some_grains in_hand inside =

@@ -11,7 +11,7 @@ use Rattle.sand_model.proofs.Flow.{flow_same, flow-scale, flow-one_at}
 use Rattle.sand_shared.specs.declared.view.Grains.{Grains}
 use Rattle.sand_shared.specs.declared.view.View.{View}
 use Rattle.sand_shared.specs.declared.view.Terms.{Terms}
-use Rattle.sand_shared.specs.OpenPile.{grid_of, amount_at, held, holds_site, toppled_by}
+use Rattle.sand_shared.specs.OpenPile.{grid_of_terms, amount_at, held, holds_site, toppled_by}
 use Rattle.sand_shared.specs.Events.{grains, sent, unloaded}
 use Rattle.sand_shared.proofs.SumsOverPasses.{sum_by-map}
 
@@ -42,9 +42,9 @@ held-cons x xs j = sum_by-cons (λ (g : Grains). amount_at g.site g.amount j) x 
 pub held-append : (xs ys : List Grains) (j : ℕ) → held (xs ++ ys) j ≡ held xs j + held ys j
 held-append xs ys j = sum_by-append (λ (g : Grains). amount_at g.site g.amount j) xs ys
 
-pub held-sent : (t : Terms) (i k j : ℕ) → held (sent t i k) j ≡ flow (grid_of t) (λ m. amount_at m k j) i
+pub held-sent : (t : Terms) (i k j : ℕ) → held (sent t i k) j ≡ flow (grid_of_terms t) (λ m. amount_at m k j) i
 unfolding flow
-held-sent t i k j = sum_by-map (λ (g : Grains). amount_at g.site g.amount j) (λ m. grains m k) (neighbours (grid_of t) i)
+held-sent t i k j = sum_by-map (λ (g : Grains). amount_at g.site g.amount j) (λ m. grains m k) (neighbours (grid_of_terms t) i)
 
 -- a site that a pass holds has its place among the counts
 pub place_inside : (v : View) (i : ℕ) → holds_site v i ≡ true → (v.base ≤ i) × (i - v.base < length v.counts)

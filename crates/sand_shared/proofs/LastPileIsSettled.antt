@@ -12,7 +12,7 @@ use Rattle.sand_model.proofs.Flow.{flow_same}
 use Rattle.sand_shared.specs.declared.view.View.{View}
 use Rattle.sand_shared.specs.declared.view.Receipt.{Receipt}
 use Rattle.sand_shared.specs.declared.view.Terms.{Terms}
-use Rattle.sand_shared.specs.OpenPile.{nobody, grid_of, numbered, dropped, toppled_by, toppled, poured, pass_at}
+use Rattle.sand_shared.specs.OpenPile.{nobody, grid_of_terms, numbered, dropped, toppled_by, toppled, poured, pass_at}
 use Rattle.sand_shared.specs.Passes.{PassView, SharedView, AllBelow, IsPass, IsPassOf, IsWhole, at_rest}
 use Rattle.sand_shared.specs.Events.{looked}
 use Rattle.sand_shared.specs.Rows.{count_of}
@@ -58,7 +58,7 @@ module _ (t : Terms) (a : ℕ) (v : View) (s : Stands t a v) (all : HasAll t v) 
       let each = every in omega arith
 
   module _ (base : v.base ≡ 0) where
-    pub toppled_is : (i : ℕ) → i < sites (grid_of t) → toppled s.pile i ≡ slice_index v.counts i
+    pub toppled_is : (i : ℕ) → i < sites (grid_of_terms t) → toppled s.pile i ≡ slice_index v.counts i
     toppled_is i l =
         its_topplings t s.pile s.lawful a s.there has_all i l ∙ ap (λ (u : View). toppled_by u i) s.pass
         ∙ toppled_from v i (omega arith) ∙ ap (slice_index v.counts) {x = i - v.base} {y = i} (omega arith)
@@ -66,9 +66,9 @@ module _ (t : Terms) (a : ℕ) (v : View) (s : Stands t a v) (all : HasAll t v) 
 module _ (t : Terms) (a : ℕ) (v : View) (heights : List ℕ) (last : IsLast t a v heights) (all : HasAll t v) where
   module _ (base : v.base ≡ 0) where
     module _ (free : v.hand ≡ []) (calm : IsCalm t v) where
-      settles : IsSettled (grid_of t) (poured t last.stands.pile) (slice_index v.counts) (slice_index heights)
+      settles : IsSettled (grid_of_terms t) (poured t last.stands.pile) (slice_index v.counts) (slice_index heights)
       settles =
-          let g = grid_of t in
+          let g = grid_of_terms t in
           let s = last.stands in
           let p = s.pile in
           let own = λ (i : ℕ) (l : i < sites g). its_topplings t p s.lawful a s.there (has_all t a v last.stands all) i l ∙ ap (λ (u : View). toppled_by u i) s.pass in
@@ -96,7 +96,7 @@ module _ (t : Terms) (a : ℕ) (v : View) (heights : List ℕ) (last : IsLast t 
             };
           }
 
-      pub leads : (history : List ℕ) → length v.counts ≡ sites (grid_of t) → length history ≡ length v.receipts → Tells v.receipts history → LeadsTo t.start history heights v.counts
+      pub leads : (history : List ℕ) → length v.counts ≡ sites (grid_of_terms t) → length history ≡ length v.receipts → Tells v.receipts history → LeadsTo t.start history heights v.counts
       leads history each long told =
           let s = last.stands in
           let drawn = drawn_is t a v last.stands all history long told in
@@ -105,23 +105,23 @@ module _ (t : Terms) (a : ℕ) (v : View) (heights : List ℕ) (last : IsLast t 
           let limit = s.terms.limit in
           record {
             pile = s.terms.pile;
-            all_sites = subst (All (λ i. i < sites (grid_of t))) (sym drawn) s.lawful.all_sites;
+            all_sites = subst (All (λ i. i < sites (grid_of_terms t))) (sym drawn) s.lawful.all_sites;
             limit = omega arith;
             heights_each = last.one_each;
             odometer_each = each;
-            settled = subst (λ (l : List ℕ). IsSettled (grid_of t) (λ i. height_of t.start i + tally l i) (slice_index v.counts) (slice_index heights)) (sym drawn) settles;
+            settled = subst (λ (l : List ℕ). IsSettled (grid_of_terms t) (λ i. height_of t.start i + tally l i) (slice_index v.counts) (slice_index heights)) (sym drawn) settles;
           }
 
 -- a pass that has gathered all, as its own fields have it
 pub record HasGathered (t : Terms) (p : PassView) : Type 0 where
-  pub grid : p.grid ≡ grid_of t
+  pub grid : p.grid ≡ grid_of_terms t
   pub one_each : length p.counts ≡ count_of p.rows * p.grid.width
   pub whole : IsWhole t p
   pub below : AllBelow p.seen p.receipts
 
 pub gathered : {w w' : SharedView} {p p' : PassView} {seat : Seat ℕ View} {room : ℕ} → w ≡ w' → p ≡ p' → IsPass seat p room → IsPassOf w' p' → IsWhole w'.terms p' → HasGathered w.terms p
 gathered pile_is pass_is inv of_pile whole = record {
-  grid = ap (λ (q : PassView). q.grid) pass_is ∙ of_pile.grid ∙ sym (ap (λ (z : SharedView). grid_of z.terms) pile_is);
+  grid = ap (λ (q : PassView). q.grid) pass_is ∙ of_pile.grid ∙ sym (ap (λ (z : SharedView). grid_of_terms z.terms) pile_is);
   one_each = inv.one_each;
   whole = subst (λ (z : SharedView × PassView). IsWhole z.0.terms z.1) (λ i. (sym pile_is i, sym pass_is i)) whole;
   below = inv.below;

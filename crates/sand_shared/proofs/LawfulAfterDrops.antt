@@ -10,7 +10,7 @@ use Rattle.sand_model.proofs.Tallies.{tally-push}
 use Rattle.sand_shared.specs.declared.view.View.{View}
 use Rattle.sand_shared.specs.declared.view.Receipt.{Receipt}
 use Rattle.sand_shared.specs.declared.view.Terms.{Terms}
-use Rattle.sand_shared.specs.OpenPile.{OpenPile, nobody, grid_of, amount_at, numbered, dropped, held, holds_site, toppled_by, toppled, poured, present, pass_at, IsLawfulPass, IsLawful}
+use Rattle.sand_shared.specs.OpenPile.{OpenPile, nobody, grid_of_terms, amount_at, numbered, dropped, held, holds_site, toppled_by, toppled, poured, present, pass_at, IsLawfulPass, IsLawful}
 use Rattle.sand_shared.specs.Events.{draw, place, deliver, drew, receipt, grains, are_for, without, arrived, May, after}
 use Rattle.sand_shared.proofs.SumsOverPasses.{sum_by_kept, all_after}
 use Rattle.sand_shared.proofs.GrainsAtSite.{held-append}
@@ -69,15 +69,15 @@ module _ (t : Terms) (p : OpenPile) (a i : ℕ) (r : IsLawful t p) (may : May t 
       let longer = length-append p.drawn (i ∷ []) in
       let some_left = may.some_left in
       record {
-        balance = balance_kept (grid_of t) (poured t p) (toppled p) (present p) (poured t q) (toppled q) (present q) still
+        balance = balance_kept (grid_of_terms t) (poured t p) (toppled p) (present p) (poured t q) (toppled q) (present q) still
             (λ j l. let c = changed (λ u. held u.hand j) in let h = held-append v.hand (grains i 1 ∷ []) j in let d = tally-push p.drawn i j in omega arith) r.balance;
         needed = λ x stab j l. (let e = still j in
-            let m = r.needed x (stabilises_fewer (grid_of t) (poured t p) (poured t q) x (λ k _. let d = tally-push p.drawn i k in omega arith) stab) j l in omega arith);
+            let m = r.needed x (stabilises_fewer (grid_of_terms t) (poured t p) (poured t q) x (λ k _. let d = tally-push p.drawn i k in omega arith) stab) j l in omega arith);
         numbers = λ x. (let c = changed (λ u. numbered u.receipts x) in let b = numbered-push v.receipts n i x in let o = r.numbers x in let m = once_more x n in
             let e = ap (λ k. one_if (ltb x k)) longer in omega arith);
         receipts = (let c = changed (λ u. length u.receipts) in let o = r.receipts in let b = length-append v.receipts (receipt n i ∷ []) in omega arith);
         receipts_by_site = λ j. (let c = changed (λ u. dropped u.receipts j) in let b = dropped-push v.receipts n i j in let o = r.receipts_by_site j in let d = tally-push p.drawn i j in omega arith);
-        all_sites = All-append (λ j. j < sites (grid_of t)) p.drawn (i ∷ []) r.all_sites (All-cons (λ j. j < sites (grid_of t)) i [] may.inside (All-nil (λ j. j < sites (grid_of t))));
+        all_sites = All-append (λ j. j < sites (grid_of_terms t)) p.drawn (i ∷ []) r.all_sites (All-cons (λ j. j < sites (grid_of_terms t)) i [] may.inside (All-nil (λ j. j < sites (grid_of_terms t))));
         quota = (let c = changed (λ u. u.left) in let o = r.quota in omega arith);
         holders = λ j l. kept (λ u. one_if (holds_site u j)) refl ∙ r.holders j l;
         passes = all_after (IsLawfulPass t p) (IsLawfulPass t q) p.passes a w drawn_pass other_pass r.passes;

@@ -7,7 +7,7 @@ use Rattle.sand_model.specs.Lists.{one_if}
 use Rattle.sand_shared.specs.declared.view.View.{View}
 use Rattle.sand_shared.specs.declared.view.Grains.{Grains}
 use Rattle.sand_shared.specs.declared.view.Terms.{Terms}
-use Rattle.sand_shared.specs.OpenPile.{OpenPile, nobody, grid_of, numbered, dropped, held, holds_site, toppled_by, toppled, poured, present, pass_at, IsLawfulPass, IsLawful}
+use Rattle.sand_shared.specs.OpenPile.{OpenPile, nobody, grid_of_terms, numbered, dropped, held, holds_site, toppled_by, toppled, poured, present, pass_at, IsLawfulPass, IsLawful}
 use Rattle.sand_shared.specs.Events.{count, look, with_pass, May, after}
 use Rattle.sand_shared.proofs.SumsOverPasses.{sum_by_kept, all_after}
 use Rattle.sand_shared.proofs.Balance.{balance_kept}
@@ -23,7 +23,7 @@ still_lawful t p a seen spot least hand height r there same mine others =
     let kept = λ (f : View → ℕ) (e : f w ≡ f v). sum_by_kept f p.passes a w nobody there e in
     let still = λ (i : ℕ). kept (λ u. toppled_by u i) refl in
     record {
-      balance = balance_kept (grid_of t) (poured t p) (toppled p) (present p) (poured t q) (toppled q) (present q) still
+      balance = balance_kept (grid_of_terms t) (poured t p) (toppled p) (present p) (poured t q) (toppled q) (present q) still
           (λ i l. let c = sum_by-set (λ (u : View). held u.hand i) p.passes a w nobody there in let e = same i in omega arith) r.balance;
       needed = λ x stab i l. (let e = still i in let n = r.needed x stab i l in omega arith);
       numbers = λ n. kept (λ u. numbered u.receipts n) refl ∙ r.numbers n;
@@ -36,7 +36,7 @@ still_lawful t p a seen spot least hand height r there same mine others =
     }
 
 learns : (t : Terms) (p : OpenPile) (a seen spot least : ℕ) → IsLawful t p → a < length p.passes → seen ≤ length p.drawn
-    → (holds_site (pass_at p a) spot ≡ true → spot < sites (grid_of t) → least ≤ p.height spot)
+    → (holds_site (pass_at p a) spot ≡ true → spot < sites (grid_of_terms t) → least ≤ p.height spot)
     → IsLawful t (with_pass p a (record (pass_at p a) { seen = seen; spot = spot; least = least }))
 learns t p a seen spot least r there le found =
     let mine = r.passes a nobody there in

@@ -9,7 +9,7 @@ use Rattle.sand_model.specs.Lists.{one_if}
 use Rattle.sand_shared.specs.declared.view.View.{View}
 use Rattle.sand_shared.specs.declared.view.Receipt.{Receipt}
 use Rattle.sand_shared.specs.declared.view.Terms.{Terms}
-use Rattle.sand_shared.specs.OpenPile.{OpenPile, grid_of, nobody, numbered, dropped, held, holds_site, toppled_by, toppled, poured, present, pass_at, IsLawfulPass, IsLawful}
+use Rattle.sand_shared.specs.OpenPile.{OpenPile, grid_of_terms, nobody, numbered, dropped, held, holds_site, toppled_by, toppled, poured, present, pass_at, IsLawfulPass, IsLawful}
 use Rattle.sand_shared.specs.Events.{split, join, parent, child, joined, May, after}
 use Rattle.sand_shared.proofs.Balance.{balance_kept}
 use Rattle.sand_shared.proofs.RowPartsAddUp.{none_toppled, cut_parts, parts_hold, parts_toppled, joined_rows}
@@ -36,7 +36,7 @@ regrouped t p views v w x y r a stays each =
     let q = record p { passes = views } in
     let still = λ (i : ℕ). stays (λ u. toppled_by u i) (a.toppled i) (none_toppled nobody i refl) in
     record {
-      balance = balance_kept (grid_of t) (poured t p) (toppled p) (present p) (poured t q) (toppled q) (present q) still (λ i l. let h = stays (λ u. held u.hand i) (a.hands i) refl in omega arith) r.balance;
+      balance = balance_kept (grid_of_terms t) (poured t p) (toppled p) (present p) (poured t q) (toppled q) (present q) still (λ i l. let h = stays (λ u. held u.hand i) (a.hands i) refl in omega arith) r.balance;
       needed = λ z stab i l. (let e = still i in let n = r.needed z stab i l in omega arith);
       numbers = λ n. stays (λ u. numbered u.receipts n) (a.numbers n) refl ∙ r.numbers n;
       receipts = stays (λ u. length u.receipts) a.receipts refl ∙ r.receipts;

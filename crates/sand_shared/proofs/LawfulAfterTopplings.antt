@@ -11,7 +11,7 @@ use Rattle.sand_model.proofs.Flow.{flow_same, flow-add}
 use Rattle.sand_model.proofs.Sandpile.{least_action}
 use Rattle.sand_shared.specs.declared.view.View.{View}
 use Rattle.sand_shared.specs.declared.view.Terms.{Terms}
-use Rattle.sand_shared.specs.OpenPile.{OpenPile, nobody, grid_of, amount_at, numbered, dropped, held, holds_site, toppled_by, toppled, poured, present, pass_at, IsLawfulPass, IsLawful}
+use Rattle.sand_shared.specs.OpenPile.{OpenPile, nobody, grid_of_terms, amount_at, numbered, dropped, held, holds_site, toppled_by, toppled, poured, present, pass_at, IsLawfulPass, IsLawful}
 use Rattle.sand_shared.specs.Events.{unload, unloaded, sent, May, after}
 use Rattle.sand_shared.proofs.SumsOverPasses.{sum_by_kept, all_at}
 use Rattle.sand_shared.proofs.GrainsAtSite.{amount_here, amount_else, flow-amount, held-append, held-sent, toppled-unloaded, holds-unloaded}
@@ -32,13 +32,13 @@ module _ (t : Terms) (p : OpenPile) (a i k : ℕ) (r : IsLawful t p) (may : May 
       let e = toppled-unloaded t (pass_at p a) i k j may.own in omega arith
 
   -- what its hand gets for j, in all and of the topplings
-  more_held : (j : ℕ) → j < sites (grid_of t) → held (unloaded t (pass_at p a) i k).hand j ≡ held (pass_at p a).hand j + flow (grid_of t) (amount_at i k) j
-  more_held j l = held-append (pass_at p a).hand (sent t i k) j ∙ ap (λ n. held (pass_at p a).hand j + n) (held-sent t i k j ∙ sym (flow-amount (grid_of t) i k j may.inside l))
+  more_held : (j : ℕ) → j < sites (grid_of_terms t) → held (unloaded t (pass_at p a) i k).hand j ≡ held (pass_at p a).hand j + flow (grid_of_terms t) (amount_at i k) j
+  more_held j l = held-append (pass_at p a).hand (sent t i k) j ∙ ap (λ n. held (pass_at p a).hand j + n) (held-sent t i k j ∙ sym (flow-amount (grid_of_terms t) i k j may.inside l))
 
-  unload_balance : IsToppled (grid_of t) (poured t (after t p (unload a i k))) (toppled (after t p (unload a i k))) (present (after t p (unload a i k)))
+  unload_balance : IsToppled (grid_of_terms t) (poured t (after t p (unload a i k))) (toppled (after t p (unload a i k))) (present (after t p (unload a i k)))
   unload_balance = record {
     balance = λ j l.
-        let g = grid_of t in
+        let g = grid_of_terms t in
         let q = after t p (unload a i k) in
         let before = r.balance.balance j l in
         let h = height_given j in
@@ -49,7 +49,7 @@ module _ (t : Terms) (p : OpenPile) (a i k : ℕ) (r : IsLawful t p) (may : May 
         let f = flow-add g (toppled p) (amount_at i k) j in omega arith;
   }
 
-  unload_needed : (w : ℕ → ℕ) → Stabilises (grid_of t) (poured t p) w → (j : ℕ) → j < sites (grid_of t) → toppled (after t p (unload a i k)) j ≤ w j
+  unload_needed : (w : ℕ → ℕ) → Stabilises (grid_of_terms t) (poured t p) w → (j : ℕ) → j < sites (grid_of_terms t) → toppled (after t p (unload a i k)) j ≤ w j
   unload_needed w stab j l =
       let u = more_toppled j in
       let bound = r.needed w stab j l in
@@ -58,7 +58,7 @@ module _ (t : Terms) (p : OpenPile) (a i k : ℕ) (r : IsLawful t p) (may : May 
       let c = amount_here i k j e in
       let b = r.balance.balance i may.inside in
       let high = may.high in
-      let step = least_action (grid_of t) (poured t p) (toppled p) w i k may.inside stab (r.needed w stab) (omega arith) in
+      let step = least_action (grid_of_terms t) (poured t p) (toppled p) w i k may.inside stab (r.needed w stab) (omega arith) in
       let x = ap (toppled p) e in
       let y = ap w e in omega arith)
       (λ (ne : i ≡ j → ⊥). let c = amount_else i k j ne in omega arith)
@@ -66,7 +66,7 @@ module _ (t : Terms) (p : OpenPile) (a i k : ℕ) (r : IsLawful t p) (may : May 
 
   unloaded_pass : IsLawfulPass t (after t p (unload a i k)) (unloaded t (pass_at p a) i k)
   unloaded_pass =
-      let g = grid_of t in
+      let g = grid_of_terms t in
       let v = pass_at p a in
       let f = r.passes a nobody may.there in
       record {

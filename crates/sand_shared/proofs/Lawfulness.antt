@@ -4,14 +4,14 @@ use Rattle.sand_model.specs.Grid.{sites}
 use Rattle.sand_model.specs.Sand.{tally}
 use Rattle.sand_model.specs.Piles.{height_of}
 use Rattle.sand_model.specs.Lists.{one_if}
-use Rattle.sand_model.proofs.Totals.{total-add}
-use Rattle.sand_model.proofs.Tallies.{total-tally}
-use Rattle.sand_model.proofs.Bounds.{at_most_total}
+use Rattle.sand_model.proofs.SumsBelow.{sum_below-add}
+use Rattle.sand_model.proofs.Tallies.{sum_below-tally}
+use Rattle.sand_model.proofs.Bounds.{at_most_sum_below}
 use Rattle.sand_model.proofs.Heights.{sum_is_grains}
 use Rattle.sand_model.proofs.Sandpile.{laplacian_sum}
 use Rattle.sand_shared.specs.declared.view.View.{View}
 use Rattle.sand_shared.specs.declared.view.Terms.{Terms}
-use Rattle.sand_shared.specs.OpenPile.{OpenPile, grid_of, holds_site, present, poured, toppled, AreTerms, IsLawful}
+use Rattle.sand_shared.specs.OpenPile.{OpenPile, grid_of_terms, holds_site, present, poured, toppled, AreTerms, IsLawful}
 use Rattle.sand_shared.specs.Events.{Event, begin, draw, place, count, split, join, look, unload, deliver, unopened, May, after, AllHappen, after_all}
 use Rattle.sand_shared.proofs.LawfulAtBegin.{some_sites, begun}
 use Rattle.sand_shared.proofs.LawfulAfterReads.{count_keeps, look_keeps}
@@ -22,7 +22,7 @@ use Rattle.sand_shared.proofs.LawfulAfterRegrouping.{split_keeps, join_keeps}
 -- a pile that has begun has a pass, so it does not begin again
 no_second_begin : (t : Terms) (p : OpenPile) → AreTerms t → IsLawful t p → May t p begin → IsLawful t (after t p begin)
 no_second_begin t p terms r none =
-    let one = r.holders 0 (some_sites (grid_of t) terms.pile.grid) in
+    let one = r.holders 0 (some_sites (grid_of_terms t) terms.pile.grid) in
     let zero_passes = ap (λ (l : List View). sum_by (λ v. one_if (holds_site v 0)) l) none in absurd (omega arith)
 
 pub event_keeps : (t : Terms) (p : OpenPile) (e : Event) → AreTerms t → IsLawful t p → May t p e → IsLawful t (after t p e)
@@ -53,14 +53,14 @@ happen_push t p [] e happen may = (may, tt)
 happen_push t p (x ∷ xs) e happen may = (happen.0, happen_push t (after t p x) xs e happen.1 may)
 
 -- the grains on a site and those in hand for it are at most all grains of the start and the quota
-pub few_present : (t : Terms) (p : OpenPile) → AreTerms t → IsLawful t p → (i : ℕ) → i < sites (grid_of t) → present p i ≤ sum t.start.heights + t.quota
+pub few_present : (t : Terms) (p : OpenPile) → AreTerms t → IsLawful t p → (i : ℕ) → i < sites (grid_of_terms t) → present p i ≤ sum t.start.heights + t.quota
 few_present t p terms r i inside =
-    let g = grid_of t in
-    let one = at_most_total (sites g) (present p) i inside in
+    let g = grid_of_terms t in
+    let one = at_most_sum_below (sites g) (present p) i inside in
     let all = laplacian_sum g (poured t p) (toppled p) (present p) r.balance in
-    let parts = total-add (sites g) (height_of t.start) (tally p.drawn) in
+    let parts = sum_below-add (sites g) (height_of t.start) (tally p.drawn) in
     let start = sum_is_grains g t.start.heights terms.pile.one_each in
-    let drops = total-tally (sites g) p.drawn r.all_sites in
+    let drops = sum_below-tally (sites g) p.drawn r.all_sites in
     let quota = r.quota in omega arith
 
 pub few_drawn : (t : Terms) (p : OpenPile) → IsLawful t p → length p.drawn ≤ t.quota

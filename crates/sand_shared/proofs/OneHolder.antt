@@ -6,7 +6,7 @@ use Rattle.sand_model.specs.Grid.{sites}
 use Rattle.sand_model.specs.Lists.{one_if}
 use Rattle.sand_shared.specs.declared.view.View.{View}
 use Rattle.sand_shared.specs.declared.view.Terms.{Terms}
-use Rattle.sand_shared.specs.OpenPile.{OpenPile, nobody, grid_of, holds_site, toppled_by, toppled, pass_at, IsLawful}
+use Rattle.sand_shared.specs.OpenPile.{OpenPile, nobody, grid_of_terms, holds_site, toppled_by, toppled, pass_at, IsLawful}
 use Rattle.sand_shared.proofs.SumsOverPasses.{sum_by_two, sum_by_only}
 use Rattle.sand_shared.proofs.GrainsAtSite.{toppled_from, toppled_before}
 use Rattle.std.proofs.Math.ListN.{get_or-eq_default}
@@ -21,7 +21,7 @@ toppled_outside v i out = ⊎_elim
     behind : v.base ≤ i → length v.counts ≤ i - v.base
     behind past = grind (arith, nat_tests)
 
-module _ (t : Terms) (p : OpenPile) (r : IsLawful t p) (a i : ℕ) (there : a < length p.passes) (inside : i < sites (grid_of t)) (own : holds_site (pass_at p a) i ≡ true) where
+module _ (t : Terms) (p : OpenPile) (r : IsLawful t p) (a i : ℕ) (there : a < length p.passes) (inside : i < sites (grid_of_terms t)) (own : holds_site (pass_at p a) i ≡ true) where
   -- no other pass has the site
   pub others_without : (b : ℕ) → b < length p.passes → b ≢ a → holds_site (pass_at p b) i ≡ false
   others_without b lb ne = ⊎_elim

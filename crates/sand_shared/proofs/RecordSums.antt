@@ -8,8 +8,8 @@ use Rattle.std.proofs.lemmas.List.Elements.{All-append}
 use Rattle.sand_model.specs.Grid.{Grid, sites, missing}
 use Rattle.sand_model.specs.Sand.{IsSettled, grains, lost, tally, topplings}
 use Rattle.sand_model.specs.Piles.{PileView, IsPile, height_of, most_grains}
-use Rattle.sand_model.proofs.Totals.{total-add, total_same}
-use Rattle.sand_model.proofs.Tallies.{total-tally, tally-append}
+use Rattle.sand_model.proofs.SumsBelow.{sum_below-add, sum_below_same}
+use Rattle.sand_model.proofs.Tallies.{sum_below-tally, tally-append}
 use Rattle.sand_model.proofs.Heights.{sum_is_grains}
 use Rattle.sand_model.proofs.Sandpile.{laplacian_sum, settled_in_parts}
 use Rattle.sand_model.proofs.Bounds.{topplings_bound}
@@ -29,9 +29,9 @@ module _ (start : PileView) (history heights odometer : List ℕ) (l : LeadsTo s
   grains_in : grains start.grid (λ i. height_of start i + tally history i) ≡ sum start.heights + length history
   grains_in =
       let g = start.grid in
-      let parts = total-add (sites g) (height_of start) (tally history) in
+      let parts = sum_below-add (sites g) (height_of start) (tally history) in
       let a = sum_is_grains g start.heights l.pile.one_each in
-      let b = total-tally (sites g) history l.all_sites in omega arith
+      let b = sum_below-tally (sites g) history l.all_sites in omega arith
 
   pub few_topplings : sum odometer < 2 ^ 54
   few_topplings =
@@ -152,10 +152,10 @@ module _ (r q : RecordView) (one : IsOneThreads r) (next : IsOneThreads q) (join
   followed =
       let g = r.start.grid in
       let grids = same_grid in
-      let tops = total-add (sites g) (odometer_of r.settled) (odometer_of q.settled) in
-      let sums_are = total_same (sites g) (slice_index sums) (λ i. odometer_of r.settled i + odometer_of q.settled i) (λ i _. all_each i) in
-      let outs = total-add (sites g) (λ i. missing g i * odometer_of r.settled i) (λ i. missing g i * odometer_of q.settled i) in
-      let outs_are = total_same (sites g) (λ i. missing g i * slice_index sums i) (λ i. missing g i * odometer_of r.settled i + missing g i * odometer_of q.settled i) (λ i _. ap (λ n. missing g i * n) (all_each i) ∙ times_plus (missing g i) (odometer_of r.settled i) (odometer_of q.settled i)) in
+      let tops = sum_below-add (sites g) (odometer_of r.settled) (odometer_of q.settled) in
+      let sums_are = sum_below_same (sites g) (slice_index sums) (λ i. odometer_of r.settled i + odometer_of q.settled i) (λ i _. all_each i) in
+      let outs = sum_below-add (sites g) (λ i. missing g i * odometer_of r.settled i) (λ i. missing g i * odometer_of q.settled i) in
+      let outs_are = sum_below_same (sites g) (λ i. missing g i * slice_index sums i) (λ i. missing g i * odometer_of r.settled i + missing g i * odometer_of q.settled i) (λ i _. ap (λ n. missing g i * n) (all_each i) ∙ times_plus (missing g i) (odometer_of r.settled i) (odometer_of q.settled i)) in
       let tops_later = subst (λ z. q.settled.topplings ≡ topplings z (odometer_of q.settled)) grids next.one.settled.all_topplings in
       let lost_later = subst (λ z. q.settled.lost ≡ lost z (odometer_of q.settled)) grids next.one.settled.all_lost in
       let tops_before = one.one.settled.all_topplings in

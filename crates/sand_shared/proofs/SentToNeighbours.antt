@@ -5,7 +5,7 @@ use Rattle.sand_shared.specs.declared.view.View.{View}
 use Rattle.sand_shared.specs.declared.view.Grains.{Grains}
 use Rattle.sand_model.specs.Grid.{neighbours, places}
 use Rattle.sand_shared.specs.declared.view.Terms.{Terms}
-use Rattle.sand_shared.specs.OpenPile.{grid_of}
+use Rattle.sand_shared.specs.OpenPile.{grid_of_terms}
 use Rattle.sand_shared.specs.Events.{grains, sent, behind_first, delivered_to}
 
 -- k grains for each neighbour that is at one of these places
@@ -21,12 +21,12 @@ rest_sent k None ps v w e = e
 rest_sent k (Some j) ps v w e = λ q. record (e q) { hand = behind_first (e q).hand }
 
 -- what a toppling sends goes to the places round the site
-pub sent_is : (t : Terms) (i k : ℕ) → sent t i k ≡ sends k (places (grid_of t) i)
+pub sent_is : (t : Terms) (i k : ℕ) → sent t i k ≡ sends k (places (grid_of_terms t) i)
 unfolding neighbours
 sent_is t i k = refl
 
 -- four deliveries, one to each place round the site, empty the hand
-module _ (t : Terms) (i k : ℕ) (ps : List (Option ℕ)) (around : ps ≡ places (grid_of t) i) (v : View) (hand : v.hand ≡ sent t i k) where
+module _ (t : Terms) (i k : ℕ) (ps : List (Option ℕ)) (around : ps ≡ places (grid_of_terms t) i) (v : View) (hand : v.hand ≡ sent t i k) where
   place : ℕ → Option ℕ
   place n = get_or ps n None
 

@@ -10,7 +10,7 @@ use Rattle.atomic_table.proofs.Lists.{set_again}
 use Rattle.sand_model.specs.Grid.{sites}
 use Rattle.sand_shared.specs.declared.view.View.{View}
 use Rattle.sand_shared.specs.declared.view.Terms.{Terms}
-use Rattle.sand_shared.specs.OpenPile.{OpenPile, nobody, grid_of, holds_site, pass_at, AreTerms, IsLawful}
+use Rattle.sand_shared.specs.OpenPile.{OpenPile, nobody, grid_of_terms, holds_site, pass_at, AreTerms, IsLawful}
 use Rattle.sand_shared.specs.Events.{Event, begin, draw, count, split, join, look, unload, deliver, are_for, counted, looked, parent, child, joined, follows, first_pass, unopened, May, after, after_all}
 use Rattle.sand_shared.specs.Record.{IsLast}
 use Rattle.sand_shared.specs.Running.{Shows, IsRunning, Happened, actor, found, Takes, Learns}
@@ -74,7 +74,7 @@ takes t e slots m word f can shows s h _ at fits =
       (record { before = record { terms = h.terms; pile = p; lawful = r; there = there; pass = is }; may = may; number = shown.0; pass_after = refl }, refl),
     )
 
-pub draws : (t : Terms) (a i slots : ℕ) (m : Me ℕ View) → 0 < m.0.left → i < sites (grid_of t)
+pub draws : (t : Terms) (a i slots : ℕ) (m : Me ℕ View) → 0 < m.0.left → i < sites (grid_of_terms t)
     → Allows (IsRunning t) slots a m 1 (λ n. (n + 1) % 2 ^ 64) (Takes t (draw a i) m)
 draws t a i slots m some_left inside = takes t (draw a i) slots m 1 (λ n. (n + 1) % 2 ^ 64)
     (λ p r there is. record { there = there; some_left = subst (λ (v : View). 0 < v.left) (sym is) some_left; inside = inside })
@@ -85,25 +85,25 @@ counts t a slots m = takes t (count a) slots m 1 (λ n. n)
     (λ p r there is. there)
     (λ p s terms r may h. (h.number, shows_load t p s 1 a (counted (pass_at p a) (length p.drawn)) h may))
 
-pub delivers : (t : Terms) (a i k slots : ℕ) (m : Me ℕ View) → i < sites (grid_of t) → 0 < count_by (are_for i k) m.0.hand
+pub delivers : (t : Terms) (a i k slots : ℕ) (m : Me ℕ View) → i < sites (grid_of_terms t) → 0 < count_by (are_for i k) m.0.hand
     → Allows (IsRunning t) slots a m (i + 2) (λ n. (n + k) % 2 ^ 64) (Takes t (deliver a i k) m)
 delivers t a i k slots m inside in_hand = takes t (deliver a i k) slots m (i + 2) (λ n. (n + k) % 2 ^ 64)
     (λ p r there is. record { there = there; in_hand = subst (λ (v : View). 0 < count_by (are_for i k) v.hand) (sym is) in_hand; inside = inside })
     (λ p s terms r may h. (h.heights i inside, shows_arrived t p s a i k terms r may.there may.in_hand may.inside h))
 
-pub looks : (t : Terms) (a i slots : ℕ) (m : Me ℕ View) → i < sites (grid_of t) → holds_site m.0 i ≡ true
+pub looks : (t : Terms) (a i slots : ℕ) (m : Me ℕ View) → i < sites (grid_of_terms t) → holds_site m.0 i ≡ true
     → Allows (IsRunning t) slots a m (i + 2) (λ n. n) (Takes t (look a i) m)
 looks t a i slots m inside own = takes t (look a i) slots m (i + 2) (λ n. n)
     (λ p r there is. record { there = there; inside = inside; own = subst (λ (v : View). holds_site v i ≡ true) (sym is) own })
     (λ p s terms r may h. (h.heights i inside, shows_load t p s (i + 2) a (looked (pass_at p a) i (p.height i)) h may.there))
 
 -- what a pass found at the site is still there, for nobody else takes grains from it
-pub unloads : (t : Terms) (a i k slots : ℕ) (m : Me ℕ View) → i < sites (grid_of t) → holds_site m.0 i ≡ true → m.0.spot ≡ i → 4 * k ≤ m.0.least
+pub unloads : (t : Terms) (a i k slots : ℕ) (m : Me ℕ View) → i < sites (grid_of_terms t) → holds_site m.0 i ≡ true → m.0.spot ≡ i → 4 * k ≤ m.0.least
     → Allows (IsRunning t) slots a m (i + 2) (λ n. (n + (2 ^ 64 - 4 * k)) % 2 ^ 64) (Takes t (unload a i k) m)
 unloads t a i k slots m inside own spot enough = takes t (unload a i k) slots m (i + 2) (λ n. (n + (2 ^ 64 - 4 * k)) % 2 ^ 64)
     (λ p r there is. let mine : holds_site (pass_at p a) i ≡ true = subst (λ (v : View). holds_site v i ≡ true) (sym is) own in
     let at : (pass_at p a).spot ≡ i = ap (λ (v : View). v.spot) is ∙ spot in
-    let least = (r.passes a nobody there).least (subst (λ z. holds_site (pass_at p a) z ≡ true) (sym at) mine) (subst (λ z. z < sites (grid_of t)) (sym at) inside) in
+    let least = (r.passes a nobody there).least (subst (λ z. holds_site (pass_at p a) z ≡ true) (sym at) mine) (subst (λ z. z < sites (grid_of_terms t)) (sym at) inside) in
     let height = ap p.height at in
     let same = ap (λ (v : View). v.least) is in record { there = there; inside = inside; own = mine; high = omega arith })
     (λ p s terms r may h. (h.heights i inside, shows_unload t p s a i k terms r may h))
@@ -177,8 +177,8 @@ pub happened_picked : {t t' : Terms} {e e' : Event} {v w : View} {n : ℕ} → (
 happened_picked {v = v} {w = w} {n = n} same = subst (λ (z : Terms × Event). Happened z.0 z.1 v n w) (λ i. (same.0 i, same.1 i))
 
 -- the heights that are read when the table is closed are those of the last open pile
-pub last_is : (t : Terms) (a : ℕ) (v : View) (s : State ℕ View) (h : IsRunning t s) → get_elem? s.views a ≡ some v → (heights : List ℕ) → length heights ≡ sites (grid_of t)
-    → ((i : ℕ) → i < sites (grid_of t) → slice_index heights i ≡ slice_index s.words (i + 2)) → IsLast t a v heights
+pub last_is : (t : Terms) (a : ℕ) (v : View) (s : State ℕ View) (h : IsRunning t s) → get_elem? s.views a ≡ some v → (heights : List ℕ) → length heights ≡ sites (grid_of_terms t)
+    → ((i : ℕ) → i < sites (grid_of_terms t) → slice_index heights i ≡ slice_index s.words (i + 2)) → IsLast t a v heights
 last_is t a v s h at heights long read = record {
   stands = record { terms = h.terms; pile = pile_of t s h; lawful = lawful_now t s h; there = pass_there t s h a v at; pass = pass_is t s h a v at };
   one_each = long;

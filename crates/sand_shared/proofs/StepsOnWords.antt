@@ -6,7 +6,7 @@ use Rattle.atomic_table.specs.declared.shared.Seat.{Seat}
 use Rattle.sand_model.specs.Grid.{Grid, sites}
 use Rattle.sand_shared.specs.declared.view.View.{View}
 use Rattle.sand_shared.specs.declared.view.Terms.{Terms}
-use Rattle.sand_shared.specs.OpenPile.{grid_of}
+use Rattle.sand_shared.specs.OpenPile.{grid_of_terms}
 use Rattle.sand_shared.specs.Events.{Event}
 use Rattle.sand_shared.specs.Passes.{SharedView}
 use Rattle.sand_shared.specs.Running.{IsRunning, Takes, TakesInARow, Learns}
@@ -20,15 +20,15 @@ module _ {key : Terms} {lattice : Grid} {inside now : SharedView} (words : AreWo
   pub key_now : key ≡ now.terms
   key_now = words.key_is ∙ ap (λ (w : SharedView). w.terms) is
 
-  pub has_word : (word : ℕ) → word < sites (grid_of now.terms) + 2 → word < inside.table.words
-  has_word word fits = let wide = words.wide ∙ ap (λ (w : SharedView). sites (grid_of w.terms) + 2) is in omega arith
+  pub has_word : (word : ℕ) → word < sites (grid_of_terms now.terms) + 2 → word < inside.table.words
+  has_word word fits = let wide = words.wide ∙ ap (λ (w : SharedView). sites (grid_of_terms w.terms) + 2) is in omega arith
 
   module _ {seat : Seat ℕ View} (at : IsSeatAt now seat) where
     pub at_table : seat.table_id ≡ inside.table
     at_table = at.table ∙ sym (ap (λ (w : SharedView). w.table) is)
 
     -- a step that is an event
-    pub asks_event : {t : Terms} {d : Event} (e : Event) (word : ℕ) (f : ℕ → ℕ) → word < sites (grid_of now.terms) + 2 → (t ≡ now.terms) × (d ≡ e)
+    pub asks_event : {t : Terms} {d : Event} (e : Event) (word : ℕ) (f : ℕ → ℕ) → word < sites (grid_of_terms now.terms) + 2 → (t ≡ now.terms) × (d ≡ e)
         → Allows (IsRunning now.terms) inside.table.slots seat.id seat.me word f (Takes now.terms e seat.me)
         → (seat.table_id ≡ inside.table) × (word < inside.table.words) × Allows (IsRunning key) inside.table.slots seat.id seat.me word f (Takes t d seat.me)
     asks_event e word f fits picked may = (
@@ -38,7 +38,7 @@ module _ {key : Terms} {lattice : Grid} {inside now : SharedView} (words : AreWo
     )
 
     -- a step that is events in a row
-    pub asks_row : {t : Terms} {b : ℕ} {ds : List Event} (es : List Event) (word : ℕ) (f : ℕ → ℕ) → word < sites (grid_of now.terms) + 2 → (t ≡ now.terms) × (b ≡ seat.id) × (ds ≡ es)
+    pub asks_row : {t : Terms} {b : ℕ} {ds : List Event} (es : List Event) (word : ℕ) (f : ℕ → ℕ) → word < sites (grid_of_terms now.terms) + 2 → (t ≡ now.terms) × (b ≡ seat.id) × (ds ≡ es)
         → Allows (IsRunning now.terms) inside.table.slots seat.id seat.me word f (TakesInARow now.terms seat.id es seat.me)
         → (seat.table_id ≡ inside.table) × (word < inside.table.words) × Allows (IsRunning key) inside.table.slots seat.id seat.me word f (TakesInARow t b ds seat.me)
     asks_row es word f fits picked may = (

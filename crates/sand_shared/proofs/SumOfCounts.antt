@@ -4,14 +4,14 @@ use Rattle.std.proofs.lemmas.Bool.{cases_lt}
 use Rattle.std.proofs.lemmas.List.{take_all}
 use Rattle.std.proofs.lemmas.List.Sums.{sum_by_more}
 use Rattle.std.proofs.Math.ListN.{get_or-eq_default}
-use Rattle.sand_model.specs.Sand.{total}
+use Rattle.sand_model.specs.Sand.{sum_below}
 use Rattle.sand_shared.specs.declared.view.View.{View}
 use Rattle.sand_shared.specs.OpenPile.{toppled_by}
 use Rattle.sand_shared.proofs.GrainsAtSite.{toppled_from, toppled_before}
 
 -- the sum over the first n sites is that of the counts of these sites
-counts_below : (v : View) (n : ℕ) → total n (toppled_by v) ≡ sum (take (n - v.base) v.counts)
-unfolding total
+counts_below : (v : View) (n : ℕ) → sum_below n (toppled_by v) ≡ sum (take (n - v.base) v.counts)
+unfolding sum_below
 counts_below v zero = ap (λ k. sum (take k v.counts)) {x = 0} {y = 0 - v.base} (omega arith)
 counts_below v (suc n) =
     let before = counts_below v n in
@@ -31,5 +31,5 @@ counts_below v (suc n) =
     (cases_lt (n - v.base) (length v.counts)))
     (cases_lt n v.base)
 
-pub sum_counts : (v : View) (n : ℕ) → v.base + length v.counts ≤ n → total n (toppled_by v) ≡ sum v.counts
+pub sum_counts : (v : View) (n : ℕ) → v.base + length v.counts ≤ n → sum_below n (toppled_by v) ≡ sum v.counts
 sum_counts v n fits = counts_below v n ∙ ap sum (take_all (n - v.base) v.counts (omega arith))

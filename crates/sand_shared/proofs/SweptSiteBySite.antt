@@ -9,7 +9,7 @@ use Rattle.sand_model.specs.Grid.{sites}
 use Rattle.sand_model.proofs.Flow.{flow_le}
 use Rattle.sand_shared.specs.declared.view.View.{View}
 use Rattle.sand_shared.specs.declared.view.Terms.{Terms}
-use Rattle.sand_shared.specs.OpenPile.{grid_of, toppled_by}
+use Rattle.sand_shared.specs.OpenPile.{grid_of_terms, toppled_by}
 use Rattle.sand_shared.specs.Events.{looked, raised}
 use Rattle.sand_shared.specs.Sweeps.{LeavesAtMost, LeavesAtLeast, IsCalm, HasAll, IsSparing, with_counts, Swept}
 use Rattle.sand_shared.proofs.GrainsAtSite.{place_inside, toppled_from, toppled_before}
@@ -42,12 +42,12 @@ toppled_more v cs more i = ⊎_elim
     (cases_lt i v.base)
 
 -- the counts rose meanwhile, so that what is left now was left before
-at_most_before : (t : Terms) (v : View) (cs : List ℕ) (i n : ℕ) → i < sites (grid_of t) → ((j : ℕ) → slice_index v.counts j ≤ slice_index cs j) → toppled_by (with_counts v cs) i ≡ toppled_by v i
+at_most_before : (t : Terms) (v : View) (cs : List ℕ) (i n : ℕ) → i < sites (grid_of_terms t) → ((j : ℕ) → slice_index v.counts j ≤ slice_index cs j) → toppled_by (with_counts v cs) i ≡ toppled_by v i
     → LeavesAtMost t (with_counts v cs) i n → LeavesAtMost t v i n
 at_most_before t v cs i n inside more same left =
-    let around = flow_le (grid_of t) (toppled_by v) (toppled_by (with_counts v cs)) (λ j _. toppled_more v cs more j) i inside in omega arith
+    let around = flow_le (grid_of_terms t) (toppled_by v) (toppled_by (with_counts v cs)) (λ j _. toppled_more v cs more j) i inside in omega arith
 
-pub sweeps_more : (t : Terms) (v : View) (cs : List ℕ) (k topplings times spot least : ℕ) → v.base + length v.counts ≤ sites (grid_of t) → k < length v.counts → Sweeps t v cs k topplings
+pub sweeps_more : (t : Terms) (v : View) (cs : List ℕ) (k topplings times spot least : ℕ) → v.base + length v.counts ≤ sites (grid_of_terms t) → k < length v.counts → Sweeps t v cs k topplings
     → LeavesAtMost t (with_counts v cs) (v.base + k) (4 * times + 3)
     → sum (raised (with_counts v cs) (v.base + k) times) < 2 ^ 54
     → (HasAll t (with_counts v cs) → LeavesAtLeast t (with_counts v cs) (v.base + k) (4 * times))
@@ -103,7 +103,7 @@ module _ (t : Terms) (v me new : View) (cs : List ℕ) (base k times : ℕ) (fro
       let place : (v.base + k) - v.base ≡ k = omega arith in
       new_is ∙ (λ q. record (looked v (sym spot q) new.least) { counts = set cs (place q) (get_or cs (place q) 0 + times) })
 
-  pub next_swept : (topplings : ℕ) → v.base + length v.counts ≤ sites (grid_of t) → k < length v.counts → Sweeps t v cs k topplings → LeavesAtMost t me (base + k) (4 * times + 3) → sum new.counts < 2 ^ 54
+  pub next_swept : (topplings : ℕ) → v.base + length v.counts ≤ sites (grid_of_terms t) → k < length v.counts → Sweeps t v cs k topplings → LeavesAtMost t me (base + k) (4 * times + 3) → sum new.counts < 2 ^ 54
       → (HasAll t me → LeavesAtLeast t me (base + k) (4 * times)) → (HasAll t me → IsSparing t new) → Sweeps t v (set cs k (get_or cs k 0 + times)) (k + 1) (topplings + times)
   next_swept topplings rows inside s left few no_more spares =
       let still = λ (all : HasAll t (with_counts v cs)). subst (HasAll t) (sym view) record { quota = all.quota; all_sites = all.all_sites } in
@@ -121,7 +121,7 @@ module _ (t : Terms) (v me new : View) (cs : List ℕ) (base k times : ℕ) (fro
     pub kept_view : new ≡ record (looked v new.spot new.least) { counts = cs }
     kept_view = next_view ∙ (λ q. record (looked v new.spot new.least) { counts = kept q })
 
-    pub kept_swept : (topplings : ℕ) → v.base + length v.counts ≤ sites (grid_of t) → k < length v.counts → Sweeps t v cs k topplings → LeavesAtMost t me (base + k) (4 * times + 3) → sum new.counts < 2 ^ 54
+    pub kept_swept : (topplings : ℕ) → v.base + length v.counts ≤ sites (grid_of_terms t) → k < length v.counts → Sweeps t v cs k topplings → LeavesAtMost t me (base + k) (4 * times + 3) → sum new.counts < 2 ^ 54
         → (HasAll t me → LeavesAtLeast t me (base + k) (4 * times)) → (HasAll t me → IsSparing t new) → Sweeps t v cs (k + 1) topplings
     kept_swept topplings rows inside s left few no_more spares =
         subst (λ (l : List ℕ). Sweeps t v l (k + 1) topplings) kept
@@ -182,7 +182,7 @@ swept_as t v cs topplings spot least s = record {
 }
 
 -- a sweep over all sites that topples nothing found nothing left anywhere, whatever pass swept
-pub calm_at_rest : (t : Terms) (v me : View) (cs new : List ℕ) (topplings : ℕ) → v.base ≡ 0 → length cs ≡ sites (grid_of t) → me ≡ record (looked v me.spot me.least) { counts = cs } → Swept t me new topplings → topplings ≡ 0 → IsCalm t (with_counts v new)
+pub calm_at_rest : (t : Terms) (v me : View) (cs new : List ℕ) (topplings : ℕ) → v.base ≡ 0 → length cs ≡ sites (grid_of_terms t) → me ≡ record (looked v me.spot me.least) { counts = cs } → Swept t me new topplings → topplings ≡ 0 → IsCalm t (with_counts v new)
 calm_at_rest t v me cs new topplings base long is s none i inside =
     let counts : me.counts ≡ cs = ap (λ (u : View). u.counts) is in
     let kept : new ≡ cs = s.idle none ∙ counts in

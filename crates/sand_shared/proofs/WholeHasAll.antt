@@ -5,7 +5,7 @@ use Rattle.std.proofs.lemmas.Bool.Decides.{nat_tests}
 use Rattle.sand_model.specs.Grid.{sites}
 use Rattle.sand_shared.specs.declared.rows.Rows.{Rows}
 use Rattle.sand_shared.specs.declared.view.Terms.{Terms}
-use Rattle.sand_shared.specs.OpenPile.{grid_of, holds_site}
+use Rattle.sand_shared.specs.OpenPile.{grid_of_terms, holds_site}
 use Rattle.sand_shared.specs.Passes.{PassView, at_rest, IsWhole}
 use Rattle.sand_shared.specs.Rows.{count_of}
 use Rattle.sand_shared.specs.Sweeps.{HasAll}
@@ -13,13 +13,13 @@ use Rattle.sand_shared.specs.Sweeps.{HasAll}
 swap : (a b : ℕ) → a * b ≡ b * a
 swap a b = grind arith
 
-module _ (t : Terms) (p : PassView) (same : p.grid ≡ grid_of t) (each : length p.counts ≡ count_of p.rows * p.grid.width) (whole : IsWhole t p) where
+module _ (t : Terms) (p : PassView) (same : p.grid ≡ grid_of_terms t) (each : length p.counts ≡ count_of p.rows * p.grid.width) (whole : IsWhole t p) where
   pub whole_base : (at_rest p).base ≡ 0
   whole_base = ap (λ (r : Rows). r.first * p.grid.width) whole.rows ∙ omega arith
 
-  pub whole_counts : length p.counts ≡ sites (grid_of t)
+  pub whole_counts : length p.counts ≡ sites (grid_of_terms t)
   whole_counts =
-      let g = grid_of t in
+      let g = grid_of_terms t in
       each ∙ (λ i. count_of (whole.rows i) * (same i).width) ∙ (ap (λ n. n * g.width) {x = g.height - 0} {y = g.height} (omega arith) ∙ swap g.height g.width)
 
   pub whole_has_all : HasAll t (at_rest p)
@@ -29,7 +29,7 @@ module _ (t : Terms) (p : PassView) (same : p.grid ≡ grid_of t) (each : length
       let quota = whole.quota in
       record { quota = omega arith; all_sites = λ i l. held base all i l }
     where
-      held : (at_rest p).base ≡ 0 → length p.counts ≡ sites (grid_of t) → (i : ℕ) → i < sites (grid_of t) → holds_site (at_rest p) i ≡ true
+      held : (at_rest p).base ≡ 0 → length p.counts ≡ sites (grid_of_terms t) → (i : ℕ) → i < sites (grid_of_terms t) → holds_site (at_rest p) i ≡ true
       held base all i l = grind (arith, nat_tests)
 
   -- and still does after it has swept

@@ -10,7 +10,7 @@ use Rattle.atomic_table.specs.Table.{State}
 use Rattle.sand_model.specs.Grid.{sites}
 use Rattle.sand_shared.specs.declared.view.View.{View}
 use Rattle.sand_shared.specs.declared.view.Terms.{Terms}
-use Rattle.sand_shared.specs.OpenPile.{OpenPile, nobody, grid_of, held, pass_at, AreTerms, IsLawful}
+use Rattle.sand_shared.specs.OpenPile.{OpenPile, nobody, grid_of_terms, held, pass_at, AreTerms, IsLawful}
 use Rattle.sand_shared.specs.Events.{draw, unload, are_for, drew, laid_down, unloaded, arrived, with_pass, May, after}
 use Rattle.sand_shared.specs.Running.{Shows}
 use Rattle.sand_shared.proofs.GrainsAtSite.{amount_here, amount_else}
@@ -60,15 +60,15 @@ shows_draw t p s a i terms r may h =
     }
 
 -- the word of a site becomes x, and all others stay
-height_shown : (t : Terms) (p q : OpenPile) (s : State ℕ View) (i x : ℕ) → i < sites (grid_of t) → Shows t p s → q.height i ≡ x → ((j : ℕ) → i ≢ j → q.height j ≡ p.height j)
-    → (j : ℕ) → j < sites (grid_of t) → slice_index (set s.words (i + 2) x) (j + 2) ≡ q.height j
+height_shown : (t : Terms) (p q : OpenPile) (s : State ℕ View) (i x : ℕ) → i < sites (grid_of_terms t) → Shows t p s → q.height i ≡ x → ((j : ℕ) → i ≢ j → q.height j ≡ p.height j)
+    → (j : ℕ) → j < sites (grid_of_terms t) → slice_index (set s.words (i + 2) x) (j + 2) ≡ q.height j
 height_shown t p q s i x inside h here others j l = let wide = h.wide in ⊎_elim
     (λ (e : i ≡ j). ap (λ z. get_or (set s.words (i + 2) x) (z + 2) 0) (sym e) ∙ (get_or-set_same s.words (i + 2) x 0 (omega arith) ∙ (sym here ∙ ap q.height e)))
     (λ (ne : i ≡ j → ⊥). get_or-set_other s.words (i + 2) (j + 2) x 0 (λ e. ne (omega arith)) ∙ (h.heights j l ∙ sym (others j ne)))
     (cases_eq i j)
 
 -- grains that are laid on a site are added to its word
-pub shows_arrived : (t : Terms) (p : OpenPile) (s : State ℕ View) (a i k : ℕ) → AreTerms t → IsLawful t p → a < length p.passes → 0 < count_by (are_for i k) (pass_at p a).hand → i < sites (grid_of t) → Shows t p s
+pub shows_arrived : (t : Terms) (p : OpenPile) (s : State ℕ View) (a i k : ℕ) → AreTerms t → IsLawful t p → a < length p.passes → 0 < count_by (are_for i k) (pass_at p a).hand → i < sites (grid_of_terms t) → Shows t p s
     → Shows t (arrived p a i k) (stepped_to s (i + 2) ((slice_index s.words (i + 2) + k) % 2 ^ 64) a (pass_at (arrived p a i k) a))
 shows_arrived t p s a i k terms r there in_hand inside h =
     let n = slice_index s.words (i + 2) in

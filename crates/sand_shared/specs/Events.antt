@@ -7,7 +7,7 @@ use Rattle.sand_shared.specs.declared.view.Receipt.{Receipt}
 use Rattle.sand_shared.specs.declared.view.Grains.{Grains}
 use Rattle.sand_shared.specs.declared.view.View.{View}
 use Rattle.sand_shared.specs.declared.view.Terms.{Terms}
-use Rattle.sand_shared.specs.OpenPile.{OpenPile, grid_of, amount_at, nobody, holds_site, pass_at}
+use Rattle.sand_shared.specs.OpenPile.{OpenPile, grid_of_terms, amount_at, nobody, holds_site, pass_at}
 
 pub data Event : Type 0 where
   -- the first pass is made
@@ -42,7 +42,7 @@ zeros n = replicate n 0
 
 -- the first pass has the whole quota and all rows
 abbrev pub first_pass : Terms → View
-first_pass t = record nobody { left = t.quota; counts = zeros (sites (grid_of t)) }
+first_pass t = record nobody { left = t.quota; counts = zeros (sites (grid_of_terms t)) }
 
 -- what is behind the first of a list
 abbrev pub behind_first : List Grains → List Grains
@@ -94,7 +94,7 @@ raised v i k = slice_set v.counts (i - v.base) (slice_index v.counts (i - v.base
 
 -- k grains for each neighbour
 abbrev pub sent : Terms → ℕ → ℕ → List Grains
-sent t i k = map (λ j. grains j k) (neighbours (grid_of t) i)
+sent t i k = map (λ j. grains j k) (neighbours (grid_of_terms t) i)
 
 abbrev pub unloaded : Terms → View → ℕ → ℕ → View
 unloaded t v i k = record v { hand = v.hand ++ sent t i k; counts = raised v i k; least = 0 }
@@ -153,13 +153,13 @@ arrived p a i k = record (with_pass p a (laid_down (pass_at p a) i k)) { height 
 pub record MayDraw (t : Terms) (p : OpenPile) (a i : ℕ) : Type 0 where
   pub there : a < length p.passes
   pub some_left : 0 < (pass_at p a).left
-  pub inside : i < sites (grid_of t)
+  pub inside : i < sites (grid_of_terms t)
 
 -- a place or a deliver: k grains for the site are in its hand
 pub record MayLay (t : Terms) (p : OpenPile) (a i k : ℕ) : Type 0 where
   pub there : a < length p.passes
   pub in_hand : 0 < count_by (are_for i k) (pass_at p a).hand
-  pub inside : i < sites (grid_of t)
+  pub inside : i < sites (grid_of_terms t)
 
 -- a split: the pass has that quota and those sites, and nothing in hand
 pub record MaySplit (p : OpenPile) (a q n : ℕ) : Type 0 where
@@ -180,13 +180,13 @@ pub record MayJoin (p : OpenPile) (a b : ℕ) : Type 0 where
 -- a look: at a site of its rows
 pub record MayLook (t : Terms) (p : OpenPile) (a i : ℕ) : Type 0 where
   pub there : a < length p.passes
-  pub inside : i < sites (grid_of t)
+  pub inside : i < sites (grid_of_terms t)
   pub own : holds_site (pass_at p a) i ≡ true
 
 -- an unload: from a site of its rows, on which so many grains lie
 pub record MayUnload (t : Terms) (p : OpenPile) (a i k : ℕ) : Type 0 where
   pub there : a < length p.passes
-  pub inside : i < sites (grid_of t)
+  pub inside : i < sites (grid_of_terms t)
   pub own : holds_site (pass_at p a) i ≡ true
   pub high : 4 * k ≤ p.height i
 

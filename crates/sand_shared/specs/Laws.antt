@@ -4,7 +4,7 @@ use Rattle.atomic_table.specs.Table.{State}
 use Rattle.sand_model.specs.Grid.{sites}
 use Rattle.sand_shared.specs.declared.view.View.{View}
 use Rattle.sand_shared.specs.declared.view.Terms.{Terms}
-use Rattle.sand_shared.specs.OpenPile.{OpenPile, grid_of, present, AreTerms, IsLawful}
+use Rattle.sand_shared.specs.OpenPile.{OpenPile, grid_of_terms, present, AreTerms, IsLawful}
 use Rattle.sand_shared.specs.Events.{Event, begin, unopened, AllHappen, after_all}
 use Rattle.sand_shared.specs.Running.{Shows}
 use Rattle.sand_shared.specs.Sweeps.{HasAll, Swept}
@@ -26,7 +26,7 @@ HoldsLawful rule = (t : Terms) (s : State ℕ View) → rule t s → ShowLawful 
 
 -- on a lawful pile the grains that lie on a site and those in hand for it are at most those of the start and the quota
 abbrev pub FewGrains : Type 0
-FewGrains = (t : Terms) (p : OpenPile) → AreTerms t → IsLawful t p → (i : ℕ) → i < sites (grid_of t) → present p i ≤ sum t.start.heights + t.quota
+FewGrains = (t : Terms) (p : OpenPile) → AreTerms t → IsLawful t p → (i : ℕ) → i < sites (grid_of_terms t) → present p i ≤ sum t.start.heights + t.quota
 
 -- and no more drops were begun than the quota
 abbrev pub FewDraws : Type 0

@@ -16,8 +16,8 @@ pub record OpenPile : Type 0 where
   pub drawn : List ℕ
   pub passes : List View
 
-abbrev pub grid_of : Terms → Grid
-grid_of t = t.start.grid
+abbrev pub grid_of_terms : Terms → Grid
+grid_of_terms t = t.start.grid
 
 -- a pile, with a quota that keeps its grains within the limit
 pub record AreTerms (t : Terms) : Type 0 where
@@ -81,21 +81,21 @@ poured t p i = height_of t.start i + tally p.drawn i
 pub record IsLawfulPass (t : Terms) (p : OpenPile) (v : View) : Type 0 where
   pub seen : v.seen ≤ length p.drawn
   pub receipts : All (λ r. slice_get p.drawn r.number ≡ Some r.site) v.receipts
-  pub hand : (i : ℕ) → i < sites (grid_of t) → held v.hand i ≤ dropped v.receipts i + flow (grid_of t) (toppled_by v) i
-  pub least : holds_site v v.spot ≡ true → v.spot < sites (grid_of t) → v.least ≤ p.height v.spot
+  pub hand : (i : ℕ) → i < sites (grid_of_terms t) → held v.hand i ≤ dropped v.receipts i + flow (grid_of_terms t) (toppled_by v) i
+  pub least : holds_site v v.spot ≡ true → v.spot < sites (grid_of_terms t) → v.least ≤ p.height v.spot
 
 pub record IsLawful (t : Terms) (p : OpenPile) : Type 0 where
   -- no grain vanishes or is doubled
-  pub balance : IsToppled (grid_of t) (poured t p) (toppled p) (present p)
+  pub balance : IsToppled (grid_of_terms t) (poured t p) (toppled p) (present p)
   -- no site has toppled more often than whatever stabilises the start with all drawn grains allows
-  pub needed : (w : ℕ → ℕ) → Stabilises (grid_of t) (poured t p) w → (i : ℕ) → i < sites (grid_of t) → toppled p i ≤ w i
+  pub needed : (w : ℕ → ℕ) → Stabilises (grid_of_terms t) (poured t p) w → (i : ℕ) → i < sites (grid_of_terms t) → toppled p i ≤ w i
   -- the receipts have the numbers 0 to n - 1, each once, and at each site as many as it was drawn
   pub numbers : (n : ℕ) → in_all (λ v. numbered v.receipts n) p ≡ one_if (nat_lt n (length p.drawn))
   pub receipts : in_all (λ v. length v.receipts) p ≡ length p.drawn
   pub receipts_by_site : (i : ℕ) → in_all (λ v. dropped v.receipts i) p ≡ tally p.drawn i
-  pub all_sites : All (λ i. i < sites (grid_of t)) p.drawn
+  pub all_sites : All (λ i. i < sites (grid_of_terms t)) p.drawn
   -- what is not drawn is left to the passes
   pub quota : in_all (λ v. v.left) p + length p.drawn ≡ t.quota
   -- each site, and so each row, has one holder
-  pub holders : (i : ℕ) → i < sites (grid_of t) → count_by (λ v. holds_site v i) p.passes ≡ 1
+  pub holders : (i : ℕ) → i < sites (grid_of_terms t) → count_by (λ v. holds_site v i) p.passes ≡ 1
   pub passes : All (IsLawfulPass t p) p.passes

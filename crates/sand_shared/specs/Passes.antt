@@ -7,7 +7,7 @@ use Rattle.sand_shared.specs.declared.view.Receipt.{Receipt}
 use Rattle.sand_shared.specs.declared.view.View.{View}
 use Rattle.sand_shared.specs.declared.view.Terms.{Terms}
 use Rattle.sand_shared.specs.declared.rows.Rows.{Rows}
-use Rattle.sand_shared.specs.OpenPile.{grid_of, numbered}
+use Rattle.sand_shared.specs.OpenPile.{grid_of_terms, numbered}
 use Rattle.sand_shared.specs.Rows.{count_of, rows_follow, rows_together, AreRowsOf}
 
 -- a shared pile: which table it is, and what it began with
@@ -28,7 +28,7 @@ pub record PassView : Type 0 where
 -- the pass is of this pile
 pub record IsPassOf (pile : SharedView) (pass : PassView) : Type 0 where
   pub table : pass.table ≡ pile.table
-  pub grid : pass.grid ≡ grid_of pile.terms
+  pub grid : pass.grid ≡ grid_of_terms pile.terms
 
 -- no number is there twice
 abbrev pub EachOnce : List Receipt → Type 0
@@ -79,4 +79,4 @@ together p q = record p {
 -- all of the quota, as what is left or as receipts, and all rows
 pub record IsWhole (terms : Terms) (p : PassView) : Type 0 where
   pub quota : p.left + length p.receipts ≡ terms.quota
-  pub rows : p.rows ≡ record { first = 0; end = (grid_of terms).height }
+  pub rows : p.rows ≡ record { first = 0; end = (grid_of_terms terms).height }

@@ -7,7 +7,7 @@ use Rattle.sand_settle.specs.Drops.{OneView, IsAfter}
 use Rattle.sand_shared.specs.declared.view.Receipt.{Receipt}
 use Rattle.sand_shared.specs.declared.view.View.{View}
 use Rattle.sand_shared.specs.declared.view.Terms.{Terms}
-use Rattle.sand_shared.specs.OpenPile.{grid_of}
+use Rattle.sand_shared.specs.OpenPile.{grid_of_terms}
 use Rattle.sand_shared.specs.Running.{Stands}
 
 -- the start, the site of each drop by its number, and what these lead to
@@ -31,5 +31,5 @@ Tells receipts history = All (λ r. slice_get history r.number ≡ Some r.site) 
 -- the last moment of a pile: the pass has v on a lawful open pile, which has these heights
 pub record IsLast (t : Terms) (a : ℕ) (v : View) (heights : List ℕ) : Type 0 where
   pub stands : Stands t a v
-  pub one_each : length heights ≡ sites (grid_of t)
-  pub each_height : (i : ℕ) → i < sites (grid_of t) → slice_index heights i ≡ stands.pile.height i
+  pub one_each : length heights ≡ sites (grid_of_terms t)
+  pub each_height : (i : ℕ) → i < sites (grid_of_terms t) → slice_index heights i ≡ stands.pile.height i

@@ -5,14 +5,14 @@ use Rattle.atomic_table.specs.Table.{State, Me}
 use Rattle.sand_model.specs.Grid.{sites}
 use Rattle.sand_shared.specs.declared.view.View.{View}
 use Rattle.sand_shared.specs.declared.view.Terms.{Terms}
-use Rattle.sand_shared.specs.OpenPile.{OpenPile, grid_of, pass_at, AreTerms, IsLawful}
+use Rattle.sand_shared.specs.OpenPile.{OpenPile, grid_of_terms, pass_at, AreTerms, IsLawful}
 use Rattle.sand_shared.specs.Events.{Event, begin, draw, place, count, split, join, look, unload, deliver, unopened, May, after, AllHappen, after_all}
 
 -- the words and the views show this open pile
 pub record Shows (t : Terms) (p : OpenPile) (s : State ℕ View) : Type 0 where
-  pub wide : length s.words ≡ sites (grid_of t) + 2
+  pub wide : length s.words ≡ sites (grid_of_terms t) + 2
   pub number : slice_index s.words 1 ≡ length p.drawn
-  pub heights : (i : ℕ) → i < sites (grid_of t) → slice_index s.words (i + 2) ≡ p.height i
+  pub heights : (i : ℕ) → i < sites (grid_of_terms t) → slice_index s.words (i + 2) ≡ p.height i
   pub passes : s.views ≡ p.passes
 
 -- the rule: events have led from the first state to what the words and the views show

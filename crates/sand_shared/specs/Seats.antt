@@ -4,14 +4,14 @@ use Rattle.atomic_table.specs.declared.shared.Seat.{Seat}
 use Rattle.sand_model.specs.Grid.{Grid, sites}
 use Rattle.sand_shared.specs.declared.view.View.{View}
 use Rattle.sand_shared.specs.declared.view.Terms.{Terms}
-use Rattle.sand_shared.specs.OpenPile.{grid_of, AreTerms}
+use Rattle.sand_shared.specs.OpenPile.{grid_of_terms, AreTerms}
 use Rattle.sand_shared.specs.Passes.{SharedView}
 
 -- a number word, a word a site, and the base's own; and the lattice of the grid
 pub record AreWords (key : Terms) (lattice : Grid) (words : SharedView) : Type 0 where
   pub key_is : key ≡ words.terms
-  pub lattice_is : lattice ≡ grid_of words.terms
-  pub wide : words.table.words ≡ sites (grid_of words.terms) + 2
+  pub lattice_is : lattice ≡ grid_of_terms words.terms
+  pub wide : words.table.words ≡ sites (grid_of_terms words.terms) + 2
   pub no_slots : words.table.slots ≡ 0
   pub terms : AreTerms words.terms
 

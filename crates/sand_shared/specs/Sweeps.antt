@@ -7,7 +7,7 @@ use Rattle.sand_model.specs.Piles.{height_of}
 use Rattle.sand_settle.specs.Settling.{SettledView, odometer_of}
 use Rattle.sand_shared.specs.declared.view.View.{View}
 use Rattle.sand_shared.specs.declared.view.Terms.{Terms}
-use Rattle.sand_shared.specs.OpenPile.{grid_of, dropped, holds_site, toppled_by}
+use Rattle.sand_shared.specs.OpenPile.{grid_of_terms, dropped, holds_site, toppled_by}
 use Rattle.sand_shared.specs.Passes.{PassView, at_rest}
 
 -- the start and the grains of a pass's own receipts
@@ -16,25 +16,25 @@ laid t v i = height_of t.start i + dropped v.receipts i
 
 -- k is at most n at a site
 abbrev pub LeavesAtMost : Terms → View → ℕ → ℕ → Type 0
-LeavesAtMost t v i n = laid t v i + flow (grid_of t) (toppled_by v) i ≤ n + 4 * toppled_by v i
+LeavesAtMost t v i n = laid t v i + flow (grid_of_terms t) (toppled_by v) i ≤ n + 4 * toppled_by v i
 
 -- k is at least n at a site
 abbrev pub LeavesAtLeast : Terms → View → ℕ → ℕ → Type 0
-LeavesAtLeast t v i n = n + 4 * toppled_by v i ≤ laid t v i + flow (grid_of t) (toppled_by v) i
+LeavesAtLeast t v i n = n + 4 * toppled_by v i ≤ laid t v i + flow (grid_of_terms t) (toppled_by v) i
 
 -- nothing is left to topple: k is at most 3 everywhere
 abbrev pub IsCalm : Terms → View → Type 0
-IsCalm t v = (i : ℕ) → i < sites (grid_of t) → LeavesAtMost t v i 3
+IsCalm t v = (i : ℕ) → i < sites (grid_of_terms t) → LeavesAtMost t v i 3
 
 -- all of the quota, and all sites
 pub record HasAll (t : Terms) (v : View) : Type 0 where
   pub quota : t.quota ≤ v.left + length v.receipts
-  pub all_sites : (i : ℕ) → i < sites (grid_of t) → holds_site v i ≡ true
+  pub all_sites : (i : ℕ) → i < sites (grid_of_terms t) → holds_site v i ≡ true
 
 -- no more topplings than the start and the receipts need, site by site and in all
 pub record IsSparing (t : Terms) (v : View) : Type 0 where
-  pub needed : (w : ℕ → ℕ) → Stabilises (grid_of t) (laid t v) w → (i : ℕ) → i < sites (grid_of t) → toppled_by v i ≤ w i
-  pub weighed : 2 * sum v.counts ≤ weight (grid_of t) (laid t v)
+  pub needed : (w : ℕ → ℕ) → Stabilises (grid_of_terms t) (laid t v) w → (i : ℕ) → i < sites (grid_of_terms t) → toppled_by v i ≤ w i
+  pub weighed : 2 * sum v.counts ≤ weight (grid_of_terms t) (laid t v)
 
 -- a pass with these counts
 abbrev pub with_counts : View → List ℕ → View
@@ -68,7 +68,7 @@ pub record Swept (t : Terms) (v : View) (counts : List ℕ) (topplings : ℕ) : 
 -- r settles what a whole pass has left to topple: its counts and r's odometer together are the least odometer of the start
 -- and its receipts
 pub record IsRestOf (t : Terms) (p : PassView) (r : SettledView) : Type 0 where
-  pub grid : r.pile.grid ≡ grid_of t
-  pub heights_each : length r.pile.heights ≡ sites (grid_of t)
-  pub odometer_each : length r.odometer ≡ sites (grid_of t)
-  pub settled : IsSettled (grid_of t) (laid t (at_rest p)) (λ i. slice_index p.counts i + odometer_of r i) (height_of r.pile)
+  pub grid : r.pile.grid ≡ grid_of_terms t
+  pub heights_each : length r.pile.heights ≡ sites (grid_of_terms t)
+  pub odometer_each : length r.odometer ≡ sites (grid_of_terms t)
+  pub settled : IsSettled (grid_of_terms t) (laid t (at_rest p)) (λ i. slice_index p.counts i + odometer_of r i) (height_of r.pile)

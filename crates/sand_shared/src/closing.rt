@@ -7,7 +7,7 @@
 ghost use Rattle.std.specs.Prelude.{◌≡◌, ℕ, ◌+◌, ◌*◌, ◌^◌, ◌<◌, ◌≤◌, ◌↔◌, true, [], length, sum, slice_index, vec_capacity, IfOk, IfErr, OnOk, All};
 ghost use Rattle.sand_model.specs.Grid.{sites};
 ghost use Rattle.sand_settle.specs.Settling.{odometer_of};
-ghost use Rattle.sand_shared.specs.OpenPile.{grid_of};
+ghost use Rattle.sand_shared.specs.OpenPile.{grid_of_terms};
 ghost use Rattle.sand_shared.specs.Events.{looked};
 ghost use Rattle.sand_shared.specs.Passes.{IsPassOf, IsWhole, EachOnce};
 ghost use Rattle.sand_shared.specs.Record.{Tells, IsOneThreads};
@@ -28,7 +28,7 @@ impl Words {
         requires seat { IsSeatAt self.now seat.old }
         requires hand { seat.old.me.0.hand ≡ [] }
         requires counts { (seat.old.me.0.base ≡ 0) × (seat.old.me.0.counts ≡ counts.old.items) }
-        requires all { length counts.old.items ≡ sites (grid_of self.now.terms) }
+        requires all { length counts.old.items ≡ sites (grid_of_terms self.now.terms) }
         ensures seat { StaysSeated seat.old seat.new }
         ensures view { seat.new.me.0 ≡ record (looked seat.old.me.0 seat.new.me.0.spot seat.new.me.0.least) { counts = counts.new.items } }
         ensures long { length counts.new.items ≡ length counts.old.items }

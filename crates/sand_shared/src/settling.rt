@@ -8,7 +8,7 @@ ghost use Rattle.sand_model.specs.Grid.{sites};
 ghost use Rattle.sand_model.specs.Sand.{IsUnderway};
 ghost use Rattle.sand_model.specs.Piles.{height_of, most_grains};
 ghost use Rattle.sand_settle.specs.Settling.{odometer_of};
-ghost use Rattle.sand_shared.specs.OpenPile.{grid_of, toppled_by};
+ghost use Rattle.sand_shared.specs.OpenPile.{grid_of_terms, toppled_by};
 ghost use Rattle.sand_shared.specs.Events.{looked};
 ghost use Rattle.sand_shared.specs.Passes.{IsPassOf, IsWhole, at_rest};
 ghost use Rattle.sand_shared.specs.Record.{Tells, IsOneThreads};
@@ -33,13 +33,13 @@ impl Words {
         requires seat { IsSeatAt self.now seat.old }
         requires hand { seat.old.me.0.hand ≡ [] }
         requires all { HasAll self.now.terms seat.old.me.0 }
-        requires rows { seat.old.me.0.base + length seat.old.me.0.counts ≤ sites (grid_of self.now.terms) }
-        requires room { (heights.old.items ≡ []) × (sites (grid_of self.now.terms) ≤ vec_capacity heights.old) }
+        requires rows { seat.old.me.0.base + length seat.old.me.0.counts ≤ sites (grid_of_terms self.now.terms) }
+        requires room { (heights.old.items ≡ []) × (sites (grid_of_terms self.now.terms) ≤ vec_capacity heights.old) }
         ensures seat { StaysSeated seat.old seat.new }
         ensures view { seat.new.me.0 ≡ looked seat.old.me.0 seat.new.me.0.spot seat.new.me.0.least }
-        ensures long { length heights.new.items ≡ sites (grid_of self.now.terms) }
+        ensures long { length heights.new.items ≡ sites (grid_of_terms self.now.terms) }
         ensures limit { sum heights.new.items ≤ most_grains }
-        ensures underway { IsUnderway (grid_of self.now.terms) (laid self.now.terms seat.old.me.0) (toppled_by seat.old.me.0) (slice_index heights.new.items) }
+        ensures underway { IsUnderway (grid_of_terms self.now.terms) (laid self.now.terms seat.old.me.0) (toppled_by seat.old.me.0) (slice_index heights.new.items) }
     {
         let sites = self.terms().start.shape().sites();
         'sites: for site in 0..sites {
@@ -115,8 +115,8 @@ impl SharedPile {
         requires whole { IsWhole self.now.terms pass.old }
         requires room { (heights.items ≡ []) × (length pass.old.counts ≤ vec_capacity heights) }
         ensures pass { pass.new ≡ pass.old }
-        ensures grid { result.grid ≡ grid_of self.now.terms }
-        ensures underway { IsUnderway (grid_of self.now.terms) (laid self.now.terms (at_rest pass.old)) (slice_index pass.old.counts) (height_of result) }
+        ensures grid { result.grid ≡ grid_of_terms self.now.terms }
+        ensures underway { IsUnderway (grid_of_terms self.now.terms) (laid self.now.terms (at_rest pass.old)) (slice_index pass.old.counts) (height_of result) }
     {
         self.words.read(&mut pass.seat, &mut heights);
         Pile::from_vec(pass.shape, heights)

@@ -2,7 +2,7 @@
 
 ghost use Rattle.std.specs.Prelude.{◌≡◌, ℕ, ◌+◌, ◌-◌, ◌<◌, ◌≤◌, ◌↔◌, [], ◌∷◌, ◌++◌, sum, IfOk, IsErr, OnErr, IsTrue};
 ghost use Rattle.sand_model.specs.Grid.{sites};
-ghost use Rattle.sand_shared.specs.OpenPile.{grid_of};
+ghost use Rattle.sand_shared.specs.OpenPile.{grid_of_terms};
 ghost use Rattle.sand_shared.specs.Events.{receipt, zeros};
 ghost use Rattle.sand_shared.specs.Passes.{IsPassOf, IsWhole};
 ghost use Rattle.sand_shared.specs.Rows.{no_rows};
@@ -80,7 +80,7 @@ impl SharedPile {
     /// left.
     pub fn drop_at(&self, pass: &mut Pass, site: usize) -> Result<u64, DropFault>
         requires pass { IsPassOf self.now pass.old }
-        requires site { site < sites (grid_of self.now.terms) }
+        requires site { site < sites (grid_of_terms self.now.terms) }
         ensures of_pile { IsPassOf self.now pass.new }
         ensures spent { IsErr result ↔ (pass.old.left ≡ 0) }
         ensures unchanged { OnErr result (pass.new ≡ pass.old) }

@@ -7,7 +7,7 @@
 ghost use Rattle.std.specs.Prelude.{◌≡◌, ℕ, ◌+◌, ◌-◌, ◌*◌, ◌^◌, ◌<◌, ◌≤◌, ◌||◌, true, [], ◌∷◌, All, length, count_by, slice_index, vec_capacity, IfOk};
 ghost use Rattle.std.specs.Mem.Slots.{slots_items, slots_len, IsFull};
 ghost use Rattle.sand_model.specs.Grid.{sites, places};
-ghost use Rattle.sand_shared.specs.OpenPile.{grid_of, holds_site, AreTerms};
+ghost use Rattle.sand_shared.specs.OpenPile.{grid_of_terms, holds_site, AreTerms};
 ghost use Rattle.sand_shared.specs.Events.{draw, all_draws, all_places, count, split, look, unload, deliver, grains, are_for, behind_first, first_pass, parent, child, joined, follows};
 ghost use Rattle.sand_shared.specs.Running.{Happened, HappenedInARow, Stands, actor};
 ghost use Rattle.sand_shared.specs.Record.{IsLast};
@@ -83,8 +83,8 @@ impl Words {
     /// The places north, west, east and south of a site, in that order.
     #[inline(always)]
     pub(crate) fn neighbours(&self, site: usize) -> [Option<usize>; 4]
-        requires { site < sites (grid_of self.now.terms) }
-        ensures { result ≡ places (grid_of self.now.terms) site }
+        requires { site < sites (grid_of_terms self.now.terms) }
+        ensures { result ≡ places (grid_of_terms self.now.terms) site }
     {
         self.lattice.neighbours(site)
     }
@@ -93,7 +93,7 @@ impl Words {
     pub(crate) fn draw<J: Picked>(&self, seat: &mut PassSeat, _site: usize) -> u64
         requires seat { IsSeatAt self.now seat.old }
         requires left { 0 < seat.old.me.0.left }
-        requires site { _site < sites (grid_of self.now.terms) }
+        requires site { _site < sites (grid_of_terms self.now.terms) }
         requires picked { (J.terms ≡ self.now.terms) × (J.event ≡ draw seat.old.id _site) }
         ensures seat { StaysSeated seat.old seat.new }
         ensures happened { Happened self.now.terms (draw seat.old.id _site) seat.old.me.0 result seat.new.me.0 }
@@ -106,7 +106,7 @@ impl Words {
         requires seat { IsSeatAt self.now seat.old }
         requires some { 0 < length drops.now }
         requires left { length drops.now ≤ seat.old.me.0.left }
-        requires inside { All (λ i. i < sites (grid_of self.now.terms)) drops.now }
+        requires inside { All (λ i. i < sites (grid_of_terms self.now.terms)) drops.now }
         requires picked { (J.terms ≡ self.now.terms) × (J.pass ≡ seat.old.id) × (J.events ≡ all_draws seat.old.id drops.now) }
         ensures seat { StaysSeated seat.old seat.new }
         ensures happened { HappenedInARow self.now.terms seat.old.id (all_draws seat.old.id drops.now) seat.old.me.0 result seat.new.me.0 }
@@ -121,7 +121,7 @@ impl Words {
         requires seat { IsSeatAt self.now seat.old }
         requires some { 0 < amount }
         requires hand { amount ≤ count_by (are_for site 1) seat.old.me.0.hand }
-        requires site { site < sites (grid_of self.now.terms) }
+        requires site { site < sites (grid_of_terms self.now.terms) }
         requires picked { (J.terms ≡ self.now.terms) × (J.pass ≡ seat.old.id) × (J.events ≡ all_places seat.old.id site amount) }
         ensures seat { StaysSeated seat.old seat.new }
         ensures happened { (n : ℕ) × HappenedInARow self.now.terms seat.old.id (all_places seat.old.id site amount) seat.old.me.0 n seat.new.me.0 }
@@ -145,7 +145,7 @@ impl Words {
     pub(crate) fn look<J: Picked>(&self, seat: &mut PassSeat, site: usize) -> u64
         requires seat { IsSeatAt self.now seat.old }
         requires own { holds_site seat.old.me.0 site ≡ true }
-        requires site { site < sites (grid_of self.now.terms) }
+        requires site { site < sites (grid_of_terms self.now.terms) }
         requires picked { (J.terms ≡ self.now.terms) × (J.event ≡ look seat.old.id site) }
         ensures seat { StaysSeated seat.old seat.new }
         ensures happened { Happened self.now.terms (look seat.old.id site) seat.old.me.0 result seat.new.me.0 }
@@ -158,7 +158,7 @@ impl Words {
         requires seat { IsSeatAt self.now seat.old }
         requires own { (holds_site seat.old.me.0 site ≡ true) × (seat.old.me.0.spot ≡ site) }
         requires there { 4 * times ≤ seat.old.me.0.least }
-        requires site { site < sites (grid_of self.now.terms) }
+        requires site { site < sites (grid_of_terms self.now.terms) }
         requires small { 4 * times < 2 ^ 64 }
         requires picked { (J.terms ≡ self.now.terms) × (J.event ≡ unload seat.old.id site times) }
         ensures seat { StaysSeated seat.old seat.new }
@@ -173,7 +173,7 @@ impl Words {
     pub(crate) fn deliver<J: Picked>(&self, seat: &mut PassSeat, site: usize, amount: u64)
         requires seat { IsSeatAt self.now seat.old }
         requires hand { seat.old.me.0.hand ≡ grains site amount ∷ behind_first seat.old.me.0.hand }
-        requires site { site < sites (grid_of self.now.terms) }
+        requires site { site < sites (grid_of_terms self.now.terms) }
         requires picked { (J.terms ≡ self.now.terms) × (J.event ≡ deliver seat.old.id site amount) }
         ensures seat { StaysSeated seat.old seat.new }
         ensures happened { (n : ℕ) × Happened self.now.terms (deliver seat.old.id site amount) seat.old.me.0 n seat.new.me.0 }
@@ -229,7 +229,7 @@ impl Words {
     /// Closes the table with the seat of a pass, and reads the heights into a list that has room for them.
     pub(crate) fn close(self, seat: PassSeat, heights: &mut Vec<u64>) -> Terms
         requires seat { IsSeatAt self seat }
-        requires room { (heights.old.items ≡ []) × (sites (grid_of self.terms) ≤ vec_capacity heights.old) }
+        requires room { (heights.old.items ≡ []) × (sites (grid_of_terms self.terms) ≤ vec_capacity heights.old) }
         ensures terms { result ≡ self.terms }
         ensures last { IsLast self.terms seat.id seat.me.0 heights.new.items }
     {

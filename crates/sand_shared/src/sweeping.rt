@@ -6,7 +6,7 @@
 
 ghost use Rattle.std.specs.Prelude.{◌≡◌, ℕ, ◌+◌, ◌*◌, ◌^◌, ◌<◌, ◌≤◌, true, [], ◌∷◌, length, sum, IfSome};
 ghost use Rattle.sand_model.specs.Grid.{sites, places};
-ghost use Rattle.sand_shared.specs.OpenPile.{grid_of, holds_site};
+ghost use Rattle.sand_shared.specs.OpenPile.{grid_of_terms, holds_site};
 ghost use Rattle.sand_shared.specs.Events.{looked, raised, sent, grains, behind_first, delivered_to};
 ghost use Rattle.sand_shared.specs.Seats.{IsSeatAt, StaysSeated};
 ghost use Rattle.sand_shared.specs.Sweeps.{LeavesAtMost, LeavesAtLeast, HasAll, IsSparing, Swept};
@@ -24,7 +24,7 @@ impl Words {
     fn deliver_to(&self, seat: &mut PassSeat, place: Option<usize>, times: u64)
         requires seat { IsSeatAt self.now seat.old }
         requires hand { IfSome place (λ j. seat.old.me.0.hand ≡ grains j times ∷ behind_first seat.old.me.0.hand) }
-        requires site { IfSome place (λ j. j < sites (grid_of self.now.terms)) }
+        requires site { IfSome place (λ j. j < sites (grid_of_terms self.now.terms)) }
         ensures seat { StaysSeated seat.old seat.new }
         ensures view { seat.new.me.0 ≡ delivered_to place seat.old.me.0 }
     {
@@ -37,7 +37,7 @@ impl Words {
     fn deliver_around(&self, seat: &mut PassSeat, site: usize, times: u64)
         requires seat { IsSeatAt self.now seat.old }
         requires hand { seat.old.me.0.hand ≡ sent self.now.terms site times }
-        requires site { site < sites (grid_of self.now.terms) }
+        requires site { site < sites (grid_of_terms self.now.terms) }
         ensures seat { StaysSeated seat.old seat.new }
         ensures view { seat.new.me.0 ≡ record seat.old.me.0 { hand = [] } }
     {
@@ -53,8 +53,8 @@ impl Words {
         requires seat { IsSeatAt self.now seat.old }
         requires hand { seat.old.me.0.hand ≡ [] }
         requires own { holds_site seat.old.me.0 site ≡ true }
-        requires rows { seat.old.me.0.base + length seat.old.me.0.counts ≤ sites (grid_of self.now.terms) }
-        requires site { site < sites (grid_of self.now.terms) }
+        requires rows { seat.old.me.0.base + length seat.old.me.0.counts ≤ sites (grid_of_terms self.now.terms) }
+        requires site { site < sites (grid_of_terms self.now.terms) }
         ensures seat { StaysSeated seat.old seat.new }
         ensures view { seat.new.me.0 ≡ record (looked seat.old.me.0 site seat.new.me.0.least) { counts = raised seat.old.me.0 site result } }
         ensures few { sum seat.new.me.0.counts < 2 ^ 54 }
@@ -75,7 +75,7 @@ impl Words {
         requires seat { IsSeatAt self.now seat.old }
         requires hand { seat.old.me.0.hand ≡ [] }
         requires counts { (seat.old.me.0.base ≡ base) × (seat.old.me.0.counts ≡ counts.old.items) }
-        requires rows { base + length counts.old.items ≤ sites (grid_of self.now.terms) }
+        requires rows { base + length counts.old.items ≤ sites (grid_of_terms self.now.terms) }
         ensures seat { StaysSeated seat.old seat.new }
         ensures view { seat.new.me.0 ≡ record (looked seat.old.me.0 seat.new.me.0.spot seat.new.me.0.least) { counts = counts.new.items } }
         ensures swept { Swept self.now.terms seat.old.me.0 counts.new.items result }

@@ -8,7 +8,7 @@
 ghost use Rattle.std.specs.Prelude.{◌≡◌, ℕ, ◌+◌, ◌-◌, ◌^◌, ◌<◌, ◌≤◌, ◌↔◌, [], ◌++◌, All, length, slice_index, vec_capacity, IfOk, IsErr, OnErr};
 ghost use Rattle.sand_model.specs.Grid.{sites};
 ghost use Rattle.sand_model.specs.Sand.{tally};
-ghost use Rattle.sand_shared.specs.OpenPile.{grid_of};
+ghost use Rattle.sand_shared.specs.OpenPile.{grid_of_terms};
 ghost use Rattle.sand_shared.specs.Events.{zeros, receipts_from, one_for_each};
 ghost use Rattle.sand_shared.specs.Passes.{IsPassOf};
 ghost use Rattle.sand_shared.specs.Seats.{IsSeatAt, StaysSeated};
@@ -38,12 +38,12 @@ impl Words {
     fn place_all(&self, seat: &mut PassSeat, drops: &[usize], counts: &mut Vec<u64>)
         requires seat { IsSeatAt self.now seat.old }
         requires hand { seat.old.me.0.hand ≡ one_for_each drops.now }
-        requires inside { All (λ i. i < sites (grid_of self.now.terms)) drops.now }
-        requires long { length counts.old.items ≡ sites (grid_of self.now.terms) }
-        requires counted { (i : ℕ) → i < sites (grid_of self.now.terms) → slice_index counts.old.items i ≡ tally drops.now i }
+        requires inside { All (λ i. i < sites (grid_of_terms self.now.terms)) drops.now }
+        requires long { length counts.old.items ≡ sites (grid_of_terms self.now.terms) }
+        requires counted { (i : ℕ) → i < sites (grid_of_terms self.now.terms) → slice_index counts.old.items i ≡ tally drops.now i }
         ensures seat { StaysSeated seat.old seat.new }
         ensures view { seat.new.me.0 ≡ record seat.old.me.0 { hand = [] } }
-        ensures none { counts.new.items ≡ zeros (sites (grid_of self.now.terms)) }
+        ensures none { counts.new.items ≡ zeros (sites (grid_of_terms self.now.terms)) }
     {
         'drops: for site in drops.iter() {
             let amount = counts[*site];
@@ -82,8 +82,8 @@ impl SharedPile {
         counts: &mut SiteCounts,
     ) -> Result<u64, DropFault>
         requires pass { IsPassOf self.now pass.old }
-        requires inside { All (λ i. i < sites (grid_of self.now.terms)) drops.now }
-        requires counts { counts.old ≡ grid_of self.now.terms }
+        requires inside { All (λ i. i < sites (grid_of_terms self.now.terms)) drops.now }
+        requires counts { counts.old ≡ grid_of_terms self.now.terms }
         ensures of_pile { IsPassOf self.now pass.new }
         ensures counts { counts.new ≡ counts.old }
         ensures spent { IsErr result ↔ (pass.old.left < length drops.now) }

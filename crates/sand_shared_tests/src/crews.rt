@@ -3,7 +3,7 @@
 ghost use Rattle.std.specs.Prelude.{◌≡◌, ◌<◌, IfSome};
 ghost use Rattle.std.specs.Thread.{IsSync};
 ghost use Rattle.sand_model.specs.Grid.{sites};
-ghost use Rattle.sand_shared.specs.OpenPile.{grid_of};
+ghost use Rattle.sand_shared.specs.OpenPile.{grid_of_terms};
 ghost use Rattle.sand_shared.specs.Passes.{IsPassOf};
 
 use crate::meeting::Meeting;
@@ -44,7 +44,7 @@ fn alone(
     site: usize,
 ) -> Option<Pass>
     requires pass { IsPassOf pile.now pass }
-    requires shape { shape ≡ grid_of pile.now.terms }
+    requires shape { shape ≡ grid_of_terms pile.now.terms }
     requires site { site < sites shape }
     ensures { IfSome result (λ p. IsPassOf pile.now p) }
 {
@@ -89,7 +89,7 @@ fn crew<R: Threads + Sync>(
     depth: u32,
 ) -> Option<Pass>
     requires pass { IsPassOf pile.now pass }
-    requires shape { shape ≡ grid_of pile.now.terms }
+    requires shape { shape ≡ grid_of_terms pile.now.terms }
     requires site { site < sites shape }
     ensures { IfSome result (λ p. IsPassOf pile.now p) }
 {
@@ -101,11 +101,11 @@ fn crew<R: Threads + Sync>(
     let (one, other) = join(
         rt,
         move || -> Option<Pass>
-            requires { IsSync R.row × IsPassOf pile.now pass × (shape ≡ grid_of pile.now.terms) × (site < sites shape) }
+            requires { IsSync R.row × IsPassOf pile.now pass × (shape ≡ grid_of_terms pile.now.terms) × (site < sites shape) }
             ensures { IfSome result (λ p. IsPassOf pile.entry.now p) }
         { crew(rt, alloc, pile, meeting, pass, shape, site, below) },
         move || -> Option<Pass>
-            requires { IsSync R.row × IsPassOf pile.now half × (shape ≡ grid_of pile.now.terms) × (site < sites shape) }
+            requires { IsSync R.row × IsPassOf pile.now half × (shape ≡ grid_of_terms pile.now.terms) × (site < sites shape) }
             ensures { IfSome result (λ p. IsPassOf pile.entry.now p) }
         { crew(rt, alloc, pile, meeting, half, shape, site, below) },
     );

@@ -2,7 +2,7 @@
 
 ghost use Rattle.std.specs.Prelude.{◌≡◌, ◌+◌, ◌<◌};
 ghost use Rattle.sand_model.specs.Grid.{sites};
-ghost use Rattle.sand_shared.specs.OpenPile.{grid_of};
+ghost use Rattle.sand_shared.specs.OpenPile.{grid_of_terms};
 ghost use Rattle.sand_shared.specs.Passes.{IsPassOf};
 
 use crate::meeting::both_at_once;
@@ -16,7 +16,7 @@ use std::test::Fail;
 /// Drops the first grains on a pile, at site 0, and looks at their numbers.
 pub(crate) fn drop_all(rt: &impl Abort, pile: &SharedPile, pass: &mut Pass, drops: u64)
     requires pass { IsPassOf pile.now pass.old }
-    requires site { 0 < sites (grid_of pile.now.terms) }
+    requires site { 0 < sites (grid_of_terms pile.now.terms) }
     ensures of_pile { IsPassOf pile.now pass.new }
     ensures taken { pass.new.left + drops ≡ pass.old.left }
 {

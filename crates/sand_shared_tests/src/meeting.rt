@@ -2,7 +2,7 @@
 
 ghost use Rattle.std.specs.Prelude.{◌<◌, IfSome};
 ghost use Rattle.sand_model.specs.Grid.{sites};
-ghost use Rattle.sand_shared.specs.OpenPile.{grid_of};
+ghost use Rattle.sand_shared.specs.OpenPile.{grid_of_terms};
 ghost use Rattle.sand_shared.specs.Passes.{IsPassOf};
 
 use sand_shared::{Pass, SharedPile};
@@ -46,7 +46,7 @@ fn take_part(
     site: Option<usize>,
 ) -> (Pass, bool)
     requires pass { IsPassOf pile.now pass }
-    requires site { IfSome site (λ s. s < sites (grid_of pile.now.terms)) }
+    requires site { IfSome site (λ s. s < sites (grid_of_terms pile.now.terms)) }
     ensures { IsPassOf pile.now result.0 }
 {
     let met = meeting.met(2);
@@ -71,8 +71,8 @@ pub fn both_at_once<R: Threads + Sync>(
 ) -> (Pass, Pass, bool)
     requires one { IsPassOf pile.now one }
     requires other { IsPassOf pile.now other }
-    requires here { IfSome here (λ s. s < sites (grid_of pile.now.terms)) }
-    requires there { IfSome there (λ s. s < sites (grid_of pile.now.terms)) }
+    requires here { IfSome here (λ s. s < sites (grid_of_terms pile.now.terms)) }
+    requires there { IfSome there (λ s. s < sites (grid_of_terms pile.now.terms)) }
     ensures one { IsPassOf pile.now result.0 }
     ensures other { IsPassOf pile.now result.1 }
 {
@@ -81,11 +81,11 @@ pub fn both_at_once<R: Threads + Sync>(
     let (first, second) = join(
         rt,
         move || -> (Pass, bool)
-            requires { IsPassOf pile.now one × IfSome here (λ s. s < sites (grid_of pile.now.terms)) }
+            requires { IsPassOf pile.now one × IfSome here (λ s. s < sites (grid_of_terms pile.now.terms)) }
             ensures { IsPassOf pile.entry.now result.0 }
         { take_part(pile, place, one, here) },
         move || -> (Pass, bool)
-            requires { IsPassOf pile.now other × IfSome there (λ s. s < sites (grid_of pile.now.terms)) }
+            requires { IsPassOf pile.now other × IfSome there (λ s. s < sites (grid_of_terms pile.now.terms)) }
             ensures { IsPassOf pile.entry.now result.0 }
         { take_part(pile, place, other, there) },
     );

@@ -14,7 +14,7 @@ use Rattle.std.proofs.lemmas.Bool.Decides.{nat_tests}
 use Rattle.std.proofs.lemmas.Grind.{pieces}
 use Rattle.sand_model.specs.declared.shape.Edge.{Edge}
 use Rattle.sand_model.specs.declared.shape.Edge.TheVariants.{Open, Cylinder}
-use Rattle.sand_model.specs.Grid.{Grid, IsGrid, grid_of, joins, is_side, sites}
+use Rattle.sand_model.specs.Grid.{Grid, IsGrid, grid_with_edge, joins, is_side, sites}
 use Rattle.sand_model.specs.Piles.{PileView, IsPile, most_grains}
 use Rattle.sand_text.specs.declared.tokens.Token.{Token}
 use Rattle.sand_text.specs.declared.tokens.Token.TheVariants.{Number, Letter}
@@ -179,7 +179,7 @@ wide_enough Open w h = refl
 wide_enough Cylinder w h = let wide : 3 ≤ w = h refl in grind (arith, nat_tests)
 
 -- a grid is made of its own sides
-grid_again : (g : Grid) → IsGrid g → grid_of g.width g.height g.edge ≡ Ok g
+grid_again : (g : Grid) → IsGrid g → grid_with_edge g.width g.height g.edge ≡ Ok g
 grid_again g h =
     let sides : (is_side g.width && is_side g.height) ≡ true = grind (arith, nat_tests, h.some_width, h.width_limit, h.some_height, h.height_limit) in
     let wide : (joins g.edge && ltb g.width 3) ≡ false = wide_enough g.edge g.width h.wide in

@@ -9,7 +9,7 @@ use Rattle.sand_model.specs.declared.shape.Edge.{Edge}
 use Rattle.sand_model.specs.declared.shape.Edge.TheVariants.{Open, Cylinder}
 use Rattle.sand_model.specs.declared.faults.ShapeFault.{ShapeFault}
 use Rattle.sand_model.specs.declared.faults.ShapeFault.TheVariants.{Side, Narrow}
-use Rattle.sand_model.specs.Grid.{Grid, grid_of, is_side, joins, sites}
+use Rattle.sand_model.specs.Grid.{Grid, grid_with_edge, is_side, joins, sites}
 use Rattle.sand_text.specs.declared.fault.TextFault.TheVariants.{Text, Length, TooManyGrains}
 use Rattle.sand_text.specs.declared.survey.Survey.{Survey}
 use Rattle.sand_text.specs.declared.tokens.Token.{Token}
@@ -81,20 +81,20 @@ too_few last end ws rest s h ends lt = elim (by_end last rest s ends) [
   | inr full ↦ absurd (omega (arith, full_count s full.1))
 ]
 
-many : (e : Edge) (last : Bool) (end : ℕ) (ns : List ℕ) → 2 ≤ length ns → pile_at e last end ns ≡ filled last (grid_of (get_or ns 0 0) (get_or ns 1 0) e) (drop 2 ns)
+many : (e : Edge) (last : Bool) (end : ℕ) (ns : List ℕ) → 2 ≤ length ns → pile_at e last end ns ≡ filled last (grid_with_edge (get_or ns 0 0) (get_or ns 1 0) e) (drop 2 ns)
 many e last end [] lt = absurd (omega arith)
 many e last end (w ∷ []) lt = absurd (omega arith)
 many e last end (w ∷ h ∷ ns) lt = refl
 
 -- the sides, and the numbers behind them
-sized : (last : Bool) (end : ℕ) (ws rest : List Token) (s : Survey) (grid : Result Grid ShapeFault) → IsUnderway ws rest s → IsEnd last rest s → 2 ≤ s.count → grid ≡ grid_of s.width s.height s.edge
+sized : (last : Bool) (end : ℕ) (ws rest : List Token) (s : Survey) (grid : Result Grid ShapeFault) → IsUnderway ws rest s → IsEnd last rest s → 2 ≤ s.count → grid ≡ grid_with_edge s.width s.height s.edge
     → pile_at (edge_behind 2 0 ws) last end (numbers ws) ≡ filled last grid (drop 2 (numbers ws))
 sized last end ws rest s grid h ends le is =
     let ns = numbers ws in
-    let sides : grid ≡ grid_of (get_or ns 0 0) (get_or ns 1 0) s.edge = is ∙ (ap (λ w. grid_of w s.height s.edge) (h.width (omega arith)) ∙ ap (λ x. grid_of (get_or ns 0 0) x s.edge) (h.height (omega arith))) in
+    let sides : grid ≡ grid_with_edge (get_or ns 0 0) (get_or ns 1 0) s.edge = is ∙ (ap (λ w. grid_with_edge w s.height s.edge) (h.width (omega arith)) ∙ ap (λ x. grid_with_edge (get_or ns 0 0) x s.edge) (h.height (omega arith))) in
     rw (sym (edge_found last ws rest s h ends)) (many s.edge last end ns (omega (arith, h.within)) ∙ ap (λ g. filled last g (drop 2 ns)) (sym sides))
 
-pub no_shape : (last : Bool) (end : ℕ) (ws rest : List Token) (s : Survey) (fault : ShapeFault) → IsUnderway ws rest s → IsEnd last rest s → 2 ≤ s.count → Err fault ≡ grid_of s.width s.height s.edge
+pub no_shape : (last : Bool) (end : ℕ) (ws rest : List Token) (s : Survey) (fault : ShapeFault) → IsUnderway ws rest s → IsEnd last rest s → 2 ≤ s.count → Err fault ≡ grid_with_edge s.width s.height s.edge
     → pile_at (edge_behind 2 0 ws) last end (numbers ws) ≡ Err (of_shape fault)
 no_shape last end ws rest s fault h ends le is = sized last end ws rest s (Err fault) h ends le is
 
@@ -111,11 +111,11 @@ both true true is = (refl, refl)
 both true false is = absurd (cc)
 both false b is = absurd (cc)
 
-in_range : (s : Survey) (g : Grid) → Ok g ≡ grid_of s.width s.height s.edge → IsTrue (is_side s.width) × IsTrue (is_side s.height)
+in_range : (s : Survey) (g : Grid) → Ok g ≡ grid_with_edge s.width s.height s.edge → IsTrue (is_side s.width) × IsTrue (is_side s.height)
 in_range s g is = both (is_side s.width) (is_side s.height) (made_of (is_side s.width && is_side s.height) (joins s.edge && ltb s.width 3) s.width s.height s.edge g is).0
 
 -- the sides of a grid are so small that the number of its sites fits
-fitting : (s : Survey) (g : Grid) → Ok g ≡ grid_of s.width s.height s.edge → (s.width * s.height ≡ sites g) × (sites_of s ≡ sites g)
+fitting : (s : Survey) (g : Grid) → Ok g ≡ grid_with_edge s.width s.height s.edge → (s.width * s.height ≡ sites g) × (sites_of s ≡ sites g)
 fitting s g is =
     let made = made_of (is_side s.width && is_side s.height) (joins s.edge && ltb s.width 3) s.width s.height s.edge g is in
     let some = made.0 in
@@ -128,7 +128,7 @@ fitting s g is =
 -- ---- how many heights there are
 
 -- the numbers that were surveyed are as many as are wanted where all numbers are
-same_count : (last : Bool) (ws rest : List Token) (s : Survey) (g : Grid) → IsUnderway ws rest s → IsEnd last rest s → Ok g ≡ grid_of s.width s.height s.edge → is_count last (length (drop 2 (numbers ws))) (sites g) ≡ is_count last (s.count - 2) (sites g)
+same_count : (last : Bool) (ws rest : List Token) (s : Survey) (g : Grid) → IsUnderway ws rest s → IsEnd last rest s → Ok g ≡ grid_with_edge s.width s.height s.edge → is_count last (length (drop 2 (numbers ws))) (sites g) ≡ is_count last (s.count - 2) (sites g)
 same_count last ws rest s g h ends is = elim (by_end last rest s ends) [
   | inl none ↦
       let all : length (drop 2 (numbers ws)) ≡ s.count - 2 = omega (arith, all_taken ws rest s h none, length-drop 2 (numbers ws)) in
@@ -144,7 +144,7 @@ some_heights : (last : Bool) (count wanted : ℕ) → is_count last count wanted
 some_heights true count wanted e = grind (arith, nat_tests)
 some_heights false count wanted e = grind (arith, nat_tests)
 
-pub wrong_count : (last : Bool) (end : ℕ) (ws rest : List Token) (s : Survey) (g : Grid) → IsUnderway ws rest s → IsEnd last rest s → 2 ≤ s.count → Ok g ≡ grid_of s.width s.height s.edge → is_count last (s.count - 2) (sites g) ≡ false
+pub wrong_count : (last : Bool) (end : ℕ) (ws rest : List Token) (s : Survey) (g : Grid) → IsUnderway ws rest s → IsEnd last rest s → 2 ≤ s.count → Ok g ≡ grid_with_edge s.width s.height s.edge → is_count last (s.count - 2) (sites g) ≡ false
     → pile_at (edge_behind 2 0 ws) last end (numbers ws) ≡ Err Length
 wrong_count last end ws rest s g h ends le is wrong = sized last end ws rest s (Ok g) h ends le is ∙ rw (same_count last ws rest s g h ends is, wrong) refl
 
@@ -155,14 +155,14 @@ counted ws rest s g h room some =
     let front : take (sites g) (noted s.count ws) ≡ take (sites g) (drop 2 (numbers ws)) = take-take (sites g) (s.count - 2) (drop 2 (numbers ws)) some in
     rw (room, front) at h.grains
 
-pub too_many : (last : Bool) (end : ℕ) (ws rest : List Token) (s : Survey) (g : Grid) → IsUnderway ws rest s → IsEnd last rest s → 2 ≤ s.count → Ok g ≡ grid_of s.width s.height s.edge → is_count last (s.count - 2) (sites g) ≡ true → most_grains < s.grains
+pub too_many : (last : Bool) (end : ℕ) (ws rest : List Token) (s : Survey) (g : Grid) → IsUnderway ws rest s → IsEnd last rest s → 2 ≤ s.count → Ok g ≡ grid_with_edge s.width s.height s.edge → is_count last (s.count - 2) (sites g) ≡ true → most_grains < s.grains
     → pile_at (edge_behind 2 0 ws) last end (numbers ws) ≡ Err TooManyGrains
 too_many last end ws rest s g h ends le is right more =
     let grains = counted ws rest s g h (fitting s g is).1 (some_heights last (s.count - 2) (sites g) right) in
     let over : ltb most_grains (sum (take (sites g) (drop 2 (numbers ws)))) ≡ true = grind (arith, nat_tests) in
     sized last end ws rest s (Ok g) h ends le is ∙ rw (same_count last ws rest s g h ends is, right, over) refl
 
-pub shaped : (last : Bool) (end : ℕ) (ws rest : List Token) (s : Survey) (g : Grid) → IsUnderway ws rest s → IsEnd last rest s → 2 ≤ s.count → Ok g ≡ grid_of s.width s.height s.edge → is_count last (s.count - 2) (sites g) ≡ true → s.grains ≤ most_grains
+pub shaped : (last : Bool) (end : ℕ) (ws rest : List Token) (s : Survey) (g : Grid) → IsUnderway ws rest s → IsEnd last rest s → 2 ≤ s.count → Ok g ≡ grid_with_edge s.width s.height s.edge → is_count last (s.count - 2) (sites g) ≡ true → s.grains ≤ most_grains
     → IsShaped last end ws s g
 shaped last end ws rest s g h ends le is right within =
     let some = some_heights last (s.count - 2) (sites g) right in

@@ -3,7 +3,7 @@ use Rattle.std.specs.Prelude.{◌≡◌, ℕ, ◌+◌, ◌*◌, List, [], ◌∷
 use Rattle.sand_model.specs.declared.shape.Edge.{Edge}
 use Rattle.sand_model.specs.declared.faults.ShapeFault.{ShapeFault}
 use Rattle.sand_model.specs.declared.faults.ShapeFault.TheVariants as shape_faults
-use Rattle.sand_model.specs.Grid.{Grid, grid_of, is_side, sites}
+use Rattle.sand_model.specs.Grid.{Grid, grid_with_edge, is_side, sites}
 use Rattle.sand_model.specs.Piles.{PileView, most_grains}
 use Rattle.sand_text.specs.declared.fault.TextFault.{TextFault}
 use Rattle.sand_text.specs.declared.fault.TextFault.TheVariants.{Text, TooLarge, Side, Narrow, Length, TooManyGrains, NoSite}
@@ -46,7 +46,7 @@ filled last (Ok g) ns = if is_count last (length ns) (sites g)
 abbrev pub pile_at : Edge → Bool → ℕ → List ℕ → Result (PileView × List ℕ) TextFault
 pile_at edge last end [] = Err (Text end)
 pile_at edge last end (w ∷ []) = Err (Text end)
-pile_at edge last end (w ∷ h ∷ ns) = filled last (grid_of w h edge) ns
+pile_at edge last end (w ∷ h ∷ ns) = filled last (grid_with_edge w h edge) ns
 
 -- the pile at the front of a text, and the numbers behind it: a letter is spared behind the second number
 unfoldable pub front_of : Bool → List ℕ → Result (PileView × List ℕ) TextFault

@@ -1,7 +1,7 @@
 use Rattle.std.proofs.Common.{◌≡◌, List, ℕ, ap, subst}
 use Rattle.std.proofs.lemmas.Result.{IfOk-weaker}
 use Rattle.sand_model.specs.Grid.{Grid, sites}
-use Rattle.sand_settle.specs.Drops.{IsAfter, grid_of_one}
+use Rattle.sand_settle.specs.Drops.{IsAfter, grid_of_one_pile}
 use Rattle.sand_lab.specs.Streams.{stream_sites}
 use Rattle.sand_text.specs.Reading.{◌>>=◌}
 use Rattle.sand_desk.specs.Dropping.{AreRows, with_draw}
@@ -10,7 +10,7 @@ use Rattle.sand_desk.proofs.dropping.drawn_drops.Goals as goal
 pub returns-clause-text : goal.returns-clause-text
 returns-clause-text c =
     let drawn : Grid → List ℕ = λ g. stream_sites (sites g) c.args.draw.seed c.args.draw.stream c.args.draw.count in
-    let grid : grid_of_one c.in_ok-pile.pile ≡ c.in_ok-start.start.grid = c.in_ok-pile.ensures.settled.settled.grid in
+    let grid : grid_of_one_pile c.in_ok-pile.pile ≡ c.in_ok-start.start.grid = c.in_ok-pile.ensures.settled.settled.grid in
     IfOk-weaker c.drops_or_pile.result _ _
     (λ text written. record {
       pile = c.in_ok-start.start;

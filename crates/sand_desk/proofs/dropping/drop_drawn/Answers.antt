@@ -1,6 +1,6 @@
 use Rattle.std.proofs.Common.{◌≡◌, ◌∙◌, ◌+◌, ◌++◌, ◌∷◌, [], ℕ, List, sym, ap, arith, subst, suc}
 use Rattle.sand_model.specs.Grid.{sites}
-use Rattle.sand_settle.specs.Drops.{grid_of_one, IsAfter}
+use Rattle.sand_settle.specs.Drops.{grid_of_one_pile, IsAfter}
 use Rattle.sand_lab.specs.Streams.{Reading, site_at, stream_sites}
 use Rattle.sand_desk.specs.Dropping.{AreRows}
 use Rattle.sand_desk.proofs.Rows.{rows_push}
@@ -8,13 +8,13 @@ use Rattle.sand_desk.proofs.dropping.drop_drawn.Goals as goal
 
 pub drop_at-requires : goal.drop_at-requires
 drop_at-requires c =
-    let there : c.loop-read.reader.sites ≡ sites (grid_of_one c.args.pile.now) = ap (λ (r : Reading). r.sites) c.loop-read.invariant.reader in
-    let here : sites (grid_of_one c.loop-read.pile) ≡ sites (grid_of_one c.args.pile.now) = ap sites c.loop-read.invariant.grid in
+    let there : c.loop-read.reader.sites ≡ sites (grid_of_one_pile c.args.pile.now) = ap (λ (r : Reading). r.sites) c.loop-read.invariant.reader in
+    let here : sites (grid_of_one_pile c.loop-read.pile) ≡ sites (grid_of_one_pile c.args.pile.now) = ap sites c.loop-read.invariant.grid in
     omega (arith, c.next_site.ensures.inside, there, here)
 
 pub loop-read-preserved : goal.loop-read-preserved
 loop-read-preserved c =
-    let n : ℕ = sites (grid_of_one c.args.pile.now) in
+    let n : ℕ = sites (grid_of_one_pile c.args.pile.now) in
     let drawn : List ℕ = stream_sites n c.args.draw.seed c.args.draw.stream c.loop-read.read in
     let site_is : c.next_site.result ≡ site_at n c.args.draw.seed c.args.draw.stream c.loop-read.read =
     c.next_site.ensures.site ∙ ap (λ (r : Reading). site_at r.sites r.seed r.stream r.read) c.loop-read.invariant.reader in

@@ -2,7 +2,7 @@ use Rattle.std.proofs.Common.{◌<◌, [], arith, length, take, slice_index, vec
 use Rattle.std.proofs.lemmas.Bool.{leb-true}
 use Rattle.sand_model.specs.Grid.{sites}
 use Rattle.sand_model.proofs.Lists.{lists_length, read_below, read_fresh, read_passes}
-use Rattle.sand_group.proofs.Spreading.{enough_left, counts_more, burn_after_push, head_taken, kept_longer}
+use Rattle.sand_group.proofs.Spreading.{enough_left, counts_more, fire_spreads_push, head_taken, kept_longer}
 use Rattle.sand_group.proofs.burning.burn_out.Goals as goal
 
 pub spread_fire-requires-clause-site : goal.spread_fire-requires-clause-site
@@ -36,5 +36,5 @@ loop-head-preserved c =
       counts = rw taken (counts_more c.args.shape _ _ _ c.index-site.result.now c.loop-head.invariant.counts inside fresh c.spread_fire.ensures.fewer);
       all = c.spread_fire.ensures.all;
       room = c.spread_fire.ensures.room;
-      in_turn = rw taken (burn_after_push c.args.shape (slice_index c.args.heights.now) [] (take c.loop-head.head c.loop-head.burnt.items) c.index-site.result.now c.loop-head.invariant.in_turn (omega (arith, high, c.loop-head.invariant.counts.each c.index-site.result.now inside)));
+      in_turn = rw taken (fire_spreads_push c.args.shape (slice_index c.args.heights.now) [] (take c.loop-head.head c.loop-head.burnt.items) c.index-site.result.now c.loop-head.invariant.in_turn (omega (arith, high, c.loop-head.invariant.counts.each c.index-site.result.now inside)));
     }

@@ -1,6 +1,6 @@
 use Rattle.std.proofs.Common.{◌≡◌, ◌-◌, ◌≤◌, [], length, slice_index, take, vec_len, vec_capacity}
 use Rattle.sand_model.specs.Grid.{sites}
-use Rattle.sand_group.specs.Fire.{ListsBurning, BurnAfter, CountsUnburnt}
+use Rattle.sand_group.specs.Fire.{ListsBurning, FireSpreadsFrom, CountsUnburnt}
 use Rattle.sand_group.proofs.burning.burn_out.Given as goal
 
 abbrev pub invariant-loop-head : goal.invariant-loop-head
@@ -10,7 +10,7 @@ invariant-loop-head l = record {
   counts : CountsUnburnt l.shape (take l.head l.burnt.items) (slice_index l.unburnt.items);
   all : ListsBurning (sites l.shape) l.heights l.unburnt.items l.burnt.items;
   room : sites l.shape ≤ vec_capacity l.burnt;
-  in_turn : BurnAfter l.shape (slice_index l.heights) [] (take l.head l.burnt.items);
+  in_turn : FireSpreadsFrom l.shape (slice_index l.heights) [] (take l.head l.burnt.items);
 }
 
 abbrev pub decreases-loop-head : goal.decreases-loop-head

@@ -4,7 +4,7 @@ use Rattle.std.proofs.lemmas.Grind.{flat_map-append}
 use Rattle.std.proofs.lemmas.List.{map-append}
 use Rattle.std.proofs.Math.Nat.{mul-div_cancel_left}
 use Rattle.std.specs.Vec.Iter.{into_iter_items}
-use Rattle.sand_shared.specs.OpenPile.{grid_of}
+use Rattle.sand_shared.specs.OpenPile.{grid_of_terms}
 use Rattle.sand_shared.specs.Passes.{PassView, together}
 use Rattle.sand_lab.specs.declared.workers.Worker.{Worker}
 use Rattle.sand_lab.specs.Gathering.{all_counts, HoldsBand}
@@ -28,7 +28,7 @@ loop-worker-preserved c =
     let x = c.in-Some.worker in
     let left = into_iter_items c.next.new.self in
     let steps : into_iter_items c.loop-worker.worker-iterator ≡ x ∷ left = c.in-Some.ensures.steps.0 in
-    let height = (grid_of s.terms).height in
+    let height = (grid_of_terms s.terms).height in
     let n = length c.args.workers.items in
     let j = length xs in
     let items : xs ++ x ∷ left ≡ c.args.workers.items = rw (← steps) i.items in
@@ -57,7 +57,7 @@ returns-clause-first c =
     let i = c.loop-worker.invariant in
     let s = c.args.pile.now in
     let xs = c.loop-worker.yielded in
-    let height = (grid_of s.terms).height in
+    let height = (grid_of_terms s.terms).height in
     let n = length c.args.workers.items in
     let none : into_iter_items c.loop-worker.worker-iterator ≡ [] = nothing_left (into_iter_items c.loop-worker.worker-iterator) (i.long ∙ c.in-None.ensures.steps.0) in
     let all : xs ≡ c.args.workers.items = sym (append-nil xs) ∙ rw none at i.items in

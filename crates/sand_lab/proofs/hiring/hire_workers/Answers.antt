@@ -1,7 +1,7 @@
 use Rattle.std.proofs.Common.{rules, arith, ◌≡◌, ℕ, suc, ◌+◌, ◌-◌, ◌*◌, ◌/◌, [], take, drop, refl, ap, ap₂, sym, subst, ◌∙◌}
 use Rattle.std.proofs.Math.Nat.{mul-div_cancel_left}
 use Rattle.sand_model.specs.Grid.{Grid}
-use Rattle.sand_shared.specs.OpenPile.{grid_of}
+use Rattle.sand_shared.specs.OpenPile.{grid_of_terms}
 use Rattle.sand_shared.specs.Passes.{PassView, sites_kept}
 use Rattle.sand_shared.specs.Rows.{upper_rows, lower_rows, rows_between}
 use Rattle.sand_lab.specs.declared.workers.Worker.{Worker}
@@ -13,7 +13,7 @@ use Rattle.sand_lab.proofs.hiring.hire_workers.Goals as goal
 pub loop-done-init : goal.loop-done-init
 loop-done-init c =
     let s = c.args.pile.now in
-    let height = (grid_of s.terms).height in
+    let height = (grid_of_terms s.terms).height in
     let all : c.args.workers ≡ c.args.workers - 0 = omega arith in
     let whole : height ≡ (c.args.workers - 0) * height / c.args.workers = sym (mul-div_cancel_left height c.requires.some.0) ∙ ap (λ (n : ℕ). n * height / c.args.workers) all in
     record {
@@ -26,7 +26,7 @@ pub loop-done-preserved : goal.loop-done-preserved
 loop-done-preserved c =
     let s = c.args.pile.now in
     let i = c.loop-done.invariant in
-    let height = (grid_of s.terms).height in
+    let height = (grid_of_terms s.terms).height in
     let who = c.args.workers - 1 - c.loop-done.done in
     let begin = c.band_of-begin.result.0 in
     let end = c.band_of-begin.result.1 in

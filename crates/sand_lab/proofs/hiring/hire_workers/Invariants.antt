@@ -1,5 +1,5 @@
 use Rattle.std.proofs.Common.{◌≡◌, ◌+◌, ◌-◌, ◌*◌, ◌/◌, vec_len}
-use Rattle.sand_shared.specs.OpenPile.{grid_of}
+use Rattle.sand_shared.specs.OpenPile.{grid_of_terms}
 use Rattle.sand_lab.specs.Crews.{EachAt, IsWorker, upper_part}
 use Rattle.sand_lab.proofs.hiring.hire_workers.Given as goal
 
@@ -7,5 +7,5 @@ abbrev pub invariant-loop-done : goal.invariant-loop-done
 invariant-loop-done l = record {
   hired : EachAt (λ i. IsWorker l.pile l.fn.workers (l.workers - l.done + i)) l.hired.items;
   long : vec_len l.hired ≡ l.done;
-  first : l.first ≡ upper_part l.pile 0 ((l.workers - l.done) * (grid_of l.pile.terms).height / l.workers);
+  first : l.first ≡ upper_part l.pile 0 ((l.workers - l.done) * (grid_of_terms l.pile.terms).height / l.workers);
 }

@@ -3,7 +3,7 @@ use Rattle.std.proofs.Math.ListN.{set}
 use Rattle.std.proofs.lemmas.List.{get_or-set_same, drop_all}
 use Rattle.sand_model.specs.Grid.{sites, missing}
 use Rattle.sand_model.proofs.Heights.{counted}
-use Rattle.sand_model.proofs.Bounds.{at_most_total, sites_limit}
+use Rattle.sand_model.proofs.Bounds.{at_most_sum_below, sites_limit}
 use Rattle.sand_model.proofs.Lists.{lists_length}
 use Rattle.sand_settle.proofs.Collected.{rest_inside, rest_some, rest_more, cleared, none_anywhere, collects_more, collects_all}
 use Rattle.sand_settle.proofs.avalanche.collect.Goals as goal
@@ -31,22 +31,22 @@ pub overflow_add-odometer : goal.overflow_add-odometer
 overflow_add-odometer c =
     let turn : c.loop-turn.turn < length c.args.toppled.now.sites = omega (arith, c.len-turn-end.ensures.value) in
     let inside = rest_inside (sites c.args.lattice.now) c.loop-turn.counts c.args.toppled.now.sites c.loop-turn.turn c.site-place.result c.site-place.ensures turn c.loop-turn.invariant.noted in
-    let count = at_most_total (sites c.args.lattice.now) (λ j. get_or c.args.counts.now j 0) c.site-place.result inside in
-    let before = at_most_total (sites c.args.lattice.now) (λ j. get_or c.args.odometer.now j 0) c.site-place.result inside in
+    let count = at_most_sum_below (sites c.args.lattice.now) (λ j. get_or c.args.counts.now j 0) c.site-place.result inside in
+    let before = at_most_sum_below (sites c.args.lattice.now) (λ j. get_or c.args.odometer.now j 0) c.site-place.result inside in
     omega (arith, c.loop-turn.invariant.moved c.site-place.result, c.requires.few.0, c.requires.few.1)
 
 pub overflow_add-avalanche : goal.overflow_add-avalanche
 overflow_add-avalanche c =
     let turn : c.loop-turn.turn < length c.args.toppled.now.sites = omega (arith, c.len-turn-end.ensures.value) in
     let inside = rest_inside (sites c.args.lattice.now) c.loop-turn.counts c.args.toppled.now.sites c.loop-turn.turn c.site-place.result c.site-place.ensures turn c.loop-turn.invariant.noted in
-    let count = at_most_total (sites c.args.lattice.now) (λ j. get_or c.loop-turn.counts j 0) c.site-place.result inside in
+    let count = at_most_sum_below (sites c.args.lattice.now) (λ j. get_or c.loop-turn.counts j 0) c.site-place.result inside in
     omega (arith, c.loop-turn.invariant.collected.size, c.requires.few.0)
 
 pub overflow_mul-avalanche : goal.overflow_mul-avalanche
 overflow_mul-avalanche c =
     let turn : c.loop-turn.turn < length c.args.toppled.now.sites = omega (arith, c.len-turn-end.ensures.value) in
     let inside = rest_inside (sites c.args.lattice.now) c.loop-turn.counts c.args.toppled.now.sites c.loop-turn.turn c.site-place.result c.site-place.ensures turn c.loop-turn.invariant.noted in
-    let part = at_most_total (sites c.args.lattice.now) (λ j. missing c.args.lattice.now j * get_or c.loop-turn.counts j 0) c.site-place.result inside in
+    let part = at_most_sum_below (sites c.args.lattice.now) (λ j. missing c.args.lattice.now j * get_or c.loop-turn.counts j 0) c.site-place.result inside in
     let here = ap (λ m. get_or c.loop-turn.counts c.site-place.result 0 * m) c.missing.ensures in
     omega (arith, c.loop-turn.invariant.collected.all_lost, c.requires.lost)
 
@@ -54,7 +54,7 @@ pub overflow_add-avalanche-in-loop-turn : goal.overflow_add-avalanche-in-loop-tu
 overflow_add-avalanche-in-loop-turn c =
     let turn : c.loop-turn.turn < length c.args.toppled.now.sites = omega (arith, c.len-turn-end.ensures.value) in
     let inside = rest_inside (sites c.args.lattice.now) c.loop-turn.counts c.args.toppled.now.sites c.loop-turn.turn c.site-place.result c.site-place.ensures turn c.loop-turn.invariant.noted in
-    let part = at_most_total (sites c.args.lattice.now) (λ j. missing c.args.lattice.now j * get_or c.loop-turn.counts j 0) c.site-place.result inside in
+    let part = at_most_sum_below (sites c.args.lattice.now) (λ j. missing c.args.lattice.now j * get_or c.loop-turn.counts j 0) c.site-place.result inside in
     let here = ap (λ m. get_or c.loop-turn.counts c.site-place.result 0 * m) c.missing.ensures in
     omega (arith, c.loop-turn.invariant.collected.all_lost, c.requires.lost)
 

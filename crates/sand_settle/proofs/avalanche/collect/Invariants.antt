@@ -1,7 +1,7 @@
 use Rattle.std.proofs.Common.{ℕ, ◌≡◌, ◌+◌, length, drop, get_or}
 use Rattle.sand_model.specs.Grid.{sites}
 use Rattle.sand_model.specs.Lists.{Lists}
-use Rattle.sand_settle.specs.Lists.{has_toppled}
+use Rattle.sand_settle.specs.SiteLists.{has_toppled}
 use Rattle.sand_settle.proofs.Collected.{Collects}
 use Rattle.sand_settle.proofs.avalanche.collect.Given as goal
 

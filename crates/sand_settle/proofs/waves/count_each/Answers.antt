@@ -2,8 +2,8 @@ use Rattle.std.proofs.Common.{ℕ, ◌+◌, ◌<◌, ◌∙◌, refl, sym, ap, a
 use Rattle.std.proofs.Math.ListN.{set}
 use Rattle.sand_model.proofs.Heights.{counted}
 use Rattle.sand_model.proofs.Lists.{lists_length, lists_of}
-use Rattle.sand_model.proofs.Totals.{one_at_same}
-use Rattle.sand_settle.specs.Lists.{ListView, has_toppled}
+use Rattle.sand_model.proofs.SumsBelow.{one_at_same}
+use Rattle.sand_settle.specs.SiteLists.{ListView, has_toppled}
 use Rattle.sand_settle.proofs.Held.{turn_tally, tally_part}
 use Rattle.sand_settle.proofs.Queue.{noted}
 use Rattle.sand_settle.proofs.waves.count_each.Goals as goal

@@ -1,7 +1,7 @@
 use Rattle.std.proofs.Common.{ℕ, ◌≡◌, ◌+◌, length, take, get_or}
 use Rattle.sand_model.specs.Sand.{tally}
 use Rattle.sand_model.specs.Lists.{Lists}
-use Rattle.sand_settle.specs.Lists.{has_toppled}
+use Rattle.sand_settle.specs.SiteLists.{has_toppled}
 use Rattle.sand_settle.proofs.waves.count_each.Given as goal
 
 abbrev pub invariant-loop-turn : goal.invariant-loop-turn

@@ -5,7 +5,7 @@ use Rattle.sand_model.specs.Grid.{sites}
 use Rattle.sand_model.specs.Sand.{one_at, tally}
 use Rattle.sand_model.proofs.Bounds.{sites_limit}
 use Rattle.sand_model.proofs.Tallies.{tally-cons}
-use Rattle.sand_settle.specs.Lists.{ListView}
+use Rattle.sand_settle.specs.SiteLists.{ListView}
 use Rattle.sand_settle.proofs.Underway.{advance_more, advance_turn}
 use Rattle.sand_settle.proofs.Held.{lowered, wave_begins, wave_turn, wave_goes_on, wave_waits, wave_held, wave_ends, wave_few, turn_tally, first_toppled, turn_toppled, lowered_other, first_waits, held_sum, sum_lower}
 use Rattle.sand_settle.proofs.waves.topple_once.Goals as goal

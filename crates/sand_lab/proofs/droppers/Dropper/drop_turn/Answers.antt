@@ -3,7 +3,7 @@ use Rattle.std.proofs.lemmas.List.Elements.{All-nil}
 use Rattle.sand_model.specs.Grid.{sites}
 use Rattle.sand_shared.specs.declared.view.Receipt.{Receipt}
 use Rattle.sand_shared.specs.Events.{receipts_from}
-use Rattle.sand_shared.specs.OpenPile.{grid_of}
+use Rattle.sand_shared.specs.OpenPile.{grid_of_terms}
 use Rattle.sand_shared.specs.Passes.{PassView, AllBelow}
 use Rattle.sand_lab.specs.Jobs.{dropped_at}
 use Rattle.sand_lab.specs.Journals.{Ascends}
@@ -35,7 +35,7 @@ returns-clause-dropped c turns read first h =
       room = c.clear.ensures.capacity ∙ h.room;
       counts = c.drop_all.ensures.counts ∙ h.counts;
       reading = h.reading;
-      inside = subst (All (λ i. i < sites (grid_of s.terms))) (sym none) (All-nil (λ i. i < sites (grid_of s.terms)));
+      inside = subst (All (λ i. i < sites (grid_of_terms s.terms))) (sym none) (All-nil (λ i. i < sites (grid_of_terms s.terms)));
       sites = (λ i. dropped_at (receipts i) ++ none i) ∙ append-nil (dropped_at (p.receipts ++ receipts_from n is)) ∙ dropped_row n p.receipts is ∙ h.sites;
       ascends = subst Ascends (sym receipts) (ascends_row p.seen n p.receipts is h.ascends h.below fresh);
       within = subst (AllBelow s.terms.quota) (sym receipts) (within_row n s.terms.quota p.receipts is h.within (subst (λ (xs : List ℕ). 0 < length xs → n + length xs ≤ s.terms.quota) c.as_slice-turn.ensures.value c.in-Ok.ensures.in_the_quota));

@@ -2,13 +2,13 @@ use Rattle.std.proofs.Common.{◌<◌, ap, arith}
 use Rattle.std.proofs.lemmas.Grind.{common_steps}
 use Rattle.sand_model.specs.Grid.{sites}
 use Rattle.sand_model.specs.Piles.{most_grains}
-use Rattle.sand_settle.specs.Drops.{OneView, grid_of_one}
+use Rattle.sand_settle.specs.Drops.{OneView, grid_of_one_pile}
 use Rattle.sand_settle.proofs.Drops.{kept_after, drops_from, after_drop}
 use Rattle.sand_settle.proofs.one_pile.OnePile.drop_at.Goals as goal
 
 pub invariant_of-self-2 : goal.invariant_of-self-2
 invariant_of-self-2 c =
-    let inside = ap (λ (v : OneView). sites (grid_of_one v)) c.self.view_is in
+    let inside = ap (λ (v : OneView). sites (grid_of_one_pile v)) c.self.view_is in
     let grains = ap (λ (v : OneView). v.grains) c.self.view_is in
     let room : c.args.self.now.grains < most_grains = grind (arith, common_steps, c.is_full.ensures.full, c.is_full.ensures.limit) in
     let dropped = c.replace_with-workspace.ensures in
@@ -16,7 +16,7 @@ invariant_of-self-2 c =
 
 pub returns-clause-drops : goal.returns-clause-drops
 returns-clause-drops c =
-    let inside = ap (λ (v : OneView). sites (grid_of_one v)) c.self.view_is in
+    let inside = ap (λ (v : OneView). sites (grid_of_one_pile v)) c.self.view_is in
     let grains = ap (λ (v : OneView). v.grains) c.self.view_is in
     let room : c.args.self.now.grains < most_grains = grind (arith, common_steps, c.is_full.ensures.full, c.is_full.ensures.limit) in
     drops_from c.self.inside.number c.args.site c.self.inside.settled c.replace_with-workspace.new.dest c.args.self.now c.self.invariant.paid c.self.view_is (omega (arith, c.requires)) (omega arith) c.replace_with-workspace.ensures.1.0

@@ -3,7 +3,7 @@ use Rattle.std.proofs.lemmas.List.{nil_from_length, take_at}
 use Rattle.sand_model.specs.Grid.{Grid, sites}
 use Rattle.sand_model.specs.Sand.{IsSettled}
 use Rattle.sand_model.proofs.Lists.{lists_of}
-use Rattle.sand_settle.specs.Lists.{ListView}
+use Rattle.sand_settle.specs.SiteLists.{ListView}
 use Rattle.sand_settle.proofs.Queue.{all_low}
 use Rattle.sand_settle.proofs.Underway.{advance_more, sum_falls, few_at_first, settled_at_last}
 use Rattle.sand_settle.proofs.workspace.Workspace.settle.Goals as goal

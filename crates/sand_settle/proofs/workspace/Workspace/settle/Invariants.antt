@@ -2,7 +2,7 @@ use Rattle.std.proofs.Common.{◌≡◌, ◌+◌, ◌≤◌, length, get_or}
 use Rattle.sand_model.specs.Grid.{sites}
 use Rattle.sand_model.specs.Sand.{topplings, weight}
 use Rattle.sand_model.specs.Lists.{Lists}
-use Rattle.sand_settle.specs.Lists.{may_topple}
+use Rattle.sand_settle.specs.SiteLists.{may_topple}
 use Rattle.sand_settle.specs.Underway.{Advances}
 use Rattle.sand_settle.proofs.workspace.Workspace.settle.Given as goal
 

@@ -2,9 +2,9 @@ use Rattle.std.proofs.Common.{◌+◌, ◌∙◌, refl, sym, ap, arith, get_or}
 use Rattle.sand_model.specs.Grid.{Grid, sites}
 use Rattle.sand_model.specs.Sand.{tally, topplings}
 use Rattle.sand_model.proofs.Lists.{lists_of}
-use Rattle.sand_model.proofs.Tallies.{total-tally}
-use Rattle.sand_model.proofs.Totals.{total-add}
-use Rattle.sand_settle.specs.Lists.{has_toppled}
+use Rattle.sand_model.proofs.Tallies.{sum_below-tally}
+use Rattle.sand_model.proofs.SumsBelow.{sum_below-add}
+use Rattle.sand_settle.specs.SiteLists.{has_toppled}
 use Rattle.sand_settle.proofs.Collected.{avalanche_none}
 use Rattle.sand_settle.proofs.Drops.{settled_calm, small_settling, settled_between, avalanche_between}
 use Rattle.sand_settle.proofs.Underway.{advance_more, sum_falls, counts_small, few_at_first, all_stable, settled_at_last}
@@ -36,8 +36,8 @@ count_each-requires-clause-fits c j l =
 pub waves-smaller : goal.waves-smaller
 waves-smaller c =
     let more = c.topple_once.ensures.advances (λ i. get_or c.waves.counts i 0) (λ i. get_or c.waves.counts i 0 + tally c.topple_once.new.list.sites i) (λ i m. refl) in
-    let parts = total-add (sites c.self.inside.lattice) (λ i. get_or c.waves.counts i 0) (tally c.topple_once.new.list.sites) in
-    let long = total-tally (sites c.self.inside.lattice) c.topple_once.new.list.sites c.topple_once.ensures.inside in
+    let parts = sum_below-add (sites c.self.inside.lattice) (λ i. get_or c.waves.counts i 0) (tally c.topple_once.new.list.sites) in
+    let long = sum_below-tally (sites c.self.inside.lattice) c.topple_once.new.list.sites c.topple_once.ensures.inside in
     omega (arith, more.weight_pays, c.topple_once.ensures.some)
 
 pub waves-preserved : goal.waves-preserved

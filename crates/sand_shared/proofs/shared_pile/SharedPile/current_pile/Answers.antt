@@ -5,7 +5,7 @@ use Rattle.sand_model.specs.Sand.{IsUnderway}
 use Rattle.sand_model.specs.Piles.{PileView, height_of}
 use Rattle.sand_shared.specs.declared.view.View.{View}
 use Rattle.sand_shared.specs.declared.view.Terms.{Terms}
-use Rattle.sand_shared.specs.OpenPile.{grid_of, toppled_by}
+use Rattle.sand_shared.specs.OpenPile.{grid_of_terms, toppled_by}
 use Rattle.sand_shared.specs.Passes.{PassView, at_rest}
 use Rattle.sand_shared.specs.Rows.{count_of}
 use Rattle.sand_shared.specs.Sweeps.{laid}
@@ -17,7 +17,7 @@ returns-clause-underway c =
     let inv = c.pass.invariant in
     let h = slice_index c.read.new.heights.items in
     let each = subst (λ (v : PassView). length v.counts ≡ count_of v.rows * v.grid.width) c.pass.view_is inv.one_each in
-    let here = subst (λ (m : Me ℕ View). IsUnderway (grid_of c.self.inside.words.terms) (laid c.self.inside.words.terms m.0) (toppled_by m.0) h) inv.me c.read.ensures.underway in
-    let there = subst (λ (z : Terms × PassView). IsUnderway (grid_of z.0) (laid z.0 (at_rest z.1)) (toppled_by (at_rest z.1)) h) (λ i. ((c.self.view_is i).terms, c.pass.view_is i)) here in
-    subst (λ (q : PileView). IsUnderway (grid_of c.args.self.now.terms) (laid c.args.self.now.terms (at_rest c.args.pass.now)) (slice_index c.args.pass.now.counts) (height_of q)) (sym c.from_vec.ensures)
+    let here = subst (λ (m : Me ℕ View). IsUnderway (grid_of_terms c.self.inside.words.terms) (laid c.self.inside.words.terms m.0) (toppled_by m.0) h) inv.me c.read.ensures.underway in
+    let there = subst (λ (z : Terms × PassView). IsUnderway (grid_of_terms z.0) (laid z.0 (at_rest z.1)) (toppled_by (at_rest z.1)) h) (λ i. ((c.self.view_is i).terms, c.pass.view_is i)) here in
+    subst (λ (q : PileView). IsUnderway (grid_of_terms c.args.self.now.terms) (laid c.args.self.now.terms (at_rest c.args.pass.now)) (slice_index c.args.pass.now.counts) (height_of q)) (sym c.from_vec.ensures)
     (left_underway c.args.self.now.terms c.args.pass.now c.requires.pass.grid each c.requires.whole h there)

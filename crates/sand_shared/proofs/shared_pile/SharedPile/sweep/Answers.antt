@@ -3,7 +3,7 @@ use Rattle.atomic_table.specs.Table.{Me}
 use Rattle.sand_model.specs.Grid.{sites}
 use Rattle.sand_shared.specs.declared.view.View.{View}
 use Rattle.sand_shared.specs.declared.view.Terms.{Terms}
-use Rattle.sand_shared.specs.OpenPile.{grid_of}
+use Rattle.sand_shared.specs.OpenPile.{grid_of_terms}
 use Rattle.sand_shared.specs.Passes.{PassView, SharedView, at_rest}
 use Rattle.sand_shared.specs.Rows.{count_of}
 use Rattle.sand_shared.specs.Sweeps.{Swept}
@@ -18,7 +18,7 @@ sweep_rows-requires-clause-rows c =
     let inv = c.pass.invariant in
     let base : c.from.result * c.width.result ≡ p.rows.first * p.shape.width = λ i. c.from.ensures i * c.width.ensures.value i in
     let inside = rows_inside p.shape p.rows inv.rows in
-    let same : p.shape ≡ grid_of c.self.inside.words.terms = ap (λ (v : PassView). v.grid) c.pass.view_is ∙ c.requires.grid ∙ sym (ap (λ (w : SharedView). grid_of w.terms) c.self.view_is) in
+    let same : p.shape ≡ grid_of_terms c.self.inside.words.terms = ap (λ (v : PassView). v.grid) c.pass.view_is ∙ c.requires.grid ∙ sym (ap (λ (w : SharedView). grid_of_terms w.terms) c.self.view_is) in
     let all = ap sites same in
     let each = inv.one_each in omega arith
 

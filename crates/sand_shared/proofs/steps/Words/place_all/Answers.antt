@@ -4,7 +4,7 @@ use Rattle.std.proofs.lemmas.List.{drop_all}
 use Rattle.sand_model.specs.Grid.{sites}
 use Rattle.sand_shared.specs.declared.view.View.{View}
 use Rattle.sand_shared.specs.declared.view.Grains.{Grains}
-use Rattle.sand_shared.specs.OpenPile.{grid_of}
+use Rattle.sand_shared.specs.OpenPile.{grid_of_terms}
 use Rattle.sand_shared.specs.Seats.{StaysSeated}
 use Rattle.sand_shared.proofs.DropsBySite.{Waits, read_count, waits_all, waits_past, waits_laid, count_is, hand_empty, counts_zero}
 use Rattle.sand_shared.proofs.HandAfterPlacing.{laid_on}
@@ -15,7 +15,7 @@ use Rattle.sand_shared.proofs.steps.Words.place_all.Goals.{After-drops, then-amo
 
 pub drops-init : goal.drops-init
 drops-init c =
-    let n = sites (grid_of c.args.self.now.terms) in
+    let n = sites (grid_of_terms c.args.self.now.terms) in
     record {
       seat = record { table = refl; id = refl; bare = c.requires.seat.bare };
       view = refl;
@@ -24,7 +24,7 @@ drops-init c =
 
 pub place-requires-clause-hand : goal.place-requires-clause-hand
 place-requires-clause-hand c =
-    let n = sites (grid_of c.args.self.now.terms) in
+    let n = sites (grid_of_terms c.args.self.now.terms) in
     let ds = c.args.drops.now in
     let k = c.drops.site-index in
     let below = c.drops-test.true in
@@ -35,7 +35,7 @@ place-requires-clause-hand c =
 
 pub drops-preserved : goal.drops-preserved
 drops-preserved c =
-    let n = sites (grid_of c.args.self.now.terms) in
+    let n = sites (grid_of_terms c.args.self.now.terms) in
     let ds = c.args.drops.now in
     let k = c.drops.site-index in
     let x = get_or ds k 0 in
@@ -68,16 +68,16 @@ drops-preserved c =
     ]
 
 -- nothing is still to come
-none_waits : (c : After-drops) → Waits (sites (grid_of c.args.self.now.terms)) c.drops.counts.items c.drops.seat.me.0.hand []
+none_waits : (c : After-drops) → Waits (sites (grid_of_terms c.args.self.now.terms)) c.drops.counts.items c.drops.seat.me.0.hand []
 none_waits c =
     let done = c.drops-test.false in
     let none = drop_all c.drops.site-index c.args.drops.now (omega arith) in
-    subst (Waits (sites (grid_of c.args.self.now.terms)) c.drops.counts.items c.drops.seat.me.0.hand) none c.drops.invariant.waits
+    subst (Waits (sites (grid_of_terms c.args.self.now.terms)) c.drops.counts.items c.drops.seat.me.0.hand) none c.drops.invariant.waits
 
 pub returns-clause-view : goal.returns-clause-view
 returns-clause-view c =
-    let empty = hand_empty (sites (grid_of c.args.self.now.terms)) c.drops.counts.items c.drops.seat.me.0.hand (none_waits c) in
+    let empty = hand_empty (sites (grid_of_terms c.args.self.now.terms)) c.drops.counts.items c.drops.seat.me.0.hand (none_waits c) in
     c.drops.invariant.view ∙ (λ q. record c.args.seat.now.me.0 { hand = empty q })
 
 pub returns-clause-none : goal.returns-clause-none
-returns-clause-none c = counts_zero (sites (grid_of c.args.self.now.terms)) c.drops.counts.items c.drops.seat.me.0.hand (none_waits c)
+returns-clause-none c = counts_zero (sites (grid_of_terms c.args.self.now.terms)) c.drops.counts.items c.drops.seat.me.0.hand (none_waits c)

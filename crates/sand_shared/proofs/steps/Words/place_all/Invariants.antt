@@ -1,6 +1,6 @@
 use Rattle.std.proofs.Common.{◌≡◌, drop}
 use Rattle.sand_model.specs.Grid.{sites}
-use Rattle.sand_shared.specs.OpenPile.{grid_of}
+use Rattle.sand_shared.specs.OpenPile.{grid_of_terms}
 use Rattle.sand_shared.specs.Events.{all_places}
 use Rattle.sand_shared.specs.Seats.{StaysSeated}
 use Rattle.sand_shared.proofs.DropsBySite.{Waits}
@@ -13,5 +13,5 @@ abbrev pub invariant-drops : goal.invariant-drops
 invariant-drops l = record {
   seat : StaysSeated l.initial.seat l.seat;
   view : l.seat.me.0 ≡ record l.initial.seat.me.0 { hand = l.seat.me.0.hand };
-  waits : Waits (sites (grid_of l.self.terms)) l.counts.items l.seat.me.0.hand (drop l.site-index l.drops);
+  waits : Waits (sites (grid_of_terms l.self.terms)) l.counts.items l.seat.me.0.hand (drop l.site-index l.drops);
 }

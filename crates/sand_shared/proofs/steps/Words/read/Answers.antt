@@ -7,7 +7,7 @@ use Rattle.sand_model.specs.Grid.{sites}
 use Rattle.sand_model.specs.Sand.{flow, IsToppled}
 use Rattle.sand_shared.specs.declared.view.View.{View}
 use Rattle.sand_shared.specs.declared.view.Terms.{Terms}
-use Rattle.sand_shared.specs.OpenPile.{grid_of, toppled_by}
+use Rattle.sand_shared.specs.OpenPile.{grid_of_terms, toppled_by}
 use Rattle.sand_shared.specs.Events.{looked}
 use Rattle.sand_shared.specs.Running.{Stands}
 use Rattle.sand_shared.specs.Sweeps.{HasAll, laid}
@@ -18,7 +18,7 @@ use Rattle.sand_shared.proofs.steps.Words.read.Goals as goal
 pub sites-preserved : goal.sites-preserved
 sites-preserved c =
     let t = c.args.self.now.terms in
-    let g = grid_of t in
+    let g = grid_of_terms t in
     let inv = c.sites.invariant in
     let v = c.args.seat.now.me.0 in
     let new = c.look-height.new.seat.me.0 in
@@ -47,10 +47,10 @@ sites-preserved c =
           (cases_eq k i);
     }
 
-counted : (c : goal.After-learn) → c.sites-sites.result ≡ sites (grid_of c.args.self.now.terms)
-counted c = c.sites-sites.ensures.value ∙ ap sites (c.shape.ensures.value ∙ ap (λ (t : Terms). grid_of t) c.terms.ensures.value)
+counted : (c : goal.After-learn) → c.sites-sites.result ≡ sites (grid_of_terms c.args.self.now.terms)
+counted c = c.sites-sites.ensures.value ∙ ap sites (c.shape.ensures.value ∙ ap (λ (t : Terms). grid_of_terms t) c.terms.ensures.value)
 
-left_there : (c : goal.After-learn) → IsToppled (grid_of c.args.self.now.terms) (laid c.args.self.now.terms c.args.seat.now.me.0) (toppled_by c.args.seat.now.me.0) (slice_index c.sites.heights.items)
+left_there : (c : goal.After-learn) → IsToppled (grid_of_terms c.args.self.now.terms) (laid c.args.self.now.terms c.args.seat.now.me.0) (toppled_by c.args.seat.now.me.0) (slice_index c.sites.heights.items)
 left_there c =
     let all = counted c in
     let upto = c.sites.auto.site-end in

@@ -1,6 +1,6 @@
 use Rattle.std.proofs.Common.{◌≡◌, ℕ, ◌+◌, ◌*◌, ◌<◌, ◌≤◌, [], length, get_or, vec_capacity}
 use Rattle.sand_model.specs.Sand.{flow}
-use Rattle.sand_shared.specs.OpenPile.{grid_of, toppled_by}
+use Rattle.sand_shared.specs.OpenPile.{grid_of_terms, toppled_by}
 use Rattle.sand_shared.specs.Events.{look, looked, count}
 use Rattle.sand_shared.specs.Sweeps.{laid}
 use Rattle.sand_shared.proofs.steps.Words.read.Given as goal
@@ -13,7 +13,7 @@ invariant-sites l = record {
   view : l.seat.me.0 ≡ looked l.initial.seat.me.0 l.seat.me.0.spot l.seat.me.0.least;
   long : length l.heights.items ≡ l.site;
   room : l.sites ≤ vec_capacity l.heights;
-  left : (i : ℕ) → i < l.site → get_or l.heights.items i 0 + 4 * toppled_by l.initial.seat.me.0 i ≡ laid l.self.terms l.initial.seat.me.0 i + flow (grid_of l.self.terms) (toppled_by l.initial.seat.me.0) i;
+  left : (i : ℕ) → i < l.site → get_or l.heights.items i 0 + 4 * toppled_by l.initial.seat.me.0 i ≡ laid l.self.terms l.initial.seat.me.0 i + flow (grid_of_terms l.self.terms) (toppled_by l.initial.seat.me.0) i;
 }
 
 abbrev pub ghosts-look : goal.ghosts-look

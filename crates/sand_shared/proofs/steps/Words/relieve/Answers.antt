@@ -3,7 +3,7 @@ use lib.Seq.{set-get_or}
 use Rattle.sand_model.specs.Grid.{sites}
 use Rattle.sand_shared.specs.declared.view.View.{View}
 use Rattle.sand_shared.specs.declared.view.Terms.{Terms}
-use Rattle.sand_shared.specs.OpenPile.{grid_of}
+use Rattle.sand_shared.specs.OpenPile.{grid_of_terms}
 use Rattle.sand_shared.specs.Events.{looked, unloaded, raised}
 use Rattle.sand_shared.specs.Sweeps.{HasAll, IsSparing}
 use Rattle.sand_shared.proofs.GrainsAtSite.{holds-unloaded}
@@ -19,13 +19,13 @@ unloaded_view c =
     let k = c.look-times.result / 4 in
     unloaded_is t _ i k _ _ _ c.unload.ensures.happened.1 ∙ ap (λ v. unloaded t v i k) (looked_is t _ i 0 _ _ _ c.look-times.ensures.happened)
 
-unloaded_rows : (c : goal.After-deliver_around) → c.unload.new.seat.me.0.base + length c.unload.new.seat.me.0.counts ≤ sites (grid_of c.args.self.now.terms)
+unloaded_rows : (c : goal.After-deliver_around) → c.unload.new.seat.me.0.base + length c.unload.new.seat.me.0.counts ≤ sites (grid_of_terms c.args.self.now.terms)
 unloaded_rows c =
     let v = c.args.seat.now.me.0 in
     let i = c.args.site in
     let rows = c.requires.rows in
     let long = length-set v.counts (i - v.base) (get_or v.counts (i - v.base) 0 + c.look-times.result / 4) in
-    subst (λ (u : View). u.base + length u.counts ≤ sites (grid_of c.args.self.now.terms)) (sym (unloaded_view c)) (omega arith)
+    subst (λ (u : View). u.base + length u.counts ≤ sites (grid_of_terms c.args.self.now.terms)) (sym (unloaded_view c)) (omega arith)
 
 still_all : (t : Terms) (v : View) (i k n : ℕ) → HasAll t v → HasAll t (unloaded t (looked v i n) i k)
 still_all t v i k n all = record { quota = all.quota; all_sites = λ j l. holds-unloaded t (looked v i n) i k j ∙ all.all_sites j l }

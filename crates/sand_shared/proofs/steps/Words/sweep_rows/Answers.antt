@@ -1,7 +1,7 @@
 use Rattle.std.proofs.Common.{◌≡◌, ℕ, ◌+◌, ◌<◌, ◌≤◌, List, length, set, get_or, sym, ap, ◌∙◌, subst, arith}
 use Rattle.std.proofs.lemmas.List.{get_or_read}
 use Rattle.sand_model.specs.Grid.{sites}
-use Rattle.sand_shared.specs.OpenPile.{grid_of}
+use Rattle.sand_shared.specs.OpenPile.{grid_of_terms}
 use Rattle.sand_shared.specs.Events.{looked}
 use Rattle.sand_shared.proofs.RowSites.{sites_few}
 use Rattle.sand_shared.proofs.StepsOnWords.{stays_on}
@@ -11,14 +11,14 @@ use Rattle.sand_shared.proofs.steps.Words.sweep_rows.Goals.{After-relieve-times,
 
 pub overflow_add-base : goal.overflow_add-base
 overflow_add-base c =
-    let few = sites_few (grid_of c.args.self.now.terms) c.tell_limits.ensures.pile.grid in
+    let few = sites_few (grid_of_terms c.args.self.now.terms) c.tell_limits.ensures.pile.grid in
     let rows = c.requires.rows in
     let below = c.sites-test.true in
     let end = c.len-i-end.ensures in
     let long = c.args.counts.now.ok.0 in omega arith
 
 -- the place that a sweep is at is one of the pass's, and these are sites of the grid
-inside : (c : After-relieve-times) → let v = c.args.seat.now.me.0 in (v.base + length v.counts ≤ sites (grid_of c.args.self.now.terms)) × (c.sites.i < length v.counts)
+inside : (c : After-relieve-times) → let v = c.args.seat.now.me.0 in (v.base + length v.counts ≤ sites (grid_of_terms c.args.self.now.terms)) × (c.sites.i < length v.counts)
 inside c =
     let first = ap (λ (l : List ℕ). length l) c.requires.counts.1 in
     let base = c.requires.counts.0 in

@@ -1,0 +1,84 @@
+-- Sums over the numbers below a bound.
+use Rattle.std.proofs.Common.{ℕ, zero, suc, ◌≡◌, ◌+◌, ◌*◌, ◌<◌, ◌≤◌, refl, sym, ◌∙◌, ap, arith, ⊎_elim}
+use Rattle.std.proofs.lemmas.Bool.{cases_eq, eq-eqb, ne_eqb}
+use Rattle.sand_model.specs.Sand.{sum_below, one_at}
+
+pub sum_below_same : (n : ℕ) (f h : ℕ → ℕ) → ((i : ℕ) → i < n → f i ≡ h i) → sum_below n f ≡ sum_below n h
+unfolding sum_below
+sum_below_same zero f h e = refl
+sum_below_same (suc n) f h e =
+    let below : sum_below n f ≡ sum_below n h = sum_below_same n f h (λ i l. e i (omega arith)) in
+    let last : f n ≡ h n = e n (omega arith) in
+    omega arith
+
+pub sum_below_le : (n : ℕ) (f h : ℕ → ℕ) → ((i : ℕ) → i < n → f i ≤ h i) → sum_below n f ≤ sum_below n h
+unfolding sum_below
+sum_below_le zero f h e = omega arith
+sum_below_le (suc n) f h e =
+    let below : sum_below n f ≤ sum_below n h = sum_below_le n f h (λ i l. e i (omega arith)) in
+    let last : f n ≤ h n = e n (omega arith) in
+    omega arith
+
+pub sum_below-add : (n : ℕ) (f h : ℕ → ℕ) → sum_below n (λ i. f i + h i) ≡ sum_below n f + sum_below n h
+unfolding sum_below
+sum_below-add zero f h = refl
+sum_below-add (suc n) f h = let below = sum_below-add n f h in omega arith
+
+pub sum_below-scale : (n c : ℕ) (f : ℕ → ℕ) → sum_below n (λ i. c * f i) ≡ c * sum_below n f
+unfolding sum_below
+sum_below-scale zero c f = omega arith
+sum_below-scale (suc n) c f = let below = sum_below-scale n c f in omega arith
+
+pub sum_below-zero : (n : ℕ) → sum_below n (λ i. 0) ≡ 0
+unfolding sum_below
+sum_below-zero zero = refl
+sum_below-zero (suc n) = let below = sum_below-zero n in omega arith
+
+pub sum_below-ones : (n : ℕ) → sum_below n (λ i. 1) ≡ n
+unfolding sum_below
+sum_below-ones zero = refl
+sum_below-ones (suc n) = let below = sum_below-ones n in omega arith
+
+pub sum_below_swap : (n m : ℕ) (f : ℕ → ℕ → ℕ) → sum_below n (λ i. sum_below m (λ j. f i j)) ≡ sum_below m (λ j. sum_below n (λ i. f i j))
+unfolding sum_below
+sum_below_swap zero m f = sym (sum_below-zero m)
+sum_below_swap (suc n) m f =
+    let below = sum_below_swap n m f in
+    let split = sum_below-add m (λ j. sum_below n (λ i. f i j)) (f n) in
+    omega arith
+
+pub one_at_same : (k : ℕ) → one_at k k ≡ 1
+one_at_same k = rw (eq-eqb k k refl)
+
+pub one_at_other : (k j : ℕ) → (k ≡ j → ⊥) → one_at k j ≡ 0
+one_at_other k j ne = rw (ne_eqb k j ne)
+
+pub sum_below-one_at_past : (n k : ℕ) (f : ℕ → ℕ) → n ≤ k → sum_below n (λ j. f j * one_at k j) ≡ 0
+unfolding sum_below
+sum_below-one_at_past zero k f l = refl
+sum_below-one_at_past (suc n) k f l =
+    let below = sum_below-one_at_past n k f (omega arith) in
+    let here : one_at k n ≡ 0 = one_at_other k n (λ e. omega arith) in
+    rw (below, here) (omega arith)
+
+pub sum_below-one_at : (n k : ℕ) (f : ℕ → ℕ) → k < n → sum_below n (λ j. f j * one_at k j) ≡ f k
+unfolding sum_below
+sum_below-one_at zero k f l = absurd (omega arith)
+sum_below-one_at (suc n) k f l =
+    ⊎_elim (λ (e : k ≡ n).
+    let below = sum_below-one_at_past n k f (omega arith) in
+    let here : one_at k n ≡ 1 = rw (eq-eqb k n e) in
+    let same = ap f e in
+    rw (below, here) (omega arith))
+    (λ (ne : k ≡ n → ⊥).
+    let less : k < n = grind arith in
+    let below = sum_below-one_at n k f less in
+    let here : one_at k n ≡ 0 = one_at_other k n ne in
+    rw (below, here) (omega arith))
+    (cases_eq k n)
+
+pub one_at_comm : (k j : ℕ) → one_at k j ≡ one_at j k
+one_at_comm k j =
+    ⊎_elim (λ (e : k ≡ j). rw (eq-eqb k j e, eq-eqb j k (sym e)))
+    (λ (ne : k ≡ j → ⊥). one_at_other k j ne ∙ sym (one_at_other j k (λ e. ne (sym e))))
+    (cases_eq k j)
