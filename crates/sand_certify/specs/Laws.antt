@@ -5,10 +5,11 @@ use Rattle.sand_model.specs.Sand.{IsToppled, IsSettled}
 use Rattle.sand_model.specs.Forbidden.{IsTight}
 use Rattle.sand_certify.specs.Certificate.{ToppledSitesBurn, IsCertificate}
 
--- where each site that has toppled burns at its turn, no set of such sites is forbidden
+-- if each site that has toppled burns at its turn, no set of such sites is forbidden
 abbrev pub TightIfBurning : Type 0
 TightIfBurning = (g : Grid) (t u turn : ℕ → ℕ) → ToppledSitesBurn g t u turn → IsTight g t u
 
 -- a certificate shows the odometer
 abbrev pub SettledIfShown : Type 0
-SettledIfShown = (g : Grid) (s t : ℕ → ℕ) (counts turns : List ℕ) → IsCertificate g s counts turns → IsToppled g s (slice_index counts) t → IsSettled g s (slice_index counts) t
+SettledIfShown = (g : Grid) (s t : ℕ → ℕ) (counts turns : List ℕ) → IsCertificate g s counts turns
+    → IsToppled g s (slice_index counts) t → IsSettled g s (slice_index counts) t

@@ -1,11 +1,11 @@
 //! The certifier: whether claimed counts and turns show how often each site of a pile topples.
 //!
-//! Site by site, in 64-bit numbers that cannot overflow since each count is below `COUNT_LIMIT`, it computes the height
-//! t = s - Lu that the counts u leave, and looks at three things: t is not negative, t is 3 at most, and where the
-//! site has toppled, t is no less than the number of its neighbours whose turn is not earlier. Where all sites pass, the
-//! counts are the least odometer (`laws`). It takes one pass over the grid.
+//! For each site it computes the height t = s - Lu that the counts u leave, in 64-bit numbers that cannot overflow
+//! because each count is below `COUNT_LIMIT`. It checks three things: t is not negative; t is at most 3; and if the site
+//! has toppled, t is at least the number of its neighbours whose turn is not earlier. If all sites pass, the counts are
+//! the least odometer (`laws`). It takes one pass over the grid.
 
-ghost use Rattle.std.specs.Prelude.{◌≡◌, ℕ, ◌+◌, ◌*◌, ◌^◌, ◌<◌, ◌≤◌, ◌↔◌, List, length, slice_index, nat_le, if◌then◌else◌, IfOk, IfSome, IsTrue, IsSome, MatchOption, All};
+ghost use Rattle.std.specs.Prelude.{◌≡◌, ℕ, ◌+◌, ◌*◌, ◌^◌, ◌<◌, ◌≤◌, ◌↔◌, length, slice_index, nat_le, if◌then◌else◌, IfOk, IfSome, IsTrue, IsSome, MatchOption, All};
 ghost use Rattle.sand_model.specs.Grid.{sites};
 ghost use Rattle.sand_model.specs.Sand.{flow, value_at, IsSettled};
 ghost use Rattle.sand_model.specs.Piles.{height_of, most_grains};
@@ -47,7 +47,7 @@ pub(crate) fn inflow(lattice: &Lattice, counts: &[u64], site: usize) -> u64
     up + left + right + down
 }
 
-// 1 where the turn at a place is not earlier than this one, and 0 elsewhere and in the sink.
+// 1 if the turn at a place is not earlier than this one, and otherwise 0. In the sink it is 0.
 #[inline(always)]
 fn is_no_earlier(turns: &[u32], turn: u32, place: Option<usize>) -> u64
     requires { IfSome place (λ j. j < length turns.now) }
@@ -75,7 +75,7 @@ fn unburnt(lattice: &Lattice, turns: &[u32], site: usize) -> u64
     up + left + right + down
 }
 
-// The height that the counts leave at a site, where that is shown there.
+// The height that the counts leave at a site, if the counts are shown to be right there.
 #[inline(always)]
 fn height_left(
     lattice: &Lattice,
@@ -113,7 +113,7 @@ pub(crate) fn are_few(counts: &[u64]) -> bool
     counts.iter().all(|count| *count < COUNT_LIMIT)
 }
 
-// The heights that the counts leave at all sites, where each site is shown.
+// The heights that the counts leave at all sites, if the counts are shown to be right at each.
 fn heights_left(
     alloc: Global,
     lattice: &Lattice,
@@ -126,9 +126,11 @@ fn heights_left(
     requires turns_each { length turns.now ≡ sites lattice.now }
     requires few { (j : ℕ) → slice_index counts.now j < 2 ^ 54 }
     requires low { (j : ℕ) → slice_index start.now j ≤ most_grains }
-    ensures exactly { IfOk result (λ o. IsSome o ↔ IsShownEverywhere lattice.now (slice_index start.now) (slice_index counts.now) (slice_index turns.now)) }
+    ensures exactly { IfOk result (λ o. IsSome o
+        ↔ IsShownEverywhere lattice.now (slice_index start.now) (slice_index counts.now) (slice_index turns.now)) }
     ensures one_each { IfOk result (λ o. IfSome o (λ heights. length heights.items ≡ sites lattice.now)) }
-    ensures settled { IfOk result (λ o. IfSome o (λ heights. IsSettled lattice.now (slice_index start.now) (slice_index counts.now) (slice_index heights.items))) }
+    ensures settled { IfOk result (λ o. IfSome o (λ heights.
+        IsSettled lattice.now (slice_index start.now) (slice_index counts.now) (slice_index heights.items))) }
 {
     let sites = lattice.shape().sites();
     let mut heights = Vec::with_capacity(alloc, sites)?;
@@ -141,8 +143,9 @@ fn heights_left(
     Ok(Some(heights))
 }
 
-/// What toppling each site of a pile as often as `counts` says leaves, where `counts` and `turns`, by site, are a
-/// certificate of it: then the counts are the pile's odometer. None where they are not, and Memory as an error.
+/// The heights that are left when each site of a pile topples as often as `counts` says, if `counts` and `turns`, by
+/// site, are a certificate of the pile. Then the counts are its odometer. Returns None if they are not a certificate, and
+/// an error if an allocation fails.
 pub fn certified(
     alloc: Global,
     pile: &Pile,
@@ -151,7 +154,8 @@ pub fn certified(
 ) -> Result<Option<Vec<u64>>, AllocError>
     ensures exactly { IfOk result (λ o. IsSome o ↔ IsCertificate pile.now.grid (height_of pile.now) counts.now turns.now) }
     ensures one_each { IfOk result (λ o. IfSome o (λ heights. length heights.items ≡ sites pile.now.grid)) }
-    ensures settled { IfOk result (λ o. IfSome o (λ heights. IsSettled pile.now.grid (height_of pile.now) (slice_index counts.now) (slice_index heights.items))) }
+    ensures settled { IfOk result (λ o. IfSome o (λ heights.
+        IsSettled pile.now.grid (height_of pile.now) (slice_index counts.now) (slice_index heights.items))) }
 {
     let shape = pile.shape();
     if counts.len() != shape.sites() || turns.len() != shape.sites() || !are_few(counts) {

@@ -41,7 +41,8 @@ fn heights_emptied(
     ensures exactly { IfOk result (λ o. IsSome o ↔ IsLow lattice.now (slice_index counts.now)) }
     ensures one_each { IfOk result (λ o. IfSome o (λ heights. length heights.items ≡ sites lattice.now)) }
     ensures low { IfOk result (λ o. IfSome o (λ heights. All (λ h. h ≤ 3) heights.items)) }
-    ensures emptied { IfOk result (λ o. IfSome o (λ heights. IsToppled lattice.now (slice_index heights.items) (slice_index counts.now) (λ _. 0))) }
+    ensures emptied { IfOk result (λ o. IfSome o (λ heights.
+        IsToppled lattice.now (slice_index heights.items) (slice_index counts.now) (λ _. 0))) }
 {
     let sites = lattice.shape().sites();
     let mut heights = Vec::with_capacity(alloc, sites)?;
@@ -54,13 +55,14 @@ fn heights_emptied(
     Ok(Some(heights))
 }
 
-/// The heights of the stable pile that toppling each site as often as `counts` says takes to nothing. None if there is no
-/// such pile, and Memory as an error.
+/// The heights of the stable pile that toppling each site as often as `counts` says takes to nothing. Returns None if
+/// there is no such pile, and an error if an allocation fails.
 pub fn emptied(alloc: Global, shape: Shape, counts: &[u64]) -> Result<Option<Vec<u64>>, AllocError>
     ensures exactly { IfOk result (λ o. IsSome o ↔ IsEmptying shape counts.now) }
     ensures one_each { IfOk result (λ o. IfSome o (λ heights. length heights.items ≡ sites shape)) }
     ensures low { IfOk result (λ o. IfSome o (λ heights. All (λ h. h ≤ 3) heights.items)) }
-    ensures emptied { IfOk result (λ o. IfSome o (λ heights. IsToppled shape (slice_index heights.items) (slice_index counts.now) (λ _. 0))) }
+    ensures emptied { IfOk result (λ o. IfSome o (λ heights.
+        IsToppled shape (slice_index heights.items) (slice_index counts.now) (λ _. 0))) }
 {
     if counts.len() != shape.sites() || !are_few(counts) {
         return Ok(None);

@@ -1,7 +1,7 @@
 //! Why a certificate is a proof, as the contracts of functions that do nothing.
 //!
-//! What topples to 3 at most is settled where no set of sites that have all toppled is forbidden in what is left
-//! (`sand_model::laws::least_if_tight`).
+//! A pile that topples to at most 3 everywhere is settled if no set of sites that have all toppled is forbidden in the
+//! pile that is left (`sand_model::laws::least_if_tight`).
 //!
 //! **Turns.** Let each site that has toppled have a turn, and let its height be at least the number of its neighbours
 //! whose turn is not earlier. Then no set of sites that have all toppled is forbidden: of such a set take a site of the
@@ -10,7 +10,7 @@
 
 ghost use Rattle.sand_certify.specs.Laws.{TightIfBurning, SettledIfShown};
 
-/// Where each site that has toppled burns at its turn, no set of such sites is forbidden.
+/// If each site that has toppled burns at its turn, no set of such sites is forbidden.
 pub fn tight_if_burning()
     ensures { TightIfBurning }
 {}

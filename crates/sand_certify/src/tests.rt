@@ -5,7 +5,7 @@ use sand_model::{Edge, Pile, Shape};
 use std::alloc::Global;
 use std::test::Fail;
 
-// What a claim leaves of a start, or None where it is refused.
+// The heights that a claim leaves of a start, or None if the claim is refused.
 fn left_by(
     alloc: Global,
     shape: Shape,

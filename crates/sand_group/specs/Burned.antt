@@ -1,4 +1,4 @@
--- What the burning test answers.
+-- What the burning test returns.
 use Rattle.std.specs.Prelude.{ℕ}
 use Rattle.sand_group.specs.declared.burning.Burned.{Burned}
 use Rattle.sand_group.specs.declared.burning.Burned.TheVariants.{Recurrent, Forbidden}

@@ -16,7 +16,7 @@ ListsBurning n heights unburnt = Lists n (may_burn (slice_index heights) (slice_
 abbrev pub ListsUnburnt : ℕ → List ℕ → List ℕ → List ℕ → Type 0
 ListsUnburnt n heights unburnt = Lists n (λ i. not (may_burn (slice_index heights) (slice_index unburnt) i))
 
--- whether a site does not stand in a list of sites
+-- whether a site is not in a list of sites
 abbrev pub is_out : List ℕ → ℕ → Bool
 is_out xs i = not (is_in xs i)
 

@@ -6,7 +6,7 @@ use Rattle.sand_model.specs.Integers.{whole, IsEquivalent}
 use Rattle.sand_group.specs.Recurrence.{IsRecurrent, IsBurningOrder}
 use Rattle.sand_group.specs.Group.{SettlesTo, IsSurplus, Represents, IsSum, IsIdentity, IsInverse}
 
--- the burning test: a stable pile is recurrent exactly where all its sites burn in some order
+-- the burning test: a stable pile is recurrent if and only if all its sites burn in some order
 abbrev pub BurningDecides : Type 0
 BurningDecides = (g : Grid) (s : ℕ → ℕ) → IsGrid g → IsStable g s → IsRecurrent g s ↔ ((order : List ℕ) × IsBurningOrder g s order)
 
@@ -24,11 +24,13 @@ EachClassHasOne = (g : Grid) (x : ℕ → ℤ) → (c : ℕ → ℕ) × Represen
 
 -- two equivalent recurrent piles are equal
 abbrev pub EquivalentRecurrentsAreEqual : Type 0
-EquivalentRecurrentsAreEqual = (g : Grid) (c e : ℕ → ℕ) → IsRecurrent g c → IsRecurrent g e → IsEquivalent g (whole c) (whole e) → (i : ℕ) → i < sites g → c i ≡ e i
+EquivalentRecurrentsAreEqual = (g : Grid) (c e : ℕ → ℕ) → IsRecurrent g c → IsRecurrent g e
+    → IsEquivalent g (whole c) (whole e) → (i : ℕ) → i < sites g → c i ≡ e i
 
--- so each class has one recurrent pile alone: there is one sum, one identity and one inverse
+-- so each class has only one recurrent pile: there is one sum, one identity and one inverse
 abbrev pub RepresentativesAreEqual : Type 0
-RepresentativesAreEqual = (g : Grid) (x : ℕ → ℤ) (c e : ℕ → ℕ) → Represents g x c → Represents g x e → (i : ℕ) → i < sites g → c i ≡ e i
+RepresentativesAreEqual = (g : Grid) (x : ℕ → ℤ) (c e : ℕ → ℕ) → Represents g x c → Represents g x e
+    → (i : ℕ) → i < sites g → c i ≡ e i
 
 -- the sum of a and b is what a + b settles to
 abbrev pub SumIsSettled : Type 0
@@ -42,13 +44,14 @@ EachGridHasSurplus = (g : Grid) → (d : ℕ → ℕ) × IsSurplus g d
 abbrev pub IdentityIsSettled : Type 0
 IdentityIsSettled = (g : Grid) (d : ℕ → ℕ) → IsSurplus g d → SettlesTo g d (IsIdentity g)
 
--- the inverse of c is what 2d - c settles to
+-- the inverse of c is what 2d - c settles to; d is at least 3 and c at most 3, so 2d - c is at least 3 at each site
 abbrev pub InverseIsSettled : Type 0
 InverseIsSettled = (g : Grid) (c d : ℕ → ℕ) → IsRecurrent g c → IsSurplus g d → SettlesTo g (λ i. 2 * d i - c i) (IsInverse g c)
 
 -- c and the identity settle to c
 abbrev pub IdentityIsNeutral : Type 0
-IdentityIsNeutral = (g : Grid) (c e : ℕ → ℕ) → IsRecurrent g c → IsIdentity g e → SettlesTo g (λ i. c i + e i) (λ t. (i : ℕ) → i < sites g → t i ≡ c i)
+IdentityIsNeutral = (g : Grid) (c e : ℕ → ℕ) → IsRecurrent g c → IsIdentity g e
+    → SettlesTo g (λ i. c i + e i) (λ t. (i : ℕ) → i < sites g → t i ≡ c i)
 
 -- c and its inverse settle to the identity
 abbrev pub InverseCancels : Type 0
@@ -64,4 +67,5 @@ RepresentsItself = (g : Grid) (c : ℕ → ℕ) → IsRecurrent g c → Represen
 
 -- that of a + b is the sum of those of a and b
 abbrev pub EquivalentsAddUp : Type 0
-EquivalentsAddUp = (g : Grid) (a b c d e : ℕ → ℕ) → Represents g (whole a) c → Represents g (whole b) d → Represents g (whole (λ i. a i + b i)) e → IsSum g c d e
+EquivalentsAddUp = (g : Grid) (a b c d e : ℕ → ℕ) → Represents g (whole a) c → Represents g (whole b) d
+    → Represents g (whole (λ i. a i + b i)) e → IsSum g c d e

@@ -11,7 +11,7 @@ pub record IsRecurrent (g : Grid) (s : ℕ → ℕ) : Type 0 where
   pub stable : IsStable g s
   pub none : (set : ℕ → Bool) → ¬ IsForbidden g s set
 
--- whether a site stands in a list of sites
+-- whether a site is in a list of sites
 abbrev pub is_in : List ℕ → ℕ → Bool
 is_in xs i = nat_lt 0 (tally xs i)
 

@@ -1,15 +1,15 @@
 //! The burning test: whether a stable pile is recurrent.
 //!
-//! A site burns where its height is at least the number of its neighbours that do not burn yet. No site of a forbidden
+//! A site burns when its height is at least the number of its neighbours that do not burn yet. No site of a forbidden
 //! set ever burns: the first of them to burn would have all of its neighbours in the set still unburnt, and its height
 //! is below their number. The sites that stay unburnt are themselves a forbidden set, or there are none. So they are
-//! the greatest forbidden set, and a pile is recurrent exactly where all sites burn.
+//! the greatest forbidden set, and a pile is recurrent if and only if all sites burn.
 //!
 //! The list of burnt sites is itself the queue: a site is appended when its height reaches the number of its unburnt
 //! neighbours, which happens once, and a head walks over the list and takes one from the numbers of the neighbours of
 //! each site. Each site is walked over once, so the test takes time in proportion to the sites.
 
-ghost use Rattle.std.specs.Prelude.{◌≡◌, ℕ, ◌+◌, ◌<◌, ◌≤◌, ◌↔◌, [], length, slice_index, vec_len, vec_capacity, take, IfSome, IfOk, IsOkUnless, OnOk, alloc_error};
+ghost use Rattle.std.specs.Prelude.{◌≡◌, ℕ, ◌+◌, ◌<◌, ◌≤◌, ◌↔◌, [], length, slice_index, vec_len, vec_capacity, take, IfSome, IfOk, IsOkUnless, alloc_error};
 ghost use Rattle.std.specs.List.Sorted.{IsStrictlyIncreasing};
 ghost use Rattle.sand_model.specs.Grid.{sites, neighbours};
 ghost use Rattle.sand_model.specs.Sand.{IsStable, tally, one_at, value_at};
@@ -18,7 +18,7 @@ ghost use Rattle.sand_group.specs.Fire.{ListsBurning, ListsUnburnt, FireSpreadsF
 ghost use Rattle.sand_group.specs.Burned.{IsBurned};
 
 use crate::faults::GroupFault;
-use sand_model::{Pile, Shape};
+use sand_model::{Lattice, Pile};
 use std::alloc::{AllocError, Global};
 
 /// What the burning test found.
@@ -30,14 +30,15 @@ pub enum Burned {
     Forbidden(Vec<usize>),
 }
 
-// For each site the number of its neighbours, none of which has burnt yet.
-fn neighbour_counts(alloc: Global, shape: Shape) -> Result<Vec<u8>, AllocError>
-    ensures one_each { IfOk result (λ v. length v.items ≡ sites shape) }
-    ensures counts { IfOk result (λ v. CountsUnburnt shape [] (slice_index v.items)) }
+// For each site the number of its neighbours. None of them has burnt yet.
+fn neighbour_counts(alloc: Global, lattice: &Lattice) -> Result<Vec<u8>, AllocError>
+    ensures one_each { IfOk result (λ v. length v.items ≡ sites lattice.now) }
+    ensures counts { IfOk result (λ v. CountsUnburnt lattice.now [] (slice_index v.items)) }
 {
+    let shape = lattice.shape();
     let mut counts = Vec::with_capacity(alloc, shape.sites())?;
     for site in 0..shape.sites() {
-        counts.push(4 - shape.missing(site))?;
+        counts.push((4 - lattice.missing(site)) as u8)?;
     }
     Ok(counts)
 }
@@ -57,8 +58,8 @@ fn first_to_burn(alloc: Global, heights: &[u64], unburnt: &[u8]) -> Result<Vec<u
     Ok(burnt)
 }
 
-// Takes one from the number of unburnt neighbours of the site at a place, and lets the site burn where that number
-// has come down to its height.
+// Takes one from the number of unburnt neighbours of the site at a place, and lets the site burn if that number is now
+// its height.
 fn note_burnt_neighbour(
     heights: &[u64],
     unburnt: &mut Vec<u8>,
@@ -85,28 +86,28 @@ fn note_burnt_neighbour(
     }
 }
 
-// Takes one from the numbers of unburnt neighbours all round a burnt site, and lets those neighbours burn that now may.
+// Takes one from the number of unburnt neighbours of each neighbour of a burnt site, and lets those burn that now may.
 fn spread_fire(
-    shape: Shape,
+    lattice: &Lattice,
     heights: &[u64],
     unburnt: &mut Vec<u8>,
     burnt: &mut Vec<usize>,
     site: usize,
 )
-    requires site { site < sites shape }
-    requires heights_each { length heights.now ≡ sites shape }
-    requires one_each { length unburnt.old.items ≡ sites shape }
-    requires unburnt { (j : ℕ) → j < sites shape → tally (neighbours shape site) j ≤ slice_index unburnt.old.items j }
-    requires all { ListsBurning (sites shape) heights.now unburnt.old.items burnt.old.items }
-    requires room { sites shape ≤ vec_capacity burnt.old }
-    ensures one_each { length unburnt.new.items ≡ sites shape }
-    ensures fewer { (j : ℕ) → slice_index unburnt.new.items j + tally (neighbours shape site) j
+    requires site { site < sites lattice.now }
+    requires heights_each { length heights.now ≡ sites lattice.now }
+    requires one_each { length unburnt.old.items ≡ sites lattice.now }
+    requires unburnt { (j : ℕ) → j < sites lattice.now → tally (neighbours lattice.now site) j ≤ slice_index unburnt.old.items j }
+    requires all { ListsBurning (sites lattice.now) heights.now unburnt.old.items burnt.old.items }
+    requires room { sites lattice.now ≤ vec_capacity burnt.old }
+    ensures one_each { length unburnt.new.items ≡ sites lattice.now }
+    ensures fewer { (j : ℕ) → slice_index unburnt.new.items j + tally (neighbours lattice.now site) j
         ≡ slice_index unburnt.old.items j }
-    ensures all { ListsBurning (sites shape) heights.now unburnt.new.items burnt.new.items }
-    ensures room { sites shape ≤ vec_capacity burnt.new }
+    ensures all { ListsBurning (sites lattice.now) heights.now unburnt.new.items burnt.new.items }
+    ensures room { sites lattice.now ≤ vec_capacity burnt.new }
     ensures kept { take (vec_len burnt.old) burnt.new.items ≡ burnt.old.items }
 {
-    let [north, west, east, south] = shape.neighbours(site);
+    let [north, west, east, south] = lattice.neighbours(site);
     note_burnt_neighbour(heights, unburnt, burnt, north);
     note_burnt_neighbour(heights, unburnt, burnt, west);
     note_burnt_neighbour(heights, unburnt, burnt, east);
@@ -114,21 +115,21 @@ fn spread_fire(
 }
 
 // Lets the fire spread from the sites that may burn at once, until no other may.
-fn burn_out(shape: Shape, heights: &[u64], unburnt: &mut Vec<u8>, burnt: &mut Vec<usize>)
-    requires heights_each { length heights.now ≡ sites shape }
-    requires one_each { length unburnt.old.items ≡ sites shape }
-    requires counts { CountsUnburnt shape [] (slice_index unburnt.old.items) }
-    requires all { ListsBurning (sites shape) heights.now unburnt.old.items burnt.old.items }
-    requires room { sites shape ≤ vec_capacity burnt.old }
-    ensures one_each { length unburnt.new.items ≡ sites shape }
-    ensures counts { CountsUnburnt shape burnt.new.items (slice_index unburnt.new.items) }
-    ensures all { ListsBurning (sites shape) heights.now unburnt.new.items burnt.new.items }
-    ensures in_turn { FireSpreadsFrom shape (slice_index heights.now) [] burnt.new.items }
+fn burn_out(lattice: &Lattice, heights: &[u64], unburnt: &mut Vec<u8>, burnt: &mut Vec<usize>)
+    requires heights_each { length heights.now ≡ sites lattice.now }
+    requires one_each { length unburnt.old.items ≡ sites lattice.now }
+    requires counts { CountsUnburnt lattice.now [] (slice_index unburnt.old.items) }
+    requires all { ListsBurning (sites lattice.now) heights.now unburnt.old.items burnt.old.items }
+    requires room { sites lattice.now ≤ vec_capacity burnt.old }
+    ensures one_each { length unburnt.new.items ≡ sites lattice.now }
+    ensures counts { CountsUnburnt lattice.now burnt.new.items (slice_index unburnt.new.items) }
+    ensures all { ListsBurning (sites lattice.now) heights.now unburnt.new.items burnt.new.items }
+    ensures in_turn { FireSpreadsFrom lattice.now (slice_index heights.now) [] burnt.new.items }
 {
     let mut head = 0;
     while head < burnt.len() {
         let site = burnt[head];
-        spread_fire(shape, heights, unburnt, burnt, site);
+        spread_fire(lattice, heights, unburnt, burnt, site);
         head += 1;
     }
 }
@@ -148,8 +149,8 @@ fn left_over(alloc: Global, heights: &[u64], unburnt: &[u8]) -> Result<Vec<usize
     Ok(left)
 }
 
-/// The burning test of a stable pile. Refuses a height over 3 (Unstable), then Memory. Takes time in proportion to
-/// the sites.
+/// The burning test of a stable pile, in time proportional to the number of sites. Returns Unstable if a height is over
+/// 3, and Memory if an allocation fails.
 pub fn burn(alloc: Global, pile: &Pile) -> Result<Burned, GroupFault>
     ensures unstable { (result ≡ Err GroupFault.Unstable) ↔ ¬ IsStable pile.now.grid (height_of pile.now) }
     ensures memory { IsStable pile.now.grid (height_of pile.now) → IsOkUnless result (GroupFault.Memory alloc_error) }
@@ -160,9 +161,10 @@ pub fn burn(alloc: Global, pile: &Pile) -> Result<Burned, GroupFault>
     }
     let shape = pile.shape();
     let heights = pile.heights();
-    let mut unburnt = neighbour_counts(alloc, shape)?;
+    let lattice = Lattice::new(alloc, shape)?;
+    let mut unburnt = neighbour_counts(alloc, &lattice)?;
     let mut burnt = first_to_burn(alloc, heights, &unburnt)?;
-    burn_out(shape, heights, &mut unburnt, &mut burnt);
+    burn_out(&lattice, heights, &mut unburnt, &mut burnt);
     if burnt.len() == shape.sites() {
         return Ok(Burned::Recurrent(burnt));
     }

@@ -14,7 +14,7 @@ use sand_model::Pile;
 use sand_settle::settle;
 use std::alloc::Global;
 
-/// The one recurrent pile that is equivalent to a pile. Returns Memory if an allocation fails, and no other fault.
+/// The one recurrent pile that is equivalent to a pile. Fails only with Memory, if an allocation fails.
 pub fn equivalent_recurrent(alloc: Global, pile: &Pile) -> Result<Recurrent, GroupFault>
     ensures memory { IsOkUnless result (GroupFault.Memory alloc_error) }
     ensures equivalent { IfOk result (λ c. IsEquivalentRecurrent pile.now.grid (height_of pile.now) c) }

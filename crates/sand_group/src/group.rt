@@ -37,8 +37,8 @@ impl Model for Recurrent {
 }
 
 impl Recurrent {
-    /// A recurrent pile with the same heights. Refuses a height over 3 (Unstable), then a pile with a forbidden set
-    /// (NotRecurrent), then Memory.
+    /// A recurrent pile with the same heights. Returns Unstable if a height is over 3, NotRecurrent if a set is forbidden,
+    /// and Memory if an allocation fails.
     pub fn from_pile(alloc: Global, pile: &Pile) -> Result<Recurrent, GroupFault>
         ensures made { IfOk result (λ c. c ≡ pile.now) }
         ensures recurrent { OnOk result (IsRecurrent pile.now.grid (height_of pile.now)) }
@@ -52,7 +52,7 @@ impl Recurrent {
         }
         match pile.copy(alloc) {
             Ok(pile) => Ok(Recurrent { pile }),
-            // A copy fails for want of memory alone.
+            // A copy fails only if an allocation does.
             Err(_) => Err(GroupFault::Memory(AllocError)),
         }
     }
@@ -107,7 +107,7 @@ fn six_less(alloc: Global, heights: &[u64]) -> Result<Vec<u64>, AllocError>
     Ok(rests)
 }
 
-// Twice the one list of heights less the other, by site.
+// Twice the heights of one list less those of the other, by site.
 fn twice_less(alloc: Global, twice: &[u64], less: &[u64]) -> Result<Vec<u64>, AllocError>
     requires same_length { length less.now ≡ length twice.now }
     requires high { All (λ h. 3 ≤ h) twice.now }
@@ -119,6 +119,7 @@ fn twice_less(alloc: Global, twice: &[u64], less: &[u64]) -> Result<Vec<u64>, Al
 {
     let mut differences = Vec::with_capacity(alloc, less.len())?;
     for (site, height) in less.iter().enumerate() {
+        // At least 2 * 3 - 3, so it is never below 0.
         differences.push(2 * twice[site] - *height)?;
     }
     Ok(differences)
@@ -135,8 +136,8 @@ fn surplus(alloc: Global, shape: Shape) -> Result<Vec<u64>, GroupFault>
     Ok(six_less(alloc, rest.heights())?)
 }
 
-/// The sum of two recurrent piles: what their grains settle to together. Refuses piles of different shapes (Shapes),
-/// then Memory.
+/// The sum of two recurrent piles: what their grains settle to together. Returns Shapes if their shapes differ, and
+/// Memory if an allocation fails.
 pub fn add(alloc: Global, a: &Recurrent, b: &Recurrent) -> Result<Recurrent, GroupFault>
     ensures shapes { (result ≡ Err GroupFault.Shapes) ↔ (a.now.grid ≢ b.now.grid) }
     ensures one_shape { OnOk result (a.now.grid ≡ b.now.grid) }
@@ -166,8 +167,8 @@ fn settled_identity(alloc: Global, shape: Shape) -> Result<Recurrent, GroupFault
     })
 }
 
-/// The identity of the group of a shape: what d settles to, from a guess if one is shown to be right. It is refused only
-/// if an allocation fails, and then with Memory.
+/// The identity of the group of a shape: what d settles to, from a guess if one is shown to be right. Fails only with
+/// Memory, if an allocation fails.
 pub fn identity(alloc: Global, shape: Shape) -> Result<Recurrent, GroupFault>
     ensures memory { IsOkUnless result (GroupFault.Memory alloc_error) }
     ensures settled { IfOk result (λ e. (d : ℕ → ℕ) × IsSurplus shape d × IsSettledPile shape d e) }
@@ -179,7 +180,7 @@ pub fn identity(alloc: Global, shape: Shape) -> Result<Recurrent, GroupFault>
     }
 }
 
-/// The inverse of a recurrent pile: what 2d - c settles to. Refuses want of memory alone.
+/// The inverse of a recurrent pile: what 2d - c settles to. Fails only with Memory, if an allocation fails.
 pub fn inverse(alloc: Global, c: &Recurrent) -> Result<Recurrent, GroupFault>
     ensures memory { IsOkUnless result (GroupFault.Memory alloc_error) }
     ensures settled { IfOk result (λ v. (d : ℕ → ℕ) × IsSurplus c.now.grid d
@@ -194,7 +195,7 @@ pub fn inverse(alloc: Global, c: &Recurrent) -> Result<Recurrent, GroupFault>
     })
 }
 
-/// What a recurrent pile settles to with one grain more at a site. Refuses want of memory alone.
+/// What a recurrent pile settles to with one grain more at a site. Fails only with Memory, if an allocation fails.
 pub fn act(alloc: Global, c: &Recurrent, site: usize) -> Result<Recurrent, GroupFault>
     requires { site < sites c.now.grid }
     ensures memory { IsOkUnless result (GroupFault.Memory alloc_error) }

@@ -1,8 +1,8 @@
 //! The laws of recurrent piles and of their group, as contracts of functions that do nothing.
 //!
 //! **Burning.** In a recurrent pile the unburnt sites are no forbidden set, so one of them may burn, until all have
-//! burnt. Where all burn in some order, the first site of a set to burn has all its neighbours in the set after it, so
-//! the set is not forbidden.
+//! burnt. Conversely, if all burn in some order, the first site of a set to burn has all its neighbours in the set after
+//! it, so the set is not forbidden.
 //!
 //! **From full piles.** Let t be what m + a settles to, m the pile of all 3, and u its odometer. If a set F were
 //! forbidden in t and all its sites had toppled, then u less 1 on F would also stabilise m + a, against leastness. A
@@ -12,13 +12,13 @@
 //! **No law assumes that a pile settles.** Each pile does (`sand_model::laws::each_settles`), so a law says that it settles,
 //! and what is true of each pile that it settles to (`SettlesTo`).
 //!
-//! **One in each class.** Where two recurrent piles differ by Lz, the sites at which z is greatest are forbidden in the
-//! second, unless z is at most 0; and the same for -z. So a recurrent c is what c + d settles to, where d is
-//! 2m - settled(2m): d is equivalent to all 0 and at least m.
+//! **One in each class.** If two recurrent piles differ by Lz, the sites at which z is greatest are forbidden in the
+//! second, unless z is at most 0. The same holds for -z. So a recurrent c is what c + d settles to, for
+//! d = 2m - settled(2m): d is equivalent to all 0 and at least m.
 
 ghost use Rattle.sand_group.specs.Laws.{BurningDecides, RecurrentFromFull, StaysRecurrent, EachClassHasOne, EquivalentRecurrentsAreEqual, RepresentativesAreEqual, SumIsSettled, EachGridHasSurplus, IdentityIsSettled, InverseIsSettled, IdentityIsNeutral, InverseCancels, EquivalentIsSettled, RepresentsItself, EquivalentsAddUp};
 
-/// A stable pile is recurrent exactly where all its sites burn in some order.
+/// A stable pile is recurrent if and only if all its sites burn in some order.
 pub fn burning_decides()
     ensures { BurningDecides }
 {}

@@ -1,6 +1,6 @@
 //! The burning test, and the group of recurrent piles.
 //!
-//! The definitions stand in `specs/`: `Recurrence` (forbidden sets, recurrent piles, burning orders), `Group` (sums,
+//! The definitions are in `specs/`: `Recurrence` (forbidden sets, recurrent piles, burning orders), `Group` (sums,
 //! the identity, inverses, the recurrent pile of a class) and `Laws`.
 #![tactic(auto)]
 

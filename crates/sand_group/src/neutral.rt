@@ -1,8 +1,8 @@
 //! The identity of the group from a guess, in place of two settlings.
 //!
 //! A recurrent pile that some topplings take to nothing is equivalent to all 0, so it is the identity, wherever it came
-//! from. The topplings are guessed (`sand_guess::guessed_identity`), of which nothing is claimed; what pile they take to
-//! nothing is computed (`sand_certify::emptied`), and it is burnt.
+//! from. The topplings are guessed (`sand_guess::guessed_identity`), and nothing is claimed of the guess. The pile that
+//! they take to nothing is computed (`sand_certify::emptied`) and burnt.
 
 ghost use Rattle.std.specs.Prelude.{◌≡◌, length, IfOk, IfSome, IsOkUnless, alloc_error};
 ghost use Rattle.sand_model.specs.Grid.{sites};
@@ -23,13 +23,13 @@ pub(crate) fn shown_identity(alloc: Global, shape: Shape) -> Result<Option<Pile>
     ensures one_each { IfOk result (λ o. IfSome o (λ e. length e.heights ≡ sites shape)) }
     ensures identity { IfOk result (λ o. IfSome o (λ e. IsIdentity shape (height_of e))) }
 {
-    let _ = shape.sites();
     let Some(counts) = guessed_identity(alloc, shape)? else {
         return Ok(None);
     };
     let Some(heights) = emptied(alloc, shape, &counts)? else {
         return Ok(None);
     };
+    prove_eq!(heights.len(), shape.sites());
     let pile = Pile::from_vec(shape, heights);
     match burn(alloc, &pile) {
         Ok(Burned::Recurrent(_)) => Ok(Some(pile)),

@@ -20,7 +20,7 @@ fn recurrent(
     Ok(Recurrent::from_pile(alloc, &pile(alloc, width, height, heights)?)?)
 }
 
-// The forbidden set that burning leaves, empty where there is none.
+// The forbidden set that burning leaves, or an empty list if there is none.
 fn left(alloc: Global, width: usize, height: usize, heights: &[u64]) -> Result<Vec<usize>, Fail> {
     match burn(alloc, &pile(alloc, width, height, heights)?)? {
         Burned::Recurrent(_) => Ok(Vec::new(alloc)),

@@ -24,7 +24,7 @@ nothing_south g i inside last =
     (λ (bottom : g.height ≤ i / g.width + 1). rw (le-ltb (i / g.width + 1) g.height bottom) refl)
     (cases_lt (i / g.width + 1) g.height)
 
-pub rows_told : (g : Grid) (i : ℕ) → i < sites g → (leb g.width i ≡ ltb 0 (row g i)) × (ltb (i + g.width) (sites g) ≡ ltb (row g i + 1) g.height)
+rows_told : (g : Grid) (i : ℕ) → i < sites g → (leb g.width i ≡ ltb 0 (row g i)) × (ltb (i + g.width) (sites g) ≡ ltb (row g i + 1) g.height)
 rows_told g i inside =
     let pos = some_width g.width g.height i inside in
     let above = row_above g.width i pos in

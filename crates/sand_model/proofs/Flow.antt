@@ -1,12 +1,12 @@
 -- The sum over a site's neighbours: monotone, additive, and the same on both sides of a product.
-use Rattle.std.proofs.Common.{ℕ, Bool, ◌≡◌, ◌+◌, ◌*◌, ◌<◌, ◌≤◌, refl, sym, ◌∙◌, ap, arith, List, [], ◌∷◌, All, sum_by, count_by}
+use Rattle.std.proofs.Common.{ℕ, Bool, ◌≡◌, ◌+◌, ◌*◌, ◌<◌, ◌≤◌, refl, sym, ◌∙◌, ap, arith, List, [], ◌∷◌, All, Option, None, sum_by, count_by, get_or}
 use Rattle.std.proofs.lemmas.List.Sums.{sum_by-cons}
 use Rattle.std.proofs.lemmas.List.Elements.{All-head, All-tail}
-use Rattle.sand_model.specs.Grid.{Grid, sites, neighbours}
-use Rattle.sand_model.specs.Sand.{sum_below, tally, flow, one_at}
+use Rattle.sand_model.specs.Grid.{Grid, sites, places, neighbours}
+use Rattle.sand_model.specs.Sand.{sum_below, tally, flow, one_at, value_at}
 use Rattle.sand_model.specs.Lists.{one_if}
 use Rattle.sand_model.proofs.SumsBelow.{sum_below_same, sum_below-add, sum_below-scale, sum_below-zero, sum_below_swap, sum_below-one_at, one_at_comm}
-use Rattle.sand_model.proofs.Neighbours.{neighbours_mutual, neighbours_below}
+use Rattle.sand_model.proofs.Neighbours.{flow_four, neighbours_mutual, neighbours_below}
 
 sum_by_below_le : (n : ℕ) (u v : ℕ → ℕ) → ((j : ℕ) → j < n → u j ≤ v j) → (xs : List ℕ) → All (λ j. j < n) xs → sum_by u xs ≤ sum_by v xs
 sum_by_below_le n u v le [] below = omega arith
@@ -82,6 +82,10 @@ flow_mutual g i j li lj = neighbours_mutual g i j li lj
 pub flow-one_at : (g : Grid) (i j : ℕ) → i < sites g → j < sites g → flow g (one_at i) j ≡ flow g (λ k. one_at k j) i
 flow-one_at g i j li lj =
     flow_same g (one_at i) (λ k. one_at k i) (λ k m. one_at_comm i k) j lj ∙ flow_mutual g j i lj li
+
+-- the same, place by place
+pub four_places : (g : Grid) (i j : ℕ) (ps : List (Option ℕ)) → ps ≡ places g i → i < sites g → j < sites g → flow g (one_at i) j ≡ value_at (λ m. one_at m j) (get_or ps 0 None) + value_at (λ m. one_at m j) (get_or ps 1 None) + value_at (λ m. one_at m j) (get_or ps 2 None) + value_at (λ m. one_at m j) (get_or ps 3 None)
+four_places g i j ps e l m = rw e (flow-one_at g i j l m ∙ flow_four g (λ q. one_at q j) i)
 
 -- ---- how many neighbours of a site are in a set
 

@@ -7,8 +7,7 @@ use Rattle.std.proofs.lemmas.List.Sums.{sum_by-cons}
 use Rattle.sand_model.specs.Grid.{Grid, sites, places, missing}
 use Rattle.sand_model.specs.Sand.{sum_below, one_at, value_at, grains, lost, IsToppled}
 use Rattle.sand_model.proofs.SumsBelow.{sum_below_same, sum_below-scale, sum_below-one_at, one_at_other}
-use Rattle.sand_model.proofs.Neighbours.{flow_four}
-use Rattle.sand_model.proofs.Flow.{flow-one_at, flow-scale}
+use Rattle.sand_model.proofs.Flow.{four_places, flow-scale}
 use Rattle.sand_model.proofs.Sandpile.{laplacian_sum}
 
 sum_below-first : (n : ℕ) (f : ℕ → ℕ) → sum_below (suc n) f ≡ f 0 + sum_below n (λ i. f (suc i))
@@ -17,7 +16,7 @@ sum_below-first zero f = omega arith
 sum_below-first (suc n) f = let rest = sum_below-first n f in omega arith
 
 -- the sum of a list is the sum over its places
-pub sum_is_sum_below : (xs : List ℕ) → sum xs ≡ sum_below (length xs) (λ i. get_or xs i 0)
+sum_is_sum_below : (xs : List ℕ) → sum xs ≡ sum_below (length xs) (λ i. get_or xs i 0)
 unfolding sum_below
 sum_is_sum_below [] = refl
 sum_is_sum_below (x ∷ xs) =
@@ -59,11 +58,9 @@ lost_at g i t l =
 pub spread_toppled : (g : Grid) (i t : ℕ) (h k : List ℕ) (ps : List (Option ℕ)) → ps ≡ places g i → i < sites g → length h ≡ sites g → 4 * t ≤ get_or h i 0 → ((j : ℕ) → get_or k j 0 ≡ get_or (set h i (get_or h i 0 - 4 * t)) j 0 + t * value_at (λ m. one_at m j) (get_or ps 0 None) + t * value_at (λ m. one_at m j) (get_or ps 1 None) + t * value_at (λ m. one_at m j) (get_or ps 2 None) + t * value_at (λ m. one_at m j) (get_or ps 3 None)) → IsToppled g (λ j. get_or h j 0) (λ j. t * one_at i j) (λ j. get_or k j 0)
 spread_toppled g i t h k ps e l len high after = record {
   balance = λ j m.
-      let four = flow_four g (λ q. one_at q j) i in
-      let turned = flow-one_at g i j l m in
       let scaled = flow-scale g t (one_at i) j in
-      let here = rw e at after j in
-      let parts = ap (λ q. t * q) (turned ∙ four) in
+      let here = after j in
+      let parts = ap (λ q. t * q) (four_places g i j ps e l m) in
       let rest : get_or h i 0 - 4 * t + 4 * t ≡ get_or h i 0 = omega arith in
       let taken = ap (λ q. q * one_at i j) rest in
       let written = get_or-written h i (get_or h i 0 - 4 * t) j (omega arith) in

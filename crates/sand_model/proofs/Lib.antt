@@ -4,10 +4,12 @@ pub mod Borders
 pub mod Flow
 pub mod Sandpile
 pub mod Heights
-pub mod IntegerFlow
+pub mod OverIntegers
 pub mod Tallies
 pub mod Bounds
 pub mod Lists
 pub mod Underway
-pub mod Tight
-pub mod Settling
+pub mod SettledIfTight
+pub mod EachSettles
+pub mod NeighboursInSets
+pub mod EquivalenceIsLinear

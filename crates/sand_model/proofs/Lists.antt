@@ -1,4 +1,4 @@
--- Lists of the numbers below n that pass a test: what stands in one, how long it is, how it grows and shrinks.
+-- Lists of the numbers below n that pass a test: what is in one, how long it is, how it grows and shrinks.
 use Rattle.std.proofs.Common.{ℕ, zero, suc, Bool, true, false, cond, ltb, ◌≡◌, ◌≢◌, ◌+◌, ◌<◌, ◌≤◌, ◌⊎◌, ◌&&◌, inl, inr, refl, sym, ◌∙◌, ap, subst, arith, List, [], ◌∷◌, ◌++◌, length, take, get_or, All, ⊎_elim}
 use Rattle.std.proofs.lemmas.Bool.{cases_eq, cases_lt, cases_Bool, lt-ltb, le-ltb}
 use Rattle.std.proofs.lemmas.List.{get_or_read}
@@ -30,7 +30,7 @@ all_or_one (suc n) p =
 
 -- ---- what a listing says of one number
 
--- a number below n stands there once where it passes, and not where it fails
+-- a number below n is there once if it passes, and not if it fails
 tally-listing : (n : ℕ) (p : ℕ → Bool) (xs : List ℕ) (i : ℕ) → Lists n p xs → i < n → tally xs i ≡ one_if (p i)
 tally-listing n p xs i list l = let test = lt-ltb i n l in let e = list.each i in e ∙ rw test refl
 
@@ -63,9 +63,9 @@ passes : (n : ℕ) (p : ℕ → Bool) (xs : List ℕ) (i : ℕ) → Lists n p xs
 passes n p xs i list some =
     ⊎_elim (λ (pass : p i ≡ true). pass) (λ (fail : p i ≡ false). let none = unlisted n p xs i list fail in absurd (omega arith)) (cases_Bool (p i))
 
--- ---- what stands in a listing
+-- ---- what is in a listing
 
--- what stands in a list is tallied there
+-- what is in a list is tallied there
 tally_at : (xs : List ℕ) (k : ℕ) → k < length xs → 1 ≤ tally xs (get_or xs k 0)
 tally_at xs k l =
     let le = get_or-le-sum_by (λ j. one_at j (get_or xs k 0)) xs k 0 l in
@@ -92,7 +92,7 @@ read_passes n p xs k x list l read =
     let some = tally_at xs k l in
     passes n p xs x list (omega arith)
 
--- and does not stand before its place
+-- and is not before its place
 pub read_fresh : (n : ℕ) (p : ℕ → Bool) (xs : List ℕ) (k x : ℕ) → Lists n p xs → k < length xs → x ≡ get_or xs k x → tally (take k xs) x ≡ 0
 read_fresh n p xs k x list l read =
     let le = sum_by_more_le (λ j. one_at j (get_or xs k 0)) xs k 0 l in
@@ -100,14 +100,14 @@ read_fresh n p xs k x list l read =
     let few = at_most_once n p xs (get_or xs k 0) list in
     ap (tally (take k xs)) (get_or_read xs k x l read 0) ∙ (omega arith)
 
--- what stands at the front is below n, and passes
+-- the number at the front is below n, and passes
 pub front_below : (n : ℕ) (p : ℕ → Bool) (xs : List ℕ) (i : ℕ) → Lists n p (i ∷ xs) → i < n
 front_below n p xs i list = All-head (λ j. j < n) i xs (lists_below n p (i ∷ xs) list)
 
 pub front_passes : (n : ℕ) (p : ℕ → Bool) (xs : List ℕ) (i : ℕ) → Lists n p (i ∷ xs) → p i ≡ true
 front_passes n p xs i list = let first = tally-cons i xs i in let one = one_at_same i in passes n p (i ∷ xs) i list (omega arith)
 
--- where a listing is empty, no number passes
+-- if a listing is empty, no number passes
 pub none_passes : (n : ℕ) (p : ℕ → Bool) → Lists n p [] → (i : ℕ) → i < n → p i ≡ false
 none_passes n p list i l =
     ⊎_elim (λ (pass : p i ≡ true). let one = listed n p [] i list l pass in absurd (omega arith)) (λ (fail : p i ≡ false). fail) (cases_Bool (p i))
@@ -124,7 +124,7 @@ lists_length n p xs list =
     let few = at_most_all n (λ i. one_if (p i)) (λ i l. at_most_one (p i)) in
     omega arith
 
--- where a number fails, there is room for it
+-- if a number fails, there is room for it
 pub lists_room : (n : ℕ) (p : ℕ → Bool) (xs : List ℕ) (i : ℕ) → Lists n p xs → i < n → p i ≡ false → length xs < n
 lists_room n p xs i list l fail =
     let all = length-listing n p xs list in

@@ -21,6 +21,11 @@ flow_four g u i =
     let d = sum_by-some u (south g i) [] in
     omega arith
 
+-- how often j is a neighbour of i, place by place
+pub tally_places : (g : Grid) (i j : ℕ) (ps : List (Option ℕ)) → ps ≡ places g i → tally (neighbours g i) j ≡ value_at (λ k. one_at k j) (get_or ps 0 None) + value_at (λ k. one_at k j) (get_or ps 1 None) + value_at (λ k. one_at k j) (get_or ps 2 None) + value_at (λ k. one_at k j) (get_or ps 3 None)
+unfolding flow
+tally_places g i j ps e = rw e (flow_four g (λ k. one_at k j) i)
+
 value_at-cond : (u : ℕ → ℕ) (b : Bool) (k : ℕ) → value_at u (cond b (Some k) None) ≡ cond b (u k) 0
 value_at-cond u true k = refl
 value_at-cond u false k = refl
@@ -38,21 +43,9 @@ pub neighbours_at_most_four : (g : Grid) (i : ℕ) → length (neighbours g i) �
 unfolding neighbours
 neighbours_at_most_four g i = let all = somes_and_nones (places g i) in omega arith
 
-count_four : (a b c d : Option ℕ) → count_by is_none (a ∷ b ∷ c ∷ d ∷ []) ≡ cond (is_none a) 1 0 + cond (is_none b) 1 0 + cond (is_none c) 1 0 + cond (is_none d) 1 0
-count_four a b c d =
-    let one = sum_by-cons (λ p. cond (is_none p) 1 0) a (b ∷ c ∷ d ∷ []) in
-    let two = sum_by-cons (λ p. cond (is_none p) 1 0) b (c ∷ d ∷ []) in
-    let three = sum_by-cons (λ p. cond (is_none p) 1 0) c (d ∷ []) in
-    let four = sum_by-cons (λ p. cond (is_none p) 1 0) d [] in
-    omega arith
-
 pub missing_is : (g : Grid) (i : ℕ) → missing g i ≡ count_by is_none (places g i)
 unfolding missing neighbours
 missing_is g i = let all = somes_and_nones (places g i) in omega arith
-
--- the same, place by place
-pub missing_four : (g : Grid) (i : ℕ) (ps : List (Option ℕ)) → ps ≡ places g i → missing g i ≡ cond (is_none (get_or ps 0 None)) 1 0 + cond (is_none (get_or ps 1 None)) 1 0 + cond (is_none (get_or ps 2 None)) 1 0 + cond (is_none (get_or ps 3 None)) 1 0
-missing_four g i ps e = rw e (missing_is g i ∙ count_four (north g i) (west g i) (east g i) (south g i))
 
 -- the row and the column of a site
 pub some_width : (w h i : ℕ) → i < w * h → 0 < w
@@ -107,7 +100,7 @@ north_south g i j li lj =
     (cases_eq (j + g.width) i))
 
 -- what a place to one side of i is worth
-pub side : (u : ℕ → ℕ) (near wraps : Bool) (a b : ℕ) → value_at u (cond near (Some a) (cond wraps (Some b) None)) ≡ cond near (u a) (cond wraps (u b) 0)
+side : (u : ℕ → ℕ) (near wraps : Bool) (a b : ℕ) → value_at u (cond near (Some a) (cond wraps (Some b) None)) ≡ cond near (u a) (cond wraps (u b) 0)
 side u true wraps a b = refl
 side u false true a b = refl
 side u false false a b = refl
@@ -134,7 +127,7 @@ before_last w i j pos some e last =
     let column : (j + 1) % w ≡ i % w = ap (λ k. k % w) e in
     omega arith
 
--- i is just west of j, or at the other end of its row, exactly where j is just east of i
+-- i is just west of j, or at the other end of its row, if and only if j is just east of i
 sides_meet : (w : ℕ) (wraps : Bool) (i j : ℕ) → 0 < w → cond (ltb 0 (i % w)) (one_at (i - 1) j) (cond wraps (one_at (i + (w - 1)) j) 0) ≡ cond (ltb (j % w + 1) w) (one_at (j + 1) i) (cond wraps (one_at (j - (w - 1)) i) 0)
 sides_meet w wraps i j pos =
     let next = next_column w j pos in
@@ -229,7 +222,7 @@ side_from true wraps a b k e = inl (refl, cc)
 side_from false true a b k e = inr (refl, cc)
 side_from false false a b k e = absurd cc
 
-pub in_row : (w h i c : ℕ) → i < w * h → c < w → i / w * w + c < w * h
+in_row : (w h i c : ℕ) → i < w * h → c < w → i / w * w + c < w * h
 in_row w h i c l inside =
     let pos = some_width w h i l in
     mul-add-lt (i / w) w c h (div_below i w h pos (omega arith)) inside

@@ -11,7 +11,7 @@ use Rattle.sand_model.proofs.SumsBelow.{sum_below-one_at, one_at_same, one_at_ot
 use Rattle.sand_model.proofs.Neighbours.{neighbours_at_most_four, flow_four, some_width}
 use Rattle.sand_model.proofs.Flow.{flow_le, flow_same, flow-add, flow_self_adjoint}
 
--- where a site may topple k times more, the odometer of anything that stabilises leaves room for them
+-- if a site may topple k times more, the odometer of anything that stabilises leaves room for them
 pub least_action : (g : Grid) (s u w : ℕ → ℕ) (i k : ℕ) → i < sites g → Stabilises g s w → ((j : ℕ) → j < sites g → u j ≤ w j) → 4 * u i + 4 * k ≤ s i + flow g u i → u i + k ≤ w i
 least_action g s u w i k l stable below high =
     let more = flow_le g u w below i l in
@@ -19,7 +19,7 @@ least_action g s u w i k l stable below high =
     omega arith
 
 -- what remains of one that stabilises, after a first part
-pub flow_rest : (g : Grid) (u w : ℕ → ℕ) → ((j : ℕ) → j < sites g → u j ≤ w j) → (i : ℕ) → i < sites g → flow g w i ≡ flow g u i + flow g (λ j. w j - u j) i
+flow_rest : (g : Grid) (u w : ℕ → ℕ) → ((j : ℕ) → j < sites g → u j ≤ w j) → (i : ℕ) → i < sites g → flow g w i ≡ flow g u i + flow g (λ j. w j - u j) i
 flow_rest g u w below i l =
     sym (flow_same g (λ j. u j + (w j - u j)) w (λ j m. let le = below j m in omega arith) i l) ∙ flow-add g u (λ j. w j - u j) i
 
@@ -218,7 +218,7 @@ weight_down g i l =
     rw test (omega arith))
     (cases_lt (i / g.width + 1) g.height)
 
--- both sides of a site lie in its own row
+-- both sides of a site are in its own row
 weight_in_row : (g : Grid) (near wraps : Bool) (i a b : ℕ) → (near ≡ true → row g a ≡ row g i) → (near ≡ false → row g b ≡ row g i) → value_at (grain_weight g) (cond near (Some a) (cond wraps (Some b) None)) ≤ grain_weight g i
 unfolding grain_weight
 weight_in_row g true wraps i a b here there = rw (here refl) (omega arith)
@@ -254,7 +254,7 @@ unfolding grain_weight
 grain_weight_is g i = refl
 
 -- the neighbours' weights fall short of four times a site's own by 2 at least
-pub grain_weight_falls : (g : Grid) (i : ℕ) → i < sites g → flow g (grain_weight g) i + 2 ≤ 4 * grain_weight g i
+grain_weight_falls : (g : Grid) (i : ℕ) → i < sites g → flow g (grain_weight g) i + 2 ≤ 4 * grain_weight g i
 grain_weight_falls g i l =
     let four = flow_four g (grain_weight g) i in
     let up = weight_up g i l in

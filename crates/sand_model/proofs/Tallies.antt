@@ -1,4 +1,4 @@
--- How often a site stands in a list of sites.
+-- How often a site is in a list of sites.
 use Rattle.std.proofs.Common.{ℕ, ◌≡◌, ◌+◌, ◌*◌, ◌<◌, sym, ◌∙◌, arith, List, [], ◌∷◌, ◌++◌, length, All}
 use Rattle.std.proofs.lemmas.List.Sums.{sum_by-cons, sum_by_push, sum_by-append}
 use Rattle.sand_model.specs.Sand.{sum_below, tally, one_at}

@@ -1,4 +1,4 @@
--- A pile on its way to rest: legal topplings keep it on the way, and where no site may topple it is settled.
+-- A pile on its way to rest: legal topplings keep it on the way, and when no site may topple it is settled.
 use Rattle.std.proofs.Common.{ℕ, ◌≡◌, ◌+◌, ◌*◌, ◌<◌, ◌≤◌, ap, arith, ⊎_elim}
 use Rattle.std.proofs.lemmas.Bool.{cases_eq}
 use Rattle.sand_model.specs.Grid.{Grid, sites}

@@ -35,7 +35,11 @@ is_side n = nat_le 1 n && nat_le n 256
 
 -- the grid with these sides and this edge, or the fault that it would have
 abbrev pub grid_with_edge : ℕ → ℕ → Edge → Result Grid ShapeFault
-grid_with_edge w h edge = if is_side w && is_side h then (if joins edge && nat_lt w 3 then Err Narrow else Ok (record { width = w; height = h; edge = edge })) else Err Side
+grid_with_edge w h edge =
+    if is_side w && is_side h then
+    (if joins edge && nat_lt w 3 then Err Narrow
+    else Ok (record { width = w; height = h; edge = edge }))
+    else Err Side
 
 abbrev pub column : Grid → ℕ → ℕ
 column g i = i % g.width
@@ -47,7 +51,8 @@ row g i = i / g.width
 abbrev pub site_at : Grid → ℕ → ℕ → Option ℕ
 site_at g x y = if nat_lt x g.width && nat_lt y g.height then Some (y * g.width + x) else None
 
--- the places round a site, where they are in the grid
+-- the places round a site, if they are in the grid; no subtraction is below 0, because there is a row to the north, a site to
+-- the west, or the rest of the row between its two ends
 unfoldable pub north : Grid → ℕ → Option ℕ
 north g i = if nat_lt 0 (row g i) then Some (i - g.width) else None
 
@@ -72,11 +77,11 @@ is_inner g i = nat_lt 0 (row g i) && nat_lt (row g i + 1) g.height && nat_lt 0 (
 unfoldable pub neighbours : Grid → ℕ → List ℕ
 neighbours g i = filter_map (λ p. p) (places g i)
 
--- how many of a site's places are outside the grid, in the sink
+-- how many of a site's places are outside the grid, in the sink; there are at most 4 neighbours
 unfoldable pub missing : Grid → ℕ → ℕ
 missing g i = 4 - length (neighbours g i)
 
--- how many columns lie between two sites, on a cylinder the shorter way round
+-- how many columns are between two sites, on a cylinder the shorter way round; two columns are less than the width apart
 abbrev pub columns_apart : Grid → ℕ → ℕ → ℕ
 columns_apart g i j = let across = abs_diff (column g i) (column g j) in if joins g.edge then min across (g.width - across) else across
 

@@ -17,7 +17,8 @@ AreLegal g s u (i ∷ order) = MayToppleAfter g s u i × AreLegal g s (λ j. u j
 
 -- legal topplings stay at or below whatever stabilises the pile
 abbrev pub LeastAction : Type 0
-LeastAction = (g : Grid) (s w : ℕ → ℕ) (order : List ℕ) → AreLegal g s (λ j. 0) order → Stabilises g s w → (i : ℕ) → i < sites g → tally order i ≤ w i
+LeastAction = (g : Grid) (s w : ℕ → ℕ) (order : List ℕ) → AreLegal g s (λ j. 0) order → Stabilises g s w
+    → (i : ℕ) → i < sites g → tally order i ≤ w i
 
 -- one toppling lowers the weight by 2 at least
 abbrev pub WeightFalls : Type 0
@@ -29,7 +30,8 @@ LaplacianSum = (g : Grid) (s u t : ℕ → ℕ) → IsToppled g s u t → grains
 
 -- the same over the whole numbers, for every u, legal or not
 abbrev pub LaplacianSumOverIntegers : Type 0
-LaplacianSumOverIntegers = (g : Grid) (s u : ℕ → ℤ) → whole_sum_below (sites g) s ≡ whole_sum_below (sites g) (λ i. s i -ℤ laplacian g u i) +ℤ whole_sum_below (sites g) (λ i. pos (missing g i) *ℤ u i)
+LaplacianSumOverIntegers = (g : Grid) (s u : ℕ → ℤ) → whole_sum_below (sites g) s
+    ≡ whole_sum_below (sites g) (λ i. s i -ℤ laplacian g u i) +ℤ whole_sum_below (sites g) (λ i. pos (missing g i) *ℤ u i)
 
 -- each pile settles: it has a settled pile, with a least odometer, for all heights
 abbrev pub EachSettles : Type 0
@@ -37,7 +39,8 @@ EachSettles = (g : Grid) (s : ℕ → ℕ) → (u : ℕ → ℕ) × (t : ℕ →
 
 -- settling in two parts is settling at once, and the odometers add
 abbrev pub Abelian : Type 0
-Abelian = (g : Grid) (a b u t v r : ℕ → ℕ) → IsSettled g a u t → IsSettled g (λ i. t i + b i) v r → IsSettled g (λ i. a i + b i) (λ i. u i + v i) r
+Abelian = (g : Grid) (a b u t v r : ℕ → ℕ) → IsSettled g a u t → IsSettled g (λ i. t i + b i) v r
+    → IsSettled g (λ i. a i + b i) (λ i. u i + v i) r
 
 -- the same after topplings that need not have settled anything: if u is at most every w that stabilises s, and s - Lu is
 -- a pile h, then the odometer of s is u plus the odometer of h (least action; Fey, Levine and Peres 2010)
@@ -54,11 +57,13 @@ LeastIfTight = (g : Grid) (s u t : ℕ → ℕ) → IsToppled g s u t → IsStab
 
 -- t = s - Lu over the whole numbers
 abbrev pub ToppledOverIntegers : Type 0
-ToppledOverIntegers = (g : Grid) (s u t : ℕ → ℕ) → IsToppled g s u t ↔ ((i : ℕ) → i < sites g → pos (t i) ≡ pos (s i) -ℤ laplacian g (whole u) i)
+ToppledOverIntegers = (g : Grid) (s u t : ℕ → ℕ) → IsToppled g s u t
+    ↔ ((i : ℕ) → i < sites g → pos (t i) ≡ pos (s i) -ℤ laplacian g (whole u) i)
 
 -- s - Lu ≤ 3 over the whole numbers
 abbrev pub StabilisesOverIntegers : Type 0
-StabilisesOverIntegers = (g : Grid) (s u : ℕ → ℕ) → Stabilises g s u ↔ ((i : ℕ) → i < sites g → (pos (s i) -ℤ laplacian g (whole u) i) ≤ℤ pos 3)
+StabilisesOverIntegers = (g : Grid) (s u : ℕ → ℕ) → Stabilises g s u
+    ↔ ((i : ℕ) → i < sites g → (pos (s i) -ℤ laplacian g (whole u) i) ≤ℤ pos 3)
 
 -- a pile and its settled pile are equivalent
 abbrev pub SettledIsEquivalent : Type 0

@@ -9,11 +9,11 @@ unfoldable pub sum_below : ℕ → (ℕ → ℕ) → ℕ
 sum_below zero f = 0
 sum_below (suc n) f = sum_below n f + f n
 
--- how often a site stands in a list of sites
+-- how often a site is in a list of sites
 abbrev pub tally : List ℕ → ℕ → ℕ
 tally history i = count_by (λ j. j == i) history
 
--- 1 at the site k, and 0 elsewhere
+-- 1 at the site k, and 0 at every other site
 abbrev pub one_at : ℕ → ℕ → ℕ
 one_at k j = if k == j then 1 else 0
 
@@ -63,7 +63,7 @@ topplings g u = sum_below (sites g) u
 abbrev pub lost : Grid → (ℕ → ℕ) → ℕ
 lost g u = sum_below (sites g) (λ i. missing g i * u i)
 
--- what a grain weighs: (y + 1) * (height - y), in row y
+-- what a grain weighs: (y + 1) * (height - y), in row y; a site's row is below the height
 unfoldable pub grain_weight : Grid → ℕ → ℕ
 grain_weight g i = (row g i + 1) * (g.height - row g i)
 

@@ -1,8 +1,8 @@
 //! The laws of toppling, as contracts of functions that do nothing.
 //!
-//! **Least action.** Topple a site that may, in whatever order: no site ever topples more often than in any `w` that
+//! **Least action.** Topple sites that may topple, in any order: no site topples more often than in any `w` that
 //! stabilises the pile, since at the first site to pass `w` the height would be above what `w` leaves there. So the
-//! legal topplings that end at a stable pile are the least odometer, and all orders end alike.
+//! legal topplings that end at a stable pile are the least odometer, and all orders end at the same pile.
 //!
 //! **What is left.** Let `u` be at most every `w` that stabilises `s`, and `v` the odometer of `s - Lu`. Such a `w` less
 //! `u` stabilises `s - Lu`, so `v` is at most `w - u`. So `u + v` is the odometer of `s`.
@@ -19,8 +19,8 @@
 //! from those outside the set; since `w` leaves 3 at most there, `t` is below the number of neighbours in the set. So the
 //! set is forbidden, and there is none. (Friedrich and Levine 2010.)
 //!
-//! **The two worlds.** Definitions are over the natural numbers, without subtraction. Over the whole numbers they are
-//! the `s - Lu` and the `s - Lu <= 3` of the textbooks.
+//! **Natural and whole numbers.** Definitions are over the natural numbers, without subtraction. Over the whole numbers
+//! they are the `s - Lu` and the `s - Lu <= 3` of the textbooks.
 
 ghost use Rattle.sand_model.specs.Laws.{LeastAction, WeightFalls, LaplacianSum, LaplacianSumOverIntegers, EachSettles, Abelian, SettlesAfter, SettledOnce, LeastIfTight, ToppledOverIntegers, StabilisesOverIntegers, SettledIsEquivalent};
 

@@ -38,12 +38,13 @@ impl Model for Pile {
 impl Pile {
     ghost use Rattle.std.specs.Prelude.{IsOkUnless, alloc_error};
 
-    /// A pile with these heights, by site. Refuses a list of another length than the shape has sites (Length), then
-    /// more grains than the limit (TooManyGrains), then Memory.
+    /// A pile with these heights, by site. Returns Length if there is not one height for each site, TooManyGrains if the
+    /// heights are over the limit in all, and Memory if an allocation fails.
     pub fn new(alloc: Global, shape: Shape, heights: &[u64]) -> Result<Pile, PileFault>
         ensures made { IfOk result (λ p. p ≡ record { grid = shape; heights = heights.now }) }
         ensures length { (result ≡ Err PileFault.Length) ↔ (length heights.now ≢ sites shape) }
-        ensures limit { (result ≡ Err PileFault.TooManyGrains) ↔ ((length heights.now ≡ sites shape) × (most_grains < sum heights.now)) }
+        ensures limit { (result ≡ Err PileFault.TooManyGrains)
+            ↔ ((length heights.now ≡ sites shape) × (most_grains < sum heights.now)) }
     {
         if heights.len() != shape.sites() {
             return Err(PileFault::Length);
@@ -63,7 +64,7 @@ impl Pile {
         })
     }
 
-    /// A pile of the list itself.
+    /// A pile that takes over a list of heights.
     pub fn from_vec(shape: Shape, heights: Vec<u64>) -> Pile
         requires one_each { length heights.items ≡ sites shape }
         requires limit { sum heights.items ≤ most_grains }
@@ -76,7 +77,7 @@ impl Pile {
         Pile::from_counted(shape, heights, grains)
     }
 
-    /// A pile of the list itself, whose sum is at hand: no height is looked at.
+    /// A pile that takes over a list of heights whose sum is known. It reads no height.
     pub fn from_counted(shape: Shape, heights: Vec<u64>, grains: u64) -> Pile
         requires one_each { length heights.items ≡ sites shape }
         requires limit { sum heights.items ≤ most_grains }
@@ -91,7 +92,7 @@ impl Pile {
         }
     }
 
-    /// The shape, and the list of the heights itself: no height is looked at.
+    /// The shape and the list of heights. It reads no height.
     pub fn into_parts(self) -> (Shape, Vec<u64>)
         ensures shape { result.0 ≡ self.grid }
         ensures heights { result.1.items ≡ self.heights }
@@ -149,11 +150,12 @@ impl Pile {
         })
     }
 
-    /// Adds one grain at a site. Refuses where the pile has as many grains as the limit (TooManyGrains), and then
-    /// leaves the pile as it was.
+    /// Adds one grain at a site. If the pile has as many grains as the limit, it returns TooManyGrains and does not change
+    /// the pile.
     pub fn add_grain(&mut self, site: usize) -> Result<(), PileFault>
         requires { site < sites self.old.grid }
-        ensures ok { OnOk result (self.new ≡ record self.old { heights = slice_set self.old.heights site (height_of self.old site + 1) }) }
+        ensures ok { OnOk result (self.new
+            ≡ record self.old { heights = slice_set self.old.heights site (height_of self.old site + 1) }) }
         ensures limit { IsErr result ↔ (sum self.old.heights ≡ most_grains) }
         ensures fault { IfErr result (λ e. e ≡ PileFault.TooManyGrains) }
         ensures unchanged { OnErr result (self.new ≡ self.old) }
@@ -174,7 +176,7 @@ fn are_low(heights: &[u64]) -> bool
     heights.iter().all(|height| *height < TOPPLING_HEIGHT)
 }
 
-// Adds a grain at a place, where that is in the grid.
+// Adds a grain at a place, if it is in the grid.
 fn give(heights: &mut [u64], place: Option<usize>)
     requires inside { IfSome place (λ j. j < length heights.old) }
     requires room { sum heights.old + 1 ≤ most_grains }
@@ -203,8 +205,8 @@ fn spread(shape: Shape, heights: &mut [u64], site: usize)
     give(heights, south);
 }
 
-/// Topples a site once, and answers the grains lost, 0 to 4. Refuses a height below 4 (TooLow), and then leaves the
-/// pile as it was.
+/// Topples a site once, and returns the number of grains lost, 0 to 4. If the height is below 4, it returns TooLow and does
+/// not change the pile.
 pub fn topple(pile: &mut Pile, site: usize) -> Result<u8, ToppleFault>
     requires { site < sites pile.old.grid }
     ensures shape { pile.new.grid ≡ pile.old.grid }

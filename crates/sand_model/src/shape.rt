@@ -2,7 +2,7 @@
 //!
 //! Sites are numbered row by row from the north-west corner: the site in column `x` and row `y` is `y * width + x`.
 
-ghost use Rattle.std.specs.Prelude.{◌≡◌, ◌<◌};
+ghost use Rattle.std.specs.Prelude.{◌≡◌, ◌<◌, count_by, is_none};
 ghost use Rattle.sand_model.specs.Grid.{IsGrid, grid_with_edge, sites, column, row, north, west, east, south, places, missing, site_at};
 ghost use Rattle.sand_model.specs.declared.shape.Edge.TheVariants.{Open};
 
@@ -15,12 +15,12 @@ pub const SIDE_LIMIT: usize = 256;
 /// The least width of a cylinder.
 pub const CYLINDER_WIDTH: usize = 3;
 
-/// What lies west of a row's first site and east of its last.
+/// What is west of a row's first site and east of its last.
 #[derive(Clone, Copy, Debug, PartialEq, Eq)]
 pub enum Edge {
     /// The sink.
     Open,
-    /// The other end of the row: the grid goes round, and only its north and its south are open.
+    /// The other end of the row: only the north and the south of the grid are open.
     Cylinder,
 }
 
@@ -44,15 +44,28 @@ impl Model for Shape {
     ghost inverse = { λ g. record { width = g.width; height = g.height; edge = g.edge } };
 }
 
+// How many of these places are outside the grid.
+#[inline(always)]
+pub(crate) fn outside(places: &[Option<usize>; 4]) -> u8
+    ensures { result ≡ count_by is_none places.now }
+{
+    let [north, west, east, south] = *places;
+    u8::from(north.is_none())
+        + u8::from(west.is_none())
+        + u8::from(east.is_none())
+        + u8::from(south.is_none())
+}
+
 impl Shape {
-    /// A grid with open edges. Refuses sides outside 1 to 256 (Side).
+    /// A grid with open edges. Returns Side if a side is outside 1 to 256.
     pub fn new(w: usize, h: usize) -> Result<Shape, ShapeFault>
         ensures { result ≡ grid_with_edge w h Open }
     {
         Shape::with_edge(w, h, Edge::Open)
     }
 
-    /// A grid with this edge. Refuses sides outside 1 to 256 (Side), then a cylinder less than 3 wide (Narrow).
+    /// A grid with this edge. Returns Side if a side is outside 1 to 256, and otherwise Narrow if it is a cylinder less
+    /// than 3 wide.
     pub fn with_edge(w: usize, h: usize, edge: Edge) -> Result<Shape, ShapeFault>
         ensures { result ≡ grid_with_edge w h edge }
     {
@@ -69,6 +82,7 @@ impl Shape {
         })
     }
 
+    #[inline(always)]
     pub fn width(self) -> usize
         ensures value { result ≡ self.width }
         ensures sides { IsGrid self }
@@ -76,6 +90,7 @@ impl Shape {
         self.width
     }
 
+    #[inline(always)]
     pub fn height(self) -> usize
         ensures value { result ≡ self.height }
         ensures sides { IsGrid self }
@@ -83,6 +98,7 @@ impl Shape {
         self.height
     }
 
+    #[inline(always)]
     pub fn edge(self) -> Edge
         ensures value { result ≡ self.edge }
         ensures sides { IsGrid self }
@@ -91,6 +107,7 @@ impl Shape {
     }
 
     /// The number of sites.
+    #[inline(always)]
     pub fn sites(self) -> usize
         ensures value { result ≡ sites self }
         ensures sides { IsGrid self }
@@ -98,7 +115,7 @@ impl Shape {
         self.width * self.height
     }
 
-    /// The site in column `x` and row `y`, where that is in the grid.
+    /// The site in column `x` and row `y`, if it is in the grid.
     pub fn site(self, x: usize, y: usize) -> Option<usize>
         ensures { result ≡ site_at self x y }
     {
@@ -117,24 +134,27 @@ impl Shape {
         (site % self.width, site / self.width)
     }
 
+    #[inline(always)]
     #[tactic(auto, unfolding(crate::specs::Grid::north))]
     fn north(self, site: usize) -> Option<usize>
         requires { site < sites self }
         ensures { result ≡ north self site }
     {
-        if site / self.width > 0 {
+        if site >= self.width {
             Some(site - self.width)
         } else {
             None
         }
     }
 
+    #[inline(always)]
     #[tactic(auto, unfolding(crate::specs::Grid::west))]
-    fn west(self, site: usize) -> Option<usize>
-        requires { site < sites self }
+    fn west(self, site: usize, x: usize) -> Option<usize>
+        requires site { site < sites self }
+        requires column { x ≡ column self site }
         ensures { result ≡ west self site }
     {
-        if site % self.width > 0 {
+        if x > 0 {
             return Some(site - 1);
         }
         match self.edge {
@@ -143,12 +163,14 @@ impl Shape {
         }
     }
 
+    #[inline(always)]
     #[tactic(auto, unfolding(crate::specs::Grid::east))]
-    fn east(self, site: usize) -> Option<usize>
-        requires { site < sites self }
+    fn east(self, site: usize, x: usize) -> Option<usize>
+        requires site { site < sites self }
+        requires column { x ≡ column self site }
         ensures { result ≡ east self site }
     {
-        if site % self.width + 1 < self.width {
+        if x + 1 < self.width {
             return Some(site + 1);
         }
         match self.edge {
@@ -157,16 +179,33 @@ impl Shape {
         }
     }
 
+    #[inline(always)]
     #[tactic(auto, unfolding(crate::specs::Grid::south))]
     fn south(self, site: usize) -> Option<usize>
         requires { site < sites self }
         ensures { result ≡ south self site }
     {
-        if site / self.width + 1 < self.height {
+        if site + self.width < self.sites() {
             Some(site + self.width)
         } else {
             None
         }
+    }
+
+    // The places round a site in column `x`. Neighbours are derived only here: `neighbours` divides to find the column,
+    // and a `Lattice` looks it up.
+    #[inline(always)]
+    pub(crate) fn places(self, site: usize, x: usize) -> [Option<usize>; 4]
+        requires site { site < sites self }
+        requires column { x ≡ column self site }
+        ensures { result ≡ places self site }
+    {
+        [
+            self.north(site),
+            self.west(site, x),
+            self.east(site, x),
+            self.south(site),
+        ]
     }
 
     /// The places north, west, east and south of a site, in that order. A place outside the grid is None.
@@ -174,12 +213,7 @@ impl Shape {
         requires { site < sites self }
         ensures { result ≡ places self site }
     {
-        [
-            self.north(site),
-            self.west(site),
-            self.east(site),
-            self.south(site),
-        ]
+        self.places(site, site % self.width)
     }
 
     /// How many of a site's four places are outside the grid: the grains lost when it topples once.
@@ -187,9 +221,6 @@ impl Shape {
         requires { site < sites self }
         ensures { result ≡ missing self site }
     {
-        self.neighbours(site)
-            .iter()
-            .filter(|place| place.is_none())
-            .count() as u8
+        outside(&self.neighbours(site))
     }
 }

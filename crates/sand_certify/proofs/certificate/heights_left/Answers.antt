@@ -1,7 +1,7 @@
 use Rattle.std.proofs.Common.{ℕ, ◌<◌, ap, arith, get_or}
 use Rattle.sand_model.specs.Grid.{sites}
 use Rattle.sand_certify.specs.Certificate.{IsLeftAt}
-use Rattle.sand_certify.proofs.Turns.{settled_if_left}
+use Rattle.sand_certify.proofs.TightIfBurning.{settled_if_left}
 use Rattle.sand_certify.proofs.certificate.heights_left.Goals as goal
 
 pub returns-clause-settled : goal.returns-clause-settled

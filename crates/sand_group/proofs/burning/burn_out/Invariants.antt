@@ -5,13 +5,13 @@ use Rattle.sand_group.proofs.burning.burn_out.Given as goal
 
 abbrev pub invariant-loop-head : goal.invariant-loop-head
 invariant-loop-head l = record {
-  one_each : length l.unburnt.items ≡ sites l.shape;
+  one_each : length l.unburnt.items ≡ sites l.lattice;
   head : l.head ≤ vec_len l.burnt;
-  counts : CountsUnburnt l.shape (take l.head l.burnt.items) (slice_index l.unburnt.items);
-  all : ListsBurning (sites l.shape) l.heights l.unburnt.items l.burnt.items;
-  room : sites l.shape ≤ vec_capacity l.burnt;
-  in_turn : FireSpreadsFrom l.shape (slice_index l.heights) [] (take l.head l.burnt.items);
+  counts : CountsUnburnt l.lattice (take l.head l.burnt.items) (slice_index l.unburnt.items);
+  all : ListsBurning (sites l.lattice) l.heights l.unburnt.items l.burnt.items;
+  room : sites l.lattice ≤ vec_capacity l.burnt;
+  in_turn : FireSpreadsFrom l.lattice (slice_index l.heights) [] (take l.head l.burnt.items);
 }
 
 abbrev pub decreases-loop-head : goal.decreases-loop-head
-decreases-loop-head l = sites l.shape - l.head
+decreases-loop-head l = sites l.lattice - l.head

@@ -2,7 +2,7 @@ use Rattle.std.proofs.Common.{◌≡◌, ℕ, Bool, true, false, slice_index, no
 use Rattle.std.proofs.lemmas.Bool.{le-leb, lt-leb}
 use Rattle.sand_model.proofs.Lists.{lists_below, lists_more_yes, lists_more_no}
 use Rattle.sand_group.specs.Fire.{may_burn}
-use Rattle.sand_group.proofs.Listing.{increasing_push}
+use Rattle.sand_group.proofs.SitesInListing.{increasing_push}
 use Rattle.sand_group.proofs.burning.left_over.Goals as goal
 use Rattle.sand_group.proofs.burning.left_over.Goals.{then-heights-site+in_ok-push, else-heights-site}
 

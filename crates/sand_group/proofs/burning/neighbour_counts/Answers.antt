@@ -1,18 +1,19 @@
 use Rattle.std.proofs.Common.{ℕ, length, ap, arith}
 use Rattle.std.proofs.lemmas.List.{length_push}
-use Rattle.sand_group.proofs.Spreading.{missing_at_most_four, counts_none, counts_push}
+use Rattle.sand_model.specs.Grid.{sites}
+use Rattle.sand_group.proofs.FireLeavesForbidden.{missing_at_most_four, counts_none, counts_push}
 use Rattle.sand_group.proofs.burning.neighbour_counts.Goals as goal
 
 pub overflow_sub-missing : goal.overflow_sub-missing
-overflow_sub-missing c = omega (arith, c.missing.ensures, missing_at_most_four c.args.shape c.loop-site.site)
+overflow_sub-missing c = omega (arith, c.missing.ensures, missing_at_most_four c.args.lattice.now c.loop-site.site)
 
 pub loop-site-preserved : goal.loop-site-preserved
 loop-site-preserved c =
-    let few = missing_at_most_four c.args.shape c.loop-site.site in
+    let few = missing_at_most_four c.args.lattice.now c.loop-site.site in
     record {
       one_each = omega (arith, ap length c.in_ok-push.ensures.items, length_push {X = ℕ}, c.loop-site.invariant.one_each);
-      counts = rw c.in_ok-push.ensures.items (counts_push c.args.shape c.loop-site.counts.items c.loop-site.site _ c.loop-site.invariant.one_each c.loop-site.invariant.counts (omega (arith, c.missing.ensures)));
+      counts = rw c.in_ok-push.ensures.items (counts_push c.args.lattice.now c.loop-site.counts.items c.loop-site.site _ c.loop-site.invariant.one_each c.loop-site.invariant.counts (omega (arith, c.missing.ensures)));
     }
 
 pub returns-clause-counts : goal.returns-clause-counts
-returns-clause-counts c = counts_none c.args.shape _ (λ i l. c.loop-site.invariant.counts i (omega arith))
+returns-clause-counts c = counts_none c.args.lattice.now _ (λ i l. c.loop-site.invariant.counts i (omega (arith, ap sites c.shape-shape.ensures.value)))

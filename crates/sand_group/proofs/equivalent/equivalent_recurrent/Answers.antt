@@ -1,7 +1,7 @@
 use Rattle.std.proofs.Common.{◌∙◌, ap}
 use Rattle.sand_model.specs.Piles.{PileView, height_of}
 use Rattle.sand_group.specs.Group.{IsEquivalentRecurrent}
-use Rattle.sand_group.proofs.Results.{equivalent_settles, equivalent_itself, recurrent_of}
+use Rattle.sand_group.proofs.OperationsOnHeights.{equivalent_settles, equivalent_itself, recurrent_of}
 use Rattle.sand_group.proofs.equivalent.equivalent_recurrent.Goals as goal
 
 -- what is returned is the recurrent pile of the class

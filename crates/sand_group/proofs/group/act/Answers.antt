@@ -2,8 +2,8 @@ use Rattle.std.proofs.Common.{◌<◌, ◌∙◌}
 use Rattle.sand_model.specs.Grid.{sites}
 use Rattle.sand_model.specs.Piles.{height_of}
 use Rattle.sand_model.specs.Sand.{one_at}
-use Rattle.sand_group.proofs.Members.{recurrent_plus}
-use Rattle.sand_group.proofs.Results.{grain_settles, recurrent_there}
+use Rattle.sand_group.proofs.OperationsSettle.{recurrent_plus}
+use Rattle.sand_group.proofs.OperationsOnHeights.{grain_settles, recurrent_there}
 use Rattle.sand_group.proofs.group.act.Goals as goal
 
 pub invariant_of-result : goal.invariant_of-result

@@ -1,6 +1,6 @@
 use Rattle.sand_model.specs.Piles.{height_of}
-use Rattle.sand_group.proofs.Members.{recurrent_plus, sum_is_settled}
-use Rattle.sand_group.proofs.Results.{low_heights, sums_low, sum_settles, recurrent_there}
+use Rattle.sand_group.proofs.OperationsSettle.{recurrent_plus, sum_is_settled}
+use Rattle.sand_group.proofs.OperationsOnHeights.{low_heights, sums_low, sum_settles, recurrent_there}
 use Rattle.sand_group.proofs.group.add.Goals as goal
 
 pub settled-requires-clause-low : goal.settled-requires-clause-low

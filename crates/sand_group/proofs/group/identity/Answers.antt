@@ -1,4 +1,4 @@
-use Rattle.sand_group.proofs.Emptied.{identity_settles}
+use Rattle.sand_group.proofs.EmptiedIsIdentity.{identity_settles}
 use Rattle.sand_group.proofs.group.identity.Goals as goal
 
 pub invariant_of-result : goal.invariant_of-result

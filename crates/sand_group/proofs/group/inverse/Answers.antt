@@ -1,7 +1,7 @@
 use Rattle.std.proofs.Common.{slice_index}
 use Rattle.sand_model.specs.Piles.{height_of}
-use Rattle.sand_group.proofs.Members.{inverse_is_settled}
-use Rattle.sand_group.proofs.Results.{difference_settles, surplus_there, recurrent_there}
+use Rattle.sand_group.proofs.OperationsSettle.{inverse_is_settled}
+use Rattle.sand_group.proofs.OperationsOnHeights.{difference_settles, surplus_there, recurrent_there}
 use Rattle.sand_group.proofs.group.inverse.Goals as goal
 
 pub invariant_of-result : goal.invariant_of-result

@@ -1,4 +1,4 @@
-use Rattle.sand_group.proofs.Results.{within_limit}
+use Rattle.sand_group.proofs.OperationsOnHeights.{within_limit}
 use Rattle.sand_group.proofs.group.settled.Goals as goal
 
 pub from_vec-requires-clause-limit : goal.from_vec-requires-clause-limit

@@ -1,7 +1,7 @@
 use Rattle.std.proofs.Common.{slice_index}
 use Rattle.sand_model.specs.Piles.{height_of}
-use Rattle.sand_group.proofs.Members.{identity_is_settled}
-use Rattle.sand_group.proofs.Results.{recurrent_there}
+use Rattle.sand_group.proofs.OperationsSettle.{identity_is_settled}
+use Rattle.sand_group.proofs.OperationsOnHeights.{recurrent_there}
 use Rattle.sand_group.proofs.group.settled_identity.Goals as goal
 
 pub invariant_of-result : goal.invariant_of-result

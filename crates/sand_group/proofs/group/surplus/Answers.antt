@@ -1,5 +1,5 @@
 use Rattle.std.proofs.Common.{replicate, ap, ◌∙◌}
-use Rattle.sand_group.proofs.Results.{surplus_is}
+use Rattle.sand_group.proofs.OperationsOnHeights.{surplus_is}
 use Rattle.sand_group.proofs.group.surplus.Goals as goal
 
 pub returns-clause-surplus : goal.returns-clause-surplus

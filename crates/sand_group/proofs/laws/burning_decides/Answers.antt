@@ -1,4 +1,4 @@
-use Rattle.sand_group.proofs.Orders.{burning_decides}
+use Rattle.sand_group.proofs.BurningDecides.{burning_decides}
 use Rattle.sand_group.proofs.laws.burning_decides.Goals as goal
 
 pub returns : goal.returns

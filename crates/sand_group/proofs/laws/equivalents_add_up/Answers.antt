@@ -1,7 +1,7 @@
 use Rattle.std.proofs.Common.{◌+◌}
 use Rattle.sand_model.specs.Integers.{whole}
 use Rattle.sand_group.specs.Group.{SettlesTo, Represents}
-use Rattle.sand_group.proofs.Members.{settles_to, equivalent_is_settled, represents_itself, equivalents_add_up}
+use Rattle.sand_group.proofs.OperationsSettle.{settles_to, equivalent_is_settled, represents_itself, equivalents_add_up}
 use Rattle.sand_group.proofs.laws.equivalents_add_up.Goals as goal
 
 pub returns-clause-settled : goal.returns-clause-settled

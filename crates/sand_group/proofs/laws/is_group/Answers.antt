@@ -1,7 +1,7 @@
 use Rattle.std.proofs.Common.{ℕ, ◌≡◌, ◌+◌, ◌<◌}
 use Rattle.sand_model.specs.Grid.{sites}
 use Rattle.sand_group.specs.Group.{IsIdentity}
-use Rattle.sand_group.proofs.Members.{settles_to, identity_neutral, inverse_cancels}
+use Rattle.sand_group.proofs.OperationsSettle.{settles_to, identity_neutral, inverse_cancels}
 use Rattle.sand_group.proofs.laws.is_group.Goals as goal
 
 pub returns-clause-neutral : goal.returns-clause-neutral

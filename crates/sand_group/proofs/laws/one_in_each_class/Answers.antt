@@ -1,5 +1,5 @@
-use Rattle.sand_group.proofs.Uniqueness.{recurrent_unique}
-use Rattle.sand_group.proofs.Members.{class_has_one, represented_once}
+use Rattle.sand_group.proofs.RecurrentIsUnique.{recurrent_unique}
+use Rattle.sand_group.proofs.OperationsSettle.{class_has_one, represented_once}
 use Rattle.sand_group.proofs.laws.one_in_each_class.Goals as goal
 
 pub returns-clause-some : goal.returns-clause-some

@@ -1,7 +1,7 @@
 use Rattle.std.proofs.Common.{◌+◌}
 use Rattle.sand_group.specs.Recurrence.{IsRecurrent}
-use Rattle.sand_group.proofs.Stabilised.{settled_recurrent}
-use Rattle.sand_group.proofs.Members.{settles_to, recurrent_from_full, recurrent_plus}
+use Rattle.sand_group.proofs.SettledIsRecurrent.{settled_recurrent}
+use Rattle.sand_group.proofs.OperationsSettle.{settles_to, recurrent_from_full, recurrent_plus}
 use Rattle.sand_group.proofs.laws.recurrent_from_full.Goals as goal
 
 pub returns-clause-exactly : goal.returns-clause-exactly

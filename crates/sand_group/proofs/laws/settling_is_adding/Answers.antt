@@ -1,6 +1,6 @@
 use Rattle.std.proofs.Common.{◌+◌, ◌-◌, ◌*◌}
 use Rattle.sand_group.specs.Group.{IsSum, IsIdentity, IsInverse}
-use Rattle.sand_group.proofs.Members.{settles_to, some_surplus, sum_is_settled, identity_is_settled, inverse_is_settled}
+use Rattle.sand_group.proofs.OperationsSettle.{settles_to, some_surplus, sum_is_settled, identity_is_settled, inverse_is_settled}
 use Rattle.sand_group.proofs.laws.settling_is_adding.Goals as goal
 
 pub returns-clause-sum : goal.returns-clause-sum

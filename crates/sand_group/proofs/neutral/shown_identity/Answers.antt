@@ -1,6 +1,6 @@
 use Rattle.std.proofs.Common.{ap, get_or}
 use Rattle.sand_model.specs.Piles.{PileView}
-use Rattle.sand_group.proofs.Emptied.{emptied_is_none, low_within_limit}
+use Rattle.sand_group.proofs.EmptiedIsIdentity.{emptied_is_none, low_within_limit}
 use Rattle.sand_group.proofs.neutral.shown_identity.Goals as goal
 
 pub from_vec-pile-requires-clause-limit : goal.from_vec-pile-requires-clause-limit

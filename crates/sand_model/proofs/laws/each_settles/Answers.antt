@@ -1,4 +1,4 @@
-use Rattle.sand_model.proofs.Settling.{settles}
+use Rattle.sand_model.proofs.EachSettles.{settles}
 use Rattle.sand_model.proofs.laws.each_settles.Goals as goal
 
 pub returns : goal.returns

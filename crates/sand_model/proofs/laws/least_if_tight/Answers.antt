@@ -1,4 +1,4 @@
-use Rattle.sand_model.proofs.Tight.{settled_if_tight}
+use Rattle.sand_model.proofs.SettledIfTight.{settled_if_tight}
 use Rattle.sand_model.proofs.laws.least_if_tight.Goals as goal
 
 pub returns : goal.returns

@@ -1,4 +1,4 @@
-use Rattle.sand_model.proofs.IntegerFlow.{toppled_is_integers, stabilises_is_integers, settled_equivalent}
+use Rattle.sand_model.proofs.OverIntegers.{toppled_is_integers, stabilises_is_integers, settled_equivalent}
 use Rattle.sand_model.proofs.laws.over_integers.Goals as goal
 
 pub returns-clause-toppled : goal.returns-clause-toppled

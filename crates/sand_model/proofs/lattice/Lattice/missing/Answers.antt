@@ -1,8 +1,6 @@
-use Rattle.std.proofs.Common.{arith}
-use Rattle.sand_model.proofs.Neighbours.{missing_four}
+use Rattle.std.proofs.Common.{◌∙◌, sym, ap, count_by, is_none}
+use Rattle.sand_model.proofs.Neighbours.{missing_is}
 use Rattle.sand_model.proofs.lattice.Lattice.missing.Goals as goal
 
 pub returns : goal.returns
-returns c =
-    let four = missing_four c.args.self.now c.args.site c.neighbours.result c.neighbours.ensures.places in
-    omega (arith, c.outside.ensures, c.outside-2.ensures, c.outside-3.ensures, c.outside-4.ensures)
+returns c = c.from.ensures ∙ c.outside.ensures ∙ ap (count_by is_none) c.neighbours.ensures.places ∙ sym (missing_is c.args.self.now c.args.site)

@@ -13,7 +13,7 @@ use Rattle.sand_model.proofs.Sandpile.{settled_stable}
 use Rattle.sand_model.proofs.Neighbours.{flow_four, some_width, some_from, row_above}
 use Rattle.sand_group.specs.Recurrence.{IsRecurrent}
 use Rattle.sand_model.specs.Forbidden.{IsForbidden}
-use Rattle.sand_group.proofs.Sets.{flow_at_most_four, north_of_four}
+use Rattle.sand_model.proofs.NeighboursInSets.{flow_at_most_four, north_of_four}
 
 -- the northern neighbour is a site with a smaller number
 north_before : (g : Grid) (i j : ℕ) → i < sites g → north g i ≡ Some j → j < i

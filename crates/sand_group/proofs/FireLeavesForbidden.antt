@@ -4,11 +4,11 @@ use Rattle.std.proofs.lemmas.Bool.{cases_eq, ltb-true, leb-false, not-true}
 use Rattle.std.proofs.lemmas.List.{get_or_push, get_or_append_left, take-take, take_more, length-take}
 use Rattle.std.specs.List.Sorted.{IsStrictlyIncreasing}
 use Rattle.std.proofs.lemmas.List.Elements.{All-head, All-tail}
-use Rattle.sand_model.specs.Grid.{Grid, sites, neighbours, missing, places}
+use Rattle.sand_model.specs.Grid.{Grid, sites, neighbours, missing}
 use Rattle.sand_model.specs.Sand.{flow, tally, one_at, value_at, IsStable}
 use Rattle.sand_model.specs.Lists.{Lists}
 use Rattle.sand_model.proofs.SumsBelow.{one_at_same, one_at_other}
-use Rattle.sand_model.proofs.Neighbours.{neighbours_mutual, neighbours_at_most_four, flow_four}
+use Rattle.sand_model.proofs.Neighbours.{neighbours_mutual, neighbours_at_most_four}
 use Rattle.sand_model.proofs.Flow.{flow_same, flow-add, indicator}
 use Rattle.sand_model.proofs.Sandpile.{sum_by_ones}
 use Rattle.sand_model.proofs.Tallies.{tally-push, tally-cons}
@@ -16,8 +16,8 @@ use Rattle.sand_model.proofs.Lists.{listed, at_most_once, lists_below, lists_all
 use Rattle.sand_group.specs.Recurrence.{IsRecurrent, is_in, BurnsInOrder, IsBurningOrder, IsGreatestForbidden}
 use Rattle.sand_model.specs.Forbidden.{IsForbidden}
 use Rattle.sand_group.specs.Fire.{may_burn, is_out, FireSpreadsFrom, CountsUnburnt}
-use Rattle.sand_group.proofs.Sets.{count_within}
-use Rattle.sand_group.proofs.Listing.{is_out-none, is_out-some, is_in_listing, is_out_of_listing}
+use Rattle.sand_model.proofs.NeighboursInSets.{count_within}
+use Rattle.sand_group.proofs.SitesInListing.{is_out-none, is_out-some, is_in_listing, is_out_of_listing}
 
 -- one more site burns
 pub fire_spreads_push : (g : Grid) (s : ℕ → ℕ) (before xs : List ℕ) (i : ℕ) → FireSpreadsFrom g s before xs → count_by (is_out (before ++ xs)) (neighbours g i) ≤ s i → FireSpreadsFrom g s before (xs ++ i ∷ [])
@@ -25,7 +25,7 @@ fire_spreads_push g s before [] i burnt high = (rw (sym (append-nil before)) hig
 fire_spreads_push g s before (x ∷ xs) i burnt high = (burnt.0, fire_spreads_push g s (before ++ x ∷ []) xs i burnt.1 (rw (append_assoc before (x ∷ []) xs) high))
 
 -- no site of a forbidden set burns
-pub forbidden_unburnt : (g : Grid) (s : ℕ → ℕ) (set : ℕ → Bool) (before xs : List ℕ) → IsForbidden g s set → All (λ i. i < sites g) xs → ((j : ℕ) → set j ≡ true → tally before j ≡ 0) → FireSpreadsFrom g s before xs → (j : ℕ) → set j ≡ true → tally xs j ≡ 0
+forbidden_unburnt : (g : Grid) (s : ℕ → ℕ) (set : ℕ → Bool) (before xs : List ℕ) → IsForbidden g s set → All (λ i. i < sites g) xs → ((j : ℕ) → set j ≡ true → tally before j ≡ 0) → FireSpreadsFrom g s before xs → (j : ℕ) → set j ≡ true → tally xs j ≡ 0
 forbidden_unburnt g s set before [] bad below none burnt j in' = refl
 forbidden_unburnt g s set before (x ∷ xs) bad below none burnt j in' =
     let site = All-head (λ i. i < sites g) x xs below in
@@ -46,7 +46,7 @@ forbidden_unburnt g s set before (x ∷ xs) bad below none burnt j in' =
     omega arith
 
 -- the order of burning is a burning order
-pub in_turn : (g : Grid) (s : ℕ → ℕ) (before xs : List ℕ) → All (λ i. i < sites g) xs → ((j : ℕ) → tally before j + tally xs j ≤ 1) → FireSpreadsFrom g s before xs → BurnsInOrder g s xs
+in_turn : (g : Grid) (s : ℕ → ℕ) (before xs : List ℕ) → All (λ i. i < sites g) xs → ((j : ℕ) → tally before j + tally xs j ≤ 1) → FireSpreadsFrom g s before xs → BurnsInOrder g s xs
 in_turn g s before [] below once burnt = tt
 in_turn g s before (x ∷ xs) below once burnt = (
   (let site = All-head (λ i. i < sites g) x xs below in
@@ -105,7 +105,7 @@ pub missing_at_most_four : (g : Grid) (i : ℕ) → missing g i ≤ 4
 unfolding missing
 missing_at_most_four g i = omega arith
 
--- where nothing burns yet, the numbers of unburnt neighbours are those of all neighbours
+-- if nothing burns yet, the numbers of unburnt neighbours are those of all neighbours
 pub counts_none : (g : Grid) (unburnt : ℕ → ℕ) → ((i : ℕ) → i < sites g → unburnt i + missing g i ≡ 4) → CountsUnburnt g [] unburnt
 unfolding missing
 counts_none g unburnt full = record {
@@ -123,11 +123,7 @@ counts_push g xs n v len before here k l =
     (λ (ne : k ≡ n → ⊥). let less : k < n = grind arith in let read = get_or_append_left xs (v ∷ []) 0 k (omega arith) in let was = before k less in omega arith)
     (cases_eq k n)
 
--- ---- the four places round a site that burns
-
-pub tally_places : (g : Grid) (i j : ℕ) (ps : List (Option ℕ)) → ps ≡ places g i → tally (neighbours g i) j ≡ value_at (λ k. one_at k j) (get_or ps 0 None) + value_at (λ k. one_at k j) (get_or ps 1 None) + value_at (λ k. one_at k j) (get_or ps 2 None) + value_at (λ k. one_at k j) (get_or ps 3 None)
-unfolding flow
-tally_places g i j ps e = rw e (flow_four g (λ k. one_at k j) i)
+-- ---- a place round a site that burns
 
 pub some_left : (n : ℕ) (u : ℕ → ℕ) (p : Option ℕ) → IfSome p (λ j. j < n) → ((j : ℕ) → j < n → value_at (λ k. one_at k j) p ≤ u j) → IfSome p (λ j. 0 < u j)
 some_left n u None inside le = tt

@@ -33,7 +33,7 @@ greatest (suc (suc n)) p l =
     ))
     (cases_lt (p before.0) (p (suc n)))
 
--- where p topplings too many were made and q too few, the sites of the greatest p are forbidden
+-- if p topplings too many were made and q too few, the sites of the greatest p are forbidden
 pub top_is_forbidden : (g : Grid) (t p q : ℕ → ℕ) (k : ℕ) → ((i : ℕ) → i < sites g → t i + 4 * p i + flow g q i ≤ 3 + 4 * q i + flow g p i) → ((i : ℕ) → 0 < p i → q i ≡ 0) → k < sites g → ((i : ℕ) → i < sites g → p i ≤ p k) → 0 < p k → IsForbidden g t (λ i. eqb (p i) (p k))
 top_is_forbidden g t p q k balance apart inside top some = record {
   some = (k, inside, eq-eqb (p k) (p k) refl);

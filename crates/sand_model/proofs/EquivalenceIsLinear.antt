@@ -30,7 +30,7 @@ equivalent_sym g s t same = record {
       omega (arith, ints);
 }
 
--- where s - t and r - q are equivalent to all 0, so is their sum
+-- if s - t and r - q are equivalent to all 0, so is their sum
 pub equivalent_add : (g : Grid) (s t r q : ℕ → ℤ) → IsEquivalent g s t → IsEquivalent g r q → IsEquivalent g (λ i. s i +ℤ r i) (λ i. t i +ℤ q i)
 equivalent_add g s t r q one two = record {
   by_topplings = λ j. one.by_topplings j +ℤ two.by_topplings j;

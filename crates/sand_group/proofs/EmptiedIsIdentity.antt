@@ -8,11 +8,11 @@ use Rattle.sand_model.specs.Sand.{IsToppled}
 use Rattle.sand_model.specs.Integers.{whole, IsEquivalent}
 use Rattle.sand_model.specs.Piles.{PileView, height_of, most_grains}
 use Rattle.sand_model.proofs.Bounds.{sites_limit}
-use Rattle.sand_model.proofs.IntegerFlow.{toppled_is_integers}
+use Rattle.sand_model.proofs.OverIntegers.{toppled_is_integers}
 use Rattle.sand_model.proofs.Sandpile.{settled_same}
 use Rattle.sand_group.specs.Group.{IsSettledPile, IsSurplus, IsIdentity}
-use Rattle.sand_model.proofs.Settling.{settles}
-use Rattle.sand_group.proofs.Members.{some_surplus, identity_is_settled, represented_once}
+use Rattle.sand_model.proofs.EachSettles.{settles}
+use Rattle.sand_group.proofs.OperationsSettle.{some_surplus, identity_is_settled, represented_once}
 
 pub emptied_is_none : (g : Grid) (s w : ℕ → ℕ) → IsToppled g s w (λ i. 0) → IsEquivalent g (whole s) (λ i. pos 0)
 emptied_is_none g s w done = record {

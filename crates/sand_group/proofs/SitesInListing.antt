@@ -1,4 +1,4 @@
--- Lists of the sites that pass a test: whether a site stands in one, and that one of ascending sites stays so.
+-- Lists of the sites that pass a test: whether a site is in one, and that an ascending one stays ascending.
 use Rattle.std.proofs.Common.{ℕ, Bool, true, false, not, ◌≡◌, ◌+◌, ◌<◌, ◌≤◌, sym, ◌∙◌, ap, arith, List, [], ◌∷◌, ◌++◌, length, All, ⊎_elim}
 use Rattle.std.specs.List.Sorted.{IsStrictlyIncreasing}
 use Rattle.std.proofs.lemmas.Bool.{cases_lt, cases_Bool, lt-ltb, le-ltb}

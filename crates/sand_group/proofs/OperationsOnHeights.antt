@@ -14,7 +14,7 @@ use Rattle.sand_model.proofs.Bounds.{sites_limit}
 use Rattle.sand_model.proofs.Heights.{get_or-written}
 use Rattle.sand_group.specs.Recurrence.{IsRecurrent}
 use Rattle.sand_group.specs.Group.{IsSettledPile, IsSurplus, IsIdentity, IsEquivalentRecurrent}
-use Rattle.sand_group.proofs.Members.{equivalent_is_settled, represents_itself, represented_once}
+use Rattle.sand_group.proofs.OperationsSettle.{equivalent_is_settled, represents_itself, represented_once}
 
 -- heights of 12 at most are far below the limit in all
 pub within_limit : (g : Grid) (heights : List ℕ) → IsGrid g → length heights ≡ sites g → All (λ h. h ≤ 12) heights → sum heights ≤ most_grains

@@ -39,7 +39,7 @@ north_in_set : (set : ℕ → Bool) (p : Option ℕ) → 1 ≤ value_at (indicat
 north_in_set set None l = absurd (omega arith)
 north_in_set set (Some j) l = (j, refl, one_in_set (set j) l)
 
--- where all four neighbours of a site are in a set, there is a neighbour in the north
+-- if all four neighbours of a site are in a set, there is a neighbour in the north
 pub north_of_four : (g : Grid) (set : ℕ → Bool) (i : ℕ) → 4 ≤ flow g (indicator set) i → (j : ℕ) × (north g i ≡ Some j) × (set j ≡ true)
 north_of_four g set i l =
     let four = flow_four g (indicator set) i in

@@ -9,13 +9,13 @@ use Rattle.sand_model.specs.Sand.{sum_below, IsSettled}
 use Rattle.sand_model.specs.Integers.{whole, IsEquivalent}
 use Rattle.sand_model.proofs.Sandpile.{settled_in_parts, settled_same, settled_stable}
 use Rattle.sand_model.proofs.Bounds.{at_most_sum_below}
-use Rattle.sand_model.proofs.IntegerFlow.{above, below, parts, settled_equivalent}
+use Rattle.sand_model.proofs.OverIntegers.{above, below, parts, settled_equivalent}
 use Rattle.sand_group.specs.Recurrence.{IsRecurrent}
 use Rattle.sand_group.specs.Group.{SettlesTo, IsSurplus, Represents, IsSum, IsIdentity, IsInverse}
-use Rattle.sand_model.proofs.Settling.{settles}
-use Rattle.sand_group.proofs.Stabilised.{settled_recurrent}
-use Rattle.sand_group.proofs.Uniqueness.{recurrent_unique}
-use Rattle.sand_group.proofs.Classes.{equivalent_sym, equivalent_add, equivalent_same, equivalent_times, equivalent_trans}
+use Rattle.sand_model.proofs.EachSettles.{settles}
+use Rattle.sand_group.proofs.SettledIsRecurrent.{settled_recurrent}
+use Rattle.sand_group.proofs.RecurrentIsUnique.{recurrent_unique}
+use Rattle.sand_model.proofs.EquivalenceIsLinear.{equivalent_sym, equivalent_add, equivalent_same, equivalent_times, equivalent_trans}
 
 -- what is true of each pile that s settles to, is true of one: s settles
 pub settles_to : (g : Grid) (s : ℕ → ℕ) (P : (ℕ → ℕ) → Type 0) → ((u t : ℕ → ℕ) → IsSettled g s u t → P t) → SettlesTo g s P
@@ -24,18 +24,18 @@ settles_to g s P each = let done = settles g s in record { odometer = done.0; re
 -- ---- recurrent piles
 
 -- what settles from heights of 3 and more is recurrent
-pub high_recurrent : (g : Grid) (s u t : ℕ → ℕ) → IsSettled g s u t → ((i : ℕ) → i < sites g → 3 ≤ s i) → IsRecurrent g t
+high_recurrent : (g : Grid) (s u t : ℕ → ℕ) → IsSettled g s u t → ((i : ℕ) → i < sites g → 3 ≤ s i) → IsRecurrent g t
 high_recurrent g s u t done high =
     settled_recurrent g (λ i. s i - 3) u t (settled_same g s (λ i. 3 + (s i - 3)) u u t t (λ i l. let h = high i l in omega arith) (λ i l. refl) (λ i l. refl) done)
 
 -- a pile that is 3 or more at each site and equivalent to all 0
-pub surplus_high : (g : Grid) (d : ℕ → ℕ) → IsSurplus g d → (i : ℕ) → i < sites g → 3 ≤ d i
+surplus_high : (g : Grid) (d : ℕ → ℕ) → IsSurplus g d → (i : ℕ) → i < sites g → 3 ≤ d i
 surplus_high g d is i l =
     let e = is.difference i l in
     let low = (settled_stable g (λ j. 6) is.odometer is.rest is.settled).low i l in
     omega arith
 
-pub surplus_is_none : (g : Grid) (d : ℕ → ℕ) → IsSurplus g d → IsEquivalent g (whole d) (λ i. pos 0)
+surplus_is_none : (g : Grid) (d : ℕ → ℕ) → IsSurplus g d → IsEquivalent g (whole d) (λ i. pos 0)
 surplus_is_none g d is =
     equivalent_same g (whole (λ i. 6)) (whole is.rest) (whole d) (λ i. pos 0) (settled_equivalent g (λ i. 6) is.odometer is.rest is.settled)
     (λ i l. let e = is.difference i l in omega (arith, ints))

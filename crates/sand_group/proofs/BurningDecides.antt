@@ -1,4 +1,4 @@
--- A stable pile is recurrent exactly where there is a burning order.
+-- A stable pile is recurrent if and only if there is a burning order.
 --
 -- In a recurrent pile the unburnt sites are never a forbidden set, so one of them may burn, until none is left. The
 -- other way round, of a forbidden set the first site in the order has all its neighbours in the set after it.
@@ -16,7 +16,7 @@ use Rattle.sand_model.proofs.Tallies.{tally-cons}
 use Rattle.sand_model.proofs.Lists.{at_most_one, all_or_one}
 use Rattle.sand_group.specs.Recurrence.{IsRecurrent, is_in, BurnsInOrder, IsBurningOrder}
 use Rattle.sand_model.specs.Forbidden.{IsForbidden}
-use Rattle.sand_group.proofs.Sets.{count_within}
+use Rattle.sand_model.proofs.NeighboursInSets.{count_within}
 
 -- ---- no site is its own neighbour
 

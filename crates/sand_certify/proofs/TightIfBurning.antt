@@ -1,12 +1,12 @@
--- Where each site that has toppled burns at its turn, no set of such sites is forbidden.
-use Rattle.std.proofs.Common.{ℕ, zero, suc, Bool, true, false, cond, leb, ◌≡◌, ◌⊎◌, ◌<◌, ◌≤◌, refl, ap, arith, List, get_or, count_by, inl, inr, ⊎_elim}
+-- If each site that has toppled burns at its turn, no set of such sites is forbidden.
+use Rattle.std.proofs.Common.{ℕ, zero, suc, Bool, true, false, leb, ◌≡◌, ◌⊎◌, ◌<◌, ◌≤◌, ap, arith, List, get_or, count_by, inl, inr, ⊎_elim}
 use Rattle.std.proofs.lemmas.Bool.{cases_Bool, cases_lt, cases_eq, le-leb}
 use Rattle.sand_model.specs.Grid.{Grid, sites, neighbours}
 use Rattle.sand_model.specs.Sand.{IsToppled, IsSettled}
-use Rattle.sand_model.proofs.Flow.{flow_le, count_is_flow, indicator}
+use Rattle.sand_model.proofs.NeighboursInSets.{count_within}
 use Rattle.sand_certify.specs.Certificate.{no_earlier, ToppledSitesBurn, IsShownEverywhere, IsCertificate}
 use Rattle.sand_model.specs.Forbidden.{IsTight}
-use Rattle.sand_model.proofs.Tight.{settled_if_tight}
+use Rattle.sand_model.proofs.SettledIfTight.{settled_if_tight}
 
 -- a site of a set, below n, whose turn is the earliest there
 record IsEarliest (n : ℕ) (set : ℕ → Bool) (turn : ℕ → ℕ) (i : ℕ) : Type 0 where
@@ -14,7 +14,7 @@ record IsEarliest (n : ℕ) (set : ℕ → Bool) (turn : ℕ → ℕ) (i : ℕ) 
   member : set i ≡ true
   first : (j : ℕ) → j < n → set j ≡ true → turn i ≤ turn j
 
--- with one number more: the earliest so far stays where it is not later than the new one
+-- with one number more: the earliest so far stays if it is not later than the new one
 earliest_or_new : (n : ℕ) (set : ℕ → Bool) (turn : ℕ → ℕ) (i : ℕ) → IsEarliest n set turn i → (k : ℕ) × IsEarliest (suc n) set turn k
 earliest_or_new n set turn i best =
     ⊎_elim
@@ -89,16 +89,10 @@ earliest n set turn k l member =
     (λ (some : (i : ℕ) × IsEarliest n set turn i). some)
     (earliest_below n set turn)
 
-one_if_le : (a b : Bool) → (a ≡ true → b ≡ true) → cond a 1 0 ≤ cond b 1 0
-one_if_le true b also = rw (also refl) (omega arith)
-one_if_le false b also = omega arith
-
 -- the neighbours in a set are among those that burn no earlier than its earliest
 set_is_no_earlier : (g : Grid) (set : ℕ → Bool) (turn : ℕ → ℕ) (i : ℕ) → IsEarliest (sites g) set turn i → count_by set (neighbours g i) ≤ no_earlier g turn i
 set_is_no_earlier g set turn i best =
-    rw (count_is_flow g set i, count_is_flow g (λ j. leb (turn i) (turn j)) i)
-    (flow_le g (indicator set) (indicator (λ j. leb (turn i) (turn j)))
-    (λ j m. one_if_le (set j) (leb (turn i) (turn j)) (λ member. le-leb (turn i) (turn j) (best.first j m member))) i best.inside)
+    count_within g set (λ j. leb (turn i) (turn j)) i best.inside (λ j m member. le-leb (turn i) (turn j) (best.first j m member))
 
 pub tight_if_burning : (g : Grid) (t u turn : ℕ → ℕ) → ToppledSitesBurn g t u turn → IsTight g t u
 tight_if_burning g t u turn burning = record {

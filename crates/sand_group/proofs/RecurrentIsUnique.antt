@@ -1,6 +1,6 @@
--- Two recurrent piles that are equivalent are one.
+-- Two recurrent piles that are equivalent are equal.
 --
--- Where they differ by the topplings z, split z into its part p above 0 and its part q below. If p is not 0, the
+-- If they differ by the topplings z, split z into its part p above 0 and its part q below. If p is not 0, the
 -- sites at which it is greatest are forbidden in the second pile. So p is 0, and q is 0 by the same.
 use Rattle.std.proofs.Common.{ℕ, eqb, ◌≡◌, ◌+◌, ◌-◌, ◌*◌, ◌<◌, ◌≤◌, sym, ◌∙◌, arith, ⊎_elim}
 use Rattle.std.specs.Prelude.{ℤ, pos, ◌-ℤ◌}
@@ -10,8 +10,8 @@ use Rattle.sand_model.specs.Grid.{Grid, sites}
 use Rattle.sand_model.specs.Sand.{flow, IsStable}
 use Rattle.sand_model.specs.Integers.{laplacian, whole, IsEquivalent}
 use Rattle.sand_model.proofs.Flow.{flow_same, flow-add}
-use Rattle.sand_model.proofs.Tight.{greatest, top_is_forbidden}
-use Rattle.sand_model.proofs.IntegerFlow.{above, below, laplacian-parts}
+use Rattle.sand_model.proofs.SettledIfTight.{greatest, top_is_forbidden}
+use Rattle.sand_model.proofs.OverIntegers.{above, below, laplacian-parts}
 use Rattle.sand_group.specs.Recurrence.{IsRecurrent}
 
 -- how far z is above 0, and how far below

@@ -25,7 +25,7 @@ unfolding above below
 parts (pos n) = omega (arith, ints)
 parts (negsuc n) = omega (arith, ints)
 
-pub whole_sum_by_parts : (z : ℕ → ℤ) (js : List ℕ) → whole_sum_by z js ≡ pos (sum_by (λ j. above (z j)) js) -ℤ pos (sum_by (λ j. below (z j)) js)
+whole_sum_by_parts : (z : ℕ → ℤ) (js : List ℕ) → whole_sum_by z js ≡ pos (sum_by (λ j. above (z j)) js) -ℤ pos (sum_by (λ j. below (z j)) js)
 whole_sum_by_parts z [] = omega (arith, ints)
 whole_sum_by_parts z (j ∷ js) =
     let rest = whole_sum_by_parts z js in
@@ -38,7 +38,7 @@ whole_sum_by_naturals : (u : ℕ → ℕ) (js : List ℕ) → whole_sum_by (whol
 whole_sum_by_naturals u [] = refl
 whole_sum_by_naturals u (j ∷ js) = let rest = whole_sum_by_naturals u js in rw (sum_by-cons u j js) (omega (arith, ints))
 
-pub laplacian-whole : (g : Grid) (u : ℕ → ℕ) (i : ℕ) → laplacian g (whole u) i ≡ pos (4 * u i) -ℤ pos (flow g u i)
+laplacian-whole : (g : Grid) (u : ℕ → ℕ) (i : ℕ) → laplacian g (whole u) i ≡ pos (4 * u i) -ℤ pos (flow g u i)
 unfolding laplacian flow
 laplacian-whole g u i = let all = whole_sum_by_naturals u (neighbours g i) in omega (arith, ints)
 

@@ -1,0 +1,9 @@
+use Rattle.std.proofs.Common.{ap, arith}
+use Rattle.sand_model.specs.Grid.{Grid}
+use Rattle.sand_model.proofs.Borders.{nothing_south}
+use Rattle.sand_model.proofs.shape.Shape.south.Goals as goal
+
+pub returns-else-site-self : goal.returns-else-site-self
+returns-else-site-self c =
+    let width = ap (λ (g : Grid). g.width) c.self.view_is in
+    nothing_south c.args.self c.args.site c.requires (omega (arith, width))
