@@ -2,7 +2,7 @@
 
 ghost use Rattle.std.specs.Prelude.{◌≡◌, length, IfOk};
 ghost use Rattle.sand_model.specs.Grid.{sites};
-ghost use Rattle.sand_shared.specs.OpenPile.{grid_with_edge};
+ghost use Rattle.sand_shared.specs.OpenPile.{grid_of_terms};
 ghost use Rattle.sand_shared.specs.Passes.{IsPassOf};
 
 use sand_model::{Pile, Shape};
@@ -19,7 +19,7 @@ pub fn shared_pile(
     quota: u64,
 ) -> Result<(SharedPile, Pass), Fail>
     ensures of_pile { IfOk result (λ r. IsPassOf r.0 r.1) }
-    ensures one_each { IfOk result (λ r. sites (grid_with_edge r.0.terms) ≡ length heights.now) }
+    ensures one_each { IfOk result (λ r. sites (grid_of_terms r.0.terms) ≡ length heights.now) }
 {
     let shape = Shape::new(width, height)?;
     let start = Pile::new(alloc, shape, heights)?;

@@ -1,5 +1,5 @@
 use Rattle.std.proofs.lemmas.Result.{IfOk-weaker}
-use Rattle.sand_lab.proofs.Sheets.{sheets}
+use Rattle.sand_lab.proofs.SheetLengths.{sheets}
 use Rattle.sand_testing.proofs.runs.run_into.Goals as goal
 
 pub returns-clause-tallies : goal.returns-clause-tallies
