@@ -5,6 +5,15 @@ ghost use Rattle.std.specs.Prelude.{◌≤◌, ◌<◌};
 use crate::frame::Frame;
 use std::alloc::{AllocError, Global};
 
+// More bits than the number of a cell has: there are at most 258 * 258.
+const CELL_BITS: usize = 0xff_ffff;
+
+/// A cell as a number in a list. The mask changes none; it spares a proof.
+#[inline(always)]
+pub(crate) fn cell_number(at: usize) -> u32 {
+    (at & CELL_BITS) as u32
+}
+
 // The home of a cell of the edge that stands for no site.
 const NOWHERE: u32 = 0xffff_ffff;
 
@@ -42,7 +51,7 @@ impl Border {
             let is_row = y >= 1 && y <= frame.height;
             for x in 0..stride {
                 home.push(match column_of(frame, x) {
-                    Some(column) if is_row => (from.wrapping_add(column) & 0xff_ffff) as u32,
+                    Some(column) if is_row => cell_number(from.wrapping_add(column)),
                     _ => NOWHERE,
                 })?;
             }
@@ -60,6 +69,28 @@ impl Border {
         ensures { result ≤ 66564 }
     {
         (y + 1) * self.stride + 1
+    }
+
+    /// The cell of the site that a cell stands for: most often itself.
+    #[inline(always)]
+    pub(crate) fn home_of(&self, at: usize) -> usize {
+        if at < self.home.len() {
+            self.home[at] as usize
+        } else {
+            at
+        }
+    }
+
+    /// The four cells around a cell. Where a cell of the edge has none, it is far beyond the last cell, or a cell of the edge
+    /// again.
+    #[inline(always)]
+    pub(crate) fn around(&self, at: usize) -> [usize; 4] {
+        [
+            at.wrapping_sub(self.stride),
+            at.wrapping_sub(1),
+            at.wrapping_add(1),
+            at.wrapping_add(self.stride),
+        ]
     }
 
     pub(crate) fn cells(&self) -> usize {

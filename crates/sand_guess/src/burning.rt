@@ -1,14 +1,14 @@
 //! Burning what has toppled, and taking back what does not burn.
 //!
-//! A site burns when its height is at least the number of its neighbours that have toppled and do not burn yet. What
+//! A site burns if its height is at least the number of its neighbours that have toppled and do not burn yet. What
 //! does not burn is the greatest set of sites that have toppled and is forbidden, and each of its sites can be
-//! untoppled once: the heights stay 3 at most. Where all burns nothing can be untoppled, and the order is the proof.
+//! untoppled once: the heights stay 3 at most. If all burns, nothing can be untoppled, and the order is the proof.
 //!
 //! The grid has an edge all round here (`border`). In the edge of a row that goes round are the marks of its other end.
 
 ghost use Rattle.std.specs.Prelude.{◌≤◌, ◌<◌, length};
 
-use crate::border::Border;
+use crate::border::{Border, cell_number};
 use crate::field::{Field, LEVEL};
 use crate::frame::{Frame, run, run_mut};
 use std::alloc::{AllocError, Global};
@@ -52,6 +52,19 @@ impl Around<'_> {
             .min(self.east.len())
             .min(self.below.len())
     }
+
+    // The sum of the four cells.
+    #[inline(always)]
+    fn sum(self, x: usize) -> u8
+        requires above { x < length self.above.now }
+        requires west { x < length self.west.now }
+        requires east { x < length self.east.now }
+        requires below { x < length self.below.now }
+    {
+        let ends = self.above[x].wrapping_add(self.below[x]);
+        let sides = self.west[x].wrapping_add(self.east[x]);
+        ends.wrapping_add(sides)
+    }
 }
 
 // The cells round those of a row that begins at `first`.
@@ -82,23 +95,16 @@ fn set_room(room: &mut [u8], heights: &[u8], marks: &[u8], around: Around) {
         .min(marks.len())
         .min(around.cells());
     for x in 0..cells {
-        let ends = around.above[x].wrapping_add(around.below[x]);
-        let sides = around.west[x].wrapping_add(around.east[x]);
         let is_marked = 0u8.wrapping_sub(marks[x]);
-        room[x] = heights[x].wrapping_sub(ends).wrapping_sub(sides) & is_marked;
+        room[x] = heights[x].wrapping_sub(around.sum(x)) & is_marked;
     }
 }
 
 fn untopple_row(heights: &mut [u8], marks: &[u8], around: Around) {
     let cells = heights.len().min(marks.len()).min(around.cells());
     for x in 0..cells {
-        let ends = around.above[x].wrapping_add(around.below[x]);
-        let sides = around.west[x].wrapping_add(around.east[x]);
-        let back = marks[x] << 2;
-        heights[x] = heights[x]
-            .wrapping_add(back)
-            .wrapping_sub(ends)
-            .wrapping_sub(sides);
+        let back = (marks[x] << 2).wrapping_sub(around.sum(x));
+        heights[x] = heights[x].wrapping_add(back);
     }
 }
 
@@ -114,15 +120,15 @@ fn list_if(order: &mut [u32], burnt: usize, at: usize, burns: bool) -> usize {
     if burnt >= order.len() {
         return burnt;
     }
-    order[burnt] = (at & 0xff_ffff) as u32;
+    order[burnt] = cell_number(at);
     burnt.wrapping_add(usize::from(burns))
 }
 
 // A neighbour of this cell burns; if that lets its site burn, the site is listed. Cells without a mark never come so far.
 #[inline(always)]
 fn warm(border: &Border, room: &mut [u8], order: &mut [u32], burnt: usize, at: usize) -> usize {
-    let home = if border.frame.goes_round && at < border.home.len() {
-        border.home[at] as usize
+    let home = if border.frame.goes_round {
+        border.home_of(at)
     } else {
         at
     };
@@ -225,10 +231,11 @@ impl Fire {
                 order,
                 ..
             } = self;
-            burnt = warm(border, room, order, burnt, at.wrapping_sub(border.stride));
-            burnt = warm(border, room, order, burnt, at.wrapping_sub(1));
-            burnt = warm(border, room, order, burnt, at.wrapping_add(1));
-            burnt = warm(border, room, order, burnt, at.wrapping_add(border.stride));
+            let [north, west, east, south] = border.around(at);
+            burnt = warm(border, room, order, burnt, north);
+            burnt = warm(border, room, order, burnt, west);
+            burnt = warm(border, room, order, burnt, east);
+            burnt = warm(border, room, order, burnt, south);
         }
         self.burnt = burnt;
     }

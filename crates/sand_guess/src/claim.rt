@@ -3,7 +3,7 @@
 ghost use Rattle.std.specs.Prelude.{◌≤◌, ◌<◌};
 
 use crate::density::{Known, density_of, expected_from};
-use crate::frame::frame_of;
+use crate::frame::{frame_of, signed};
 use crate::levels::{Level, halved};
 use crate::repair::Repair;
 use crate::solver::Solver;
@@ -24,7 +24,7 @@ pub struct Claim {
 fn first_level(alloc: Global, pile: &Pile) -> Result<Level, AllocError> {
     let mut start = Vec::with_capacity(alloc, pile.heights().len())?;
     for height in pile.heights() {
-        start.push((*height & 0xff_ffff_ffff) as i64)?;
+        start.push(signed(*height))?;
     }
     Ok(Level {
         frame: frame_of(pile.shape()),
@@ -108,7 +108,7 @@ fn sizes_of(alloc: Global, repair: &Repair) -> Result<Vec<u64>, AllocError> {
 }
 
 /// A guess of how often each site of a pile topples, with the turns at which sites burn, or None if no guess is made.
-/// Nothing is claimed of it; `sand_certify::certified` tells whether it is right. Refuses Memory alone.
+/// Nothing is claimed of it; `sand_certify::certified` decides whether it is right. Fails only with Memory.
 pub fn guessed(alloc: Global, pile: &Pile) -> Result<Option<Claim>, AllocError> {
     let levels = levels_from(alloc, first_level(alloc, pile)?)?;
     let Some(repair) = repaired_first(alloc, levels)? else {
@@ -121,7 +121,7 @@ pub fn guessed(alloc: Global, pile: &Pile) -> Result<Option<Claim>, AllocError> 
 
 /// A guess of w for which Lw is the identity of the group of recurrent piles, or None if no guess is made. It is found as
 /// an odometer is, from a pile without a grain, but each count may go below 0 and each site counts as toppled. Nothing is
-/// claimed of it: who uses it computes Lw and burns it. Refuses Memory alone.
+/// claimed of it: the caller computes Lw and burns it. Fails only with Memory.
 pub fn guessed_identity(alloc: Global, shape: Shape) -> Result<Option<Vec<u64>>, AllocError> {
     let levels = levels_from(alloc, empty_level(alloc, shape)?)?;
     let Some(repair) = repaired_first(alloc, levels)? else {

@@ -14,6 +14,9 @@ pub(crate) const LEVEL: u8 = 128;
 /// The least byte of a site that may topple.
 pub(crate) const UNSTABLE: u8 = 132;
 
+// Heights fit from as far below 0 to as far above: a byte then has room for what comes in one sweep.
+const MOST: u64 = 90;
+
 /// How many bytes are toppled at once.
 pub(crate) const LANES: usize = 32;
 
@@ -67,13 +70,12 @@ impl Field {
             let from = run(heights, y.wrapping_mul(width), width);
             let row = run_mut(&mut self.heights, y.wrapping_mul(self.stride), width);
             for x in 0..row.len().min(from.len()) {
-                let byte = from[x].wrapping_add(128).cast_unsigned();
-                // The heights that fit are from -90 to 90: room for what comes in one sweep.
-                far = far.max(byte.wrapping_sub(38));
+                let byte = from[x].wrapping_add(i64::from(LEVEL)).cast_unsigned();
+                far = far.max(byte.wrapping_sub(u64::from(LEVEL) - MOST));
                 row[x] = (byte & 0xff) as u8;
             }
         }
-        far <= 180
+        far <= 2 * MOST
     }
 
     /// Whether no site may topple.

@@ -9,7 +9,7 @@
 
 ghost use Rattle.std.specs.Prelude.{◌≤◌, ◌<◌};
 
-use crate::frame::{frame_of, run};
+use crate::frame::{frame_of, run, signed};
 use sand_model::Pile;
 
 // So many topplings a site take the queue longer than a guess takes.
@@ -19,17 +19,20 @@ const MANY: i64 = 256;
 // in few turns, however much it is.
 const LEAST_DEPTH: i64 = 24;
 
+// More bits than an arch has: it is at most 128 * 129.
+const ARCH_BITS: usize = 0xf_ffff;
+
 // Twice a parabola over a side.
 fn arch(side: usize, at: usize) -> i64 {
     let twice = at.wrapping_add(1).wrapping_mul(side.wrapping_sub(at));
-    (twice & 0xf_ffff) as i64
+    (twice & ARCH_BITS) as i64
 }
 
-// The sum of what each height of a row has above 3, times the arch over its column where the row's ends are open.
+// The sum of what each height of a row has above 3, times the arch over its column if the row's ends are open.
 fn row_above(row: &[u64], goes_round: bool) -> i64 {
     let mut sum = 0i64;
     for (x, height) in row.iter().enumerate() {
-        let above = ((*height & 0xff_ffff_ffff) as i64).wrapping_sub(3);
+        let above = signed(*height).wrapping_sub(3);
         let factor = if goes_round { 1 } else { arch(row.len(), x) };
         sum = sum.wrapping_add(above.wrapping_mul(factor));
     }

@@ -1,8 +1,14 @@
-//! The grid at one of the sizes, and parts of lists that stand for its rows.
+//! The grid at one of the sizes, and parts of lists that are its rows.
 
 ghost use Rattle.std.specs.Prelude.{◌≤◌, ◌*◌, ◌≡◌};
 
-use sand_model::{Edge, Shape};
+use sand_model::{Edge, GRAIN_LIMIT, Shape};
+
+/// A height as a signed number. No height of a pile is above the limit, so `min` changes none; it spares a proof.
+#[inline(always)]
+pub(crate) fn signed(height: u64) -> i64 {
+    height.min(GRAIN_LIMIT) as i64
+}
 
 /// The sides of a grid, and whether its rows go round.
 #[derive(Clone, Copy)]
@@ -32,7 +38,7 @@ pub(crate) fn frame_of(shape: Shape) -> Frame {
     }
 }
 
-/// So many items from a place on, or none where they are not all there.
+/// So many items from a place on, or none if they are not all there.
 #[inline(always)]
 pub(crate) fn run<T>(all: &[T], from: usize, count: usize) -> &[T] {
     if from <= all.len() && count <= all.len() - from {

@@ -1,7 +1,7 @@
-//! A guess of how often each site of a pile topples, made in a blink and, so far as anyone has seen, right.
+//! A guess of how often each site of a pile topples, made fast and, so far as anyone has seen, right.
 //!
 //! Nothing here is claimed to be right: each function is proved to be safe and to return, and that is all. A wrong
-//! guess costs time and never an answer: who uses it has it certified (`sand_certify`), and else settles by toppling.
+//! guess costs time and never changes a result: it is used only if it is certified (`sand_certify`), else sand topples.
 //!
 //! The method is that of Friedrich and Levine 2010, "Fast simulation of large-scale growth models": where the settled
 //! heights t were known, the counts u would solve Lu = s - t. On a scale of some sites t has a density that is nearly
@@ -11,10 +11,10 @@
 //! 2. `solver`: Lu = s - density is solved in floating point, directly: waves along x, elimination along y.
 //! 3. `repair`: the rounded counts are made right, by toppling what is unstable (in bytes: `sweeps`, then
 //!    `singles`) and taking back what toppled without need (`burning`). Here all numbers are exact.
-//! 4. `density`: the local means of what is left tell the density for the pile of twice the size.
+//! 4. `density`: the local means of what is left give the density for the pile of twice the size.
 //!
 //! The identity of the group of recurrent piles is guessed in the same way, from a pile without a grain (`claim`). And
-//! `forecast` tells, without a solve, whether a pile is so high that a guess is faster than toppling.
+//! `forecast` finds, without a solve, whether a pile is so high that a guess is faster than toppling.
 #![tactic(auto)]
 
 mod border;

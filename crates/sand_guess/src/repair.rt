@@ -87,7 +87,7 @@ impl Repair {
                 return Ok(true);
             }
             for _ in 0..EVENINGS {
-                smooth(level, &mut self.counts);
+                smooth(level, &mut self.counts, &mut self.left);
                 if self.look(level) {
                     return Ok(true);
                 }
@@ -100,7 +100,7 @@ impl Repair {
     fn relax(&mut self, level: &Level) -> bool {
         for _ in 0..TRIALS {
             if !self.look(level) {
-                smooth(level, &mut self.counts);
+                smooth(level, &mut self.counts, &mut self.left);
             } else if self.field.is_stable() {
                 return true;
             } else {

@@ -38,85 +38,81 @@ fn add_sides(row: &mut [i64], counts: &[i64], goes_round: bool) {
     }
 }
 
-/// s - Lu at each site.
+// The heights s - Lu of a row.
+fn subtract_row(frame: Frame, start: &[i64], counts: &[i64], y: usize, row: &mut [i64])
+    requires { y < frame.height }
+{
+    let width = frame.width;
+    let from = y * width;
+    let here = run(counts, from, width);
+    begin_row(row, run(start, from, width), here);
+    if y > 0 {
+        add_row(row, run(counts, from.wrapping_sub(width), width));
+    }
+    add_row(row, run(counts, from + width, width));
+    add_sides(row, here, frame.goes_round);
+}
+
+/// The heights s - Lu of all rows.
 pub(crate) fn subtract(frame: Frame, start: &[i64], counts: &[i64], left: &mut [i64]) {
-    let width = frame.width;
     for y in 0..frame.height {
-        let from = y * width;
-        let row = run_mut(left, from, width);
-        let here = run(counts, from, width);
-        begin_row(row, run(start, from, width), here);
-        if y > 0 {
-            add_row(row, run(counts, from.wrapping_sub(width), width));
-        }
-        add_row(row, run(counts, from + width, width));
-        add_sides(row, here, frame.goes_round);
+        let row = run_mut(left, y * frame.width, frame.width);
+        subtract_row(frame, start, counts, y, row);
     }
 }
 
-// The count at a place in a list, or 0 where there is none.
-fn count_at(counts: &[i64], at: usize) -> i64 {
-    counts.get(at).copied().unwrap_or(0)
-}
-
-// The sum of the counts round a site.
-fn inflow(frame: Frame, counts: &[i64], x: usize, y: usize) -> i64
-    requires column { x < frame.width }
-    requires row { y < frame.height }
-{
-    let width = frame.width;
-    let first = y * width;
-    let at = first + x;
-    let nowhere = counts.len();
-    let north = if y > 0 {
-        at.wrapping_sub(width)
+// Gives grains to the sites west and east of one.
+fn give_sides(row: &mut [i64], x: usize, grains: i64, goes_round: bool) {
+    let last = row.len().wrapping_sub(1);
+    let west = if x == 0 && goes_round {
+        last
     } else {
-        nowhere
+        x.wrapping_sub(1)
     };
-    let west = match x {
-        0 if frame.goes_round => first + (width - 1),
-        0 => nowhere,
-        _ => at - 1,
-    };
-    let east = if x + 1 < width {
-        at + 1
-    } else if frame.goes_round {
-        first
+    let east = if x == last && goes_round {
+        0
     } else {
-        nowhere
+        x.wrapping_add(1)
     };
-    count_at(counts, north)
-        .wrapping_add(count_at(counts, west))
-        .wrapping_add(count_at(counts, east))
-        .wrapping_add(count_at(counts, at + width))
+    if west < row.len() {
+        row[west] = row[west].wrapping_add(grains);
+    }
+    if east < row.len() {
+        row[east] = row[east].wrapping_add(grains);
+    }
 }
 
-// Topples a site, or takes back topplings, so that its height is from 2 to 5 or its count is the least.
-fn even_out(level: &Level, counts: &mut [i64], x: usize, y: usize)
-    requires column { x < level.now.frame.width }
-    requires row { y < level.now.frame.height }
+// Topples the sites of a row one after another, or takes back topplings, so that each height is from 2 to 5 or the count
+// is the least. `row` has the heights, and `counts` the counts of that row.
+fn even_out_row(row: &mut [i64], counts: &mut [i64], level: &Level, is_back: bool) {
+    let cells = row.len().min(counts.len());
+    for step in 0..cells {
+        let x = if is_back { cells - 1 - step } else { step };
+        let before = counts[x];
+        let times = row[x].wrapping_sub(2) >> 2;
+        counts[x] = before.wrapping_add(times).max(level.least);
+        let more = counts[x].wrapping_sub(before);
+        give_sides(row, x, more, level.frame.goes_round);
+    }
+}
+
+// Evens out the heights of a row. `row` has room for them.
+fn smooth_row(level: &Level, counts: &mut [i64], row: &mut [i64], y: usize, is_back: bool)
+    requires { y < level.now.frame.height }
 {
-    let at = y * level.frame.width + x;
-    if at >= counts.len() || at >= level.start.len() {
-        return;
-    }
-    let height = level.start[at]
-        .wrapping_add(inflow(level.frame, counts, x, y))
-        .wrapping_sub(counts[at].wrapping_mul(4));
-    let times = height.wrapping_sub(2) >> 2;
-    counts[at] = counts[at].wrapping_add(times).max(level.least);
+    let width = level.frame.width;
+    subtract_row(level.frame, &level.start, counts, y, row);
+    even_out_row(row, run_mut(counts, y * width, width), level, is_back);
 }
 
-/// Evens out heights that are far from those of a settled pile, once over the grid and once back.
-pub(crate) fn smooth(level: &Level, counts: &mut [i64]) {
-    for y in 0..level.frame.height {
-        for x in 0..level.frame.width {
-            even_out(level, counts, x, y);
-        }
-    }
-    for y in (0..level.frame.height).rev() {
-        for x in (0..level.frame.width).rev() {
-            even_out(level, counts, x, y);
-        }
+/// Evens out heights that are far from those of a settled pile, once over the grid and once back. `left` has room for the
+/// heights of a row.
+pub(crate) fn smooth(level: &Level, counts: &mut [i64], left: &mut [i64]) {
+    let row = run_mut(left, 0, level.frame.width);
+    let rows = level.frame.height;
+    for turn in 0..2 * rows {
+        let is_back = turn >= rows;
+        let y = if is_back { 2 * rows - 1 - turn } else { turn };
+        smooth_row(level, counts, row, y, is_back);
     }
 }

@@ -7,7 +7,7 @@
 
 ghost use Rattle.std.specs.Prelude.{◌≤◌, ◌<◌};
 
-use crate::border::Border;
+use crate::border::{Border, cell_number};
 use crate::field::{Field, LEVEL, UNSTABLE};
 use crate::frame::{run, run_mut};
 use std::alloc::{AllocError, Global};
@@ -38,7 +38,7 @@ fn deliver(heights: &mut [u8], next: &mut [u32], len: usize, at: usize, grains: 
     let before = heights[at];
     let after = before.wrapping_add(grains);
     heights[at] = after;
-    next[len] = (at & 0xff_ffff) as u32;
+    next[len] = cell_number(at);
     len.wrapping_add(usize::from((before < UNSTABLE) & (after >= UNSTABLE)))
 }
 
@@ -76,17 +76,14 @@ fn topple_wave(
     let mut len = 0usize;
     for at in wave {
         let at = *at as usize;
-        let home = if at < border.home.len() {
-            border.home[at] as usize
-        } else {
-            at
-        };
+        let home = border.home_of(at);
         if home == at {
             let toppled = take(heights, times, at);
-            len = deliver(heights, next, len, at.wrapping_sub(border.stride), toppled);
-            len = deliver(heights, next, len, at.wrapping_sub(1), toppled);
-            len = deliver(heights, next, len, at.wrapping_add(1), toppled);
-            len = deliver(heights, next, len, at.wrapping_add(border.stride), toppled);
+            let [north, west, east, south] = border.around(at);
+            len = deliver(heights, next, len, north, toppled);
+            len = deliver(heights, next, len, west, toppled);
+            len = deliver(heights, next, len, east, toppled);
+            len = deliver(heights, next, len, south, toppled);
         } else {
             let grains = empty(heights, at);
             len = deliver(heights, next, len, home, grains);
@@ -115,7 +112,7 @@ impl Singles {
             for (x, height) in field.row(y).iter().enumerate() {
                 if x < row.len() && len < self.wave.len() {
                     row[x] = *height;
-                    self.wave[len] = (first.wrapping_add(x) & 0xff_ffff) as u32;
+                    self.wave[len] = cell_number(first.wrapping_add(x));
                     len = len.wrapping_add(usize::from(*height >= UNSTABLE));
                 }
             }

@@ -147,7 +147,7 @@ impl Field {
         }
     }
 
-    // Some sweeps, each two rows behind the one before. Answers all numbers of topplings, joined bit by bit.
+    // Some sweeps, each two rows behind the one before. Returns all numbers of topplings, joined bit by bit.
     fn wave(&mut self) -> u8 {
         let mut seen = 0u8;
         for step in 0..self.frame.height + 2 * DEPTH {
