@@ -7,11 +7,14 @@ use crate::frame::Frame;
 use std::alloc::{AllocError, Global};
 use std::num::nearest_usize_to_f64;
 
-/// The density that is expected where nothing is known: that of a large pile which more and more sand was added to.
+/// The density that is expected if nothing is known: that of a large pile which more and more sand was added to.
 pub(crate) const USUAL: f64 = 2.125;
 
 // A mean is taken over so many cells to either side.
 const RADIUS: usize = 3;
+
+// Of what was found beyond expectation in a pile of half the size, so much is expected once more.
+const TREND: f64 = 0.25;
 
 // A line of numbers in a list: its first place, and the steps to the next.
 #[derive(Clone, Copy)]
@@ -20,79 +23,119 @@ struct Line {
     step: usize,
     cells: usize,
     goes_round: bool,
+    ghost short: { cells ≤ 256 },
 }
 
-// The means along a line, in place. `copy` has room for the line and what it sees beyond its ends.
-fn blur_line(all: &mut [f64], line: Line, copy: &mut Vec<f64>) -> Result<(), AllocError>
-    requires { line.cells ≤ 256 }
-{
-    copy.clear();
-    for i in 0..line.cells + 2 * RADIUS {
-        // The cell i - RADIUS, round the line as often as it takes.
-        let cell = if line.goes_round && line.cells > 0 {
-            (i + line.cells * RADIUS - RADIUS) % line.cells
+impl Line {
+    // The place of a cell in the list.
+    fn place(self, cell: usize) -> usize {
+        self.from.wrapping_add(cell.wrapping_mul(self.step))
+    }
+
+    // The cell that is i - RADIUS cells beyond the first: round the line as often as it takes, or no cell of it.
+    fn cell_at(self, i: usize) -> usize
+        requires { i ≤ 1024 }
+    {
+        if self.goes_round && self.cells > 0 {
+            (i + self.cells * RADIUS - RADIUS) % self.cells
         } else {
             i.wrapping_sub(RADIUS)
-        };
-        let at = line.from.wrapping_add(cell.wrapping_mul(line.step));
+        }
+    }
+
+    // How many cells a mean is taken over.
+    fn seen_from(self, cell: usize) -> usize
+        requires { cell ≤ 1024 }
+    {
+        let first = cell.saturating_sub(RADIUS);
+        if self.goes_round {
+            2 * RADIUS + 1
+        } else {
+            (cell + (RADIUS + 1)).min(self.cells).saturating_sub(first)
+        }
+    }
+}
+
+// A copy of a line and of what it sees beyond its ends: its other end if it goes round, and else zeros.
+fn copy_line(all: &[f64], line: Line, copy: &mut Vec<f64>) -> Result<(), AllocError> {
+    copy.clear();
+    for i in 0..line.cells + 2 * RADIUS {
+        let cell = line.cell_at(i);
+        let at = line.place(cell);
         let is_there = cell < line.cells && at < all.len();
         copy.push(if is_there { all[at] } else { 0.0 })?;
     }
+    Ok(())
+}
+
+// The means along a line. `copy` has the line and what it sees beyond its ends.
+fn blur_line(all: &mut [f64], line: Line, copy: &[f64]) {
     let mut sum = 0.0;
-    for i in 0..copy.len() {
+    for i in 0..copy.len().min(line.cells + 2 * RADIUS) {
         sum += copy[i];
         if i >= 2 * RADIUS {
             let cell = i - 2 * RADIUS;
-            let first = cell.saturating_sub(RADIUS);
-            let seen = if line.goes_round {
-                2 * RADIUS + 1
-            } else {
-                (cell + (RADIUS + 1)).min(line.cells).saturating_sub(first)
-            };
-            let at = line.from.wrapping_add(cell.wrapping_mul(line.step));
+            let at = line.place(cell);
             if at < all.len() {
-                all[at] = sum / nearest_usize_to_f64(seen.max(1));
+                all[at] = sum / nearest_usize_to_f64(line.seen_from(cell));
             }
             sum -= copy[cell];
         }
+    }
+}
+
+// The means along each row, in place.
+fn blur_rows(frame: Frame, all: &mut [f64], copy: &mut Vec<f64>) -> Result<(), AllocError> {
+    for y in 0..frame.height {
+        let row = Line {
+            from: y * frame.width,
+            step: 1,
+            cells: frame.width,
+            goes_round: frame.goes_round,
+        };
+        copy_line(all, row, copy)?;
+        blur_line(all, row, copy);
+    }
+    Ok(())
+}
+
+// The means along each column, in place.
+fn blur_columns(frame: Frame, all: &mut [f64], copy: &mut Vec<f64>) -> Result<(), AllocError> {
+    for x in 0..frame.width {
+        let column = Line {
+            from: x,
+            step: frame.width,
+            cells: frame.height,
+            goes_round: false,
+        };
+        copy_line(all, column, copy)?;
+        blur_line(all, column, copy);
     }
     Ok(())
 }
 
 fn blur(alloc: Global, frame: Frame, all: &mut [f64]) -> Result<(), AllocError> {
     let mut copy = Vec::new(alloc);
-    for y in 0..frame.height {
-        let line = Line {
-            from: y * frame.width,
-            step: 1,
-            cells: frame.width,
-            goes_round: frame.goes_round,
-        };
-        blur_line(all, line, &mut copy)?;
-    }
-    for x in 0..frame.width {
-        let line = Line {
-            from: x,
-            step: frame.width,
-            cells: frame.height,
-            goes_round: false,
-        };
-        blur_line(all, line, &mut copy)?;
+    blur_rows(frame, all, &mut copy)?;
+    blur_columns(frame, all, &mut copy)
+}
+
+// Adds the heights of a row to a list.
+fn push_heights(all: &mut Vec<f64>, row: &[u8]) -> Result<(), AllocError> {
+    for height in row {
+        all.push(f64::from(*height) - f64::from(LEVEL))?;
     }
     Ok(())
 }
 
 /// Local means of heights.
 pub(crate) fn density_of(alloc: Global, field: &Field) -> Result<Vec<f64>, AllocError> {
-    let frame = field.frame;
     let mut all = Vec::new(alloc);
-    for y in 0..frame.height {
-        for height in field.row(y) {
-            all.push(f64::from(*height) - f64::from(LEVEL))?;
-        }
+    for y in 0..field.frame.height {
+        push_heights(&mut all, field.row(y))?;
     }
-    blur(alloc, frame, &mut all)?;
-    blur(alloc, frame, &mut all)?;
+    blur(alloc, field.frame, &mut all)?;
+    blur(alloc, field.frame, &mut all)?;
     Ok(all)
 }
 
@@ -104,8 +147,30 @@ pub(crate) struct Known {
     pub(crate) found: Vec<f64>,
 }
 
+// The number at a place, or the usual one if there is none.
 fn at_or(all: &[f64], at: usize, usual: f64) -> f64 {
     all.get(at).copied().unwrap_or(usual)
+}
+
+impl Known {
+    // The density expected at a site of a pile of twice the size, in which a short side may be as long as here.
+    fn expected_at(&self, frame: Frame, x: usize, y: usize) -> f64 {
+        let across = if self.frame.width == frame.width {
+            1
+        } else {
+            2
+        };
+        let down = if self.frame.height == frame.height {
+            1
+        } else {
+            2
+        };
+        let at = (y / down)
+            .wrapping_mul(self.frame.width)
+            .wrapping_add(x / across);
+        let found = at_or(&self.found, at, USUAL);
+        found + TREND * (found - at_or(&self.expected, at, found))
+    }
 }
 
 /// The density expected of a pile from that of one of half its size: what was found there, and some of what that was
@@ -118,25 +183,10 @@ pub(crate) fn expected_from(
     let mut all = Vec::new(alloc);
     for y in 0..frame.height {
         for x in 0..frame.width {
-            let density = match half {
+            all.push(match half {
                 None => USUAL,
-                Some(known) => {
-                    let column = if known.frame.width == frame.width {
-                        x
-                    } else {
-                        x / 2
-                    };
-                    let row = if known.frame.height == frame.height {
-                        y
-                    } else {
-                        y / 2
-                    };
-                    let at = row.wrapping_mul(known.frame.width).wrapping_add(column);
-                    let found = at_or(&known.found, at, USUAL);
-                    found + 0.25 * (found - at_or(&known.expected, at, found))
-                }
-            };
-            all.push(density)?;
+                Some(known) => known.expected_at(frame, x, y),
+            })?;
         }
     }
     Ok(all)

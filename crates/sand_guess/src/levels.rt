@@ -2,7 +2,7 @@
 
 ghost use Rattle.std.specs.Prelude.{◌≤◌, ◌<◌};
 
-use crate::frame::Frame;
+use crate::frame::{Frame, run};
 use std::alloc::{AllocError, Global};
 
 /// A side that is no longer than this is not halved.
@@ -26,33 +26,37 @@ fn share_of(side: usize) -> usize
     if side > LEAST_SIDE { 2 } else { 1 }
 }
 
-// The mean of a cell's grains, in quarters.
+// The sum of heights.
+fn sum_of(heights: &[i64]) -> i64 {
+    let mut sum = 0i64;
+    for height in heights {
+        sum = sum.wrapping_add(*height);
+    }
+    sum
+}
+
+// The mean of a cell's grains, in quarters. At the end of an odd side a cell is made of fewer cells.
 fn quarters_at(level: &Level, across: usize, down: usize, x: usize, y: usize) -> i64
     requires column { x ≤ 256 }
     requires row { y ≤ 256 }
     requires across { across ≤ 2 }
     requires down { down ≤ 2 }
 {
+    let columns = across.min(level.frame.width.saturating_sub(across * x));
+    let rows = down.min(level.frame.height.saturating_sub(down * y));
     let mut sum = 0i64;
-    let mut cells = 0i64;
-    for dy in 0..down {
-        for dx in 0..across {
-            let (column, row) = (across * x + dx, down * y + dy);
-            let at = row * level.frame.width + column;
-            if column < level.frame.width && row < level.frame.height && at < level.start.len() {
-                sum = sum.wrapping_add(level.start[at]);
-                cells = cells.wrapping_add(1);
-            }
-        }
+    for row in down * y..down * y + rows {
+        let from = row * level.frame.width + across * x;
+        sum = sum.wrapping_add(sum_of(run(&level.start, from, columns)));
     }
-    match cells {
+    match rows * columns {
         1 => sum.wrapping_mul(4),
         2 => sum.wrapping_mul(2),
         _ => sum,
     }
 }
 
-/// A pile of half the size, or None where that would help no more.
+/// A pile of half the size, or None if neither side is halved.
 pub(crate) fn halved(alloc: Global, level: &Level) -> Result<Option<Level>, AllocError> {
     let frame = level.frame;
     let across = share_of(frame.width);

@@ -79,7 +79,29 @@ pub(crate) fn multiply(source: &[f64], columns: usize, blocks: &[f64], out: &mut
     }
 }
 
-/// A list of rows of `width` numbers as a matrix of so many columns in blocks, filled up with zeros; or, where it is
+// Adds a block of four columns from one on, row by row. Outside the list it is filled up with zeros.
+fn push_block(
+    blocks: &mut Vec<f64>,
+    values: &[f64],
+    width: usize,
+    columns: usize,
+    first: usize,
+    is_turned: bool,
+) -> Result<(), AllocError>
+    requires few { columns ≤ 512 }
+    requires block { first ≤ 512 }
+{
+    for place in 0..BLOCK * columns {
+        let (k, x) = (place / BLOCK, first + place % BLOCK);
+        let (row, column) = if is_turned { (x, k) } else { (k, x) };
+        let at = row.wrapping_mul(width).wrapping_add(column);
+        let is_inside = row < width && column < width && at < values.len();
+        blocks.push(if is_inside { values[at] } else { 0.0 })?;
+    }
+    Ok(())
+}
+
+/// A list of rows of `width` numbers as a matrix of so many columns in blocks, filled up with zeros; or, if it is
 /// turned, with its rows as columns.
 pub(crate) fn in_blocks(
     alloc: Global,
@@ -92,15 +114,14 @@ pub(crate) fn in_blocks(
 {
     let mut blocks = Vec::new(alloc);
     for block in 0..columns / BLOCK {
-        for k in 0..columns {
-            for lane in 0..BLOCK {
-                let x = BLOCK * block + lane;
-                let (row, column) = if is_turned { (x, k) } else { (k, x) };
-                let at = row.wrapping_mul(width).wrapping_add(column);
-                let is_inside = row < width && column < width && at < values.len();
-                blocks.push(if is_inside { values[at] } else { 0.0 })?;
-            }
-        }
+        push_block(
+            &mut blocks,
+            values,
+            width,
+            columns,
+            BLOCK * block,
+            is_turned,
+        )?;
     }
     Ok(blocks)
 }

@@ -13,10 +13,10 @@ use crate::solver::Solver;
 use std::alloc::{AllocError, Global};
 use std::num::{nearest_i64_to_f64, saturating_f64_to_i64};
 
-// How often Lu = r is solved for what is left, and how often heights are evened out after each, before a guess is given
-// up. Nearly always the first solve does.
+// How often Lu = r is solved for what is left before a guess is given up. Nearly always the first solve does.
 const SOLVES: usize = 3;
 
+// How often heights are evened out after each solve.
 const EVENINGS: usize = 30;
 
 // How often sweeps and single topplings follow one another, and how often counts are lowered.
@@ -47,6 +47,20 @@ fn add_rounded(counts: &mut [i64], least: i64, numbers: &[f64], factor: f64) {
     }
 }
 
+// How far each height is above the expected one and the excess.
+fn rest_of(
+    alloc: Global,
+    left: &[i64],
+    expected: &[f64],
+    excess: f64,
+) -> Result<Vec<f64>, AllocError> {
+    let mut rest = Vec::new(alloc);
+    for at in 0..left.len().min(expected.len()) {
+        rest.push(nearest_i64_to_f64(left[at]) - expected[at] - excess)?;
+    }
+    Ok(rest)
+}
+
 impl Repair {
     pub(crate) fn new(alloc: Global, frame: Frame) -> Result<Repair, AllocError> {
         let fire = Fire::new(alloc, frame)?;
@@ -66,6 +80,17 @@ impl Repair {
         self.field.put(&self.left)
     }
 
+    // Evens out heights until they fit, and says whether they do.
+    fn even_out(&mut self, level: &Level) -> bool {
+        for _ in 0..EVENINGS {
+            if self.look(level) {
+                return true;
+            }
+            smooth(level, &mut self.counts, &mut self.left);
+        }
+        self.look(level)
+    }
+
     /// Counts that leave heights near the expected ones; says whether they do so near enough.
     pub(crate) fn begin(
         &mut self,
@@ -77,20 +102,11 @@ impl Repair {
     ) -> Result<bool, AllocError> {
         for _ in 0..SOLVES {
             subtract(level.frame, &level.start, &self.counts, &mut self.left);
-            let mut rest = Vec::new(alloc);
-            for at in 0..self.left.len().min(expected.len()) {
-                rest.push(nearest_i64_to_f64(self.left[at]) - expected[at] - excess)?;
-            }
+            let mut rest = rest_of(alloc, &self.left, expected, excess)?;
             solver.solve(alloc, &mut rest)?;
             add_rounded(&mut self.counts, level.least, &rest, 1.0);
-            if self.look(level) {
+            if self.even_out(level) {
                 return Ok(true);
-            }
-            for _ in 0..EVENINGS {
-                smooth(level, &mut self.counts, &mut self.left);
-                if self.look(level) {
-                    return Ok(true);
-                }
             }
         }
         Ok(false)
@@ -120,7 +136,7 @@ impl Repair {
         false
     }
 
-    /// Makes the counts right, and says whether it came to an end. Where topplings have to be taken back over and over,
+    /// Makes the counts right, and says whether it came to an end. If topplings have to be taken back over and over,
     /// counts are lowered by what a higher density would have made of them where the last fire left sites.
     pub(crate) fn finish(
         &mut self,
