@@ -26,6 +26,7 @@ pub(crate) struct Border {
     /// By cell the cell of the site that it stands for: itself, or in the edge of a row that goes round the cell at the
     /// row's other end. No cell for the rest of the edge.
     pub(crate) home: Vec<u32>,
+    ghost wide: { 1 ≤ stride },
     ghost narrow: { stride ≤ 258 },
 }
 
@@ -42,19 +43,24 @@ fn column_of(frame: Frame, x: usize) -> Option<usize> {
     }
 }
 
+// Adds the homes of a row of cells. In the row above the first row of sites and in that below the last there are none.
+fn push_row(home: &mut Vec<u32>, frame: Frame, has_sites: bool) -> Result<(), AllocError> {
+    let from = home.len();
+    for x in 0..frame.width + 2 {
+        home.push(match column_of(frame, x) {
+            Some(column) if has_sites => cell_number(from.wrapping_add(column)),
+            _ => NOWHERE,
+        })?;
+    }
+    Ok(())
+}
+
 impl Border {
     pub(crate) fn new(alloc: Global, frame: Frame) -> Result<Border, AllocError> {
         let stride = frame.width + 2;
         let mut home = Vec::with_capacity(alloc, stride * (frame.height + 2))?;
         for y in 0..frame.height + 2 {
-            let from = home.len();
-            let is_row = y >= 1 && y <= frame.height;
-            for x in 0..stride {
-                home.push(match column_of(frame, x) {
-                    Some(column) if is_row => cell_number(from.wrapping_add(column)),
-                    _ => NOWHERE,
-                })?;
-            }
+            push_row(&mut home, frame, y >= 1 && y <= frame.height)?;
         }
         Ok(Border {
             frame,
@@ -91,6 +97,13 @@ impl Border {
             at.wrapping_add(1),
             at.wrapping_add(self.stride),
         ]
+    }
+
+    /// The site of a cell that is not of the edge.
+    pub(crate) fn site_of(&self, at: usize) -> usize {
+        let row = (at / self.stride).saturating_sub(1);
+        let column = (at % self.stride).saturating_sub(1);
+        row.wrapping_mul(self.frame.width).wrapping_add(column)
     }
 
     pub(crate) fn cells(&self) -> usize {

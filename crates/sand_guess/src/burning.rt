@@ -30,7 +30,7 @@ pub(crate) struct Fire {
     burnt: usize,
 }
 
-// The four cells round each cell of a row: above, west, east and below.
+// The four cells around each cell of a row: above, west, east and below.
 #[derive(Clone, Copy)]
 struct Around<'a> {
     above: &'a [u8],
@@ -67,7 +67,7 @@ impl Around<'_> {
     }
 }
 
-// The cells round those of a row that begins at `first`.
+// The cells around those of a row that begins at `first`.
 fn around_row(marks: &[u8], first: usize, width: usize, stride: usize) -> Around<'_> {
     Around {
         above: run(marks, first.wrapping_sub(stride), width),
@@ -122,6 +122,22 @@ fn list_if(order: &mut [u32], burnt: usize, at: usize, burns: bool) -> usize {
     }
     order[burnt] = cell_number(at);
     burnt.wrapping_add(usize::from(burns))
+}
+
+// Lists the cells of a row that burn at once, after `burnt` others, and returns how many burn then.
+fn kindle_row(row: &[u8], order: &mut [u32], burnt: usize, first: usize) -> usize {
+    let mut burnt = burnt;
+    for (x, room) in row.iter().enumerate() {
+        burnt = list_if(order, burnt, first.wrapping_add(x), *room >= LEVEL);
+    }
+    burnt
+}
+
+fn push_marks(left: &mut Vec<f64>, marks: &[u8]) -> Result<(), AllocError> {
+    for mark in marks {
+        left.push(f64::from(*mark))?;
+    }
+    Ok(())
 }
 
 // A neighbour of this cell burns; if that lets its site burn, the site is listed. Cells without a mark never come so far.
@@ -206,10 +222,7 @@ impl Fire {
         for y in 0..self.border.frame.height {
             let first = self.border.first_of(y);
             let row = run(&self.room, first, self.border.frame.width);
-            for (x, room) in row.iter().enumerate() {
-                let at = first.wrapping_add(x);
-                self.burnt = list_if(&mut self.order, self.burnt, at, *room >= LEVEL);
-            }
+            self.burnt = kindle_row(row, &mut self.order, self.burnt, first);
         }
     }
 
@@ -278,37 +291,25 @@ impl Fire {
         false
     }
 
-    /// By site 1 where the last fire left it, and 0 elsewhere.
+    /// By site 1 if the last fire left it, and else 0.
     pub(crate) fn unburnt(&self, alloc: Global) -> Result<Vec<f64>, AllocError> {
         let mut left = Vec::with_capacity(alloc, self.border.frame.sites())?;
         for y in 0..self.border.frame.height {
-            for mark in run(
-                &self.marks,
-                self.border.first_of(y),
-                self.border.frame.width,
-            ) {
-                left.push(f64::from(*mark))?;
-            }
+            let first = self.border.first_of(y);
+            push_marks(&mut left, run(&self.marks, first, self.border.frame.width))?;
         }
         Ok(left)
     }
 
-    /// By site the turn at which it burns, from 1 on, or 0 where it does not.
+    /// By site the turn at which it burns, from 1 on, or 0 if it does not.
     pub(crate) fn turns(&self, alloc: Global) -> Result<Vec<u32>, AllocError> {
         let mut turns = vec![in alloc; 0u32; self.border.frame.sites()]?;
         let mut turn = 0u32;
         for at in run(&self.order, 0, self.burnt) {
             turn = turn.wrapping_add(1);
-            let at = *at as usize;
-            if self.border.stride > 0 {
-                let row = (at / self.border.stride).saturating_sub(1);
-                let column = (at % self.border.stride).saturating_sub(1);
-                let site = row
-                    .wrapping_mul(self.border.frame.width)
-                    .wrapping_add(column);
-                if site < turns.len() {
-                    turns[site] = turn;
-                }
+            let site = self.border.site_of(*at as usize);
+            if site < turns.len() {
+                turns[site] = turn;
             }
         }
         Ok(turns)

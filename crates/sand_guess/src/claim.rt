@@ -13,6 +13,9 @@ use std::alloc::{AllocError, Global};
 // A guess leaves so many grains a site too many, since toppling them off is cheaper than taking topplings back.
 const EXCESS: f64 = 0.015;
 
+// More halvings than a side takes.
+const MOST_HALVINGS: usize = 6;
+
 /// By site how often it topples, and the turn at which it burns, as a claim.
 #[derive(Debug, Drop)]
 pub struct Claim {
@@ -47,7 +50,7 @@ fn empty_level(alloc: Global, shape: Shape) -> Result<Level, AllocError> {
 fn levels_from(alloc: Global, first: Level) -> Result<Vec<Level>, AllocError> {
     let mut levels = Vec::new(alloc);
     let mut level = first;
-    for _ in 0..6 {
+    for _ in 0..MOST_HALVINGS {
         let Some(half) = halved(alloc, &level)? else {
             break;
         };
@@ -83,7 +86,7 @@ fn repaired(
 fn repaired_first(alloc: Global, levels: Vec<Level>) -> Result<Option<Repair>, AllocError> {
     let mut levels = levels;
     let mut half = None;
-    for _ in 0..7 {
+    for _ in 0..MOST_HALVINGS + 1 {
         let Some(level) = levels.pop() else {
             break;
         };

@@ -17,6 +17,9 @@ pub(crate) const UNSTABLE: u8 = 132;
 // Heights fit from as far below 0 to as far above: a byte then has room for what comes in one sweep.
 const MOST: u64 = 90;
 
+// All bits of a byte. A height that does not fit loses its other bits, and is not used.
+const BYTE_BITS: u64 = 0xff;
+
 /// How many bytes are toppled at once.
 pub(crate) const LANES: usize = 32;
 
@@ -36,6 +39,28 @@ pub(crate) struct Field {
     /// Topplings that are not counted yet.
     pub(crate) uncounted: Vec<u8>,
     ghost narrow: { stride ≤ 512 },
+}
+
+// Takes the heights of a row over, and returns how far above -MOST one of them is at most. One below that counts as far
+// above it.
+#[inline(always)]
+fn put_row(row: &mut [u8], heights: &[i64]) -> u64 {
+    let mut far = 0u64;
+    for x in 0..row.len().min(heights.len()) {
+        let byte = heights[x].wrapping_add(i64::from(LEVEL)).cast_unsigned();
+        far = far.max(byte.wrapping_sub(u64::from(LEVEL) - MOST));
+        row[x] = (byte & BYTE_BITS) as u8;
+    }
+    far
+}
+
+#[inline(always)]
+fn highest(row: &[u8]) -> u8 {
+    let mut most = 0u8;
+    for height in row {
+        most = most.max(*height);
+    }
+    most
 }
 
 impl Field {
@@ -69,11 +94,7 @@ impl Field {
         for y in 0..self.frame.height {
             let from = run(heights, y.wrapping_mul(width), width);
             let row = run_mut(&mut self.heights, y.wrapping_mul(self.stride), width);
-            for x in 0..row.len().min(from.len()) {
-                let byte = from[x].wrapping_add(i64::from(LEVEL)).cast_unsigned();
-                far = far.max(byte.wrapping_sub(u64::from(LEVEL) - MOST));
-                row[x] = (byte & 0xff) as u8;
-            }
+            far = far.max(put_row(row, from));
         }
         far <= 2 * MOST
     }
@@ -82,9 +103,7 @@ impl Field {
     pub(crate) fn is_stable(&self) -> bool {
         let mut most = 0u8;
         for y in 0..self.frame.height {
-            for height in self.row(y) {
-                most = most.max(*height);
-            }
+            most = most.max(highest(self.row(y)));
         }
         most < UNSTABLE
     }

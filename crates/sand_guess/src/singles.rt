@@ -92,6 +92,28 @@ fn topple_wave(
     len
 }
 
+// Takes the heights of a row over, whose first cell is `first`, and lists the sites that may topple. Returns how many
+// cells the wave has then.
+fn begin_row(row: &mut [u8], heights: &[u8], wave: &mut [u32], len: usize, first: usize) -> usize {
+    let mut len = len;
+    for (x, height) in heights.iter().enumerate() {
+        if x < row.len() && len < wave.len() {
+            row[x] = *height;
+            wave[len] = cell_number(first.wrapping_add(x));
+            len = len.wrapping_add(usize::from(*height >= UNSTABLE));
+        }
+    }
+    len
+}
+
+// Adds the topplings of a row to the counts, and forgets them.
+fn count_row(counts: &mut [i64], times: &mut [u32]) {
+    for x in 0..counts.len().min(times.len()) {
+        counts[x] = counts[x].wrapping_add(i64::from(times[x]));
+        times[x] = 0;
+    }
+}
+
 impl Singles {
     pub(crate) fn new(alloc: Global, border: &Border) -> Result<Singles, AllocError> {
         let cells = border.cells();
@@ -109,13 +131,7 @@ impl Singles {
         for y in 0..border.frame.height {
             let first = border.first_of(y);
             let row = run_mut(&mut self.heights, first, border.frame.width);
-            for (x, height) in field.row(y).iter().enumerate() {
-                if x < row.len() && len < self.wave.len() {
-                    row[x] = *height;
-                    self.wave[len] = cell_number(first.wrapping_add(x));
-                    len = len.wrapping_add(usize::from(*height >= UNSTABLE));
-                }
-            }
+            len = begin_row(row, field.row(y), &mut self.wave, len, first);
         }
         len
     }
@@ -126,10 +142,7 @@ impl Singles {
         for y in 0..border.frame.height {
             let row = run_mut(counts, y.wrapping_mul(width), width);
             let times = run_mut(&mut self.times, border.first_of(y), width);
-            for x in 0..row.len().min(times.len()) {
-                row[x] = row[x].wrapping_add(i64::from(times[x]));
-                times[x] = 0;
-            }
+            count_row(row, times);
         }
     }
 

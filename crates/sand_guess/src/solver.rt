@@ -97,6 +97,14 @@ fn substitute_all(columns: usize, shares: &[f64], all: &mut [f64], rows: usize) 
     }
 }
 
+// Adds a row, filled up with zeros.
+fn push_row(all: &mut Vec<f64>, row: &[f64], columns: usize) -> Result<(), AllocError> {
+    for x in 0..columns {
+        all.push(if x < row.len() { row[x] } else { 0.0 })?;
+    }
+    Ok(())
+}
+
 impl Solver {
     pub(crate) fn new(alloc: Global, frame: Frame) -> Result<Solver, AllocError> {
         let columns = rounded_up(frame.width);
@@ -121,10 +129,7 @@ impl Solver {
         let mut all = Vec::with_capacity(alloc, self.rows * self.columns)?;
         for y in 0..self.rows {
             let row = run(numbers, y.wrapping_mul(self.frame.width), self.frame.width);
-            for x in 0..self.columns {
-                let is_inside = y < self.frame.height && x < row.len();
-                all.push(if is_inside { row[x] } else { 0.0 })?;
-            }
+            push_row(&mut all, row, self.columns)?;
         }
         Ok(all)
     }

@@ -4,6 +4,10 @@
 //! their way to a row are added only when the sweep comes by: from the row above those of this sweep, from the row
 //! itself and the one below those of the sweep before. So a row is read and written once a sweep. Several sweeps go
 //! over the grid in a wave, each two rows behind the one before, while the rows are at hand.
+//!
+//! Most of the time of a guess is spent here, so the neighbours are not those of `border`: topplings are in rows with one
+//! cell more at either end, heights in rows of whole lanes, and a step reads the cells around 32 sites at once. The lanes
+//! are written out, since the compiler would topple one site after another.
 
 ghost use Rattle.std.specs.Prelude.{◌<◌};
 
@@ -16,6 +20,15 @@ const DEPTH: usize = 4;
 
 // How many waves there are before a repair gives up.
 const MOST_WAVES: usize = 10_000;
+
+// How often a byte topples at most in a sweep.
+const MOST_TIMES: usize = 31;
+
+// Waves end if fewer than one site in so many topples, since single topplings are faster then.
+const SITES_FOR_ONE: usize = 64;
+
+// After so many waves the sites that topple are counted again.
+const WAVES_A_LOOK: usize = 8;
 
 // Topples a row: `heights`, `inside`, `uncounted` from the first column on, the others from one cell before it.
 #[inline(always)]
@@ -96,6 +109,24 @@ fn clear(bytes: &mut [u8]) {
     }
 }
 
+// How many sites of a row toppled.
+#[inline(always)]
+fn active_in(row: &[u8]) -> u32 {
+    let mut found = 0u32;
+    for times in row {
+        found = found.wrapping_add(u32::from(*times > 0));
+    }
+    found
+}
+
+// Adds the topplings of a row to the counts.
+#[inline(always)]
+fn count_row(counts: &mut [i64], more: &[u8]) {
+    for x in 0..counts.len().min(more.len()) {
+        counts[x] = counts[x].wrapping_add(i64::from(more[x]));
+    }
+}
+
 impl Field {
     // How many sites toppled in the last sweep.
     fn active(&self) -> u32 {
@@ -103,9 +134,7 @@ impl Field {
         let cells = self.stride + 2;
         for y in 0..self.frame.height {
             let from = y.wrapping_add(1).wrapping_mul(cells).wrapping_add(1);
-            for times in run(&self.last, from, self.frame.width) {
-                found = found.wrapping_add(u32::from(*times > 0));
-            }
+            found = found.wrapping_add(active_in(run(&self.last, from, self.frame.width)));
         }
         found
     }
@@ -147,15 +176,23 @@ impl Field {
         }
     }
 
-    // Some sweeps, each two rows behind the one before. Returns all numbers of topplings, joined bit by bit.
+    // Lets each sweep of a wave topple a row, two rows behind the sweep before, if it is on the grid.
+    #[inline(always)]
+    fn step(&mut self, step: usize) -> u8 {
+        let mut seen = 0u8;
+        for sweep in 0..DEPTH {
+            if step >= 2 * sweep && step - 2 * sweep < self.frame.height {
+                seen |= self.sweep_row(step - 2 * sweep, sweep % 2 == 1);
+            }
+        }
+        seen
+    }
+
+    // A wave of sweeps. Returns all numbers of topplings, joined bit by bit.
     fn wave(&mut self) -> u8 {
         let mut seen = 0u8;
         for step in 0..self.frame.height + 2 * DEPTH {
-            for sweep in 0..DEPTH {
-                if step >= 2 * sweep && step - 2 * sweep < self.frame.height {
-                    seen |= self.sweep_row(step - 2 * sweep, sweep % 2 == 1);
-                }
-            }
+            seen |= self.step(step);
         }
         seen
     }
@@ -165,10 +202,10 @@ impl Field {
         let width = self.frame.width;
         for y in 0..self.frame.height {
             let row = run_mut(counts, y.wrapping_mul(width), width);
-            let more = run_mut(&mut self.uncounted, y.wrapping_mul(self.stride), width);
-            for x in 0..row.len().min(more.len()) {
-                row[x] = row[x].wrapping_add(i64::from(more[x]));
-            }
+            count_row(
+                row,
+                run(&self.uncounted, y.wrapping_mul(self.stride), width),
+            );
         }
         clear(&mut self.uncounted);
     }
@@ -177,10 +214,10 @@ impl Field {
     pub(crate) fn sweep(&mut self, counts: &mut [i64]) {
         clear(&mut self.last);
         clear(&mut self.before);
-        let few = self.frame.sites() / 64;
+        let few = self.frame.sites() / SITES_FOR_ONE;
         // No byte of `uncounted` is above `bound`. One sweep more adds `most` to it, by what the last wave was seen to do.
         let mut bound = 0usize;
-        let mut most = 31usize;
+        let mut most = MOST_TIMES;
         for round in 0..MOST_WAVES {
             if bound.saturating_add(most.saturating_mul(2 * DEPTH)) > 255 {
                 self.count(counts);
@@ -189,7 +226,8 @@ impl Field {
             let seen = self.wave();
             most = usize::from(seen);
             bound = bound.saturating_add(most.saturating_mul(DEPTH));
-            if seen == 0 || (round % 8 == 7 && (self.active() as usize) < few) {
+            let is_look = round % WAVES_A_LOOK == WAVES_A_LOOK - 1;
+            if seen == 0 || (is_look && (self.active() as usize) < few) {
                 break;
             }
         }

@@ -1,4 +1,4 @@
-//! The waves along a row that toppling keeps: sines where the row's ends are open, sines and cosines where it goes
+//! The waves along a row that toppling keeps: sines if the row's ends are open, sines and cosines if it goes
 //! round.
 //!
 //! Each wave v has neighbours' sums that are a multiple of v, so in these waves Lu = r falls apart into one line of
@@ -12,13 +12,16 @@ use std::num::nearest_usize_to_f64;
 
 const PI: f64 = 3.141592653589793;
 
+// So many terms of the series after the first give a sine up to half pi to the last bit or nearly so.
+const TERMS: usize = 12;
+
 // The sine of x, for x from 0 to half pi.
 fn sine(x: f64) -> f64 {
     let square = x * x;
     let mut term = x;
     let mut sum = x;
     let mut n = 1.0;
-    for _ in 0..12 {
+    for _ in 0..TERMS {
         term = -(term * square) / ((2.0 * n) * (2.0 * n + 1.0));
         sum += term;
         n += 1.0;
@@ -96,7 +99,7 @@ fn open_waves(alloc: Global, width: usize) -> Result<Waves, AllocError>
     Ok(Waves { values, own })
 }
 
-// Sines and cosines of as many turns as fit: of `turns` turns the cosine, and the sine where that is not 0 everywhere.
+// Sines and cosines of as many turns as fit: of `turns` turns the cosine, and the sine if that is not 0 everywhere.
 fn round_waves(alloc: Global, width: usize) -> Result<Waves, AllocError>
     requires { width ≤ 256 }
 {
