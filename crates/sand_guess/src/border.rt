@@ -87,8 +87,7 @@ impl Border {
         }
     }
 
-    /// The four cells around a cell. Where a cell of the edge has none, it is far beyond the last cell, or a cell of the edge
-    /// again.
+    /// The cells north, west, east and south of a cell of the grid.
     #[inline(always)]
     pub(crate) fn around(&self, at: usize) -> [usize; 4] {
         [

@@ -1,4 +1,5 @@
-//! The density of a settled pile: local means of its heights, and what they tell of a pile of twice the size.
+//! The density of a settled pile: local means of its heights, and what is expected from them of a pile of twice
+//! the size.
 
 ghost use Rattle.std.specs.Prelude.{◌≤◌, ◌<◌};
 
@@ -32,7 +33,7 @@ impl Line {
         self.from.wrapping_add(cell.wrapping_mul(self.step))
     }
 
-    // The cell that is i - RADIUS cells beyond the first: round the line as often as it takes, or no cell of it.
+    // The cell that is i - RADIUS cells beyond the first: around the line as often as it takes, or no cell of it.
     fn cell_at(self, i: usize) -> usize
         requires { i ≤ 1024 }
     {

@@ -3,7 +3,7 @@
 //! Nothing here is claimed to be right: each function is proved to be safe and to return, and that is all. A wrong
 //! guess costs time and never changes a result: it is used only if it is certified (`sand_certify`), else sand topples.
 //!
-//! The method is that of Friedrich and Levine 2010, "Fast simulation of large-scale growth models": where the settled
+//! The method is that of Friedrich and Levine 2010, "Fast simulation of large-scale growth models": if the settled
 //! heights t were known, the counts u would solve Lu = s - t. On a scale of some sites t has a density that is nearly
 //! that of a pile of half the size with the same grains a site. So:
 //!

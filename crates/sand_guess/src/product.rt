@@ -1,7 +1,7 @@
 //! Products of matrices, four rows and four columns at a time.
 //!
-//! A right factor lies in blocks of four columns, each block row by row, so that a block stays at hand while all rows
-//! of the left factor pass it. Sizes are multiples of four.
+//! A right factor is kept in blocks of four columns, each block row by row, so that a block stays in the cache while all
+//! rows of the left factor pass it. Sizes are multiples of four.
 
 ghost use Rattle.std.specs.Prelude.{◌≤◌, ◌<◌};
 

@@ -1,7 +1,10 @@
 //! The heights s - Lu that counts leave, in whole numbers.
 //!
 //! The solve is in floating point, but what is left of the start is always computed from it anew and exactly. So
-//! however large the counts are, an error of rounding stands in the residual and is solved for again.
+//! however large the counts are, an error of rounding is in the residual and is solved for again.
+//!
+//! Counts are listed by site, without an edge: a row is added as a whole to the one above or below, and shifted by a cell
+//! for its sides, which the compiler does for many cells at once.
 
 ghost use Rattle.std.specs.Prelude.{◌≤◌, ◌<◌};
 
@@ -23,7 +26,7 @@ fn add_row(row: &mut [i64], counts: &[i64]) {
     }
 }
 
-// Adds the counts west and east, and beyond the seam where there is one.
+// Adds the counts west and east, and beyond the seam if there is one.
 fn add_sides(row: &mut [i64], counts: &[i64], goes_round: bool) {
     let cells = row.len().min(counts.len());
     if cells == 0 {

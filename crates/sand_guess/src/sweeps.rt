@@ -3,7 +3,7 @@
 //! A sweep goes over the rows from north to south, and each site topples as often as it may. The grains that are on
 //! their way to a row are added only when the sweep comes by: from the row above those of this sweep, from the row
 //! itself and the one below those of the sweep before. So a row is read and written once a sweep. Several sweeps go
-//! over the grid in a wave, each two rows behind the one before, while the rows are at hand.
+//! over the grid in a wave, each two rows behind the one before, while the rows are in the cache.
 //!
 //! Most of the time of a guess is spent here, so the neighbours are not those of `border`: topplings are in rows with one
 //! cell more at either end, heights in rows of whole lanes, and a step reads the cells around 32 sites at once. The lanes
@@ -21,7 +21,7 @@ const DEPTH: usize = 4;
 // How many waves there are before a repair gives up.
 const MOST_WAVES: usize = 10_000;
 
-// How often a byte topples at most in a sweep.
+// How often a byte topples at most in a sweep: it is at most 127 above `LEVEL`, and a toppling takes 4.
 const MOST_TIMES: usize = 31;
 
 // Waves end if fewer than one site in so many topples, since single topplings are faster then.
