@@ -1,7 +1,7 @@
 //! The help of the program lists its faults as they are reported.
 
-use crate::runs::words_of;
 use sand_desk::{DeskFault, run_command, show_help};
+use sand_testing::words::words_of;
 use std::test::Fail;
 
 // The places of faults are 0 here, and `N` in help.
