@@ -1,4 +1,4 @@
-//! Tests that cross crates: whole commands over memory, and over readers and writers that stop.
+//! The tests of whole commands, over memory, and over readers and writers that stop.
 //!
 //! `stopping` has these readers and writers. They are not tests: each says its bytes, and is proved to.
 #![tactic(auto)]

@@ -11,7 +11,9 @@ pub fn is_record(
     odometer: &[u64],
     lost: u64,
 ) -> bool {
-    let topplings = odometer.iter().fold(0u64, |sum, count| sum.wrapping_add(*count));
+    let topplings = odometer
+        .iter()
+        .fold(0u64, |sum, count| sum.wrapping_add(*count));
     record.history() == history
         && record.pile().heights() == heights
         && record.odometers() == odometer
