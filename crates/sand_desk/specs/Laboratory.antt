@@ -47,7 +47,8 @@ pub record IsLabText (w : Wish) (journal : Bool) (form : Form) (input text : Lis
 
 -- without its journal there is one text for an input, a seed, and numbers of droppers, drops and epochs
 abbrev pub OneLabText : Type 0
-OneLabText = (w v : Wish) (form : Form) (input one other : List ℕ) → AskTheSame w v → IsLabText w false form input one → IsLabText v false form input other → one ≡ other
+OneLabText = (w v : Wish) (form : Form) (input one other : List ℕ) → AskTheSame w v
+    → IsLabText w false form input one → IsLabText v false form input other → one ≡ other
 
 -- the grains of the pile, with all drops, exceed the limit
 pub record IsOvergrown (w : Wish) (input : List ℕ) : Type 0 where

@@ -82,8 +82,10 @@ pub fn run_command<T: Threads + Sync, R: Read, W: Write>(
     writer: &mut W,
 ) -> Result<(), DeskFault>
     requires { 0 < length words.now }
-    ensures done { OnOk result (IsDone (asked (map string_bytes words.now)) (R.remaining reader.old) (R.remaining reader.new) (W.contents writer.old) (W.contents writer.new)) }
-    ensures fault { IfErr result (EndsBy (asked (map string_bytes words.now)) (R.remaining reader.old) (R.remaining reader.new) (W.contents writer.old) (W.contents writer.new)) }
+    ensures done { OnOk result (IsDone (asked (map string_bytes words.now))
+        (R.remaining reader.old) (R.remaining reader.new) (W.contents writer.old) (W.contents writer.new)) }
+    ensures fault { IfErr result (EndsBy (asked (map string_bytes words.now))
+        (R.remaining reader.old) (R.remaining reader.new) (W.contents writer.old) (W.contents writer.new)) }
     ensures help { IfErr result (HelpsIfAsked (map string_bytes words.now)) }
 {
     let task = task_of(alloc, words)?;

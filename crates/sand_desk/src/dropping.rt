@@ -43,8 +43,10 @@ fn drop_drawn(
     draw: Draw,
 ) -> Result<Vec<(u64, Avalanche)>, DeskFault>
     requires { IsDraw draw }
-    ensures rows { IfOk result (λ rows. AreRows pile.old (stream_sites (sites (grid_of_one_pile pile.old)) draw.seed draw.stream draw.count) rows.items pile.new) }
-    ensures after { OnOk result ((start : PileView) → IsAfter start [] pile.old → IsAfter start (stream_sites (sites (grid_of_one_pile pile.old)) draw.seed draw.stream draw.count) pile.new) }
+    ensures rows { IfOk result (λ rows.
+        AreRows pile.old (stream_sites (sites (grid_of_one_pile pile.old)) draw.seed draw.stream draw.count) rows.items pile.new) }
+    ensures after { OnOk result ((start : PileView) → IsAfter start [] pile.old
+        → IsAfter start (stream_sites (sites (grid_of_one_pile pile.old)) draw.seed draw.stream draw.count) pile.new) }
     ensures fault { IfErr result (IsDropFault (pile.old.grains + draw.count)) }
 {
     let mut reader = SiteReader::new(pile.pile().shape(), draw.seed, draw.stream);

@@ -1,6 +1,6 @@
 //! The grid at one of the sizes, and parts of lists that are its rows.
 
-ghost use Rattle.std.specs.Prelude.{◌≤◌, ◌*◌, ◌≡◌};
+ghost use Rattle.std.specs.Prelude.{◌<◌, ◌≤◌, ◌*◌, ◌≡◌};
 
 use sand_model::{Edge, GRAIN_LIMIT, Shape};
 
@@ -16,6 +16,7 @@ pub(crate) struct Frame {
     pub(crate) width: usize,
     pub(crate) height: usize,
     pub(crate) goes_round: bool,
+    ghost some: { 0 < width },
     ghost narrow: { width ≤ 256 },
     ghost short: { height ≤ 256 },
 }

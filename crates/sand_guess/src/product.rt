@@ -94,9 +94,8 @@ fn push_block(
     for place in 0..BLOCK * columns {
         let (k, x) = (place / BLOCK, first + place % BLOCK);
         let (row, column) = if is_turned { (x, k) } else { (k, x) };
-        let at = row.wrapping_mul(width).wrapping_add(column);
-        let is_inside = row < width && column < width && at < values.len();
-        blocks.push(if is_inside { values[at] } else { 0.0 })?;
+        let line = run(values, row.wrapping_mul(width), width);
+        blocks.push(line.get(column).copied().unwrap_or(0.0))?;
     }
     Ok(())
 }

@@ -6,7 +6,7 @@
 
 ghost use Rattle.std.specs.Prelude.{◌≤◌, ◌<◌};
 
-use crate::frame::{Frame, run};
+use crate::frame::{Frame, run, run_mut};
 use crate::product::{BLOCK, in_blocks, multiply};
 use crate::waves::{Waves, waves_of};
 use std::alloc::{AllocError, Global};
@@ -97,6 +97,12 @@ fn substitute_all(columns: usize, shares: &[f64], all: &mut [f64], rows: usize) 
     }
 }
 
+fn copy_row(to: &mut [f64], row: &[f64]) {
+    for (number, value) in to.iter_mut().zip(row.iter()) {
+        *number = *value;
+    }
+}
+
 // Adds a row, filled up with zeros.
 fn push_row(all: &mut Vec<f64>, row: &[f64], columns: usize) -> Result<(), AllocError> {
     for x in 0..columns {
@@ -136,13 +142,10 @@ impl Solver {
 
     // The first numbers of each row.
     fn cut(&self, all: &[f64], numbers: &mut [f64]) {
-        let mut from = 0usize;
-        for (at, number) in numbers.iter_mut().enumerate() {
-            if at > 0 && self.frame.width > 0 && at % self.frame.width == 0 {
-                from = from.wrapping_add(self.columns - self.frame.width.min(self.columns));
-            }
-            let place = from.wrapping_add(at);
-            *number = if place < all.len() { all[place] } else { 0.0 };
+        let width = self.frame.width;
+        for y in 0..self.frame.height {
+            let row = run(all, y.wrapping_mul(self.columns), width);
+            copy_row(run_mut(numbers, y.wrapping_mul(width), width), row);
         }
     }
 

@@ -4,7 +4,7 @@
 //! Each wave v has neighbours' sums that are a multiple of v, so in these waves Lu = r falls apart into one line of
 //! equations along y for each wave. The waves are orthogonal and of length 1.
 
-ghost use Rattle.std.specs.Prelude.{◌≤◌, ◌<◌};
+ghost use Rattle.std.specs.Prelude.{◌≡◌, ◌*◌, ◌≤◌, ◌<◌, length, IfOk};
 
 use crate::frame::Frame;
 use std::alloc::{AllocError, Global};
@@ -52,13 +52,17 @@ fn push_wave(
     width: usize,
     first: usize,
     step: usize,
-) -> Result<(), AllocError> {
+) -> Result<(), AllocError>
+    requires first { first < length sines.now }
+    requires step { step ≤ length sines.now }
+    requires few { length sines.now ≤ 2048 }
+{
     let mut m = first;
-    for _ in 0..width {
-        values.push(if m < sines.len() { sines[m] } else { 0.0 })?;
-        m = m.wrapping_add(step);
+    'columns: for _ in 0..width {
+        values.push(sines[m])?;
+        m += step;
         if m >= sines.len() {
-            m = m.wrapping_sub(sines.len());
+            m -= sines.len();
         }
     }
     Ok(())
@@ -67,9 +71,10 @@ fn push_wave(
 // A full turn of sines in `2 * half` steps, times a factor.
 fn turn_of_sines(alloc: Global, half: usize, factor: f64) -> Result<Vec<f64>, AllocError>
     requires { half ≤ 1024 }
+    ensures { IfOk result (λ sines. length sines.items ≡ 2 * half) }
 {
     let mut sines = Vec::new(alloc);
-    for m in 0..2 * half {
+    'sines: for m in 0..2 * half {
         sines.push(factor * sine_of(m, half))?;
     }
     Ok(sines)
@@ -101,7 +106,8 @@ fn open_waves(alloc: Global, width: usize) -> Result<Waves, AllocError>
 
 // Sines and cosines of as many turns as fit: of `turns` turns the cosine, and the sine if that is not 0 everywhere.
 fn round_waves(alloc: Global, width: usize) -> Result<Waves, AllocError>
-    requires { width ≤ 256 }
+    requires some { 0 < width }
+    requires few { width ≤ 256 }
 {
     let factor = (2.0 / nearest_usize_to_f64(width)).sqrt();
     // Four steps for each column, so that a quarter turn is a whole number of steps, whatever the width.
@@ -110,12 +116,12 @@ fn round_waves(alloc: Global, width: usize) -> Result<Waves, AllocError>
     let mut values = Vec::new(alloc);
     let mut own = Vec::new(alloc);
     for turns in 0..width / 2 + 1 {
-        let is_flat = turns == 0 || 2 * turns == width;
-        let source = if is_flat { &flat } else { &sines };
-        push_wave(&mut values, source, width, width, 4 * turns)?;
         own.push(own_of(2 * turns, width))?;
-        if !is_flat {
-            push_wave(&mut values, source, width, 0, 4 * turns)?;
+        if turns == 0 || 2 * turns == width {
+            push_wave(&mut values, &flat, width, width, 4 * turns)?;
+        } else {
+            push_wave(&mut values, &sines, width, width, 4 * turns)?;
+            push_wave(&mut values, &sines, width, 0, 4 * turns)?;
             own.push(own_of(2 * turns, width))?;
         }
     }

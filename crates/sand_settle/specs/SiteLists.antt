@@ -30,4 +30,5 @@ pub record Joins (most : ℕ) (h k : List ℕ) (l m : ListView) : Type 0 where
   pub longer : length l.sites ≤ length m.sites
   pub few : length m.sites ≤ length l.sites + most
   pub kept : (turn : ℕ) → turn ≤ length l.sites → take turn m.sites ≡ take turn l.sites
-  pub waiting : (n turn : ℕ) (front : List ℕ) → n ≡ length h → turn ≤ length l.sites → ListsUnstable n h (front ++ drop turn l.sites) → ListsUnstable n k (front ++ drop turn m.sites)
+  pub waiting : (n turn : ℕ) (front : List ℕ) → n ≡ length h → turn ≤ length l.sites
+      → ListsUnstable n h (front ++ drop turn l.sites) → ListsUnstable n k (front ++ drop turn m.sites)

@@ -39,7 +39,8 @@ impl Words {
         ensures view { seat.new.me.0 ≡ looked seat.old.me.0 seat.new.me.0.spot seat.new.me.0.least }
         ensures long { length heights.new.items ≡ sites (grid_of_terms self.now.terms) }
         ensures limit { sum heights.new.items ≤ most_grains }
-        ensures underway { IsUnderway (grid_of_terms self.now.terms) (laid self.now.terms seat.old.me.0) (toppled_by seat.old.me.0) (slice_index heights.new.items) }
+        ensures underway { IsUnderway (grid_of_terms self.now.terms)
+            (laid self.now.terms seat.old.me.0) (toppled_by seat.old.me.0) (slice_index heights.new.items) }
     {
         let sites = self.terms().start.shape().sites();
         'sites: for site in 0..sites {

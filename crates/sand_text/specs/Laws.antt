@@ -19,7 +19,9 @@ OnlyLetters text end = (k : ℕ) → k < end → is_strange (slice_index text k)
 -- the first strange byte is neither a digit nor white space, and only letters stand before it that are neither; where
 -- there is none, only letters stand in the whole text that are neither
 abbrev pub StrangeByte : Type 0
-StrangeByte = (spared text : List ℕ) → MatchOption (first_strange spared 0 (tokens text)) (OnlyLetters text (length text)) (λ at. (at < length text) × (is_strange (slice_index text at) ≡ true) × OnlyLetters text at)
+StrangeByte = (spared text : List ℕ) → MatchOption (first_strange spared 0 (tokens text))
+    (OnlyLetters text (length text))
+    (λ at. (at < length text) × (is_strange (slice_index text at) ≡ true) × OnlyLetters text at)
 
 -- what is written of a pile is read as the same pile
 abbrev pub ReadAgain : Type 0
@@ -31,4 +33,5 @@ digit_runs text = filter (λ run. nat_lt 0 (length run)) (slice_split is_other t
 
 -- the numbers of a text without a strange byte are its longest runs of digits
 abbrev pub NumbersAreRuns : Type 0
-NumbersAreRuns = (spared text : List ℕ) → first_strange spared 0 (tokens text) ≡ None → numbers (tokens text) ≡ map (λ run. capped (digits_value 10 run)) (digit_runs text)
+NumbersAreRuns = (spared text : List ℕ) → first_strange spared 0 (tokens text) ≡ None
+    → numbers (tokens text) ≡ map (λ run. capped (digits_value 10 run)) (digit_runs text)

@@ -13,7 +13,9 @@ use Rattle.sand_model.specs.Piles.{most_grains}
 
 -- what a token at this place is: a number, the letter `c`, or neither, with the place of its first byte that is no digit
 unfoldable pub token_of : ℕ → List ℕ → Token
-token_of at token = if digits_len token == length token then Number at (capped (digits_value 10 token)) else (if is_letter token then Letter at else Strange (at + digits_len token))
+token_of at token = if digits_len token == length token
+    then Number at (capped (digits_value 10 token))
+    else (if is_letter token then Letter at else Strange (at + digits_len token))
 
 -- the tokens among the parts that white space separates, the first of which begins at this place
 unfoldable pub tokens_from : ℕ → List (List ℕ) → List Token

@@ -68,7 +68,10 @@ impl Survey {
 
     // Takes the number at a place behind the sides: a height, or the site of a drop behind the heights.
     fn note_behind(&mut self, place: usize, value: u64)
-        ensures { self.new ≡ record self.old { grains = grains_with self.old place value; no_site = option_or self.old.no_site (if_no_site self.old place value) } }
+        ensures { self.new ≡ record self.old {
+          grains = grains_with self.old place value;
+          no_site = option_or self.old.no_site (if_no_site self.old place value);
+        } }
     {
         let sites = self.sites();
         if place < sites {
@@ -86,7 +89,9 @@ impl Survey {
         ensures height { self.new.height ≡ (if self.old.count == 1 then value else self.old.height) }
         ensures edge { self.new.edge ≡ self.old.edge }
         ensures grains { self.new.grains ≡ (if nat_lt self.old.count 2 then self.old.grains else grains_with self.old (self.old.count - 2) value) }
-        ensures no_site { self.new.no_site ≡ (if nat_lt self.old.count 2 then self.old.no_site else option_or self.old.no_site (if_no_site self.old (self.old.count - 2) value)) }
+        ensures no_site { self.new.no_site ≡ (if nat_lt self.old.count 2
+            then self.old.no_site
+            else option_or self.old.no_site (if_no_site self.old (self.old.count - 2) value)) }
         ensures large { self.new.large ≡ option_or self.old.large (if nat_lt most_grains value then Some start else None) }
     {
         match self.count {

@@ -81,7 +81,10 @@ fn two_surveys(text: &[u8]) -> Result<(Survey, Survey), TextFault>
 
 // The shapes and the grains of the two piles that a text holds, if the text has no fault.
 fn shapes_of(text: &[u8]) -> Result<((Shape, u64), (Shape, u64)), TextFault>
-    ensures piles { IfOk result (λ ((g, _), (h, _)). two_of text.now ≡ Ok (record { grid = g; heights = heights_on g text.now }, record { grid = h; heights = heights_behind g h text.now })) }
+    ensures piles { IfOk result (λ ((g, _), (h, _)). two_of text.now ≡ Ok (
+      record { grid = g; heights = heights_on g text.now },
+      record { grid = h; heights = heights_behind g h text.now },
+    )) }
     ensures enough { IfOk result (λ ((g, _), (h, _)). (2 + sites g ≤ length (numbers (tokens text.now))) × (2 + sites h ≤ length (behind_heights g text.now))) }
     ensures one_each { IfOk result (λ ((g, _), (h, _)). (length (heights_on g text.now) ≡ sites g) × (length (heights_behind g h text.now) ≡ sites h)) }
     ensures grains { IfOk result (λ ((g, n), (h, m)). (n ≡ sum (heights_on g text.now)) × (m ≡ sum (heights_behind g h text.now))) }
