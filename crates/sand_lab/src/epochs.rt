@@ -23,7 +23,7 @@ use crate::journal::{Entry, blank_journal, write_journal};
 use sand_model::Pile;
 use sand_plan::Wish;
 use sand_shared::{Pass, Record, SharedPile};
-use std::alloc::Global;
+use std::alloc::{AllocError, Global};
 use std::marker::Model;
 use std::thread::{Threads, join_mut};
 
@@ -96,8 +96,8 @@ fn close(alloc: Global, pile: SharedPile, all: Pass) -> Result<Record, LabFault>
     }
 }
 
-// Memory for what a crew leaves, made ready: a blank journal, and the first pass's room for receipts. To touch so much new
-// memory takes as long as many drops.
+// Memory for what a crew leaves, made ready: a blank journal, and what the first pass will need. To touch so much new
+// memory takes longer than its drops.
 fn make_ready<R: Threads + Sync>(
     rt: &R,
     alloc: Global,
@@ -108,16 +108,18 @@ fn make_ready<R: Threads + Sync>(
     ensures long { IfOk result (λ v. vec_len v ≡ drops) }
     ensures memory { IfErr result IsMemory }
 {
-    let (journal, ()) = join_mut(
+    let (journal, made) = join_mut(
         rt,
         &mut || -> Result<Vec<Entry>, LabFault>
             ensures long { IfOk result (λ v. vec_len v ≡ drops) }
             ensures memory { IfErr result IsMemory }
         { blank_journal(alloc, drops) },
-        &mut ||
+        &mut || -> Result<(), AllocError>
+            requires { IsSync R.row }
             ensures { first.exit.now ≡ first.entry.now }
-        { first.touch_room() },
+        { first.make_ready(rt) },
     );
+    made?;
     journal
 }
 

@@ -65,6 +65,7 @@ impl SharedPile {
             mut receipts,
             rows,
             counts: _,
+            blank: _,
         } = other;
         self.words.join(&mut pass.seat, seat);
         self.words.learn::<Brand>(&mut pass.seat);

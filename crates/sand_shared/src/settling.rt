@@ -57,6 +57,7 @@ pub(crate) fn add(numbers: &mut Vec<u64>, more: &[u64])
     requires small { (i : ℕ) → i < length more.now → slice_index numbers.old.items i + slice_index more.now i < 2 ^ 64 }
     ensures long { length numbers.new.items ≡ length numbers.old.items }
     ensures sums { (i : ℕ) → i < length more.now → slice_index numbers.new.items i ≡ slice_index numbers.old.items i + slice_index more.now i }
+    ensures never_fall { (i : ℕ) → slice_index numbers.old.items i ≤ slice_index numbers.new.items i }
 {
     'places: for i in 0..more.len() {
         numbers[i] += more[i];
@@ -96,7 +97,7 @@ impl SharedPile {
         // What toppled in place stays toppled.
         ensures never_fall { IfOk result (λ r. (i : ℕ) → slice_index pass.counts i ≤ odometer_of r.settled i) }
     {
-        let (history, heights) = match self.room_for_record(alloc, &pass) {
+        let (history, heights) = match self.room_for_record(alloc, &mut pass) {
             Ok(room) => room,
             Err(fault) => return Err((fault, self, pass)),
         };
@@ -145,6 +146,7 @@ impl SharedPile {
             receipts,
             rows: _,
             mut counts,
+            blank: _,
         } = pass;
         words.learn::<Brand>(&mut seat);
         let Terms { start, quota: _ } = words.end(seat);

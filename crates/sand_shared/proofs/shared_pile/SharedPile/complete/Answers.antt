@@ -41,3 +41,9 @@ returns-clause-all_seen c =
     let b = completed_by c.self.view_is c.pass.view_is c.pass.invariant c.requires.pass c.requires.whole c.requires.rest c.learn.ensures.view c.learn.ensures.stands in
     let long = c.fill.ensures.length ∙ c.requires.history ∙ ap (λ (q : PassView). length q.receipts) (sym c.pass.view_is) in
     ap (λ (q : PassView). q.seen) (sym c.pass.view_is) ∙ completed_seen b ∙ sym long ∙ ap (λ (l : List ℕ). length l) (sym c.of_lists.ensures.history)
+
+pub returns-clause-never_fall : goal.returns-clause-never_fall
+returns-clause-never_fall c i =
+    let counts = ap (λ (q : PassView). slice_index q.counts i) c.pass.view_is in
+    let odometer = ap (λ (l : List ℕ). slice_index l i) c.of_lists.ensures.odometer in
+    let never = c.add.ensures.never_fall i in omega arith
