@@ -8,8 +8,6 @@
 mod certificate;
 mod emptying;
 pub mod laws;
-#[cfg(test)]
-mod tests;
 
 pub use certificate::{COUNT_LIMIT, certified};
 pub use emptying::emptied;

@@ -9,6 +9,3 @@ mod task;
 
 pub use fault::{Conflict, WordsFault};
 pub use task::{Draw, Form, Task, task_of};
-
-#[cfg(test)]
-mod tests;

@@ -10,8 +10,6 @@ mod faults;
 mod group;
 pub mod laws;
 mod neutral;
-#[cfg(test)]
-mod tests;
 
 pub use burning::{Burned, burn};
 pub use equivalent::equivalent_recurrent;

@@ -31,8 +31,6 @@ mod residual;
 mod singles;
 mod solver;
 mod sweeps;
-#[cfg(test)]
-mod tests;
 mod waves;
 
 pub use claim::{Claim, guessed, guessed_identity};

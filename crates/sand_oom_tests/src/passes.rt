@@ -158,6 +158,30 @@ fn join_reports_out_of_memory(rt: HostRuntime) -> Result<(), Fail> {
     Err(WITHOUT_END.into())
 }
 
+// A pass whose memory was not made ready is closed like any other.
+#[test]
+fn make_ready_reports_out_of_memory(rt: HostRuntime) -> Result<(), Fail> {
+    let alloc = rt.alloc();
+    let start = one_site(alloc, 4)?;
+    let mut spared = 0u32;
+    for number in 1..MOST_REQUESTS {
+        let (pile, mut pass) = SharedPile::new(alloc, &start, 4)?;
+        refuse(alloc, number);
+        let tried = pass.make_ready(&rt);
+        let was_refused = was_refused(alloc);
+        assert!(rt; tried.is_ok() || was_refused);
+        assert!(rt; view(&pass) == (4, 0, 0, (0, 1)));
+        let record = shared::closed(alloc, pile, pass)?;
+        assert!(rt; is_record(&record, &[], &[0], &[1], 4));
+        if !was_refused {
+            let requests = number - 1;
+            return tell_refused(&rt, alloc, "Pass::make_ready", Refused { requests, spared });
+        }
+        spared = spared.saturating_add(u32::from(tried.is_ok()));
+    }
+    Err(WITHOUT_END.into())
+}
+
 #[test]
 fn close_reports_out_of_memory(rt: HostRuntime) -> Result<(), Fail> {
     let alloc = rt.alloc();

@@ -15,9 +15,6 @@ use sand_guess::{Claim, guessed, is_high};
 use sand_model::Pile;
 use std::alloc::{AllocError, Global};
 
-#[cfg(test)]
-mod tests;
-
 // How many turns a site the queue has before a guess is tried: about what the guess takes.
 const TURNS_OF_A_GUESS: u64 = 64;
 

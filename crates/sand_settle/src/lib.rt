@@ -10,8 +10,6 @@ mod settled;
 mod settling;
 mod site_list;
 mod spreading;
-#[cfg(test)]
-mod tests;
 mod waves;
 mod workspace;
 

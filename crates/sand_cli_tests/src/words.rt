@@ -1,4 +1,6 @@
-use crate::{Conflict, Draw, Form, Task, WordsFault, task_of};
+//! What the words of a command line come to: a task, or the text of help or of misuse.
+
+use sand_cli::{Conflict, Draw, Form, Task, WordsFault, task_of};
 use sand_plan::{
     MOST_DROPPERS, MOST_DROPS, MOST_EPOCHS, MOST_OBSERVERS, MOST_SWEEPS, MOST_WORKERS, Wish,
 };

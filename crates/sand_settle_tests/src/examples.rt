@@ -1,7 +1,7 @@
 //! Worked examples, and what no clause says: that a call succeeds.
 
-use crate::{Avalanche, OneFault, OnePile, settle};
 use sand_model::{Edge, Pile, Shape};
+use sand_settle::{Avalanche, OneFault, OnePile, settle};
 use std::alloc::Global;
 use std::process::Abort;
 use std::test::Fail;

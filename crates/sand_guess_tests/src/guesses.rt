@@ -1,6 +1,6 @@
 //! What no clause says: that a guess is made, and on small piles is right, and which piles are seen to be high.
 
-use crate::{guessed, guessed_identity, is_high};
+use sand_guess::{guessed, guessed_identity, is_high};
 use sand_model::{Edge, Pile, Shape};
 use std::alloc::Global;
 use std::test::Fail;

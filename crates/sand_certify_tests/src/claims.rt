@@ -1,6 +1,6 @@
 //! Claims by hand, accepted and refused.
 
-use crate::certified;
+use sand_certify::certified;
 use sand_model::{Edge, Pile, Shape};
 use std::alloc::Global;
 use std::test::Fail;

@@ -1,6 +1,6 @@
 //! Worked examples of the burning test and of the group.
 
-use crate::{
+use sand_group::{
     Burned, GroupFault, Recurrent, act, add, burn, equivalent_recurrent, identity, inverse,
 };
 use sand_model::{Edge, Pile, Shape};

@@ -1,17 +1,15 @@
-//! The guess and the queue settle alike, on piles of all shapes, edges and heights.
+//! Guesses are made and accepted, on piles of all shapes, edges and heights.
 
 ghost use Rattle.std.specs.Prelude.{◌<◌};
 
-use crate::choice::{settle_by_guess, settle_by_queue};
-use sand_model::{Edge, Pile, Shape};
+use sand_certify::certified;
+use sand_guess::guessed;
+use sand_model::{Edge, Pile, Shape, ShapeFault};
 use std::alloc::{AllocError, Global};
 use std::test::Fail;
 
-// So many piles are settled both ways.
+// So many piles are guessed.
 const PILES: u64 = 400;
-
-// The queue has so many turns; what takes more is left out.
-const TURNS: u64 = 2_000_000;
 
 // Numbers without a pattern, the same each time.
 #[derive(Drop)]
@@ -35,13 +33,22 @@ impl Numbers {
         self.below(most) as usize + 1
     }
 
-    fn shape(&mut self) -> Option<Shape> {
+    fn shape(&mut self) -> Result<Shape, ShapeFault> {
         let edge = if self.below(2) == 0 {
             Edge::Open
         } else {
             Edge::Cylinder
         };
-        Shape::with_edge(self.side(), self.side(), edge).ok()
+        Shape::with_edge(self.side(), self.side(), edge)
+    }
+
+    // A pile, or None if it would be too narrow or have too many grains.
+    fn pile(&mut self, alloc: Global) -> Result<Option<Pile>, AllocError> {
+        let Ok(shape) = self.shape() else {
+            return Ok(None);
+        };
+        let heights = self.heights(alloc, shape)?;
+        Ok(Pile::new(alloc, shape, &heights).ok())
     }
 
     // Heights below 8, or alike, or all grains on a few sites, of any order of size.
@@ -67,35 +74,19 @@ impl Numbers {
     }
 }
 
-// Whether both ways end alike, or None if the queue takes long.
-fn settle_alike(alloc: Global, pile: &Pile) -> Result<Option<bool>, AllocError> {
-    let Some(plain) = settle_by_queue(alloc, pile, TURNS)? else {
-        return Ok(None);
-    };
-    let Some(fast) = settle_by_guess(alloc, pile)? else {
-        return Ok(Some(false));
-    };
-    let same_heights = plain.heights.as_slice() == fast.heights.as_slice();
-    let same_odometer = plain.odometer.as_slice() == fast.odometer.as_slice();
-    Ok(Some(same_heights && same_odometer))
-}
-
 #[test]
-fn the_guess_and_the_queue_settle_alike(rt: HostRuntime) -> Result<(), Fail> {
+fn guesses_of_many_piles_are_accepted(rt: HostRuntime) -> Result<(), Fail> {
     let alloc = rt.alloc();
     let mut numbers = Numbers(88_172_645_463_325_252);
-    let mut compared = 0u64;
+    let mut accepted = 0u64;
     for _ in 0..PILES {
-        if let Some(shape) = numbers.shape() {
-            let heights = numbers.heights(alloc, shape)?;
-            if let Ok(pile) = Pile::new(alloc, shape, &heights) {
-                if let Some(alike) = settle_alike(alloc, &pile)? {
-                    assert!(rt; alike);
-                    compared = compared.saturating_add(1);
-                }
-            }
+        if let Some(pile) = numbers.pile(alloc)? {
+            let claim = guessed(alloc, &pile)?.ok_or("no guess")?;
+            let left = certified(alloc, &pile, &claim.counts, &claim.turns)?;
+            assert!(rt; left.is_some());
+            accepted = accepted.saturating_add(1);
         }
     }
-    assert!(rt; compared >= 300);
+    assert!(rt; accepted >= 300);
     Ok(())
 }
