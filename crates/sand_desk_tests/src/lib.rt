@@ -1,4 +1,4 @@
-//! The tests of whole commands, over memory, and over readers and writers that stop.
+//! The tests of whole commands, over memory, and over readers and writers that stop; and of the words of the command line.
 //!
 //! `stopping` has these readers and writers. They are not tests: each says its bytes, and is proved to.
 #![tactic(auto)]
@@ -24,3 +24,5 @@ pub mod stopping;
 mod streams;
 #[cfg(test)]
 mod texts;
+#[cfg(test)]
+mod words;

@@ -2,16 +2,37 @@
 
 ghost use Rattle.std.specs.Prelude.{◌<◌, IfSome};
 ghost use Rattle.sand_model.specs.Grid.{sites};
+ghost use Rattle.sand_shared.specs.OpenPile.{grid_of_terms};
 ghost use Rattle.sand_shared.specs.Passes.{IsPassOf};
 
 use sand_model::{Edge, Pile};
-use sand_shared::{CloseFault, Pass, SharedPile};
+use sand_shared::{CloseFault, DropFault, Pass, Record, SharedPile};
 use sand_testing::piles::{open_pile, pile_on};
 use sand_testing::records::is_record;
 use sand_testing::shared::shared_pile;
 use std::alloc::Global;
 use std::process::Abort;
 use std::test::Fail;
+
+// A drop of the first pass, a sweep of each, and a drop again.
+fn drop_around_sweeps(
+    pile: &SharedPile,
+    pass: &mut Pass,
+    last: &mut Pass,
+    site: usize,
+) -> Result<(), DropFault>
+    requires pass { IsPassOf pile.now pass.old }
+    requires last { IsPassOf pile.now last.old }
+    requires site { site < sites (grid_of_terms pile.now.terms) }
+    ensures pass { IsPassOf pile.now pass.new }
+    ensures last { IsPassOf pile.now last.new }
+{
+    pile.drop_at(pass, site)?;
+    pile.sweep(last);
+    pile.sweep(pass);
+    pile.drop_at(pass, site)?;
+    Ok(())
+}
 
 // A pile on which two passes have dropped and swept, each its own rows, and the pass that has gathered all.
 fn swept_by_two(alloc: Global, start: &Pile, site: usize) -> Option<(SharedPile, Pass)>
@@ -20,22 +41,33 @@ fn swept_by_two(alloc: Global, start: &Pile, site: usize) -> Option<(SharedPile,
 {
     let (pile, mut pass) = SharedPile::new(alloc, start, 3).ok()?;
     let mut last = pile.split_rows(alloc, &mut pass, 1).ok()?;
-    pile.drop_at(&mut pass, site).ok()?;
-    pile.sweep(&mut last);
-    pile.sweep(&mut pass);
-    pile.drop_at(&mut pass, site).ok()?;
+    drop_around_sweeps(&pile, &mut pass, &mut last, site).ok()?;
     pile.join(alloc, &mut pass, last).ok()?;
     Some((pile, pass))
+}
+
+// The record of these drops and sweeps, closed.
+fn closed_by_two(alloc: Global, start: &Pile, site: usize) -> Option<Record>
+    requires { site < sites start.now.grid }
+{
+    let (pile, pass) = swept_by_two(alloc, start, site)?;
+    pile.close(alloc, pass).ok()
+}
+
+// The record of these drops and sweeps, settled.
+fn settled_by_two(alloc: Global, start: &Pile, site: usize) -> Option<Record>
+    requires { site < sites start.now.grid }
+{
+    let (pile, pass) = swept_by_two(alloc, start, site)?;
+    pile.settle(alloc, pass).ok()
 }
 
 // The same drops and sweeps once closed and once settled: the records are equal.
 fn assert_settles_as_closed(rt: &impl Abort, alloc: Global, start: &Pile) -> Result<(), Fail> {
     let site = start.shape().sites() / 2;
     assert!(rt; site < start.shape().sites());
-    let (pile, pass) = swept_by_two(alloc, start, site).ok_or("swept")?;
-    let closed = pile.close(alloc, pass).ok().ok_or("close")?;
-    let (pile, pass) = swept_by_two(alloc, start, site).ok_or("swept")?;
-    let settled = pile.settle(alloc, pass).ok().ok_or("settle")?;
+    let closed = closed_by_two(alloc, start, site).ok_or("close")?;
+    let settled = settled_by_two(alloc, start, site).ok_or("settle")?;
     assert!(rt;
         is_record(
             &settled,
