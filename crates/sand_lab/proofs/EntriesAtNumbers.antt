@@ -1,50 +1,93 @@
--- One more entry of a journal is written, at the number of its receipt.
-use Rattle.std.proofs.Common.{ℕ, ◌≡◌, ◌≢◌, ◌+◌, ◌/◌, ◌<◌, ◌≤◌, List, length, set, Some, sym, ap, ◌∙◌, ⊎_elim, arith}
-use Rattle.std.proofs.lemmas.Bool.{cases_eq}
-use Rattle.std.proofs.lemmas.List.{length-set, get_or-set_same, get_or-set_other}
+-- A journal that is written part by part has the entry of each receipt at its number.
+use Rattle.std.proofs.Common.{ℕ, zero, suc, ◌≡◌, ◌≢◌, ◌+◌, ◌-◌, ◌*◌, ◌/◌, ◌<◌, ◌≤◌, List, Vec, Global, [], ◌∷◌, All, length, get_or, set, Some, refl, sym, ap, ◌∙◌, subst, ⊎_elim, arith}
+use Rattle.std.proofs.lemmas.Bool.{cases_lt}
+use Rattle.std.proofs.lemmas.Nat.{div-mul-add}
 use Rattle.std.proofs.lemmas.Option.{same_Some, slice_get-get_or, get_or_from_slice_get, slice_get_within}
 use Rattle.std.specs.Prelude.{slice_get}
 use Rattle.sand_shared.specs.declared.view.Receipt.{Receipt}
-use Rattle.sand_shared.specs.Passes.{EachOnce}
+use Rattle.sand_shared.specs.Events.{receipt}
+use Rattle.sand_shared.specs.Passes.{EachOnce, AllBelow}
+use Rattle.sand_shared.proofs.ReceiptsTellHistory.{get_set_here, get_set_else}
 use Rattle.sand_lab.specs.declared.journal.Entry.{Entry}
-use Rattle.sand_lab.specs.Journals.{entry, IsJournal}
+use Rattle.sand_lab.specs.Journals.{entry, lists, Ascends, AreParts, HasEntries, AgreeBeside, IsJournal}
 use Rattle.sand_lab.proofs.EachNumberOnce.{one_place}
+use Rattle.sand_lab.proofs.JournalFollowsStreams.{in_all, in_part, length-part, length-parts, same_receipt, place_inside}
 
-module _ {X : Type 0} where
-  -- what was written at a place is there
-  written : (xs : List X) (i : ℕ) (x : X) → i < length xs → slice_get (set xs i x) i ≡ Some x
-  written xs i x inside =
-      let long = length-set xs i x in
-      slice_get-get_or (set xs i x) i x (omega arith) ∙ ap Some (get_or-set_same xs i x x inside)
+-- One part
 
-  -- and what stood at another place still does
-  kept : (xs : List X) (i j : ℕ) (x y : X) → j ≢ i → slice_get xs j ≡ Some y → slice_get (set xs i x) j ≡ Some y
-  kept xs i j x y other there =
-      let long = length-set xs i x in
-      let inside = slice_get_within xs j y there in
-      slice_get-get_or (set xs i x) j y (omega arith) ∙ ap Some (get_or-set_other xs i j x y other ∙ get_or_from_slice_get xs j y y there)
+-- the entry of each receipt before the i-th of a part is at its number
+abbrev pub PartNoted : ℕ → ℕ → List Receipt → List Entry → Type 0
+PartNoted dropper i rs js = (j : ℕ) (r : Receipt) → j < i → slice_get rs j ≡ Some r → slice_get js r.number ≡ Some (entry dropper r.site)
+
+-- and at other numbers two journals agree
+abbrev pub AgreeElse : ℕ → List Receipt → List Entry → List Entry → Type 0
+AgreeElse i rs before after = (n : ℕ) → ((j : ℕ) (r : Receipt) → j < i → slice_get rs j ≡ Some r → r.number ≢ n) → slice_get after n ≡ slice_get before n
+
+module _ (dropper i : ℕ) (rs : List Receipt) (js : List Entry) (r : Receipt) (here : slice_get rs i ≡ Some r) where
+  pub part_more : Ascends rs → r.number < length js → PartNoted dropper i rs js → PartNoted dropper (i + 1) rs (set js r.number (entry dropper r.site))
+  part_more ascends inside noted j q before there =
+      let new = entry dropper r.site in
+      let below = slice_get_within rs i r here in
+      ⊎_elim
+      (λ (earlier : j < i).
+      let rises = ascends j i (receipt 0 0) earlier below in
+      let one = get_or_from_slice_get rs j q (receipt 0 0) there in
+      let two = get_or_from_slice_get rs i r (receipt 0 0) here in
+      let less : q.number < r.number = subst (λ (z : Receipt × Receipt). z.0.number < z.1.number) (λ k. (one k, two k)) rises in
+      get_set_else js r.number q.number new (λ e. omega (arith, e, less)) ∙ noted j q earlier there)
+      (λ (later : i ≤ j).
+      let same : j ≡ i = omega (arith, later, before) in
+      let is : r ≡ q = same_Some r q (sym here ∙ ap (slice_get rs) (sym same) ∙ there) in
+      subst (λ (x : Receipt). slice_get (set js r.number new) x.number ≡ Some (entry dropper x.site)) is (get_set_here js r.number new inside))
+      (cases_lt j i)
+
+  pub else_more : (before : List Entry) → AgreeElse i rs before js → AgreeElse (i + 1) rs before (set js r.number (entry dropper r.site))
+  else_more before agree n none =
+      get_set_else js r.number n (entry dropper r.site) (λ e. none i r (omega arith) here (sym e))
+      ∙ agree n (λ j q less there. none j q (omega (arith, less)) there)
+
+-- All parts
+
+-- the k-th part, of a list of lists
+pub part_at : (parts : List (Vec Receipt Global)) (k : ℕ) (d : Vec Receipt Global) → k < length parts → slice_get (lists parts) k ≡ Some (get_or parts k d).items
+part_at [] k d inside = absurd (omega arith)
+part_at (part ∷ parts) zero d inside = refl
+part_at (part ∷ parts) (suc k) d inside = part_at parts k d (omega arith)
 
 -- the entry of each receipt before the i-th is at its number
 abbrev pub NotedBelow : ℕ → ℕ → List Receipt → List Entry → Type 0
 NotedBelow drops i rs js = (j : ℕ) (r : Receipt) → j < i → slice_get rs j ≡ Some r → slice_get js r.number ≡ Some (entry (j / drops) r.site)
 
--- so it does once the entry of the i-th is written
-pub noted_more : (drops i : ℕ) (rs : List Receipt) (js : List Entry) (r : Receipt) → EachOnce rs → slice_get rs i ≡ Some r → r.number < length js
-    → NotedBelow drops i rs js → NotedBelow drops (i + 1) rs (set js r.number (entry (i / drops) r.site))
-noted_more drops i rs js r once here inside noted j q before there =
-    let new = entry (i / drops) r.site in
-    ⊎_elim
-    (λ (e : j ≡ i).
-    let same : r ≡ q = same_Some r q (sym here ∙ (ap (slice_get rs) (sym e) ∙ there)) in
-    ap (λ (x : Receipt). slice_get (set js r.number new) x.number) (sym same) ∙ (written js r.number new inside ∙ (ap (λ k. Some (entry (k / drops) r.site)) (sym e) ∙ ap (λ (x : Receipt). Some (entry (j / drops) x.site)) same)))
-    (λ (ne : j ≡ i → ⊥).
-    let other : q.number ≢ r.number = λ e. ne (one_place rs j i q r once there here e) in
-    kept js r.number q.number new (entry (j / drops) q.site) other (noted j q (omega arith) there))
-    (cases_eq j i)
+module _ (drops : ℕ) (parts : List (List Receipt)) (rs : List Receipt) (are : AreParts drops parts rs) where
+  pub part_below : (k : ℕ) (part : List Receipt) (long : ℕ) → slice_get parts k ≡ Some part → AllBelow long rs → AllBelow long part
+  part_below k part long at below i d inside =
+      let fits : i < drops = (let each = length-part drops parts rs are k part at in omega (arith, inside, each)) in
+      subst (λ (r : Receipt). r.number < long) (same_receipt drops parts rs are k part at i d fits)
+      (below (k * drops + i) d (place_inside drops parts rs are k part at i fits))
 
--- and with all written it is the journal
-pub all_noted : (drops i : ℕ) (rs : List Receipt) (js : List Entry) → length js ≡ length rs → length rs ≤ i → NotedBelow drops i rs js → IsJournal drops rs js
-all_noted drops i rs js long past noted = record {
-  one_each = long;
-  noted = λ j r there. let inside = slice_get_within rs j r there in noted j r (omega arith) there;
-}
+  -- with one part more
+  pub noted_more : (k : ℕ) (part : List Receipt) (before after : List Entry) → slice_get parts k ≡ Some part → EachOnce rs
+      → HasEntries k part after → AgreeBeside part before after → NotedBelow drops (k * drops) rs before → NotedBelow drops ((k + 1) * drops) rs after
+  noted_more k part before after at once entries agree noted j r less there =
+      ⊎_elim
+      (λ (earlier : j < k * drops).
+      let none : All (λ (q : Receipt). q.number ≢ r.number) part = λ i d inside e.
+      let in_part = slice_get-get_or part i d inside in
+      let place : j ≡ k * drops + i = one_place rs j (k * drops + i) r (get_or part i d) once there (in_all drops parts rs are k part at i (get_or part i d) in_part) (sym e) in
+      omega (arith, place, earlier) in
+      agree r.number none ∙ noted j r earlier there)
+      (λ (later : k * drops ≤ j).
+      let i = j - k * drops in
+      let place : j ≡ k * drops + i = omega (arith, later) in
+      let inside : i < drops = omega (arith, later, less) in
+      let here = subst (λ n. slice_get rs n ≡ Some r) place there in
+      let whose : k ≡ j / drops = sym (ap (λ n. n / drops) place ∙ div-mul-add k drops i inside) in
+      entries i r (in_part drops parts rs are k part at i r inside here) ∙ ap (λ n. Some (entry n r.site)) whose)
+      (cases_lt j (k * drops))
+
+  -- and with all
+  pub all_noted : (js : List Entry) → length js ≡ length rs → NotedBelow drops (length parts * drops) rs js → IsJournal drops rs js
+  all_noted js long noted = record {
+    one_each = long;
+    noted = λ j r there. let inside = slice_get_within rs j r there in let all = length-parts drops parts rs are in noted j r (omega (arith, inside, all)) there;
+  }

@@ -1,5 +1,5 @@
 -- What a gathered crew leaves: a whole pass, and a closed epoch.
-use Rattle.std.proofs.Common.{◌≡◌, ℕ, suc, ◌*◌, ◌^◌, ◌<◌, ◌≤◌, List, [], ◌∷◌, All, length, map, sum, get_or, refl, sym, ap, ◌∙◌, subst, arith}
+use Rattle.std.proofs.Common.{◌≡◌, ℕ, suc, ◌*◌, ◌<◌, ◌≤◌, List, [], ◌∷◌, All, length, sum, get_or, refl, sym, ap, ◌∙◌, subst, arith}
 use Rattle.std.specs.List.{flat_map}
 use Rattle.std.specs.Prelude.{slice_index}
 use Rattle.std.proofs.lemmas.List.{length-map}
@@ -12,7 +12,7 @@ use Rattle.sand_settle.specs.Settling.{odometer_of}
 use Rattle.sand_shared.specs.declared.view.Receipt.{Receipt}
 use Rattle.sand_shared.specs.OpenPile.{grid_of_terms}
 use Rattle.sand_shared.specs.Passes.{SharedView, PassView, EachOnce, AllBelow, IsWhole}
-use Rattle.sand_shared.specs.Record.{RecordView, IsOneThreads, Tells}
+use Rattle.sand_shared.specs.Record.{RecordView, IsOneThreads}
 use Rattle.sand_lab.specs.declared.crew.Crew.{Crew}
 use Rattle.sand_lab.specs.declared.droppers.Dropper.{Dropper}
 use Rattle.sand_lab.specs.declared.journal.Entry.{Entry}
@@ -20,21 +20,17 @@ use Rattle.sand_lab.specs.declared.observers.Observer.{Observer}
 use Rattle.sand_plan.specs.declared.wish.Wish.{Wish}
 use Rattle.sand_lab.specs.declared.workers.Worker.{Worker}
 use Rattle.sand_lab.specs.Crews.{EachAt, band, due, tallies_each, HasEmptied, HasTended, HasRead, HasWorked}
-use Rattle.sand_lab.specs.Gathering.{all_counts, all_swept, readings, HasGathered}
+use Rattle.sand_lab.specs.Gathering.{parts_of, all_counts, all_swept, readings, HasGathered}
 use Rattle.sand_lab.specs.Jobs.{Climbs, dropped_at}
-use Rattle.sand_lab.specs.Journals.{Ascends, IsJournal}
+use Rattle.sand_lab.specs.Journals.{Ascends, AreParts, HavePlaces, IsJournal, joined}
 use Rattle.sand_plan.specs.Plans.{IsPlan, quota_of}
-use Rattle.sand_lab.specs.Reports.{AreTallies, AreSwept, IsClosed}
+use Rattle.sand_lab.specs.Reports.{AreTallies, AreSwept, IsClosed, IsRecordOf}
 use Rattle.sand_lab.specs.Streams.{stream_of, stream_sites}
 use Rattle.sand_lab.proofs.JournalSites.{journal_sites}
-use Rattle.sand_lab.proofs.JournalFollowsStreams.{AreParts, follows_streams, length-parts}
+use Rattle.sand_lab.proofs.JournalFollowsStreams.{follows_streams, length-parts}
 use Rattle.sand_lab.proofs.EachAtItsPlace.{all_map, each_map}
 use Rattle.sand_lab.proofs.RecordBounds.{counts_below}
 use Rattle.sand_lab.proofs.TallyOfStreams.{length-stream_sites}
-
--- the receipts of each dropper
-abbrev pub parts_of : Crew → List (List Receipt)
-parts_of c = map (λ (d : Dropper). d.pass.receipts) c.droppers.items
 
 all_flat : {A B : Type 0} (P : ℕ → A → Type 0) (Q : B → Type 0) (f : A → List B) (xs : List A) → EachAt P xs → ((i : ℕ) (x : A) → P i x → All Q (f x)) → All Q (flat_map f xs)
 all_flat P Q f [] h g = All-nil Q
@@ -71,7 +67,7 @@ counts_few r cs one below =
     omega (arith, all, few)
 
 module _ (s : SharedView) (w : Wish) (t : ℕ) (c : Crew) (p : PassView) (quota : s.terms.quota ≡ quota_of w) (has : HasWorked s w t c) (gathered : HasGathered s c p) where
-  parts : AreParts w.drops (parts_of c) p.receipts
+  pub parts : AreParts w.drops (parts_of c.droppers.items) p.receipts
   parts = record {
     whole = flat_map-map (λ (part : List Receipt). part) (λ (d : Dropper). d.pass.receipts) c.droppers.items ∙ sym gathered.receipts;
     long = all_map (HasEmptied s w t) (λ (part : List Receipt). length part ≡ w.drops) (λ (d : Dropper). d.pass.receipts) c.droppers.items has.droppers
@@ -79,11 +75,11 @@ module _ (s : SharedView) (w : Wish) (t : ℕ) (c : Crew) (p : PassView) (quota 
     ascend = all_map (HasEmptied s w t) Ascends (λ (d : Dropper). d.pass.receipts) c.droppers.items has.droppers (λ k d h. h.ascends);
   }
 
-  many_parts : length (parts_of c) ≡ w.droppers
+  pub many_parts : length (parts_of c.droppers.items) ≡ w.droppers
   many_parts = length-map c.droppers.items (λ (d : Dropper). d.pass.receipts) ∙ has.all_droppers
 
   pub all_dropped : length p.receipts ≡ quota_of w
-  all_dropped = length-parts w.drops (parts_of c) p.receipts parts ∙ ap (λ (n : ℕ). n * w.drops) many_parts
+  all_dropped = length-parts w.drops (parts_of c.droppers.items) p.receipts parts ∙ ap (λ (n : ℕ). n * w.drops) many_parts
 
   pub within : AllBelow (length p.receipts) p.receipts
   within =
@@ -94,8 +90,17 @@ module _ (s : SharedView) (w : Wish) (t : ℕ) (c : Crew) (p : PassView) (quota 
   pub whole : IsWhole s.terms p
   whole = record { quota = (let none = gathered.left in let all = all_dropped in omega (arith, none, all, quota)); rows = gathered.rows }
 
-  pub few_droppers : IsPlan w → length p.receipts ≤ 2 ^ 32 * w.drops
-  few_droppers plan = let all = all_dropped in let few = plan.droppers in grind (arith, all, few)
+  -- a journal of all has a place for each
+  pub places : (lists : List (List Receipt)) (long : ℕ) → lists ≡ parts_of c.droppers.items → long ≡ quota_of w → EachOnce p.receipts → IsPlan w → HavePlaces w.drops lists long
+  places lists long same all once plan =
+      let mine : p.receipts ≡ joined lists = sym (ap joined same ∙ parts.whole) in
+      record {
+        are_parts = record { whole = refl; long = subst (All (λ part. length part ≡ w.drops)) (sym same) parts.long; ascend = subst (All Ascends) (sym same) parts.ascend };
+        one_each = all ∙ sym all_dropped ∙ ap (λ (rs : List Receipt). length rs) mine;
+        once = subst EachOnce mine once;
+        below = subst (λ (rs : List Receipt). AllBelow (length rs) rs) mine within;
+        few_droppers = (let few = plan.droppers in let many = ap (λ (ps : List (List Receipt)). length ps) same ∙ many_parts in omega (arith, few, many));
+      }
 
   tallied : (tallies : List (List ℕ)) → tallies ≡ readings c.observers.items → AreTallies w tallies
   tallied tallies e =
@@ -121,15 +126,16 @@ module _ (s : SharedView) (w : Wish) (t : ℕ) (c : Crew) (p : PassView) (quota 
             (each j (slice_index (all_swept c.workers.items) j) (slice_get-get_or (all_swept c.workers.items) j 0 (omega (arith, lt, long, ap length e))) some);
       }
 
-  pub closed_is : (r : RecordView) (js : List Entry) (tallies : List (List ℕ)) (swept : List ℕ) → EachOnce p.receipts → IsJournal w.drops p.receipts js → IsOneThreads r → r.start ≡ s.terms.start
-      → Tells p.receipts r.history → length r.history ≡ length p.receipts → ((i : ℕ) → slice_index p.counts i ≤ odometer_of r.settled i)
+  pub closed_is : (r : RecordView) (js : List Entry) (tallies : List (List ℕ)) (swept : List ℕ) → EachOnce p.receipts → IsJournal w.drops (joined (parts_of c.droppers.items)) js → IsRecordOf s p r
       → tallies ≡ readings c.observers.items → swept ≡ all_swept c.workers.items → IsClosed w s.terms.start t r js tallies swept
-  closed_is r js tallies swept once journal one start told long below read found = record {
-    one_threads = one;
-    from_start = start;
-    history = journal_sites w.drops p.receipts js r.history journal told once within long;
-    streams = follows_streams (sites (grid_of_terms s.terms)) w.seed w.droppers w.drops t (parts_of c) p.receipts js parts many_parts once within journal
-        (each_map (HasEmptied s w t) (λ k part. dropped_at part ≡ stream_sites (sites (grid_of_terms s.terms)) w.seed (stream_of t k) w.drops) (λ (d : Dropper). d.pass.receipts) c.droppers.items has.droppers (λ k d h. h.sites));
-    read = tallied tallies read;
-    tended = tended r swept one below found;
-  }
+  closed_is r js tallies swept once written closed read found =
+      let journal = subst (λ (rs : List Receipt). IsJournal w.drops rs js) parts.whole written in
+      record {
+        one_threads = closed.one_threads;
+        from_start = closed.start;
+        history = journal_sites w.drops p.receipts js r.history journal closed.history once within closed.each_drop_once;
+        streams = follows_streams (sites (grid_of_terms s.terms)) w.seed w.droppers w.drops t (parts_of c.droppers.items) p.receipts js parts many_parts once within journal
+            (each_map (HasEmptied s w t) (λ k part. dropped_at part ≡ stream_sites (sites (grid_of_terms s.terms)) w.seed (stream_of t k) w.drops) (λ (d : Dropper). d.pass.receipts) c.droppers.items has.droppers (λ k d h. h.sites));
+        read = tallied tallies read;
+        tended = tended r swept closed.one_threads closed.never_fall found;
+      }

@@ -1,5 +1,5 @@
 -- What a journal says of the drops of each dropper, whose receipts are a part of all.
-use Rattle.std.proofs.Common.{ℕ, zero, suc, ◌≡◌, ◌+◌, ◌*◌, ◌/◌, ◌%◌, ◌<◌, ◌≤◌, List, [], ◌∷◌, All, take, flat_map, length, get_or, Some, sym, ap, ◌∙◌, subst, arith, length-append}
+use Rattle.std.proofs.Common.{ℕ, zero, suc, ◌≡◌, ◌+◌, ◌*◌, ◌/◌, ◌%◌, ◌<◌, ◌≤◌, List, [], ◌∷◌, All, take, length, get_or, Some, sym, ap, ◌∙◌, subst, arith, length-append}
 use Rattle.std.proofs.lemmas.List.{take_all}
 use Rattle.std.proofs.lemmas.List.Concat.{get_or-flat_map}
 use Rattle.std.proofs.lemmas.Nat.{div-mul-add, div-add-mod'}
@@ -9,21 +9,11 @@ use Rattle.std.specs.Prelude.{slice_get}
 use Rattle.sand_shared.specs.declared.view.Receipt.{Receipt}
 use Rattle.sand_shared.specs.Passes.{EachOnce, AllBelow}
 use Rattle.sand_lab.specs.declared.journal.Entry.{Entry}
-use Rattle.sand_lab.specs.Journals.{entry, sites_by, Ascends, IsJournal, FollowsStreams}
+use Rattle.sand_lab.specs.Journals.{entry, joined, sites_by, Ascends, AreParts, IsJournal, FollowsStreams}
 use Rattle.sand_lab.specs.Streams.{stream_of, stream_sites}
 use Rattle.sand_lab.proofs.JournalSites.{entry_of}
 use Rattle.sand_lab.proofs.EachNumberOnce.{HasNumber}
 use Rattle.sand_lab.proofs.SitesOfOneDropper.{HasEntry, sites_of, picked}
-
--- the parts one after another
-abbrev pub joined : List (List Receipt) → List Receipt
-joined parts = flat_map (λ (part : List Receipt). part) parts
-
--- the receipts are the parts one after another, of which each has so many with numbers that rise
-pub record AreParts (drops : ℕ) (parts : List (List Receipt)) (rs : List Receipt) : Type 0 where
-  pub whole : joined parts ≡ rs
-  pub long : All (λ part. length part ≡ drops) parts
-  pub ascend : All Ascends parts
 
 -- k parts of so many each have k times so many
 length-first : (drops k : ℕ) (parts : List (List Receipt)) → All (λ (part : List Receipt). length part ≡ drops) parts → k ≤ length parts → length (joined (take k parts)) ≡ k * drops
@@ -50,14 +40,14 @@ module _ (drops : ℕ) (parts : List (List Receipt)) (rs : List Receipt) (are : 
     read : get_or parts k [] ≡ part
     read = get_or_from_slice_get parts k part [] there
 
-    length-part : length part ≡ drops
+    pub length-part : length part ≡ drops
     length-part = ap (λ (p : List Receipt). length p) (sym read) ∙ are.long k [] (slice_get_within parts k part there)
 
-    ascends : Ascends part
+    pub ascends : Ascends part
     ascends = subst Ascends read (are.ascend k [] (slice_get_within parts k part there))
 
     -- the i-th receipt of the k-th part is at k * drops + i
-    same_receipt : (i : ℕ) (d : Receipt) → i < drops → get_or rs (k * drops + i) d ≡ get_or part i d
+    pub same_receipt : (i : ℕ) (d : Receipt) → i < drops → get_or rs (k * drops + i) d ≡ get_or part i d
     same_receipt i d inside =
         let within = slice_get_within parts k part there in
         let long = length-part in
@@ -66,10 +56,23 @@ module _ (drops : ℕ) (parts : List (List Receipt)) (rs : List Receipt) (are : 
         ap (λ (xs : List Receipt). get_or xs (k * drops + i) d) (sym are.whole)
         ∙ (ap (λ n. get_or (joined parts) (n + i) d) (sym before) ∙ (get_or-flat_map (λ (p : List Receipt). p) parts k i [] d within fits ∙ ap (λ (p : List Receipt). get_or p i d) read))
 
-    place_inside : (i : ℕ) → i < drops → k * drops + i < length rs
+    pub place_inside : (i : ℕ) → i < drops → k * drops + i < length rs
     place_inside i inside =
         let all = length-parts in
         let rows = mul-le-mul_right drops (slice_get_within parts k part there) in omega arith
+
+    pub in_all : (i : ℕ) (r : Receipt) → slice_get part i ≡ Some r → slice_get rs (k * drops + i) ≡ Some r
+    in_all i r at_part =
+        let long = length-part in
+        let within = slice_get_within part i r at_part in
+        let inside : i < drops = omega arith in
+        slice_get-get_or rs (k * drops + i) r (place_inside i inside) ∙ ap Some (same_receipt i r inside ∙ get_or_from_slice_get part i r r at_part)
+
+    -- and the other way round
+    pub in_part : (i : ℕ) (r : Receipt) → i < drops → slice_get rs (k * drops + i) ≡ Some r → slice_get part i ≡ Some r
+    in_part i r inside at_all =
+        let long = length-part in
+        slice_get-get_or part i r (omega (arith, inside, long)) ∙ ap Some (sym (same_receipt i r inside) ∙ get_or_from_slice_get rs (k * drops + i) r r at_all)
 
     module _ (js : List Entry) (once : EachOnce rs) (below : AllBelow (length rs) rs) (journal : IsJournal drops rs js) where
       -- each receipt of the part has its entry, as one of the k-th dropper
@@ -78,8 +81,7 @@ module _ (drops : ℕ) (parts : List (List Receipt)) (rs : List Receipt) (are : 
           let long = length-part in
           let within = slice_get_within part i r at_part in
           let inside : i < drops = omega arith in
-          let at_all : slice_get rs (k * drops + i) ≡ Some r = slice_get-get_or rs (k * drops + i) r (place_inside i inside) ∙ ap Some (same_receipt i r inside ∙ get_or_from_slice_get part i r r at_part) in
-          (r.number, omega arith, journal.noted (k * drops + i) r at_all ∙ ap (λ x. Some (entry x r.site)) (div-mul-add k drops i inside))
+          (r.number, omega arith, journal.noted (k * drops + i) r (in_all i r at_part) ∙ ap (λ x. Some (entry x r.site)) (div-mul-add k drops i inside))
 
       -- and each entry of the k-th dropper has its receipt in the part
       receipts : (n : ℕ) (e : Entry) → slice_get js n ≡ Some e → e.dropper ≡ k → HasNumber part (0 + n)

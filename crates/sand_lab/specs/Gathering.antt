@@ -22,6 +22,10 @@ HoldsNothing s p = p ≡ record (rowless s 0) { seen = p.seen }
 abbrev pub HoldsBand : SharedView → ℕ → ℕ → Worker → Type 0
 HoldsBand s n j x = x.pass ≡ record (banded s (band (grid_of_terms s.terms).height n j)) { counts = x.pass.counts }
 
+-- the receipts of each dropper
+abbrev pub parts_of : List Dropper → List (List Receipt)
+parts_of droppers = map (λ (d : Dropper). d.pass.receipts) droppers
+
 -- the receipts of the droppers, one dropper's after another's
 abbrev pub all_receipts : List Dropper → List Receipt
 all_receipts droppers = flat_map (λ (d : Dropper). d.pass.receipts) droppers

@@ -1,6 +1,9 @@
 -- The journal of an epoch: which dropper made each drop, and where, by the drop's number.
-use Rattle.std.specs.Prelude.{ℕ, ◌≡◌, ◌*◌, ◌/◌, ◌<◌, ◌==◌, List, AllPairs, length, map, filter, slice_get, Some}
+use Rattle.std.specs.Prelude.{ℕ, ◌≡◌, ◌≢◌, ◌*◌, ◌/◌, ◌^◌, ◌<◌, ◌≤◌, ◌==◌, List, Vec, All, AllPairs, length, map, filter, slice_get, Some}
+use Rattle.std.specs.List.{flat_map}
+use Rattle.std.specs.declared.alloc.Global.{Global}
 use Rattle.sand_shared.specs.declared.view.Receipt.{Receipt}
+use Rattle.sand_shared.specs.Passes.{EachOnce, AllBelow}
 use Rattle.sand_lab.specs.declared.journal.Entry.{Entry}
 use Rattle.sand_lab.specs.Streams.{stream_of, stream_sites}
 
@@ -18,6 +21,37 @@ sites_by dropper journal = sites_in (filter (λ e. e.dropper == dropper) journal
 -- each receipt has a greater number than those before it
 abbrev pub Ascends : List Receipt → Type 0
 Ascends receipts = AllPairs (λ r s. r.number < s.number) receipts
+
+-- the receipts of each dropper, from a list of lists
+abbrev pub lists : List (Vec Receipt Global) → List (List Receipt)
+lists parts = map (λ part. part.items) parts
+
+-- the parts one after another
+abbrev pub joined : List (List Receipt) → List Receipt
+joined parts = flat_map (λ (part : List Receipt). part) parts
+
+-- the receipts are the parts one after another, of which each has so many with numbers that rise
+pub record AreParts (drops : ℕ) (parts : List (List Receipt)) (receipts : List Receipt) : Type 0 where
+  pub whole : joined parts ≡ receipts
+  pub long : All (λ part. length part ≡ drops) parts
+  pub ascend : All Ascends parts
+
+-- such parts of at most 2^32 droppers, whose receipts have each number below their count once, so that a journal of so many
+-- entries has a place for each
+pub record HavePlaces (drops : ℕ) (parts : List (List Receipt)) (long : ℕ) : Type 0 where
+  pub are_parts : AreParts drops parts (joined parts)
+  pub one_each : long ≡ length (joined parts)
+  pub once : EachOnce (joined parts)
+  pub below : AllBelow (length (joined parts)) (joined parts)
+  pub few_droppers : length parts ≤ 2 ^ 32
+
+-- a journal has the entry of each receipt of one dropper at its number
+abbrev pub HasEntries : ℕ → List Receipt → List Entry → Type 0
+HasEntries dropper receipts journal = (i : ℕ) (r : Receipt) → slice_get receipts i ≡ Some r → slice_get journal r.number ≡ Some (entry dropper r.site)
+
+-- two journals have the same entries, except at the numbers of receipts
+abbrev pub AgreeBeside : List Receipt → List Entry → List Entry → Type 0
+AgreeBeside receipts before after = (n : ℕ) → All (λ (r : Receipt). r.number ≢ n) receipts → slice_get after n ≡ slice_get before n
 
 -- the receipts of the droppers come one dropper's after another's, so many each, and the entry of each is at its number
 pub record IsJournal (drops : ℕ) (receipts : List Receipt) (journal : List Entry) : Type 0 where

@@ -1,31 +1,29 @@
 //! One epoch: a crew is hired, works, sweeps on and is gathered; then the pile is closed and its record published.
 
 ghost use Rattle.std.specs.Prelude.{◌≡◌, ◌≢◌, ℕ, ◌+◌, ◌*◌, ◌<◌, ◌≤◌, [], length, sum, map, slice_index, vec_len, IfOk, IfErr};
-ghost use Rattle.sand_settle.specs.Settling.{odometer_of};
-ghost use Rattle.sand_shared.specs.OpenPile.{grid_of_terms};
 ghost use Rattle.sand_shared.specs.Passes.{IsPassOf, IsWhole};
-ghost use Rattle.sand_shared.specs.Record.{IsOneThreads, Tells};
 ghost use Rattle.std.specs.Thread.{IsSync};
 ghost use Rattle.std.specs.declared.option.Option.TheVariants.{Some};
 ghost use Rattle.sand_lab.specs.Albums.{IsPlace};
 ghost use Rattle.sand_lab.specs.Crews.{IsCrew, HasBecome, unshared};
 ghost use Rattle.sand_lab.specs.Faults.{IsMemory, IsOfEpoch};
 ghost use Rattle.sand_plan.specs.Plans.{IsPlan, quota_of};
-ghost use Rattle.sand_lab.specs.Reports.{IsClosed, IsEpoch};
+ghost use Rattle.sand_lab.specs.Journals.{HavePlaces, IsJournal, joined, lists};
+ghost use Rattle.sand_lab.specs.Reports.{IsClosed, IsEpoch, IsRecordOf};
 ghost use Rattle.sand_model.specs.Piles.{most_grains};
 
 use crate::album::{Album, Note, Picture};
 use crate::crew::Crew;
 use crate::faults::LabFault;
 use crate::gate::Gate;
-use crate::gathering::Findings;
+use crate::gathering::{Findings, Gathered};
 use crate::journal::{Entry, blank_journal, write_journal};
 use sand_model::Pile;
 use sand_plan::Wish;
-use sand_shared::{Pass, Record, SharedPile};
+use sand_shared::{Pass, Receipt, Record, SharedPile};
 use std::alloc::{AllocError, Global};
 use std::marker::Model;
-use std::thread::{Threads, join_mut};
+use std::thread::{Threads, join, join_mut};
 
 /// What is kept of an epoch beside its record.
 #[derive(Drop)]
@@ -83,17 +81,48 @@ fn share(alloc: Global, start: &Pile, quota: u64) -> Result<(SharedPile, Pass), 
 fn close(alloc: Global, pile: SharedPile, all: Pass) -> Result<Record, LabFault>
     requires of_pile { IsPassOf pile all }
     requires whole { IsWhole pile.terms all }
-    ensures one_threads { IfOk result IsOneThreads }
-    ensures start { IfOk result (λ r. r.start ≡ pile.terms.start) }
-    ensures history { IfOk result (λ r. Tells all.receipts r.history) }
-    ensures each_drop_once { IfOk result (λ r. length r.history ≡ length all.receipts) }
-    ensures never_fall { IfOk result (λ r. (i : ℕ) → slice_index all.counts i ≤ odometer_of r.settled i) }
+    ensures closed { IfOk result (IsRecordOf pile all) }
     ensures memory { IfErr result IsMemory }
 {
     match pile.settle(alloc, all) {
         Ok(record) => Ok(record),
         Err((fault, _, _)) => Err(LabFault::of_close(fault)),
     }
+}
+
+// Writes the journal of all receipts, which are in parts, in another thread if there is one, while this one settles the
+// pile.
+fn note_and_close<R: Threads>(
+    rt: &R,
+    alloc: Global,
+    pile: SharedPile,
+    all: Pass,
+    mut journal: Vec<Entry>,
+    parts: Vec<Vec<Receipt>>,
+    drops: u32,
+) -> (Vec<Entry>, Result<Record, LabFault>)
+    requires of_pile { IsPassOf pile all }
+    requires whole { IsWhole pile.terms all }
+    requires places { HavePlaces drops (lists parts.items) (vec_len journal) }
+    ensures journal { IsJournal drops (joined (lists parts.items)) result.0.items }
+    ensures closed { IfOk result.1 (IsRecordOf pile all) }
+    ensures memory { IfErr result.1 IsMemory }
+{
+    join(
+        rt,
+        move || -> Vec<Entry>
+            requires { HavePlaces drops (lists parts.items) (vec_len journal) }
+            ensures { IsJournal drops (joined (lists parts.items)) result.items }
+        {
+            write_journal(&mut journal, parts.as_slice(), drops);
+            journal
+        },
+        move || -> Result<Record, LabFault>
+            requires { IsPassOf pile all × IsWhole pile.terms all }
+            ensures closed { IfOk result (IsRecordOf pile all) }
+            ensures memory { IfErr result IsMemory }
+        { close(alloc, pile, all) },
+    )
 }
 
 // Memory for what a crew leaves, made ready: a blank journal, and what the first pass will need. To touch so much new
@@ -192,11 +221,11 @@ fn closed_epoch<R: Threads + Sync, G: Gate>(
 {
     let (pile, mut first) = share(alloc, start, quota_of(wish))?;
     let mut crew = Crew::hire(alloc, &pile, &mut first, start.shape(), wish, epoch)?;
-    let mut journal = work_and_make_ready(rt, alloc, &mut crew, &pile, &mut first, gate, wish)?;
+    let blank = work_and_make_ready(rt, alloc, &mut crew, &pile, &mut first, gate, wish)?;
     crew.sweep_on(rt, &pile, wish.sweeps);
-    let findings = crew.gather(alloc, &pile, &mut first)?;
-    write_journal(&mut journal, first.receipts(), wish.drops);
-    let (closed, shown) = close(alloc, pile, first)?.twice(alloc)?;
+    let Gathered { parts, findings } = crew.gather(alloc, &pile, &mut first)?;
+    let (journal, closed) = note_and_close(rt, alloc, pile, first, blank, parts, wish.drops);
+    let (closed, shown) = closed?.twice(alloc)?;
     Ok(ClosedEpoch {
         closed,
         shown,

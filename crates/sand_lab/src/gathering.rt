@@ -8,7 +8,8 @@ ghost use Rattle.sand_shared.specs.Passes.{IsPassOf, together};
 ghost use Rattle.sand_shared.specs.Rows.{AreApart, no_rows};
 ghost use Rattle.sand_lab.specs.Crews.{EachAt, HasEmptied, HasTended, HasRead, HasWorked, rowless};
 ghost use Rattle.sand_lab.specs.Faults.{IsMemory};
-ghost use Rattle.sand_lab.specs.Gathering.{all_receipts, all_counts, all_swept, readings, HasGathered, HoldsReceipts, HoldsBand, HoldsNothing};
+ghost use Rattle.sand_lab.specs.Gathering.{all_receipts, all_counts, all_swept, readings, HasGathered, parts_of, HoldsReceipts, HoldsBand, HoldsNothing};
+ghost use Rattle.sand_lab.specs.Journals.{lists};
 ghost use Rattle.sand_plan.specs.declared.wish.Wish.{Wish};
 
 use crate::crew::Crew;
@@ -16,8 +17,15 @@ use crate::droppers::Dropper;
 use crate::faults::LabFault;
 use crate::observers::Observer;
 use crate::workers::Worker;
-use sand_shared::{Pass, SharedPile};
+use sand_shared::{Pass, Receipt, SharedPile};
 use std::alloc::Global;
+
+/// What a crew leaves: the receipts of each dropper, and what the workers and the observers found.
+#[derive(Debug, Drop)]
+pub(crate) struct Gathered {
+    pub(crate) parts: Vec<Vec<Receipt>>,
+    pub(crate) findings: Findings,
+}
 
 /// What the workers and the observers of an epoch found.
 #[derive(Debug, Drop)]
@@ -41,35 +49,41 @@ fn take_in(alloc: Global, pile: &SharedPile, first: &mut Pass, other: Pass) -> R
     }
 }
 
-// Takes in a pass that has nothing but receipts.
+// Takes in a pass that has nothing but receipts, and returns them.
 fn take_in_receipts(
     alloc: Global,
     pile: &SharedPile,
     first: &mut Pass,
     other: Pass,
-) -> Result<(), LabFault>
+) -> Result<Vec<Receipt>, LabFault>
     requires first { IsPassOf pile.now first.old }
     requires other { HoldsReceipts pile.now other }
     ensures of_pile { IsPassOf pile.now first.new }
     ensures first { OnOk result (first.new ≡ record first.old { seen = first.new.seen; receipts = first.old.receipts ++ other.receipts }) }
+    ensures receipts { IfOk result (λ v. v.items ≡ other.receipts) }
     ensures memory { IfErr result IsMemory }
 {
-    take_in(alloc, pile, first, other)
+    match pile.join_and_list(alloc, first, other) {
+        Ok(receipts) => Ok(receipts),
+        Err((fault, _)) => Err(LabFault::of_join(fault)),
+    }
 }
 
-// Takes in the passes of droppers, in order.
+// Takes in the passes of droppers, in order. Returns the receipts of each.
 fn gather_droppers(
     alloc: Global,
     pile: &SharedPile,
     first: &mut Pass,
     droppers: Vec<Dropper>,
-) -> Result<(), LabFault>
+) -> Result<Vec<Vec<Receipt>>, LabFault>
     requires first { IsPassOf pile.now first.old }
     requires droppers { All (λ d. HoldsReceipts pile.now d.pass) droppers.items }
     ensures of_pile { IsPassOf pile.now first.new }
     ensures first { OnOk result (first.new ≡ record first.old { seen = first.new.seen; receipts = first.old.receipts ++ all_receipts droppers.items }) }
+    ensures parts { IfOk result (λ v. lists v.items ≡ parts_of droppers.items) }
     ensures memory { IfErr result IsMemory }
 {
+    let mut all = Vec::with_capacity(alloc, droppers.len())?;
     for dropper in droppers {
         let Dropper {
             who: _,
@@ -78,9 +92,10 @@ fn gather_droppers(
             counts: _,
             pass,
         } = dropper;
-        take_in_receipts(alloc, pile, first, pass)?;
+        let receipts = take_in_receipts(alloc, pile, first, pass)?;
+        all.push_reserved(receipts);
     }
-    Ok(())
+    Ok(all)
 }
 
 // Takes in the passes of workers, in the order of their bands. Returns what each has swept.
@@ -138,27 +153,28 @@ fn gather_observers(
             tallies,
             pass,
         } = observer;
-        take_in_receipts(alloc, pile, first, pass)?;
+        let _none = take_in_receipts(alloc, pile, first, pass)?;
         all.push_reserved(tallies);
     }
     Ok(all)
 }
 
 impl Crew {
-    /// The first pass takes in all passes of the crew. Returns what workers and observers found, or Memory if an
-    /// allocation fails, and no other fault.
+    /// The first pass takes in all passes of the crew. Returns what the crew leaves beside it, or Memory if an allocation
+    /// fails, and no other fault.
     pub(crate) fn gather(
         self,
         alloc: Global,
         pile: &SharedPile,
         first: &mut Pass,
-    ) -> Result<Findings, LabFault>
+    ) -> Result<Gathered, LabFault>
         requires first { first.old ≡ rowless pile.now 0 }
         requires crew { (wish : Wish) × (epoch : ℕ) × (0 < wish.workers) × HasWorked pile.now wish epoch self }
         ensures of_pile { IsPassOf pile.now first.new }
         ensures first { OnOk result (HasGathered pile.now self first.new) }
-        ensures swept { IfOk result (λ f. f.swept.items ≡ all_swept self.workers.items) }
-        ensures tallies { IfOk result (λ f. map (λ ts. ts.items) f.tallies.items ≡ readings self.observers.items) }
+        ensures parts { IfOk result (λ g. lists g.parts.items ≡ parts_of self.droppers.items) }
+        ensures swept { IfOk result (λ g. g.findings.swept.items ≡ all_swept self.workers.items) }
+        ensures tallies { IfOk result (λ g. map (λ ts. ts.items) g.findings.tallies.items ≡ readings self.observers.items) }
         ensures memory { IfErr result IsMemory }
     {
         let Crew {
@@ -166,9 +182,12 @@ impl Crew {
             workers,
             observers,
         } = self;
-        gather_droppers(alloc, pile, first, droppers)?;
+        let parts = gather_droppers(alloc, pile, first, droppers)?;
         let swept = gather_workers(alloc, pile, first, workers)?;
         let tallies = gather_observers(alloc, pile, first, observers)?;
-        Ok(Findings { swept, tallies })
+        Ok(Gathered {
+            parts,
+            findings: Findings { swept, tallies },
+        })
     }
 }

@@ -1,9 +1,9 @@
 //! The journal of an epoch: which dropper made each drop, and where, by the number of the drop.
 
-ghost use Rattle.std.specs.Prelude.{◌≡◌, ◌+◌, ◌<◌, ◌≤◌, ◌*◌, ◌^◌, length, vec_len, IfOk, IfErr};
-ghost use Rattle.sand_shared.specs.Passes.{EachOnce, AllBelow};
+ghost use Rattle.std.specs.Prelude.{◌≡◌, vec_len, IfOk, IfErr};
+ghost use Rattle.sand_shared.specs.Passes.{AllBelow};
 ghost use Rattle.sand_lab.specs.Faults.{IsMemory};
-ghost use Rattle.sand_lab.specs.Journals.{IsJournal};
+ghost use Rattle.sand_lab.specs.Journals.{Ascends, HavePlaces, IsJournal, HasEntries, AgreeBeside, joined, lists};
 
 use crate::faults::LabFault;
 use sand_shared::Receipt;
@@ -29,38 +29,29 @@ pub(crate) fn blank_journal(alloc: Global, drops: u64) -> Result<Vec<Entry>, Lab
     Ok(journal)
 }
 
-// Whose receipt is next after one of a dropper, who has so many before it, and how many that one's dropper has before it.
-fn next_receipt(dropper: u64, before: u64, drops: u64) -> (u64, u64)
-    requires inside { before < drops }
-    requires small { dropper * drops + before < 2 ^ 63 }
-    ensures next { result.0 * drops + result.1 ≡ dropper * drops + before + 1 }
-    ensures inside { result.1 < drops }
+// Writes the entries of one dropper's drops.
+fn write_part(journal: &mut Vec<Entry>, dropper: u32, receipts: &[Receipt])
+    requires ascends { Ascends receipts.now }
+    requires below { AllBelow (vec_len journal.old) receipts.now }
+    ensures long { vec_len journal.new ≡ vec_len journal.old }
+    ensures entries { HasEntries dropper receipts.now journal.new.items }
+    ensures others { AgreeBeside receipts.now journal.old.items journal.new.items }
 {
-    if before + 1 == drops {
-        (dropper + 1, 0)
-    } else {
-        (dropper, before + 1)
+    for receipt in receipts.iter() {
+        journal[receipt.number as usize] = Entry {
+            dropper,
+            site: receipt.site,
+        };
     }
 }
 
-/// Writes a journal that is as long as the receipts of all droppers: they come one dropper's after another's, and
-/// `drops` of each.
-pub(crate) fn write_journal(journal: &mut Vec<Entry>, receipts: &[Receipt], drops: u32)
-    requires long { vec_len journal.old ≡ length receipts.now }
-    requires once { EachOnce receipts.now }
-    requires below { AllBelow (length receipts.now) receipts.now }
-    requires few_droppers { length receipts.now ≤ 2 ^ 32 * drops }
-    ensures journal { IsJournal drops receipts.now journal.new.items }
+/// Writes a journal that is as long as the receipts of all droppers, which are in parts: one dropper's, then the next
+/// one's, each with `drops` of them.
+pub(crate) fn write_journal(journal: &mut Vec<Entry>, parts: &[Vec<Receipt>], _drops: u32)
+    requires { HavePlaces _drops (lists parts.now) (vec_len journal.old) }
+    ensures journal { IsJournal _drops (joined (lists parts.now)) journal.new.items }
 {
-    let mut dropper = 0;
-    let mut before = 0;
-    for receipt in receipts.iter() {
-        journal[receipt.number as usize] = Entry {
-            dropper: dropper as u32,
-            site: receipt.site,
-        };
-        let next = next_receipt(dropper, before, u64::from(drops));
-        dropper = next.0;
-        before = next.1;
+    for dropper in 0..parts.len() {
+        write_part(journal, dropper as u32, parts[dropper].as_slice());
     }
 }

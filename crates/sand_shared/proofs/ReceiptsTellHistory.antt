@@ -12,12 +12,13 @@ use Rattle.sand_shared.specs.Record.{Tells}
 use Rattle.sand_shared.proofs.SumsOverPasses.{sum_by_two}
 use Rattle.sand_shared.proofs.NumbersOnce.{one_if_same, one_if_other}
 
-pub get_set_here : (l : List ℕ) (i x : ℕ) → i < length l → slice_get (set l i x) i ≡ Some x
+-- what is written at a place is there, and nothing else changes
+pub get_set_here : {A : Type 0} (l : List A) (i : ℕ) (x : A) → i < length l → slice_get (set l i x) i ≡ Some x
 get_set_here [] i x h = absurd (omega arith)
 get_set_here (y ∷ ys) zero x h = refl
 get_set_here (y ∷ ys) (suc i) x h = get_set_here ys i x (omega arith)
 
-pub get_set_else : (l : List ℕ) (i j x : ℕ) → j ≢ i → slice_get (set l i x) j ≡ slice_get l j
+pub get_set_else : {A : Type 0} (l : List A) (i j : ℕ) (x : A) → j ≢ i → slice_get (set l i x) j ≡ slice_get l j
 get_set_else [] i j x n = refl
 get_set_else (y ∷ ys) zero zero x n = absurd (n refl)
 get_set_else (y ∷ ys) zero (suc j) x n = refl

@@ -7,6 +7,7 @@ ghost use Rattle.sand_shared.specs.Rows.{AreApart};
 use crate::faults::JoinFault;
 use crate::pass::Pass;
 use crate::shared_pile::SharedPile;
+use crate::view::Receipt;
 use std::alloc::{AllocError, Global};
 use std::marker::Brand;
 
@@ -31,16 +32,35 @@ impl SharedPile {
     /// Takes in all that another pass of this pile has: its quota, its receipts behind the pass's own, what it has
     /// seen, and its rows with their counts. Returns Apart if its rows do not touch the pass's own, else Memory if an
     /// allocation fails; both give the other pass back.
-    pub fn join(
-        &self,
-        _alloc: Global,
-        pass: &mut Pass,
-        mut other: Pass,
-    ) -> Result<(), (JoinFault, Pass)>
+    pub fn join(&self, alloc: Global, pass: &mut Pass, other: Pass) -> Result<(), (JoinFault, Pass)>
         requires pass { IsPassOf self.now pass.old }
         requires other { IsPassOf self.now other }
         ensures of_pile { IsPassOf self.now pass.new }
         ensures joined { OnOk result (pass.new ≡ together pass.old other) }
+        ensures touching { OnOk result (¬ AreApart pass.old.rows other.rows) }
+        ensures apart { IfErr result (λ e. (e.0 ≡ JoinFault.Apart) ↔ AreApart pass.old.rows other.rows) }
+        ensures unchanged { OnErr result (pass.new ≡ pass.old) }
+        ensures back { IfErr result (λ e. e.1 ≡ other) }
+    {
+        match self.join_and_list(alloc, pass, other) {
+            Ok(_) => Ok(()),
+            Err(refused) => Err(refused),
+        }
+    }
+
+    /// Joins as `SharedPile::join` does, and returns the receipts that the other pass had. To read them, or to free them
+    /// while another thread goes on, takes no second copy then.
+    pub fn join_and_list(
+        &self,
+        _alloc: Global,
+        pass: &mut Pass,
+        mut other: Pass,
+    ) -> Result<Vec<Receipt>, (JoinFault, Pass)>
+        requires pass { IsPassOf self.now pass.old }
+        requires other { IsPassOf self.now other }
+        ensures of_pile { IsPassOf self.now pass.new }
+        ensures joined { OnOk result (pass.new ≡ together pass.old other) }
+        ensures listed { IfOk result (λ v. v.items ≡ other.receipts) }
         ensures touching { OnOk result (¬ AreApart pass.old.rows other.rows) }
         ensures apart { IfErr result (λ e. (e.0 ≡ JoinFault.Apart) ↔ AreApart pass.old.rows other.rows) }
         ensures unchanged { OnErr result (pass.new ≡ pass.old) }
@@ -62,7 +82,7 @@ impl SharedPile {
             shape: _,
             left,
             seen,
-            mut receipts,
+            receipts,
             rows,
             counts: _,
             blank: _,
@@ -71,8 +91,10 @@ impl SharedPile {
         self.words.learn::<Brand>(&mut pass.seat);
         pass.left += left;
         pass.seen = pass.seen.max(seen);
-        pass.receipts.append(&mut receipts).unwrap();
+        pass.receipts
+            .extend_from_slice(receipts.as_slice())
+            .unwrap();
         pass.rows = pass.rows.together(rows);
-        Ok(())
+        Ok(receipts)
     }
 }

@@ -1,5 +1,6 @@
-use Rattle.std.proofs.Common.{rules, arith, ◌≡◌, suc, List, [], ◌∷◌, ◌++◌, All, ap, ap₂, sym, subst, ◌∙◌, append_assoc, append-nil}
+use Rattle.std.proofs.Common.{rules, arith, ◌≡◌, suc, List, Vec, Global, [], ◌∷◌, ◌++◌, All, ap, ap₂, sym, subst, ◌∙◌, append_assoc, append-nil}
 use Rattle.std.proofs.lemmas.Grind.{flat_map-append}
+use Rattle.std.proofs.lemmas.List.{map-append}
 use Rattle.std.specs.Vec.Iter.{into_iter_items}
 use Rattle.sand_shared.specs.declared.view.Receipt.{Receipt}
 use Rattle.sand_shared.specs.Passes.{PassView}
@@ -25,7 +26,10 @@ loop-dropper-preserved c =
     let rest = subst (All (λ (x : Dropper). HoldsReceipts c.args.pile.now x.pass)) steps i.rest in
     record {
       of_pile = search rules;
-      first = c.in_ok-take_in_receipts.ensures.first ∙ ap₂ (λ (p : PassView) (rs : List Receipt). record p { seen = seen; receipts = rs }) i.first receipts;
+      first = c.in_ok-receipts.ensures.first ∙ ap₂ (λ (p : PassView) (rs : List Receipt). record p { seen = seen; receipts = rs }) i.first receipts;
       items = append_assoc ds (d ∷ []) left ∙ rw (← steps) i.items;
       rest = λ k x lt. rest (suc k) x (omega (arith, lt));
+      room = search rules;
+      parts = rw (c.push_reserved.ensures.items) (map-append (λ (part : Vec Receipt Global). part.items) c.loop-dropper.all.items (c.in_ok-receipts.receipts ∷ []))
+          ∙ ap₂ (λ ps (rs : List Receipt). ps ++ rs ∷ []) i.parts c.in_ok-receipts.ensures.receipts ∙ sym (map-append (λ (x : Dropper). x.pass.receipts) ds (d ∷ []));
     }

@@ -1,8 +1,9 @@
-use Rattle.std.proofs.Common.{◌≡◌, ◌++◌, All}
+use Rattle.std.proofs.Common.{◌≡◌, ◌++◌, ◌+◌, ◌≤◌, All, length, vec_len, vec_capacity}
 use Rattle.std.specs.Vec.Iter.{into_iter_items}
 use Rattle.sand_shared.specs.Passes.{IsPassOf}
 use Rattle.sand_lab.specs.declared.droppers.Dropper.{Dropper}
-use Rattle.sand_lab.specs.Gathering.{all_receipts, HoldsReceipts}
+use Rattle.sand_lab.specs.Gathering.{parts_of, all_receipts, HoldsReceipts}
+use Rattle.sand_lab.specs.Journals.{lists}
 use Rattle.sand_lab.proofs.gathering.gather_droppers.Given as goal
 
 abbrev pub invariant-loop-dropper : goal.invariant-loop-dropper
@@ -11,4 +12,6 @@ invariant-loop-dropper l = record {
   first : l.first ≡ record l.fn.first { seen = l.first.seen; receipts = l.fn.first.receipts ++ all_receipts l.yielded };
   items : l.yielded ++ into_iter_items l.dropper-iterator ≡ l.fn.droppers.items;
   rest : All (λ (d : Dropper). HoldsReceipts l.pile d.pass) (into_iter_items l.dropper-iterator);
+  room : vec_len l.all + length (into_iter_items l.dropper-iterator) ≤ vec_capacity l.all;
+  parts : lists l.all.items ≡ parts_of l.yielded;
 }

@@ -21,7 +21,7 @@ loop-observer-preserved c =
     ap₂ (λ (p : PassView) (q : PassView). p.receipts ++ q.receipts) i.first (rest 0 o (omega arith)) ∙ append-nil before in
     record {
       of_pile = search rules;
-      first = c.in_ok-take_in_receipts.ensures.first ∙ ap₂ (λ (p : PassView) (rs : List Receipt). record p { seen = seen; receipts = rs }) i.first receipts;
+      first = c.in_ok-_none.ensures.first ∙ ap₂ (λ (p : PassView) (rs : List Receipt). record p { seen = seen; receipts = rs }) i.first receipts;
       items = append_assoc os (o ∷ []) left ∙ rw (← steps) i.items;
       rest = λ k x l. rest (suc k) x (omega (arith, l));
       room = search rules;

@@ -1,33 +1,44 @@
-use Rattle.std.proofs.Common.{◌≡◌, ℕ, ◌+◌, ◌*◌, ◌/◌, ◌<◌, get_or, set, sym, ap, ◌∙◌, subst, arith}
-use Rattle.std.proofs.lemmas.Nat.{div-mul-add}
-use Rattle.std.proofs.lemmas.Option.{slice_get-get_or}
-use Rattle.sand_shared.specs.Events.{receipt}
-use Rattle.sand_lab.specs.Journals.{entry}
-use Rattle.sand_lab.proofs.EntriesAtNumbers.{NotedBelow, noted_more, all_noted}
+use Rattle.std.proofs.Common.{◌≡◌, ◌*◌, length, vec_len, Some, ap, sym, subst, ◌∙◌, arith}
+use Rattle.std.proofs.lemmas.List.{length-map}
+use Rattle.std.specs.Prelude.{slice_get}
+use Rattle.sand_shared.specs.Passes.{AllBelow}
+use Rattle.sand_lab.specs.Journals.{joined, lists}
+use Rattle.sand_lab.proofs.EntriesAtNumbers.{NotedBelow, part_at, part_below, noted_more, all_noted}
+use Rattle.sand_lab.proofs.JournalFollowsStreams.{ascends}
 use Rattle.sand_lab.proofs.journal.write_journal.Goals as goal
+use Rattle.sand_lab.proofs.journal.write_journal.Goals.{After-as_slice}
 
-pub loop-receipt-preserved : goal.loop-receipt-preserved
-loop-receipt-preserved c =
-    let i = c.loop-receipt.receipt-index in
-    let rs = c.args.receipts.now in
-    let js = c.loop-receipt.journal.items in
-    let drops = c.args.drops in
-    let r = get_or rs i (receipt 0 0) in
-    let below = c.loop-receipt-test.true in
-    let next = c.next_receipt-next.ensures in
-    let same = c.from.ensures in
-    let after = subst (λ (n : ℕ). c.next_receipt-next.result.0 * n + c.next_receipt-next.result.1 ≡ c.loop-receipt.dropper * n + c.loop-receipt.before + 1) same next.next in
-    let inside = next.inside in
-    let some : 0 < drops = (let few = c.requires.few_droppers in grind (arith, few, below)) in
-    let place = c.loop-receipt.invariant.place in
-    let whose : i / drops ≡ c.loop-receipt.dropper = ap (λ n. n / drops) (sym place) ∙ div-mul-add c.loop-receipt.dropper drops c.loop-receipt.before (c.loop-receipt.invariant.inside some) in
+-- the part that is written is the k-th
+here : (c : After-as_slice) → slice_get (lists c.args.parts.now) c.loop-dropper.dropper ≡ Some c.as_slice.result.now
+here c =
+    let part = c.index-parts-dropper.result in
+    part_at c.args.parts.now c.loop-dropper.dropper part c.loop-dropper-test.true ∙ (λ i. Some (sym c.index-parts-dropper.is i).items) ∙ ap (λ rs. Some rs) (sym c.as_slice.ensures.value)
+
+pub write_part-requires-clause-ascends : goal.write_part-requires-clause-ascends
+write_part-requires-clause-ascends c =
+    ascends c.args._drops (lists c.args.parts.now) (joined (lists c.args.parts.now)) c.requires.are_parts c.loop-dropper.dropper c.as_slice.result.now (here (goal.at.write_part-requires-clause-ascends c).After-as_slice)
+
+pub write_part-requires-clause-below : goal.write_part-requires-clause-below
+write_part-requires-clause-below c =
+    let long : length (joined (lists c.args.parts.now)) ≡ vec_len c.loop-dropper.journal = sym (c.loop-dropper.invariant.long ∙ c.requires.one_each) in
+    part_below c.args._drops (lists c.args.parts.now) (joined (lists c.args.parts.now)) c.requires.are_parts c.loop-dropper.dropper c.as_slice.result.now (vec_len c.loop-dropper.journal)
+    (here (goal.at.write_part-requires-clause-below c).After-as_slice) (subst (λ n. AllBelow n (joined (lists c.args.parts.now))) long c.requires.below)
+
+pub loop-dropper-preserved : goal.loop-dropper-preserved
+loop-dropper-preserved c =
+    let done = c.write_part.ensures in
     record {
-      long = c.loop-receipt.invariant.long;
-      place = omega (arith, after, place);
-      inside = λ _. omega (arith, inside, same);
-      noted = subst (λ (d : ℕ). NotedBelow drops (i + 1) rs (set js r.number (entry d r.site))) whose
-          (noted_more drops i rs js r c.requires.once (slice_get-get_or rs i (receipt 0 0) below) (let inside = c.requires.below i (receipt 0 0) below in let long = c.loop-receipt.invariant.long in omega (arith, inside, long)) c.loop-receipt.invariant.noted);
+      long = done.long ∙ c.loop-dropper.invariant.long;
+      noted = noted_more c.args._drops (lists c.args.parts.now) (joined (lists c.args.parts.now)) c.requires.are_parts c.loop-dropper.dropper c.as_slice.result.now
+          c.loop-dropper.journal.items c.write_part.new.journal.items (here (goal.at.loop-dropper-preserved c).After-as_slice) c.requires.once done.entries done.others c.loop-dropper.invariant.noted;
     }
 
 pub returns : goal.returns
-returns c = record { journal = (let long = c.loop-receipt.invariant.long in all_noted c.args.drops c.loop-receipt.receipt-index c.args.receipts.now c.loop-receipt.journal.items (omega (arith, long)) c.loop-receipt-test.false c.loop-receipt.invariant.noted) }
+returns c =
+    let drops = c.args._drops in
+    let parts = lists c.args.parts.now in
+    let all = joined parts in
+    let js = c.loop-dropper.journal.items in
+    let long : length js ≡ length all = (let kept = c.loop-dropper.invariant.long in let one_each = c.requires.one_each in omega (arith, kept, one_each)) in
+    let end : c.loop-dropper.dropper ≡ length parts = (let last = c.loop-dropper-test.false in let fits = c.loop-dropper.auto.dropper-end in let same = length-map c.args.parts.now (λ part. part.items) in omega (arith, last, fits, same)) in
+    record { journal = all_noted drops parts all c.requires.are_parts js long (subst (λ k. NotedBelow drops (k * drops) all js) end c.loop-dropper.invariant.noted) }

@@ -1,11 +1,10 @@
-use Rattle.std.proofs.Common.{◌≡◌, ◌+◌, ◌*◌, ◌<◌, length, vec_len}
+use Rattle.std.proofs.Common.{◌≡◌, ◌*◌, vec_len}
+use Rattle.sand_lab.specs.Journals.{joined, lists}
 use Rattle.sand_lab.proofs.EntriesAtNumbers.{NotedBelow}
 use Rattle.sand_lab.proofs.journal.write_journal.Given as goal
 
-abbrev pub invariant-loop-receipt : goal.invariant-loop-receipt
-invariant-loop-receipt l = record {
-  long : vec_len l.journal ≡ length l.receipts;
-  place : l.dropper * l.drops + l.before ≡ l.receipt-index;
-  inside : 0 < l.drops → l.before < l.drops;
-  noted : NotedBelow l.drops l.receipt-index l.receipts l.journal.items;
+abbrev pub invariant-loop-dropper : goal.invariant-loop-dropper
+invariant-loop-dropper l = record {
+  long : vec_len l.journal ≡ vec_len l.fn.journal;
+  noted : NotedBelow l._drops (l.dropper * l._drops) (joined (lists l.parts)) l.journal.items;
 }

@@ -1,4 +1,4 @@
-use Rattle.std.proofs.Common.{◌≡◌, ℕ, ◌+◌, ◌*◌, ◌≤◌, max, List, ◌++◌, Bool, true, length, vec_len, vec_capacity, sym, ap, ◌∙◌, subst, arith, rules}
+use Rattle.std.proofs.Common.{◌≡◌, ℕ, ◌+◌, ◌*◌, ◌≤◌, max, List, ◌++◌, Bool, true, length, vec_len, vec_capacity, sym, ap, ap₂, ◌∙◌, subst, arith, rules}
 use Rattle.std.specs.Prelude.{◌||◌, if◌then◌else◌, is_ok}
 use Rattle.atomic_table.specs.Table.{Me}
 use Rattle.sand_shared.specs.declared.view.View.{View}
@@ -10,8 +10,8 @@ use Rattle.sand_shared.specs.Rows.{count_of, rows_together, AreRowsOf, AreApart}
 use Rattle.sand_shared.proofs.RowsJoined.{touching_rows, follows_is, joined_rest, together_rows, together_each}
 use Rattle.sand_shared.proofs.NumbersOnce.{below_join, stands_once}
 use Rattle.sand_shared.proofs.PassAfterEvent.{known_is}
-use Rattle.sand_shared.proofs.shared_pile.SharedPile.join.Goals as goal
-use Rattle.sand_shared.proofs.shared_pile.SharedPile.join.Goals.{After-touch}
+use Rattle.sand_shared.proofs.shared_pile.SharedPile.join_and_list.Goals as goal
+use Rattle.sand_shared.proofs.shared_pile.SharedPile.join_and_list.Goals.{After-touch}
 
 -- what contracts see of both passes
 abbrev first : After-touch → PassView
@@ -70,9 +70,10 @@ invariant_of-pass-2 c =
     let touch = sym c.touch.ensures ∙ c.if-not-touch.false in
     let xs = p.receipts.items in
     let ys = o.receipts.items in
-    let ok : is_ok c.append.result ≡ true = ap is_ok c.unwrap.ensures in
-    let items : c.append.new.self.items ≡ xs ++ ys = (rw ok at c.append.ensures.items) ∙ ap (λ l. l ++ ys) c.reserve.ensures.items in
-    let len : vec_len c.append.new.self ≡ vec_len p.receipts + vec_len o.receipts = (rw ok at c.append.ensures.len) ∙ ap (λ n. n + vec_len o.receipts) c.reserve.ensures.len in
+    let listed : c.as_slice.result.now ≡ ys = c.as_slice.ensures.value in
+    let ok : is_ok c.extend_from_slice.result ≡ true = ap is_ok c.unwrap.ensures in
+    let items : c.extend_from_slice.new.self.items ≡ xs ++ ys = (rw ok at c.extend_from_slice.ensures.items) ∙ ap₂ (λ l m. l ++ m) c.reserve.ensures.items listed in
+    let len : vec_len c.extend_from_slice.new.self ≡ vec_len p.receipts + vec_len o.receipts = (rw ok at c.extend_from_slice.ensures.len) ∙ ap₂ (λ n m. n + m) c.reserve.ensures.len c.as_slice.ensures.len in
     let room : vec_len c.reserve.new.self + ((p.left + vec_len o.receipts) + o.left) ≤ vec_capacity c.reserve.new.self = search rules in
     let order = c.are_followed_by-in_order.ensures in
     let laid : c.lay_together.new.first.items ≡ (if c.are_followed_by-in_order.result then p.counts.items ++ o.counts.items else o.counts.items ++ p.counts.items) = search rules in
@@ -85,7 +86,7 @@ invariant_of-pass-2 c =
     let standing : EachOnce c.learn.new.seat.me.0.receipts = stands_once _ _ _ c.learn.ensures.stands in
     record {
       me = λ q. (known_is c.learn.new.seat.me.0 _ joint q, c.learn.ensures.seat.bare q);
-      receipts_fit = omega (arith, len, room, c.append.ensures.capacity, c.reserve.ensures.len, c.append.new.self.ok.0);
+      receipts_fit = omega (arith, len, room, c.extend_from_slice.ensures.capacity, c.reserve.ensures.len, c.extend_from_slice.new.self.ok.0);
       once = subst EachOnce (ap (λ (v : View). v.receipts) joint) standing;
       below = subst (λ (z : ℕ × List Receipt). AllBelow z.0 z.1) (λ i. (sym latest i, sym items i)) (below_join p.seen o.seen xs ys inv.below inv'.below);
       grid = inv.grid;
