@@ -1,7 +1,8 @@
 //! The command line that is taken, made by clap's builders.
 
-ghost use Rattle.std.specs.Prelude.{◌≡◌, IfOk, codes, false};
-ghost use Rattle.clap.specs.Words.{app_of, rule_of};
+ghost use Rattle.std.specs.Prelude.{◌≡◌, IfOk, Ok, codes, false};
+ghost use Rattle.clap.specs.Words.{AddsArg, AddsSubcommand, app_of, rule_of};
+ghost use Rattle.clap.specs.declared.builder.command.Command.{Command};
 ghost use Rattle.clap.specs.declared.builder.command.Command.TheViews.{out-Command};
 ghost use Rattle.sand_cli.specs.Line.{bare_line, command_line, drops_line, flag, identity_line, lab_line, number, pgm_line, setting, settle_line, side};
 
@@ -82,6 +83,16 @@ fn bare_line<'a>(alloc: Global, name: &'a str, help: Help) -> Command<'a>
         .after_help(help.details)
 }
 
+// A command with one option more, where there is a command.
+fn with_option<'a>(
+    line: Result<Command<'a>, AllocError>,
+    option: Arg<'a>,
+) -> Result<Command<'a>, AllocError>
+    ensures { IfOk result (λ new. (old : Command) × (line.entry ≡ Ok old) × AddsArg old option.entry new) }
+{
+    line?.arg(option)
+}
+
 fn pgm_line<'a>(alloc: Global, name: &'a str, help: Help) -> Result<Command<'a>, AllocError>
     ensures line { IfOk result (λ c. app_of c ≡ pgm_line name.entry.now) }
     ensures local { IfOk result (λ c. (out-Command c).has_globals ≡ false) }
@@ -93,9 +104,9 @@ fn settle_line<'a>(alloc: Global) -> Result<Command<'a>, AllocError>
     ensures line { IfOk result (λ c. app_of c ≡ settle_line) }
     ensures local { IfOk result (λ c. (out-Command c).has_globals ≡ false) }
 {
-    bare_line(alloc, "settle", help::SETTLE)
-        .arg(pile(alloc))?
-        .arg(pgm(alloc))
+    let line = Ok(bare_line(alloc, "settle", help::SETTLE));
+    let line = with_option(line, pile(alloc));
+    with_option(line, pgm(alloc))
 }
 
 fn drops_line<'a>(alloc: Global) -> Result<Command<'a>, AllocError>
@@ -123,23 +134,25 @@ fn drops_line<'a>(alloc: Global) -> Result<Command<'a>, AllocError>
         4294967295,
         "Stream of the seed [default: 0]",
     );
-    bare_line(alloc, "drops", help::DROPS)
-        .arg(count)?
-        .arg(seed)?
-        .arg(stream)?
-        .arg(pile(alloc))
+    let line = Ok(bare_line(alloc, "drops", help::DROPS));
+    let line = with_option(line, count);
+    let line = with_option(line, seed);
+    let line = with_option(line, stream);
+    with_option(line, pile(alloc))
 }
 
 fn identity_line<'a>(alloc: Global) -> Result<Command<'a>, AllocError>
     ensures line { IfOk result (λ c. app_of c ≡ identity_line) }
     ensures local { IfOk result (λ c. (out-Command c).has_globals ≡ false) }
 {
+    let width = side(alloc, "width", "Sites in a row, from 1 to 256");
+    let height = side(alloc, "height", "Rows, from 1 to 256");
     let cylinder = flag(alloc, "cylinder", "Let the rows go round");
-    bare_line(alloc, "identity", help::IDENTITY)
-        .arg(side(alloc, "width", "Sites in a row, from 1 to 256"))?
-        .arg(side(alloc, "height", "Rows, from 1 to 256"))?
-        .arg(cylinder)?
-        .arg(pgm(alloc))
+    let line = Ok(bare_line(alloc, "identity", help::IDENTITY));
+    let line = with_option(line, width);
+    let line = with_option(line, height);
+    let line = with_option(line, cylinder);
+    with_option(line, pgm(alloc))
 }
 
 fn lab_line<'a>(alloc: Global) -> Result<Command<'a>, AllocError>
@@ -153,32 +166,44 @@ fn lab_line<'a>(alloc: Global) -> Result<Command<'a>, AllocError>
     let workers = setting(alloc, "workers", 1, MOST_WORKERS, "1", help::WORKERS);
     let sweeps = setting(alloc, "sweeps", 0, MOST_SWEEPS, "0", help::SWEEPS);
     let observers = setting(alloc, "observers", 0, MOST_OBSERVERS, "0", help::OBSERVERS);
-    bare_line(alloc, "lab", help::LAB)
-        .arg(seed)?
-        .arg(droppers)?
-        .arg(drops)?
-        .arg(epochs)?
-        .arg(workers)?
-        .arg(sweeps)?
-        .arg(observers)?
-        .arg(flag(alloc, "journal", "Write a line for each drop, too"))?
-        .arg(pile(alloc))?
-        .arg(pgm(alloc))
+    let journal = flag(alloc, "journal", "Write a line for each drop, too");
+    let line = Ok(bare_line(alloc, "lab", help::LAB));
+    let line = with_option(line, seed);
+    let line = with_option(line, droppers);
+    let line = with_option(line, drops);
+    let line = with_option(line, epochs);
+    let line = with_option(line, workers);
+    let line = with_option(line, sweeps);
+    let line = with_option(line, observers);
+    let line = with_option(line, journal);
+    let line = with_option(line, pile(alloc));
+    with_option(line, pgm(alloc))
+}
+
+// A command line with one command more, where there are both.
+fn with_command<'a>(
+    line: Result<Command<'a>, AllocError>,
+    command: Result<Command<'a>, AllocError>,
+) -> Result<Command<'a>, AllocError>
+    ensures { IfOk result (λ new. (old : Command) × (sub : Command) × (line.entry ≡ Ok old) × (command.entry ≡ Ok sub)
+        × AddsSubcommand old sub new) }
+{
+    line?.subcommand(command?)
 }
 
 /// The command line of `sandpile`.
 pub(crate) fn command_line<'a>(alloc: Global) -> Result<Command<'a>, AllocError>
     ensures { IfOk result (λ c. app_of c ≡ command_line) }
 {
-    bare_line(alloc, "sandpile", help::PROGRAM)
+    let top = bare_line(alloc, "sandpile", help::PROGRAM)
         .subcommand_required(true)
-        .disable_help_subcommand(true)
-        .subcommand(settle_line(alloc)?)?
-        .subcommand(bare_line(alloc, "burn", help::BURN))?
-        .subcommand(identity_line(alloc)?)?
-        .subcommand(drops_line(alloc)?)?
-        .subcommand(pgm_line(alloc, "add", help::ADD)?)?
-        .subcommand(pgm_line(alloc, "inverse", help::INVERSE)?)?
-        .subcommand(pgm_line(alloc, "recurrent", help::RECURRENT)?)?
-        .subcommand(lab_line(alloc)?)
+        .disable_help_subcommand(true);
+    let line = with_command(Ok(top), settle_line(alloc));
+    let line = with_command(line, Ok(bare_line(alloc, "burn", help::BURN)));
+    let line = with_command(line, identity_line(alloc));
+    let line = with_command(line, drops_line(alloc));
+    let line = with_command(line, pgm_line(alloc, "add", help::ADD));
+    let line = with_command(line, pgm_line(alloc, "inverse", help::INVERSE));
+    let line = with_command(line, pgm_line(alloc, "recurrent", help::RECURRENT));
+    with_command(line, lab_line(alloc))
 }
