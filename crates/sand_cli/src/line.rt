@@ -83,7 +83,8 @@ fn bare_line<'a>(alloc: Global, name: &'a str, help: Help) -> Command<'a>
         .after_help(help.details)
 }
 
-// A command with one option more, where there is a command.
+// A command with one option more, if there is a command. It takes a result, since in a chain of `?` each value that lives on is
+// looked up again at each later call, which doubles the time of the proofs.
 fn with_option<'a>(
     line: Result<Command<'a>, AllocError>,
     option: Arg<'a>,
@@ -180,7 +181,7 @@ fn lab_line<'a>(alloc: Global) -> Result<Command<'a>, AllocError>
     with_option(line, pgm(alloc))
 }
 
-// A command line with one command more, where there are both.
+// A command line with one command more, if there are both.
 fn with_command<'a>(
     line: Result<Command<'a>, AllocError>,
     command: Result<Command<'a>, AllocError>,

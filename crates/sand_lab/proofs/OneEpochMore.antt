@@ -9,7 +9,7 @@ use Rattle.sand_shared.specs.Record.{RecordView}
 use Rattle.sand_lab.specs.declared.journal.Entry.{Entry}
 use Rattle.sand_plan.specs.declared.wish.Wish.{Wish}
 use Rattle.sand_plan.specs.Plans.{quota_of, all_drops}
-use Rattle.sand_lab.specs.Reports.{SheetView, ReportView, IsEpoch, AreEpochs, IsTotal, IsReportOf, IsBoth, HasGrown, last_pile, histories}
+use Rattle.sand_lab.specs.Reports.{SheetView, ReportView, report_of, IsEpoch, AreEpochs, IsTotal, IsReportOf, IsBoth, HasGrown, last_pile, histories}
 use Rattle.sand_lab.proofs.RecordBounds.{settled_grains}
 
 epochs_push : (album : List ℕ) (w : Wish) (start : PileView) (t : ℕ) (rs : List RecordView) (ss : List SheetView) (r : RecordView) (s : SheetView) → AreEpochs album w start t rs ss
@@ -46,6 +46,22 @@ total_more start rs p r q t b = record {
       omega (arith, both, was, push);
   topplings = (let push = sum_push (λ x. x.settled.topplings) rs r in let both = b.topplings in let was = t.topplings in omega (arith, both, was, push));
   lost = (let push = sum_push (λ x. x.settled.lost) rs r in let both = b.lost in let was = t.lost in omega (arith, both, was, push));
+}
+
+-- a report of one epoch
+pub report_first : (album : List ℕ) (w : Wish) (start : PileView) (r : RecordView) (s : SheetView) → IsEpoch album w start 0 r s → IsReportOf album w start 1 (report_of r s)
+report_first album w start r s e = record {
+  all = refl;
+  epochs = (e, tt);
+  total = record {
+    one_threads = e.closed.one_threads;
+    from_start = e.closed.from_start;
+    history = sym (append-nil r.history);
+    pile = refl;
+    odometer = λ i l. sym (sum_by-cons (λ (x : RecordView). odometer_of x.settled i) r [] ∙ omega arith);
+    topplings = sym (sum_by-cons (λ (x : RecordView). x.settled.topplings) r [] ∙ omega arith);
+    lost = sym (sum_by-cons (λ (x : RecordView). x.settled.lost) r [] ∙ omega arith);
+  };
 }
 
 -- and one epoch more, which starts from the pile after all before it
