@@ -1,29 +1,8 @@
 use Rattle.std.proofs.Common.{◌≡◌, ◌∙◌, slice_index, length, refl, ap, arith}
-use Rattle.std.proofs.lemmas.Result.{err_from_is_err_and}
 use Rattle.sand_model.specs.Grid.{sites}
 use Rattle.sand_model.specs.Sand.{IsStable}
 use Rattle.sand_group.proofs.FireLeavesForbidden.{burned_recurrent, burned_forbidden}
 use Rattle.sand_group.proofs.burning.burn.Goals as goal
-
-pub returns-in_err-lattice-clause-memory : goal.returns-in_err-lattice-clause-memory
-returns-in_err-lattice-clause-memory c stable =
-    let fault = err_from_is_err_and c.from_residual.result c.from_residual.ensures.1 in
-    rw fault.1 fault.2
-
-pub returns-in_err-unburnt-clause-memory : goal.returns-in_err-unburnt-clause-memory
-returns-in_err-unburnt-clause-memory c stable =
-    let fault = err_from_is_err_and c.from_residual-in_err-unburnt.result c.from_residual-in_err-unburnt.ensures.1 in
-    rw fault.1 fault.2
-
-pub returns-in_err-burnt-clause-memory : goal.returns-in_err-burnt-clause-memory
-returns-in_err-burnt-clause-memory c stable =
-    let fault = err_from_is_err_and c.from_residual-in_err-burnt.result c.from_residual-in_err-burnt.ensures.1 in
-    rw fault.1 fault.2
-
-pub returns-in_err-left-clause-memory : goal.returns-in_err-left-clause-memory
-returns-in_err-left-clause-memory c stable =
-    let fault = err_from_is_err_and c.from_residual-in_err-left.result c.from_residual-in_err-left.ensures.1 in
-    rw fault.1 fault.2
 
 pub returns-then-len-sites-clause-burned : goal.returns-then-len-sites-clause-burned
 returns-then-len-sites-clause-burned c =

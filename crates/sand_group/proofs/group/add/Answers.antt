@@ -1,5 +1,3 @@
-use Rattle.std.proofs.Common.{◌∙◌}
-use Rattle.std.proofs.lemmas.Result.{err_from_is_err_and}
 use Rattle.sand_model.specs.Piles.{height_of}
 use Rattle.sand_group.proofs.OperationsSettle.{recurrent_plus, sum_is_settled}
 use Rattle.sand_group.proofs.OperationsOnHeights.{low_heights, sums_low, sum_settles, recurrent_there}
@@ -10,16 +8,6 @@ settled-requires-clause-low c =
     let low_a = low_heights c.a.inside.pile c.heights.result.now c.heights.ensures.pile c.heights.ensures.value c.a.invariant.stable in
     let low_b = low_heights c.b.inside.pile c.heights-2.result.now c.heights-2.ensures.pile c.heights-2.ensures.value c.b.invariant.stable in
     sums_low c.heights.result.now c.heights-2.result.now c.in_ok-heights.heights.items c.in_ok-heights.ensures.one_each low_a low_b c.in_ok-heights.ensures.sums
-
-pub returns-in_err-heights-clause-memory : goal.returns-in_err-heights-clause-memory
-returns-in_err-heights-clause-memory c same =
-    let fault = err_from_is_err_and c.from_residual.result c.from_residual.ensures.1 in
-    rw fault.1 fault.2
-
-pub returns-in_err-settled-clause-memory : goal.returns-in_err-settled-clause-memory
-returns-in_err-settled-clause-memory c same =
-    let fault = err_from_is_err_and c.from_residual-in_err-settled.result c.from_residual-in_err-settled.ensures.1 in
-    rw fault.1 (fault.2 ∙ c.in_err-settled.ensures.memory)
 
 pub invariant_of-result : goal.invariant_of-result
 invariant_of-result c =

@@ -1,20 +1,8 @@
-use Rattle.std.proofs.Common.{◌∙◌}
-use Rattle.std.proofs.lemmas.Result.{err_from_is_err_and}
 use Rattle.std.proofs.Common.{slice_index}
 use Rattle.sand_model.specs.Piles.{height_of}
 use Rattle.sand_group.proofs.OperationsSettle.{identity_is_settled}
 use Rattle.sand_group.proofs.OperationsOnHeights.{recurrent_there}
 use Rattle.sand_group.proofs.group.settled_identity.Goals as goal
-
-pub returns-in_err-heights-clause-memory : goal.returns-in_err-heights-clause-memory
-returns-in_err-heights-clause-memory c =
-    let fault = err_from_is_err_and c.from_residual.result c.from_residual.ensures.1 in
-    rw fault.1 (fault.2 ∙ c.in_err-heights.ensures.memory)
-
-pub returns-in_err-settled-clause-memory : goal.returns-in_err-settled-clause-memory
-returns-in_err-settled-clause-memory c =
-    let fault = err_from_is_err_and c.from_residual-in_err-settled.result c.from_residual-in_err-settled.ensures.1 in
-    rw fault.1 (fault.2 ∙ c.in_err-settled.ensures.memory)
 
 pub invariant_of-result : goal.invariant_of-result
 invariant_of-result c =
