@@ -90,10 +90,14 @@ module _ (s : SharedView) (w : Wish) (t : ℕ) (c : Crew) (p : PassView) (quota 
   pub whole : IsWhole s.terms p
   whole = record { quota = (let none = gathered.left in let all = all_dropped in omega (arith, none, all, quota)); rows = gathered.rows }
 
+  -- the lists of the droppers' receipts are all receipts
+  pub gathered_parts : (lists : List (List Receipt)) → lists ≡ parts_of c.droppers.items → joined lists ≡ p.receipts
+  gathered_parts lists same = ap joined same ∙ parts.whole
+
   -- a journal of all has a place for each
   pub places : (lists : List (List Receipt)) (long : ℕ) → lists ≡ parts_of c.droppers.items → long ≡ quota_of w → EachOnce p.receipts → IsPlan w → HavePlaces w.drops lists long
   places lists long same all once plan =
-      let mine : p.receipts ≡ joined lists = sym (ap joined same ∙ parts.whole) in
+      let mine = sym (gathered_parts lists same) in
       record {
         are_parts = record { whole = refl; long = subst (All (λ part. length part ≡ w.drops)) (sym same) parts.long; ascend = subst (All Ascends) (sym same) parts.ascend };
         one_each = all ∙ sym all_dropped ∙ ap (λ (rs : List Receipt). length rs) mine;

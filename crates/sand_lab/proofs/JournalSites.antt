@@ -1,8 +1,8 @@
 -- The sites of a journal are those of the history.
 use Rattle.std.proofs.Common.{ℕ, ◌≡◌, ◌/◌, ◌<◌, List, length, get_or, Some, sym, ap, ◌∙◌, subst, arith}
 use Rattle.std.proofs.lemmas.List.{ext_get_or, length-map, get_or-map}
-use Rattle.std.proofs.lemmas.Option.{get_or_from_slice_get, slice_get_within}
-use Rattle.std.specs.Prelude.{slice_get}
+use Rattle.std.proofs.lemmas.Option.{get_or_from_slice_get, slice_get-get_or, slice_get-map, slice_get_within}
+use Rattle.std.specs.Prelude.{slice_get, option_map}
 use Rattle.sand_shared.specs.declared.view.Receipt.{Receipt}
 use Rattle.sand_shared.specs.Passes.{EachOnce, AllBelow}
 use Rattle.sand_shared.specs.Record.{Tells}
@@ -32,3 +32,9 @@ journal_sites drops rs js history journal told once below long =
     let tells : slice_get history r.number ≡ Some r.site = subst (λ (q : Receipt). slice_get history q.number ≡ Some q.site) (get_or_from_slice_get rs i r r found.2) (told i r (slice_get_within rs i r found.2)) in
     get_or-map (λ (e : Entry). e.site) js n (entry 0 0) 0 (omega arith)
     ∙ (ap (λ (e : Entry). e.site) read ∙ sym (get_or_from_slice_get history n r.site 0 (ap (slice_get history) (sym found.3) ∙ tells))))
+
+-- and the sites of a journal tell its receipts
+pub journal_tells : (drops : ℕ) (rs : List Receipt) (js : List Entry) → IsJournal drops rs js → Tells rs (sites_in js)
+journal_tells drops rs js journal k d inside =
+    let r = get_or rs k d in
+    slice_get-map (λ (e : Entry). e.site) js r.number ∙ ap (option_map (λ (e : Entry). e.site)) (journal.noted k r (slice_get-get_or rs k d inside))

@@ -1,14 +1,15 @@
 //! One epoch: a crew is hired, works, sweeps on and is gathered; then the pile is closed and its record published.
 
-ghost use Rattle.std.specs.Prelude.{◌≡◌, ◌≢◌, ℕ, ◌+◌, ◌*◌, ◌<◌, ◌≤◌, [], length, sum, map, slice_index, vec_len, IfOk, IfErr};
+ghost use Rattle.std.specs.Prelude.{◌≡◌, ◌≢◌, ℕ, ◌+◌, ◌*◌, ◌<◌, ◌≤◌, [], length, sum, map, slice_index, vec_len, vec_capacity, IfOk, IfErr};
 ghost use Rattle.sand_shared.specs.Passes.{IsPassOf, IsWhole};
+ghost use Rattle.sand_shared.specs.Sweeps.{IsRestOf};
 ghost use Rattle.std.specs.Thread.{IsSync};
 ghost use Rattle.std.specs.declared.option.Option.TheVariants.{Some};
 ghost use Rattle.sand_lab.specs.Albums.{IsPlace};
 ghost use Rattle.sand_lab.specs.Crews.{IsCrew, HasBecome, unshared};
 ghost use Rattle.sand_lab.specs.Faults.{IsMemory, IsOfEpoch};
 ghost use Rattle.sand_plan.specs.Plans.{IsPlan, quota_of};
-ghost use Rattle.sand_lab.specs.Journals.{HavePlaces, IsJournal, joined, lists};
+ghost use Rattle.sand_lab.specs.Journals.{HavePlaces, IsJournal, joined, lists, sites_in};
 ghost use Rattle.sand_lab.specs.Reports.{IsClosed, IsEpoch, IsRecordOf};
 ghost use Rattle.sand_model.specs.Piles.{most_grains};
 
@@ -17,11 +18,12 @@ use crate::crew::Crew;
 use crate::faults::LabFault;
 use crate::gate::Gate;
 use crate::gathering::{Findings, Gathered};
-use crate::journal::{Entry, blank_journal, write_journal};
+use crate::journal::{Entry, blank_history, blank_journal, history_of, write_journal};
 use sand_model::Pile;
 use sand_plan::Wish;
-use sand_shared::{Pass, Receipt, Record, SharedPile};
-use std::alloc::{AllocError, Global};
+use sand_settle::Settled;
+use sand_shared::{BarePass, Pass, Receipt, Record, SharedPile};
+use std::alloc::Global;
 use std::marker::Model;
 use std::thread::{Threads, join, join_mut};
 
@@ -46,6 +48,13 @@ impl Model for Sheet {
       place = s.note.cell;
       shown = s.note.known;
     } };
+}
+
+// Lists for the journal and for the history of an epoch, which say nothing yet.
+#[derive(Drop)]
+struct Blank {
+    journal: Vec<Entry>,
+    history: Vec<usize>,
 }
 
 // What a closed epoch leaves: its record, for the report and for the album, and what is kept beside it.
@@ -77,112 +86,166 @@ fn share(alloc: Global, start: &Pile, quota: u64) -> Result<(SharedPile, Pass), 
     }
 }
 
-// Settles the pile of an epoch with a pass that has gathered all.
-fn close(alloc: Global, pile: SharedPile, all: Pass) -> Result<Record, LabFault>
-    requires of_pile { IsPassOf pile all }
-    requires whole { IsWhole pile.terms all }
-    ensures closed { IfOk result (IsRecordOf pile all) }
+// Settles what is left of the pile of an epoch, with a pass that has gathered all.
+fn settle_rest(alloc: Global, pile: &SharedPile, all: &mut BarePass) -> Result<Settled, LabFault>
+    requires of_pile { IsPassOf pile.now all.old }
+    requires whole { IsWhole pile.now.terms all.old }
+    ensures pass { all.new ≡ all.old }
+    ensures rest { IfOk result (IsRestOf pile.now.terms all.old) }
     ensures memory { IfErr result IsMemory }
 {
-    match pile.settle(alloc, all) {
-        Ok(record) => Ok(record),
-        Err((fault, _, _)) => Err(LabFault::of_close(fault)),
+    match pile.settle_rest(alloc, all) {
+        Ok(rest) => Ok(rest),
+        Err(fault) => Err(LabFault::of_close(fault)),
     }
 }
 
-// Writes the journal of all receipts, which are in parts, in another thread if there is one, while this one settles the
-// pile.
-fn note_and_close<R: Threads>(
+// Writes the journal of all receipts, which are in parts, in another thread if there is one, while this one settles what is
+// left of the pile.
+fn note_and_settle<R: Threads + Sync>(
+    rt: &R,
+    alloc: Global,
+    pile: &SharedPile,
+    all: &mut BarePass,
+    journal: &mut Vec<Entry>,
+    parts: &[Vec<Receipt>],
+    drops: u32,
+) -> Result<Settled, LabFault>
+    requires of_pile { IsPassOf pile.now all.old }
+    requires whole { IsWhole pile.now.terms all.old }
+    requires places { HavePlaces drops (lists parts.now) (vec_len journal.old) }
+    ensures journal { IsJournal drops (joined (lists parts.now)) journal.new.items }
+    ensures pass { all.new ≡ all.old }
+    ensures rest { IfOk result (IsRestOf pile.now.terms all.old) }
+    ensures memory { IfErr result IsMemory }
+{
+    let ((), rest) = join_mut(
+        rt,
+        &mut ||
+            requires { HavePlaces drops (lists parts.now) (vec_len journal.now) }
+            ensures { IsJournal drops (joined (lists parts.entry.now)) journal.exit.now.items }
+        { write_journal(journal, parts, drops) },
+        &mut || -> Result<Settled, LabFault>
+            requires { IsPassOf pile.now all.now × IsWhole pile.now.terms all.now }
+            ensures pass { all.exit.now ≡ all.entry.now }
+            ensures rest { IfOk result (IsRestOf pile.entry.now.terms all.entry.now) }
+            ensures memory { IfErr result IsMemory }
+        { settle_rest(alloc, pile, all) },
+    );
+    rest
+}
+
+// Writes the history that a journal has into a list with room for it, while another thread frees the receipts.
+fn write_history_and_free<R: Threads>(
+    rt: &R,
+    blank: Vec<usize>,
+    journal: &[Entry],
+    parts: Vec<Vec<Receipt>>,
+) -> Vec<usize>
+    requires empty { blank.items ≡ [] }
+    requires room { length journal.now ≤ vec_capacity blank }
+    ensures { result.items ≡ sites_in journal.now }
+{
+    let ((), history) = join(
+        rt,
+        move || drop(parts),
+        move || -> Vec<usize>
+            requires { (blank.items ≡ []) × (length journal.now ≤ vec_capacity blank) }
+            ensures { result.items ≡ sites_in journal.entry.now }
+        { history_of(blank, journal) },
+    );
+    history
+}
+
+// Makes the record of an epoch, and its journal, with a pass that has gathered all.
+fn note_and_close<R: Threads + Sync>(
     rt: &R,
     alloc: Global,
     pile: SharedPile,
-    all: Pass,
-    mut journal: Vec<Entry>,
+    mut all: BarePass,
+    blank: Blank,
     parts: Vec<Vec<Receipt>>,
     drops: u32,
-) -> (Vec<Entry>, Result<Record, LabFault>)
+) -> Result<(Vec<Entry>, Record), LabFault>
     requires of_pile { IsPassOf pile all }
     requires whole { IsWhole pile.terms all }
-    requires places { HavePlaces drops (lists parts.items) (vec_len journal) }
-    ensures journal { IsJournal drops (joined (lists parts.items)) result.0.items }
-    ensures closed { IfOk result.1 (IsRecordOf pile all) }
-    ensures memory { IfErr result.1 IsMemory }
-{
-    join(
-        rt,
-        move || -> Vec<Entry>
-            requires { HavePlaces drops (lists parts.items) (vec_len journal) }
-            ensures { IsJournal drops (joined (lists parts.items)) result.items }
-        {
-            write_journal(&mut journal, parts.as_slice(), drops);
-            journal
-        },
-        move || -> Result<Record, LabFault>
-            requires { IsPassOf pile all × IsWhole pile.terms all }
-            ensures closed { IfOk result (IsRecordOf pile all) }
-            ensures memory { IfErr result IsMemory }
-        { close(alloc, pile, all) },
-    )
-}
-
-// Memory for what a crew leaves, made ready: a blank journal, and what the first pass will need. To touch so much new
-// memory takes longer than its drops.
-fn make_ready<R: Threads + Sync>(
-    rt: &R,
-    alloc: Global,
-    first: &mut Pass,
-    drops: u64,
-) -> Result<Vec<Entry>, LabFault>
-    ensures pass { first.new ≡ first.old }
-    ensures long { IfOk result (λ v. vec_len v ≡ drops) }
+    requires places { HavePlaces drops (lists parts.items) (vec_len blank.journal) }
+    requires parts { joined (lists parts.items) ≡ all.receipts }
+    requires room { (blank.history.items ≡ []) × (vec_len blank.journal ≤ vec_capacity blank.history) }
+    ensures journal { IfOk result (λ r. IsJournal drops (joined (lists parts.items)) r.0.items) }
+    ensures closed { IfOk result (λ r. IsRecordOf pile all r.1) }
     ensures memory { IfErr result IsMemory }
 {
-    let (journal, made) = join_mut(
+    let Blank {
+        mut journal,
+        history,
+    } = blank;
+    let rest = note_and_settle(
         rt,
-        &mut || -> Result<Vec<Entry>, LabFault>
+        alloc,
+        &pile,
+        &mut all,
+        &mut journal,
+        parts.as_slice(),
+        drops,
+    )?;
+    let history = write_history_and_free(rt, history, journal.as_slice(), parts);
+    Ok((journal, pile.complete(all, rest, history)))
+}
+
+// A blank journal and a blank history of so many drops, at once. To touch so much new memory takes longer than the drops.
+fn make_blank<R: Threads + Sync>(rt: &R, alloc: Global, drops: u64) -> Result<Blank, LabFault>
+    ensures journal { IfOk result (λ b. vec_len b.journal ≡ drops) }
+    ensures history { IfOk result (λ b. (b.history.items ≡ []) × (drops ≤ vec_capacity b.history)) }
+    ensures memory { IfErr result IsMemory }
+{
+    let (journal, history) = join(
+        rt,
+        || -> Result<Vec<Entry>, LabFault>
             ensures long { IfOk result (λ v. vec_len v ≡ drops) }
             ensures memory { IfErr result IsMemory }
         { blank_journal(alloc, drops) },
-        &mut || -> Result<(), AllocError>
-            requires { IsSync R.row }
-            ensures { first.exit.now ≡ first.entry.now }
-        { first.make_ready(rt) },
+        || -> Result<Vec<usize>, LabFault>
+            ensures empty { IfOk result (λ v. v.items ≡ []) }
+            ensures room { IfOk result (λ v. drops ≤ vec_capacity v) }
+            ensures memory { IfErr result IsMemory }
+        { blank_history(alloc, drops) },
     );
-    made?;
-    journal
+    let journal = journal?;
+    let history = history?;
+    Ok(Blank { journal, history })
 }
 
-// A crew works, while memory is made ready for what it leaves.
-fn work_and_make_ready<R: Threads + Sync, G: Gate>(
+// A crew works, while lists are made for what it leaves.
+fn work_and_make_blank<R: Threads + Sync, G: Gate>(
     rt: &R,
     alloc: Global,
     crew: &mut Crew,
     pile: &SharedPile,
-    first: &mut Pass,
     gate: &G,
     wish: Wish,
-) -> Result<Vec<Entry>, LabFault>
+) -> Result<Blank, LabFault>
     requires crew { (epoch : ℕ) × IsCrew pile.now wish epoch crew.old }
     ensures crew { HasBecome pile.now wish crew.old crew.new }
-    ensures pass { first.new ≡ first.old }
-    ensures long { IfOk result (λ v. vec_len v ≡ quota_of wish) }
+    ensures journal { IfOk result (λ b. vec_len b.journal ≡ quota_of wish) }
+    ensures history { IfOk result (λ b. (b.history.items ≡ []) × (quota_of wish ≤ vec_capacity b.history)) }
     ensures memory { IfErr result IsMemory }
 {
     let drops = quota_of(wish);
-    let ((), journal) = join_mut(
+    let ((), blank) = join_mut(
         rt,
         &mut ||
             requires { IsSync R.row × IsSync G.row × ((epoch : ℕ) × IsCrew pile.now wish epoch crew.now) }
             ensures { HasBecome pile.entry.now wish crew.entry.now crew.exit.now }
         { crew.work(rt, pile, gate, wish) },
-        &mut || -> Result<Vec<Entry>, LabFault>
+        &mut || -> Result<Blank, LabFault>
             requires { IsSync R.row }
-            ensures pass { first.exit.now ≡ first.entry.now }
-            ensures long { IfOk result (λ v. vec_len v ≡ drops) }
+            ensures journal { IfOk result (λ b. vec_len b.journal ≡ drops) }
+            ensures history { IfOk result (λ b. (b.history.items ≡ []) × (drops ≤ vec_capacity b.history)) }
             ensures memory { IfErr result IsMemory }
-        { make_ready(rt, alloc, first, drops) },
+        { make_blank(rt, alloc, drops) },
     );
-    journal
+    blank
 }
 
 // A copy of a record for the total to grow from, with room for so many drops more. A total that does not grow shares the
@@ -221,11 +284,12 @@ fn closed_epoch<R: Threads + Sync, G: Gate>(
 {
     let (pile, mut first) = share(alloc, start, quota_of(wish))?;
     let mut crew = Crew::hire(alloc, &pile, &mut first, start.shape(), wish, epoch)?;
-    let blank = work_and_make_ready(rt, alloc, &mut crew, &pile, &mut first, gate, wish)?;
+    let blank = work_and_make_blank(rt, alloc, &mut crew, &pile, gate, wish)?;
     crew.sweep_on(rt, &pile, wish.sweeps);
-    let Gathered { parts, findings } = crew.gather(alloc, &pile, &mut first)?;
-    let (journal, closed) = note_and_close(rt, alloc, pile, first, blank, parts, wish.drops);
-    let (closed, shown) = closed?.twice(alloc)?;
+    let (mut all, _none) = first.into_bare();
+    let Gathered { parts, findings } = crew.gather(alloc, &pile, &mut all)?;
+    let (journal, closed) = note_and_close(rt, alloc, pile, all, blank, parts, wish.drops)?;
+    let (closed, shown) = closed.twice(alloc)?;
     Ok(ClosedEpoch {
         closed,
         shown,

@@ -1,5 +1,5 @@
 //! How the passes of a crew are gathered: droppers' in order, then workers' in the order of their bands, then
-//! observers'; and what workers and observers found.
+//! observers'; and what workers and observers found. They are gathered bare, so no receipt is copied.
 
 ghost use Rattle.std.specs.Prelude.{◌≡◌, ℕ, ◌+◌, ◌<◌, ◌≤◌, ◌++◌, [], length, map, All, IfOk, IfErr, OnOk};
 ghost use Rattle.std.specs.List.{flat_map};
@@ -17,7 +17,7 @@ use crate::droppers::Dropper;
 use crate::faults::LabFault;
 use crate::observers::Observer;
 use crate::workers::Worker;
-use sand_shared::{Pass, Receipt, SharedPile};
+use sand_shared::{BarePass, Pass, Receipt, SharedPile};
 use std::alloc::Global;
 
 /// What a crew leaves: the receipts of each dropper, and what the workers and the observers found.
@@ -34,17 +34,24 @@ pub(crate) struct Findings {
     pub(crate) tallies: Vec<Vec<u64>>,
 }
 
-// The first pass takes in another one, whose rows touch its own.
-fn take_in(alloc: Global, pile: &SharedPile, first: &mut Pass, other: Pass) -> Result<(), LabFault>
+// The first pass takes in another one, whose rows touch its own. Returns the receipts of the other one.
+fn take_in(
+    alloc: Global,
+    pile: &SharedPile,
+    first: &mut BarePass,
+    other: Pass,
+) -> Result<Vec<Receipt>, LabFault>
     requires first { IsPassOf pile.now first.old }
     requires other { IsPassOf pile.now other }
     requires touching { ¬ AreApart first.old.rows other.rows }
     ensures of_pile { IsPassOf pile.now first.new }
     ensures first { OnOk result (first.new ≡ together first.old other) }
+    ensures receipts { IfOk result (λ v. v.items ≡ other.receipts) }
     ensures memory { IfErr result IsMemory }
 {
-    match pile.join(alloc, first, other) {
-        Ok(()) => Ok(()),
+    let (bare, receipts) = other.into_bare();
+    match pile.join_bare(alloc, first, bare) {
+        Ok(()) => Ok(receipts),
         Err((fault, _)) => Err(LabFault::of_join(fault)),
     }
 }
@@ -53,7 +60,7 @@ fn take_in(alloc: Global, pile: &SharedPile, first: &mut Pass, other: Pass) -> R
 fn take_in_receipts(
     alloc: Global,
     pile: &SharedPile,
-    first: &mut Pass,
+    first: &mut BarePass,
     other: Pass,
 ) -> Result<Vec<Receipt>, LabFault>
     requires first { IsPassOf pile.now first.old }
@@ -63,17 +70,14 @@ fn take_in_receipts(
     ensures receipts { IfOk result (λ v. v.items ≡ other.receipts) }
     ensures memory { IfErr result IsMemory }
 {
-    match pile.join_and_list(alloc, first, other) {
-        Ok(receipts) => Ok(receipts),
-        Err((fault, _)) => Err(LabFault::of_join(fault)),
-    }
+    take_in(alloc, pile, first, other)
 }
 
 // Takes in the passes of droppers, in order. Returns the receipts of each.
 fn gather_droppers(
     alloc: Global,
     pile: &SharedPile,
-    first: &mut Pass,
+    first: &mut BarePass,
     droppers: Vec<Dropper>,
 ) -> Result<Vec<Vec<Receipt>>, LabFault>
     requires first { IsPassOf pile.now first.old }
@@ -102,7 +106,7 @@ fn gather_droppers(
 fn gather_workers(
     alloc: Global,
     pile: &SharedPile,
-    first: &mut Pass,
+    first: &mut BarePass,
     workers: Vec<Worker>,
 ) -> Result<Vec<u64>, LabFault>
     requires first { IsPassOf pile.now first.old }
@@ -126,7 +130,7 @@ fn gather_workers(
             last: _,
             pass,
         } = worker;
-        take_in(alloc, pile, first, pass)?;
+        let _none = take_in(alloc, pile, first, pass)?;
         all.push_reserved(swept);
     }
     Ok(all)
@@ -136,7 +140,7 @@ fn gather_workers(
 fn gather_observers(
     alloc: Global,
     pile: &SharedPile,
-    first: &mut Pass,
+    first: &mut BarePass,
     observers: Vec<Observer>,
 ) -> Result<Vec<Vec<u64>>, LabFault>
     requires first { IsPassOf pile.now first.old }
@@ -160,13 +164,13 @@ fn gather_observers(
 }
 
 impl Crew {
-    /// The first pass takes in all passes of the crew. Returns what the crew leaves beside it, or Memory if an allocation
-    /// fails, and no other fault.
+    /// The first pass takes in all passes of the crew. Returns the lists of the droppers' receipts, and what the workers and
+    /// the observers found; or Memory if an allocation fails, and no other fault.
     pub(crate) fn gather(
         self,
         alloc: Global,
         pile: &SharedPile,
-        first: &mut Pass,
+        first: &mut BarePass,
     ) -> Result<Gathered, LabFault>
         requires first { first.old ≡ rowless pile.now 0 }
         requires crew { (wish : Wish) × (epoch : ℕ) × (0 < wish.workers) × HasWorked pile.now wish epoch self }

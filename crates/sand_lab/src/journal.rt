@@ -1,9 +1,10 @@
-//! The journal of an epoch: which dropper made each drop, and where, by the number of the drop.
+//! The journal of an epoch: which dropper made each drop, and where, by the number of the drop; and the history, which is its
+//! sites.
 
-ghost use Rattle.std.specs.Prelude.{◌≡◌, vec_len, IfOk, IfErr};
+ghost use Rattle.std.specs.Prelude.{◌≡◌, ◌≤◌, [], length, vec_len, vec_capacity, IfOk, IfErr};
 ghost use Rattle.sand_shared.specs.Passes.{AllBelow};
 ghost use Rattle.sand_lab.specs.Faults.{IsMemory};
-ghost use Rattle.sand_lab.specs.Journals.{Ascends, HavePlaces, IsJournal, HasEntries, AgreeBeside, joined, lists};
+ghost use Rattle.sand_lab.specs.Journals.{Ascends, HavePlaces, IsJournal, HasEntries, AgreeBeside, joined, lists, sites_in};
 
 use crate::faults::LabFault;
 use sand_shared::Receipt;
@@ -54,4 +55,28 @@ pub(crate) fn write_journal(journal: &mut Vec<Entry>, parts: &[Vec<Receipt>], _d
     for dropper in 0..parts.len() {
         write_part(journal, dropper as u32, parts[dropper].as_slice());
     }
+}
+
+/// A list with room for the history of so many drops, which the system has given already. Returns Memory if the allocation
+/// fails, and no other fault.
+pub(crate) fn blank_history(alloc: Global, drops: u64) -> Result<Vec<usize>, LabFault>
+    ensures empty { IfOk result (λ v. v.items ≡ []) }
+    ensures room { IfOk result (λ v. drops ≤ vec_capacity v) }
+    ensures memory { IfErr result IsMemory }
+{
+    let mut history = vec![in alloc; 0usize; drops as usize]?;
+    history.truncate(0);
+    Ok(history)
+}
+
+/// The sites of a journal, in a list that has room for them.
+pub(crate) fn history_of(mut blank: Vec<usize>, journal: &[Entry]) -> Vec<usize>
+    requires empty { blank.items ≡ [] }
+    requires room { length journal.now ≤ vec_capacity blank }
+    ensures { result.items ≡ sites_in journal.now }
+{
+    for entry in journal.iter() {
+        blank.push_reserved(entry.site);
+    }
+    blank
 }

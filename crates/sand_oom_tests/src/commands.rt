@@ -1,7 +1,7 @@
-//! Whole commands, from bytes to bytes: nothing is written if an allocation fails.
+//! Whole commands, from bytes to bytes.
 
 use crate::memory::{refuse, was_refused};
-use crate::trying::{MEMORY, MOST_REQUESTS, Refused, Spares, tell_refused};
+use crate::trying::{Spares, each_number, fault_of};
 use sand_desk::run_command;
 use sand_testing::words::words_of;
 use std::alloc::Global;
@@ -9,33 +9,20 @@ use std::process::Abort;
 use std::test::Fail;
 use std::thread::Threads;
 
-// One try of a command, over a new reader and a writer that has room, and one more if it ran out of memory. Returns whether a
-// request was refused, and whether the command did without it.
-fn tried_at<R: Threads + Sync + Abort>(
+// The number of the fault of a command, if there was one. Its output takes no memory.
+fn command_fault<R: Threads + Sync>(
     rt: &R,
     alloc: Global,
     words: &[String],
     input: &[u8],
-    want: &[u8],
-    number: u32,
-) -> Result<(bool, bool), Fail> {
-    assert!(rt; !words.is_empty());
-    let mut reader = input;
-    let mut writer: Vec<u8> = Vec::with_capacity(alloc, want.len())?;
-    refuse(alloc, number);
-    let tried = run_command(rt, alloc, words, &mut reader, &mut writer);
-    let was_refused = was_refused(alloc);
-    let is_done = tried.is_ok();
-    if let Err(fault) = tried {
-        assert!(rt; was_refused, "refused nothing");
-        assert_eq!(rt; fault.number(), MEMORY, "at request {number}");
-        assert!(rt; writer.is_empty(), "written at request {number}");
-        let mut again = input;
-        let undisturbed = run_command(rt, alloc, words, &mut again, &mut writer);
-        assert!(rt; undisturbed.is_ok(), "after request {number}");
+) -> Option<u32> {
+    if words.is_empty() {
+        return Some(0);
     }
-    assert!(rt; writer.as_slice() == want, "at request {number}");
-    Ok((was_refused, was_refused && is_done))
+    let mut reader = input;
+    let mut room = [0; 1024];
+    let mut writer = room.as_mut_slice();
+    fault_of!(run_command(rt, alloc, words, &mut reader, &mut writer))
 }
 
 // Tries a command line.
@@ -47,25 +34,15 @@ fn each_refused_of<R: Threads + Sync + Print + Abort>(
     spares: Spares,
 ) -> Result<(), Fail> {
     let words = words_of(alloc, line)?;
-    let words = words.as_slice();
-    assert!(rt; !words.is_empty());
-    let mut want = Vec::new(alloc);
-    let mut reader = input;
-    run_command(rt, alloc, words, &mut reader, &mut want).map_err(|_| "a command that is refused")?;
-    let mut spared = 0u32;
-    for number in 1..MOST_REQUESTS {
-        let (was_refused, was_spared) = tried_at(rt, alloc, words, input, want.as_slice(), number)?;
-        assert!(rt;
-            !was_spared || spares != Spares::Nothing,
-            "{line} without {number}"
-        );
-        spared = spared.saturating_add(u32::from(was_spared));
-        if !was_refused {
-            let requests = number - 1;
-            return tell_refused(rt, alloc, line, Refused { requests, spared });
+    each_number(rt, alloc, line, spares, |alloc: Global, number: u32| {
+        refuse(alloc, number);
+        let fault = command_fault(rt, alloc, words.as_slice(), input);
+        was_refused(alloc);
+        if fault.is_some() && command_fault(rt, alloc, words.as_slice(), input).is_some() {
+            return Err("a command that fails though it has its memory".into());
         }
-    }
-    Err("a command that makes requests without end".into())
+        Ok(fault)
+    })
 }
 
 #[test]

@@ -1,8 +1,8 @@
 //! The burning test and the group of recurrent piles.
 
-use crate::trying::{Spares, each_refused};
+use crate::trying::{each_refused, fault_of};
 use sand_group::{Recurrent, act, add, burn, equivalent_recurrent, identity, inverse};
-use sand_model::{Pile, Shape};
+use sand_model::Shape;
 use sand_testing::piles::open_pile;
 use std::alloc::Global;
 use std::test::Fail;
@@ -16,116 +16,72 @@ fn recurrent(alloc: Global, heights: [u64; 2]) -> Result<Recurrent, Fail> {
 
 #[test]
 fn burn_of_a_recurrent_pile_reports_out_of_memory(rt: HostRuntime) -> Result<(), Fail> {
+    let pile = open_pile(rt.alloc(), 3, 1, &[1, 0, 1])?;
     each_refused(
         &rt,
         rt.alloc(),
         "burn, where the pile is recurrent",
-        Spares::Nothing,
-        |alloc: Global| open_pile(alloc, 3, 1, &[1, 0, 1]),
-        |alloc: Global, pile: &mut Pile| burn(alloc, pile).map_err(|fault| fault.number()),
-    )?;
-    Ok(())
+        |alloc: Global| fault_of!(burn(alloc, &pile)),
+    )
 }
 
 #[test]
 fn burn_with_a_forbidden_set_reports_out_of_memory(rt: HostRuntime) -> Result<(), Fail> {
+    let pile = open_pile(rt.alloc(), 3, 1, &[0, 0, 3])?;
     each_refused(
         &rt,
         rt.alloc(),
         "burn, where a set is forbidden",
-        Spares::Nothing,
-        |alloc: Global| open_pile(alloc, 3, 1, &[0, 0, 3]),
-        |alloc: Global, pile: &mut Pile| burn(alloc, pile).map_err(|fault| fault.number()),
-    )?;
-    Ok(())
+        |alloc: Global| fault_of!(burn(alloc, &pile)),
+    )
 }
 
 #[test]
 fn from_pile_reports_out_of_memory(rt: HostRuntime) -> Result<(), Fail> {
-    each_refused(
-        &rt,
-        rt.alloc(),
-        "Recurrent::from_pile",
-        Spares::Nothing,
-        |alloc: Global| open_pile(alloc, 2, 1, &[3, 1]),
-        |alloc: Global, pile: &mut Pile| {
-            Recurrent::from_pile(alloc, pile).map_err(|fault| fault.number())
-        },
-    )?;
-    Ok(())
+    let pile = open_pile(rt.alloc(), 2, 1, &[3, 1])?;
+    each_refused(&rt, rt.alloc(), "Recurrent::from_pile", |alloc: Global| {
+        fault_of!(Recurrent::from_pile(alloc, &pile))
+    })
 }
 
 #[test]
 fn add_reports_out_of_memory(rt: HostRuntime) -> Result<(), Fail> {
-    each_refused(
-        &rt,
-        rt.alloc(),
-        "add",
-        Spares::Nothing,
-        |alloc: Global| Ok((recurrent(alloc, [3, 1])?, recurrent(alloc, [0, 2])?)),
-        |alloc: Global, both: &mut (Recurrent, Recurrent)| {
-            add(alloc, &both.0, &both.1).map_err(|fault| fault.number())
-        },
-    )?;
-    Ok(())
+    let first = recurrent(rt.alloc(), [3, 1])?;
+    let second = recurrent(rt.alloc(), [0, 2])?;
+    each_refused(&rt, rt.alloc(), "add", |alloc: Global| {
+        fault_of!(add(alloc, &first, &second))
+    })
 }
 
 #[test]
 fn identity_reports_out_of_memory(rt: HostRuntime) -> Result<(), Fail> {
     let shape = Shape::new(3, 3)?;
-    each_refused(
-        &rt,
-        rt.alloc(),
-        "identity",
-        Spares::Nothing,
-        |_: Global| Ok(()),
-        |alloc: Global, _: &mut ()| identity(alloc, shape).map_err(|fault| fault.number()),
-    )?;
-    Ok(())
+    each_refused(&rt, rt.alloc(), "identity", |alloc: Global| {
+        fault_of!(identity(alloc, shape))
+    })
 }
 
 #[test]
 fn inverse_reports_out_of_memory(rt: HostRuntime) -> Result<(), Fail> {
-    each_refused(
-        &rt,
-        rt.alloc(),
-        "inverse",
-        Spares::Nothing,
-        |alloc: Global| recurrent(alloc, [3, 1]),
-        |alloc: Global, pile: &mut Recurrent| inverse(alloc, pile).map_err(|fault| fault.number()),
-    )?;
-    Ok(())
+    let pile = recurrent(rt.alloc(), [3, 1])?;
+    each_refused(&rt, rt.alloc(), "inverse", |alloc: Global| {
+        fault_of!(inverse(alloc, &pile))
+    })
 }
 
 #[test]
 fn act_reports_out_of_memory(rt: HostRuntime) -> Result<(), Fail> {
-    each_refused(
-        &rt,
-        rt.alloc(),
-        "act",
-        Spares::Nothing,
-        |alloc: Global| recurrent(alloc, [3, 3]),
-        |alloc: Global, pile: &mut Recurrent| {
-            if pile.pile().shape().sites() == 0 {
-                return Err(0);
-            }
-            act(alloc, pile, 0).map_err(|fault| fault.number())
-        },
-    )?;
-    Ok(())
+    let pile = recurrent(rt.alloc(), [3, 3])?;
+    assert!(rt; pile.pile().shape().sites() > 0);
+    each_refused(&rt, rt.alloc(), "act", |alloc: Global| {
+        fault_of!(act(alloc, &pile, 0))
+    })
 }
 
 #[test]
 fn equivalent_recurrent_reports_out_of_memory(rt: HostRuntime) -> Result<(), Fail> {
-    each_refused(
-        &rt,
-        rt.alloc(),
-        "equivalent_recurrent",
-        Spares::Nothing,
-        |alloc: Global| open_pile(alloc, 3, 1, &[5, 0, 1]),
-        |alloc: Global, pile: &mut Pile| {
-            equivalent_recurrent(alloc, pile).map_err(|fault| fault.number())
-        },
-    )?;
-    Ok(())
+    let pile = open_pile(rt.alloc(), 3, 1, &[5, 0, 1])?;
+    each_refused(&rt, rt.alloc(), "equivalent_recurrent", |alloc: Global| {
+        fault_of!(equivalent_recurrent(alloc, &pile))
+    })
 }

@@ -2,8 +2,8 @@
 //! refused.
 //!
 //! A call is made again and again. First its first request for memory is refused, then its second, and so on until none is.
-//! Each time it returns out of memory and nothing else, and leaves what it borrowed unchanged. Then it is made once more on
-//! the same things, and returns what it always returns.
+//! Each time it returns out of memory and nothing else. Then it is made once more on the same things, and works. That it
+//! leaves what it borrowed unchanged is proved, and so is what it returns.
 //!
 //! No program can refuse itself memory. `refusals/run`, which the gate calls, loads a library that does; under `rt ci`
 //! alone nothing is refused, and each call is only made twice. Each trial prints how many requests of its call were refused.
@@ -24,8 +24,6 @@ mod quiet;
 mod runs;
 #[cfg(test)]
 mod settling;
-#[cfg(test)]
-mod telling;
 #[cfg(test)]
 mod texts;
 #[cfg(test)]

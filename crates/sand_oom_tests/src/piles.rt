@@ -1,6 +1,6 @@
 //! Shapes have no memory; piles are made and copied.
 
-use crate::trying::{Spares, each_refused};
+use crate::trying::{each_refused, fault_of};
 use sand_model::{Pile, Shape};
 use sand_testing::piles::open_pile;
 use std::alloc::Global;
@@ -14,29 +14,15 @@ pub fn full(alloc: Global) -> Result<Pile, Fail> {
 #[test]
 fn new_pile_reports_out_of_memory(rt: HostRuntime) -> Result<(), Fail> {
     let shape = Shape::new(3, 1)?;
-    let made = each_refused(
-        &rt,
-        rt.alloc(),
-        "Pile::new",
-        Spares::Nothing,
-        |_: Global| Ok(()),
-        |alloc: Global, _: &mut ()| {
-            Pile::new(alloc, shape, &[0, 4, 0]).map_err(|fault| fault.number())
-        },
-    )?;
-    assert!(rt; made.after.as_slice() == [3, 1, 4, 0, 4, 0].as_slice());
-    Ok(())
+    each_refused(&rt, rt.alloc(), "Pile::new", |alloc: Global| {
+        fault_of!(Pile::new(alloc, shape, &[0, 4, 0]))
+    })
 }
 
 #[test]
 fn copy_of_a_pile_reports_out_of_memory(rt: HostRuntime) -> Result<(), Fail> {
-    each_refused(
-        &rt,
-        rt.alloc(),
-        "Pile::copy",
-        Spares::Nothing,
-        |alloc: Global| full(alloc),
-        |alloc: Global, pile: &mut Pile| pile.copy(alloc).map_err(|fault| fault.number()),
-    )?;
-    Ok(())
+    let pile = full(rt.alloc())?;
+    each_refused(&rt, rt.alloc(), "Pile::copy", |alloc: Global| {
+        fault_of!(pile.copy(alloc))
+    })
 }

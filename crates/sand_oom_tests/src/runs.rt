@@ -6,18 +6,16 @@ ghost use Rattle.std.specs.Prelude.{◌≡◌};
 ghost use Rattle.sand_lab.specs.Albums.{IsPlace};
 
 use crate::memory::{refuse, was_refused};
-use crate::trying::{MEMORY, MOST_REQUESTS, Refused, Spares, each_refused, tell_refused};
+use crate::trying::{MOST_REQUESTS, Spares, each_number, each_refused, fault_of, tell_refused};
 use sand_desk::{journal_text, lab_text};
-use sand_lab::{Album, Note, Open, Plan, Report, Wish, run, sites_of};
+use sand_lab::{Album, LabFault, Note, Open, Report, Wish, sites_of};
 use sand_model::{Pile, Shape};
 use sand_testing::piles::{one_site, open_pile};
-use sand_testing::runs::QUIET;
+use sand_testing::runs::{QUIET, run_into};
 use std::alloc::Global;
 use std::process::Abort;
 use std::test::Fail;
 use std::thread::Threads;
-
-const WITHOUT_END: &str = "a run that makes requests without end";
 
 const TWO_EPOCHS: Wish = Wish {
     droppers: 2,
@@ -39,43 +37,27 @@ const MANY: Wish = Wish {
 #[test]
 fn sites_of_reports_out_of_memory(rt: HostRuntime) -> Result<(), Fail> {
     let shape = Shape::new(3, 3)?;
-    each_refused(
-        &rt,
-        rt.alloc(),
-        "sites_of",
-        Spares::Nothing,
-        |_: Global| Ok(()),
-        |alloc: Global, _: &mut ()| {
-            sites_of(alloc, shape, 7, 1, 40).map_err(|fault| fault.number())
-        },
-    )?;
-    Ok(())
+    each_refused(&rt, rt.alloc(), "sites_of", |alloc: Global| {
+        fault_of!(sites_of(alloc, shape, 7, 1, 40))
+    })
 }
 
 #[test]
 fn new_album_reports_out_of_memory(rt: HostRuntime) -> Result<(), Fail> {
-    each_refused(
-        &rt,
-        rt.alloc(),
-        "Album::new",
-        Spares::Nothing,
-        |_: Global| Ok(()),
-        |alloc: Global, _: &mut ()| Album::new(alloc, 5).map_err(|fault| fault.number()),
-    )?;
-    Ok(())
+    each_refused(&rt, rt.alloc(), "Album::new", |alloc: Global| {
+        fault_of!(Album::new(alloc, 5))
+    })
 }
 
-// Whether two reports leave the same, epoch by epoch and in all. Their histories may differ.
-fn leave_the_same(report: &Report, other: &Report) -> bool {
-    let same = report.records().iter().zip(other.records());
-    report.records().len() == other.records().len()
-        && same.fold(true, |all, (one, other)| {
-            all && one.pile().heights() == other.pile().heights()
-                && one.odometers() == other.odometers()
-        })
-        && report.total().pile().heights() == other.total().pile().heights()
-        && report.total().odometers() == other.total().odometers()
-        && report.total().lost() == other.total().lost()
+// The number of the fault of a run into an album, if there was one.
+fn run_fault<R: Threads + Sync>(
+    rt: &R,
+    alloc: Global,
+    start: &Pile,
+    wish: Wish,
+    album: &Album,
+) -> Option<u32> {
+    fault_of!(run_into(rt, alloc, start, wish, &Open, album))
 }
 
 // Tries a run, each time with an album of its own.
@@ -86,37 +68,23 @@ fn each_refused_of_a_run<R: Threads + Sync + Print + Abort>(
     start: &Pile,
     wish: Wish,
 ) -> Result<(), Fail> {
-    let plan = Plan::new(wish)?;
-    let album = Album::new(alloc, wish.epochs)?;
-    let want = run(rt, alloc, start, &plan, &Open, &album)?;
-    let mut spared = 0u32;
-    for number in 1..MOST_REQUESTS {
-        let album = Album::new(alloc, wish.epochs)?;
-        refuse(alloc, number);
-        let tried = run(rt, alloc, start, &plan, &Open, &album);
-        let was_refused = was_refused(alloc);
-        let report = match tried {
-            Ok(report) => {
-                spared = spared.saturating_add(u32::from(was_refused));
-                report
+    each_number(
+        rt,
+        alloc,
+        name,
+        Spares::Thread,
+        |alloc: Global, number: u32| {
+            let album = Album::new(alloc, wish.epochs)?;
+            let other = Album::new(alloc, wish.epochs)?;
+            refuse(alloc, number);
+            let fault = run_fault(rt, alloc, start, wish, &album);
+            was_refused(alloc);
+            if fault.is_some() && run_fault(rt, alloc, start, wish, &other).is_some() {
+                return Err("a run that fails though it has its memory".into());
             }
-            Err(fault) => {
-                assert!(rt; was_refused);
-                assert_eq!(rt; fault.number(), MEMORY);
-                let album = Album::new(alloc, wish.epochs)?;
-                run(rt, alloc, start, &plan, &Open, &album)?
-            }
-        };
-        assert!(rt;
-            leave_the_same(&report, &want),
-            "{name} at request {number}"
-        );
-        if !was_refused {
-            let requests = number - 1;
-            return tell_refused(rt, alloc, name, Refused { requests, spared });
-        }
-    }
-    Err(WITHOUT_END.into())
+            Ok(fault)
+        },
+    )
 }
 
 #[test]
@@ -146,12 +114,36 @@ fn height_at(album: &Album, k: u32, mut note: Note) -> Option<u64>
 }
 
 // What is seen of the two places of an album, each by a new note.
-fn heights_in(rt: &impl Abort, album: &Album) -> (Option<u64>, Option<u64>) {
-    assert!(rt; album.places() == 2);
+fn heights_in(album: &Album) -> (Option<u64>, Option<u64>) {
+    if album.places() != 2 {
+        return (None, None);
+    }
     (
         height_at(album, 0, album.note(0)),
         height_at(album, 1, album.note(1)),
     )
+}
+
+// What is seen of an album after a run into it with the request of this number refused, and after one more: that returns
+// that the place of the first epoch was set before.
+fn published_once<R: Threads + Sync + Abort>(
+    rt: &R,
+    alloc: Global,
+    start: &Pile,
+    number: u32,
+) -> Result<bool, Fail> {
+    let album = Album::new(alloc, 2)?;
+    refuse(alloc, number);
+    let fault = run_fault(rt, alloc, start, TWO_EPOCHS, &album);
+    was_refused(alloc);
+    let seen = heights_in(&album);
+    if fault.is_none() || seen == (None, None) {
+        return Ok(false);
+    }
+    assert_eq!(rt; seen, (Some(2), None));
+    assert_eq!(rt; run_fault(rt, alloc, start, TWO_EPOCHS, &album), Some(17));
+    assert_eq!(rt; heights_in(&album), (Some(2), None));
+    Ok(true)
 }
 
 // If the second epoch runs out of memory, what the first epoch published stays: its place is taken, and no other is.
@@ -159,60 +151,38 @@ fn heights_in(rt: &impl Abort, album: &Album) -> (Option<u64>, Option<u64>) {
 fn the_first_epoch_stays_published_if_the_second_fails(rt: HostRuntime) -> Result<(), Fail> {
     let alloc = rt.alloc();
     let start = one_site(alloc, 0)?;
-    let plan = Plan::new(TWO_EPOCHS)?;
     let mut met = 0u32;
     for number in 1..MOST_REQUESTS {
-        let album = Album::new(alloc, 2)?;
-        refuse(alloc, number);
-        let is_whole = run(&rt, alloc, &start, &plan, &Open, &album).is_ok();
-        let was_refused = was_refused(alloc);
-        let (first, second) = heights_in(&rt, &album);
-        if !is_whole && first.is_some() && second.is_none() {
+        if published_once(&rt, alloc, &start, number)? {
             met = met.saturating_add(1);
-            assert_eq!(rt; first, Some(2));
-            let again = run(&rt, alloc, &start, &plan, &Open, &album);
-            assert!(rt; again.is_err_and(|fault| fault.number() == 17));
-            assert_eq!(rt; heights_in(&rt, &album), (Some(2), None));
-            let other = Album::new(alloc, 2)?;
-            let report = run(&rt, alloc, &start, &plan, &Open, &other)?;
-            assert_eq!(rt;
-                (report.total().topplings(), report.total().lost()),
-                (3, 12)
-            );
-            assert_eq!(rt; heights_in(&rt, &other), (Some(2), Some(0)));
         }
-        if !was_refused {
-            let all = Refused {
-                requests: met,
-                spared: 0,
-            };
-            return tell_refused(&rt, alloc, "run, in its second epoch", all);
+        if !was_refused(alloc) {
+            return tell_refused(&rt, alloc, "run, in its second epoch", met, 0);
         }
     }
-    Err(WITHOUT_END.into())
+    Err("a run that makes requests without end".into())
+}
+
+// The report of a run over two epochs.
+fn report_of<R: Threads + Sync>(rt: &R, alloc: Global) -> Result<Report, Fail> {
+    let start = one_site(alloc, 0)?;
+    let album = Album::new(alloc, 2)?;
+    let report = run_into(rt, alloc, &start, TWO_EPOCHS, &Open, &album)?;
+    Ok(report)
 }
 
 #[test]
-fn texts_of_a_report_report_out_of_memory(rt: HostRuntime) -> Result<(), Fail> {
-    let start = one_site(rt.alloc(), 0)?;
-    let plan = Plan::new(TWO_EPOCHS)?;
-    let album = Album::new(rt.alloc(), 2)?;
-    let report = run(&rt, rt.alloc(), &start, &plan, &Open, &album)?;
-    each_refused(
-        &rt,
-        rt.alloc(),
-        "lab_text",
-        Spares::Nothing,
-        |_: Global| Ok(()),
-        |alloc: Global, _: &mut ()| lab_text(alloc, &report).map_err(|fault| fault.number()),
-    )?;
-    each_refused(
-        &rt,
-        rt.alloc(),
-        "journal_text",
-        Spares::Nothing,
-        |_: Global| Ok(()),
-        |alloc: Global, _: &mut ()| journal_text(alloc, &report).map_err(|fault| fault.number()),
-    )?;
-    Ok(())
+fn lab_text_reports_out_of_memory(rt: HostRuntime) -> Result<(), Fail> {
+    let report = report_of(&rt, rt.alloc())?;
+    each_refused(&rt, rt.alloc(), "lab_text", |alloc: Global| {
+        fault_of!(lab_text(alloc, &report))
+    })
+}
+
+#[test]
+fn journal_text_reports_out_of_memory(rt: HostRuntime) -> Result<(), Fail> {
+    let report = report_of(&rt, rt.alloc())?;
+    each_refused(&rt, rt.alloc(), "journal_text", |alloc: Global| {
+        fault_of!(journal_text(alloc, &report))
+    })
 }

@@ -1,8 +1,8 @@
 //! Settling, and the pile of one thread.
 
+use crate::memory::{refuse, was_refused};
 use crate::piles::full;
-use crate::trying::{Spares, each_refused};
-use sand_model::Pile;
+use crate::trying::{Spares, each_number, each_refused, fault_of};
 use sand_settle::{OnePile, settle};
 use sand_testing::piles::open_pile;
 use std::alloc::Global;
@@ -10,80 +10,57 @@ use std::test::Fail;
 
 #[test]
 fn settle_reports_out_of_memory(rt: HostRuntime) -> Result<(), Fail> {
-    each_refused(
-        &rt,
-        rt.alloc(),
-        "settle",
-        Spares::Nothing,
-        |alloc: Global| open_pile(alloc, 2, 1, &[4, 4]),
-        |alloc: Global, pile: &mut Pile| settle(alloc, pile).map_err(|fault| fault.number()),
-    )?;
-    Ok(())
+    let pile = open_pile(rt.alloc(), 2, 1, &[4, 4])?;
+    each_refused(&rt, rt.alloc(), "settle", |alloc: Global| {
+        fault_of!(settle(alloc, &pile))
+    })
 }
 
 #[test]
 fn settle_by_a_guess_reports_out_of_memory(rt: HostRuntime) -> Result<(), Fail> {
     let mut heights = [0; 256];
     heights[120] = 100_000;
-    each_refused(
-        &rt,
-        rt.alloc(),
-        "settle, by a guess",
-        Spares::Nothing,
-        |alloc: Global| open_pile(alloc, 16, 16, &heights),
-        |alloc: Global, pile: &mut Pile| settle(alloc, pile).map_err(|fault| fault.number()),
-    )?;
-    Ok(())
+    let pile = open_pile(rt.alloc(), 16, 16, &heights)?;
+    each_refused(&rt, rt.alloc(), "settle, by a guess", |alloc: Global| {
+        fault_of!(settle(alloc, &pile))
+    })
 }
 
 #[test]
 fn new_one_pile_reports_out_of_memory(rt: HostRuntime) -> Result<(), Fail> {
-    each_refused(
-        &rt,
-        rt.alloc(),
-        "OnePile::new",
-        Spares::Nothing,
-        |alloc: Global| open_pile(alloc, 2, 1, &[4, 4]),
-        |alloc: Global, pile: &mut Pile| OnePile::new(alloc, pile).map_err(|fault| fault.number()),
-    )?;
-    Ok(())
+    let pile = open_pile(rt.alloc(), 2, 1, &[4, 4])?;
+    each_refused(&rt, rt.alloc(), "OnePile::new", |alloc: Global| {
+        fault_of!(OnePile::new(alloc, &pile))
+    })
+}
+
+// The number of the fault of a first drop, if there was one.
+fn drop_fault(alloc: Global, one: &mut OnePile) -> Option<u32> {
+    if one.pile().shape().sites() <= 4 {
+        return Some(0);
+    }
+    fault_of!(one.drop_at(alloc, 4))
+}
+
+fn drop_once(alloc: Global, number: u32) -> Result<Option<u32>, Fail> {
+    let start = full(alloc)?;
+    let mut one = OnePile::new(alloc, &start)?;
+    refuse(alloc, number);
+    let fault = drop_fault(alloc, &mut one);
+    was_refused(alloc);
+    if fault.is_some() && drop_fault(alloc, &mut one).is_some() {
+        return Err("a drop that fails though it has its memory".into());
+    }
+    Ok(fault)
 }
 
 #[test]
 fn drop_at_reports_out_of_memory(rt: HostRuntime) -> Result<(), Fail> {
-    let tried = each_refused(
+    each_number(
         &rt,
         rt.alloc(),
         "OnePile::drop_at",
         Spares::Nothing,
-        |alloc: Global| {
-            let start = full(alloc)?;
-            let one = OnePile::new(alloc, &start)?;
-            Ok(one)
-        },
-        |alloc: Global, one: &mut OnePile| {
-            if one.pile().shape().sites() <= 4 {
-                return Err(0);
-            }
-            one.drop_at(alloc, 4).map_err(|fault| fault.number())
-        },
-    )?;
-    // The tally, the sides, the grains, the heights, the topplings, the grains lost and the odometer; then the drop's
-    // number and its avalanche.
-    assert!(rt;
-        tried.before.as_slice()
-            == [
-                0, 3, 3, 27, 3, 3, 3, 3, 3, 3, 3, 3, 3, 0, 0, 0, 0, 0, 0, 0, 0, 0, 0, 0
-            ]
-            .as_slice()
-    );
-    assert!(rt;
-        tried.after.as_slice()
-            == [
-                1, 3, 3, 16, 1, 3, 1, 3, 0, 3, 1, 3, 1, 10, 12, 1, 1, 1, 1, 2, 1, 1, 1, 1, 0, 4,
-                10, 9, 2, 12
-            ]
-            .as_slice()
-    );
-    Ok(())
+        drop_once,
+    )
 }

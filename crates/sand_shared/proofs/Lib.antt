@@ -20,6 +20,8 @@ pub mod EventsInARow
 pub mod StepsOnWords
 pub mod RowsSplit
 pub mod RowsJoined
+pub mod PassesJoined
+pub mod StillBare
 pub mod SumOfCounts
 pub mod PassKnowsPile
 pub mod SentToNeighbours

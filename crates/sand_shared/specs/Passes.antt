@@ -60,6 +60,11 @@ pub record IsPass (seat : Seat ℕ View) (p : PassView) (room : ℕ) : Type 0 wh
   pub rows : AreRowsOf p.grid p.rows
   pub one_each : length p.counts ≡ count_of p.rows * p.grid.width
 
+-- the seat is that of a bare pass, which has made so many drops
+pub record IsBare (seat : Seat ℕ View) (p : PassView) (made : ℕ) : Type 0 where
+  pub pass : IsPass seat p (length p.receipts + p.left)
+  pub each_made : made ≡ length p.receipts
+
 -- Parts and wholes
 
 -- how many of its sites a pass keeps that gives its last k rows away

@@ -56,11 +56,7 @@ impl SharedPile {
     /// receipts or rows (Missing), then Memory, before anything topples; the pile and the pass then come back.
     ///
     /// `SharedPile::settle` returns the same record, and is faster when much is left to topple.
-    pub fn close(
-        self,
-        alloc: Global,
-        mut pass: Pass,
-    ) -> Result<Record, (CloseFault, SharedPile, Pass)>
+    pub fn close(self, alloc: Global, pass: Pass) -> Result<Record, (CloseFault, SharedPile, Pass)>
         requires { IsPassOf self pass }
         ensures missing { IfErr result (λ e. (e.0 ≡ CloseFault.Missing) ↔ ¬ IsWhole self.terms pass) }
         ensures whole { OnOk result (IsWhole self.terms pass) }
@@ -80,30 +76,40 @@ impl SharedPile {
         // What toppled in place stays toppled.
         ensures never_fall { IfOk result (λ r. (i : ℕ) → slice_index pass.counts i ≤ odometer_of r.settled i) }
     {
-        let (history, heights) = match self.room_for_record(alloc, &mut pass) {
+        let (history, heights) = match self.room_for_record(alloc, &pass) {
             Ok(room) => room,
             Err(fault) => return Err((fault, self, pass)),
         };
         Ok(self.topple_out(pass, history, heights))
     }
 
-    // Lists that have room for the history and the heights of a record, if the pass has all.
-    pub(crate) fn room_for_record(
-        &self,
-        alloc: Global,
-        pass: &mut Pass,
-    ) -> Result<(Vec<usize>, Vec<u64>), CloseFault>
-        requires { IsPassOf self.now pass.old }
-        ensures pass { pass.new ≡ pass.old }
-        ensures missing { IfErr result (λ e. (e ≡ CloseFault.Missing) ↔ ¬ IsWhole self.now.terms pass.old) }
-        ensures whole { OnOk result (IsWhole self.now.terms pass.old) }
-        ensures history { IfOk result (λ r. length r.0.items ≡ length pass.old.receipts) }
-        ensures heights { IfOk result (λ r. (r.1.items ≡ []) × (length pass.old.counts ≤ vec_capacity r.1)) }
+    // A history with a place for each receipt of the pass, if the pass has all.
+    pub(crate) fn blank_history(&self, alloc: Global, pass: &Pass) -> Result<Vec<usize>, CloseFault>
+        requires { IsPassOf self.now pass.now }
+        ensures missing { IfErr result (λ e. (e ≡ CloseFault.Missing) ↔ ¬ IsWhole self.now.terms pass.now) }
+        ensures whole { OnOk result (IsWhole self.now.terms pass.now) }
+        ensures history { IfOk result (λ v. length v.items ≡ length pass.now.receipts) }
     {
         if !self.is_whole(pass) {
             return Err(CloseFault::Missing);
         }
-        let history = pass.blank.take(alloc, pass.receipts.len())?;
+        let history = vec![in alloc; 0usize; pass.receipts.len()]?;
+        Ok(history)
+    }
+
+    // Lists that have room for the history and the heights of a record, if the pass has all.
+    fn room_for_record(
+        &self,
+        alloc: Global,
+        pass: &Pass,
+    ) -> Result<(Vec<usize>, Vec<u64>), CloseFault>
+        requires { IsPassOf self.now pass.now }
+        ensures missing { IfErr result (λ e. (e ≡ CloseFault.Missing) ↔ ¬ IsWhole self.now.terms pass.now) }
+        ensures whole { OnOk result (IsWhole self.now.terms pass.now) }
+        ensures history { IfOk result (λ r. length r.0.items ≡ length pass.now.receipts) }
+        ensures heights { IfOk result (λ r. (r.1.items ≡ []) × (length pass.now.counts ≤ vec_capacity r.1)) }
+    {
+        let history = self.blank_history(alloc, pass)?;
         let heights = Vec::with_capacity(alloc, pass.counts.len())?;
         Ok((history, heights))
     }
@@ -130,7 +136,6 @@ impl SharedPile {
             receipts,
             rows: _,
             mut counts,
-            blank: _,
         } = pass;
         words.sweep_out(&mut seat, &mut counts);
         let Terms { start, quota: _ } = words.close(seat, &mut heights);

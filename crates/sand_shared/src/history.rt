@@ -2,10 +2,8 @@
 //!
 //! A history has as many numbers as a run has drops. So a record that is copied shares its history first, and only a
 //! record that grows has a list of its own.
-//!
-//! A pass has the blank list of a history, which can be made while others drop.
 
-ghost use Rattle.std.specs.Prelude.{◌≡◌, ◌++◌, length, IfOk, OnOk, OnErr};
+ghost use Rattle.std.specs.Prelude.{◌≡◌, ◌++◌, IfOk, OnOk, OnErr};
 
 use std::alloc::{AllocError, Global};
 use std::marker::Model;
@@ -30,43 +28,6 @@ impl Model for History {
     ghost Value = { List ℕ };
 
     ghost view = { λ h. listed h.sites };
-}
-
-/// A list that a history will be written into. What it holds until then means nothing.
-#[derive(Drop)]
-pub(crate) struct Blank {
-    list: Vec<usize>,
-}
-
-impl Model for Blank {
-    ghost Value = { Unit {0} };
-
-    ghost view = { λ _. tt };
-}
-
-impl Blank {
-    pub(crate) fn new(alloc: Global) -> Blank {
-        Blank {
-            list: Vec::new(alloc),
-        }
-    }
-
-    /// Makes it at least so long, and writes to what is new.
-    pub(crate) fn lengthen(&mut self, drops: usize) -> Result<(), AllocError> {
-        if self.list.len() < drops {
-            self.list.resize(drops, 0)?;
-        }
-        Ok(())
-    }
-
-    /// Takes the list out, with this length. Returns an error if an allocation fails.
-    pub(crate) fn take(&mut self, alloc: Global, drops: usize) -> Result<Vec<usize>, AllocError>
-        ensures { IfOk result (λ v. length v.items ≡ drops) }
-    {
-        let mut list = std::mem::replace(&mut self.list, Vec::new(alloc));
-        list.resize(drops, 0)?;
-        Ok(list)
-    }
 }
 
 // A copy of a list, with room for so many more.

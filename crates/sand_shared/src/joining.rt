@@ -7,12 +7,11 @@ ghost use Rattle.sand_shared.specs.Rows.{AreApart};
 use crate::faults::JoinFault;
 use crate::pass::Pass;
 use crate::shared_pile::SharedPile;
-use crate::view::Receipt;
 use std::alloc::{AllocError, Global};
 use std::marker::Brand;
 
-// The first list becomes both: the second is appended if they are in order, and put in front if not.
-fn lay_together(
+/// The first list becomes both: the second is appended if they are in order, and put in front if not.
+pub(crate) fn lay_together(
     first: &mut Vec<u64>,
     second: &mut Vec<u64>,
     in_order: bool,
@@ -32,35 +31,16 @@ impl SharedPile {
     /// Takes in all that another pass of this pile has: its quota, its receipts behind the pass's own, what it has
     /// seen, and its rows with their counts. Returns Apart if its rows do not touch the pass's own, else Memory if an
     /// allocation fails; both give the other pass back.
-    pub fn join(&self, alloc: Global, pass: &mut Pass, other: Pass) -> Result<(), (JoinFault, Pass)>
-        requires pass { IsPassOf self.now pass.old }
-        requires other { IsPassOf self.now other }
-        ensures of_pile { IsPassOf self.now pass.new }
-        ensures joined { OnOk result (pass.new ≡ together pass.old other) }
-        ensures touching { OnOk result (¬ AreApart pass.old.rows other.rows) }
-        ensures apart { IfErr result (λ e. (e.0 ≡ JoinFault.Apart) ↔ AreApart pass.old.rows other.rows) }
-        ensures unchanged { OnErr result (pass.new ≡ pass.old) }
-        ensures back { IfErr result (λ e. e.1 ≡ other) }
-    {
-        match self.join_and_list(alloc, pass, other) {
-            Ok(_) => Ok(()),
-            Err(refused) => Err(refused),
-        }
-    }
-
-    /// Joins as `SharedPile::join` does, and returns the receipts that the other pass had. To read them, or to free them
-    /// while another thread goes on, takes no second copy then.
-    pub fn join_and_list(
+    pub fn join(
         &self,
         _alloc: Global,
         pass: &mut Pass,
         mut other: Pass,
-    ) -> Result<Vec<Receipt>, (JoinFault, Pass)>
+    ) -> Result<(), (JoinFault, Pass)>
         requires pass { IsPassOf self.now pass.old }
         requires other { IsPassOf self.now other }
         ensures of_pile { IsPassOf self.now pass.new }
         ensures joined { OnOk result (pass.new ≡ together pass.old other) }
-        ensures listed { IfOk result (λ v. v.items ≡ other.receipts) }
         ensures touching { OnOk result (¬ AreApart pass.old.rows other.rows) }
         ensures apart { IfErr result (λ e. (e.0 ≡ JoinFault.Apart) ↔ AreApart pass.old.rows other.rows) }
         ensures unchanged { OnErr result (pass.new ≡ pass.old) }
@@ -85,7 +65,6 @@ impl SharedPile {
             receipts,
             rows,
             counts: _,
-            blank: _,
         } = other;
         self.words.join(&mut pass.seat, seat);
         self.words.learn::<Brand>(&mut pass.seat);
@@ -95,6 +74,6 @@ impl SharedPile {
             .extend_from_slice(receipts.as_slice())
             .unwrap();
         pass.rows = pass.rows.together(rows);
-        Ok(receipts)
+        Ok(())
     }
 }

@@ -5,6 +5,7 @@
 //! have led to what it shows).
 #![tactic(auto)]
 
+mod bare;
 mod closing;
 mod faults;
 mod following;
@@ -24,6 +25,7 @@ mod sweeping;
 mod turns;
 mod view;
 
+pub use bare::BarePass;
 pub use faults::{CloseFault, DropFault, JoinFault, SharedFault, SplitFault};
 pub use pass::Pass;
 pub use record::Record;

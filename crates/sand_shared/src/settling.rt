@@ -2,8 +2,11 @@
 //!
 //! No site has toppled in place more often than needed, so the odometer is what has toppled there and the odometer of the
 //! pile that is left (`sand_model::laws::settles_after`). All memory is taken before the shared words are closed.
+//!
+//! It is done in two steps, which many threads can share with other work: `SharedPile::settle_rest` settles what is left, and
+//! `SharedPile::complete` makes the record, of a history that may be written meanwhile.
 
-ghost use Rattle.std.specs.Prelude.{◌≡◌, ℕ, ◌+◌, ◌^◌, ◌<◌, ◌≤◌, ◌↔◌, [], length, sum, slice_index, vec_capacity, IfOk, IfErr, OnOk};
+ghost use Rattle.std.specs.Prelude.{◌≡◌, ℕ, ◌+◌, ◌^◌, ◌<◌, ◌≤◌, ◌↔◌, [], length, sum, slice_index, vec_capacity, IfOk, IfErr, OnOk, IsTrue};
 ghost use Rattle.sand_model.specs.Grid.{sites};
 ghost use Rattle.sand_model.specs.Sand.{IsUnderway};
 ghost use Rattle.sand_model.specs.Piles.{height_of, most_grains};
@@ -15,13 +18,14 @@ ghost use Rattle.sand_shared.specs.Record.{Tells, IsOneThreads};
 ghost use Rattle.sand_shared.specs.Seats.{IsSeatAt, StaysSeated};
 ghost use Rattle.sand_shared.specs.Sweeps.{HasAll, IsRestOf, laid};
 
+use crate::bare::BarePass;
 use crate::closing::fill;
 use crate::faults::CloseFault;
 use crate::pass::Pass;
 use crate::record::Record;
 use crate::shared_pile::SharedPile;
 use crate::steps::{PassSeat, Words};
-use crate::view::Terms;
+use crate::view::{Receipt, Terms};
 use sand_model::Pile;
 use sand_settle::{SettleFault, Settled, settle};
 use std::alloc::Global;
@@ -73,11 +77,7 @@ impl SharedPile {
     /// sweeps over the shared words, as many as there are, and takes no memory but that of the record.
     ///
     /// Refuses a pass that lacks quota, receipts or rows (Missing), then Memory; the pile and the pass then come back.
-    pub fn settle(
-        self,
-        alloc: Global,
-        mut pass: Pass,
-    ) -> Result<Record, (CloseFault, SharedPile, Pass)>
+    pub fn settle(self, alloc: Global, pass: Pass) -> Result<Record, (CloseFault, SharedPile, Pass)>
         requires { IsPassOf self pass }
         ensures missing { IfErr result (λ e. (e.0 ≡ CloseFault.Missing) ↔ ¬ IsWhole self.terms pass) }
         ensures whole { OnOk result (IsWhole self.terms pass) }
@@ -97,22 +97,54 @@ impl SharedPile {
         // What toppled in place stays toppled.
         ensures never_fall { IfOk result (λ r. (i : ℕ) → slice_index pass.counts i ≤ odometer_of r.settled i) }
     {
-        let (history, heights) = match self.room_for_record(alloc, &mut pass) {
-            Ok(room) => room,
+        let mut history = match self.blank_history(alloc, &pass) {
+            Ok(history) => history,
             Err(fault) => return Err((fault, self, pass)),
         };
-        let current = self.current_pile(&mut pass, heights);
-        let rest = match settle(alloc, &current) {
+        let (mut bare, receipts) = pass.into_bare();
+        let rest = match self.settle_rest(alloc, &mut bare) {
             Ok(rest) => rest,
-            Err(SettleFault::Memory(error)) => {
-                return Err((CloseFault::Memory(error), self, pass));
-            }
+            Err(fault) => return Err((fault, self, bare.with_receipts(receipts))),
         };
-        Ok(self.complete(pass, history, rest))
+        self.write_history(&mut bare, &mut history, receipts.as_slice());
+        Ok(self.complete(bare, rest, history))
+    }
+
+    /// Settles what a pass that has gathered all has left to topple, in plain memory, and returns it settled. The shared pile
+    /// and the pass are as before. Returns Missing if the pass lacks quota, receipts or rows; else Memory if an allocation
+    /// fails.
+    pub fn settle_rest(&self, alloc: Global, pass: &mut BarePass) -> Result<Settled, CloseFault>
+        requires { IsPassOf self.now pass.old }
+        ensures pass { pass.new ≡ pass.old }
+        ensures missing { IfErr result (λ e. (e ≡ CloseFault.Missing) ↔ ¬ IsWhole self.now.terms pass.old) }
+        ensures whole { OnOk result (IsWhole self.now.terms pass.old) }
+        ensures rest { IfOk result (IsRestOf self.now.terms pass.old) }
+    {
+        if !self.is_all(pass) {
+            return Err(CloseFault::Missing);
+        }
+        let heights = Vec::with_capacity(alloc, pass.counts.len())?;
+        let current = self.current_pile(pass, heights);
+        match settle(alloc, &current) {
+            Ok(rest) => Ok(rest),
+            Err(SettleFault::Memory(error)) => Err(CloseFault::Memory(error)),
+        }
+    }
+
+    // Whether the pass has all of the quota, as what is left or as receipts, and all rows.
+    fn is_all(&self, pass: &BarePass) -> bool
+        requires { IsPassOf self.now pass.now }
+        ensures { IsTrue result ↔ IsWhole self.now.terms pass.now }
+    {
+        let terms = self.words.terms();
+        pass.made <= terms.quota
+            && pass.left == terms.quota - pass.made
+            && pass.rows.first == 0
+            && usize::from(pass.rows.end) == terms.start.shape().height()
     }
 
     // The heights that the shared pile has now, in a list that has room for them, for a pass that has all.
-    fn current_pile(&self, pass: &mut Pass, mut heights: Vec<u64>) -> Pile
+    fn current_pile(&self, pass: &mut BarePass, mut heights: Vec<u64>) -> Pile
         requires pass { IsPassOf self.now pass.old }
         requires whole { IsWhole self.now.terms pass.old }
         requires room { (heights.items ≡ []) × (length pass.old.counts ≤ vec_capacity heights) }
@@ -124,33 +156,46 @@ impl SharedPile {
         Pile::from_vec(pass.shape, heights)
     }
 
-    // Makes the record, of what has toppled in place and of the rest that is settled. The history has its room.
-    fn complete(self, pass: Pass, mut history: Vec<usize>, rest: Settled) -> Record
+    // Writes the site of each receipt of a pass that has all at its number.
+    fn write_history(&self, pass: &mut BarePass, history: &mut Vec<usize>, receipts: &[Receipt])
+        requires pass { IsPassOf self.now pass.old }
+        requires whole { IsWhole self.now.terms pass.old }
+        requires receipts { receipts.now ≡ pass.old.receipts }
+        requires one_each { length history.old.items ≡ length pass.old.receipts }
+        ensures pass { pass.new ≡ pass.old }
+        ensures tells { Tells pass.old.receipts history.new.items }
+        ensures one_each { length history.new.items ≡ length pass.old.receipts }
+    {
+        self.words.learn::<Brand>(&mut pass.seat);
+        fill(history, receipts);
+    }
+
+    /// Makes the record of a pile, of what has toppled in place, of the rest that `SharedPile::settle_rest` has settled, and of
+    /// the history of the pass's receipts.
+    pub fn complete(self, pass: BarePass, rest: Settled, history: Vec<usize>) -> Record
         requires pass { IsPassOf self pass }
         requires whole { IsWhole self.terms pass }
-        requires history { length history.items ≡ length pass.receipts }
         requires rest { IsRestOf self.terms pass rest }
+        requires tells { Tells pass.receipts history.items }
+        requires one_each { length history.items ≡ length pass.receipts }
         ensures one_threads { IsOneThreads result }
         ensures start { result.start ≡ self.terms.start }
-        ensures history { Tells pass.receipts result.history }
-        ensures each_drop_once { length result.history ≡ length pass.receipts }
+        ensures history { result.history ≡ history.items }
         ensures all_seen { pass.seen ≡ length result.history }
         ensures never_fall { (i : ℕ) → slice_index pass.counts i ≤ odometer_of result.settled i }
     {
         let SharedPile { words } = self;
-        let Pass {
+        let BarePass {
             mut seat,
             shape: _,
             left: _,
             seen: _,
-            receipts,
+            made: _,
             rows: _,
             mut counts,
-            blank: _,
         } = pass;
         words.learn::<Brand>(&mut seat);
         let Terms { start, quota: _ } = words.end(seat);
-        fill(&mut history, receipts.as_slice());
         add(&mut counts, rest.odometers());
         let (_, heights) = rest.into_pile().into_parts();
         Record::of_lists(start, history, heights, counts)

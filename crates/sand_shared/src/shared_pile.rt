@@ -9,7 +9,6 @@ ghost use Rattle.sand_shared.specs.Rows.{no_rows};
 ghost use Rattle.sand_model.specs.Piles.{most_grains};
 
 use crate::faults::{DropFault, SharedFault};
-use crate::history::Blank;
 use crate::pass::Pass;
 use crate::record::copy_of;
 use crate::rows::Rows;
@@ -73,7 +72,6 @@ impl SharedPile {
                 end: shape.height() as u16,
             },
             counts,
-            blank: Blank::new(alloc),
         };
         Ok((SharedPile { words }, pass))
     }

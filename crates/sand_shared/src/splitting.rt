@@ -5,7 +5,6 @@ ghost use Rattle.sand_shared.specs.Passes.{IsPassOf, sites_kept};
 ghost use Rattle.sand_shared.specs.Rows.{no_rows, count_of, upper_rows, lower_rows};
 
 use crate::faults::SplitFault;
-use crate::history::Blank;
 use crate::pass::Pass;
 use crate::rows::Rows;
 use crate::shared_pile::SharedPile;
@@ -41,7 +40,6 @@ impl SharedPile {
             receipts,
             rows: Rows { first: 0, end: 0 },
             counts: Vec::new(alloc),
-            blank: Blank::new(alloc),
         })
     }
 
@@ -82,7 +80,6 @@ impl SharedPile {
             receipts: Vec::new(alloc),
             rows: lower,
             counts,
-            blank: Blank::new(alloc),
         })
     }
 }

@@ -5,31 +5,38 @@ use Rattle.sand_shared.specs.declared.view.Terms.{Terms}
 use Rattle.sand_shared.specs.Passes.{PassView, EachOnce}
 use Rattle.sand_shared.specs.Record.{RecordView}
 use Rattle.sand_lab.specs.Journals.{IsJournal, joined, lists}
-use Rattle.sand_lab.specs.Reports.{IsClosed, IsRecordOf}
-use Rattle.sand_lab.proofs.EpochIsClosed.{whole, places, closed_is}
+use Rattle.sand_lab.specs.Reports.{IsClosed}
+use Rattle.sand_lab.proofs.EpochIsClosed.{whole, gathered_parts, places, closed_is}
 use Rattle.sand_lab.proofs.epochs.closed_epoch.Goals as goal
 
 pub sweep_on-requires-after_bounds : goal.sweep_on-requires-after_bounds
-sweep_on-requires-after_bounds g c κs bounds = (c.args.wish, c.args.epoch, c.work_and_make_ready.ensures.crew.worked c.args.epoch c.in_ok-crew.ensures.crew)
+sweep_on-requires-after_bounds g c κs bounds = (c.args.wish, c.args.epoch, c.work_and_make_blank.ensures.crew.worked c.args.epoch c.in_ok-crew.ensures.crew)
 
 pub gather-requires-clause-crew : goal.gather-requires-clause-crew
 gather-requires-clause-crew g c =
-    (c.args.wish, c.args.epoch, c.requires.plan.some_workers, c.sweep_on.ensures c.args.wish c.args.epoch (c.work_and_make_ready.ensures.crew.worked c.args.epoch c.in_ok-crew.ensures.crew))
+    (c.args.wish, c.args.epoch, c.requires.plan.some_workers, c.sweep_on.ensures c.args.wish c.args.epoch (c.work_and_make_blank.ensures.crew.worked c.args.epoch c.in_ok-crew.ensures.crew))
 
-pub note_and_close-journal-requires-clause-whole : goal.note_and_close-journal-requires-clause-whole
-note_and_close-journal-requires-clause-whole g c =
+pub note_and_close-requires-clause-whole : goal.note_and_close-requires-clause-whole
+note_and_close-requires-clause-whole g c κs bounds =
     let s = c.in_ok-pile.pile in
     let quota = ap (λ (t : Terms). t.quota) c.in_ok-pile.ensures.terms ∙ c.quota_of.ensures in
-    let has = c.sweep_on.ensures c.args.wish c.args.epoch (c.work_and_make_ready.ensures.crew.worked c.args.epoch c.in_ok-crew.ensures.crew) in
+    let has = c.sweep_on.ensures c.args.wish c.args.epoch (c.work_and_make_blank.ensures.crew.worked c.args.epoch c.in_ok-crew.ensures.crew) in
     whole s c.args.wish c.args.epoch c.sweep_on.new.self c.gather.new.first quota has c.in_ok-parts.ensures.first
 
-pub note_and_close-journal-requires-clause-places : goal.note_and_close-journal-requires-clause-places
-note_and_close-journal-requires-clause-places g c =
+pub note_and_close-requires-clause-places : goal.note_and_close-requires-clause-places
+note_and_close-requires-clause-places g c κs bounds =
     let s = c.in_ok-pile.pile in
     let quota = ap (λ (t : Terms). t.quota) c.in_ok-pile.ensures.terms ∙ c.quota_of.ensures in
-    let has = c.sweep_on.ensures c.args.wish c.args.epoch (c.work_and_make_ready.ensures.crew.worked c.args.epoch c.in_ok-crew.ensures.crew) in
-    let once : EachOnce c.gather.new.first.receipts = subst EachOnce (ap (λ (p : PassView). p.receipts) c.first-3.view_is) c.first-3.invariant.once in
-    places s c.args.wish c.args.epoch c.sweep_on.new.self c.gather.new.first quota has c.in_ok-parts.ensures.first (lists c.in_ok-parts.field-0.parts.items) (vec_len c.in_ok-blank.blank) c.in_ok-parts.ensures.parts c.in_ok-blank.ensures.long once c.requires.plan
+    let has = c.sweep_on.ensures c.args.wish c.args.epoch (c.work_and_make_blank.ensures.crew.worked c.args.epoch c.in_ok-crew.ensures.crew) in
+    let once : EachOnce c.gather.new.first.receipts = subst EachOnce (ap (λ (p : PassView). p.receipts) c.all.view_is) c.all.invariant.pass.once in
+    places s c.args.wish c.args.epoch c.sweep_on.new.self c.gather.new.first quota has c.in_ok-parts.ensures.first (lists c.in_ok-parts.field-0.parts.items) (vec_len c.in_ok-blank.blank.journal) c.in_ok-parts.ensures.parts c.in_ok-blank.ensures.journal once c.requires.plan
+
+pub note_and_close-requires-clause-parts : goal.note_and_close-requires-clause-parts
+note_and_close-requires-clause-parts g c κs bounds =
+    let s = c.in_ok-pile.pile in
+    let quota = ap (λ (t : Terms). t.quota) c.in_ok-pile.ensures.terms ∙ c.quota_of.ensures in
+    let has = c.sweep_on.ensures c.args.wish c.args.epoch (c.work_and_make_blank.ensures.crew.worked c.args.epoch c.in_ok-crew.ensures.crew) in
+    gathered_parts s c.args.wish c.args.epoch c.sweep_on.new.self c.gather.new.first quota has c.in_ok-parts.ensures.first (lists c.in_ok-parts.field-0.parts.items) c.in_ok-parts.ensures.parts
 
 pub returns-clause-closed : goal.returns-clause-closed
 returns-clause-closed g c =
@@ -37,13 +44,12 @@ returns-clause-closed g c =
     let w = c.args.wish in
     let quota = ap (λ (t : Terms). t.quota) c.in_ok-pile.ensures.terms ∙ c.quota_of.ensures in
     let start : s.terms.start ≡ c.args.start.now = ap (λ (t : Terms). t.start) c.in_ok-pile.ensures.terms in
-    let has = c.sweep_on.ensures w c.args.epoch (c.work_and_make_ready.ensures.crew.worked c.args.epoch c.in_ok-crew.ensures.crew) in
-    let once : EachOnce c.gather.new.first.receipts = subst EachOnce (ap (λ (p : PassView). p.receipts) c.first-3.view_is) c.first-3.invariant.once in
+    let has = c.sweep_on.ensures w c.args.epoch (c.work_and_make_blank.ensures.crew.worked c.args.epoch c.in_ok-crew.ensures.crew) in
+    let once : EachOnce c.gather.new.first.receipts = subst EachOnce (ap (λ (p : PassView). p.receipts) c.all.view_is) c.all.invariant.pass.once in
     let gathered = c.in_ok-parts.ensures in
-    let written = c.note_and_close-journal.result.0.items in
-    let journal = subst (λ (parts : List (List Receipt)). IsJournal w.drops (joined parts) written) gathered.parts c.note_and_close-journal.ensures.journal in
+    let written = c.in_ok-journal.journal.items in
+    let journal = subst (λ (parts : List (List Receipt)). IsJournal w.drops (joined parts) written) gathered.parts c.in_ok-journal.ensures.journal in
     let tallies = map (λ ts. ts.items) c.in_ok-parts.field-0.findings.tallies.items in
     let swept = c.in_ok-parts.field-0.findings.swept.items in
-    let closed : IsRecordOf s c.gather.new.first c.in_ok-closed.field-0 = rw c.in_ok-closed.was at c.note_and_close-journal.ensures.closed in
-    subst (λ (z : PileView × RecordView). IsClosed w z.0 c.args.epoch z.1 written tallies swept) (λ i. (start i, sym c.in_ok-closed-2.ensures.first i))
-    (closed_is s w c.args.epoch c.sweep_on.new.self c.gather.new.first quota has gathered.first c.in_ok-closed.field-0 written tallies swept once journal closed gathered.tallies gathered.swept)
+    subst (λ (z : PileView × RecordView). IsClosed w z.0 c.args.epoch z.1 written tallies swept) (λ i. (start i, sym c.in_ok-closed.ensures.first i))
+    (closed_is s w c.args.epoch c.sweep_on.new.self c.gather.new.first quota has gathered.first c.in_ok-journal.closed written tallies swept once journal c.in_ok-journal.ensures.closed gathered.tallies gathered.swept)

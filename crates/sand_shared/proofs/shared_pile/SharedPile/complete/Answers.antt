@@ -1,26 +1,16 @@
 use Rattle.std.proofs.Common.{ℕ, List, length, sym, ap, ◌∙◌, subst, arith}
 use Rattle.std.specs.Prelude.{slice_index}
 use Rattle.sand_model.specs.Piles.{PileView}
-use Rattle.sand_shared.specs.declared.view.Receipt.{Receipt}
 use Rattle.sand_shared.specs.declared.view.Terms.{Terms}
-use Rattle.sand_shared.specs.Passes.{PassView, EachOnce}
+use Rattle.sand_shared.specs.Passes.{PassView}
 use Rattle.sand_shared.specs.Record.{Tells}
 use Rattle.sand_shared.proofs.RecordSums.{LeadsTo}
-use Rattle.sand_shared.proofs.LastPileIsSettled.{numbers_inside}
 use Rattle.sand_shared.proofs.CompletedOdometer.{completed_by, completed_seen, completed_small, completed_leads}
 use Rattle.sand_shared.proofs.shared_pile.SharedPile.complete.Goals as goal
 
-pub fill-requires-clause-inside : goal.fill-requires-clause-inside
-fill-requires-clause-inside c =
-    let b = completed_by c.self.view_is c.pass.view_is c.pass.invariant c.requires.pass c.requires.whole c.requires.rest c.learn.ensures.view c.learn.ensures.stands in
-    numbers_inside c.args.history.items c.as_slice.ensures.value b.all.below (completed_seen b) (c.requires.history ∙ ap (λ (q : PassView). length q.receipts) (sym c.pass.view_is))
-
-pub fill-requires-clause-once : goal.fill-requires-clause-once
-fill-requires-clause-once c = subst EachOnce (sym c.as_slice.ensures.value) c.pass.invariant.once
-
 pub add-requires-clause-small : goal.add-requires-clause-small
 add-requires-clause-small c i l =
-    let b = completed_by c.self.view_is c.pass.view_is c.pass.invariant c.requires.pass c.requires.whole c.requires.rest c.learn.ensures.view c.learn.ensures.stands in
+    let b = completed_by c.self.view_is c.pass.view_is c.pass.invariant.pass c.requires.pass c.requires.whole c.requires.rest c.learn.ensures.view c.learn.ensures.stands in
     let odometers = c.odometers.ensures.value in
     let long = ap (λ (l : List ℕ). length l) odometers ∙ c.requires.rest.odometer_each in
     let same = ap (λ (l : List ℕ). slice_index l i) odometers in
@@ -28,18 +18,18 @@ add-requires-clause-small c i l =
 
 pub of_lists-requires : goal.of_lists-requires
 of_lists-requires c =
-    let b = completed_by c.self.view_is c.pass.view_is c.pass.invariant c.requires.pass c.requires.whole c.requires.rest c.learn.ensures.view c.learn.ensures.stands in
-    let told = subst (λ (l : List Receipt). Tells l c.fill.new.history.items) c.as_slice.ensures.value c.fill.ensures.tells in
-    let long = c.fill.ensures.length ∙ c.requires.history ∙ ap (λ (q : PassView). length q.receipts) (sym c.pass.view_is) in
+    let b = completed_by c.self.view_is c.pass.view_is c.pass.invariant.pass c.requires.pass c.requires.whole c.requires.rest c.learn.ensures.view c.learn.ensures.stands in
+    let told = subst (λ (q : PassView). Tells q.receipts c.args.history.items) (sym c.pass.view_is) c.requires.tells in
+    let long = c.requires.one_each ∙ ap (λ (q : PassView). length q.receipts) (sym c.pass.view_is) in
     let heights = c.into_parts-heights.ensures.heights ∙ ap (λ (q : PileView). q.heights) c.into_pile.ensures in
-    let inside = completed_leads b c.fill.new.history.items c.add.new.numbers.items c.into_parts-heights.result.1.items c.odometers.result.now long told heights c.odometers.ensures.value c.add.ensures.long c.add.ensures.sums in
-    let l = subst (λ (z : Terms). LeadsTo z.start c.fill.new.history.items c.into_parts-heights.result.1.items c.add.new.numbers.items) (sym c.end-start.ensures.terms) inside in
+    let inside = completed_leads b c.args.history.items c.add.new.numbers.items c.into_parts-heights.result.1.items c.odometers.result.now long told heights c.odometers.ensures.value c.add.ensures.long c.add.ensures.sums in
+    let l = subst (λ (z : Terms). LeadsTo z.start c.args.history.items c.into_parts-heights.result.1.items c.add.new.numbers.items) (sym c.end-start.ensures.terms) inside in
     record { all_sites = l.all_sites; limit = l.limit; one_each = (l.heights_each, l.odometer_each); settled = l.settled }
 
 pub returns-clause-all_seen : goal.returns-clause-all_seen
 returns-clause-all_seen c =
-    let b = completed_by c.self.view_is c.pass.view_is c.pass.invariant c.requires.pass c.requires.whole c.requires.rest c.learn.ensures.view c.learn.ensures.stands in
-    let long = c.fill.ensures.length ∙ c.requires.history ∙ ap (λ (q : PassView). length q.receipts) (sym c.pass.view_is) in
+    let b = completed_by c.self.view_is c.pass.view_is c.pass.invariant.pass c.requires.pass c.requires.whole c.requires.rest c.learn.ensures.view c.learn.ensures.stands in
+    let long = c.requires.one_each ∙ ap (λ (q : PassView). length q.receipts) (sym c.pass.view_is) in
     ap (λ (q : PassView). q.seen) (sym c.pass.view_is) ∙ completed_seen b ∙ sym long ∙ ap (λ (l : List ℕ). length l) (sym c.of_lists.ensures.history)
 
 pub returns-clause-never_fall : goal.returns-clause-never_fall

@@ -10,11 +10,17 @@ use Rattle.sand_shared.specs.Passes.{PassView, at_rest}
 use Rattle.sand_shared.specs.Rows.{count_of}
 use Rattle.sand_shared.specs.Sweeps.{laid}
 use Rattle.sand_shared.proofs.CompletedOdometer.{left_underway}
+use Rattle.sand_shared.proofs.StillBare.{still_bare}
 use Rattle.sand_shared.proofs.shared_pile.SharedPile.current_pile.Goals as goal
+
+pub invariant_of-pass : goal.invariant_of-pass
+invariant_of-pass c =
+    let p = c.pass.inside in
+    still_bare (record { table = p.seat.table_id; grid = p.shape; left = p.left; seen = p.seen; receipts = p.seat.me.0.receipts; rows = p.rows; counts = p.counts.items }) p.made p.seat c.read.new.seat c.pass.invariant c.read.ensures.view c.read.ensures.seat.bare c.read.new.seat.table_id
 
 pub returns-clause-underway : goal.returns-clause-underway
 returns-clause-underway c =
-    let inv = c.pass.invariant in
+    let inv = c.pass.invariant.pass in
     let h = slice_index c.read.new.heights.items in
     let each = subst (λ (v : PassView). length v.counts ≡ count_of v.rows * v.grid.width) c.pass.view_is inv.one_each in
     let here = subst (λ (m : Me ℕ View). IsUnderway (grid_of_terms c.self.inside.words.terms) (laid c.self.inside.words.terms m.0) (toppled_by m.0) h) inv.me c.read.ensures.underway in

@@ -12,27 +12,27 @@ use Rattle.sand_shared.proofs.PassAfterEvent.{known_is}
 use Rattle.sand_shared.proofs.shared_pile.SharedPile.split_rows.Goals as goal
 
 -- what contracts see of the pass
-abbrev was : goal.After-new-2 → PassView
+abbrev was : goal.After-new → PassView
 was c = let p = c.pass.inside in record { table = p.seat.table_id; grid = p.shape; left = p.left; seen = p.seen; receipts = p.receipts.items; rows = p.rows; counts = p.counts.items }
 
 -- the sites that are kept, as the code counts them
-kept_is : (c : goal.After-new-2) → c.len.result - c.from.result * c.width.result ≡ length c.pass.inside.counts.items - c.args.k * c.pass.inside.shape.width
+kept_is : (c : goal.After-new) → c.len.result - c.from.result * c.width.result ≡ length c.pass.inside.counts.items - c.args.k * c.pass.inside.shape.width
 kept_is c =
     let long = c.pass.inside.counts.ok.0 in
     let given : c.from.result * c.width.result ≡ c.args.k * c.pass.inside.shape.width = λ i. c.from.ensures i * c.width.ensures.value i in
     let count = c.len.ensures in omega arith
 
-few_rows : (c : goal.After-new-2) → c.args.k ≤ count_of c.pass.inside.rows
+few_rows : (c : goal.After-new) → c.args.k ≤ count_of c.pass.inside.rows
 few_rows c = let count = c.count.ensures in let enough = c.if-count-k.false in omega arith
 
-upper : (c : goal.After-new-2) → let p = c.pass.inside in AreSitesOf p.shape c.cut.result.0 (p.rows.first * p.shape.width) (take (c.len.result - c.from.result * c.width.result) p.counts.items)
+upper : (c : goal.After-new) → let p = c.pass.inside in AreSitesOf p.shape c.cut.result.0 (p.rows.first * p.shape.width) (take (c.len.result - c.from.result * c.width.result) p.counts.items)
 upper c =
     let p = c.pass.inside in
     let inv = c.pass.invariant in
     subst (λ (z : ℕ × Rows). AreSitesOf p.shape z.1 (p.rows.first * p.shape.width) (take z.0 p.counts.items)) (λ i. (sym (kept_is c) i, sym c.cut.ensures.upper i))
     (upper_sites p.shape p.rows p.counts.items c.args.k inv.grid inv.rows inv.one_each (few_rows c))
 
-lower : (c : goal.After-new-2) → let p = c.pass.inside in let kept = c.len.result - c.from.result * c.width.result in AreSitesOf p.shape c.cut.result.1 (p.rows.first * p.shape.width + kept) (drop kept p.counts.items)
+lower : (c : goal.After-new) → let p = c.pass.inside in let kept = c.len.result - c.from.result * c.width.result in AreSitesOf p.shape c.cut.result.1 (p.rows.first * p.shape.width + kept) (drop kept p.counts.items)
 lower c =
     let p = c.pass.inside in
     let inv = c.pass.invariant in
