@@ -9,4 +9,4 @@ asks_for_version _ = false
 
 -- the version, the toolchain that proved the program, and the logic that it was proved in
 abbrev pub version_text : List ℕ
-version_text = codes "sandpile 1.0.0, proved with rattle-kit-13b, logic dac8208d650f15bf\n"
+version_text = codes "sandpile 1.0.0, proved with rattle-kit-13f, logic dac8208d650f15bf\n"

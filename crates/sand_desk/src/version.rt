@@ -27,7 +27,7 @@ pub fn write_version<W: Write>(writer: &mut W) -> Result<(), DeskFault>
     // `docs/try-examples` compares it with what `rt version` prints.
     write_text(
         writer,
-        b"sandpile 1.0.0, proved with rattle-kit-13b, logic dac8208d650f15bf\n",
+        b"sandpile 1.0.0, proved with rattle-kit-13f, logic dac8208d650f15bf\n",
     )?;
     Ok(())
 }

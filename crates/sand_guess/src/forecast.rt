@@ -55,7 +55,7 @@ pub fn is_high(pile: &Pile) -> bool {
     let mut topplings = 0i64;
     for y in 0..frame.height {
         let row = run(pile.heights(), y.wrapping_mul(frame.width), frame.width);
-        let above = row_above(row, frame.goes_round).div_euclid(divisor);
+        let above = row_above(row, frame.goes_round).wrapping_div_euclid(divisor);
         topplings = topplings.wrapping_add(above.wrapping_mul(arch(frame.height, y)));
     }
     topplings > (frame.sites() as i64).wrapping_mul(MANY)
