@@ -1,47 +1,45 @@
-//! The help of the program lists its faults as they are reported.
+//! Help that cannot be written.
 
-use sand_desk::{DeskFault, run_command, show_help};
-use sand_testing::words::words_of;
+use crate::runs::{fault_of, sent};
+use crate::stopping::{Failing, Sluggish};
+use sand_desk::show_help;
+use std::alloc::Global;
 use std::test::Fail;
+use std::thread::Threads;
 
-// The places of faults are 0 here, and `N` in help.
-#[test]
-fn lists_the_faults(rt: HostRuntime) -> Result<(), Fail> {
-    let alloc = rt.alloc();
-    let words = words_of(alloc, "sandpile --help")?;
-    assert!(rt; !words.is_empty());
-    let mut input = b"".as_slice();
-    let mut help: Vec<u8> = Vec::new(alloc);
-    let Err(asked) = run_command(&rt, alloc, words.as_slice(), &mut input, &mut help) else {
-        return Err("no help".into());
+// How many bytes of the help of `settle` were written before the writer failed, if it did.
+fn helps<T: Threads + Sync>(
+    rt: &T,
+    alloc: Global,
+    writer: &mut Sluggish,
+) -> Result<Option<usize>, Fail> {
+    let mut reader = Failing {
+        bytes: b"",
+        fails: true,
     };
-    assert!(rt; show_help(alloc, asked, &mut help).is_ok());
-    let text = String::from_utf8(help).map_err(|_| "no text")?;
-    for (name, fault) in [
-        ("Side", DeskFault::Side),
-        ("Length", DeskFault::Length),
-        ("TooManyGrains", DeskFault::TooManyGrains),
-        ("Memory", DeskFault::Memory),
-        ("Full", DeskFault::Full),
-        ("Unstable", DeskFault::Unstable),
-        ("NotRecurrent", DeskFault::NotRecurrent),
-        ("Shapes", DeskFault::Shapes),
-        ("Text", DeskFault::Text(0)),
-        ("TooLarge", DeskFault::TooLarge(0)),
-        ("Read", DeskFault::Read),
-        ("Write", DeskFault::Write(0)),
-        ("TooLong", DeskFault::TooLong),
-        ("Narrow", DeskFault::Narrow),
-        ("NoSite", DeskFault::NoSite(0)),
-    ] {
-        let number = fault.number();
-        let sentence = format!(in alloc; "{fault}")?;
-        let start = sentence.split('0').next().unwrap_or("");
-        let row = format!(in alloc; " {number} {name} ")?;
-        let Some((_, rest)) = text.split_once(row.as_str()) else {
-            return Err(name.into());
-        };
-        assert!(rt; rest.trim_start().starts_with(start), "{row}: {text}");
+    let asked = fault_of(rt, alloc, "sandpile settle --help", &mut reader, writer)?;
+    match show_help(alloc, asked, writer) {
+        Ok(()) => Ok(None),
+        Err(fault) => Ok(sent(&fault)),
     }
+}
+
+#[test]
+fn a_writer_that_stops_in_help(rt: HostRuntime) -> Result<(), Fail> {
+    let start = b"Settles a pile: topples sites until each holds at most 3 grains\n";
+    for room in 0..start.len() {
+        let mut writer = Sluggish::new(rt.alloc(), room);
+        assert_eq!(rt; helps(&rt, rt.alloc(), &mut writer)?, Some(room));
+        assert_eq!(rt; writer.taken.as_slice(), &start[..room]);
+    }
+    Ok(())
+}
+
+#[test]
+fn help_that_cannot_be_flushed(rt: HostRuntime) -> Result<(), Fail> {
+    let mut writer = Sluggish::new(rt.alloc(), 10_000);
+    writer.flushes = false;
+    let after = helps(&rt, rt.alloc(), &mut writer)?;
+    assert!(rt; after > Some(100) && after == Some(writer.taken.len()));
     Ok(())
 }

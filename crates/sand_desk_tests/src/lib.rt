@@ -1,28 +1,14 @@
-//! The tests of whole commands, over memory, and over readers and writers that stop; and of the words of the command line.
+//! What no run of the program shows: commands over readers that fail and writers that stop, and what a fault says of itself.
 //!
-//! `stopping` has these readers and writers. They are not tests: each says its bytes, and is proved to.
+//! `stopping` has the reader and the writer. They are not tests: each says its bytes, and is proved to.
 #![tactic(auto)]
 
 #[cfg(test)]
-mod commands;
-#[cfg(test)]
-mod drawing;
-#[cfg(test)]
 mod faults;
 #[cfg(test)]
-mod group;
-#[cfg(test)]
 mod help;
-#[cfg(test)]
-mod laboratory;
-#[cfg(test)]
-mod pictures;
 #[cfg(test)]
 mod runs;
 pub mod stopping;
 #[cfg(test)]
 mod streams;
-#[cfg(test)]
-mod texts;
-#[cfg(test)]
-mod words;

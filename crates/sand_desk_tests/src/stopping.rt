@@ -1,10 +1,11 @@
-//! A writer and readers that stop, for the tests.
+//! A reader and a writer that stop, for the tests.
 //!
 //! A command promises most if the bytes of its reader and its writer are known. So these say theirs: what the writer has taken,
-//! and what a reader has left.
+//! and what the reader has left.
 
 ghost use Rattle.std.specs.Prelude.{Some};
 
+use std::alloc::Global;
 use std::io;
 use std::io::{ErrorKind, Read, Write};
 
@@ -16,6 +17,18 @@ pub struct Sluggish {
     /// Whether it then returns 0 bytes instead of an error.
     pub is_full: bool,
     pub flushes: bool,
+}
+
+impl Sluggish {
+    /// One that has taken nothing yet, and will return an error.
+    pub fn new(alloc: Global, room: usize) -> Sluggish {
+        Sluggish {
+            taken: Vec::new(alloc),
+            room,
+            is_full: false,
+            flushes: true,
+        }
+    }
 }
 
 impl Write for Sluggish {
@@ -45,10 +58,11 @@ impl Write for Sluggish {
     }
 }
 
-/// Gives one byte a call, and fails after the last.
+/// Gives one byte a call. After the last it fails, or ends.
 #[derive(Drop)]
 pub struct Failing<'a> {
     pub bytes: &'a [u8],
+    pub fails: bool,
 }
 
 impl Read for Failing<'_> {
@@ -56,43 +70,14 @@ impl Read for Failing<'_> {
 
     fn read(&mut self, room: &mut [u8]) -> io::Result<usize> {
         let (Some(slot), [first, rest @ ..]) = (room.first_mut(), self.bytes) else {
-            return Err(io::Error::from(ErrorKind::Other));
+            return if self.fails {
+                Err(io::Error::from(ErrorKind::Other))
+            } else {
+                Ok(0)
+            };
         };
         *slot = *first;
         self.bytes = rest;
         Ok(1)
-    }
-}
-
-/// Gives as many bytes as are requested, and fails after the last.
-#[derive(Drop)]
-pub struct Cut<'a> {
-    pub bytes: &'a [u8],
-}
-
-impl Read for Cut<'_> {
-    ghost remaining = { λ r. Some r.bytes.now };
-
-    fn read(&mut self, room: &mut [u8]) -> io::Result<usize> {
-        if self.bytes.is_empty() {
-            return Err(io::Error::from(ErrorKind::Other));
-        }
-        self.bytes.read(room)
-    }
-}
-
-/// Gives spaces without end, and counts them.
-#[derive(Drop)]
-pub struct Endless {
-    pub given: usize,
-}
-
-impl Read for Endless {
-    fn read(&mut self, room: &mut [u8]) -> io::Result<usize> {
-        for slot in room.iter_mut() {
-            *slot = b' ';
-        }
-        self.given = self.given.saturating_add(room.len());
-        Ok(room.len())
     }
 }

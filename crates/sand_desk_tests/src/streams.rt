@@ -1,7 +1,8 @@
-//! Commands over readers and writers that stop.
+//! Commands over readers that fail and writers that stop.
 
-use crate::runs::run;
-use crate::stopping::{Cut, Endless, Failing, Sluggish};
+use crate::runs::{fault_of, sent};
+use crate::stopping::{Failing, Sluggish};
+use sand_desk::DeskFault;
 use std::alloc::Global;
 use std::process::Abort;
 use std::test::Fail;
@@ -11,36 +12,37 @@ const PILE: &[u8] = b"3 1\n0 4 0\n";
 
 const SETTLED: &[u8] = b"3 1\n1 0 1\nodometer\n0 1 0\nlost 2\ntopplings 1\n";
 
-// A writer that stops after so many bytes, in either way, has the first bytes of the text, and the fault says how many.
-fn stops_after<T: Threads + Sync + Abort>(
+const JOURNAL: &[u8] =
+    b"epoch drops topplings lost grains\n0 2 0 0 2\ntotal 2 0 0 2\n1 1\n2\nodometer\n0\njournal\n0 0 0 0\n0 1 0 0\n";
+
+// A writer that stops, in either way, has the first bytes of the text, and the fault says how many.
+fn stops<T: Threads + Sync + Abort>(
     rt: &T,
     alloc: Global,
     line: &str,
-    input: &[u8],
+    bytes: &[u8],
     taken: &[u8],
+    is_full: bool,
 ) -> Result<(), Fail> {
-    let room = taken.len();
-    let want = format!(in alloc; "fault 21 Write after {room}\n")?;
-    for is_full in [false, true] {
-        let mut writer = Sluggish {
-            taken: Vec::new(alloc),
-            room,
-            is_full,
-            flushes: true,
-        };
-        let mut reader = input;
-        let ending = run(rt, alloc, line, &mut reader, &mut writer)?;
-        assert_eq!(rt; ending.line.as_slice(), want.as_bytes());
-        assert_eq!(rt; writer.taken.as_slice(), taken);
-    }
+    let mut reader = Failing {
+        bytes,
+        fails: false,
+    };
+    let mut writer = Sluggish::new(alloc, taken.len());
+    writer.is_full = is_full;
+    let fault = fault_of(rt, alloc, line, &mut reader, &mut writer)?;
+    assert_eq!(rt; sent(&fault), Some(taken.len()));
+    assert_eq!(rt; writer.taken.as_slice(), taken);
     Ok(())
 }
 
 #[test]
 fn a_writer_that_stops(rt: HostRuntime) -> Result<(), Fail> {
-    assert_eq!(rt; SETTLED.len(), 44);
     for room in 0..SETTLED.len() {
-        stops_after(&rt, rt.alloc(), "sandpile settle", PILE, &SETTLED[..room])?;
+        for is_full in [false, true] {
+            let taken = &SETTLED[..room];
+            stops(&rt, rt.alloc(), "sandpile settle", PILE, taken, is_full)?;
+        }
     }
     Ok(())
 }
@@ -48,76 +50,46 @@ fn a_writer_that_stops(rt: HostRuntime) -> Result<(), Fail> {
 #[test]
 fn a_writer_that_stops_in_a_run(rt: HostRuntime) -> Result<(), Fail> {
     let line = "sandpile lab --droppers 1 --drops 2 --journal";
-    let text =
-        b"epoch drops topplings lost grains\n0 2 0 0 2\ntotal 2 0 0 2\n1 1\n2\nodometer\n0\njournal\n0 0 0 0\n0 1 0 0\n";
-    for room in 0..text.len() {
-        stops_after(&rt, rt.alloc(), line, b"1 1\n0\n", &text[..room])?;
+    for room in 0..JOURNAL.len() {
+        for is_full in [false, true] {
+            let taken = &JOURNAL[..room];
+            stops(&rt, rt.alloc(), line, b"1 1\n0\n", taken, is_full)?;
+        }
     }
     Ok(())
 }
 
+// What becomes of settling a reader's pile: the fault, over a writer with room for the text.
+fn settled<T: Threads + Sync>(
+    rt: &T,
+    alloc: Global,
+    bytes: &[u8],
+    fails: bool,
+    writer: &mut Sluggish,
+) -> Result<DeskFault, Fail> {
+    let mut reader = Failing { bytes, fails };
+    fault_of(rt, alloc, "sandpile settle", &mut reader, writer)
+}
+
 #[test]
 fn a_writer_that_cannot_flush(rt: HostRuntime) -> Result<(), Fail> {
-    let alloc = rt.alloc();
-    let mut writer = Sluggish {
-        taken: Vec::new(alloc),
-        room: 100,
-        is_full: false,
-        flushes: false,
-    };
-    let mut reader = PILE;
-    let ending = run(&rt, alloc, "sandpile settle", &mut reader, &mut writer)?;
-    assert_eq!(rt;
-        ending.line.as_slice(),
-        b"fault 21 Write after 44\n".as_slice()
-    );
+    let mut writer = Sluggish::new(rt.alloc(), 100);
+    writer.flushes = false;
+    let fault = settled(&rt, rt.alloc(), PILE, false, &mut writer)?;
+    assert_eq!(rt; sent(&fault), Some(44));
     assert_eq!(rt; writer.taken.as_slice(), SETTLED);
     Ok(())
 }
 
 #[test]
 fn a_reader_that_fails(rt: HostRuntime) -> Result<(), Fail> {
-    let alloc = rt.alloc();
     for len in 0..PILE.len() + 1 {
-        let mut reader = Failing {
-            bytes: &PILE[..len],
-        };
-        let mut cut = Cut {
-            bytes: &PILE[..len],
-        };
-        let mut text = Vec::new(alloc);
-        let slow = run(&rt, alloc, "sandpile settle", &mut reader, &mut text)?;
-        let fast = run(&rt, alloc, "sandpile settle", &mut cut, &mut text)?;
-        for ending in [slow, fast] {
-            assert_eq!(rt;
-                ending.line.as_slice(),
-                b"fault 20 Read\n".as_slice(),
-                "after {len}"
-            );
-        }
-        assert!(rt; text.is_empty());
+        let mut writer = Sluggish::new(rt.alloc(), 100);
+        let fault = settled(&rt, rt.alloc(), &PILE[..len], true, &mut writer)?;
+        assert!(rt;
+            matches!(fault, DeskFault::Read) && writer.taken.is_empty(),
+            "after {len}"
+        );
     }
-    Ok(())
-}
-
-#[test]
-fn more_input_than_the_limit(rt: HostRuntime) -> Result<(), Fail> {
-    let alloc = rt.alloc();
-    let mut reader = Endless { given: 0 };
-    let mut text = Vec::new(alloc);
-    let ending = run(&rt, alloc, "sandpile settle", &mut reader, &mut text)?;
-    assert_eq!(rt; ending.line.as_slice(), b"fault 22 TooLong\n".as_slice());
-    assert_eq!(rt; reader.given, 1_048_577);
-    let spaces = vec![in alloc; b' '; 1_048_577]?;
-    for (len, want) in [
-        (1_048_577, "fault 22 TooLong\n"),
-        (1_048_576, "fault 18 Text at 1048576\n"),
-    ] {
-        assert!(rt; len <= spaces.len());
-        let mut reader = &spaces.as_slice()[..len];
-        let ending = run(&rt, alloc, "sandpile settle", &mut reader, &mut text)?;
-        assert_eq!(rt; ending.line.as_slice(), want.as_bytes());
-    }
-    assert!(rt; text.is_empty());
     Ok(())
 }

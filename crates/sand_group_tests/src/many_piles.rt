@@ -2,11 +2,11 @@
 
 ghost use Rattle.std.specs.Prelude.{◌<◌};
 
+use crate::piles::pile_on;
 use sand_certify::certified;
 use sand_guess::guessed;
-use sand_model::{Edge, Pile, Shape, ShapeFault};
-use std::alloc::{AllocError, Global};
-use std::test::Fail;
+use sand_model::{Edge, Pile};
+use std::alloc::Global;
 
 // So many piles are guessed.
 const PILES: u64 = 400;
@@ -33,60 +33,81 @@ impl Numbers {
         self.below(most) as usize + 1
     }
 
-    fn shape(&mut self) -> Result<Shape, ShapeFault> {
-        let edge = if self.below(2) == 0 {
+    fn edge(&mut self) -> Edge {
+        if self.below(2) == 0 {
             Edge::Open
         } else {
             Edge::Cylinder
-        };
-        Shape::with_edge(self.side(), self.side(), edge)
+        }
+    }
+
+    // Of any order of size below 2^40.
+    fn grains(&mut self) -> u64 {
+        (1u64 << self.below(40)) - 1
+    }
+
+    // Heights below a limit.
+    fn heights_below(&mut self, alloc: Global, limit: u64, sites: usize) -> Option<Vec<u64>>
+        requires { 0 < limit }
+    {
+        let mut heights = vec![in alloc; 0u64; sites].ok()?;
+        for height in &mut heights {
+            *height = self.below(limit);
+        }
+        Some(heights)
+    }
+
+    // Adds grains on one site.
+    fn heap(&mut self, heights: &mut [u64]) {
+        let grains = self.grains();
+        let site = self.below((heights.len() as u64).max(1)) as usize;
+        if site < heights.len() {
+            heights[site] = heights[site].saturating_add(grains);
+        }
+    }
+
+    // Heights below 4, and grains on two sites.
+    fn heaped(&mut self, alloc: Global, sites: usize) -> Option<Vec<u64>> {
+        let mut heights = self.heights_below(alloc, 4, sites)?;
+        self.heap(&mut heights);
+        self.heap(&mut heights);
+        Some(heights)
+    }
+
+    // Heights below 8, or alike, or nearly all grains on two sites.
+    fn heights(&mut self, alloc: Global, sites: usize) -> Option<Vec<u64>> {
+        match self.below(4) {
+            0 => self.heights_below(alloc, 8, sites),
+            1 => vec![in alloc; self.grains() / 1024; sites].ok(),
+            _ => self.heaped(alloc, sites),
+        }
     }
 
     // A pile, or None if it would be too narrow or have too many grains.
-    fn pile(&mut self, alloc: Global) -> Result<Option<Pile>, AllocError> {
-        let Ok(shape) = self.shape() else {
-            return Ok(None);
-        };
-        let heights = self.heights(alloc, shape)?;
-        Ok(Pile::new(alloc, shape, &heights).ok())
-    }
-
-    // Heights below 8, or alike, or all grains on a few sites, of any order of size.
-    fn heights(&mut self, alloc: Global, shape: Shape) -> Result<Vec<u64>, AllocError> {
-        let kind = self.below(4);
-        let grains = (1u64 << self.below(40)) - 1;
-        let each = grains / (shape.sites() as u64).max(1);
-        let mut heights = Vec::new(alloc);
-        for _ in 0..shape.sites() {
-            heights.push(match kind {
-                0 => self.below(8),
-                1 => each,
-                _ => self.below(4),
-            })?;
-        }
-        for _ in 1..kind {
-            let site = self.below((heights.len() as u64).max(1)) as usize;
-            if site < heights.len() {
-                heights[site] = heights[site].saturating_add(grains / 4);
-            }
-        }
-        Ok(heights)
+    fn pile(&mut self, alloc: Global) -> Option<Pile> {
+        let edge = self.edge();
+        let width = self.side();
+        let height = self.side();
+        let heights = self.heights(alloc, width.saturating_mul(height))?;
+        pile_on(alloc, width, height, edge, &heights)
     }
 }
 
+// The heights that the guessed odometer of a pile leaves, if it is made and accepted.
+fn left_by_guess(alloc: Global, pile: &Pile) -> Option<Vec<u64>> {
+    let claim = guessed(alloc, pile).ok()??;
+    certified(alloc, pile, &claim.counts, &claim.turns).ok()?
+}
+
 #[test]
-fn guesses_of_many_piles_are_accepted(rt: HostRuntime) -> Result<(), Fail> {
-    let alloc = rt.alloc();
+fn guesses_of_many_piles_are_accepted(rt: HostRuntime) {
     let mut numbers = Numbers(88_172_645_463_325_252);
-    let mut accepted = 0u64;
+    let mut piles = 0u64;
     for _ in 0..PILES {
-        if let Some(pile) = numbers.pile(alloc)? {
-            let claim = guessed(alloc, &pile)?.ok_or("no guess")?;
-            let left = certified(alloc, &pile, &claim.counts, &claim.turns)?;
-            assert!(rt; left.is_some());
-            accepted = accepted.saturating_add(1);
+        if let Some(pile) = numbers.pile(rt.alloc()) {
+            assert!(rt; left_by_guess(rt.alloc(), &pile).is_some());
+            piles = piles.saturating_add(1);
         }
     }
-    assert!(rt; accepted >= 300);
-    Ok(())
+    assert!(rt; piles >= 300);
 }

@@ -1,5 +1,6 @@
 //! Worked examples of the burning test and of the group.
 
+use crate::piles::{pile_on, row};
 use sand_group::{
     Burned, GroupFault, Recurrent, act, add, burn, equivalent_recurrent, identity, inverse,
 };
@@ -7,122 +8,122 @@ use sand_model::{Edge, Pile, Shape};
 use std::alloc::Global;
 use std::test::Fail;
 
-fn pile(alloc: Global, width: usize, height: usize, heights: &[u64]) -> Result<Pile, Fail> {
-    Ok(Pile::new(alloc, Shape::new(width, height)?, heights)?)
-}
-
-fn recurrent(
-    alloc: Global,
-    width: usize,
-    height: usize,
-    heights: &[u64],
-) -> Result<Recurrent, Fail> {
-    Ok(Recurrent::from_pile(alloc, &pile(alloc, width, height, heights)?)?)
-}
-
-// The forbidden set that burning leaves, or an empty list if there is none.
-fn left(alloc: Global, width: usize, height: usize, heights: &[u64]) -> Result<Vec<usize>, Fail> {
-    match burn(alloc, &pile(alloc, width, height, heights)?)? {
-        Burned::Recurrent(_) => Ok(Vec::new(alloc)),
-        Burned::Forbidden(set) => Ok(set),
+// The forbidden set that burning leaves of a pile, or an empty list if there is none.
+fn left(alloc: Global, pile: Option<Pile>) -> Option<Vec<usize>> {
+    match burn(alloc, &pile?).ok()? {
+        Burned::Recurrent(_) => Some(Vec::new(alloc)),
+        Burned::Forbidden(set) => Some(set),
     }
 }
 
-fn refusal<T: Drop>(answer: Result<T, GroupFault>) -> u32 {
-    match answer {
-        Ok(_) => 0,
-        Err(fault) => fault.number(),
+// Whether burning leaves this set.
+fn leaves(alloc: Global, pile: Option<Pile>, set: &[usize]) -> bool {
+    match left(alloc, pile) {
+        Some(left) => left.as_slice() == set,
+        None => false,
     }
 }
 
 #[test]
-fn burns(rt: HostRuntime) -> Result<(), Fail> {
+fn burns_rows(rt: HostRuntime) {
     let alloc = rt.alloc();
-    assert_eq!(rt; left(alloc, 1, 1, &[0])?.len(), 0);
-    assert_eq!(rt; left(alloc, 3, 1, &[1, 0, 1])?.len(), 0);
-    assert_eq!(rt; left(alloc, 2, 1, &[0, 0])?.as_slice(), [0, 1].as_slice());
-    assert_eq!(rt;
-        left(alloc, 3, 1, &[0, 0, 3])?.as_slice(),
-        [0, 1].as_slice()
-    );
+    assert!(rt; leaves(alloc, row(alloc, &[0]), &[]));
+    assert!(rt; leaves(alloc, row(alloc, &[1, 0, 1]), &[]));
+    assert!(rt; leaves(alloc, row(alloc, &[0, 0]), &[0, 1]));
+    assert!(rt; leaves(alloc, row(alloc, &[0, 0, 3]), &[0, 1]));
+}
+
+#[test]
+fn burns_nothing_of_a_square(rt: HostRuntime) {
+    let square = pile_on(rt.alloc(), 4, 4, Edge::Open, &[1; 16]);
     let all = [0, 1, 2, 3, 4, 5, 6, 7, 8, 9, 10, 11, 12, 13, 14, 15];
-    assert_eq!(rt; left(alloc, 4, 4, &[1; 16])?.as_slice(), all.as_slice());
+    assert!(rt; leaves(rt.alloc(), square, &all));
+}
+
+// No clause says that this is not reported as out of memory.
+#[test]
+fn refuses_what_is_not_recurrent(rt: HostRuntime) -> Result<(), Fail> {
+    let low = row(rt.alloc(), &[0, 0]).ok_or("no pile")?;
+    let refused = Recurrent::from_pile(rt.alloc(), &low);
+    assert!(rt; matches!(refused, Err(GroupFault::NotRecurrent)));
+    Ok(())
+}
+
+// Whether an operation made the pile with these heights.
+fn is_made(made: Result<Recurrent, GroupFault>, heights: &[u64]) -> bool {
+    match made {
+        Ok(made) => made.pile().heights() == heights,
+        Err(_) => false,
+    }
+}
+
+// Whether the identity of a grid has these heights.
+fn is_identity(alloc: Global, width: usize, height: usize, edge: Edge, heights: &[u64]) -> bool {
+    match Shape::with_edge(width, height, edge) {
+        Ok(shape) => is_made(identity(alloc, shape), heights),
+        Err(_) => false,
+    }
+}
+
+#[test]
+fn knows_the_identity(rt: HostRuntime) {
+    let alloc = rt.alloc();
+    assert!(rt; is_identity(alloc, 1, 1, Edge::Open, &[0]));
+    assert!(rt; is_identity(alloc, 2, 1, Edge::Open, &[3, 3]));
+    assert!(rt; is_identity(alloc, 2, 2, Edge::Open, &[2; 4]));
+    assert!(rt; is_identity(alloc, 3, 3, Edge::Open, &[2, 1, 2, 1, 0, 1, 2, 1, 2]));
+    assert!(rt; is_identity(alloc, 3, 1, Edge::Cylinder, &[2, 2, 2]));
+}
+
+// A recurrent pile on one row.
+fn recurrent(alloc: Global, heights: &[u64]) -> Option<Recurrent> {
+    let pile = row(alloc, heights)?;
+    Recurrent::from_pile(alloc, &pile).ok()
+}
+
+#[test]
+fn adds(rt: HostRuntime) -> Result<(), Fail> {
+    let pile = recurrent(rt.alloc(), &[3, 1]).ok_or("not recurrent")?;
+    let other = recurrent(rt.alloc(), &[0, 2]).ok_or("not recurrent")?;
+    assert!(rt; is_made(add(rt.alloc(), &pile, &other), &[3, 3]));
     Ok(())
 }
 
 #[test]
-fn refuses(rt: HostRuntime) -> Result<(), Fail> {
-    let alloc = rt.alloc();
-    let high = pile(alloc, 2, 1, &[4, 0])?;
-    let low = pile(alloc, 2, 1, &[0, 0])?;
-    assert_eq!(rt; refusal(burn(alloc, &high)), 7);
-    assert_eq!(rt; refusal(Recurrent::from_pile(alloc, &high)), 7);
-    assert_eq!(rt; refusal(Recurrent::from_pile(alloc, &low)), 8);
+fn inverts(rt: HostRuntime) -> Result<(), Fail> {
+    let pile = recurrent(rt.alloc(), &[3, 1]).ok_or("not recurrent")?;
+    assert!(rt; is_made(inverse(rt.alloc(), &pile), &[0, 2]));
     Ok(())
+}
+
+// What a pile settles to with one grain more on its first site, which each pile has.
+fn acted(alloc: Global, pile: &Recurrent) -> Result<Recurrent, GroupFault> {
+    let _ = pile.pile().shape().sites();
+    act(alloc, pile, 0)
 }
 
 #[test]
-fn adds_within_a_shape(rt: HostRuntime) -> Result<(), Fail> {
-    let alloc = rt.alloc();
-    let one = recurrent(alloc, 1, 1, &[3])?;
-    let three = recurrent(alloc, 3, 1, &[3, 3, 3])?;
-    let round = identity(alloc, Shape::with_edge(3, 1, Edge::Cylinder)?)?;
-    assert_eq!(rt; refusal(add(alloc, &one, &three)), 9);
-    assert_eq!(rt; refusal(add(alloc, &three, &round)), 9);
+fn acts(rt: HostRuntime) -> Result<(), Fail> {
+    let full = recurrent(rt.alloc(), &[3, 3]).ok_or("not recurrent")?;
+    assert!(rt; is_made(acted(rt.alloc(), &full), &[1, 0]));
     Ok(())
 }
 
-// The identity of a shape is as wanted, and added to itself gives itself.
-fn is_neutral(alloc: Global, shape: Shape, want: &[u64]) -> Result<bool, Fail> {
-    let neutral = identity(alloc, shape)?;
-    let twice = add(alloc, &neutral, &neutral)?;
-    Ok(neutral.pile().heights() == want && twice.pile().heights() == want)
+// Whether the recurrent pile that is equivalent to a pile has these heights.
+fn is_equivalent(alloc: Global, pile: Option<Pile>, heights: &[u64]) -> bool {
+    match pile {
+        Some(pile) => is_made(equivalent_recurrent(alloc, &pile), heights),
+        None => false,
+    }
 }
 
 #[test]
-fn knows_the_identity(rt: HostRuntime) -> Result<(), Fail> {
+fn finds_the_equivalent_recurrent_pile(rt: HostRuntime) {
     let alloc = rt.alloc();
-    assert!(rt; is_neutral(alloc, Shape::new(1, 1)?, &[0])?);
-    assert!(rt; is_neutral(alloc, Shape::new(2, 1)?, &[3, 3])?);
-    assert!(rt; is_neutral(alloc, Shape::new(2, 2)?, &[2; 4])?);
-    assert!(rt; is_neutral(alloc, Shape::new(3, 3)?, &[2, 1, 2, 1, 0, 1, 2, 1, 2])?);
-    assert!(rt; is_neutral(alloc, Shape::with_edge(3, 1, Edge::Cylinder)?, &[2; 3])?);
-    Ok(())
-}
-
-#[test]
-fn inverts_and_acts(rt: HostRuntime) -> Result<(), Fail> {
-    let alloc = rt.alloc();
-    let pile = recurrent(alloc, 2, 1, &[3, 1])?;
-    let negative = inverse(alloc, &pile)?;
-    assert_eq!(rt; negative.pile().heights(), [0, 2].as_slice());
-    let neutral = add(alloc, &pile, &negative)?;
-    assert_eq!(rt; neutral.pile().heights(), [3, 3].as_slice());
-    assert!(rt; 0 < neutral.pile().shape().sites());
-    let acted = act(alloc, &neutral, 0)?;
-    assert_eq!(rt; acted.pile().heights(), [1, 0].as_slice());
-    Ok(())
-}
-
-// The recurrent pile that is equivalent to heights on a shape.
-fn equivalent(alloc: Global, shape: Shape, heights: &[u64]) -> Result<Recurrent, Fail> {
-    Ok(equivalent_recurrent(alloc, &Pile::new(alloc, shape, heights)?)?)
-}
-
-#[test]
-fn finds_the_equivalent_recurrent_pile(rt: HostRuntime) -> Result<(), Fail> {
-    let alloc = rt.alloc();
-    let unstable = equivalent(alloc, Shape::new(2, 2)?, &[9, 0, 0, 5])?;
-    assert_eq!(rt; unstable.pile().heights(), [1, 3, 3, 1].as_slice());
-    let forbidden = equivalent(alloc, Shape::new(2, 2)?, &[0, 0, 0, 1])?;
-    assert_eq!(rt; forbidden.pile().heights(), [2, 2, 2, 3].as_slice());
-    let recurrent = equivalent(alloc, Shape::new(2, 1)?, &[3, 1])?;
-    assert_eq!(rt; recurrent.pile().heights(), [3, 1].as_slice());
-    let round = equivalent(
-        alloc,
-        Shape::with_edge(3, 2, Edge::Cylinder)?,
-        &[7, 0, 0, 0, 0, 1],
-    )?;
-    assert_eq!(rt; round.pile().heights(), [0, 3, 3, 3, 1, 2].as_slice());
-    Ok(())
+    let unstable = pile_on(alloc, 2, 2, Edge::Open, &[9, 0, 0, 5]);
+    assert!(rt; is_equivalent(alloc, unstable, &[1, 3, 3, 1]));
+    let forbidden = pile_on(alloc, 2, 2, Edge::Open, &[0, 0, 0, 1]);
+    assert!(rt; is_equivalent(alloc, forbidden, &[2, 2, 2, 3]));
+    let round = pile_on(alloc, 3, 2, Edge::Cylinder, &[7, 0, 0, 0, 0, 1]);
+    assert!(rt; is_equivalent(alloc, round, &[0, 3, 3, 3, 1, 2]));
 }

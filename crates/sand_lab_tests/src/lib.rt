@@ -10,13 +10,9 @@ pub mod holding;
 #[cfg(test)]
 mod plan;
 #[cfg(test)]
-mod refusals;
-#[cfg(test)]
 mod runs;
 #[cfg(test)]
 mod setup;
-#[cfg(test)]
-mod spreading;
 #[cfg(test)]
 mod streams;
 #[cfg(test)]

@@ -1,84 +1,36 @@
-//! The limits of a plan, and the numbers of the faults.
+//! The limits of a plan.
 
-use sand_lab::{LabFault, Plan, Wish};
-use sand_testing::runs::QUIET;
-use std::alloc::AllocError;
+use sand_lab::{Plan, Wish};
 use std::test::Fail;
 
-#[test]
-fn a_field_outside_its_limits(rt: HostRuntime) -> Result<(), Fail> {
-    let wishes = [
-        Wish {
-            droppers: 0,
-            ..QUIET
-        },
-        Wish {
-            droppers: 65,
-            ..QUIET
-        },
-        Wish {
-            drops: 1_000_001,
-            ..QUIET
-        },
-        Wish { epochs: 0, ..QUIET },
-        Wish {
-            epochs: 101,
-            ..QUIET
-        },
-        Wish {
-            workers: 0,
-            ..QUIET
-        },
-        Wish {
-            workers: 17,
-            ..QUIET
-        },
-        Wish {
-            sweeps: 1001,
-            ..QUIET
-        },
-        Wish {
-            observers: 17,
-            ..QUIET
-        },
-    ];
-    for wish in wishes {
-        let Err(fault) = Plan::new(wish) else {
-            return Err("a plan outside the limits".into());
-        };
-        assert_eq!(rt; fault.number(), 15, "{wish:?}");
-    }
-    Ok(())
-}
+// Droppers, drops, epochs, workers, sweeps and observers.
+const GREATEST: [u32; 6] = [64, 1_000_000, 100, 16, 1000, 16];
 
-#[test]
-fn each_field_at_its_limits(rt: HostRuntime) -> Result<(), Fail> {
-    let greatest = Wish {
+const LEAST: [u32; 6] = [1, 0, 1, 1, 0, 0];
+
+fn is_planned(fields: [u32; 6]) -> bool {
+    let [droppers, drops, epochs, workers, sweeps, observers] = fields;
+    let wish = Wish {
         seed: u64::MAX,
-        droppers: 64,
-        drops: 1_000_000,
-        epochs: 100,
-        workers: 16,
-        sweeps: 1000,
-        observers: 16,
+        droppers,
+        drops,
+        epochs,
+        workers,
+        sweeps,
+        observers,
     };
-    for wish in [QUIET, greatest] {
-        let plan = Plan::new(wish)?;
-        assert_eq!(rt; plan.wish(), wish);
-    }
-    Ok(())
+    Plan::new(wish).is_ok()
 }
 
 #[test]
-fn numbers_of_faults(rt: HostRuntime) {
-    let faults = [
-        (LabFault::TooManyGrains, 3),
-        (LabFault::Memory(AllocError), 4),
-        (LabFault::Plan, 15),
-        (LabFault::AlbumSize, 16),
-        (LabFault::Taken, 17),
-    ];
-    for (fault, number) in &faults {
-        assert_eq!(rt; fault.number(), *number);
+fn each_field_within_its_limits(rt: HostRuntime) -> Result<(), Fail> {
+    assert!(rt; is_planned(LEAST) && is_planned(GREATEST));
+    for field in 0..6 {
+        let (mut more, mut none) = (GREATEST, GREATEST);
+        more[field] += 1;
+        none[field] = 0;
+        assert!(rt; !is_planned(more), "field {field}");
+        assert_eq!(rt; is_planned(none), LEAST[field] == 0, "field {field}");
     }
+    Ok(())
 }

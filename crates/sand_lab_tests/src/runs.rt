@@ -1,11 +1,21 @@
-//! Runs on piles that were worked out by hand.
+//! Runs on piles that were worked out by hand. What a run leaves is the same however its work is spread over threads, and
+//! however they take turns.
 
-use crate::setup::{Left, assert_left, assert_one_left, run_on};
-use sand_lab::{Entry, Wish};
-use sand_model::Edge;
+use crate::setup::{Left, is_left, leaves, run_gated};
+use sand_lab::{Open, Wish};
+use sand_model::{Edge, GRAIN_LIMIT};
 use sand_testing::piles::{one_site, open_pile, pile_on};
 use sand_testing::runs::QUIET;
 use std::test::Fail;
+
+// What is left of one site.
+fn one_left<'a>(height: &'a [u64; 1], topplings: &'a [u64; 1], lost: u64) -> Left<'a> {
+    Left {
+        heights: height,
+        odometer: topplings,
+        lost,
+    }
+}
 
 #[test]
 fn two_epochs_on_one_site(rt: HostRuntime) -> Result<(), Fail> {
@@ -17,26 +27,14 @@ fn two_epochs_on_one_site(rt: HostRuntime) -> Result<(), Fail> {
         observers: 2,
         ..QUIET
     };
-    let report = run_on(&rt, rt.alloc(), &start, wish)?;
+    let report = run_gated(&rt, rt.alloc(), &start, wish, &Open)?;
     let [first, second] = report.records() else {
         return Err("two records".into());
     };
-    assert!(rt; first.history() == [0; 6].as_slice() && second.history() == [0; 6].as_slice());
-    assert!(rt;
-        first.start().heights() == [0].as_slice() && second.start().heights() == [2].as_slice()
-    );
-    assert_one_left(&rt, first, 2, 1, 4);
-    assert_one_left(&rt, second, 0, 2, 8);
-    let total = report.total();
-    assert!(rt; total.start().heights() == [0].as_slice() && total.history() == [0; 12].as_slice());
-    assert_one_left(&rt, total, 0, 3, 12);
+    assert!(rt; is_left(first, one_left(&[2], &[1], 4)));
+    assert!(rt; is_left(second, one_left(&[0], &[2], 8)));
+    assert!(rt; is_left(report.total(), one_left(&[0], &[3], 12)));
     Ok(())
-}
-
-// Whether a dropper's entries are so many, all at site 0.
-fn has_dropped(journal: &[Entry], dropper: u32, drops: usize) -> bool {
-    let entry = Entry { dropper, site: 0 };
-    journal.iter().filter(|other| **other == entry).count() == drops
 }
 
 #[test]
@@ -50,49 +48,21 @@ fn as_many_threads_as_there_may_be(rt: HostRuntime) -> Result<(), Fail> {
         observers: 16,
         ..QUIET
     };
-    let report = run_on(&rt, rt.alloc(), &start, wish)?;
-    assert_one_left(&rt, report.total(), 0, 16, 64);
-    assert!(rt; report.total().history() == [0; 64].as_slice());
-    assert_eq!(rt; report.records().len(), 1);
-    let journal = report.journal(0);
-    assert_eq!(rt; journal.len(), 64);
-    for dropper in 0..64 {
-        assert!(rt; has_dropped(journal, dropper, 1), "dropper {dropper}");
-    }
+    let left = one_left(&[0], &[16], 64);
+    assert!(rt; leaves(&rt, rt.alloc(), &start, wish, left)?);
     Ok(())
 }
 
 #[test]
-fn droppers_that_drop_nothing(rt: HostRuntime) -> Result<(), Fail> {
-    let start = one_site(rt.alloc(), 0)?;
+fn as_many_grains_as_the_limit(rt: HostRuntime) -> Result<(), Fail> {
+    let start = one_site(rt.alloc(), GRAIN_LIMIT - 2)?;
     let wish = Wish {
-        droppers: 64,
+        drops: 1,
+        epochs: 2,
         ..QUIET
     };
-    let report = run_on(&rt, rt.alloc(), &start, wish)?;
-    assert!(rt; report.total().history().is_empty());
-    assert_one_left(&rt, report.total(), 0, 0, 0);
-    assert_eq!(rt; report.records().len(), 1);
-    assert!(rt; report.journal(0).is_empty());
-    Ok(())
-}
-
-#[test]
-fn more_workers_than_rows(rt: HostRuntime) -> Result<(), Fail> {
-    let start = open_pile(rt.alloc(), 3, 1, &[4, 4, 4])?;
-    let wish = Wish {
-        workers: 16,
-        sweeps: 2,
-        ..QUIET
-    };
-    let report = run_on(&rt, rt.alloc(), &start, wish)?;
-    let left = Left {
-        heights: &[1, 2, 1],
-        odometer: &[1, 1, 1],
-        topplings: 3,
-        lost: 8,
-    };
-    assert_left(&rt, report.total(), left);
+    let left = one_left(&[3], &[274_877_906_943], 1_099_511_627_772);
+    assert!(rt; leaves(&rt, rt.alloc(), &start, wish, left)?);
     Ok(())
 }
 
@@ -109,13 +79,58 @@ fn three_droppers_on_a_cylinder(rt: HostRuntime) -> Result<(), Fail> {
         sweeps: 5,
         ..QUIET
     };
-    let report = run_on(&rt, rt.alloc(), &start, wish)?;
     let left = Left {
         heights: &[3, 1, 3, 3, 2, 2, 1, 1, 3, 1, 3, 3, 1, 3, 2],
         odometer: &[24, 26, 23, 24, 24, 35, 36, 33, 34, 35, 26, 28, 26, 25, 26],
-        topplings: 425,
         lost: 252,
     };
-    assert_left(&rt, report.total(), left);
+    assert!(rt; leaves(&rt, rt.alloc(), &start, wish, left)?);
+    Ok(())
+}
+
+// Workers, sweeps and observers.
+const SPREADS: [(u32, u32, u32); 8] = [
+    (1, 0, 0),
+    (1, 0, 3),
+    (1, 20, 0),
+    (1, 20, 3),
+    (8, 0, 0),
+    (8, 0, 3),
+    (8, 20, 0),
+    (8, 20, 3),
+];
+
+// What all drops of both droppers leave.
+const LEFT: Left<'static> = Left {
+    heights: &[
+        1, 2, 2, 1, 1, 3, 1, 3, 3, 1, 1, 3, 0, 2, 0, 2, 3, 2, 1, 3, 2, 2, 1, 1, 2, 3, 3, 2, 3, 2,
+        1, 2, 2, 3, 2, 2, 0, 3, 2, 3, 3, 3, 1, 3, 2, 1, 3, 1, 1, 3, 0, 3, 3, 2, 3, 1, 2, 0, 2, 1,
+        1, 2, 3, 0,
+    ],
+    odometer: &[
+        5, 8, 10, 12, 12, 10, 8, 5, 8, 14, 17, 19, 19, 17, 14, 8, 11, 16, 20, 22, 22, 20, 17, 10,
+        10, 16, 21, 23, 24, 22, 18, 10, 9, 16, 21, 24, 25, 22, 17, 10, 9, 15, 19, 21, 22, 20, 15,
+        9, 8, 13, 16, 17, 18, 16, 13, 8, 5, 9, 11, 11, 11, 10, 8, 6,
+    ],
+    lost: 272,
+};
+
+// Each of the spreads a dozen times.
+#[test]
+fn the_same_however_it_is_spread(rt: HostRuntime) -> Result<(), Fail> {
+    let start = open_pile(rt.alloc(), 8, 8, &[3; 64])?;
+    for n in 0..96 {
+        let (workers, sweeps, observers) = SPREADS[n % 8];
+        let wish = Wish {
+            seed: 42,
+            droppers: 2,
+            drops: 50,
+            epochs: 2,
+            workers,
+            sweeps,
+            observers,
+        };
+        assert!(rt; leaves(&rt, rt.alloc(), &start, wish, LEFT)?);
+    }
     Ok(())
 }

@@ -1,4 +1,4 @@
-//! Runs with an album of their own, and what their records leave.
+//! Runs with an album of their own, and what they leave.
 
 ghost use Rattle.std.specs.Prelude.{◌≡◌, ℕ, ◌<◌, IfOk, length};
 ghost use Rattle.sand_lab.specs.Reports.{sheet_at};
@@ -6,9 +6,9 @@ ghost use Rattle.sand_lab.specs.Reports.{sheet_at};
 use sand_lab::{Album, Gate, LabFault, Open, Report, Wish};
 use sand_model::Pile;
 use sand_shared::Record;
+use sand_testing::records::is_record;
 use sand_testing::runs::run_into;
 use std::alloc::Global;
-use std::process::Abort;
 use std::thread::Threads;
 
 /// The report of a run with an album of its own.
@@ -27,43 +27,33 @@ pub fn run_gated<R: Threads + Sync, G: Gate>(
     run_into(rt, alloc, start, wish, gate, &album)
 }
 
-/// The same with a gate that holds no thread.
-pub fn run_on<R: Threads + Sync>(
-    rt: &R,
-    alloc: Global,
-    start: &Pile,
-    wish: Wish,
-) -> Result<Report, LabFault>
-    ensures epochs { IfOk result (λ p. length p.sheets ≡ wish.epochs) }
-    ensures tallies { IfOk result (λ p. (t : ℕ) → t < wish.epochs → length (sheet_at p t).tallies ≡ wish.observers) }
-    ensures swept { IfOk result (λ p. (t : ℕ) → t < wish.epochs → length (sheet_at p t).swept ≡ wish.workers) }
-{
-    run_gated(rt, alloc, start, wish, &Open)
-}
-
-/// What a record leaves: the heights, the odometer, the topplings and the grains lost.
+/// What a record leaves: the heights, the odometer and the grains lost.
 #[derive(Clone, Copy)]
 pub struct Left<'a> {
     pub heights: &'a [u64],
     pub odometer: &'a [u64],
-    pub topplings: u64,
     pub lost: u64,
 }
 
-pub fn assert_left(rt: &impl Abort, record: &Record, left: Left<'_>) {
-    assert!(rt; record.pile().heights() == left.heights);
-    assert!(rt; record.odometers() == left.odometer);
-    assert_eq!(rt; record.topplings(), left.topplings);
-    assert_eq!(rt; record.lost(), left.lost);
+/// Whether a record leaves this.
+pub fn is_left(record: &Record, left: Left<'_>) -> bool {
+    is_record(
+        record,
+        record.history(),
+        left.heights,
+        left.odometer,
+        left.lost,
+    )
 }
 
-/// The same for one site.
-pub fn assert_one_left(rt: &impl Abort, record: &Record, height: u64, topplings: u64, lost: u64) {
-    let left = Left {
-        heights: &[height],
-        odometer: &[topplings],
-        topplings,
-        lost,
-    };
-    assert_left(rt, record, left);
+/// Whether a run leaves this.
+pub fn leaves<R: Threads + Sync>(
+    rt: &R,
+    alloc: Global,
+    start: &Pile,
+    wish: Wish,
+    left: Left<'_>,
+) -> Result<bool, LabFault> {
+    let report = run_gated(rt, alloc, start, wish, &Open)?;
+    Ok(is_left(report.total(), left))
 }

@@ -70,15 +70,3 @@ fn the_whole_words(rt: HostRuntime) -> Result<(), Fail> {
     assert!(rt; sites.as_slice() == [13, 5, 34, 26, 25, 1, 32, 3].as_slice());
     Ok(())
 }
-
-#[test]
-fn one_site_alone(rt: HostRuntime) -> Result<(), Fail> {
-    let shape = Shape::new(1, 1)?;
-    for (seed, stream) in [(0, 0), (7, 0), (0, 9), (u64::MAX, u64::MAX)] {
-        let sites = sites_of(rt.alloc(), shape, seed, stream, 5)?;
-        assert!(rt; sites.as_slice() == [0, 0, 0, 0, 0].as_slice());
-        let none = sites_of(rt.alloc(), shape, seed, stream, 0)?;
-        assert!(rt; none.is_empty());
-    }
-    Ok(())
-}

@@ -1,32 +1,10 @@
 //! What workers sweep, on piles that were worked out by hand.
 
-use crate::setup::{Left, assert_left, run_on};
-use sand_lab::Wish;
+use crate::setup::run_gated;
+use sand_lab::{Open, Wish};
 use sand_testing::piles::open_pile;
 use sand_testing::runs::QUIET;
 use std::test::Fail;
-
-// What four sites of 4 grains leave in a square: each topples once.
-const SQUARE_OF_FOURS: Left<'static> = Left {
-    heights: &[2; 4],
-    odometer: &[1; 4],
-    topplings: 4,
-    lost: 8,
-};
-
-#[test]
-fn each_worker_sweeps_its_row(rt: HostRuntime) -> Result<(), Fail> {
-    let start = open_pile(rt.alloc(), 2, 2, &[4; 4])?;
-    let wish = Wish {
-        workers: 2,
-        sweeps: 1,
-        ..QUIET
-    };
-    let report = run_on(&rt, rt.alloc(), &start, wish)?;
-    assert_eq!(rt; (report.swept(0, 0), report.swept(0, 1)), (2, 2));
-    assert_left(&rt, report.total(), SQUARE_OF_FOURS);
-    Ok(())
-}
 
 // Of sixteen bands of two rows only the eighth and the last have one.
 #[test]
@@ -37,12 +15,11 @@ fn workers_without_rows_sweep_nothing(rt: HostRuntime) -> Result<(), Fail> {
         sweeps: 1000,
         ..QUIET
     };
-    let report = run_on(&rt, rt.alloc(), &start, wish)?;
+    let report = run_gated(&rt, rt.alloc(), &start, wish, &Open)?;
     for worker in 0..16 {
         let due = if worker == 7 || worker == 15 { 2 } else { 0 };
         assert_eq!(rt; report.swept(0, worker), due, "worker {worker}");
     }
-    assert_left(&rt, report.total(), SQUARE_OF_FOURS);
     Ok(())
 }
 
@@ -58,8 +35,8 @@ fn rounds_go_on_while_one_band_topples(rt: HostRuntime) -> Result<(), Fail> {
         sweeps: 2,
         ..QUIET
     };
-    let report = run_on(&rt, rt.alloc(), &start, wish)?;
-    assert_eq!(rt; (report.swept(0, 0), report.swept(0, 1)), (0, 489));
+    let report = run_gated(&rt, rt.alloc(), &start, wish, &Open)?;
+    assert_eq!(rt; [report.swept(0, 0), report.swept(0, 1)], [0, 489]);
     assert_eq!(rt; report.total().topplings(), 494);
     Ok(())
 }

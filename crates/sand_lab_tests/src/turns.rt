@@ -51,6 +51,15 @@ impl Calls {
     }
 }
 
+impl Count {
+    // Whether all took all turns of so many epochs, in order.
+    fn are_all(&self, epochs: u32) -> bool {
+        [&self.droppers, &self.workers, &self.observers]
+            .iter()
+            .all(|calls| calls.are_all(epochs))
+    }
+}
+
 impl Gate for Count {
     fn turn(&self, role: Role, who: u32, turn: u32) {
         match role {
@@ -80,9 +89,7 @@ fn a_gate_is_called_before_each_turn(rt: HostRuntime) -> Result<(), Fail> {
         observers: Calls::new(16),
     };
     run_gated(&rt, rt.alloc(), &start, wish, &gate)?;
-    assert!(rt; gate.droppers.are_all(3));
-    assert!(rt; gate.workers.are_all(3));
-    assert!(rt; gate.observers.are_all(3));
+    assert!(rt; gate.are_all(3));
     Ok(())
 }
 
@@ -102,9 +109,8 @@ fn a_gate_is_called_before_each_drop_of_a_turn(rt: HostRuntime) -> Result<(), Fa
             workers: Calls::new(0),
             observers: Calls::new(0),
         };
-        let report = run_gated(&rt, rt.alloc(), &start, wish, &gate)?;
-        assert!(rt; gate.droppers.are_all(2));
-        assert_eq!(rt; report.total().history().len(), 4 * drops as usize);
+        run_gated(&rt, rt.alloc(), &start, wish, &gate)?;
+        assert!(rt; gate.are_all(2));
     }
     Ok(())
 }

@@ -1,19 +1,16 @@
-//! Eight threads that drop single grains and lists and sweep on one pile, against one thread that drops the same history.
+//! Eight threads that drop single grains and lists and sweep on one pile, against what one thread leaves that drops the same
+//! grains.
 
-ghost use Rattle.std.specs.Prelude.{◌≡◌, ◌<◌, IfSome};
+ghost use Rattle.std.specs.Prelude.{◌≡◌, IfSome};
 ghost use Rattle.std.specs.Thread.{IsSync};
-ghost use Rattle.sand_model.specs.Grid.{sites};
-ghost use Rattle.sand_shared.specs.OpenPile.{grid_of_terms};
 ghost use Rattle.sand_shared.specs.Passes.{IsPassOf};
 
-use crate::meeting::Meeting;
-use sand_model::{Pile, Shape};
-use sand_settle::OnePile;
-use sand_shared::{Pass, Record, SharedPile, SiteCounts};
+use crate::meeting::{Meeting, take_part};
+use sand_model::Pile;
+use sand_shared::{Pass, Record, SharedPile};
 use sand_testing::piles::open_pile;
 use sand_testing::records::is_record;
 use std::alloc::Global;
-use std::process::Abort;
 use std::test::Fail;
 use std::thread::{Threads, join};
 
@@ -32,32 +29,6 @@ fn half_of(alloc: Global, pile: &SharedPile, pass: &mut Pass) -> Option<Pass>
     let more = pile.split(alloc, pass, quota).ok()?;
     pile.join(alloc, &mut half, more).ok()?;
     Some(half)
-}
-
-// Meets seven other threads, drops a grain and then three, and sweeps after each.
-fn alone(
-    alloc: Global,
-    pile: &SharedPile,
-    meeting: &Meeting,
-    mut pass: Pass,
-    shape: Shape,
-    site: usize,
-) -> Option<Pass>
-    requires pass { IsPassOf pile.now pass }
-    requires shape { shape ≡ grid_of_terms pile.now.terms }
-    requires site { site < sites shape }
-    ensures { IfSome result (λ p. IsPassOf pile.now p) }
-{
-    let mut counts = SiteCounts::new(alloc, shape).ok()?;
-    if !meeting.met(8) {
-        return None;
-    }
-    pile.drop_at(&mut pass, site).ok()?;
-    pile.sweep(&mut pass);
-    pile.drop_all(&mut pass, &[site, 0, site], &mut counts)
-        .ok()?;
-    pile.sweep(&mut pass);
-    Some(pass)
 }
 
 // What two threads had, as one pass.
@@ -81,81 +52,57 @@ fn gathered(
 fn crew<R: Threads + Sync>(
     rt: &R,
     alloc: Global,
+    start: &Pile,
     pile: &SharedPile,
     meeting: &Meeting,
     mut pass: Pass,
-    shape: Shape,
-    site: usize,
     depth: u32,
 ) -> Option<Pass>
+    requires start { pile.now.terms.start ≡ start.now }
     requires pass { IsPassOf pile.now pass }
-    requires shape { shape ≡ grid_of_terms pile.now.terms }
-    requires site { site < sites shape }
     ensures { IfSome result (λ p. IsPassOf pile.now p) }
 {
     if depth == 0 {
-        return alone(alloc, pile, meeting, pass, shape, site);
+        return take_part(alloc, start, pile, meeting, pass);
     }
     let below = depth - 1;
     let half = half_of(alloc, pile, &mut pass)?;
     let (one, other) = join(
         rt,
         move || -> Option<Pass>
-            requires { IsSync R.row × IsPassOf pile.now pass × (shape ≡ grid_of_terms pile.now.terms) × (site < sites shape) }
+            requires { IsSync R.row × (pile.now.terms.start ≡ start.now) × IsPassOf pile.now pass }
             ensures { IfSome result (λ p. IsPassOf pile.entry.now p) }
-        { crew(rt, alloc, pile, meeting, pass, shape, site, below) },
+        { crew(rt, alloc, start, pile, meeting, pass, below) },
         move || -> Option<Pass>
-            requires { IsSync R.row × IsPassOf pile.now half × (shape ≡ grid_of_terms pile.now.terms) × (site < sites shape) }
+            requires { IsSync R.row × (pile.now.terms.start ≡ start.now) × IsPassOf pile.now half }
             ensures { IfSome result (λ p. IsPassOf pile.entry.now p) }
-        { crew(rt, alloc, pile, meeting, half, shape, site, below) },
+        { crew(rt, alloc, start, pile, meeting, half, below) },
     );
     gathered(alloc, pile, one, other)
 }
 
 // The record of eight threads that drop four grains each, and sweep.
-fn closed_by_eight<R: Threads + Sync>(
-    rt: &R,
-    alloc: Global,
-    start: &Pile,
-    site: usize,
-) -> Option<Record>
-    requires { site < sites start.now.grid }
-{
+fn closed_by_eight<R: Threads + Sync>(rt: &R, alloc: Global, start: &Pile) -> Option<Record> {
     let (pile, pass) = SharedPile::new(alloc, start, 32).ok()?;
     let meeting = Meeting::new();
-    let pass = crew(rt, alloc, &pile, &meeting, pass, start.shape(), site, 3)?;
+    let pass = crew(rt, alloc, start, &pile, &meeting, pass, 3)?;
     pile.close(alloc, pass).ok()
 }
 
-// Whether one thread that drops the record's history gets the same pile, odometer and grains lost.
-fn is_one_threads(rt: &impl Abort, alloc: Global, start: &Pile, record: &Record) -> bool {
-    let Ok(mut one) = OnePile::new(alloc, start) else {
-        return false;
-    };
-    for site in record.history() {
-        assert!(rt; *site < one.pile().shape().sites());
-        if one.drop_at(alloc, *site).is_err() {
-            return false;
-        }
-    }
-    is_record(
-        record,
-        record.history(),
-        one.pile().heights(),
-        one.odometers(),
-        one.lost(),
-    )
-}
+const HEIGHTS: [u64; 24] = [
+    1, 1, 1, 3, 2, 1, 1, 3, 1, 3, 1, 3, 1, 3, 1, 1, 2, 1, 2, 1, 2, 3, 0, 3,
+];
+
+const ODOMETER: [u64; 24] = [
+    4, 3, 2, 3, 4, 3, 4, 6, 4, 5, 12, 5, 4, 6, 4, 3, 4, 3, 2, 3, 2, 1, 2, 1,
+];
 
 #[test]
 fn eight_threads_are_as_one(rt: HostRuntime) -> Result<(), Fail> {
     let start = open_pile(rt.alloc(), 3, 8, &[3; 24])?;
-    for round in 0..ROUNDS {
-        let site = round % 24;
-        assert!(rt; site < start.shape().sites());
-        let record = closed_by_eight(&rt, rt.alloc(), &start, site).ok_or("eight threads met")?;
-        assert_eq!(rt; record.history().len(), 32);
-        assert!(rt; is_one_threads(&rt, rt.alloc(), &start, &record));
+    for _ in 0..ROUNDS {
+        let record = closed_by_eight(&rt, rt.alloc(), &start).ok_or("eight threads met")?;
+        assert!(rt; is_record(&record, record.history(), &HEIGHTS, &ODOMETER, 63));
     }
     Ok(())
 }

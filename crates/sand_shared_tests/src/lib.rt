@@ -8,12 +8,6 @@ mod closing;
 mod crews;
 #[cfg(test)]
 mod dropping;
-#[cfg(test)]
-mod gathering;
 pub mod meeting;
 #[cfg(test)]
 mod records;
-#[cfg(test)]
-mod settling;
-#[cfg(test)]
-mod turns;

@@ -1,17 +1,19 @@
-//! A place where threads meet, and two threads that drop or sweep at the same time.
+//! A place where eight threads meet, and what each does there.
 
-ghost use Rattle.std.specs.Prelude.{◌<◌, IfSome};
-ghost use Rattle.sand_model.specs.Grid.{sites};
-ghost use Rattle.sand_shared.specs.OpenPile.{grid_of_terms};
+ghost use Rattle.std.specs.Prelude.{◌≡◌, IfSome};
 ghost use Rattle.sand_shared.specs.Passes.{IsPassOf};
 
-use sand_shared::{Pass, SharedPile};
+use sand_model::Pile;
+use sand_shared::{Pass, SharedPile, SiteCounts};
+use std::alloc::Global;
 use std::sync::atomic::AtomicU64;
 use std::sync::atomic::Ordering::SeqCst;
-use std::thread::{Threads, join};
 
 // How often a thread looks for the others before it gives up.
 const PATIENCE: u64 = 1_000_000_000;
+
+// Where most grains are dropped.
+const SITE: usize = 10;
 
 /// Where threads meet: each counts itself, and looks until all have begun.
 #[derive(Drop)]
@@ -38,56 +40,26 @@ impl Meeting {
     }
 }
 
-// Meets one other thread; then drops two grains on a site, or sweeps if it has none.
-fn take_part(
+/// Meets seven other threads, drops a grain and then three, and sweeps.
+pub fn take_part(
+    alloc: Global,
+    start: &Pile,
     pile: &SharedPile,
     meeting: &Meeting,
     mut pass: Pass,
-    site: Option<usize>,
-) -> (Pass, bool)
+) -> Option<Pass>
+    requires start { pile.now.terms.start ≡ start.now }
     requires pass { IsPassOf pile.now pass }
-    requires site { IfSome site (λ s. s < sites (grid_of_terms pile.now.terms)) }
-    ensures { IsPassOf pile.now result.0 }
+    ensures { IfSome result (λ p. IsPassOf pile.now p) }
 {
-    let met = meeting.met(2);
-    let Some(site) = site else {
-        pile.sweep(&mut pass);
-        return (pass, met);
-    };
-    let first = pile.drop_at(&mut pass, site);
-    let second = pile.drop_at(&mut pass, site);
-    (pass, met && first.is_ok() && second.is_ok())
-}
-
-/// Two threads meet; then each drops two grains on its site, or sweeps if it has none. Also returns whether they met and all
-/// grains were dropped.
-pub fn both_at_once<R: Threads + Sync>(
-    rt: &R,
-    pile: &SharedPile,
-    one: Pass,
-    other: Pass,
-    here: Option<usize>,
-    there: Option<usize>,
-) -> (Pass, Pass, bool)
-    requires one { IsPassOf pile.now one }
-    requires other { IsPassOf pile.now other }
-    requires here { IfSome here (λ s. s < sites (grid_of_terms pile.now.terms)) }
-    requires there { IfSome there (λ s. s < sites (grid_of_terms pile.now.terms)) }
-    ensures one { IsPassOf pile.now result.0 }
-    ensures other { IsPassOf pile.now result.1 }
-{
-    let meeting = Meeting::new();
-    let place = &meeting;
-    let (first, second) = join(
-        rt,
-        move || -> (Pass, bool)
-            requires { IsPassOf pile.now one × IfSome here (λ s. s < sites (grid_of_terms pile.now.terms)) }
-            ensures { IsPassOf pile.entry.now result.0 }
-        { take_part(pile, place, one, here) },
-        move || -> (Pass, bool)
-            requires { IsPassOf pile.now other × IfSome there (λ s. s < sites (grid_of_terms pile.now.terms)) }
-            ensures { IsPassOf pile.entry.now result.0 }
-        { take_part(pile, place, other, there) },
-    );
-    (first.0, second.0, first.1 && second.1)
+    let shape = start.shape();
+    let mut counts = SiteCounts::new(alloc, shape).ok()?;
+    if shape.sites() <= SITE || !meeting.met(8) {
+        return None;
+    }
+    pile.drop_at(&mut pass, SITE).ok()?;
+    pile.drop_all(&mut pass, &[SITE, 0, SITE], &mut counts)
+        .ok()?;
+    pile.sweep(&mut pass);
+    Some(pass)
 }

@@ -43,28 +43,14 @@ fn drop_by(dropper: u32, site: usize) -> Entry {
     Entry { site, dropper }
 }
 
+// Numbers begin at 0 in each epoch. An epoch without a drop has no line.
 #[test]
-fn drops_are_numbered_in_order(rt: HostRuntime) -> Result<(), Fail> {
-    let text = journal_of(rt.alloc(), &[&[drop_by(0, 0), drop_by(0, 0)]])?;
-    assert_eq!(rt; text.as_slice(), b"journal\n0 0 0 0\n0 1 0 0\n".as_slice());
-    Ok(())
-}
-
-// An epoch without a drop has no line.
-#[test]
-fn numbers_begin_at_0_in_each_epoch(rt: HostRuntime) -> Result<(), Fail> {
+fn a_journal_of_three_epochs(rt: HostRuntime) -> Result<(), Fail> {
     let first = [drop_by(1, 4), drop_by(0, 65535), drop_by(1, 2)];
     let text = journal_of(rt.alloc(), &[&first, &[], &[drop_by(63, 7)]])?;
     assert_eq!(rt;
         text.as_slice(),
         b"journal\n0 0 1 4\n0 1 0 65535\n0 2 1 2\n2 0 63 7\n".as_slice()
     );
-    Ok(())
-}
-
-#[test]
-fn a_journal_of_no_epochs(rt: HostRuntime) -> Result<(), Fail> {
-    let text = journal_of(rt.alloc(), &[])?;
-    assert_eq!(rt; text.as_slice(), b"journal\n".as_slice());
     Ok(())
 }

@@ -1,18 +1,8 @@
-//! Tests of `sand_text`: the rows of the formats, and streams that fail.
+//! Tests of `sand_text`: streams that fail, and texts that no command writes.
 #![tactic(auto)]
 
-#[cfg(test)]
-mod burning;
-#[cfg(test)]
-mod dropping;
 pub mod journal;
 #[cfg(test)]
-mod pictures;
-#[cfg(test)]
-mod reading;
-#[cfg(test)]
-mod runs;
+mod piles;
 #[cfg(test)]
 mod streams;
-#[cfg(test)]
-mod two_piles;

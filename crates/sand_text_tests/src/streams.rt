@@ -1,6 +1,7 @@
 //! Readers and writers that stop early, fail, or move few bytes in a call.
 
 use sand_text::{INPUT_LIMIT, StreamFault, read_all, write_text};
+use std::alloc::Global;
 use std::io;
 use std::io::{Read, Write};
 use std::test::Fail;
@@ -57,37 +58,37 @@ impl Write for Taker {
     }
 }
 
+// How many bytes `read_all` took, or its fault; how often it called; and how many bytes were left.
+fn tried(
+    alloc: Global,
+    left: usize,
+    step: usize,
+    fails_at: usize,
+) -> (Result<usize, StreamFault>, usize, usize) {
+    let mut reader = Giver {
+        left,
+        step,
+        calls: 0,
+        fails_at,
+    };
+    let read = read_all(alloc, &mut reader).map(|text| text.len());
+    (read, reader.calls, reader.left)
+}
+
 // A reader is called once after its last byte, and never after it failed, or gave too much.
 #[test]
 fn a_reader_is_read_to_its_end(rt: HostRuntime) -> Result<(), Fail> {
-    for (left, step, fails_at, calls, want) in [
-        (0, 1, 0, 1, Ok(0)),
-        (5, 1, 0, 6, Ok(5)),
-        (5, 2, 2, 2, Err(StreamFault::Read)),
-        (5, 2, 1, 1, Err(StreamFault::Read)),
-        (INPUT_LIMIT, 1_000, 0, 1_050, Ok(INPUT_LIMIT)),
-        (INPUT_LIMIT + 1, 1_000, 0, 1_049, Err(StreamFault::TooLong)),
-        (INPUT_LIMIT + 9, 1_000, 0, 1_049, Err(StreamFault::TooLong)),
+    let too_long = Err(StreamFault::TooLong);
+    for (left, step, fails_at, want) in [
+        (0, 1, 0, (Ok(0), 1, 0)),
+        (5, 1, 0, (Ok(5), 6, 0)),
+        (5, 2, 2, (Err(StreamFault::Read), 2, 3)),
+        (5, 2, 1, (Err(StreamFault::Read), 1, 5)),
+        (INPUT_LIMIT, 1_000, 0, (Ok(INPUT_LIMIT), 1_050, 0)),
+        (INPUT_LIMIT + 1, 1_000, 0, (too_long, 1_049, 0)),
+        (INPUT_LIMIT + 9, 1_000, 0, (too_long, 1_049, 8)),
     ] {
-        let mut reader = Giver {
-            left,
-            step,
-            calls: 0,
-            fails_at,
-        };
-        let read = read_all(rt.alloc(), &mut reader);
-        let len = match &read {
-            Ok(text) => Ok(text.len()),
-            Err(fault) => Err(*fault),
-        };
-        assert_eq!(rt; len, want, "at {left}");
-        assert_eq!(rt; reader.calls, calls, "at {left}");
-        let taken = left.saturating_sub(reader.left);
-        match want {
-            Ok(_) => assert_eq!(rt; reader.left, 0, "at {left}"),
-            Err(StreamFault::TooLong) => assert_eq!(rt; taken, INPUT_LIMIT + 1, "at {left}"),
-            Err(_) => assert_eq!(rt; taken, step * (calls - 1), "at {left}"),
-        }
+        assert_eq!(rt; tried(rt.alloc(), left, step, fails_at), want, "at {left}");
     }
     Ok(())
 }
@@ -151,20 +152,19 @@ impl Write for Once {
 #[test]
 fn a_writer_that_stopped_is_not_called_again(rt: HostRuntime) -> Result<(), Fail> {
     let text = b"3 1\n0 4 0\n";
-    for fails in [false, true] {
-        for stops_at in 1..text.len() + 1 {
-            let mut writer = Once {
-                taken: Vec::new(rt.alloc()),
-                calls: 0,
-                stops_at,
-                fails,
-            };
-            let sent = stops_at - 1;
-            let want = Err(StreamFault::Write(sent));
-            assert_eq!(rt; write_text(&mut writer, text), want);
-            assert_eq!(rt; writer.calls, stops_at);
-            assert_eq!(rt; writer.taken.as_slice(), &text[..sent]);
-        }
+    for (sent, fails) in [(0, false), (0, true), (4, false), (4, true), (9, true)] {
+        let mut writer = Once {
+            taken: Vec::new(rt.alloc()),
+            calls: 0,
+            stops_at: sent + 1,
+            fails,
+        };
+        let want = Err(StreamFault::Write(sent));
+        assert_eq!(rt; write_text(&mut writer, text), want);
+        assert_eq!(rt;
+            (writer.calls, writer.taken.as_slice()),
+            (sent + 1, &text[..sent])
+        );
     }
     Ok(())
 }
