@@ -12,7 +12,7 @@ use Rattle.sand_model.proofs.Sandpile.{laplacian_sum, weight_after, settled_in_p
 use Rattle.sand_model.proofs.Heights.{sum_is_grains, counted}
 use Rattle.sand_model.proofs.Bounds.{weight_bound, topplings_bound}
 use Rattle.sand_model.proofs.Underway.{underway_start, underway_end}
-use Rattle.sand_settle.specs.Settling.{SettledView, IsRecord}
+use Rattle.sand_settle.specs.Settling.{SettledView, IsRecord, IsSettledRecord}
 use Rattle.sand_settle.specs.Drops.{OneView, IsAfter, topplings_between, TakesGrain, Drops, DropsAll, IsPaid, one_view, IsOnePile}
 use Rattle.sand_settle.proofs.Underway.{topplings_at, all_stable}
 use Rattle.sand_settle.specs.declared.avalanche.Avalanche.{Avalanche}
@@ -134,9 +134,9 @@ paid_after r q site paid inside room taken =
 
 -- ---- from a start and its drops to one drop more
 
--- the record of the start and the grains so far is that of one grain more
-record_after : (g : Grid) (s : ℕ → ℕ) (history : List ℕ) (site : ℕ) (r q : SettledView) → IsRecord g (λ j. s j + tally history j) r → TakesGrain r site q → IsRecord g (λ j. s j + tally (history ++ site ∷ []) j) q
-record_after g s history site r q before taken =
+-- a grain dropped on the settled pile of some heights leads to the record of these heights and the grain
+record_of_more : (g : Grid) (s : ℕ → ℕ) (site : ℕ) (r q : SettledView) → IsRecord g s r → TakesGrain r site q → IsRecord g (λ j. s j + one_at site j) q
+record_of_more g s site r q before taken =
     let P : Grid → Type 0 = λ h. IsSettled h (λ j. get_or r.pile.heights j 0 + one_at site j) (topplings_between r q) (λ j. get_or q.pile.heights j 0) in
     let here = subst P before.grid taken.settled in
     let counts : (j : ℕ) → get_or q.odometer j 0 ≡ get_or r.odometer j 0 + topplings_between r q j = λ j. let rises = taken.never_falls j in omega arith in
@@ -144,9 +144,9 @@ record_after g s history site r q before taken =
       grid = taken.grid ∙ before.grid;
       heights_each = taken.heights_each ∙ ap sites before.grid;
       odometer_each = taken.odometer_each ∙ ap sites before.grid;
-      settled = settled_same g (λ j. s j + tally history j + one_at site j) (λ j. s j + tally (history ++ site ∷ []) j) (λ j. get_or r.odometer j 0 + topplings_between r q j) (λ j. get_or q.odometer j 0) (λ j. get_or q.pile.heights j 0) (λ j. get_or q.pile.heights j 0)
-          (λ i l. let e = tally-push history site i in omega arith) (λ i l. sym (counts i)) (λ i l. refl)
-          (settled_in_parts g (λ j. s j + tally history j) (one_at site) (λ j. get_or r.odometer j 0) (λ j. get_or r.pile.heights j 0) (topplings_between r q) (λ j. get_or q.pile.heights j 0) before.settled here);
+      settled = settled_same g (λ j. s j + one_at site j) (λ j. s j + one_at site j) (λ j. get_or r.odometer j 0 + topplings_between r q j) (λ j. get_or q.odometer j 0) (λ j. get_or q.pile.heights j 0) (λ j. get_or q.pile.heights j 0)
+          (λ i l. refl) (λ i l. sym (counts i)) (λ i l. refl)
+          (settled_in_parts g s (one_at site) (λ j. get_or r.odometer j 0) (λ j. get_or r.pile.heights j 0) (topplings_between r q) (λ j. get_or q.pile.heights j 0) before.settled here);
       all_topplings =
           let same = sum_below_same (sites g) (λ j. get_or q.odometer j 0) (λ j. get_or r.odometer j 0 + topplings_between r q j) (λ j l. counts j) in
           let both = sum_below-add (sites g) (λ j. get_or r.odometer j 0) (topplings_between r q) in
@@ -158,6 +158,25 @@ record_after g s history site r q before taken =
           let old = before.all_lost in
           let more = taken.more_lost ∙ ap (λ h. r.lost + lost h (topplings_between r q)) before.grid in
           omega arith;
+    }
+
+pub some_record_after : (r q : SettledView) (site : ℕ) → IsSettledRecord r → TakesGrain r site q → IsSettledRecord q
+some_record_after r q site (s, before) taken =
+    let P : Grid → Type 0 = λ g. IsRecord g (λ j. s j + one_at site j) q in
+    (λ j. s j + one_at site j, subst P (sym taken.grid) (record_of_more r.pile.grid s site r q before taken))
+
+-- the record of the start and the grains so far is that of one grain more
+record_after : (g : Grid) (s : ℕ → ℕ) (history : List ℕ) (site : ℕ) (r q : SettledView) → IsRecord g (λ j. s j + tally history j) r → TakesGrain r site q → IsRecord g (λ j. s j + tally (history ++ site ∷ []) j) q
+record_after g s history site r q before taken =
+    let more = record_of_more g (λ j. s j + tally history j) site r q before taken in
+    record {
+      grid = more.grid;
+      heights_each = more.heights_each;
+      odometer_each = more.odometer_each;
+      settled = settled_same g (λ j. s j + tally history j + one_at site j) (λ j. s j + tally (history ++ site ∷ []) j) (λ j. get_or q.odometer j 0) (λ j. get_or q.odometer j 0) (λ j. get_or q.pile.heights j 0) (λ j. get_or q.pile.heights j 0)
+          (λ i l. let e = tally-push history site i in omega arith) (λ i l. refl) (λ i l. refl) more.settled;
+      all_topplings = more.all_topplings;
+      all_lost = more.all_lost;
     }
 
 pub after_drop : (start : PileView) (history : List ℕ) (site : ℕ) (v w : OneView) → Drops v site w → IsAfter start history v → IsAfter start (history ++ site ∷ []) w

@@ -23,3 +23,7 @@ pub record IsRecord (g : Grid) (s : ℕ → ℕ) (r : SettledView) : Type 0 wher
   pub settled : IsSettled g s (odometer_of r) (height_of r.pile)
   pub all_topplings : r.topplings ≡ topplings g (odometer_of r)
   pub all_lost : r.lost ≡ lost g (odometer_of r)
+
+-- r is the settled record of some heights
+abbrev pub IsSettledRecord : SettledView → Type 0
+IsSettledRecord r = (s : ℕ → ℕ) × IsRecord r.pile.grid s r

@@ -1,8 +1,10 @@
 //! The settled record of a pile: its settled pile, its odometer, and what the settling cost.
+//!
+//! A `Settled` is always the settled record of some heights, whoever made it: its odometer is the least that settles them.
 
 ghost use Rattle.std.specs.Prelude.{◌≡◌, ◌<◌, ◌^◌, IfOk, length, sum};
 ghost use Rattle.sand_model.specs.Grid.{sites};
-ghost use Rattle.sand_settle.specs.Settling.{odometer_of};
+ghost use Rattle.sand_settle.specs.Settling.{IsSettledRecord, odometer_of};
 
 use sand_model::Pile;
 use std::alloc::{AllocError, Global};
@@ -18,15 +20,13 @@ pub struct Settled {
 }
 
 impl Model for Settled {
-    ghost use Rattle.std.specs.Prelude.{◌≡◌, length};
-    ghost use Rattle.sand_model.specs.Grid.{sites};
-    ghost use Rattle.sand_settle.specs.Settling.{SettledView};
+    ghost use Rattle.sand_settle.specs.Settling.{SettledView, IsSettledRecord};
 
     ghost Value = { SettledView };
 
     ghost view = { λ r. record { pile = r.pile; odometer = r.odometer.items; topplings = r.topplings; lost = r.lost } };
 
-    ghost invariant = { λ r. length r.odometer.items ≡ sites r.pile.grid };
+    ghost invariant = { λ r. IsSettledRecord (record { pile = r.pile; odometer = r.odometer.items; topplings = r.topplings; lost = r.lost }) };
 }
 
 fn sum_of(counts: &[u64]) -> u64
@@ -37,9 +37,10 @@ fn sum_of(counts: &[u64]) -> u64
 }
 
 impl Settled {
-    /// A settled pile, how often each site toppled, and how many grains fell into the sink. Copies nothing.
+    /// The record of a settled pile, how often each site toppled, and how many grains fell into the sink, if they are those
+    /// of some heights. Copies nothing.
     pub fn of_parts(pile: Pile, odometer: Vec<u64>, lost: u64) -> Settled
-        requires odometer_each { length odometer.items ≡ sites pile.grid }
+        requires settled { IsSettledRecord (record { pile = pile; odometer = odometer.items; topplings = sum odometer.items; lost = lost }) }
         requires small { sum odometer.items < 2 ^ 64 }
         ensures { result ≡ record { pile = pile; odometer = odometer.items; topplings = sum odometer.items; lost = lost } }
     {
@@ -69,6 +70,7 @@ impl Settled {
 
     pub fn pile(&self) -> &Pile
         ensures value { result.now ≡ self.now.pile }
+        ensures settled { IsSettledRecord self.now }
         ensures odometer_each { length self.now.odometer ≡ sites self.now.pile.grid }
     {
         &self.pile

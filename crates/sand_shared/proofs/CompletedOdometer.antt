@@ -4,7 +4,7 @@ use Rattle.std.specs.Prelude.{slice_index}
 use Rattle.std.proofs.lemmas.Bool.{cases_eq}
 use Rattle.atomic_table.specs.declared.shared.Seat.{Seat}
 use Rattle.sand_model.specs.Grid.{Grid, sites}
-use Rattle.sand_model.specs.Sand.{IsSettled, IsUnderway, IsToppled, flow, sum_below, grains, tally}
+use Rattle.sand_model.specs.Sand.{IsSettled, IsUnderway, IsToppled, flow, sum_below, grains, tally, topplings as topplings_of, lost as lost_of}
 use Rattle.sand_model.specs.Piles.{PileView, height_of, most_grains}
 use Rattle.sand_model.proofs.SumsBelow.{sum_below_same, sum_below-add}
 use Rattle.sand_model.proofs.Tallies.{sum_below-tally}
@@ -144,4 +144,6 @@ rest_of t p q r same under settled = record {
   heights_each = settled.heights_each ∙ ap sites same;
   odometer_each = settled.odometer_each ∙ ap sites same;
   settled = settles_after (grid_of_terms t) (laid t (at_rest p)) (slice_index p.counts) (height_of q) (odometer_of r) (height_of r.pile) under (subst (λ (g : Grid). IsSettled g (height_of q) (odometer_of r) (height_of r.pile)) same settled.settled);
+  all_topplings = settled.all_topplings ∙ ap (λ (g : Grid). topplings_of g (odometer_of r)) same;
+  all_lost = settled.all_lost ∙ ap (λ (g : Grid). lost_of g (odometer_of r)) same;
 }

@@ -13,7 +13,7 @@ use Rattle.sand_model.proofs.Tallies.{sum_below-tally, tally-append}
 use Rattle.sand_model.proofs.Heights.{sum_is_grains}
 use Rattle.sand_model.proofs.Sandpile.{laplacian_sum, settled_in_parts}
 use Rattle.sand_model.proofs.Bounds.{topplings_bound}
-use Rattle.sand_settle.specs.Settling.{SettledView, odometer_of}
+use Rattle.sand_settle.specs.Settling.{SettledView, IsRecord, IsSettledRecord, odometer_of}
 use Rattle.sand_shared.specs.Record.{RecordView, IsOneThreads}
 
 -- a start, a history, and the heights and the odometer that these lead to
@@ -82,6 +82,11 @@ leads_of r one = record {
   odometer_each = one.one.settled.odometer_each;
   settled = one.one.settled.settled;
 }
+
+pub settled_record : (r : RecordView) → IsOneThreads r → IsSettledRecord r.settled
+settled_record r one =
+    let s : ℕ → ℕ = λ i. height_of r.start i + tally r.history i in
+    (s, subst (λ (g : Grid). IsRecord g s r.settled) (sym one.one.settled.grid) one.one.settled)
 
 pub small_entries : (r : RecordView) → IsOneThreads r → (i : ℕ) → odometer_of r.settled i < 2 ^ 54
 small_entries r one i =

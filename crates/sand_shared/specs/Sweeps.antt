@@ -2,7 +2,7 @@
 -- With k = start + own receipts - L(own counts), L the toppling matrix (Dhar 1990), written without subtraction.
 use Rattle.std.specs.Prelude.{ℕ, true, ◌≡◌, ◌+◌, ◌-◌, ◌*◌, ◌<◌, ◌≤◌, ◌↔◌, List, ◌++◌, length, sum, take, drop, slice_index}
 use Rattle.sand_model.specs.Grid.{sites}
-use Rattle.sand_model.specs.Sand.{flow, IsSettled, Stabilises, weight}
+use Rattle.sand_model.specs.Sand.{flow, IsSettled, Stabilises, weight, topplings as topplings_of, lost as lost_of}
 use Rattle.sand_model.specs.Piles.{height_of}
 use Rattle.sand_settle.specs.Settling.{SettledView, odometer_of}
 use Rattle.sand_shared.specs.declared.view.View.{View}
@@ -72,3 +72,5 @@ pub record IsRestOf (t : Terms) (p : PassView) (r : SettledView) : Type 0 where
   pub heights_each : length r.pile.heights ≡ sites (grid_of_terms t)
   pub odometer_each : length r.odometer ≡ sites (grid_of_terms t)
   pub settled : IsSettled (grid_of_terms t) (laid t (at_rest p)) (λ i. slice_index p.counts i + odometer_of r i) (height_of r.pile)
+  pub all_topplings : r.topplings ≡ topplings_of (grid_of_terms t) (odometer_of r)
+  pub all_lost : r.lost ≡ lost_of (grid_of_terms t) (odometer_of r)

@@ -71,6 +71,7 @@ impl SharedPile {
         // Each drop call once, at the number that it returned, and after all that its pass had seen.
         ensures history { IfOk result (λ r. Tells pass.receipts r.history) }
         ensures each_drop_once { IfOk result (λ r. length r.history ≡ length pass.receipts) }
+        ensures each_number_once { OnOk result (EachOnce pass.receipts) }
         ensures all_seen { IfOk result (λ r. pass.seen ≡ length r.history) }
 
         // What toppled in place stays toppled.
@@ -124,6 +125,7 @@ impl SharedPile {
         ensures start { result.start ≡ self.terms.start }
         ensures history { Tells pass.receipts result.history }
         ensures each_drop_once { length result.history ≡ length pass.receipts }
+        ensures each_number_once { EachOnce pass.receipts }
         ensures all_seen { pass.seen ≡ length result.history }
         ensures never_fall { (i : ℕ) → slice_index pass.counts i ≤ odometer_of result.settled i }
     {

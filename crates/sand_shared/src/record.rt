@@ -156,9 +156,8 @@ impl Record {
         Ok(self.copy_with(alloc, history)?)
     }
 
-    /// A copy with room for so many drops more, so that `append` allocates nothing for them.
+    /// A copy with room for so many more drops: an `append` of no more than these does not let the history grow.
     pub fn copy_with_room(&self, alloc: Global, drops: usize) -> Result<Record, SharedFault>
-        requires limit { sum self.now.start.heights + (length self.now.history + drops) ≤ most_grains }
         ensures made { IfOk result (λ r. r ≡ self.now) }
         ensures memory { IsOkUnless result (SharedFault.Memory alloc_error) }
     {

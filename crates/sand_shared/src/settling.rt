@@ -13,7 +13,7 @@ ghost use Rattle.sand_model.specs.Piles.{height_of, most_grains};
 ghost use Rattle.sand_settle.specs.Settling.{odometer_of};
 ghost use Rattle.sand_shared.specs.OpenPile.{grid_of_terms, toppled_by};
 ghost use Rattle.sand_shared.specs.Events.{looked};
-ghost use Rattle.sand_shared.specs.Passes.{IsPassOf, IsWhole, at_rest};
+ghost use Rattle.sand_shared.specs.Passes.{IsPassOf, IsWhole, EachOnce, at_rest};
 ghost use Rattle.sand_shared.specs.Record.{Tells, IsOneThreads};
 ghost use Rattle.sand_shared.specs.Seats.{IsSeatAt, StaysSeated};
 ghost use Rattle.sand_shared.specs.Sweeps.{HasAll, IsRestOf, laid};
@@ -92,6 +92,7 @@ impl SharedPile {
         // Each drop call once, at the number that it returned, and after all that its pass had seen.
         ensures history { IfOk result (λ r. Tells pass.receipts r.history) }
         ensures each_drop_once { IfOk result (λ r. length r.history ≡ length pass.receipts) }
+        ensures each_number_once { OnOk result (EachOnce pass.receipts) }
         ensures all_seen { IfOk result (λ r. pass.seen ≡ length r.history) }
 
         // What toppled in place stays toppled.
@@ -181,6 +182,7 @@ impl SharedPile {
         ensures one_threads { IsOneThreads result }
         ensures start { result.start ≡ self.terms.start }
         ensures history { result.history ≡ history.items }
+        ensures each_number_once { EachOnce pass.receipts }
         ensures all_seen { pass.seen ≡ length result.history }
         ensures never_fall { (i : ℕ) → slice_index pass.counts i ≤ odometer_of result.settled i }
     {

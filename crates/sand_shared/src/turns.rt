@@ -89,6 +89,7 @@ impl SharedPile {
         ensures spent { IsErr result ↔ (pass.old.left < length drops.now) }
         ensures unchanged { OnErr result (pass.new ≡ pass.old) }
         ensures after_all_seen { IfOk result (λ n. pass.old.seen ≤ n) }
+        ensures empty { IfOk result (λ n. length drops.now ≡ 0 → n ≡ pass.old.seen) }
         ensures in_the_quota { IfOk result (λ n. 0 < length drops.now → n + length drops.now ≤ self.now.terms.quota) }
         ensures pass { IfOk result (λ n. pass.new ≡ record pass.old {
           left = pass.old.left - length drops.now;

@@ -1,9 +1,9 @@
-use Rattle.std.proofs.Common.{◌+◌, ◌∙◌, ap, arith, length, drop, sum}
+use Rattle.std.proofs.Common.{◌+◌, ◌∙◌, ap, subst, arith, length, drop, sum}
 use Rattle.std.proofs.Math.ListN.{set}
 use Rattle.std.proofs.lemmas.List.{take_at}
 use Rattle.sand_model.specs.Piles.{PileView}
-use Rattle.sand_settle.specs.Settling.{SettledView}
-use Rattle.sand_settle.proofs.Drops.{Pours, raised, pours, poured_sum, poured_size, poured_record, poured_avalanche}
+use Rattle.sand_settle.specs.Settling.{SettledView, IsSettledRecord}
+use Rattle.sand_settle.proofs.Drops.{Pours, raised, pours, poured_sum, poured_size, poured_record, poured_avalanche, some_record_after}
 use Rattle.sand_settle.proofs.one_pile.drop_grain.Goals.{After-settle_at-avalanche}
 use Rattle.sand_settle.proofs.one_pile.drop_grain.Goals as goal
 
@@ -58,6 +58,9 @@ returns-clause-taken c =
     (ap (λ (p : PileView). p.grid) c.from_counted.ensures ∙ c.into_parts-shape.ensures.shape ∙ ap (λ (r : SettledView). r.pile.grid) c.settled.view_is)
     (ap (λ (p : PileView). p.heights) c.from_counted.ensures ∙ heights) odometer
     (ap (λ (r : SettledView). r.topplings + c.settle_at-avalanche.result.size) c.settled.view_is) (ap (λ (r : SettledView). r.lost + c.settle_at-avalanche.result.lost) c.settled.view_is)
+
+pub invariant_of-record : goal.invariant_of-record
+invariant_of-record c = some_record_after c.args.settled _ c.args.drop.1 (subst IsSettledRecord c.settled.view_is c.settled.invariant) (returns-clause-taken c)
 
 pub returns-clause-avalanche : goal.returns-clause-avalanche
 returns-clause-avalanche c =

@@ -1,9 +1,10 @@
 use Rattle.std.proofs.Common.{get_or, ◌-◌, ◌∙◌, ap, arith, length, refl, subst, sum, sym}
-use Rattle.sand_model.specs.Grid.{sites}
+use Rattle.sand_model.specs.Grid.{Grid}
 use Rattle.sand_model.specs.Piles.{PileView, height_of}
 use Rattle.sand_model.proofs.Heights.{sum_left}
 use Rattle.sand_settle.specs.Settling.{IsRecord, SettledView}
 use Rattle.sand_settle.proofs.Records.{sum_bound, half_weight, record_is}
+use Rattle.sand_settle.proofs.settling.record_of.Goals.{After-grains}
 use Rattle.sand_settle.proofs.settling.record_of.Goals as goal
 
 pub from_vec-settled-requires-clause-limit : goal.from_vec-settled-requires-clause-limit
@@ -16,9 +17,20 @@ overflow_sub-lost c =
     let all = sum_left c.args.pile.now.grid c.args.pile.now.heights c.args.rest.heights.items (λ j. get_or c.args.rest.odometer.items j 0) c.grains-before.ensures.pile.one_each c.requires.heights_each c.requires.settled.toppled in
     omega (arith, c.grains-before.ensures.value, c.grains.ensures.value, ap (λ (p : PileView). sum p.heights) c.from_vec-settled.ensures)
 
-pub of_parts-requires-clause-odometer_each : goal.of_parts-requires-clause-odometer_each
-of_parts-requires-clause-odometer_each c =
-    c.requires.odometer_each ∙ sym (ap (λ (p : PileView). sites p.grid) c.from_vec-settled.ensures ∙ ap sites c.shape.ensures.value)
+-- the record that is made of the parts
+made : (c : After-grains) → IsRecord c.args.pile.now.grid (height_of c.args.pile.now) (record { pile = c.from_vec-settled.result; odometer = c.args.rest.odometer.items; topplings = sum c.args.rest.odometer.items; lost = c.grains-before.result - c.grains.result })
+made c =
+    let heights = ap (λ (p : PileView). p.heights) c.from_vec-settled.ensures in
+    record_is c.args.pile.now (record { pile = c.from_vec-settled.result; odometer = c.args.rest.odometer.items; topplings = sum c.args.rest.odometer.items; lost = c.grains-before.result - c.grains.result })
+    c.grains-before.ensures.pile (ap (λ (p : PileView). p.grid) c.from_vec-settled.ensures ∙ c.shape.ensures.value)
+    (ap length heights ∙ c.requires.heights_each) c.requires.odometer_each (rw heights c.requires.settled)
+    refl (omega (arith, c.grains-before.ensures.value, c.grains.ensures.value))
+
+pub of_parts-requires-clause-settled : goal.of_parts-requires-clause-settled
+of_parts-requires-clause-settled c =
+    let P : Grid → Type 0 = λ g. IsRecord g (height_of c.args.pile.now) (record { pile = c.from_vec-settled.result; odometer = c.args.rest.odometer.items; topplings = sum c.args.rest.odometer.items; lost = c.grains-before.result - c.grains.result }) in
+    let here = made (goal.at.of_parts-requires-clause-settled c).After-grains in
+    (height_of c.args.pile.now, subst P (sym here.grid) here)
 
 pub of_parts-requires-clause-small : goal.of_parts-requires-clause-small
 of_parts-requires-clause-small c =
@@ -26,13 +38,7 @@ of_parts-requires-clause-small c =
 
 pub returns-clause-record : goal.returns-clause-record
 returns-clause-record c =
-    let pile = c.from_vec-settled.result in
-    let heights = ap (λ (p : PileView). p.heights) c.from_vec-settled.ensures in
-    subst (λ (r : SettledView). IsRecord c.args.pile.now.grid (height_of c.args.pile.now) r) (sym c.of_parts.ensures)
-    (record_is c.args.pile.now (record { pile = pile; odometer = c.args.rest.odometer.items; topplings = sum c.args.rest.odometer.items; lost = c.grains-before.result - c.grains.result })
-    c.grains-before.ensures.pile (ap (λ (p : PileView). p.grid) c.from_vec-settled.ensures ∙ c.shape.ensures.value)
-    (ap length heights ∙ c.requires.heights_each) c.requires.odometer_each (rw heights c.requires.settled)
-    refl (omega (arith, c.grains-before.ensures.value, c.grains.ensures.value)))
+    subst (λ (r : SettledView). IsRecord c.args.pile.now.grid (height_of c.args.pile.now) r) (sym c.of_parts.ensures) (made (goal.at.returns-clause-record c).After-grains)
 
 pub returns-clause-half : goal.returns-clause-half
 returns-clause-half c =

@@ -1,8 +1,8 @@
 use Rattle.std.proofs.Common.{◌≡◌, ℕ, ◌+◌, ◌++◌, List, sym, ap, ◌∙◌, subst, arith, rules}
 use Rattle.std.specs.Prelude.{slice_index}
-use Rattle.sand_settle.specs.Settling.{SettledView}
+use Rattle.sand_settle.specs.Settling.{SettledView, IsSettledRecord}
 use Rattle.sand_shared.specs.Record.{RecordView, IsOneThreads}
-use Rattle.sand_shared.proofs.RecordSums.{are_added, small_entries, small_topplings, small_lost, joined_topplings, followed}
+use Rattle.sand_shared.proofs.RecordSums.{are_added, small_entries, small_topplings, small_lost, joined_topplings, followed, settled_record}
 use Rattle.sand_shared.proofs.record.Record.append.Goals as goal
 
 pub add-requires-clause-small : goal.add-requires-clause-small
@@ -18,6 +18,21 @@ overflow_add-lost c =
     let b = small_lost _ c.next.invariant in
     let mine = c.lost.ensures in
     let theirs = c.lost-2.ensures in omega arith
+
+pub of_parts-requires-clause-settled : goal.of_parts-requires-clause-settled
+of_parts-requires-clause-settled c =
+    let r = c.args.self.now in
+    let q = c.args.next.now in
+    let one = subst IsOneThreads c.self.view_is c.self.invariant in
+    let next = subst IsOneThreads c.next.view_is c.next.invariant in
+    let added = are_added r q one next c.requires.start _ _ _ (c.in_ok-odometer.ensures.items ∙ c.odometers.ensures.value ∙ ap (λ (v : RecordView). v.settled.odometer) c.self.view_is)
+    (c.odometers-2.ensures.value ∙ ap (λ (v : RecordView). v.settled.odometer) c.next.view_is) c.add.ensures.long c.add.ensures.sums in
+    let pile : c.in_ok-pile.pile ≡ q.settled.pile = c.in_ok-pile.ensures ∙ c.pile.ensures.value ∙ ap (λ (v : RecordView). v.settled.pile) c.next.view_is in
+    let both = joined_topplings r q one next c.requires.start c.requires.limit c.add.new.numbers.items added in
+    let mine = c.lost.ensures ∙ ap (λ (v : RecordView). v.settled.lost) c.self.view_is in
+    let theirs = c.lost-2.ensures ∙ ap (λ (v : RecordView). v.settled.lost) c.next.view_is in
+    subst IsSettledRecord (λ i. record { pile = sym pile i; odometer = c.add.new.numbers.items; topplings = sym both i; lost = sym mine i + sym theirs i })
+    (settled_record _ (followed r q one next c.requires.start c.requires.limit c.add.new.numbers.items added))
 
 pub of_parts-requires-clause-small : goal.of_parts-requires-clause-small
 of_parts-requires-clause-small c =

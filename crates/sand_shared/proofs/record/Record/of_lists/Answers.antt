@@ -1,9 +1,9 @@
 use Rattle.std.proofs.Common.{ℕ, ◌+◌, ◌-◌, List, sum, refl, sym, ap, ◌∙◌, subst, arith}
-use Rattle.sand_model.specs.Grid.{sites}
 use Rattle.sand_model.specs.Piles.{PileView}
 use Rattle.sand_settle.specs.Settling.{SettledView}
 use Rattle.sand_shared.specs.Record.{IsOneThreads}
-use Rattle.sand_shared.proofs.RecordSums.{few_topplings, grains_left, one_threads}
+use Rattle.sand_shared.proofs.RecordSums.{few_topplings, grains_left, one_threads, settled_record}
+use Rattle.sand_shared.proofs.record.Record.of_lists.Goals.{After-grains-2}
 use Rattle.sand_shared.proofs.record.Record.of_lists.Goals as goal
 
 pub from_vec-pile-requires-clause-limit : goal.from_vec-pile-requires-clause-limit
@@ -21,9 +21,24 @@ overflow_sub-lost c =
     let drops = c.len.ensures in
     let long = c.args.history.ok.0 in omega arith
 
-pub of_parts-settled-requires-clause-odometer_each : goal.of_parts-settled-requires-clause-odometer_each
-of_parts-settled-requires-clause-odometer_each c =
-    c.requires.one_each.1 ∙ sym (ap (λ (p : PileView). sites p.grid) c.from_vec-pile.ensures ∙ ap sites c.shape.ensures.value)
+-- the record that is made of the lists
+made : (c : After-grains-2) → IsOneThreads (record { start = c.args.start; history = c.args.history.items; settled = record { pile = c.from_vec-pile.result; odometer = c.args.odometer.items; topplings = sum c.args.odometer.items; lost = c.grains.result + c.len.result - c.grains-2.result } })
+made c =
+    let start = c.grains.ensures.value in
+    let rest = c.grains-2.ensures.value ∙ ap (λ (p : PileView). sum p.heights) c.from_vec-pile.ensures in
+    let drops = c.len.ensures in
+    let long = c.args.history.ok.0 in
+    one_threads c.args.start c.args.history.items c.args.heights.items c.args.odometer.items
+    record { pile = c.shape.ensures.pile; all_sites = c.requires.all_sites; limit = c.requires.limit; heights_each = c.requires.one_each.0; odometer_each = c.requires.one_each.1; settled = c.requires.settled }
+    (record { pile = c.from_vec-pile.result; odometer = c.args.odometer.items; topplings = sum c.args.odometer.items; lost = c.grains.result + c.len.result - c.grains-2.result })
+    (ap (λ (p : PileView). p.grid) c.from_vec-pile.ensures ∙ c.shape.ensures.value)
+    (ap (λ (p : PileView). p.heights) c.from_vec-pile.ensures)
+    refl
+    refl
+    (omega arith)
+
+pub of_parts-settled-requires-clause-settled : goal.of_parts-settled-requires-clause-settled
+of_parts-settled-requires-clause-settled c = settled_record _ (made (goal.at.of_parts-settled-requires-clause-settled c).After-grains-2)
 
 pub of_parts-settled-requires-clause-small : goal.of_parts-settled-requires-clause-small
 of_parts-settled-requires-clause-small c =
@@ -32,17 +47,5 @@ of_parts-settled-requires-clause-small c =
 
 pub invariant_of-result : goal.invariant_of-result
 invariant_of-result c =
-    let start = c.grains.ensures.value in
-    let rest = c.grains-2.ensures.value ∙ ap (λ (p : PileView). sum p.heights) c.from_vec-pile.ensures in
-    let drops = c.len.ensures in
-    let long = c.args.history.ok.0 in
-    let settled : SettledView = record { pile = c.from_vec-pile.result; odometer = c.args.odometer.items; topplings = sum c.args.odometer.items; lost = c.grains.result + c.len.result - c.grains-2.result } in
     subst (λ (z : List ℕ × SettledView). IsOneThreads (record { start = c.args.start; history = z.0; settled = z.1 })) (λ i. (sym c.of.ensures i, sym c.of_parts-settled.ensures i))
-    (one_threads c.args.start c.args.history.items c.args.heights.items c.args.odometer.items
-    record { pile = c.shape.ensures.pile; all_sites = c.requires.all_sites; limit = c.requires.limit; heights_each = c.requires.one_each.0; odometer_each = c.requires.one_each.1; settled = c.requires.settled }
-    settled
-    (ap (λ (p : PileView). p.grid) c.from_vec-pile.ensures ∙ c.shape.ensures.value)
-    (ap (λ (p : PileView). p.heights) c.from_vec-pile.ensures)
-    refl
-    refl
-    (omega arith))
+    (made (goal.at.invariant_of-result c).After-grains-2)

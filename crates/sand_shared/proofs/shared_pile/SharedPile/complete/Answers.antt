@@ -2,7 +2,7 @@ use Rattle.std.proofs.Common.{ℕ, List, length, sym, ap, ◌∙◌, subst, arit
 use Rattle.std.specs.Prelude.{slice_index}
 use Rattle.sand_model.specs.Piles.{PileView}
 use Rattle.sand_shared.specs.declared.view.Terms.{Terms}
-use Rattle.sand_shared.specs.Passes.{PassView}
+use Rattle.sand_shared.specs.Passes.{PassView, EachOnce}
 use Rattle.sand_shared.specs.Record.{Tells}
 use Rattle.sand_shared.proofs.RecordSums.{LeadsTo}
 use Rattle.sand_shared.proofs.CompletedOdometer.{completed_by, completed_seen, completed_small, completed_leads}
@@ -31,6 +31,9 @@ returns-clause-all_seen c =
     let b = completed_by c.self.view_is c.pass.view_is c.pass.invariant.pass c.requires.pass c.requires.whole c.requires.rest c.learn.ensures.view c.learn.ensures.stands in
     let long = c.requires.one_each ∙ ap (λ (q : PassView). length q.receipts) (sym c.pass.view_is) in
     ap (λ (q : PassView). q.seen) (sym c.pass.view_is) ∙ completed_seen b ∙ sym long ∙ ap (λ (l : List ℕ). length l) (sym c.of_lists.ensures.history)
+
+pub returns-clause-each_number_once : goal.returns-clause-each_number_once
+returns-clause-each_number_once c = subst (λ (q : PassView). EachOnce q.receipts) c.pass.view_is c.pass.invariant.pass.once
 
 pub returns-clause-never_fall : goal.returns-clause-never_fall
 returns-clause-never_fall c i =

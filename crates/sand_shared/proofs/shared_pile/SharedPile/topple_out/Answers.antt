@@ -29,3 +29,6 @@ returns-clause-all_seen c =
     let b = closed_by c.self.view_is c.pass.view_is c.pass.invariant c.requires.pass c.requires.whole c.close-start.ensures.last c.sweep_out.ensures.view c.sweep_out.ensures.long c.sweep_out.ensures.calm in
     let long = c.fill.ensures.length ∙ c.requires.history ∙ ap (λ (q : PassView). length q.receipts) (sym c.pass.view_is) in
     ap (λ (q : PassView). q.seen) (sym c.pass.view_is) ∙ closed_seen b ∙ sym long ∙ ap (λ (l : List ℕ). length l) (sym c.of_lists.ensures.history)
+
+pub returns-clause-each_number_once : goal.returns-clause-each_number_once
+returns-clause-each_number_once c = subst (λ (q : PassView). EachOnce q.receipts) c.pass.view_is c.pass.invariant.once
