@@ -1,4 +1,4 @@
-//! Toppling in place: a sweep goes once over the rows of a pass, while other threads drop and topple.
+//! Toppling in place: a sweep goes over the rows of a pass, while other threads drop and topple.
 //!
 //! Only the holder of a row takes grains from its sites, so what a look finds is still there at the unload, and what
 //! is unloaded is in hand for the neighbours until it is delivered. So no grain vanishes, and no site topples more
@@ -97,8 +97,8 @@ impl Words {
 
 impl SharedPile {
     /// Goes once over the sites of the pass's rows by number, looks at each, and topples it as often as the grains
-    /// found allow. Returns the topplings, and 0 for a pass without rows. For a pass that has everything, this
-    /// fixes how often each site topples (`in_turn` of `Swept`).
+    /// found allow. Returns the topplings, and 0 for a pass without rows. For a pass that has everything, the contract
+    /// fixes how often each site topples (`in_turn` of `Swept`); for another, that it topples often enough (`enough`).
     pub fn sweep(&self, pass: &mut Pass) -> u64
         requires { IsPassOf self.now pass.old }
         ensures of_pile { IsPassOf self.now pass.new }
