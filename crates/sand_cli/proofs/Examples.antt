@@ -5,7 +5,7 @@ use Rattle.clap.specs.declared.error.kind.ErrorKind.TheVariants.{DisplayHelp, In
 use Rattle.clap.proofs.OnLiterals.{clap_on_literals}
 use Rattle.sand_cli.specs.Line.{command_line}
 use Rattle.sand_cli.specs.Asked.{asked, conflict_among, faults}
-use Rattle.sand_cli.specs.declared.fault.Conflict.TheVariants.{Forms, Uncounted}
+use Rattle.sand_cli.specs.declared.fault.Conflict.TheVariants.{PileAndJournal, PileAndPicture, Uncounted}
 use Rattle.sand_cli.specs.declared.task.Form.TheVariants as forms
 use Rattle.sand_cli.specs.declared.task.Task.TheVariants.{Drops, Identity, Lab, Settle}
 
@@ -33,12 +33,12 @@ lab_asks : (program : Text) → asked (program ∷ codes "lab" ∷ []) ≡ Some 
 unfolding command_line clap_on_literals
 lab_asks program = refl
 
--- a pile alone excludes a picture, which a journal doesn't
-pile_and_picture : (program : Text) → conflict_among (program ∷ codes "settle" ∷ codes "--pgm" ∷ codes "--pile" ∷ []) ≡ Some Forms
+-- a pile alone excludes a picture and a journal, which go together
+pile_and_picture : (program : Text) → conflict_among (program ∷ codes "settle" ∷ codes "--pgm" ∷ codes "--pile" ∷ []) ≡ Some PileAndPicture
 unfolding command_line clap_on_literals
 pile_and_picture program = refl
 
-pile_and_journal : (program : Text) → asked (program ∷ codes "lab" ∷ codes "--pile" ∷ codes "--journal" ∷ []) ≡ None
+pile_and_journal : (program : Text) → conflict_among (program ∷ codes "lab" ∷ codes "--pile" ∷ codes "--journal" ∷ []) ≡ Some PileAndJournal
 unfolding command_line clap_on_literals
 pile_and_journal program = refl
 

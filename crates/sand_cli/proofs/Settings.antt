@@ -1,5 +1,5 @@
 -- Where `lab` takes its words, each setting is a number in its range.
-use Rattle.std.proofs.Common.{◌≡◌, ◌∙◌, ◌≤◌, ℕ, Bool, true, false, cond, ◌&&◌, ◌||◌, List, [], Some, None, refl, ap, arith, codes}
+use Rattle.std.proofs.Common.{◌≡◌, ◌∙◌, ◌≤◌, ℕ, Bool, true, false, cond, ◌&&◌, List, [], Some, None, refl, ap, arith, codes}
 use Rattle.std.specs.Prelude.{option_and_then, option_map}
 use Rattle.clap.specs.Words.{Rule, Text}
 use Rattle.clap.specs.Simple.{Shape, built_leaf, filled, with_index}
@@ -9,7 +9,7 @@ use Rattle.sand_cli.specs.Line.{lab_line, setting}
 use Rattle.sand_cli.specs.Options.{flag_in, number_of, setting_in, value_of}
 use Rattle.sand_plan.specs.Plans.{most_droppers, most_drops, most_epochs, most_observers, most_sweeps, most_workers}
 use Rattle.sand_cli.specs.Asked.{GoTogether, conflict_of, form_in, lab_of, wish_of}
-use Rattle.sand_cli.specs.declared.fault.Conflict.TheVariants.{Forms}
+use Rattle.sand_cli.specs.declared.fault.Conflict.TheVariants.{PileAndJournal, PileAndPicture}
 use Rattle.sand_cli.specs.declared.task.Form.TheVariants.{Picture, Pile}
 use Rattle.sand_cli.specs.declared.task.Form.TheVariants as forms
 use Rattle.sand_plan.specs.declared.wish.Wish.{Wish}
@@ -43,9 +43,11 @@ setting_is_number name usual least most words small alone passes has =
     (value_of text.0, ap (option_and_then (number_of 4294967295)) text.1 ∙ number.0, number.1, number.2)
 
 -- a journal and a pile alone exclude one another
-go_together : (pile pgm journal : Bool) → cond (pile && (journal || pgm)) (Some Forms) None ≡ None → GoTogether journal (cond pile Pile (cond pgm Picture forms.Text))
-go_together true pgm true free = cc
-go_together true pgm false free = tt
+go_together : (pile pgm journal : Bool) → cond (pile && pgm) (Some PileAndPicture) (cond (pile && journal) (Some PileAndJournal) None) ≡ None
+    → GoTogether journal (cond pile Pile (cond pgm Picture forms.Text))
+go_together true true journal free = cc
+go_together true false true free = cc
+go_together true false false free = tt
 go_together false true true free = tt
 go_together false true false free = tt
 go_together false false true free = tt

@@ -8,7 +8,7 @@ use Rattle.sand_plan.specs.declared.wish.Wish.{Wish}
 use Rattle.sand_cli.specs.Line.{command_line}
 use Rattle.sand_cli.specs.Options.{flag_in, number_in, setting_in}
 use Rattle.sand_cli.specs.declared.fault.Conflict.{Conflict}
-use Rattle.sand_cli.specs.declared.fault.Conflict.TheVariants.{Forms, Uncounted}
+use Rattle.sand_cli.specs.declared.fault.Conflict.TheVariants.{PileAndJournal, PileAndPicture, Uncounted}
 use Rattle.sand_cli.specs.declared.task.Draw.{Draw}
 use Rattle.sand_cli.specs.declared.task.Form.{Form}
 use Rattle.sand_cli.specs.declared.task.Form.TheVariants as forms
@@ -92,9 +92,9 @@ abbrev pub unless : {A : Type 0} → Kinds → Option A → Option A
 unless [] answer = answer
 unless (k ∷ ks) answer = None
 
--- a pile alone, and a picture or a journal
-abbrev pub two_forms : List Row → Bool
-two_forms options = flag_in (codes "pile") options && (flag_in (codes "journal") options || flag_in (codes "pgm") options)
+-- a pile alone, and what another flag asks for
+abbrev pub pile_and : Text → List Row → Bool
+pile_and other options = flag_in (codes "pile") options && flag_in other options
 
 -- `drops` with a seed or a stream, and no count
 abbrev pub lacks_count : Text → List Row → Bool
@@ -106,7 +106,8 @@ lacks_count name options =
 -- options of a command that do not go together
 abbrev pub conflict_of : Text × List Row → Option Conflict
 conflict_of (name, options) =
-    if two_forms options then Some Forms
+    if pile_and (codes "pgm") options then Some PileAndPicture
+    else if pile_and (codes "journal") options then Some PileAndJournal
     else if lacks_count name options then Some Uncounted
     else None
 

@@ -10,9 +10,12 @@ use thiserror::Error;
 /// Options that are taken by the command line, but not together.
 #[derive(Clone, Copy, Debug, PartialEq, Eq, Error)]
 pub enum Conflict {
-    /// A pile alone, and a picture or a journal.
-    #[error("error: the argument '--pile' cannot be used with '--pgm' or '--journal'\n\nFor more information, try '--help'.")]
-    Forms,
+    /// A pile alone, and a picture.
+    #[error("error: the argument '--pile' cannot be used with '--pgm'\n\nFor more information, try '--help'.")]
+    PileAndPicture,
+    /// A pile alone, and a journal.
+    #[error("error: the argument '--pile' cannot be used with '--journal'\n\nFor more information, try '--help'.")]
+    PileAndJournal,
     /// A seed or a stream without a count.
     #[error("error: the arguments '--seed' and '--stream' cannot be used without '--count'\n\nFor more information, try '--help'.")]
     Uncounted,

@@ -2,7 +2,7 @@
 
 ghost use Rattle.std.specs.Prelude.{◌≡◌, ◌↔◌, IfErr, IfOk, Some, None, map, option_and_then, string_bytes};
 ghost use Rattle.clap.specs.Words.{found_of, rows_of, subcommand_rows_of};
-ghost use Rattle.sand_cli.specs.Asked.{AskForHelp, IsWithin, asked, conflict_among, conflict_of, draw_of, faults, form_in, identity_of, lacks_count, task_named, two_forms, wish_of};
+ghost use Rattle.sand_cli.specs.Asked.{AskForHelp, IsWithin, asked, conflict_among, conflict_of, draw_of, faults, form_in, identity_of, lacks_count, pile_and, task_named, wish_of};
 ghost use Rattle.sand_cli.specs.Spelling.{Heeds};
 ghost use Rattle.sand_cli.specs.Fault.{IsOfKinds, IsUsage, ShowsHelp, TellsConflict};
 
@@ -153,12 +153,11 @@ fn task_named(name: &str, options: &ArgMatches<'_>) -> Option<Task>
     }
 }
 
-// Whether a pile alone is asked for, and a picture or a journal.
-fn two_forms(options: &ArgMatches<'_>) -> bool
-    ensures { result ≡ two_forms (rows_of (found_of options.now)) }
+// Whether a pile alone is asked for, and what another flag asks for.
+fn pile_and(other: &str, options: &ArgMatches<'_>) -> bool
+    ensures { result ≡ pile_and other.now (rows_of (found_of options.now)) }
 {
-    let another = flag_in(options, "journal") | flag_in(options, "pgm");
-    flag_in(options, "pile") & another
+    flag_in(options, "pile") & flag_in(options, other)
 }
 
 // Whether drops have a seed or a stream, and no count.
@@ -173,8 +172,10 @@ fn lacks_count(name: &str, options: &ArgMatches<'_>) -> bool
 fn conflict_of(name: &str, options: &ArgMatches<'_>) -> Option<Conflict>
     ensures { result ≡ conflict_of (name.now, rows_of (found_of options.now)) }
 {
-    if two_forms(options) {
-        Some(Conflict::Forms)
+    if pile_and("pgm", options) {
+        Some(Conflict::PileAndPicture)
+    } else if pile_and("journal", options) {
+        Some(Conflict::PileAndJournal)
     } else if lacks_count(name, options) {
         Some(Conflict::Uncounted)
     } else {
