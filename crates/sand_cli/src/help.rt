@@ -35,7 +35,8 @@ Faults: one line on standard error, 'fault NUMBER NAME'. There is no output, or
    1 Side           width or height outside 1 to 256
    2 Length         wrong number of heights; give width times height of them
    3 TooManyGrains  more grains than the limit, with all drops of 'lab'
-   4 Memory         out of memory; free some, or use a smaller pile
+   4 Memory         out of memory; free some, or use a smaller pile, or fewer
+                    drops of 'lab' and 'drops --count'
    6 Full           one drop more would exceed the grain limit; drop fewer
    7 Unstable       a height over 3; 'settle --pile' writes the settled pile
    8 NotRecurrent   a forbidden set exists; 'burn' shows it
@@ -215,10 +216,11 @@ Epochs: in an epoch droppers drop grains on one shared pile, workers topple it
 Threads: dropper k of epoch t drops at the sites of ChaCha8 stream t*64 + k of
   the seed. So seed, droppers, drops and epochs decide what is written, except
   for the order of the journal. --workers, --sweeps and --observers change
-  nothing else: workers can save time if much topples while grains drop and
-  processors are idle, and only if --sweeps is not 0; observers save none.
+  nothing else, and save no time: they are there to show, and to test, that
+  sand topples and is counted while it falls.
 
-Limits: drops count as grains.
+Limits: drops count as grains. At its peak a run takes about 40 bytes of memory
+  for each drop, of all epochs together.
 
 Example:
 
