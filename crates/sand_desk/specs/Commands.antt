@@ -6,10 +6,10 @@ use Rattle.sand_model.specs.Grid.{grid_with_edge}
 use Rattle.sand_text.specs.declared.fault.TextFault.{TextFault}
 use Rattle.sand_text.specs.Flow.{GivesAll, IsFurther, IsFurtherByAtMost, most_bytes}
 use Rattle.sand_text.specs.Reading.{pile_of, two_of}
-use Rattle.clap.specs.Words.{Text, kind_of}
+use Rattle.clap.specs.Words.{IsAmong, Text, kind_of}
 use Rattle.clap.specs.declared.error.kind.ErrorKind.TheVariants.{DisplayHelp}
 use Rattle.sand_plan.specs.declared.wish.Wish.{Wish}
-use Rattle.sand_cli.specs.Asked.{AskForHelp}
+use Rattle.sand_cli.specs.Asked.{AskForHelp, conflict_among, faults}
 use Rattle.sand_cli.specs.declared.task.Draw.{Draw}
 use Rattle.sand_cli.specs.declared.task.Task.{Task}
 use Rattle.sand_cli.specs.declared.task.Task.TheVariants as task
@@ -188,6 +188,13 @@ abbrev pub HelpsIfAsked : List Text → DeskFault → Type 0
 HelpsIfAsked words (desk.Usage error) = (kind_of error ≡ DisplayHelp) ↔ AskForHelp words
 HelpsIfAsked words (desk.Clash conflict) = ¬ AskForHelp words
 HelpsIfAsked words fault = ⊤
+
+-- a fault of the words says what is wrong with them: clap's error has one of the kinds that the words give, and options that
+-- do not go together are those of the words
+abbrev pub TellsWords : List Text → DeskFault → Type 0
+TellsWords words (desk.Usage error) = IsAmong (kind_of error) (faults words)
+TellsWords words (desk.Clash conflict) = conflict_among words ≡ Some conflict
+TellsWords words fault = ⊤
 
 -- how a command ends by each fault; memory may run out anywhere before the text is written
 abbrev pub EndsBy : Option Task → Option (List ℕ) → Option (List ℕ) → Option (List ℕ) → Option (List ℕ) → DeskFault → Type 0

@@ -7,7 +7,7 @@
 ghost use Rattle.std.specs.Prelude.{◌≡◌, ◌≢◌, ◌+◌, ◌≤◌, ◌<◌, true, length, map, string_bytes, IfOk, IfErr, OnOk, IsErrOf};
 ghost use Rattle.sand_text.specs.Flow.{IsFurther, IsFurtherByAtMost, IsOfReading, most_bytes};
 ghost use Rattle.sand_cli.specs.Asked.{IsWithin, asked};
-ghost use Rattle.sand_desk.specs.Commands.{IsTextOf, IsFaultOf, Finds, IsDone, EndsBy, HelpsIfAsked, Takes, reads_input};
+ghost use Rattle.sand_desk.specs.Commands.{IsTextOf, IsFaultOf, Finds, IsDone, EndsBy, HelpsIfAsked, Takes, TellsWords, reads_input};
 
 use crate::dropping::drops_input;
 use crate::faults::DeskFault;
@@ -87,6 +87,7 @@ pub fn run_command<T: Threads + Sync, R: Read, W: Write>(
     ensures fault { IfErr result (EndsBy (asked (map string_bytes words.now))
         (R.remaining reader.old) (R.remaining reader.new) (W.contents writer.old) (W.contents writer.new)) }
     ensures help { IfErr result (HelpsIfAsked (map string_bytes words.now)) }
+    ensures told { IfErr result (TellsWords (map string_bytes words.now)) }
 {
     let task = task_of(alloc, words)?;
     let input = take_input(alloc, task, reader)?;
