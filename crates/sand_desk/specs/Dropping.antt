@@ -28,6 +28,10 @@ AreRows v (site ∷ sites) rows w = (u : OneView) × (avalanche : Avalanche) × 
     × Drops v site u × IsAvalanche (grid_of_one_pile v) site (topplings_between v.settled u.settled) avalanche
     × (rows ≡ (v.number, avalanche) ∷ others) × AreRows u sites others w
 
+-- what is noted of the drops at these sites, which lead from v to w: a row of each, or nothing if the pile alone is wanted
+abbrev pub AreNoted : Bool → OneView → List ℕ → List (ℕ × Avalanche) → OneView → Type 0
+AreNoted alone v sites noted w = (rows : List (ℕ × Avalanche)) × AreRows v sites rows w × (noted ≡ (if alone then [] else rows))
+
 -- a line that names a sum
 abbrev pub sum_line : List ℕ → ℕ → List ℕ
 sum_line name n = name ++ decimal n ++ codes "\n"

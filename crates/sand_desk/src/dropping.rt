@@ -1,13 +1,13 @@
 //! The command `drops`.
 
-ghost use Rattle.std.specs.Prelude.{◌≡◌, ◌+◌, ◌<◌, [], ◌++◌, length, All, Some, None, IfSome, IfOk, IfErr, OnOk, IsOkUnless};
+ghost use Rattle.std.specs.Prelude.{◌≡◌, ◌+◌, ◌<◌, [], ◌∷◌, ◌++◌, false, length, vec_len, vec_capacity, if◌then◌else◌, All, Some, None, IfSome, IfOk, IfErr, OnOk, IsOkUnless};
 ghost use Rattle.sand_model.specs.Grid.{sites};
 ghost use Rattle.sand_model.specs.Piles.{PileView};
 ghost use Rattle.sand_settle.specs.Drops.{grid_of_one_pile, IsAfter};
 ghost use Rattle.sand_lab.specs.Streams.{stream_sites};
 ghost use Rattle.sand_cli.specs.Asked.{IsDraw};
 ghost use Rattle.sand_desk.specs.Commands.{IsDropFault, IsDropsFault, Finds};
-ghost use Rattle.sand_desk.specs.Dropping.{AreRows, IsDropsText, drops_in, drops_text_of, sum_line};
+ghost use Rattle.sand_desk.specs.Dropping.{AreNoted, IsDropsText, drops_in, drops_text_of, sum_line};
 
 use crate::faults::DeskFault;
 use crate::texts::{pile_text, read_drops, read_pile, table_text};
@@ -17,43 +17,75 @@ use sand_lab::SiteReader;
 use sand_settle::{Avalanche, OnePile};
 use std::alloc::{AllocError, Global};
 
-// Drops a grain at each site in turn, and notes each drop's number and avalanche.
+// A list with room for a row of each drop, or with none if the pile alone is wanted.
+fn list_of_rows(
+    alloc: Global,
+    drops: usize,
+    alone: bool,
+) -> Result<Vec<(u64, Avalanche)>, AllocError>
+    ensures rows { IfOk result (λ rows. rows.items ≡ []) }
+    ensures len { IfOk result (λ rows. vec_len rows ≡ 0) }
+    ensures room { IfOk result (λ rows. alone ≡ false → vec_capacity rows ≡ drops) }
+{
+    if alone {
+        Ok(Vec::new(alloc))
+    } else {
+        Vec::with_capacity(alloc, drops)
+    }
+}
+
+// Notes a drop's number and avalanche, unless the pile alone is wanted.
+fn note(rows: &mut Vec<(u64, Avalanche)>, row: (u64, Avalanche), alone: bool)
+    requires { alone ≡ false → vec_len rows.old < vec_capacity rows.old }
+    ensures rows { rows.new.items ≡ (if alone then rows.old.items else rows.old.items ++ row ∷ []) }
+    ensures len { alone ≡ false → vec_len rows.new ≡ vec_len rows.old + 1 }
+    ensures room { vec_capacity rows.new ≡ vec_capacity rows.old }
+{
+    if !alone {
+        rows.push_reserved(row);
+    }
+}
+
+// Drops a grain at each site in turn, and notes each drop's number and avalanche, unless the pile alone is wanted.
 fn drop_all(
     alloc: Global,
     pile: &mut OnePile,
     drops: &[usize],
+    alone: bool,
 ) -> Result<Vec<(u64, Avalanche)>, DeskFault>
     requires { All (λ site. site < sites (grid_of_one_pile pile.old)) drops.now }
-    ensures rows { IfOk result (λ rows. AreRows pile.old drops.now rows.items pile.new) }
+    ensures rows { IfOk result (λ rows. AreNoted alone pile.old drops.now rows.items pile.new) }
     ensures after { OnOk result ((start : PileView) → IsAfter start [] pile.old → IsAfter start drops.now pile.new) }
     ensures fault { IfErr result (IsDropFault (pile.old.grains + length drops.now)) }
 {
-    let mut rows = Vec::with_capacity(alloc, drops.len())?;
+    let mut rows = list_of_rows(alloc, drops.len(), alone)?;
     for site in drops {
         let row = pile.drop_at(alloc, *site)?;
-        rows.push_reserved(row);
+        note(&mut rows, row, alone);
     }
     Ok(rows)
 }
 
-// Drops grains at the first sites of a stream, each read as its grain drops, and notes each drop's number and avalanche.
+// Drops grains at the first sites of a stream, each read as its grain drops, and notes each drop's number and avalanche,
+// unless the pile alone is wanted.
 fn drop_drawn(
     alloc: Global,
     pile: &mut OnePile,
     draw: Draw,
+    alone: bool,
 ) -> Result<Vec<(u64, Avalanche)>, DeskFault>
     requires { IsDraw draw }
     ensures rows { IfOk result (λ rows.
-        AreRows pile.old (stream_sites (sites (grid_of_one_pile pile.old)) draw.seed draw.stream draw.count) rows.items pile.new) }
+        AreNoted alone pile.old (stream_sites (sites (grid_of_one_pile pile.old)) draw.seed draw.stream draw.count) rows.items pile.new) }
     ensures after { OnOk result ((start : PileView) → IsAfter start [] pile.old
         → IsAfter start (stream_sites (sites (grid_of_one_pile pile.old)) draw.seed draw.stream draw.count) pile.new) }
     ensures fault { IfErr result (IsDropFault (pile.old.grains + draw.count)) }
 {
     let mut reader = SiteReader::new(pile.pile().shape(), draw.seed, draw.stream);
-    let mut rows = Vec::with_capacity(alloc, draw.count as usize)?;
+    let mut rows = list_of_rows(alloc, draw.count as usize, alone)?;
     for read in 0..draw.count {
         let row = pile.drop_at(alloc, reader.next_site())?;
-        rows.push_reserved(row);
+        note(&mut rows, row, alone);
     }
     Ok(rows)
 }
@@ -109,7 +141,7 @@ fn listed_drops(alloc: Global, input: &[u8], alone: bool) -> Result<Vec<u8>, Des
 {
     let (start, drops) = read_drops(alloc, input)?;
     let mut pile = OnePile::new(alloc, &start)?;
-    let rows = drop_all(alloc, &mut pile, drops.as_slice())?;
+    let rows = drop_all(alloc, &mut pile, drops.as_slice(), alone)?;
     drops_or_pile(alloc, rows.as_slice(), &pile, alone)
 }
 
@@ -122,7 +154,7 @@ fn drawn_drops(alloc: Global, input: &[u8], draw: Draw, alone: bool) -> Result<V
 {
     let start = read_pile(alloc, input)?;
     let mut pile = OnePile::new(alloc, &start)?;
-    let rows = drop_drawn(alloc, &mut pile, draw)?;
+    let rows = drop_drawn(alloc, &mut pile, draw, alone)?;
     drops_or_pile(alloc, rows.as_slice(), &pile, alone)
 }
 

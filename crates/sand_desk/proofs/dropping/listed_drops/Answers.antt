@@ -1,7 +1,9 @@
-use Rattle.std.proofs.Common.{◌<◌, All, sym, subst}
+use Rattle.std.proofs.Common.{◌∙◌, ◌<◌, All, sym, subst}
 use Rattle.std.proofs.lemmas.Result.{IfOk-weaker}
 use Rattle.sand_model.specs.Grid.{Grid, sites}
+use Rattle.sand_desk.specs.Dropping.{AreNoted}
 use Rattle.sand_desk.proofs.DropSites.{drops_inside}
+use Rattle.sand_desk.proofs.Rows.{noted_text}
 use Rattle.sand_desk.proofs.dropping.listed_drops.Goals as goal
 
 pub drop_all-requires : goal.drop_all-requires
@@ -12,17 +14,18 @@ drop_all-requires c =
 
 pub returns-clause-text : goal.returns-clause-text
 returns-clause-text c =
+    let noted : AreNoted c.args.alone c.in_ok-pile.pile c.in_ok-start.drops.items c.in_ok-rows.rows.items c.drop_all.new.pile = rw c.as_slice.ensures.value at c.in_ok-rows.ensures.rows in
     IfOk-weaker c.drops_or_pile.result _ _
     (λ text written. record {
       pile = c.in_ok-start.start;
       sites = c.in_ok-start.drops.items;
       first = c.in_ok-pile.pile;
       last = c.drop_all.new.pile;
-      rows = c.in_ok-rows.rows.items;
+      rows = noted.0;
       read = c.in_ok-start.ensures;
       start = c.in_ok-pile.ensures.settled;
-      dropped = rw c.as_slice.ensures.value at c.in_ok-rows.ensures.rows;
+      dropped = noted.1;
       end = rw c.as_slice.ensures.value at (c.in_ok-rows.ensures.after c.in_ok-start.start c.in_ok-pile.ensures.settled);
-      written = rw c.as_slice-2.ensures.value at written;
+      written = (rw c.as_slice-2.ensures.value at written) ∙ noted_text c.args.alone c.in_ok-rows.rows.items noted.0 c.drop_all.new.pile noted.2;
     })
     c.drops_or_pile.ensures.text
