@@ -1,5 +1,5 @@
 -- A dropper reads one site of its stream more, and drops on all that it has read.
-use Rattle.std.proofs.Common.{◌≡◌, ℕ, ◌+◌, ◌<◌, List, [], ◌∷◌, ◌++◌, All, length, refl, sym, ap, ◌∙◌, subst, arith, append_assoc, append-nil, length-append, add-one}
+use Rattle.std.proofs.Common.{◌≡◌, ℕ, ◌+◌, ◌<◌, ◌≤◌, List, [], ◌∷◌, ◌++◌, All, length, refl, sym, ap, ◌∙◌, subst, arith, append_assoc, append-nil, length-append, add-one}
 use Rattle.std.specs.Prelude.{vec_capacity}
 use Rattle.std.specs.Int.{div_ceil}
 use Rattle.std.proofs.lemmas.Grind.{div_ceil_times}
@@ -12,9 +12,9 @@ use Rattle.sand_lab.specs.Jobs.{CanDrop, IsDropping, HasDropped, dropped_at}
 use Rattle.sand_lab.specs.Journals.{Ascends}
 use Rattle.sand_lab.specs.Streams.{Reading, site_at}
 
--- some drops make turns of at least one
-pub some_a_turn : (drops : ℕ) → 0 < drops → 0 < div_ceil drops 16
-some_a_turn drops some = let enough = (div_ceil_times drops 16 (omega arith)).0 in omega arith
+-- some drops make batches of at least one
+pub some_in_a_batch : (drops : ℕ) → 0 < drops → 0 < div_ceil drops 16
+some_in_a_batch drops some = let enough = (div_ceil_times drops 16 (omega arith)).0 in omega arith
 
 -- a dropper that may begin has read and dropped nothing
 pub begins : (s : SharedView) (turns : ℕ) (d : Dropper) → CanDrop s turns d → IsDropping s turns 0 d d
@@ -27,8 +27,9 @@ begins s turns d can =
       kept = refl;
       left = (let long = ap (λ (xs : List ℕ). length xs) none in let all = can.left in omega (arith, long, all));
       may_read = omega arith;
-      room = refl;
+      room = can.room;
       counts = can.counts;
+      grid = can.grid;
       reading = (λ i. record d.sites { read = can.unread i });
       inside = subst (All (λ i. i < sites (grid_of_terms s.terms))) (sym none) (All-nil (λ i. i < sites (grid_of_terms s.terms)));
       sites = λ i. dropped_at (bare i) ++ none i;
@@ -38,30 +39,31 @@ begins s turns d can =
     }
 
 -- it reads the next site
-pub reads_one : (s : SharedView) (turns n : ℕ) (d e f : Dropper) (site : ℕ) → d.sites.sites ≡ sites (grid_of_terms s.terms) → IsDropping s turns n d e → n < turns → f.who ≡ e.who → f.pass ≡ e.pass → f.counts ≡ e.counts
-    → f.sites ≡ record e.sites { read = e.sites.read + 1 } → f.turn.items ≡ e.turn.items ++ site ∷ [] → vec_capacity f.turn ≡ vec_capacity e.turn
+pub reads_one : (s : SharedView) (turns n : ℕ) (d e f : Dropper) (site : ℕ) → IsDropping s turns n d e → n < turns → f.who ≡ e.who → f.pass ≡ e.pass → f.counts ≡ e.counts
+    → f.sites ≡ record e.sites { read = e.sites.read + 1 } → f.batch.items ≡ e.batch.items ++ site ∷ [] → vec_capacity f.batch ≡ vec_capacity e.batch
     → site ≡ site_at e.sites.sites e.sites.seed e.sites.stream e.sites.read → site < e.sites.sites → IsDropping s turns (n + 1) d f
-reads_one s turns n d e f site grid h more who pass counts reading items room is inside =
+reads_one s turns n d e f site h more who pass counts reading items room is inside =
     let next : site ≡ site_at d.sites.sites d.sites.seed d.sites.stream n = is ∙ ap (λ (r : Reading). site_at r.sites r.seed r.stream r.read) h.reading in
-    let many : e.sites.sites ≡ sites (grid_of_terms s.terms) = ap (λ (r : Reading). r.sites) h.reading ∙ grid in
+    let many : e.sites.sites ≡ sites (grid_of_terms s.terms) = ap (λ (r : Reading). r.sites) h.reading ∙ h.grid in
     record {
       who = who ∙ h.who;
       of_pile = subst (IsPassOf s) (sym pass) h.of_pile;
       kept = subst (λ (p : PassView). p ≡ record d.pass { left = p.left; seen = p.seen; receipts = p.receipts }) (sym pass) h.kept;
-      left = (let same = ap (λ (p : PassView). p.left) pass in let long = ap (λ (xs : List ℕ). length xs) items ∙ length-append e.turn.items (site ∷ []) in let was = h.left in omega (arith, same, long, was));
+      left = (let same = ap (λ (p : PassView). p.left) pass in let long = ap (λ (xs : List ℕ). length xs) items ∙ length-append e.batch.items (site ∷ []) in let was = h.left in omega (arith, same, long, was));
       may_read = omega (arith, more);
-      room = room ∙ h.room;
+      room = subst (λ (n : ℕ). div_ceil turns 16 ≤ n) (sym room) h.room;
       counts = counts ∙ h.counts;
+      grid = h.grid;
       reading = reading ∙ ap (λ (r : Reading). record r { read = r.read + 1 }) h.reading;
-      inside = subst (All (λ i. i < sites (grid_of_terms s.terms))) (sym items) (All-push (λ i. i < sites (grid_of_terms s.terms)) e.turn.items site h.inside (omega (arith, inside, many)));
-      sites = rw add-one ((λ i. dropped_at (pass i).receipts ++ items i) ∙ sym (append_assoc (dropped_at e.pass.receipts) e.turn.items (site ∷ [])) ∙ (λ i. h.sites i ++ next i ∷ []));
+      inside = subst (All (λ i. i < sites (grid_of_terms s.terms))) (sym items) (All-push (λ i. i < sites (grid_of_terms s.terms)) e.batch.items site h.inside (omega (arith, inside, many)));
+      sites = rw add-one ((λ i. dropped_at (pass i).receipts ++ items i) ∙ sym (append_assoc (dropped_at e.pass.receipts) e.batch.items (site ∷ [])) ∙ (λ i. h.sites i ++ next i ∷ []));
       ascends = subst (λ (p : PassView). Ascends p.receipts) (sym pass) h.ascends;
       within = subst (λ (p : PassView). AllBelow s.terms.quota p.receipts) (sym pass) h.within;
       below = subst (λ (p : PassView). AllBelow p.seen p.receipts) (sym pass) h.below;
     }
 
 -- a dropper that has read all and holds none has dropped on all
-pub has_dropped : (s : SharedView) (turns : ℕ) (d e : Dropper) → IsDropping s turns turns d e → e.turn.items ≡ [] → HasDropped s turns d e
+pub has_dropped : (s : SharedView) (turns : ℕ) (d e : Dropper) → IsDropping s turns turns d e → e.batch.items ≡ [] → HasDropped s turns d e
 has_dropped s turns d e h none =
     let long = ap (λ (xs : List ℕ). length xs) none in
     let was = h.left in

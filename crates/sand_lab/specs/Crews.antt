@@ -58,8 +58,8 @@ pub record IsDropper (s : SharedView) (w : Wish) (epoch k : ℕ) (d : Dropper) :
   pub who : d.who ≡ k
   pub sites : d.sites ≡ record { sites = sites (grid_of_terms s.terms); seed = w.seed; stream = stream_of epoch k; read = 0 }
   pub pass : d.pass ≡ rowless s w.drops
-  pub none_read : d.turn.items ≡ []
-  pub room : div_ceil w.drops 16 ≤ vec_capacity d.turn
+  pub none_read : d.batch.items ≡ []
+  pub room : div_ceil w.drops 16 ≤ vec_capacity d.batch
   pub counts : d.counts ≡ grid_of_terms s.terms
 
 pub record IsWorker (s : SharedView) (workers j : ℕ) (x : Worker) : Type 0 where

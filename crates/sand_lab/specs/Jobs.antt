@@ -18,29 +18,30 @@ use Rattle.sand_lab.specs.declared.observers.Observer.{Observer}
 abbrev pub dropped_at : List Receipt → List ℕ
 dropped_at receipts = map (λ (r : Receipt). r.site) receipts
 
--- a dropper that has not begun, may drop so many grains, and has room for a turn: a sixteenth of them
+-- a dropper that has not begun, may drop so many grains, and has room for a batch: a sixteenth of them
 pub record CanDrop (s : SharedView) (turns : ℕ) (d : Dropper) : Type 0 where
   pub of_pile : IsPassOf s d.pass
   pub left : d.pass.left ≡ turns
   pub no_receipts : d.pass.receipts ≡ []
   pub unread : d.sites.read ≡ 0
   pub grid : d.sites.sites ≡ sites (grid_of_terms s.terms)
-  pub none_read : d.turn.items ≡ []
-  pub room : div_ceil turns 16 ≤ vec_capacity d.turn
+  pub none_read : d.batch.items ≡ []
+  pub room : div_ceil turns 16 ≤ vec_capacity d.batch
   pub counts : d.counts ≡ grid_of_terms s.terms
 
--- it was d, has read so many sites of its stream, and has dropped on all of them except those of a turn that it holds
+-- it was d, has read so many sites of its stream, and has dropped on all of them except those of a batch that it holds
 pub record IsDropping (s : SharedView) (turns read : ℕ) (d e : Dropper) : Type 0 where
   pub who : e.who ≡ d.who
   pub of_pile : IsPassOf s e.pass
   pub kept : e.pass ≡ record d.pass { left = e.pass.left; seen = e.pass.seen; receipts = e.pass.receipts }
-  pub left : e.pass.left + read ≡ turns + length e.turn.items
+  pub left : e.pass.left + read ≡ turns + length e.batch.items
   pub may_read : read ≤ turns
-  pub room : vec_capacity e.turn ≡ vec_capacity d.turn
+  pub room : div_ceil turns 16 ≤ vec_capacity e.batch
   pub counts : e.counts ≡ grid_of_terms s.terms
+  pub grid : d.sites.sites ≡ sites (grid_of_terms s.terms)
   pub reading : e.sites ≡ record d.sites { read = read }
-  pub inside : All (λ i. i < sites (grid_of_terms s.terms)) e.turn.items
-  pub sites : dropped_at e.pass.receipts ++ e.turn.items ≡ stream_sites d.sites.sites d.sites.seed d.sites.stream read
+  pub inside : All (λ i. i < sites (grid_of_terms s.terms)) e.batch.items
+  pub sites : dropped_at e.pass.receipts ++ e.batch.items ≡ stream_sites d.sites.sites d.sites.seed d.sites.stream read
   pub ascends : Ascends e.pass.receipts
   pub within : AllBelow s.terms.quota e.pass.receipts
   pub below : AllBelow e.pass.seen e.pass.receipts

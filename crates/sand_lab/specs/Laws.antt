@@ -1,4 +1,5 @@
--- The law of the laboratory: what a run leaves is a function of start, seed, droppers, drops and epochs alone.
+-- The law of the laboratory: the piles, odometers, topplings and grains lost of a run are a function of start, seed,
+-- droppers, drops and epochs alone.
 use Rattle.std.specs.Prelude.{ℕ, ◌≡◌, List, map}
 use Rattle.sand_model.specs.Piles.{PileView}
 use Rattle.sand_shared.specs.Record.{one_of}

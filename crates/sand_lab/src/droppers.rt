@@ -1,11 +1,11 @@
-//! Droppers: each drops the quota of its pass at the sites of its stream, in turns.
+//! Droppers: each drops the quota of its pass at the sites of its stream.
 //!
-//! A turn is a sixteenth of a dropper's drops, so up to sixteen drops are one drop a turn. It reads the next sites of the
-//! stream, and then drops on all of them in few atomic steps: threads that write to the same words one grain at a time
-//! wait for each other. The gate is called before each drop, and the drops of a turn are made together after its last
-//! call.
+//! If the gate holds threads, each drop is made before the gate is called for the next one, and its site is read from the
+//! stream just before. Threads that write to the same words one grain at a time wait for each other. So if the gate says
+//! that it holds none, a dropper drops in batches: it reads the sites of a sixteenth of its drops, and then drops on all
+//! of them in few atomic steps.
 
-ghost use Rattle.std.specs.Prelude.{◌≡◌, ℕ, []};
+ghost use Rattle.std.specs.Prelude.{◌≡◌, ℕ, ◌+◌, ◌<◌, [], length};
 ghost use Rattle.std.specs.Int.{div_ceil};
 ghost use Rattle.sand_lab.specs.Jobs.{CanDrop, HasDropped, IsDropping};
 
@@ -14,41 +14,70 @@ use crate::streams::SiteReader;
 use crate::work::Work;
 use sand_shared::{Pass, SharedPile, SiteCounts};
 
-/// How many turns a dropper takes at most.
-const TURNS: u32 = 16;
+/// How many batches a dropper drops at most.
+const BATCHES: u32 = 16;
 
 /// One that drops grains.
 #[derive(Drop)]
 pub(crate) struct Dropper {
     pub(crate) who: u32,
     pub(crate) sites: SiteReader,
-    /// The sites of a turn, which were read and not yet dropped on.
-    pub(crate) turn: Vec<usize>,
+    /// The sites of a batch, which were read and not yet dropped on.
+    pub(crate) batch: Vec<usize>,
     /// Room to count them by site.
     pub(crate) counts: SiteCounts,
     pub(crate) pass: Pass,
 }
 
-/// How many drops a turn has, if a dropper makes so many drops in all.
-pub(crate) fn drops_a_turn(drops: u32) -> u32
+/// How many drops a batch has, if a dropper makes so many drops in all.
+pub(crate) fn batch_size(drops: u32) -> u32
     ensures { result ≡ div_ceil drops 16 }
 {
-    drops.div_ceil(TURNS)
+    drops.div_ceil(BATCHES)
 }
 
 impl Dropper {
-    // Drops on the sites that were read.
-    fn drop_turn(&mut self, pile: &SharedPile)
+    // Drops on the next site of the stream, if the batch is empty.
+    fn drop_next(&mut self, pile: &SharedPile, _turns: u32)
+        requires dropping { (read : ℕ) × (first : Dropper) × (read < _turns) × IsDropping pile.now _turns read first self.old }
+        requires empty { self.old.batch.items ≡ [] }
+        ensures dropped { (read : ℕ) (first : Dropper) → read < _turns
+            → IsDropping pile.now _turns read first self.old → IsDropping pile.now _turns (read + 1) first self.new }
+        ensures batch { self.new.batch ≡ self.old.batch }
+    {
+        let site = self.sites.next_site();
+        let Ok(_number) = pile.drop_at(&mut self.pass, site) else {
+            unreachable!()
+        };
+    }
+
+    // Drops on the sites of the batch.
+    fn drop_batch(&mut self, pile: &SharedPile)
         requires { (turns : ℕ) × (read : ℕ) × (first : Dropper) × IsDropping pile.now turns read first self.old }
         ensures dropped { (turns : ℕ) (read : ℕ) (first : Dropper)
             → IsDropping pile.now turns read first self.old → IsDropping pile.now turns read first self.new }
-        ensures all { self.new.turn.items ≡ [] }
+        ensures all { self.new.batch.items ≡ [] }
     {
-        let turn = self.turn.as_slice();
-        let Ok(_number) = pile.drop_all(&mut self.pass, turn, &mut self.counts) else {
+        let batch = self.batch.as_slice();
+        let Ok(_number) = pile.drop_all(&mut self.pass, batch, &mut self.counts) else {
             unreachable!()
         };
-        self.turn.clear();
+        self.batch.clear();
+    }
+
+    // Reads the next site of the stream into the batch, and drops on the sites of a full one.
+    fn read_next(&mut self, pile: &SharedPile, turns: u32)
+        requires dropping { (read : ℕ) × (first : Dropper) × (read < turns) × IsDropping pile.now turns read first self.old }
+        requires few { length self.old.batch.items < div_ceil turns 16 }
+        ensures read { (read : ℕ) (first : Dropper) → read < turns
+            → IsDropping pile.now turns read first self.old → IsDropping pile.now turns (read + 1) first self.new }
+        ensures few { length self.new.batch.items < div_ceil turns 16 }
+    {
+        let most = batch_size(turns) as usize;
+        self.batch.push_reserved(self.sites.next_site());
+        if self.batch.len() == most {
+            self.drop_batch(pile);
+        }
     }
 }
 
@@ -60,14 +89,15 @@ impl Work for Dropper {
     ghost done = { HasDropped };
 
     fn take_turns<G: Gate>(&mut self, pile: &SharedPile, gate: &G, turns: u32) {
-        let most = drops_a_turn(turns) as usize;
+        let holds = gate.holds();
         for turn in 0..turns {
             gate.turn(Role::Dropper, self.who, turn);
-            self.turn.push_reserved(self.sites.next_site());
-            if self.turn.len() == most {
-                self.drop_turn(pile);
+            if holds {
+                self.drop_next(pile, turns);
+            } else {
+                self.read_next(pile, turns);
             }
         }
-        self.drop_turn(pile);
+        self.drop_batch(pile);
     }
 }

@@ -13,13 +13,16 @@ pub enum Role {
 
 /// What is called before each drop, each tally of an observer, and each sweep, except those of the rounds after the
 /// droppers have ended. It may hold the thread that calls it. It changes nothing of the pile.
-///
-/// A dropper makes some of its drops together: a sixteenth of them, rounded up, so one at a time up to sixteen. The gate
-/// is called for each of them first, and after its last call all of them are made.
 pub trait Gate: Sync {
     /// Called before a drop, a sweep or a tally: `who` is the thread's number in its role, and `turn` counts from 0 in
     /// each epoch.
     fn turn(&self, role: Role, who: u32, turn: u32);
+
+    /// Whether a call of `turn` may wait, or look at what drops have done. If so, each drop is made before the gate is
+    /// called for the next one. If not, nothing can tell when a drop is made, and droppers drop in batches, which is faster.
+    fn holds(&self) -> bool {
+        true
+    }
 }
 
 /// A gate that holds no thread.
@@ -28,4 +31,8 @@ pub struct Open;
 
 impl Gate for Open {
     fn turn(&self, _role: Role, _who: u32, _turn: u32) {}
+
+    fn holds(&self) -> bool {
+        false
+    }
 }

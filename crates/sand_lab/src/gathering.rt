@@ -92,7 +92,7 @@ fn gather_droppers(
         let Dropper {
             who: _,
             sites: _,
-            turn: _,
+            batch: _,
             counts: _,
             pass,
         } = dropper;

@@ -9,7 +9,7 @@ ghost use Rattle.sand_lab.specs.Faults.{IsMemory};
 ghost use Rattle.sand_plan.specs.Plans.{IsPlan, quota_of};
 
 use crate::crew::Crew;
-use crate::droppers::{Dropper, drops_a_turn};
+use crate::droppers::{Dropper, batch_size};
 use crate::faults::LabFault;
 use crate::observers::{Observer, TALLIES};
 use crate::streams::{SiteReader, stream_of};
@@ -39,7 +39,7 @@ fn split_quota(
     }
 }
 
-// The droppers, each with its own part of the quota, its own stream, and room for a turn.
+// The droppers, each with its own part of the quota, its own stream, and room for a batch.
 fn hire_droppers(
     alloc: Global,
     pile: &SharedPile,
@@ -60,12 +60,12 @@ fn hire_droppers(
     for who in 0..wish.droppers {
         let pass = split_quota(alloc, pile, first, u64::from(wish.drops))?;
         let sites = SiteReader::new(shape, wish.seed, stream_of(epoch, who));
-        let turn = Vec::with_capacity(alloc, drops_a_turn(wish.drops) as usize)?;
+        let batch = Vec::with_capacity(alloc, batch_size(wish.drops) as usize)?;
         let counts = SiteCounts::new(alloc, shape)?;
         let dropper = Dropper {
             who,
             sites,
-            turn,
+            batch,
             counts,
             pass,
         };

@@ -48,8 +48,9 @@ fn run_all<R: Threads + Sync, G: Gate>(
 /// of the album. The gate is called before each drop, each tally, and each sweep, except those of the rounds after the
 /// droppers have ended.
 ///
-/// What is left is a function of the start and of the plan's seed, droppers, drops and epochs alone
-/// (`laws::one_outcome`), except for the order in which drops interleave.
+/// The piles, the odometers, the topplings and the grains lost are a function of the start and of the plan's seed, droppers,
+/// drops and epochs alone (`laws::one_outcome`). The histories, the journals, the tallies and what the workers swept also
+/// depend on how the threads take turns.
 ///
 /// Returns AlbumSize if the album hasn't one place per epoch; TooManyGrains if the start has, with all drops, more grains
 /// than the limit; then, in the epoch in which it occurs, Memory if an allocation fails, and Taken if the epoch's place was

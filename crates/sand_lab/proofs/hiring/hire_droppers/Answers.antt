@@ -14,7 +14,7 @@ loop-who-preserved c =
     let i = c.loop-who.invariant in
     let P : ℕ → Dropper → Type 0 = IsDropper s c.args.wish c.args.epoch in
     let reading : ℕ → ℕ → Reading = λ n t. record { sites = n; seed = c.args.wish.seed; stream = t; read = 0 } in
-    let dropper : Dropper = record { who = c.loop-who.who; sites = c.new-sites.result; turn = c.in_ok-turn.turn; counts = c.in_ok-counts.counts; pass = c.in_ok-pass.pass } in
+    let dropper : Dropper = record { who = c.loop-who.who; sites = c.new-sites.result; batch = c.in_ok-batch.batch; counts = c.in_ok-counts.counts; pass = c.in_ok-pass.pass } in
     let one : P c.loop-who.who dropper = record {
       who = search rules;
       sites = c.new-sites.ensures ∙ ap₂ reading (ap sites c.requires.shape) c.stream_of.ensures;

@@ -1,4 +1,4 @@
-use Rattle.std.proofs.Common.{◌<◌, length}
+use Rattle.std.proofs.Common.{◌≡◌, ◌<◌, [], true, length}
 use Rattle.std.specs.Int.{div_ceil}
 use Rattle.sand_lab.specs.Jobs.{IsDropping}
 use Rattle.sand_lab.proofs.droppers.DropperWork.take_turns.Given as goal
@@ -6,5 +6,6 @@ use Rattle.sand_lab.proofs.droppers.DropperWork.take_turns.Given as goal
 abbrev pub invariant-loop-turn : goal.invariant-loop-turn
 invariant-loop-turn g l = record {
   dropping : IsDropping l.pile l.turns l.turn l.fn.self l.self;
-  few : 0 < l.turns → length l.self.turn.items < div_ceil l.turns 16;
+  few : 0 < l.turns → length l.self.batch.items < div_ceil l.turns 16;
+  one_by_one : l.holds ≡ true → l.self.batch.items ≡ [];
 }
