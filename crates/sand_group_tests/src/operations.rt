@@ -5,7 +5,7 @@ use sand_group::{
     Burned, GroupFault, Recurrent, act, add, burn, equivalent_recurrent, identity, inverse,
 };
 use sand_model::{Edge, Pile, Shape};
-use std::alloc::Global;
+use std::alloc::{AllocError, Global};
 use std::test::Fail;
 
 // The forbidden set that burning leaves of a pile, or an empty list if there is none.
@@ -40,15 +40,6 @@ fn burns_nothing_of_a_square(rt: HostRuntime) {
     assert!(rt; leaves(rt.alloc(), square, &all));
 }
 
-// No clause says that this is not reported as out of memory.
-#[test]
-fn refuses_what_is_not_recurrent(rt: HostRuntime) -> Result<(), Fail> {
-    let low = row(rt.alloc(), &[0, 0]).ok_or("no pile")?;
-    let refused = Recurrent::from_pile(rt.alloc(), &low);
-    assert!(rt; matches!(refused, Err(GroupFault::NotRecurrent)));
-    Ok(())
-}
-
 // Whether an operation made the pile with these heights.
 fn is_made(made: Result<Recurrent, GroupFault>, heights: &[u64]) -> bool {
     match made {
@@ -57,22 +48,33 @@ fn is_made(made: Result<Recurrent, GroupFault>, heights: &[u64]) -> bool {
     }
 }
 
-// Whether the identity of a grid has these heights.
-fn is_identity(alloc: Global, width: usize, height: usize, edge: Edge, heights: &[u64]) -> bool {
-    match Shape::with_edge(width, height, edge) {
-        Ok(shape) => is_made(identity(alloc, shape), heights),
-        Err(_) => false,
-    }
+// Whether the identity of a grid has these heights, and also its sum with itself.
+fn is_identity(
+    alloc: Global,
+    width: usize,
+    height: usize,
+    edge: Edge,
+    heights: &[u64],
+) -> Option<bool> {
+    let shape = Shape::with_edge(width, height, edge).ok()?;
+    let neutral = identity(alloc, shape).ok()?;
+    let is_twice = is_made(add(alloc, &neutral, &neutral), heights);
+    Some(is_twice && neutral.pile().heights() == heights)
 }
 
 #[test]
 fn knows_the_identity(rt: HostRuntime) {
     let alloc = rt.alloc();
-    assert!(rt; is_identity(alloc, 1, 1, Edge::Open, &[0]));
-    assert!(rt; is_identity(alloc, 2, 1, Edge::Open, &[3, 3]));
-    assert!(rt; is_identity(alloc, 2, 2, Edge::Open, &[2; 4]));
-    assert!(rt; is_identity(alloc, 3, 3, Edge::Open, &[2, 1, 2, 1, 0, 1, 2, 1, 2]));
-    assert!(rt; is_identity(alloc, 3, 1, Edge::Cylinder, &[2, 2, 2]));
+    for (width, height, edge, heights) in [
+        (1, 1, Edge::Open, [0].as_slice()),
+        (2, 1, Edge::Open, &[3, 3]),
+        (2, 2, Edge::Open, &[2, 2, 2, 2]),
+        (3, 3, Edge::Open, &[2, 1, 2, 1, 0, 1, 2, 1, 2]),
+        (3, 1, Edge::Cylinder, &[2, 2, 2]),
+    ] {
+        let is_known = is_identity(alloc, width, height, edge, heights);
+        assert!(rt; is_known == Some(true), "{width} by {height}");
+    }
 }
 
 // A recurrent pile on one row.
@@ -107,6 +109,44 @@ fn acts(rt: HostRuntime) -> Result<(), Fail> {
     let full = recurrent(rt.alloc(), &[3, 3]).ok_or("not recurrent")?;
     assert!(rt; is_made(acted(rt.alloc(), &full), &[1, 0]));
     Ok(())
+}
+
+// The number of the fault of a call of the group, or 0 if there is none.
+fn refusal<T: Drop>(called: Result<T, GroupFault>) -> u32 {
+    match called {
+        Ok(_) => 0,
+        Err(fault) => fault.number(),
+    }
+}
+
+#[test]
+fn refuses_what_is_not_recurrent(rt: HostRuntime) -> Result<(), Fail> {
+    for (heights, burns, made) in [([3, 1], 0, 0), ([0, 0], 0, 8), ([4, 0], 7, 7)] {
+        let pile = row(rt.alloc(), &heights).ok_or("no pile")?;
+        assert!(rt; refusal(burn(rt.alloc(), &pile)) == burns);
+        assert!(rt; refusal(Recurrent::from_pile(rt.alloc(), &pile)) == made);
+    }
+    Ok(())
+}
+
+#[test]
+fn refuses_two_shapes(rt: HostRuntime) -> Result<(), Fail> {
+    let one = recurrent(rt.alloc(), &[3]).ok_or("not recurrent")?;
+    let two = recurrent(rt.alloc(), &[3, 1]).ok_or("not recurrent")?;
+    assert!(rt; refusal(add(rt.alloc(), &one, &two)) == 9);
+    Ok(())
+}
+
+#[test]
+fn numbers_of_the_faults_of_the_group(rt: HostRuntime) {
+    for (fault, number) in [
+        (GroupFault::Unstable, 7),
+        (GroupFault::NotRecurrent, 8),
+        (GroupFault::Shapes, 9),
+        (GroupFault::Memory(AllocError), 4),
+    ] {
+        assert!(rt; fault.number() == number);
+    }
 }
 
 // Whether the recurrent pile that is equivalent to a pile has these heights.

@@ -1,7 +1,7 @@
-//! Piles, and one toppling.
+//! Piles, their limit, and one toppling.
 
-use sand_model::{Edge, Pile, Shape, topple};
-use std::alloc::Global;
+use sand_model::{Edge, Pile, PileFault, Shape, ToppleFault, topple};
+use std::alloc::{AllocError, Global};
 use std::test::Fail;
 
 /// A pile on a grid with this edge, or None if it is refused.
@@ -34,21 +34,82 @@ fn a_pile_and_its_copy(rt: HostRuntime) -> Result<(), Fail> {
     Ok(())
 }
 
-// The grains lost by one toppling of a site, and the heights that it leaves.
-fn toppled(pile: Pile, site: usize) -> Option<(u8, Vec<u64>)> {
-    let mut pile = pile;
-    if site >= pile.shape().sites() {
-        return None;
-    }
-    let lost = topple(&mut pile, site).ok()?;
-    let (_, heights) = pile.into_parts();
-    Some((lost, heights))
+// The number of the fault by which heights are no pile on two sites.
+fn refusal(alloc: Global, heights: &[u64]) -> Option<u32> {
+    let pair = Shape::new(2, 1).ok()?;
+    let fault = Pile::new(alloc, pair, heights).err()?;
+    Some(fault.number())
 }
 
 #[test]
-fn a_site_topples(rt: HostRuntime) -> Result<(), Fail> {
-    let pile = row(rt.alloc(), &[0, 5, 1]).ok_or("no pile")?;
-    let (lost, heights) = toppled(pile, 1).ok_or("too low")?;
-    assert!(rt; lost == 2 && heights.as_slice() == [1, 1, 2].as_slice());
+fn heights_that_make_no_pile(rt: HostRuntime) {
+    assert!(rt; refusal(rt.alloc(), &[1]) == Some(2));
+    assert!(rt; refusal(rt.alloc(), &[1_099_511_627_775, 1]) == Some(3));
+}
+
+// What becomes of a pile of one site if a grain is added: the fault's number, or 0 if there is none, and the heights.
+fn with_a_grain(alloc: Global, height: u64) -> Option<(u32, Vec<u64>)> {
+    let mut pile = row(alloc, &[height])?;
+    if pile.shape().sites() == 0 {
+        return None;
+    }
+    let number = match pile.add_grain(0) {
+        Ok(()) => 0,
+        Err(fault) => fault.number(),
+    };
+    let (_, heights) = pile.into_parts();
+    Some((number, heights))
+}
+
+#[test]
+fn a_grain_is_added_up_to_the_limit(rt: HostRuntime) -> Result<(), Fail> {
+    for (height, want, after) in [
+        (0, 0, 1),
+        (1_099_511_627_774, 0, 1_099_511_627_775),
+        (1_099_511_627_775, 3, 1_099_511_627_775),
+    ] {
+        let (number, heights) = with_a_grain(rt.alloc(), height).ok_or("no pile")?;
+        assert!(rt;
+            number == want && heights.as_slice() == [after].as_slice(),
+            "at {height}"
+        );
+    }
     Ok(())
+}
+
+// Whether one toppling of a site returns this, and leaves these heights.
+fn topples(
+    pile: Option<Pile>,
+    site: usize,
+    want: Result<u8, ToppleFault>,
+    heights: &[u64],
+) -> bool {
+    match pile {
+        Some(mut pile) => {
+            site < pile.shape().sites()
+                && topple(&mut pile, site) == want
+                && pile.heights() == heights
+        }
+        None => false,
+    }
+}
+
+#[test]
+fn a_site_topples_from_height_4_on(rt: HostRuntime) {
+    let alloc = rt.alloc();
+    assert!(rt; topples(row(alloc, &[0, 5, 1]), 1, Ok(2), &[1, 1, 2]));
+    assert!(rt; topples(row(alloc, &[4]), 0, Ok(4), &[0]));
+    assert!(rt; topples(row(alloc, &[3]), 0, Err(ToppleFault::TooLow), &[3]));
+}
+
+#[test]
+fn numbers_of_the_faults_of_piles(rt: HostRuntime) {
+    for (fault, number) in [
+        (PileFault::Length, 2),
+        (PileFault::TooManyGrains, 3),
+        (PileFault::Memory(AllocError), 4),
+    ] {
+        assert!(rt; fault.number() == number);
+    }
+    assert!(rt; ToppleFault::TooLow.number() == 5);
 }

@@ -2,8 +2,8 @@
 
 use crate::piles::{pile_on, ring, row};
 use sand_model::{Edge, Pile};
-use sand_settle::{Avalanche, OnePile, Settled, settle};
-use std::alloc::Global;
+use sand_settle::{Avalanche, OneFault, OnePile, SettleFault, Settled, settle};
+use std::alloc::{AllocError, Global};
 use std::test::Fail;
 
 // What a pile settles to.
@@ -11,13 +11,13 @@ fn record_of(alloc: Global, start: Option<Pile>) -> Option<Settled> {
     settle(alloc, &start?).ok()
 }
 
-// Whether a record has these heights, this odometer, and so many grains lost.
-fn is_record(record: Option<Settled>, heights: &[u64], odometer: &[u64], lost: u64) -> bool {
+// Whether a record has these heights, this odometer, and so many grains lost and topplings.
+fn is_record(record: Option<Settled>, heights: &[u64], odometer: &[u64], sums: (u64, u64)) -> bool {
     match record {
         Some(record) => {
             record.pile().heights() == heights
                 && record.odometers() == odometer
-                && record.lost() == lost
+                && (record.lost(), record.topplings()) == sums
         }
         None => false,
     }
@@ -27,27 +27,52 @@ fn is_record(record: Option<Settled>, heights: &[u64], odometer: &[u64], lost: u
 fn settles_as_worked_out(rt: HostRuntime) {
     let alloc = rt.alloc();
     let line = record_of(alloc, row(alloc, &[0, 4, 0]));
-    assert!(rt; is_record(line, &[1, 0, 1], &[0, 1, 0], 2));
+    assert!(rt; is_record(line, &[1, 0, 1], &[0, 1, 0], (2, 1)));
+    let pair = record_of(alloc, row(alloc, &[4, 4]));
+    assert!(rt; is_record(pair, &[1, 1], &[1, 1], (6, 2)));
     let round = record_of(alloc, ring(alloc, &[4, 4, 4]));
-    assert!(rt; is_record(round, &[2, 2, 2], &[1, 1, 1], 6));
-    let most = record_of(alloc, row(alloc, &[1_099_511_627_775]));
-    assert!(rt; is_record(most, &[3], &[274_877_906_943], 1_099_511_627_772));
+    assert!(rt; is_record(round, &[2, 2, 2], &[1, 1, 1], (6, 3)));
 }
 
-// Drops a first grain at a site, and returns its avalanche and the pile after it.
-fn dropped(alloc: Global, start: Option<Pile>, site: usize) -> Option<(Avalanche, OnePile)> {
-    let mut one = OnePile::new(alloc, &start?).ok()?;
-    if site >= one.pile().shape().sites() {
-        return None;
+#[test]
+fn settles_high_piles_of_one_site(rt: HostRuntime) {
+    for (start, height, topplings) in [
+        (0, 0, 0),
+        (4_294_967_295, 3, 1_073_741_823),
+        (4_294_967_296, 0, 1_073_741_824),
+        (1_099_511_627_775, 3, 274_877_906_943),
+    ] {
+        let record = record_of(rt.alloc(), row(rt.alloc(), &[start]));
+        let sums = (start - height, topplings);
+        assert!(rt;
+            is_record(record, &[height], &[topplings], sums),
+            "at {start}"
+        );
     }
-    let (_, avalanche) = one.drop_at(alloc, site).ok()?;
-    Some((avalanche, one))
+}
+
+// Drops grains one after another, and returns the number and the avalanche of the last one, and the pile after it.
+fn dropped(
+    alloc: Global,
+    start: Option<Pile>,
+    sites: &[usize],
+) -> Option<(u64, Avalanche, OnePile)> {
+    let mut one = OnePile::new(alloc, &start?).ok()?;
+    let mut last = None;
+    for site in sites {
+        if *site >= one.pile().shape().sites() {
+            return None;
+        }
+        last = Some(one.drop_at(alloc, *site).ok()?);
+    }
+    let (number, avalanche) = last?;
+    Some((number, avalanche, one))
 }
 
 #[test]
 fn drops_on_a_full_square(rt: HostRuntime) -> Result<(), Fail> {
     let start = pile_on(rt.alloc(), 3, 3, Edge::Open, &[3; 9]);
-    let (avalanche, one) = dropped(rt.alloc(), start, 4).ok_or("not dropped")?;
+    let (number, avalanche, one) = dropped(rt.alloc(), start, &[4]).ok_or("not dropped")?;
     let want = Avalanche {
         site: 4,
         size: 10,
@@ -55,16 +80,33 @@ fn drops_on_a_full_square(rt: HostRuntime) -> Result<(), Fail> {
         reach: 2,
         lost: 12,
     };
-    assert!(rt; avalanche == want);
+    assert!(rt; number == 0 && avalanche == want);
     assert!(rt; one.pile().heights() == [1, 3, 1, 3, 0, 3, 1, 3, 1].as_slice());
     assert!(rt; one.odometers() == [1, 1, 1, 1, 2, 1, 1, 1, 1].as_slice());
     Ok(())
 }
 
 #[test]
+fn a_second_drop_on_a_full_square(rt: HostRuntime) -> Result<(), Fail> {
+    let start = pile_on(rt.alloc(), 3, 3, Edge::Open, &[3; 9]);
+    let (number, avalanche, one) = dropped(rt.alloc(), start, &[4, 0]).ok_or("not dropped")?;
+    let calm = Avalanche {
+        site: 0,
+        size: 0,
+        area: 0,
+        reach: 0,
+        lost: 0,
+    };
+    assert!(rt; number == 1 && avalanche == calm);
+    assert!(rt; one.pile().heights() == [2, 3, 1, 3, 0, 3, 1, 3, 1].as_slice());
+    assert!(rt; (one.tally(), one.lost(), one.topplings()) == (2, 12, 10));
+    Ok(())
+}
+
+#[test]
 fn drops_round_a_cylinder(rt: HostRuntime) -> Result<(), Fail> {
     let start = ring(rt.alloc(), &[3; 4]);
-    let (avalanche, one) = dropped(rt.alloc(), start, 0).ok_or("not dropped")?;
+    let (_, avalanche, one) = dropped(rt.alloc(), start, &[0]).ok_or("not dropped")?;
     let want = Avalanche {
         site: 0,
         size: 4,
@@ -75,4 +117,27 @@ fn drops_round_a_cylinder(rt: HostRuntime) -> Result<(), Fail> {
     assert!(rt; avalanche == want);
     assert!(rt; one.pile().heights() == [2, 1, 1, 1].as_slice());
     Ok(())
+}
+
+// The number of the fault of a first drop on a pile of one site, and how many drops there were after it.
+fn refusal(alloc: Global, height: u64) -> Option<(u32, u64)> {
+    let start = row(alloc, &[height])?;
+    let mut one = OnePile::new(alloc, &start).ok()?;
+    if one.pile().shape().sites() == 0 {
+        return None;
+    }
+    let fault = one.drop_at(alloc, 0).err()?;
+    Some((fault.number(), one.tally()))
+}
+
+#[test]
+fn refuses_a_drop_over_the_limit(rt: HostRuntime) {
+    assert!(rt; refusal(rt.alloc(), 1_099_511_627_775) == Some((6, 0)));
+}
+
+#[test]
+fn numbers_of_the_faults_of_settling(rt: HostRuntime) {
+    assert!(rt; SettleFault::Memory(AllocError).number() == 4);
+    assert!(rt; OneFault::Full.number() == 6);
+    assert!(rt; OneFault::Memory(AllocError).number() == 4);
 }

@@ -1,8 +1,8 @@
 //! Shapes, and the neighbours of their sites.
 
-#[cfg(test)]
-use sand_model::Edge;
 use sand_model::Shape;
+#[cfg(test)]
+use sand_model::{Edge, ShapeFault};
 #[cfg(test)]
 use std::test::Fail;
 
@@ -33,4 +33,16 @@ fn neighbours_on_a_grid_and_on_a_cylinder(rt: HostRuntime) -> Result<(), Fail> {
         assert!(rt; around(shape, site) == Some(want), "at {site}");
     }
     Ok(())
+}
+
+#[test]
+fn sides_outside_the_limits(rt: HostRuntime) {
+    for (width, height) in [(0, 1), (257, 1), (1, 0), (1, 257)] {
+        assert!(rt;
+            Shape::new(width, height) == Err(ShapeFault::Side),
+            "{width} by {height}"
+        );
+    }
+    assert!(rt; Shape::with_edge(2, 1, Edge::Cylinder) == Err(ShapeFault::Narrow));
+    assert!(rt; ShapeFault::Side.number() == 1 && ShapeFault::Narrow.number() == 24);
 }
