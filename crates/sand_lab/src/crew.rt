@@ -1,6 +1,6 @@
 //! The crew of an epoch: droppers, workers and observers, who work concurrently.
 
-ghost use Rattle.std.specs.Prelude.{◌≡◌, ℕ, All};
+ghost use Rattle.std.specs.Prelude.{◌≡◌, ◌↔◌, ℕ, All, IsTrue};
 ghost use Rattle.std.specs.List.{AllZip};
 ghost use Rattle.std.specs.Thread.{IsSync};
 ghost use Rattle.sand_lab.specs.Crews.{IsCrew, HasBecome, HasWorked, tallies_each};
@@ -120,7 +120,9 @@ impl Crew {
     }
 
     // Whether the last sweep of each worker toppled nothing.
-    fn is_calm(&self) -> bool {
+    fn is_calm(&self) -> bool
+        ensures { IsTrue result ↔ All (λ w. w.last ≡ 0) self.now.workers.items }
+    {
         self.workers.iter().all(|worker| worker.last == 0)
     }
 
