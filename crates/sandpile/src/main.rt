@@ -3,6 +3,7 @@
 #![tactic(auto)]
 
 ghost use Rattle.std.specs.Prelude.{◌≡◌, ◌≢◌, ◌<◌, IfErr, false, length};
+ghost use Rattle.std.specs.Process.{exit_status};
 ghost use Rattle.sand_desk.specs.Faults.{status_of};
 
 use sand_desk::{
@@ -86,6 +87,7 @@ fn is_nothing(words: &[String]) -> bool
 // now.
 fn end<R: Eprint, W: Write>(rt: &R, errors: &mut W, fault: &DeskFault) -> ExitCode
     requires { status_of fault.now ≢ 0 }
+    ensures { exit_status result ≡ status_of fault.now }
 {
     match fault {
         DeskFault::Usage(error) => {
