@@ -1,20 +1,24 @@
 //! What a reader sees of an album before, during and after a run.
 
-use sand_lab::{Album, Gate, LabFault, Open, Role, Wish};
+ghost use Rattle.std.specs.Prelude.{◌≡◌, ◌<◌, length};
+ghost use Rattle.sand_lab.specs.Albums.{IsPlace};
+
+use sand_lab::{Album, Gate, LabFault, Note, Open, Role, Wish};
 use sand_testing::piles::one_site;
 use sand_testing::runs::{QUIET, run_into};
 use std::sync::atomic::AtomicU64;
 use std::sync::atomic::Ordering::SeqCst;
 use std::test::Fail;
+use std::thread::{Threads, join};
 
-// The height of the first site in the picture at the first place, which a note that knows nothing looks for.
-fn first_height(album: &Album) -> Option<u64> {
-    if album.places() == 0 {
-        return None;
-    }
-    let mut note = album.note(0);
-    let picture = album.look(0, &mut note)?;
-    picture.closed().pile().heights().first().copied()
+// The epoch of the picture at a place, and the height of its first site.
+fn seen(album: &Album, k: u32, note: &mut Note) -> Option<(u32, u64)>
+    requires { IsPlace album.now k note.old.cell }
+    ensures { note.new.cell ≡ note.old.cell }
+{
+    let picture = album.look(k, note)?;
+    let height = picture.closed().pile().heights().first()?;
+    Some((picture.epoch(), *height))
 }
 
 #[test]
@@ -22,12 +26,58 @@ fn a_place_is_set_once(rt: HostRuntime) -> Result<(), Fail> {
     let start = one_site(rt.alloc(), 0)?;
     let wish = Wish { drops: 3, ..QUIET };
     let album = Album::new(rt.alloc(), 1)?;
-    assert_eq!(rt; first_height(&album), None);
+    let mut note = album.note(0);
+    assert_eq!(rt; seen(&album, 0, &mut note), None);
     run_into(&rt, rt.alloc(), &start, wish, &Open, &album)?;
-    assert_eq!(rt; first_height(&album), Some(3));
+    assert_eq!(rt; seen(&album, 0, &mut note), Some((0, 3)));
     let again = run_into(&rt, rt.alloc(), &start, QUIET, &Open, &album);
     assert!(rt; matches!(again, Err(LabFault::Taken)));
-    assert_eq!(rt; first_height(&album), Some(3));
+    assert_eq!(rt; seen(&album, 0, &mut note), Some((0, 3)));
+    Ok(())
+}
+
+// What is seen with a note of the first place.
+fn seen_first(album: &Album, mut note: Note) -> Option<(u32, u64)>
+    requires { IsPlace album.now 0 note.cell }
+{
+    seen(album, 0, &mut note)
+}
+
+// What two threads see at the first place, each with a note that knows nothing.
+fn seen_by_two<R: Threads + Sync>(rt: &R, album: &Album) -> [Option<(u32, u64)>; 2]
+    requires { 0 < length album.now }
+{
+    let (one, other) = (album.note(0), album.note(0));
+    let (here, there) = join(
+        rt,
+        move || -> Option<(u32, u64)>
+            requires { IsPlace album.now 0 one.cell }
+        { seen_first(album, one) },
+        move || -> Option<(u32, u64)>
+            requires { IsPlace album.now 0 other.cell }
+        { seen_first(album, other) },
+    );
+    [here, there]
+}
+
+// Of six drops in each of two epochs the first ones leave a height of 2, and the others of 0.
+#[test]
+fn each_epoch_is_at_its_place(rt: HostRuntime) -> Result<(), Fail> {
+    let start = one_site(rt.alloc(), 0)?;
+    let wish = Wish {
+        droppers: 2,
+        drops: 3,
+        epochs: 2,
+        observers: 2,
+        ..QUIET
+    };
+    let album = Album::new(rt.alloc(), 2)?;
+    let mut report = run_into(&rt, rt.alloc(), &start, wish, &Open, &album)?;
+    let (mut first, mut second) = (report.note(0), report.note(1));
+    assert_eq!(rt; seen(&album, 0, &mut first), Some((0, 2)));
+    assert_eq!(rt; seen(&album, 1, &mut second), Some((1, 0)));
+    assert_eq!(rt; seen_by_two(&rt, &album), [Some((0, 2)); 2]);
+    album.agree(0, &mut first, album.note(0));
     Ok(())
 }
 

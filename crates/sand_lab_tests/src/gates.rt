@@ -2,10 +2,10 @@
 
 use crate::holding::{Hold, Holds, dropper, observer, worker};
 use crate::setup::run_gated;
-use sand_lab::Wish;
+use sand_lab::{Entry, Wish};
 use sand_testing::piles::{one_site, open_pile};
 use sand_testing::runs::QUIET;
-use std::alloc::Global;
+use std::alloc::{AllocError, Global};
 use std::test::Fail;
 use std::thread::Threads;
 
@@ -14,7 +14,7 @@ fn hold_each_other<R: Threads + Sync>(
     rt: &R,
     alloc: Global,
     wish: Wish,
-    holds: [Hold; 2],
+    holds: &[Hold],
 ) -> Result<bool, Fail> {
     let start = one_site(alloc, 0)?;
     let gate = Holds::new(holds);
@@ -33,7 +33,7 @@ fn two_droppers_meet(rt: HostRuntime) -> Result<(), Fail> {
         Hold::new(dropper(0, 0), dropper(1, 0)),
         Hold::new(dropper(1, 0), dropper(0, 0)),
     ];
-    assert!(rt; hold_each_other(&rt, rt.alloc(), wish, holds)?);
+    assert!(rt; hold_each_other(&rt, rt.alloc(), wish, &holds)?);
     Ok(())
 }
 
@@ -49,12 +49,34 @@ fn a_worker_sweeps_while_a_dropper_drops(rt: HostRuntime) -> Result<(), Fail> {
         Hold::new(dropper(0, 0), worker(1)),
         Hold::new(worker(1), dropper(0, 0)),
     ];
-    assert!(rt; hold_each_other(&rt, rt.alloc(), wish, holds)?);
+    assert!(rt; hold_each_other(&rt, rt.alloc(), wish, &holds)?);
+    Ok(())
+}
+
+// Each is held until both others have begun.
+#[test]
+fn a_dropper_a_worker_and_an_observer_meet(rt: HostRuntime) -> Result<(), Fail> {
+    let wish = Wish {
+        drops: 1,
+        sweeps: 1,
+        observers: 1,
+        ..QUIET
+    };
+    let (drop, sweep, tally) = (dropper(0, 0), worker(0), observer(0));
+    let holds = [
+        Hold::new(drop, sweep),
+        Hold::new(drop, tally),
+        Hold::new(sweep, drop),
+        Hold::new(sweep, tally),
+        Hold::new(tally, drop),
+        Hold::new(tally, sweep),
+    ];
+    assert!(rt; hold_each_other(&rt, rt.alloc(), wish, &holds)?);
     Ok(())
 }
 
 // The first tally of an observer, if no thread was released early. It is read after the gate is called for this drop, and
-// before the drop is made.
+// before the drop is made; and no drop is made before the gate is called for the tally.
 fn tally_before<R: Threads + Sync>(
     rt: &R,
     alloc: Global,
@@ -67,10 +89,12 @@ fn tally_before<R: Threads + Sync>(
         observers: 1,
         ..QUIET
     };
-    let gate = Holds::new([
+    let holds = [
+        Hold::new(dropper(0, 0), observer(0)),
         Hold::new(observer(0), dropper(0, drop)),
         Hold::new(dropper(0, drop), observer(1)),
-    ]);
+    ];
+    let gate = Holds::new(&holds);
     let report = run_gated(rt, alloc, &start, wish, &gate)?;
     if !gate.have_held() {
         return Ok(None);
@@ -81,48 +105,77 @@ fn tally_before<R: Threads + Sync>(
 #[test]
 fn an_observer_reads_between_two_drops(rt: HostRuntime) -> Result<(), Fail> {
     assert_eq!(rt; tally_before(&rt, rt.alloc(), 3, 1)?, Some(1));
-    assert_eq!(rt; tally_before(&rt, rt.alloc(), 16, 9)?, Some(9));
+    assert_eq!(rt; tally_before(&rt, rt.alloc(), 40, 20)?, Some(20));
     Ok(())
 }
 
-// Of 17 drops two make a turn: the second one's gate is called before the first one is made.
-#[test]
-fn the_drops_of_a_turn_are_made_together(rt: HostRuntime) -> Result<(), Fail> {
-    assert_eq!(rt; tally_before(&rt, rt.alloc(), 17, 1)?, Some(0));
-    assert_eq!(rt; tally_before(&rt, rt.alloc(), 17, 2)?, Some(2));
-    Ok(())
+// Holds by which the second dropper makes each of 33 drops after the first one has made the same drop of its own, and
+// before the first one makes its next.
+fn in_turn(alloc: Global, first: u32, second: u32) -> Result<Vec<Hold>, AllocError> {
+    let mut holds = Vec::new(alloc);
+    for turn in 0..33 {
+        holds.push(Hold::new(dropper(second, turn), dropper(first, turn + 1)))?;
+        holds.push(Hold::new(dropper(first, turn + 1), dropper(second, turn + 1)))?;
+    }
+    Ok(holds)
 }
 
-// The droppers of the first two drops of a run on one site, if no thread was released early. One dropper is held until the
-// other has dropped once, and the other is then held until the first has dropped. So the journal begins with a drop of
-// each, in that order, however the threads are scheduled.
-fn drops_in_order<R: Threads + Sync>(
+// Whether the first 66 drops of a journal are of two droppers in turn.
+fn alternates(journal: &[Entry], droppers: [u32; 2]) -> bool {
+    for n in 0..66 {
+        let dropper = journal.get(n).map(|entry| entry.dropper);
+        if dropper != Some(droppers[n % 2]) {
+            return false;
+        }
+    }
+    true
+}
+
+// Whether two droppers of a run on one site drop in turn, and none is released early.
+fn drop_in_turn<R: Threads + Sync>(
     rt: &R,
     alloc: Global,
     first: u32,
     second: u32,
-) -> Result<Option<[u32; 2]>, Fail> {
+) -> Result<bool, Fail> {
     let start = one_site(alloc, 0)?;
     let wish = Wish {
         droppers: 2,
-        drops: 2,
+        drops: 34,
         ..QUIET
     };
-    let gate = Holds::new([
-        Hold::new(dropper(second, 0), dropper(first, 1)),
-        Hold::new(dropper(first, 1), dropper(second, 1)),
-    ]);
+    let holds = in_turn(alloc, first, second)?;
+    let gate = Holds::new(holds.as_slice());
     let report = run_gated(rt, alloc, &start, wish, &gate)?;
-    match report.journal(0) {
-        [one, two, ..] if gate.have_held() => Ok(Some([one.dropper, two.dropper])),
-        _ => Ok(None),
-    }
+    Ok(gate.have_held() && alternates(report.journal(0), [first, second]))
 }
 
 #[test]
 fn the_journal_has_the_order_of_the_drops(rt: HostRuntime) -> Result<(), Fail> {
-    assert_eq!(rt; drops_in_order(&rt, rt.alloc(), 0, 1)?, Some([0, 1]));
-    assert_eq!(rt; drops_in_order(&rt, rt.alloc(), 1, 0)?, Some([1, 0]));
+    assert!(rt; drop_in_turn(&rt, rt.alloc(), 0, 1)?);
+    assert!(rt; drop_in_turn(&rt, rt.alloc(), 1, 0)?);
+    Ok(())
+}
+
+// Both drops are at the second site. The sweep after the first drop topples that site, and the round after the drops
+// topples the first one. A sweep before the drops would topple nothing, and leave the first site to the settling.
+#[test]
+fn a_worker_sweeps_after_its_gate(rt: HostRuntime) -> Result<(), Fail> {
+    let start = open_pile(rt.alloc(), 2, 1, &[3, 3])?;
+    let wish = Wish {
+        seed: 1,
+        drops: 2,
+        sweeps: 1,
+        ..QUIET
+    };
+    let holds = [
+        Hold::new(dropper(0, 0), worker(0)),
+        Hold::new(worker(0), dropper(0, 1)),
+    ];
+    let gate = Holds::new(&holds);
+    let report = run_gated(&rt, rt.alloc(), &start, wish, &gate)?;
+    assert!(rt; gate.have_held());
+    assert_eq!(rt; report.swept(0, 0), 2);
     Ok(())
 }
 
@@ -137,10 +190,11 @@ fn rounds_sweep_until_nothing_topples(rt: HostRuntime) -> Result<(), Fail> {
         sweeps: 600,
         ..QUIET
     };
-    let gate = Holds::new([
+    let holds = [
         Hold::new(dropper(0, 0), worker(599)),
         Hold::new(dropper(1, 0), worker(599)),
-    ]);
+    ];
+    let gate = Holds::new(&holds);
     let report = run_gated(&rt, rt.alloc(), &start, wish, &gate)?;
     assert!(rt; gate.have_held());
     assert_eq!(rt;

@@ -43,15 +43,15 @@ impl Hold {
     }
 }
 
-/// Two holds, and whether one of them released its thread early.
+/// Holds, and whether one of them released its thread early.
 #[derive(Drop)]
-pub struct Holds {
-    holds: [Hold; 2],
+pub struct Holds<'a> {
+    holds: &'a [Hold],
     failed: AtomicBool,
 }
 
-impl Holds {
-    pub fn new(holds: [Hold; 2]) -> Holds {
+impl<'a> Holds<'a> {
+    pub fn new(holds: &'a [Hold]) -> Holds<'a> {
         Holds {
             holds,
             failed: AtomicBool::new(false),
@@ -65,7 +65,7 @@ impl Holds {
 
     // Tells the holds that wait for a turn that it has begun.
     fn begin(&self, turn: Turn) {
-        for hold in &self.holds {
+        for hold in self.holds {
             if hold.until == turn {
                 hold.begun.store(true, SeqCst);
             }
@@ -73,11 +73,11 @@ impl Holds {
     }
 }
 
-impl Gate for Holds {
+impl Gate for Holds<'_> {
     fn turn(&self, role: Role, who: u32, turn: u32) {
         let turn = Turn { role, who, turn };
         self.begin(turn);
-        for hold in &self.holds {
+        for hold in self.holds {
             if hold.held == turn && !hold.has_begun() {
                 self.failed.store(true, SeqCst);
             }

@@ -10,6 +10,8 @@ pub mod holding;
 #[cfg(test)]
 mod plan;
 #[cfg(test)]
+mod refusals;
+#[cfg(test)]
 mod runs;
 #[cfg(test)]
 mod setup;

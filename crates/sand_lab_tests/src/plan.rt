@@ -8,7 +8,8 @@ const GREATEST: [u32; 6] = [64, 1_000_000, 100, 16, 1000, 16];
 
 const LEAST: [u32; 6] = [1, 0, 1, 1, 0, 0];
 
-fn is_planned(fields: [u32; 6]) -> bool {
+// The number of the fault of a plan, or 0.
+fn fault_of(fields: [u32; 6]) -> u32 {
     let [droppers, drops, epochs, workers, sweeps, observers] = fields;
     let wish = Wish {
         seed: u64::MAX,
@@ -19,18 +20,22 @@ fn is_planned(fields: [u32; 6]) -> bool {
         sweeps,
         observers,
     };
-    Plan::new(wish).is_ok()
+    match Plan::new(wish) {
+        Ok(_) => 0,
+        Err(fault) => fault.number(),
+    }
 }
 
 #[test]
 fn each_field_within_its_limits(rt: HostRuntime) -> Result<(), Fail> {
-    assert!(rt; is_planned(LEAST) && is_planned(GREATEST));
+    assert_eq!(rt; [fault_of(LEAST), fault_of(GREATEST)], [0, 0]);
     for field in 0..6 {
         let (mut more, mut none) = (GREATEST, GREATEST);
         more[field] += 1;
         none[field] = 0;
-        assert!(rt; !is_planned(more), "field {field}");
-        assert_eq!(rt; is_planned(none), LEAST[field] == 0, "field {field}");
+        assert_eq!(rt; fault_of(more), 15, "field {field}");
+        let due = if LEAST[field] == 0 { 0 } else { 15 };
+        assert_eq!(rt; fault_of(none), due, "field {field}");
     }
     Ok(())
 }

@@ -5,6 +5,7 @@ use crate::setup::{Left, is_left, leaves, run_gated};
 use sand_lab::{Open, Wish};
 use sand_model::{Edge, GRAIN_LIMIT};
 use sand_testing::piles::{one_site, open_pile, pile_on};
+use sand_testing::records::is_record;
 use sand_testing::runs::QUIET;
 use std::test::Fail;
 
@@ -15,6 +16,18 @@ fn one_left<'a>(height: &'a [u64; 1], topplings: &'a [u64; 1], lost: u64) -> Lef
         odometer: topplings,
         lost,
     }
+}
+
+// Whether these are sixteen tallies that never fall, of six drops.
+fn climbs(tallies: &[u64]) -> bool {
+    let mut before = 0;
+    for tally in tallies {
+        if *tally < before || *tally > 6 {
+            return false;
+        }
+        before = *tally;
+    }
+    tallies.len() == 16
 }
 
 #[test]
@@ -31,9 +44,27 @@ fn two_epochs_on_one_site(rt: HostRuntime) -> Result<(), Fail> {
     let [first, second] = report.records() else {
         return Err("two records".into());
     };
-    assert!(rt; is_left(first, one_left(&[2], &[1], 4)));
-    assert!(rt; is_left(second, one_left(&[0], &[2], 8)));
-    assert!(rt; is_left(report.total(), one_left(&[0], &[3], 12)));
+    assert!(rt; is_record(first, &[0; 6], &[2], &[1], 4));
+    assert!(rt; is_record(second, &[0; 6], &[0], &[2], 8));
+    let total = report.total().copy(rt.alloc())?;
+    assert!(rt; is_record(&total, &[0; 12], &[0], &[3], 12));
+    assert!(rt; climbs(report.tallies(0, 1)));
+    Ok(())
+}
+
+#[test]
+fn droppers_that_drop_nothing(rt: HostRuntime) -> Result<(), Fail> {
+    let start = one_site(rt.alloc(), 0)?;
+    let wish = Wish {
+        droppers: 64,
+        ..QUIET
+    };
+    let report = run_gated(&rt, rt.alloc(), &start, wish, &Open)?;
+    let [epoch] = report.records() else {
+        return Err("one record".into());
+    };
+    assert!(rt; is_record(epoch, &[], &[0], &[0], 0));
+    assert!(rt; report.journal(0).is_empty());
     Ok(())
 }
 

@@ -70,3 +70,13 @@ fn the_whole_words(rt: HostRuntime) -> Result<(), Fail> {
     assert!(rt; sites.as_slice() == [13, 5, 34, 26, 25, 1, 32, 3].as_slice());
     Ok(())
 }
+
+#[test]
+fn one_site_alone(rt: HostRuntime) -> Result<(), Fail> {
+    let shape = Shape::new(1, 1)?;
+    let sites = sites_of(rt.alloc(), shape, 7, 9, 5)?;
+    assert!(rt; sites.as_slice() == [0; 5].as_slice());
+    let none = sites_of(rt.alloc(), shape, 7, 9, 0)?;
+    assert!(rt; none.is_empty());
+    Ok(())
+}

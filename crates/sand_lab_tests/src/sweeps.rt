@@ -3,8 +3,23 @@
 use crate::setup::run_gated;
 use sand_lab::{Open, Wish};
 use sand_testing::piles::open_pile;
+use sand_testing::records::is_record;
 use sand_testing::runs::QUIET;
 use std::test::Fail;
+
+#[test]
+fn each_worker_sweeps_its_row(rt: HostRuntime) -> Result<(), Fail> {
+    let start = open_pile(rt.alloc(), 2, 2, &[4; 4])?;
+    let wish = Wish {
+        workers: 2,
+        sweeps: 1,
+        ..QUIET
+    };
+    let report = run_gated(&rt, rt.alloc(), &start, wish, &Open)?;
+    assert_eq!(rt; [report.swept(0, 0), report.swept(0, 1)], [2, 2]);
+    assert!(rt; is_record(report.total(), &[], &[2; 4], &[1; 4], 8));
+    Ok(())
+}
 
 // Of sixteen bands of two rows only the eighth and the last have one.
 #[test]

@@ -11,6 +11,7 @@ use std::test::Fail;
 // Counts the calls of two of each role, which take so many turns each in an epoch.
 #[derive(Drop)]
 struct Count {
+    holds: bool,
     droppers: Calls,
     workers: Calls,
     observers: Calls,
@@ -68,6 +69,10 @@ impl Gate for Count {
             Role::Observer => self.observers.count(who, turn),
         }
     }
+
+    fn holds(&self) -> bool {
+        self.holds
+    }
 }
 
 // Rounds of sweeps follow each epoch's turns, and call no gate.
@@ -84,6 +89,7 @@ fn a_gate_is_called_before_each_turn(rt: HostRuntime) -> Result<(), Fail> {
         ..QUIET
     };
     let gate = Count {
+        holds: true,
         droppers: Calls::new(5),
         workers: Calls::new(4),
         observers: Calls::new(16),
@@ -93,9 +99,9 @@ fn a_gate_is_called_before_each_turn(rt: HostRuntime) -> Result<(), Fail> {
     Ok(())
 }
 
-// These numbers of drops make turns of more than one drop, and a shorter last turn.
+// These numbers of drops make batches of more than one drop, and a shorter last batch.
 #[test]
-fn a_gate_is_called_before_each_drop_of_a_turn(rt: HostRuntime) -> Result<(), Fail> {
+fn a_gate_is_called_before_each_drop_of_a_batch(rt: HostRuntime) -> Result<(), Fail> {
     let start = one_site(rt.alloc(), 0)?;
     for drops in [17, 33, 100] {
         let wish = Wish {
@@ -105,6 +111,7 @@ fn a_gate_is_called_before_each_drop_of_a_turn(rt: HostRuntime) -> Result<(), Fa
             ..QUIET
         };
         let gate = Count {
+            holds: false,
             droppers: Calls::new(drops),
             workers: Calls::new(0),
             observers: Calls::new(0),

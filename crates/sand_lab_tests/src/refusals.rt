@@ -1,0 +1,38 @@
+//! Runs that are refused.
+
+use sand_lab::{Album, Open, Wish};
+use sand_testing::piles::one_site;
+use sand_testing::runs::{QUIET, run_into};
+use std::alloc::Global;
+use std::test::Fail;
+use std::thread::Threads;
+
+// The number of the fault of a run of one drop an epoch, into an album with one place; or 0.
+fn fault_of<R: Threads + Sync>(
+    rt: &R,
+    alloc: Global,
+    height: u64,
+    epochs: u32,
+) -> Result<u32, Fail> {
+    let start = one_site(alloc, height)?;
+    let wish = Wish {
+        drops: 1,
+        epochs,
+        ..QUIET
+    };
+    let album = Album::new(alloc, 1)?;
+    match run_into(rt, alloc, &start, wish, &Open, &album) {
+        Ok(_) => Ok(0),
+        Err(fault) => Ok(fault.number()),
+    }
+}
+
+// An album with one place for two epochs is reported first.
+#[test]
+fn too_many_grains_or_too_few_places(rt: HostRuntime) -> Result<(), Fail> {
+    assert_eq!(rt; fault_of(&rt, rt.alloc(), 1_099_511_627_774, 1)?, 0);
+    assert_eq!(rt; fault_of(&rt, rt.alloc(), 1_099_511_627_775, 1)?, 3);
+    assert_eq!(rt; fault_of(&rt, rt.alloc(), 0, 2)?, 16);
+    assert_eq!(rt; fault_of(&rt, rt.alloc(), 1_099_511_627_775, 2)?, 16);
+    Ok(())
+}
