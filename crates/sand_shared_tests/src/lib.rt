@@ -3,11 +3,19 @@
 #![tactic(auto)]
 
 #[cfg(test)]
-mod closing;
-#[cfg(test)]
 mod crews;
 #[cfg(test)]
 mod dropping;
+#[cfg(test)]
+mod gathering;
 pub mod meeting;
 #[cfg(test)]
+mod pairs;
+#[cfg(test)]
+mod pile_with_passes;
+#[cfg(test)]
 mod records;
+#[cfg(test)]
+mod sweeping;
+#[cfg(test)]
+mod two_threads;

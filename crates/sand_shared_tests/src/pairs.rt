@@ -1,0 +1,66 @@
+//! Two threads that meet, and then drop or sweep on one pile at the same time.
+
+ghost use Rattle.std.specs.Prelude.{◌<◌, IfSome};
+ghost use Rattle.std.specs.Thread.{IsSync};
+ghost use Rattle.sand_model.specs.Grid.{sites};
+ghost use Rattle.sand_shared.specs.OpenPile.{grid_of_terms};
+ghost use Rattle.sand_shared.specs.Passes.{IsPassOf};
+
+use crate::meeting::Meeting;
+use sand_shared::{Pass, SharedPile};
+use std::thread::{Threads, join};
+
+// Meets the other thread; then drops all that is left on a site, or sweeps if there is none. Also returns whether they met.
+fn take_turn(
+    pile: &SharedPile,
+    meeting: &Meeting,
+    mut pass: Pass,
+    site: Option<usize>,
+) -> (Pass, bool)
+    requires pass { IsPassOf pile.now pass }
+    requires site { IfSome site (λ s. s < sites (grid_of_terms pile.now.terms)) }
+    ensures { IsPassOf pile.now result.0 }
+{
+    let met = meeting.met(2);
+    let Some(site) = site else {
+        pile.sweep(&mut pass);
+        return (pass, met);
+    };
+    'drops: for _ in 0..pass.left() {
+        let _ = pile.drop_at(&mut pass, site);
+    }
+    (pass, met)
+}
+
+/// Two threads meet; then each drops all that its pass has left on its site, or sweeps if it has none. Also returns whether
+/// they met.
+pub fn both_at_once<R: Threads + Sync>(
+    rt: &R,
+    pile: &SharedPile,
+    one: Pass,
+    other: Pass,
+    here: Option<usize>,
+    there: Option<usize>,
+) -> (Pass, Pass, bool)
+    requires one { IsPassOf pile.now one }
+    requires other { IsPassOf pile.now other }
+    requires here { IfSome here (λ s. s < sites (grid_of_terms pile.now.terms)) }
+    requires there { IfSome there (λ s. s < sites (grid_of_terms pile.now.terms)) }
+    ensures one { IsPassOf pile.now result.0 }
+    ensures other { IsPassOf pile.now result.1 }
+{
+    let meeting = Meeting::new();
+    let place = &meeting;
+    let (first, second) = join(
+        rt,
+        move || -> (Pass, bool)
+            requires { IsPassOf pile.now one × IfSome here (λ s. s < sites (grid_of_terms pile.now.terms)) }
+            ensures { IsPassOf pile.entry.now result.0 }
+        { take_turn(pile, place, one, here) },
+        move || -> (Pass, bool)
+            requires { IsPassOf pile.now other × IfSome there (λ s. s < sites (grid_of_terms pile.now.terms)) }
+            ensures { IsPassOf pile.entry.now result.0 }
+        { take_turn(pile, place, other, there) },
+    );
+    (first.0, second.0, first.1 && second.1)
+}
