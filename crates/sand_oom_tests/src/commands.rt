@@ -1,7 +1,7 @@
 //! Whole commands, from bytes to bytes.
 
 use crate::memory::{refuse, was_refused};
-use crate::trying::{Spares, each_number, fault_of};
+use crate::trying::{Spares, Tried, each_number};
 use sand_desk::run_command;
 use sand_testing::words::words_of;
 use std::alloc::Global;
@@ -9,139 +9,119 @@ use std::process::Abort;
 use std::test::Fail;
 use std::thread::Threads;
 
-// The number of the fault of a command, if there was one. Its output takes no memory.
-fn command_fault<R: Threads + Sync>(
+// A command line, its input, and the text that it writes.
+type Case = (&'static str, &'static str, &'static str);
+
+const COMMANDS: [Case; 10] = [
+    (
+        "sandpile settle",
+        "3 1\n0 4 0\n",
+        "3 1\n1 0 1\nodometer\n0 1 0\nlost 2\ntopplings 1\n",
+    ),
+    (
+        "sandpile settle --pgm",
+        "2 2\n4 4\n4 4\n",
+        "P2\n2 2\n3\n2 2\n2 2\n",
+    ),
+    ("sandpile settle --pile", "3 1\n0 4 0\n", "3 1\n1 0 1\n"),
+    ("sandpile burn", "2 1\n0 0\n", "forbidden 2\n0 0\n1 0\n"),
+    (
+        "sandpile identity --width 3 --height 3",
+        "",
+        "3 3\n2 1 2\n1 0 1\n2 1 2\n",
+    ),
+    ("sandpile add", "2 1\n3 1\n2 1\n3 3\n", "2 1\n3 1\n"),
+    ("sandpile inverse", "2 1\n3 1\n", "2 1\n0 2\n"),
+    ("sandpile recurrent", "3 1\n5 0 1\n", "3 1\n1 1 1\n"),
+    (
+        "sandpile drops",
+        "3 3\n3 3 3\n3 3 3\n3 3 3\n4 0\n",
+        "number site size area reach lost\n0 4 10 9 2 12\n1 0 0 0 0 0\n3 3\n2 3 1\n3 0 3\n1 3 1\nlost 12\ntopplings 10\n",
+    ),
+    (
+        "sandpile drops --count 3 --seed 7",
+        "1 1\n2\n",
+        "number site size area reach lost\n0 0 0 0 0 0\n1 0 1 1 0 4\n2 0 0 0 0 0\n1 1\n1\nlost 4\ntopplings 1\n",
+    ),
+];
+
+const RUNS: [Case; 3] = [
+    (
+        "sandpile lab --droppers 2 --drops 3 --epochs 2",
+        "1 1\n0\n",
+        "epoch drops topplings lost grains\n0 6 1 4 2\n1 6 2 8 0\ntotal 12 3 12 0\n1 1\n0\nodometer\n3\n",
+    ),
+    (
+        "sandpile lab --droppers 2 --drops 3 --epochs 2 --pile",
+        "1 1\n0\n",
+        "1 1\n0\n",
+    ),
+    (
+        "sandpile lab --droppers 1 --drops 2 --journal",
+        "1 1\n0\n",
+        "epoch drops topplings lost grains\n0 2 0 0 2\ntotal 2 0 0 2\n1 1\n2\nodometer\n0\njournal\n0 0 0 0\n0 1 0 0\n",
+    ),
+];
+
+// Whether a command writes this text, or the number of its fault; 0 if it wrote something though it failed. Its output takes no
+// memory.
+fn writes<R: Threads + Sync>(
     rt: &R,
     alloc: Global,
     words: &[String],
-    input: &[u8],
-) -> Option<u32> {
+    input: &str,
+    text: &str,
+) -> Result<bool, u32> {
     if words.is_empty() {
-        return Some(0);
+        return Err(0);
     }
-    let mut reader = input;
-    let mut room = [0; 1024];
+    let mut reader = input.as_bytes();
+    let mut room = [0; 256];
     let mut writer = room.as_mut_slice();
-    fault_of!(run_command(rt, alloc, words, &mut reader, &mut writer))
+    let done = run_command(rt, alloc, words, &mut reader, &mut writer);
+    let left = writer.len();
+    match done {
+        Ok(()) => Ok(room.starts_with(text.as_bytes()) && left.saturating_add(text.len()) == 256),
+        Err(fault) if left == 256 => Err(fault.number()),
+        Err(_) => Err(0),
+    }
 }
 
 // Tries a command line.
 fn each_refused_of<R: Threads + Sync + Print + Abort>(
     rt: &R,
     alloc: Global,
-    line: &str,
-    input: &[u8],
+    case: Case,
     spares: Spares,
 ) -> Result<(), Fail> {
+    let (line, input, text) = case;
     let words = words_of(alloc, line)?;
     each_number(rt, alloc, line, spares, |alloc: Global, number: u32| {
         refuse(alloc, number);
-        let fault = command_fault(rt, alloc, words.as_slice(), input);
+        let tried = writes(rt, alloc, words.as_slice(), input, text);
         was_refused(alloc);
-        if fault.is_some() && command_fault(rt, alloc, words.as_slice(), input).is_some() {
-            return Err("a command that fails though it has its memory".into());
-        }
-        Ok(fault)
+        Ok(match tried {
+            Ok(is_right) => Tried::done(is_right),
+            Err(fault) => Tried::failed(
+                fault,
+                writes(rt, alloc, words.as_slice(), input, text) == Ok(true),
+            ),
+        })
     })
 }
 
 #[test]
-fn settle_reports_out_of_memory(rt: HostRuntime) -> Result<(), Fail> {
-    let alloc = rt.alloc();
-    each_refused_of(
-        &rt,
-        alloc,
-        "sandpile settle",
-        b"3 1\n0 4 0\n",
-        Spares::Nothing,
-    )?;
-    each_refused_of(
-        &rt,
-        alloc,
-        "sandpile settle --pgm",
-        b"2 2\n4 4\n4 4\n",
-        Spares::Nothing,
-    )?;
-    each_refused_of(
-        &rt,
-        alloc,
-        "sandpile settle --pile",
-        b"3 1\n0 4 0\n",
-        Spares::Nothing,
-    )
-}
-
-#[test]
-fn burn_reports_out_of_memory(rt: HostRuntime) -> Result<(), Fail> {
-    each_refused_of(
-        &rt,
-        rt.alloc(),
-        "sandpile burn",
-        b"2 1\n0 0\n",
-        Spares::Nothing,
-    )
-}
-
-#[test]
-fn identity_reports_out_of_memory(rt: HostRuntime) -> Result<(), Fail> {
-    let line = "sandpile identity --width 3 --height 3";
-    each_refused_of(&rt, rt.alloc(), line, b"", Spares::Nothing)
-}
-
-#[test]
-fn add_reports_out_of_memory(rt: HostRuntime) -> Result<(), Fail> {
-    let sum = b"2 1\n3 1\n2 1\n3 3\n";
-    each_refused_of(&rt, rt.alloc(), "sandpile add", sum, Spares::Nothing)
-}
-
-#[test]
-fn inverse_reports_out_of_memory(rt: HostRuntime) -> Result<(), Fail> {
-    each_refused_of(
-        &rt,
-        rt.alloc(),
-        "sandpile inverse",
-        b"2 1\n3 1\n",
-        Spares::Nothing,
-    )
-}
-
-#[test]
-fn recurrent_reports_out_of_memory(rt: HostRuntime) -> Result<(), Fail> {
-    each_refused_of(
-        &rt,
-        rt.alloc(),
-        "sandpile recurrent",
-        b"3 1\n5 0 1\n",
-        Spares::Nothing,
-    )
-}
-
-#[test]
-fn drops_reports_out_of_memory(rt: HostRuntime) -> Result<(), Fail> {
-    let full = b"3 3\n3 3 3\n3 3 3\n3 3 3\n4 0\n";
-    each_refused_of(&rt, rt.alloc(), "sandpile drops", full, Spares::Nothing)
-}
-
-#[test]
-fn drawn_drops_report_out_of_memory(rt: HostRuntime) -> Result<(), Fail> {
-    let line = "sandpile drops --count 3 --seed 7";
-    each_refused_of(&rt, rt.alloc(), line, b"3 1\n0 4 0\n", Spares::Nothing)
+fn commands_report_out_of_memory(rt: HostRuntime) -> Result<(), Fail> {
+    for case in COMMANDS {
+        each_refused_of(&rt, rt.alloc(), case, Spares::Nothing)?;
+    }
+    Ok(())
 }
 
 #[test]
 fn lab_reports_out_of_memory(rt: HostRuntime) -> Result<(), Fail> {
-    let line = "sandpile lab --droppers 2 --drops 3 --epochs 2";
-    each_refused_of(&rt, rt.alloc(), line, b"1 1\n0\n", Spares::Thread)
-}
-
-#[test]
-fn lab_of_a_pile_alone_reports_out_of_memory(rt: HostRuntime) -> Result<(), Fail> {
-    let line = "sandpile lab --droppers 2 --drops 3 --epochs 2 --pile";
-    each_refused_of(&rt, rt.alloc(), line, b"1 1\n0\n", Spares::Thread)
-}
-
-#[test]
-fn lab_with_a_journal_reports_out_of_memory(rt: HostRuntime) -> Result<(), Fail> {
-    let line = "sandpile lab --droppers 1 --drops 2 --journal";
-    each_refused_of(&rt, rt.alloc(), line, b"1 1\n0\n", Spares::Thread)
+    for case in RUNS {
+        each_refused_of(&rt, rt.alloc(), case, Spares::Thread)?;
+    }
+    Ok(())
 }

@@ -1,17 +1,38 @@
 //! The burning test and the group of recurrent piles.
 
-use crate::trying::{each_refused, fault_of};
-use sand_group::{Recurrent, act, add, burn, equivalent_recurrent, identity, inverse};
+use crate::trying::{came_to, each_refused};
+use sand_group::{Burned, Recurrent, act, add, burn, equivalent_recurrent, identity, inverse};
 use sand_model::Shape;
 use sand_testing::piles::open_pile;
 use std::alloc::Global;
 use std::test::Fail;
 
-// Two sites of so many grains, which are recurrent.
+// Two sites with these grains, which are recurrent.
 fn recurrent(alloc: Global, heights: [u64; 2]) -> Result<Recurrent, Fail> {
     let pile = open_pile(alloc, 2, 1, &heights)?;
     let recurrent = Recurrent::from_pile(alloc, &pile)?;
     Ok(recurrent)
+}
+
+fn has_heights(recurrent: &Recurrent, heights: &[u64]) -> bool {
+    recurrent.pile().heights() == heights
+}
+
+// The order of three sites in a row whose outer ones hold a grain: the one in the middle burns when both others have.
+fn is_order_of_three(burned: &Burned) -> bool {
+    match burned {
+        Burned::Recurrent(order) => {
+            order.as_slice() == [0, 2, 1].as_slice() || order.as_slice() == [2, 0, 1].as_slice()
+        }
+        Burned::Forbidden(_) => false,
+    }
+}
+
+fn is_forbidden(burned: &Burned, set: &[usize]) -> bool {
+    match burned {
+        Burned::Recurrent(_) => false,
+        Burned::Forbidden(sites) => sites.as_slice() == set,
+    }
 }
 
 #[test]
@@ -21,7 +42,7 @@ fn burn_of_a_recurrent_pile_reports_out_of_memory(rt: HostRuntime) -> Result<(),
         &rt,
         rt.alloc(),
         "burn, where the pile is recurrent",
-        |alloc: Global| fault_of!(burn(alloc, &pile)),
+        |alloc: Global| came_to!(burn(alloc, &pile), burned => is_order_of_three(&burned)),
     )
 }
 
@@ -32,7 +53,7 @@ fn burn_with_a_forbidden_set_reports_out_of_memory(rt: HostRuntime) -> Result<()
         &rt,
         rt.alloc(),
         "burn, where a set is forbidden",
-        |alloc: Global| fault_of!(burn(alloc, &pile)),
+        |alloc: Global| came_to!(burn(alloc, &pile), burned => is_forbidden(&burned, &[0, 1])),
     )
 }
 
@@ -40,7 +61,7 @@ fn burn_with_a_forbidden_set_reports_out_of_memory(rt: HostRuntime) -> Result<()
 fn from_pile_reports_out_of_memory(rt: HostRuntime) -> Result<(), Fail> {
     let pile = open_pile(rt.alloc(), 2, 1, &[3, 1])?;
     each_refused(&rt, rt.alloc(), "Recurrent::from_pile", |alloc: Global| {
-        fault_of!(Recurrent::from_pile(alloc, &pile))
+        came_to!(Recurrent::from_pile(alloc, &pile), pile => has_heights(&pile, &[3, 1]))
     })
 }
 
@@ -49,7 +70,7 @@ fn add_reports_out_of_memory(rt: HostRuntime) -> Result<(), Fail> {
     let first = recurrent(rt.alloc(), [3, 1])?;
     let second = recurrent(rt.alloc(), [0, 2])?;
     each_refused(&rt, rt.alloc(), "add", |alloc: Global| {
-        fault_of!(add(alloc, &first, &second))
+        came_to!(add(alloc, &first, &second), sum => has_heights(&sum, &[3, 3]))
     })
 }
 
@@ -57,7 +78,7 @@ fn add_reports_out_of_memory(rt: HostRuntime) -> Result<(), Fail> {
 fn identity_reports_out_of_memory(rt: HostRuntime) -> Result<(), Fail> {
     let shape = Shape::new(3, 3)?;
     each_refused(&rt, rt.alloc(), "identity", |alloc: Global| {
-        fault_of!(identity(alloc, shape))
+        came_to!(identity(alloc, shape), pile => has_heights(&pile, &[2, 1, 2, 1, 0, 1, 2, 1, 2]))
     })
 }
 
@@ -65,7 +86,7 @@ fn identity_reports_out_of_memory(rt: HostRuntime) -> Result<(), Fail> {
 fn inverse_reports_out_of_memory(rt: HostRuntime) -> Result<(), Fail> {
     let pile = recurrent(rt.alloc(), [3, 1])?;
     each_refused(&rt, rt.alloc(), "inverse", |alloc: Global| {
-        fault_of!(inverse(alloc, &pile))
+        came_to!(inverse(alloc, &pile), pile => has_heights(&pile, &[0, 2]))
     })
 }
 
@@ -74,7 +95,7 @@ fn act_reports_out_of_memory(rt: HostRuntime) -> Result<(), Fail> {
     let pile = recurrent(rt.alloc(), [3, 3])?;
     assert!(rt; pile.pile().shape().sites() > 0);
     each_refused(&rt, rt.alloc(), "act", |alloc: Global| {
-        fault_of!(act(alloc, &pile, 0))
+        came_to!(act(alloc, &pile, 0), pile => has_heights(&pile, &[1, 0]))
     })
 }
 
@@ -82,6 +103,6 @@ fn act_reports_out_of_memory(rt: HostRuntime) -> Result<(), Fail> {
 fn equivalent_recurrent_reports_out_of_memory(rt: HostRuntime) -> Result<(), Fail> {
     let pile = open_pile(rt.alloc(), 3, 1, &[5, 0, 1])?;
     each_refused(&rt, rt.alloc(), "equivalent_recurrent", |alloc: Global| {
-        fault_of!(equivalent_recurrent(alloc, &pile))
+        came_to!(equivalent_recurrent(alloc, &pile), pile => has_heights(&pile, &[1, 1, 1]))
     })
 }

@@ -2,13 +2,17 @@
 //! refused.
 //!
 //! A call is made again and again. First its first request for memory is refused, then its second, and so on until none is.
-//! Each time it returns out of memory and nothing else. Then it is made once more on the same things, and works. That it
-//! leaves what it borrowed unchanged is proved, and so is what it returns.
+//! Each time it returns out of memory and nothing else, and leaves what it was lent unchanged. Then it is made once more on the
+//! same things, and returns what it returns undisturbed: values that were worked out by hand.
 //!
 //! No program can refuse itself memory. `refusals/run`, which the gate calls, loads a library that does; under `rt ci`
-//! alone nothing is refused, and each call is only made twice. Each trial prints how many requests of its call were refused.
+//! alone nothing is refused, and each call is made once. Each trial prints how many requests of its call were refused.
 #![tactic(auto)]
 
+#[cfg(test)]
+mod bare;
+#[cfg(test)]
+mod closing;
 #[cfg(test)]
 mod commands;
 #[cfg(test)]
@@ -20,6 +24,8 @@ mod passes;
 mod piles;
 #[cfg(test)]
 mod quiet;
+#[cfg(test)]
+mod records;
 #[cfg(test)]
 mod runs;
 #[cfg(test)]

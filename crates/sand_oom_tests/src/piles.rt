@@ -1,6 +1,6 @@
-//! Shapes have no memory; piles are made and copied.
+//! Piles are made and copied.
 
-use crate::trying::{each_refused, fault_of};
+use crate::trying::{came_to, each_refused};
 use sand_model::{Pile, Shape};
 use sand_testing::piles::open_pile;
 use std::alloc::Global;
@@ -15,7 +15,7 @@ pub fn full(alloc: Global) -> Result<Pile, Fail> {
 fn new_pile_reports_out_of_memory(rt: HostRuntime) -> Result<(), Fail> {
     let shape = Shape::new(3, 1)?;
     each_refused(&rt, rt.alloc(), "Pile::new", |alloc: Global| {
-        fault_of!(Pile::new(alloc, shape, &[0, 4, 0]))
+        came_to!(Pile::new(alloc, shape, &[0, 4, 0]), pile => pile.heights() == [0, 4, 0].as_slice())
     })
 }
 
@@ -23,6 +23,6 @@ fn new_pile_reports_out_of_memory(rt: HostRuntime) -> Result<(), Fail> {
 fn copy_of_a_pile_reports_out_of_memory(rt: HostRuntime) -> Result<(), Fail> {
     let pile = full(rt.alloc())?;
     each_refused(&rt, rt.alloc(), "Pile::copy", |alloc: Global| {
-        fault_of!(pile.copy(alloc))
+        came_to!(pile.copy(alloc), copy => copy.heights() == [3; 9].as_slice())
     })
 }

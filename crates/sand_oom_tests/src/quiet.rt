@@ -2,15 +2,30 @@
 
 use crate::memory::{refuse, was_refused};
 use crate::piles::full;
+use crate::settling::is_after_the_drop;
+use sand_desk::laws::{drops_of_one_dropper, one_lab_text, one_number};
 use sand_desk::{DeskFault, read_pile, status, write_fault};
-use sand_group::Recurrent;
-use sand_lab::{Album, Gate, Open, Plan, Role, Wish};
+use sand_group::laws::{
+    burning_decides, equivalents_add_up, is_group, one_in_each_class, recurrent_from_full,
+    settling_is_adding,
+};
+use sand_group::{GroupFault, Recurrent};
+use sand_lab::laws::one_outcome;
+use sand_lab::{Album, Gate, LabFault, Open, Plan, Role, Wish};
+use sand_model::laws::{
+    abelian, each_settles, laplacian_sum, least_action, least_if_tight, over_integers,
+    settled_once, settles_after, weight_falls,
+};
 use sand_model::{Edge, GRAIN_LIMIT, Pile, Shape, topple};
-use sand_settle::{OnePile, settle};
-use sand_shared::{SharedPile, SiteCounts};
+use sand_settle::laws::drops_add_up;
+use sand_settle::{OneFault, OnePile, SettleFault, settle};
+use sand_shared::laws::{always_lawful, lawful_at_every_moment, one_sweep, words_are_small};
+use sand_shared::{CloseFault, JoinFault, SharedFault, SharedPile, SiteCounts, SplitFault};
 use sand_testing::piles::{one_site, open_pile};
+use sand_testing::records::is_record;
 use sand_testing::runs::{QUIET, run_into};
 use sand_testing::shared::closed;
+use std::alloc::AllocError;
 use std::test::Fail;
 
 #[test]
@@ -86,13 +101,9 @@ fn piles_of_one_thread_take_no_memory(rt: HostRuntime) -> Result<(), Fail> {
     assert!(rt; one.pile().shape().sites() == 9);
     one.drop_at(alloc, 4)?;
     refuse(alloc, 0);
-    assert_eq!(rt; (one.tally(), one.height(4), one.odometer(4)), (1, 0, 2));
-    assert_eq!(rt; (one.topplings(), one.lost()), (10, 12));
-    assert!(rt; one.pile().heights() == [1, 3, 1, 3, 0, 3, 1, 3, 1].as_slice());
-    assert!(rt; one.odometers() == [1, 1, 1, 1, 2, 1, 1, 1, 1].as_slice());
-    // The first drop made room for all others.
+    assert!(rt; is_after_the_drop(&one));
     assert!(rt; one.pile().shape().sites() == 9);
-    assert!(rt; one.drop_at(alloc, 4).is_ok() && one.tally() == 2);
+    assert_eq!(rt; (one.height(4), one.odometer(4)), (0, 2));
     assert!(rt; !was_refused(alloc));
     Ok(())
 }
@@ -173,14 +184,8 @@ fn records_take_no_memory(rt: HostRuntime) -> Result<(), Fail> {
     let record = closed(alloc, pile, pass)?;
     assert!(rt; record.start().shape().sites() == 1);
     refuse(alloc, 0);
-    assert!(rt; record.start().heights() == [3].as_slice());
-    assert!(rt; record.history() == [0].as_slice());
-    assert!(rt; record.pile().heights() == [0].as_slice());
-    assert!(rt; record.odometers() == [1].as_slice());
-    assert_eq!(rt;
-        (record.odometer(0), record.topplings(), record.lost()),
-        (1, 1, 4)
-    );
+    assert!(rt; record.start().heights() == [3].as_slice() && record.odometer(0) == 1);
+    assert!(rt; is_record(&record, &[0], &[0], &[1], 4));
     assert!(rt; !was_refused(alloc));
     Ok(())
 }
@@ -232,6 +237,77 @@ fn albums_and_reports_take_no_memory(rt: HostRuntime) -> Result<(), Fail> {
     assert!(rt; !was_refused(alloc));
     drop((note, known));
     Ok(())
+}
+
+#[test]
+fn laws_of_piles_take_no_memory(rt: HostRuntime) {
+    let alloc = rt.alloc();
+    refuse(alloc, 0);
+    least_action();
+    weight_falls();
+    laplacian_sum();
+    each_settles();
+    abelian();
+    settles_after();
+    settled_once();
+    least_if_tight();
+    over_integers();
+    drops_add_up();
+    assert!(rt; !was_refused(alloc));
+}
+
+#[test]
+fn laws_of_the_group_take_no_memory(rt: HostRuntime) {
+    let alloc = rt.alloc();
+    refuse(alloc, 0);
+    burning_decides();
+    recurrent_from_full();
+    one_in_each_class();
+    settling_is_adding();
+    is_group();
+    equivalents_add_up();
+    assert!(rt; !was_refused(alloc));
+}
+
+#[test]
+fn laws_of_shared_piles_and_runs_take_no_memory(rt: HostRuntime) {
+    let alloc = rt.alloc();
+    refuse(alloc, 0);
+    always_lawful();
+    lawful_at_every_moment();
+    words_are_small();
+    one_sweep();
+    one_outcome();
+    one_lab_text();
+    drops_of_one_dropper();
+    one_number();
+    assert!(rt; !was_refused(alloc));
+}
+
+// Those of the other faults are looked up above, with what returns them.
+#[test]
+fn numbers_of_faults_take_no_memory(rt: HostRuntime) {
+    let alloc = rt.alloc();
+    refuse(alloc, 0);
+    assert_eq!(rt;
+        [
+            SettleFault::Memory(AllocError).number(),
+            OneFault::Full.number(),
+            GroupFault::NotRecurrent.number(),
+            SharedFault::TooManyGrains.number(),
+        ],
+        [4, 6, 8, 3]
+    );
+    assert_eq!(rt;
+        [
+            SplitFault::Rows.number(),
+            JoinFault::Apart.number(),
+            CloseFault::Missing.number(),
+            LabFault::Taken.number(),
+        ],
+        [11, 12, 14, 17]
+    );
+    assert!(rt; !was_refused(alloc));
 }
 
 #[test]

@@ -6,10 +6,13 @@ ghost use Rattle.std.specs.Prelude.{◌≡◌};
 ghost use Rattle.sand_lab.specs.Albums.{IsPlace};
 
 use crate::memory::{refuse, was_refused};
-use crate::trying::{MOST_REQUESTS, Spares, each_number, each_refused, fault_of, tell_refused};
+use crate::trying::{
+    MOST_REQUESTS, Spares, Tried, came_to, each_number, each_refused, tell_refused,
+};
 use sand_desk::{journal_text, lab_text};
 use sand_lab::{Album, LabFault, Note, Open, Report, Wish, sites_of};
 use sand_model::{Pile, Shape};
+use sand_shared::Record;
 use sand_testing::piles::{one_site, open_pile};
 use sand_testing::runs::{QUIET, run_into};
 use std::alloc::Global;
@@ -17,72 +20,195 @@ use std::process::Abort;
 use std::test::Fail;
 use std::thread::Threads;
 
-const TWO_EPOCHS: Wish = Wish {
-    droppers: 2,
-    drops: 3,
-    epochs: 2,
-    ..QUIET
+// What a record shows of a pile whose sites are all alike: the drops, the height of each site, how often each toppled, and the
+// grains lost.
+#[derive(Clone, Copy)]
+struct Left {
+    drops: usize,
+    height: u64,
+    toppled: u64,
+    lost: u64,
+}
+
+// A run of two epochs on a pile whose sites are all alike, and what each epoch leaves, and both.
+#[derive(Clone, Copy)]
+struct Trial {
+    name: &'static str,
+    wish: Wish,
+    first: Left,
+    second: Left,
+    total: Left,
+}
+
+// On one empty site.
+const TWO_EPOCHS: Trial = Trial {
+    name: "run",
+    wish: Wish {
+        droppers: 2,
+        drops: 3,
+        epochs: 2,
+        ..QUIET
+    },
+    first: Left {
+        drops: 6,
+        height: 2,
+        toppled: 1,
+        lost: 4,
+    },
+    second: Left {
+        drops: 6,
+        height: 0,
+        toppled: 2,
+        lost: 8,
+    },
+    total: Left {
+        drops: 12,
+        height: 0,
+        toppled: 3,
+        lost: 12,
+    },
 };
 
-const MANY: Wish = Wish {
-    seed: 7,
-    droppers: 3,
-    drops: 4,
-    epochs: 2,
-    workers: 2,
-    sweeps: 2,
-    observers: 2,
+// On one site of three grains.
+const MANY: Trial = Trial {
+    name: "run, with workers and observers",
+    wish: Wish {
+        seed: 7,
+        droppers: 3,
+        drops: 4,
+        epochs: 2,
+        workers: 2,
+        sweeps: 2,
+        observers: 2,
+    },
+    first: Left {
+        drops: 12,
+        height: 3,
+        toppled: 3,
+        lost: 12,
+    },
+    second: Left {
+        drops: 12,
+        height: 3,
+        toppled: 3,
+        lost: 12,
+    },
+    total: Left {
+        drops: 24,
+        height: 3,
+        toppled: 6,
+        lost: 24,
+    },
+};
+
+// On two by two sites of four grains, of which each worker has a row.
+const ROWS: Trial = Trial {
+    name: "run, with a row for each worker",
+    wish: Wish {
+        epochs: 2,
+        workers: 2,
+        sweeps: 2,
+        ..QUIET
+    },
+    first: Left {
+        drops: 0,
+        height: 2,
+        toppled: 1,
+        lost: 8,
+    },
+    second: Left {
+        drops: 0,
+        height: 2,
+        toppled: 0,
+        lost: 0,
+    },
+    total: Left {
+        drops: 0,
+        height: 2,
+        toppled: 1,
+        lost: 8,
+    },
 };
 
 #[test]
 fn sites_of_reports_out_of_memory(rt: HostRuntime) -> Result<(), Fail> {
-    let shape = Shape::new(3, 3)?;
-    each_refused(&rt, rt.alloc(), "sites_of", |alloc: Global| {
-        fault_of!(sites_of(alloc, shape, 7, 1, 40))
-    })
+    let shape = Shape::new(1, 1)?;
+    each_refused(
+        &rt,
+        rt.alloc(),
+        "sites_of",
+        |alloc: Global| came_to!(sites_of(alloc, shape, 7, 1, 40), sites => sites.as_slice() == [0; 40].as_slice()),
+    )
 }
 
 #[test]
 fn new_album_reports_out_of_memory(rt: HostRuntime) -> Result<(), Fail> {
-    each_refused(&rt, rt.alloc(), "Album::new", |alloc: Global| {
-        fault_of!(Album::new(alloc, 5))
-    })
+    each_refused(
+        &rt,
+        rt.alloc(),
+        "Album::new",
+        |alloc: Global| came_to!(Album::new(alloc, 5), album => album.places() == 5),
+    )
 }
 
-// The number of the fault of a run into an album, if there was one.
-fn run_fault<R: Threads + Sync>(
+fn are_all(numbers: &[u64], number: u64) -> bool {
+    numbers.iter().all(|other| *other == number)
+}
+
+fn is_left(record: &Record, left: Left) -> bool {
+    record.history().len() == left.drops
+        && are_all(record.pile().heights(), left.height)
+        && are_all(record.odometers(), left.toppled)
+        && record.lost() == left.lost
+}
+
+fn is_report(report: &Report, trial: &Trial) -> bool {
+    match report.records() {
+        [first, second] => {
+            is_left(first, trial.first)
+                && is_left(second, trial.second)
+                && is_left(report.total(), trial.total)
+        }
+        _ => false,
+    }
+}
+
+// What a run into an album comes to.
+fn run_once<R: Threads + Sync>(
     rt: &R,
     alloc: Global,
     start: &Pile,
-    wish: Wish,
+    trial: &Trial,
     album: &Album,
-) -> Option<u32> {
-    fault_of!(run_into(rt, alloc, start, wish, &Open, album))
+) -> Result<bool, u32> {
+    came_to!(run_into(rt, alloc, start, trial.wish, &Open, album), report => is_report(&report, trial))
 }
 
 // Tries a run, each time with an album of its own.
 fn each_refused_of_a_run<R: Threads + Sync + Print + Abort>(
     rt: &R,
     alloc: Global,
-    name: &str,
     start: &Pile,
-    wish: Wish,
+    trial: &Trial,
 ) -> Result<(), Fail> {
     each_number(
         rt,
         alloc,
-        name,
+        trial.name,
         Spares::Thread,
         |alloc: Global, number: u32| {
-            let album = Album::new(alloc, wish.epochs)?;
-            let other = Album::new(alloc, wish.epochs)?;
+            let album = Album::new(alloc, 2)?;
+            let other = Album::new(alloc, 2)?;
             refuse(alloc, number);
-            let fault = run_fault(rt, alloc, start, wish, &album);
+            let tried = run_once(rt, alloc, start, trial, &album);
             was_refused(alloc);
-            if fault.is_some() && run_fault(rt, alloc, start, wish, &other).is_some() {
-                return Err("a run that fails though it has its memory".into());
-            }
-            Ok(fault)
+            Ok(match tried {
+                Ok(is_right) => Tried::done(is_right),
+                Err(fault) => Tried::failed(
+                    fault,
+                    run_once(rt, alloc, start, trial, &other) == Ok(true),
+                ),
+            })
         },
     )
 }
@@ -90,19 +216,19 @@ fn each_refused_of_a_run<R: Threads + Sync + Print + Abort>(
 #[test]
 fn run_reports_out_of_memory(rt: HostRuntime) -> Result<(), Fail> {
     let start = one_site(rt.alloc(), 0)?;
-    each_refused_of_a_run(&rt, rt.alloc(), "run", &start, TWO_EPOCHS)
+    each_refused_of_a_run(&rt, rt.alloc(), &start, &TWO_EPOCHS)
 }
 
 #[test]
 fn run_of_many_threads_reports_out_of_memory(rt: HostRuntime) -> Result<(), Fail> {
-    let start = open_pile(rt.alloc(), 3, 3, &[3; 9])?;
-    each_refused_of_a_run(
-        &rt,
-        rt.alloc(),
-        "run, with workers and observers",
-        &start,
-        MANY,
-    )
+    let start = one_site(rt.alloc(), 3)?;
+    each_refused_of_a_run(&rt, rt.alloc(), &start, &MANY)
+}
+
+#[test]
+fn run_with_rows_for_workers_reports_out_of_memory(rt: HostRuntime) -> Result<(), Fail> {
+    let start = open_pile(rt.alloc(), 2, 2, &[4; 4])?;
+    each_refused_of_a_run(&rt, rt.alloc(), &start, &ROWS)
 }
 
 // The height of the first site in the picture at a place.
@@ -125,7 +251,8 @@ fn heights_in(album: &Album) -> (Option<u64>, Option<u64>) {
 }
 
 // Whether a run, with the request of this number refused, fails between the first epoch and the second. What is seen of the
-// album is then the first, also after one more run, which returns that the place of the first was set before.
+// album is then the first, also after one more run, which returns that the place of the first was set before. With another
+// album the run is made as ever.
 fn published_once<R: Threads + Sync + Abort>(
     rt: &R,
     alloc: Global,
@@ -133,16 +260,18 @@ fn published_once<R: Threads + Sync + Abort>(
     number: u32,
 ) -> Result<bool, Fail> {
     let album = Album::new(alloc, 2)?;
+    let other = Album::new(alloc, 2)?;
     refuse(alloc, number);
-    let fault = run_fault(rt, alloc, start, TWO_EPOCHS, &album);
+    let tried = run_once(rt, alloc, start, &TWO_EPOCHS, &album);
     was_refused(alloc);
     let (first, second) = heights_in(&album);
-    if fault.is_none() || first.is_none() || second.is_some() {
+    if tried.is_ok() || first.is_none() || second.is_some() {
         return Ok(false);
     }
-    assert_eq!(rt; first, Some(2));
-    assert_eq!(rt; run_fault(rt, alloc, start, TWO_EPOCHS, &album), Some(17));
+    assert_eq!(rt; (tried, first), (Err(4), Some(2)));
+    assert_eq!(rt; run_once(rt, alloc, start, &TWO_EPOCHS, &album), Err(17));
     assert_eq!(rt; heights_in(&album), (Some(2), None));
+    assert_eq!(rt; run_once(rt, alloc, start, &TWO_EPOCHS, &other), Ok(true));
     Ok(true)
 }
 
@@ -163,26 +292,37 @@ fn the_first_epoch_stays_published_if_the_second_fails(rt: HostRuntime) -> Resul
     Err("a run that makes requests without end".into())
 }
 
-// The report of a run over two epochs.
+// The report of a run of one dropper, which drops two grains.
 fn report_of<R: Threads + Sync>(rt: &R, alloc: Global) -> Result<Report, Fail> {
     let start = one_site(alloc, 0)?;
-    let album = Album::new(alloc, 2)?;
-    let report = run_into(rt, alloc, &start, TWO_EPOCHS, &Open, &album)?;
+    let album = Album::new(alloc, 1)?;
+    let wish = Wish { drops: 2, ..QUIET };
+    let report = run_into(rt, alloc, &start, wish, &Open, &album)?;
     Ok(report)
+}
+
+fn is_lab_text(text: &[u8]) -> bool {
+    text == b"epoch drops topplings lost grains\n0 2 0 0 2\ntotal 2 0 0 2\n1 1\n2\nodometer\n0\n".as_slice()
 }
 
 #[test]
 fn lab_text_reports_out_of_memory(rt: HostRuntime) -> Result<(), Fail> {
     let report = report_of(&rt, rt.alloc())?;
-    each_refused(&rt, rt.alloc(), "lab_text", |alloc: Global| {
-        fault_of!(lab_text(alloc, &report))
-    })
+    each_refused(
+        &rt,
+        rt.alloc(),
+        "lab_text",
+        |alloc: Global| came_to!(lab_text(alloc, &report), text => is_lab_text(text.as_slice())),
+    )
 }
 
 #[test]
 fn journal_text_reports_out_of_memory(rt: HostRuntime) -> Result<(), Fail> {
     let report = report_of(&rt, rt.alloc())?;
-    each_refused(&rt, rt.alloc(), "journal_text", |alloc: Global| {
-        fault_of!(journal_text(alloc, &report))
-    })
+    each_refused(
+        &rt,
+        rt.alloc(),
+        "journal_text",
+        |alloc: Global| came_to!(journal_text(alloc, &report), text => text.as_slice() == b"journal\n0 0 0 0\n0 1 0 0\n".as_slice()),
+    )
 }

@@ -2,56 +2,107 @@
 
 use crate::memory::{refuse, was_refused};
 use crate::piles::full;
-use crate::trying::{Spares, each_number, each_refused, fault_of};
-use sand_settle::{OnePile, settle};
+use crate::trying::{Spares, Tried, came_to, each_number, each_refused};
+use sand_model::Pile;
+use sand_settle::{Avalanche, OnePile, Settled, settle};
 use sand_testing::piles::open_pile;
 use std::alloc::Global;
 use std::test::Fail;
 
-#[test]
-fn settle_reports_out_of_memory(rt: HostRuntime) -> Result<(), Fail> {
-    let pile = open_pile(rt.alloc(), 2, 1, &[4, 4])?;
-    each_refused(&rt, rt.alloc(), "settle", |alloc: Global| {
-        fault_of!(settle(alloc, &pile))
-    })
+fn is_settled(settled: &Settled, heights: &[u64], odometer: &[u64], lost: u64) -> bool {
+    settled.pile().heights() == heights && settled.odometers() == odometer && settled.lost() == lost
 }
 
 #[test]
-fn settle_by_a_guess_reports_out_of_memory(rt: HostRuntime) -> Result<(), Fail> {
-    let mut heights = [0; 256];
+fn settle_reports_out_of_memory(rt: HostRuntime) -> Result<(), Fail> {
+    let pile = open_pile(rt.alloc(), 2, 1, &[4, 4])?;
+    each_refused(
+        &rt,
+        rt.alloc(),
+        "settle",
+        |alloc: Global| came_to!(settle(alloc, &pile), settled => is_settled(&settled, &[1, 1], &[1, 1], 6)),
+    )
+}
+
+// A pile that is high in the middle, of a list that the proofs need not go through place by place.
+fn heap(alloc: Global) -> Result<Pile, Fail> {
+    let mut heights = vec![in alloc; 0u64; 256]?;
     heights[120] = 100_000;
-    let pile = open_pile(rt.alloc(), 16, 16, &heights)?;
-    each_refused(&rt, rt.alloc(), "settle, by a guess", |alloc: Global| {
-        fault_of!(settle(alloc, &pile))
-    })
+    open_pile(alloc, 16, 16, heights.as_slice())
+}
+
+// No grain is left over or missing.
+#[test]
+fn settle_by_a_guess_reports_out_of_memory(rt: HostRuntime) -> Result<(), Fail> {
+    let pile = heap(rt.alloc())?;
+    each_refused(
+        &rt,
+        rt.alloc(),
+        "settle, by a guess",
+        |alloc: Global| came_to!(settle(alloc, &pile), settled => settled.pile().grains().wrapping_add(settled.lost()) == 100_000),
+    )
+}
+
+fn is_one_pile(one: &OnePile, tally: u64, heights: &[u64], odometer: &[u64], lost: u64) -> bool {
+    one.tally() == tally
+        && one.pile().heights() == heights
+        && one.odometers() == odometer
+        && one.lost() == lost
 }
 
 #[test]
 fn new_one_pile_reports_out_of_memory(rt: HostRuntime) -> Result<(), Fail> {
     let pile = open_pile(rt.alloc(), 2, 1, &[4, 4])?;
-    each_refused(&rt, rt.alloc(), "OnePile::new", |alloc: Global| {
-        fault_of!(OnePile::new(alloc, &pile))
-    })
+    each_refused(
+        &rt,
+        rt.alloc(),
+        "OnePile::new",
+        |alloc: Global| came_to!(OnePile::new(alloc, &pile), one => is_one_pile(&one, 0, &[1, 1], &[1, 1], 6)),
+    )
 }
 
-// The number of the fault of a first drop, if there was one.
-fn drop_fault(alloc: Global, one: &mut OnePile) -> Option<u32> {
+/// Whether one grain was dropped in the middle of nine sites that hold three grains each, and nothing else.
+pub fn is_after_the_drop(one: &OnePile) -> bool {
+    let heights = [1, 3, 1, 3, 0, 3, 1, 3, 1];
+    let odometer = [1, 1, 1, 1, 2, 1, 1, 1, 1];
+    is_one_pile(one, 1, &heights, &odometer, 12) && one.topplings() == 10
+}
+
+// The drop in the middle of nine sites that hold three grains each.
+const MIDDLE: Avalanche = Avalanche {
+    site: 4,
+    size: 10,
+    area: 9,
+    reach: 2,
+    lost: 12,
+};
+
+// Drops in the middle. Returns whether the drop and the pile after it are right, or the number of the fault.
+fn drop_in_the_middle(alloc: Global, one: &mut OnePile) -> Result<bool, u32> {
     if one.pile().shape().sites() <= 4 {
-        return Some(0);
+        return Ok(false);
     }
-    fault_of!(one.drop_at(alloc, 4))
+    match one.drop_at(alloc, 4) {
+        Ok((number, avalanche)) => {
+            Ok(number == 0 && avalanche == MIDDLE && is_after_the_drop(one))
+        }
+        Err(fault) => Err(fault.number()),
+    }
 }
 
-fn drop_once(alloc: Global, number: u32) -> Result<Option<u32>, Fail> {
-    let start = full(alloc)?;
-    let mut one = OnePile::new(alloc, &start)?;
+fn drop_once(alloc: Global, number: u32) -> Result<Tried, Fail> {
+    let mut one = OnePile::new(alloc, &full(alloc)?)?;
     refuse(alloc, number);
-    let fault = drop_fault(alloc, &mut one);
+    let tried = drop_in_the_middle(alloc, &mut one);
     was_refused(alloc);
-    if fault.is_some() && drop_fault(alloc, &mut one).is_some() {
-        return Err("a drop that fails though it has its memory".into());
+    match tried {
+        Ok(is_right) => Ok(Tried::done(is_right)),
+        Err(fault) => {
+            let is_unchanged = is_one_pile(&one, 0, &[3; 9], &[0; 9], 0);
+            let is_right = drop_in_the_middle(alloc, &mut one) == Ok(true);
+            Ok(Tried::failed(fault, is_unchanged && is_right))
+        }
     }
-    Ok(fault)
 }
 
 #[test]

@@ -11,17 +11,45 @@ pub const MOST_REQUESTS: u32 = 100_000;
 /// The number of the fault out of memory.
 pub const MEMORY: u32 = 4;
 
-/// The number of the fault that a call returned, if it returned one.
-macro_rules! fault_of {
-    ($tried:expr) => {
-        match $tried {
-            Ok(_) => None,
-            Err(fault) => Some(fault.number()),
+/// What a call came to: whether its value is the right one, or the number of its fault.
+macro_rules! came_to {
+    ($call:expr, $value:ident => $is_right:expr) => {
+        match $call {
+            Ok($value) => Ok($is_right),
+            Err(fault) => Err(fault.number()),
         }
     };
 }
 
-pub(crate) use fault_of;
+pub(crate) use came_to;
+
+/// One try of a call, with a request refused.
+#[derive(Clone, Copy)]
+pub struct Tried {
+    /// The number of the fault, if there was one.
+    pub fault: Option<u32>,
+    /// Whether all that was compared is right: what the call returned, and what it left. If it failed, that is what the call
+    /// returned that was made once more on the same things.
+    pub is_right: bool,
+}
+
+impl Tried {
+    /// A call that worked.
+    pub fn done(is_right: bool) -> Tried {
+        Tried {
+            fault: None,
+            is_right,
+        }
+    }
+
+    /// A call that failed, and was made once more.
+    pub fn failed(fault: u32, is_right: bool) -> Tried {
+        Tried {
+            fault: Some(fault),
+            is_right,
+        }
+    }
+}
 
 /// What a call may do without if its request for memory is refused.
 #[derive(Clone, Copy, Debug, PartialEq, Eq)]
@@ -49,7 +77,7 @@ pub fn tell_refused<R: Print + Abort>(
 }
 
 /// Tries a call. `once` makes the call with the request of this number refused, and if it fails once more with all its
-/// memory; it returns the number of the fault, if there was one.
+/// memory, on the same things.
 pub fn each_number<R, C>(
     rt: &R,
     alloc: Global,
@@ -59,13 +87,14 @@ pub fn each_number<R, C>(
 ) -> Result<(), Fail>
 where
     R: Print + Abort,
-    C: Fn(Global, u32) -> Result<Option<u32>, Fail>,
+    C: Fn(Global, u32) -> Result<Tried, Fail>,
     requires { C.IsAlwaysCallable once }
 {
     let mut spared = 0u32;
     for number in 1..MOST_REQUESTS {
-        let fault = once(alloc, number)?;
+        let Tried { fault, is_right } = once(alloc, number)?;
         let was_refused = was_refused(alloc);
+        assert!(rt; is_right, "{name} is wrong at request {number}");
         if !was_refused {
             assert!(rt; fault.is_none(), "{name} was refused nothing");
             return tell_refused(rt, alloc, name, number - 1, spared);
@@ -84,28 +113,25 @@ where
     Err("a call that makes requests without end".into())
 }
 
-// A call that changes nothing: with the request of this number refused, and if it fails once more.
-fn again<C: Fn(Global) -> Option<u32>>(
-    alloc: Global,
-    number: u32,
-    call: &C,
-) -> Result<Option<u32>, Fail>
+/// One try of a call that changes nothing that it is lent.
+pub fn again<C: Fn(Global) -> Result<bool, u32>>(alloc: Global, number: u32, call: &C) -> Tried
     requires { C.IsAlwaysCallable call.now }
 {
     refuse(alloc, number);
-    let fault = call(alloc);
+    let tried = call(alloc);
     was_refused(alloc);
-    if fault.is_some() && call(alloc).is_some() {
-        return Err("a call that fails though it has its memory".into());
+    match tried {
+        Ok(is_right) => Tried::done(is_right),
+        Err(fault) => Tried::failed(fault, call(alloc) == Ok(true)),
     }
-    Ok(fault)
 }
 
-/// Tries a call that changes nothing that it is lent. It returns the number of its fault, if there was one.
+/// Tries a call that changes nothing that it is lent. It returns whether its value is the right one, or the number of its
+/// fault.
 pub fn each_refused<R, C>(rt: &R, alloc: Global, name: &str, call: C) -> Result<(), Fail>
 where
     R: Print + Abort,
-    C: Fn(Global) -> Option<u32>,
+    C: Fn(Global) -> Result<bool, u32>,
     requires { C.IsAlwaysCallable call }
 {
     each_number(
@@ -113,6 +139,6 @@ where
         alloc,
         name,
         Spares::Nothing,
-        |alloc: Global, number: u32| again(alloc, number, &call),
+        |alloc: Global, number: u32| Ok(again(alloc, number, &call)),
     )
 }

@@ -1,0 +1,158 @@
+//! Records: copied, shared, and grown by one that follows.
+
+ghost use Rattle.std.specs.Prelude.{◌≡◌, ◌+◌, ◌<◌, ◌≤◌, length, sum, IfOk, OnErr};
+ghost use Rattle.sand_model.specs.Grid.{sites};
+ghost use Rattle.sand_model.specs.Piles.{most_grains};
+ghost use Rattle.sand_shared.specs.OpenPile.{grid_of_terms};
+ghost use Rattle.sand_shared.specs.Passes.{IsPassOf};
+
+use crate::memory::{refuse, was_refused};
+use crate::trying::{MEMORY, Spares, Tried, came_to, each_number, each_refused};
+use sand_model::{GRAIN_LIMIT, Pile};
+use sand_shared::{Pass, Record, SharedPile};
+use sand_testing::piles::one_site;
+use sand_testing::records::is_record;
+use std::alloc::Global;
+use std::test::Fail;
+
+// Drops up to three grains on the first site: as many as the pass has left.
+fn drop_three(pile: &SharedPile, pass: &mut Pass)
+    requires pass { IsPassOf pile.now pass.old }
+    requires site { 0 < sites (grid_of_terms pile.now.terms) }
+    ensures { IsPassOf pile.now pass.new }
+{
+    let _ = pile.drop_at(pass, 0);
+    let _ = pile.drop_at(pass, 0);
+    let _ = pile.drop_at(pass, 0);
+}
+
+// The record of this many grains on the first site, three at most.
+fn record_of(alloc: Global, start: &Pile, drops: u64) -> Result<Record, Fail>
+    ensures { IfOk result (λ r. r.start ≡ start.now) }
+{
+    if start.shape().sites() == 0 {
+        return Err("a pile without sites".into());
+    }
+    let (pile, mut pass) = SharedPile::new(alloc, start, drops)?;
+    drop_three(&pile, &mut pass);
+    let record = pile.close(alloc, pass).ok().ok_or("close")?;
+    Ok(record)
+}
+
+// Three drops on an empty site, and one more. The fourth topples the site.
+fn three_and_one(alloc: Global) -> Result<(Record, Record), Fail>
+    ensures follows { IfOk result (λ r. r.1.start ≡ r.0.settled.pile) }
+    ensures limit { IfOk result (λ r. sum r.0.start.heights + (length r.0.history + length r.1.history) ≤ most_grains) }
+{
+    let start = one_site(alloc, 0)?;
+    let three = record_of(alloc, &start, 3)?;
+    let one = record_of(alloc, three.pile(), 1)?;
+    if three.start().grains() + (three.history().len() + one.history().len()) as u64 > GRAIN_LIMIT {
+        return Err("too many grains".into());
+    }
+    Ok((three, one))
+}
+
+fn is_three(record: &Record) -> bool {
+    is_record(record, &[0; 3], &[3], &[0], 0)
+}
+
+fn is_four(record: &Record) -> bool {
+    is_record(record, &[0; 4], &[0], &[1], 4)
+}
+
+#[test]
+fn copy_of_a_record_reports_out_of_memory(rt: HostRuntime) -> Result<(), Fail> {
+    let three = record_of(rt.alloc(), &one_site(rt.alloc(), 0)?, 3)?;
+    each_refused(
+        &rt,
+        rt.alloc(),
+        "Record::copy",
+        |alloc: Global| came_to!(three.copy(alloc), copy => is_three(&copy)),
+    )
+}
+
+#[test]
+fn followed_by_reports_out_of_memory(rt: HostRuntime) -> Result<(), Fail> {
+    let (three, one) = three_and_one(rt.alloc())?;
+    each_refused(
+        &rt,
+        rt.alloc(),
+        "Record::followed_by",
+        |alloc: Global| came_to!(three.followed_by(alloc, &one), four => is_four(&four)),
+    )
+}
+
+// The record of a failed call is gone.
+#[test]
+fn twice_reports_out_of_memory(rt: HostRuntime) -> Result<(), Fail> {
+    each_number(
+        &rt,
+        rt.alloc(),
+        "Record::twice",
+        Spares::Nothing,
+        twice_once,
+    )
+}
+
+fn twice_once(alloc: Global, number: u32) -> Result<Tried, Fail> {
+    let three = record_of(alloc, &one_site(alloc, 0)?, 3)?;
+    refuse(alloc, number);
+    let tried = three.twice(alloc);
+    was_refused(alloc);
+    match tried {
+        Ok((first, second)) => Ok(Tried::done(is_three(&first) && is_three(&second))),
+        Err(_) => Ok(Tried::failed(MEMORY, true)),
+    }
+}
+
+// Appends a record to one of three drops. Returns whether the record is right then, or the number of the fault.
+fn append(alloc: Global, three: &mut Record, one: &Record) -> Result<bool, u32>
+    requires follows { one.now.start ≡ three.old.settled.pile }
+    requires limit { sum three.old.start.heights + (length three.old.history + length one.now.history) ≤ most_grains }
+    ensures { OnErr result (three.new ≡ three.old) }
+{
+    match three.append(alloc, one) {
+        Ok(()) => Ok(is_four(three)),
+        Err(fault) => Err(fault.number()),
+    }
+}
+
+// The record shares its history with another one, and keeps its own drops there if it cannot grow.
+fn append_once(alloc: Global, number: u32) -> Result<Tried, Fail> {
+    let (three, one) = three_and_one(alloc)?;
+    let (mut three, shared) = three.twice(alloc)?;
+    refuse(alloc, number);
+    let tried = append(alloc, &mut three, &one);
+    was_refused(alloc);
+    let Err(fault) = tried else {
+        return Ok(Tried::done(tried == Ok(true) && is_three(&shared)));
+    };
+    let is_unchanged = is_three(&three);
+    let is_right = append(alloc, &mut three, &one) == Ok(true);
+    Ok(Tried::failed(fault, is_unchanged && is_right && is_three(&shared)))
+}
+
+#[test]
+fn append_to_a_shared_history_reports_out_of_memory(rt: HostRuntime) -> Result<(), Fail> {
+    each_number(
+        &rt,
+        rt.alloc(),
+        "Record::append",
+        Spares::Nothing,
+        append_once,
+    )
+}
+
+// The heights and the odometer are copied, which takes two requests. There is room for the history, which takes none.
+#[test]
+fn drops_with_room_are_appended_without_memory(rt: HostRuntime) -> Result<(), Fail> {
+    let alloc = rt.alloc();
+    let (three, one) = three_and_one(alloc)?;
+    let mut four = three.copy_with_room(alloc, one.history().len())?;
+    refuse(alloc, 3);
+    let tried = append(alloc, &mut four, &one);
+    assert!(rt; !was_refused(alloc));
+    assert_eq!(rt; tried, Ok(true));
+    Ok(())
+}
