@@ -2,6 +2,7 @@ pub mod Forbidden
 pub mod Grid
 pub mod Columns
 pub mod Sand
+pub mod Underway
 pub mod Lists
 pub mod Integers
 pub mod Piles

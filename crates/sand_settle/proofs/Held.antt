@@ -14,7 +14,7 @@ use Rattle.sand_model.proofs.Heights.{get_or-written}
 use Rattle.sand_model.proofs.Lists.{length-listing, lists_from, listed, lists_of, at_most_once, at_most_one}
 use Rattle.sand_settle.specs.SiteLists.{may_topple}
 use Rattle.sand_settle.proofs.Queue.{turn_of, turn_inside, turn_high, leaves, front_is_high}
-use Rattle.sand_settle.specs.Underway.{Advances}
+use Rattle.sand_model.specs.Underway.{Advances}
 use Rattle.sand_settle.proofs.Joined.{spread_from}
 use Rattle.sand_settle.proofs.Underway.{topplings_more, sum_falls}
 use Rattle.std.proofs.lemmas.List.Sums.{sum_by-set}

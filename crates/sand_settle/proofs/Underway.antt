@@ -8,7 +8,7 @@ use Rattle.sand_model.proofs.Sandpile.{weight_after, laplacian_sum}
 use Rattle.sand_model.proofs.Heights.{sum_is_grains}
 use Rattle.sand_model.proofs.Bounds.{weight_bound, at_most_sum_below}
 use Rattle.sand_model.proofs.Underway.{underway_start, underway_step, underway_end}
-use Rattle.sand_settle.specs.Underway.{Advances}
+use Rattle.sand_model.specs.Underway.{Advances}
 use Rattle.sand_model.specs.Piles.{most_grains}
 
 pub topplings_at : (g : Grid) (i k : ℕ) → i < sites g → topplings g (λ j. k * one_at i j) ≡ k

@@ -17,7 +17,7 @@ ghost use Rattle.sand_model.specs.Piles.{height_of, most_grains};
 ghost use Rattle.sand_settle.specs.Settling.{IsRecord};
 ghost use Rattle.sand_settle.specs.SiteLists.{ListsUnstable};
 ghost use Rattle.sand_settle.specs.Rests.{IsSettledRest};
-ghost use Rattle.sand_settle.specs.Underway.{Advances};
+ghost use Rattle.sand_model.specs.Underway.{Advances};
 
 use crate::choice::{Rest, settle_by_any};
 use crate::faults::SettleFault;

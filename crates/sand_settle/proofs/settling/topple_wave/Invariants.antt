@@ -3,7 +3,7 @@ use Rattle.sand_model.specs.Grid.{sites}
 use Rattle.sand_model.specs.Sand.{topplings}
 use Rattle.sand_model.specs.Lists.{Lists}
 use Rattle.sand_settle.specs.SiteLists.{may_topple}
-use Rattle.sand_settle.specs.Underway.{Advances}
+use Rattle.sand_model.specs.Underway.{Advances}
 use Rattle.sand_settle.proofs.settling.topple_wave.Given as goal
 
 abbrev pub invariant-loop-turn : goal.invariant-loop-turn

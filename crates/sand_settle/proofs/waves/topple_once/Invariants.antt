@@ -1,7 +1,7 @@
 use Rattle.std.proofs.Common.{ℕ, ◌≡◌, ◌+◌, ◌-◌, ◌<◌, ◌≤◌, All, length, take, get_or}
 use Rattle.sand_model.specs.Grid.{sites}
 use Rattle.sand_model.specs.Sand.{tally}
-use Rattle.sand_settle.specs.Underway.{Advances}
+use Rattle.sand_model.specs.Underway.{Advances}
 use Rattle.sand_settle.proofs.Held.{IsWave, lowered}
 use Rattle.sand_settle.proofs.waves.topple_once.Given as goal
 

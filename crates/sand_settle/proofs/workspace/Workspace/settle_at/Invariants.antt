@@ -3,7 +3,7 @@ use Rattle.sand_model.specs.Grid.{sites}
 use Rattle.sand_model.specs.Sand.{weight}
 use Rattle.sand_model.specs.Lists.{Lists}
 use Rattle.sand_settle.specs.SiteLists.{has_toppled}
-use Rattle.sand_settle.specs.Underway.{Advances}
+use Rattle.sand_model.specs.Underway.{Advances}
 use Rattle.sand_settle.proofs.workspace.Workspace.settle_at.Given as goal
 
 abbrev pub invariant-waves : goal.invariant-waves

@@ -1,0 +1,5 @@
+pub mod Bits
+pub mod Moves
+pub mod Around
+pub mod Rounds
+pub mod Ones

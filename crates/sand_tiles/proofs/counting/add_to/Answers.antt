@@ -1,0 +1,21 @@
+use Rattle.std.proofs.Common.{ℕ, ◌≡◌, ◌+◌, ◌*◌, ◌<◌, ◌≤◌, arith}
+use Rattle.std.specs.Prelude.{bit_and}
+use Rattle.sand_tiles.specs.Places.{bit}
+use Rattle.sand_tiles.proofs.Bits.{bit_le, half}
+use Rattle.sand_tiles.proofs.counting.add_to.Goals as goal
+
+pub returns : goal.returns
+returns c p low =
+    let k = c.args.planes.now in
+    let two = bit_and k.ones c.args.set in
+    let four = bit_and k.twos two in
+    let eight = bit_and k.fours four in
+    let sixteen = bit_and k.eights eight in
+    let a = half k.ones c.args.set p in
+    let b = half k.twos two p in
+    let d = half k.fours four p in
+    let e = half k.eights eight p in
+    let f = half k.sixteens sixteen p in
+    let g = bit_le c.args.set p in
+    let few = c.requires p low in
+    omega arith

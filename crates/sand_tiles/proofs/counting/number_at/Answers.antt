@@ -1,0 +1,14 @@
+use Rattle.std.proofs.Common.{arith}
+use Rattle.sand_tiles.proofs.Bits.{bit_le, read_bit}
+use Rattle.sand_tiles.proofs.counting.number_at.Goals as goal
+
+pub returns : goal.returns
+returns c =
+    let k = c.args.planes.now in
+    let p = c.args.place in
+    let a = read_bit k.ones p in
+    let b = read_bit k.twos p in
+    let d = read_bit k.fours p in
+    let e = read_bit k.eights p in
+    let f = read_bit k.sixteens p in
+    omega arith

@@ -1,0 +1,130 @@
+//! Sets of places, counted.
+//!
+//! The number of places of a set is the number of ones in a word. How often each of 64 places has toppled is kept in five
+//! planes of bits, one for each power of 2 below 32: to count one toppling of each place of a set is to add a number of one
+//! bit at each place, by half adders. After 31 sets no carry has left the last plane, and the planes are spilled: what they
+//! count is added to a list of 64 numbers, and they are 0 again.
+
+ghost use Rattle.std.specs.Prelude.{◌≡◌, ℕ, ◌+◌, ◌^◌, ◌<◌, ◌≤◌};
+ghost use Rattle.sand_model.specs.Sand.{sum_below};
+ghost use Rattle.sand_tiles.specs.Places.{bit};
+ghost use Rattle.sand_tiles.specs.Counts.{times, counted, IsCount};
+
+/// How many places a set has.
+#[inline(always)]
+pub fn size(set: u64) -> u64
+    ensures { result ≡ sum_below 64 (bit set) }
+{
+    u64::from(set.count_ones())
+}
+
+/// A number from 0 to 31 at each place of a tile: one plane of bits for each power of 2.
+#[derive(Clone, Copy, Debug)]
+pub struct Planes {
+    pub ones: u64,
+    pub twos: u64,
+    pub fours: u64,
+    pub eights: u64,
+    pub sixteens: u64,
+}
+
+// How many sets the planes count before they are spilled.
+const SPILL: u64 = 31;
+
+const EMPTY: Planes = Planes {
+    ones: 0,
+    twos: 0,
+    fours: 0,
+    eights: 0,
+    sixteens: 0,
+};
+
+/// How often each place of a tile has toppled.
+#[derive(Clone, Copy, Debug)]
+pub struct Count {
+    /// The last topplings.
+    pub planes: Planes,
+    /// How many sets are counted in the planes.
+    pub sets: u64,
+    /// All topplings before these.
+    pub spilled: [u64; 64],
+}
+
+// Adds 1 at each place of a set.
+#[inline(always)]
+fn add_to(planes: &mut Planes, set: u64)
+    requires { (p : ℕ) → p < 64 → times planes.old p ≤ 30 }
+    ensures { (p : ℕ) → p < 64 → times planes.new p ≡ times planes.old p + bit set p }
+{
+    let two = planes.ones & set;
+    planes.ones ^= set;
+    let four = planes.twos & two;
+    planes.twos ^= two;
+    let eight = planes.fours & four;
+    planes.fours ^= four;
+    let sixteen = planes.eights & eight;
+    planes.eights ^= eight;
+    planes.sixteens ^= sixteen;
+}
+
+// The number at a place.
+#[inline(always)]
+fn number_at(planes: &Planes, place: usize) -> u64
+    requires { place < 64 }
+    ensures { result ≡ times planes.now place }
+{
+    (planes.ones >> place & 1)
+        + 2 * (planes.twos >> place & 1)
+        + 4 * (planes.fours >> place & 1)
+        + 8 * (planes.eights >> place & 1)
+        + 16 * (planes.sixteens >> place & 1)
+}
+
+// Moves what the planes count to the list.
+fn spill(count: &mut Count)
+    requires few { (p : ℕ) → p < 64 → counted count.old p < 2 ^ 63 }
+    ensures kept { (p : ℕ) → p < 64 → counted count.new p ≡ counted count.old p }
+    ensures empty { (count.new.sets ≡ 0) × ((p : ℕ) → times count.new.planes p ≡ 0) }
+{
+    for place in 0..64usize {
+        count.spilled[place] += number_at(&count.planes, place);
+    }
+    count.planes = EMPTY;
+    count.sets = 0;
+}
+
+/// A count of nothing.
+pub fn no_count() -> Count
+    ensures sound { IsCount result }
+    ensures none { (p : ℕ) → p < 64 → counted result p ≡ 0 }
+{
+    Count {
+        planes: EMPTY,
+        sets: 0,
+        spilled: [0; 64],
+    }
+}
+
+/// Counts one toppling of each place of a set.
+#[inline(always)]
+pub fn count_set(count: &mut Count, set: u64)
+    requires sound { IsCount count.old }
+    requires few { (p : ℕ) → p < 64 → counted count.old p < 2 ^ 62 }
+    ensures sound { IsCount count.new }
+    ensures each { (p : ℕ) → p < 64 → counted count.new p ≡ counted count.old p + bit set p }
+{
+    add_to(&mut count.planes, set);
+    count.sets += 1;
+    if count.sets == SPILL {
+        spill(count);
+    }
+}
+
+/// How often a place has toppled.
+pub fn times_at(count: &Count, place: usize) -> u64
+    requires place { place < 64 }
+    requires few { counted count.now place < 2 ^ 63 }
+    ensures { result ≡ counted count.now place }
+{
+    count.spilled[place] + number_at(&count.planes, place)
+}

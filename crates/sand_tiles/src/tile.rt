@@ -1,0 +1,78 @@
+//! One tile, and the grains that it gets.
+//!
+//! `low` and `high` hold each height modulo 4. A place that comes to 4 grains is 0 in them, and its bit in `due` says that it
+//! has 4 more and must topple. A place that has toppled in this wave is in `wave`. So a place has had
+//! `low + 2 high + 4 (due + wave)` grains since the wave began.
+
+ghost use Rattle.std.specs.Prelude.{◌≡◌, ℕ, ◌+◌, ◌*◌, ◌<◌, ◌≤◌, ◌==◌};
+ghost use Rattle.sand_model.specs.Sand.{one_at};
+ghost use Rattle.sand_tiles.specs.Places.{bit, height, had, Receives};
+
+/// The heights of 8 by 8 places modulo 4, and the sets of those that are due to topple and of those that have.
+#[derive(Clone, Copy, Debug)]
+pub struct Tile {
+    /// The low bit of each height.
+    pub low: u64,
+    /// The high bit of each height.
+    pub high: u64,
+    /// The places that have come to 4 grains and have not toppled since.
+    pub due: u64,
+    /// The places that have toppled in this wave.
+    pub wave: u64,
+}
+
+/// Adds a grain at each place of a set, and makes due the places that have 4 from then on.
+#[inline(always)]
+pub fn receive(tile: &mut Tile, gain: u64)
+    ensures { Receives tile.old tile.new gain }
+{
+    let carry = tile.low & gain;
+    tile.due |= tile.high & carry;
+    tile.low ^= gain;
+    tile.high ^= carry;
+}
+
+/// A tile with no grain on it.
+pub const BARE: Tile = Tile {
+    low: 0,
+    high: 0,
+    due: 0,
+    wave: 0,
+};
+
+/// The set of one place.
+#[inline(always)]
+pub fn set_of(place: usize) -> u64
+    requires { place < 64 }
+    ensures { (p : ℕ) → p < 64 → bit result p ≡ one_at place p }
+{
+    1 << place
+}
+
+/// Adds grains at each place of a set, one after another.
+pub fn add_grains(tile: &mut Tile, set: u64, grains: u64)
+    requires few { (p : ℕ) → p < 64 → had tile.old p + grains * bit set p ≤ 7 }
+    ensures { (p : ℕ) → p < 64 → had tile.new p ≡ had tile.old p + grains * bit set p }
+{
+    for _ in 0..grains {
+        receive(tile, set);
+    }
+}
+
+/// The height of a place modulo 4.
+#[inline(always)]
+pub fn height_at(tile: &Tile, place: usize) -> u64
+    requires { place < 64 }
+    ensures { result ≡ height tile.now place }
+{
+    (tile.low >> place & 1) + 2 * (tile.high >> place & 1)
+}
+
+/// Whether a place is due to topple.
+#[inline(always)]
+pub fn is_due(tile: &Tile, place: usize) -> bool
+    requires { place < 64 }
+    ensures { result ≡ (bit tile.now.due place == 1) }
+{
+    tile.due >> place & 1 == 1
+}
