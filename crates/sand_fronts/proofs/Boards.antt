@@ -1,0 +1,82 @@
+-- The tiles beside the tile of a site are on the board.
+use Rattle.std.proofs.Common.{ℕ, Bool, true, false, cond, ◌≡◌, ◌+◌, ◌-◌, ◌*◌, ◌/◌, ◌%◌, ◌<◌, ◌≤◌, List, [], ◌∷◌, ◌++◌, length, sym, ◌∙◌, ap, subst, arith, ⊎_elim}
+use Rattle.std.proofs.lemmas.Bool.{cases_lt}
+use Rattle.std.proofs.lemmas.List.{get_or_push, get_or_append_left}
+use Rattle.std.proofs.lemmas.Nat.{mod_below, mul-add-lt, div_below}
+use Rattle.sand_model.specs.Grid.{Grid, sites}
+use Rattle.sand_model.proofs.Neighbours.{some_width}
+use Rattle.sand_fronts.specs.declared.sides.Beside.{Beside}
+use Rattle.sand_fronts.specs.Tiling.{across, down, pitch, tiles, tile_of, to_west, to_east, shift_west, shift_east, seam_west, seam_east}
+use Rattle.sand_fronts.specs.Waves.{IsBeside, IsBoard, beside_at}
+
+-- a row of tiles follows the tile of a site
+pub row_after : (g : Grid) (j : ℕ) → j < sites g → tile_of g j + pitch g < tiles g
+unfolding tile_of
+row_after g j inside =
+    let w = g.width in
+    let pos = some_width g.width g.height j inside in
+    let less = mod_below j w pos in
+    let row : j / w < g.height = div_below j w g.height pos (omega arith) in
+    let fits = mul-add-lt (j / w / 8 + 2) (pitch g) (j % w / 8 + 1) (down g + 2) (omega arith) (omega arith) in
+    omega arith
+
+either_below : (b : Bool) (x y n : ℕ) → x < n → y < n → cond b x y < n
+either_below true x y n a b = a
+either_below false x y n a b = b
+
+west_below : (g : Grid) (k n : ℕ) → k + pitch g < n → to_west g k < n
+unfolding to_west
+west_below g k n less = either_below (seam_west g k) (k + (across g - 1)) (k - 1) n (omega arith) (omega arith)
+
+east_below : (g : Grid) (k n : ℕ) → k + pitch g < n → to_east g k < n
+unfolding to_east
+east_below g k n less = either_below (seam_east g k) (k - (across g - 1)) (k + 1) n (omega arith) (omega arith)
+
+west_shift_below : (g : Grid) (k : ℕ) → shift_west g k < 8
+unfolding shift_west
+west_shift_below g k = either_below (seam_west g k) ((g.width - 1) % 8) 7 8 (omega arith) (omega arith)
+
+east_shift_below : (g : Grid) (k : ℕ) → shift_east g k < 8
+unfolding shift_east
+east_shift_below g k = either_below (seam_east g k) ((g.width - 1) % 8) 7 8 (omega arith) (omega arith)
+
+pub board_of : (g : Grid) (all : List Beside) → length all ≡ tiles g → tiles g ≤ 65536 → ((k : ℕ) → k < tiles g → IsBeside g k (beside_at all k)) → IsBoard g (tiles g) all
+board_of g all one_each small each =
+    let here : (j : ℕ) → j < sites g → tile_of g j < tiles g = λ j l. let r = row_after g j l in omega arith in
+    record {
+      small = small;
+      one_each = one_each;
+      here = here;
+      each = λ j l. each (tile_of g j) (here j l);
+      north = λ j l. let e = (each (tile_of g j) (here j l)).north in let h = here j l in omega arith;
+      south = λ j l. let e = (each (tile_of g j) (here j l)).south in let r = row_after g j l in omega arith;
+      west = λ j l. let e = (each (tile_of g j) (here j l)).west in let w = west_below g (tile_of g j) (tiles g) (row_after g j l) in omega arith;
+      east = λ j l. let e = (each (tile_of g j) (here j l)).east in let w = east_below g (tile_of g j) (tiles g) (row_after g j l) in omega arith;
+      shifts = λ j l. (
+        let e = (each (tile_of g j) (here j l)).west_shift in let s = west_shift_below g (tile_of g j) in omega arith,
+        let e = (each (tile_of g j) (here j l)).east_shift in let s = east_shift_below g (tile_of g j) in omega arith,
+      );
+    }
+
+-- one tile more
+pub sides_more : (g : Grid) (xs ys : List Beside) (b : Beside) (n : ℕ) → ys ≡ xs ++ b ∷ [] → length xs ≡ n → IsBeside g n b → ((k : ℕ) → k < n → IsBeside g k (beside_at xs k))
+    → (k : ℕ) → k < n + 1 → IsBeside g k (beside_at ys k)
+sides_more g xs ys b n pushed long is each k below =
+    let none : Beside = record { north = 0; south = 0; west = 0; east = 0; west_shift = 0; east_shift = 0 } in
+    let P : Beside → Type 0 = λ x. IsBeside g k x in
+    let Q : ℕ → Type 0 = λ i. IsBeside g i b in
+    subst P (sym (ap (λ (zs : List Beside). beside_at zs k) pushed))
+    (⊎_elim
+    (λ (before : k < n). subst P (sym (get_or_append_left xs (b ∷ []) none k (omega arith))) (each k before))
+    (λ (last : n ≤ k). let e : n ≡ k = omega arith in subst P (sym (get_or_push xs b none k (long ∙ e))) (subst Q e is))
+    (cases_lt k n))
+
+-- the tile and the place that are found for a site
+pub found_inside : (g : Grid) (j x y a : ℕ) → j < sites g → x ≡ j % g.width → y ≡ j / g.width → a ≡ across g
+    → ((y / 8 + 2) * (a + 2) + (x / 8 + 1) < tiles g) × (y % 8 * 8 + x % 8 < 64)
+unfolding tile_of
+found_inside g j x y a inside ex ey ea =
+    let r = row_after g j inside in
+    let m : (y / 8 + 2) * (a + 2) ≡ (j / g.width / 8 + 2) * pitch g = ap (λ t. (t / 8 + 2) * (a + 2)) ey ∙ ap (λ t. (j / g.width / 8 + 2) * (t + 2)) ea in
+    let n : x / 8 ≡ j % g.width / 8 = ap (λ t. t / 8) ex in
+    (omega arith, omega arith)

@@ -1,0 +1,146 @@
+-- How a wave begins, what it leaves, and when the next one follows.
+use Rattle.std.proofs.Common.{ℕ, ◌≡◌, ◌≢◌, ◌+◌, ◌-◌, ◌*◌, ◌<◌, ◌≤◌, sym, ◌∙◌, ap, arith, ⊎_elim}
+use Rattle.std.proofs.lemmas.Bool.{cases_eq}
+use Rattle.sand_model.specs.Grid.{Grid, sites}
+use Rattle.sand_model.specs.Sand.{Stabilises, IsToppled, flow, one_at}
+use Rattle.sand_model.proofs.Flow.{flow_le, flow_same, flow-add, flow-one_at}
+use Rattle.sand_model.proofs.Sandpile.{flow_ones, weight_after, laplacian_sum}
+use Rattle.sand_model.proofs.SumsBelow.{sum_below_same, sum_below-add, one_at_same, one_at_other}
+use Rattle.sand_tiles.specs.declared.tile.Tile.{Tile}
+use Rattle.sand_tiles.specs.Places.{bit, height}
+use Rattle.sand_tiles.proofs.Bits.{bit_le}
+use Rattle.sand_fronts.specs.Tiling.{tile_of, place_of}
+use Rattle.sand_model.specs.Underway.{Advances}
+use Rattle.sand_fronts.specs.Waves.{toppled, IsWave, Leaves}
+use Rattle.sand_fronts.proofs.OnTiles.{place_below, on_tiles_le, on_nothing}
+
+-- before anything topples
+pub wave_begins : (g : Grid) (site : ℕ) (h : ℕ → ℕ) (τ : ℕ → Tile) → site < sites g
+    → ((m p : ℕ) → p < 64 → bit (τ m).wave p ≡ 0)
+    → ((j : ℕ) → j < sites g → j ≢ site → (h j ≡ height (τ (tile_of g j)) (place_of g j)) × (bit (τ (tile_of g j)).due (place_of g j) ≡ 0))
+    → h site ≡ height (τ (tile_of g site)) (place_of g site) + 4
+    → IsWave g site h τ
+wave_begins g site h τ inside clear heights held =
+    let none : (j : ℕ) → toppled g τ j ≡ 0 = λ j. clear (tile_of g j) (place_of g j) (place_below g j) in
+    let no_flow : (j : ℕ) → j < sites g → flow g (toppled g τ) j ≡ 0 = λ j l.
+    let a = flow-add g (toppled g τ) (toppled g τ) j in
+    let b = flow_same g (λ i. toppled g τ i + toppled g τ i) (toppled g τ) (λ i m. let z = none i in omega arith) j l in
+    omega arith in
+    record {
+      inside = λ m p low.
+          let z = clear m p low in
+          let le = on_tiles_le g (toppled g τ) (λ j. 0) m p low (λ j l. let n = none j in omega arith) in
+          let zero' = on_tiles_le g (λ j. 0) (λ j. 0) m p low (λ j l. omega arith) in
+          let twice = on_nothing g m p in
+          omega arith;
+      at_open = λ j l ne. let e = heights j l ne in let e0 = e.0 in let e1 = e.1 in let f = no_flow j l in let z = none j in omega arith;
+      at_held =
+          let f = no_flow site inside in
+          let l = bit_le (τ (tile_of g site)).low (place_of g site) in
+          let u = bit_le (τ (tile_of g site)).high (place_of g site) in
+          omega arith;
+      needed = λ w stable j l. let z = none j in omega arith;
+    }
+
+one_at_le : (v : ℕ → ℕ) (i j : ℕ) → 1 ≤ v i → one_at i j ≤ v j
+one_at_le v i j some = ⊎_elim
+    (λ (e : i ≡ j). let o = sym (ap (one_at i) e) ∙ one_at_same i in let a = ap v e in omega arith)
+    (λ (ne : i ≡ j → ⊥). let o = one_at_other i j ne in omega arith)
+    (cases_eq i j)
+
+one_at_le' : (v : ℕ → ℕ) (i j : ℕ) → 1 ≤ v i → one_at j i ≤ v j
+one_at_le' v i j some = ⊎_elim
+    (λ (e : j ≡ i). let o = ap (one_at j) (sym e) ∙ one_at_same j in let a = ap v e in omega arith)
+    (λ (ne : j ≡ i → ⊥). let o = one_at_other j i ne in omega arith)
+    (cases_eq j i)
+
+-- what each site has in the end
+pub wave_balance : (g : Grid) (site : ℕ) (h : ℕ → ℕ) (τ : ℕ → Tile) (k : ℕ → ℕ) → IsWave g site h τ → toppled g τ site ≡ 1
+    → ((j : ℕ) → j < sites g → j ≢ site → bit (τ (tile_of g j)).due (place_of g j) ≡ 0) → Leaves g site h τ k → (j : ℕ) → j < sites g
+    → k j + 4 * toppled g τ j ≡ h j + flow g (toppled g τ) j
+wave_balance g site h τ k wave started done leaves j l = ⊎_elim
+    (λ (e : j ≡ site).
+    let a = ap k e in let b = ap (toppled g τ) e in let c = ap h e in let d = ap (flow g (toppled g τ)) e in
+    let held = leaves.held in
+    omega arith)
+    (λ (ne : j ≡ site → ⊥).
+    let at = wave.at_open j l ne in
+    let none = done j l ne in
+    let o = leaves.others j l ne in
+    omega arith)
+    (cases_eq j site)
+
+-- the wave was a legal sequence of topplings
+pub wave_advances : (g : Grid) (site : ℕ) (h : ℕ → ℕ) (τ : ℕ → Tile) (k u v : ℕ → ℕ) → IsWave g site h τ → toppled g τ site ≡ 1
+    → ((j : ℕ) → j < sites g → j ≢ site → bit (τ (tile_of g j)).due (place_of g j) ≡ 0) → Leaves g site h τ k
+    → ((j : ℕ) → j < sites g → v j ≡ u j + toppled g τ j) → Advances g u h v k
+wave_advances g site h τ k u v wave started done leaves sums =
+    let t = toppled g τ in
+    let balance = wave_balance g site h τ k wave started done leaves in
+    let toppled' : IsToppled g h t k = record { balance = balance } in
+    let all = sum_below_same (sites g) v (λ j. u j + t j) sums in
+    let both = sum_below-add (sites g) u t in
+    let flows : (j : ℕ) → j < sites g → flow g v j ≡ flow g u j + flow g t j = λ j l. flow_same g v (λ i. u i + t i) sums j l ∙ flow-add g u t j in
+    record {
+      underway = λ s before. record {
+        toppled = record { balance = λ j l. let a = before.toppled.balance j l in let b = balance j l in let c = sums j l in let d = flows j l in omega arith };
+        bounded = λ w stable j l.
+            let below = before.bounded w stable in
+            let rest : Stabilises g h (λ i. w i - u i) = record {
+              at_most_three = λ i m.
+                  let a = before.toppled.balance i m in
+                  let b = stable.at_most_three i m in
+                  let c = below i m in
+                  let d = flow_same g (λ n. u n + (w n - u n)) w (λ n x. let y = below n x in omega arith) i m in
+                  let e = flow-add g u (λ n. w n - u n) i in
+                  omega arith;
+            } in
+            let n = wave.needed (λ i. w i - u i) rest j l in
+            let c = below j l in
+            let d = sums j l in
+            omega arith;
+      };
+      weight_pays = let w = weight_after g h t k toppled' in omega arith;
+      grains_fall = let s = laplacian_sum g h t k toppled' in omega arith;
+    }
+
+-- where the held site is 0 in the planes and others have toppled, it has 4 again
+pub four_again : (g : Grid) (site : ℕ) (h : ℕ → ℕ) (τ : ℕ → Tile) (k : ℕ → ℕ) (i : ℕ) → IsWave g site h τ → site < sites g → toppled g τ site ≡ 1 → h site ≡ 4
+    → ((j : ℕ) → j < sites g → j ≢ site → h j ≤ 3)
+    → ((j : ℕ) → j < sites g → j ≢ site → bit (τ (tile_of g j)).due (place_of g j) ≡ 0) → Leaves g site h τ k
+    → height (τ (tile_of g site)) (place_of g site) ≡ 0 → i < sites g → i ≢ site → 1 ≤ toppled g τ i → k site ≡ 4
+four_again g site h τ k i wave inside started four low done leaves empty li ni some =
+    let t = toppled g τ in
+    let most = flow_le g t (λ j. 1) (λ j l. bit_le _ _) site inside in
+    let ones = flow_ones g site in
+    let held = leaves.held in
+    let at_held = wave.at_held in
+    ⊎_elim
+    (λ (none : flow g t site ≡ 0).
+    let alone : Stabilises g h (one_at site) = record {
+      at_most_three = λ j l.
+          let less = flow_le g (one_at site) t (λ m x. one_at_le t site m (omega arith)) j l in
+          ⊎_elim
+          (λ (e : j ≡ site).
+          let a = ap h e in let b = ap (flow g t) e in let o = ap (one_at site) e ∙ one_at_same site in
+          omega arith)
+          (λ (ne : j ≡ site → ⊥).
+          let lj = low j l ne in
+          let at = wave.at_open j l ne in
+          let d = done j l ne in
+          let one = bit_le (τ (tile_of g j)).low (place_of g j) in
+          let two = bit_le (τ (tile_of g j)).high (place_of g j) in
+          ⊎_elim
+          (λ (z : t j ≡ 0). omega arith)
+          (λ (nz : t j ≡ 0 → ⊥).
+          let turned = flow-one_at g site j inside l in
+          let few = flow_le g (λ m. one_at m j) t (λ m x. one_at_le' t j m (omega arith)) site inside in
+          omega arith)
+          (cases_eq (t j) 0))
+          (cases_eq j site);
+    } in
+    let n = wave.needed (one_at site) alone i li in
+    let o = one_at_other site i (λ e. ni (sym e)) in
+    absurd (omega arith))
+    (λ (nz : flow g t site ≡ 0 → ⊥). omega arith)
+    (cases_eq (flow g t site) 0)

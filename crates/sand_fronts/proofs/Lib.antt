@@ -1,0 +1,14 @@
+pub mod NeighboursOnTiles
+pub mod OnTiles
+pub mod Waves
+pub mod Rims
+pub mod Gained
+pub mod Steps
+pub mod Ends
+pub mod TileLists
+pub mod Turns
+pub mod Sums
+pub mod Boards
+pub mod OneSite
+pub mod Counted
+pub mod ManyWaves

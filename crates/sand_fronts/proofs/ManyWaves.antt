@@ -1,0 +1,353 @@
+-- From one wave of a drop to the next.
+use Rattle.std.proofs.Common.{ℕ, Bool, true, false, cond, eqb, ltb, leb, ◌&&◌, List, length, ◌≡◌, ◌≢◌, ◌+◌, ◌-◌, ◌*◌, ◌^◌, ◌<◌, ◌≤◌, refl, sym, ◌∙◌, ap, arith, ⊎_elim}
+use Rattle.std.proofs.Math.Nat.{mul-le-mul_right}
+use Rattle.std.proofs.Math.ListN.{set}
+use Rattle.std.proofs.lemmas.Bool.{cases_Bool, cases_eq, and_parts, and_cases, eqb-true, eqb-false, ltb-true, ltb-false, leb-true, leb-false}
+use Rattle.sand_model.specs.Grid.{Grid, IsGrid, sites}
+use Rattle.sand_model.specs.Sand.{IsToppled, IsSettled, IsUnderway, flow, one_at, topplings, weight, grain_weight, sum_below}
+use Rattle.sand_model.specs.Underway.{Advances}
+use Rattle.sand_model.proofs.Flow.{flow_le, flow_same}
+use Rattle.sand_model.proofs.Sandpile.{flow_ones, weight_after, settled_same}
+use Rattle.sand_model.proofs.SumsBelow.{sum_below_same, sum_below_le, sum_below-add, sum_below-scale, sum_below-ones, sum_below-zero, sum_below-one_at, one_at_same, one_at_other}
+use Rattle.sand_model.proofs.Lists.{all_or_one, at_most_one}
+use Rattle.sand_model.proofs.Bounds.{at_most_sum_below, sites_limit, weight_bound}
+use Rattle.sand_model.proofs.Underway.{underway_start, underway_end}
+use Rattle.sand_tiles.specs.declared.tile.Tile.{Tile}
+use Rattle.sand_tiles.specs.declared.counting.Count.{Count}
+use Rattle.sand_tiles.specs.Places.{bit, height}
+use Rattle.sand_tiles.specs.Counts.{counted, IsCount}
+use Rattle.sand_tiles.proofs.Bits.{bit_le, bit_none}
+use Rattle.sand_fronts.specs.Tiling.{tile_of, place_of, is_site, site_on, on_tiles}
+use Rattle.sand_fronts.specs.TileLists.{IsClear}
+use Rattle.sand_fronts.specs.Waves.{tile_at, toppled, IsWave, Leaves, AreAtRest, heights_before}
+use Rattle.sand_fronts.specs.Counting.{in_wave, with_wave, AreCounted}
+use Rattle.sand_fronts.specs.Drops.{heights_on, grown_on, AreQuiet}
+use Rattle.sand_fronts.proofs.OnTiles.{place_below, there_again, on_site, off_site}
+use Rattle.sand_fronts.proofs.Ends.{wave_balance, four_again}
+use Rattle.sand_fronts.proofs.Turns.{first_low}
+use Rattle.sand_fronts.proofs.Sums.{sum_on_tiles}
+use Rattle.sand_fronts.proofs.Gained.{tile_set_same, tile_set_other}
+
+-- the heights between two waves: if the held site may topple again, it has 4 more than in the planes
+abbrev pub heights_now : Grid → ℕ → Bool → (ℕ → Tile) → ℕ → ℕ
+heights_now g site more τ j = cond more (heights_before g site τ j) (heights_on g τ j)
+
+-- ---- what the held site has
+
+-- the heights after a wave
+left : Grid → ℕ → (ℕ → Tile) → ℕ → ℕ
+left g site τ j = heights_on g τ j + (flow g (toppled g τ) site - heights_on g τ site) * one_at site j
+
+left_leaves : (g : Grid) (site : ℕ) (h : ℕ → ℕ) (τ : ℕ → Tile) → IsWave g site h τ → h site ≡ 4 → Leaves g site h τ (left g site τ)
+unfolding left
+left_leaves g site h τ wave four =
+    let x = flow g (toppled g τ) site - heights_on g τ site in
+    record {
+      others = λ j l ne. let o = ap (λ y. x * y) (one_at_other site j (λ e. ne (sym e))) in omega arith;
+      held = let o = ap (λ y. x * y) (one_at_same site) in let at = wave.at_held in omega arith;
+    }
+
+left_held : (g : Grid) (site : ℕ) (h : ℕ → ℕ) (τ : ℕ → Tile) → IsWave g site h τ → h site ≡ 4 → left g site τ site ≡ flow g (toppled g τ) site
+left_held g site h τ wave four = let l = (left_leaves g site h τ wave four).held in omega arith
+
+mul_le : (x y z : ℕ) → x ≤ y → x * z ≤ y * z
+mul_le x y z le = mul-le-mul_right z le
+
+-- if no other site has toppled, the held one has not got 4 grains back: the pile would be no lighter
+alone_rests : (g : Grid) (site : ℕ) (h : ℕ → ℕ) (τ : ℕ → Tile) → IsWave g site h τ → site < sites g → toppled g τ site ≡ 1 → h site ≡ 4
+    → ((j : ℕ) → j < sites g → j ≢ site → bit (τ (tile_of g j)).due (place_of g j) ≡ 0)
+    → topplings g (toppled g τ) ≤ 1 → flow g (toppled g τ) site ≡ 4 → ⊥
+alone_rests g site h τ wave inside started four none_due few back =
+    let t = toppled g τ in
+    let k = left g site τ in
+    let balance = wave_balance g site h τ k wave started none_due (left_leaves g site h τ wave four) in
+    let done : IsToppled g h t k = record { balance = balance } in
+    let light = weight_after g h t k done in
+    let at = left_held g site h τ wave four in
+    let part = at_most_sum_below (sites g) t site inside in
+    let others : (j : ℕ) → j < sites g → j ≢ site → t j ≡ 0 = λ j l ne.
+    let two = sum_below_le (sites g) (λ i. t site * one_at site i + t j * one_at j i) t (λ i m. ⊎_elim
+    (λ (e : i ≡ site).
+    let a = ap (λ x. t site * x) (ap (one_at site) e ∙ one_at_same site) in
+    let b = ap (λ x. t j * x) (one_at_other j i (λ f. ne (f ∙ e))) in
+    let c = ap t e in omega arith)
+    (λ (other : i ≡ site → ⊥).
+    let a = ap (λ x. t site * x) (one_at_other site i (λ f. other (sym f))) in
+    ⊎_elim
+    (λ (f : i ≡ j). let b = ap (λ x. t j * x) (ap (one_at j) f ∙ one_at_same j) in let c = ap t f in omega arith)
+    (λ (nf : i ≡ j → ⊥). let b = ap (λ x. t j * x) (one_at_other j i (λ f. nf (sym f))) in omega arith)
+    (cases_eq i j))
+    (cases_eq i site)) in
+    let sums = sum_below-add (sites g) (λ i. t site * one_at site i) (λ i. t j * one_at j i) in
+    let a = sum_below-one_at (sites g) site (λ i. t site) inside in
+    let b = sum_below-one_at (sites g) j (λ i. t j) l in
+    omega arith in
+    let heavy = sum_below_le (sites g) (λ i. h i * grain_weight g i) (λ i. k i * grain_weight g i) (λ j l.
+    let more : h j ≤ k j = ⊎_elim
+    (λ (e : j ≡ site). let a = ap h e in let b = ap k e in omega arith)
+    (λ (ne : j ≡ site → ⊥). let a = balance j l in let z = others j l ne in omega arith)
+    (cases_eq j site) in
+    mul_le (h j) (k j) (grain_weight g j) more) in
+    omega arith
+
+-- another site that has toppled
+other_toppled : (g : Grid) (site : ℕ) (t : ℕ → ℕ) → site < sites g → t site ≡ 1 → 1 < topplings g t → (i : ℕ) × (i < sites g) × (i ≢ site) × (1 ≤ t i)
+other_toppled g site t inside one many = ⊎_elim
+    (λ (all : (i : ℕ) → i < sites g → leb (t i) (1 * one_at site i) ≡ true).
+    let le = sum_below_le (sites g) t (λ i. 1 * one_at site i) (λ i l. leb-true (t i) (1 * one_at site i) (all i l)) in
+    let sum = sum_below-one_at (sites g) site (λ i. 1) inside in
+    absurd (omega arith))
+    (λ (some : (i : ℕ) × (i < sites g) × (leb (t i) (1 * one_at site i) ≡ false)).
+    let i = some.0 in
+    let more = leb-false (t i) (1 * one_at site i) some.2 in
+    (i, some.1, (λ e. let a = ap t e in let b = ap (one_at site) e ∙ one_at_same site in omega arith), omega arith))
+    (all_or_one (sites g) (λ i. leb (t i) (1 * one_at site i)))
+
+-- whether the held site has 4 again
+pub held_has : (g : Grid) (site : ℕ) (h : ℕ → ℕ) (τ : ℕ → Tile) (more : Bool) → IsWave g site h τ → site < sites g → toppled g τ site ≡ 1 → h site ≡ 4
+    → ((j : ℕ) → j < sites g → j ≢ site → h j ≤ 3)
+    → ((j : ℕ) → j < sites g → j ≢ site → bit (τ (tile_of g j)).due (place_of g j) ≡ 0)
+    → more ≡ (ltb 1 (topplings g (toppled g τ)) && eqb (heights_on g τ site) 0)
+    → heights_now g site more τ site ≡ flow g (toppled g τ) site
+held_has g site h τ more wave inside started four low none_due test =
+    let t = toppled g τ in
+    let at = wave.at_held in
+    let o = one_at_same site in
+    let most = flow_le g t (λ j. 1) (λ j l. bit_le (τ (tile_of g j)).wave (place_of g j)) site inside in
+    let ones = flow_ones g site in
+    ⊎_elim
+    (λ (yes : more ≡ true).
+    let parts = and_parts (ltb 1 (topplings g t)) (eqb (heights_on g τ site) 0) (sym test ∙ yes) in
+    let many = ltb-true 1 (topplings g t) parts.0 in
+    let empty = eqb-true (heights_on g τ site) 0 parts.1 in
+    let i = other_toppled g site t inside started many in
+    let again = four_again g site h τ (left g site τ) i.0 wave inside started four low none_due (left_leaves g site h τ wave four) empty i.1 i.2 i.3 in
+    let held = left_held g site h τ wave four in
+    ap (λ b. cond b (heights_before g site τ site) (heights_on g τ site)) yes ∙ omega arith)
+    (λ (no : more ≡ false).
+    ap (λ b. cond b (heights_before g site τ site) (heights_on g τ site)) no
+    ∙ ⊎_elim
+    (λ (few : ltb 1 (topplings g t) ≡ false).
+    let f = ltb-false 1 (topplings g t) few in
+    ⊎_elim
+    (λ (e : flow g t site ≡ 4). absurd (alone_rests g site h τ wave inside started four none_due f e))
+    (λ (ne : flow g t site ≡ 4 → ⊥). omega arith)
+    (cases_eq (flow g t site) 4))
+    (λ (some : eqb (heights_on g τ site) 0 ≡ false).
+    let s = eqb-false (heights_on g τ site) 0 some in
+    ⊎_elim
+    (λ (e : flow g t site ≡ 4). absurd (s (omega arith)))
+    (λ (ne : flow g t site ≡ 4 → ⊥). omega arith)
+    (cases_eq (flow g t site) 4))
+    (and_cases (ltb 1 (topplings g t)) (eqb (heights_on g τ site) 0) (sym test ∙ no)))
+    (cases_Bool more)
+
+-- the counts are read by site
+underway_as : (g : Grid) (s u v t : ℕ → ℕ) → ((j : ℕ) → j < sites g → u j ≡ v j) → IsUnderway g s u t → IsUnderway g s v t
+underway_as g s u v t same before = record {
+  toppled = record { balance = λ j l. let a = before.toppled.balance j l in let b = same j l in let c = flow_same g u v same j l in omega arith };
+  bounded = λ w stable j l. let a = before.bounded w stable j l in let b = same j l in omega arith;
+}
+
+-- ---- what has been counted
+
+on_sum : (g : Grid) (u t v : ℕ → ℕ) (m p : ℕ) → p < 64 → ((j : ℕ) → j < sites g → v j ≡ u j + t j) → on_tiles g v m p ≡ on_tiles g u m p + on_tiles g t m p
+on_sum g u t v m p low sums = ⊎_elim
+    (λ (yes : is_site g m p ≡ true).
+    let there = there_again g m p low yes in
+    let a = on_site g u m p yes in let b = on_site g t m p yes in let c = on_site g v m p yes in
+    let s = sums (site_on g m p) there.0 in
+    omega arith)
+    (λ (no : is_site g m p ≡ false).
+    let a = off_site g u m p no in let b = off_site g t m p no in let c = off_site g v m p no in
+    omega arith)
+    (cases_Bool (is_site g m p))
+
+on_below : (g : Grid) (v : ℕ → ℕ) (m p most : ℕ) → p < 64 → ((j : ℕ) → j < sites g → v j ≤ most) → on_tiles g v m p ≤ most
+on_below g v m p most low few = ⊎_elim
+    (λ (yes : is_site g m p ≡ true). let there = there_again g m p low yes in let a = on_site g v m p yes in let f = few (site_on g m p) there.0 in omega arith)
+    (λ (no : is_site g m p ≡ false). let a = off_site g v m p no in omega arith)
+    (cases_Bool (is_site g m p))
+
+-- after so many waves of a drop that began with the tiles τ and the counts c
+pub record AreWaves (g : Grid) (site : ℕ) (more : Bool) (τ σ : ℕ → Tile) (c d : ℕ → Count) : Type 0 where
+  pub clear : (m : ℕ) → IsClear (σ m)
+  pub none_due : (j : ℕ) → j < sites g → j ≢ site → bit (σ (tile_of g j)).due (place_of g j) ≡ 0
+  pub empty : more ≡ true → heights_on g σ site ≡ 0
+  pub advances : Advances g (λ j. 0) (heights_before g site τ) (grown_on g c d) (heights_now g site more σ)
+  pub counts : (m p : ℕ) → p < 64 → counted (d m) p ≡ counted (c m) p + on_tiles g (grown_on g c d) m p
+  pub sound : (m : ℕ) → IsCount (d m)
+
+-- before the first wave
+pub waves_begin : (g : Grid) (site : ℕ) (τ : ℕ → Tile) (c : ℕ → Count) → AreAtRest g site τ → ((m : ℕ) → IsCount (c m)) → AreWaves g site true τ τ c c
+waves_begin g site τ c rest sound =
+    let none : (j : ℕ) → j < sites g → 0 ≡ grown_on g c c j = λ j l. omega arith in
+    record {
+      clear = λ m p low. rest.clear m p low;
+      none_due = rest.none_due;
+      empty = λ is. rest.empty;
+      advances = record {
+        underway = λ s before. underway_as g s (λ j. 0) (grown_on g c c) (heights_before g site τ) none before;
+        weight_pays = let z = sum_below_same (sites g) (λ j. 0) (grown_on g c c) none in omega arith;
+        grains_fall = omega arith;
+      };
+      counts = λ m p low. let b = on_below g (grown_on g c c) m p 0 low (λ j l. omega arith) in omega arith;
+      sound = sound;
+    }
+
+-- the topplings of a wave, by the counts
+wave_counts : (g : Grid) (site : ℕ) (τ σ ρ : ℕ → Tile) (c d e : ℕ → Count) (h : ℕ → ℕ)
+    → ((m p : ℕ) → p < 64 → counted (d m) p ≡ counted (c m) p + on_tiles g (grown_on g c d) m p)
+    → ((m p : ℕ) → p < 64 → with_wave ρ e m p ≡ with_wave σ d m p) → ((m : ℕ) → IsClear (ρ m))
+    → (j : ℕ) → grown_on g c e j ≡ grown_on g c d j + toppled g σ j
+wave_counts g site τ σ ρ c d e h counts moved clear j =
+    let p = place_of g j in
+    let low = place_below g j in
+    let m = tile_of g j in
+    let a = counts m p low in
+    let b = moved m p low in
+    let z = clear m p low in
+    omega arith
+
+-- one wave more
+pub waves_more : (g : Grid) (site : ℕ) (more : Bool) (τ σ ω ρ : ℕ → Tile) (c d e : ℕ → Count) → site < sites g → AreWaves g site true τ σ c d
+    → IsWave g site (heights_before g site σ) ω → toppled g ω site ≡ 1
+    → ((j : ℕ) → j < sites g → j ≢ site → bit (ω (tile_of g j)).due (place_of g j) ≡ 0)
+    → ((k u v : ℕ → ℕ) → Leaves g site (heights_before g site σ) ω k → ((j : ℕ) → j < sites g → v j ≡ u j + toppled g ω j) → Advances g u (heights_before g site σ) v k)
+    → AreCounted ω ρ d e → ((m : ℕ) → IsClear (ρ m))
+    → more ≡ (ltb 1 (topplings g (toppled g ω)) && eqb (heights_on g ρ site) 0)
+    → (AreWaves g site more τ ρ c e) × (topplings g (grown_on g c e) ≡ topplings g (grown_on g c d) + topplings g (toppled g ω))
+    × (weight g (heights_now g site more ρ) < weight g (heights_now g site true σ))
+waves_more g site more τ σ ω ρ c d e inside waves wave started none_due advances counts clear test =
+    let t = toppled g ω in
+    let h = heights_before g site σ in
+    let k = heights_now g site more ρ in
+    let same : (j : ℕ) → heights_on g ρ j ≡ heights_on g ω j = λ j.
+    let a = ap (λ x. bit x (place_of g j)) (counts.low (tile_of g j)) in
+    let b = ap (λ x. bit x (place_of g j)) (counts.high (tile_of g j)) in
+    omega arith in
+    let four : h site ≡ 4 = let o = one_at_same site in let z = waves.empty refl in omega arith in
+    let low : (j : ℕ) → j < sites g → j ≢ site → h j ≤ 3 = first_low g site σ in
+    let test' : more ≡ (ltb 1 (topplings g t) && eqb (heights_on g ω site) 0) = test ∙ ap (λ x. ltb 1 (topplings g t) && eqb x 0) (same site) in
+    let has = held_has g site h ω more wave inside started four low none_due test' in
+    let now : (j : ℕ) → j ≢ site → k j ≡ heights_on g ω j = λ j ne. ⊎_elim
+    (λ (yes : more ≡ true). ap (λ b. cond b (heights_before g site ρ j) (heights_on g ρ j)) yes ∙ (let o = one_at_other site j (λ x. ne (sym x)) in let s = same j in omega arith))
+    (λ (no : more ≡ false). ap (λ b. cond b (heights_before g site ρ j) (heights_on g ρ j)) no ∙ same j)
+    (cases_Bool more) in
+    let held : k site ≡ flow g t site = ⊎_elim
+    (λ (yes : more ≡ true).
+    let a = ap (λ b. cond b (heights_before g site ρ site) (heights_on g ρ site)) yes in
+    let b = ap (λ x. cond x (heights_before g site ω site) (heights_on g ω site)) yes in
+    let s = same site in omega arith)
+    (λ (no : more ≡ false).
+    let a = ap (λ b. cond b (heights_before g site ρ site) (heights_on g ρ site)) no in
+    let b = ap (λ x. cond x (heights_before g site ω site) (heights_on g ω site)) no in
+    let s = same site in omega arith)
+    (cases_Bool more) in
+    let leaves : Leaves g site h ω k = record { others = λ j l ne. now j ne; held = omega arith } in
+    let sums : (j : ℕ) → j < sites g → grown_on g c e j ≡ grown_on g c d j + t j = λ j l. wave_counts g site τ ω ρ c d e h waves.counts counts.each clear j in
+    let next = advances k (grown_on g c d) (grown_on g c e) leaves sums in
+    let all = sum_below_same (sites g) (grown_on g c e) (λ j. grown_on g c d j + t j) sums in
+    let both = sum_below-add (sites g) (grown_on g c d) t in
+    let part = at_most_sum_below (sites g) t site inside in (
+      record {
+        clear = clear;
+        none_due = λ j l ne. ap (λ x. bit x (place_of g j)) (counts.due (tile_of g j)) ∙ none_due j l ne;
+        empty = λ is. let parts = and_parts (ltb 1 (topplings g t)) (eqb (heights_on g ρ site) 0) (sym test ∙ is) in eqb-true (heights_on g ρ site) 0 parts.1;
+        advances = record {
+          underway = λ s before. next.underway s (waves.advances.underway s before);
+          weight_pays = let a = next.weight_pays in let b = waves.advances.weight_pays in omega arith;
+          grains_fall = let a = next.grains_fall in let b = waves.advances.grains_fall in omega arith;
+        };
+        counts = λ m p l.
+            let a = waves.counts m p l in
+            let b = counts.each m p l in
+            let z = clear m p l in
+            let i = wave.inside m p l in
+            let s = on_sum g (grown_on g c d) t (grown_on g c e) m p l sums in
+            omega arith;
+        sound = counts.sound waves.sound;
+      },
+      omega arith,
+      (let a = next.weight_pays in omega arith),
+    )
+
+-- how many sites a wave has
+pub wave_size : (g : Grid) (site n : ℕ) (h : ℕ → ℕ) (τ : ℕ → Tile) → IsWave g site h τ → ((j : ℕ) → j < sites g → tile_of g j < n) → in_wave n τ ≡ topplings g (toppled g τ)
+wave_size g site n h τ wave here =
+    sum_below_same n (λ k. sum_below 64 (bit (τ k).wave)) (λ k. sum_below 64 (λ p. on_tiles g (toppled g τ) k p))
+    (λ k l. sum_below_same 64 (bit (τ k).wave) (λ p. on_tiles g (toppled g τ) k p) (λ p m. wave.inside k p m))
+    ∙ sum_on_tiles g (toppled g τ) n here
+
+-- a drop on a stable pile topples fewer than 2 ^ 32 times
+pub few_topplings_yet : (g : Grid) (site : ℕ) (more : Bool) (τ σ : ℕ → Tile) (c d : ℕ → Count) → IsGrid g → AreWaves g site more τ σ c d → topplings g (grown_on g c d) < 2 ^ 32
+few_topplings_yet g site more τ σ c d sides waves =
+    let h = heights_before g site τ in
+    let each = sum_below_le (sites g) h (λ j. 7 * 1) (λ j l.
+    let a = bit_le (τ (tile_of g j)).low (place_of g j) in
+    let b = bit_le (τ (tile_of g j)).high (place_of g j) in
+    let o = at_most_one (eqb site j) in
+    omega arith) in
+    let scaled = sum_below-scale (sites g) 7 (λ j. 1) in
+    let ones = sum_below-ones (sites g) in
+    let limit = sites_limit g sides in
+    let heavy = weight_bound g h sides in
+    let none = sum_below-zero (sites g) in
+    let pays = waves.advances.weight_pays in
+    omega arith
+
+pub few_counted : (g : Grid) (site : ℕ) (more : Bool) (τ σ : ℕ → Tile) (c d : ℕ → Count) (m p : ℕ) → IsGrid g → AreWaves g site more τ σ c d → p < 64
+    → counted (c m) p < 2 ^ 60 → counted (d m) p < 2 ^ 61
+few_counted g site more τ σ c d m p sides waves low few =
+    let all = few_topplings_yet g site more τ σ c d sides waves in
+    let here = on_below g (grown_on g c d) m p (2 ^ 32) low (λ j l. let part = at_most_sum_below (sites g) (grown_on g c d) j l in omega arith) in
+    let e = waves.counts m p low in
+    omega arith
+
+-- when the last wave has passed
+pub waves_end : (g : Grid) (site : ℕ) (τ σ : ℕ → Tile) (c d : ℕ → Count) → AreWaves g site false τ σ c d → IsSettled g (heights_before g site τ) (grown_on g c d) (heights_on g σ)
+waves_end g site τ σ c d waves =
+    underway_end g (heights_before g site τ) (grown_on g c d) (heights_on g σ)
+    (waves.advances.underway (heights_before g site τ) (underway_start g (heights_before g site τ) (λ j. 0) (λ j l. refl)))
+    (λ j l. let a = bit_le (σ (tile_of g j)).low (place_of g j) in let b = bit_le (σ (tile_of g j)).high (place_of g j) in omega arith)
+
+-- between two waves the tiles are at rest
+pub at_rest : (g : Grid) (site : ℕ) (more : Bool) (τ σ : ℕ → Tile) (c d : ℕ → Count) → AreWaves g site more τ σ c d → more ≡ true → AreAtRest g site σ
+at_rest g site more τ σ c d waves is = record { clear = λ m p l. waves.clear m p l; none_due = waves.none_due; empty = waves.empty is }
+
+pub none_grown : (g : Grid) (c : ℕ → Count) → 0 ≡ topplings g (grown_on g c c)
+none_grown g c =
+    let same = sum_below_same (sites g) (grown_on g c c) (λ j. 0) (λ j l. omega arith) in
+    let none = sum_below-zero (sites g) in
+    omega arith
+
+-- what is no longer due in a tile changes no height
+heights_kept : (g : Grid) (ts : List Tile) (here : ℕ) (t : Tile) (j : ℕ) → here < length ts → t.low ≡ (tile_at ts here).low → t.high ≡ (tile_at ts here).high
+    → heights_on g (tile_at ts) j ≡ heights_on g (tile_at (set ts here t)) j
+heights_kept g ts here t j inside low high = ⊎_elim
+    (λ (e : tile_of g j ≡ here).
+    let same = ap (λ (x : Tile). height x (place_of g j)) (tile_set_same ts here (tile_of g j) t inside e) in
+    let a = ap (λ x. bit x (place_of g j)) low in
+    let b = ap (λ x. bit x (place_of g j)) high in
+    let f = ap (λ m. height (tile_at ts m) (place_of g j)) e in
+    omega arith)
+    (λ (ne : tile_of g j ≡ here → ⊥). sym (ap (λ (x : Tile). height x (place_of g j)) (tile_set_other ts here (tile_of g j) t ne)))
+    (cases_eq (tile_of g j) here)
+
+pub settled_kept : (g : Grid) (s u : ℕ → ℕ) (ts : List Tile) (here : ℕ) (t : Tile) → here < length ts → t.low ≡ (tile_at ts here).low → t.high ≡ (tile_at ts here).high
+    → IsSettled g s u (heights_on g (tile_at ts)) → IsSettled g s u (heights_on g (tile_at (set ts here t)))
+settled_kept g s u ts here t inside low high done =
+    settled_same g s s u u (heights_on g (tile_at ts)) (heights_on g (tile_at (set ts here t))) (λ i l. refl) (λ i l. refl) (λ i l. heights_kept g ts here t i inside low high) done
+
+pub quiet_at_last : (g : Grid) (site : ℕ) (ts : List Tile) (here : ℕ) (t : Tile) → here < length ts → here ≡ tile_of g site → t.wave ≡ (tile_at ts here).wave → t.due ≡ 0
+    → ((m : ℕ) → IsClear (tile_at ts m)) → ((j : ℕ) → j < sites g → j ≢ site → bit (tile_at ts (tile_of g j)).due (place_of g j) ≡ 0) → AreQuiet g (tile_at (set ts here t))
+quiet_at_last g site ts here t inside is wave due clear none_due = record {
+  clear = λ m p low. ⊎_elim
+      (λ (e : m ≡ here). ap (λ (x : Tile). bit x.wave p) (tile_set_same ts here m t inside e) ∙ ap (λ x. bit x p) wave ∙ clear here p low)
+      (λ (ne : m ≡ here → ⊥). ap (λ (x : Tile). bit x.wave p) (tile_set_other ts here m t ne) ∙ clear m p low)
+      (cases_eq m here);
+  none_due = λ j l. ⊎_elim
+      (λ (e : tile_of g j ≡ here). ap (λ (x : Tile). bit x.due (place_of g j)) (tile_set_same ts here (tile_of g j) t inside e) ∙ ap (λ x. bit x (place_of g j)) due ∙ bit_none (place_of g j))
+      (λ (ne : tile_of g j ≡ here → ⊥). ap (λ (x : Tile). bit x.due (place_of g j)) (tile_set_other ts here (tile_of g j) t ne) ∙ none_due j l (λ e. ne (ap (tile_of g) e ∙ sym is)))
+      (cases_eq (tile_of g j) here);
+}

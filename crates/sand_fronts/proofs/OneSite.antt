@@ -1,0 +1,212 @@
+-- Numbers by site that differ at one site, read by tile and place.
+use Rattle.std.proofs.Common.{ℕ, true, false, ltb, List, length, get_or, replicate, ◌≡◌, ◌+◌, ◌*◌, ◌<◌, ◌≤◌, sym, ◌∙◌, ap, arith, ⊎_elim}
+use Rattle.std.specs.Prelude.{bit_or}
+use Rattle.std.proofs.Math.ListN.{set, get_or-eq_default}
+use Rattle.std.proofs.lemmas.Bool.{cases_Bool, cases_eq, cases_lt, lt-ltb, le-ltb, false≢true}
+use Rattle.std.proofs.lemmas.List.{get_or-set_same, get_or-set_other, get_or-replicate, length-replicate}
+use Rattle.sand_model.specs.Grid.{Grid, sites}
+use Rattle.sand_model.specs.Sand.{one_at}
+use Rattle.sand_model.specs.Lists.{one_if}
+use Rattle.sand_model.proofs.SumsBelow.{one_at_same, one_at_other}
+use Rattle.sand_tiles.specs.declared.tile.Tile.{Tile}
+use Rattle.sand_tiles.specs.Places.{bit, had}
+use Rattle.sand_tiles.proofs.Bits.{apart, bit_none}
+use Rattle.sand_fronts.specs.Tiling.{tile_of, place_of, is_site, site_on, on_tiles}
+use Rattle.sand_fronts.specs.Waves.{only, tile_at}
+use Rattle.sand_fronts.proofs.OnTiles.{there_again, back_again, on_site, off_site, on_tiles_le, on_nothing}
+use Rattle.sand_fronts.proofs.Waves.{only_same, only_other}
+use Rattle.sand_fronts.proofs.Gained.{tile_set_same, tile_set_other}
+
+-- another site is in another tile, or at another place
+pub elsewhere : (g : Grid) (s m p : ℕ) (x : ℕ) → s < sites g → ((tile_of g s ≡ m) → (place_of g s ≡ p) → ⊥) → only (tile_of g s) (λ q. x * one_at (place_of g s) q) m p ≡ 0
+elsewhere g s m p x inside apart = ⊎_elim
+    (λ (tile : m ≡ tile_of g s).
+    only_same (tile_of g s) m (λ q. x * one_at (place_of g s) q) p tile
+    ∙ ap (λ y. x * y) (one_at_other (place_of g s) p (λ place. apart (sym tile) place)) ∙ omega arith)
+    (λ (other : m ≡ tile_of g s → ⊥). only_other (tile_of g s) m (λ q. x * one_at (place_of g s) q) p other)
+    (cases_eq m (tile_of g s))
+
+pub put_site : (g : Grid) (f h : ℕ → ℕ) (s x m p : ℕ) → p < 64 → s < sites g → ((j : ℕ) → j < sites g → h j ≡ f j + x * one_at s j)
+    → on_tiles g h m p ≡ on_tiles g f m p + only (tile_of g s) (λ q. x * one_at (place_of g s) q) m p
+put_site g f h s x m p low inside more = ⊎_elim
+    (λ (yes : is_site g m p ≡ true).
+    let t = there_again g m p low yes in
+    let j = site_on g m p in
+    let a = on_site g h m p yes in
+    let b = on_site g f m p yes in
+    let c = more j t.0 in
+    ⊎_elim
+    (λ (e : s ≡ j).
+    let tile : m ≡ tile_of g s = sym (ap (tile_of g) e ∙ t.1) in
+    let place : place_of g s ≡ p = ap (place_of g) e ∙ t.2 in
+    let one : one_at (place_of g s) p ≡ 1 = ap (λ q. one_at q p) place ∙ one_at_same p in
+    let here = only_same (tile_of g s) m (λ q. x * one_at (place_of g s) q) p tile in
+    let d : x * one_at (place_of g s) p ≡ x = ap (λ y. x * y) one ∙ omega arith in
+    let e' : x * one_at s j ≡ x = ap (λ y. x * y) (ap (λ i. one_at i j) e ∙ one_at_same j) ∙ omega arith in
+    omega arith)
+    (λ (ne : s ≡ j → ⊥).
+    let z : x * one_at s j ≡ 0 = ap (λ y. x * y) (one_at_other s j ne) ∙ omega arith in
+    let none = elsewhere g s m p x inside (λ tile place. ne (sym ((back_again g s inside).1) ∙ ap (λ i. site_on g i (place_of g s)) tile ∙ ap (site_on g m) place)) in
+    omega arith)
+    (cases_eq s j))
+    (λ (no : is_site g m p ≡ false).
+    let a = off_site g h m p no in
+    let b = off_site g f m p no in
+    let none = elsewhere g s m p x inside (λ tile place. false≢true (sym no ∙ sym (ap (λ i. is_site g i (place_of g s)) tile ∙ ap (is_site g m) place) ∙ (back_again g s inside).0)) in
+    omega arith)
+    (cases_Bool (is_site g m p))
+
+-- ---- sites in their order, up to the n-th
+
+abbrev pub up_to : (ℕ → ℕ) → ℕ → ℕ → ℕ
+up_to h n j = one_if (ltb j n) * h j
+
+next_site : (h : ℕ → ℕ) (n j : ℕ) → up_to h (n + 1) j ≡ up_to h n j + h n * one_at n j
+next_site h n j = ⊎_elim
+    (λ (less : j < n).
+    let a = ap (λ b. one_if b * h j) (lt-ltb j (n + 1) (omega arith)) in
+    let b = ap (λ b. one_if b * h j) (lt-ltb j n less) in
+    let c = ap (λ x. h n * x) (one_at_other n j (λ e. omega arith)) in
+    omega arith)
+    (λ (more : n ≤ j).
+    let b = ap (λ b. one_if b * h j) (le-ltb j n more) in
+    ⊎_elim
+    (λ (e : n ≡ j).
+    let a = ap (λ b. one_if b * h j) (lt-ltb j (n + 1) (omega arith)) in
+    let c = ap (λ x. h n * x) (ap (λ i. one_at i j) e ∙ one_at_same j) in
+    let d = ap h e in
+    omega arith)
+    (λ (ne : n ≡ j → ⊥).
+    let a = ap (λ b. one_if b * h j) (le-ltb j (n + 1) (omega arith)) in
+    let c = ap (λ x. h n * x) (one_at_other n j ne) in
+    omega arith)
+    (cases_eq n j))
+    (cases_lt j n)
+
+pub fill_site : (g : Grid) (h : ℕ → ℕ) (n m p : ℕ) → p < 64 → n < sites g
+    → on_tiles g (up_to h (n + 1)) m p ≡ on_tiles g (up_to h n) m p + only (tile_of g n) (λ q. h n * one_at (place_of g n) q) m p
+fill_site g h n m p low inside = put_site g (up_to h n) (up_to h (n + 1)) n (h n) m p low inside (λ j l. next_site h n j)
+
+pub none_filled : (g : Grid) (h : ℕ → ℕ) (m p : ℕ) → p < 64 → on_tiles g (up_to h 0) m p ≡ 0
+none_filled g h m p low =
+    let le = on_tiles_le g (up_to h 0) (λ j. 0) m p low (λ j l. let e = ap (λ b. one_if b * h j) (le-ltb j 0 (omega arith)) in omega arith) in
+    let n = on_nothing g m p in
+    omega arith
+
+pub all_filled : (g : Grid) (h : ℕ → ℕ) (n m p : ℕ) → n ≡ sites g → p < 64 → on_tiles g (up_to h n) m p ≡ on_tiles g h m p
+all_filled g h n m p all low =
+    let same : (j : ℕ) → j < sites g → up_to h n j ≡ h j = λ j l. ap (λ b. one_if b * h j) (lt-ltb j n (omega arith)) ∙ omega arith in
+    let a = on_tiles_le g (up_to h n) h m p low (λ j l. let e = same j l in omega arith) in
+    let b = on_tiles_le g h (up_to h n) m p low (λ j l. let e = same j l in omega arith) in
+    omega arith
+
+-- no number so far is above the limit of all
+pub few_filled : (g : Grid) (h : ℕ → ℕ) (n m p most : ℕ) → p < 64 → ((j : ℕ) → j < sites g → h j ≤ most) → on_tiles g (up_to h n) m p ≤ most
+few_filled g h n m p most low few = ⊎_elim
+    (λ (yes : is_site g m p ≡ true).
+    let t = there_again g m p low yes in
+    let a = on_site g (up_to h n) m p yes in
+    let f = few (site_on g m p) t.0 in
+    ⊎_elim
+    (λ (is : ltb (site_on g m p) n ≡ true). let e = ap (λ b. one_if b * h (site_on g m p)) is in omega arith)
+    (λ (no : ltb (site_on g m p) n ≡ false). let e = ap (λ b. one_if b * h (site_on g m p)) no in omega arith)
+    (cases_Bool (ltb (site_on g m p) n)))
+    (λ (no : is_site g m p ≡ false). let a = off_site g (up_to h n) m p no in omega arith)
+    (cases_Bool (is_site g m p))
+
+-- ---- a list of words, and of tiles, with one site more
+
+pub word_more : (g : Grid) (words : List ℕ) (n k here x : ℕ) → n < sites g → k ≡ tile_of g n → k < length words → x ≡ get_or words k 0
+    → ((p : ℕ) → p < 64 → bit here p ≡ one_at (place_of g n) p)
+    → ((m p : ℕ) → p < 64 → bit (get_or words m 0) p ≡ on_tiles g (up_to (λ j. 1) n) m p)
+    → (m p : ℕ) → p < 64 → bit (get_or (set words k (bit_or x here)) m 0) p ≡ on_tiles g (up_to (λ j. 1) (n + 1)) m p
+word_more g words n k here x inside tile within read one each m p low =
+    let fill = fill_site g (λ j. 1) n m p low inside in
+    let before = each m p low in
+    let few = few_filled g (λ j. 1) (n + 1) m p 1 low (λ j l. omega arith) in
+    ⊎_elim
+    (λ (e : m ≡ k).
+    let a = only_same (tile_of g n) m (λ q. 1 * one_at (place_of g n) q) p (e ∙ tile) in
+    let b = one p low in
+    let c = ap (λ i. bit (get_or words i 0) p) e in
+    let r = ap (λ w. bit w p) read in
+    let both = apart x here p (omega arith) in
+    let w = ap (λ x. bit x p) (ap (λ i. get_or (set words k (bit_or x here)) i 0) e ∙ get_or-set_same words k (bit_or x here) 0 within) in
+    omega arith)
+    (λ (ne : m ≡ k → ⊥).
+    let a = only_other (tile_of g n) m (λ q. 1 * one_at (place_of g n) q) p (λ e. ne (e ∙ sym tile)) in
+    let w = ap (λ x. bit x p) (get_or-set_other words k m (bit_or x here) 0 ne) in
+    omega arith)
+    (cases_eq m k)
+
+pub tile_more : (g : Grid) (h : ℕ → ℕ) (ts : List Tile) (n k here : ℕ) (t : Tile) → n < sites g → k ≡ tile_of g n → k < length ts
+    → ((p : ℕ) → p < 64 → bit here p ≡ one_at (place_of g n) p)
+    → ((p : ℕ) → p < 64 → had t p ≡ had (tile_at ts k) p + h n * bit here p)
+    → ((m p : ℕ) → p < 64 → had (tile_at ts m) p ≡ on_tiles g (up_to h n) m p)
+    → (m p : ℕ) → p < 64 → had (tile_at (set ts k t) m) p ≡ on_tiles g (up_to h (n + 1)) m p
+tile_more g h ts n k here t inside tile within one more each m p low =
+    let fill = fill_site g h n m p low inside in
+    let before = each m p low in
+    ⊎_elim
+    (λ (e : m ≡ k).
+    let a = only_same (tile_of g n) m (λ q. h n * one_at (place_of g n) q) p (e ∙ tile) in
+    let b = ap (λ x. h n * x) (one p low) in
+    let c = ap (λ i. had (tile_at ts i) p) e in
+    let d = more p low in
+    let w = ap (λ x. had x p) (tile_set_same ts k m t within e) in
+    omega arith)
+    (λ (ne : m ≡ k → ⊥).
+    let a = only_other (tile_of g n) m (λ q. h n * one_at (place_of g n) q) p (λ e. ne (e ∙ sym tile)) in
+    let w = ap (λ x. had x p) (tile_set_other ts k m t ne) in
+    omega arith)
+    (cases_eq m k)
+
+-- there is room for the grains of one site more
+pub tile_room : (g : Grid) (h : ℕ → ℕ) (τ : ℕ → Tile) (n k here p : ℕ) → n < sites g → k ≡ tile_of g n → ((j : ℕ) → j < sites g → h j ≤ 3)
+    → ((q : ℕ) → q < 64 → bit here q ≡ one_at (place_of g n) q) → ((m q : ℕ) → q < 64 → had (τ m) q ≡ on_tiles g (up_to h n) m q)
+    → p < 64 → had (τ k) p + h n * bit here p ≤ 7
+tile_room g h τ n k here p inside tile few one each low =
+    let a = each k p low in
+    let b = few_filled g h n k p 3 low few in
+    let c = few n inside in
+    let d = ap (λ x. h n * x) (one p low) in
+    ⊎_elim
+    (λ (e : place_of g n ≡ p). let o = ap (λ x. h n * x) (ap (λ i. one_at i p) e ∙ one_at_same p) in omega arith)
+    (λ (ne : place_of g n ≡ p → ⊥). let o = ap (λ x. h n * x) (one_at_other (place_of g n) p ne) in omega arith)
+    (cases_eq (place_of g n) p)
+
+-- the set of a site's place, read by site
+pub start_of : (g : Grid) (s here : ℕ) (set' : ℕ) → s < sites g → here ≡ tile_of g s → ((p : ℕ) → p < 64 → bit set' p ≡ one_at (place_of g s) p)
+    → (p : ℕ) → p < 64 → bit set' p ≡ on_tiles g (λ j. 1 * one_at s j) here p
+start_of g s here set' inside tile one p low =
+    let put = put_site g (λ j. 0) (λ j. 1 * one_at s j) s 1 here p low inside (λ j l. omega arith) in
+    let none = on_nothing g here p in
+    let at = only_same (tile_of g s) here (λ q. 1 * one_at (place_of g s) q) p tile in
+    let o = one p low in
+    omega arith
+
+-- ---- before the first site
+
+blank_words : (n k : ℕ) → ◌≡◌ {A = ℕ} (get_or (replicate n 0) k 0) 0
+blank_words n k = ⊎_elim
+    (λ (less : k < n). get_or-replicate {A = ℕ} n k 0 0 less)
+    (λ (more : n ≤ k). get_or-eq_default {A = ℕ} (replicate n 0) 0 (let e = length-replicate {A = ℕ} n 0 in omega arith))
+    (cases_lt k n)
+
+abbrev bare : Tile
+bare = record { low = 0; high = 0; due = 0; wave = 0 }
+
+blank_tiles : (n k : ℕ) → tile_at (replicate n bare) k ≡ bare
+blank_tiles n k = ⊎_elim
+    (λ (less : k < n). get_or-replicate {A = Tile} n k bare bare less)
+    (λ (more : n ≤ k). get_or-eq_default {A = Tile} (replicate n bare) bare (let e = length-replicate {A = Tile} n bare in omega arith))
+    (cases_lt k n)
+
+pub no_words : (g : Grid) (h : ℕ → ℕ) (words : List ℕ) (n k p : ℕ) → words ≡ replicate n 0 → p < 64 → bit (get_or words k 0) p ≡ on_tiles g (up_to h 0) k p
+no_words g h words n k p all low =
+    ap (λ xs. bit (get_or xs k 0) p) all ∙ ap (λ x. bit x p) (blank_words n k) ∙ bit_none p ∙ sym (none_filled g h k p low)
+
+pub no_grains : (g : Grid) (h : ℕ → ℕ) (ts : List Tile) (n k p : ℕ) → ts ≡ replicate n bare → p < 64 → had (tile_at ts k) p ≡ on_tiles g (up_to h 0) k p
+no_grains g h ts n k p all low =
+    let z = bit_none p in
+    ap (λ xs. had (tile_at xs k) p) all ∙ ap (λ x. had x p) (blank_tiles n k) ∙ omega arith ∙ sym (none_filled g h k p low)

@@ -1,0 +1,26 @@
+-- What a drop topples, as tiles and counts show it.
+use Rattle.std.specs.Prelude.{ℕ, ◌≡◌, ◌-◌, ◌<◌}
+use Rattle.sand_model.specs.Grid.{Grid, sites}
+use Rattle.sand_tiles.specs.declared.tile.Tile.{Tile}
+use Rattle.sand_tiles.specs.declared.counting.Count.{Count}
+use Rattle.sand_tiles.specs.Places.{bit, height}
+use Rattle.sand_tiles.specs.Counts.{counted}
+use Rattle.sand_fronts.specs.Tiling.{tile_of, place_of}
+use Rattle.sand_fronts.specs.TileLists.{IsClear}
+
+-- the heights in the planes, by site
+abbrev pub heights_on : Grid → (ℕ → Tile) → ℕ → ℕ
+heights_on g τ j = height (τ (tile_of g j)) (place_of g j)
+
+-- how often each site has toppled
+abbrev pub counted_on : Grid → (ℕ → Count) → ℕ → ℕ
+counted_on g c j = counted (c (tile_of g j)) (place_of g j)
+
+-- by how much the count of each site has grown
+abbrev pub grown_on : Grid → (ℕ → Count) → (ℕ → Count) → ℕ → ℕ
+grown_on g c d j = counted_on g d j - counted_on g c j
+
+-- nothing is in a wave, and no site is due
+pub record AreQuiet (g : Grid) (τ : ℕ → Tile) : Type 0 where
+  pub clear : (m : ℕ) → IsClear (τ m)
+  pub none_due : (j : ℕ) → j < sites g → bit (τ (tile_of g j)).due (place_of g j) ≡ 0

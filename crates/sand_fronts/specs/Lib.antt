@@ -1,0 +1,5 @@
+pub mod Tiling
+pub mod Waves
+pub mod TileLists
+pub mod Counting
+pub mod Drops

@@ -1,0 +1,103 @@
+-- A wave on tiles: from a dropped site that has 4, each site topples once at most, and the dropped one is held back after it has.
+use Rattle.std.specs.Prelude.{ℕ, List, length, slice_index_or, ◌≡◌, ◌≢◌, ◌+◌, ◌-◌, ◌*◌, ◌%◌, ◌^◌, ◌<◌, ◌≤◌, if◌then◌else◌, ◌==◌}
+use Rattle.sand_model.specs.Grid.{Grid, sites}
+use Rattle.sand_model.specs.Sand.{Stabilises, flow, one_at}
+use Rattle.sand_tiles.specs.declared.tile.Tile.{Tile}
+use Rattle.sand_tiles.specs.Places.{bit, height, had, Visits}
+use Rattle.sand_fronts.specs.Tiling.{pitch, tile_of, place_of, on_tiles, over_north, over_south, over_west, over_east, to_west, to_east, shift_west, shift_east}
+use Rattle.sand_fronts.specs.declared.sides.Beside.{Beside}
+
+-- numbers by tile and place, read by site
+abbrev pub at_site : Grid → (ℕ → ℕ → ℕ) → ℕ → ℕ
+at_site g u j = u (tile_of g j) (place_of g j)
+
+-- how often each site has toppled in this wave
+abbrev pub toppled : Grid → (ℕ → Tile) → ℕ → ℕ
+toppled g τ = at_site g (λ k p. bit (τ k).wave p)
+
+-- f in one tile, and 0 in the others
+unfoldable pub only : ℕ → (ℕ → ℕ) → ℕ → ℕ → ℕ
+only k f m p = if m == k then f p else 0
+
+-- the words of the open places: all sites but the one that is held
+abbrev pub AreOpen : Grid → ℕ → (ℕ → ℕ) → Type 0
+AreOpen g site free = (k p : ℕ) → p < 64 → bit (free k) p ≡ on_tiles g (λ j. 1 - one_at site j) k p
+
+-- the words of all sites
+abbrev pub AreAllOpen : Grid → (ℕ → ℕ) → Type 0
+AreAllOpen g free = (k p : ℕ) → p < 64 → bit (free k) p ≡ on_tiles g (λ j. 1) k p
+
+-- the state of a wave that began with the heights h
+pub record IsWave (g : Grid) (site : ℕ) (h : ℕ → ℕ) (τ : ℕ → Tile) : Type 0 where
+  pub inside : (k p : ℕ) → p < 64 → bit (τ k).wave p ≡ on_tiles g (toppled g τ) k p
+  pub at_open : (j : ℕ) → j < sites g → j ≢ site → had (τ (tile_of g j)) (place_of g j) ≡ h j + flow g (toppled g τ) j
+  pub at_held : height (τ (tile_of g site)) (place_of g site) ≡ (h site + flow g (toppled g τ) site) % 4
+  pub needed : (w : ℕ → ℕ) → Stabilises g h w → (j : ℕ) → j < sites g → toppled g τ j ≤ w j
+
+-- the places of the set `new` of the tile k topple, and their grains reach all neighbours
+pub record Spreads (g : Grid) (site k new : ℕ) (τ σ : ℕ → Tile) : Type 0 where
+  pub once : (m p : ℕ) → p < 64 → bit (σ m).wave p ≡ bit (τ m).wave p + only k (bit new) m p
+  pub at_open : (j : ℕ) → j < sites g → j ≢ site → had (τ (tile_of g j)) (place_of g j) + flow g (at_site g (only k (bit new))) j ≤ 7
+      → had (σ (tile_of g j)) (place_of g j) ≡ had (τ (tile_of g j)) (place_of g j) + flow g (at_site g (only k (bit new))) j
+  pub at_held : height (σ (tile_of g site)) (place_of g site) ≡ (height (τ (tile_of g site)) (place_of g site) + flow g (at_site g (only k (bit new))) site) % 4
+
+-- a tile by its number, and one with nothing past the end
+abbrev pub tile_at : List Tile → ℕ → Tile
+tile_at tiles k = slice_index_or tiles k (record { low = 0; high = 0; due = 0; wave = 0 })
+
+-- each place gains so many grains; a place that has had at most 7 has had just so many more
+pub record Gains (τ σ : ℕ → Tile) (gain : ℕ → ℕ → ℕ) : Type 0 where
+  pub wave : (m p : ℕ) → p < 64 → bit (σ m).wave p ≡ bit (τ m).wave p
+  pub each : (m p : ℕ) → p < 64 → had (τ m) p + gain m p ≤ 7 → had (σ m) p ≡ had (τ m) p + gain m p
+  pub modulo : (m p : ℕ) → p < 64 → height (σ m) p ≡ (height (τ m) p + gain m p) % 4
+
+-- the grains of the set `new` that leave its tile, by the tile that they reach
+abbrev pub over_rim : Beside → ℕ → ℕ → ℕ → ℕ
+over_rim b new m p = only b.north (over_south (bit new)) m p + only b.south (over_north (bit new)) m p
+    + only b.west (over_east b.west_shift (bit new)) m p + only b.east (over_west b.east_shift (bit new)) m p
+
+-- the four tiles beside the tile k, and how far the columns shift
+pub record IsBeside (g : Grid) (k : ℕ) (b : Beside) : Type 0 where
+  pub north : b.north ≡ k - pitch g
+  pub south : b.south ≡ k + pitch g
+  pub west : b.west ≡ to_west g k
+  pub east : b.east ≡ to_east g k
+  pub west_shift : b.west_shift ≡ shift_west g k
+  pub east_shift : b.east_shift ≡ shift_east g k
+
+-- the tile k is visited, which leaves the tile v, and what leaves it reaches the tiles beside it
+pub record Steps (τ σ : ℕ → Tile) (free : ℕ) (b : Beside) (k start new : ℕ) : Type 0 where
+  pub visited : Tile
+  pub visits : Visits (τ k) visited free start new
+  pub fits : new < 2 ^ 64
+  pub gains : Gains (λ m. if m == k then visited else τ m) σ (over_rim b new)
+
+-- the heights that a wave has left: those in the planes, and what the held site has after its toppling
+pub record Leaves (g : Grid) (site : ℕ) (h : ℕ → ℕ) (τ : ℕ → Tile) (k : ℕ → ℕ) : Type 0 where
+  pub others : (j : ℕ) → j < sites g → j ≢ site → k j ≡ height (τ (tile_of g j)) (place_of g j)
+  pub held : k site + 4 ≡ h site + flow g (toppled g τ) site
+
+abbrev pub beside_at : List Beside → ℕ → Beside
+beside_at all k = slice_index_or all k (record { north = 0; south = 0; west = 0; east = 0; west_shift = 0; east_shift = 0 })
+
+-- n tiles, and for the tile of each site the four beside it
+pub record IsBoard (g : Grid) (n : ℕ) (all : List Beside) : Type 0 where
+  pub small : n ≤ 65536
+  pub one_each : length all ≡ n
+  pub here : (j : ℕ) → j < sites g → tile_of g j < n
+  pub each : (j : ℕ) → j < sites g → IsBeside g (tile_of g j) (beside_at all (tile_of g j))
+  pub north : (j : ℕ) → j < sites g → (beside_at all (tile_of g j)).north < n
+  pub south : (j : ℕ) → j < sites g → (beside_at all (tile_of g j)).south < n
+  pub west : (j : ℕ) → j < sites g → (beside_at all (tile_of g j)).west < n
+  pub east : (j : ℕ) → j < sites g → (beside_at all (tile_of g j)).east < n
+  pub shifts : (j : ℕ) → j < sites g → ((beside_at all (tile_of g j)).west_shift ≤ 7) × ((beside_at all (tile_of g j)).east_shift ≤ 7)
+
+-- the heights with which a wave begins: the dropped site has 4 more than in the planes
+abbrev pub heights_before : Grid → ℕ → (ℕ → Tile) → ℕ → ℕ
+heights_before g site τ j = height (τ (tile_of g j)) (place_of g j) + 4 * one_at site j
+
+-- between waves nothing has toppled, no open place is due, and the dropped site is 0 in the planes
+pub record AreAtRest (g : Grid) (site : ℕ) (τ : ℕ → Tile) : Type 0 where
+  pub clear : (m p : ℕ) → p < 64 → bit (τ m).wave p ≡ 0
+  pub none_due : (j : ℕ) → j < sites g → j ≢ site → bit (τ (tile_of g j)).due (place_of g j) ≡ 0
+  pub empty : height (τ (tile_of g site)) (place_of g site) ≡ 0

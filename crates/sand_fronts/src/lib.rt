@@ -1,0 +1,14 @@
+//! Avalanches by fronts: on tiles of 8 by 8 sites, all sites of a tile that may topple do so at once.
+#![tactic(auto)]
+
+mod counting;
+mod dropping;
+mod one_wave;
+mod sides;
+mod tile_list;
+mod tiling;
+
+pub use dropping::topple_all;
+pub use one_wave::topple_wave;
+pub use sides::{Beside, all_sides};
+pub use tile_list::TileList;

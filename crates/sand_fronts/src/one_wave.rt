@@ -1,0 +1,151 @@
+//! One wave over the tiles of a grid: the dropped site topples, and then, each once, all others that this brings to 4.
+//!
+//! - **The balance.** Let h be the heights as the wave begins, T the sites that have toppled and D those that are due. For
+//!   every site j except the dropped one, h(j) and its neighbours in T are the height in its tile's planes, and 4 more if j is
+//!   in T or D (`IsWave`). A visit to a tile keeps this, with the grains that leave the tile given to the tiles beside it.
+//! - **No site topples twice.** h(j) is at most 3 and there are four neighbours, so the balance is at most 7 on its left
+//!   side, and what has toppled cannot become due again. The dropped site could; it is not free in its own wave.
+//! - **Each toppling is legal, and the order does not matter.** Whatever stabilises the heights topples each site in T
+//!   (`IsWave`: `needed`). So the wave is a legal sequence of topplings (`advances`), though none is ever written down.
+//! - **The list.** A tile joins the list as a free site becomes due in it and none was before, and its turn topples
+//!   all that is due there. So each turn topples a new site, and the list never has more tiles than there are sites, one
+//!   and the four that a turn may add. When its end is reached, no free site is due (`none_due`).
+//!
+//! A border of tiles in which no site is free spares all tests for the edge of the grid: grains that fall into the sink
+//! are added to tiles that nobody reads. On a cylinder the tiles at the ends of a row are beside each other, and the last
+//! column of the grid need not be the last of its tile: hence the shifts of `Beside`.
+
+ghost use Rattle.std.specs.Prelude.{◌≡◌, ◌≢◌, ℕ, ◌+◌, ◌*◌, ◌<◌, ◌≤◌, length, slice_index};
+ghost use Rattle.sand_model.specs.Grid.{sites};
+ghost use Rattle.sand_model.specs.Sand.{one_at};
+ghost use Rattle.sand_model.specs.Underway.{Advances};
+ghost use Rattle.sand_tiles.specs.Places.{bit, IsReady};
+ghost use Rattle.sand_fronts.specs.Tiling.{tile_of, place_of, on_tiles};
+ghost use Rattle.sand_fronts.specs.TileLists.{waits, waits_but, Joins, AreListed};
+ghost use Rattle.sand_fronts.specs.Waves.{tile_at, only, AreOpen, AreAtRest, IsBoard, IsWave, heights_before, toppled, Leaves, Gains, over_rim, Steps};
+
+use crate::sides::Beside;
+use crate::tile_list::TileList;
+use sand_model::Shape;
+use sand_tiles::{Tile, receive, visit};
+
+// The first column of a tile.
+const FIRST: u64 = 0x0101_0101_0101_0101;
+
+// Adds a grain at each place of a set in a tile, and lists the tile if a free place becomes due there and none was before.
+#[inline(always)]
+fn gain_at(tiles: &mut [Tile], free: &[u64], list: &mut TileList, k: usize, gain: u64)
+    requires inside { k < length tiles.old }
+    requires small { length tiles.old ≤ 65536 }
+    requires one_each { length free.now ≡ length tiles.old }
+    requires room { length list.old.tiles < list.old.room }
+    ensures gains { Gains (tile_at tiles.old) (tile_at tiles.new) (only k (bit gain)) }
+    ensures joins { (n : ℕ) → n ≡ length tiles.old → Joins n 1 (waits (tile_at tiles.old) (slice_index free.now)) (waits (tile_at tiles.new) (slice_index free.now)) list.old list.new }
+{
+    let places = free[k];
+    let before = tiles[k].due & places;
+    receive(&mut tiles[k], gain);
+    let after = tiles[k].due & places;
+    list.push_if(k, (before == 0) & (after != 0));
+}
+
+// Gives the grains that leave a tile to the four tiles beside it.
+#[inline(always)]
+fn hand_over(tiles: &mut [Tile], free: &[u64], list: &mut TileList, beside: &Beside, new: u64)
+    requires north { beside.now.north < length tiles.old }
+    requires south { beside.now.south < length tiles.old }
+    requires west { beside.now.west < length tiles.old }
+    requires east { beside.now.east < length tiles.old }
+    requires shifts { (beside.now.west_shift ≤ 7) × (beside.now.east_shift ≤ 7) }
+    requires small { length tiles.old ≤ 65536 }
+    requires one_each { length free.now ≡ length tiles.old }
+    requires room { length list.old.tiles + 4 ≤ list.old.room }
+    ensures gains { Gains (tile_at tiles.old) (tile_at tiles.new) (over_rim beside.now new) }
+    ensures joins { (n : ℕ) → n ≡ length tiles.old → Joins n 4 (waits (tile_at tiles.old) (slice_index free.now)) (waits (tile_at tiles.new) (slice_index free.now)) list.old list.new }
+{
+    gain_at(tiles, free, list, beside.north, new << 56);
+    gain_at(tiles, free, list, beside.south, new >> 56);
+    gain_at(
+        tiles,
+        free,
+        list,
+        beside.west,
+        (new & FIRST) << beside.west_shift,
+    );
+    gain_at(
+        tiles,
+        free,
+        list,
+        beside.east,
+        new >> beside.east_shift & FIRST,
+    );
+}
+
+// Visits a tile, and gives the grains that leave it to the tiles beside it.
+#[inline(always)]
+fn topple_tile(
+    tiles: &mut [Tile],
+    free: &[u64],
+    list: &mut TileList,
+    beside: &Beside,
+    k: usize,
+    start: u64,
+) -> u64
+    requires tile { k < length tiles.old }
+    requires one_each { length free.now ≡ length tiles.old }
+    requires room { length list.old.tiles + 4 ≤ list.old.room }
+    requires ready { IsReady (tile_at tiles.old k) (slice_index free.now k) start }
+    requires north { beside.now.north < length tiles.old }
+    requires south { beside.now.south < length tiles.old }
+    requires west { beside.now.west < length tiles.old }
+    requires east { beside.now.east < length tiles.old }
+    requires shifts { (beside.now.west_shift ≤ 7) × (beside.now.east_shift ≤ 7) }
+    requires small { length tiles.old ≤ 65536 }
+    ensures steps { Steps (tile_at tiles.old) (tile_at tiles.new) (slice_index free.now k) beside.now k start result }
+    ensures joins { (n : ℕ) → n ≡ length tiles.old → Joins n 4 (waits_but k (tile_at tiles.old) (slice_index free.now)) (waits (tile_at tiles.new) (slice_index free.now)) list.old list.new }
+{
+    let places = free[k];
+    let new = visit(&mut tiles[k], places, start);
+    hand_over(tiles, free, list, beside, new);
+    new
+}
+
+/// One wave: the dropped site topples, and then, each once, all others that this brings to 4.
+pub fn topple_wave(
+    shape: Shape,
+    tiles: &mut [Tile],
+    free: &[u64],
+    beside: &[Beside],
+    list: &mut TileList,
+    site: usize,
+    here: usize,
+    start: u64,
+)
+    requires site { site < sites shape }
+    requires here { here ≡ tile_of shape site }
+    requires start { (p : ℕ) → p < 64 → bit start p ≡ on_tiles shape (λ j. 1 * one_at site j) here p }
+    requires one_each { length free.now ≡ length tiles.old }
+    requires board { IsBoard shape (length tiles.old) beside.now }
+    requires all_open { AreOpen shape site (slice_index free.now) }
+    requires rest { AreAtRest shape site (tile_at tiles.old) }
+    requires room { sites shape + length tiles.old + 4 ≤ list.old.room }
+    ensures listed { AreListed here list.new.tiles 0 (length list.new.tiles) (tile_at tiles.new) }
+    ensures on_board { (t : ℕ) → t < length list.new.tiles → slice_index list.new.tiles t < length tiles.new }
+    ensures room { list.new.room ≡ list.old.room }
+    ensures wave { IsWave shape site (heights_before shape site (tile_at tiles.old)) (tile_at tiles.new) }
+    ensures advances { (k u v : ℕ → ℕ) → Leaves shape site (heights_before shape site (tile_at tiles.old)) (tile_at tiles.new) k
+        → ((j : ℕ) → j < sites shape → v j ≡ u j + toppled shape (tile_at tiles.new) j) → Advances shape u (heights_before shape site (tile_at tiles.old)) v k }
+    ensures started { toppled shape (tile_at tiles.new) site ≡ 1 }
+    ensures none_due { (j : ℕ) → j < sites shape → j ≢ site → bit (tile_at tiles.new (tile_of shape j)).due (place_of shape j) ≡ 0 }
+{
+    list.clear();
+    let first = beside[here];
+    topple_tile(tiles, free, list, &first, here, start);
+    let mut turn = 0usize;
+    'turns: while turn < list.len() {
+        let k = list.tile(turn);
+        turn += 1;
+        let next = beside[k];
+        topple_tile(tiles, free, list, &next, k, 0);
+    }
+}

@@ -1,0 +1,102 @@
+//! What is beside each tile.
+//!
+//! The tiles are numbered row by row, with those of the border. So the tiles to the north and to the south are a row of
+//! tiles away, and those to the west and to the east are the tiles before and after. On a cylinder the first and the last
+//! tile of a row with sites are beside each other instead, across the seam. There the last column of the grid, which
+//! may be any column of its tile, is beside the first: a grain moves from one to the other by a shift over that many columns.
+
+ghost use Rattle.std.specs.Prelude.{◌≡◌, ◌-◌, ◌^◌, ◌<◌, ◌==◌, ◌&&◌, ◌%◌, length, IfOk};
+ghost use Rattle.sand_model.specs.Grid.{joins};
+ghost use Rattle.sand_fronts.specs.Tiling.{pitch, tiles, to_west, to_east, shift_west, shift_east};
+ghost use Rattle.sand_fronts.specs.Waves.{IsBeside, IsBoard};
+
+use crate::tiling::{across, tiles};
+use sand_model::{Edge, Shape};
+use std::alloc::{AllocError, Global};
+
+/// The four tiles beside a tile, and how far a column shifts to the west and to the east of it.
+#[derive(Clone, Copy, Debug)]
+pub struct Beside {
+    pub north: usize,
+    pub south: usize,
+    pub west: usize,
+    pub east: usize,
+    pub west_shift: u32,
+    pub east_shift: u32,
+}
+
+// Whether a tile is in this column of tiles, and the grid has a seam.
+fn is_at_seam(shape: Shape, k: usize, column: usize) -> bool
+    ensures { result ≡ (joins shape.edge && (k % pitch shape == column)) }
+{
+    match shape.edge() {
+        Edge::Open => false,
+        Edge::Cylinder => k % (across(shape) + 2) == column,
+    }
+}
+
+// The last column of the grid in its tile.
+fn last_column(shape: Shape) -> u32
+    ensures { result ≡ (shape.width - 1) % 8 }
+{
+    ((shape.width() - 1) % 8) as u32
+}
+
+// The tile to the west, and the last column there that has sites.
+#[tactic(auto, unfolding(crate::specs::Tiling::to_west, crate::specs::Tiling::shift_west))]
+fn west_of(shape: Shape, k: usize) -> (usize, u32)
+    requires { k < 2 ^ 32 }
+    ensures tile { result.0 ≡ to_west shape k }
+    ensures shift { result.1 ≡ shift_west shape k }
+{
+    if is_at_seam(shape, k, 1) {
+        (k + (across(shape) - 1), last_column(shape))
+    } else {
+        (k.saturating_sub(1), 7)
+    }
+}
+
+// The tile to the east, and the last column with sites of the tile to the west of that.
+#[tactic(auto, unfolding(crate::specs::Tiling::to_east, crate::specs::Tiling::shift_east))]
+fn east_of(shape: Shape, k: usize) -> (usize, u32)
+    requires { k < 2 ^ 32 }
+    ensures tile { result.0 ≡ to_east shape k }
+    ensures shift { result.1 ≡ shift_east shape k }
+{
+    let column = across(shape);
+    if is_at_seam(shape, k, column) {
+        (k.saturating_sub(column - 1), last_column(shape))
+    } else {
+        (k + 1, 7)
+    }
+}
+
+fn sides_of(shape: Shape, k: usize) -> Beside
+    requires { k < 2 ^ 32 }
+    ensures { IsBeside shape k result }
+{
+    let row = across(shape) + 2;
+    let (west, west_shift) = west_of(shape, k);
+    let (east, east_shift) = east_of(shape, k);
+    Beside {
+        north: k.saturating_sub(row),
+        south: k + row,
+        west,
+        east,
+        west_shift,
+        east_shift,
+    }
+}
+
+/// What is beside each tile of a grid. Fails only if an allocation fails.
+pub fn all_sides(alloc: Global, shape: Shape) -> Result<Vec<Beside>, AllocError>
+    ensures one_each { IfOk result (λ all. length all.items ≡ tiles shape) }
+    ensures board { IfOk result (λ all. IsBoard shape (tiles shape) all.items) }
+{
+    let n = tiles(shape);
+    let mut all = Vec::with_capacity(alloc, n)?;
+    for k in 0..n {
+        all.push_reserved(sides_of(shape, k));
+    }
+    Ok(all)
+}
