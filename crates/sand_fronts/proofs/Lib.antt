@@ -12,3 +12,4 @@ pub mod Boards
 pub mod OneSite
 pub mod Counted
 pub mod ManyWaves
+pub mod OneGrain

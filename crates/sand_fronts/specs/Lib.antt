@@ -3,3 +3,4 @@ pub mod Waves
 pub mod TileLists
 pub mod Counting
 pub mod Drops
+pub mod TiledPiles

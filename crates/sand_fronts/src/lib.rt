@@ -6,9 +6,11 @@ mod dropping;
 mod one_wave;
 mod sides;
 mod tile_list;
+mod tiled_pile;
 mod tiling;
 
 pub use dropping::topple_all;
 pub use one_wave::topple_wave;
 pub use sides::{Beside, all_sides};
 pub use tile_list::TileList;
+pub use tiled_pile::drop_grain;

@@ -1,0 +1,66 @@
+use Rattle.std.proofs.Common.{ℕ, ◌≡◌, ◌+◌, ◌∙◌, refl, sym, ap, subst, length, get_or, arith}
+use Rattle.std.specs.Prelude.{bit_xor}
+use Rattle.std.proofs.Math.ListN.{set}
+use Rattle.std.proofs.lemmas.List.{length-set}
+use Rattle.sand_model.specs.Sand.{one_at}
+use Rattle.sand_model.proofs.Sandpile.{settled_same}
+use Rattle.sand_tiles.specs.declared.tile.Tile.{Tile}
+use Rattle.sand_fronts.specs.Tiling.{tiles}
+use Rattle.sand_fronts.specs.Waves.{tile_at, heights_before, IsBoard}
+use Rattle.sand_fronts.specs.Counting.{count_at}
+use Rattle.sand_fronts.specs.Drops.{heights_on, grown_on}
+use Rattle.sand_fronts.proofs.ManyWaves.{none_grown}
+use Rattle.sand_fronts.proofs.OneGrain.{gets_grain, is_due_there, is_not_due_there, calm_quiet, calm_settled, due_rest, due_heights, taken_out, put_back}
+use Rattle.sand_fronts.proofs.tiled_pile.drop_grain.Goals as goal
+
+-- ---- the site is not due
+
+pub returns-then-not-is_due-clause-pile : goal.returns-then-not-is_due-clause-pile
+returns-then-not-is_due-clause-pile c = record {
+  tiles_each = omega (arith, length-set {A = Tile}, c.requires.pile.tiles_each);
+  free_each = c.requires.pile.free_each;
+  counts_each = c.requires.pile.counts_each;
+  board = c.requires.pile.board;
+  all_open = c.requires.pile.all_open;
+  quiet = calm_quiet c.args.shape c.args.site c.args.tiles.now c.find-here.result.0 c.set_of-grain.result c.receive.new.tile (gets_grain c.args.shape c.args.site c.args.tiles.now c.find-here.result.0 c.find-here.result.1 c.set_of-grain.result c.receive.new.tile c.requires.site c.find-here.ensures.tile c.find-here.ensures.place c.requires.pile.tiles_each c.find-here.ensures.inside.0 c.set_of-grain.ensures c.receive.ensures c.requires.pile.quiet) (is_not_due_there c.args.shape c.args.site (tile_at (set c.args.tiles.now c.find-here.result.0 c.receive.new.tile)) c.find-here.result.0 c.find-here.result.1 c.is_due.result c.find-here.ensures.tile c.find-here.ensures.place c.is_due.ensures c.if-not-is_due.true);
+  sound = c.requires.pile.sound;
+  room = c.requires.pile.room;
+}
+
+pub returns-then-not-is_due-clause-settled : goal.returns-then-not-is_due-clause-settled
+returns-then-not-is_due-clause-settled c = calm_settled c.args.shape c.args.site c.args.tiles.now c.find-here.result.0 c.set_of-grain.result c.receive.new.tile (count_at c.args.counts.now) (gets_grain c.args.shape c.args.site c.args.tiles.now c.find-here.result.0 c.find-here.result.1 c.set_of-grain.result c.receive.new.tile c.requires.site c.find-here.ensures.tile c.find-here.ensures.place c.requires.pile.tiles_each c.find-here.ensures.inside.0 c.set_of-grain.ensures c.receive.ensures c.requires.pile.quiet) (is_not_due_there c.args.shape c.args.site (tile_at (set c.args.tiles.now c.find-here.result.0 c.receive.new.tile)) c.find-here.result.0 c.find-here.result.1 c.is_due.result c.find-here.ensures.tile c.find-here.ensures.place c.is_due.ensures c.if-not-is_due.true)
+
+pub returns-then-not-is_due-clause-size : goal.returns-then-not-is_due-clause-size
+returns-then-not-is_due-clause-size c = none_grown c.args.shape (count_at c.args.counts.now)
+
+-- ---- the site is due
+
+pub topple_all-size-requires-clause-rest : goal.topple_all-size-requires-clause-rest
+topple_all-size-requires-clause-rest c = due_rest c.args.shape c.args.site c.args.tiles.now c.find-here.result.0 c.set_of-grain.result c.receive.new.tile (gets_grain c.args.shape c.args.site c.args.tiles.now c.find-here.result.0 c.find-here.result.1 c.set_of-grain.result c.receive.new.tile c.requires.site c.find-here.ensures.tile c.find-here.ensures.place c.requires.pile.tiles_each c.find-here.ensures.inside.0 c.set_of-grain.ensures c.receive.ensures c.requires.pile.quiet) (is_due_there c.args.shape c.args.site (tile_at (set c.args.tiles.now c.find-here.result.0 c.receive.new.tile)) c.find-here.result.0 c.find-here.result.1 c.is_due.result c.find-here.ensures.tile c.find-here.ensures.place c.is_due.ensures c.if-not-is_due.false)
+
+pub topple_all-size-requires-clause-all_open : goal.topple_all-size-requires-clause-all_open
+topple_all-size-requires-clause-all_open c = taken_out c.args.shape c.args.site c.find-here.result.0 c.set_of-grain.result c.args.free.now c.requires.site c.find-here.ensures.tile (omega (arith, c.find-here.ensures.inside.0, c.requires.pile.free_each)) (λ p low. c.set_of-grain.ensures p low ∙ ap (λ q. one_at q p) c.find-here.ensures.place) c.requires.pile.all_open
+
+pub topple_all-size-requires-clause-board : goal.topple_all-size-requires-clause-board
+topple_all-size-requires-clause-board c =
+    let each : tiles c.args.shape ≡ length (set c.args.tiles.now c.find-here.result.0 c.receive.new.tile) = omega (arith, length-set {A = Tile}, c.requires.pile.tiles_each) in
+    subst (λ n. IsBoard c.args.shape n c.args.beside.now) each c.requires.pile.board
+
+pub returns-clause-settled : goal.returns-clause-settled
+returns-clause-settled c =
+    let grown = grown_on c.args.shape (count_at c.args.counts.now) (count_at c.topple_all-size.new.counts) in
+    let left = heights_on c.args.shape (tile_at c.topple_all-size.new.tiles) in
+    settled_same c.args.shape (heights_before c.args.shape c.args.site (tile_at (set c.args.tiles.now c.find-here.result.0 c.receive.new.tile))) (λ j. heights_on c.args.shape (tile_at c.args.tiles.now) j + one_at c.args.site j) grown grown left left
+    (λ i l. due_heights c.args.shape c.args.site c.args.tiles.now c.find-here.result.0 c.set_of-grain.result c.receive.new.tile i (gets_grain c.args.shape c.args.site c.args.tiles.now c.find-here.result.0 c.find-here.result.1 c.set_of-grain.result c.receive.new.tile c.requires.site c.find-here.ensures.tile c.find-here.ensures.place c.requires.pile.tiles_each c.find-here.ensures.inside.0 c.set_of-grain.ensures c.receive.ensures c.requires.pile.quiet) (is_due_there c.args.shape c.args.site (tile_at (set c.args.tiles.now c.find-here.result.0 c.receive.new.tile)) c.find-here.result.0 c.find-here.result.1 c.is_due.result c.find-here.ensures.tile c.find-here.ensures.place c.is_due.ensures c.if-not-is_due.false) l) (λ i l. refl) (λ i l. refl) c.topple_all-size.ensures.settled
+
+pub returns-clause-pile : goal.returns-clause-pile
+returns-clause-pile c = record {
+  tiles_each = omega (arith, length-set {A = Tile}, c.topple_all-size.auto.tiles, c.requires.pile.tiles_each);
+  free_each = omega (arith, length-set {A = ℕ}, c.requires.pile.free_each);
+  counts_each = omega (arith, c.topple_all-size.auto.counts, c.requires.pile.counts_each);
+  board = c.requires.pile.board;
+  all_open = put_back c.args.shape c.args.site c.find-here.result.0 c.set_of-grain.result (set c.args.free.now c.find-here.result.0 (bit_xor (get_or c.args.free.now c.find-here.result.0 0) c.set_of-grain.result)) c.requires.site c.find-here.ensures.tile (omega (arith, length-set {A = ℕ}, c.find-here.ensures.inside.0, c.requires.pile.free_each)) (λ p low. c.set_of-grain.ensures p low ∙ ap (λ q. one_at q p) c.find-here.ensures.place) (taken_out c.args.shape c.args.site c.find-here.result.0 c.set_of-grain.result c.args.free.now c.requires.site c.find-here.ensures.tile (omega (arith, c.find-here.ensures.inside.0, c.requires.pile.free_each)) (λ p low. c.set_of-grain.ensures p low ∙ ap (λ q. one_at q p) c.find-here.ensures.place) c.requires.pile.all_open);
+  quiet = c.topple_all-size.ensures.quiet;
+  sound = c.topple_all-size.ensures.sound;
+  room = omega (arith, c.topple_all-size.ensures.room, c.requires.pile.room);
+}
