@@ -3,7 +3,7 @@ use Rattle.std.proofs.Common.{ℕ, Bool, true, false, eqb, List, length, get_or,
 use Rattle.std.specs.Prelude.{bit_xor, slice_index}
 use Rattle.std.proofs.Math.ListN.{set}
 use Rattle.std.proofs.lemmas.Bool.{cases_eq, eqb-true, eqb-false}
-use Rattle.std.proofs.lemmas.List.{get_or-set_same, get_or-set_other}
+use Rattle.std.proofs.lemmas.List.{get_or-set_same, get_or-set_other, length-set}
 use Rattle.sand_model.specs.Grid.{Grid, sites}
 use Rattle.sand_model.specs.Sand.{IsSettled, one_at}
 use Rattle.sand_model.proofs.SumsBelow.{one_at_same, one_at_other}
@@ -21,14 +21,10 @@ use Rattle.sand_fronts.specs.Drops.{heights_on, grown_on, AreQuiet}
 use Rattle.sand_fronts.proofs.OnTiles.{place_below, back_again}
 use Rattle.sand_fronts.proofs.OneSite.{put_site}
 use Rattle.sand_fronts.proofs.Waves.{only_same, only_other}
-use Rattle.sand_fronts.proofs.ManyWaves.{on_below}
 use Rattle.sand_fronts.proofs.Gained.{tile_set_same, tile_set_other}
 
 at_most_one_at : (k j : ℕ) → one_at k j ≤ 1
 at_most_one_at k j = at_most_one (eqb k j)
-
-few_on : (g : Grid) (k p : ℕ) → p < 64 → on_tiles g (λ j. 1) k p ≤ 1
-few_on g k p low = on_below g (λ j. 1) k p 1 low (λ j l. omega arith)
 
 -- sites of one tile are the same if their places are
 same_site : (g : Grid) (i j : ℕ) → i < sites g → j < sites g → tile_of g j ≡ tile_of g i → one_at (place_of g i) (place_of g j) ≡ one_at i j
@@ -179,24 +175,13 @@ taken_out g site here grain free inside is within one all k p low =
     omega arith)
     (cases_eq k here)
 
-pub put_back : (g : Grid) (site here grain : ℕ) (free : List ℕ) → site < sites g → here ≡ tile_of g site → here < length free → ((p : ℕ) → p < 64 → bit grain p ≡ one_at (place_of g site) p)
-    → AreOpen g site (slice_index free) → AreAllOpen g (slice_index (set free here (bit_xor (get_or free here 0) grain)))
-put_back g site here grain free inside is within one all k p low =
-    let put = put_site g (λ j. 1 - one_at site j) (λ j. 1) site 1 k p low inside (λ j l. let f = at_most_one_at site j in omega arith) in
-    let a = all k p low in
-    let most = few_on g k p low in
-    ⊎_elim
+pub put_back : (g : Grid) (here x : ℕ) (free : List ℕ) → here < length free → AreAllOpen g (slice_index free) → AreAllOpen g (slice_index (set (set free here x) here (get_or free here 0)))
+put_back g here x free within all k p low = ⊎_elim
     (λ (e : k ≡ here).
-    let now = ap (λ x. bit x p) (ap (λ i. get_or (set free here (bit_xor (get_or free here 0) grain)) i 0) e ∙ get_or-set_same free here (bit_xor (get_or free here 0) grain) 0 within) in
-    let was = ap (λ i. bit (get_or free i 0) p) e in
-    let h = half (get_or free here 0) grain p in
-    let o = one p low in
-    let here' = only_same (tile_of g site) k (λ q. 1 * one_at (place_of g site) q) p (e ∙ is) in
-    omega arith)
+    ap (λ y. bit y p) (ap (λ i. get_or (set (set free here x) here (get_or free here 0)) i 0) e ∙ get_or-set_same (set free here x) here (get_or free here 0) 0 (let long = length-set free here x in omega arith))
+    ∙ sym (ap (λ i. bit (get_or free i 0) p) e) ∙ all k p low)
     (λ (ne : k ≡ here → ⊥).
-    let now = ap (λ x. bit x p) (get_or-set_other free here k (bit_xor (get_or free here 0) grain) 0 ne) in
-    let none = only_other (tile_of g site) k (λ q. 1 * one_at (place_of g site) q) p (λ e. ne (e ∙ sym is)) in
-    omega arith)
+    ap (λ y. bit y p) (get_or-set_other (set free here x) here k (get_or free here 0) 0 ne ∙ get_or-set_other free here k x 0 ne) ∙ all k p low)
     (cases_eq k here)
 
 -- ---- what the code knows

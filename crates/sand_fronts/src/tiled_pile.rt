@@ -1,7 +1,8 @@
 //! A grain dropped on a stable pile on tiles.
 //!
 //! The grain is added to the planes of its tile. If its site is due then, it topples, and all that follows (`dropping`). In its
-//! waves the site is not free: its bit is taken out of the word of its tile, and put back when they have passed.
+//! waves the site is not free: its bit is taken out of the word of its tile, and the whole word is put back when they have
+//! passed.
 
 ghost use Rattle.std.specs.Prelude.{◌≡◌, ℕ, ◌+◌, ◌^◌, ◌<◌};
 ghost use Rattle.sand_model.specs.Grid.{sites};
@@ -42,8 +43,9 @@ pub fn drop_grain(
     if !is_due(&tiles[here], place) {
         return 0;
     }
-    free[here] ^= grain;
+    let whole = free[here];
+    free[here] = whole ^ grain;
     let size = topple_all(shape, tiles, free, beside, list, counts, site, here, place);
-    free[here] ^= grain;
+    free[here] = whole;
     size
 }

@@ -59,7 +59,7 @@ returns-clause-pile c = record {
   free_each = omega (arith, length-set {A = ℕ}, c.requires.pile.free_each);
   counts_each = omega (arith, c.topple_all-size.auto.counts, c.requires.pile.counts_each);
   board = c.requires.pile.board;
-  all_open = put_back c.args.shape c.args.site c.find-here.result.0 c.set_of-grain.result (set c.args.free.now c.find-here.result.0 (bit_xor (get_or c.args.free.now c.find-here.result.0 0) c.set_of-grain.result)) c.requires.site c.find-here.ensures.tile (omega (arith, length-set {A = ℕ}, c.find-here.ensures.inside.0, c.requires.pile.free_each)) (λ p low. c.set_of-grain.ensures p low ∙ ap (λ q. one_at q p) c.find-here.ensures.place) (taken_out c.args.shape c.args.site c.find-here.result.0 c.set_of-grain.result c.args.free.now c.requires.site c.find-here.ensures.tile (omega (arith, c.find-here.ensures.inside.0, c.requires.pile.free_each)) (λ p low. c.set_of-grain.ensures p low ∙ ap (λ q. one_at q p) c.find-here.ensures.place) c.requires.pile.all_open);
+  all_open = put_back c.args.shape c.find-here.result.0 (bit_xor (get_or c.args.free.now c.find-here.result.0 0) c.set_of-grain.result) c.args.free.now (omega (arith, c.find-here.ensures.inside.0, c.requires.pile.free_each)) c.requires.pile.all_open;
   quiet = c.topple_all-size.ensures.quiet;
   sound = c.topple_all-size.ensures.sound;
   room = omega (arith, c.topple_all-size.ensures.room, c.requires.pile.room);
