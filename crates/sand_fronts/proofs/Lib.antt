@@ -13,3 +13,4 @@ pub mod OneSite
 pub mod Counted
 pub mod ManyWaves
 pub mod OneGrain
+pub mod NewPiles

@@ -163,7 +163,7 @@ on_sum g u t v m p low sums = ⊎_elim
     omega arith)
     (cases_Bool (is_site g m p))
 
-on_below : (g : Grid) (v : ℕ → ℕ) (m p most : ℕ) → p < 64 → ((j : ℕ) → j < sites g → v j ≤ most) → on_tiles g v m p ≤ most
+pub on_below : (g : Grid) (v : ℕ → ℕ) (m p most : ℕ) → p < 64 → ((j : ℕ) → j < sites g → v j ≤ most) → on_tiles g v m p ≤ most
 on_below g v m p most low few = ⊎_elim
     (λ (yes : is_site g m p ≡ true). let there = there_again g m p low yes in let a = on_site g v m p yes in let f = few (site_on g m p) there.0 in omega arith)
     (λ (no : is_site g m p ≡ false). let a = off_site g v m p no in omega arith)

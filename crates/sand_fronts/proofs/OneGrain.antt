@@ -12,11 +12,11 @@ use Rattle.sand_model.proofs.Underway.{underway_start, underway_end}
 use Rattle.sand_model.proofs.Lists.{at_most_one}
 use Rattle.sand_tiles.specs.declared.tile.Tile.{Tile}
 use Rattle.sand_tiles.specs.declared.counting.Count.{Count}
-use Rattle.sand_tiles.specs.Places.{bit, height, had, Receives}
+use Rattle.sand_tiles.specs.Places.{bit, had, Receives}
 use Rattle.sand_tiles.proofs.Bits.{bit_le, half, both_le}
-use Rattle.sand_fronts.specs.Tiling.{tiles, tile_of, place_of, site_on, on_tiles}
+use Rattle.sand_fronts.specs.Tiling.{tiles, tile_of, place_of, site_on}
 use Rattle.sand_fronts.specs.TileLists.{IsClear}
-use Rattle.sand_fronts.specs.Waves.{tile_at, only, AreOpen, AreAllOpen, AreAtRest, heights_before}
+use Rattle.sand_fronts.specs.Waves.{tile_at, AreOpen, AreAllOpen, AreAtRest, heights_before}
 use Rattle.sand_fronts.specs.Drops.{heights_on, grown_on, AreQuiet}
 use Rattle.sand_fronts.proofs.OnTiles.{place_below, back_again}
 use Rattle.sand_fronts.proofs.OneSite.{put_site}

@@ -3,6 +3,7 @@
 
 mod counting;
 mod dropping;
+mod new_pile;
 mod one_wave;
 mod sides;
 mod tile_list;
@@ -10,6 +11,7 @@ mod tiled_pile;
 mod tiling;
 
 pub use dropping::topple_all;
+pub use new_pile::TiledPile;
 pub use one_wave::topple_wave;
 pub use sides::{Beside, all_sides};
 pub use tile_list::TileList;
