@@ -1,51 +1,87 @@
 //! Lines that no command writes, and what a fault says of itself. docs/FORMATS.md has the names and numbers.
 
-use crate::stopping::Sluggish;
-use sand_desk::{DeskFault, write_fault};
+use crate::runs::{fault_of, sent};
+use crate::stopping::{Failing, Sluggish};
+use sand_desk::{DeskFault, status, write_fault};
 use std::test::Fail;
 
-// The last one does not fit into its writer.
 #[test]
 fn lines_that_no_command_writes(rt: HostRuntime) -> Result<(), Fail> {
     let most = DeskFault::Write(usize::MAX);
-    for (fault, room, want) in [
-        (DeskFault::Taken, 99, "fault 17 Taken\n"),
-        (most, 99, "fault 21 Write after 18446744073709551615\n"),
-        (DeskFault::Write(44), 7, "fault 2"),
+    for (fault, want) in [
+        (DeskFault::Taken, "fault 17 Taken\n"),
+        (DeskFault::Write(44), "fault 21 Write after 44\n"),
+        (most, "fault 21 Write after 18446744073709551615\n"),
     ] {
-        let mut writer = Sluggish::new(rt.alloc(), room);
-        let fits = write_fault(&fault, &mut writer).is_ok();
-        assert_eq!(rt; fits, room == 99);
+        let mut writer = Sluggish::new(rt.alloc(), 99);
+        assert!(rt; write_fault(&fault, &mut writer).is_ok());
         assert_eq!(rt; writer.taken.as_slice(), want.as_bytes());
     }
     Ok(())
 }
 
+#[test]
+fn a_line_that_does_not_fit(rt: HostRuntime) {
+    let mut writer = Sluggish::new(rt.alloc(), 7);
+    let written = write_fault(&DeskFault::Write(44), &mut writer);
+    assert!(rt; written.is_err_and(|fault| sent(&fault) == Some(7)));
+    assert!(rt; writer.taken.as_slice() == b"fault 2".as_slice());
+}
+
 // Help says the same of each fault (cases/help.txt).
 #[test]
 fn what_a_fault_says(rt: HostRuntime) -> Result<(), Fail> {
-    for (fault, want) in [
-        (DeskFault::Side, "width or height outside 1 to 256"),
-        (DeskFault::Length, "wrong number of heights"),
-        (DeskFault::TooManyGrains, "more grains than the limit"),
-        (DeskFault::Memory, "out of memory"),
+    for (fault, number, want) in [
+        (DeskFault::Side, 1, "width or height outside 1 to 256"),
+        (DeskFault::Length, 2, "wrong number of heights"),
+        (DeskFault::TooManyGrains, 3, "more grains than the limit"),
+        (DeskFault::Memory, 4, "out of memory"),
         (
             DeskFault::Full,
+            6,
             "one drop more would exceed the grain limit",
         ),
-        (DeskFault::Unstable, "a height over 3"),
-        (DeskFault::NotRecurrent, "a forbidden set exists"),
-        (DeskFault::Shapes, "two piles of different shapes"),
-        (DeskFault::Text(7), "not the text of a pile, at byte 7"),
-        (DeskFault::TooLarge(7), "a number over the limit, at byte 7"),
-        (DeskFault::Read, "the reader failed"),
-        (DeskFault::Write(7), "the writer failed after 7 bytes"),
-        (DeskFault::TooLong, "more input than the limit"),
-        (DeskFault::Narrow, "a cylinder of width below 3"),
-        (DeskFault::NoSite(7), "no such site, at drop 7"),
+        (DeskFault::Unstable, 7, "a height over 3"),
+        (DeskFault::NotRecurrent, 8, "a forbidden set exists"),
+        (DeskFault::Shapes, 9, "two piles of different shapes"),
+        (
+            DeskFault::Taken,
+            17,
+            "the album's place of an epoch was set before",
+        ),
+        (DeskFault::Text(7), 18, "not the text of a pile, at byte 7"),
+        (
+            DeskFault::TooLarge(7),
+            19,
+            "a number over the limit, at byte 7",
+        ),
+        (DeskFault::Read, 20, "the reader failed"),
+        (DeskFault::Write(7), 21, "the writer failed after 7 bytes"),
+        (DeskFault::TooLong, 22, "more input than the limit"),
+        (DeskFault::Narrow, 24, "a cylinder of width below 3"),
+        (DeskFault::NoSite(7), 25, "no such site, at drop 7"),
     ] {
+        assert_eq!(rt; fault.number(), number);
         let sentence = format!(in rt.alloc(); "{fault}")?;
         assert_eq!(rt; sentence.as_str(), want);
+    }
+    Ok(())
+}
+
+#[test]
+fn numbers_and_statuses_of_misuse_and_of_help(rt: HostRuntime) -> Result<(), Fail> {
+    for (line, want) in [
+        ("sandpile", 2),
+        ("sandpile settle --pile --pgm", 2),
+        ("sandpile --help", 0),
+    ] {
+        let mut reader = Failing {
+            bytes: b"",
+            fails: true,
+        };
+        let mut writer = Sluggish::new(rt.alloc(), 0);
+        let fault = fault_of(&rt, rt.alloc(), line, &mut reader, &mut writer)?;
+        assert_eq!(rt; (fault.number(), status(&fault)), (23, want));
     }
     Ok(())
 }

@@ -1,18 +1,19 @@
-//! A command that is run over a reader that may fail and a writer that may stop.
+//! A command that is run over a reader of the tests and a writer that may stop.
 
-use crate::stopping::{Failing, Sluggish};
+use crate::stopping::Sluggish;
 use sand_desk::{DeskFault, run_command};
 use sand_testing::words::words_of;
 use std::alloc::Global;
+use std::io::Read;
 use std::test::Fail;
 use std::thread::Threads;
 
 // The fault by which a command line ends.
-pub(crate) fn fault_of<T: Threads + Sync>(
+pub(crate) fn fault_of<T: Threads + Sync, R: Read>(
     rt: &T,
     alloc: Global,
     line: &str,
-    reader: &mut Failing,
+    reader: &mut R,
     writer: &mut Sluggish,
 ) -> Result<DeskFault, Fail> {
     let words = words_of(alloc, line)?;

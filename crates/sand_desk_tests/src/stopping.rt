@@ -1,7 +1,7 @@
-//! A reader and a writer that stop, for the tests.
+//! Readers and a writer that stop, and a reader that does not, for the tests.
 //!
 //! A command promises most if the bytes of its reader and its writer are known. So these say theirs: what the writer has taken,
-//! and what the reader has left.
+//! and what a reader has left. A reader without an end has none to say.
 
 ghost use Rattle.std.specs.Prelude.{Some};
 
@@ -78,6 +78,40 @@ impl Read for Failing<'_> {
         };
         *slot = *first;
         self.bytes = rest;
+        Ok(1)
+    }
+}
+
+/// Gives as many bytes as are requested, and fails after the last.
+#[derive(Drop)]
+pub struct Cut<'a> {
+    pub bytes: &'a [u8],
+}
+
+impl Read for Cut<'_> {
+    ghost remaining = { λ r. Some r.bytes.now };
+
+    fn read(&mut self, room: &mut [u8]) -> io::Result<usize> {
+        if self.bytes.is_empty() {
+            return Err(io::Error::from(ErrorKind::Other));
+        }
+        self.bytes.read(room)
+    }
+}
+
+/// Gives spaces without end, one a call, and counts them.
+#[derive(Drop)]
+pub struct Endless {
+    pub given: usize,
+}
+
+impl Read for Endless {
+    fn read(&mut self, room: &mut [u8]) -> io::Result<usize> {
+        let Some(slot) = room.first_mut() else {
+            return Ok(0);
+        };
+        *slot = b' ';
+        self.given = self.given.saturating_add(1);
         Ok(1)
     }
 }

@@ -1,9 +1,10 @@
 //! Commands over readers that fail and writers that stop.
 
 use crate::runs::{fault_of, sent};
-use crate::stopping::{Failing, Sluggish};
+use crate::stopping::{Cut, Endless, Failing, Sluggish};
 use sand_desk::DeskFault;
 use std::alloc::Global;
+use std::io::Read;
 use std::process::Abort;
 use std::test::Fail;
 use std::thread::Threads;
@@ -59,37 +60,69 @@ fn a_writer_that_stops_in_a_run(rt: HostRuntime) -> Result<(), Fail> {
     Ok(())
 }
 
-// What becomes of settling a reader's pile: the fault, over a writer with room for the text.
-fn settled<T: Threads + Sync>(
+// The fault by which settling a reader's pile ends, over a writer with room for the text.
+fn settled<T: Threads + Sync, R: Read>(
     rt: &T,
     alloc: Global,
-    bytes: &[u8],
-    fails: bool,
+    reader: &mut R,
     writer: &mut Sluggish,
 ) -> Result<DeskFault, Fail> {
-    let mut reader = Failing { bytes, fails };
-    fault_of(rt, alloc, "sandpile settle", &mut reader, writer)
+    fault_of(rt, alloc, "sandpile settle", reader, writer)
 }
 
 #[test]
 fn a_writer_that_cannot_flush(rt: HostRuntime) -> Result<(), Fail> {
+    let mut reader = Failing {
+        bytes: PILE,
+        fails: false,
+    };
     let mut writer = Sluggish::new(rt.alloc(), 100);
     writer.flushes = false;
-    let fault = settled(&rt, rt.alloc(), PILE, false, &mut writer)?;
+    let fault = settled(&rt, rt.alloc(), &mut reader, &mut writer)?;
     assert_eq!(rt; sent(&fault), Some(44));
     assert_eq!(rt; writer.taken.as_slice(), SETTLED);
     Ok(())
 }
 
 #[test]
-fn a_reader_that_fails(rt: HostRuntime) -> Result<(), Fail> {
+fn a_reader_that_fails_after_some_bytes(rt: HostRuntime) -> Result<(), Fail> {
     for len in 0..PILE.len() + 1 {
+        let mut reader = Failing {
+            bytes: &PILE[..len],
+            fails: true,
+        };
         let mut writer = Sluggish::new(rt.alloc(), 100);
-        let fault = settled(&rt, rt.alloc(), &PILE[..len], true, &mut writer)?;
+        let fault = settled(&rt, rt.alloc(), &mut reader, &mut writer)?;
         assert!(rt;
             matches!(fault, DeskFault::Read) && writer.taken.is_empty(),
             "after {len}"
         );
     }
+    Ok(())
+}
+
+#[test]
+fn a_reader_that_fails_at_its_first_or_second_call(rt: HostRuntime) -> Result<(), Fail> {
+    for len in 0..PILE.len() + 1 {
+        let mut reader = Cut {
+            bytes: &PILE[..len],
+        };
+        let mut writer = Sluggish::new(rt.alloc(), 100);
+        let fault = settled(&rt, rt.alloc(), &mut reader, &mut writer)?;
+        assert!(rt;
+            matches!(fault, DeskFault::Read) && writer.taken.is_empty(),
+            "after {len}"
+        );
+    }
+    Ok(())
+}
+
+#[test]
+fn spaces_without_end(rt: HostRuntime) -> Result<(), Fail> {
+    let mut reader = Endless { given: 0 };
+    let mut writer = Sluggish::new(rt.alloc(), 100);
+    let fault = settled(&rt, rt.alloc(), &mut reader, &mut writer)?;
+    assert!(rt; matches!(fault, DeskFault::TooLong) && writer.taken.is_empty());
+    assert!(rt; reader.given == 1_048_577);
     Ok(())
 }

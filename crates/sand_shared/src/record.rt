@@ -156,7 +156,7 @@ impl Record {
         Ok(self.copy_with(alloc, history)?)
     }
 
-    /// A copy with room for so many more drops: an `append` of no more than these does not let the history grow.
+    /// A copy with room for so many more drops: an `append` of no more than these allocates nothing for their history.
     pub fn copy_with_room(&self, alloc: Global, drops: usize) -> Result<Record, SharedFault>
         ensures made { IfOk result (λ r. r ≡ self.now) }
         ensures memory { IsOkUnless result (SharedFault.Memory alloc_error) }

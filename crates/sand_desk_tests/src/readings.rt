@@ -1,0 +1,80 @@
+//! Texts that the readings of the desk take or refuse, and the line that reports each fault.
+
+use sand_desk::{DeskFault, read_drops, read_pile, read_two, status, write_fault};
+use std::alloc::Global;
+use std::test::Fail;
+
+// The line that reports a fault, if it ends a program with status 1.
+fn line_of(alloc: Global, fault: &DeskFault) -> Option<Vec<u8>> {
+    if fault.number() == 23 || status(fault) != 1 {
+        return None;
+    }
+    let mut line = Vec::new(alloc);
+    write_fault(fault, &mut line).ok()?;
+    Some(line)
+}
+
+// Whether a text was refused with the fault of this line.
+fn is_refused<T: Drop>(alloc: Global, read: Result<T, DeskFault>, line: &str) -> bool {
+    match read {
+        Ok(_) => false,
+        Err(fault) => line_of(alloc, &fault).is_some_and(|told| told.as_slice() == line.as_bytes()),
+    }
+}
+
+#[test]
+fn texts_that_are_no_pile(rt: HostRuntime) {
+    for (text, line) in [
+        ("", "fault 18 Text at 0\n"),
+        ("2 1\n3 x", "fault 18 Text at 6\n"),
+        ("1 1\n-1", "fault 18 Text at 4\n"),
+        ("3 c 1\n0 0 0", "fault 18 Text at 2\n"),
+        ("3 1c\n0 0 0", "fault 18 Text at 3\n"),
+        ("1 1\n1099511627776", "fault 19 TooLarge at 4\n"),
+        ("0 1\n", "fault 1 Side\n"),
+        ("0 1 c", "fault 1 Side\n"),
+        ("2 1 c\n0 0", "fault 24 Narrow\n"),
+        ("2 1\n3", "fault 2 Length\n"),
+        ("3 1 c", "fault 2 Length\n"),
+        ("2 1\n1099511627775 1", "fault 3 TooManyGrains\n"),
+    ] {
+        let read = read_pile(rt.alloc(), text.as_bytes());
+        assert!(rt; is_refused(rt.alloc(), read, line), "{text}");
+    }
+}
+
+#[test]
+fn texts_that_are_no_two_piles_and_no_drops(rt: HostRuntime) {
+    let alloc = rt.alloc();
+    let one = read_two(alloc, b"2 1\n0 0\n");
+    assert!(rt; is_refused(alloc, one, "fault 18 Text at 8\n"));
+    let short = read_two(alloc, b"2 1\n0");
+    assert!(rt; is_refused(alloc, short, "fault 2 Length\n"));
+    let outside = read_drops(alloc, b"1 1\n0 0 1");
+    assert!(rt; is_refused(alloc, outside, "fault 25 NoSite at 1\n"));
+}
+
+#[test]
+fn a_pile_with_white_space_and_leading_zeros(rt: HostRuntime) -> Result<(), Fail> {
+    let pile = read_pile(rt.alloc(), b" 01\t1\r\n007 ").map_err(|_| "no pile")?;
+    let shape = pile.shape();
+    assert!(rt; (shape.width(), shape.height()) == (1, 1));
+    assert!(rt; pile.heights() == [7].as_slice());
+    Ok(())
+}
+
+#[test]
+fn a_pile_and_drops(rt: HostRuntime) -> Result<(), Fail> {
+    let (pile, drops) = read_drops(rt.alloc(), b"2 1\n0 7\n1 1 0").map_err(|_| "no drops")?;
+    assert!(rt; pile.heights() == [0, 7].as_slice());
+    assert!(rt; drops.as_slice() == [1, 1, 0].as_slice());
+    Ok(())
+}
+
+#[test]
+fn two_piles(rt: HostRuntime) -> Result<(), Fail> {
+    let (first, second) = read_two(rt.alloc(), b"2 1\n0 7\n1 1\n5").map_err(|_| "no piles")?;
+    assert!(rt; first.heights() == [0, 7].as_slice());
+    assert!(rt; second.heights() == [5].as_slice());
+    Ok(())
+}
