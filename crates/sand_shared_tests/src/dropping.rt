@@ -3,7 +3,9 @@
 ghost use Rattle.std.specs.Prelude.{◌≡◌};
 ghost use Rattle.sand_model.specs.Grid.{sites};
 
-use crate::pile_with_passes::{ENDINGS, PileWithPasses};
+use crate::pile_with_passes::Call::{DropAt, Join, Receipt, Split, Tally, ThrowAway};
+use crate::pile_with_passes::Told::{Done, Dropped, Fault, Number};
+use crate::pile_with_passes::{Left, PileWithPasses, Start, both_leave};
 use sand_model::{GRAIN_LIMIT, Pile};
 use sand_shared::{Record, SharedPile, SiteCounts};
 use sand_testing::piles::{one_site, open_pile};
@@ -11,29 +13,43 @@ use sand_testing::records::is_record;
 use std::alloc::Global;
 use std::test::Fail;
 
+// One site of this height, and this quota.
+fn site<'a>(height: &'a [u64; 1], quota: u64) -> Start<'a> {
+    Start {
+        sides: (1, 1),
+        heights: height,
+        quota,
+    }
+}
+
 // A grain of the quota is gone with a child, which was thrown away.
 #[test]
 fn a_quota_that_is_thrown_away_stays_missing(rt: HostRuntime) {
-    let mut pile = PileWithPasses::open(&rt, rt.alloc(), 1, 1, &[0], 5);
-    assert_eq!(rt; pile.split(rt.alloc(), 0, 1), Ok(()));
-    pile.throw_away(1);
-    for number in 0..4 {
-        assert_eq!(rt; pile.drop_at(0, 0), Ok(number));
-    }
-    assert_eq!(rt; pile.drop_at(0, 0), Err(13));
-    assert_eq!(rt; pile.split(rt.alloc(), 0, 1), Err(10));
-    let mut pile = pile.still_missing(&rt, rt.alloc());
-    assert_eq!(rt; pile.tally(0), Some(4));
+    let drops = [
+        (Split(0, 1), Done),
+        (ThrowAway(1), Done),
+        (DropAt(0, 0), Number(0)),
+        (DropAt(0, 0), Number(1)),
+        (DropAt(0, 0), Number(2)),
+        (DropAt(0, 0), Number(3)),
+        (DropAt(0, 0), Fault(13)),
+        (Split(0, 1), Fault(10)),
+    ];
+    let pile = PileWithPasses::played(rt.alloc(), site(&[0], 5), &drops).expect(&rt, "four drops");
+    let pile = pile.still_missing(rt.alloc()).expect(&rt, "a grain");
+    assert!(rt; pile.play(rt.alloc(), &[(Tally(0), Number(4))]).is_some());
 }
 
 #[test]
 fn ends_with_quota_left(rt: HostRuntime) {
-    for ending in ENDINGS {
-        let mut pile = PileWithPasses::open(&rt, rt.alloc(), 1, 1, &[0], 2);
-        assert_eq!(rt; pile.drop_at(0, 0), Ok(0));
-        let record = pile.record(&rt, rt.alloc(), ending);
-        assert!(rt; is_record(&record, &[0], &[1], &[0], 0));
-    }
+    let left = Left {
+        history: &[0],
+        heights: &[1],
+        odometer: &[0],
+        lost: 0,
+    };
+    let drop = [(DropAt(0, 0), Number(0))];
+    assert!(rt; both_leave(rt.alloc(), site(&[0], 2), &drop, left));
 }
 
 #[test]
@@ -48,61 +64,80 @@ fn no_quota_past_the_limit(rt: HostRuntime) -> Result<(), Fail> {
 
 #[test]
 fn a_full_pile_takes_no_drop(rt: HostRuntime) {
-    for ending in ENDINGS {
-        let mut pile = PileWithPasses::open(&rt, rt.alloc(), 1, 1, &[4_294_967_295], 0);
-        assert_eq!(rt; pile.drop_at(0, 0), Err(13));
-        assert_eq!(rt; pile.tally(0), Some(0));
-        let record = pile.record(&rt, rt.alloc(), ending);
-        assert!(rt; is_record(&record, &[], &[3], &[1_073_741_823], 4_294_967_292));
-    }
+    let left = Left {
+        history: &[],
+        heights: &[3],
+        odometer: &[1_073_741_823],
+        lost: 4_294_967_292,
+    };
+    let calls = [(DropAt(0, 0), Fault(13)), (Tally(0), Number(0))];
+    assert!(rt; both_leave(rt.alloc(), site(&[4_294_967_295], 0), &calls, left));
 }
 
 #[test]
 fn the_last_grain_below_the_limit(rt: HostRuntime) {
-    for ending in ENDINGS {
-        let mut pile = PileWithPasses::open(&rt, rt.alloc(), 1, 1, &[GRAIN_LIMIT - 1], 1);
-        assert_eq!(rt; (pile.drop_at(0, 0), pile.drop_at(0, 0)), (Ok(0), Err(13)));
-        let record = pile.record(&rt, rt.alloc(), ending);
-        assert!(rt; is_record(&record, &[0], &[3], &[274_877_906_943], 1_099_511_627_772));
-    }
+    let left = Left {
+        history: &[0],
+        heights: &[3],
+        odometer: &[274_877_906_943],
+        lost: 1_099_511_627_772,
+    };
+    let calls = [(DropAt(0, 0), Number(0)), (DropAt(0, 0), Fault(13))];
+    assert!(rt; both_leave(rt.alloc(), site(&[GRAIN_LIMIT - 1], 1), &calls, left));
 }
 
 // No clause says that a tally takes a step: what others have drawn since is seen by a test alone.
 #[test]
 fn a_tally_is_not_stale(rt: HostRuntime) {
-    let mut pile = PileWithPasses::open(&rt, rt.alloc(), 1, 1, &[0], 2);
-    assert_eq!(rt; pile.split(rt.alloc(), 0, 0), Ok(()));
-    assert_eq!(rt; (pile.drop_at(0, 0), pile.drop_at(0, 0)), (Ok(0), Ok(1)));
-    assert_eq!(rt; pile.tally(1), Some(2));
+    let calls = [
+        (Split(0, 0), Done),
+        (DropAt(0, 0), Number(0)),
+        (DropAt(0, 0), Number(1)),
+        (Tally(1), Number(2)),
+    ];
+    assert!(rt; PileWithPasses::played(rt.alloc(), site(&[0], 2), &calls).is_some());
 }
 
 #[test]
 fn a_tally_has_all_drops_that_the_pass_has_seen(rt: HostRuntime) {
-    let mut pile = PileWithPasses::open(&rt, rt.alloc(), 1, 1, &[0], 6);
-    for number in 0..6 {
-        assert_eq!(rt; pile.drop_at(0, 0), Ok(number));
-    }
-    assert_eq!(rt; pile.tally(0), Some(6));
-    assert_eq!(rt; pile.split(rt.alloc(), 0, 0), Ok(()));
-    assert_eq!(rt; pile.tally(1), Some(6));
+    let calls = [
+        (DropAt(0, 0), Number(0)),
+        (DropAt(0, 0), Number(1)),
+        (DropAt(0, 0), Number(2)),
+        (DropAt(0, 0), Number(3)),
+        (DropAt(0, 0), Number(4)),
+        (DropAt(0, 0), Number(5)),
+        (Tally(0), Number(6)),
+        (Split(0, 0), Done),
+        (Tally(1), Number(6)),
+    ];
+    assert!(rt; PileWithPasses::played(rt.alloc(), site(&[0], 6), &calls).is_some());
 }
 
 // The child drops first, and its receipt comes last.
 #[test]
 fn two_passes_drop_in_turn(rt: HostRuntime) {
-    for ending in ENDINGS {
-        let mut pile = PileWithPasses::open(&rt, rt.alloc(), 2, 1, &[0, 0], 2);
-        assert_eq!(rt; pile.split(rt.alloc(), 0, 1), Ok(()));
-        assert_eq!(rt; (pile.drop_at(1, 1), pile.drop_at(0, 0)), (Ok(0), Ok(1)));
-        assert_eq!(rt; pile.join(rt.alloc(), 0, 1), Ok(()));
-        assert_eq!(rt; pile.tally(0), Some(2));
-        assert_eq!(rt;
-            (pile.receipt(0, 0), pile.receipt(0, 1)),
-            (Some((1, 0)), Some((0, 1)))
-        );
-        let record = pile.record(&rt, rt.alloc(), ending);
-        assert!(rt; is_record(&record, &[1, 0], &[1, 1], &[0, 0], 0));
-    }
+    let start = Start {
+        sides: (2, 1),
+        heights: &[0, 0],
+        quota: 2,
+    };
+    let left = Left {
+        history: &[1, 0],
+        heights: &[1, 1],
+        odometer: &[0, 0],
+        lost: 0,
+    };
+    let calls = [
+        (Split(0, 1), Done),
+        (DropAt(1, 1), Number(0)),
+        (DropAt(0, 0), Number(1)),
+        (Join(0, 1), Done),
+        (Tally(0), Number(2)),
+        (Receipt(0, 0), Dropped(1, 0)),
+        (Receipt(0, 1), Dropped(0, 1)),
+    ];
+    assert!(rt; both_leave(rt.alloc(), start, &calls, left));
 }
 
 // The record of a list of drops after a single one.

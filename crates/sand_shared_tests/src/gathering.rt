@@ -1,104 +1,160 @@
 //! Rows and quotas that passes hand on, and ends that are refused until all is gathered.
 
-use crate::pile_with_passes::{ENDINGS, PileWithPasses};
-use sand_testing::records::is_record;
+use crate::pile_with_passes::Call::{
+    DropAt, IsWhole, Join, Rows, Split, SplitRows, Tally, ThrowAway,
+};
+use crate::pile_with_passes::Told::{Between, Done, Fault, Is, Number};
+use crate::pile_with_passes::{ENDINGS, Ending, Left, PileWithPasses, Start, both_leave};
 use sand_testing::shared::shared_pile;
+use std::alloc::Global;
 use std::test::Fail;
+
+// Three rows of one site each.
+const ROWS: Start<'static> = Start {
+    sides: (1, 3),
+    heights: &[0, 0, 0],
+    quota: 0,
+};
 
 #[test]
 fn rows_are_handed_on(rt: HostRuntime) {
-    let mut pile = PileWithPasses::open(&rt, rt.alloc(), 1, 3, &[0, 0, 0], 0);
-    assert_eq!(rt; pile.split_rows(rt.alloc(), 0, 4), Err(11));
-    assert_eq!(rt; pile.split_rows(rt.alloc(), 0, 1), Ok(()));
-    assert_eq!(rt; pile.split_rows(rt.alloc(), 0, 1), Ok(()));
-    assert_eq!(rt; (pile.rows(1), pile.rows(2)), (Some((2, 3)), Some((1, 2))));
-    assert_eq!(rt; pile.join(rt.alloc(), 0, 1), Err(12));
-    assert_eq!(rt; (pile.rows(0), pile.rows(1)), (Some((0, 1)), Some((2, 3))));
-    assert_eq!(rt; pile.join(rt.alloc(), 0, 2), Ok(()));
-    assert_eq!(rt; pile.join(rt.alloc(), 0, 1), Ok(()));
-    assert_eq!(rt; pile.rows(0), Some((0, 3)));
+    let calls = [
+        (SplitRows(0, 4), Fault(11)),
+        (SplitRows(0, 1), Done),
+        (SplitRows(0, 1), Done),
+        (Rows(1), Between(2, 3)),
+        (Rows(2), Between(1, 2)),
+        (Join(0, 1), Fault(12)),
+        (Rows(0), Between(0, 1)),
+        (Rows(1), Between(2, 3)),
+        (Join(0, 2), Done),
+        (Join(0, 1), Done),
+        (Rows(0), Between(0, 3)),
+    ];
+    assert!(rt; PileWithPasses::played(rt.alloc(), ROWS, &calls).is_some());
 }
 
 // The pass of the last row takes in those before it.
 #[test]
 fn rows_are_joined_from_the_last_one(rt: HostRuntime) {
-    let mut pile = PileWithPasses::open(&rt, rt.alloc(), 1, 3, &[0, 0, 0], 0);
-    assert_eq!(rt; pile.split_rows(rt.alloc(), 0, 1), Ok(()));
-    assert_eq!(rt; pile.split_rows(rt.alloc(), 0, 1), Ok(()));
-    assert_eq!(rt; pile.join(rt.alloc(), 1, 2), Ok(()));
-    assert_eq!(rt; pile.join(rt.alloc(), 1, 0), Ok(()));
-    assert_eq!(rt;
-        (pile.rows(0), pile.is_whole(0)),
-        (Some((0, 3)), Some(true))
-    );
+    let calls = [
+        (SplitRows(0, 1), Done),
+        (SplitRows(0, 1), Done),
+        (Join(1, 2), Done),
+        (Join(1, 0), Done),
+        (Rows(0), Between(0, 3)),
+        (IsWhole(0), Is(true)),
+    ];
+    assert!(rt; PileWithPasses::played(rt.alloc(), ROWS, &calls).is_some());
 }
 
 // The first row touches the middle one, and not the last one.
 #[test]
 fn rows_that_are_thrown_away_stay_missing(rt: HostRuntime) {
-    for (lost, joined) in [(1, Ok(())), (2, Err(12))] {
-        let mut pile = PileWithPasses::open(&rt, rt.alloc(), 1, 3, &[0, 0, 0], 0);
-        assert_eq!(rt; pile.split_rows(rt.alloc(), 0, 1), Ok(()));
-        assert_eq!(rt; pile.split_rows(rt.alloc(), 0, 1), Ok(()));
-        pile.throw_away(lost);
-        assert_eq!(rt; pile.join(rt.alloc(), 0, 1), joined);
-        pile.still_missing(&rt, rt.alloc());
+    for (lost, joined) in [(1, Done), (2, Fault(12))] {
+        let calls = [
+            (SplitRows(0, 1), Done),
+            (SplitRows(0, 1), Done),
+            (ThrowAway(lost), Done),
+            (Join(0, 1), joined),
+        ];
+        let pile = PileWithPasses::played(rt.alloc(), ROWS, &calls).expect(&rt, "three rows");
+        assert!(rt; pile.still_missing(rt.alloc()).is_some());
     }
 }
 
-// A child has the last row, and another one the quota, with which it drops.
+// Whether a pile whose quota and last row went to two children ends once both are joined, and not before.
+fn ends_once_gathered(alloc: Global, ending: Ending) -> Option<bool> {
+    let start = Start {
+        sides: (1, 2),
+        heights: &[0, 0],
+        quota: 1,
+    };
+    let left = Left {
+        history: &[1],
+        heights: &[0, 1],
+        odometer: &[0, 0],
+        lost: 0,
+    };
+    let split = [
+        (SplitRows(0, 1), Done),
+        (Split(0, 1), Done),
+        (DropAt(2, 1), Number(0)),
+        (IsWhole(0), Is(false)),
+    ];
+    let pile = PileWithPasses::played(alloc, start, &split)?.still_missing(alloc)?;
+    let pile = pile
+        .play(alloc, &[(Join(0, 2), Done)])?
+        .still_missing(alloc)?;
+    let pile = pile.play(alloc, &[(Join(0, 1), Done), (IsWhole(0), Is(true))])?;
+    Some(pile.leaves(alloc, ending, left))
+}
+
 #[test]
 fn ends_once_all_is_gathered(rt: HostRuntime) {
     for ending in ENDINGS {
-        let mut pile = PileWithPasses::open(&rt, rt.alloc(), 1, 2, &[0, 0], 1);
-        assert_eq!(rt; pile.split_rows(rt.alloc(), 0, 1), Ok(()));
-        assert_eq!(rt; pile.split(rt.alloc(), 0, 1), Ok(()));
-        assert_eq!(rt; pile.drop_at(2, 1), Ok(0));
-        assert_eq!(rt; pile.is_whole(0), Some(false));
-        let mut pile = pile.still_missing(&rt, rt.alloc());
-        assert_eq!(rt; pile.join(rt.alloc(), 0, 2), Ok(()));
-        let mut pile = pile.still_missing(&rt, rt.alloc());
-        assert_eq!(rt; pile.join(rt.alloc(), 0, 1), Ok(()));
-        assert_eq!(rt; pile.is_whole(0), Some(true));
-        let record = pile.record(&rt, rt.alloc(), ending);
-        assert!(rt; is_record(&record, &[1], &[0, 1], &[0, 0], 0));
+        assert!(rt; ends_once_gathered(rt.alloc(), ending) == Some(true));
+    }
+}
+
+// One site of this height, and one grain to drop.
+fn grain<'a>(height: &'a [u64; 1]) -> Start<'a> {
+    Start {
+        sides: (1, 1),
+        heights: height,
+        quota: 1,
     }
 }
 
 #[test]
 fn a_receipt_that_is_thrown_away_stays_missing(rt: HostRuntime) {
-    let mut pile = PileWithPasses::open(&rt, rt.alloc(), 1, 1, &[0], 1);
-    assert_eq!(rt; pile.split(rt.alloc(), 0, 1), Ok(()));
-    assert_eq!(rt; pile.drop_at(1, 0), Ok(0));
-    pile.throw_away(1);
-    let mut pile = pile.still_missing(&rt, rt.alloc());
-    assert_eq!(rt; pile.tally(0), Some(1));
+    let calls = [
+        (Split(0, 1), Done),
+        (DropAt(1, 0), Number(0)),
+        (ThrowAway(1), Done),
+    ];
+    let pile = PileWithPasses::played(rt.alloc(), grain(&[0]), &calls).expect(&rt, "a drop");
+    let pile = pile.still_missing(rt.alloc()).expect(&rt, "a receipt");
+    assert!(rt; pile.play(rt.alloc(), &[(Tally(0), Number(1))]).is_some());
 }
 
 #[test]
 fn a_child_that_had_nothing_may_be_thrown_away(rt: HostRuntime) {
-    for ending in ENDINGS {
-        let mut pile = PileWithPasses::open(&rt, rt.alloc(), 1, 1, &[0], 1);
-        assert_eq!(rt; pile.split(rt.alloc(), 0, 0), Ok(()));
-        assert_eq!(rt; pile.drop_at(0, 0), Ok(0));
-        pile.throw_away(1);
-        let record = pile.record(&rt, rt.alloc(), ending);
-        assert!(rt; is_record(&record, &[0], &[1], &[0], 0));
+    let calls = [
+        (Split(0, 0), Done),
+        (DropAt(0, 0), Number(0)),
+        (ThrowAway(1), Done),
+    ];
+    let left = Left {
+        history: &[0],
+        heights: &[1],
+        odometer: &[0],
+        lost: 0,
+    };
+    assert!(rt; both_leave(rt.alloc(), grain(&[0]), &calls, left));
+}
+
+// Whether a pile ends after it was refused a hundred times.
+fn ends_after_refusals(alloc: Global, ending: Ending) -> Option<bool> {
+    let split = [(Split(0, 1), Done), (DropAt(1, 0), Number(0))];
+    let mut pile = PileWithPasses::played(alloc, grain(&[3]), &split)?;
+    for _ in 0..50 {
+        pile = pile.still_missing(alloc)?;
     }
+    let pile = pile.play(alloc, &[(Join(0, 1), Done)])?;
+    let left = Left {
+        history: &[0],
+        heights: &[0],
+        odometer: &[1],
+        lost: 4,
+    };
+    Some(pile.leaves(alloc, ending, left))
 }
 
 #[test]
 fn ends_after_a_hundred_refusals(rt: HostRuntime) {
     for ending in ENDINGS {
-        let mut pile = PileWithPasses::open(&rt, rt.alloc(), 1, 1, &[3], 1);
-        assert_eq!(rt; pile.split(rt.alloc(), 0, 1), Ok(()));
-        assert_eq!(rt; pile.drop_at(1, 0), Ok(0));
-        for _ in 0..50 {
-            pile = pile.still_missing(&rt, rt.alloc());
-        }
-        assert_eq!(rt; pile.join(rt.alloc(), 0, 1), Ok(()));
-        let record = pile.record(&rt, rt.alloc(), ending);
-        assert!(rt; is_record(&record, &[0], &[0], &[1], 4));
+        assert!(rt; ends_after_refusals(rt.alloc(), ending) == Some(true));
     }
 }
 

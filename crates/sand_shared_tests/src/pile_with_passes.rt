@@ -1,7 +1,8 @@
-//! A shared pile with its passes in a list, so that a test names each pass by its place.
+//! A shared pile with its passes in a list, on which a test makes calls from a table: each call with what it returns.
 //!
 //! The calls have the names of those of `sand_shared` that they make. They ensure nothing, since a test compares what they
-//! return, and require nothing, since the list is known to have passes of this pile. So the proof of a test is short.
+//! return, and require nothing, since the list is known to have passes of this pile. So the proof of a test is short: it has a
+//! table, and one call.
 
 ghost use Rattle.std.specs.Prelude.{◌<◌, All, IsTrue, IfSome};
 ghost use Rattle.sand_model.specs.Grid.{sites};
@@ -10,13 +11,46 @@ ghost use Rattle.sand_shared.specs.Passes.{IsPassOf};
 use crate::pairs::both_at_once;
 use sand_model::{Pile, Shape};
 use sand_shared::{Pass, Record, SharedPile};
+use sand_testing::records::is_record;
 use std::alloc::Global;
 use std::marker::Model;
-use std::process::Abort;
 use std::thread::Threads;
 
-/// Returned in place of a fault's number if a test names a pass or a site that does not exist.
-const NO_SUCH: u32 = 0;
+/// A call. It names passes by their places in the list, and sites by their numbers.
+#[derive(Clone, Copy, Debug, PartialEq, Eq)]
+pub enum Call {
+    DropAt(usize, usize),
+    Tally(usize),
+    Sweep(usize),
+    /// A quota goes to a child, which comes last in the list.
+    Split(usize, u64),
+    /// Rows go to a child, which comes last in the list.
+    SplitRows(usize, u16),
+    /// The first pass takes in the other one, which leaves the list unless it is refused.
+    Join(usize, usize),
+    ThrowAway(usize),
+    IsWhole(usize),
+    Rows(usize),
+    /// The receipt of a pass at a place.
+    Receipt(usize, usize),
+    /// How often a pass has toppled a site of its rows.
+    Toppled(usize, usize),
+}
+
+/// What a call returns.
+#[derive(Clone, Copy, Debug, PartialEq, Eq)]
+pub enum Told {
+    Done,
+    Number(u64),
+    Fault(u32),
+    Is(bool),
+    /// The first row and the one past the last.
+    Between(u16, u16),
+    /// A drop's number and its site.
+    Dropped(u64, usize),
+    /// The test names a pass, a receipt or a site that does not exist.
+    NoSuch,
+}
 
 /// The two ways to end a shared pile. Both leave the same record.
 #[derive(Clone, Copy, Debug, PartialEq, Eq)]
@@ -27,6 +61,23 @@ pub enum Ending {
 
 pub const ENDINGS: [Ending; 2] = [Ending::Close, Ending::Settle];
 
+/// A start on a grid with open edges, and a quota.
+#[derive(Clone, Copy)]
+pub struct Start<'a> {
+    pub sides: (usize, usize),
+    pub heights: &'a [u64],
+    pub quota: u64,
+}
+
+/// What a record has.
+#[derive(Clone, Copy)]
+pub struct Left<'a> {
+    pub history: &'a [usize],
+    pub heights: &'a [u64],
+    pub odometer: &'a [u64],
+    pub lost: u64,
+}
+
 // Whether a site is in the grid, if there is one.
 fn is_inside(shape: Shape, site: Option<usize>) -> bool
     ensures { IsTrue result → IfSome site (λ s. s < sites shape) }
@@ -35,6 +86,18 @@ fn is_inside(shape: Shape, site: Option<usize>) -> bool
         Some(site) => site < shape.sites(),
         None => true,
     }
+}
+
+// Takes a pass out of a list of passes.
+fn take(_pile: &SharedPile, passes: &mut Vec<Pass>, place: usize) -> Option<Pass>
+    requires { All (IsPassOf _pile.now) passes.old.items }
+    ensures pass { IfSome result (IsPassOf _pile.now) }
+    ensures rest { All (IsPassOf _pile.now) passes.new.items }
+{
+    if place >= passes.len() {
+        return None;
+    }
+    Some(passes.remove(place))
 }
 
 // Puts a pass at a place of a list of passes, if there is room for it.
@@ -48,7 +111,7 @@ fn put(_pile: &SharedPile, passes: &mut Vec<Pass>, place: usize, pass: Pass)
     }
 }
 
-/// A shared pile and its passes. The first pass is at 0, and each child comes last.
+/// A shared pile and its passes. The first pass is at 0.
 #[derive(Drop)]
 pub struct PileWithPasses {
     shape: Shape,
@@ -69,7 +132,7 @@ impl Model for PileWithPasses {
 }
 
 impl PileWithPasses {
-    /// A shared pile with this start.
+    /// A shared pile with this start, or the number of the fault.
     pub fn of_start(alloc: Global, start: &Pile, quota: u64) -> Result<PileWithPasses, u32> {
         let (pile, pass) = match SharedPile::new(alloc, start, quota) {
             Ok(made) => made,
@@ -77,7 +140,7 @@ impl PileWithPasses {
         };
         let mut passes = Vec::new(alloc);
         if passes.push(pass).is_err() {
-            return Err(NO_SUCH);
+            return Err(4);
         }
         Ok(PileWithPasses {
             shape: start.shape(),
@@ -86,109 +149,168 @@ impl PileWithPasses {
         })
     }
 
-    /// A shared pile on a grid with open edges.
-    pub fn open(
-        rt: &impl Abort,
+    /// A shared pile with this start, on which these calls have returned what is said.
+    pub fn played(
         alloc: Global,
-        width: usize,
-        height: usize,
-        heights: &[u64],
-        quota: u64,
-    ) -> PileWithPasses {
-        let shape = Shape::new(width, height).expect(rt, "a grid");
-        let start = Pile::new(alloc, shape, heights).expect(rt, "a pile");
-        PileWithPasses::of_start(alloc, &start, quota)
-            .ok()
-            .expect(rt, "a shared pile")
+        start: Start<'_>,
+        calls: &[(Call, Told)],
+    ) -> Option<PileWithPasses> {
+        let (width, height) = start.sides;
+        let shape = Shape::new(width, height).ok()?;
+        let heights = Pile::new(alloc, shape, start.heights).ok()?;
+        let pile = PileWithPasses::of_start(alloc, &heights, start.quota).ok()?;
+        pile.play(alloc, calls)
     }
 
-    pub fn drop_at(&mut self, pass: usize, site: usize) -> Result<u64, u32> {
+    /// The pile, if these calls return what is said.
+    pub fn play(mut self, alloc: Global, calls: &[(Call, Told)]) -> Option<PileWithPasses> {
+        for (call, told) in calls {
+            if self.call(alloc, *call) != *told {
+                return None;
+            }
+        }
+        Some(self)
+    }
+
+    // What a call returns.
+    fn call(&mut self, alloc: Global, call: Call) -> Told {
+        match call {
+            Call::DropAt(pass, site) => self.drop_at(pass, site),
+            Call::Tally(pass) => self.tally(pass),
+            Call::Sweep(pass) => self.sweep(pass),
+            Call::Split(pass, quota) => self.split(alloc, pass, quota),
+            Call::SplitRows(pass, rows) => self.split_rows(alloc, pass, rows),
+            Call::Join(pass, other) => self.join(alloc, pass, other),
+            Call::ThrowAway(pass) => self.throw_away(pass),
+            Call::IsWhole(pass) => self.is_whole(pass),
+            Call::Rows(pass) => self.rows(pass),
+            Call::Receipt(pass, place) => self.receipt(pass, place),
+            Call::Toppled(pass, site) => self.toppled(pass, site),
+        }
+    }
+
+    fn drop_at(&mut self, pass: usize, site: usize) -> Told {
         if pass >= self.passes.len() || site >= self.shape.sites() {
-            return Err(NO_SUCH);
+            return Told::NoSuch;
         }
         match self.pile.drop_at(&mut self.passes[pass], site) {
-            Ok(number) => Ok(number),
-            Err(fault) => Err(fault.number()),
+            Ok(number) => Told::Number(number),
+            Err(fault) => Told::Fault(fault.number()),
         }
     }
 
-    pub fn tally(&mut self, pass: usize) -> Option<u64> {
+    fn tally(&mut self, pass: usize) -> Told {
         if pass >= self.passes.len() {
-            return None;
+            return Told::NoSuch;
         }
-        Some(self.pile.tally(&mut self.passes[pass]))
+        Told::Number(self.pile.tally(&mut self.passes[pass]))
     }
 
-    pub fn sweep(&mut self, pass: usize) -> Option<u64> {
+    fn sweep(&mut self, pass: usize) -> Told {
         if pass >= self.passes.len() {
-            return None;
+            return Told::NoSuch;
         }
-        Some(self.pile.sweep(&mut self.passes[pass]))
+        Told::Number(self.pile.sweep(&mut self.passes[pass]))
     }
 
-    pub fn split(&mut self, alloc: Global, pass: usize, quota: u64) -> Result<(), u32> {
+    fn split(&mut self, alloc: Global, pass: usize, quota: u64) -> Told {
         if pass >= self.passes.len() {
-            return Err(NO_SUCH);
+            return Told::NoSuch;
         }
         match self.pile.split(alloc, &mut self.passes[pass], quota) {
             Ok(child) => match self.passes.push(child) {
-                Ok(()) => Ok(()),
-                Err(_) => Err(NO_SUCH),
+                Ok(()) => Told::Done,
+                Err(_) => Told::NoSuch,
             },
-            Err(fault) => Err(fault.number()),
+            Err(fault) => Told::Fault(fault.number()),
         }
     }
 
-    pub fn split_rows(&mut self, alloc: Global, pass: usize, k: u16) -> Result<(), u32> {
+    fn split_rows(&mut self, alloc: Global, pass: usize, rows: u16) -> Told {
         if pass >= self.passes.len() {
-            return Err(NO_SUCH);
+            return Told::NoSuch;
         }
-        match self.pile.split_rows(alloc, &mut self.passes[pass], k) {
+        match self.pile.split_rows(alloc, &mut self.passes[pass], rows) {
             Ok(child) => match self.passes.push(child) {
-                Ok(()) => Ok(()),
-                Err(_) => Err(NO_SUCH),
+                Ok(()) => Told::Done,
+                Err(_) => Told::NoSuch,
             },
-            Err(fault) => Err(fault.number()),
+            Err(fault) => Told::Fault(fault.number()),
         }
     }
 
-    /// The pass at the first place takes in the one at the other place. That one leaves the list, unless it is refused.
-    pub fn join(&mut self, alloc: Global, pass: usize, other: usize) -> Result<(), u32> {
-        if pass >= self.passes.len() || other >= self.passes.len() || pass == other {
-            return Err(NO_SUCH);
+    fn join(&mut self, alloc: Global, pass: usize, other: usize) -> Told {
+        if pass == other {
+            return Told::NoSuch;
         }
-        let second = self.passes.remove(other);
-        let first = pass - usize::from(other < pass);
-        match self.pile.join(alloc, &mut self.passes[first], second) {
-            Ok(()) => Ok(()),
-            Err((fault, second)) => {
-                put(&self.pile, &mut self.passes, other, second);
-                Err(fault.number())
-            }
+        let Some(second) = take(&self.pile, &mut self.passes, other) else {
+            return Told::NoSuch;
+        };
+        let place = pass.saturating_sub(usize::from(other < pass));
+        let Some(mut first) = take(&self.pile, &mut self.passes, place) else {
+            return Told::NoSuch;
+        };
+        let refused = self.pile.join(alloc, &mut first, second).err();
+        put(&self.pile, &mut self.passes, place, first);
+        let Some((fault, second)) = refused else {
+            return Told::Done;
+        };
+        put(&self.pile, &mut self.passes, other, second);
+        Told::Fault(fault.number())
+    }
+
+    fn throw_away(&mut self, pass: usize) -> Told {
+        match take(&self.pile, &mut self.passes, pass) {
+            Some(_) => Told::Done,
+            None => Told::NoSuch,
         }
     }
 
-    pub fn throw_away(&mut self, pass: usize) {
-        if pass < self.passes.len() {
-            let _ = self.passes.remove(pass);
-        }
-    }
-
-    pub fn is_whole(&self, pass: usize) -> Option<bool> {
+    fn is_whole(&self, pass: usize) -> Told {
         if pass >= self.passes.len() {
-            return None;
+            return Told::NoSuch;
         }
-        Some(self.pile.is_whole(&self.passes[pass]))
+        Told::Is(self.pile.is_whole(&self.passes[pass]))
     }
 
-    pub fn rows(&self, pass: usize) -> Option<(u16, u16)> {
-        Some(self.passes.get(pass)?.rows())
+    fn rows(&self, pass: usize) -> Told {
+        match self.passes.get(pass) {
+            Some(pass) => {
+                let (first, end) = pass.rows();
+                Told::Between(first, end)
+            }
+            None => Told::NoSuch,
+        }
     }
 
-    /// The number and the site of a receipt.
-    pub fn receipt(&self, pass: usize, place: usize) -> Option<(u64, usize)> {
-        let receipt = self.passes.get(pass)?.receipts().get(place)?;
-        Some((receipt.number, receipt.site))
+    fn receipt(&self, pass: usize, place: usize) -> Told {
+        let Some(pass) = self.passes.get(pass) else {
+            return Told::NoSuch;
+        };
+        match pass.receipts().get(place) {
+            Some(receipt) => Told::Dropped(receipt.number, receipt.site),
+            None => Told::NoSuch,
+        }
+    }
+
+    fn toppled(&self, pass: usize, site: usize) -> Told {
+        let Some(pass) = self.passes.get(pass) else {
+            return Told::NoSuch;
+        };
+        if site >= self.shape.sites() {
+            return Told::NoSuch;
+        }
+        let (first, end) = pass.rows();
+        let (_, row) = self.shape.place(site);
+        if row < usize::from(first) || row >= usize::from(end) {
+            return Told::NoSuch;
+        }
+        Told::Number(pass.toppled(site))
+    }
+
+    /// The number of a receipt.
+    pub fn number(&self, pass: usize, place: usize) -> Option<u64> {
+        Some(self.passes.get(pass)?.receipts().get(place)?.number)
     }
 
     /// How many receipts have this number.
@@ -198,20 +320,6 @@ impl PileWithPasses {
         };
         let receipts = pass.receipts().iter();
         receipts.filter(|receipt| receipt.number == number).count()
-    }
-
-    /// How often a site of the pass's rows has toppled.
-    pub fn toppled(&self, pass: usize, site: usize) -> Option<u64> {
-        let pass = self.passes.get(pass)?;
-        if site >= self.shape.sites() {
-            return None;
-        }
-        let (first, end) = pass.rows();
-        let (_, row) = self.shape.place(site);
-        if row < usize::from(first) || row >= usize::from(end) {
-            return None;
-        }
-        Some(pass.toppled(site))
     }
 
     /// Its two passes on two threads that meet: each drops all that is left on its site, or sweeps if it has no site. Returns
@@ -230,8 +338,8 @@ impl PileWithPasses {
         if !is_inside(shape, here) || !is_inside(shape, there) {
             return None;
         }
-        let other = passes.pop()?;
-        let one = passes.pop()?;
+        let other = take(&pile, &mut passes, 1)?;
+        let one = take(&pile, &mut passes, 0)?;
         let (one, other, met) = both_at_once(rt, &pile, one, other, here, there);
         if !met {
             return None;
@@ -245,24 +353,23 @@ impl PileWithPasses {
         })
     }
 
-    /// Ends the shared pile with its first pass. If that is refused, all come back.
-    pub fn end(self, alloc: Global, ending: Ending) -> Result<Record, (u32, PileWithPasses)> {
+    // Ends the shared pile with its first pass. If that is refused, all come back, with the number of the fault.
+    fn end(self, alloc: Global, ending: Ending) -> Result<Record, (u32, PileWithPasses)> {
         let PileWithPasses {
             shape,
             pile,
             mut passes,
         } = self;
-        if passes.is_empty() {
+        let Some(first) = take(&pile, &mut passes, 0) else {
             return Err((
-                NO_SUCH,
+                0,
                 PileWithPasses {
                     shape,
                     pile,
                     passes,
                 },
             ));
-        }
-        let first = passes.remove(0);
+        };
         let ended = match ending {
             Ending::Close => pile.close(alloc, first),
             Ending::Settle => pile.settle(alloc, first),
@@ -283,20 +390,39 @@ impl PileWithPasses {
         }
     }
 
-    /// The record that this way to end leaves.
-    pub fn record(self, rt: &impl Abort, alloc: Global, ending: Ending) -> Record {
-        self.end(alloc, ending).ok().expect(rt, "a record")
+    // The pile, if this way to end is refused because something is missing.
+    fn misses(self, alloc: Global, ending: Ending) -> Option<PileWithPasses> {
+        match self.end(alloc, ending) {
+            Err((14, pile)) => Some(pile),
+            _ => None,
+        }
     }
 
-    /// Neither way to end is taken: something is missing. All comes back.
-    pub fn still_missing(self, rt: &impl Abort, alloc: Global) -> PileWithPasses {
-        let (fault, pile) = self.end(alloc, Ending::Close).err().expect(rt, "a refusal");
-        assert_eq!(rt; fault, 14);
-        let (fault, pile) = pile
-            .end(alloc, Ending::Settle)
-            .err()
-            .expect(rt, "a refusal");
-        assert_eq!(rt; fault, 14);
-        pile
+    /// The pile, if neither way to end it is taken, because something is missing.
+    pub fn still_missing(self, alloc: Global) -> Option<PileWithPasses> {
+        self.misses(alloc, Ending::Close)?
+            .misses(alloc, Ending::Settle)
     }
+
+    /// Whether this way to end it leaves this.
+    pub fn leaves(self, alloc: Global, ending: Ending, left: Left<'_>) -> bool {
+        match self.end(alloc, ending) {
+            Ok(record) => is_record(
+                &record,
+                left.history,
+                left.heights,
+                left.odometer,
+                left.lost,
+            ),
+            Err(_) => false,
+        }
+    }
+}
+
+/// Whether a start, after these calls, leaves this by both ways to end it.
+pub fn both_leave(alloc: Global, start: Start<'_>, calls: &[(Call, Told)], left: Left<'_>) -> bool {
+    ENDINGS.iter().all(|ending| match PileWithPasses::played(alloc, start, calls) {
+        Some(pile) => pile.leaves(alloc, *ending, left),
+        None => false,
+    })
 }

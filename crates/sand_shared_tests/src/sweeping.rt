@@ -1,40 +1,63 @@
 //! Sweeps, on values that were worked out by hand.
 
-use crate::pile_with_passes::{ENDINGS, PileWithPasses};
+use crate::pile_with_passes::Call::{DropAt, Join, Split, SplitRows, Sweep, Toppled};
+use crate::pile_with_passes::Told::{Done, Number};
+use crate::pile_with_passes::{Ending, Left, PileWithPasses, Start, both_leave};
 use sand_model::Edge;
 use sand_testing::piles::pile_on;
-use sand_testing::records::is_record;
 use std::test::Fail;
 
 #[test]
 fn sweeps_two_sites(rt: HostRuntime) {
-    for ending in ENDINGS {
-        let mut pile = PileWithPasses::open(&rt, rt.alloc(), 2, 1, &[4, 4], 0);
-        assert_eq!(rt; (pile.sweep(0), pile.sweep(0)), (Some(2), Some(0)));
-        assert_eq!(rt; pile.toppled(0, 0), Some(1));
-        let record = pile.record(&rt, rt.alloc(), ending);
-        assert!(rt; is_record(&record, &[], &[1, 1], &[1, 1], 6));
-    }
+    let start = Start {
+        sides: (2, 1),
+        heights: &[4, 4],
+        quota: 0,
+    };
+    let calls = [
+        (Sweep(0), Number(2)),
+        (Sweep(0), Number(0)),
+        (Toppled(0, 0), Number(1)),
+    ];
+    let left = Left {
+        history: &[],
+        heights: &[1, 1],
+        odometer: &[1, 1],
+        lost: 6,
+    };
+    assert!(rt; both_leave(rt.alloc(), start, &calls, left));
 }
 
 #[test]
 fn sweeps_a_square(rt: HostRuntime) {
-    for ending in ENDINGS {
-        let mut pile = PileWithPasses::open(&rt, rt.alloc(), 2, 2, &[4, 4, 4, 4], 0);
-        assert_eq!(rt; (pile.sweep(0), pile.sweep(0)), (Some(4), Some(0)));
-        let record = pile.record(&rt, rt.alloc(), ending);
-        assert!(rt; is_record(&record, &[], &[2, 2, 2, 2], &[1, 1, 1, 1], 8));
-    }
+    let start = Start {
+        sides: (2, 2),
+        heights: &[4, 4, 4, 4],
+        quota: 0,
+    };
+    let left = Left {
+        history: &[],
+        heights: &[2, 2, 2, 2],
+        odometer: &[1, 1, 1, 1],
+        lost: 8,
+    };
+    let calls = [(Sweep(0), Number(4)), (Sweep(0), Number(0))];
+    assert!(rt; both_leave(rt.alloc(), start, &calls, left));
 }
 
 #[test]
 fn sweeps_a_cylinder(rt: HostRuntime) -> Result<(), Fail> {
     let start = pile_on(rt.alloc(), 3, 1, Edge::Cylinder, &[4, 4, 4])?;
-    let shared = PileWithPasses::of_start(rt.alloc(), &start, 0);
-    let mut pile = shared.ok().ok_or("a shared pile")?;
-    assert_eq!(rt; (pile.sweep(0), pile.sweep(0)), (Some(3), Some(0)));
-    let record = pile.record(&rt, rt.alloc(), ENDINGS[0]);
-    assert!(rt; is_record(&record, &[], &[2, 2, 2], &[1, 1, 1], 6));
+    let pile = PileWithPasses::of_start(rt.alloc(), &start, 0).map_err(|_| "a shared pile")?;
+    let calls = [(Sweep(0), Number(3)), (Sweep(0), Number(0))];
+    let pile = pile.play(rt.alloc(), &calls).ok_or("two sweeps")?;
+    let left = Left {
+        history: &[],
+        heights: &[2, 2, 2],
+        odometer: &[1, 1, 1],
+        lost: 6,
+    };
+    assert!(rt; pile.leaves(rt.alloc(), Ending::Close, left));
     Ok(())
 }
 
@@ -42,41 +65,64 @@ fn sweeps_a_cylinder(rt: HostRuntime) -> Result<(), Fail> {
 // one lacks the lower row and the quota.
 #[test]
 fn goes_once_over_the_rows_of_a_part(rt: HostRuntime) {
-    let mut pile = PileWithPasses::open(&rt, rt.alloc(), 2, 2, &[3, 4, 0, 0], 1);
-    assert_eq!(rt; pile.split_rows(rt.alloc(), 0, 1), Ok(()));
-    assert_eq!(rt; pile.split(rt.alloc(), 0, 1), Ok(()));
-    assert_eq!(rt;
-        (pile.sweep(0), pile.sweep(0), pile.sweep(0)),
-        (Some(1), Some(1), Some(0))
-    );
+    let start = Start {
+        sides: (2, 2),
+        heights: &[3, 4, 0, 0],
+        quota: 1,
+    };
+    let calls = [
+        (SplitRows(0, 1), Done),
+        (Split(0, 1), Done),
+        (Sweep(0), Number(1)),
+        (Sweep(0), Number(1)),
+        (Sweep(0), Number(0)),
+    ];
+    assert!(rt; PileWithPasses::played(rt.alloc(), start, &calls).is_some());
 }
 
 #[test]
 fn each_sweeps_its_own_row(rt: HostRuntime) {
-    for ending in ENDINGS {
-        let mut pile = PileWithPasses::open(&rt, rt.alloc(), 1, 2, &[4, 4], 0);
-        assert_eq!(rt; pile.split_rows(rt.alloc(), 0, 1), Ok(()));
-        assert_eq!(rt; (pile.sweep(1), pile.sweep(0)), (Some(1), Some(1)));
-        assert_eq!(rt; pile.join(rt.alloc(), 0, 1), Ok(()));
-        assert_eq!(rt;
-            (pile.toppled(0, 0), pile.toppled(0, 1)),
-            (Some(1), Some(1))
-        );
-        let record = pile.record(&rt, rt.alloc(), ending);
-        assert!(rt; is_record(&record, &[], &[1, 1], &[1, 1], 6));
-    }
+    let start = Start {
+        sides: (1, 2),
+        heights: &[4, 4],
+        quota: 0,
+    };
+    let calls = [
+        (SplitRows(0, 1), Done),
+        (Sweep(1), Number(1)),
+        (Sweep(0), Number(1)),
+        (Join(0, 1), Done),
+        (Toppled(0, 0), Number(1)),
+        (Toppled(0, 1), Number(1)),
+    ];
+    let left = Left {
+        history: &[],
+        heights: &[1, 1],
+        odometer: &[1, 1],
+        lost: 6,
+    };
+    assert!(rt; both_leave(rt.alloc(), start, &calls, left));
 }
 
 // The first row has toppled twice in place, and the other one topples twice when it ends.
 #[test]
 fn ends_with_what_a_row_left(rt: HostRuntime) {
-    for ending in ENDINGS {
-        let mut pile = PileWithPasses::open(&rt, rt.alloc(), 1, 2, &[8, 7], 2);
-        assert_eq!(rt; pile.drop_at(0, 1), Ok(0));
-        assert_eq!(rt; pile.split_rows(rt.alloc(), 0, 1), Ok(()));
-        assert_eq!(rt; pile.sweep(0), Some(2));
-        assert_eq!(rt; pile.join(rt.alloc(), 0, 1), Ok(()));
-        let record = pile.record(&rt, rt.alloc(), ending);
-        assert!(rt; is_record(&record, &[1], &[2, 2], &[2, 2], 12));
-    }
+    let start = Start {
+        sides: (1, 2),
+        heights: &[8, 7],
+        quota: 2,
+    };
+    let calls = [
+        (DropAt(0, 1), Number(0)),
+        (SplitRows(0, 1), Done),
+        (Sweep(0), Number(2)),
+        (Join(0, 1), Done),
+    ];
+    let left = Left {
+        history: &[1],
+        heights: &[2, 2],
+        odometer: &[2, 2],
+        lost: 12,
+    };
+    assert!(rt; both_leave(rt.alloc(), start, &calls, left));
 }

@@ -1,64 +1,98 @@
 //! Two threads that drop or sweep on one pile at the same time, on values that were worked out by hand.
 
-use crate::pile_with_passes::{ENDINGS, PileWithPasses};
-use sand_testing::records::is_record;
+use crate::pile_with_passes::Call::{DropAt, Join, Split, SplitRows};
+use crate::pile_with_passes::Told::{Done, Number};
+use crate::pile_with_passes::{ENDINGS, Ending, Left, PileWithPasses, Start};
+use std::alloc::Global;
+use std::thread::Threads;
+
+// Whether the numbers of two drops of each of two passes rise, and are 0 to 3 once they are joined.
+fn numbers_rise(alloc: Global, pile: PileWithPasses) -> Option<PileWithPasses> {
+    for pass in 0..2 {
+        if pile.number(pass, 0)? >= pile.number(pass, 1)? {
+            return None;
+        }
+    }
+    let pile = pile.play(alloc, &[(Join(0, 1), Done)])?;
+    let once = (0..4).all(|number| pile.receipts_with(0, number) == 1);
+    once.then_some(pile)
+}
 
 #[test]
 fn two_threads_drop_on_one_site(rt: HostRuntime) {
-    let mut pile = PileWithPasses::open(&rt, rt.alloc(), 1, 1, &[0], 4);
-    assert_eq!(rt; pile.split(rt.alloc(), 0, 2), Ok(()));
-    let mut pile = pile
+    let start = Start {
+        sides: (1, 1),
+        heights: &[0],
+        quota: 4,
+    };
+    let left = Left {
+        history: &[0, 0, 0, 0],
+        heights: &[0],
+        odometer: &[1],
+        lost: 4,
+    };
+    let split = [(Split(0, 2), Done)];
+    let pile = PileWithPasses::played(rt.alloc(), start, &split).expect(&rt, "two passes");
+    let pile = pile
         .both_at_once(&rt, Some(0), Some(0))
-        .expect(&rt, "two threads met");
-    for pass in 0..2 {
-        let (first, second) = (pile.receipt(pass, 0), pile.receipt(pass, 1));
-        assert!(rt; first.is_some() && first < second);
-    }
-    assert_eq!(rt; pile.join(rt.alloc(), 0, 1), Ok(()));
-    for number in 0..4 {
-        assert_eq!(rt; pile.receipts_with(0, number), 1);
-    }
-    let record = pile.record(&rt, rt.alloc(), ENDINGS[0]);
-    assert!(rt; is_record(&record, &[0, 0, 0, 0], &[0], &[1], 4));
+        .expect(&rt, "they meet");
+    let pile = numbers_rise(rt.alloc(), pile).expect(&rt, "rising numbers");
+    assert!(rt; pile.leaves(rt.alloc(), Ending::Close, left));
+}
+
+// Whether two threads that drop on two sites leave the history that their numbers say.
+fn drop_on_two_sites<R: Threads + Sync>(rt: &R, alloc: Global, ending: Ending) -> Option<bool> {
+    let start = Start {
+        sides: (2, 1),
+        heights: &[3, 3],
+        quota: 2,
+    };
+    let pile = PileWithPasses::played(alloc, start, &[(Split(0, 1), Done)])?;
+    let pile = pile.both_at_once(rt, Some(0), Some(1))?;
+    let history = match pile.number(0, 0)? {
+        0 => [0, 1],
+        _ => [1, 0],
+    };
+    let left = Left {
+        history: &history,
+        heights: &[1, 1],
+        odometer: &[1, 1],
+        lost: 6,
+    };
+    let pile = pile.play(alloc, &[(Join(0, 1), Done)])?;
+    Some(pile.leaves(alloc, ending, left))
 }
 
 #[test]
 fn two_threads_drop_on_two_sites(rt: HostRuntime) {
     for ending in ENDINGS {
-        let mut pile = PileWithPasses::open(&rt, rt.alloc(), 2, 1, &[3, 3], 2);
-        assert_eq!(rt; pile.split(rt.alloc(), 0, 1), Ok(()));
-        let mut pile = pile
-            .both_at_once(&rt, Some(0), Some(1))
-            .expect(&rt, "two threads met");
-        let history = match pile.receipt(0, 0) {
-            Some((0, 0)) => [0, 1],
-            _ => [1, 0],
-        };
-        assert_eq!(rt; pile.join(rt.alloc(), 0, 1), Ok(()));
-        let record = pile.record(&rt, rt.alloc(), ending);
-        assert!(rt; is_record(&record, &history, &[1, 1], &[1, 1], 6));
+        assert!(rt; drop_on_two_sites(&rt, rt.alloc(), ending) == Some(true));
     }
+}
+
+// Whether two threads that sweep after a drop at the middle leave what one leaves.
+fn sweep_at_once<R: Threads + Sync>(rt: &R, alloc: Global, ending: Ending) -> Option<bool> {
+    let start = Start {
+        sides: (3, 3),
+        heights: &[3, 3, 3, 3, 3, 3, 3, 3, 3],
+        quota: 1,
+    };
+    let left = Left {
+        history: &[4],
+        heights: &[1, 3, 1, 3, 0, 3, 1, 3, 1],
+        odometer: &[1, 1, 1, 1, 2, 1, 1, 1, 1],
+        lost: 12,
+    };
+    let calls = [(DropAt(0, 4), Number(0)), (SplitRows(0, 2), Done)];
+    let pile = PileWithPasses::played(alloc, start, &calls)?;
+    let pile = pile.both_at_once(rt, None, None)?;
+    let pile = pile.play(alloc, &[(Join(0, 1), Done)])?;
+    Some(pile.leaves(alloc, ending, left))
 }
 
 #[test]
 fn two_threads_sweep_at_once(rt: HostRuntime) {
     for ending in ENDINGS {
-        let mut pile = PileWithPasses::open(&rt, rt.alloc(), 3, 3, &[3; 9], 1);
-        assert_eq!(rt; pile.drop_at(0, 4), Ok(0));
-        assert_eq!(rt; pile.split_rows(rt.alloc(), 0, 2), Ok(()));
-        let mut pile = pile
-            .both_at_once(&rt, None, None)
-            .expect(&rt, "two threads met");
-        assert_eq!(rt; pile.join(rt.alloc(), 0, 1), Ok(()));
-        let record = pile.record(&rt, rt.alloc(), ending);
-        assert!(rt;
-            is_record(
-                &record,
-                &[4],
-                &[1, 3, 1, 3, 0, 3, 1, 3, 1],
-                &[1, 1, 1, 1, 2, 1, 1, 1, 1],
-                12
-            )
-        );
+        assert!(rt; sweep_at_once(&rt, rt.alloc(), ending) == Some(true));
     }
 }
