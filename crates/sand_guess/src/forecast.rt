@@ -4,8 +4,8 @@
 //! u * Lv. So if Lv is at most 1 everywhere, the topplings are at least the sum of (s - t) * v, and as t is at most 3,
 //! at least that of (s - 3) * v. With p(x) a parabola over the columns that is 0 just outside the grid and bends by 1, and
 //! q(y) one over the rows, such a v is p * q / (the greatest p + the greatest q), and on a cylinder it is q. It costs a
-//! multiplication a site. A pile with few grains outside a small part is not seen as high, since 3 is far above what is
-//! left there.
+//! multiplication a site. On an empty site s - 3 is negative, so a pile with grains on a small part only is seen as high
+//! only if they are many, such as 2^17 - 1 grains at the centre of 256 by 256 with open edges.
 
 ghost use Rattle.std.specs.Prelude.{◌≤◌, ◌<◌};
 
