@@ -134,11 +134,11 @@ fn a_child_that_had_nothing_may_be_thrown_away(rt: HostRuntime) {
     assert!(rt; both_leave(rt.alloc(), grain(&[0]), &calls, left));
 }
 
-// Whether a pile ends after it was refused a hundred times.
+// Whether a pile ends after both ways to end it were refused a hundred times.
 fn ends_after_refusals(alloc: Global, ending: Ending) -> Option<bool> {
     let split = [(Split(0, 1), Done), (DropAt(1, 0), Number(0))];
     let mut pile = PileWithPasses::played(alloc, grain(&[3]), &split)?;
-    for _ in 0..50 {
+    for _ in 0..100 {
         pile = pile.still_missing(alloc)?;
     }
     let pile = pile.play(alloc, &[(Join(0, 1), Done)])?;
