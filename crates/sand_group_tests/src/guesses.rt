@@ -1,7 +1,8 @@
-//! What no clause says: that a guess is made, and on small piles is right, and which piles are seen to be high.
+//! What no clause says: that a claim is made, by a guess or by sweeps, and on small piles is right; and which piles are seen
+//! to be high or flat.
 
 use crate::piles::{ring, row};
-use sand_guess::{guessed, guessed_identity, is_high};
+use sand_guess::{guessed, guessed_identity, is_flat, is_high, toppled};
 use sand_model::{Pile, Shape};
 use std::alloc::Global;
 use std::test::Fail;
@@ -21,6 +22,23 @@ fn guesses_by_hand(rt: HostRuntime) {
     assert!(rt; rings == Some(true));
     let most = is_guessed(alloc, row(alloc, &[1_099_511_627_775]), &[274_877_906_943]);
     assert!(rt; most == Some(true));
+}
+
+// Whether sweeps topple each site of a pile this often.
+fn is_toppled(alloc: Global, pile: Option<Pile>, counts: &[u64]) -> Option<bool> {
+    let claim = toppled(alloc, &pile?).ok()??;
+    Some(claim.counts.as_slice() == counts)
+}
+
+#[test]
+fn topples_by_hand(rt: HostRuntime) {
+    let alloc = rt.alloc();
+    let lines = is_toppled(alloc, row(alloc, &[0, 4, 0]), &[0, 1, 0]);
+    assert!(rt; lines == Some(true));
+    let rings = is_toppled(alloc, ring(alloc, &[4, 4, 4]), &[1, 1, 1]);
+    assert!(rt; rings == Some(true));
+    let heap = is_toppled(alloc, row(alloc, &[100]), &[25]);
+    assert!(rt; heap == Some(true));
 }
 
 #[test]
@@ -46,5 +64,13 @@ fn sees_what_is_high(rt: HostRuntime) {
     for (side, each, want) in [(64, 6, true), (64, 3, false), (16, 1_000_000, false)] {
         let seen = is_high_at(rt.alloc(), side, each);
         assert!(rt; seen == Some(want), "{each} on {side}");
+    }
+}
+
+#[test]
+fn sees_what_is_flat(rt: HostRuntime) {
+    for (most, want) in [(100, true), (101, false)] {
+        let seen = row(rt.alloc(), &[0, most]).map(|pile| is_flat(&pile));
+        assert!(rt; seen == Some(want), "{most}");
     }
 }

@@ -1,10 +1,10 @@
-//! Guesses are made and accepted, on piles of all shapes, edges and heights.
+//! Guesses are made and accepted, on piles of all shapes, edges and heights; and so are claims by sweeps, of flat piles.
 
 ghost use Rattle.std.specs.Prelude.{◌<◌};
 
 use crate::piles::pile_on;
 use sand_certify::certified;
-use sand_guess::guessed;
+use sand_guess::{Claim, guessed, is_flat, toppled};
 use sand_model::{Edge, Pile};
 use std::alloc::Global;
 
@@ -93,10 +93,17 @@ impl Numbers {
     }
 }
 
-// The heights that the guessed odometer of a pile leaves, if it is made and accepted.
-fn left_by_guess(alloc: Global, pile: &Pile) -> Option<Vec<u64>> {
-    let claim = guessed(alloc, pile).ok()??;
+// The heights that a claim leaves, if it is accepted.
+fn left_by(alloc: Global, pile: &Pile, claim: Claim) -> Option<Vec<u64>> {
     certified(alloc, pile, &claim.counts, &claim.turns).ok()?
+}
+
+fn left_by_guess(alloc: Global, pile: &Pile) -> Option<Vec<u64>> {
+    left_by(alloc, pile, guessed(alloc, pile).ok()??)
+}
+
+fn left_by_sweeps(alloc: Global, pile: &Pile) -> Option<Vec<u64>> {
+    left_by(alloc, pile, toppled(alloc, pile).ok()??)
 }
 
 #[test]
@@ -110,4 +117,19 @@ fn guesses_of_many_piles_are_accepted(rt: HostRuntime) {
         }
     }
     assert!(rt; piles >= 300);
+}
+
+#[test]
+fn sweeps_of_many_flat_piles_are_accepted(rt: HostRuntime) {
+    let mut numbers = Numbers(88_172_645_463_325_252);
+    let mut piles = 0u64;
+    for _ in 0..PILES {
+        if let Some(pile) = numbers.pile(rt.alloc()) {
+            // A large pile of many grains may take more sweeps than are tried.
+            if is_flat(&pile) && left_by_sweeps(rt.alloc(), &pile).is_some() {
+                piles = piles.saturating_add(1);
+            }
+        }
+    }
+    assert!(rt; piles >= 100, "{piles}");
 }

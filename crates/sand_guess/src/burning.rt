@@ -6,12 +6,17 @@
 //!
 //! The grid has an edge all round here (`border`). In the edge of a row that goes round are the marks of its other end.
 
-ghost use Rattle.std.specs.Prelude.{◌≤◌, ◌<◌, length};
+ghost use Rattle.std.specs.Prelude.{◌≤◌, ◌<◌};
 
 use crate::border::{Border, cell_number};
-use crate::field::{Field, LEVEL};
 use crate::frame::{Frame, run, run_mut};
 use std::alloc::{AllocError, Global};
+
+// What is added to a height in a byte.
+const LEVEL: u8 = 128;
+
+// All bits of a byte. A height that does not fit loses its other bits.
+const BYTE_BITS: u64 = 0xff;
 
 // Marks of cells: burnt or never toppled, and toppled.
 const AWAY: u8 = 0;
@@ -23,57 +28,29 @@ const TOPPLED: u8 = 1;
 pub(crate) struct Fire {
     pub(crate) border: Border,
     marks: Vec<u8>,
+    /// By site its height in a byte, `LEVEL` above what it is.
+    heights: Vec<u8>,
     /// `LEVEL` above how far a height is above the number of neighbours that are marked, and 0 where nothing toppled.
     room: Vec<u8>,
+    /// How many neighbours of each site of one row are marked.
+    around: Vec<u8>,
     /// The cells that burn, one after another, and how many they are.
     order: Vec<u32>,
     burnt: usize,
 }
 
-// The four cells around each cell of a row: above, west, east and below.
-#[derive(Clone, Copy)]
-struct Around<'a> {
-    above: &'a [u8],
-    west: &'a [u8],
-    east: &'a [u8],
-    below: &'a [u8],
-}
-
-impl Around<'_> {
-    fn cells(self) -> usize
-        ensures above { result ≤ length self.entry.above.now }
-        ensures west { result ≤ length self.entry.west.now }
-        ensures east { result ≤ length self.entry.east.now }
-        ensures below { result ≤ length self.entry.below.now }
-    {
-        self.above
-            .len()
-            .min(self.west.len())
-            .min(self.east.len())
-            .min(self.below.len())
-    }
-
-    // The sum of the four cells.
-    #[inline(always)]
-    fn sum(self, x: usize) -> u8
-        requires above { x < length self.above.now }
-        requires west { x < length self.west.now }
-        requires east { x < length self.east.now }
-        requires below { x < length self.below.now }
-    {
-        let ends = self.above[x].wrapping_add(self.below[x]);
-        let sides = self.west[x].wrapping_add(self.east[x]);
-        ends.wrapping_add(sides)
+// Adds the marks of the cells beside those of a row.
+fn add_row(sums: &mut [u8], marks: &[u8]) {
+    for x in 0..sums.len().min(marks.len()) {
+        sums[x] = sums[x].wrapping_add(marks[x]);
     }
 }
 
-// The cells around those of a row that begins at `first`.
-fn around_row(marks: &[u8], first: usize, width: usize, stride: usize) -> Around<'_> {
-    Around {
-        above: run(marks, first.wrapping_sub(stride), width),
-        west: run(marks, first.wrapping_sub(1), width),
-        east: run(marks, first.wrapping_add(1), width),
-        below: run(marks, first.wrapping_add(stride), width),
+// How many marked neighbours each cell has of the row that begins at `first`.
+fn count_around(border: &Border, marks: &[u8], first: usize, sums: &mut [u8]) {
+    sums.fill(0);
+    for beside in &border.around(first) {
+        add_row(sums, run(marks, *beside, border.frame.width));
     }
 }
 
@@ -88,22 +65,24 @@ fn mark_row(marks: &mut [u8], counts: &[i64], least: i64) -> u32 {
     found
 }
 
-fn set_room(room: &mut [u8], heights: &[u8], marks: &[u8], around: Around) {
-    let cells = room
-        .len()
-        .min(heights.len())
-        .min(marks.len())
-        .min(around.cells());
-    for x in 0..cells {
+fn set_room(room: &mut [u8], heights: &[u8], marks: &[u8], around: &[u8]) {
+    let cells = room.len().min(heights.len());
+    for x in 0..cells.min(marks.len()).min(around.len()) {
         let is_marked = 0u8.wrapping_sub(marks[x]);
-        room[x] = heights[x].wrapping_sub(around.sum(x)) & is_marked;
+        room[x] = heights[x].wrapping_sub(around[x]) & is_marked;
     }
 }
 
-fn untopple_row(heights: &mut [u8], marks: &[u8], around: Around) {
-    let cells = heights.len().min(marks.len()).min(around.cells());
-    for x in 0..cells {
-        let back = (marks[x] << 2).wrapping_sub(around.sum(x));
+fn put_heights(bytes: &mut [u8], heights: &[i64]) {
+    for x in 0..bytes.len().min(heights.len()) {
+        let byte = heights[x].wrapping_add(i64::from(LEVEL)).cast_unsigned();
+        bytes[x] = (byte & BYTE_BITS) as u8;
+    }
+}
+
+fn untopple_row(heights: &mut [u8], marks: &[u8], around: &[u8]) {
+    for x in 0..heights.len().min(marks.len()).min(around.len()) {
+        let back = (marks[x] << 2).wrapping_sub(around[x]);
         heights[x] = heights[x].wrapping_add(back);
     }
 }
@@ -163,7 +142,9 @@ impl Fire {
         Ok(Fire {
             border,
             marks: vec![in alloc; AWAY; cells]?,
+            heights: vec![in alloc; LEVEL; frame.sites()]?,
             room: vec![in alloc; 0u8; cells]?,
+            around: vec![in alloc; 0u8; frame.width]?,
             // One place more than sites, since a cell is written before it is known whether it burns.
             order: vec![in alloc; 0u32; frame.sites() + 1]?,
             burnt: 0,
@@ -201,17 +182,16 @@ impl Fire {
     }
 
     // How far each height is above the number of neighbours that have toppled.
-    fn find_room(&mut self, field: &Field) {
+    fn find_room(&mut self) {
         let width = self.border.frame.width;
         for y in 0..self.border.frame.height {
             let first = self.border.first_of(y);
-            let around = around_row(&self.marks, first, width, self.border.stride);
-            let marks = run(&self.marks, first, width);
+            count_around(&self.border, &self.marks, first, &mut self.around);
             set_room(
                 run_mut(&mut self.room, first, width),
-                field.row(y),
-                marks,
-                around,
+                run(&self.heights, y.wrapping_mul(width), width),
+                run(&self.marks, first, width),
+                &self.around,
             );
         }
     }
@@ -254,39 +234,38 @@ impl Fire {
     }
 
     // Takes one toppling back at each site that keeps its mark.
-    fn untopple(&mut self, field: &mut Field, counts: &mut [i64]) {
+    fn untopple(&mut self, counts: &mut [i64]) {
         self.join_ends();
         let width = self.border.frame.width;
         for y in 0..self.border.frame.height {
             let first = self.border.first_of(y);
+            count_around(&self.border, &self.marks, first, &mut self.around);
             let marks = run(&self.marks, first, width);
-            lower_row(run_mut(counts, y.wrapping_mul(width), width), marks);
-            let from = y.wrapping_mul(field.stride);
-            untopple_row(
-                run_mut(&mut field.heights, from, width),
-                marks,
-                around_row(&self.marks, first, width, self.border.stride),
-            );
+            let from = y.wrapping_mul(width);
+            lower_row(run_mut(counts, from, width), marks);
+            let heights = run_mut(&mut self.heights, from, width);
+            untopple_row(heights, marks, &self.around);
         }
     }
 
     /// Takes back topplings, the greatest set that can be at a time and at most so often, and says whether none is left
-    /// that can be. No count goes below `least`. The field is stable, and stays so.
+    /// that can be. No count goes below `least`. The heights that they leave are stable, and stay so.
     pub(crate) fn take_back(
         &mut self,
-        field: &mut Field,
+        heights: &[i64],
         counts: &mut [i64],
         least: i64,
         times: usize,
     ) -> bool {
+        put_heights(&mut self.heights, heights);
         for _ in 0..times {
             let toppled = self.mark(counts, least);
-            self.find_room(field);
+            self.find_room();
             self.burn_out();
             if toppled as usize <= self.burnt {
                 return true;
             }
-            self.untopple(field, counts);
+            self.untopple(counts);
         }
         false
     }

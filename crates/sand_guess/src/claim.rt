@@ -11,7 +11,10 @@ use sand_model::{Pile, Shape};
 use std::alloc::{AllocError, Global};
 
 // A guess leaves so many grains a site too many, since toppling them off is cheaper than taking topplings back.
-const EXCESS: f64 = 0.015;
+const EXCESS: f64 = 0.03;
+
+// About as many sweeps as a guess takes.
+const SWEEPS_OF_A_GUESS: usize = 7_000;
 
 // More halvings than a side takes.
 const MOST_HALVINGS: usize = 6;
@@ -77,7 +80,7 @@ fn repaired(
     let known = Known {
         frame: level.frame,
         expected,
-        found: density_of(alloc, &repair.field)?,
+        found: density_of(alloc, level.frame, &repair.left)?,
     };
     Ok(Some((repair, known)))
 }
@@ -110,6 +113,25 @@ fn sizes_of(alloc: Global, repair: &Repair) -> Result<Vec<u64>, AllocError> {
     Ok(sizes)
 }
 
+// What the counts of a repair claim.
+fn claim_of(alloc: Global, repair: &Repair) -> Result<Claim, AllocError> {
+    Ok(Claim {
+        counts: sizes_of(alloc, repair)?,
+        turns: repair.fire.turns(alloc)?,
+    })
+}
+
+/// How often each site of a pile topples by sweeps of all sites, with the turns at which sites burn, or None if that takes
+/// longer than a guess. Nothing is claimed of it, as of a guess. Fails only with Memory.
+pub fn toppled(alloc: Global, pile: &Pile) -> Result<Option<Claim>, AllocError> {
+    let level = first_level(alloc, pile)?;
+    let mut repair = Repair::new(alloc, level.frame)?;
+    if !repair.sweep(&level, SWEEPS_OF_A_GUESS) {
+        return Ok(None);
+    }
+    Ok(Some(claim_of(alloc, &repair)?))
+}
+
 /// A guess of how often each site of a pile topples, with the turns at which sites burn, or None if no guess is made.
 /// Nothing is claimed of it; `sand_certify::certified` decides whether it is right. Fails only with Memory.
 pub fn guessed(alloc: Global, pile: &Pile) -> Result<Option<Claim>, AllocError> {
@@ -117,9 +139,7 @@ pub fn guessed(alloc: Global, pile: &Pile) -> Result<Option<Claim>, AllocError> 
     let Some(repair) = repaired_first(alloc, levels)? else {
         return Ok(None);
     };
-    let counts = sizes_of(alloc, &repair)?;
-    let turns = repair.fire.turns(alloc)?;
-    Ok(Some(Claim { counts, turns }))
+    Ok(Some(claim_of(alloc, &repair)?))
 }
 
 /// A guess of w for which Lw is the identity of the group of recurrent piles, or None if no guess is made. It is found as

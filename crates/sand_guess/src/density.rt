@@ -3,10 +3,9 @@
 
 ghost use Rattle.std.specs.Prelude.{◌≤◌, ◌<◌};
 
-use crate::field::{Field, LEVEL};
 use crate::frame::Frame;
 use std::alloc::{AllocError, Global};
-use std::num::nearest_usize_to_f64;
+use std::num::{nearest_i64_to_f64, nearest_usize_to_f64};
 
 /// The density that is expected if nothing is known: that of a large pile which more and more sand was added to.
 pub(crate) const USUAL: f64 = 2.125;
@@ -121,22 +120,18 @@ fn blur(alloc: Global, frame: Frame, all: &mut [f64]) -> Result<(), AllocError> 
     blur_columns(frame, all, &mut copy)
 }
 
-// Adds the heights of a row to a list.
-fn push_heights(all: &mut Vec<f64>, row: &[u8]) -> Result<(), AllocError> {
-    for height in row {
-        all.push(f64::from(*height) - f64::from(LEVEL))?;
-    }
-    Ok(())
-}
-
 /// Local means of heights.
-pub(crate) fn density_of(alloc: Global, field: &Field) -> Result<Vec<f64>, AllocError> {
-    let mut all = Vec::new(alloc);
-    for y in 0..field.frame.height {
-        push_heights(&mut all, field.row(y))?;
+pub(crate) fn density_of(
+    alloc: Global,
+    frame: Frame,
+    heights: &[i64],
+) -> Result<Vec<f64>, AllocError> {
+    let mut all = Vec::with_capacity(alloc, heights.len())?;
+    for height in heights {
+        all.push(nearest_i64_to_f64(*height))?;
     }
-    blur(alloc, field.frame, &mut all)?;
-    blur(alloc, field.frame, &mut all)?;
+    blur(alloc, frame, &mut all)?;
+    blur(alloc, frame, &mut all)?;
     Ok(all)
 }
 
@@ -156,16 +151,8 @@ fn at_or(all: &[f64], at: usize, usual: f64) -> f64 {
 impl Known {
     // The density expected at a site of a pile of twice the size, in which a short side may be as long as here.
     fn expected_at(&self, frame: Frame, x: usize, y: usize) -> f64 {
-        let across = if self.frame.width == frame.width {
-            1
-        } else {
-            2
-        };
-        let down = if self.frame.height == frame.height {
-            1
-        } else {
-            2
-        };
+        let across = 1 + usize::from(self.frame.width != frame.width);
+        let down = 1 + usize::from(self.frame.height != frame.height);
         let at = (y / down)
             .wrapping_mul(self.frame.width)
             .wrapping_add(x / across);

@@ -1,11 +1,11 @@
-//! Whether a pile is high: whether so much of it topples that a guess is faster than toppling.
+//! Whether a pile is high: whether so much of it topples that a guess is faster than toppling. And whether it is flat.
 //!
 //! If L is symmetric and u topples s to t, then for any v the sum of (s - t) * v is the sum of Lu * v, which is that of
 //! u * Lv. So if Lv is at most 1 everywhere, the topplings are at least the sum of (s - t) * v, and as t is at most 3,
 //! at least that of (s - 3) * v. With p(x) a parabola over the columns that is 0 just outside the grid and bends by 1, and
 //! q(y) one over the rows, such a v is p * q / (the greatest p + the greatest q), and on a cylinder it is q. It costs a
-//! multiplication a site. On an empty site s - 3 is negative, so a pile with grains on a small part only is seen as high
-//! only if they are many, such as 2^17 - 1 grains at the centre of 256 by 256 with open edges.
+//! multiplication a site. Where a pile is empty, s - 3 is negative, so a pile with grains on a small part only is not seen
+//! as high unless they are many, as 2^17 - 1 grains at the centre of 256 by 256 with open edges.
 
 ghost use Rattle.std.specs.Prelude.{◌≤◌, ◌<◌};
 
@@ -37,6 +37,18 @@ fn row_above(row: &[u64], goes_round: bool) -> i64 {
         sum = sum.wrapping_add(above.wrapping_mul(factor));
     }
     sum
+}
+
+// The greatest height of a flat pile. Higher heaps would have to be evened out before a sweep, at length.
+const MOST_OF_FLAT: u64 = 100;
+
+/// Whether no site has many grains, so that sweeps over all sites can begin at once or nearly so.
+pub fn is_flat(pile: &Pile) -> bool {
+    let mut highest = 0u64;
+    for height in pile.heights() {
+        highest = highest.max(*height);
+    }
+    highest <= MOST_OF_FLAT
 }
 
 /// Whether a pile is seen to be high. Nothing is claimed of it.

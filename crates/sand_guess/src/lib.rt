@@ -9,8 +9,8 @@
 //!
 //! 1. `levels`: piles of half the size, and again, until they are small. The smallest is guessed from a constant.
 //! 2. `solver`: Lu = s - density is solved in floating point, directly: waves along x, elimination along y.
-//! 3. `repair`: the rounded counts are made right, by toppling what is unstable (in bytes: `sweeps`, then
-//!    `singles`) and taking back what toppled without need (`burning`). Here all numbers are exact.
+//! 3. `repair`: the rounded counts are made right, by toppling what is unstable (by bit `planes`) and
+//!    taking back what toppled without need (`burning`). Here all numbers are exact.
 //! 4. `density`: the local means of what is left give the density for the pile of twice the size.
 //!
 //! The identity of the group of recurrent piles is guessed in the same way, from a pile without a grain (`claim`). And
@@ -21,17 +21,15 @@ mod border;
 mod burning;
 mod claim;
 mod density;
-mod field;
 mod forecast;
 mod frame;
 mod levels;
+mod planes;
 mod product;
 mod repair;
 mod residual;
-mod singles;
 mod solver;
-mod sweeps;
 mod waves;
 
-pub use claim::{Claim, guessed, guessed_identity};
-pub use forecast::is_high;
+pub use claim::{Claim, guessed, guessed_identity, toppled};
+pub use forecast::{is_flat, is_high};

@@ -4,11 +4,10 @@
 ghost use Rattle.std.specs.Prelude.{◌≤◌, ◌<◌};
 
 use crate::burning::Fire;
-use crate::field::Field;
 use crate::frame::Frame;
 use crate::levels::Level;
+use crate::planes::Planes;
 use crate::residual::{smooth, subtract};
-use crate::singles::Singles;
 use crate::solver::Solver;
 use std::alloc::{AllocError, Global};
 use std::num::{nearest_i64_to_f64, saturating_f64_to_i64};
@@ -17,24 +16,30 @@ use std::num::{nearest_i64_to_f64, saturating_f64_to_i64};
 const SOLVES: usize = 3;
 
 // How often heights are evened out after each solve.
-const EVENINGS: usize = 30;
+const EVENINGS: usize = 400;
 
-// How often sweeps and single topplings follow one another, and how often counts are lowered.
-const TRIALS: usize = 10;
+// So many sweeps are made before a guess is given up: ten times as many as any pile was seen to take.
+const MOST_SWEEPS: usize = 100_000;
 
-// How often topplings are taken back before all counts are lowered, and by what density they are at first.
-const MOST_TAKEN_BACK: usize = 8;
+// How often topplings are taken back before all counts are lowered, by what density first, and how many times as much
+// each time after that. A fire takes as long as some 150 sweeps.
+const MOST_TAKEN_BACK: usize = 24;
 
-const FIRST_LOWERING: f64 = 0.02;
+const FIRST_LOWERING: f64 = 0.03;
+
+const DENSER: f64 = 4.0;
+
+// How often counts are lowered.
+const LOWERINGS: usize = 10;
 
 /// Counts under repair, with room for what the repair needs.
 #[derive(Drop)]
 pub(crate) struct Repair {
     pub(crate) counts: Vec<i64>,
-    pub(crate) field: Field,
     pub(crate) fire: Fire,
-    left: Vec<i64>,
-    singles: Singles,
+    /// The heights that the counts leave.
+    pub(crate) left: Vec<i64>,
+    planes: Planes,
 }
 
 // Adds what is nearest to each number, and keeps counts from the least on.
@@ -63,32 +68,42 @@ fn rest_of(
 
 impl Repair {
     pub(crate) fn new(alloc: Global, frame: Frame) -> Result<Repair, AllocError> {
-        let fire = Fire::new(alloc, frame)?;
-        let singles = Singles::new(alloc, &fire.border)?;
         Ok(Repair {
             counts: vec![in alloc; 0i64; frame.sites()]?,
-            field: Field::new(alloc, frame)?,
-            fire,
+            fire: Fire::new(alloc, frame)?,
             left: vec![in alloc; 0i64; frame.sites()]?,
-            singles,
+            planes: Planes::new(alloc, frame)?,
         })
     }
 
-    // Computes the heights anew, and says whether they fit.
-    fn look(&mut self, level: &Level) -> bool {
-        subtract(level.frame, &level.start, &self.counts, &mut self.left);
-        self.field.put(&self.left)
-    }
-
-    // Evens out heights until they fit, and says whether they do.
+    // Computes the heights again, evens them out until they have room, and says whether they do.
     fn even_out(&mut self, level: &Level) -> bool {
+        subtract(level.frame, &level.start, &self.counts, &mut self.left);
         for _ in 0..EVENINGS {
-            if self.look(level) {
+            if !smooth(level, &mut self.counts, &mut self.left) {
+                self.planes.put(&self.left);
                 return true;
             }
-            smooth(level, &mut self.counts, &mut self.left);
         }
-        self.look(level)
+        false
+    }
+
+    // Topples until no site may topple, and says whether it came to that in so many sweeps. The heights have room.
+    fn topple(&mut self, level: &Level, sweeps: usize) -> bool {
+        let is_stable = self.planes.topple(&mut self.counts, sweeps);
+        subtract(level.frame, &level.start, &self.counts, &mut self.left);
+        is_stable
+    }
+
+    // Takes back topplings until none is left that can be, and says whether it came to that. The heights are stable.
+    fn take_back(&mut self, level: &Level) -> bool {
+        self.fire
+            .take_back(&self.left, &mut self.counts, level.least, MOST_TAKEN_BACK)
+    }
+
+    /// Topples from the counts as they are, and says whether that made them right in so many sweeps.
+    pub(crate) fn sweep(&mut self, level: &Level, sweeps: usize) -> bool {
+        self.even_out(level) && self.topple(level, sweeps) && self.take_back(level)
     }
 
     /// Counts that leave heights near the expected ones; says whether they do so near enough.
@@ -112,30 +127,6 @@ impl Repair {
         Ok(false)
     }
 
-    // Topples until no site may topple. Says whether it came to that.
-    fn relax(&mut self, level: &Level) -> bool {
-        for _ in 0..TRIALS {
-            if !self.look(level) {
-                smooth(level, &mut self.counts, &mut self.left);
-            } else if self.field.is_stable() {
-                return true;
-            } else {
-                self.field.sweep(&mut self.counts);
-                if self.look(level) {
-                    let Repair {
-                        counts,
-                        field,
-                        fire,
-                        singles,
-                        ..
-                    } = self;
-                    singles.topple(&fire.border, field, counts);
-                }
-            }
-        }
-        false
-    }
-
     /// Makes the counts right, and says whether it came to an end. If topplings have to be taken back over and over,
     /// counts are lowered by what a higher density would have made of them where the last fire left sites.
     pub(crate) fn finish(
@@ -145,23 +136,21 @@ impl Repair {
         solver: &Solver,
     ) -> Result<bool, AllocError> {
         let mut density = FIRST_LOWERING;
-        for _ in 0..TRIALS {
-            if !self.relax(level) {
+        for _ in 0..LOWERINGS {
+            if !self.topple(level, MOST_SWEEPS) {
                 return Ok(false);
             }
-            let is_done = self.fire.take_back(
-                &mut self.field,
-                &mut self.counts,
-                level.least,
-                MOST_TAKEN_BACK,
-            );
-            if is_done {
+            if self.take_back(level) {
+                subtract(level.frame, &level.start, &self.counts, &mut self.left);
                 return Ok(true);
             }
             let mut lower = self.fire.unburnt(alloc)?;
             solver.solve(alloc, &mut lower)?;
             add_rounded(&mut self.counts, level.least, &lower, -density);
-            density *= 2.0;
+            if !self.even_out(level) {
+                return Ok(false);
+            }
+            density *= DENSER;
         }
         Ok(false)
     }

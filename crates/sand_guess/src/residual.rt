@@ -10,6 +10,7 @@ ghost use Rattle.std.specs.Prelude.{◌≤◌, ◌<◌};
 
 use crate::frame::{Frame, run, run_mut};
 use crate::levels::Level;
+use crate::planes::has_room;
 
 // The start less four topplings a count.
 fn begin_row(row: &mut [i64], start: &[i64], counts: &[i64]) {
@@ -64,58 +65,74 @@ pub(crate) fn subtract(frame: Frame, start: &[i64], counts: &[i64], left: &mut [
     }
 }
 
-// Gives grains to the sites west and east of one.
-fn give_sides(row: &mut [i64], x: usize, grains: i64, goes_round: bool) {
-    let last = row.len().wrapping_sub(1);
-    let west = if x == 0 && goes_round {
-        last
-    } else {
-        x.wrapping_sub(1)
-    };
-    let east = if x == last && goes_round {
-        0
-    } else {
-        x.wrapping_add(1)
-    };
-    if west < row.len() {
-        row[west] = row[west].wrapping_add(grains);
-    }
-    if east < row.len() {
-        row[east] = row[east].wrapping_add(grains);
+// Gives grains to a site, if it is on the grid.
+fn give(left: &mut [i64], at: usize, grains: i64) {
+    if at < left.len() {
+        left[at] = left[at].wrapping_add(grains);
     }
 }
 
-// Topples the sites of a row one after another, or takes back topplings, so that each height is from 2 to 5 or the count
-// is the least. `row` has the heights, and `counts` the counts of that row.
-fn even_out_row(row: &mut [i64], counts: &mut [i64], level: &Level, is_back: bool) {
-    let cells = row.len().min(counts.len());
-    for step in 0..cells {
-        let x = if is_back { cells - 1 - step } else { step };
-        let before = counts[x];
-        let times = row[x].wrapping_sub(2) >> 2;
-        counts[x] = before.wrapping_add(times).max(level.least);
-        let more = counts[x].wrapping_sub(before);
-        give_sides(row, x, more, level.frame.goes_round);
-    }
+// The sites west and east of column x in the row that begins at `from`, or no site of the grid.
+fn sides_of(frame: Frame, from: usize, x: usize) -> (usize, usize) {
+    let at = from.wrapping_add(x);
+    let end = from.wrapping_add(frame.width);
+    let (before, after) = if frame.goes_round {
+        (end.wrapping_sub(1), from)
+    } else {
+        (usize::MAX, usize::MAX)
+    };
+    let west = if x == 0 { before } else { at.wrapping_sub(1) };
+    let east = at.wrapping_add(1);
+    (west, if east == end { after } else { east })
 }
 
-// Evens out the heights of a row. `row` has room for them.
-fn smooth_row(level: &Level, counts: &mut [i64], row: &mut [i64], y: usize, is_back: bool)
-    requires { y < level.now.frame.height }
-{
+// If a height has no room, topples the site or takes topplings back, so that its height is from 2 to 5 or its count the
+// least.
+fn even_out(level: &Level, counts: &mut [i64], left: &mut [i64], from: usize, x: usize) {
+    let at = from.wrapping_add(x);
+    if at >= left.len() || at >= counts.len() || has_room(left[at]) {
+        return;
+    }
+    let times = left[at].wrapping_sub(2) >> 2;
+    let count = counts[at].wrapping_add(times).max(level.least);
+    let times = count.wrapping_sub(counts[at]);
+    counts[at] = count;
+    left[at] = left[at].wrapping_sub(times.wrapping_mul(4));
+    let (west, east) = sides_of(level.frame, from, x);
+    give(left, west, times);
+    give(left, east, times);
+    give(left, at.wrapping_sub(level.frame.width), times);
+    give(left, at.wrapping_add(level.frame.width), times);
+}
+
+fn even_out_row(level: &Level, counts: &mut [i64], left: &mut [i64], y: usize, is_back: bool) {
     let width = level.frame.width;
-    subtract_row(level.frame, &level.start, counts, y, row);
-    even_out_row(row, run_mut(counts, y * width, width), level, is_back);
+    for step in 0..width {
+        let x = if is_back { width - 1 - step } else { step };
+        even_out(level, counts, left, y.wrapping_mul(width), x);
+    }
 }
 
-/// Evens out heights that are far from those of a settled pile, once over the grid and once back. `left` has room for the
-/// heights of a row.
-pub(crate) fn smooth(level: &Level, counts: &mut [i64], left: &mut [i64]) {
-    let row = run_mut(left, 0, level.frame.width);
+fn have_room(heights: &[i64]) -> bool {
+    let mut have_room = true;
+    for height in heights {
+        have_room &= has_room(*height);
+    }
+    have_room
+}
+
+/// Evens out heights that have no room in planes, once over the grid and once back, and says whether there were any.
+pub(crate) fn smooth(level: &Level, counts: &mut [i64], left: &mut [i64]) -> bool {
+    let width = level.frame.width;
     let rows = level.frame.height;
+    let mut is_even = true;
     for turn in 0..2 * rows {
         let is_back = turn >= rows;
         let y = if is_back { 2 * rows - 1 - turn } else { turn };
-        smooth_row(level, counts, row, y, is_back);
+        if !have_room(run(left, y.wrapping_mul(width), width)) {
+            is_even = false;
+            even_out_row(level, counts, left, y, is_back);
+        }
     }
+    !is_even
 }

@@ -1,6 +1,7 @@
 //! A direct solve of Lv = r in floating point.
 //!
-//! A product turns each row into its waves. For each wave a line of equations is left along y, in which each unknown
+//! A row is split into its even and its odd part (`waves`), and each is solved for by half of the columns. A product
+//! turns each row into its waves. For each wave a line of equations is left along y, in which each unknown
 //! meets only the one above and the one below: these are eliminated from the first row to the last, and then
 //! the unknowns are found from the last to the first. A product turns waves into rows again.
 
@@ -11,17 +12,24 @@ use crate::product::{BLOCK, in_blocks, multiply};
 use crate::waves::{Waves, waves_of};
 use std::alloc::{AllocError, Global};
 
+/// What solves Lv = r for one parity of r, by the first half of the columns.
+#[derive(Drop)]
+struct Part {
+    to_waves: Vec<f64>,
+    from_waves: Vec<f64>,
+    own: Vec<f64>,
+}
+
 /// What solves Lv = r on a frame.
 #[derive(Drop)]
 pub(crate) struct Solver {
     frame: Frame,
-    /// The width, rounded up to whole blocks: rows of r and v are so long here.
+    /// Half the width, rounded up to whole blocks: rows of a part are this long.
     columns: usize,
     /// The height, rounded up in the same way.
     rows: usize,
-    to_waves: Vec<f64>,
-    from_waves: Vec<f64>,
-    own: Vec<f64>,
+    even: Part,
+    odd: Part,
     ghost few_columns: { columns ≤ 512 },
     ghost few_rows: { rows ≤ 512 },
 }
@@ -97,67 +105,104 @@ fn substitute_all(columns: usize, shares: &[f64], all: &mut [f64], rows: usize) 
     }
 }
 
-fn copy_row(to: &mut [f64], row: &[f64]) {
-    for (number, value) in to.iter_mut().zip(row.iter()) {
-        *number = *value;
+// The even and the odd part of a row, by its first half. A column in the middle is its own mirror, and counts once.
+fn split_row(row: &[f64], even: &mut [f64], odd: &mut [f64]) {
+    let width = row.len();
+    for x in 0..(width / 2).min(even.len()).min(odd.len()) {
+        let (here, there) = (row[x], row[width - 1 - x]);
+        even[x] = here + there;
+        odd[x] = here - there;
+    }
+    if width % 2 == 1 && width / 2 < even.len() {
+        even[width / 2] = row[width / 2];
     }
 }
 
-// Adds a row, filled up with zeros.
-fn push_row(all: &mut Vec<f64>, row: &[f64], columns: usize) -> Result<(), AllocError> {
-    for x in 0..columns {
-        all.push(if x < row.len() { row[x] } else { 0.0 })?;
+// A row from its parts.
+fn join_row(row: &mut [f64], even: &[f64], odd: &[f64]) {
+    let width = row.len();
+    for x in 0..(width / 2).min(even.len()).min(odd.len()) {
+        row[x] = even[x] + odd[x];
+        row[width - 1 - x] = even[x] - odd[x];
     }
-    Ok(())
+    if width % 2 == 1 && width / 2 < even.len() {
+        row[width / 2] = even[width / 2];
+    }
 }
 
-impl Solver {
-    pub(crate) fn new(alloc: Global, frame: Frame) -> Result<Solver, AllocError> {
-        let columns = rounded_up(frame.width);
-        let Waves { values, mut own } = waves_of(alloc, frame)?;
-        let to_waves = in_blocks(alloc, &values, frame.width, columns, true)?;
-        let from_waves = in_blocks(alloc, &values, frame.width, columns, false)?;
-        for _ in frame.width..columns {
+impl Part {
+    fn new(alloc: Global, waves: Waves, half: usize, columns: usize) -> Result<Part, AllocError>
+        requires { columns ≤ 512 }
+    {
+        let Waves { values, mut own } = waves;
+        for _ in own.len()..columns {
             own.push(4.0)?;
         }
-        Ok(Solver {
-            frame,
-            columns,
-            rows: rounded_up(frame.height),
-            to_waves,
-            from_waves,
+        Ok(Part {
+            to_waves: in_blocks(alloc, &values, half, columns, true)?,
+            from_waves: in_blocks(alloc, &values, half, columns, false)?,
             own,
         })
     }
 
-    // The rows of a list, each filled up with zeros, and rows of zeros.
-    fn filled_up(&self, alloc: Global, numbers: &[f64]) -> Result<Vec<f64>, AllocError> {
-        let mut all = Vec::with_capacity(alloc, self.rows * self.columns)?;
-        for y in 0..self.rows {
-            let row = run(numbers, y.wrapping_mul(self.frame.width), self.frame.width);
-            push_row(&mut all, row, self.columns)?;
-        }
-        Ok(all)
+    // Turns r into v. `waves` has as much room as `all`.
+    fn solve(&self, all: &mut [f64], waves: &mut [f64], rows: usize) {
+        let columns = self.own.len();
+        multiply(all, columns, &self.to_waves, waves);
+        eliminate_all(&self.own, all, waves, rows);
+        substitute_all(columns, all, waves, rows);
+        multiply(waves, columns, &self.from_waves, all);
+    }
+}
+
+impl Solver {
+    pub(crate) fn new(alloc: Global, frame: Frame) -> Result<Solver, AllocError> {
+        let half = (frame.width + 1) / 2;
+        let columns = rounded_up(half);
+        let (even, odd) = waves_of(alloc, frame)?;
+        Ok(Solver {
+            frame,
+            columns,
+            rows: rounded_up(frame.height),
+            even: Part::new(alloc, even, half, columns)?,
+            odd: Part::new(alloc, odd, half, columns)?,
+        })
     }
 
-    // The first numbers of each row.
-    fn cut(&self, all: &[f64], numbers: &mut [f64]) {
-        let width = self.frame.width;
+    fn split(&self, numbers: &[f64], even: &mut [f64], odd: &mut [f64]) {
+        let (width, columns) = (self.frame.width, self.columns);
         for y in 0..self.frame.height {
-            let row = run(all, y.wrapping_mul(self.columns), width);
-            copy_row(run_mut(numbers, y.wrapping_mul(width), width), row);
+            let from = y.wrapping_mul(columns);
+            split_row(
+                run(numbers, y.wrapping_mul(width), width),
+                run_mut(even, from, columns),
+                run_mut(odd, from, columns),
+            );
+        }
+    }
+
+    fn join(&self, numbers: &mut [f64], even: &[f64], odd: &[f64]) {
+        let (width, columns) = (self.frame.width, self.columns);
+        for y in 0..self.frame.height {
+            let from = y.wrapping_mul(columns);
+            join_row(
+                run_mut(numbers, y.wrapping_mul(width), width),
+                run(even, from, columns),
+                run(odd, from, columns),
+            );
         }
     }
 
     /// Turns r into v.
     pub(crate) fn solve(&self, alloc: Global, numbers: &mut [f64]) -> Result<(), AllocError> {
-        let mut all = self.filled_up(alloc, numbers)?;
-        let mut waves = vec![in alloc; 0.0; self.rows * self.columns]?;
-        multiply(&all, self.columns, &self.to_waves, &mut waves);
-        eliminate_all(&self.own, &mut all, &mut waves, self.frame.height);
-        substitute_all(self.columns, &all, &mut waves, self.frame.height);
-        multiply(&waves, self.columns, &self.from_waves, &mut all);
-        self.cut(&all, numbers);
+        let size = self.rows * self.columns;
+        let mut even = vec![in alloc; 0.0; size]?;
+        let mut odd = vec![in alloc; 0.0; size]?;
+        let mut waves = vec![in alloc; 0.0; size]?;
+        self.split(numbers, &mut even, &mut odd);
+        self.even.solve(&mut even, &mut waves, self.frame.height);
+        self.odd.solve(&mut odd, &mut waves, self.frame.height);
+        self.join(numbers, &even, &odd);
         Ok(())
     }
 }

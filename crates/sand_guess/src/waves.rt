@@ -3,6 +3,10 @@
 //!
 //! Each wave v has neighbours' sums that are a multiple of v, so in these waves Lu = r falls apart into one line of
 //! equations along y for each wave. The waves are orthogonal and of length 1.
+//!
+//! The mirror that changes the ends of a row leaves each wave as it is, or turns it into its opposite: waves are even or
+//! odd. So the first half of the columns tells the rest, and the waves of one parity are solved for by half of the
+//! columns, at a quarter of the cost.
 
 ghost use Rattle.std.specs.Prelude.{◌≡◌, ◌*◌, ◌≤◌, ◌<◌, length, IfOk};
 
@@ -36,7 +40,7 @@ fn sine_of(m: usize, half: usize) -> f64 {
     sign * sine(PI * nearest_usize_to_f64(m) / nearest_usize_to_f64(half))
 }
 
-/// The waves of a width, as numbers over columns, and what each adds along y.
+/// Waves of one parity, as numbers over the first half of the columns, and what each adds along y.
 #[derive(Drop)]
 pub(crate) struct Waves {
     /// Wave by wave, the values in the columns.
@@ -45,11 +49,22 @@ pub(crate) struct Waves {
     pub(crate) own: Vec<f64>,
 }
 
-// The values of a wave in the columns: those of a full turn of sines, from the place `first` on, so many steps apart.
+impl Waves {
+    fn new(alloc: Global) -> Waves {
+        Waves {
+            values: Vec::new(alloc),
+            own: Vec::new(alloc),
+        }
+    }
+}
+
+// The values of a wave in the columns: a factor times those of a full turn of sines, from the place `first` on, `step`
+// places apart.
 fn push_wave(
     values: &mut Vec<f64>,
     sines: &[f64],
-    width: usize,
+    columns: usize,
+    factor: f64,
     first: usize,
     step: usize,
 ) -> Result<(), AllocError>
@@ -58,8 +73,8 @@ fn push_wave(
     requires few { length sines.now ≤ 2048 }
 {
     let mut m = first;
-    'columns: for _ in 0..width {
-        values.push(sines[m])?;
+    'columns: for _ in 0..columns {
+        values.push(factor * sines[m])?;
         m += step;
         if m >= sines.len() {
             m -= sines.len();
@@ -68,14 +83,14 @@ fn push_wave(
     Ok(())
 }
 
-// A full turn of sines in `2 * half` steps, times a factor.
-fn turn_of_sines(alloc: Global, half: usize, factor: f64) -> Result<Vec<f64>, AllocError>
+// A full turn of sines in `2 * half` steps.
+fn turn_of_sines(alloc: Global, half: usize) -> Result<Vec<f64>, AllocError>
     requires { half ≤ 1024 }
     ensures { IfOk result (λ sines. length sines.items ≡ 2 * half) }
 {
     let mut sines = Vec::new(alloc);
     'sines: for m in 0..2 * half {
-        sines.push(factor * sine_of(m, half))?;
+        sines.push(sine_of(m, half))?;
     }
     Ok(sines)
 }
@@ -88,48 +103,64 @@ fn own_of(m: usize, half: usize) -> f64
     2.0 + 4.0 * sine * sine
 }
 
-// Sines that are 0 just outside the row.
-fn open_waves(alloc: Global, width: usize) -> Result<Waves, AllocError>
+// Sines that are 0 just outside the row. Those of an odd number of half turns are even.
+fn open_waves(alloc: Global, width: usize) -> Result<(Waves, Waves), AllocError>
     requires { width ≤ 256 }
 {
     let half = width + 1;
     let factor = (2.0 / nearest_usize_to_f64(half)).sqrt();
-    let sines = turn_of_sines(alloc, half, factor)?;
-    let mut values = Vec::new(alloc);
-    let mut own = Vec::new(alloc);
+    let sines = turn_of_sines(alloc, half)?;
+    let mut even = Waves::new(alloc);
+    let mut odd = Waves::new(alloc);
     for k in 1..half {
-        push_wave(&mut values, &sines, width, k, k)?;
-        own.push(own_of(k, half))?;
+        if k % 2 == 1 {
+            push_wave(&mut even.values, &sines, half / 2, factor, k, k)?;
+            even.own.push(own_of(k, half))?;
+        } else {
+            push_wave(&mut odd.values, &sines, half / 2, factor, k, k)?;
+            odd.own.push(own_of(k, half))?;
+        }
     }
-    Ok(Waves { values, own })
+    Ok((even, odd))
 }
 
-// Sines and cosines of as many turns as fit: of `turns` turns the cosine, and the sine if that is not 0 everywhere.
-fn round_waves(alloc: Global, width: usize) -> Result<Waves, AllocError>
+// Cosines, which are even, and sines, which are odd, of as many turns as fit, counted from the middle of the row. The
+// sine of no turn and the cosine of a turn in two columns are 0 everywhere.
+fn round_waves(alloc: Global, width: usize) -> Result<(Waves, Waves), AllocError>
     requires some { 0 < width }
     requires few { width ≤ 256 }
 {
-    let factor = (2.0 / nearest_usize_to_f64(width)).sqrt();
-    // Four steps for each column, so that a quarter turn is a whole number of steps, whatever the width.
-    let sines = turn_of_sines(alloc, 2 * width, factor)?;
-    let flat = turn_of_sines(alloc, 2 * width, factor * 0.5f64.sqrt())?;
-    let mut values = Vec::new(alloc);
-    let mut own = Vec::new(alloc);
+    let columns = (width + 1) / 2;
+    let wide = (2.0 / nearest_usize_to_f64(width)).sqrt();
+    // Four steps for each column, so that half a column and a quarter turn are whole numbers of steps.
+    let sines = turn_of_sines(alloc, 2 * width)?;
+    let mut even = Waves::new(alloc);
+    let mut odd = Waves::new(alloc);
     for turns in 0..width / 2 + 1 {
-        own.push(own_of(2 * turns, width))?;
-        if turns == 0 || 2 * turns == width {
-            push_wave(&mut values, &flat, width, width, 4 * turns)?;
-        } else {
-            push_wave(&mut values, &sines, width, width, 4 * turns)?;
-            push_wave(&mut values, &sines, width, 0, 4 * turns)?;
-            own.push(own_of(2 * turns, width))?;
+        let is_alone = turns == 0 || 2 * turns == width;
+        let factor = if is_alone { wide * 0.5f64.sqrt() } else { wide };
+        if 2 * turns < width {
+            let first = 2 * turns + width;
+            push_wave(&mut even.values, &sines, columns, factor, first, 4 * turns)?;
+            even.own.push(own_of(2 * turns, width))?;
+        }
+        if turns > 0 {
+            push_wave(
+                &mut odd.values,
+                &sines,
+                columns,
+                factor,
+                2 * turns,
+                4 * turns,
+            )?;
+            odd.own.push(own_of(2 * turns, width))?;
         }
     }
-    Ok(Waves { values, own })
+    Ok((even, odd))
 }
 
-/// The waves along the rows of a frame.
-pub(crate) fn waves_of(alloc: Global, frame: Frame) -> Result<Waves, AllocError> {
+/// The waves along the rows of a frame, the even ones and the odd ones.
+pub(crate) fn waves_of(alloc: Global, frame: Frame) -> Result<(Waves, Waves), AllocError> {
     if frame.goes_round {
         round_waves(alloc, frame.width)
     } else {

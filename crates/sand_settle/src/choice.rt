@@ -1,22 +1,26 @@
 //! Which way a pile is settled: by the queue, or by a guess that is certified.
 //!
-//! The queue is the plain way, and always right. It is fast if little topples. So it goes first, for about as many turns
-//! as a guess takes, unless the pile is seen to be high (`sand_guess::is_high`): then the queue is given no turn. If the
-//! queue did not settle the pile, the odometer is guessed (`sand_guess::guessed`) and the guess is certified
-//! (`sand_certify`), which is a proof. If that is refused, the queue settles the pile from nothing, in whatever time it
-//! takes. Nothing is claimed of what `sand_guess` returns: if it is wrong, that costs time, and the result is the same.
+//! The queue is the plain way, and always right. It is fast if little topples. So it goes first, for a few turns a site,
+//! unless the pile is seen to be high (`sand_guess::is_high`): then the queue is given no turn. If the queue did not
+//! settle the pile, its odometer is claimed: first, of a low pile without heaps, by sweeps over all sites
+//! (`sand_guess::toppled`), and then by a guess (`sand_guess::guessed`). A claim is certified (`sand_certify`), which is a
+//! proof. If all are refused, the queue settles the pile from nothing, in whatever time it takes. Nothing is claimed of
+//! what `sand_guess` returns: if it is wrong, that costs time, and the result is the same.
 
 ghost use Rattle.std.specs.Prelude.{◌≤◌, ◌^◌, IfOk, IfSome, IsSome};
 ghost use Rattle.sand_settle.specs.Rests.{IsSettledRest};
 
 use crate::workspace::Workspace;
 use sand_certify::certified;
-use sand_guess::{Claim, guessed, is_high};
+use sand_guess::{Claim, guessed, is_flat, is_high, toppled};
 use sand_model::Pile;
 use std::alloc::{AllocError, Global};
 
-// How many turns a site the queue has before a guess is tried: about what the guess takes.
-const TURNS_OF_A_GUESS: u64 = 64;
+// How many turns a site the queue has before a guess is tried: a quarter of the time that a guess takes.
+const TURNS_BEFORE_A_GUESS: u64 = 16;
+
+// How many it has before sweeps are tried. They take less time than this only if hardly anything topples.
+const TURNS_BEFORE_SWEEPS: u64 = 1;
 
 /// The heights of a settled pile, and how often each site toppled.
 #[derive(Drop)]
@@ -42,11 +46,15 @@ pub(crate) fn settle_by_queue(
     Ok(Some(Rest { heights, odometer }))
 }
 
-/// What a pile settles to, if a guess of the odometer is made and certified.
-pub(crate) fn settle_by_guess(alloc: Global, pile: &Pile) -> Result<Option<Rest>, AllocError>
+/// What a pile settles to, if the odometer is claimed and the claim is certified.
+pub(crate) fn settle_by_claim(
+    alloc: Global,
+    pile: &Pile,
+    claim: Option<Claim>,
+) -> Result<Option<Rest>, AllocError>
     ensures { IfOk result (λ o. IfSome o (IsSettledRest pile.now)) }
 {
-    let Some(claim) = guessed(alloc, pile)? else {
+    let Some(claim) = claim else {
         return Ok(None);
     };
     let Claim { counts, turns } = claim;
@@ -59,17 +67,34 @@ pub(crate) fn settle_by_guess(alloc: Global, pile: &Pile) -> Result<Option<Rest>
     }))
 }
 
-/// What a pile settles to: by the queue if that takes few turns, else by a guess, and if that is wrong by the queue.
+// What a pile settles to, if little topples: by the queue in a few turns, or by sweeps.
+fn settle_if_low(alloc: Global, pile: &Pile) -> Result<Option<Rest>, AllocError>
+    ensures { IfOk result (λ o. IfSome o (IsSettledRest pile.now)) }
+{
+    let is_flat = is_flat(pile);
+    let turns = if is_flat {
+        TURNS_BEFORE_SWEEPS
+    } else {
+        TURNS_BEFORE_A_GUESS
+    };
+    let rest = settle_by_queue(alloc, pile, (pile.shape().sites() as u64) * turns)?;
+    if rest.is_some() || !is_flat {
+        return Ok(rest);
+    }
+    settle_by_claim(alloc, pile, toppled(alloc, pile)?)
+}
+
+/// What a pile settles to: by the queue or by sweeps if little topples, else by a guess, and if that is wrong by the
+/// queue.
 pub(crate) fn settle_by_any(alloc: Global, pile: &Pile) -> Result<Rest, AllocError>
     ensures { IfOk result (IsSettledRest pile.now) }
 {
     if !is_high(pile) {
-        let turns = (pile.shape().sites() as u64) * TURNS_OF_A_GUESS;
-        if let Some(rest) = settle_by_queue(alloc, pile, turns)? {
+        if let Some(rest) = settle_if_low(alloc, pile)? {
             return Ok(rest);
         }
     }
-    if let Some(rest) = settle_by_guess(alloc, pile)? {
+    if let Some(rest) = settle_by_claim(alloc, pile, guessed(alloc, pile)?)? {
         return Ok(rest);
     }
     let rest = settle_by_queue(alloc, pile, u64::MAX)?;

@@ -1,5 +1,5 @@
 use Rattle.std.proofs.Common.{rules, ap, arith, length, IsSome}
-use Rattle.sand_settle.proofs.choice.settle_by_guess.Goals as goal
+use Rattle.sand_settle.proofs.choice.settle_by_claim.Goals as goal
 
 pub returns : goal.returns
 returns c =

@@ -1,0 +1,430 @@
+//! Heights in bit planes, 64 rows in a word: a sweep topples 128 sites at once.
+//!
+//! Rows are interleaved: with n classes of rows, row y is bit y / n of class y % n, and a class has one word a column. So
+//! the neighbours west and east of a word's sites are the words before and after it, and those north and south are the
+//! word of the same column in the class before and after. Only from the last class to the first they are one bit further.
+//!
+//! A plane has one bit of a number for each site. Four planes have the heights, `LEVEL` above what they are, so that
+//! the sites that may topple are the ones of the last plane; four more have how often each site toppled. Numbers are
+//! added as an adder does it, bit by bit and with carries.
+//!
+//! In a sweep a site topples at most once. The grains that are on their way to a class are added only when the sweep comes by:
+//! they are what its neighbours toppled last.
+
+ghost use Rattle.std.specs.Prelude.{◌≤◌, ◌<◌};
+
+use crate::frame::{Frame, run, run_mut};
+use std::alloc::{AllocError, Global};
+use std::mem;
+use std::simd::prelude::*;
+
+// How many rows a word has a bit for.
+const ROWS: usize = 64;
+
+// How many words are toppled at once. With four, the numbers of a step do not fit into the registers.
+const LANES: usize = 2;
+
+// How many columns a strip has.
+const STRIP: usize = 32;
+
+// The planes of the heights, and of the counts of the last sweeps.
+const HEIGHT_PLANES: usize = 4;
+
+const COUNT_PLANES: usize = 4;
+
+// The planes of a strip, one after another.
+const BLOCK: usize = (HEIGHT_PLANES + COUNT_PLANES) * STRIP;
+
+// So many sweeps fill the planes of the counts: they then are added to those of the sums.
+const SWEEPS_A_COUNT: usize = 15;
+
+// The planes of the sums, for each strip one after another.
+const SUM_PLANES: usize = 12;
+
+const SUM_BLOCK: usize = SUM_PLANES * STRIP;
+
+// So many sweeps fill the planes of the sums: they then are added to the counts by site.
+const SWEEPS_A_SUM: usize = 4095;
+
+// What is added to a height in the planes.
+const LEVEL: i64 = 4;
+
+// The greatest number in the planes before a sweep. It then gets four grains at most, and has room.
+const MOST: u64 = 11;
+
+/// Heights in bit planes, and topplings that are under way.
+#[derive(Drop)]
+pub(crate) struct Planes {
+    frame: Frame,
+    classes: usize,
+    strips: usize,
+    /// By class the bits that are rows of the grid.
+    inside: Vec<u64>,
+    /// Class by class and strip by strip the planes of heights and counts.
+    blocks: Vec<u64>,
+    /// In the same order the planes of the sums.
+    sums: Vec<u64>,
+    /// By class which sites toppled last, in words with `LANES` more at either end; and room for one class.
+    toppled: Vec<Vec<u64>>,
+    spare: Vec<u64>,
+    ghost some: { 0 < classes },
+    ghost few: { classes ≤ 4 },
+    ghost narrow: { strips ≤ 8 },
+}
+
+// The sum of four bits at each place, as ones, twos and fours.
+#[inline(always)]
+fn sum_of(a: u64x2, b: u64x2, c: u64x2, d: u64x2) -> [u64x2; 3] {
+    let carry = (a ^ b) & (c ^ d);
+    [a ^ b ^ c ^ d, (a & b) ^ (c & d) ^ carry, (a & b) & (c & d)]
+}
+
+// Adds what toppled to the counts of a block, in the column x and the next.
+#[inline(always)]
+fn count_up(block: &mut [u64], x: usize, toppled: u64x2)
+    requires { x < 31 }
+{
+    if block.len() < BLOCK {
+        return;
+    }
+    let mut carry = toppled;
+    for plane in HEIGHT_PLANES..HEIGHT_PLANES + COUNT_PLANES {
+        let at = STRIP * plane + x;
+        let count = u64x2::from_slice(&block[at..]);
+        (count ^ carry).copy_to_slice(&mut block[at..]);
+        carry &= count;
+    }
+}
+
+// Topples a strip by what toppled around it: the words `here` begin one before it, and those north of the first class
+// and south of the last are one bit off. Says whether any site toppled.
+#[inline(always)]
+fn topple_strip(
+    block: &mut [u64],
+    around: [&[u64]; 3],
+    toppled: &mut [u64],
+    inside: u64,
+    is_first: bool,
+    is_last: bool,
+) -> bool {
+    let [north, here, south] = around;
+    if block.len() < BLOCK
+        || north.len() < STRIP
+        || here.len() < STRIP + 2
+        || south.len() < STRIP
+        || toppled.len() < STRIP
+    {
+        return false;
+    }
+    let one = u64x2::splat(1);
+    let inside = u64x2::splat(inside);
+    let mut seen = u64x2::splat(0);
+    for part in 0..STRIP / LANES {
+        let x = LANES * part;
+        let above = u64x2::from_slice(&north[x..]);
+        let below = u64x2::from_slice(&south[x..]);
+        let [ones, twos, fours] = sum_of(
+            if is_first { above << one } else { above },
+            if is_last { below >> one } else { below },
+            u64x2::from_slice(&here[x..]),
+            u64x2::from_slice(&here[x + 2..]),
+        );
+        let p = u64x2::from_slice(&block[x..]);
+        let q = u64x2::from_slice(&block[STRIP + x..]);
+        let r = u64x2::from_slice(&block[2 * STRIP + x..]);
+        let s = u64x2::from_slice(&block[3 * STRIP + x..]);
+        let carry_one = p & ones;
+        let half_two = q ^ twos;
+        let carry_two = (q & twos) | (half_two & carry_one);
+        let half_four = r ^ fours;
+        let carry_four = (r & fours) | (half_four & carry_two);
+        let four = half_four ^ carry_two;
+        let topples = (s | carry_four) & inside;
+        (p ^ ones).copy_to_slice(&mut block[x..]);
+        (half_two ^ carry_one).copy_to_slice(&mut block[STRIP + x..]);
+        (four ^ topples).copy_to_slice(&mut block[2 * STRIP + x..]);
+        (four & topples).copy_to_slice(&mut block[3 * STRIP + x..]);
+        count_up(block, x, topples);
+        topples.copy_to_slice(&mut toppled[x..]);
+        seen |= topples;
+    }
+    seen.reduce_or() != 0
+}
+
+/// Whether a height has room in the planes.
+#[inline(always)]
+pub(crate) fn has_room(height: i64) -> bool {
+    height.wrapping_add(LEVEL).cast_unsigned() <= MOST
+}
+
+// Sets the bits of a row in the planes of the heights.
+#[inline(always)]
+fn put_row(block: &mut [u64], heights: &[i64], bit: u32) {
+    if block.len() < BLOCK {
+        return;
+    }
+    for x in 0..heights.len().min(STRIP) {
+        let number = heights[x].wrapping_add(LEVEL).cast_unsigned();
+        block[x] |= (number & 1).wrapping_shl(bit);
+        block[STRIP + x] |= ((number >> 1) & 1).wrapping_shl(bit);
+        block[2 * STRIP + x] |= ((number >> 2) & 1).wrapping_shl(bit);
+        block[3 * STRIP + x] |= ((number >> 3) & 1).wrapping_shl(bit);
+    }
+}
+
+// Adds the counts of a column to the sums, and forgets them.
+#[inline(always)]
+fn add_column(block: &mut [u64], sums: &mut [u64], x: usize)
+    requires { x < 32 }
+{
+    if block.len() < BLOCK || sums.len() < SUM_BLOCK {
+        return;
+    }
+    let mut carry = 0u64;
+    for plane in 0..SUM_PLANES {
+        let sum = sums[STRIP * plane + x];
+        let count = if plane < COUNT_PLANES {
+            block[STRIP * (HEIGHT_PLANES + plane) + x]
+        } else {
+            0
+        };
+        sums[STRIP * plane + x] = sum ^ count ^ carry;
+        carry = (sum & count) | ((sum ^ count) & carry);
+    }
+}
+
+// Adds the counts of a block to the sums, and forgets them.
+fn add_counts(block: &mut [u64], sums: &mut [u64]) {
+    for x in 0..STRIP {
+        add_column(block, sums, x);
+    }
+    run_mut(block, HEIGHT_PLANES * STRIP, COUNT_PLANES * STRIP).fill(0);
+}
+
+// The number that a site has in the planes of the sums.
+#[inline(always)]
+fn sum_at(sums: &[u64], x: usize, bit: u32) -> u64
+    requires { x < 32 }
+{
+    if sums.len() < SUM_BLOCK {
+        return 0;
+    }
+    let mut sum = 0u64;
+    for plane in 0..SUM_PLANES {
+        sum |= (sums[STRIP * plane + x].wrapping_shr(bit) & 1) << plane;
+    }
+    sum
+}
+
+// Adds the sums of a row to its counts.
+#[inline(always)]
+fn count_row(counts: &mut [i64], sums: &[u64], bit: u32) {
+    for x in 0..counts.len().min(STRIP) {
+        counts[x] = counts[x].wrapping_add(sum_at(sums, x, bit).cast_signed());
+    }
+}
+
+impl Planes {
+    pub(crate) fn new(alloc: Global, frame: Frame) -> Result<Planes, AllocError> {
+        let classes = ((frame.height + (ROWS - 1)) / ROWS).max(1);
+        let strips = (frame.width + (STRIP - 1)) / STRIP;
+        let words = strips * STRIP + 2 * LANES;
+        let mut inside = vec![in alloc; 0u64; classes]?;
+        for y in 0..frame.height {
+            let class = y % classes;
+            if class < inside.len() {
+                inside[class] |= 1u64.wrapping_shl((y / classes) as u32);
+            }
+        }
+        let mut toppled = Vec::new(alloc);
+        for _ in 0..classes {
+            toppled.push(vec![in alloc; 0u64; words]?)?;
+        }
+        Ok(Planes {
+            frame,
+            classes,
+            strips,
+            inside,
+            blocks: vec![in alloc; 0u64; classes * strips * BLOCK]?,
+            sums: vec![in alloc; 0u64; classes * strips * SUM_BLOCK]?,
+            toppled,
+            spare: vec![in alloc; 0u64; words]?,
+        })
+    }
+
+    // The number of a strip of a class in the order of the blocks.
+    #[inline(always)]
+    fn place(&self, class: usize, strip: usize) -> usize {
+        class.wrapping_mul(self.strips).wrapping_add(strip)
+    }
+
+    // The sites of a row in a strip: the first, and how many.
+    #[inline(always)]
+    fn sites_of(&self, y: usize, strip: usize) -> (usize, usize)
+        requires { strip < 8 }
+    {
+        let x = strip * STRIP;
+        let first = y.wrapping_mul(self.frame.width).wrapping_add(x);
+        (first, self.frame.width.saturating_sub(x).min(STRIP))
+    }
+
+    // Sets the bits of a row.
+    fn put_row(&mut self, heights: &[i64], y: usize)
+        requires { y < 256 }
+    {
+        let bit = (y / self.classes) as u32;
+        for strip in 0..self.strips {
+            let (first, count) = self.sites_of(y, strip);
+            let from = self.place(y % self.classes, strip).wrapping_mul(BLOCK);
+            let block = run_mut(&mut self.blocks, from, BLOCK);
+            put_row(block, run(heights, first, count), bit);
+        }
+    }
+
+    /// Takes heights over. All of them have room.
+    pub(crate) fn put(&mut self, heights: &[i64]) {
+        self.blocks.fill(0);
+        for row in &mut self.toppled {
+            row.fill(0);
+        }
+        for y in 0..self.frame.height {
+            self.put_row(heights, y);
+        }
+    }
+
+    // Adds all counts to the sums.
+    fn add_counts(&mut self) {
+        for place in 0..self.classes * self.strips {
+            let block = run_mut(&mut self.blocks, place.wrapping_mul(BLOCK), BLOCK);
+            let from = place.wrapping_mul(SUM_BLOCK);
+            add_counts(block, run_mut(&mut self.sums, from, SUM_BLOCK));
+        }
+    }
+
+    // Adds what toppled in a row to its counts.
+    fn count_row(&self, counts: &mut [i64], y: usize)
+        requires { y < 256 }
+    {
+        let bit = (y / self.classes) as u32;
+        for strip in 0..self.strips {
+            let (first, count) = self.sites_of(y, strip);
+            let from = self.place(y % self.classes, strip).wrapping_mul(SUM_BLOCK);
+            let sums = run(&self.sums, from, SUM_BLOCK);
+            count_row(run_mut(counts, first, count), sums, bit);
+        }
+    }
+
+    // Adds what toppled since the last time to the counts.
+    fn count(&mut self, counts: &mut [i64]) {
+        self.add_counts();
+        for y in 0..self.frame.height {
+            self.count_row(counts, y);
+        }
+        self.sums.fill(0);
+    }
+
+    // The classes of the rows north and south of those of a class.
+    #[inline(always)]
+    fn beside(&self, class: usize) -> (usize, usize)
+        requires { class < 4 }
+    {
+        let last = self.classes - 1;
+        let north = if class == 0 { last } else { class - 1 };
+        let south = if class >= last { 0 } else { class + 1 };
+        (north, south)
+    }
+
+    // Topples a strip of a class, and says whether any site toppled.
+    #[inline(always)]
+    fn topple_strip(&mut self, class: usize, strip: usize) -> bool
+        requires class { class < 4 }
+        requires strip { strip < 8 }
+    {
+        let (north, south) = self.beside(class);
+        let is_first = class == 0;
+        let is_last = south == 0;
+        let x = LANES + strip * STRIP;
+        let from = self.place(class, strip).wrapping_mul(BLOCK);
+        let inside = self.inside.get(class).copied().unwrap_or(0);
+        let Planes {
+            blocks,
+            toppled,
+            spare,
+            ..
+        } = self;
+        let (Some(north), Some(here), Some(south)) = (
+            toppled.get(north),
+            toppled.get(class),
+            toppled.get(south),
+        ) else {
+            return false;
+        };
+        let around = [
+            run(north, x, STRIP),
+            run(here, x - 1, STRIP + 2),
+            run(south, x, STRIP),
+        ];
+        let block = run_mut(blocks, from, BLOCK);
+        let out = run_mut(spare, x, STRIP);
+        match (is_first, is_last) {
+            (true, true) => topple_strip(block, around, out, inside, true, true),
+            (true, false) => topple_strip(block, around, out, inside, true, false),
+            (false, true) => topple_strip(block, around, out, inside, false, true),
+            (false, false) => topple_strip(block, around, out, inside, false, false),
+        }
+    }
+
+    // Puts what toppled in a class in the place of what toppled there before. Columns beyond the last have toppled nothing, but
+    // for the first again if rows go round.
+    fn keep(&mut self, class: usize) {
+        let end = LANES + self.frame.width;
+        let row = &mut self.spare;
+        if end < row.len() && class < self.toppled.len() {
+            row[end..].fill(0);
+            if self.frame.goes_round {
+                row[LANES - 1] = row[end - 1];
+                row[end] = row[LANES];
+            }
+            mem::swap(row, &mut self.toppled[class]);
+        }
+    }
+
+    // Topples the sites of a class, and says whether any toppled.
+    fn sweep_class(&mut self, class: usize) -> bool
+        requires { class < 4 }
+    {
+        let mut is_any = false;
+        for strip in 0..self.strips {
+            is_any |= self.topple_strip(class, strip);
+        }
+        self.keep(class);
+        is_any
+    }
+
+    // Topples the sites of all classes once, and says whether any toppled.
+    fn sweep(&mut self) -> bool {
+        let mut is_any = false;
+        for class in 0..self.classes {
+            is_any |= self.sweep_class(class);
+        }
+        is_any
+    }
+
+    /// Topples until no site may topple, and says whether it came to that in so many sweeps. The heights then are to be
+    /// taken over from the counts again.
+    pub(crate) fn topple(&mut self, counts: &mut [i64], sweeps: usize) -> bool {
+        for sweep in 0..sweeps {
+            if sweep % SWEEPS_A_SUM == 0 {
+                self.count(counts);
+            } else if sweep % SWEEPS_A_COUNT == 0 {
+                self.add_counts();
+            }
+            if !self.sweep() {
+                self.count(counts);
+                return true;
+            }
+        }
+        self.count(counts);
+        false
+    }
+}
