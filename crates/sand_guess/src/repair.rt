@@ -18,7 +18,7 @@ const SOLVES: usize = 3;
 // How often heights are evened out after each solve.
 const EVENINGS: usize = 400;
 
-// So many sweeps are made before a guess is given up: ten times as many as any pile was seen to take.
+// So many sweeps are made before a guess is given up: several times as many as any pile was seen to take.
 const MOST_SWEEPS: usize = 100_000;
 
 // How often topplings are taken back before all counts are lowered, by what density first, and how many times as much
