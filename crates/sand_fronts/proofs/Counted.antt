@@ -1,19 +1,22 @@
 -- The places of tiles that leave a wave and are counted.
-use Rattle.std.proofs.Common.{ℕ, List, [], length, get_or, refl, ◌≡◌, ◌⊎◌, ◌+◌, ◌*◌, ◌<◌, ◌≤◌, sym, ◌∙◌, ap, subst, arith, ⊎_elim, inl, inr}
+use Rattle.std.proofs.Common.{ℕ, List, [], length, get_or, cond, eqb, refl, ◌≡◌, ◌≢◌, ◌⊎◌, ◌+◌, ◌*◌, ◌<◌, ◌≤◌, sym, ◌∙◌, ap, subst, arith, ⊎_elim, inl, inr}
+use Rattle.std.specs.Prelude.{bit_and, bit_or}
+use Rattle.std.proofs.Math.Nat.{mul-le-mul_right}
 use Rattle.std.proofs.Math.ListN.{set}
-use Rattle.std.proofs.lemmas.Bool.{cases_eq}
+use Rattle.std.proofs.lemmas.Bool.{cases_eq, cases_lt, eq-eqb, ne_eqb}
 use Rattle.std.proofs.lemmas.List.{get_or-set_same, get_or-set_other}
 use Rattle.sand_model.specs.Sand.{sum_below, one_at}
 use Rattle.sand_model.proofs.SumsBelow.{sum_below_same, sum_below_le, sum_below-add, sum_below-scale, sum_below-ones, sum_below-zero, sum_below-one_at, one_at_same, one_at_other}
 use Rattle.sand_model.proofs.Bounds.{at_most_all}
 use Rattle.sand_tiles.specs.declared.tile.Tile.{Tile}
 use Rattle.sand_tiles.specs.declared.counting.Count.{Count}
-use Rattle.sand_tiles.specs.Places.{bit}
+use Rattle.sand_tiles.specs.Places.{bit, number}
 use Rattle.sand_tiles.specs.Counts.{counted, IsCount}
-use Rattle.sand_tiles.proofs.Bits.{bit_le, bit_none}
+use Rattle.sand_tiles.proofs.Bits.{bit_le, bit_none, either, both_le}
 use Rattle.sand_fronts.specs.TileLists.{IsClear, AreListed}
 use Rattle.sand_fronts.specs.Waves.{tile_at}
-use Rattle.sand_fronts.specs.Counting.{count_at, in_wave, with_wave, AreCounted}
+use Rattle.sand_fronts.specs.Counting.{count_at, in_wave, over_wave, with_wave, AreCounted}
+use Rattle.sand_fronts.specs.Marking.{AreMarked}
 use Rattle.sand_fronts.proofs.Gained.{tile_set_same, tile_set_other}
 
 abbrev nothing : Count
@@ -68,6 +71,16 @@ counted_one ts cs k t d inside each low high due empty sound counts =
           (cases_eq m k);
     }
 
+pub counted_none : (τ : ℕ → Tile) (c : ℕ → Count) → AreCounted τ τ c c
+counted_none τ c = record {
+  low = λ m. refl;
+  high = λ m. refl;
+  due = λ m. refl;
+  each = λ m p l. refl;
+  sound = λ before. before;
+  clear = λ m was. was;
+}
+
 pub counted_more : (τ σ ρ : ℕ → Tile) (c d e : ℕ → Count) → AreCounted τ σ c d → AreCounted σ ρ d e → AreCounted τ ρ c e
 counted_more τ σ ρ c d e first second = record {
   low = λ m. second.low m ∙ first.low m;
@@ -81,7 +94,7 @@ counted_more τ σ ρ c d e first second = record {
 -- ---- how many
 
 -- a sum in which one number becomes 0
-sum_less_one : (n k : ℕ) (f h : ℕ → ℕ) → k < n → h k ≡ 0 → ((i : ℕ) → (i ≡ k → ⊥) → h i ≡ f i) → f k + sum_below n h ≡ sum_below n f
+pub sum_less_one : (n k : ℕ) (f h : ℕ → ℕ) → k < n → h k ≡ 0 → ((i : ℕ) → (i ≡ k → ⊥) → h i ≡ f i) → f k + sum_below n h ≡ sum_below n f
 sum_less_one n k f h inside none others =
     let parts = sum_below_same n f (λ i. h i + f k * one_at k i) (λ i l. ⊎_elim
     (λ (e : i ≡ k). let o = ap (λ x. f k * x) (ap (one_at k) e ∙ one_at_same k) in let a = ap f e in let b = ap h e in omega arith)
@@ -91,15 +104,17 @@ sum_less_one n k f h inside none others =
     let one = sum_below-one_at n k (λ i. f k) inside in
     omega arith
 
--- a tile leaves the wave
-pub wave_less : (ts : List Tile) (k n : ℕ) (t : Tile) → k < length ts → k < n → t.wave ≡ 0
-    → sum_below 64 (bit (tile_at ts k).wave) + in_wave n (tile_at (set ts k t)) ≡ in_wave n (tile_at ts)
-wave_less ts k n t inside less empty =
-    let same = tile_set_same ts k k t inside refl in
-    let none : sum_below 64 (bit (tile_at (set ts k t) k).wave) ≡ 0 =
-    sum_below_same 64 (bit (tile_at (set ts k t) k).wave) (λ p. 0) (λ p l. ap (λ (x : Tile). bit x.wave p) same ∙ ap (λ x. bit x p) empty ∙ bit_none p) ∙ sum_below-zero 64 in
-    sum_less_one n k (λ i. sum_below 64 (bit (tile_at ts i).wave)) (λ i. sum_below 64 (bit (tile_at (set ts k t) i).wave)) less none
-    (λ i ne. ap (λ (x : Tile). sum_below 64 (bit x.wave)) (tile_set_other ts k i t ne))
+-- a tile leaves the wave, with what F makes of its set
+pub wave_less : (F : ℕ → ℕ → ℕ) (τ σ : ℕ → Tile) (k n : ℕ) → k < n → F k 0 ≡ 0 → (σ k).wave ≡ 0 → ((m : ℕ) → m ≢ k → (σ m).wave ≡ (τ m).wave)
+    → F k (τ k).wave + sum_below n (λ m. F m (σ m).wave) ≡ sum_below n (λ m. F m (τ m).wave)
+wave_less F τ σ k n less none empty others =
+    sum_less_one n k (λ m. F m (τ m).wave) (λ m. F m (σ m).wave) less (ap (F k) empty ∙ none) (λ m ne. ap (F m) (others m ne))
+
+pub none_of_none : sum_below 64 (bit 0) ≡ 0
+none_of_none = sum_below_same 64 (bit 0) (λ p. 0) (λ p l. bit_none p) ∙ sum_below-zero 64
+
+pub none_over_none : (w : ℕ → ℕ) → sum_below 64 (λ p. w p * bit 0 p) ≡ 0
+none_over_none w = sum_below_same 64 (λ p. w p * bit 0 p) (λ p. 0) (λ p l. let e = ap (λ x. w p * x) (bit_none p) in omega arith) ∙ sum_below-zero 64
 
 pub few_in_wave : (n : ℕ) (τ : ℕ → Tile) → in_wave n τ ≤ 64 * n
 few_in_wave n τ =
@@ -108,9 +123,92 @@ few_in_wave n τ =
     let ones = sum_below-ones n in
     omega arith
 
+number_le : (t : Tile) (x p : ℕ) → number t p * bit x p ≤ 7 * 1
+number_le t x p =
+    let a = bit_le t.low p in
+    let b = bit_le t.high p in
+    let c = bit_le t.due p in
+    let d = bit_le x p in
+    let few : number t p ≤ 7 = omega arith in
+    let le = mul-le-mul_right (bit x p) few in
+    omega arith
+
+pub few_over_wave : (n : ℕ) (ν τ : ℕ → Tile) → over_wave n ν τ ≤ 448 * n
+few_over_wave n ν τ =
+    let seven = sum_below-scale 64 7 (λ p. 1) in
+    let all = sum_below-ones 64 in
+    let le = sum_below_le n (λ k. sum_below 64 (λ p. number (ν k) p * bit (τ k).wave p)) (λ k. 448 * 1)
+    (λ k l. let one = sum_below_le 64 (λ p. number (ν k) p * bit (τ k).wave p) (λ p. 7 * 1) (λ p m. number_le (ν k) (τ k).wave p) in omega arith) in
+    let scaled = sum_below-scale n 448 (λ k. 1) in
+    let ones = sum_below-ones n in
+    omega arith
+
 pub none_in_wave : (n : ℕ) (τ : ℕ → Tile) → ((m : ℕ) → IsClear (τ m)) → in_wave n τ ≡ 0
 none_in_wave n τ clear =
     sum_below_same n (λ k. sum_below 64 (bit (τ k).wave)) (λ k. 0) (λ k l. sum_below_same 64 (bit (τ k).wave) (λ p. 0) (λ p m. clear k p m) ∙ sum_below-zero 64) ∙ sum_below-zero n
+
+pub none_over_wave : (n : ℕ) (ν τ : ℕ → Tile) → ((m : ℕ) → IsClear (τ m)) → over_wave n ν τ ≡ 0
+none_over_wave n ν τ clear =
+    sum_below_same n (λ k. sum_below 64 (λ p. number (ν k) p * bit (τ k).wave p)) (λ k. 0)
+    (λ k l. sum_below_same 64 (λ p. number (ν k) p * bit (τ k).wave p) (λ p. 0) (λ p m. let e = ap (λ x. number (ν k) p * x) (clear k p m) in omega arith) ∙ sum_below-zero 64) ∙ sum_below-zero n
+
+-- ---- what is marked
+
+pub marked_none : (c : ℕ → Count) (a : ℕ → ℕ) → AreMarked c c a a
+marked_none c a = record {
+  never_falls = λ m p low. omega arith;
+  kept = λ m p low. omega arith;
+  new = λ m p low grown. absurd (omega arith);
+  no_other = λ m p low. omega arith;
+}
+
+pub marked_more : (c d e : ℕ → Count) (x y z : ℕ → ℕ) → AreMarked c d x y → AreMarked d e y z → AreMarked c e x z
+marked_more c d e x y z first second = record {
+  never_falls = λ m p low. let a = first.never_falls m p low in let b = second.never_falls m p low in omega arith;
+  kept = λ m p low. let a = first.kept m p low in let b = second.kept m p low in omega arith;
+  new = λ m p low grown. ⊎_elim
+      (λ (now : counted (d m) p < counted (e m) p). second.new m p low now)
+      (λ (before : counted (e m) p ≤ counted (d m) p).
+      let a = first.new m p low (omega arith) in
+      let b = second.kept m p low in
+      let few = bit_le (z m) p in
+      omega arith)
+      (cases_lt (counted (d m) p) (counted (e m) p));
+  no_other = λ m p low. let a = first.no_other m p low in let b = second.no_other m p low in let f = first.never_falls m p low in let s = second.never_falls m p low in omega arith;
+}
+
+-- one tile is marked
+pub marked_one : (cs : List Count) (k word : ℕ) (d : Count) (x y : ℕ → ℕ) → k < length cs
+    → ((p : ℕ) → p < 64 → counted d p ≡ counted (count_at cs k) p + bit word p)
+    → ((m : ℕ) → y m ≡ cond (eqb m k) (bit_or (x m) word) (x m))
+    → AreMarked (count_at cs) (count_at (set cs k d)) x y
+marked_one cs k word d x y inside counts marks =
+    let same : (m p : ℕ) → p < 64 → m ≡ k → (counted (count_at (set cs k d) m) p ≡ counted (count_at cs m) p + bit word p) × (bit (y m) p + bit (bit_and (x m) word) p ≡ bit (x m) p + bit word p) = λ m p low e. (
+      let a = ap (λ (z : Count). counted z p) (count_set_same cs k m d inside e) in let b = ap (λ i. counted (count_at cs i) p) e in let f = counts p low in omega arith,
+      let a = ap (λ i. bit i p) (marks m ∙ ap (λ b. cond b (bit_or (x m) word) (x m)) (eq-eqb m k e)) in let f = either (x m) word p in omega arith,
+    ) in
+    let other : (m p : ℕ) → (m ≡ k → ⊥) → (counted (count_at (set cs k d) m) p ≡ counted (count_at cs m) p) × (bit (y m) p ≡ bit (x m) p) = λ m p ne. (
+      ap (λ (z : Count). counted z p) (count_set_other cs k m d ne),
+      ap (λ i. bit i p) (marks m ∙ ap (λ b. cond b (bit_or (x m) word) (x m)) (ne_eqb m k ne)),
+    ) in
+    record {
+      never_falls = λ m p low. ⊎_elim
+          (λ (e : m ≡ k). let s = (same m p low e).0 in omega arith)
+          (λ (ne : m ≡ k → ⊥). let s = (other m p ne).0 in omega arith)
+          (cases_eq m k);
+      kept = λ m p low. ⊎_elim
+          (λ (e : m ≡ k). let s = (same m p low e).1 in let b = (both_le (x m) word p).1 in omega arith)
+          (λ (ne : m ≡ k → ⊥). let s = (other m p ne).1 in omega arith)
+          (cases_eq m k);
+      new = λ m p low grown. ⊎_elim
+          (λ (e : m ≡ k). let s = (same m p low e).0 in let t = (same m p low e).1 in let b = (both_le (x m) word p).0 in let f = bit_le word p in let g = bit_le (y m) p in omega arith)
+          (λ (ne : m ≡ k → ⊥). let s = (other m p ne).0 in absurd (omega arith))
+          (cases_eq m k);
+      no_other = λ m p low. ⊎_elim
+          (λ (e : m ≡ k). let s = (same m p low e).0 in let t = (same m p low e).1 in omega arith)
+          (λ (ne : m ≡ k → ⊥). let s = (other m p ne).0 in let t = (other m p ne).1 in omega arith)
+          (cases_eq m k);
+    }
 
 -- ---- turn by turn
 

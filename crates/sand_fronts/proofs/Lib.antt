@@ -14,3 +14,6 @@ pub mod Counted
 pub mod ManyWaves
 pub mod OneGrain
 pub mod NewPiles
+pub mod Marked
+pub mod Reached
+pub mod OnPiles

@@ -3,8 +3,8 @@ use Rattle.std.proofs.Common.{ℕ, Bool, true, false, cond, eqb, ltb, leb, ◌&&
 use Rattle.std.proofs.Math.Nat.{mul-le-mul_right}
 use Rattle.std.proofs.Math.ListN.{set}
 use Rattle.std.proofs.lemmas.Bool.{cases_Bool, cases_eq, and_parts, and_cases, eqb-true, eqb-false, ltb-true, ltb-false, leb-true, leb-false}
-use Rattle.sand_model.specs.Grid.{Grid, IsGrid, sites}
-use Rattle.sand_model.specs.Sand.{IsToppled, IsSettled, IsUnderway, flow, one_at, topplings, weight, grain_weight, sum_below}
+use Rattle.sand_model.specs.Grid.{Grid, IsGrid, sites, missing}
+use Rattle.sand_model.specs.Sand.{IsToppled, IsSettled, IsUnderway, flow, one_at, topplings, lost, weight, grain_weight, sum_below}
 use Rattle.sand_model.specs.Underway.{Advances}
 use Rattle.sand_model.proofs.Flow.{flow_le, flow_same}
 use Rattle.sand_model.proofs.Sandpile.{flow_ones, weight_after, settled_same}
@@ -14,14 +14,14 @@ use Rattle.sand_model.proofs.Bounds.{at_most_sum_below, sites_limit, weight_boun
 use Rattle.sand_model.proofs.Underway.{underway_start, underway_end}
 use Rattle.sand_tiles.specs.declared.tile.Tile.{Tile}
 use Rattle.sand_tiles.specs.declared.counting.Count.{Count}
-use Rattle.sand_tiles.specs.Places.{bit, height}
+use Rattle.sand_tiles.specs.Places.{bit, height, number}
 use Rattle.sand_tiles.specs.Counts.{counted, IsCount}
 use Rattle.sand_tiles.proofs.Bits.{bit_le, bit_none}
 use Rattle.sand_fronts.specs.Tiling.{tile_of, place_of, is_site, site_on, on_tiles}
 use Rattle.sand_fronts.specs.TileLists.{IsClear}
 use Rattle.sand_fronts.specs.Waves.{tile_at, toppled, IsWave, Leaves, AreAtRest, heights_before}
-use Rattle.sand_fronts.specs.Counting.{in_wave, with_wave, AreCounted}
-use Rattle.sand_fronts.specs.Drops.{heights_on, grown_on, AreQuiet}
+use Rattle.sand_fronts.specs.Counting.{in_wave, over_wave, with_wave, AreCounted}
+use Rattle.sand_fronts.specs.Drops.{heights_on, grown_on, AreQuiet, AreOutside}
 use Rattle.sand_fronts.proofs.OnTiles.{place_below, there_again, on_site, off_site}
 use Rattle.sand_fronts.proofs.Ends.{wave_balance, four_again}
 use Rattle.sand_fronts.proofs.Turns.{first_low}
@@ -151,7 +151,7 @@ underway_as g s u v t same before = record {
 
 -- ---- what has been counted
 
-on_sum : (g : Grid) (u t v : ℕ → ℕ) (m p : ℕ) → p < 64 → ((j : ℕ) → j < sites g → v j ≡ u j + t j) → on_tiles g v m p ≡ on_tiles g u m p + on_tiles g t m p
+pub on_sum : (g : Grid) (u t v : ℕ → ℕ) (m p : ℕ) → p < 64 → ((j : ℕ) → j < sites g → v j ≡ u j + t j) → on_tiles g v m p ≡ on_tiles g u m p + on_tiles g t m p
 on_sum g u t v m p low sums = ⊎_elim
     (λ (yes : is_site g m p ≡ true).
     let there = there_again g m p low yes in
@@ -196,7 +196,7 @@ waves_begin g site τ c rest sound =
     }
 
 -- the topplings of a wave, by the counts
-wave_counts : (g : Grid) (site : ℕ) (τ σ ρ : ℕ → Tile) (c d e : ℕ → Count) (h : ℕ → ℕ)
+pub wave_counts : (g : Grid) (site : ℕ) (τ σ ρ : ℕ → Tile) (c d e : ℕ → Count) (h : ℕ → ℕ)
     → ((m p : ℕ) → p < 64 → counted (d m) p ≡ counted (c m) p + on_tiles g (grown_on g c d) m p)
     → ((m p : ℕ) → p < 64 → with_wave ρ e m p ≡ with_wave σ d m p) → ((m : ℕ) → IsClear (ρ m))
     → (j : ℕ) → grown_on g c e j ≡ grown_on g c d j + toppled g σ j
@@ -279,6 +279,44 @@ wave_size g site n h τ wave here =
     (λ k l. sum_below_same 64 (bit (τ k).wave) (λ p. on_tiles g (toppled g τ) k p) (λ p m. wave.inside k p m))
     ∙ sum_on_tiles g (toppled g τ) n here
 
+-- how many grains a wave loses
+on_product : (g : Grid) (u v : ℕ → ℕ) (k p : ℕ) → on_tiles g u k p * on_tiles g v k p ≡ on_tiles g (λ j. u j * v j) k p
+on_product g u v k p = ⊎_elim
+    (λ (yes : is_site g k p ≡ true).
+    ap (λ x. x * on_tiles g v k p) (on_site g u k p yes) ∙ ap (λ x. u (site_on g k p) * x) (on_site g v k p yes) ∙ sym (on_site g (λ j. u j * v j) k p yes))
+    (λ (no : is_site g k p ≡ false).
+    ap (λ x. x * on_tiles g v k p) (off_site g u k p no) ∙ sym (off_site g (λ j. u j * v j) k p no ∙ omega arith))
+    (cases_Bool (is_site g k p))
+
+pub wave_lost : (g : Grid) (site n : ℕ) (h : ℕ → ℕ) (ν τ : ℕ → Tile) → AreOutside g ν → IsWave g site h τ → ((j : ℕ) → j < sites g → tile_of g j < n) → over_wave n ν τ ≡ lost g (toppled g τ)
+wave_lost g site n h ν τ outside wave here =
+    sum_below_same n (λ k. sum_below 64 (λ p. number (ν k) p * bit (τ k).wave p)) (λ k. sum_below 64 (λ p. on_tiles g (λ j. missing g j * toppled g τ j) k p))
+    (λ k l. sum_below_same 64 (λ p. number (ν k) p * bit (τ k).wave p) (λ p. on_tiles g (λ j. missing g j * toppled g τ j) k p)
+    (λ p m. ap (λ x. x * bit (τ k).wave p) (outside k p m) ∙ ap (λ x. on_tiles g (missing g) k p * x) (wave.inside k p m) ∙ on_product g (missing g) (toppled g τ) k p))
+    ∙ sum_on_tiles g (λ j. missing g j * toppled g τ j) n here
+
+pub lost_more : (g : Grid) (u v w : ℕ → ℕ) → ((j : ℕ) → j < sites g → w j ≡ u j + v j) → lost g w ≡ lost g u + lost g v
+lost_more g u v w e =
+    sum_below_same (sites g) (λ j. missing g j * w j) (λ j. missing g j * u j + missing g j * v j) (λ j l. let k = ap (λ m. missing g j * m) (e j l) in omega arith)
+    ∙ sum_below-add (sites g) (λ j. missing g j * u j) (λ j. missing g j * v j)
+
+missing_le : (g : Grid) (j : ℕ) → missing g j ≤ 4
+unfolding missing
+missing_le g j = omega arith
+
+-- no toppling loses more than its grains
+pub lost_few : (g : Grid) (u : ℕ → ℕ) → lost g u ≤ 4 * topplings g u
+lost_few g u =
+    let le = sum_below_le (sites g) (λ j. missing g j * u j) (λ j. 4 * u j) (λ j l. mul_le (missing g j) 4 (u j) (missing_le g j)) in
+    let scaled = sum_below-scale (sites g) 4 u in
+    omega arith
+
+pub none_lost : (g : Grid) (c : ℕ → Count) → 0 ≡ lost g (grown_on g c c)
+none_lost g c =
+    let same = sum_below_same (sites g) (λ j. missing g j * grown_on g c c j) (λ j. 0) (λ j l. let e = ap (λ x. missing g j * x) (let z : grown_on g c c j ≡ 0 = omega arith in z) in omega arith) in
+    let none = sum_below-zero (sites g) in
+    omega arith
+
 -- a drop on a stable pile topples fewer than 2 ^ 32 times
 pub few_topplings_yet : (g : Grid) (site : ℕ) (more : Bool) (τ σ : ℕ → Tile) (c d : ℕ → Count) → IsGrid g → AreWaves g site more τ σ c d → topplings g (grown_on g c d) < 2 ^ 32
 few_topplings_yet g site more τ σ c d sides waves =
@@ -320,6 +358,9 @@ none_grown g c =
     let same = sum_below_same (sites g) (grown_on g c c) (λ j. 0) (λ j l. omega arith) in
     let none = sum_below-zero (sites g) in
     omega arith
+
+pub none_counted : (g : Grid) (c : ℕ → Count) (m p : ℕ) → p < 64 → counted (c m) p ≡ counted (c m) p + on_tiles g (grown_on g c c) m p
+none_counted g c m p low = let b = on_below g (grown_on g c c) m p 0 low (λ j l. omega arith) in omega arith
 
 -- what is no longer due in a tile changes no height
 heights_kept : (g : Grid) (ts : List Tile) (here : ℕ) (t : Tile) (j : ℕ) → here < length ts → t.low ≡ (tile_at ts here).low → t.high ≡ (tile_at ts here).high

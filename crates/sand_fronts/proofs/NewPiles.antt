@@ -1,19 +1,24 @@
 -- A new pile on tiles.
-use Rattle.std.proofs.Common.{ℕ, List, [], replicate, ◌≡◌, ◌<◌, ◌≤◌, sym, ◌∙◌, ap, subst, arith, ⊎_elim}
+use Rattle.std.proofs.Common.{ℕ, List, [], ◌∷◌, ◌++◌, length, replicate, ◌≡◌, ◌+◌, ◌<◌, ◌≤◌, sym, ◌∙◌, ap, subst, arith, ⊎_elim}
+use Rattle.std.specs.Prelude.{slice_index}
 use Rattle.std.proofs.Math.ListN.{get_or-eq_default}
 use Rattle.std.proofs.lemmas.Bool.{cases_lt}
-use Rattle.std.proofs.lemmas.List.{get_or-replicate, length-replicate}
-use Rattle.sand_model.specs.Grid.{Grid, sites}
+use Rattle.std.proofs.lemmas.List.{get_or_append_left, get_or_push, get_or-replicate, length-replicate}
+use Rattle.std.proofs.lemmas.List.FromFn.{get_or-map-range_with_len, length-map-range_with_len}
+use Rattle.sand_model.specs.Grid.{Grid, sites, missing}
 use Rattle.sand_tiles.specs.declared.tile.Tile.{Tile}
 use Rattle.sand_tiles.specs.declared.counting.Count.{Count}
 use Rattle.sand_tiles.specs.Places.{had}
 use Rattle.sand_tiles.specs.Counts.{counted, IsCount}
 use Rattle.sand_tiles.proofs.Bits.{bit_none}
 use Rattle.sand_fronts.specs.Tiling.{tile_of, place_of, on_tiles}
+use Rattle.sand_fronts.specs.TileLists.{IsClear}
 use Rattle.sand_fronts.specs.Counting.{count_at}
-use Rattle.sand_fronts.specs.Drops.{heights_on, AreQuiet}
-use Rattle.sand_fronts.proofs.OnTiles.{place_below, at_on}
-use Rattle.sand_fronts.proofs.ManyWaves.{on_below}
+use Rattle.sand_fronts.specs.Drops.{heights_on, counted_on, grown_on, AreQuiet, AreOutside}
+use Rattle.sand_fronts.specs.Waves.{tile_at}
+use Rattle.sand_fronts.specs.TiledPiles.{tiled_view, by_site, IsTiledView}
+use Rattle.sand_fronts.proofs.OnTiles.{place_below, at_on, on_tiles_le}
+use Rattle.sand_fronts.proofs.ManyWaves.{on_below, on_sum}
 
 abbrev nothing : Count
 nothing = record { planes = record { ones = 0; twos = 0; fours = 0; eights = 0; sixteens = 0 }; sets = 0; spilled = [] }
@@ -50,3 +55,83 @@ new_heights g h τ j low all l =
     let at = at_on g h j l in
     let f = low j l in
     omega arith
+
+-- ---- how many places round each site are outside
+
+pub few_outside : (g : Grid) (xs : List ℕ) (j : ℕ) → slice_index xs j ≡ missing g j → slice_index xs j ≤ 7
+unfolding missing
+few_outside g xs j is = omega arith
+
+pub outside_on_tiles : (g : Grid) (xs : List ℕ) (τ : ℕ → Tile) → ((j : ℕ) → j < sites g → slice_index xs j ≡ missing g j) → ((m : ℕ) → IsClear (τ m))
+    → ((m p : ℕ) → p < 64 → had (τ m) p ≡ on_tiles g (slice_index xs) m p) → AreOutside g τ
+outside_on_tiles g xs τ same clear all m p low =
+    let none = clear m p low in
+    let e = all m p low in
+    let a = on_tiles_le g (slice_index xs) (missing g) m p low (λ j l. let s = same j l in omega arith) in
+    let b = on_tiles_le g (missing g) (slice_index xs) m p low (λ j l. let s = same j l in omega arith) in
+    omega arith
+
+-- one number more
+pub numbers_more : (f : ℕ → ℕ) (xs ys : List ℕ) (y n : ℕ) → ys ≡ xs ++ y ∷ [] → length xs ≡ n → y ≡ f n → ((j : ℕ) → j < n → slice_index xs j ≡ f j)
+    → (j : ℕ) → j < n + 1 → slice_index ys j ≡ f j
+numbers_more f xs ys y n pushed long is each j below =
+    ap (λ zs. slice_index zs j) pushed
+    ∙ ⊎_elim
+    (λ (before : j < n). get_or_append_left xs (y ∷ []) 0 j (omega arith) ∙ each j before)
+    (λ (last : n ≤ j). let e : n ≡ j = omega arith in get_or_push xs y 0 j (long ∙ e) ∙ is ∙ ap f e)
+    (cases_lt j n)
+
+-- ---- counts of nothing, and of one drop more
+
+pub counts_no_site : (g : Grid) (c : ℕ → Count) → ((m p : ℕ) → p < 64 → counted (c m) p ≡ 0) → (m p : ℕ) → p < 64 → counted (c m) p ≡ on_tiles g (counted_on g c) m p
+counts_no_site g c none m p low =
+    let z = none m p low in
+    let b = on_below g (counted_on g c) m p 0 low (λ j l. let e = none (tile_of g j) (place_of g j) (place_below g j) in omega arith) in
+    omega arith
+
+pub counts_sites : (g : Grid) (c d : ℕ → Count) → ((m p : ℕ) → p < 64 → counted (c m) p ≡ on_tiles g (counted_on g c) m p)
+    → ((m p : ℕ) → p < 64 → counted (d m) p ≡ counted (c m) p + on_tiles g (grown_on g c d) m p)
+    → (m p : ℕ) → p < 64 → counted (d m) p ≡ on_tiles g (counted_on g d) m p
+counts_sites g c d before grown m p low =
+    let a = before m p low in
+    let b = grown m p low in
+    let s = on_sum g (counted_on g c) (grown_on g c d) (counted_on g d) m p low (λ j l. let e = grown (tile_of g j) (place_of g j) (place_below g j) in omega arith) in
+    omega arith
+
+pub count_rises : (g : Grid) (c d : ℕ → Count) → ((m p : ℕ) → p < 64 → counted (d m) p ≡ counted (c m) p + on_tiles g (grown_on g c d) m p) → (j : ℕ) → counted_on g c j ≤ counted_on g d j
+count_rises g c d grown j = let e = grown (tile_of g j) (place_of g j) (place_below g j) in omega arith
+
+pub few_at_sites : (g : Grid) (c : ℕ → Count) (most : ℕ) → ((m p : ℕ) → p < 64 → counted (c m) p ≡ on_tiles g (counted_on g c) m p)
+    → ((j : ℕ) → j < sites g → counted_on g c j ≤ most) → (m p : ℕ) → p < 64 → counted (c m) p ≤ most
+few_at_sites g c most counts few m p low =
+    let e = counts m p low in
+    let b = on_below g (counted_on g c) m p most low few in
+    omega arith
+
+-- ---- numbers by site, in a list
+
+pub by_site_at : (g : Grid) (f : ℕ → ℕ) (j : ℕ) → j < sites g → slice_index (by_site g f) j ≡ f j
+unfolding by_site
+by_site_at g f j l = get_or-map-range_with_len f 0 (sites g) j j 0 l (omega arith)
+
+pub by_site_long : (g : Grid) (f : ℕ → ℕ) → length (by_site g f) ≡ sites g
+unfolding by_site
+by_site_long g f = length-map-range_with_len f 0 (sites g)
+
+pub by_site_past : (g : Grid) (f : ℕ → ℕ) (j : ℕ) → sites g ≤ j → slice_index (by_site g f) j ≡ 0
+by_site_past g f j past = get_or-eq_default (by_site g f) 0 {n = j} (let e = by_site_long g f in omega arith)
+
+pub by_site_view : (g : Grid) (ts : List Tile) (cs : List Count) → IsTiledView (tiled_view g ts cs)
+by_site_view g ts cs = record { heights_each = by_site_long g (heights_on g (tile_at ts)); times_each = by_site_long g (counted_on g (count_at cs)) }
+
+pub by_site_le : (g : Grid) (u v : ℕ → ℕ) (j : ℕ) → (j < sites g → u j ≤ v j) → slice_index (by_site g u) j ≤ slice_index (by_site g v) j
+by_site_le g u v j le = ⊎_elim
+    (λ (less : j < sites g). let a = by_site_at g u j less in let b = by_site_at g v j less in let c = le less in omega arith)
+    (λ (past : sites g ≤ j). let a = by_site_past g u j past in omega arith)
+    (cases_lt j (sites g))
+
+pub by_site_none : (g : Grid) (f : ℕ → ℕ) → ((j : ℕ) → j < sites g → f j ≡ 0) → (j : ℕ) → slice_index (by_site g f) j ≡ 0
+by_site_none g f none j = ⊎_elim
+    (λ (less : j < sites g). by_site_at g f j less ∙ none j less)
+    (λ (past : sites g ≤ j). by_site_past g f j past)
+    (cases_lt j (sites g))

@@ -12,6 +12,7 @@ use Rattle.sand_tiles.specs.declared.tile.Tile.{Tile}
 use Rattle.sand_tiles.specs.Places.{bit, had}
 use Rattle.sand_tiles.proofs.Bits.{apart, bit_none}
 use Rattle.sand_fronts.specs.Tiling.{tile_of, place_of, is_site, site_on, on_tiles}
+use Rattle.sand_fronts.specs.TileLists.{IsClear}
 use Rattle.sand_fronts.specs.Waves.{only, tile_at}
 use Rattle.sand_fronts.proofs.OnTiles.{there_again, back_again, on_site, off_site, on_tiles_le, on_nothing}
 use Rattle.sand_fronts.proofs.Waves.{only_same, only_other}
@@ -162,18 +163,16 @@ tile_more g h ts n k here t inside tile within one more each m p low =
     (cases_eq m k)
 
 -- there is room for the grains of one site more
-pub tile_room : (g : Grid) (h : ℕ → ℕ) (τ : ℕ → Tile) (n k here p : ℕ) → n < sites g → k ≡ tile_of g n → ((j : ℕ) → j < sites g → h j ≤ 3)
+pub tile_room : (g : Grid) (h : ℕ → ℕ) (τ : ℕ → Tile) (n k here p : ℕ) → n < sites g → k ≡ tile_of g n → ((j : ℕ) → j < sites g → h j ≤ 7)
     → ((q : ℕ) → q < 64 → bit here q ≡ one_at (place_of g n) q) → ((m q : ℕ) → q < 64 → had (τ m) q ≡ on_tiles g (up_to h n) m q)
     → p < 64 → had (τ k) p + h n * bit here p ≤ 7
 tile_room g h τ n k here p inside tile few one each low =
     let a = each k p low in
-    let b = few_filled g h n k p 3 low few in
-    let c = few n inside in
+    let b = few_filled g h (n + 1) k p 7 low few in
     let d = ap (λ x. h n * x) (one p low) in
-    ⊎_elim
-    (λ (e : place_of g n ≡ p). let o = ap (λ x. h n * x) (ap (λ i. one_at i p) e ∙ one_at_same p) in omega arith)
-    (λ (ne : place_of g n ≡ p → ⊥). let o = ap (λ x. h n * x) (one_at_other (place_of g n) p ne) in omega arith)
-    (cases_eq (place_of g n) p)
+    let fill = fill_site g h n k p low inside in
+    let here' = only_same (tile_of g n) k (λ q. h n * one_at (place_of g n) q) p tile in
+    omega arith
 
 -- the set of a site's place, read by site
 pub start_of : (g : Grid) (s here : ℕ) (set' : ℕ) → s < sites g → here ≡ tile_of g s → ((p : ℕ) → p < 64 → bit set' p ≡ one_at (place_of g s) p)
@@ -210,3 +209,14 @@ pub no_grains : (g : Grid) (h : ℕ → ℕ) (ts : List Tile) (n k p : ℕ) → 
 no_grains g h ts n k p all low =
     let z = bit_none p in
     ap (λ xs. had (tile_at xs k) p) all ∙ ap (λ x. had x p) (blank_tiles n k) ∙ omega arith ∙ sym (none_filled g h k p low)
+
+-- nothing is in a wave
+
+pub bare_clear : (ts : List Tile) (n k p : ℕ) → ts ≡ replicate n bare → bit (tile_at ts k).wave p ≡ 0
+bare_clear ts n k p all = ap (λ xs. bit (tile_at xs k).wave p) all ∙ ap (λ (x : Tile). bit x.wave p) (blank_tiles n k) ∙ bit_none p
+
+pub tile_clear : (ts : List Tile) (k : ℕ) (t : Tile) → k < length ts → t.wave ≡ (tile_at ts k).wave → ((m : ℕ) → IsClear (tile_at ts m)) → (m : ℕ) → IsClear (tile_at (set ts k t) m)
+tile_clear ts k t inside same clear m p low = ⊎_elim
+    (λ (e : m ≡ k). ap (λ (x : Tile). bit x.wave p) (tile_set_same ts k m t inside e) ∙ ap (λ x. bit x p) same ∙ clear k p low)
+    (λ (ne : m ≡ k → ⊥). ap (λ (x : Tile). bit x.wave p) (tile_set_other ts k m t ne) ∙ clear m p low)
+    (cases_eq m k)

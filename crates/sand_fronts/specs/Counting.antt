@@ -1,9 +1,9 @@
 -- What a wave adds to the counts of the tiles.
-use Rattle.std.specs.Prelude.{ℕ, List, [], slice_index_or, ◌≡◌, ◌+◌, ◌<◌}
+use Rattle.std.specs.Prelude.{ℕ, List, [], slice_index_or, ◌≡◌, ◌+◌, ◌*◌, ◌<◌}
 use Rattle.sand_model.specs.Sand.{sum_below}
 use Rattle.sand_tiles.specs.declared.tile.Tile.{Tile}
 use Rattle.sand_tiles.specs.declared.counting.Count.{Count}
-use Rattle.sand_tiles.specs.Places.{bit}
+use Rattle.sand_tiles.specs.Places.{bit, number}
 use Rattle.sand_tiles.specs.Counts.{counted, IsCount}
 use Rattle.sand_fronts.specs.TileLists.{IsClear}
 
@@ -14,6 +14,10 @@ count_at counts k = slice_index_or counts k (record { planes = record { ones = 0
 -- how many places of n tiles have toppled in this wave
 abbrev pub in_wave : ℕ → (ℕ → Tile) → ℕ
 in_wave n τ = sum_below n (λ k. sum_below 64 (bit (τ k).wave))
+
+-- the sum of numbers over the places of n tiles that have toppled in this wave
+abbrev pub over_wave : ℕ → (ℕ → Tile) → (ℕ → Tile) → ℕ
+over_wave n ν τ = sum_below n (λ k. sum_below 64 (λ p. number (ν k) p * bit (τ k).wave p))
 
 -- how often a place has toppled, with this wave
 abbrev pub with_wave : (ℕ → Tile) → (ℕ → Count) → ℕ → ℕ → ℕ

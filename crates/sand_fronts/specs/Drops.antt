@@ -1,11 +1,11 @@
 -- What a drop topples, as tiles and counts show it.
 use Rattle.std.specs.Prelude.{ℕ, ◌≡◌, ◌-◌, ◌<◌}
-use Rattle.sand_model.specs.Grid.{Grid, sites}
+use Rattle.sand_model.specs.Grid.{Grid, sites, missing}
 use Rattle.sand_tiles.specs.declared.tile.Tile.{Tile}
 use Rattle.sand_tiles.specs.declared.counting.Count.{Count}
-use Rattle.sand_tiles.specs.Places.{bit, height}
+use Rattle.sand_tiles.specs.Places.{bit, height, number}
 use Rattle.sand_tiles.specs.Counts.{counted}
-use Rattle.sand_fronts.specs.Tiling.{tile_of, place_of}
+use Rattle.sand_fronts.specs.Tiling.{tile_of, place_of, on_tiles}
 use Rattle.sand_fronts.specs.TileLists.{IsClear}
 
 -- the heights in the planes, by site
@@ -24,3 +24,7 @@ grown_on g c d j = counted_on g d j - counted_on g c j
 pub record AreQuiet (g : Grid) (τ : ℕ → Tile) : Type 0 where
   pub clear : (m : ℕ) → IsClear (τ m)
   pub none_due : (j : ℕ) → j < sites g → bit (τ (tile_of g j)).due (place_of g j) ≡ 0
+
+-- the numbers on the tiles are how many places round each site are outside the grid
+abbrev pub AreOutside : Grid → (ℕ → Tile) → Type 0
+AreOutside g ν = (k p : ℕ) → p < 64 → number (ν k) p ≡ on_tiles g (missing g) k p

@@ -4,3 +4,6 @@ pub mod TileLists
 pub mod Counting
 pub mod Drops
 pub mod TiledPiles
+pub mod Marking
+pub mod Reaching
+pub mod Falls

@@ -14,21 +14,24 @@
 
 ghost use Rattle.std.specs.Prelude.{◌≡◌, ◌≢◌, ℕ, ◌+◌, ◌^◌, ◌<◌, ◌≤◌, length, slice_index};
 ghost use Rattle.sand_model.specs.Grid.{sites};
-ghost use Rattle.sand_model.specs.Sand.{IsSettled, topplings};
+ghost use Rattle.sand_model.specs.Sand.{IsSettled, lost, topplings};
 ghost use Rattle.sand_tiles.specs.Counts.{counted, IsCount};
-ghost use Rattle.sand_fronts.specs.Tiling.{tile_of, place_of};
+ghost use Rattle.sand_fronts.specs.Tiling.{tile_of, place_of, on_tiles};
 ghost use Rattle.sand_fronts.specs.Waves.{tile_at, AreOpen, AreAtRest, IsBoard, heights_before};
 ghost use Rattle.sand_fronts.specs.Counting.{count_at};
-ghost use Rattle.sand_fronts.specs.Drops.{heights_on, grown_on, AreQuiet};
+ghost use Rattle.sand_fronts.specs.Drops.{heights_on, grown_on, AreQuiet, AreOutside};
+ghost use Rattle.sand_fronts.specs.Marking.{AreMarked};
 
-use crate::counting::count_wave;
+use crate::counting::{NOTHING, Total, count_wave};
+use crate::marks::Marks;
 use crate::one_wave::topple_wave;
 use crate::sides::Beside;
 use crate::tile_list::TileList;
 use sand_model::Shape;
 use sand_tiles::{Count, Tile, height_at, set_of};
 
-/// Topples a site that has 4, and all that follows. Counts the topplings of each site, and returns how many there were.
+/// Topples a site that has 4, and all that follows. Counts the topplings of each site and marks the sites, and returns how many
+/// topplings there were and how many grains fell into the sink.
 pub fn topple_all(
     shape: Shape,
     tiles: &mut [Tile],
@@ -36,13 +39,16 @@ pub fn topple_all(
     beside: &[Beside],
     list: &mut TileList,
     counts: &mut [Count],
+    marks: &mut Marks,
+    outside: &[Tile],
     site: usize,
     here: usize,
     place: usize,
-) -> u64
+) -> Total
     requires site { site < sites shape }
     requires here { (here ≡ tile_of shape site) × (place ≡ place_of shape site) }
-    requires one_each { (length free.now ≡ length tiles.old) × (length counts.old ≡ length tiles.old) }
+    requires one_each { (length free.now ≡ length tiles.old) × (length counts.old ≡ length tiles.old) × (length marks.old ≡ length tiles.old) × (length outside.now ≡ length tiles.old) }
+    requires outside { AreOutside shape (tile_at outside.now) }
     requires board { IsBoard shape (length tiles.old) beside.now }
     requires all_open { AreOpen shape site (slice_index free.now) }
     requires rest { AreAtRest shape site (tile_at tiles.old) }
@@ -50,8 +56,11 @@ pub fn topple_all(
     requires sound { (m : ℕ) → IsCount (count_at counts.old m) }
     requires few { (m p : ℕ) → p < 64 → counted (count_at counts.old m) p < 2 ^ 60 }
     ensures settled { IsSettled shape (heights_before shape site (tile_at tiles.old)) (grown_on shape (count_at counts.old) (count_at counts.new)) (heights_on shape (tile_at tiles.new)) }
-    ensures size { result ≡ topplings shape (grown_on shape (count_at counts.old) (count_at counts.new)) }
-    ensures never_falls { (m p : ℕ) → p < 64 → counted (count_at counts.old m) p ≤ counted (count_at counts.new m) p }
+    ensures size { result.size ≡ topplings shape (grown_on shape (count_at counts.old) (count_at counts.new)) }
+    ensures lost { result.lost ≡ lost shape (grown_on shape (count_at counts.old) (count_at counts.new)) }
+    ensures counted { (m p : ℕ) → p < 64 → counted (count_at counts.new m) p ≡ counted (count_at counts.old m) p + on_tiles shape (grown_on shape (count_at counts.old) (count_at counts.new)) m p }
+    ensures marked { AreMarked (count_at counts.old) (count_at counts.new) (slice_index marks.old) (slice_index marks.new) }
+    ensures marks_each { length marks.new ≡ length marks.old }
     ensures quiet { AreQuiet shape (tile_at tiles.new) }
     ensures sound { (m : ℕ) → IsCount (count_at counts.new m) }
     ensures room { list.new.room ≡ list.old.room }
@@ -59,14 +68,17 @@ pub fn topple_all(
     // Its sides are within the limits.
     let _ = shape.sites();
     let start = set_of(place);
-    let mut size = 0u64;
+    let mut total = NOTHING;
     let mut more = true;
     'waves: while more {
         topple_wave(shape, tiles, free, beside, list, site, here, start);
-        let in_wave = count_wave(tiles, counts, list, here);
-        size += in_wave;
-        more = (in_wave > 1) & (height_at(&tiles[here], place) == 0);
+        let wave = count_wave(tiles, counts, marks, outside, list, here);
+        total = Total {
+            size: total.size + wave.size,
+            lost: total.lost + wave.lost,
+        };
+        more = (wave.size > 1) & (height_at(&tiles[here], place) == 0);
     }
     tiles[here].due = 0;
-    size
+    total
 }

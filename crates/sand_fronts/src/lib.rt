@@ -3,16 +3,21 @@
 
 mod counting;
 mod dropping;
-mod new_pile;
+mod extent;
+mod marks;
 mod one_wave;
+mod pile;
+mod reach;
 mod sides;
 mod tile_list;
 mod tiled_pile;
 mod tiling;
 
+pub use counting::Total;
 pub use dropping::topple_all;
-pub use new_pile::TiledPile;
+pub use marks::Marks;
 pub use one_wave::topple_wave;
+pub use pile::TiledPile;
 pub use sides::{Beside, all_sides};
 pub use tile_list::TileList;
-pub use tiled_pile::drop_grain;
+pub use tiled_pile::{Fall, drop_grain};

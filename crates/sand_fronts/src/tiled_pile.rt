@@ -2,25 +2,50 @@
 //!
 //! The grain is added to the planes of its tile. If its site is due then, it topples, and all that follows (`dropping`). In its
 //! waves the site is not free: its bit is taken out of the word of its tile, and the whole word is put back when they have
-//! passed.
+//! passed. Then area and reach are read from the sites that are marked (`extent`).
 
 ghost use Rattle.std.specs.Prelude.{◌≡◌, ℕ, ◌+◌, ◌^◌, ◌<◌};
 ghost use Rattle.sand_model.specs.Grid.{sites};
-ghost use Rattle.sand_model.specs.Sand.{IsSettled, one_at, topplings};
+ghost use Rattle.sand_model.specs.Sand.{IsSettled, one_at};
 ghost use Rattle.sand_tiles.specs.Counts.{counted};
+ghost use Rattle.sand_fronts.specs.Tiling.{on_tiles};
 ghost use Rattle.sand_fronts.specs.Waves.{tile_at};
 ghost use Rattle.sand_fronts.specs.Counting.{count_at};
 ghost use Rattle.sand_fronts.specs.Drops.{heights_on, grown_on};
+ghost use Rattle.sand_fronts.specs.Falls.{IsFall};
 ghost use Rattle.sand_fronts.specs.TiledPiles.{IsTiledPile};
 
+use crate::counting::Total;
 use crate::dropping::topple_all;
+use crate::extent::{Extent, take_all};
+use crate::marks::Marks;
 use crate::sides::Beside;
 use crate::tile_list::TileList;
 use crate::tiling::find;
 use sand_model::Shape;
 use sand_tiles::{Count, Tile, is_due, receive, set_of};
 
-/// Drops a grain at a site, and lets it topple. Counts the topplings of each site, and returns how many there were.
+/// What one drop has toppled.
+#[derive(Clone, Copy, Debug)]
+pub struct Fall {
+    /// How many topplings there were.
+    pub size: u64,
+    /// How many sites toppled.
+    pub area: u64,
+    /// The greatest distance from the drop to a site that toppled, in columns and rows, or 0 if none did.
+    pub reach: usize,
+    /// How many grains fell into the sink.
+    pub lost: u64,
+}
+
+const CALM: Fall = Fall {
+    size: 0,
+    area: 0,
+    reach: 0,
+    lost: 0,
+};
+
+/// Drops a grain at a site, and lets it topple. Counts the topplings of each site, and returns their numbers.
 pub fn drop_grain(
     shape: Shape,
     tiles: &mut [Tile],
@@ -28,24 +53,35 @@ pub fn drop_grain(
     beside: &[Beside],
     list: &mut TileList,
     counts: &mut [Count],
+    marks: &mut Marks,
+    outside: &[Tile],
     site: usize,
-) -> u64
+) -> Fall
     requires site { site < sites shape }
-    requires pile { IsTiledPile shape tiles.old free.old beside.now list.old counts.old }
+    requires pile { IsTiledPile shape tiles.old free.old beside.now list.old counts.old marks.old outside.now }
     requires few { (m p : ℕ) → p < 64 → counted (count_at counts.old m) p < 2 ^ 60 }
-    ensures pile { IsTiledPile shape tiles.new free.new beside.now list.new counts.new }
+    ensures pile { IsTiledPile shape tiles.new free.new beside.now list.new counts.new marks.new outside.now }
     ensures settled { IsSettled shape (λ j. heights_on shape (tile_at tiles.old) j + one_at site j) (grown_on shape (count_at counts.old) (count_at counts.new)) (heights_on shape (tile_at tiles.new)) }
-    ensures size { result ≡ topplings shape (grown_on shape (count_at counts.old) (count_at counts.new)) }
+    ensures fall { IsFall shape site (grown_on shape (count_at counts.old) (count_at counts.new)) result }
+    ensures counted { (m p : ℕ) → p < 64 → counted (count_at counts.new m) p ≡ counted (count_at counts.old m) p + on_tiles shape (grown_on shape (count_at counts.old) (count_at counts.new)) m p }
 {
     let (here, place) = find(shape, site);
     let grain = set_of(place);
     receive(&mut tiles[here], grain);
     if !is_due(&tiles[here], place) {
-        return 0;
+        return CALM;
     }
     let whole = free[here];
     free[here] = whole ^ grain;
-    let size = topple_all(shape, tiles, free, beside, list, counts, site, here, place);
+    let Total { size, lost } = topple_all(
+        shape, tiles, free, beside, list, counts, marks, outside, site, here, place,
+    );
     free[here] = whole;
-    size
+    let Extent { area, reach } = take_all(shape, site, marks);
+    Fall {
+        size,
+        area,
+        reach,
+        lost,
+    }
 }

@@ -8,6 +8,7 @@ ghost use Rattle.std.specs.Prelude.{◌≡◌, ℕ, ◌<◌, ◌≤◌, ◌^◌,
 ghost use Rattle.sand_model.specs.Grid.{IsGrid, sites};
 ghost use Rattle.sand_tiles.specs.Places.{bit, had};
 ghost use Rattle.sand_fronts.specs.Tiling.{across, tiles, tile_of, place_of, on_tiles};
+ghost use Rattle.sand_fronts.specs.TileLists.{IsClear};
 ghost use Rattle.sand_fronts.specs.Waves.{tile_at, AreAllOpen};
 
 use sand_model::Shape;
@@ -63,15 +64,16 @@ pub(crate) fn all_open(alloc: Global, shape: Shape) -> Result<Vec<u64>, AllocErr
     Ok(free)
 }
 
-/// Tiles with these heights. Fails only if an allocation fails.
+/// Tiles with these numbers: heights, and 4 more for what is due. Fails only if an allocation fails.
 pub(crate) fn tiles_with(
     alloc: Global,
     shape: Shape,
     heights: &[u64],
 ) -> Result<Vec<Tile>, AllocError>
     requires one_each { length heights.now ≡ sites shape }
-    requires low { (j : ℕ) → j < sites shape → slice_index heights.now j ≤ 3 }
+    requires low { (j : ℕ) → j < sites shape → slice_index heights.now j ≤ 7 }
     ensures one_each { IfOk result (λ all. length all.items ≡ tiles shape) }
+    ensures clear { IfOk result (λ all. (m : ℕ) → IsClear (tile_at all.items m)) }
     ensures heights { IfOk result (λ all. (k p : ℕ) → p < 64 → had (tile_at all.items k) p ≡ on_tiles shape (slice_index heights.now) k p) }
 {
     let mut all = vec![in alloc; BARE; tiles(shape)]?;

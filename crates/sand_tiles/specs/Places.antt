@@ -12,6 +12,10 @@ bit word p = bit_at word p
 abbrev pub height : Tile → ℕ → ℕ
 height t p = bit t.low p + 2 * bit t.high p
 
+-- a number from 0 to 7: the height, and 4 more if the place is due
+abbrev pub number : Tile → ℕ → ℕ
+number t p = height t p + 4 * bit t.due p
+
 -- f at the neighbour of a place, and 0 where this is outside the tile
 unfoldable pub north : (ℕ → ℕ) → ℕ → ℕ
 north f p = if nat_lt p 8 then 0 else f (p - 8)

@@ -1,21 +1,34 @@
 //! Sets of places, counted.
 //!
-//! The number of places of a set is the number of ones in a word. How often each of 64 places has toppled is kept in five
+//! The number of places of a set is the number of ones in a word, and a sum of small numbers over them is a sum of three such
+//! counts (`sum_over`). How often each of 64 places has toppled is kept in five
 //! planes of bits, one for each power of 2 below 32: to count one toppling of each place of a set is to add a number of one
 //! bit at each place, by half adders. After 31 sets no carry has left the last plane, and the planes are spilled: what they
 //! count is added to a list of 64 numbers, and they are 0 again.
 
-ghost use Rattle.std.specs.Prelude.{◌≡◌, ℕ, ◌+◌, ◌^◌, ◌<◌, ◌≤◌};
+ghost use Rattle.std.specs.Prelude.{◌≡◌, ℕ, ◌+◌, ◌*◌, ◌^◌, ◌<◌, ◌≤◌};
 ghost use Rattle.sand_model.specs.Sand.{sum_below};
-ghost use Rattle.sand_tiles.specs.Places.{bit};
+ghost use Rattle.sand_tiles.specs.Places.{bit, number};
 ghost use Rattle.sand_tiles.specs.Counts.{times, counted, IsCount};
+
+use crate::tile::Tile;
 
 /// How many places a set has.
 #[inline(always)]
 pub fn size(set: u64) -> u64
-    ensures { result ≡ sum_below 64 (bit set) }
+    ensures value { result ≡ sum_below 64 (bit set) }
+    ensures limit { result ≤ 64 }
 {
     u64::from(set.count_ones())
+}
+
+/// The sum of a tile's numbers over the places of a set. A number is a height, and 4 more if its place is due.
+#[inline(always)]
+pub fn sum_over(numbers: &Tile, set: u64) -> u64
+    ensures value { result ≡ sum_below 64 (λ p. number numbers.now p * bit set p) }
+    ensures limit { result ≤ 448 }
+{
+    size(set & numbers.low) + 2 * size(set & numbers.high) + 4 * size(set & numbers.due)
 }
 
 /// A number from 0 to 31 at each place of a tile: one plane of bits for each power of 2.

@@ -9,6 +9,6 @@ mod counting;
 mod tile;
 mod visiting;
 
-pub use counting::{Count, Planes, count_set, no_count, size, times_at};
+pub use counting::{Count, Planes, count_set, no_count, size, sum_over, times_at};
 pub use tile::{BARE, Tile, add_grains, height_at, is_due, receive, set_of};
 pub use visiting::visit;

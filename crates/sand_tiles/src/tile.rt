@@ -52,7 +52,8 @@ pub fn set_of(place: usize) -> u64
 /// Adds grains at each place of a set, one after another.
 pub fn add_grains(tile: &mut Tile, set: u64, grains: u64)
     requires few { (p : ℕ) → p < 64 → had tile.old p + grains * bit set p ≤ 7 }
-    ensures { (p : ℕ) → p < 64 → had tile.new p ≡ had tile.old p + grains * bit set p }
+    ensures each { (p : ℕ) → p < 64 → had tile.new p ≡ had tile.old p + grains * bit set p }
+    ensures wave { tile.new.wave ≡ tile.old.wave }
 {
     for _ in 0..grains {
         receive(tile, set);

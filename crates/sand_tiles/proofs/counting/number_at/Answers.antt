@@ -1,5 +1,5 @@
 use Rattle.std.proofs.Common.{arith}
-use Rattle.sand_tiles.proofs.Bits.{bit_le, read_bit}
+use Rattle.sand_tiles.proofs.Bits.{read_bit}
 use Rattle.sand_tiles.proofs.counting.number_at.Goals as goal
 
 pub returns : goal.returns

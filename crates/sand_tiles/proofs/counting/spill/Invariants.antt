@@ -1,4 +1,4 @@
-use Rattle.std.proofs.Common.{ℕ, ◌≡◌, ◌+◌, ◌<◌, ◌≤◌, get_or, length}
+use Rattle.std.proofs.Common.{ℕ, ◌≡◌, ◌+◌, ◌<◌, ◌≤◌, get_or}
 use Rattle.sand_tiles.specs.Counts.{times}
 use Rattle.sand_tiles.proofs.counting.spill.Given as goal
 

@@ -1,4 +1,3 @@
-use Rattle.std.proofs.Common.{arith}
 use Rattle.sand_tiles.proofs.Moves.{bit_one_place}
 use Rattle.sand_tiles.proofs.tile.set_of.Goals as goal
 

@@ -1,0 +1,205 @@
+-- How far a drop has reached.
+use Rattle.std.proofs.Common.{ℕ, Bool, true, false, cond, ltb, ◌≡◌, ◌≢◌, ◌+◌, ◌-◌, ◌*◌, ◌/◌, ◌%◌, ◌^◌, ◌<◌, ◌≤◌, min, max, sym, ◌∙◌, ap, arith, ⊎_elim}
+use Rattle.std.specs.Prelude.{bit_xor}
+use Rattle.std.specs.Int.{abs_diff, trailing_zeros}
+use Rattle.std.proofs.Common.{w64}
+use Rattle.std.proofs.lemmas.Nat.Bits.{bit_at-trailing_zeros}
+use Rattle.std.proofs.lemmas.Bool.{cases_Bool, cases_eq, cases_lt, and_parts, ltb-true, lt-ltb, le-ltb}
+use Rattle.std.proofs.lemmas.Nat.{div-mul-add, mod-mul-add}
+use Rattle.sand_model.specs.Grid.{Grid, joins, column, row, distance}
+use Rattle.sand_model.specs.Sand.{sum_below, one_at}
+use Rattle.sand_model.specs.Lists.{one_if}
+use Rattle.sand_model.proofs.SumsBelow.{sum_below_same, sum_below-add, sum_below-one_at, one_at_same, one_at_other}
+use Rattle.sand_tiles.specs.Places.{bit}
+use Rattle.sand_tiles.proofs.Bits.{bit_le, bit_none, half, both_le}
+use Rattle.sand_fronts.specs.declared.reach.Spot.{Spot}
+use Rattle.sand_fronts.specs.Reaching.{distance_within, spot_of, corner_of, IsReachedFrom, IsReachedIn, IsReach}
+use Rattle.sand_fronts.specs.Tiling.{tile_of, place_of, row_at, column_at, is_site, site_on, on_tiles}
+use Rattle.sand_tiles.specs.declared.counting.Count.{Count}
+use Rattle.sand_fronts.specs.Drops.{grown_on}
+use Rattle.sand_fronts.proofs.OnTiles.{place_below, back_again, there_again, at_on, on_site, off_site}
+
+-- ---- how far a place of a tile may be
+
+columns_within : (x l c : ℕ) → c ≤ 7 → abs_diff x (l + c) ≤ max (abs_diff x l) (abs_diff x (l + 7))
+columns_within x l c few = omega arith
+
+shorter_within : (round : Bool) (a most w : ℕ) → a ≤ most → cond round (min a (w - a)) a ≤ cond round (min most (w / 2)) most
+shorter_within true a most w le = omega arith
+shorter_within false a most w le = le
+
+pub within_farthest : (g : Grid) (s corner : Spot) (p across near down : ℕ) → p < 64
+    → across ≡ max (abs_diff s.column corner.column) (abs_diff s.column (corner.column + 7)) → down ≡ max (abs_diff s.row corner.row) (abs_diff s.row (corner.row + 7))
+    → near ≡ cond (joins g.edge) (min across (g.width / 2)) across → distance_within g s corner p ≤ near + down
+within_farthest g s corner p across near down low wide tall is =
+    let a = columns_within s.column corner.column (p % 8) (omega arith) in
+    let b = columns_within s.row corner.row (p / 8) (omega arith) in
+    let c = shorter_within (joins g.edge) (abs_diff s.column (corner.column + p % 8)) across g.width (omega arith) in
+    omega arith
+
+-- ---- place by place
+
+pub lowest : (n : ℕ) → n ≢ 0 → n < 2 ^ 64 → (trailing_zeros w64 n < 64) × (bit n (trailing_zeros w64 n) ≡ 1)
+unfolding bit
+lowest n some fits = let l = bit_at-trailing_zeros w64 n (omega arith) fits in (l.0, l.1)
+
+-- a place leaves a set
+pub place_less : (rest place one : ℕ) → place < 64 → bit rest place ≡ 1 → ((p : ℕ) → p < 64 → bit one p ≡ one_at place p)
+    → (p : ℕ) → p < 64 → bit (bit_xor rest one) p + one_at place p ≡ bit rest p
+place_less rest place one inside is each p low =
+    let h = half rest one p in
+    let b = both_le rest one p in
+    let b0 = b.0 in let b1 = b.1 in let b2 = b.2 in
+    let e = each p low in
+    ⊎_elim
+    (λ (same : place ≡ p). let o = ap (one_at place) (sym same) ∙ one_at_same place in let r = ap (bit rest) same in omega arith)
+    (λ (ne : place ≡ p → ⊥). let o = one_at_other place p ne in omega arith)
+    (cases_eq place p)
+
+pub fewer_left : (rest next place : ℕ) → place < 64 → ((p : ℕ) → p < 64 → bit next p + one_at place p ≡ bit rest p) → sum_below 64 (bit next) < sum_below 64 (bit rest)
+fewer_left rest next place inside each =
+    let same = sum_below_same 64 (λ p. bit next p + 1 * one_at place p) (bit rest) (λ p low. let e = each p low in omega arith) in
+    let both = sum_below-add 64 (bit next) (λ p. 1 * one_at place p) in
+    let one = sum_below-one_at 64 place (λ p. 1) inside in
+    omega arith
+
+-- of a set, the places that are no longer in the rest have been read
+pub record Reads (g : Grid) (s corner : Spot) (set rest reach far : ℕ) : Type 0 where
+  pub within_set : (p : ℕ) → p < 64 → bit rest p ≤ bit set p
+  pub grows : reach ≤ far
+  pub done : (p : ℕ) → p < 64 → bit set p ≡ 1 → bit rest p ≡ 0 → distance_within g s corner p ≤ far
+  pub reached : reach < far → (p : ℕ) × (p < 64) × (bit set p ≡ 1) × (distance_within g s corner p ≡ far)
+
+pub reads_begin : (g : Grid) (s corner : Spot) (set reach : ℕ) → Reads g s corner set set reach reach
+reads_begin g s corner set reach = record {
+  within_set = λ p low. omega arith;
+  grows = omega arith;
+  done = λ p low is none. absurd (omega arith);
+  reached = λ more. absurd (omega arith);
+}
+
+pub reads_more : (g : Grid) (s corner : Spot) (set rest next reach far place d now : ℕ) → Reads g s corner set rest reach far → place < 64 → bit rest place ≡ 1
+    → ((p : ℕ) → p < 64 → bit next p + one_at place p ≡ bit rest p) → d ≡ distance_within g s corner place → now ≡ max far d → Reads g s corner set next reach now
+reads_more g s corner set rest next reach far place d now before inside is each there most = record {
+  within_set = λ p low. let a = before.within_set p low in let e = each p low in omega arith;
+  grows = let a = before.grows in omega arith;
+  done = λ p low has none. ⊎_elim
+      (λ (same : place ≡ p). let e = ap (distance_within g s corner) same in omega arith)
+      (λ (ne : place ≡ p → ⊥). let e = each p low in let o = one_at_other place p ne in let a = before.done p low has (omega arith) in omega arith)
+      (cases_eq place p);
+  reached = λ more. ⊎_elim
+      (λ (farther : far < d). (place, inside, let a = before.within_set place inside in let b = bit_le set place in omega arith, omega arith))
+      (λ (not : d ≤ far). let old = before.reached (omega arith) in (old.0, old.1, old.2, let e = old.3 in omega arith))
+      (cases_lt far d);
+}
+
+pub reads_all : (g : Grid) (s corner : Spot) (set rest reach far : ℕ) → Reads g s corner set rest reach far → ((p : ℕ) → bit rest p ≡ 0) → IsReachedFrom g s corner set reach far
+reads_all g s corner set rest reach far before none = record {
+  grows = before.grows;
+  within = λ p low is. before.done p low is (none p);
+  reached = before.reached;
+}
+
+-- ---- tile by tile
+
+pub nothing_reached : (g : Grid) (s corner : Spot) (set reach : ℕ) → set ≡ 0 → IsReachedFrom g s corner set reach reach
+nothing_reached g s corner set reach none = record {
+  grows = omega arith;
+  within = λ p low is. absurd (let z = ap (λ w. bit w p) none ∙ bit_none p in omega arith);
+  reached = λ more. absurd (omega arith);
+}
+
+-- the sets before the tile k have been read
+pub record SetsRead (g : Grid) (s : Spot) (words : ℕ → ℕ) (k reach : ℕ) : Type 0 where
+  pub within : (m p : ℕ) → m < k → p < 64 → bit (words m) p ≡ 1 → distance_within g s (corner_of g m) p ≤ reach
+  pub reached : 0 < reach → (m : ℕ) × (p : ℕ) × (p < 64) × (bit (words m) p ≡ 1) × (distance_within g s (corner_of g m) p ≡ reach)
+
+not_in_none : (words : ℕ → ℕ) (m p : ℕ) → words m ≡ 0 → bit (words m) p ≡ 1 → ⊥
+not_in_none words m p none is = let z = ap (λ w. bit w p) none ∙ bit_none p in omega arith
+
+pub sets_begin : (g : Grid) (s : Spot) (words : ℕ → ℕ) (first : ℕ) → ((m : ℕ) → m < first → words m ≡ 0) → SetsRead g s words first 0
+sets_begin g s words first none = record {
+  within = λ m p before low is. absurd (not_in_none words m p (none m before) is);
+  reached = λ some. absurd (omega arith);
+}
+
+pub sets_more : (g : Grid) (s : Spot) (words : ℕ → ℕ) (k set reach far : ℕ) → SetsRead g s words k reach → IsReachedFrom g s (corner_of g k) set reach far → set ≡ words k → SetsRead g s words (k + 1) far
+sets_more g s words k set reach far before one is = record {
+  within = λ m p below low has. ⊎_elim
+      (λ (earlier : m < k). let a = before.within m p earlier low has in let b = one.grows in omega arith)
+      (λ (here : k ≤ m).
+      let e : m ≡ k = omega arith in
+      let w : bit set p ≡ 1 = ap (λ x. bit x p) is ∙ ap (λ i. bit (words i) p) (sym e) ∙ has in
+      let d = ap (λ i. distance_within g s (corner_of g i) p) e in
+      let a = one.within p low w in omega arith)
+      (cases_lt m k);
+  reached = λ some. ⊎_elim
+      (λ (farther : reach < far). let now = one.reached farther in (k, now.0, now.1, ap (λ x. bit x now.0) (sym is) ∙ now.2, now.3))
+      (λ (not : far ≤ reach). let g' = one.grows in let old = before.reached (omega arith) in (old.0, old.1, old.2, old.3, let e = old.4 in omega arith))
+      (cases_lt reach far);
+}
+
+pub sets_all : (g : Grid) (s : Spot) (words : ℕ → ℕ) (k reach : ℕ) → SetsRead g s words k reach → ((m : ℕ) → k ≤ m → words m ≡ 0) → IsReachedIn g s words reach
+sets_all g s words k reach before none = record {
+  within = λ m p low is. ⊎_elim
+      (λ (earlier : m < k). before.within m p earlier low is)
+      (λ (later : k ≤ m). absurd (not_in_none words m p (none m later) is))
+      (cases_lt m k);
+  reached = before.reached;
+}
+
+-- ---- site by site
+
+-- the row and the column of a place that is a site
+spot_on : (g : Grid) (k p : ℕ) → is_site g k p ≡ true → (row g (site_on g k p) ≡ row_at g k p) × (column g (site_on g k p) ≡ column_at g k p)
+unfolding is_site site_on
+spot_on g k p is =
+    let back = and_parts _ _ (and_parts _ _ is).1 in
+    let wide = ltb-true (column_at g k p) g.width back.1 in
+    (div-mul-add (row_at g k p) g.width (column_at g k p) wide, mod-mul-add (row_at g k p) g.width (column_at g k p) wide)
+
+distance_on : (g : Grid) (site k p : ℕ) → is_site g k p ≡ true → distance g site (site_on g k p) ≡ distance_within g (spot_of g site) (corner_of g k) p
+unfolding distance
+distance_on g site k p is =
+    let spot = spot_on g k p is in
+    let x = column g site in
+    ap (λ c. cond (joins g.edge) (min (abs_diff x c) (g.width - abs_diff x c)) (abs_diff x c) + abs_diff (row g site) (row g (site_on g k p))) spot.1
+    ∙ ap (λ r. cond (joins g.edge) (min (abs_diff x (column_at g k p)) (g.width - abs_diff x (column_at g k p))) (abs_diff x (column_at g k p)) + abs_diff (row g site) r) spot.0
+
+pub reach_is : (g : Grid) (site : ℕ) (v words : ℕ → ℕ) (reach : ℕ) → ((m p : ℕ) → p < 64 → bit (words m) p ≡ on_tiles g (λ j. one_if (ltb 0 (v j))) m p)
+    → IsReachedIn g (spot_of g site) words reach → IsReach g site v reach
+reach_is g site v words reach each in_sets = record {
+  within = λ j l some.
+      let back = back_again g j l in
+      let marked = each (tile_of g j) (place_of g j) (place_below g j) in
+      let at = at_on g (λ i. one_if (ltb 0 (v i))) j l in
+      let one = ap one_if (lt-ltb 0 (v j) some) in
+      let le = in_sets.within (tile_of g j) (place_of g j) (place_below g j) (omega arith) in
+      let there = distance_on g site (tile_of g j) (place_of g j) back.0 in
+      let same = ap (distance g site) back.1 in
+      omega arith;
+  reached = λ far.
+      let one = in_sets.reached far in
+      let m = one.0 in
+      let p = one.1 in
+      let marked = each m p one.2 in
+      let has = one.3 in
+      let d = one.4 in
+      ⊎_elim
+      (λ (yes : is_site g m p ≡ true).
+      let on = on_site g (λ i. one_if (ltb 0 (v i))) m p yes in
+      let there = there_again g m p one.2 yes in
+      let some : 0 < v (site_on g m p) = ⊎_elim
+      (λ (is : 0 < v (site_on g m p)). is)
+      (λ (none : v (site_on g m p) ≤ 0). absurd (let z = ap one_if (le-ltb 0 (v (site_on g m p)) none) in omega arith))
+      (cases_lt 0 (v (site_on g m p))) in
+      (site_on g m p, there.0, some, distance_on g site m p yes ∙ d))
+      (λ (no : is_site g m p ≡ false). absurd (let off = off_site g (λ i. one_if (ltb 0 (v i))) m p no in omega arith))
+      (cases_Bool (is_site g m p));
+}
+
+pub none_reached : (g : Grid) (site : ℕ) (c : ℕ → Count) → IsReach g site (grown_on g c c) 0
+none_reached g site c = record {
+  within = λ j l some. absurd (omega arith);
+  reached = λ far. absurd (omega arith);
+}

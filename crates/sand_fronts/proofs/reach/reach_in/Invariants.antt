@@ -1,0 +1,12 @@
+use Rattle.sand_model.specs.Sand.{sum_below}
+use Rattle.sand_tiles.specs.Places.{bit}
+use Rattle.sand_fronts.proofs.Reached.{Reads}
+use Rattle.sand_fronts.proofs.reach.reach_in.Given as goal
+
+abbrev pub invariant-places : goal.invariant-places
+invariant-places l = record {
+  reads : Reads l.shape l.from l.corner l.set l.rest l.reach l.far;
+}
+
+abbrev pub decreases-places : goal.decreases-places
+decreases-places l = sum_below 64 (bit l.rest)

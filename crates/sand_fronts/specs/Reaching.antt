@@ -1,0 +1,38 @@
+-- How far a drop has reached, by columns and rows.
+use Rattle.std.specs.Prelude.{ℕ, ◌≡◌, ◌+◌, ◌-◌, ◌*◌, ◌/◌, ◌%◌, ◌<◌, ◌≤◌, if◌then◌else◌, min}
+use Rattle.std.specs.Int.{abs_diff}
+use Rattle.sand_model.specs.Grid.{Grid, sites, joins, column, row, distance}
+use Rattle.sand_tiles.specs.Places.{bit}
+use Rattle.sand_fronts.specs.Tiling.{pitch}
+use Rattle.sand_fronts.specs.declared.reach.Spot.{Spot}
+
+-- how many columns and rows are between a spot and a column and a row, on a cylinder the shorter way round
+abbrev pub distance_between : Grid → Spot → ℕ → ℕ → ℕ
+distance_between g s x y = (if joins g.edge then min (abs_diff s.column x) (g.width - abs_diff s.column x) else abs_diff s.column x) + abs_diff s.row y
+
+-- the same of a place of a tile
+abbrev pub distance_within : Grid → Spot → Spot → ℕ → ℕ
+distance_within g s corner p = distance_between g s (corner.column + p % 8) (corner.row + p / 8)
+
+-- the spot of a site, and of the first place of a tile
+abbrev pub spot_of : Grid → ℕ → Spot
+spot_of g j = record { column = column g j; row = row g j }
+
+abbrev pub corner_of : Grid → ℕ → Spot
+corner_of g k = record { column = (k % pitch g - 1) * 8; row = (k / pitch g - 2) * 8 }
+
+-- far is the greatest of a reach and the distances of the places of a set
+pub record IsReachedFrom (g : Grid) (s corner : Spot) (set reach far : ℕ) : Type 0 where
+  pub grows : reach ≤ far
+  pub within : (p : ℕ) → p < 64 → bit set p ≡ 1 → distance_within g s corner p ≤ far
+  pub reached : reach < far → (p : ℕ) × (p < 64) × (bit set p ≡ 1) × (distance_within g s corner p ≡ far)
+
+-- reach is the greatest distance of the places of all sets, or 0 if there are none
+pub record IsReachedIn (g : Grid) (s : Spot) (words : ℕ → ℕ) (reach : ℕ) : Type 0 where
+  pub within : (m p : ℕ) → p < 64 → bit (words m) p ≡ 1 → distance_within g s (corner_of g m) p ≤ reach
+  pub reached : 0 < reach → (m : ℕ) × (p : ℕ) × (p < 64) × (bit (words m) p ≡ 1) × (distance_within g s (corner_of g m) p ≡ reach)
+
+-- each site j toppled v j times, and reach is the greatest distance from a site to one that toppled, or 0 if none did
+pub record IsReach (g : Grid) (site : ℕ) (v : ℕ → ℕ) (reach : ℕ) : Type 0 where
+  pub within : (j : ℕ) → j < sites g → 0 < v j → distance g site j ≤ reach
+  pub reached : 0 < reach → (j : ℕ) × (j < sites g) × (0 < v j) × (distance g site j ≡ reach)

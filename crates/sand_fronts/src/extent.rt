@@ -1,0 +1,83 @@
+//! How far a drop has reached, read from the sets of the sites that toppled: how many they are, and the greatest distance.
+
+ghost use Rattle.std.specs.Prelude.{◌≡◌, ℕ, ◌+◌, ◌^◌, ◌<◌, ◌≤◌, length, slice_index};
+ghost use Rattle.sand_model.specs.Grid.{sites};
+ghost use Rattle.sand_model.specs.Sand.{sum_below};
+ghost use Rattle.sand_tiles.specs.Places.{bit};
+ghost use Rattle.sand_fronts.specs.Tiling.{pitch};
+ghost use Rattle.sand_fronts.specs.Marking.{in_sets};
+ghost use Rattle.sand_fronts.specs.Reaching.{spot_of, corner_of, IsReachedFrom, IsReachedIn};
+
+use crate::marks::Marks;
+use crate::reach::{Spot, reach_of};
+use crate::tiling::across;
+use sand_model::Shape;
+use sand_tiles::size;
+
+/// How many sites toppled, and the greatest distance of one, or 0 if none did.
+#[derive(Clone, Copy, Debug)]
+pub(crate) struct Extent {
+    pub(crate) area: u64,
+    pub(crate) reach: usize,
+}
+
+// The first place of a tile, if it has sites.
+#[inline(always)]
+fn corner(shape: Shape, k: usize) -> Spot
+    requires { k < 2 ^ 20 }
+    ensures value { result ≡ corner_of shape k }
+    ensures small { (result.column < 2 ^ 31) × (result.row < 2 ^ 31) }
+{
+    let row = across(shape) + 2;
+    Spot {
+        column: (k % row).saturating_sub(1) * 8,
+        row: (k / row).saturating_sub(2) * 8,
+    }
+}
+
+// The spot of a site.
+fn spot(shape: Shape, site: usize) -> Spot
+    requires { site < sites shape }
+    ensures value { result ≡ spot_of shape site }
+    ensures small { (result.column < 2 ^ 32) × (result.row < 2 ^ 32) }
+{
+    let (column, row) = shape.place(site);
+    Spot { column, row }
+}
+
+// Adds the places of a set in a tile.
+#[inline(always)]
+fn add_set(shape: Shape, from: Spot, k: usize, set: u64, extent: Extent) -> Extent
+    requires tile { k < 2 ^ 20 }
+    requires small { (from.column < 2 ^ 32) × (from.row < 2 ^ 32) × (extent.area < 2 ^ 40) }
+    ensures area { result.area ≡ extent.area + sum_below 64 (bit set) }
+    ensures reach { IsReachedFrom shape from (corner_of shape k) set extent.reach result.reach }
+{
+    if set == 0 {
+        return extent;
+    }
+    Extent {
+        area: extent.area + size(set),
+        reach: reach_of(shape, from, corner(shape, k), set, extent.reach),
+    }
+}
+
+/// Takes all places out of the sets. Returns how far they reached from a site.
+pub(crate) fn take_all(shape: Shape, site: usize, marks: &mut Marks) -> Extent
+    requires site { site < sites shape }
+    requires small { length marks.old ≤ 65536 }
+    ensures area { result.area ≡ in_sets (length marks.old) (slice_index marks.old) }
+    ensures reach { IsReachedIn shape (spot_of shape site) (slice_index marks.old) result.reach }
+    ensures one_each { length marks.new ≡ length marks.old }
+    ensures none { (m : ℕ) → slice_index marks.new m ≡ 0 }
+{
+    let from = spot(shape, site);
+    let (first, end) = marks.between();
+    let mut extent = Extent { area: 0, reach: 0 };
+    for k in first..end {
+        let set = marks.take(k);
+        extent = add_set(shape, from, k, set, extent);
+    }
+    marks.end();
+    extent
+}
