@@ -1,14 +1,14 @@
 -- Where `drops` takes its words, each number of its draw is in its range.
 use Rattle.std.proofs.Common.{◌≡◌, ◌∙◌, ◌≤◌, ℕ, Bool, true, false, cond, ◌||◌, List, [], ◌∷◌, Option, Some, None, refl, sym, ap, subst, arith, codes, true≢false}
-use Rattle.std.specs.Prelude.{IfSome, find, option_and_then}
+use Rattle.std.specs.Prelude.{IfSome, find, option_and_then, unwrap_or}
 use Rattle.std.specs.Str.{bytes_eq}
 use Rattle.clap.specs.Words.{Row, Rule, Text}
 use Rattle.clap.specs.Simple.{Shape, built_leaf, filled, with_index}
 use Rattle.clap.specs.Walk.{has_row, nothing_held, one_of, row_text, rows_after}
 use Rattle.clap.specs.Faults.{level_fault}
-use Rattle.sand_cli.specs.Asked.{IsDraw, draw_by, draw_of}
+use Rattle.sand_cli.specs.Asked.{IsDraw, draw_by, draw_of, part_in}
 use Rattle.sand_cli.specs.Line.{drops_line, number}
-use Rattle.sand_cli.specs.Options.{flag_in, number_of, setting_in, value_of}
+use Rattle.sand_cli.specs.Options.{number_of, setting_in, value_of}
 use Rattle.sand_cli.specs.declared.task.Task.TheVariants.{Drops}
 use Rattle.sand_cli.proofs.Alone.{IsAlone, each_alone}
 use Rattle.sand_cli.proofs.Each.{Each}
@@ -57,20 +57,28 @@ given_is_within name most words small alone passes = go (has_row name rows) refl
         let is : setting_in name rows ≡ Some (value_of text.0) = ap (option_and_then (number_of 4294967295)) text.1 ∙ read.0 in
         subst Within (sym is) read.2
 
--- so are those of a draw, of which 0 stands for what isn't given
-draw_is_within : (count seed stream : Option ℕ) → IfSome count (λ n. n ≤ 10000000) → IfSome seed (λ n. n ≤ 4294967295) → IfSome stream (λ n. n ≤ 4294967295)
-    → IfSome (draw_by count seed stream) IsDraw
-draw_is_within None seed stream c s k = tt
-draw_is_within (Some count) (Some seed) (Some stream) c s k = record { count = c; seed = s; stream = k }
-draw_is_within (Some count) (Some seed) None c s k = record { count = c; seed = s; stream = omega arith }
-draw_is_within (Some count) None (Some stream) c s k = record { count = c; seed = omega arith; stream = k }
-draw_is_within (Some count) None None c s k = record { count = c; seed = omega arith; stream = omega arith }
+-- so is 0, which stands for what isn't given
+usual_is_within : (given : Option ℕ) → IfSome given (λ n. n ≤ 4294967295) → unwrap_or given 0 ≤ 4294967295
+usual_is_within None h = omega arith
+usual_is_within (Some n) h = h
+
+-- and so are all numbers of a draw
+draw_is_within : (count seed stream from : Option ℕ) → IfSome count (λ n. n ≤ 4294967295) → IfSome seed (λ n. n ≤ 4294967295) → IfSome stream (λ n. n ≤ 4294967295)
+    → IfSome from (λ n. n ≤ 4294967295) → IfSome (draw_by count seed stream from) IsDraw
+draw_is_within None seed stream from c s k f = tt
+draw_is_within (Some count) seed stream from c s k f = record {
+  count = c;
+  seed = usual_is_within seed s;
+  stream = usual_is_within stream k;
+  from = usual_is_within from f;
+}
 
 -- `drops` asks for a draw within the limits, or for none
 pub drops_is_sound : (words : List Text) → level_fault drops_built [] nothing_held words false [] ≡ []
-    → IsSound (Some (Drops (draw_of (rows_after drops_built.rules [] words)) (flag_in (codes "pile") (rows_after drops_built.rules [] words))))
+    → IsSound (Some (Drops (draw_of (rows_after drops_built.rules [] words)) (part_in (rows_after drops_built.rules [] words))))
 drops_is_sound words passes =
-    let count = given_is_within (codes "count") 10000000 words (omega arith) alone.0 passes in
+    let count = given_is_within (codes "count") 4294967295 words (omega arith) alone.0 passes in
     let seed = given_is_within (codes "seed") 4294967295 words (omega arith) alone.1.0 passes in
     let stream = given_is_within (codes "stream") 4294967295 words (omega arith) alone.1.1.0 passes in
-    (_, refl, draw_is_within _ _ _ count seed stream)
+    let from = given_is_within (codes "from") 4294967295 words (omega arith) alone.1.1.1.0 passes in
+    (_, refl, draw_is_within _ _ _ _ count seed stream from)

@@ -5,8 +5,9 @@ use Rattle.clap.specs.declared.error.kind.ErrorKind.TheVariants.{DisplayHelp, In
 use Rattle.clap.proofs.OnLiterals.{clap_on_literals}
 use Rattle.sand_cli.specs.Line.{command_line}
 use Rattle.sand_cli.specs.Asked.{asked, conflict_among, faults}
-use Rattle.sand_cli.specs.declared.fault.Conflict.TheVariants.{PileAndJournal, PileAndPicture, Uncounted}
+use Rattle.sand_cli.specs.declared.fault.Conflict.TheVariants.{PileAndJournal, PileAndPicture, PileAndTable, Uncounted}
 use Rattle.sand_cli.specs.declared.task.Form.TheVariants as forms
+use Rattle.sand_cli.specs.declared.task.Part.TheVariants.{All}
 use Rattle.sand_cli.specs.declared.task.Task.TheVariants.{Drops, Identity, Lab, Settle}
 
 -- `sandpile settle` asks to settle, whatever the program's name
@@ -51,8 +52,18 @@ seed_without_count : (program : Text) → conflict_among (program ∷ codes "dro
 unfolding command_line clap_on_literals
 seed_without_count program = refl
 
--- a draw is from the stream 0 of the seed 0 unless others are given
-draw_alone : (program : Text) → asked (program ∷ codes "drops" ∷ codes "--count" ∷ codes "5" ∷ []) ≡ Some (Drops (Some (record { count = 5; seed = 0; stream = 0 })) false)
+-- a place in a stream without a count is no draw
+from_without_count : (program : Text) → conflict_among (program ∷ codes "drops" ∷ codes "--from" ∷ codes "7" ∷ []) ≡ Some Uncounted
+unfolding command_line clap_on_literals
+from_without_count program = refl
+
+-- a pile alone and a table alone exclude one another
+pile_and_table : (program : Text) → conflict_among (program ∷ codes "drops" ∷ codes "--table" ∷ codes "--pile" ∷ []) ≡ Some PileAndTable
+unfolding command_line clap_on_literals
+pile_and_table program = refl
+
+-- a draw is from place 0 of the stream 0 of the seed 0 unless others are given
+draw_alone : (program : Text) → asked (program ∷ codes "drops" ∷ codes "--count" ∷ codes "5" ∷ []) ≡ Some (Drops (Some (record { count = 5; seed = 0; stream = 0; from = 0 })) All)
 unfolding command_line clap_on_literals
 draw_alone program = refl
 

@@ -196,7 +196,7 @@ line_is_helpless = refl
 
 commands_are_helpless : Each (λ s. s.disable_help_subcommand ≡ true) (built command_line).subs
 unfolding command_line
-commands_are_helpless = (refl, (refl, (refl, (refl, (refl, (refl, (refl, (refl, tt))))))))
+commands_are_helpless = (refl, (refl, (refl, (refl, (refl, (refl, (refl, (refl, (refl, tt)))))))))
 
 -- words that may be answered with help are answered with nothing else
 pub help_alone : (words : List Text) → IsAmong kind.DisplayHelp (faults words) → AskForHelp words

@@ -9,6 +9,7 @@ pub mod HelpAlone
 pub mod IdentityLevel
 pub mod LabLevel
 pub mod Lines
+pub mod MultipleLevel
 pub mod Passing
 pub mod Reading
 pub mod NumberTexts
@@ -17,5 +18,6 @@ pub mod Sides
 pub mod Spelled
 pub mod Stopped
 pub mod Taken
+pub mod Times
 pub mod Usual
 pub mod Walks

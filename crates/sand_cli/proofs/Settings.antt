@@ -9,7 +9,7 @@ use Rattle.sand_cli.specs.Line.{lab_line, setting}
 use Rattle.sand_cli.specs.Options.{flag_in, number_of, setting_in, value_of}
 use Rattle.sand_plan.specs.Plans.{most_droppers, most_drops, most_epochs, most_observers, most_sweeps, most_workers}
 use Rattle.sand_cli.specs.Asked.{GoTogether, conflict_of, form_in, lab_of, wish_of}
-use Rattle.sand_cli.specs.declared.fault.Conflict.TheVariants.{PileAndJournal, PileAndPicture}
+use Rattle.sand_cli.specs.declared.fault.Conflict.TheVariants.{PileAndJournal, PileAndPicture, PileAndTable}
 use Rattle.sand_cli.specs.declared.task.Form.TheVariants.{Picture, Pile}
 use Rattle.sand_cli.specs.declared.task.Form.TheVariants as forms
 use Rattle.sand_plan.specs.declared.wish.Wish.{Wish}
@@ -43,15 +43,16 @@ setting_is_number name usual least most words small alone passes has =
     (value_of text.0, ap (option_and_then (number_of 4294967295)) text.1 ∙ number.0, number.1, number.2)
 
 -- a journal and a pile alone exclude one another
-go_together : (pile pgm journal : Bool) → cond (pile && pgm) (Some PileAndPicture) (cond (pile && journal) (Some PileAndJournal) None) ≡ None
+go_together : (pile pgm journal table : Bool)
+    → cond (pile && pgm) (Some PileAndPicture) (cond (pile && journal) (Some PileAndJournal) (cond (pile && table) (Some PileAndTable) None)) ≡ None
     → GoTogether journal (cond pile Pile (cond pgm Picture forms.Text))
-go_together true true journal free = cc
-go_together true false true free = cc
-go_together true false false free = tt
-go_together false true true free = tt
-go_together false true false free = tt
-go_together false false true free = tt
-go_together false false false free = tt
+go_together true true journal table free = cc
+go_together true false true table free = cc
+go_together true false false table free = tt
+go_together false true true table free = tt
+go_together false true false table free = tt
+go_together false false true table free = tt
+go_together false false false table free = tt
 
 -- `lab` asks for a run within the limits, where its options go together
 pub lab_is_sound : (words : List Text) → level_fault lab_built [] nothing_held words false [] ≡ [] → conflict_of (codes "lab", rows_after lab_built.rules [] words) ≡ None
@@ -93,6 +94,6 @@ lab_is_sound words passes free =
             observers = observers.3;
           };
         },
-        go_together (flag_in (codes "pile") rows) (flag_in (codes "pgm") rows) (flag_in (codes "journal") rows) free,
+        go_together (flag_in (codes "pile") rows) (flag_in (codes "pgm") rows) (flag_in (codes "journal") rows) (flag_in (codes "table") rows) free,
       ),
     )

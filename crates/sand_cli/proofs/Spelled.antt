@@ -7,7 +7,7 @@ use Rattle.clap.specs.Simple.{Shape, built, entered, names_of, subcommand_of}
 use Rattle.clap.specs.Walk.{Names, Walk, finished, nothing_held, rows_after, settled, walk_from}
 use Rattle.clap.specs.Words.{Text}
 use Rattle.clap.proofs.OnLiterals.{clap_on_literals}
-use Rattle.sand_cli.specs.Asked.{IsWithin, asked, conflict_of, draw_of, faults, identity_of, lab_of, task_named}
+use Rattle.sand_cli.specs.Asked.{IsWithin, asked, conflict_of, draw_of, faults, identity_of, lab_of, multiple_of, part_in, task_named}
 use Rattle.sand_cli.specs.Fault.{IsUsage}
 use Rattle.sand_cli.specs.Line.{command_line}
 use Rattle.sand_cli.specs.Spelling.{Heeds, words_of}
@@ -15,13 +15,15 @@ use Rattle.sand_cli.specs.declared.fault.WordsFault.{WordsFault}
 use Rattle.sand_cli.specs.declared.fault.WordsFault.TheVariants.{Clash, Memory, Usage}
 use Rattle.sand_cli.specs.declared.task.Form.TheVariants.{Picture, Pile}
 use Rattle.sand_cli.specs.declared.task.Form.TheVariants as forms
+use Rattle.sand_cli.specs.declared.task.Part.TheVariants as parts
 use Rattle.sand_cli.specs.declared.task.Task.{Task}
-use Rattle.sand_cli.specs.declared.task.Task.TheVariants.{Add, Burn, Drops, Identity, Inverse, Lab, Recurrent, Settle}
-use Rattle.sand_cli.specs.Options.{flag_in}
+use Rattle.sand_cli.specs.declared.task.Task.TheVariants.{Add, Burn, Drops, Identity, Inverse, Lab, Multiple, Recurrent, Settle}
 use Rattle.sand_cli.proofs.Draws.{drops_built}
-use Rattle.sand_cli.proofs.DropsLevel.{drops_draw, drops_flag, drops_free, drops_passes, drops_words}
+use Rattle.sand_cli.proofs.DropsLevel.{drops_draw, drops_free, drops_part, drops_passes, drops_words}
 use Rattle.sand_cli.proofs.Settings.{lab_built}
 use Rattle.sand_cli.proofs.Sides.{identity_built}
+use Rattle.sand_cli.proofs.Times.{multiple_built}
+use Rattle.sand_cli.proofs.MultipleLevel.{multiple_free, multiple_passes, multiple_reads, multiple_words}
 use Rattle.sand_cli.proofs.Stopped.{passes_stopped, stays}
 use Rattle.sand_cli.proofs.Taken.{taken_ask}
 use Rattle.sand_cli.proofs.IdentityLevel.{identity_free, identity_passes, identity_reads, identity_words}
@@ -71,10 +73,28 @@ drops_named program words =
 
 drops_asked : (program : Text) (words : List Text) (task : Task) → level_fault drops_built [] nothing_held words false [] ≡ []
     → conflict_of (codes "drops", rows_after drops_built.rules [] words) ≡ None
-    → Some (Drops (draw_of (rows_after drops_built.rules [] words)) (flag_in (codes "pile") (rows_after drops_built.rules [] words))) ≡ Some task
+    → Some (Drops (draw_of (rows_after drops_built.rules [] words)) (part_in (rows_after drops_built.rules [] words))) ≡ Some task
     → asked (program ∷ codes "drops" ∷ words) ≡ Some task
 drops_asked program words task passes free reads =
     taken_ask _ (drops_taken program words passes) (ap (option_and_then conflict_of) (drops_named program words) ∙ free) ∙ (ap (option_and_then task_named) (drops_named program words) ∙ reads)
+
+-- the same of `multiple`
+multiple_taken : (program : Text) (words : List Text) → level_fault multiple_built [] nothing_held words false [] ≡ [] → faults (program ∷ codes "multiple" ∷ words) ≡ []
+unfolding command_line clap_on_literals
+multiple_taken program words passes =
+    ap₂ top_fault (stays top.rules names (walk_from nothing_held) (codes "multiple") [] words) (passes_stopped top names (walk_from nothing_held) (codes "multiple") [] words)
+    ∙ ap (λ k. or_else k []) passes
+
+multiple_named : (program : Text) (words : List Text) → subcommand_of command_line (program ∷ codes "multiple" ∷ words) ≡ Some (codes "multiple", rows_after multiple_built.rules [] words)
+unfolding command_line clap_on_literals
+multiple_named program words =
+    ap (λ (end : Walk). entered (built command_line) end.stopped) (stays top.rules names (walk_from nothing_held) (codes "multiple") [] words)
+
+multiple_asked : (program : Text) (words : List Text) (task : Task) → level_fault multiple_built [] nothing_held words false [] ≡ []
+    → conflict_of (codes "multiple", rows_after multiple_built.rules [] words) ≡ None → multiple_of (rows_after multiple_built.rules [] words) ≡ Some task
+    → asked (program ∷ codes "multiple" ∷ words) ≡ Some task
+multiple_asked program words task passes free reads =
+    taken_ask _ (multiple_taken program words passes) (ap (option_and_then conflict_of) (multiple_named program words) ∙ free) ∙ (ap (option_and_then task_named) (multiple_named program words) ∙ reads)
 
 -- the same of `lab`
 lab_taken : (program : Text) (words : List Text) → level_fault lab_built [] nothing_held words false [] ≡ [] → faults (program ∷ codes "lab" ∷ words) ≡ []
@@ -103,15 +123,18 @@ spelled_is_asked program (Settle forms.Text) within = refl
 spelled_is_asked program Burn within = refl
 spelled_is_asked program (Identity m n cylinder pgm) within =
     identity_asked program (identity_words m n cylinder pgm) _ (identity_passes m n within cylinder pgm) (identity_free m n within cylinder pgm) (identity_reads m n within cylinder pgm)
-spelled_is_asked program (Drops None true) within = refl
-spelled_is_asked program (Drops None false) within = refl
-spelled_is_asked program (Drops (Some draw) pile) within =
-    drops_asked program (drops_words draw pile) _ (drops_passes draw within pile) (drops_free draw within pile)
-    (ap₂ (λ drawn alone. Some (Drops drawn alone)) (drops_draw draw within pile) (drops_flag draw within pile))
+spelled_is_asked program (Drops None parts.All) within = refl
+spelled_is_asked program (Drops None parts.Table) within = refl
+spelled_is_asked program (Drops None parts.Pile) within = refl
+spelled_is_asked program (Drops (Some draw) part) within =
+    drops_asked program (drops_words draw part) _ (drops_passes draw within part) (drops_free draw within part)
+    (ap₂ (λ drawn written. Some (Drops drawn written)) (drops_draw draw within part) (drops_part draw within part))
 spelled_is_asked program (Add true) within = refl
 spelled_is_asked program (Add false) within = refl
 spelled_is_asked program (Inverse true) within = refl
 spelled_is_asked program (Inverse false) within = refl
+spelled_is_asked program (Multiple n pgm) within =
+    multiple_asked program (multiple_words n pgm) _ (multiple_passes n within pgm) (multiple_free n within pgm) (multiple_reads n within pgm)
 spelled_is_asked program (Recurrent true) within = refl
 spelled_is_asked program (Recurrent false) within = refl
 spelled_is_asked program (Lab wish journal form) within =

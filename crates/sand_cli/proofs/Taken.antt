@@ -21,6 +21,7 @@ use Rattle.sand_cli.proofs.HelpAlone.{help_alone}
 use Rattle.sand_cli.proofs.Draws.{drops_is_sound}
 use Rattle.sand_cli.proofs.Settings.{lab_is_sound}
 use Rattle.sand_cli.proofs.Sides.{IsSound, identity_is_sound}
+use Rattle.sand_cli.proofs.Times.{multiple_is_sound}
 use Rattle.sand_cli.proofs.Free.{line_is_free, line_is_simple}
 
 -- a parse that succeeds does so on words that have no fault
@@ -98,7 +99,10 @@ each_names_task p = (
           λ answers passes free. (_, refl, tt),
           (
             λ answers passes free. (_, refl, tt),
-            (λ answers passes free. (_, refl, tt), (λ answers passes free. lab_is_sound p.1 passes free, tt)),
+            (
+              λ answers passes free. multiple_is_sound p.1 passes,
+              (λ answers passes free. (_, refl, tt), (λ answers passes free. lab_is_sound p.1 passes free, tt)),
+            ),
           ),
         ),
       ),

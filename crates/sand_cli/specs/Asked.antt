@@ -8,12 +8,14 @@ use Rattle.sand_plan.specs.declared.wish.Wish.{Wish}
 use Rattle.sand_cli.specs.Line.{command_line}
 use Rattle.sand_cli.specs.Options.{flag_in, number_in, setting_in}
 use Rattle.sand_cli.specs.declared.fault.Conflict.{Conflict}
-use Rattle.sand_cli.specs.declared.fault.Conflict.TheVariants.{PileAndJournal, PileAndPicture, Uncounted}
+use Rattle.sand_cli.specs.declared.fault.Conflict.TheVariants.{PileAndJournal, PileAndPicture, PileAndTable, Uncounted}
 use Rattle.sand_cli.specs.declared.task.Draw.{Draw}
 use Rattle.sand_cli.specs.declared.task.Form.{Form}
 use Rattle.sand_cli.specs.declared.task.Form.TheVariants as forms
+use Rattle.sand_cli.specs.declared.task.Part.{Part}
+use Rattle.sand_cli.specs.declared.task.Part.TheVariants as parts
 use Rattle.sand_cli.specs.declared.task.Task.{Task}
-use Rattle.sand_cli.specs.declared.task.Task.TheVariants.{Add, Burn, Drops, Identity, Inverse, Lab, Recurrent, Settle}
+use Rattle.sand_cli.specs.declared.task.Task.TheVariants.{Add, Burn, Drops, Identity, Inverse, Lab, Multiple, Recurrent, Settle}
 
 -- the form in which a pile is asked for
 abbrev pub form_in : List Row → Form
@@ -31,6 +33,10 @@ with_sides options _ _ = None
 -- the task of the options of `identity`
 abbrev pub identity_of : List Row → Option Task
 identity_of options = with_sides options (number_in (codes "width") options) (number_in (codes "height") options)
+
+-- the task of the options of `multiple`
+abbrev pub multiple_of : List Row → Option Task
+multiple_of options = option_map (λ times. Multiple times (flag_in (codes "pgm") options)) (number_in (codes "times") options)
 
 -- the wish for a run, if all settings are there
 abbrev pub with_settings : Option ℕ → Option ℕ → Option ℕ → Option ℕ → Option ℕ → Option ℕ → Option ℕ → Option Wish
@@ -60,14 +66,24 @@ lab_of options = option_map
     (λ wish. Lab wish (flag_in (codes "journal") options) (form_in options))
     (wish_of options)
 
--- a draw of so many sites, from the stream 0 of the seed 0 unless others are given
-abbrev pub draw_by : Option ℕ → Option ℕ → Option ℕ → Option Draw
-draw_by None seed stream = None
-draw_by (Some count) seed stream = Some (record { count = count; seed = unwrap_or seed 0; stream = unwrap_or stream 0 })
+-- a draw of so many sites, from place 0 of the stream 0 of the seed 0 unless others are given
+abbrev pub draw_by : Option ℕ → Option ℕ → Option ℕ → Option ℕ → Option Draw
+draw_by None seed stream from = None
+draw_by (Some count) seed stream from =
+    Some (record { count = count; seed = unwrap_or seed 0; stream = unwrap_or stream 0; from = unwrap_or from 0 })
 
 -- the draw of the options of `drops`
 abbrev pub draw_of : List Row → Option Draw
-draw_of options = draw_by (setting_in (codes "count") options) (setting_in (codes "seed") options) (setting_in (codes "stream") options)
+draw_of options = draw_by
+    (setting_in (codes "count") options) (setting_in (codes "seed") options)
+    (setting_in (codes "stream") options) (setting_in (codes "from") options)
+
+-- the part that is asked for
+abbrev pub part_in : List Row → Part
+part_in options =
+    if flag_in (codes "pile") options then parts.Pile
+    else if flag_in (codes "table") options then parts.Table
+    else parts.All
 
 -- the task of a command's name and its options
 abbrev pub task_named : Text × List Row → Option Task
@@ -76,9 +92,10 @@ task_named (name, options) =
     if bytes_eq name (codes "settle") then Some (Settle (form_in options))
     else if bytes_eq name (codes "burn") then Some Burn
     else if bytes_eq name (codes "identity") then identity_of options
-    else if bytes_eq name (codes "drops") then Some (Drops (draw_of options) (flag_in (codes "pile") options))
+    else if bytes_eq name (codes "drops") then Some (Drops (draw_of options) (part_in options))
     else if bytes_eq name (codes "add") then Some (Add pgm)
     else if bytes_eq name (codes "inverse") then Some (Inverse pgm)
+    else if bytes_eq name (codes "multiple") then multiple_of options
     else if bytes_eq name (codes "recurrent") then Some (Recurrent pgm)
     else if bytes_eq name (codes "lab") then lab_of options
     else None
@@ -96,18 +113,19 @@ unless (k ∷ ks) answer = None
 abbrev pub pile_and : Text → List Row → Bool
 pile_and other options = flag_in (codes "pile") options && flag_in other options
 
--- `drops` with a seed or a stream, and no count
+-- `drops` with a seed, a stream or a first place in it, and no count
 abbrev pub lacks_count : Text → List Row → Bool
 lacks_count name options =
     bytes_eq name (codes "drops")
     && (not (is_some (setting_in (codes "count") options))
-    && (is_some (setting_in (codes "seed") options) || is_some (setting_in (codes "stream") options)))
+    && (is_some (setting_in (codes "seed") options) || is_some (setting_in (codes "stream") options) || is_some (setting_in (codes "from") options)))
 
 -- options of a command that do not go together
 abbrev pub conflict_of : Text × List Row → Option Conflict
 conflict_of (name, options) =
     if pile_and (codes "pgm") options then Some PileAndPicture
     else if pile_and (codes "journal") options then Some PileAndJournal
+    else if pile_and (codes "table") options then Some PileAndTable
     else if lacks_count name options then Some Uncounted
     else None
 
@@ -135,19 +153,21 @@ pub record IsRun (wish : Wish) : Type 0 where
 
 -- the numbers of the draw are in their ranges
 pub record IsDraw (draw : Draw) : Type 0 where
-  pub count : draw.count ≤ 10000000
+  pub count : draw.count ≤ 4294967295
   pub seed : draw.seed ≤ 4294967295
   pub stream : draw.stream ≤ 4294967295
+  pub from : draw.from ≤ 4294967295
 
 -- a journal is not asked for with a pile alone
 abbrev pub GoTogether : Bool → Form → Type 0
 GoTogether true forms.Pile = ⊥
 GoTogether journal form = ⊤
 
--- the task is within the limits: the sides of a grid are from 1 to 256, the numbers of a draw and the settings of a run in
--- their ranges, and the options of a run go together
+-- the task is within the limits: the sides of a grid are from 1 to 256, the numbers of a draw and of copies, and the settings of
+-- a run, in their ranges, and the options of a run go together
 abbrev pub IsWithin : Task → Type 0
 IsWithin (Identity width height cylinder pgm) = (1 ≤ width) × (width ≤ 256) × (1 ≤ height) × (height ≤ 256)
-IsWithin (Drops drawn pile) = IfSome drawn IsDraw
+IsWithin (Drops drawn part) = IfSome drawn IsDraw
+IsWithin (Multiple times pgm) = times ≤ 18446744073709551615
 IsWithin (Lab wish journal form) = IsRun wish × GoTogether journal form
 IsWithin _ = ⊤

@@ -22,6 +22,10 @@ number name least most = record (new_rule name) {
 abbrev pub side : Text → Rule
 side name = record (number name 1 256) { required = true }
 
+-- how many copies of a pile are added, which must be given
+abbrev pub times : Rule
+times = record (number (codes "times") 0 18446744073709551615) { required = true }
+
 -- an option with a number that is `usual` if it isn't given
 abbrev pub setting : Text → ℕ → ℕ → Text → Rule
 setting name least most usual = record (number name least most) { defaults = usual ∷ [] }
@@ -37,8 +41,8 @@ settle_line = fold with_rule (bare_line (codes "settle")) (flag (codes "pile") �
 -- `drops`, with the numbers of a draw
 abbrev pub drops_line : App
 drops_line = fold with_rule (bare_line (codes "drops")) (
-    number (codes "count") 0 10000000 ∷ number (codes "seed") 0 4294967295 ∷ number (codes "stream") 0 4294967295
-    ∷ flag (codes "pile") ∷ []
+    number (codes "count") 0 4294967295 ∷ number (codes "seed") 0 4294967295 ∷ number (codes "stream") 0 4294967295
+    ∷ number (codes "from") 0 4294967295 ∷ flag (codes "table") ∷ flag (codes "pile") ∷ []
     )
 
 -- a command with `--pgm` alone
@@ -49,6 +53,10 @@ pgm_line name = with_rule (bare_line name) (flag (codes "pgm"))
 abbrev pub identity_line : App
 identity_line = fold with_rule (bare_line (codes "identity"))
     (side (codes "width") ∷ side (codes "height") ∷ flag (codes "cylinder") ∷ flag (codes "pgm") ∷ [])
+
+-- `multiple`, with how many copies are added
+abbrev pub multiple_line : App
+multiple_line = fold with_rule (bare_line (codes "multiple")) (times ∷ flag (codes "pgm") ∷ [])
 
 -- `lab`, with the settings of its run
 abbrev pub lab_line : App
@@ -76,5 +84,5 @@ unfoldable pub command_line : App
 command_line = fold or_command (wanting_command (bare_line (codes "sandpile"))) (
     settle_line ∷ bare_line (codes "burn") ∷ identity_line
     ∷ drops_line ∷ pgm_line (codes "add") ∷ pgm_line (codes "inverse")
-    ∷ pgm_line (codes "recurrent") ∷ lab_line ∷ []
+    ∷ multiple_line ∷ pgm_line (codes "recurrent") ∷ lab_line ∷ []
     )

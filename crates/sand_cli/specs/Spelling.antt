@@ -7,9 +7,11 @@ use Rattle.sand_cli.specs.declared.fault.WordsFault.TheVariants.{Memory}
 use Rattle.sand_cli.specs.declared.task.Draw.{Draw}
 use Rattle.sand_cli.specs.declared.task.Form.{Form}
 use Rattle.sand_cli.specs.declared.task.Form.TheVariants as forms
+use Rattle.sand_cli.specs.declared.task.Part.{Part}
+use Rattle.sand_cli.specs.declared.task.Part.TheVariants as parts
 use Rattle.sand_plan.specs.declared.wish.Wish.{Wish}
 use Rattle.sand_cli.specs.declared.task.Task.{Task}
-use Rattle.sand_cli.specs.declared.task.Task.TheVariants.{Add, Burn, Drops, Identity, Inverse, Lab, Recurrent, Settle}
+use Rattle.sand_cli.specs.declared.task.Task.TheVariants.{Add, Burn, Drops, Identity, Inverse, Lab, Multiple, Recurrent, Settle}
 
 -- a flag, if it is wanted
 abbrev pub flag_words : Text → Bool → List Text
@@ -32,7 +34,15 @@ settings_of wish =
 -- the numbers of a draw, if there is one
 abbrev pub draw_words : Option Draw → List Text
 draw_words None = []
-draw_words (Some draw) = codes "--count" ∷ decimal draw.count ∷ codes "--seed" ∷ decimal draw.seed ∷ codes "--stream" ∷ decimal draw.stream ∷ []
+draw_words (Some draw) =
+    codes "--count" ∷ decimal draw.count ∷ codes "--seed" ∷ decimal draw.seed
+    ∷ codes "--stream" ∷ decimal draw.stream ∷ codes "--from" ∷ decimal draw.from ∷ []
+
+-- the flag of a part
+abbrev pub part_words : Part → List Text
+part_words parts.All = []
+part_words parts.Table = codes "--table" ∷ []
+part_words parts.Pile = codes "--pile" ∷ []
 
 -- what follows the program's name
 abbrev pub words_of : Task → List Text
@@ -41,9 +51,10 @@ words_of Burn = codes "burn" ∷ []
 words_of (Identity width height cylinder pgm) =
     codes "identity" ∷ codes "--width" ∷ decimal width ∷ codes "--height" ∷ decimal height
     ∷ (flag_words (codes "--cylinder") cylinder ++ flag_words (codes "--pgm") pgm)
-words_of (Drops drawn pile) = codes "drops" ∷ (draw_words drawn ++ flag_words (codes "--pile") pile)
+words_of (Drops drawn part) = codes "drops" ∷ (draw_words drawn ++ part_words part)
 words_of (Add pgm) = codes "add" ∷ flag_words (codes "--pgm") pgm
 words_of (Inverse pgm) = codes "inverse" ∷ flag_words (codes "--pgm") pgm
+words_of (Multiple times pgm) = codes "multiple" ∷ codes "--times" ∷ decimal times ∷ flag_words (codes "--pgm") pgm
 words_of (Recurrent pgm) = codes "recurrent" ∷ flag_words (codes "--pgm") pgm
 words_of (Lab wish journal form) =
     codes "lab" ∷ (settings_of wish ++ (flag_words (codes "--journal") journal ++ form_words form))

@@ -16,8 +16,11 @@ pub enum Conflict {
     /// A pile alone, and a journal.
     #[error("error: the argument '--pile' cannot be used with '--journal'\n\nFor more information, try '--help'.")]
     PileAndJournal,
-    /// A seed or a stream without a count.
-    #[error("error: the arguments '--seed' and '--stream' cannot be used without '--count'\n\nFor more information, try '--help'.")]
+    /// A pile alone, and a table alone.
+    #[error("error: the argument '--pile' cannot be used with '--table'\n\nFor more information, try '--help'.")]
+    PileAndTable,
+    /// A seed, a stream or a first place in it, without a count.
+    #[error("error: the arguments '--seed', '--stream' and '--from' cannot be used without '--count'\n\nFor more information, try '--help'.")]
     Uncounted,
 }
 

@@ -1,19 +1,33 @@
 //! The texts of help: what goes in, what comes out, the limits, and an example.
 //!
-//! The help of the program says what holds for all commands, once: how a pile is written, the limits, and the faults.
+//! The help of the program says what holds for all commands, once: how a pile is written, the limits, and the status. `-h` writes
+//! what a command does and its options, and `--help` what follows them, too.
 
 /// What help says of the program or of one command.
 #[derive(Clone, Copy)]
 pub(crate) struct Help {
     /// What it does, in one line.
     pub(crate) about: &'static str,
-    /// What follows the options.
+    /// How long help begins, if not with this line.
+    pub(crate) purpose: Option<&'static str>,
+    /// What follows the options in long help.
     pub(crate) details: &'static str,
 }
 
+/// What follows the options of the program in short help. The program itself takes `-V`, `help` and `explain`.
+pub(crate) const SHORT: &str = "\
+\x20 -V, --version  Print the version
+
+'sandpile help COMMAND' says what a command reads and writes, and 'sandpile
+explain' what each fault means and what to do about it.";
+
 pub(crate) const PROGRAM: Help = Help {
     about: "Settles piles of sand on a grid, and computes in the group of recurrent piles",
+    purpose: None,
     details: "\
+\x20 -V, --version
+          Print the version
+
 A site that holds 4 grains or more topples: it gives a grain to each neighbour,
 and grains that leave the grid are lost.
 
@@ -22,32 +36,18 @@ Input: text on standard input. A pile is numbers with white space between them:
   after the height makes it a cylinder, whose rows go round.
 
 Output: text on standard output, or with --pgm a picture (plain PGM). Nothing is
-  written before the whole text is there. A pile is written as it is read, so
-  commands can be chained: 'identity', 'add', 'inverse' and 'recurrent' write a
-  pile alone, and 'settle', 'drops' and 'lab' do so with --pile.
+  written before the whole text is there; only 'drops --count' writes while it
+  drops. A pile is written as it is read, so commands can be chained:
+  'identity', 'add', 'inverse', 'multiple' and 'recurrent' write a pile alone,
+  and 'settle', 'drops' and 'lab' do so with --pile.
 
 Limits: width and height from 1 to 256, a cylinder at least 3 wide; at most
   1,099,511,627,775 grains; at most 1,048,576 bytes of input.
 
 Faults: one line on standard error, 'fault NUMBER NAME'. There is no output, or
-  the first N bytes if the writer failed.
-
-   1 Side           width or height outside 1 to 256
-   2 Length         wrong number of heights; give width times height of them
-   3 TooManyGrains  more grains than the limit, with all drops of 'lab'
-   4 Memory         out of memory; free some, or use a smaller pile, or fewer
-                    drops of 'lab' and 'drops --count'
-   6 Full           one drop more would exceed the grain limit; drop fewer
-   7 Unstable       a height over 3; 'settle --pile' writes the settled pile
-   8 NotRecurrent   a forbidden set exists; 'burn' shows it
-   9 Shapes         two piles of different shapes
-  18 Text           not the text of a pile, at byte N, counted from 0
-  19 TooLarge       a number over the limit, at byte N, counted from 0
-  20 Read           the reader failed; look at file or pipe
-  21 Write          the writer failed after N bytes; look at file or pipe
-  22 TooLong        more input than the limit
-  24 Narrow         a cylinder of width below 3
-  25 NoSite         no such site, at drop N, counted from 0
+  the first N bytes if the writer failed. 'sandpile explain' lists all faults;
+  'sandpile explain NUMBER' says what one means and what to do about it. At a
+  terminal the line is followed by what was found in the input.
 
 Status: 0 if all went well, 1 for a fault, 2 for misuse of the command line.
 
@@ -61,12 +61,13 @@ Example: a pile 3 wide and 1 high, with 4 grains in the middle.
   lost 2
   topplings 1
 
-'sandpile COMMAND --help' says what a command reads and writes. 'sandpile
+'sandpile help COMMAND' says what a command reads and writes. 'sandpile
 --version' writes the version, and the toolchain and the logic of its proofs.",
 };
 
 pub(crate) const SETTLE: Help = Help {
     about: "Settles a pile: topples sites until each holds at most 3 grains",
+    purpose: None,
     details: "\
 Input: a pile ('sandpile --help' says how a pile is written).
 
@@ -87,6 +88,7 @@ Example:
 
 pub(crate) const BURN: Help = Help {
     about: "Tests by burning whether a pile is recurrent",
+    purpose: None,
     details: "\
 Input: a pile ('sandpile --help' says how a pile is written), with at most 3
   grains on each site.
@@ -104,6 +106,7 @@ Example:
 
 pub(crate) const IDENTITY: Help = Help {
     about: "Writes the identity of the group of recurrent piles on a grid",
+    purpose: None,
     details: "\
 Input: none is read.
 
@@ -122,19 +125,21 @@ Example:
 
 pub(crate) const DROPS: Help = Help {
     about: "Settles a pile, then drops grains on it, one after another",
+    purpose: None,
     details: "\
 Input: a pile ('sandpile --help' says how a pile is written), then the site of
   each drop, by its number: from 0, row by row. With --count the pile alone: the
-  sites are drawn from ChaCha8 stream --stream of the seed. Stream 0 is that of
-  the first dropper of 'sandpile lab'.
+  sites are drawn from ChaCha8 stream --stream of the seed, without its first
+  --from sites. Stream 0 is that of the first dropper of 'sandpile lab'.
 
-Output: a table with a line for each drop: its number, from 0, and its site; of
-  its avalanche the topplings (size), the sites that toppled (area), the
-  greatest distance of one of them from the drop (reach), and the grains that
-  left the grid (lost). Then the pile; 'lost N' and 'topplings N', with those of
-  settling it. With --pile the pile alone.
+Output: a table with a line for each drop: its number, from 0 or --from, and
+  its site; of its avalanche the topplings (size), the sites that toppled
+  (area), the greatest distance of one of them from the drop (reach), and the
+  grains that left the grid (lost). Then the pile; 'lost N' and 'topplings N',
+  with those of settling it. With --table the table alone, with --pile the pile
+  alone.
 
-Limits: at most 10,000,000 drops by --count. Drops count as grains.
+Limits: at most 4,294,967,295 drops by --count. Drops count as grains.
 
 Example:
 
@@ -152,6 +157,7 @@ Example:
 
 pub(crate) const ADD: Help = Help {
     about: "Adds two recurrent piles: site by site, and then settles",
+    purpose: None,
     details: "\
 Input: two recurrent piles of one shape, one after the other ('sandpile --help'
   says how a pile is written).
@@ -167,6 +173,7 @@ Example:
 
 pub(crate) const INVERSE: Help = Help {
     about: "Writes the inverse of a recurrent pile in the group",
+    purpose: None,
     details: "\
 Input: a recurrent pile ('sandpile --help' says how a pile is written).
 
@@ -180,8 +187,27 @@ Example:
   0 2",
 };
 
+pub(crate) const MULTIPLE: Help = Help {
+    about: "Writes the N-fold sum of a recurrent pile in the group",
+    purpose: None,
+    details: "\
+Input: a recurrent pile ('sandpile --help' says how a pile is written).
+
+Output: the recurrent pile that N copies of the input add up to: the identity if
+  N is 0, the input itself if N is 1. With --pgm a picture of it.
+
+Time: at most two additions for each binary digit of N.
+
+Example:
+
+  $ echo '2 1  3 1' | sandpile multiple --times 2
+  2 1
+  2 3",
+};
+
 pub(crate) const RECURRENT: Help = Help {
     about: "Writes the one recurrent pile that is equivalent to a pile",
+    purpose: None,
     details: "\
 Input: a pile ('sandpile --help' says how a pile is written).
 
@@ -198,6 +224,18 @@ Example:
 
 pub(crate) const LAB: Help = Help {
     about: "Drops grains on a pile by many threads at once, in epochs",
+    purpose: Some(
+        "\
+Drops grains on a pile by many threads at once, in epochs
+
+It is for three things:
+  - to burn a pile in, fast: with --pile it writes the pile alone, on which
+    'drops' then measures avalanches
+  - to follow density and loss: it writes a line for each epoch, with the grains
+    that left the grid and the grains that are on the pile
+  - to show that threads change nothing: with one seed it writes the same pile
+    and the same odometer, whatever the threads do meanwhile",
+    ),
     details: "\
 Input: a pile ('sandpile --help' says how a pile is written).
 

@@ -8,4 +8,4 @@ mod options;
 mod task;
 
 pub use fault::{Conflict, WordsFault};
-pub use task::{Draw, Form, Task, task_of};
+pub use task::{Draw, Form, Part, Task, task_of};

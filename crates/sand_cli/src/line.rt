@@ -4,7 +4,7 @@ ghost use Rattle.std.specs.Prelude.{◌≡◌, IfOk, Ok, codes, false};
 ghost use Rattle.clap.specs.Words.{AddsArg, AddsSubcommand, app_of, rule_of};
 ghost use Rattle.clap.specs.declared.builder.command.Command.{Command};
 ghost use Rattle.clap.specs.declared.builder.command.Command.TheViews.{out-Command};
-ghost use Rattle.sand_cli.specs.Line.{bare_line, command_line, drops_line, flag, identity_line, lab_line, number, pgm_line, setting, settle_line, side};
+ghost use Rattle.sand_cli.specs.Line.{bare_line, command_line, drops_line, flag, identity_line, lab_line, multiple_line, number, pgm_line, setting, settle_line, side, times};
 
 use crate::help::{self, Help};
 use clap::builder::ValueParser;
@@ -37,12 +37,35 @@ fn number<'a>(alloc: Global, name: &'a str, least: u64, most: u64, about: &'stat
         .help(about)
 }
 
+// An option with a whole number of 32 bits.
+fn word<'a>(alloc: Global, name: &'a str, about: &'static str) -> Arg<'a>
+    ensures rule { rule_of result ≡ number name.entry.now 0 4294967295 }
+    ensures local { result.global ≡ false }
+{
+    number(alloc, name, 0, 4294967295, about)
+}
+
 // A side of a grid, which must be given.
 fn side<'a>(alloc: Global, name: &'a str, about: &'static str) -> Arg<'a>
     ensures rule { rule_of result ≡ side name.entry.now }
     ensures local { result.global ≡ false }
 {
     number(alloc, name, 1, 256, about).required(true)
+}
+
+// How many copies of a pile are added, which must be given.
+fn times<'a>(alloc: Global) -> Arg<'a>
+    ensures rule { rule_of result ≡ times }
+    ensures local { result.global ≡ false }
+{
+    number(
+        alloc,
+        "times",
+        0,
+        u64::MAX,
+        "N, the number of copies, up to 18446744073709551615",
+    )
+    .required(true)
 }
 
 // An option with a number that is `usual` if it isn't given.
@@ -80,7 +103,15 @@ fn bare_line<'a>(alloc: Global, name: &'a str, help: Help) -> Command<'a>
 {
     Command::new(alloc, name)
         .about(help.about)
-        .after_help(help.details)
+        .long_about(help.purpose.unwrap_or(help.about))
+        .after_long_help(help.details)
+}
+
+// The program itself, without its commands.
+fn program_line<'a>(alloc: Global) -> Command<'a>
+    ensures { app_of result ≡ bare_line (codes "sandpile") }
+{
+    bare_line(alloc, "sandpile", help::PROGRAM).after_help(help::SHORT)
 }
 
 // A command with one option more, if there is a command. It takes a result, since in a chain of `?` each value that lives on is
@@ -114,31 +145,21 @@ fn drops_line<'a>(alloc: Global) -> Result<Command<'a>, AllocError>
     ensures line { IfOk result (λ c. app_of c ≡ drops_line) }
     ensures local { IfOk result (λ c. (out-Command c).has_globals ≡ false) }
 {
-    let count = number(
+    let count = word(alloc, "count", "Drops at random, up to 4294967295");
+    let seed = word(alloc, "seed", "Seed, up to 4294967295 [default: 0]");
+    let stream = word(alloc, "stream", "Stream of the seed [default: 0]");
+    let from = word(
         alloc,
-        "count",
-        0,
-        10000000,
-        "Drops at random, up to 10000000",
+        "from",
+        "Sites of the stream to leave out [default: 0]",
     );
-    let seed = number(
-        alloc,
-        "seed",
-        0,
-        4294967295,
-        "Seed, up to 4294967295 [default: 0]",
-    );
-    let stream = number(
-        alloc,
-        "stream",
-        0,
-        4294967295,
-        "Stream of the seed [default: 0]",
-    );
+    let table = flag(alloc, "table", "Write the table alone");
     let line = Ok(bare_line(alloc, "drops", help::DROPS));
     let line = with_option(line, count);
     let line = with_option(line, seed);
     let line = with_option(line, stream);
+    let line = with_option(line, from);
+    let line = with_option(line, table);
     with_option(line, pile(alloc))
 }
 
@@ -153,6 +174,15 @@ fn identity_line<'a>(alloc: Global) -> Result<Command<'a>, AllocError>
     let line = with_option(line, width);
     let line = with_option(line, height);
     let line = with_option(line, cylinder);
+    with_option(line, pgm(alloc))
+}
+
+fn multiple_line<'a>(alloc: Global) -> Result<Command<'a>, AllocError>
+    ensures line { IfOk result (λ c. app_of c ≡ multiple_line) }
+    ensures local { IfOk result (λ c. (out-Command c).has_globals ≡ false) }
+{
+    let line = Ok(bare_line(alloc, "multiple", help::MULTIPLE));
+    let line = with_option(line, times(alloc));
     with_option(line, pgm(alloc))
 }
 
@@ -196,7 +226,7 @@ fn with_command<'a>(
 pub(crate) fn command_line<'a>(alloc: Global) -> Result<Command<'a>, AllocError>
     ensures { IfOk result (λ c. app_of c ≡ command_line) }
 {
-    let top = bare_line(alloc, "sandpile", help::PROGRAM)
+    let top = program_line(alloc)
         .subcommand_required(true)
         .disable_help_subcommand(true);
     let line = with_command(Ok(top), settle_line(alloc));
@@ -205,6 +235,7 @@ pub(crate) fn command_line<'a>(alloc: Global) -> Result<Command<'a>, AllocError>
     let line = with_command(line, drops_line(alloc));
     let line = with_command(line, pgm_line(alloc, "add", help::ADD));
     let line = with_command(line, pgm_line(alloc, "inverse", help::INVERSE));
+    let line = with_command(line, multiple_line(alloc));
     let line = with_command(line, pgm_line(alloc, "recurrent", help::RECURRENT));
     with_command(line, lab_line(alloc))
 }

@@ -2,7 +2,7 @@
 
 ghost use Rattle.std.specs.Prelude.{◌≡◌, ◌↔◌, IfErr, IfOk, Some, None, map, option_and_then, string_bytes};
 ghost use Rattle.clap.specs.Words.{found_of, rows_of, subcommand_rows_of};
-ghost use Rattle.sand_cli.specs.Asked.{AskForHelp, IsWithin, asked, conflict_among, conflict_of, draw_of, faults, form_in, identity_of, lacks_count, pile_and, task_named, wish_of};
+ghost use Rattle.sand_cli.specs.Asked.{AskForHelp, IsWithin, asked, conflict_among, conflict_of, draw_of, faults, form_in, identity_of, lacks_count, part_in, pile_and, task_named, wish_of};
 ghost use Rattle.sand_cli.specs.Spelling.{Heeds};
 ghost use Rattle.sand_cli.specs.Fault.{IsOfKinds, IsUsage, ShowsHelp, TellsConflict};
 
@@ -16,12 +16,25 @@ use std::alloc::Global;
 /// Drops at the sites of a stream.
 #[derive(Clone, Copy, Debug, PartialEq, Eq)]
 pub struct Draw {
-    /// How many, at most 10,000,000.
+    /// How many, at most 4,294,967,295.
     pub count: u32,
     /// The seed, at most 4,294,967,295.
     pub seed: u64,
     /// The number of the stream, at most 4,294,967,295.
     pub stream: u64,
+    /// How many sites of the stream are left out before the first, at most 4,294,967,295.
+    pub from: u64,
+}
+
+/// Which part of what drops leave is written.
+#[derive(Clone, Copy, Debug, PartialEq, Eq)]
+pub enum Part {
+    /// The table of the drops, the pile and the sums.
+    All,
+    /// The table alone.
+    Table,
+    /// The pile alone.
+    Pile,
 }
 
 /// In which form a pile is written.
@@ -54,7 +67,7 @@ pub enum Task {
     /// Drops grains on a pile, one after another: at the sites that are drawn, or at those of the input.
     Drops {
         drawn: Option<Draw>,
-        pile: bool,
+        part: Part,
     },
     /// Adds two recurrent piles.
     Add {
@@ -62,6 +75,11 @@ pub enum Task {
     },
     /// Writes the inverse of a recurrent pile.
     Inverse {
+        pgm: bool,
+    },
+    /// Writes the sum of `times` copies of a recurrent pile.
+    Multiple {
+        times: u64,
         pgm: bool,
     },
     /// Writes the recurrent pile that is equivalent to a pile.
@@ -120,11 +138,25 @@ fn draw_of(options: &ArgMatches<'_>) -> Option<Draw>
 {
     let seed = setting_in(options, "seed").unwrap_or(0);
     let stream = setting_in(options, "stream").unwrap_or(0);
+    let from = setting_in(options, "from").unwrap_or(0);
     Some(Draw {
         count: setting_in(options, "count")?,
         seed: u64::from(seed),
         stream: u64::from(stream),
+        from: u64::from(from),
     })
+}
+
+fn part_in(options: &ArgMatches<'_>) -> Part
+    ensures { result ≡ part_in (rows_of (found_of options.now)) }
+{
+    if flag_in(options, "pile") {
+        Part::Pile
+    } else if flag_in(options, "table") {
+        Part::Table
+    } else {
+        Part::All
+    }
 }
 
 fn task_named(name: &str, options: &ArgMatches<'_>) -> Option<Task>
@@ -139,10 +171,14 @@ fn task_named(name: &str, options: &ArgMatches<'_>) -> Option<Task>
         "identity" => identity_of(options),
         "drops" => Some(Task::Drops {
             drawn: draw_of(options),
-            pile: flag_in(options, "pile"),
+            part: part_in(options),
         }),
         "add" => Some(Task::Add { pgm }),
         "inverse" => Some(Task::Inverse { pgm }),
+        "multiple" => Some(Task::Multiple {
+            times: number_in(options, "times")? as u64,
+            pgm,
+        }),
         "recurrent" => Some(Task::Recurrent { pgm }),
         "lab" => Some(Task::Lab {
             wish: wish_of(options)?,
@@ -160,11 +196,13 @@ fn pile_and(other: &str, options: &ArgMatches<'_>) -> bool
     flag_in(options, "pile") & flag_in(options, other)
 }
 
-// Whether drops have a seed or a stream, and no count.
+// Whether drops have a seed, a stream or a first place in it, and no count.
 fn lacks_count(name: &str, options: &ArgMatches<'_>) -> bool
     ensures { result ≡ lacks_count name.now (rows_of (found_of options.now)) }
 {
-    let drawn = setting_in(options, "seed").is_some() | setting_in(options, "stream").is_some();
+    let drawn = setting_in(options, "seed").is_some()
+        | setting_in(options, "stream").is_some()
+        | setting_in(options, "from").is_some();
     let uncounted = !setting_in(options, "count").is_some() & drawn;
     matches!(name, "drops") & uncounted
 }
@@ -176,6 +214,8 @@ fn conflict_of(name: &str, options: &ArgMatches<'_>) -> Option<Conflict>
         Some(Conflict::PileAndPicture)
     } else if pile_and("journal", options) {
         Some(Conflict::PileAndJournal)
+    } else if pile_and("table", options) {
+        Some(Conflict::PileAndTable)
     } else if lacks_count(name, options) {
         Some(Conflict::Uncounted)
     } else {

@@ -1,11 +1,8 @@
 -- The faults of drops that are drawn: the pile can't be read, or there is no room for all of them.
-use Rattle.std.proofs.Common.{◌≡◌, ◌+◌, ◌<◌, ℕ, List, [], refl, sym, ap, subst, arith, length, sum}
+use Rattle.std.proofs.Common.{◌≡◌, ◌+◌, ◌<◌, ℕ, List, refl, sym, ap, subst, arith, length, sum}
 use Rattle.std.specs.Prelude.{Some, Ok, Err}
 use Rattle.sand_model.specs.Grid.{sites}
 use Rattle.sand_model.specs.Piles.{PileView, most_grains}
-use Rattle.sand_settle.specs.Drops.{OneView, IsAfter}
-use Rattle.sand_lab.specs.Streams.{stream_sites}
-use Rattle.sand_lab.proofs.TallyOfStreams.{length-stream_sites}
 use Rattle.sand_text.specs.declared.fault.TextFault.{TextFault}
 use Rattle.sand_text.specs.declared.fault.TextFault.TheVariants as text
 use Rattle.sand_text.specs.Reading.{pile_of, ◌>>=◌}
@@ -13,9 +10,10 @@ use Rattle.sand_cli.specs.declared.task.Draw.{Draw}
 use Rattle.sand_desk.specs.declared.faults.DeskFault.{DeskFault}
 use Rattle.sand_desk.specs.declared.faults.DeskFault.TheVariants as desk
 use Rattle.sand_desk.specs.Answers.{Fails}
-use Rattle.sand_desk.specs.Commands.{Finds, IsDropFault, IsDropsFault}
-use Rattle.sand_desk.specs.Dropping.{with_draw}
+use Rattle.sand_desk.specs.Commands.{Finds, IsDropsFault}
+use Rattle.sand_desk.specs.Dropping.{IsOverfull, drawn_sites, with_draw}
 use Rattle.sand_desk.specs.Faults.{of_text}
+use Rattle.sand_desk.proofs.DrawnSites.{length-drawn}
 
 -- a text that holds no pile has none to draw on
 read_fault : (draw : Draw) (input : List ℕ) (why : TextFault) → pile_of input ≡ Err why → Finds (IsDropsFault (Some draw) input) (of_text why)
@@ -50,29 +48,9 @@ unread draw input (desk.Clash conflict) (why, e, is) = by_why draw input (desk.C
 unread draw input desk.Narrow (why, e, is) = by_why draw input desk.Narrow why e is
 unread draw input (desk.NoSite index) (why, e, is) = by_why draw input (desk.NoSite index) why e is
 
--- a drop that is refused has more grains with all that are drawn than the limit
-pub overfull : (draw : Draw) (input : List ℕ) (start : PileView) (first : OneView) (fault : DeskFault) → pile_of input ≡ Ok start → IsAfter start [] first
-    → IsDropFault (first.grains + draw.count) fault → Finds (IsDropsFault (Some draw) input) fault
-overfull draw input start first desk.Memory read after h = tt
-overfull draw input start first desk.Full read after h =
-    let drawn = stream_sites (sites start.grid) draw.seed draw.stream draw.count in
-    let long : length drawn ≡ draw.count = length-stream_sites (sites start.grid) draw.seed draw.stream draw.count in
-    let grains : first.grains ≡ sum start.heights + 0 = after.grains in
-    let over : most_grains < sum start.heights + length drawn = omega (arith, h, grains, long) in
-    record { pile = start; sites = drawn; read = ap (λ r. r >>= with_draw draw) read; over = over }
-overfull draw input start first desk.Side read after h = absurd h
-overfull draw input start first desk.Length read after h = absurd h
-overfull draw input start first desk.TooManyGrains read after h = absurd h
-overfull draw input start first desk.Unstable read after h = absurd h
-overfull draw input start first desk.NotRecurrent read after h = absurd h
-overfull draw input start first desk.Shapes read after h = absurd h
-overfull draw input start first desk.Taken read after h = absurd h
-overfull draw input start first (desk.Text place) read after h = absurd h
-overfull draw input start first (desk.TooLarge place) read after h = absurd h
-overfull draw input start first desk.Read read after h = absurd h
-overfull draw input start first (desk.Write sent) read after h = absurd h
-overfull draw input start first desk.TooLong read after h = absurd h
-overfull draw input start first (desk.Usage error) read after h = absurd h
-overfull draw input start first (desk.Clash conflict) read after h = absurd h
-overfull draw input start first desk.Narrow read after h = absurd h
-overfull draw input start first (desk.NoSite index) read after h = absurd h
+-- with more grains and drops than the limit there is no room for all that are drawn
+pub overfull : (draw : Draw) (input : List ℕ) (start : PileView) → pile_of input ≡ Ok start → most_grains < sum start.heights + draw.count → IsOverfull (Some draw) input
+overfull draw input start read over =
+    let drawn = drawn_sites (sites start.grid) draw in
+    let long : length drawn ≡ draw.count = length-drawn (sites start.grid) draw.seed draw.stream draw.from draw.count (draw.from + draw.count) refl in
+    record { pile = start; sites = drawn; read = ap (λ r. r >>= with_draw draw) read; over = omega (arith, over, long) }

@@ -1,16 +1,17 @@
 -- How a command ends, from how its reading, its work or its writing ended.
-use Rattle.std.proofs.Common.{◌≡◌, ◌+◌, ◌≤◌, ℕ, Bool, List, true, false, length, take, refl, sym, ap, subst, ◌∙◌, arith, true≢false}
+use Rattle.std.proofs.Common.{◌≡◌, ◌+◌, ◌≤◌, ℕ, Bool, List, true, false, length, take, refl, sym, ap, subst, ◌∙◌, arith, true≢false, inl, inr, ⊎_elim}
 use Rattle.std.proofs.Math.Seq.{drop-length}
 use Rattle.std.specs.Prelude.{Option, Some, None}
 use Rattle.std.specs.Io.KnownBytes.{Appends, Keeps}
 use Rattle.sand_text.specs.declared.fault.StreamFault.{StreamFault}
 use Rattle.sand_text.specs.declared.fault.StreamFault.TheVariants as stream
 use Rattle.sand_text.specs.Flow.{GivesAll, IsFurther, IsFurtherByAtMost, IsOfReading, most_bytes}
+use Rattle.clap.specs.Words.{Text}
 use Rattle.sand_cli.specs.declared.task.Task.{Task}
 use Rattle.sand_desk.specs.declared.faults.DeskFault.{DeskFault}
 use Rattle.sand_desk.specs.declared.faults.DeskFault.TheVariants as desk
 use Rattle.sand_desk.specs.Faults.{of_stream}
-use Rattle.sand_desk.specs.Commands.{reads_input, asks_for_input, IsTextOf, IsFaultOf, Finds, Takes, IsRead, IsFaulty, IsStarved, EndsBy}
+use Rattle.sand_desk.specs.Commands.{reads_input, asks_for_input, IsTextOf, IsFaultOf, Finds, Takes, IsRead, IsFaulty, IsStarved, IsBrokenOff, IsRefused, WorkEnds, EndsBy, HelpsIfAsked, TellsWords}
 
 keeps : (held : Option (List ℕ)) → Keeps held held
 keeps None = tt
@@ -49,11 +50,11 @@ starved_reading asked left left' held task e reads further =
     }
 
 -- memory ran out after the input was read
-starved_working : (asked : Option Task) (left left' held : Option (List ℕ)) (task : Task) (input : List ℕ) → IsRead asked left left' task input → IsStarved asked left left' held held
-starved_working asked left left' held task input read = record {
+starved_working : (asked : Option Task) (left left' held held' : Option (List ℕ)) (task : Task) (input : List ℕ) → IsRead asked left left' task input → Keeps held held' → IsStarved asked left left' held held'
+starved_working asked left left' held held' task input read kept = record {
   further = taken (reads_input task) left left' input read.all read.within;
   unread = λ none. unread (reads_input task) left left' input read.all (sym (ap asks_for_input read.is_asked) ∙ none);
-  unwritten = keeps held;
+  unwritten = kept;
 }
 
 -- the reading failed
@@ -77,48 +78,101 @@ reading_ends asked left left' held task stream.TooLong e reads kind flooded stop
 }
 reading_ends asked left left' held task (stream.Write sent) e reads kind flooded stopped = absurd kind
 
-faulty : (asked : Option Task) (left left' held : Option (List ℕ)) (task : Task) (input : List ℕ) (fault : DeskFault) → IsRead asked left left' task input → IsFaultOf task input fault → IsFaulty asked left left' held held fault
-faulty asked left left' held task input fault read found = record {
+faulty : (asked : Option Task) (left left' held held' : Option (List ℕ)) (task : Task) (input : List ℕ) (fault : DeskFault) → IsRead asked left left' task input → IsFaultOf task input fault → Keeps held held' → IsFaulty asked left left' held held' fault
+faulty asked left left' held held' task input fault read found kept = record {
   task = task;
   input = input;
   read = read;
   found = found;
-  unwritten = keeps held;
+  unwritten = kept;
 }
 
--- the task found a fault in its input, or memory ran out
-pub work_ends : (asked : Option Task) (left left' held : Option (List ℕ)) (task : Task) (input : List ℕ) (fault : DeskFault) → IsRead asked left left' task input → Finds (IsFaultOf task input) fault → EndsBy asked left left' held held fault
-work_ends asked left left' held task input desk.Memory read found = starved_working asked left left' held task input read
-work_ends asked left left' held task input (desk.Usage error) read found = absurd found
-work_ends asked left left' held task input (desk.Clash conflict) read found = absurd found
-work_ends asked left left' held task input desk.Read read found = absurd found
-work_ends asked left left' held task input desk.TooLong read found = absurd found
-work_ends asked left left' held task input (desk.Write sent) read found = absurd found
-work_ends asked left left' held task input desk.Side read found = faulty asked left left' held task input desk.Side read found
-work_ends asked left left' held task input desk.Length read found = faulty asked left left' held task input desk.Length read found
-work_ends asked left left' held task input desk.TooManyGrains read found = faulty asked left left' held task input desk.TooManyGrains read found
-work_ends asked left left' held task input (desk.Text place) read found = faulty asked left left' held task input (desk.Text place) read found
-work_ends asked left left' held task input (desk.TooLarge place) read found = faulty asked left left' held task input (desk.TooLarge place) read found
-work_ends asked left left' held task input desk.Narrow read found = faulty asked left left' held task input desk.Narrow read found
-work_ends asked left left' held task input desk.Full read found = faulty asked left left' held task input desk.Full read found
-work_ends asked left left' held task input desk.Unstable read found = faulty asked left left' held task input desk.Unstable read found
-work_ends asked left left' held task input desk.NotRecurrent read found = faulty asked left left' held task input desk.NotRecurrent read found
-work_ends asked left left' held task input desk.Shapes read found = faulty asked left left' held task input desk.Shapes read found
-work_ends asked left left' held task input desk.Taken read found = faulty asked left left' held task input desk.Taken read found
-work_ends asked left left' held task input (desk.NoSite index) read found = faulty asked left left' held task input (desk.NoSite index) read found
+-- the task found a fault in its input, or memory ran out, and nothing was written
+refused : (asked : Option Task) (left left' held held' : Option (List ℕ)) (task : Task) (input : List ℕ) (fault : DeskFault) → IsRead asked left left' task input → Finds (IsFaultOf task input) fault → Keeps held held' → EndsBy asked left left' held held' fault
+refused asked left left' held held' task input desk.Memory read found kept = starved_working asked left left' held held' task input read kept
+refused asked left left' held held' task input (desk.Usage error) read found kept = absurd found
+refused asked left left' held held' task input (desk.Clash conflict) read found kept = absurd found
+refused asked left left' held held' task input desk.Read read found kept = absurd found
+refused asked left left' held held' task input desk.TooLong read found kept = absurd found
+refused asked left left' held held' task input (desk.Write sent) read found kept = absurd found
+refused asked left left' held held' task input desk.Side read found kept = faulty asked left left' held held' task input desk.Side read found kept
+refused asked left left' held held' task input desk.Length read found kept = faulty asked left left' held held' task input desk.Length read found kept
+refused asked left left' held held' task input desk.TooManyGrains read found kept = faulty asked left left' held held' task input desk.TooManyGrains read found kept
+refused asked left left' held held' task input (desk.Text place) read found kept = faulty asked left left' held held' task input (desk.Text place) read found kept
+refused asked left left' held held' task input (desk.TooLarge place) read found kept = faulty asked left left' held held' task input (desk.TooLarge place) read found kept
+refused asked left left' held held' task input desk.Narrow read found kept = faulty asked left left' held held' task input desk.Narrow read found kept
+refused asked left left' held held' task input desk.Full read found kept = faulty asked left left' held held' task input desk.Full read found kept
+refused asked left left' held held' task input desk.Unstable read found kept = faulty asked left left' held held' task input desk.Unstable read found kept
+refused asked left left' held held' task input desk.NotRecurrent read found kept = faulty asked left left' held held' task input desk.NotRecurrent read found kept
+refused asked left left' held held' task input desk.Shapes read found kept = faulty asked left left' held held' task input desk.Shapes read found kept
+refused asked left left' held held' task input desk.Taken read found kept = faulty asked left left' held held' task input desk.Taken read found kept
+refused asked left left' held held' task input (desk.NoSite index) read found kept = faulty asked left left' held held' task input (desk.NoSite index) read found kept
 
 -- the writer failed
-pub writing_ends : (asked : Option Task) (left left' held held' : Option (List ℕ)) (task : Task) (input text : List ℕ) (f : StreamFault) → IsRead asked left left' task input → IsTextOf task input text
-    → ((sent : ℕ) × (f ≡ stream.Write sent) × (sent ≤ length text) × Appends held held' (take sent text)) → EndsBy asked left left' held held' (of_stream f)
-writing_ends asked left left' held held' task input text f read answer cut =
-    let ends : EndsBy asked left left' held held' (desk.Write cut.0) = record {
+cut_short : (asked : Option Task) (left left' held held' : Option (List ℕ)) (task : Task) (input : List ℕ) (fault : DeskFault) → IsRead asked left left' task input → IsBrokenOff (IsTextOf task input) held held' fault → EndsBy asked left left' held held' fault
+cut_short asked left left' held held' task input fault read broken =
+    let ends : EndsBy asked left left' held held' (desk.Write broken.sent) = record {
       task = task;
       input = input;
-      text = text;
+      text = broken.text;
       read = read;
-      answer = answer;
-      within = cut.2;
-      written = cut.3;
+      answer = broken.answer;
+      within = broken.within;
+      written = broken.written;
     } in
-    let P : StreamFault → Type 0 = λ s. EndsBy asked left left' held held' (of_stream s) in
-    subst P (sym cut.1) ends
+    subst (EndsBy asked left left' held held') (sym broken.told) ends
+
+-- the work failed
+pub work_ends : (asked : Option Task) (left left' held held' : Option (List ℕ)) (task : Task) (input : List ℕ) (fault : DeskFault) → IsRead asked left left' task input → WorkEnds (IsTextOf task input) (IsFaultOf task input) held held' fault
+    → EndsBy asked left left' held held' fault
+work_ends asked left left' held held' task input fault read ends =
+    ⊎_elim
+    (λ (broken : IsBrokenOff (IsTextOf task input) held held' fault). cut_short asked left left' held held' task input fault read broken)
+    (λ (no : IsRefused (IsFaultOf task input) held held' fault). refused asked left left' held held' task input fault read no.found no.unwritten)
+    ends
+
+-- a fault that is found was found before anything was written
+pub found_first : (IsText : List ℕ → Type 0) (IsFault : DeskFault → Type 0) (held : Option (List ℕ)) (fault : DeskFault) → Finds IsFault fault → WorkEnds IsText IsFault held held fault
+found_first IsText IsFault held fault found = inr (record { found = found; unwritten = keeps held })
+
+-- the writer failed in a whole text
+pub text_broke : (IsText : List ℕ → Type 0) (IsFault : DeskFault → Type 0) (held held' : Option (List ℕ)) (text : List ℕ) (f : StreamFault) → IsText text
+    → ((sent : ℕ) × (f ≡ stream.Write sent) × (sent ≤ length text) × Appends held held' (take sent text)) → WorkEnds IsText IsFault held held' (of_stream f)
+text_broke IsText IsFault held held' text f answer cut = inl (record {
+  sent = cut.0;
+  told = ap of_stream cut.1;
+  text = text;
+  answer = answer;
+  within = cut.2;
+  written = cut.3;
+})
+
+-- a fault of the work is none of the words
+found_no_help : (words : List Text) (IsFault : DeskFault → Type 0) (fault : DeskFault) → Finds IsFault fault → HelpsIfAsked words fault × TellsWords words fault
+found_no_help words IsFault desk.Memory found = (tt, tt)
+found_no_help words IsFault desk.Read found = (tt, tt)
+found_no_help words IsFault desk.TooLong found = (tt, tt)
+found_no_help words IsFault (desk.Write sent) found = (tt, tt)
+found_no_help words IsFault desk.Side found = (tt, tt)
+found_no_help words IsFault desk.Length found = (tt, tt)
+found_no_help words IsFault desk.TooManyGrains found = (tt, tt)
+found_no_help words IsFault (desk.Text place) found = (tt, tt)
+found_no_help words IsFault (desk.TooLarge place) found = (tt, tt)
+found_no_help words IsFault desk.Narrow found = (tt, tt)
+found_no_help words IsFault desk.Full found = (tt, tt)
+found_no_help words IsFault desk.Unstable found = (tt, tt)
+found_no_help words IsFault desk.NotRecurrent found = (tt, tt)
+found_no_help words IsFault desk.Shapes found = (tt, tt)
+found_no_help words IsFault desk.Taken found = (tt, tt)
+found_no_help words IsFault (desk.NoSite index) found = (tt, tt)
+found_no_help words IsFault (desk.Usage error) found = absurd found
+found_no_help words IsFault (desk.Clash conflict) found = absurd found
+
+pub work_no_help : (words : List Text) (IsText : List ℕ → Type 0) (IsFault : DeskFault → Type 0) (held held' : Option (List ℕ)) (fault : DeskFault) → WorkEnds IsText IsFault held held' fault → HelpsIfAsked words fault × TellsWords words fault
+work_no_help words IsText IsFault held held' fault ends =
+    ⊎_elim
+    (λ (broken : IsBrokenOff IsText held held' fault).
+    let P : DeskFault → Type 0 = λ e. HelpsIfAsked words e × TellsWords words e in
+    subst P (sym broken.told) (tt, tt))
+    (λ (no : IsRefused IsFault held held' fault). found_no_help words IsFault fault no.found)
+    ends

@@ -1,8 +1,13 @@
 pub mod Endings
 pub mod Rows
+pub mod DropsExist
+pub mod DrawnSites
+pub mod Streaming
+pub mod DrawnText
 pub mod DropSites
 pub mod Drawing
 pub mod Unfit
 pub mod OneText
 pub mod OneDropper
 pub mod OneNumber
+pub mod RunsInParts

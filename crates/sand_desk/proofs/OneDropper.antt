@@ -1,5 +1,5 @@
 -- The drops of a draw and those of one dropper are tallied alike, so they leave one settled record.
-use Rattle.std.proofs.Common.{◌≡◌, ◌+◌, ℕ, true, List, [], ◌∷◌, length, refl, sym, ap, ◌∙◌, subst, arith}
+use Rattle.std.proofs.Common.{◌≡◌, ◌+◌, ℕ, List, [], ◌∷◌, drop, length, refl, sym, ap, ◌∙◌, subst, arith}
 use Rattle.std.specs.Prelude.{Result, Ok, Err}
 use Rattle.sand_model.specs.Grid.{sites}
 use Rattle.sand_model.specs.Piles.{PileView}
@@ -16,12 +16,13 @@ use Rattle.sand_text.specs.declared.fault.TextFault.{TextFault}
 use Rattle.sand_text.specs.Reading.{◌>>=◌}
 use Rattle.sand_text.specs.Texts.{text_of}
 use Rattle.sand_cli.specs.declared.task.Draw.{Draw}
+use Rattle.sand_cli.specs.declared.task.Part.TheVariants as parts
 use Rattle.sand_desk.specs.Drawing.{DropsTheDraw, LeavesTheSame, WritesTheSamePile}
-use Rattle.sand_desk.specs.Dropping.{with_draw}
+use Rattle.sand_desk.specs.Dropping.{drawn_sites, with_draw}
 
 -- the sites of a draw on a pile
 abbrev drawn_on : Draw → PileView → List ℕ
-drawn_on draw start = stream_sites (sites start.grid) draw.seed draw.stream draw.count
+drawn_on draw start = drawn_sites (sites start.grid) draw
 
 -- one dropper drops on each site in one epoch as often as the draw
 epoch_of_draw : (draw : Draw) (w : Wish) → DropsTheDraw draw w → (start : PileView) (i : ℕ)
@@ -31,7 +32,9 @@ epoch_of_draw draw w asks start i =
     let each : ℕ → ℕ = λ k. tally (stream_sites (sites start.grid) w.seed (stream_of 0 k) w.drops) i in
     let one : sum_below w.droppers each ≡ sum_below 1 each = ap (λ n. sum_below n each) asks.droppers in
     let alone : sum_below 1 each ≡ 0 + each 0 = refl in
-    let first : each 0 ≡ tally (drawn_on draw start) i = λ k. tally (stream_sites (sites start.grid) (asks.seed k) (sym asks.stream k) (asks.drops k)) i in
+    let none : 0 ≡ draw.from = sym asks.from in
+    let count : w.drops ≡ draw.from + draw.count = omega (arith, asks.drops, asks.from) in
+    let first : each 0 ≡ tally (drawn_on draw start) i = λ k. tally (drop (none k) (stream_sites (sites start.grid) (asks.seed k) (sym asks.stream k) (count k))) i in
     omega (arith, one, alone, first)
 
 -- so the run does
@@ -71,7 +74,7 @@ read_or x (Err e) = x
 
 pub leaves_the_same : LeavesTheSame
 unfolding read_or
-leaves_the_same draw w alone journal form input one other asks drops run =
+leaves_the_same draw w part journal form input one other asks drops run =
     let start = run.start in
     let reads : ◌≡◌ {A = Result (PileView × List ℕ) TextFault} (Ok (start, drawn_on draw start)) (Ok (drops.pile, drops.sites)) =
     sym (ap (λ r. r >>= with_draw draw) run.read) ∙ drops.read in
@@ -82,4 +85,4 @@ leaves_the_same draw w alone journal form input one other asks drops run =
 
 pub writes_the_same_pile : WritesTheSamePile
 writes_the_same_pile draw w journal input one other asks drops run =
-    drops.written ∙ ap (λ (r : SettledView). text_of r.pile) (leaves_the_same draw w true journal _ input one other asks drops run) ∙ sym run.written
+    drops.written ∙ ap (λ (r : SettledView). text_of r.pile) (leaves_the_same draw w parts.Pile journal _ input one other asks drops run) ∙ sym run.written

@@ -17,7 +17,7 @@ use Rattle.sand_desk.specs.declared.faults.DeskFault.{DeskFault}
 use Rattle.sand_desk.specs.declared.faults.DeskFault.TheVariants as desk
 use Rattle.sand_desk.specs.Dropping.{IsDropsText, IsOverfull, drops_for}
 use Rattle.sand_desk.specs.Faults.{of_shape, of_text}
-use Rattle.sand_desk.specs.Group.{edge_of, IsBurnText, IsIdentityText, IsSumText, IsInverseText, IsRecurrentText, IsUnstable, IsUnfitPile, IsUnfitPair, IsMismatch}
+use Rattle.sand_desk.specs.Group.{edge_of, IsBurnText, IsIdentityText, IsSumText, IsInverseText, IsMultipleText, IsRecurrentText, IsUnstable, IsUnfitPile, IsUnfitPair, IsMismatch}
 use Rattle.sand_desk.specs.Laboratory.{IsLabText, IsOvergrown, IsRunnable}
 use Rattle.sand_desk.specs.Settling.{IsSettleText}
 use Rattle.sand_model.specs.Piles.{most_grains}
@@ -26,6 +26,11 @@ use Rattle.sand_model.specs.Piles.{most_grains}
 abbrev pub reads_input : Task → Bool
 reads_input (task.Identity width height cylinder pgm) = false
 reads_input _ = true
+
+-- whether a task writes its text when the whole of it is there; drops at random are written while they are made
+abbrev pub writes_whole : Task → Bool
+writes_whole (task.Drops (Some draw) part) = false
+writes_whole _ = true
 
 -- whether the words ask for a task that reads an input
 abbrev pub asks_for_input : Option Task → Bool
@@ -37,9 +42,10 @@ abbrev pub IsTextOf : Task → List ℕ → List ℕ → Type 0
 IsTextOf (task.Settle form) input text = IsSettleText form input text
 IsTextOf task.Burn input text = IsBurnText input text
 IsTextOf (task.Identity width height cylinder pgm) input text = IsIdentityText width height cylinder pgm text
-IsTextOf (task.Drops drawn pile) input text = IsDropsText drawn pile input text
+IsTextOf (task.Drops drawn part) input text = IsDropsText drawn part input text
 IsTextOf (task.Add pgm) input text = IsSumText pgm input text
 IsTextOf (task.Inverse pgm) input text = IsInverseText pgm input text
+IsTextOf (task.Multiple times pgm) input text = IsMultipleText times pgm input text
 IsTextOf (task.Recurrent pgm) input text = IsRecurrentText pgm input text
 IsTextOf (task.Lab wish journal form) input text = IsLabText wish journal form input text
 
@@ -77,11 +83,11 @@ IsSumFault input desk.NotRecurrent = IsUnfitPair input desk.NotRecurrent
 IsSumFault input desk.Shapes = IsMismatch input
 IsSumFault input fault = IsUnreadable (two_of input) fault
 
--- an inverse wants a recurrent pile
-abbrev pub IsInverseFault : List ℕ → DeskFault → Type 0
-IsInverseFault input desk.Unstable = IsUnfitPile input desk.Unstable
-IsInverseFault input desk.NotRecurrent = IsUnfitPile input desk.NotRecurrent
-IsInverseFault input fault = IsUnreadable (pile_of input) fault
+-- an inverse and a multiple want a recurrent pile
+abbrev pub IsElementFault : List ℕ → DeskFault → Type 0
+IsElementFault input desk.Unstable = IsUnfitPile input desk.Unstable
+IsElementFault input desk.NotRecurrent = IsUnfitPile input desk.NotRecurrent
+IsElementFault input fault = IsUnreadable (pile_of input) fault
 
 -- a run was refused: there are more grains with all drops than the limit, memory ran out, or a place of the album was taken
 abbrev pub IsRunFault : ℕ → DeskFault → Type 0
@@ -101,9 +107,10 @@ abbrev pub IsFaultOf : Task → List ℕ → DeskFault → Type 0
 IsFaultOf (task.Settle form) input fault = IsUnreadable (pile_of input) fault
 IsFaultOf task.Burn input fault = IsBurnFault input fault
 IsFaultOf (task.Identity width height cylinder pgm) input fault = IsShapeless width height cylinder fault
-IsFaultOf (task.Drops drawn pile) input fault = IsDropsFault drawn input fault
+IsFaultOf (task.Drops drawn part) input fault = IsDropsFault drawn input fault
 IsFaultOf (task.Add pgm) input fault = IsSumFault input fault
-IsFaultOf (task.Inverse pgm) input fault = IsInverseFault input fault
+IsFaultOf (task.Inverse pgm) input fault = IsElementFault input fault
+IsFaultOf (task.Multiple times pgm) input fault = IsElementFault input fault
 IsFaultOf (task.Recurrent pgm) input fault = IsUnreadable (pile_of input) fault
 IsFaultOf (task.Lab wish journal form) input fault = IsLabFault wish input fault
 
@@ -116,6 +123,30 @@ Finds IsFault desk.Read = ⊥
 Finds IsFault desk.TooLong = ⊥
 Finds IsFault (desk.Write sent) = ⊥
 Finds IsFault fault = IsFault fault
+
+-- the writer took such a text
+pub record IsWritten (IsText : List ℕ → Type 0) (held held' : Option (List ℕ)) : Type 0 where
+  pub text : List ℕ
+  pub answer : IsText text
+  pub written : Appends held held' text
+
+-- the writer failed after it had taken some of such a text
+pub record IsBrokenOff (IsText : List ℕ → Type 0) (held held' : Option (List ℕ)) (fault : DeskFault) : Type 0 where
+  pub sent : ℕ
+  pub told : fault ≡ desk.Write sent
+  pub text : List ℕ
+  pub answer : IsText text
+  pub within : sent ≤ length text
+  pub written : Appends held held' (take sent text)
+
+-- a fault was found, and nothing was written
+pub record IsRefused (IsFault : DeskFault → Type 0) (held held' : Option (List ℕ)) (fault : DeskFault) : Type 0 where
+  pub found : Finds IsFault fault
+  pub unwritten : Keeps held held'
+
+-- how work ends that writes a text and has a fault
+abbrev pub WorkEnds : (List ℕ → Type 0) → (DeskFault → Type 0) → Option (List ℕ) → Option (List ℕ) → DeskFault → Type 0
+WorkEnds IsText IsFault held held' fault = IsBrokenOff IsText held held' fault ⊎ IsRefused IsFault held held' fault
 
 -- the reader gave all its bytes as the input; or none is wanted, and the reader is as it was
 abbrev pub Takes : Bool → Option (List ℕ) → Option (List ℕ) → List ℕ → Type 0

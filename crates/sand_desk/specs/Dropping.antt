@@ -1,5 +1,5 @@
 -- What `drops` writes.
-use Rattle.std.specs.Prelude.{ℕ, ◌≡◌, ◌+◌, ◌<◌, Bool, if◌then◌else◌, List, [], ◌∷◌, ◌++◌, length, sum, codes, decimal, Option, Some, None, Result, Ok}
+use Rattle.std.specs.Prelude.{ℕ, ◌≡◌, ◌+◌, ◌<◌, Bool, true, false, if◌then◌else◌, List, [], ◌∷◌, ◌++◌, length, drop, sum, codes, Option, Some, None, Result, Ok}
 use Rattle.sand_model.specs.Piles.{PileView, most_grains}
 use Rattle.sand_settle.specs.declared.avalanche.Avalanche.{Avalanche}
 use Rattle.sand_settle.specs.Avalanches.{IsAvalanche}
@@ -9,44 +9,58 @@ use Rattle.sand_lab.specs.Streams.{stream_sites}
 use Rattle.sand_text.specs.declared.fault.TextFault.{TextFault}
 use Rattle.sand_text.specs.Reading.{pile_of, drops_of, ◌>>=◌}
 use Rattle.sand_cli.specs.declared.task.Draw.{Draw}
+use Rattle.sand_cli.specs.declared.task.Part.{Part}
+use Rattle.sand_cli.specs.declared.task.Part.TheVariants as parts
 use Rattle.sand_text.specs.Tables.{table_text_of}
-use Rattle.sand_text.specs.Texts.{text_of}
+use Rattle.sand_text.specs.Texts.{sum_line, text_of}
 
--- a pile, and the sites that are drawn on it: the first of the stream, so many
+-- the sites of a draw, on a grid with so many: the first of the stream, without those that are left out
+abbrev pub drawn_sites : ℕ → Draw → List ℕ
+drawn_sites sites draw = drop draw.from (stream_sites sites draw.seed draw.stream (draw.from + draw.count))
+
+-- a pile, and the sites that are drawn on it
 abbrev pub with_draw : Draw → PileView → Result (PileView × List ℕ) TextFault
-with_draw draw pile = Ok (pile, stream_sites (sites pile.grid) draw.seed draw.stream draw.count)
+with_draw draw pile = Ok (pile, drawn_sites (sites pile.grid) draw)
 
 -- the pile that the input holds and the sites of the drops: those that are drawn, or those behind the pile
 abbrev pub drops_for : Option Draw → List ℕ → Result (PileView × List ℕ) TextFault
 drops_for None input = drops_of input
 drops_for (Some draw) input = pile_of input >>= with_draw draw
 
--- the drops at these sites lead from v to w, and each row has the number of its drop and its avalanche
-abbrev pub AreRows : OneView → List ℕ → List (ℕ × Avalanche) → OneView → Type 0
-AreRows v [] rows w = (rows ≡ []) × (v ≡ w)
-AreRows v (site ∷ sites) rows w = (u : OneView) × (avalanche : Avalanche) × (others : List (ℕ × Avalanche))
+-- the number of the first drop
+abbrev pub first_number : Option Draw → ℕ
+first_number None = 0
+first_number (Some draw) = draw.from
+
+-- the drops at these sites lead from v to w, and each row has the number of its drop, from n on, and its avalanche
+abbrev pub AreRows : ℕ → OneView → List ℕ → List (ℕ × Avalanche) → OneView → Type 0
+AreRows n v [] rows w = (rows ≡ []) × (v ≡ w)
+AreRows n v (site ∷ sites) rows w = (u : OneView) × (avalanche : Avalanche) × (others : List (ℕ × Avalanche))
     × Drops v site u × IsAvalanche (grid_of_one_pile v) site (topplings_between v.settled u.settled) avalanche
-    × (rows ≡ (v.number, avalanche) ∷ others) × AreRows u sites others w
+    × (rows ≡ (n, avalanche) ∷ others) × AreRows (n + 1) u sites others w
 
 -- what is noted of the drops at these sites, which lead from v to w: a row of each, or nothing if the pile alone is wanted
 abbrev pub AreNoted : Bool → OneView → List ℕ → List (ℕ × Avalanche) → OneView → Type 0
-AreNoted alone v sites noted w = (rows : List (ℕ × Avalanche)) × AreRows v sites rows w × (noted ≡ (if alone then [] else rows))
+AreNoted alone v sites noted w = (rows : List (ℕ × Avalanche)) × AreRows v.number v sites rows w × (noted ≡ (if alone then [] else rows))
 
--- a line that names a sum
-abbrev pub sum_line : List ℕ → ℕ → List ℕ
-sum_line name n = name ++ decimal n ++ codes "\n"
+-- whether the pile alone is wanted
+abbrev pub is_pile : Part → Bool
+is_pile parts.Pile = true
+is_pile part = false
 
 -- the table of the drops, the pile that they leave, and the sums since the start
 abbrev pub drops_text_of : List (ℕ × Avalanche) → OneView → List ℕ
 drops_text_of rows last = table_text_of rows ++ text_of last.settled.pile
     ++ sum_line (codes "lost ") last.settled.lost ++ sum_line (codes "topplings ") last.settled.topplings
 
--- the same, or the pile alone
-abbrev pub drops_in : Bool → List (ℕ × Avalanche) → OneView → List ℕ
-drops_in alone rows last = if alone then text_of last.settled.pile else drops_text_of rows last
+-- the part of it that is wanted
+abbrev pub drops_in : Part → List (ℕ × Avalanche) → OneView → List ℕ
+drops_in parts.All rows last = drops_text_of rows last
+drops_in parts.Table rows last = table_text_of rows
+drops_in parts.Pile rows last = text_of last.settled.pile
 
--- the text of the drops on the settled pile that the input holds, or the pile alone that they leave
-pub record IsDropsText (drawn : Option Draw) (alone : Bool) (input text : List ℕ) : Type 0 where
+-- the text of the drops on the settled pile that the input holds, or the part of it that is wanted
+pub record IsDropsText (drawn : Option Draw) (part : Part) (input text : List ℕ) : Type 0 where
   pub pile : PileView
   pub sites : List ℕ
   pub first : OneView
@@ -54,9 +68,9 @@ pub record IsDropsText (drawn : Option Draw) (alone : Bool) (input text : List �
   pub rows : List (ℕ × Avalanche)
   pub read : drops_for drawn input ≡ Ok (pile, sites)
   pub start : IsAfter pile [] first
-  pub dropped : AreRows first sites rows last
+  pub dropped : AreRows (first_number drawn) first sites rows last
   pub end : IsAfter pile sites last
-  pub written : text ≡ drops_in alone rows last
+  pub written : text ≡ drops_in part rows last
 
 -- the grains of the pile and of the drops exceed the limit
 pub record IsOverfull (drawn : Option Draw) (input : List ℕ) : Type 0 where

@@ -1,4 +1,4 @@
--- What `burn`, `identity`, `add`, `inverse` and `recurrent` write, and why they refuse a pile.
+-- What `burn`, `identity`, `add`, `inverse`, `multiple` and `recurrent` write, and why they refuse a pile.
 use Rattle.std.specs.Prelude.{ℕ, ◌≡◌, ◌≢◌, ◌⊎◌, Bool, true, false, List, length, Ok}
 use Rattle.sand_model.specs.declared.shape.Edge.{Edge}
 use Rattle.sand_model.specs.declared.shape.Edge.TheVariants.{Open, Cylinder}
@@ -8,7 +8,7 @@ use Rattle.sand_model.specs.Piles.{PileView, height_of}
 use Rattle.sand_model.specs.Sand.{IsStable}
 use Rattle.sand_group.specs.declared.burning.Burned.{Burned}
 use Rattle.sand_group.specs.Burned.{IsBurned}
-use Rattle.sand_group.specs.Group.{IsSum, IsIdentity, IsInverse, Represents}
+use Rattle.sand_group.specs.Group.{IsSum, IsMultiple, IsIdentity, IsInverse, Represents}
 use Rattle.sand_group.specs.Recurrence.{IsRecurrent}
 use Rattle.sand_text.specs.Burning.{burn_text_of}
 use Rattle.sand_text.specs.Reading.{pile_of, two_of}
@@ -61,6 +61,13 @@ pub record IsInverseText (pgm : Bool) (input text : List ℕ) : Type 0 where
   pub read : pile_of input ≡ Ok pile
   pub recurrent : IsRecurrent pile.grid (height_of pile)
   pub answer : IsPileText pile.grid (IsInverse pile.grid (height_of pile)) pgm text
+
+-- the n-fold sum of the pile that the input holds, which is recurrent
+pub record IsMultipleText (n : ℕ) (pgm : Bool) (input text : List ℕ) : Type 0 where
+  pub pile : PileView
+  pub read : pile_of input ≡ Ok pile
+  pub recurrent : IsRecurrent pile.grid (height_of pile)
+  pub answer : IsPileText pile.grid (IsMultiple pile.grid n (height_of pile)) pgm text
 
 -- the recurrent pile that is equivalent to the pile that the input holds
 pub record IsRecurrentText (pgm : Bool) (input text : List ℕ) : Type 0 where

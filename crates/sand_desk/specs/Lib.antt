@@ -7,4 +7,5 @@ pub mod Helping
 pub mod Settling
 pub mod Laboratory
 pub mod Drawing
+pub mod Streaming
 pub mod Version

@@ -2,19 +2,23 @@
 //!
 //! Faults come in one order: misuse of the words; the reader's, too much input or out of memory, whichever is met
 //! first; the input's; the command's own; out of memory for the text; the writer's. Nothing is written before the
-//! whole text is there.
+//! whole text is there, or, of drops at random, before nothing but the writer can fail.
 
 ghost use Rattle.std.specs.Prelude.{◌≡◌, ◌≢◌, ◌+◌, ◌≤◌, ◌<◌, true, length, map, string_bytes, IfOk, IfErr, OnOk, IsErrOf};
 ghost use Rattle.sand_text.specs.Flow.{IsFurther, IsFurtherByAtMost, IsOfReading, most_bytes};
 ghost use Rattle.sand_cli.specs.Asked.{IsWithin, asked};
-ghost use Rattle.sand_desk.specs.Commands.{IsTextOf, IsFaultOf, Finds, IsDone, EndsBy, HelpsIfAsked, Takes, TellsWords, reads_input};
+ghost use Rattle.sand_desk.specs.Commands.{IsTextOf, IsFaultOf, IsWritten, Finds, IsDone, EndsBy, HelpsIfAsked, Takes, TellsWords, WorkEnds, reads_input, writes_whole};
 
-use crate::dropping::drops_input;
+use crate::drawn::drawn_drops;
+use crate::dropping::listed_drops;
 use crate::faults::DeskFault;
-use crate::group::{burn_input, identity_text, inverse_input, recurrent_input, sum_input};
+use crate::group::{
+    burn_input, identity_text, inverse_input, multiple_input, recurrent_input, sum_input,
+};
 use crate::laboratory::lab_input;
 use crate::settling::settle_input;
 use sand_cli::{Task, task_of};
+use sand_lab::{Gate, Open};
 use sand_text::{StreamFault, read_all, write_text};
 use std::alloc::Global;
 use std::io::{Read, Write};
@@ -36,13 +40,15 @@ fn take_input<R: Read>(alloc: Global, task: Task, reader: &mut R) -> Result<Vec<
 }
 
 // The text that a task writes for an input.
-fn perform<T: Threads + Sync>(
+fn perform<T: Threads + Sync, G: Gate>(
     rt: &T,
     alloc: Global,
+    gate: &G,
     task: Task,
     input: &[u8],
 ) -> Result<Vec<u8>, DeskFault>
-    requires { IsWithin task }
+    requires within { IsWithin task }
+    requires whole { writes_whole task ≡ true }
     ensures text { IfOk result (λ text. IsTextOf task input.now text.items) }
     ensures fault { IfErr result (Finds (IsFaultOf task input.now)) }
 {
@@ -55,16 +61,43 @@ fn perform<T: Threads + Sync>(
             cylinder,
             pgm,
         } => identity_text(alloc, width, height, cylinder, pgm),
-        Task::Drops { drawn, pile } => drops_input(alloc, input, drawn, pile),
+        Task::Drops { drawn: None, part } => listed_drops(alloc, input, part),
+        Task::Drops { drawn: Some(_), .. } => unreachable!(),
         Task::Add { pgm } => sum_input(alloc, input, pgm),
         Task::Inverse { pgm } => inverse_input(alloc, input, pgm),
+        Task::Multiple { times, pgm } => multiple_input(alloc, input, times, pgm),
         Task::Recurrent { pgm } => recurrent_input(alloc, input, pgm),
         Task::Lab {
             wish,
             journal,
             form,
-        } => lab_input(rt, alloc, input, wish, journal, form),
+        } => lab_input(rt, alloc, gate, input, wish, journal, form),
     }
+}
+
+// Does a task and writes its text: that of drops at random while they are made, and any other when the whole of it is there.
+fn carry_out<T: Threads + Sync, G: Gate, W: Write>(
+    rt: &T,
+    alloc: Global,
+    gate: &G,
+    task: Task,
+    input: &[u8],
+    writer: &mut W,
+) -> Result<(), DeskFault>
+    requires { IsWithin task }
+    ensures done { OnOk result (IsWritten (IsTextOf task input.now) (W.contents writer.old) (W.contents writer.new)) }
+    ensures fault { IfErr result (WorkEnds (IsTextOf task input.now) (IsFaultOf task input.now) (W.contents writer.old) (W.contents writer.new)) }
+{
+    if let Task::Drops {
+        drawn: Some(draw),
+        part,
+    } = task
+    {
+        return drawn_drops(alloc, gate, input, draw, part, writer);
+    }
+    let text = perform(rt, alloc, gate, task, input)?;
+    write_text(writer, text.as_slice())?;
+    Ok(())
 }
 
 /// Runs the command that the words name, the program's name being the first: reads all input, and writes the whole text
@@ -89,9 +122,27 @@ pub fn run_command<T: Threads + Sync, R: Read, W: Write>(
     ensures help { IfErr result (HelpsIfAsked (map string_bytes words.now)) }
     ensures told { IfErr result (TellsWords (map string_bytes words.now)) }
 {
+    run_gated_command(rt, alloc, &Open, words, reader, writer)
+}
+
+/// Does the same, and calls a gate before each drop of `drops --count`, and before the turns of `lab` as `sand_lab::run` does.
+pub fn run_gated_command<T: Threads + Sync, G: Gate, R: Read, W: Write>(
+    rt: &T,
+    alloc: Global,
+    gate: &G,
+    words: &[String],
+    reader: &mut R,
+    writer: &mut W,
+) -> Result<(), DeskFault>
+    requires { 0 < length words.now }
+    ensures done { OnOk result (IsDone (asked (map string_bytes words.now))
+        (R.remaining reader.old) (R.remaining reader.new) (W.contents writer.old) (W.contents writer.new)) }
+    ensures fault { IfErr result (EndsBy (asked (map string_bytes words.now))
+        (R.remaining reader.old) (R.remaining reader.new) (W.contents writer.old) (W.contents writer.new)) }
+    ensures help { IfErr result (HelpsIfAsked (map string_bytes words.now)) }
+    ensures told { IfErr result (TellsWords (map string_bytes words.now)) }
+{
     let task = task_of(alloc, words)?;
     let input = take_input(alloc, task, reader)?;
-    let text = perform(rt, alloc, task, input.as_slice())?;
-    write_text(writer, text.as_slice())?;
-    Ok(())
+    carry_out(rt, alloc, gate, task, input.as_slice(), writer)
 }

@@ -1,20 +1,17 @@
-//! The command `drops`.
+//! The command `drops` at the sites that the input has behind its pile.
 
-ghost use Rattle.std.specs.Prelude.{◌≡◌, ◌+◌, ◌<◌, [], ◌∷◌, ◌++◌, false, length, vec_len, vec_capacity, if◌then◌else◌, All, Some, None, IfSome, IfOk, IfErr, OnOk, IsOkUnless};
+ghost use Rattle.std.specs.Prelude.{◌≡◌, ◌+◌, ◌<◌, [], ◌∷◌, ◌++◌, false, length, vec_len, vec_capacity, if◌then◌else◌, All, None, IfOk, IfErr, OnOk, IsOkUnless};
 ghost use Rattle.sand_model.specs.Grid.{sites};
 ghost use Rattle.sand_model.specs.Piles.{PileView};
 ghost use Rattle.sand_settle.specs.Drops.{grid_of_one_pile, IsAfter};
-ghost use Rattle.sand_lab.specs.Streams.{stream_sites};
-ghost use Rattle.sand_cli.specs.Asked.{IsDraw};
 ghost use Rattle.sand_desk.specs.Commands.{IsDropFault, IsDropsFault, Finds};
-ghost use Rattle.sand_desk.specs.Dropping.{AreNoted, IsDropsText, drops_in, drops_text_of, sum_line};
+ghost use Rattle.sand_desk.specs.Dropping.{AreNoted, IsDropsText, drops_in, drops_text_of, is_pile};
 
 use crate::faults::DeskFault;
-use crate::texts::{pile_text, read_drops, read_pile, table_text};
-use itoa::Buffer;
-use sand_cli::Draw;
-use sand_lab::SiteReader;
+use crate::texts::{pile_text, read_drops, table_text};
+use sand_cli::Part;
 use sand_settle::{Avalanche, OnePile};
+use sand_text::push_sum;
 use std::alloc::{AllocError, Global};
 
 // A list with room for a row of each drop, or with none if the pile alone is wanted.
@@ -66,40 +63,6 @@ fn drop_all(
     Ok(rows)
 }
 
-// Drops grains at the first sites of a stream, each read as its grain drops, and notes each drop's number and avalanche,
-// unless the pile alone is wanted.
-fn drop_drawn(
-    alloc: Global,
-    pile: &mut OnePile,
-    draw: Draw,
-    alone: bool,
-) -> Result<Vec<(u64, Avalanche)>, DeskFault>
-    requires { IsDraw draw }
-    ensures rows { IfOk result (λ rows.
-        AreNoted alone pile.old (stream_sites (sites (grid_of_one_pile pile.old)) draw.seed draw.stream draw.count) rows.items pile.new) }
-    ensures after { OnOk result ((start : PileView) → IsAfter start [] pile.old
-        → IsAfter start (stream_sites (sites (grid_of_one_pile pile.old)) draw.seed draw.stream draw.count) pile.new) }
-    ensures fault { IfErr result (IsDropFault (pile.old.grains + draw.count)) }
-{
-    let mut reader = SiteReader::new(pile.pile().shape(), draw.seed, draw.stream);
-    let mut rows = list_of_rows(alloc, draw.count as usize, alone)?;
-    for read in 0..draw.count {
-        let row = pile.drop_at(alloc, reader.next_site())?;
-        note(&mut rows, row, alone);
-    }
-    Ok(rows)
-}
-
-// Writes a line that names a sum.
-fn push_sum(text: &mut Vec<u8>, name: &str, sum: u64) -> Result<(), AllocError>
-    ensures { OnOk result (text.new.items ≡ text.old.items ++ sum_line name.now sum) }
-{
-    let mut buffer = Buffer::new();
-    text.extend_from_slice(name.as_bytes())?;
-    text.extend_from_slice(buffer.format(sum).as_bytes())?;
-    text.extend_from_slice(b"\n")
-}
-
 // The table of the drops, the pile that they leave, and the sums since the start.
 fn drops_text(
     alloc: Global,
@@ -117,61 +80,39 @@ fn drops_text(
     Ok(text)
 }
 
-// The text of the drops, or the pile alone that they leave.
-fn drops_or_pile(
+// The part that is wanted of the text of the drops.
+fn part_text(
     alloc: Global,
     rows: &[(u64, Avalanche)],
     pile: &OnePile,
-    alone: bool,
+    part: Part,
 ) -> Result<Vec<u8>, DeskFault>
-    ensures text { IfOk result (λ text. text.items ≡ drops_in alone rows.now pile.now) }
+    ensures text { IfOk result (λ text. text.items ≡ drops_in part rows.now pile.now) }
     ensures memory { IsOkUnless result DeskFault.Memory }
 {
-    if alone {
-        pile_text(alloc, pile.pile())
-    } else {
-        drops_text(alloc, rows, pile)
+    match part {
+        Part::All => drops_text(alloc, rows, pile),
+        Part::Table => table_text(alloc, rows),
+        Part::Pile => pile_text(alloc, pile.pile()),
     }
 }
 
-// The drops on the pile that the input holds, at the sites behind it.
-fn listed_drops(alloc: Global, input: &[u8], alone: bool) -> Result<Vec<u8>, DeskFault>
-    ensures text { IfOk result (λ text. IsDropsText None alone input.now text.items) }
+fn is_pile(part: Part) -> bool
+    ensures { result ≡ is_pile part }
+{
+    match part {
+        Part::Pile => true,
+        Part::All | Part::Table => false,
+    }
+}
+
+/// The text of the drops on the settled pile that the input holds, at the sites behind it, or the part of it that is wanted.
+pub(crate) fn listed_drops(alloc: Global, input: &[u8], part: Part) -> Result<Vec<u8>, DeskFault>
+    ensures text { IfOk result (λ text. IsDropsText None part input.now text.items) }
     ensures fault { IfErr result (Finds (IsDropsFault None input.now)) }
 {
     let (start, drops) = read_drops(alloc, input)?;
     let mut pile = OnePile::new(alloc, &start)?;
-    let rows = drop_all(alloc, &mut pile, drops.as_slice(), alone)?;
-    drops_or_pile(alloc, rows.as_slice(), &pile, alone)
-}
-
-// The drops on the pile that the input holds, at the sites of a stream.
-#[tactic(auto, using(crate::proofs::Drawing::unread, crate::proofs::Drawing::overfull))]
-fn drawn_drops(alloc: Global, input: &[u8], draw: Draw, alone: bool) -> Result<Vec<u8>, DeskFault>
-    requires { IsDraw draw }
-    ensures text { IfOk result (λ text. IsDropsText (Some draw) alone input.now text.items) }
-    ensures fault { IfErr result (Finds (IsDropsFault (Some draw) input.now)) }
-{
-    let start = read_pile(alloc, input)?;
-    let mut pile = OnePile::new(alloc, &start)?;
-    let rows = drop_drawn(alloc, &mut pile, draw, alone)?;
-    drops_or_pile(alloc, rows.as_slice(), &pile, alone)
-}
-
-/// The text of the drops on the settled pile that the input holds, at the sites of a draw or at those behind the pile, or
-/// the pile alone that they leave.
-pub(crate) fn drops_input(
-    alloc: Global,
-    input: &[u8],
-    drawn: Option<Draw>,
-    alone: bool,
-) -> Result<Vec<u8>, DeskFault>
-    requires { IfSome drawn IsDraw }
-    ensures text { IfOk result (λ text. IsDropsText drawn alone input.now text.items) }
-    ensures fault { IfErr result (Finds (IsDropsFault drawn input.now)) }
-{
-    match drawn {
-        Some(draw) => drawn_drops(alloc, input, draw, alone),
-        None => listed_drops(alloc, input, alone),
-    }
+    let rows = drop_all(alloc, &mut pile, drops.as_slice(), is_pile(part))?;
+    part_text(alloc, rows.as_slice(), &pile, part)
 }

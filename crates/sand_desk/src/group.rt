@@ -1,16 +1,16 @@
-//! The commands of the group of recurrent piles: `burn`, `identity`, `add`, `inverse` and `recurrent`.
+//! The commands of the group of recurrent piles: `burn`, `identity`, `add`, `inverse`, `multiple` and `recurrent`.
 
 ghost use Rattle.std.specs.Prelude.{◌≡◌, IfOk, IfErr, IsOkUnless};
 ghost use Rattle.sand_model.specs.Piles.{height_of};
 ghost use Rattle.sand_model.specs.Sand.{IsStable};
 ghost use Rattle.sand_text.specs.Reading.{pile_of};
-ghost use Rattle.sand_desk.specs.Commands.{IsBurnFault, IsShapeless, IsSumFault, IsInverseFault, IsUnreadable, Finds};
-ghost use Rattle.sand_desk.specs.Group.{IsBurnText, IsIdentityText, IsSumText, IsInverseText, IsRecurrentText, edge_of};
+ghost use Rattle.sand_desk.specs.Commands.{IsBurnFault, IsShapeless, IsSumFault, IsElementFault, IsUnreadable, Finds};
+ghost use Rattle.sand_desk.specs.Group.{IsBurnText, IsIdentityText, IsSumText, IsInverseText, IsMultipleText, IsRecurrentText, edge_of};
 ghost use Rattle.sand_desk.specs.Settling.{pile_or_picture};
 
 use crate::faults::DeskFault;
 use crate::texts::{burn_text, pgm_text, pile_text, read_pile, read_two};
-use sand_group::{Recurrent, add, burn, equivalent_recurrent, identity, inverse};
+use sand_group::{Recurrent, add, burn, equivalent_recurrent, identity, inverse, multiple};
 use sand_model::{Edge, Pile, Shape};
 use std::alloc::Global;
 
@@ -76,12 +76,29 @@ pub(crate) fn sum_input(alloc: Global, input: &[u8], pgm: bool) -> Result<Vec<u8
 /// NotRecurrent).
 pub(crate) fn inverse_input(alloc: Global, input: &[u8], pgm: bool) -> Result<Vec<u8>, DeskFault>
     ensures text { IfOk result (λ text. IsInverseText pgm input.now text.items) }
-    ensures fault { IfErr result (Finds (IsInverseFault input.now)) }
+    ensures fault { IfErr result (Finds (IsElementFault input.now)) }
 {
     let pile = read_pile(alloc, input)?;
     let recurrent = Recurrent::from_pile(alloc, &pile)?;
     let inverse = inverse(alloc, &recurrent)?;
     pile_or_picture(alloc, inverse.pile(), pgm)
+}
+
+/// The sum of `times` copies of the pile that the input holds, as text or as a picture. Refuses a pile that isn't recurrent
+/// (Unstable, NotRecurrent).
+pub(crate) fn multiple_input(
+    alloc: Global,
+    input: &[u8],
+    times: u64,
+    pgm: bool,
+) -> Result<Vec<u8>, DeskFault>
+    ensures text { IfOk result (λ text. IsMultipleText times pgm input.now text.items) }
+    ensures fault { IfErr result (Finds (IsElementFault input.now)) }
+{
+    let pile = read_pile(alloc, input)?;
+    let recurrent = Recurrent::from_pile(alloc, &pile)?;
+    let sum = multiple(alloc, &recurrent, times)?;
+    pile_or_picture(alloc, sum.pile(), pgm)
 }
 
 /// The recurrent pile that is equivalent to the pile that the input holds, as text or as a picture. Every pile has one, so

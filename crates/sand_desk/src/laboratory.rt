@@ -13,7 +13,7 @@ ghost use Rattle.sand_desk.specs.Laboratory.{IsLabText, dropper_and_site, journa
 use crate::faults::DeskFault;
 use crate::texts::{pgm_text, pile_text, read_pile};
 use sand_cli::Form;
-use sand_lab::{Album, Entry, LabFault, Open, Plan, Report, run};
+use sand_lab::{Album, Entry, Gate, LabFault, Plan, Report, run};
 use sand_model::Pile;
 use sand_plan::Wish;
 use sand_shared::Record;
@@ -104,9 +104,10 @@ fn plan_of(wish: Wish) -> Plan
 }
 
 // Runs what is wished for from a start, by as many threads.
-fn report_on<T: Threads + Sync>(
+fn report_on<T: Threads + Sync, G: Gate>(
     rt: &T,
     alloc: Global,
+    gate: &G,
     start: &Pile,
     wish: Wish,
 ) -> Result<Report, DeskFault>
@@ -118,7 +119,7 @@ fn report_on<T: Threads + Sync>(
     let Ok(album) = Album::new(alloc, wish.epochs) else {
         return Err(DeskFault::Memory);
     };
-    match run(rt, alloc, start, &plan, &Open, &album) {
+    match run(rt, alloc, start, &plan, gate, &album) {
         Ok(report) => Ok(report),
         Err(LabFault::TooManyGrains) => Err(DeskFault::TooManyGrains),
         Err(LabFault::Memory(_)) => Err(DeskFault::Memory),
@@ -160,9 +161,10 @@ fn report_text(
 /// What a run of the laboratory leaves that starts from the pile which the input holds: text, with its journal if that is
 /// wanted, or its last pile alone, as text or as a picture. Refuses more grains than the limit with all drops
 /// (TooManyGrains).
-pub(crate) fn lab_input<T: Threads + Sync>(
+pub(crate) fn lab_input<T: Threads + Sync, G: Gate>(
     rt: &T,
     alloc: Global,
+    gate: &G,
     input: &[u8],
     wish: Wish,
     journal: bool,
@@ -173,6 +175,6 @@ pub(crate) fn lab_input<T: Threads + Sync>(
     ensures fault { IfErr result (Finds (IsLabFault wish input.now)) }
 {
     let start = read_pile(alloc, input)?;
-    let report = report_on(rt, alloc, &start, wish)?;
+    let report = report_on(rt, alloc, gate, &start, wish)?;
     report_text(alloc, &report, journal, form)
 }

@@ -5,8 +5,11 @@
 //!
 //! **One dropper.** A run of one epoch with one dropper drops on each site as often as `drops --count` of the same seed, for
 //! both read stream 0. What one thread leaves depends on these numbers alone.
+//!
+//! **Runs in parts.** A drop sees the pile before it and its site, and nothing else. So `drops --count M --from N` on the pile that
+//! `drops --count N` left makes the drops from number N on of one run of N + M, with the same numbers and avalanches.
 
-ghost use Rattle.sand_desk.specs.Drawing.{LeavesTheSame, WritesTheSamePile};
+ghost use Rattle.sand_desk.specs.Drawing.{LeavesTheSame, RunsInParts, WritesTheSamePile};
 ghost use Rattle.sand_desk.specs.Faults.{KeepNumbers};
 ghost use Rattle.sand_desk.specs.Laboratory.{OneLabText};
 
@@ -24,6 +27,11 @@ pub fn one_lab_text()
 pub fn drops_of_one_dropper()
     ensures record { LeavesTheSame }
     ensures pile { WritesTheSamePile }
+{}
+
+/// A run, and then one with `--from` from the pile that it left, have the rows of one run, and leave its pile.
+pub fn runs_in_parts()
+    ensures { RunsInParts }
 {}
 
 /// A fault of the crates below keeps its number when it becomes the program's.

@@ -6,6 +6,7 @@
 #![tactic(auto)]
 
 mod commands;
+mod drawn;
 mod dropping;
 mod faults;
 mod group;
@@ -16,7 +17,7 @@ mod settling;
 mod texts;
 mod version;
 
-pub use commands::run_command;
+pub use commands::{run_command, run_gated_command};
 pub use faults::{DeskFault, status, write_fault};
 pub use helping::show_help;
 pub use laboratory::{journal_text, lab_text};

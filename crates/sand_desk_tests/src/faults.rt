@@ -28,7 +28,7 @@ fn a_line_that_does_not_fit(rt: HostRuntime) {
     assert!(rt; writer.taken.as_slice() == b"fault 2".as_slice());
 }
 
-// Help says the same of each fault (cases/help.txt).
+// `sandpile explain` says more of each fault (cases/explain.txt).
 #[test]
 fn what_a_fault_says(rt: HostRuntime) -> Result<(), Fail> {
     for (fault, number, want) in [

@@ -26,6 +26,24 @@ pub(crate) fn fault_of<T: Threads + Sync, R: Read>(
     }
 }
 
+// Runs a command line that has no fault.
+pub(crate) fn passes<T: Threads + Sync, R: Read>(
+    rt: &T,
+    alloc: Global,
+    line: &str,
+    reader: &mut R,
+    writer: &mut Sluggish,
+) -> Result<(), Fail> {
+    let words = words_of(alloc, line)?;
+    if words.is_empty() {
+        return Err("no words".into());
+    }
+    match run_command(rt, alloc, words.as_slice(), reader, writer) {
+        Ok(()) => Ok(()),
+        Err(_) => Err("a fault".into()),
+    }
+}
+
 // How many bytes were written before the writer failed, if that is the fault.
 pub(crate) fn sent(fault: &DeskFault) -> Option<usize> {
     match fault {

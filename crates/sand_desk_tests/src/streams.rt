@@ -1,6 +1,6 @@
 //! Commands over readers that fail and writers that stop.
 
-use crate::runs::{fault_of, sent};
+use crate::runs::{fault_of, passes, sent};
 use crate::stopping::{Cut, Endless, Failing, Sluggish};
 use sand_desk::DeskFault;
 use std::alloc::Global;
@@ -15,6 +15,9 @@ const SETTLED: &[u8] = b"3 1\n1 0 1\nodometer\n0 1 0\nlost 2\ntopplings 1\n";
 
 const JOURNAL: &[u8] =
     b"epoch drops topplings lost grains\n0 2 0 0 2\ntotal 2 0 0 2\n1 1\n2\nodometer\n0\njournal\n0 0 0 0\n0 1 0 0\n";
+
+const DROPS: &[u8] =
+    b"number site size area reach lost\n3 1 1 1 0 3\n4 0 0 0 0 0\n5 1 0 0 0 0\n2 1\n2 1\nlost 3\ntopplings 1\n";
 
 // A writer that stops, in either way, has the first bytes of the text, and the fault says how many.
 fn stops<T: Threads + Sync + Abort>(
@@ -55,6 +58,43 @@ fn a_writer_that_stops_in_a_run(rt: HostRuntime) -> Result<(), Fail> {
         for is_full in [false, true] {
             let taken = &JOURNAL[..room];
             stops(&rt, rt.alloc(), line, b"1 1\n0\n", taken, is_full)?;
+        }
+    }
+    Ok(())
+}
+
+#[test]
+fn a_writer_that_stops_in_drops_at_random(rt: HostRuntime) -> Result<(), Fail> {
+    let line = "sandpile drops --count 3 --stream 1 --from 3";
+    for room in 0..DROPS.len() {
+        for is_full in [false, true] {
+            let taken = &DROPS[..room];
+            stops(&rt, rt.alloc(), line, b"2 1\n0 3\n", taken, is_full)?;
+        }
+    }
+    Ok(())
+}
+
+// The text of these drops at random has more than two blocks of 65,536 bytes.
+const LONG: &str = "sandpile drops --count 10000 --seed 5";
+
+const FULL: &[u8] = b"2 2\n3 3\n3 3\n";
+
+#[test]
+fn a_writer_that_stops_in_a_later_block(rt: HostRuntime) -> Result<(), Fail> {
+    let mut whole = Sluggish::new(rt.alloc(), 1_000_000);
+    let mut reader = Failing {
+        bytes: FULL,
+        fails: false,
+    };
+    passes(&rt, rt.alloc(), LONG, &mut reader, &mut whole)?;
+    let text = whole.taken.as_slice();
+    assert!(rt; text.len() > 131_072 + 5_376);
+    let last = text.len().saturating_sub(1);
+    for room in [65_535, 65_536, 70_912, 100_000, 131_072, last] {
+        let taken = &text[..room.min(last)];
+        for is_full in [false, true] {
+            stops(&rt, rt.alloc(), LONG, FULL, taken, is_full)?;
         }
     }
     Ok(())

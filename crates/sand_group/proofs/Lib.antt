@@ -6,3 +6,4 @@ pub mod OperationsSettle
 pub mod BurningDecides
 pub mod OperationsOnHeights
 pub mod EmptiedIsIdentity
+pub mod Multiples

@@ -1,7 +1,7 @@
 -- The group of recurrent piles: each class of equivalent piles has one recurrent pile.
 -- Sources: Dhar 1990 (the group), Holroyd, Levine, Mészáros, Peres, Propp and Wilson 2008 (the identity from 2m).
 -- m is the pile of all 3.
-use Rattle.std.specs.Prelude.{ℕ, ℤ, pos, ◌≡◌, ◌+◌, ◌<◌, ◌-ℤ◌, length}
+use Rattle.std.specs.Prelude.{ℕ, ℤ, pos, ◌≡◌, ◌+◌, ◌*◌, ◌<◌, ◌-ℤ◌, length}
 use Rattle.sand_model.specs.Grid.{Grid, sites}
 use Rattle.sand_model.specs.Sand.{IsSettled}
 use Rattle.sand_model.specs.Integers.{whole, IsEquivalent}
@@ -37,6 +37,10 @@ pub record Represents (g : Grid) (x : ℕ → ℤ) (c : ℕ → ℕ) : Type 0 wh
 -- the recurrent pile equivalent to a + b
 abbrev pub IsSum : Grid → (ℕ → ℕ) → (ℕ → ℕ) → (ℕ → ℕ) → Type 0
 IsSum g a b = Represents g (λ i. pos (a i + b i))
+
+-- the recurrent pile equivalent to n times c
+abbrev pub IsMultiple : Grid → ℕ → (ℕ → ℕ) → (ℕ → ℕ) → Type 0
+IsMultiple g n c = Represents g (λ i. pos (n * c i))
 
 -- the recurrent pile equivalent to all 0
 abbrev pub IsIdentity : Grid → (ℕ → ℕ) → Type 0

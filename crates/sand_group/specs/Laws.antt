@@ -4,7 +4,7 @@ use Rattle.sand_model.specs.Grid.{Grid, IsGrid, sites}
 use Rattle.sand_model.specs.Sand.{IsStable, IsSettled}
 use Rattle.sand_model.specs.Integers.{whole, IsEquivalent}
 use Rattle.sand_group.specs.Recurrence.{IsRecurrent, IsBurningOrder}
-use Rattle.sand_group.specs.Group.{SettlesTo, IsSurplus, Represents, IsSum, IsIdentity, IsInverse}
+use Rattle.sand_group.specs.Group.{SettlesTo, IsSurplus, Represents, IsSum, IsMultiple, IsIdentity, IsInverse}
 
 -- the burning test: a stable pile is recurrent if and only if all its sites burn in some order
 abbrev pub BurningDecides : Type 0
@@ -69,3 +69,21 @@ RepresentsItself = (g : Grid) (c : ℕ → ℕ) → IsRecurrent g c → Represen
 abbrev pub EquivalentsAddUp : Type 0
 EquivalentsAddUp = (g : Grid) (a b c d e : ℕ → ℕ) → Represents g (whole a) c → Represents g (whole b) d
     → Represents g (whole (λ i. a i + b i)) e → IsSum g c d e
+
+-- each pile has one n-fold sum
+abbrev pub EachHasOneMultiple : Type 0
+EachHasOneMultiple = (g : Grid) (n : ℕ) (c : ℕ → ℕ) → (a : ℕ → ℕ) × IsMultiple g n c a
+    × ((b : ℕ → ℕ) → IsMultiple g n c b → (i : ℕ) → i < sites g → b i ≡ a i)
+
+-- the 0-fold sum is the identity
+abbrev pub NoneIsIdentity : Type 0
+NoneIsIdentity = (g : Grid) (c e : ℕ → ℕ) → IsMultiple g 0 c e ↔ IsIdentity g e
+
+-- the 1-fold sum of a recurrent pile is the pile itself
+abbrev pub OneIsItself : Type 0
+OneIsItself = (g : Grid) (c : ℕ → ℕ) → IsRecurrent g c → IsMultiple g 1 c c
+
+-- the (n + m)-fold sum is the sum of the n-fold one and the m-fold one
+abbrev pub MultiplesAddUp : Type 0
+MultiplesAddUp = (g : Grid) (n m : ℕ) (c a b e : ℕ → ℕ) → IsMultiple g n c a → IsMultiple g m c b
+    → IsMultiple g (n + m) c e ↔ IsSum g a b e

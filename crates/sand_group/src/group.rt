@@ -57,6 +57,18 @@ impl Recurrent {
         }
     }
 
+    /// The same recurrent pile. Fails only with Memory, if an allocation fails.
+    pub(crate) fn copy(&self, alloc: Global) -> Result<Recurrent, GroupFault>
+        ensures same { IfOk result (λ c. c ≡ self.now) }
+        ensures memory { IsOkUnless result (GroupFault.Memory alloc_error) }
+    {
+        match self.pile.copy(alloc) {
+            Ok(pile) => Ok(Recurrent { pile }),
+            // A copy fails only if an allocation does.
+            Err(_) => Err(GroupFault::Memory(AllocError)),
+        }
+    }
+
     pub fn pile(&self) -> &Pile
         ensures value { result.now ≡ self.now }
         ensures recurrent { IsRecurrent self.now.grid (height_of self.now) }

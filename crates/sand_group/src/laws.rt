@@ -16,7 +16,7 @@
 //! second, unless z is at most 0. The same holds for -z. So a recurrent c is what c + d settles to, for
 //! d = 2m - settled(2m): d is equivalent to all 0 and at least m.
 
-ghost use Rattle.sand_group.specs.Laws.{BurningDecides, RecurrentFromFull, StaysRecurrent, EachClassHasOne, EquivalentRecurrentsAreEqual, RepresentativesAreEqual, SumIsSettled, EachGridHasSurplus, IdentityIsSettled, InverseIsSettled, IdentityIsNeutral, InverseCancels, EquivalentIsSettled, RepresentsItself, EquivalentsAddUp};
+ghost use Rattle.sand_group.specs.Laws.{BurningDecides, RecurrentFromFull, StaysRecurrent, EachClassHasOne, EquivalentRecurrentsAreEqual, RepresentativesAreEqual, SumIsSettled, EachGridHasSurplus, IdentityIsSettled, InverseIsSettled, IdentityIsNeutral, InverseCancels, EquivalentIsSettled, RepresentsItself, EquivalentsAddUp, EachHasOneMultiple, NoneIsIdentity, OneIsItself, MultiplesAddUp};
 
 /// A stable pile is recurrent if and only if all its sites burn in some order.
 pub fn burning_decides()
@@ -56,4 +56,12 @@ pub fn equivalents_add_up()
     ensures settled { EquivalentIsSettled }
     ensures itself { RepresentsItself }
     ensures sum { EquivalentsAddUp }
+{}
+
+/// Each pile has one n-fold sum: for 0 the identity, for 1 the pile itself, and for n + m the sum of those for n and for m.
+pub fn multiples_add_up()
+    ensures one { EachHasOneMultiple }
+    ensures none { NoneIsIdentity }
+    ensures itself { OneIsItself }
+    ensures sum { MultiplesAddUp }
 {}

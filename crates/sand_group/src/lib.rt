@@ -1,10 +1,11 @@
 //! The burning test, and the group of recurrent piles.
 //!
 //! The definitions are in `specs/`: `Recurrence` (forbidden sets, recurrent piles, burning orders), `Group` (sums,
-//! the identity, inverses, the recurrent pile of a class) and `Laws`.
+//! multiples, the identity, inverses, the recurrent pile of a class) and `Laws`.
 #![tactic(auto)]
 
 mod burning;
+mod doubling;
 mod equivalent;
 mod faults;
 mod group;
@@ -12,6 +13,7 @@ pub mod laws;
 mod neutral;
 
 pub use burning::{Burned, burn};
+pub use doubling::multiple;
 pub use equivalent::equivalent_recurrent;
 pub use faults::GroupFault;
 pub use group::{Recurrent, act, add, identity, inverse};

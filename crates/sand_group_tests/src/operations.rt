@@ -3,6 +3,7 @@
 use crate::piles::{pile_on, row};
 use sand_group::{
     Burned, GroupFault, Recurrent, act, add, burn, equivalent_recurrent, identity, inverse,
+    multiple,
 };
 use sand_model::{Edge, Pile, Shape};
 use std::alloc::{AllocError, Global};
@@ -95,6 +96,28 @@ fn adds(rt: HostRuntime) -> Result<(), Fail> {
 fn inverts(rt: HostRuntime) -> Result<(), Fail> {
     let pile = recurrent(rt.alloc(), &[3, 1]).ok_or("not recurrent")?;
     assert!(rt; is_made(inverse(rt.alloc(), &pile), &[0, 2]));
+    Ok(())
+}
+
+// The group of two sites has 15 elements, and 2^64 - 1 is a multiple of 15.
+#[test]
+fn multiplies(rt: HostRuntime) -> Result<(), Fail> {
+    let pile = recurrent(rt.alloc(), &[3, 1]).ok_or("not recurrent")?;
+    for (n, heights) in [
+        (0, [3, 3]),
+        (1, [3, 1]),
+        (2, [2, 3]),
+        (3, [2, 1]),
+        (7, [0, 1]),
+        (15, [3, 3]),
+        (u64::MAX - 1, [0, 2]),
+        (u64::MAX, [3, 3]),
+    ] {
+        assert!(rt;
+            is_made(multiple(rt.alloc(), &pile, n), &heights),
+            "{n} copies"
+        );
+    }
     Ok(())
 }
 

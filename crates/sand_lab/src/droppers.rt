@@ -10,9 +10,9 @@ ghost use Rattle.std.specs.Int.{div_ceil};
 ghost use Rattle.sand_lab.specs.Jobs.{CanDrop, HasDropped, IsDropping};
 
 use crate::gate::{Gate, Role};
-use crate::streams::SiteReader;
 use crate::work::Work;
 use sand_shared::{Pass, SharedPile, SiteCounts};
+use sand_streams::SiteReader;
 
 /// How many batches a dropper drops at most.
 const BATCHES: u32 = 16;

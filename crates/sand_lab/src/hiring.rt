@@ -12,11 +12,11 @@ use crate::crew::Crew;
 use crate::droppers::{Dropper, batch_size};
 use crate::faults::LabFault;
 use crate::observers::{Observer, TALLIES};
-use crate::streams::{SiteReader, stream_of};
 use crate::workers::Worker;
 use sand_model::Shape;
 use sand_plan::Wish;
 use sand_shared::{Pass, SharedPile, SiteCounts};
+use sand_streams::{SiteReader, stream_of};
 use std::alloc::{AllocError, Global};
 
 // A pass with so much of the quota that the first one has left.

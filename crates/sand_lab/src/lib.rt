@@ -27,4 +27,5 @@ pub use plan::Plan;
 pub use report::Report;
 pub use runs::run;
 pub use sand_plan::Wish;
-pub use streams::{SiteReader, sites_of};
+pub use sand_streams::SiteReader;
+pub use streams::sites_of;

@@ -1,80 +1,12 @@
-//! The numbered streams of drop sites: ChaCha8 under a seed's key, read word by word.
+//! The sites of a stream of drops, with the faults of the laboratory.
 
-ghost use Rattle.std.specs.Prelude.{◌≡◌, ◌+◌, ◌<◌, ◌^◌, IfOk, IsOkUnless, alloc_error};
+ghost use Rattle.std.specs.Prelude.{◌≡◌, IfOk, IsOkUnless, alloc_error};
 ghost use Rattle.sand_model.specs.Grid.{sites};
-ghost use Rattle.sand_lab.specs.Streams.{key_bytes, key_of_seed, site_at, stream_of, stream_sites, Reading};
+ghost use Rattle.sand_lab.specs.Streams.{stream_sites};
 
 use crate::faults::LabFault;
-use rand_chacha::ChaCha8Rng;
-use rand_core::SeedableRng;
-use rand_core::utils::NextWord;
 use sand_model::Shape;
 use std::alloc::Global;
-use std::marker::Model;
-
-// The seed's bytes, the low byte first, and zeros.
-#[tactic(auto, unfolding(crate::specs::Streams::key_bytes))]
-fn key_bytes(seed: u64) -> [u8; 32]
-    ensures { result ≡ key_bytes seed }
-{
-    let mut bytes = [0; 32];
-    bytes[..8].copy_from_slice(&seed.to_le_bytes());
-    bytes
-}
-
-/// The stream of a dropper in an epoch: those of one epoch come before those of the next.
-pub(crate) fn stream_of(epoch: u32, dropper: u32) -> u64
-    ensures { result ≡ stream_of epoch dropper }
-{
-    u64::from(epoch) * 64 + u64::from(dropper)
-}
-
-/// A stream of drop sites, of which each is read when it is wanted.
-#[derive(Drop)]
-pub struct SiteReader {
-    words: ChaCha8Rng,
-    seed: u64,
-    sites: u32,
-}
-
-impl Model for SiteReader {
-    ghost use Rattle.std.specs.Prelude.{◌≡◌, ◌<◌};
-    ghost use Rattle.sand_lab.specs.Streams.{key_of_seed, Reading};
-
-    ghost Value = { Reading };
-
-    ghost view = { λ r. record { sites = r.sites; seed = r.seed; stream = r.words.stream; read = r.words.word_pos } };
-
-    ghost invariant = { λ r. (0 < r.sites) × (r.words.key ≡ key_of_seed r.seed) };
-}
-
-impl SiteReader {
-    /// The stream of this number, from its place 0.
-    #[tactic(auto, unfolding(crate::specs::Streams::key_of_seed))]
-    pub fn new(shape: Shape, seed: u64, stream: u64) -> SiteReader
-        ensures { result ≡ record { sites = sites shape; seed = seed; stream = stream; read = 0 } }
-    {
-        let mut words = ChaCha8Rng::from_seed(key_bytes(seed));
-        words.set_stream(stream);
-        SiteReader {
-            words,
-            seed,
-            sites: shape.sites() as u32,
-        }
-    }
-
-    /// The next site of the stream.
-    #[tactic(auto, unfolding(crate::specs::Streams::stream_word))]
-    pub fn next_site(&mut self) -> usize
-        requires { self.old.read < 2 ^ 32 }
-        ensures site { result ≡ site_at self.old.sites self.old.seed self.old.stream self.old.read }
-        ensures inside { result < self.old.sites }
-        ensures read { self.new ≡ record self.old { read = self.old.read + 1 } }
-    {
-        let word = self.words.next_word();
-        (word % self.sites) as usize
-    }
-}
 
 /// The first `count` sites of a stream: its 32-bit words from place 0 on, modulo the sites of the shape.
 /// Returns Memory if an allocation fails, and no other fault.
@@ -88,10 +20,5 @@ pub fn sites_of(
     ensures sites { IfOk result (λ v. v.items ≡ stream_sites (sites shape) seed stream count) }
     ensures memory { IsOkUnless result (LabFault.Memory alloc_error) }
 {
-    let mut reader = SiteReader::new(shape, seed, stream);
-    let mut read = Vec::with_capacity(alloc, count as usize)?;
-    for _ in 0..count {
-        read.push_reserved(reader.next_site());
-    }
-    Ok(read)
+    Ok(sand_streams::sites_of(alloc, shape, seed, stream, count)?)
 }

@@ -12,7 +12,7 @@ use std::thread::Threads;
 // A command line, its input, and the text that it writes.
 type Case = (&'static str, &'static str, &'static str);
 
-const COMMANDS: [Case; 10] = [
+const COMMANDS: [Case; 13] = [
     (
         "sandpile settle",
         "3 1\n0 4 0\n",
@@ -32,6 +32,7 @@ const COMMANDS: [Case; 10] = [
     ),
     ("sandpile add", "2 1\n3 1\n2 1\n3 3\n", "2 1\n3 1\n"),
     ("sandpile inverse", "2 1\n3 1\n", "2 1\n0 2\n"),
+    ("sandpile multiple --times 3", "2 1\n3 1\n", "2 1\n2 1\n"),
     ("sandpile recurrent", "3 1\n5 0 1\n", "3 1\n1 1 1\n"),
     (
         "sandpile drops",
@@ -43,6 +44,12 @@ const COMMANDS: [Case; 10] = [
         "1 1\n2\n",
         "number site size area reach lost\n0 0 0 0 0 0\n1 0 1 1 0 4\n2 0 0 0 0 0\n1 1\n1\nlost 4\ntopplings 1\n",
     ),
+    (
+        "sandpile drops --count 2 --from 5 --table",
+        "1 1\n2\n",
+        "number site size area reach lost\n5 0 0 0 0 0\n6 0 1 1 0 4\n",
+    ),
+    ("sandpile drops --count 3 --pile", "1 1\n2\n", "1 1\n1\n"),
 ];
 
 const RUNS: [Case; 3] = [

@@ -2,6 +2,7 @@ pub mod Again
 pub mod Chunks
 pub mod Cuts
 pub mod DigitRuns
+pub mod Growing
 pub mod Large
 pub mod Lengths
 pub mod Noting

@@ -12,6 +12,10 @@ unfoldable pub entries_text : List (ℕ × Avalanche) → List ℕ
 entries_text [] = []
 entries_text (e ∷ es) = entry_text e ++ entries_text es
 
+-- the line that names the columns
+abbrev pub table_head : List ℕ
+table_head = codes "number site size area reach lost\n"
+
 -- the line that names the columns, and a line for each drop
 abbrev pub table_text_of : List (ℕ × Avalanche) → List ℕ
-table_text_of es = codes "number site size area reach lost\n" ++ entries_text es
+table_text_of es = table_head ++ entries_text es

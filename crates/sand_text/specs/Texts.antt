@@ -40,3 +40,7 @@ odometer_text g ns = codes "odometer\n" ++ sites_text g ns
 abbrev pub settle_text_of : SettledView → List ℕ
 settle_text_of r = text_of r.pile ++ odometer_text r.pile.grid r.odometer
     ++ codes "lost " ++ decimal r.lost ++ codes "\ntopplings " ++ decimal r.topplings ++ codes "\n"
+
+-- a line that names a sum
+abbrev pub sum_line : List ℕ → ℕ → List ℕ
+sum_line name n = name ++ decimal n ++ codes "\n"

@@ -1,6 +1,7 @@
 //! Piles, drops, tables and the runs of the laboratory as text, and the loops that read and write texts.
 #![tactic(auto)]
 
+mod blocks;
 mod burning;
 mod bytes;
 mod drops;
@@ -18,6 +19,7 @@ mod tables;
 mod tokens;
 mod two_piles;
 
+pub use blocks::Blocks;
 pub use burning::burn_text;
 pub use drops::read_drops;
 pub use fault::{ReadFault, StreamFault, TextFault};
@@ -26,6 +28,7 @@ pub use journal::{push_journal_head, push_journal_line};
 pub use laws::{numbers_are_runs, read_again, strange_byte};
 pub use pictures::{no_long_line, pgm_text};
 pub use piles::{pile_text, read_pile, settle_text};
+pub use rows::push_sum;
 pub use runs::{Sums, lab_text};
-pub use tables::table_text;
+pub use tables::{table_head, table_text};
 pub use two_piles::read_two;

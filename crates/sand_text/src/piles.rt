@@ -1,6 +1,6 @@
 //! A pile from its text, the text of a pile, and that of a settled pile.
 
-ghost use Rattle.std.specs.Prelude.{◌≡◌, ◌+◌, ◌≤◌, ◌++◌, length, sum, OnOk, IfOk, IfErr};
+ghost use Rattle.std.specs.Prelude.{◌≡◌, ◌+◌, ◌≤◌, ◌++◌, length, sum, vec_len, vec_capacity, IsOk, OnOk, IfOk, IfErr};
 ghost use Rattle.sand_model.specs.Grid.{sites};
 ghost use Rattle.sand_text.specs.Tokens.{tokens, numbers};
 ghost use Rattle.sand_text.specs.Reading.{Reads, pile_of, heights_on};
@@ -37,9 +37,13 @@ pub fn read_pile(alloc: Global, text: &[u8]) -> Result<Pile, ReadFault>
     Ok(Pile::from_counted(shape, heights, grains))
 }
 
-// Writes the first line of a pile's text.
-fn push_shape(text: &mut Vec<u8>, shape: Shape) -> Result<(), AllocError>
-    ensures { OnOk result (text.new.items ≡ text.old.items ++ shape_text shape) }
+/// Writes the first line of a pile's text.
+pub(crate) fn push_shape(text: &mut Vec<u8>, shape: Shape) -> Result<(), AllocError>
+    ensures written { OnOk result (text.new.items ≡ text.old.items ++ shape_text shape) }
+
+    // With room for two numbers and what is behind each it succeeds.
+    ensures room { vec_len text.old + 44 ≤ vec_capacity text.old → IsOk result }
+    ensures capacity { vec_capacity text.old ≤ vec_capacity text.new }
 {
     push_number(text, shape.width() as u64)?;
     text.extend_from_slice(b" ")?;

@@ -1,8 +1,8 @@
 //! Writing numbers, and rows of them, at the end of a text.
 
-ghost use Rattle.std.specs.Prelude.{◌≡◌, ◌++◌, ◌+◌, ◌<◌, ◌==◌, length, decimal, OnOk, if◌then◌else◌};
+ghost use Rattle.std.specs.Prelude.{◌≡◌, ◌++◌, ◌+◌, ◌*◌, ◌<◌, ◌≤◌, ◌==◌, length, decimal, vec_len, vec_capacity, IsOk, OnOk, if◌then◌else◌};
 ghost use Rattle.sand_model.specs.Grid.{sites};
-ghost use Rattle.sand_text.specs.Texts.{row_text, sites_text};
+ghost use Rattle.sand_text.specs.Texts.{row_text, sites_text, sum_line};
 
 use itoa::Buffer;
 use sand_model::Shape;
@@ -10,7 +10,12 @@ use std::alloc::AllocError;
 
 /// Writes a number in decimal, without leading zeros.
 pub(crate) fn push_number(text: &mut Vec<u8>, number: u64) -> Result<(), AllocError>
-    ensures { OnOk result (text.new.items ≡ text.old.items ++ decimal number) }
+    ensures written { OnOk result (text.new.items ≡ text.old.items ++ decimal number) }
+
+    // With room for a number it succeeds.
+    ensures room { vec_len text.old + 20 ≤ vec_capacity text.old → IsOk result }
+    ensures few { vec_len text.new ≤ vec_len text.old + 20 }
+    ensures capacity { vec_capacity text.old ≤ vec_capacity text.new }
 {
     let mut buffer = Buffer::new();
     text.extend_from_slice(buffer.format(number).as_bytes())
@@ -26,13 +31,31 @@ fn separator(place: usize, count: usize) -> u8
 
 /// Writes numbers with a space between two, and a line end after the last.
 pub(crate) fn push_row(text: &mut Vec<u8>, numbers: &[u64]) -> Result<(), AllocError>
-    ensures { OnOk result (text.new.items ≡ text.old.items ++ row_text numbers.now) }
+    ensures written { OnOk result (text.new.items ≡ text.old.items ++ row_text numbers.now) }
+
+    // With room for all numbers and what follows them it succeeds.
+    ensures room { vec_len text.old + 21 * length numbers.now ≤ vec_capacity text.old → IsOk result }
+    ensures few { vec_len text.new ≤ vec_len text.old + 21 * length numbers.now }
+    ensures capacity { vec_capacity text.old ≤ vec_capacity text.new }
 {
     for (place, number) in numbers.iter().enumerate() {
         push_number(text, *number)?;
         text.push(separator(place, numbers.len()))?;
     }
     Ok(())
+}
+
+/// Writes a line that names a sum.
+pub fn push_sum(text: &mut Vec<u8>, name: &str, sum: u64) -> Result<(), AllocError>
+    ensures written { OnOk result (text.new.items ≡ text.old.items ++ sum_line name.now sum) }
+
+    // With room for the line it succeeds.
+    ensures room { vec_len text.old + length name.now + 21 ≤ vec_capacity text.old → IsOk result }
+    ensures capacity { vec_capacity text.old ≤ vec_capacity text.new }
+{
+    text.extend_from_slice(name.as_bytes())?;
+    push_number(text, sum)?;
+    text.extend_from_slice(b"\n")
 }
 
 /// Writes a number for each site, by grid rows.

@@ -1,15 +1,16 @@
 //! The table of the avalanches that drops set off.
 
 ghost use Rattle.std.specs.Prelude.{◌≡◌, ◌++◌, IfOk, OnOk};
-ghost use Rattle.sand_text.specs.Tables.{entry_text, table_text_of};
+ghost use Rattle.sand_text.specs.Tables.{entry_text, table_head, table_text_of};
+ghost use Rattle.sand_text.specs.Texts.{row_text};
 
 use crate::rows::push_row;
 use sand_settle::Avalanche;
 use std::alloc::{AllocError, Global};
 
-// Writes the line of a drop: its number, and what it set off.
-fn push_entry(text: &mut Vec<u8>, number: u64, avalanche: Avalanche) -> Result<(), AllocError>
-    ensures { OnOk result (text.new.items ≡ text.old.items ++ entry_text (number, avalanche)) }
+/// The numbers in the line of a drop: its own, and what it set off.
+pub(crate) fn fields_of(number: u64, avalanche: Avalanche) -> [u64; 6]
+    ensures { row_text result ≡ entry_text (number, avalanche) }
 {
     let Avalanche {
         site,
@@ -18,15 +19,28 @@ fn push_entry(text: &mut Vec<u8>, number: u64, avalanche: Avalanche) -> Result<(
         reach,
         lost,
     } = avalanche;
-    let fields = [
+    [
         number,
         site as u64,
         size,
         u64::from(area),
         u64::from(reach),
         lost,
-    ];
-    push_row(text, &fields)
+    ]
+}
+
+// Writes the line of a drop.
+fn push_entry(text: &mut Vec<u8>, number: u64, avalanche: Avalanche) -> Result<(), AllocError>
+    ensures { OnOk result (text.new.items ≡ text.old.items ++ entry_text (number, avalanche)) }
+{
+    push_row(text, &fields_of(number, avalanche))
+}
+
+/// The first line of a table, which names its columns.
+pub fn table_head() -> &'static [u8]
+    ensures { result.now ≡ table_head }
+{
+    b"number site size area reach lost\n"
 }
 
 /// The table of a run of drops: a first line that names the columns, and a line for each drop, with its number and what
@@ -35,7 +49,7 @@ pub fn table_text(alloc: Global, rows: &[(u64, Avalanche)]) -> Result<Vec<u8>, A
     ensures { IfOk result (λ text. text.items ≡ table_text_of rows.now) }
 {
     let mut text = Vec::new(alloc);
-    text.extend_from_slice(b"number site size area reach lost\n")?;
+    text.extend_from_slice(table_head())?;
     for (number, avalanche) in rows {
         push_entry(&mut text, *number, *avalanche)?;
     }

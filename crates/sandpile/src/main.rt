@@ -1,16 +1,21 @@
 //! The program `sandpile`: passes its words, its standard input and its standard output to `sand_desk`, and reports how
-//! that ended by a line on the standard error and by its exit status.
+//! that ended by a line on the standard error and by its exit status. If the standard error is a terminal, the line is followed
+//! by what `sand_advice` says of it to a person.
 #![tactic(auto)]
 
-ghost use Rattle.std.specs.Prelude.{◌≡◌, ◌≢◌, ◌<◌, IfErr, false, length};
+ghost use Rattle.std.specs.Prelude.{◌≡◌, ◌≢◌, ◌<◌, IfErr, false, true, length};
 ghost use Rattle.std.specs.Process.{exit_status};
 ghost use Rattle.sand_desk.specs.Faults.{status_of};
 
-use sand_desk::{
-    DeskFault, asks_for_version, run_command, show_help, status, write_fault, write_version,
-};
+mod kept;
+mod request;
+
+use kept::Kept;
+use request::{Request, request_of};
+use sand_advice::{advice, tip, write_explain_help, write_explained};
+use sand_desk::{DeskFault, run_command, show_help, status, write_fault, write_version};
 use std::alloc::Global;
-use std::io::{Read, Write};
+use std::io::{IsTerminal, Read, Write};
 use std::process::ExitCode;
 use std::rt::Env;
 use std::thread::Threads;
@@ -31,19 +36,25 @@ fn main(rt: HostRuntime) -> ExitCode {
     if is_nothing(words.as_slice()) {
         return ExitCode::from(2);
     }
-    match answer(
-        &rt,
-        alloc,
-        words.as_slice(),
-        &mut rt.stdin(),
-        &mut rt.stdout(),
-    ) {
+    if refuses(&rt, request_of(words.as_slice())) {
+        return ExitCode::from(2);
+    }
+    let speaks = rt.stderr().is_terminal();
+    let copy = if speaks { Some(Vec::new(alloc)) } else { None };
+    let mut input = Kept::new(rt.stdin(), copy);
+    match answer(&rt, alloc, words.as_slice(), &mut input, &mut rt.stdout()) {
         Ok(()) => ExitCode::SUCCESS,
-        Err(fault) => end(&rt, &mut rt.stderr(), &fault),
+        Err(fault) => {
+            let code = end(&rt, &mut rt.stderr(), &fault);
+            if speaks {
+                advise(&rt, alloc, words.as_slice(), input.copy(), &fault);
+            }
+            code
+        }
     }
 }
 
-// Runs the command that the words name, or writes the version or the help that they ask for.
+// Runs the command that the words name, or writes the version, the help or the meaning of faults that they ask for.
 fn answer<T: Threads + Sync, R: Read, W: Write>(
     rt: &T,
     alloc: Global,
@@ -54,12 +65,46 @@ fn answer<T: Threads + Sync, R: Read, W: Write>(
     requires { 0 < length words.now }
     ensures { IfErr result (λ e. status_of e ≢ 0) }
 {
-    if asks_for_version(words) {
-        return write_version(output);
+    match request_of(words) {
+        Request::Version => write_version(output),
+        Request::Explain(faults) => write_explained(alloc, faults, output),
+        Request::ExplainHelp => write_explain_help(output),
+        _ => match run_command(rt, alloc, words, input, output) {
+            Ok(()) => Ok(()),
+            Err(fault) => show_help(alloc, fault, output),
+        },
     }
-    match run_command(rt, alloc, words, input, output) {
-        Ok(()) => Ok(()),
-        Err(fault) => show_help(alloc, fault, output),
+}
+
+// Reports that `explain` is asked for something that is not one fault, if it is.
+fn refuses<R: Eprint>(rt: &R, request: Request<'_>) -> bool {
+    let _ = match request {
+        Request::NoFault(word) => eprintln!(rt;
+            "error: '{word}' is no fault of a command; 'sandpile explain' lists them"
+        ),
+        Request::ManyFaults => eprintln!(rt;
+            "error: 'explain' takes one number or name of a fault"
+        ),
+        _ => return false,
+    };
+    true
+}
+
+// Says to a person what a fault means here, and what to do. It is no fault if there is no memory for that.
+fn advise<R: Eprint>(
+    rt: &R,
+    alloc: Global,
+    words: &[String],
+    input: Option<&[u8]>,
+    fault: &DeskFault,
+) {
+    let said = match (fault, words) {
+        (DeskFault::Usage(_) | DeskFault::Clash(_), _) => tip(alloc, words),
+        (_, [_, command, ..]) => advice(alloc, command.as_str(), input, fault),
+        _ => return,
+    };
+    if let Ok(text) = said {
+        let _ = eprint!(rt; "{text}");
     }
 }
 
@@ -69,7 +114,21 @@ fn words_of(rt: &(impl Env + AllocGlobal)) -> io::Result<Vec<String>> {
     for word in args {
         words.push(word)?;
     }
+    if asks_for_help(words.as_slice()) {
+        let _ = words.remove(1);
+        words.push(String::from_str(rt.alloc(), "--help")?)?;
+    }
     Ok(words)
+}
+
+// Whether the words are `help`, alone or with a command: then they are taken as `--help`, alone or after the command.
+fn asks_for_help(words: &[String]) -> bool
+    ensures { result ≡ true → 1 < length words.now }
+{
+    match words {
+        [_, word] | [_, word, _] => word.as_str() == "help",
+        _ => false,
+    }
 }
 
 // A program that is started without any word has none here, or one empty word, which today's kernels make of none.

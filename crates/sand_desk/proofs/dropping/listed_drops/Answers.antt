@@ -1,7 +1,7 @@
-use Rattle.std.proofs.Common.{◌∙◌, ◌<◌, All, sym, subst}
+use Rattle.std.proofs.Common.{◌∙◌, ◌<◌, ℕ, All, sym, subst}
 use Rattle.std.proofs.lemmas.Result.{IfOk-weaker}
 use Rattle.sand_model.specs.Grid.{Grid, sites}
-use Rattle.sand_desk.specs.Dropping.{AreNoted}
+use Rattle.sand_desk.specs.Dropping.{AreNoted, AreRows}
 use Rattle.sand_desk.proofs.DropSites.{drops_inside}
 use Rattle.sand_desk.proofs.Rows.{noted_text}
 use Rattle.sand_desk.proofs.dropping.listed_drops.Goals as goal
@@ -14,8 +14,9 @@ drop_all-requires c =
 
 pub returns-clause-text : goal.returns-clause-text
 returns-clause-text c =
-    let noted : AreNoted c.args.alone c.in_ok-pile.pile c.in_ok-start.drops.items c.in_ok-rows.rows.items c.drop_all.new.pile = rw c.as_slice.ensures.value at c.in_ok-rows.ensures.rows in
-    IfOk-weaker c.drops_or_pile.result _ _
+    let noted : AreNoted c.is_pile.result c.in_ok-pile.pile c.in_ok-start.drops.items c.in_ok-rows.rows.items c.drop_all.new.pile = rw c.as_slice.ensures.value at c.in_ok-rows.ensures.rows in
+    let P : ℕ → Type 0 = λ n. AreRows n c.in_ok-pile.pile c.in_ok-start.drops.items noted.0 c.drop_all.new.pile in
+    IfOk-weaker c.part_text.result _ _
     (λ text written. record {
       pile = c.in_ok-start.start;
       sites = c.in_ok-start.drops.items;
@@ -24,8 +25,8 @@ returns-clause-text c =
       rows = noted.0;
       read = c.in_ok-start.ensures;
       start = c.in_ok-pile.ensures.settled;
-      dropped = noted.1;
+      dropped = subst P c.in_ok-pile.ensures.settled.number noted.1;
       end = rw c.as_slice.ensures.value at (c.in_ok-rows.ensures.after c.in_ok-start.start c.in_ok-pile.ensures.settled);
-      written = (rw c.as_slice-2.ensures.value at written) ∙ noted_text c.args.alone c.in_ok-rows.rows.items noted.0 c.drop_all.new.pile noted.2;
+      written = (rw c.as_slice-2.ensures.value at written) ∙ noted_text c.args.part c.in_ok-rows.rows.items noted.0 c.drop_all.new.pile (rw c.is_pile.ensures at noted.2);
     })
-    c.drops_or_pile.ensures.text
+    c.part_text.ensures.text

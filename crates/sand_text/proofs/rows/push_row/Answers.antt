@@ -5,8 +5,12 @@ use Rattle.sand_text.proofs.rows.push_row.Goals as goal
 pub loop-place-preserved : goal.loop-place-preserved
 loop-place-preserved c =
     let next = row_text-next c.args.numbers.now c.loop-place.place (omega arith) in
-    let grown = rw next at c.loop-place.invariant in
-    rw (c.in_ok-push.ensures.items, c.in_ok-push_number.ensures, c.separator.ensures, append_assoc, append_assoc) grown
+    let grown = rw next at c.loop-place.invariant.written in
+    record {
+      written = rw (c.in_ok-push.ensures.items, c.in_ok-push_number.ensures.written, c.separator.ensures, append_assoc, append_assoc) grown;
+      few = omega (arith, c.loop-place.invariant.few, c.in_ok-push_number.ensures.few, c.in_ok-push.ensures.upper_bound);
+      capacity = omega (arith, c.loop-place.invariant.capacity, c.in_ok-push_number.ensures.capacity, c.in_ok-push.ensures.capacity);
+    }
 
-pub returns : goal.returns
-returns c = let none = row_text-end c.args.numbers.now c.loop-place.place (omega arith) in sym (append-nil _) ∙ rw none at c.loop-place.invariant
+pub returns-clause-written : goal.returns-clause-written
+returns-clause-written c = let none = row_text-end c.args.numbers.now c.loop-place.place (omega arith) in sym (append-nil _) ∙ rw none at c.loop-place.invariant.written

@@ -1,6 +1,10 @@
-use Rattle.std.proofs.Common.{◌≡◌, ◌++◌, drop}
+use Rattle.std.proofs.Common.{◌≡◌, ◌++◌, ◌+◌, ◌*◌, ◌≤◌, drop, vec_len, vec_capacity}
 use Rattle.sand_text.specs.Texts.{row_text}
 use Rattle.sand_text.proofs.rows.push_row.Given as goal
 
 abbrev pub invariant-loop-place : goal.invariant-loop-place
-invariant-loop-place l = l.text.items ++ row_text (drop l.place l.numbers) ≡ l.fn.text.items ++ row_text l.numbers
+invariant-loop-place l = record {
+  written : l.text.items ++ row_text (drop l.place l.numbers) ≡ l.fn.text.items ++ row_text l.numbers;
+  few : vec_len l.text ≤ vec_len l.fn.text + 21 * l.place;
+  capacity : vec_capacity l.fn.text ≤ vec_capacity l.text;
+}

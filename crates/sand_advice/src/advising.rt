@@ -1,0 +1,140 @@
+//! What a person is told of a fault, beside its line: what was found in the input and where, and what to do.
+//!
+//! The input is looked at again, from its bytes alone. What a command promises does not depend on any of this.
+
+use crate::faults::{Explained, of_fault};
+use crate::outline::Numbers;
+use crate::pushing::{push_byte, push_grouped, push_place};
+use crate::refused::Refused;
+use crate::{piles, strange};
+use sand_desk::DeskFault;
+use sand_model::GRAIN_LIMIT;
+use std::alloc::{AllocError, Global};
+
+// An input that ends before it has a width and a height.
+fn push_end(text: &mut String, refused: &Refused<'_>) -> Result<(), AllocError> {
+    let (numbers, name) = match refused.first() {
+        Some(first) => (first.drops(), "the second pile"),
+        None => (Numbers::new(refused.input), "the pile"),
+    };
+    push_place(text, refused.input, refused.input.len())?;
+    let is_second = refused.first().is_some();
+    match numbers.count() {
+        0 if is_second => text.push_str("the input ends after the first pile\n"),
+        0 if refused.input.is_empty() => text.push_str("the input is empty\n"),
+        0 => text.push_str("the input has no numbers\n"),
+        _ => write!(text, "the input ends after the width of {name}\n"),
+    }?;
+    if is_second {
+        text.push_str("'add' reads two piles: cat FIRST SECOND | sandpile add\n")
+    } else {
+        text.push_str(strange::PLAIN)?;
+        text.push_str("\nFor example: echo '3 1  0 4 0' | sandpile settle\n")
+    }
+}
+
+// A byte that is in no text of a pile, or an input that ends too early.
+fn push_text(text: &mut String, refused: &Refused<'_>, at: usize) -> Result<(), AllocError> {
+    let Some(byte) = refused.input.get(at) else {
+        return push_end(text, refused);
+    };
+    push_place(text, refused.input, at)?;
+    push_byte(text, *byte)?;
+    text.push_str(" is neither a digit nor white space\n")?;
+    text.push_str(strange::meaning(refused.input, at))?;
+    text.push_str("\n")
+}
+
+// A number over the grain limit.
+fn push_large(text: &mut String, refused: &Refused<'_>, at: usize) -> Result<(), AllocError> {
+    push_place(text, refused.input, at)?;
+    text.push_str("the number is over ")?;
+    push_grouped(text, GRAIN_LIMIT)?;
+    text.push_str("\n")
+}
+
+// More grains than the limit, with all drops.
+fn push_full(text: &mut String, refused: &Refused<'_>) -> Result<(), AllocError> {
+    let Some(pile) = refused.first() else {
+        return Ok(());
+    };
+    text.push_str("the pile has ")?;
+    push_grouped(text, pile.grains())?;
+    text.push_str(" grains, and with its drops may have ")?;
+    push_grouped(text, GRAIN_LIMIT)?;
+    text.push_str("\n")
+}
+
+// What was found in the input, if the fault is one of the input.
+fn push_found(
+    text: &mut String,
+    alloc: Global,
+    refused: &Refused<'_>,
+    fault: &DeskFault,
+) -> Result<(), AllocError> {
+    match fault {
+        DeskFault::Side => piles::push_side(text, refused),
+        DeskFault::Length => piles::push_length(text, refused),
+        DeskFault::TooManyGrains => piles::push_grains(text, refused),
+        DeskFault::Full => push_full(text, refused),
+        DeskFault::Unstable => piles::push_unstable(text, refused),
+        DeskFault::NotRecurrent => piles::push_forbidden(text, alloc, refused),
+        DeskFault::Shapes => piles::push_shapes(text, refused),
+        DeskFault::Text(at) => push_text(text, refused, *at),
+        DeskFault::TooLarge(at) => push_large(text, refused, *at),
+        DeskFault::Narrow => piles::push_narrow(text, refused),
+        DeskFault::NoSite(index) => piles::push_no_site(text, refused, *index),
+        _ => Ok(()),
+    }
+}
+
+// Whether the sentences on a fault's input say what to do, too.
+fn says_what_to_do(fault: &DeskFault) -> bool {
+    matches!(
+        fault,
+        DeskFault::Side | DeskFault::Length | DeskFault::Text(_)
+    )
+}
+
+// What is said of a fault of any input.
+fn push_usual(
+    text: &mut String,
+    command: &str,
+    fault: &DeskFault,
+    explained: &Explained,
+) -> Result<(), AllocError> {
+    match (fault, command) {
+        (DeskFault::Memory, "lab") => text.push_str(
+            "'lab' needs about 40 bytes of memory for each drop, of all epochs together. Use\nfewer drops or epochs.",
+        ),
+        (DeskFault::Memory, "drops") => text.push_str(
+            "Use a smaller pile, or fewer sites in the input.",
+        ),
+        _ => text.push_str(explained.remedy),
+    }?;
+    text.push_str("\n")
+}
+
+/// What a person is told of a fault of a command, beside its line: one or two sentences, each with its line end. The input is
+/// what the command read, if that is known. Fails if memory runs out.
+pub fn advice(
+    alloc: Global,
+    command: &str,
+    input: Option<&[u8]>,
+    fault: &DeskFault,
+) -> Result<String, AllocError> {
+    let mut text = String::new(alloc);
+    if let Some(input) = input {
+        push_found(&mut text, alloc, &Refused { command, input }, fault)?;
+    }
+    if let Some(explained) = of_fault(fault) {
+        if text.is_empty() && !matches!(fault, DeskFault::Memory) {
+            text.push_str(explained.meaning)?;
+            text.push_str("\n")?;
+        }
+        if !says_what_to_do(fault) || input.is_none() {
+            push_usual(&mut text, command, fault, explained)?;
+        }
+    }
+    Ok(text)
+}

@@ -1,0 +1,255 @@
+//! The faults that a command may report: what each means, and what to do about it.
+
+ghost use Rattle.std.specs.Prelude.{◌≢◌, IfErr};
+ghost use Rattle.sand_desk.specs.Faults.{status_of};
+
+use sand_desk::DeskFault;
+use sand_text::write_text;
+use std::alloc::{AllocError, Global};
+use std::io::Write;
+
+/// What is said of a fault. Its lines are at most 76 bytes long, since they are written with two spaces before them.
+#[derive(Clone, Copy)]
+pub struct Explained {
+    pub number: u32,
+    pub name: &'static str,
+    /// What follows the name in the fault's line.
+    pub place: &'static str,
+    pub meaning: &'static str,
+    pub remedy: &'static str,
+}
+
+/// All faults that a command may report, by number.
+pub static FAULTS: [Explained; 16] = [
+    Explained {
+        number: 1,
+        name: "Side",
+        place: "",
+        meaning: "The width or the height of a grid is not from 1 to 256.",
+        remedy: "\
+The first two numbers of a pile are its width and its height. If the input
+is a grid without its size, put a line with both before it.",
+    },
+    Explained {
+        number: 2,
+        name: "Length",
+        place: "",
+        meaning: "The number of heights is not width times height.",
+        remedy: "\
+Give each site one height, row by row. Only 'drops' without --count takes
+numbers behind the heights: the sites of its drops.",
+    },
+    Explained {
+        number: 3,
+        name: "TooManyGrains",
+        place: "",
+        meaning: "\
+The pile has more than 1,099,511,627,775 grains, or it would have with all
+drops of 'lab'.",
+        remedy: "Use smaller heights, or fewer drops.",
+    },
+    Explained {
+        number: 4,
+        name: "Memory",
+        place: "",
+        meaning: "The program ran out of memory.",
+        remedy: "\
+Free some, or use a smaller pile. 'lab' needs less with fewer drops, 'drops'
+with fewer sites in its input.",
+    },
+    Explained {
+        number: 6,
+        name: "Full",
+        place: "",
+        meaning: "\
+One drop more would bring the grains of the pile and of its drops over
+1,099,511,627,775.",
+        remedy: "Drop fewer grains.",
+    },
+    Explained {
+        number: 7,
+        name: "Unstable",
+        place: "",
+        meaning: "A site has more than 3 grains, and the command takes only stable piles.",
+        remedy: "\
+Settle the pile first: 'sandpile settle --pile' writes the settled pile
+alone.",
+    },
+    Explained {
+        number: 8,
+        name: "NotRecurrent",
+        place: "",
+        meaning: "A pile is not recurrent: some of its sites are a forbidden set.",
+        remedy: "\
+'sandpile burn' writes these sites. 'sandpile recurrent' writes the
+recurrent pile that is equivalent to the pile.",
+    },
+    Explained {
+        number: 9,
+        name: "Shapes",
+        place: "",
+        meaning: "The two piles differ in width or height, or one alone is a cylinder.",
+        remedy: "Give two piles of one shape.",
+    },
+    Explained {
+        number: 18,
+        name: "Text",
+        place: " at N",
+        meaning: "\
+Byte N of the input, counted from 0, is in no text of a pile; or the input
+ends there, before it has a width and a height.",
+        remedy: "\
+Write a pile as numbers with white space between them: its width, its
+height, and the grains of each site, row by row. To pass on the pile of
+'settle', 'drops' or 'lab', let them write it with --pile.",
+    },
+    Explained {
+        number: 19,
+        name: "TooLarge",
+        place: " at N",
+        meaning: "\
+The number at byte N of the input, counted from 0, is over
+1,099,511,627,775.",
+        remedy: "Use smaller numbers.",
+    },
+    Explained {
+        number: 20,
+        name: "Read",
+        place: "",
+        meaning: "The standard input could not be read.",
+        remedy: "\
+Check the file or the pipe: a folder cannot be read, nor can an input that
+is closed.",
+    },
+    Explained {
+        number: 21,
+        name: "Write",
+        place: " after N",
+        meaning: "\
+The standard output failed after it had taken the first N bytes of the
+result.",
+        remedy: "\
+Check the file or the pipe: the disk may be full, or the program that reads
+the pipe may have ended.",
+    },
+    Explained {
+        number: 22,
+        name: "TooLong",
+        place: "",
+        meaning: "The input has more than 1,048,576 bytes.",
+        remedy: "\
+Check that the input is a pile. 'drops --count' draws its sites, so that
+they need not be in the input.",
+    },
+    Explained {
+        number: 23,
+        name: "Usage",
+        place: "",
+        meaning: "\
+The command line was refused. Its own message is written in place of the
+line of a fault, and the status is 2.",
+        remedy: "'sandpile help COMMAND' says what a command takes.",
+    },
+    Explained {
+        number: 24,
+        name: "Narrow",
+        place: "",
+        meaning: "A cylinder is less than 3 wide.",
+        remedy: "\
+Make it wider, or leave out the letter c after the height, or --cylinder.",
+    },
+    Explained {
+        number: 25,
+        name: "NoSite",
+        place: " at N",
+        meaning: "\
+The site of drop N, counted from 0, is not in the grid.",
+        remedy: "\
+Sites are numbered from 0, row by row, so the last one is width times
+height, less 1.",
+    },
+];
+
+/// What `sandpile explain --help` writes.
+const EXPLAIN_HELP: &str = "\
+Says what a fault means, and what to do about it
+
+Usage: sandpile explain [FAULT]
+
+Arguments:
+  [FAULT]  Number or name of a fault, such as 18 or Text; all faults without it
+
+Options:
+  -h, --help  Print help
+
+Output: the line of the fault, what it means, and what to do.
+
+Example:
+
+  $ sandpile explain 24
+  fault 24 Narrow
+    A cylinder is less than 3 wide.
+    Make it wider, or leave out the letter c after the height, or --cylinder.
+";
+
+/// What is said of the fault that has this number or this name, if a command may report it.
+pub fn fault_named(word: &str) -> Option<&'static Explained> {
+    let number = word.parse::<u32>().ok();
+    FAULTS
+        .iter()
+        .find(|fault| number == Some(fault.number) || word == fault.name)
+}
+
+/// What is said of a fault, if it is one that a command may report.
+pub(crate) fn of_fault(fault: &DeskFault) -> Option<&'static Explained> {
+    let number = fault.number();
+    FAULTS.iter().find(|explained| explained.number == number)
+}
+
+// Adds the lines of a text, each with two spaces before it.
+fn push_indented(text: &mut String, lines: &str) -> Result<(), AllocError> {
+    for line in lines.split('\n') {
+        text.push_str("  ")?;
+        text.push_str(line)?;
+        text.push_str("\n")?;
+    }
+    Ok(())
+}
+
+fn push_explained(text: &mut String, fault: &Explained) -> Result<(), AllocError> {
+    write!(
+        text,
+        "fault {} {}{}\n",
+        fault.number, fault.name, fault.place
+    )?;
+    push_indented(text, fault.meaning)?;
+    push_indented(text, fault.remedy)
+}
+
+/// Writes what is said of these faults, with an empty line between two. Fails if memory runs out for the text (Memory), or if
+/// the writer fails (Write, with how many bytes it took).
+pub fn write_explained<W: Write>(
+    alloc: Global,
+    faults: &[Explained],
+    writer: &mut W,
+) -> Result<(), DeskFault>
+    ensures { IfErr result (λ e. status_of e ≢ 0) }
+{
+    let mut text = String::new(alloc);
+    for fault in faults {
+        if !text.is_empty() {
+            text.push_str("\n")?;
+        }
+        push_explained(&mut text, fault)?;
+    }
+    write_text(writer, text.as_str().as_bytes())?;
+    Ok(())
+}
+
+/// Writes the help of `sandpile explain`. It takes no memory. Fails if the writer fails (Write, with how many bytes it took).
+pub fn write_explain_help<W: Write>(writer: &mut W) -> Result<(), DeskFault>
+    ensures { IfErr result (λ e. status_of e ≢ 0) }
+{
+    write_text(writer, EXPLAIN_HELP.as_bytes())?;
+    Ok(())
+}

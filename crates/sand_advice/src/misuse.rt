@@ -1,0 +1,161 @@
+//! Tips for words that the command line refuses: a file's name, and a value that is no whole number.
+
+use std::alloc::{AllocError, Global};
+
+/// The commands that read a pile from the standard input.
+static READERS: [&str; 8] = [
+    "settle",
+    "burn",
+    "drops",
+    "add",
+    "inverse",
+    "multiple",
+    "recurrent",
+    "lab",
+];
+
+/// The commands that read nothing.
+static OTHERS: [&str; 2] = ["identity", "explain"];
+
+/// The options that no value follows.
+static FLAGS: [&str; 7] = [
+    "--pile",
+    "--pgm",
+    "--table",
+    "--cylinder",
+    "--journal",
+    "--help",
+    "--version",
+];
+
+/// A word that is refused, and perhaps why.
+#[derive(Clone, Copy)]
+enum Mistake<'a> {
+    /// A word where a command takes none. It may be a file's name.
+    Stray(&'a str),
+    /// A value that is no whole number.
+    NotWhole(&'a str),
+}
+
+fn reads_a_pile(word: &str) -> bool {
+    READERS.iter().any(|command| *command == word)
+}
+
+/// Whether a word is a command.
+pub fn is_command(word: &str) -> bool {
+    reads_a_pile(word) || OTHERS.iter().any(|command| *command == word)
+}
+
+// Whether a word is a whole number, as options take it.
+fn is_whole(word: &str) -> bool {
+    let digits = word.strip_prefix('+').unwrap_or(word);
+    !digits.is_empty() && digits.as_bytes().iter().all(|byte| byte.is_ascii_digit())
+}
+
+// Whether a shell takes a word as it is.
+fn is_plain(word: &str) -> bool {
+    word.as_bytes().iter().all(|byte| byte.is_ascii_alphanumeric()
+        || matches!(byte, b'.' | b'_' | b'-' | b'/'))
+}
+
+// Whether the word is an option that the next word gives a value.
+fn awaits_value(word: &str) -> bool {
+    word.starts_with("--") && !word.contains('=') && !FLAGS.iter().any(|flag| *flag == word)
+}
+
+// The mistake in a value, if there is one. Clap says enough of an empty value.
+fn mistake_in_value(value: &str) -> Option<Mistake<'_>> {
+    if value.is_empty() || value.starts_with("--") || is_whole(value) {
+        None
+    } else {
+        Some(Mistake::NotWhole(value))
+    }
+}
+
+// The mistake in a word that follows another word.
+fn mistake_in<'a>(before: &str, word: &'a str) -> Option<Mistake<'a>> {
+    if awaits_value(before) {
+        mistake_in_value(word)
+    } else if let Some((option, value)) = word.split_once('=') {
+        if awaits_value(option) {
+            mistake_in_value(value)
+        } else {
+            None
+        }
+    } else if word.starts_with('-') || is_whole(word) {
+        None
+    } else {
+        Some(Mistake::Stray(word))
+    }
+}
+
+// The mistake with this index in the words that follow a command.
+fn mistake_at<'a>(words: &'a [String], index: usize) -> Option<Mistake<'a>> {
+    words
+        .iter()
+        .zip(words.iter().skip(1))
+        .filter_map(|(before, word)| mistake_in(before.as_str(), word.as_str()))
+        .nth(index)
+}
+
+// How a command reads a file.
+fn push_reading(text: &mut String, command: &str, file: &str) -> Result<(), AllocError> {
+    let file = if is_plain(file) { file } else { "FILE" };
+    write!(
+        text,
+        "tip: a pile is read from the standard input: sandpile {command} < {file}\n"
+    )
+}
+
+// How a command reads two files.
+fn push_joining(text: &mut String, first: &str, second: &str) -> Result<(), AllocError> {
+    let (first, second) = if is_plain(first) && is_plain(second) {
+        (first, second)
+    } else {
+        ("FIRST", "SECOND")
+    };
+    write!(
+        text,
+        "tip: both piles are read from the standard input: cat {first} {second} | sandpile add\n"
+    )
+}
+
+// A tip for the words that follow a command.
+fn push_tip(text: &mut String, command: &str, words: &[String]) -> Result<(), AllocError> {
+    match (mistake_at(words, 0), mistake_at(words, 1)) {
+        (Some(Mistake::NotWhole(value)), _) => {
+            let value = if is_plain(value) { value } else { "the value" };
+            write!(
+                text,
+                "tip: a whole number is wanted, in digits alone, such as 1000000; {value} is none\n"
+            )
+        }
+        (Some(Mistake::Stray(first)), Some(Mistake::Stray(second))) if command == "add" => {
+            push_joining(text, first, second)
+        }
+        (Some(Mistake::Stray(file)), _) if reads_a_pile(command) => {
+            push_reading(text, command, file)
+        }
+        _ => Ok(()),
+    }
+}
+
+// Whether a word in the place of a command looks like a file's name.
+fn is_file(word: &str) -> bool {
+    !word.starts_with('-') && (word.contains('.') || word.contains('/'))
+}
+
+/// A tip for words that the command line refuses, the program's name being the first, or nothing. Fails if memory runs out.
+pub fn tip(alloc: Global, words: &[String]) -> Result<String, AllocError> {
+    let mut text = String::new(alloc);
+    if let [_, after @ ..] = words {
+        if let Some(command) = after.first() {
+            if is_file(command.as_str()) {
+                push_reading(&mut text, "settle", command.as_str())?;
+            } else {
+                push_tip(&mut text, command.as_str(), after)?;
+            }
+        }
+    }
+    Ok(text)
+}

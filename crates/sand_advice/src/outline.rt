@@ -1,0 +1,201 @@
+//! What an input says of its piles, as far as it goes: for inputs that were refused, so nothing here relies on more than bytes.
+
+ghost use Rattle.std.specs.Prelude.{length};
+ghost use Rattle.std.specs.Iterator.{at_most};
+
+use sand_model::{CYLINDER_WIDTH, GRAIN_LIMIT, SIDE_LIMIT, TOPPLING_HEIGHT};
+
+/// A number of an input, with the offset of its first digit. A value over the range is the greatest of the range.
+#[derive(Clone, Copy)]
+pub(crate) struct Number {
+    pub start: usize,
+    pub value: u64,
+}
+
+/// The numbers of an input, from a place on.
+#[derive(Clone, Copy)]
+pub(crate) struct Numbers<'a> {
+    at: usize,
+    rest: &'a [u8],
+}
+
+fn is_digit(byte: u8) -> bool {
+    byte.is_ascii_digit()
+}
+
+// The number that goes on with one digit more.
+fn with_digit(value: u64, digit: u8) -> u64 {
+    value
+        .saturating_mul(10)
+        .saturating_add(u64::from(digit.saturating_sub(b'0')))
+}
+
+impl<'a> Numbers<'a> {
+    pub(crate) fn new(text: &'a [u8]) -> Numbers<'a> {
+        Numbers { at: 0, rest: text }
+    }
+
+    // Whether the letter of a cylinder is next.
+    fn has_letter(&self) -> bool {
+        let next = self.rest.iter().find(|byte| !byte.is_ascii_whitespace());
+        next == Some(&b'c')
+    }
+
+    // The numbers that are left after so many.
+    fn after(mut self, count: usize) -> Numbers<'a> {
+        'numbers: for _ in 0..count {
+            if self.next().is_none() {
+                break;
+            }
+        }
+        self
+    }
+}
+
+impl<'a> Iterator for Numbers<'a> {
+    type Item = Number;
+
+    ghost remaining = { λ numbers. at_most (length numbers.rest.now) };
+
+    fn next(&mut self) -> Option<Number> {
+        let skipped = self.rest.iter().position(|byte| is_digit(*byte))?;
+        let (_, text) = self.rest.split_at(skipped);
+        let (first, more) = text.split_first()?;
+        let len = more
+            .iter()
+            .position(|byte| !is_digit(*byte))
+            .unwrap_or(more.len());
+        let (digits, rest) = more.split_at(len);
+        let start = self.at.saturating_add(skipped);
+        *self = Numbers {
+            at: start.saturating_add(len).saturating_add(1),
+            rest,
+        };
+        let value = digits.iter().fold(
+            with_digit(0, *first),
+            |value, digit| with_digit(value, *digit),
+        );
+        Some(Number { start, value })
+    }
+}
+
+/// Why a pile may be refused, if it is the first of two.
+#[derive(Clone, Copy)]
+pub(crate) enum Defect {
+    Side,
+    Narrow,
+    /// Fewer heights than sites.
+    Length,
+    TooManyGrains,
+    Unstable,
+}
+
+/// What an input says of one pile.
+#[derive(Clone, Copy)]
+pub(crate) struct Outline<'a> {
+    pub width: Number,
+    pub height: Number,
+    pub is_cylinder: bool,
+    /// The numbers behind the sides, up to the end of the input.
+    pub behind: Numbers<'a>,
+}
+
+impl<'a> Outline<'a> {
+    /// The pile that begins at a place, if both its sides are there.
+    pub(crate) fn at(mut numbers: Numbers<'a>) -> Option<Outline<'a>> {
+        let width = numbers.next()?;
+        let height = numbers.next()?;
+        Some(Outline {
+            width,
+            height,
+            is_cylinder: numbers.has_letter(),
+            behind: numbers,
+        })
+    }
+
+    /// How many sites the sides make.
+    pub(crate) fn sites(&self) -> usize {
+        self.width.value.saturating_mul(self.height.value) as usize
+    }
+
+    /// The heights that are there, at most one for each site.
+    pub(crate) fn heights(&self) -> std::iter::Take<Numbers<'a>> {
+        self.behind.take(self.sites())
+    }
+
+    /// The sum of the heights.
+    pub(crate) fn grains(&self) -> u64 {
+        self.heights()
+            .fold(0, |sum: u64, height| sum.saturating_add(height.value))
+    }
+
+    /// The first side that is out of range, with its name.
+    pub(crate) fn bad_side(&self) -> Option<(&'static str, Number)> {
+        let most = SIDE_LIMIT as u64;
+        let range = 1..=most;
+        if !range.contains(&self.width.value) {
+            Some(("width", self.width))
+        } else if !range.contains(&self.height.value) {
+            Some(("height", self.height))
+        } else {
+            None
+        }
+    }
+
+    /// Whether the pile has a defect.
+    pub(crate) fn has(&self, defect: Defect) -> bool {
+        match defect {
+            Defect::Side => self.bad_side().is_some(),
+            Defect::Narrow => self.is_cylinder && self.width.value < CYLINDER_WIDTH as u64,
+            Defect::Length => self.heights().count() < self.sites(),
+            Defect::TooManyGrains => self.grains() > GRAIN_LIMIT,
+            Defect::Unstable => self.unstable().is_some(),
+        }
+    }
+
+    /// The first site with more than 3 grains, and their number.
+    pub(crate) fn unstable(&self) -> Option<(usize, Number)> {
+        self.heights()
+            .enumerate()
+            .find(|(_, height)| height.value >= TOPPLING_HEIGHT)
+    }
+
+    /// The numbers behind the heights.
+    pub(crate) fn drops(&self) -> Numbers<'a> {
+        self.behind.after(self.sites())
+    }
+
+    /// The pile behind this one, if both its sides are there.
+    pub(crate) fn next(&self) -> Option<Outline<'a>> {
+        Outline::at(self.drops())
+    }
+}
+
+// How many numbers a line has.
+fn numbers_in(line: &[u8]) -> usize {
+    Numbers::new(line).count()
+}
+
+/// The columns and rows of an input whose lines all have as many numbers, and at least three, if the first line is therefore no
+/// size: a grid without its size.
+pub(crate) fn grid_without_size(text: &[u8]) -> Option<(usize, usize)> {
+    let mut columns = 0;
+    let mut rows = 0usize;
+    'lines: for line in text.split(|byte| *byte == b'\n') {
+        let count = numbers_in(line);
+        if rows == 0 {
+            columns = count;
+        }
+        if count != 0 {
+            if count != columns {
+                return None;
+            }
+            rows = rows.saturating_add(1);
+        }
+    }
+    if columns < 3 {
+        None
+    } else {
+        Some((columns, rows))
+    }
+}

@@ -1,0 +1,194 @@
+//! What is said of piles that were refused: of their sides, their heights and their grains.
+
+use crate::outline::{Defect, Outline, grid_without_size};
+use crate::pushing::{push_grouped, push_heights, push_place, push_sides};
+use crate::refused::Refused;
+use sand_desk::read_two;
+use sand_group::{Burned, burn};
+use sand_model::{CYLINDER_WIDTH, GRAIN_LIMIT, SIDE_LIMIT};
+use std::alloc::{AllocError, Global};
+
+// What to do about a size that does not fit.
+fn push_size_hint(text: &mut String, input: &[u8]) -> Result<(), AllocError> {
+    match grid_without_size(input) {
+        Some((columns, rows)) => write!(
+            text,
+            "If this is a grid of {columns} by {rows} without its size, put a line '{columns} {rows}' before it.\n"
+        ),
+        None => text.push_str("The first two numbers of a pile are its width and its height.\n"),
+    }
+}
+
+/// A side that is out of range.
+pub(crate) fn push_side(text: &mut String, refused: &Refused<'_>) -> Result<(), AllocError> {
+    let Some(found) = refused.culprit(Defect::Side) else {
+        return Ok(());
+    };
+    let Some((side, number)) = found.pile.bad_side() else {
+        return Ok(());
+    };
+    push_place(text, refused.input, number.start)?;
+    let name = found.name;
+    let value = number.value;
+    write!(
+        text,
+        "the {side} of {name} is {value}, and must be from 1 to {SIDE_LIMIT}\n"
+    )?;
+    push_size_hint(text, refused.input)
+}
+
+/// A cylinder that is too narrow.
+pub(crate) fn push_narrow(text: &mut String, refused: &Refused<'_>) -> Result<(), AllocError> {
+    let Some(found) = refused.culprit(Defect::Narrow) else {
+        return Ok(());
+    };
+    push_place(text, refused.input, found.pile.width.start)?;
+    let name = found.name;
+    let width = found.pile.width.value;
+    write!(
+        text,
+        "{name} is {width} wide, and a cylinder is at least {CYLINDER_WIDTH} wide\n"
+    )
+}
+
+// Whether what follows the heights of a pile is one pile more.
+fn is_followed(pile: &Outline<'_>) -> bool {
+    match pile.next() {
+        Some(second) => second.bad_side().is_none() && second.behind.count() == second.sites(),
+        None => false,
+    }
+}
+
+// What to do about another number of heights.
+fn push_length_hint(
+    text: &mut String,
+    refused: &Refused<'_>,
+    pile: &Outline<'_>,
+    count: usize,
+) -> Result<(), AllocError> {
+    if grid_without_size(refused.input).is_some() || count < pile.sites() {
+        push_size_hint(text, refused.input)
+    } else if is_followed(pile) {
+        text.push_str("The input looks like two piles, which only 'add' takes.\n")
+    } else if refused.command == "drops" {
+        text.push_str("With --count the sites are drawn, and the input is the pile alone.\n")
+    } else {
+        text.push_str("Only 'drops' takes numbers behind the heights: the sites of its drops.\n")
+    }
+}
+
+/// Another number of heights than sites.
+pub(crate) fn push_length(text: &mut String, refused: &Refused<'_>) -> Result<(), AllocError> {
+    let Some(found) = refused.culprit(Defect::Length) else {
+        return Ok(());
+    };
+    let count = found.pile.behind.count();
+    if refused.reads_two() {
+        text.push_str(found.name)?;
+        text.push_str(", ")?;
+    }
+    push_sides(text, &found.pile)?;
+    if refused.reads_two() {
+        text.push_str(",")?;
+    }
+    text.push_str(" wants ")?;
+    push_heights(text, found.pile.sites())?;
+    let verb = if count == 1 { "is" } else { "are" };
+    write!(text, ", and there {verb} {count}\n")?;
+    push_length_hint(text, refused, &found.pile, count)
+}
+
+/// More grains than the limit, in a pile or with all drops.
+pub(crate) fn push_grains(text: &mut String, refused: &Refused<'_>) -> Result<(), AllocError> {
+    let Some(found) = refused.culprit(Defect::TooManyGrains) else {
+        return Ok(());
+    };
+    let grains = found.pile.grains();
+    text.push_str(found.name)?;
+    text.push_str(" has ")?;
+    push_grouped(text, grains)?;
+    if grains > GRAIN_LIMIT {
+        text.push_str(" grains, and may have ")?;
+    } else {
+        text.push_str(" grains, and with all drops may have ")?;
+    }
+    push_grouped(text, GRAIN_LIMIT)?;
+    text.push_str("\n")
+}
+
+/// A site with more than 3 grains.
+pub(crate) fn push_unstable(text: &mut String, refused: &Refused<'_>) -> Result<(), AllocError> {
+    let Some(found) = refused.culprit(Defect::Unstable) else {
+        return Ok(());
+    };
+    let Some((_, height)) = found.pile.unstable() else {
+        return Ok(());
+    };
+    push_place(text, refused.input, height.start)?;
+    let name = found.name;
+    let value = height.value;
+    write!(
+        text,
+        "a site of {name} has {value} grains, and may have 3\n"
+    )
+}
+
+/// Two piles of different shapes.
+pub(crate) fn push_shapes(text: &mut String, refused: &Refused<'_>) -> Result<(), AllocError> {
+    let (Some(first), Some(second)) = (refused.first(), refused.second()) else {
+        return Ok(());
+    };
+    text.push_str("the first pile is ")?;
+    push_sides(text, &first)?;
+    text.push_str(", and the second is ")?;
+    push_sides(text, &second)?;
+    text.push_str("\n")
+}
+
+// What a pile is called that is not recurrent.
+fn not_recurrent(alloc: Global, refused: &Refused<'_>) -> &'static str {
+    if !refused.reads_two() {
+        return "the pile";
+    }
+    let Ok((first, _)) = read_two(alloc, refused.input) else {
+        return "a pile";
+    };
+    match burn(alloc, &first) {
+        Ok(Burned::Recurrent(_)) => "the second pile",
+        Ok(Burned::Forbidden(_)) => "the first pile",
+        Err(_) => "a pile",
+    }
+}
+
+/// A pile that is not recurrent.
+pub(crate) fn push_forbidden(
+    text: &mut String,
+    alloc: Global,
+    refused: &Refused<'_>,
+) -> Result<(), AllocError> {
+    let name = not_recurrent(alloc, refused);
+    write!(text, "{name} has a forbidden set, so it is not recurrent\n")
+}
+
+/// A drop at a site that is not in the grid.
+pub(crate) fn push_no_site(
+    text: &mut String,
+    refused: &Refused<'_>,
+    index: usize,
+) -> Result<(), AllocError> {
+    let Some(pile) = refused.first() else {
+        return Ok(());
+    };
+    let Some(site) = pile.drops().nth(index) else {
+        return Ok(());
+    };
+    push_place(text, refused.input, site.start)?;
+    let value = site.value;
+    write!(
+        text,
+        "drop {index}, counted from 0, is at site {value}, and "
+    )?;
+    push_sides(text, &pile)?;
+    let last = pile.sites().saturating_sub(1);
+    write!(text, " has the sites 0 to {last}\n")
+}

@@ -1,0 +1,37 @@
+//! Places in a text, as a person counts them: lines and columns, both from 1.
+
+ghost use Rattle.std.specs.Prelude.{◌≡◌, ◌≤◌, count_by, length, not, reverse};
+ghost use Rattle.std.specs.List.{take_while};
+ghost use Rattle.sand_advice.specs.Places.{ends_line, line_of, column_of};
+
+// How many lines end in a text.
+fn line_ends(text: &[u8]) -> usize
+    ensures { result ≡ count_by ends_line text.now }
+{
+    text.iter().filter(|byte| **byte == b'\n').count()
+}
+
+// How many bytes a text has behind its last line end.
+fn last_line_len(text: &[u8]) -> usize
+    ensures { result ≡ length (take_while (λ byte. not (ends_line byte)) (reverse text.now)) }
+{
+    text.iter().rev().take_while(|byte| **byte != b'\n').count()
+}
+
+/// The line of the byte at an offset.
+pub fn line(text: &[u8], at: usize) -> usize
+    requires { at ≤ length text.now }
+    ensures { result ≡ line_of text.now at }
+{
+    let (before, _) = text.split_at(at);
+    line_ends(before) + 1
+}
+
+/// The column of the byte at an offset.
+pub fn column(text: &[u8], at: usize) -> usize
+    requires { at ≤ length text.now }
+    ensures { result ≡ column_of text.now at }
+{
+    let (before, _) = text.split_at(at);
+    last_line_len(before) + 1
+}

@@ -1,0 +1,52 @@
+//! Numbers, bytes and places, as a sentence has them.
+
+use crate::outline::Outline;
+use crate::place::{column, line};
+use std::alloc::AllocError;
+
+/// Adds a place of an input: `line 2, column 3: `. An offset behind the end counts as the end.
+pub(crate) fn push_place(text: &mut String, input: &[u8], at: usize) -> Result<(), AllocError> {
+    let at = at.min(input.len());
+    let line = line(input, at);
+    let column = column(input, at);
+    write!(text, "line {line}, column {column}: ")
+}
+
+/// Adds a number with a comma before each three digits, as in `1,099,511,627,775`.
+pub(crate) fn push_grouped(text: &mut String, number: u64) -> Result<(), AllocError> {
+    let thousands = number / 1000;
+    if thousands == 0 {
+        return write!(text, "{number}");
+    }
+    push_grouped(text, thousands)?;
+    let rest = number % 1000;
+    write!(text, ",{rest:03}")
+}
+
+/// Adds a byte: `'x'`, or `byte 255` if it is no letter, digit or sign.
+pub(crate) fn push_byte(text: &mut String, byte: u8) -> Result<(), AllocError> {
+    if byte.is_ascii_graphic() {
+        let letter = char::from(byte);
+        write!(text, "'{letter}'")
+    } else {
+        write!(text, "byte {byte}")
+    }
+}
+
+/// Adds the sides of a pile: `3 by 2`, and whether it is a cylinder.
+pub(crate) fn push_sides(text: &mut String, pile: &Outline<'_>) -> Result<(), AllocError> {
+    let width = pile.width.value;
+    let height = pile.height.value;
+    let edge = if pile.is_cylinder {
+        " (a cylinder)"
+    } else {
+        ""
+    };
+    write!(text, "{width} by {height}{edge}")
+}
+
+/// Adds so many heights: `1 height`, `2 heights`.
+pub(crate) fn push_heights(text: &mut String, count: usize) -> Result<(), AllocError> {
+    let ending = if count == 1 { "" } else { "s" };
+    write!(text, "{count} height{ending}")
+}

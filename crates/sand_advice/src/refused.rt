@@ -1,0 +1,55 @@
+//! A command that was refused, and which pile of its input a fault speaks of.
+
+use crate::outline::{Defect, Numbers, Outline};
+
+/// A command that was refused, and the bytes that it read.
+#[derive(Clone, Copy)]
+pub(crate) struct Refused<'a> {
+    pub command: &'a str,
+    pub input: &'a [u8],
+}
+
+/// A pile of the input, and what a sentence calls it.
+#[derive(Clone, Copy)]
+pub(crate) struct Culprit<'a> {
+    pub name: &'static str,
+    pub pile: Outline<'a>,
+}
+
+impl<'a> Refused<'a> {
+    /// Whether the command reads two piles.
+    pub(crate) fn reads_two(&self) -> bool {
+        self.command == "add"
+    }
+
+    /// The first pile, if the input has both its sides.
+    pub(crate) fn first(&self) -> Option<Outline<'a>> {
+        Outline::at(Numbers::new(self.input))
+    }
+
+    /// The second of two piles, if the input has both its sides.
+    pub(crate) fn second(&self) -> Option<Outline<'a>> {
+        self.first()?.next()
+    }
+
+    /// The pile with a defect. Of two it is the second, if it isn't the first.
+    pub(crate) fn culprit(&self, defect: Defect) -> Option<Culprit<'a>> {
+        let first = self.first()?;
+        if !self.reads_two() {
+            Some(Culprit {
+                name: "the pile",
+                pile: first,
+            })
+        } else if first.has(defect) {
+            Some(Culprit {
+                name: "the first pile",
+                pile: first,
+            })
+        } else {
+            Some(Culprit {
+                name: "the second pile",
+                pile: first.next()?,
+            })
+        }
+    }
+}

@@ -1,0 +1,5 @@
+pub mod Answered
+pub mod Found
+pub mod Rows
+pub mod Sites
+pub mod Unfit

@@ -1,0 +1,34 @@
+-- What `sandpile_add` does.
+use Rattle.std.specs.Prelude.{ℕ, ◌≡◌, ◌⊎◌, Bool, List, length, Result, Ok, Err}
+use Rattle.sand_model.specs.Grid.{Grid, sites}
+use Rattle.sand_model.specs.Piles.{PileView, height_of}
+use Rattle.sand_group.specs.Group.{IsSum}
+use Rattle.sand_group.specs.Recurrence.{IsRecurrent}
+use Rattle.sand_c.specs.declared.faults.Fault.{Fault}
+use Rattle.sand_c.specs.declared.faults.Fault.TheVariants.{Memory}
+use Rattle.sand_c.specs.Arguments.{grid_of, has_length, pile_on, ◌>>=◌}
+use Rattle.sand_c.specs.Unfit.{IsUnfit}
+
+-- two piles on one grid
+abbrev pub two_on : Grid → List ℕ → List ℕ → Result (PileView × PileView) Fault
+two_on g heights others = pile_on g heights >>= λ p. pile_on g others >>= λ q. Ok (p, q)
+
+-- the piles that the arguments are
+abbrev pub adding_of : ℕ → ℕ → Bool → List ℕ → List ℕ → Result (PileView × PileView) Fault
+adding_of width height cylinder heights others =
+    grid_of width height cylinder >>= λ g. has_length (sites g) (length heights) >>= λ _. has_length (sites g) (length others) >>= λ _. two_on g heights others
+
+-- a sum is refused because of its arguments, or memory runs out, or the first pile is not recurrent, or the second
+abbrev pub AddFails : Fault → Result (PileView × PileView) Fault → Type 0
+AddFails fault (Err e) = fault ≡ e
+AddFails fault (Ok (p, q)) = (fault ≡ Memory) ⊎ (IsUnfit p fault ⊎ (IsRecurrent p.grid (height_of p) × IsUnfit q fault))
+
+-- the arguments are two recurrent piles, and what was written is their sum
+pub record IsAdding (meaning : Result (PileView × PileView) Fault) (after : List ℕ) : Type 0 where
+  pub first : PileView
+  pub second : PileView
+  pub meant : meaning ≡ Ok (first, second)
+  pub first_recurrent : IsRecurrent first.grid (height_of first)
+  pub second_recurrent : IsRecurrent second.grid (height_of second)
+  pub one_each : length after ≡ sites first.grid
+  pub sum : IsSum first.grid (height_of first) (height_of second) (height_of (record { grid = first.grid; heights = after }))

@@ -1,0 +1,43 @@
+-- The numbers of the faults, which are those of the crates below.
+use Rattle.std.specs.Prelude.{ℕ}
+use Rattle.sand_group.specs.declared.faults.GroupFault.{GroupFault}
+use Rattle.sand_group.specs.declared.faults.GroupFault.TheVariants as group
+use Rattle.sand_model.specs.declared.faults.ShapeFault.{ShapeFault}
+use Rattle.sand_model.specs.declared.faults.ShapeFault.TheVariants as shape
+use Rattle.sand_model.specs.declared.faults.PileFault.{PileFault}
+use Rattle.sand_model.specs.declared.faults.PileFault.TheVariants as pile
+use Rattle.sand_settle.specs.declared.faults.OneFault.{OneFault}
+use Rattle.sand_settle.specs.declared.faults.OneFault.TheVariants as one
+use Rattle.sand_c.specs.declared.faults.Fault.{Fault}
+use Rattle.sand_c.specs.declared.faults.Fault.TheVariants.{Side, Length, TooManyGrains, Memory, Full, Unstable, NotRecurrent, Shapes, Narrow, NoSite}
+
+abbrev pub number_of : Fault → ℕ
+number_of Side = 1
+number_of Length = 2
+number_of TooManyGrains = 3
+number_of Memory = 4
+number_of Full = 6
+number_of Unstable = 7
+number_of NotRecurrent = 8
+number_of Shapes = 9
+number_of Narrow = 24
+number_of NoSite = 25
+
+abbrev pub of_shape : ShapeFault → Fault
+of_shape shape.Side = Side
+of_shape shape.Narrow = Narrow
+
+abbrev pub of_pile : PileFault → Fault
+of_pile pile.Length = Length
+of_pile pile.TooManyGrains = TooManyGrains
+of_pile (pile.Memory refused) = Memory
+
+abbrev pub of_one : OneFault → Fault
+of_one one.Full = Full
+of_one (one.Memory refused) = Memory
+
+abbrev pub of_group : GroupFault → Fault
+of_group group.Unstable = Unstable
+of_group group.NotRecurrent = NotRecurrent
+of_group group.Shapes = Shapes
+of_group (group.Memory refused) = Memory

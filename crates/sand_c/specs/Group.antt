@@ -1,0 +1,30 @@
+-- What the exports do that make a recurrent pile from a shape or from any pile.
+use Rattle.std.specs.Prelude.{ℕ, ◌≡◌, Bool, List, length, Result, Ok}
+use Rattle.sand_model.specs.Grid.{Grid, sites}
+use Rattle.sand_model.specs.Integers.{whole}
+use Rattle.sand_model.specs.Piles.{PileView, height_of}
+use Rattle.sand_group.specs.Group.{IsIdentity, Represents}
+use Rattle.sand_c.specs.declared.faults.Fault.{Fault}
+use Rattle.sand_c.specs.Arguments.{grid_of, has_length, pile_on, ◌>>=◌}
+
+-- the grid that the arguments are
+abbrev pub identity_of : ℕ → ℕ → Bool → List ℕ → Result Grid Fault
+identity_of width height cylinder heights = grid_of width height cylinder >>= λ g. has_length (sites g) (length heights) >>= λ _. Ok g
+
+-- the arguments are a grid, and what was written is its identity
+pub record IsIdentityOf (meaning : Result Grid Fault) (after : List ℕ) : Type 0 where
+  pub grid : Grid
+  pub meant : meaning ≡ Ok grid
+  pub one_each : length after ≡ sites grid
+  pub identity : IsIdentity grid (height_of (record { grid = grid; heights = after }))
+
+-- the pile that the arguments are
+abbrev pub recurrent_of : ℕ → ℕ → Bool → List ℕ → Result PileView Fault
+recurrent_of width height cylinder heights = grid_of width height cylinder >>= λ g. pile_on g heights
+
+-- the arguments are a pile, and what was written is the recurrent pile that is equivalent to it
+pub record IsRecurrentOf (meaning : Result PileView Fault) (after : List ℕ) : Type 0 where
+  pub start : PileView
+  pub meant : meaning ≡ Ok start
+  pub one_each : length after ≡ sites start.grid
+  pub represents : Represents start.grid (whole (height_of start)) (height_of (record { grid = start.grid; heights = after }))

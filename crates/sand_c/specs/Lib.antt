@@ -1,0 +1,11 @@
+pub mod Adding
+pub mod Arguments
+pub mod Burning
+pub mod Dropping
+pub mod Faults
+pub mod Group
+pub mod Inverting
+pub mod Multiplying
+pub mod Settling
+pub mod Streams
+pub mod Unfit

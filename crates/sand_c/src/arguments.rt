@@ -1,0 +1,53 @@
+//! What the arguments of a call mean.
+
+ghost use Rattle.std.specs.Prelude.{◌≡◌, ◌<◌, ◌≤◌, Ok, IfOk, IfErr, IfSome, IfNone, length, sum};
+ghost use Rattle.sand_model.specs.Piles.{most_grains};
+ghost use Rattle.sand_model.specs.Grid.{sites};
+ghost use Rattle.sand_c.specs.Arguments.{edge_of, grid_of, pile_on, Fails};
+
+use crate::faults::Fault;
+use sand_model::{Edge, GRAIN_LIMIT, Pile, Shape};
+use std::alloc::Global;
+
+fn edge_of(cylinder: bool) -> Edge
+    ensures { result ≡ edge_of cylinder }
+{
+    if cylinder { Edge::Cylinder } else { Edge::Open }
+}
+
+/// The grid of these sides and this edge.
+pub(crate) fn grid_of(width: usize, height: usize, cylinder: bool) -> Result<Shape, Fault>
+    ensures { result ≡ grid_of width height cylinder }
+{
+    match Shape::with_edge(width, height, edge_of(cylinder)) {
+        Ok(shape) => Ok(shape),
+        Err(fault) => Err(Fault::from(fault)),
+    }
+}
+
+/// The pile of these heights.
+pub(crate) fn pile_on(alloc: Global, shape: Shape, heights: &[u64]) -> Result<Pile, Fault>
+    ensures made { IfOk result (λ p. pile_on shape heights.now ≡ Ok p) }
+    ensures fault { IfErr result (λ e. Fails e (pile_on shape heights.now)) }
+{
+    match Pile::new(alloc, shape, heights) {
+        Ok(pile) => Ok(pile),
+        Err(fault) => Err(Fault::from(fault)),
+    }
+}
+
+/// The sum of the heights, if it is within the limit.
+pub(crate) fn grains_of(heights: &[u64]) -> Option<u64>
+    ensures sum { IfSome result (λ n. n ≡ sum heights.now) }
+    ensures within { IfSome result (λ n. n ≤ most_grains) }
+    ensures over { IfNone result (most_grains < sum heights.now) }
+{
+    let mut grains: u64 = 0;
+    for height in heights {
+        if *height > GRAIN_LIMIT - grains {
+            return None;
+        }
+        grains += *height;
+    }
+    Some(grains)
+}

@@ -1,0 +1,158 @@
+//! Dropping grains on a settled pile.
+
+ghost use Rattle.std.specs.Prelude.{◌≡◌, ◌≢◌, ◌+◌, ◌<◌, ◌≤◌, [], length, sum, All, Ok, Err, IfOk, IfErr, OnOk, OnErr, IsTrue, IsOk, IsOkUnless};
+ghost use Rattle.sand_model.specs.Grid.{sites};
+ghost use Rattle.sand_model.specs.Piles.{PileView, most_grains};
+ghost use Rattle.sand_settle.specs.Drops.{grid_of_one_pile, IsAfter};
+ghost use Rattle.sand_c.specs.Arguments.{Fails, Answers};
+ghost use Rattle.sand_c.specs.Dropping.{AreAvalanches, IsDropping, dropping_of, are_sites, drops_on};
+
+use crate::arguments::{grains_of, grid_of};
+use crate::avalanche::{SandpileAvalanche, like};
+use crate::faults::{Fault, answer};
+use sand_model::{GRAIN_LIMIT, Pile, Shape};
+use sand_settle::OnePile;
+use std::alloc::Global;
+
+// Drops a grain at each site in turn, and notes each avalanche.
+fn drop_all(
+    alloc: Global,
+    pile: &mut OnePile,
+    drops: &[usize],
+) -> Result<Vec<SandpileAvalanche>, Fault>
+    requires sites { All (λ site. site < sites (grid_of_one_pile pile.old)) drops.now }
+    requires room { pile.old.grains + length drops.now ≤ most_grains }
+    ensures rows { IfOk result (λ rows. AreAvalanches pile.old drops.now rows.items pile.new) }
+    ensures count { IfOk result (λ rows. length rows.items ≡ length drops.now) }
+    ensures after { OnOk result ((start : PileView) → IsAfter start [] pile.old → IsAfter start drops.now pile.new) }
+    ensures memory { IsOkUnless result Fault.Memory }
+{
+    let mut rows = Vec::with_capacity(alloc, drops.len())?;
+    for site in drops {
+        let (_, avalanche) = pile.drop_at(alloc, *site)?;
+        let row = like(avalanche);
+        rows.push_reserved(row);
+    }
+    Ok(rows)
+}
+
+// Whether each drop is at a site.
+#[tactic(auto, using(crate::proofs::Sites::all_sites))]
+fn are_sites(drops: &[usize], sites: usize) -> bool
+    ensures value { result ≡ are_sites sites drops.now }
+    ensures all { IsTrue result → All (λ site. site < sites) drops.now }
+{
+    drops.iter().all(|site| *site < sites)
+}
+
+// Whether the heights are within the limit, each drop is at a site, and there is room for all.
+fn suit(shape: Shape, heights: &[u64], drops: &[usize]) -> Result<(), Fault>
+    requires { length heights.now ≡ sites shape }
+    ensures ok { OnOk result (drops_on shape heights.now drops.now ≡ Ok (record { grid = shape; heights = heights.now })) }
+    ensures err { IfErr result (λ e. drops_on shape heights.now drops.now ≡ Err e) }
+    ensures known { IfErr result (λ e. e ≢ Fault.Memory) }
+    ensures limit { OnOk result (sum heights.now ≤ most_grains) }
+    ensures room { OnOk result (sum heights.now + length drops.now ≤ most_grains) }
+    ensures all { OnOk result (All (λ site. site < sites shape) drops.now) }
+{
+    let Some(grains) = grains_of(heights) else {
+        return Err(Fault::TooManyGrains);
+    };
+    if !are_sites(drops, shape.sites()) {
+        return Err(Fault::NoSite);
+    }
+    if drops.len() as u64 > GRAIN_LIMIT - grains {
+        return Err(Fault::Full);
+    }
+    Ok(())
+}
+
+// The pile that the arguments are.
+fn start_of(
+    alloc: Global,
+    width: usize,
+    height: usize,
+    cylinder: bool,
+    heights: &[u64],
+    odometer: &[u64],
+    drops: &[usize],
+    avalanches: &[SandpileAvalanche],
+) -> Result<Pile, Fault>
+    ensures meant { IfOk result (λ p. dropping_of width height cylinder heights.now odometer.now drops.now avalanches.now ≡ Ok p) }
+    ensures fault { IfErr result (λ e. Fails e (dropping_of width height cylinder heights.now odometer.now drops.now avalanches.now)) }
+    ensures all { IfOk result (λ p. All (λ site. site < sites p.grid) drops.now) }
+    ensures room { IfOk result (λ p. sum p.heights + length drops.now ≤ most_grains) }
+    ensures odometer { IfOk result (λ p. length odometer.now ≡ sites p.grid) }
+    ensures heights { IfOk result (λ p. length heights.now ≡ sites p.grid) }
+    ensures avalanches { IfOk result (λ _. length avalanches.now ≡ length drops.now) }
+{
+    let shape = grid_of(width, height, cylinder)?;
+    if heights.len() != shape.sites()
+        || odometer.len() != shape.sites()
+        || avalanches.len() != drops.len()
+    {
+        return Err(Fault::Length);
+    }
+    suit(shape, heights, drops)?;
+    match Pile::new(alloc, shape, heights) {
+        Ok(start) => Ok(start),
+        // Nothing else is left.
+        Err(_) => Err(Fault::Memory),
+    }
+}
+
+// Drops all grains, and writes what was found once nothing can fail any more.
+fn drop_into(
+    alloc: Global,
+    width: usize,
+    height: usize,
+    cylinder: bool,
+    heights: &mut [u64],
+    odometer: &mut [u64],
+    drops: &[usize],
+    avalanches: &mut [SandpileAvalanche],
+) -> Result<(), Fault>
+    ensures dropped { OnOk result (IsDropping (dropping_of width height cylinder heights.old odometer.old drops.now avalanches.old) drops.now heights.new odometer.new avalanches.new) }
+    ensures fault { IfErr result (λ e. Fails e (dropping_of width height cylinder heights.old odometer.old drops.now avalanches.old)) }
+    ensures meant { OnOk result (IsOk (dropping_of width height cylinder heights.old odometer.old drops.now avalanches.old)) }
+    ensures heights { OnErr result (heights.new ≡ heights.old) }
+    ensures odometer { OnErr result (odometer.new ≡ odometer.old) }
+    ensures avalanches { OnErr result (avalanches.new ≡ avalanches.old) }
+{
+    let start = start_of(
+        alloc, width, height, cylinder, heights, odometer, drops, avalanches,
+    )?;
+    let mut pile = OnePile::new(alloc, &start)?;
+    let rows = drop_all(alloc, &mut pile, drops)?;
+    heights.copy_from_slice(pile.pile().heights());
+    odometer.copy_from_slice(pile.odometers());
+    avalanches.copy_from_slice(rows.as_slice());
+    Ok(())
+}
+
+/// Settles a pile, and drops a grain at each site in turn, of which each settles before the next. The heights become those
+/// that are left, the odometer how often each site toppled, the settling included, and the avalanches those of the drops.
+/// Returns 0, or else 1 (Side), 24 (Narrow), 2 (Length of a slice), 3 (TooManyGrains), 25 (NoSite) or 6 (Full), whichever
+/// is first, or 4 (Memory); and then nothing has changed.
+#[tactic(auto, using(crate::proofs::Answered::answered))]
+#[unsafe(no_mangle)]
+pub extern "C" fn sandpile_drop(
+    alloc: Global,
+    width: usize,
+    height: usize,
+    cylinder: bool,
+    heights: &mut [u64],
+    odometer: &mut [u64],
+    drops: &[usize],
+    avalanches: &mut [SandpileAvalanche],
+) -> u32
+    ensures dropped { result ≡ 0 → IsDropping (dropping_of width height cylinder heights.old odometer.old drops.now avalanches.old) drops.now heights.new odometer.new avalanches.new }
+    ensures answer { Answers result (dropping_of width height cylinder heights.old odometer.old drops.now avalanches.old) }
+    ensures heights { result ≢ 0 → heights.new ≡ heights.old }
+    ensures odometer { result ≢ 0 → odometer.new ≡ odometer.old }
+    ensures avalanches { result ≢ 0 → avalanches.new ≡ avalanches.old }
+{
+    answer(drop_into(
+        alloc, width, height, cylinder, heights, odometer, drops, avalanches,
+    ))
+}

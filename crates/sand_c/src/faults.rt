@@ -1,0 +1,131 @@
+//! Why a call was refused, with the number that it returns.
+
+ghost use Rattle.std.specs.Prelude.{◌≡◌, ◌↔◌, IfErr, IsOk};
+ghost use Rattle.sand_c.specs.Faults.{number_of, of_shape, of_pile, of_one, of_group};
+ghost use Rattle.sand_c.specs.declared.faults.Fault.TheVariants as c;
+
+use sand_group::GroupFault;
+use sand_model::{PileFault, ShapeFault};
+use sand_settle::{OneFault, SettleFault};
+use std::alloc::AllocError;
+
+/// Why a call was refused.
+#[derive(Clone, Copy, Debug, PartialEq, Eq)]
+pub enum Fault {
+    /// A side is outside 1 to 256.
+    Side,
+    /// A slice has the wrong length.
+    Length,
+    /// The heights are over the limit in all.
+    TooManyGrains,
+    /// An allocation failed.
+    Memory,
+    /// The grains and the drops are over the limit in all.
+    Full,
+    /// A height is over 3.
+    Unstable,
+    /// A forbidden set exists.
+    NotRecurrent,
+    /// Two piles have different shapes.
+    Shapes,
+    /// A cylinder is less than 3 wide.
+    Narrow,
+    /// A drop is at a site that the grid has not got.
+    NoSite,
+}
+
+impl Fault {
+    /// The number that a call returns.
+    pub fn number(self) -> u32
+        ensures { result ≡ number_of self }
+    {
+        match self {
+            Fault::Side => 1,
+            Fault::Length => 2,
+            Fault::TooManyGrains => 3,
+            Fault::Memory => 4,
+            Fault::Full => 6,
+            Fault::Unstable => 7,
+            Fault::NotRecurrent => 8,
+            Fault::Shapes => 9,
+            Fault::Narrow => 24,
+            Fault::NoSite => 25,
+        }
+    }
+}
+
+/// What an export returns.
+pub(crate) fn answer(outcome: Result<(), Fault>) -> u32
+    ensures ok { IsOk outcome ↔ (result ≡ 0) }
+    ensures fault { IfErr outcome (λ e. result ≡ number_of e) }
+{
+    match outcome {
+        Ok(()) => 0,
+        Err(fault) => fault.number(),
+    }
+}
+
+impl From<ShapeFault> for Fault {
+    ghost from_gives = { λ fault e. e ≡ of_shape fault };
+
+    fn from(fault: ShapeFault) -> Fault {
+        match fault {
+            ShapeFault::Side => Fault::Side,
+            ShapeFault::Narrow => Fault::Narrow,
+        }
+    }
+}
+
+impl From<PileFault> for Fault {
+    ghost from_gives = { λ fault e. e ≡ of_pile fault };
+
+    fn from(fault: PileFault) -> Fault {
+        match fault {
+            PileFault::Length => Fault::Length,
+            PileFault::TooManyGrains => Fault::TooManyGrains,
+            PileFault::Memory(_) => Fault::Memory,
+        }
+    }
+}
+
+impl From<SettleFault> for Fault {
+    ghost from_gives = { λ _ e. e ≡ c.Memory };
+
+    fn from(fault: SettleFault) -> Fault {
+        match fault {
+            SettleFault::Memory(_) => Fault::Memory,
+        }
+    }
+}
+
+impl From<OneFault> for Fault {
+    ghost from_gives = { λ fault e. e ≡ of_one fault };
+
+    fn from(fault: OneFault) -> Fault {
+        match fault {
+            OneFault::Full => Fault::Full,
+            OneFault::Memory(_) => Fault::Memory,
+        }
+    }
+}
+
+impl From<GroupFault> for Fault {
+    ghost from_gives = { λ fault e. e ≡ of_group fault };
+
+    fn from(fault: GroupFault) -> Fault {
+        match fault {
+            GroupFault::Unstable => Fault::Unstable,
+            GroupFault::NotRecurrent => Fault::NotRecurrent,
+            GroupFault::Shapes => Fault::Shapes,
+            GroupFault::Memory(_) => Fault::Memory,
+        }
+    }
+}
+
+impl From<AllocError> for Fault {
+    ghost from_gives = { λ _ e. e ≡ c.Memory };
+
+    fn from(_error: AllocError) -> Fault {
+        Fault::Memory
+    }
+}

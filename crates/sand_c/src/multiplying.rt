@@ -1,0 +1,49 @@
+//! The n-fold sum of a recurrent pile.
+
+ghost use Rattle.std.specs.Prelude.{◌≡◌, ◌≢◌, OnOk, OnErr, IfErr};
+ghost use Rattle.sand_c.specs.Arguments.{IsAnswer};
+ghost use Rattle.sand_c.specs.Multiplying.{IsMultiplying};
+ghost use Rattle.sand_c.specs.Unfit.{ElementFails, element_of};
+
+use crate::faults::{Fault, answer};
+use crate::recurrent::element_of;
+use sand_group::multiple;
+use std::alloc::Global;
+
+// Adds up, and writes the sum once nothing can fail any more.
+fn multiple_into(
+    alloc: Global,
+    width: usize,
+    height: usize,
+    cylinder: bool,
+    heights: &mut [u64],
+    n: u64,
+) -> Result<(), Fault>
+    ensures multiplied { OnOk result (IsMultiplying (element_of width height cylinder heights.old) n heights.new) }
+    ensures fault { IfErr result (λ e. ElementFails e (element_of width height cylinder heights.old)) }
+    ensures heights { OnErr result (heights.new ≡ heights.old) }
+{
+    let pile = element_of(alloc, width, height, cylinder, heights)?;
+    let sum = multiple(alloc, &pile, n)?;
+    heights.copy_from_slice(sum.pile().heights());
+    Ok(())
+}
+
+/// The heights become those of the n-fold sum of a recurrent pile. Returns 0, or else 1 (Side), 24 (Narrow), 2 (Length of the
+/// slice), 3 (TooManyGrains), 7 (Unstable) or 8 (NotRecurrent), whichever is first, or 4 (Memory); and then nothing has
+/// changed.
+#[unsafe(no_mangle)]
+pub extern "C" fn sandpile_multiple(
+    alloc: Global,
+    width: usize,
+    height: usize,
+    cylinder: bool,
+    heights: &mut [u64],
+    n: u64,
+) -> u32
+    ensures multiplied { result ≡ 0 → IsMultiplying (element_of width height cylinder heights.old) n heights.new }
+    ensures answer { IsAnswer result (λ e. ElementFails e (element_of width height cylinder heights.old)) }
+    ensures heights { result ≢ 0 → heights.new ≡ heights.old }
+{
+    answer(multiple_into(alloc, width, height, cylinder, heights, n))
+}

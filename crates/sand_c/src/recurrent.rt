@@ -1,0 +1,53 @@
+//! The elements of the group: piles that are recurrent.
+
+ghost use Rattle.std.specs.Prelude.{◌≡◌, ◌≤◌, ◌⊎◌, length, sum, Ok, IfOk, IfErr};
+ghost use Rattle.sand_model.specs.Grid.{sites};
+ghost use Rattle.sand_model.specs.Piles.{height_of, most_grains};
+ghost use Rattle.sand_group.specs.Recurrence.{IsRecurrent};
+ghost use Rattle.sand_c.specs.Unfit.{ElementFails, IsUnfit, element_of};
+
+use crate::arguments::{grains_of, grid_of};
+use crate::faults::Fault;
+use sand_group::Recurrent;
+use sand_model::{Pile, Shape};
+use std::alloc::Global;
+
+/// The recurrent pile of these heights.
+#[tactic(auto, using(crate::proofs::Unfit::unfit))]
+pub(crate) fn recurrent_on(alloc: Global, shape: Shape, heights: &[u64]) -> Result<Recurrent, Fault>
+    requires one_each { length heights.now ≡ sites shape }
+    requires limit { sum heights.now ≤ most_grains }
+    ensures made { IfOk result (λ c. c ≡ record { grid = shape; heights = heights.now }) }
+    ensures unfit { IfErr result (λ e. (e ≡ Fault.Memory) ⊎ IsUnfit (record { grid = shape; heights = heights.now }) e) }
+{
+    let Ok(pile) = Pile::new(alloc, shape, heights) else {
+        return Err(Fault::Memory);
+    };
+    match Recurrent::from_pile(alloc, &pile) {
+        Ok(recurrent) => Ok(recurrent),
+        Err(fault) => Err(Fault::from(fault)),
+    }
+}
+
+/// The recurrent pile that the arguments are.
+pub(crate) fn element_of(
+    alloc: Global,
+    width: usize,
+    height: usize,
+    cylinder: bool,
+    heights: &[u64],
+) -> Result<Recurrent, Fault>
+    ensures meant { IfOk result (λ c. element_of width height cylinder heights.now ≡ Ok c) }
+    ensures recurrent { IfOk result (λ c. IsRecurrent c.grid (height_of c)) }
+    ensures one_each { IfOk result (λ c. length heights.now ≡ sites c.grid) }
+    ensures fault { IfErr result (λ e. ElementFails e (element_of width height cylinder heights.now)) }
+{
+    let shape = grid_of(width, height, cylinder)?;
+    if heights.len() != shape.sites() {
+        return Err(Fault::Length);
+    }
+    if grains_of(heights).is_none() {
+        return Err(Fault::TooManyGrains);
+    }
+    recurrent_on(alloc, shape, heights)
+}

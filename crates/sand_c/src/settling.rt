@@ -1,0 +1,69 @@
+//! Settling a pile.
+
+ghost use Rattle.std.specs.Prelude.{◌≡◌, ◌≢◌, OnOk, OnErr, IfErr, IsOk};
+ghost use Rattle.sand_c.specs.Arguments.{Fails, Answers};
+ghost use Rattle.sand_c.specs.Settling.{settling_of, IsSettling};
+
+use crate::arguments::{grid_of, pile_on};
+use crate::faults::{Fault, answer};
+use sand_settle::settle;
+use std::alloc::Global;
+
+// Settles a pile, and writes what it found once nothing can fail any more.
+fn settle_into(
+    alloc: Global,
+    width: usize,
+    height: usize,
+    cylinder: bool,
+    heights: &mut [u64],
+    odometer: &mut [u64],
+    lost: &mut u64,
+    topplings: &mut u64,
+) -> Result<(), Fault>
+    ensures meant { OnOk result (IsOk (settling_of width height cylinder heights.old odometer.old)) }
+    ensures settled { OnOk result (IsSettling (settling_of width height cylinder heights.old odometer.old) heights.new odometer.new lost.new topplings.new) }
+    ensures fault { IfErr result (λ e. Fails e (settling_of width height cylinder heights.old odometer.old)) }
+    ensures heights { OnErr result (heights.new ≡ heights.old) }
+    ensures odometer { OnErr result (odometer.new ≡ odometer.old) }
+    ensures lost { OnErr result (lost.new ≡ lost.old) }
+    ensures topplings { OnErr result (topplings.new ≡ topplings.old) }
+{
+    let shape = grid_of(width, height, cylinder)?;
+    if odometer.len() != shape.sites() {
+        return Err(Fault::Length);
+    }
+    let pile = pile_on(alloc, shape, heights)?;
+    let settled = settle(alloc, &pile)?;
+    heights.copy_from_slice(settled.pile().heights());
+    odometer.copy_from_slice(settled.odometers());
+    *lost = settled.lost();
+    *topplings = settled.topplings();
+    Ok(())
+}
+
+/// Settles a pile: the heights become those of the settled pile, the odometer how often each site toppled, and the two
+/// numbers the grains lost and the topplings in all. Returns 0, or else 1 (Side), 24 (Narrow), 2 (Length of a slice) or
+/// 3 (TooManyGrains), whichever is first, or 4 (Memory); and then nothing has changed.
+#[tactic(auto, using(crate::proofs::Answered::answered))]
+#[unsafe(no_mangle)]
+pub extern "C" fn sandpile_settle(
+    alloc: Global,
+    width: usize,
+    height: usize,
+    cylinder: bool,
+    heights: &mut [u64],
+    odometer: &mut [u64],
+    lost: &mut u64,
+    topplings: &mut u64,
+) -> u32
+    ensures settled { result ≡ 0 → IsSettling (settling_of width height cylinder heights.old odometer.old) heights.new odometer.new lost.new topplings.new }
+    ensures answer { Answers result (settling_of width height cylinder heights.old odometer.old) }
+    ensures heights { result ≢ 0 → heights.new ≡ heights.old }
+    ensures odometer { result ≢ 0 → odometer.new ≡ odometer.old }
+    ensures lost { result ≢ 0 → lost.new ≡ lost.old }
+    ensures topplings { result ≢ 0 → topplings.new ≡ topplings.old }
+{
+    answer(settle_into(
+        alloc, width, height, cylinder, heights, odometer, lost, topplings,
+    ))
+}

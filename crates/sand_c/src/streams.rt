@@ -1,0 +1,59 @@
+//! The numbered streams of drop sites.
+
+ghost use Rattle.std.specs.Prelude.{◌≡◌, ◌≢◌, ◌+◌, ◌<◌, ◌^◌, Err, length, OnOk, OnErr, IfErr};
+ghost use Rattle.sand_c.specs.Arguments.{grid_of, IsAnswer};
+ghost use Rattle.sand_c.specs.Streams.{AreSitesFrom, IsDrawing};
+
+use crate::arguments::grid_of;
+use crate::faults::{Fault, answer};
+use sand_streams::SiteReader;
+
+// Writes a site to each place, in turn.
+fn read_into(reader: &mut SiteReader, places: &mut [usize])
+    requires { reader.old.read + length places.old < 2 ^ 68 }
+    ensures { AreSitesFrom reader.old.sites reader.old.seed reader.old.stream reader.old.read places.new }
+{
+    for place in places.iter_mut() {
+        *place = reader.next_site();
+    }
+}
+
+// Writes the sites, if there is a grid.
+fn sites_into(
+    width: usize,
+    height: usize,
+    cylinder: bool,
+    seed: u64,
+    stream: u64,
+    from: u64,
+    sites: &mut [usize],
+) -> Result<(), Fault>
+    ensures drawn { OnOk result (IsDrawing (grid_of width height cylinder) seed stream from sites.new) }
+    ensures fault { IfErr result (λ e. grid_of width height cylinder ≡ Err e) }
+    ensures sites { OnErr result (sites.new ≡ sites.old) }
+{
+    let shape = grid_of(width, height, cylinder)?;
+    let mut reader = SiteReader::new(shape, seed, stream);
+    reader.go_to(from);
+    read_into(&mut reader, sites);
+    Ok(())
+}
+
+/// Writes the sites of a stream of drops on a grid, from its place `from` on. Returns 0, or else 1 (Side) or 24 (Narrow), and
+/// then nothing has changed.
+#[unsafe(no_mangle)]
+pub extern "C" fn sandpile_sites(
+    width: usize,
+    height: usize,
+    cylinder: bool,
+    seed: u64,
+    stream: u64,
+    from: u64,
+    sites: &mut [usize],
+) -> u32
+    ensures drawn { result ≡ 0 → IsDrawing (grid_of width height cylinder) seed stream from sites.new }
+    ensures answer { IsAnswer result (λ e. grid_of width height cylinder ≡ Err e) }
+    ensures sites { result ≢ 0 → sites.new ≡ sites.old }
+{
+    answer(sites_into(width, height, cylinder, seed, stream, from, sites))
+}

@@ -1,0 +1,49 @@
+use Rattle.std.specs.Prelude.{map, string_bytes}
+use Rattle.std.proofs.lemmas.Result.{IfErr-weaker, IfOk-weaker, err_from_is_err_and}
+use Rattle.sand_cli.specs.Asked.{asked}
+use Rattle.sand_desk.specs.Commands.{IsRead}
+use Rattle.sand_desk.proofs.Endings.{reading_ends, work_ends, work_no_help}
+use Rattle.sand_desk.proofs.commands.run_gated_command.Goals as goal
+
+pub returns-in_err-input-clause-fault : goal.returns-in_err-input-clause-fault
+returns-in_err-input-clause-fault g c =
+    let p = err_from_is_err_and c.from_residual-in_err-input.result c.from_residual-in_err-input.ensures.1 in
+    rw (p.1, p.2)
+    (reading_ends (asked (map string_bytes c.args.words.now)) (g.R.Read.remaining c.args.reader.now) (g.R.Read.remaining c.take_input.new.reader) (g.W.Write.contents c.args.writer.now) c.in_ok-task.task _
+    c.in_ok-task.ensures.ok c.in_err-input.ensures.reads c.in_err-input.ensures.fault (λ e. c.in_err-input.ensures.too_long cc) c.in_err-input.ensures.failed)
+
+pub returns-clause-done : goal.returns-clause-done
+returns-clause-done g c =
+    let done = rw c.as_slice.ensures.value at c.carry_out.ensures.done in
+    IfOk-weaker c.carry_out.result _ _
+    (λ _ whole. record {
+      task = c.in_ok-task.task;
+      input = c.in_ok-input.input.items;
+      text = whole.text;
+      read = record {
+        is_asked = c.in_ok-task.ensures.ok;
+        all = c.in_ok-input.ensures.taken;
+        within = c.in_ok-input.ensures.within;
+      };
+      answer = whole.answer;
+      written = whole.written;
+    })
+    done
+
+pub returns-clause-fault : goal.returns-clause-fault
+returns-clause-fault g c =
+    let read : IsRead (asked (map string_bytes c.args.words.now)) (g.R.Read.remaining c.args.reader.now) (g.R.Read.remaining c.take_input.new.reader) c.in_ok-task.task c.in_ok-input.input.items = record {
+      is_asked = c.in_ok-task.ensures.ok;
+      all = c.in_ok-input.ensures.taken;
+      within = c.in_ok-input.ensures.within;
+    } in
+    let ends = rw c.as_slice.ensures.value at c.carry_out.ensures.fault in
+    IfErr-weaker c.carry_out.result _ _ (λ fault failed. work_ends _ _ _ _ _ c.in_ok-task.task c.in_ok-input.input.items fault read failed) ends
+
+pub returns-clause-help : goal.returns-clause-help
+returns-clause-help g c =
+    IfErr-weaker c.carry_out.result _ _ (λ fault failed. (work_no_help (map string_bytes c.args.words.now) _ _ _ _ fault failed).0) c.carry_out.ensures.fault
+
+pub returns-clause-told : goal.returns-clause-told
+returns-clause-told g c =
+    IfErr-weaker c.carry_out.result _ _ (λ fault failed. (work_no_help (map string_bytes c.args.words.now) _ _ _ _ fault failed).1) c.carry_out.ensures.fault

@@ -1,0 +1,66 @@
+//! How often a command calls the gate that it is given.
+
+use crate::stopping::{Failing, Sluggish};
+use sand_desk::run_gated_command;
+use sand_lab::{Gate, Role};
+use sand_testing::words::words_of;
+use std::alloc::Global;
+use std::sync::atomic::Ordering::SeqCst;
+use std::sync::atomic::{AtomicBool, AtomicU32};
+use std::test::Fail;
+use std::thread::Threads;
+
+// Counts the turns of the first dropper.
+#[derive(Drop)]
+struct Count {
+    turns: AtomicU32,
+    astray: AtomicBool,
+}
+
+impl Gate for Count {
+    fn turn(&self, role: Role, who: u32, turn: u32) {
+        let is_next = self.turns.fetch_add(1, SeqCst) == turn;
+        if !is_next || who != 0 || role != Role::Dropper {
+            self.astray.store(true, SeqCst);
+        }
+    }
+}
+
+// How many turns a command takes on one empty site, if they are those of one dropper, in order.
+fn turns_of<T: Threads + Sync>(rt: &T, alloc: Global, line: &str) -> Result<Option<u32>, Fail> {
+    let gate = Count {
+        turns: AtomicU32::new(0),
+        astray: AtomicBool::new(false),
+    };
+    let words = words_of(alloc, line)?;
+    if words.is_empty() {
+        return Err("no words".into());
+    }
+    let mut reader = Failing {
+        bytes: b"1 1\n0\n",
+        fails: false,
+    };
+    let mut writer = Sluggish::new(alloc, 1_000_000);
+    match run_gated_command(rt, alloc, &gate, words.as_slice(), &mut reader, &mut writer) {
+        Ok(()) if !gate.astray.load(SeqCst) => Ok(Some(gate.turns.load(SeqCst))),
+        _ => Ok(None),
+    }
+}
+
+#[test]
+fn a_gate_is_called_before_each_drop_at_random(rt: HostRuntime) -> Result<(), Fail> {
+    for part in ["", " --table", " --pile"] {
+        let mut line = String::new(rt.alloc());
+        line.push_str("sandpile drops --count 7 --from 5")?;
+        line.push_str(part)?;
+        assert_eq!(rt; turns_of(&rt, rt.alloc(), line.as_str())?, Some(7));
+    }
+    Ok(())
+}
+
+#[test]
+fn a_gate_is_that_of_the_laboratory(rt: HostRuntime) -> Result<(), Fail> {
+    let line = "sandpile lab --droppers 1 --drops 7";
+    assert_eq!(rt; turns_of(&rt, rt.alloc(), line)?, Some(7));
+    Ok(())
+}

@@ -1,0 +1,59 @@
+-- A text that goes out in blocks grows part by part, and may break off in one of them.
+use Rattle.std.proofs.Common.{◌≡◌, ℕ, ◌+◌, List, [], ◌++◌, length, take, length-append, append-nil, append_assoc, sym, ◌∙◌, ap, arith, subst}
+use Rattle.std.proofs.Math.Seq.{take-append-add}
+use Rattle.std.specs.Prelude.{Option}
+use Rattle.std.specs.Io.KnownBytes.{Appends}
+use Rattle.std.proofs.KnownBytes.{Appends-nil, Appends-trans}
+use Rattle.std.proofs.lemmas.List.{take-append-le}
+use Rattle.sand_text.specs.declared.fault.StreamFault.{StreamFault}
+use Rattle.sand_text.specs.declared.fault.StreamFault.TheVariants.{Write}
+use Rattle.sand_text.specs.Blocks.{BreaksIn, GrowsBy, Waiting}
+
+-- nothing was added
+pub stays : (held : Option (List ℕ)) (b : Waiting) → GrowsBy held held b b []
+stays held b = record { gone = []; all = append-nil b.bytes; count = omega arith; written = Appends-nil held }
+
+-- one part, and then another
+pub grows_on : (held mid held' : Option (List ℕ)) (b c d : Waiting) (p q : List ℕ) → GrowsBy held mid b c p → GrowsBy mid held' c d q → GrowsBy held held' b d (p ++ q)
+grows_on held mid held' b c d p q first next = record {
+  gone = first.gone ++ next.gone;
+  all =
+      sym (append_assoc b.bytes p q) ∙ ap (λ t. t ++ q) first.all ∙ append_assoc first.gone c.bytes q
+      ∙ ap (λ t. first.gone ++ t) next.all ∙ sym (append_assoc first.gone next.gone d.bytes);
+  count = omega (arith, first.count, next.count, length-append first.gone next.gone);
+  written = Appends-trans held mid held' first.gone next.gone first.written next.written;
+}
+
+-- one part, and then it broke off in another
+pub breaks_on : (held mid held' : Option (List ℕ)) (b c : Waiting) (p q : List ℕ) (fault : StreamFault) → GrowsBy held mid b c p → BreaksIn mid held' c q fault → BreaksIn held held' b (p ++ q) fault
+breaks_on held mid held' b c p q fault first broken =
+    let whole : b.bytes ++ (p ++ q) ≡ first.gone ++ (c.bytes ++ q) = sym (append_assoc b.bytes p q) ∙ ap (λ t. t ++ q) first.all ∙ append_assoc first.gone c.bytes q in
+    let long : length (b.bytes ++ (p ++ q)) ≡ length first.gone + length (c.bytes ++ q) = ap length whole ∙ length-append first.gone (c.bytes ++ q) in
+    let front : take (length first.gone + broken.taken) (b.bytes ++ (p ++ q)) ≡ first.gone ++ take broken.taken (c.bytes ++ q) =
+    ap (take (length first.gone + broken.taken)) whole ∙ take-append-add first.gone (c.bytes ++ q) broken.taken in
+    let count : c.sent + broken.taken ≡ b.sent + (length first.gone + broken.taken) = omega (arith, first.count) in
+    record {
+      taken = length first.gone + broken.taken;
+      told = broken.told ∙ ap Write count;
+      within = omega (arith, long, broken.within);
+      written = subst (Appends held held') (sym front) (Appends-trans held mid held' first.gone (take broken.taken (c.bytes ++ q)) first.written broken.written);
+    }
+
+-- where it broke off, it did so whatever was to follow
+pub breaks_before : (held held' : Option (List ℕ)) (b : Waiting) (p q : List ℕ) (fault : StreamFault) → BreaksIn held held' b p fault → BreaksIn held held' b (p ++ q) fault
+breaks_before held held' b p q fault broken =
+    let whole : b.bytes ++ (p ++ q) ≡ (b.bytes ++ p) ++ q = sym (append_assoc b.bytes p q) in
+    let long : length (b.bytes ++ (p ++ q)) ≡ length (b.bytes ++ p) + length q = ap length whole ∙ length-append (b.bytes ++ p) q in
+    record {
+      taken = broken.taken;
+      told = broken.told;
+      within = omega (arith, long, broken.within);
+      written = subst (Appends held held') (sym (ap (take broken.taken) whole ∙ take-append-le broken.taken (b.bytes ++ p) q broken.within)) broken.written;
+    }
+
+-- one part, and then it broke off in another, whatever was to follow
+pub breaks_within : (held mid held' : Option (List ℕ)) (b c : Waiting) (p q rest whole : List ℕ) (fault : StreamFault) → p ++ (q ++ rest) ≡ whole → GrowsBy held mid b c p → BreaksIn mid held' c q fault
+    → BreaksIn held held' b whole fault
+breaks_within held mid held' b c p q rest whole fault all first broken =
+    let broken : BreaksIn held held' b ((p ++ q) ++ rest) fault = breaks_before held held' b (p ++ q) rest fault (breaks_on held mid held' b c p q fault first broken) in
+    subst (λ t. BreaksIn held held' b t fault) (append_assoc p q rest ∙ all) broken

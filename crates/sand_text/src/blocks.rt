@@ -1,0 +1,197 @@
+//! A text that goes out in blocks while it is made, so that its length needs no memory.
+//!
+//! What was made waits in a block of fixed room. Before the next part is added, a block of `BLOCK` bytes or more goes to the
+//! writer. So the writer always has whole parts, and after the block was made nothing but the writer can fail.
+
+ghost use Rattle.std.specs.Prelude.{◌≡◌, ◌+◌, ◌<◌, ◌≤◌, [], length, IfOk, IfErr, OnOk};
+ghost use Rattle.std.specs.Io.KnownBytes.{Appends};
+ghost use Rattle.sand_model.specs.Grid.{sites};
+ghost use Rattle.sand_text.specs.Blocks.{BreaksIn, GrowsBy};
+ghost use Rattle.sand_text.specs.Tables.{entry_text};
+ghost use Rattle.sand_text.specs.Texts.{row_text, shape_text, sites_text, sum_line, text_of};
+
+use crate::fault::StreamFault;
+use crate::flow::write_text;
+use crate::tables::fields_of;
+use crate::{piles, rows};
+use sand_model::{Pile, Shape};
+use sand_settle::Avalanche;
+use std::alloc::{AllocError, Global};
+use std::io::Write;
+use std::marker::Model;
+
+/// The bytes with which a block goes out. It may have one part more.
+const BLOCK: usize = 65_536;
+
+/// The most bytes of a part: a row of 256 numbers, each with a byte behind it.
+const PART: usize = 5_376;
+
+/// The end of a text, which waits to be written.
+#[derive(Drop)]
+pub struct Blocks {
+    waiting: Vec<u8>,
+    sent: usize,
+}
+
+impl Model for Blocks {
+    ghost use Rattle.std.specs.Prelude.{◌≤◌, vec_capacity};
+    ghost use Rattle.sand_text.specs.Blocks.{Waiting};
+
+    ghost Value = { Waiting };
+
+    ghost view = { λ b. record { bytes = b.waiting.items; sent = b.sent } };
+
+    ghost invariant = { λ b. 70912 ≤ vec_capacity b.waiting };
+}
+
+impl Blocks {
+    /// A text that has only its head so far. Later it takes no memory.
+    pub fn new(alloc: Global, head: &[u8]) -> Result<Blocks, AllocError>
+        ensures { IfOk result (λ b. b ≡ record { bytes = head.now; sent = 0 }) }
+    {
+        let mut waiting = Vec::with_capacity(alloc, BLOCK + PART)?;
+        waiting.extend_from_slice(head)?;
+        Ok(Blocks { waiting, sent: 0 })
+    }
+
+    // Writes all that waits.
+    fn send<W: Write>(&mut self, writer: &mut W) -> Result<(), StreamFault>
+        ensures ok { OnOk result (GrowsBy (W.contents writer.old) (W.contents writer.new) self.old self.new []) }
+        ensures all { OnOk result (self.new.bytes ≡ []) }
+        ensures err { IfErr result (BreaksIn (W.contents writer.old) (W.contents writer.new) self.old []) }
+    {
+        let Some(sent) = self.sent.checked_add(self.waiting.len()) else {
+            return Err(StreamFault::Write(self.sent));
+        };
+        match write_text(writer, self.waiting.as_slice()) {
+            Ok(()) => {
+                self.waiting.clear();
+                self.sent = sent;
+                Ok(())
+            }
+            Err(StreamFault::Write(taken)) => Err(StreamFault::Write(self.sent + taken)),
+            Err(_) => unreachable!(),
+        }
+    }
+
+    // Writes what waits if that is a block, so that there is room for a part.
+    fn make_room<W: Write>(&mut self, writer: &mut W) -> Result<(), StreamFault>
+        ensures ok { OnOk result (GrowsBy (W.contents writer.old) (W.contents writer.new) self.old self.new []) }
+        ensures room { OnOk result (length self.new.bytes < 65536) }
+        ensures err { IfErr result (BreaksIn (W.contents writer.old) (W.contents writer.new) self.old []) }
+    {
+        if self.waiting.len() < BLOCK {
+            return Ok(());
+        }
+        self.send(writer)
+    }
+
+    /// Adds a part. Fails if the writer does (Write, with how many bytes of the text it took).
+    pub fn push<W: Write>(&mut self, writer: &mut W, part: &[u8]) -> Result<(), StreamFault>
+        requires { length part.now ≤ 5376 }
+        ensures ok { OnOk result (GrowsBy (W.contents writer.old) (W.contents writer.new) self.old self.new part.now) }
+        ensures few { OnOk result (length self.new.bytes < 70912) }
+        ensures err { IfErr result (BreaksIn (W.contents writer.old) (W.contents writer.new) self.old part.now) }
+    {
+        self.make_room(writer)?;
+        let Ok(()) = self.waiting.extend_from_slice(part) else {
+            unreachable!()
+        };
+        Ok(())
+    }
+
+    // Adds numbers with a space between two, and a line end after the last.
+    fn push_row<W: Write>(&mut self, writer: &mut W, numbers: &[u64]) -> Result<(), StreamFault>
+        requires { length numbers.now ≤ 256 }
+        ensures ok { OnOk result (GrowsBy (W.contents writer.old) (W.contents writer.new) self.old self.new (row_text numbers.now)) }
+        ensures few { OnOk result (length self.new.bytes < 70912) }
+        ensures err { IfErr result (BreaksIn (W.contents writer.old) (W.contents writer.new) self.old (row_text numbers.now)) }
+    {
+        self.make_room(writer)?;
+        let Ok(()) = rows::push_row(&mut self.waiting, numbers) else {
+            unreachable!()
+        };
+        Ok(())
+    }
+
+    /// Adds the line of a drop: its number, and what it set off.
+    pub fn push_entry<W: Write>(
+        &mut self,
+        writer: &mut W,
+        number: u64,
+        avalanche: Avalanche,
+    ) -> Result<(), StreamFault>
+        ensures ok { OnOk result (GrowsBy (W.contents writer.old) (W.contents writer.new) self.old self.new (entry_text (number, avalanche))) }
+        ensures few { OnOk result (length self.new.bytes < 70912) }
+        ensures err { IfErr result (BreaksIn (W.contents writer.old) (W.contents writer.new) self.old (entry_text (number, avalanche))) }
+    {
+        self.push_row(writer, &fields_of(number, avalanche))
+    }
+
+    /// Adds a number for each site, by grid rows.
+    pub fn push_sites<W: Write>(
+        &mut self,
+        writer: &mut W,
+        shape: Shape,
+        numbers: &[u64],
+    ) -> Result<(), StreamFault>
+        requires { length numbers.now ≡ sites shape }
+        ensures ok { OnOk result (GrowsBy (W.contents writer.old) (W.contents writer.new) self.old self.new (sites_text shape numbers.now)) }
+        ensures err { IfErr result (BreaksIn (W.contents writer.old) (W.contents writer.new) self.old (sites_text shape numbers.now)) }
+    {
+        let mut rest = numbers;
+        'rows: for _ in 0..shape.height() {
+            let (row, after) = rest.split_at(shape.width());
+            self.push_row(writer, row)?;
+            rest = after;
+        }
+        Ok(())
+    }
+
+    // Adds the first line of a pile's text.
+    fn push_shape<W: Write>(&mut self, writer: &mut W, shape: Shape) -> Result<(), StreamFault>
+        ensures ok { OnOk result (GrowsBy (W.contents writer.old) (W.contents writer.new) self.old self.new (shape_text shape)) }
+        ensures err { IfErr result (BreaksIn (W.contents writer.old) (W.contents writer.new) self.old (shape_text shape)) }
+    {
+        self.make_room(writer)?;
+        let Ok(()) = piles::push_shape(&mut self.waiting, shape) else {
+            unreachable!()
+        };
+        Ok(())
+    }
+
+    /// Adds the text of a pile.
+    pub fn push_pile<W: Write>(&mut self, writer: &mut W, pile: &Pile) -> Result<(), StreamFault>
+        ensures ok { OnOk result (GrowsBy (W.contents writer.old) (W.contents writer.new) self.old self.new (text_of pile.now)) }
+        ensures err { IfErr result (BreaksIn (W.contents writer.old) (W.contents writer.new) self.old (text_of pile.now)) }
+    {
+        self.push_shape(writer, pile.shape())?;
+        self.push_sites(writer, pile.shape(), pile.heights())
+    }
+
+    /// Adds a line that names a sum.
+    pub fn push_sum<W: Write>(
+        &mut self,
+        writer: &mut W,
+        name: &str,
+        sum: u64,
+    ) -> Result<(), StreamFault>
+        requires { length name.now ≤ 5000 }
+        ensures ok { OnOk result (GrowsBy (W.contents writer.old) (W.contents writer.new) self.old self.new (sum_line name.now sum)) }
+        ensures err { IfErr result (BreaksIn (W.contents writer.old) (W.contents writer.new) self.old (sum_line name.now sum)) }
+    {
+        self.make_room(writer)?;
+        let Ok(()) = rows::push_sum(&mut self.waiting, name, sum) else {
+            unreachable!()
+        };
+        Ok(())
+    }
+
+    /// Writes what still waits, and flushes the writer.
+    pub fn finish<W: Write>(mut self, writer: &mut W) -> Result<(), StreamFault>
+        ensures ok { OnOk result (Appends (W.contents writer.old) (W.contents writer.new) self.bytes) }
+        ensures err { IfErr result (BreaksIn (W.contents writer.old) (W.contents writer.new) self []) }
+    {
+        self.send(writer)
+    }
+}

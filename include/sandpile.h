@@ -1,0 +1,113 @@
+/* libsandpile: abelian sandpiles on grids with open edges and on cylinders. C99 and C++.
+
+   A grid has `width` columns and `height` rows, each from 1 to 256; a cylinder, whose first and last columns are neighbours, is
+   at least 3 wide. Site `row * width + column` has the height `heights[row * width + column]`. An array is passed as a pointer
+   and the number of its elements. Piles have one element for each site, and 1,099,511,627,775 grains at most.
+
+   Each function that is listed with faults returns 0, or the number of a fault; then no array and no number that it was given
+   has changed. The faults are listed in the order in which they are looked for.
+
+   Pointers are not null, also if the length is 0, and the arrays and numbers of one call do not overlap. Nothing is kept between
+   calls: many threads may call at once, on different arrays. */
+#ifndef SANDPILE_H
+#define SANDPILE_H
+
+#include <stdbool.h>
+#include <stddef.h>
+#include <stdint.h>
+
+#ifdef __cplusplus
+extern "C" {
+#endif
+
+/* The version of this header: 10000 * major + 100 * minor + patch. */
+#define SANDPILE_VERSION 10000
+
+enum {
+    SANDPILE_SIDE = 1,
+    SANDPILE_LENGTH = 2,
+    SANDPILE_TOO_MANY_GRAINS = 3,
+    SANDPILE_MEMORY = 4,
+    SANDPILE_FULL = 6,
+    SANDPILE_UNSTABLE = 7,
+    SANDPILE_NOT_RECURRENT = 8,
+    SANDPILE_NARROW = 24,
+    SANDPILE_NO_SITE = 25
+};
+
+/* What a fault says. */
+static inline const char *sandpile_explain(uint32_t fault) {
+    switch (fault) {
+    case 0: return "no fault";
+    case SANDPILE_SIDE: return "a side is outside 1 to 256";
+    case SANDPILE_LENGTH: return "an array has the wrong length";
+    case SANDPILE_TOO_MANY_GRAINS: return "the heights are over 1,099,511,627,775 grains in all";
+    case SANDPILE_MEMORY: return "an allocation failed";
+    case SANDPILE_FULL: return "the heights and the drops are over 1,099,511,627,775 grains in all";
+    case SANDPILE_UNSTABLE: return "a height is over 3";
+    case SANDPILE_NOT_RECURRENT: return "a set of sites is forbidden";
+    case SANDPILE_NARROW: return "a cylinder is less than 3 wide";
+    case SANDPILE_NO_SITE: return "a drop is outside the grid";
+    default: return "no fault has this number";
+    }
+}
+
+/* The version of the library that is linked, as SANDPILE_VERSION has that of the header. */
+uint32_t sandpile_version(void);
+
+/* What one drop set off. */
+typedef struct sandpile_avalanche {
+    size_t site;    /* where the grain was dropped */
+    uint64_t size;  /* topplings */
+    uint32_t area;  /* sites that toppled */
+    uint32_t reach; /* the greatest distance from the drop to a site that toppled, in columns and rows; 0 if none did */
+    uint64_t lost;  /* grains that fell over the edge */
+} sandpile_avalanche;
+
+/* Settles a pile. Writes the settled heights, how often each site toppled, the grains lost and the topplings in all.
+   SIDE, NARROW, LENGTH, TOO_MANY_GRAINS, MEMORY. */
+uint32_t sandpile_settle(size_t width, size_t height, bool cylinder, uint64_t *heights, size_t heights_length,
+                         uint64_t *odometer, size_t odometer_length, uint64_t *lost, uint64_t *topplings);
+
+/* Settles a pile, then drops a grain at each site in turn; each settles before the next one drops. Writes the heights that are
+   left, how often each site toppled in this call (the first settling included), and an avalanche for each drop.
+   SIDE, NARROW, LENGTH, TOO_MANY_GRAINS, NO_SITE, FULL, MEMORY. */
+uint32_t sandpile_drop(size_t width, size_t height, bool cylinder, uint64_t *heights, size_t heights_length,
+                       uint64_t *odometer, size_t odometer_length, const size_t *sites, size_t sites_length,
+                       sandpile_avalanche *avalanches, size_t avalanches_length);
+
+/* Writes the sites of a stream of random drops, from its place `from` on: a stream is the 32-bit words of ChaCha8 under the seed,
+   each modulo the sites of the grid. SIDE, NARROW. */
+uint32_t sandpile_sites(size_t width, size_t height, bool cylinder, uint64_t seed, uint64_t stream, uint64_t from, size_t *sites,
+                        size_t sites_length);
+
+/* Burns a stable pile. If it is recurrent, `found` becomes a burning order of all sites; if not, its first `count` elements
+   become the greatest forbidden set, ascending. `found` has one element for each site.
+   SIDE, NARROW, LENGTH, TOO_MANY_GRAINS; then UNSTABLE or MEMORY. */
+uint32_t sandpile_burn(size_t width, size_t height, bool cylinder, const uint64_t *heights, size_t heights_length,
+                       size_t *found, size_t found_length, size_t *count, bool *recurrent);
+
+/* Writes the identity of the group of recurrent piles. SIDE, NARROW, LENGTH, MEMORY. */
+uint32_t sandpile_identity(size_t width, size_t height, bool cylinder, uint64_t *heights, size_t heights_length);
+
+/* Writes the recurrent pile that is equivalent to a pile. SIDE, NARROW, LENGTH, TOO_MANY_GRAINS, MEMORY. */
+uint32_t sandpile_recurrent(size_t width, size_t height, bool cylinder, uint64_t *heights, size_t heights_length);
+
+/* Writes the sum of two recurrent piles over the first. SIDE, NARROW, LENGTH, TOO_MANY_GRAINS; then UNSTABLE or NOT_RECURRENT
+   of the first pile and then of the second, or MEMORY. */
+uint32_t sandpile_add(size_t width, size_t height, bool cylinder, uint64_t *heights, size_t heights_length,
+                      const uint64_t *others, size_t others_length);
+
+/* Writes the inverse of a recurrent pile over it. SIDE, NARROW, LENGTH, TOO_MANY_GRAINS; then UNSTABLE, NOT_RECURRENT or
+   MEMORY. */
+uint32_t sandpile_inverse(size_t width, size_t height, bool cylinder, uint64_t *heights, size_t heights_length);
+
+/* Writes the sum of n copies of a recurrent pile over it: the identity for 0. SIDE, NARROW, LENGTH, TOO_MANY_GRAINS; then
+   UNSTABLE, NOT_RECURRENT or MEMORY. */
+uint32_t sandpile_multiple(size_t width, size_t height, bool cylinder, uint64_t *heights, size_t heights_length, uint64_t n);
+
+#ifdef __cplusplus
+}
+#endif
+
+#endif

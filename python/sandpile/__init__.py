@@ -1,0 +1,41 @@
+"""Abelian sandpiles on grids with open edges and on cylinders, over NumPy arrays.
+
+What the calls return is proved: libsandpile, which they call, is written in Rattle (Rust with contracts), and each of its
+exports has a contract, from the settled pile with the least odometer to the group of recurrent piles. This module checks the
+arguments and passes them on; it is tested, not proved.
+
+A pile is an array of the shape (height, width), of any integer type; sides are from 1 to 256. Arrays that are returned are
+new, of type uint64. No call changes its arguments. ``cylinder=True`` makes the first and the last column neighbours. What is
+refused is a `Fault` or a `TypeError`, and then nothing has changed. Calls let go of Python's lock, so threads run side by side.
+
+======================================  ==========================================================
+`settle`                                the settled pile, and how often each site topples
+`Drive`                                 drops grains one by one, and returns the avalanche of each
+`burn`                                  whether a pile is recurrent
+`recurrent`, `identity`, `Recurrent`    the sandpile group
+`lab`                                   a seeded run over many threads, by the program
+`show`                                  a picture
+======================================  ==========================================================
+
+Examples
+--------
+>>> import numpy as np, sandpile
+>>> s = sandpile.settle(np.full((64, 64), 5))
+>>> int(s.pile.max()), s.topplings == s.odometer.sum()
+(3, True)
+"""
+
+from .burning import Burned, burn
+from .driving import AVALANCHE, Drive
+from .faults import Fault
+from .group import Recurrent, identity, recurrent
+from .laboratory import EPOCH, Run, lab
+from .pictures import show
+from .settling import Settled, settle
+from .version import VERSION
+
+__version__ = VERSION
+__all__ = [
+    "AVALANCHE", "EPOCH", "Burned", "Drive", "Fault", "Recurrent", "Run", "Settled",
+    "burn", "identity", "lab", "recurrent", "settle", "show",
+]

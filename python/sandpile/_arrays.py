@@ -1,0 +1,77 @@
+"""Arrays in: what is accepted as a pile, a shape or a list of sites."""
+
+from __future__ import annotations
+
+import operator
+from typing import Any
+
+import numpy as np
+from numpy.typing import ArrayLike, NDArray
+
+from .faults import Fault
+
+Heights = NDArray[np.uint64]
+
+_MOST_SIDE = 256
+
+
+def _integers(values: ArrayLike, what: str) -> NDArray[Any]:
+    """The array of these values, whose type must be one of NumPy's integer types."""
+    if isinstance(values, np.ma.MaskedArray):
+        raise TypeError(f"{what} are a plain array, and this one has a mask")
+    array = np.asarray(values)
+    if array.size and array.dtype.kind not in "iu":
+        raise TypeError(f"{what} are integers of at most 64 bits, and this array has the type {array.dtype}")
+    return array
+
+
+def heights_of(pile: ArrayLike) -> Heights:
+    """A new contiguous array of the heights, which are checked: two dimensions, integers, none below 0."""
+    array = _integers(pile, "heights")
+    if array.ndim != 2:
+        raise TypeError(f"a pile has the shape (height, width), and this array has {array.ndim} dimensions")
+    check_sides(array.shape)
+    if array.dtype.kind == "i" and array.min() < 0:
+        row, column = np.argwhere(array < 0)[0]
+        raise TypeError(f"heights are 0 or more, and the one in row {row}, column {column} is {array[row, column]}")
+    return np.array(array, dtype=np.uint64, order="C")
+
+
+def check_sides(shape: tuple[int, ...]) -> None:
+    """Refuses a side that is not from 1 to 256. So no array of such a shape is made."""
+    if not all(1 <= side <= _MOST_SIDE for side in shape):
+        raise Fault(1)
+
+
+def shape_of(shape: tuple[int, int]) -> tuple[int, int]:
+    """The height and the width, which must be integers."""
+    try:
+        height, width = map(operator.index, shape)
+    except (TypeError, ValueError):
+        raise TypeError(f"a shape is two integers, (height, width), and not {shape!r}") from None
+    check_sides((height, width))
+    return height, width
+
+
+def sites_of(sites: ArrayLike, count: int) -> NDArray[np.uintp]:
+    """A new contiguous array of site numbers, each below `count`."""
+    array = _integers(sites, "sites")
+    if array.ndim > 1:
+        raise TypeError(f"sites are numbers in a list, row * width + column, and this array has {array.ndim} dimensions")
+    array = np.atleast_1d(array)
+    outside = np.flatnonzero((array < 0) | (array >= count))
+    if outside.size:
+        at = outside[0]
+        raise Fault(25, f"drop {at} is at site {array[at]}, and the grid has the sites 0 to {count - 1}")
+    return np.array(array, dtype=np.uintp, order="C")
+
+
+def count_of(number: int, what: str, most: int = 2**64 - 1) -> int:
+    """A number of Python or NumPy, if it is an integer from 0 to `most`."""
+    try:
+        value = operator.index(number)
+    except TypeError:
+        raise TypeError(f"{what} is an integer, and not {number!r}") from None
+    if not 0 <= value <= most:
+        raise Fault(15, f"{what} is {value}, and must be from 0 to {most}")
+    return value

@@ -1,0 +1,77 @@
+"""Finds libsandpile and calls it."""
+
+from __future__ import annotations
+
+import ctypes
+import os
+from pathlib import Path
+from typing import Any
+
+import numpy as np
+
+from .faults import Fault
+
+_NAME = "libsandpile.so.1"
+_HERE = Path(__file__).resolve().parent
+_CHECKOUT = _HERE.parent.parent / "crates" / "sand_c" / "out"
+# The major version of include/sandpile.h, whose calls are declared here.
+_MAJOR = 1
+
+_SIDES = (ctypes.c_size_t, ctypes.c_size_t, ctypes.c_bool)
+_ARRAY = (ctypes.c_void_p, ctypes.c_size_t)
+_PLACE = (ctypes.c_void_p,)
+_TAKES = {
+    "settle": (*_SIDES, *_ARRAY, *_ARRAY, *_PLACE, *_PLACE),
+    "drop": (*_SIDES, *_ARRAY, *_ARRAY, *_ARRAY, *_ARRAY),
+    "sites": (*_SIDES, ctypes.c_uint64, ctypes.c_uint64, ctypes.c_uint64, *_ARRAY),
+    "burn": (*_SIDES, *_ARRAY, *_ARRAY, *_PLACE, *_PLACE),
+    "identity": (*_SIDES, *_ARRAY),
+    "recurrent": (*_SIDES, *_ARRAY),
+    "add": (*_SIDES, *_ARRAY, *_ARRAY),
+    "inverse": (*_SIDES, *_ARRAY),
+    "multiple": (*_SIDES, *_ARRAY, ctypes.c_uint64),
+    "version": (),
+}
+
+
+def _places() -> list[str]:
+    """Where the library may be, the first choice first: named, carried along, built in the checkout, known to the system."""
+    if "LIBSANDPILE" in os.environ:
+        return [os.environ["LIBSANDPILE"]]
+    files = (_HERE / _NAME, _CHECKOUT / _NAME)
+    return [*(str(file) for file in files if file.exists()), _NAME]
+
+
+def _load() -> ctypes.CDLL:
+    place = _places()[0]
+    try:
+        library = ctypes.CDLL(place)
+    except OSError as error:
+        raise ImportError(f"{place} cannot be loaded ({error}); in the repository, ./build library builds it") from None
+    for name, takes in _TAKES.items():
+        export = getattr(library, f"sandpile_{name}")
+        export.argtypes, export.restype = takes, ctypes.c_uint32
+    if library.sandpile_version() // 10000 != _MAJOR:
+        raise ImportError(f"{place} has version {library.sandpile_version()}, and this module needs {_MAJOR}0000 or later")
+    return library
+
+
+library = _load()
+
+
+def call(name: str, shape: tuple[int, ...], cylinder: bool, *arguments: Any) -> None:
+    """Calls an export on the grid of this shape. An array is passed as a pointer and a length.
+
+    The arrays are contiguous, and those that the export writes are new. Python's lock is free during the call. Raises the
+    fault that the export returns.
+    """
+    passed: list[Any] = []
+    for argument in arguments:
+        if isinstance(argument, np.ndarray):
+            passed += (argument.ctypes.data, argument.size)
+        else:
+            passed.append(argument)
+    height, width = shape
+    number = getattr(library, f"sandpile_{name}")(width, height, cylinder, *passed)
+    if number:
+        raise Fault(number)

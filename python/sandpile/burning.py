@@ -1,0 +1,69 @@
+"""Dhar's burning test: whether a stable pile is recurrent."""
+
+from __future__ import annotations
+
+import ctypes
+from dataclasses import dataclass
+
+import numpy as np
+from numpy.typing import ArrayLike, NDArray
+
+from ._arrays import heights_of
+from ._library import call
+
+
+@dataclass(frozen=True)
+class Burned:
+    """What burning finds.
+
+    Attributes
+    ----------
+    is_recurrent : bool
+        Whether all sites burn, so that the pile is recurrent.
+    order : numpy.ndarray
+        Site numbers, ``row * width + column``, in an order in which all sites burn; shape (sites,), intp. It is empty if the
+        pile is not recurrent.
+    forbidden : numpy.ndarray
+        Which sites are in the greatest forbidden set; shape (height, width), bool. None is, if the pile is recurrent.
+    """
+
+    is_recurrent: bool
+    order: NDArray[np.intp]
+    forbidden: NDArray[np.bool_]
+
+
+def burn(pile: ArrayLike, cylinder: bool = False) -> Burned:
+    """Burns a stable pile from its edge. What does not burn is the greatest forbidden set.
+
+    Parameters
+    ----------
+    pile : array_like of int
+        Grains on each site, shape (height, width), each from 0 to 3. It does not change.
+    cylinder : bool
+        Whether the first and the last column are neighbours.
+
+    Raises
+    ------
+    Fault
+        Side (1), Narrow (24), TooManyGrains (3), Unstable (7) or Memory (4).
+    TypeError
+        If `pile` is not an array of two dimensions of integers that are 0 or more.
+
+    Examples
+    --------
+    >>> import sandpile
+    >>> sandpile.burn([[3, 3, 3], [3, 3, 3]]).is_recurrent
+    True
+    >>> sandpile.burn([[0, 0, 3]]).forbidden
+    array([[ True,  True, False]])
+    """
+    heights = heights_of(pile)
+    found = np.zeros(heights.size, np.uintp)
+    count, recurrent = ctypes.c_size_t(), ctypes.c_bool()
+    call("burn", heights.shape, cylinder, heights, found, ctypes.byref(count), ctypes.byref(recurrent))
+    sites = found[: count.value].astype(np.intp)
+    forbidden = np.zeros(heights.shape, bool)
+    if recurrent.value:
+        return Burned(True, sites, forbidden)
+    forbidden.flat[sites] = True
+    return Burned(False, sites[:0], forbidden)

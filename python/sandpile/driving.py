@@ -1,0 +1,339 @@
+"""A pile that is driven by single grains: the avalanche of each drop."""
+
+from __future__ import annotations
+
+import os
+from dataclasses import dataclass, replace
+from pathlib import Path
+from typing import Callable, Iterator
+
+import numpy as np
+from numpy.typing import ArrayLike, NDArray
+
+from ._arrays import Heights, count_of, heights_of, sites_of
+from ._library import call
+from .faults import Fault
+from .progress import Bar
+from .settling import settle
+
+_MOST_GRAINS = 1_099_511_627_775
+# The most drops of a block, between two moments at which Ctrl-C can stop, and the most drops times sites. The time of a drop is
+# in proportion to the sites, and so is what a call costs in addition: that is about a hundredth of a block. On the largest grid
+# a block takes some tenths of a second, and less on others.
+_MOST_IN_BLOCK, _WORK_IN_BLOCK = 8192, 1 << 27
+
+_FOUND = [("size", "u8"), ("area", "u4"), ("reach", "u4"), ("lost", "u8")]
+# As include/sandpile.h has it.
+_AVALANCHE = np.dtype([("site", np.uintp), *_FOUND])
+
+#: What `Drive.drop` returns has a row of this type for each drop.
+AVALANCHE = np.dtype([("number", "u8"), ("site", np.intp), *_FOUND])
+
+
+@dataclass(frozen=True)
+class _State:
+    """All that changes as grains drop. A block of drops changes it in one step, so that it can be stopped at any time."""
+
+    pile: Heights
+    odometer: Heights
+    lost: int
+    drops: int  # so far
+    drawn: int  # of these, drops at sites of the stream
+    table: NDArray[np.void]  # of the last call
+
+
+def _block(pile: Heights, cylinder: bool, sites: NDArray[np.uintp]) -> tuple[Heights, Heights, NDArray[np.void]]:
+    """The pile after a grain dropped at each of these sites, its odometer, and the avalanches."""
+    heights, odometer, avalanches = pile.copy(), np.zeros_like(pile), np.zeros(sites.size, _AVALANCHE)
+    call("drop", heights.shape, cylinder, heights, odometer, sites, avalanches)
+    return heights, odometer, avalanches
+
+
+class Drive:
+    """A pile on which grains drop one by one, at random or at given sites. Each settles before the next one drops.
+
+    Parameters
+    ----------
+    pile : array_like of int
+        The start, shape (height, width), sides from 1 to 256, any integer type. It is settled at once, and does not change.
+    seed, stream : int
+        Which random sites are drawn: stream `stream` of the seed `seed`, each from 0 to 2**64 - 1. Streams of one seed are
+        independent, so replicas get a stream each. ``sandpile drops --count N --seed S --stream T`` drops at the same sites.
+    cylinder : bool
+        Whether the first and the last column are neighbours.
+
+    Raises
+    ------
+    Fault
+        Side (1), Narrow (24), TooManyGrains (3), Memory (4), or Plan (15) if `seed` or `stream` is outside its limits.
+    TypeError
+        If `pile` is not an array of two dimensions of integers that are 0 or more, or `seed` or `stream` is no integer.
+
+    Notes
+    -----
+    One `Drive` belongs to one thread at a time. Different ones run at once in different threads.
+
+    Examples
+    --------
+    >>> import sandpile
+    >>> run = sandpile.Drive([[3, 3, 3], [3, 3, 3]], seed=7)
+    >>> table = run.drop(1000)
+    >>> table.dtype.names
+    ('number', 'site', 'size', 'area', 'reach', 'lost')
+    >>> run.drops == len(table) == 1000, run.lost == table["lost"].sum()
+    (True, True)
+    """
+
+    def __init__(self, pile: ArrayLike, seed: int = 0, stream: int = 0, cylinder: bool = False) -> None:
+        heights = heights_of(pile)
+        self._seed, self._stream = count_of(seed, "seed"), count_of(stream, "stream")
+        self._cylinder = bool(cylinder)
+        settled = settle(heights, self._cylinder)
+        # The grains of the start and of all drops are within the limit, so each count of the odometer fits.
+        self._start_grains = int(heights.sum())
+        self._state = _State(settled.pile, settled.odometer, settled.lost, 0, 0, np.empty(0, AVALANCHE))
+
+    @property
+    def pile(self) -> Heights:
+        """The heights now, each from 0 to 3; a new array of shape (height, width), uint64."""
+        return self._state.pile.copy()
+
+    @property
+    def odometer(self) -> Heights:
+        """How often each site toppled so far, as the start settled too; a new array of shape (height, width), uint64."""
+        return self._state.odometer.copy()
+
+    @property
+    def lost(self) -> int:
+        """Grains that fell over the edge so far, as the start settled too."""
+        return self._state.lost
+
+    @property
+    def topplings(self) -> int:
+        """Topplings so far, as the start settled too."""
+        return int(self._state.odometer.sum())
+
+    @property
+    def drops(self) -> int:
+        """Grains that dropped so far."""
+        return self._state.drops
+
+    @property
+    def table(self) -> NDArray[np.void]:
+        """What the last call of `drop` or `drop_at` has done, also if Ctrl-C stopped it."""
+        return self._state.table
+
+    @property
+    def seed(self) -> int:
+        """The seed of the random sites."""
+        return self._seed
+
+    @property
+    def stream(self) -> int:
+        """The stream of the random sites."""
+        return self._stream
+
+    @property
+    def cylinder(self) -> bool:
+        """Whether the first and the last column are neighbours."""
+        return self._cylinder
+
+    def drop(self, n: int, progress: bool = False) -> NDArray[np.void]:
+        """Drops `n` grains at the next random sites.
+
+        Ctrl-C stops between two blocks of drops. Then `KeyboardInterrupt` is raised, the pile is as the drops so far left it,
+        and `table` has their avalanches; the next call goes on from there.
+
+        Parameters
+        ----------
+        n : int
+            How many grains.
+        progress : bool
+            Whether to show on the standard error how far it is, by tqdm if it is installed.
+
+        Returns
+        -------
+        numpy.ndarray
+            A structured array with a row for each drop: its `number` from 0 over all calls, its `site` (row * width + column),
+            the `size` (topplings), the `area` (sites that toppled), the `reach` (greatest distance from the site to one that
+            toppled, in columns and rows) and the grains `lost`.
+
+        Raises
+        ------
+        Fault
+            Plan (15) if `n` is below 0, Full (6) if the start and all drops are over 1,099,511,627,775 grains, or Memory (4),
+            which keeps the blocks before it, as Ctrl-C does.
+        TypeError
+            If `n` is no integer.
+
+        Examples
+        --------
+        >>> import sandpile
+        >>> sandpile.Drive([[3]]).drop(5)["size"]
+        array([1, 0, 0, 0, 1], dtype=uint64)
+        """
+        return self._drop(count_of(n, "n"), self._draw, progress, draws=True)
+
+    def drop_at(self, sites: ArrayLike) -> NDArray[np.void]:
+        """Drops a grain at each of these sites in turn. Random sites are not used up.
+
+        Parameters
+        ----------
+        sites : array_like of int
+            Site numbers, row * width + column, shape (n,); or one of them. `numpy.ravel_multi_index` makes them from rows and
+            columns.
+
+        Returns
+        -------
+        numpy.ndarray
+            The avalanches, as from `drop`.
+
+        Raises
+        ------
+        Fault
+            NoSite (25) if a site is outside the grid, Full (6) or Memory (4), as from `drop`.
+        TypeError
+            If the sites are no integers, or have more than one dimension.
+
+        Examples
+        --------
+        >>> import sandpile
+        >>> sandpile.Drive([[0, 3, 0]]).drop_at([1, 1])["size"]
+        array([1, 0], dtype=uint64)
+        """
+        at = sites_of(sites, self._state.pile.size)
+        return self._drop(at.size, lambda begin, end: at[begin:end], progress=False, draws=False)
+
+    def _draw(self, begin: int, end: int) -> NDArray[np.uintp]:
+        """The next sites of the stream, from the place that the drops so far have led to."""
+        sites = np.zeros(end - begin, np.uintp)
+        call("sites", self._state.pile.shape, self._cylinder, self._seed, self._stream, self._state.drawn, sites)
+        return sites
+
+    def _drop(
+        self, n: int, sites: Callable[[int, int], NDArray[np.uintp]], progress: bool, draws: bool
+    ) -> NDArray[np.void]:
+        if self._start_grains + self._state.drops + n > _MOST_GRAINS:
+            raise Fault(6)
+        try:
+            table = np.empty(n, AVALANCHE)
+        except MemoryError:
+            raise Fault(4, f"there is no memory for a table of {n} drops") from None
+        self._state = replace(self._state, table=table[:0])
+        with Bar(n, progress) as bar:
+            for begin, end in _blocks(n, self._state.pile.size):
+                self._keep(table, begin, sites(begin, end), draws)
+                bar.show(end)
+        return self._state.table
+
+    def _keep(self, table: NDArray[np.void], begin: int, sites: NDArray[np.uintp], draws: bool) -> None:
+        """Drops a block, and keeps what it did in one step: Ctrl-C finds all of it or nothing."""
+        was = self._state
+        pile, odometer, avalanches = _block(was.pile, self._cylinder, sites)
+        rows = table[begin : begin + sites.size]
+        rows["number"] = np.arange(was.drops, was.drops + sites.size, dtype=np.uint64)
+        for name in ("site", *dict(_FOUND)):
+            rows[name] = avalanches[name]
+        odometer += was.odometer
+        self._state = _State(
+            pile,
+            odometer,
+            was.lost + int(avalanches["lost"].sum()),
+            was.drops + sites.size,
+            was.drawn + (sites.size if draws else 0),
+            table[: begin + sites.size],
+        )
+
+    def save(self, path: str | os.PathLike[str]) -> None:
+        """Writes the run to a file, from which `Drive.load` goes on. Tables are not saved.
+
+        Parameters
+        ----------
+        path : str or path
+            The file; `.npz` is added to a name without it. If writing fails, the file is as it was before.
+
+        Raises
+        ------
+        OSError
+            If the file cannot be written.
+
+        Examples
+        --------
+        >>> import os, sandpile, tempfile
+        >>> run = sandpile.Drive([[3, 3], [3, 3]], seed=7)
+        >>> _ = run.drop(100)
+        >>> with tempfile.TemporaryDirectory() as folder:
+        ...     run.save(os.path.join(folder, "run.npz"))
+        ...     again = sandpile.Drive.load(os.path.join(folder, "run.npz"))
+        >>> bool((run.drop(50) == again.drop(50)).all())
+        True
+        """
+        state, path = self._state, _npz(path)
+        numbers = [self._seed, self._stream, self._cylinder, self._start_grains, state.lost, state.drops, state.drawn]
+        beside = path.with_name(f"{path.name}.{os.getpid()}.part")
+        try:
+            with open(beside, "wb") as file:
+                np.savez_compressed(
+                    file, pile=state.pile, odometer=state.odometer, **dict(zip(_NUMBERS, map(np.uint64, numbers)))
+                )
+            os.replace(beside, path)
+        finally:
+            beside.unlink(missing_ok=True)
+
+    @classmethod
+    def load(cls, path: str | os.PathLike[str]) -> Drive:
+        """The run that was saved. It goes on as if it had not been stopped.
+
+        Parameters
+        ----------
+        path : str or path
+            The file; `.npz` is added to a name without it.
+
+        Raises
+        ------
+        OSError
+            If the file cannot be read.
+        TypeError
+            If it is not what `save` writes.
+
+        Examples
+        --------
+        >>> import os, sandpile, tempfile
+        >>> with tempfile.TemporaryDirectory() as folder:
+        ...     sandpile.Drive([[3, 3]], seed=7, stream=2).save(os.path.join(folder, "run"))
+        ...     sandpile.Drive.load(os.path.join(folder, "run"))
+        <Drive: 1 by 2, seed 7, stream 2, 0 drops>
+        """
+        try:
+            with np.load(_npz(path), allow_pickle=False) as saved:
+                pile, odometer = heights_of(saved["pile"]), heights_of(saved["odometer"])
+                numbers = [int(saved[name]) for name in _NUMBERS]
+        except (KeyError, ValueError, EOFError) as error:
+            raise TypeError(f"{path} is no run that was saved: {error}") from None
+        seed, stream, cylinder, grains, lost, drops, drawn = numbers
+        run = cls(pile, seed, stream, bool(cylinder))
+        if odometer.shape != pile.shape or not np.array_equal(run.pile, pile):
+            raise TypeError(f"{path} is no run that was saved: its pile or odometer is another")
+        run._start_grains = grains
+        run._state = _State(pile, odometer, lost, drops, drawn, np.empty(0, AVALANCHE))
+        return run
+
+    def __repr__(self) -> str:
+        height, width = self._state.pile.shape
+        edge = ", cylinder" if self._cylinder else ""
+        return f"<Drive: {height} by {width}{edge}, seed {self._seed}, stream {self._stream}, {self.drops} drops>"
+
+
+_NUMBERS = ("seed", "stream", "cylinder", "start_grains", "lost", "drops", "drawn")
+
+
+def _npz(path: str | os.PathLike[str]) -> Path:
+    path = Path(path)
+    return path if path.suffix == ".npz" else path.with_name(f"{path.name}.npz")
+
+
+def _blocks(n: int, sites: int) -> Iterator[tuple[int, int]]:
+    """Where each block of `n` drops begins and ends."""
+    length = min(_MOST_IN_BLOCK, _WORK_IN_BLOCK // sites)
+    for begin in range(0, n, length):
+        yield begin, min(begin + length, n)

@@ -1,0 +1,54 @@
+"""What a call says if it refuses its input or runs out of memory."""
+
+from __future__ import annotations
+
+# Number: name and meaning, as docs/FORMATS.md lists them. The numbers that are left out cannot reach Python.
+_FAULTS = {
+    1: ("Side", "a side is outside 1 to 256"),
+    2: ("Length", "an array has the wrong length"),
+    3: ("TooManyGrains", "the heights are over 1,099,511,627,775 grains in all"),
+    4: ("Memory", "an allocation failed"),
+    6: ("Full", "the heights and the drops are over 1,099,511,627,775 grains in all"),
+    7: ("Unstable", "a height is over 3"),
+    8: ("NotRecurrent", "a set of sites is forbidden"),
+    9: ("Shapes", "two piles have different shapes or edges"),
+    15: ("Plan", "a parameter of the run is outside its limits"),
+    19: ("TooLarge", "a height is over 1,099,511,627,775"),
+    22: ("TooLong", "the pile takes more than 1,048,576 bytes as text"),
+    23: ("Usage", "the program refuses its options"),
+    24: ("Narrow", "a cylinder is less than 3 wide"),
+    25: ("NoSite", "a drop is outside the grid"),
+}
+
+
+class Fault(ValueError):
+    """A call refuses its input, or an allocation failed. Nothing has changed.
+
+    Attributes
+    ----------
+    number : int
+        The number of the fault, the same as from C and from the program.
+    name : str
+        Its name, such as ``"NotRecurrent"``.
+    sentence : str
+        What is wrong.
+
+    Examples
+    --------
+    >>> import sandpile
+    >>> try:
+    ...     sandpile.identity((4, 257))
+    ... except sandpile.Fault as fault:
+    ...     print(fault.number, fault.name, fault.sentence, sep=", ")
+    1, Side, a side is outside 1 to 256
+    """
+
+    def __init__(self, number: int, sentence: str | None = None, name: str | None = None) -> None:
+        known_name, meaning = _FAULTS.get(number, ("Unknown", "the library reports a fault that this module does not know"))
+        self.number = number
+        self.name = name or known_name
+        self.sentence = sentence or meaning
+        super().__init__(f"fault {self.number} {self.name}: {self.sentence}")
+
+    def __reduce__(self) -> tuple[type[Fault], tuple[int, str, str]]:
+        return Fault, (self.number, self.sentence, self.name)

@@ -1,0 +1,69 @@
+"""Settling: which stable pile a pile becomes, and how often each site topples on the way."""
+
+from __future__ import annotations
+
+import ctypes
+from dataclasses import dataclass
+
+import numpy as np
+from numpy.typing import ArrayLike
+
+from ._arrays import Heights, heights_of
+from ._library import call
+
+
+@dataclass(frozen=True)
+class Settled:
+    """What settling leaves.
+
+    Attributes
+    ----------
+    pile : numpy.ndarray
+        The settled heights, each from 0 to 3; shape (height, width), uint64.
+    odometer : numpy.ndarray
+        How often each site toppled; shape (height, width), uint64. No way of settling the pile topples a site less often.
+    lost : int
+        Grains that fell over the edge.
+    topplings : int
+        Topplings of all sites, the sum of the odometer.
+    """
+
+    pile: Heights
+    odometer: Heights
+    lost: int
+    topplings: int
+
+
+def settle(pile: ArrayLike, cylinder: bool = False) -> Settled:
+    """Settles a pile: a site with four grains or more gives one to each neighbour, until there is none.
+
+    Parameters
+    ----------
+    pile : array_like of int
+        Grains on each site, shape (height, width), sides from 1 to 256, any integer type. It does not change.
+    cylinder : bool
+        Whether the first and the last column are neighbours, so that grains are lost in the north and the south alone.
+
+    Raises
+    ------
+    Fault
+        Side (1), Narrow (24), TooManyGrains (3) or Memory (4).
+    TypeError
+        If `pile` is not an array of two dimensions of integers that are 0 or more.
+
+    Examples
+    --------
+    >>> import sandpile
+    >>> s = sandpile.settle([[0, 4, 0]])
+    >>> s.pile
+    array([[1, 0, 1]], dtype=uint64)
+    >>> s.odometer
+    array([[0, 1, 0]], dtype=uint64)
+    >>> s.lost, s.topplings
+    (2, 1)
+    """
+    heights = heights_of(pile)
+    odometer = np.zeros_like(heights)
+    lost, topplings = ctypes.c_uint64(), ctypes.c_uint64()
+    call("settle", heights.shape, cylinder, heights, odometer, ctypes.byref(lost), ctypes.byref(topplings))
+    return Settled(heights, odometer, lost.value, topplings.value)

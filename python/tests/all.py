@@ -1,0 +1,36 @@
+"""Runs the tests of this folder, and says at the end how many passed."""
+
+import sys
+import unittest
+from pathlib import Path
+
+HERE = Path(__file__).resolve().parent
+sys.path[:0] = [str(HERE), str(HERE.parent)]
+
+
+class Counting(unittest.TextTestResult):
+    """Counts the tests that passed, and says at once which is left out."""
+
+    passed = 0
+
+    def addSuccess(self, test):
+        super().addSuccess(test)
+        self.passed += 1
+
+    def addSkip(self, test, reason):
+        super().addSkip(test, reason)
+        self.stream.writeln(f"python: left out, since {reason}: {test.id()}")
+
+
+def main(names):
+    patterns = [f"{name}.py" for name in names] or ["test_*.py"]
+    loader = unittest.TestLoader()
+    tests = unittest.TestSuite(loader.discover(str(HERE), pattern) for pattern in patterns)
+    result = unittest.TextTestRunner(sys.stdout, verbosity=0, resultclass=Counting).run(tests)
+    failed = len(result.failures) + len(result.errors)
+    print(f"python: {result.passed} passed, {failed} failed, {len(result.skipped)} left out")
+    return 1 if failed or not result.passed else 0
+
+
+if __name__ == "__main__":
+    sys.exit(main(sys.argv[1:]))

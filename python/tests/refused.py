@@ -1,0 +1,70 @@
+"""Run by test_memory.py with refusals/refuse.c preloaded: refuses an allocation of each export, the first, then the second, and
+so on until none is left. Refusing begins and ends with the export, so NumPy and Python keep their memory."""
+
+import ctypes
+
+import numpy as np
+import sandpile
+from sandpile import _library
+
+# What refuse.c takes as orders.
+IS_HERE = 1 << 60
+END, BEGIN = IS_HERE + 1, IS_HERE + 2
+
+malloc = ctypes.CDLL(None).malloc
+malloc.argtypes, malloc.restype = [ctypes.c_size_t], ctypes.c_void_p
+
+
+class Refusing:
+    """The library, of whose next call one request is refused."""
+
+    def __init__(self, library, number):
+        self.library, self.number, self.was_refused = library, number, False
+
+    def __getattr__(self, name):
+        export = getattr(self.library, name)
+
+        def call(*arguments):
+            malloc(BEGIN + self.number)
+            fault = export(*arguments)
+            self.was_refused |= malloc(END) is not None
+            return fault
+
+        return call
+
+
+def try_call(name, call, kept):
+    """Refuses each request of a call in turn. `kept` returns what must not change."""
+    library, before, number = _library.library, kept(), 0
+    while True:
+        number += 1
+        _library.library = Refusing(library, number)
+        try:
+            call()
+            fault = 0
+        except sandpile.Fault as caught:
+            fault = caught.number
+        was_refused, _library.library = _library.library.was_refused, library
+        if not was_refused:
+            break
+        assert fault == 4, (name, number, fault)
+        assert all(map(np.array_equal, before, kept())), (name, number)
+    assert number > 1 and fault == 0, (name, number, fault)
+    print(f"{name}: {number - 1} requests refused")
+
+
+pile = np.random.default_rng(1).integers(0, 9, (7, 9))
+high = np.full((32, 32), 10**6)
+assert malloc(IS_HERE) is not None, "refuse.c is not loaded"
+run = sandpile.Drive(pile)
+a = sandpile.recurrent(pile)
+try_call("settle", lambda: sandpile.settle(pile), lambda: [pile])
+try_call("high", lambda: sandpile.settle(high), lambda: [high])
+# The first drop that succeeds ends the test, so the run is as it was until then.
+try_call("drop", lambda: run.drop_at([0, 1, 2]), lambda: [run.pile, run.odometer, run.lost, run.drops])
+try_call("burn", lambda: sandpile.burn(a), lambda: [a.pile])
+try_call("identity", lambda: sandpile.identity((9, 7)), lambda: [])
+try_call("recurrent", lambda: sandpile.recurrent(pile), lambda: [pile])
+try_call("add", lambda: a + a, lambda: [a.pile])
+try_call("inverse", lambda: -a, lambda: [a.pile])
+try_call("multiple", lambda: 5 * a, lambda: [a.pile])

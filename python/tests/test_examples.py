@@ -1,0 +1,33 @@
+"""The examples of the docstrings, and what is in the module by name."""
+
+import doctest
+import importlib
+import inspect
+import pkgutil
+import unittest
+
+import sandpile
+
+
+class Examples(unittest.TestCase):
+    def test_each_example_is_true(self):
+        tried = 0
+        for info in pkgutil.iter_modules(sandpile.__path__):
+            module = importlib.import_module(f"sandpile.{info.name}")
+            with self.subTest(module=info.name):
+                found = doctest.testmod(module)
+                self.assertEqual(found.failed, 0)
+                tried += found.attempted
+        self.assertEqual(doctest.testmod(sandpile).failed, 0)
+        self.assertGreater(tried, 30)
+
+    def test_each_call_has_an_example_and_type_hints(self):
+        for name in sandpile.__all__:
+            value = getattr(sandpile, name)
+            if inspect.isclass(value) or inspect.isfunction(value):
+                with self.subTest(name=name):
+                    self.assertTrue(value.__doc__)
+                    self.assertTrue(inspect.signature(value).parameters)
+                if inspect.isfunction(value):
+                    self.assertIn(">>> ", value.__doc__)
+                    self.assertIn("return", value.__annotations__)

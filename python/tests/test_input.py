@@ -1,0 +1,208 @@
+"""What the module takes as a pile, and what it refuses. Nothing that it is given changes."""
+
+import pickle
+import unittest
+
+import numpy as np
+import sandpile
+
+TAKES_PILE = {
+    "settle": sandpile.settle,
+    "burn": sandpile.burn,
+    "recurrent": sandpile.recurrent,
+    "Recurrent": sandpile.Recurrent,
+    "Drive": sandpile.Drive,
+    "lab": sandpile.lab,
+}
+LIMIT = 1_099_511_627_775
+MASKED = np.ma.masked_array([[3, 3]], [[False, True]])
+NO_PILES = {
+    "negative": np.array([[3, -1]]),
+    "least": np.array([[np.iinfo(np.int64).min]]),
+    "float": np.array([[3.0, 2.0]]),
+    "not a number": np.array([[np.nan]]),
+    "bool": np.array([[True, False]]),
+    "complex": np.array([[1j]]),
+    "text": np.array([["3", "2"]]),
+    "date": np.array([["2026-01-01"]], "datetime64[D]"),
+    "object": np.array([[3, 2]], object),
+    "over 64 bits": [[2**64]],
+    "mixed": [[2**63, -1]],
+    "masked": MASKED,
+    "no dimension": np.array(3),
+    "one dimension": np.array([3, 2]),
+    "three dimensions": np.zeros((2, 2, 2), int),
+    "a record": np.zeros((2, 2), [("x", int)]),
+    "None": None,
+}
+FAULTS = {
+    "257 wide": (np.zeros((1, 257), int), 1),
+    "257 high": (np.zeros((257, 1), np.uint8), 1),
+    "empty": (np.zeros((0, 0), int), 1),
+    "no row": (np.zeros((0, 5), int), 1),
+    "no column": (np.zeros((5, 0)), 1),
+    "an empty list": ([[]], 1),
+    "too many": (np.array([[LIMIT, 1]]), 3),
+    "the greatest": (np.full((2, 2), np.iinfo(np.uint64).max, np.uint64), 3),
+}
+
+
+class Refused(unittest.TestCase):
+    def refuses(self, call, kind, *words, **options):
+        """A call raises this fault or error, in a sentence, and leaves its arrays as they were."""
+        before = [np.array(word, copy=True) for word in words]
+        with self.assertRaises(kind if isinstance(kind, type) else sandpile.Fault) as caught:
+            call(*words, **options)
+        if isinstance(kind, int):
+            self.assertEqual(caught.exception.number, kind)
+            self.assertTrue(caught.exception.name.isalpha())
+        self.assertGreater(len(str(caught.exception).split()), 4)
+        for word, copy in zip(words, before):
+            self.assertEqual(np.array(word).tobytes(), copy.tobytes())
+
+    def test_what_is_no_pile(self):
+        for call in TAKES_PILE:
+            for name, pile in NO_PILES.items():
+                with self.subTest(call=call, pile=name):
+                    self.refuses(TAKES_PILE[call], TypeError, pile)
+
+    def test_piles_with_a_fault(self):
+        for call in TAKES_PILE:
+            for name, (pile, number) in FAULTS.items():
+                with self.subTest(call=call, pile=name):
+                    by_text = call == "lab" and name == "the greatest"
+                    self.refuses(TAKES_PILE[call], 19 if by_text else number, pile)
+
+    def test_narrow_cylinders(self):
+        for call in TAKES_PILE:
+            with self.subTest(call=call):
+                self.refuses(TAKES_PILE[call], 24, np.full((3, 2), 3), cylinder=True)
+
+    def test_piles_outside_the_group(self):
+        self.refuses(sandpile.Recurrent, 8, np.zeros((2, 2), int))
+        for call in (sandpile.Recurrent, sandpile.burn):
+            self.refuses(call, 7, np.full((2, 2), 4))
+
+    def test_shapes(self):
+        for shape in [(0, 1), (1, 257), (-1, 1), (2**64, 1), (2**64 + 1, 1)]:
+            self.refuses(sandpile.identity, 1, shape)
+        for shape in [(2.0, 2), (2,), (2, 2, 2), "ab", None, 4]:
+            self.refuses(sandpile.identity, TypeError, shape)
+        self.refuses(sandpile.identity, 24, (2, 2), cylinder=True)
+
+    def test_sites(self):
+        run = sandpile.Drive(np.full((2, 3), 3), seed=1)
+        run.drop(5)
+        before = pickle.dumps(run)
+        for sites in [[6], [-1], np.array([0, 2**64 - 1], np.uint64), np.array([-1], np.int8)]:
+            self.refuses(run.drop_at, 25, sites)
+        for sites in [[0.0], ["0"], [[0, 1]], np.array([True]), [None], [2**64]]:
+            self.refuses(run.drop_at, TypeError, sites)
+        self.assertEqual(pickle.dumps(run), before)
+        self.assertEqual(len(run.drop_at([])), 0)
+        self.assertEqual(len(run.drop_at(5)), 1)
+
+    def test_counts_and_seeds(self):
+        run = sandpile.Drive(np.full((2, 3), 3))
+        for call, number in [(run.drop, 15), (lambda s: sandpile.Drive([[3]], seed=s), 15)]:
+            self.refuses(call, number, -1)
+            self.refuses(call, TypeError, 1.5)
+            self.refuses(call, TypeError, "7")
+        self.refuses(lambda s: sandpile.Drive([[3]], stream=s), 15, 2**64)
+        self.refuses(run.drop, 6, LIMIT)
+        self.refuses(lambda s: sandpile.lab([[3]], seed=s), 23, 2**32)
+        self.assertEqual(sandpile.Drive([[3]], seed=np.uint64(2**64 - 1), stream=np.int8(3)).seed, 2**64 - 1)
+
+    def test_grids_of_a_sum(self):
+        a, b = sandpile.identity((3, 4)), sandpile.identity((4, 3))
+        self.refuses(lambda one, other: one + other, 9, a, b)
+        self.refuses(lambda one, other: one - other, 9, a, sandpile.identity((3, 4), cylinder=True))
+        for other in (1, "a", None, np.ones((3, 4), int), np.ones(4)):
+            for call in (lambda x, y: x + y, lambda x, y: y + x, lambda x, y: x - y):
+                self.assertRaises(TypeError, call, a, other)
+        self.assertRaises(TypeError, lambda: a * 1.5)
+        self.assertRaises(TypeError, lambda: a * b)
+
+    def test_a_fault_can_be_passed_to_another_process(self):
+        fault = pickle.loads(pickle.dumps(sandpile.Fault(25, "drop 3 is outside")))
+        self.assertEqual((fault.number, fault.name, fault.sentence), (25, "NoSite", "drop 3 is outside"))
+        self.assertIsInstance(fault, ValueError)
+
+
+class Taken(unittest.TestCase):
+    PILE = np.random.default_rng(1).integers(0, 100, (7, 5))
+
+    def check(self, pile):
+        before = pile.tobytes()
+        settled, want = sandpile.settle(pile), sandpile.settle(self.PILE.tolist())
+        for name in ("pile", "odometer"):
+            array = getattr(settled, name)
+            np.testing.assert_array_equal(array, getattr(want, name))
+            self.assertEqual((array.dtype, array.flags.c_contiguous, array.flags.writeable), (np.uint64, True, True))
+        self.assertEqual((settled.lost, settled.topplings), (want.lost, want.topplings))
+        self.assertEqual(pile.tobytes(), before)
+
+    def test_each_integer_type(self):
+        for name in "bBhHiIlLqQ":
+            for order in "<>":
+                with self.subTest(type=order + name):
+                    self.check(self.PILE.astype(np.dtype(name).newbyteorder(order)))
+
+    def test_arrays_that_are_not_contiguous(self):
+        wide = np.zeros((14, 15), int)
+        wide[::2, ::3] = self.PILE
+        self.check(wide[::2, ::3])
+        self.check(np.asfortranarray(self.PILE))
+        self.check(self.PILE[::-1, ::-1].copy()[::-1, ::-1])
+        self.check(np.broadcast_to(self.PILE, (2, 7, 5))[1])
+
+    def test_read_only_arrays(self):
+        pile = self.PILE.copy()
+        pile.flags.writeable = False
+        self.check(pile)
+
+    def test_arrays_that_are_not_aligned(self):
+        raw = np.zeros(7 * 5 * 8 + 1, np.uint8)
+        pile = raw[1:].view(np.int64).reshape(7, 5)
+        pile[...] = self.PILE
+        self.check(pile)
+
+    def test_what_is_returned_is_new(self):
+        run = sandpile.Drive([[3, 3]])
+        run.pile[...] = 9
+        run.odometer[...] = 9
+        self.assertEqual((run.pile.tolist(), run.odometer.tolist()), ([[3, 3]], [[0, 0]]))
+        with self.assertRaises(ValueError):
+            sandpile.identity((2, 2)).pile[0, 0] = 1
+
+    def test_an_element_is_an_array_where_one_is_wanted(self):
+        a = sandpile.recurrent(self.PILE)
+        self.assertTrue(sandpile.burn(a).is_recurrent)
+        np.testing.assert_array_equal(a, a.pile)
+        self.assertTrue((a == a.pile).all() and (a.pile == a).all())
+        self.assertEqual(a[2, 3], a.pile[2, 3])
+
+
+class Group(unittest.TestCase):
+    def test_multiples(self):
+        for cylinder in (False, True):
+            chance = np.random.default_rng(2)
+            for shape in [(1, 3), (2, 3), (5, 4), (16, 16)]:
+                a = sandpile.recurrent(chance.integers(0, 50, shape), cylinder=cylinder)
+                neutral, total = sandpile.identity(shape, cylinder=cylinder), sandpile.identity(shape, cylinder=cylinder)
+                for times in range(9):
+                    self.assertEqual([times * a, a * np.uint8(times), np.int64(-times) * a], [total, total, -total])
+                    total += a
+                for n, m in chance.integers(-(2**62), 2**62, (5, 2)).tolist():
+                    self.assertEqual(n * a + m * a, (n + m) * a)
+                    self.assertEqual(n * (m * a), (n * m) * a)
+                for n in (2**63 - 1, 2**63, 2**64 - 1, 2**64, 10**40, -(10**40)):
+                    self.assertEqual(n * a - (n - 1) * a, a)
+                self.assertEqual(0 * a, neutral)
+
+    def test_elements_in_a_set(self):
+        a = sandpile.Recurrent([[3, 2], [2, 2]])
+        self.assertEqual(len({n * a for n in range(100)}), 24)
+        self.assertNotEqual(sandpile.identity((3, 3)), sandpile.identity((3, 3), cylinder=True))
+        again = pickle.loads(pickle.dumps(a))
+        self.assertEqual((again, again.pile.flags.writeable), (a, False))

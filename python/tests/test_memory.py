@@ -1,0 +1,27 @@
+"""Each allocation of each call is refused in turn: that is fault 4, and nothing has changed."""
+
+import os
+import subprocess
+import sys
+import unittest
+from pathlib import Path
+
+from tools import needs, new_folder, refusing_library
+
+HERE = Path(__file__).resolve().parent
+CALLS = ["settle", "high", "drop", "burn", "identity", "recurrent", "add", "inverse", "multiple"]
+
+
+class Memory(unittest.TestCase):
+    @needs("cc")
+    def test_each_failed_allocation_is_fault_4(self):
+        folder = new_folder(self)
+        env = {**os.environ, "LD_PRELOAD": str(refusing_library(folder)), "PYTHONPATH": str(HERE.parent)}
+        ended = subprocess.run(
+            [sys.executable, "-B", HERE / "refused.py"], env=env, capture_output=True, text=True, timeout=600
+        )
+        self.assertEqual(ended.returncode, 0, ended.stdout + ended.stderr)
+        lines = ended.stdout.splitlines()
+        self.assertEqual([line.split(":")[0] for line in lines], CALLS)
+        for line in lines:
+            print(f"python: {line}")

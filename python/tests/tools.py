@@ -1,0 +1,76 @@
+"""What several tests use: random piles, the program, and tools that may be missing."""
+
+import importlib.util
+import shutil
+import subprocess
+import tempfile
+import unittest
+from pathlib import Path
+
+import numpy as np
+
+TOP = Path(__file__).resolve().parents[2]
+PROGRAM = TOP / "crates" / "sandpile" / "out" / "sandpile"
+LIBRARY = TOP / "crates" / "sand_c" / "out"
+
+
+def needs(*tools):
+    """Leaves a test out if a command is not on the path."""
+    missing = [tool for tool in tools if not shutil.which(tool)]
+    return unittest.skipIf(missing, f"there is no {', '.join(missing)}")
+
+
+def needs_module(*names):
+    """Leaves a test out if this Python has not got a module."""
+    missing = [name for name in names if not importlib.util.find_spec(name)]
+    return unittest.skipIf(missing, f"Python has no {', '.join(missing)}")
+
+
+def text_of(pile, cylinder=False):
+    """The text of a pile, as the program reads it."""
+    height, width = pile.shape
+    rows = "\n".join(" ".join(map(str, row)) for row in pile.tolist())
+    return f"{width} {height}{' c' if cylinder else ''}\n{rows}\n"
+
+
+def program(*words, text=""):
+    """What the program writes, or the number of its fault."""
+    ended = subprocess.run([PROGRAM, *map(str, words)], input=text, capture_output=True, text=True, timeout=300)
+    return ended.stdout if ended.returncode == 0 else int(ended.stderr.split()[1])
+
+
+def fault_or(call):
+    """What a call of the module returns, or the number of its fault."""
+    import sandpile
+
+    try:
+        return call()
+    except sandpile.Fault as fault:
+        return fault.number
+
+
+def ran(*words, **how):
+    """Runs a command that must succeed, and returns what it wrote."""
+    ended = subprocess.run([str(word) for word in words], stdout=subprocess.PIPE, stderr=subprocess.STDOUT, text=True, **how)
+    if ended.returncode:
+        raise AssertionError(f"{words} ended with status {ended.returncode}:\n{ended.stdout}")
+    return ended.stdout
+
+
+def refusing_library(folder):
+    """The library of refusals/ that makes allocations fail."""
+    made = Path(folder) / "refuse.so"
+    ran("cc", "-O2", "-shared", "-fPIC", "-o", made, TOP / "refusals" / "refuse.c")
+    return made
+
+
+def new_folder(test):
+    """A folder that is there for one test."""
+    folder = tempfile.TemporaryDirectory()
+    test.addCleanup(folder.cleanup)
+    return Path(folder.name)
+
+
+def same(one, other):
+    """Whether two arrays have the same shape, type and values."""
+    return one.shape == other.shape and one.dtype == other.dtype and np.array_equal(one, other)
