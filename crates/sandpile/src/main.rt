@@ -1,6 +1,6 @@
 //! The program `sandpile`: passes its words, its standard input and its standard output to `sand_desk`, and reports how
 //! that ended by a line on the standard error and by its exit status. If the standard error is a terminal, the line is followed
-//! by what `sand_advice` says of it to a person.
+//! by what `sand_advice` says of it to a person, and long commands show there how far they are.
 #![tactic(auto)]
 
 ghost use Rattle.std.specs.Prelude.{◌≡◌, ◌≢◌, ◌<◌, IfErr, false, true, length};
@@ -8,16 +8,19 @@ ghost use Rattle.std.specs.Process.{exit_status};
 ghost use Rattle.sand_desk.specs.Faults.{status_of};
 
 mod kept;
+mod progress;
 mod request;
 
 use kept::Kept;
+use progress::{Cleared, Progress, work_of};
 use request::{Request, request_of};
 use sand_advice::{advice, tip, write_explain_help, write_explained};
-use sand_desk::{DeskFault, run_command, show_help, status, write_fault, write_version};
+use sand_desk::{DeskFault, run_gated_command, show_help, status, write_fault, write_version};
+use sand_lab::{Gate, Open};
 use std::alloc::Global;
 use std::io::{IsTerminal, Read, Write};
 use std::process::ExitCode;
-use std::rt::Env;
+use std::rt::{Clock, Env};
 use std::thread::Threads;
 use std::{env, io};
 
@@ -42,7 +45,14 @@ fn main(rt: HostRuntime) -> ExitCode {
     let speaks = rt.stderr().is_terminal();
     let copy = if speaks { Some(Vec::new(alloc)) } else { None };
     let mut input = Kept::new(rt.stdin(), copy);
-    match answer(&rt, alloc, words.as_slice(), &mut input, &mut rt.stdout()) {
+    let mut output = rt.stdout();
+    let answered = if speaks {
+        let is_same = output.is_terminal();
+        answer_and_show(&rt, alloc, words.as_slice(), &mut input, output, is_same)
+    } else {
+        answer(&rt, alloc, &Open, words.as_slice(), &mut input, &mut output)
+    };
+    match answered {
         Ok(()) => ExitCode::SUCCESS,
         Err(fault) => {
             let code = end(&rt, &mut rt.stderr(), &fault);
@@ -54,10 +64,36 @@ fn main(rt: HostRuntime) -> ExitCode {
     }
 }
 
-// Runs the command that the words name, or writes the version, the help or the meaning of faults that they ask for.
-fn answer<T: Threads + Sync, R: Read, W: Write>(
+// Runs the command that the words name, and shows on a terminal how far it is if it is long. The output may be the same one.
+fn answer_and_show<T: Threads + Sync + Eprint + Clock, R: Read, W: Write + Drop>(
     rt: &T,
     alloc: Global,
+    words: &[String],
+    input: &mut R,
+    mut output: W,
+    is_same: bool,
+) -> Result<(), DeskFault>
+    requires { 0 < length words.now }
+    ensures { IfErr result (λ e. status_of e ≢ 0) }
+{
+    let progress = match work_of(alloc, words) {
+        Some(work) => Progress::new(rt, alloc, work).ok(),
+        None => None,
+    };
+    let Some(progress) = progress else {
+        return answer(rt, alloc, &Open, words, input, &mut output);
+    };
+    let mut output = Cleared::new(output, if is_same { Some(&progress) } else { None });
+    let answered = answer(rt, alloc, &progress, words, input, &mut output);
+    progress.end();
+    answered
+}
+
+// Runs the command that the words name, or writes the version, the help or the meaning of faults that they ask for.
+fn answer<T: Threads + Sync, G: Gate, R: Read, W: Write>(
+    rt: &T,
+    alloc: Global,
+    gate: &G,
     words: &[String],
     input: &mut R,
     output: &mut W,
@@ -69,7 +105,7 @@ fn answer<T: Threads + Sync, R: Read, W: Write>(
         Request::Version => write_version(output),
         Request::Explain(faults) => write_explained(alloc, faults, output),
         Request::ExplainHelp => write_explain_help(output),
-        _ => match run_command(rt, alloc, words, input, output) {
+        _ => match run_gated_command(rt, alloc, gate, words, input, output) {
             Ok(()) => Ok(()),
             Err(fault) => show_help(alloc, fault, output),
         },
