@@ -1,7 +1,7 @@
 -- The sites of a draw, as they are read one by one.
-use Rattle.std.proofs.Common.{◌≡◌, ◌∙◌, ◌+◌, ◌-◌, ◌<◌, ◌≤◌, ℕ, zero, suc, List, [], ◌∷◌, ◌++◌, All, length, drop, refl, sym, ap, subst, arith, append_assoc, append-nil}
+use Rattle.std.proofs.Common.{◌≡◌, ◌∙◌, ◌+◌, ◌<◌, ◌≤◌, ℕ, zero, suc, [], ◌∷◌, ◌++◌, All, length, drop, refl, sym, ap, subst, arith, append_assoc, append-nil}
 use Rattle.std.proofs.Math.Nat.{mod-lt}
-use Rattle.std.proofs.lemmas.List.{drop-append-le, drop_all, length-drop, length-append}
+use Rattle.std.proofs.lemmas.List.{drop-append-le, drop_all, length-drop}
 use Rattle.std.proofs.lemmas.List.Elements.{All-drop, All-nil, All-push}
 use Rattle.sand_lab.specs.Streams.{site_at, stream_sites}
 use Rattle.sand_lab.proofs.TallyOfStreams.{length-stream_sites}

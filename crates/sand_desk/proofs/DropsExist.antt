@@ -6,12 +6,12 @@ use Rattle.std.proofs.lemmas.List.{get_or_past, length-append}
 use Rattle.std.proofs.lemmas.List.Elements.{All-head, All-tail}
 use Rattle.std.proofs.lemmas.List.FromFn.{length-map-range_with_len, get_or-map-range_with_len}
 use Rattle.sand_model.specs.Grid.{Grid, sites, distance}
-use Rattle.sand_model.specs.Piles.{PileView, height_of, most_grains}
+use Rattle.sand_model.specs.Piles.{PileView, most_grains}
 use Rattle.sand_model.specs.Sand.{one_at, topplings, lost, IsSettled}
 use Rattle.sand_model.proofs.EachSettles.{settles}
 use Rattle.sand_model.proofs.Sandpile.{settled_same}
 use Rattle.sand_settle.specs.declared.avalanche.Avalanche.{Avalanche}
-use Rattle.sand_settle.specs.Avalanches.{IsAvalanche, IsReached, area_of}
+use Rattle.sand_settle.specs.Avalanches.{IsAvalanche, area_of}
 use Rattle.sand_settle.specs.Drops.{OneView, IsAfter, Drops, TakesGrain, grid_of_one_pile, topplings_between}
 use Rattle.sand_settle.specs.Settling.{SettledView, odometer_of}
 use Rattle.sand_settle.proofs.Drops.{after_drop}

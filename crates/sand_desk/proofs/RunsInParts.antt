@@ -1,16 +1,16 @@
 -- A drop sees the pile before it and its site alone, so a run that goes on from the pile of another is the rest of one run.
 use Rattle.std.proofs.Common.{◌≡◌, ◌∙◌, ◌+◌, ◌<◌, ◌≤◌, ℕ, List, [], ◌∷◌, ◌++◌, drop, length, refl, sym, ap, ap₂, subst, arith, get_or, ⊎_elim}
-use Rattle.std.specs.Prelude.{Result, Ok, Err, Some}
+use Rattle.std.specs.Prelude.{Result, Ok, Err}
 use Rattle.std.proofs.lemmas.Bool.{cases_lt}
 use Rattle.std.proofs.lemmas.List.{ext_get_or}
-use Rattle.sand_model.specs.Grid.{Grid, sites, distance}
-use Rattle.sand_model.specs.Piles.{PileView, height_of}
+use Rattle.sand_model.specs.Grid.{Grid, sites}
+use Rattle.sand_model.specs.Piles.{PileView}
 use Rattle.sand_model.specs.Sand.{one_at, tally, IsSettled, IsStable}
 use Rattle.sand_model.proofs.Sandpile.{settled_once, settled_stable}
 use Rattle.sand_settle.specs.declared.avalanche.Avalanche.{Avalanche}
 use Rattle.sand_settle.specs.Avalanches.{IsAvalanche}
 use Rattle.sand_settle.specs.Drops.{OneView, IsAfter, Drops, grid_of_one_pile, topplings_between}
-use Rattle.sand_settle.specs.Settling.{SettledView, IsRecord, odometer_of}
+use Rattle.sand_settle.specs.Settling.{odometer_of}
 use Rattle.sand_settle.proofs.Collected.{avalanche_same}
 use Rattle.sand_settle.proofs.Drops.{settled_already}
 use Rattle.sand_lab.specs.Streams.{stream_sites}
@@ -18,7 +18,7 @@ use Rattle.sand_text.specs.declared.fault.TextFault.{TextFault}
 use Rattle.sand_text.specs.Reading.{pile_of, ◌>>=◌}
 use Rattle.sand_cli.specs.declared.task.Draw.{Draw}
 use Rattle.sand_desk.specs.Drawing.{IsCutInTwo, RunsInParts}
-use Rattle.sand_desk.specs.Dropping.{AreRows, drawn_sites, drops_for, with_draw}
+use Rattle.sand_desk.specs.Dropping.{AreRows, drawn_sites, with_draw}
 use Rattle.sand_desk.proofs.DrawnSites.{drawn_split, length-drawn}
 
 -- ---- one drop

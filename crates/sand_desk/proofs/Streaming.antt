@@ -1,8 +1,6 @@
 -- The text of drops at random, as it grows by a row, or breaks off in one.
-use Rattle.std.proofs.Common.{◌≡◌, ◌∙◌, ◌+◌, ◌<◌, ◌≤◌, ℕ, suc, List, [], ◌∷◌, ◌++◌, All, codes, length, take, sum, refl, sym, ap, subst, arith, append_assoc, append-nil}
+use Rattle.std.proofs.Common.{◌≡◌, ◌∙◌, ◌+◌, ◌<◌, ◌≤◌, ℕ, suc, List, [], ◌∷◌, ◌++◌, All, codes, length, sum, refl, sym, ap, subst, arith, append_assoc, append-nil}
 use Rattle.std.specs.Prelude.{Option}
-use Rattle.std.specs.Io.KnownBytes.{Appends}
-use Rattle.std.proofs.KnownBytes.{Appends-trans}
 use Rattle.std.proofs.lemmas.List.{length-append}
 use Rattle.sand_model.specs.Grid.{sites}
 use Rattle.sand_model.specs.Piles.{PileView, most_grains}
@@ -17,7 +15,6 @@ use Rattle.sand_text.proofs.Growing.{breaks_within, grows_on, stays}
 use Rattle.sand_text.specs.declared.fault.StreamFault.{StreamFault}
 use Rattle.sand_cli.specs.declared.task.Part.{Part}
 use Rattle.sand_cli.specs.declared.task.Part.TheVariants as parts
-use Rattle.sand_desk.specs.declared.faults.DeskFault.{DeskFault}
 use Rattle.sand_desk.specs.Dropping.{AreRows, drops_in}
 use Rattle.sand_desk.specs.Faults.{of_stream}
 use Rattle.sand_desk.specs.Streaming.{AreAdded, BreaksInRows, end_in, head_in, pile_and_sums, row_in, rows_in}

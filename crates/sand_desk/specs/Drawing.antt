@@ -1,6 +1,5 @@
 -- What `drops --count` leaves is what a run of the laboratory with one dropper leaves, and may be made in parts.
 use Rattle.std.specs.Prelude.{ℕ, ◌≡◌, ◌+◌, Bool, List, ◌++◌, Some, Ok}
-use Rattle.sand_settle.specs.declared.avalanche.Avalanche.{Avalanche}
 use Rattle.sand_text.specs.Reading.{pile_of}
 use Rattle.sand_plan.specs.declared.wish.Wish.{Wish}
 use Rattle.sand_cli.specs.declared.task.Draw.{Draw}
