@@ -1,5 +1,9 @@
 //! Records of a shared pile, against values that were worked out by hand.
 
+ghost use Rattle.std.specs.Prelude.{◌+◌, ◌≤◌, length, sum, IsTrue};
+ghost use Rattle.sand_model.specs.Piles.{most_grains};
+
+use sand_model::GRAIN_LIMIT;
 use sand_shared::Record;
 
 /// Whether a record has this history, these heights, this odometer, as many topplings as that adds up to, and so many grains
@@ -19,4 +23,12 @@ pub fn is_record(
         && record.odometers() == odometer
         && record.topplings() == topplings
         && record.lost() == lost
+}
+
+/// Whether a record and one that follows it have no more grains together than a pile may have.
+pub fn are_within_limit(first: &Record, next: &Record) -> bool
+    ensures { IsTrue result → sum first.now.start.heights + (length first.now.history + length next.now.history) ≤ most_grains }
+{
+    let drops = first.history().len() + next.history().len();
+    first.start().grains() + drops as u64 <= GRAIN_LIMIT
 }
