@@ -5,10 +5,10 @@ ghost use Rattle.sand_shared.specs.Passes.{IsPassOf};
 
 use crate::memory::{refuse, was_refused};
 use crate::trying::{Spares, Tried, each_number};
-use sand_shared::{BarePass, Record, SharedPile};
+use sand_shared::{BarePass, Pass, Record, SharedPile};
 use sand_testing::piles::open_pile;
 use sand_testing::records::is_record;
-use sand_testing::shared::shared_pile;
+use sand_testing::shared::{bare_of, shared_pile};
 use std::alloc::Global;
 use std::process::Abort;
 use std::test::Fail;
@@ -31,14 +31,24 @@ fn join(
     }
 }
 
+// The bare pass of the last row of a pass.
+fn last_row(alloc: Global, pile: &SharedPile, pass: &mut Pass) -> Result<BarePass, Fail>
+    requires { IsPassOf pile.now pass.old }
+    ensures of_pile { IsPassOf pile.now pass.new }
+    ensures row { IfOk result (λ p. IsPassOf pile.now p) }
+{
+    let row = pile.split_rows(alloc, pass, 1)?;
+    Ok(bare_of(row))
+}
+
 // The bare passes of the three rows of a pile, each of which has a grain.
 fn rows(alloc: Global) -> Result<(SharedPile, BarePass, BarePass, BarePass), Fail>
     ensures { IfOk result (λ r. IsPassOf r.0 r.1 × IsPassOf r.0 r.2 × IsPassOf r.0 r.3) }
 {
     let (pile, mut pass) = shared_pile(alloc, 1, 3, &[1; 3], 0)?;
-    let third = pile.split_rows(alloc, &mut pass, 1)?.into_bare().0;
-    let second = pile.split_rows(alloc, &mut pass, 1)?.into_bare().0;
-    Ok((pile, pass.into_bare().0, second, third))
+    let third = last_row(alloc, &pile, &mut pass)?;
+    let second = last_row(alloc, &pile, &mut pass)?;
+    Ok((pile, bare_of(pass), second, third))
 }
 
 // The pass of the second row takes in that of the third, with the request of this number refused, and if that fails once more.
@@ -95,7 +105,7 @@ fn pair(alloc: Global) -> Result<(SharedPile, BarePass), Fail>
 {
     let start = open_pile(alloc, 2, 1, &[7, 7])?;
     let (pile, pass) = SharedPile::new(alloc, &start, 0)?;
-    Ok((pile, pass.into_bare().0))
+    Ok((pile, bare_of(pass)))
 }
 
 // The record of a pile on which nothing was dropped. If memory fails, the pile and the pass come back with the number of the

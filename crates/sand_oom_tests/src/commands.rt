@@ -94,26 +94,34 @@ fn writes<R: Threads + Sync>(
     }
 }
 
-// Tries a command line.
+// One try of a command line.
+fn try_command<R: Threads + Sync>(
+    rt: &R,
+    alloc: Global,
+    words: &[String],
+    case: Case,
+    number: u32,
+) -> Tried {
+    let (_, input, text) = case;
+    refuse(alloc, number);
+    let tried = writes(rt, alloc, words, input, text);
+    was_refused(alloc);
+    match tried {
+        Ok(is_right) => Tried::done(is_right),
+        Err(fault) => Tried::failed(fault, writes(rt, alloc, words, input, text) == Ok(true)),
+    }
+}
+
+// Tries a command line with each of its requests refused in turn.
 fn each_refused_of<R: Threads + Sync + Print + Abort>(
     rt: &R,
     alloc: Global,
     case: Case,
     spares: Spares,
 ) -> Result<(), Fail> {
-    let (line, input, text) = case;
-    let words = words_of(alloc, line)?;
-    each_number(rt, alloc, line, spares, |alloc: Global, number: u32| {
-        refuse(alloc, number);
-        let tried = writes(rt, alloc, words.as_slice(), input, text);
-        was_refused(alloc);
-        Ok(match tried {
-            Ok(is_right) => Tried::done(is_right),
-            Err(fault) => Tried::failed(
-                fault,
-                writes(rt, alloc, words.as_slice(), input, text) == Ok(true),
-            ),
-        })
+    let words = words_of(alloc, case.0)?;
+    each_number(rt, alloc, case.0, spares, |alloc: Global, number: u32| {
+        Ok(try_command(rt, alloc, words.as_slice(), case, number))
     })
 }
 

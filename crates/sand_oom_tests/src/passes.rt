@@ -1,8 +1,6 @@
 //! The shared pile and its passes: made, split and joined.
 
-ghost use Rattle.std.specs.Prelude.{◌≡◌, ◌<◌, IfErr};
-ghost use Rattle.sand_model.specs.Grid.{sites};
-ghost use Rattle.sand_shared.specs.OpenPile.{grid_of_terms};
+ghost use Rattle.std.specs.Prelude.{IfErr};
 ghost use Rattle.sand_shared.specs.Passes.{IsPassOf};
 
 use crate::memory::{refuse, was_refused};
@@ -11,7 +9,7 @@ use crate::trying::{MEMORY, Spares, Tried, came_to, each_number, each_refused};
 use sand_model::Shape;
 use sand_shared::{Pass, SharedPile, SiteCounts};
 use sand_testing::records::is_record;
-use sand_testing::shared::{closed, shared_pile};
+use sand_testing::shared::{closed, drop_rest, shared_pile};
 use std::alloc::Global;
 use std::test::Fail;
 
@@ -116,16 +114,6 @@ fn split_rows_reports_out_of_memory(rt: HostRuntime) -> Result<(), Fail> {
     )
 }
 
-// Drops two grains on the first site, if there is as much left.
-fn drop_two(pile: &SharedPile, pass: &mut Pass)
-    requires pass { IsPassOf pile.now pass.old }
-    requires site { 0 < sites (grid_of_terms pile.now.terms) }
-    ensures { IsPassOf pile.now pass.new }
-{
-    let _ = pile.drop_at(pass, 0);
-    let _ = pile.drop_at(pass, 0);
-}
-
 // Joins a pass to another one. If that fails, the pass comes back with the number of the fault.
 fn join(alloc: Global, pile: &SharedPile, pass: &mut Pass, other: Pass) -> Result<(), (u32, Pass)>
     requires pass { IsPassOf pile.now pass.old }
@@ -168,8 +156,8 @@ fn join_again(
 fn join_once(alloc: Global, number: u32) -> Result<Tried, Fail> {
     let (pile, mut pass) = shared_pile(alloc, 1, 1, &[0], 4)?;
     let mut child = pile.split(alloc, &mut pass, 2)?;
-    drop_two(&pile, &mut pass);
-    drop_two(&pile, &mut child);
+    drop_rest(&pile, &mut pass, 0);
+    drop_rest(&pile, &mut child, 0);
     let fault = join_again(alloc, number, &pile, &mut child, pass)?;
     let record = closed(alloc, pile, child)?;
     let is_right = is_record(&record, &[0; 4], &[0], &[1], 4);

@@ -1,8 +1,15 @@
 //! Calls that take no memory: if every request is refused, they return what they always return, and no request was made.
 
+ghost use Rattle.std.specs.Prelude.{◌≡◌, ◌<◌, length, IfOk};
+ghost use Rattle.sand_model.specs.Grid.{sites};
+ghost use Rattle.sand_shared.specs.OpenPile.{grid_of_terms};
+ghost use Rattle.sand_shared.specs.Passes.{IsPassOf};
+ghost use Rattle.sand_shared.specs.Rows.{HoldsSite};
+ghost use Rattle.sand_lab.specs.Reports.{sheet_at};
+
 use crate::memory::{refuse, was_refused};
 use crate::piles::full;
-use crate::settling::is_after_the_drop;
+use crate::settling::{is_after_the_drop, is_settled};
 use sand_desk::laws::{drops_of_one_dropper, one_lab_text, one_number};
 use sand_desk::{DeskFault, read_pile, status, write_fault};
 use sand_group::laws::{
@@ -11,38 +18,56 @@ use sand_group::laws::{
 };
 use sand_group::{GroupFault, Recurrent};
 use sand_lab::laws::one_outcome;
-use sand_lab::{Album, Gate, LabFault, Open, Plan, Role, Wish};
+use sand_lab::{Album, Gate, LabFault, Open, Plan, Report, Role, Wish};
 use sand_model::laws::{
     abelian, each_settles, laplacian_sum, least_action, least_if_tight, over_integers,
     settled_once, settles_after, weight_falls,
 };
 use sand_model::{Edge, GRAIN_LIMIT, Pile, Shape, topple};
 use sand_settle::laws::drops_add_up;
-use sand_settle::{OneFault, OnePile, SettleFault, settle};
+use sand_settle::{OneFault, OnePile, SettleFault, Settled, settle};
 use sand_shared::laws::{always_lawful, lawful_at_every_moment, one_sweep, words_are_small};
-use sand_shared::{CloseFault, JoinFault, SharedFault, SharedPile, SiteCounts, SplitFault};
+use sand_shared::{CloseFault, JoinFault, Pass, SharedFault, SharedPile, SiteCounts, SplitFault};
 use sand_testing::piles::{one_site, open_pile};
 use sand_testing::records::is_record;
 use sand_testing::runs::{QUIET, run_into};
 use sand_testing::shared::closed;
-use std::alloc::AllocError;
+use std::alloc::{AllocError, Global};
 use std::test::Fail;
 
+// Whether a cylinder of 4 by 3 sites tells its sides, its sites and their neighbours.
+fn is_cylinder(shape: Shape) -> bool {
+    if shape.sites() != 12 {
+        return false;
+    }
+    let is_of_sides = (shape.width(), shape.height(), shape.edge()) == (4, 3, Edge::Cylinder);
+    let has_sites = (shape.site(1, 2), shape.place(9)) == (Some(9), (1, 2));
+    let neighbours = (shape.neighbours(0), shape.missing(0));
+    is_of_sides && has_sites && neighbours == ([None, Some(3), Some(1), Some(4)], 1)
+}
+
+fn are_shapes_made() -> bool {
+    Shape::new(0, 1).is_err()
+        && Shape::with_edge(2, 1, Edge::Cylinder).is_err_and(|fault| fault.number() == 24)
+        && Shape::with_edge(4, 3, Edge::Cylinder).is_ok_and(is_cylinder)
+}
+
 #[test]
-fn shapes_take_no_memory(rt: HostRuntime) -> Result<(), Fail> {
+fn shapes_take_no_memory(rt: HostRuntime) {
     let alloc = rt.alloc();
     refuse(alloc, 0);
-    assert!(rt; Shape::new(0, 1).is_err());
-    assert!(rt; Shape::with_edge(2, 1, Edge::Cylinder).is_err_and(|fault| fault.number() == 24));
-    let shape = Shape::with_edge(4, 3, Edge::Cylinder)?;
-    assert!(rt; shape.sites() == 12);
-    assert_eq!(rt; (shape.width(), shape.height()), (4, 3));
-    assert!(rt; shape.edge() == Edge::Cylinder);
-    assert_eq!(rt; (shape.site(1, 2), shape.place(9)), (Some(9), (1, 2)));
-    assert_eq!(rt; shape.neighbours(0), [None, Some(3), Some(1), Some(4)]);
-    assert_eq!(rt; shape.missing(0), 1);
+    let is_right = are_shapes_made();
     assert!(rt; !was_refused(alloc));
-    Ok(())
+    assert!(rt; is_right);
+}
+
+// Whether a site of four grains topples once, and then takes a grain.
+fn topples_once(pile: &mut Pile) -> bool
+    requires { 0 < sites pile.old.grid }
+{
+    let is_toppled = topple(pile, 0).is_ok_and(|lost| lost == 3);
+    let is_refused = topple(pile, 0).is_err_and(|fault| fault.number() == 5);
+    is_toppled && is_refused && pile.add_grain(0).is_ok()
 }
 
 #[test]
@@ -54,14 +79,9 @@ fn piles_take_no_memory(rt: HostRuntime) -> Result<(), Fail> {
     assert!(rt; heights.as_slice() == [4, 0].as_slice());
     refuse(alloc, 0);
     let mut pile = Pile::from_vec(shape, heights);
-    assert_eq!(rt;
-        (pile.height(0), pile.grains(), pile.is_stable()),
-        (4, 4, false)
-    );
-    assert!(rt; pile.shape() == shape);
-    assert!(rt; topple(&mut pile, 0).is_ok_and(|lost| lost == 3));
-    assert!(rt; topple(&mut pile, 0).is_err_and(|fault| fault.number() == 5));
-    assert!(rt; pile.add_grain(0).is_ok());
+    let told = (pile.height(0), pile.grains(), pile.is_stable());
+    assert!(rt; pile.shape() == shape && told == (4, 4, false));
+    assert!(rt; topples_once(&mut pile));
     assert!(rt; pile.heights() == [1, 1].as_slice());
     assert!(rt; !was_refused(alloc));
     Ok(())
@@ -78,18 +98,21 @@ fn a_pile_at_the_limit_takes_no_memory(rt: HostRuntime) -> Result<(), Fail> {
     Ok(())
 }
 
+// Three sites, of which the one in the middle has toppled.
+fn settled_row(alloc: Global) -> Result<Settled, Fail> {
+    let start = open_pile(alloc, 3, 1, &[0, 4, 0])?;
+    let settled = settle(alloc, &start)?;
+    Ok(settled)
+}
+
 #[test]
 fn settled_piles_take_no_memory(rt: HostRuntime) -> Result<(), Fail> {
     let alloc = rt.alloc();
-    let settled = settle(alloc, &open_pile(alloc, 3, 1, &[0, 4, 0])?)?;
+    let settled = settled_row(alloc)?;
     assert!(rt; settled.pile().shape().sites() == 3);
     refuse(alloc, 0);
-    assert!(rt; settled.pile().heights() == [1, 0, 1].as_slice());
-    assert_eq!(rt;
-        (settled.odometer(1), settled.topplings(), settled.lost()),
-        (1, 1, 2)
-    );
-    assert!(rt; settled.odometers() == [0, 1, 0].as_slice());
+    assert!(rt; is_settled(&settled, &[1, 0, 1], &[0, 1, 0], 2));
+    assert!(rt; (settled.odometer(1), settled.topplings()) == (1, 1));
     assert!(rt; !was_refused(alloc));
     Ok(())
 }
@@ -108,17 +131,29 @@ fn piles_of_one_thread_take_no_memory(rt: HostRuntime) -> Result<(), Fail> {
     Ok(())
 }
 
+// Two sites, on the second of which a grain was dropped. Nothing has toppled.
+fn dropped_on_two(alloc: Global) -> Result<OnePile, Fail>
+    ensures { IfOk result (λ p. sites p.settled.pile.grid ≡ 2) }
+{
+    let start = open_pile(alloc, 2, 1, &[3, 2])?;
+    let mut one = OnePile::new(alloc, &start)?;
+    if one.pile().shape().sites() != 2 {
+        return Err("two sites".into());
+    }
+    one.drop_at(alloc, 1)?;
+    Ok(one)
+}
+
 // Only the first drop requests memory: the room that it made, though nothing toppled, is enough for drops in which all sites do.
 #[test]
 fn drops_after_the_first_take_no_memory(rt: HostRuntime) -> Result<(), Fail> {
     let alloc = rt.alloc();
-    let mut one = OnePile::new(alloc, &open_pile(alloc, 2, 1, &[3, 2])?)?;
-    assert!(rt; one.pile().shape().sites() == 2);
-    one.drop_at(alloc, 1)?;
+    let mut one = dropped_on_two(alloc)?;
     refuse(alloc, 0);
-    assert!(rt; one.drop_at(alloc, 0).is_ok() && one.topplings() == 2);
-    assert!(rt; one.pile().shape().sites() == 2);
-    assert!(rt; one.drop_at(alloc, 1).is_ok() && one.pile().heights() == [1, 1].as_slice());
+    assert!(rt; one.drop_at(alloc, 0).is_ok());
+    assert!(rt; one.topplings() == 2);
+    assert!(rt; one.drop_at(alloc, 1).is_ok());
+    assert!(rt; one.pile().heights() == [1, 1].as_slice());
     assert!(rt; !was_refused(alloc));
     Ok(())
 }
@@ -133,6 +168,31 @@ fn recurrent_piles_take_no_memory(rt: HostRuntime) -> Result<(), Fail> {
     Ok(())
 }
 
+// Whether a pass that has one grain left drops it, and no other.
+fn drops_the_last(pile: &SharedPile, pass: &mut Pass) -> bool
+    requires pass { IsPassOf pile.now pass.old }
+    requires site { 1 < sites (grid_of_terms pile.now.terms) }
+    ensures of_pile { IsPassOf pile.now pass.new }
+    ensures grid { pass.new.grid ≡ pass.old.grid }
+    ensures rows { pass.new.rows ≡ pass.old.rows }
+{
+    let is_dropped = pile.drop_at(pass, 1) == Ok(0);
+    let is_refused = pile
+        .drop_at(pass, 1)
+        .is_err_and(|fault| fault.number() == 13);
+    is_dropped && is_refused
+}
+
+// Whether a pass of two sites has dropped a grain and toppled each site once.
+fn has_dropped_and_swept(pass: &Pass) -> bool
+    requires first { HoldsSite pass.now.grid pass.now.rows 0 }
+    requires second { HoldsSite pass.now.grid pass.now.rows 1 }
+{
+    let drops = (pass.left(), pass.seen(), pass.receipts().len());
+    let topplings = (pass.toppled(0), pass.toppled(1));
+    drops == (0, 1, 1) && topplings == (1, 1) && pass.rows() == (0, 2)
+}
+
 #[test]
 fn passes_take_no_memory(rt: HostRuntime) -> Result<(), Fail> {
     let alloc = rt.alloc();
@@ -142,17 +202,9 @@ fn passes_take_no_memory(rt: HostRuntime) -> Result<(), Fail> {
     let (pile, mut pass) = SharedPile::new(alloc, &start, 1)?;
     refuse(alloc, 0);
     assert!(rt; pile.is_whole(&pass));
-    assert_eq!(rt; pile.drop_at(&mut pass, 1), Ok(0));
-    assert!(rt;
-        pile.drop_at(&mut pass, 1)
-            .is_err_and(|fault| fault.number() == 13)
-    );
-    assert_eq!(rt; (pile.tally(&mut pass), pile.sweep(&mut pass)), (1, 2));
-    assert_eq!(rt; (pass.left(), pass.seen(), pass.rows()), (0, 1, (0, 2)));
-    assert_eq!(rt;
-        (pass.receipts().len(), pass.toppled(0), pass.toppled(1)),
-        (1, 1, 1)
-    );
+    assert!(rt; drops_the_last(&pile, &mut pass));
+    assert!(rt; (pile.tally(&mut pass), pile.sweep(&mut pass)) == (1, 2));
+    assert!(rt; has_dropped_and_swept(&pass));
     assert!(rt; pile.is_whole(&pass));
     assert!(rt; !was_refused(alloc));
     Ok(())
@@ -214,6 +266,27 @@ const ONE_EPOCH: Wish = Wish {
     ..QUIET
 };
 
+// The epoch of the picture at the first place of an album, as a new note finds it, and the grains that its pile has lost.
+fn first_picture(album: &Album) -> Option<(u32, u64)>
+    requires { 0 < length album.now }
+{
+    let mut note = album.note(0);
+    let picture = album.look(0, &mut note)?;
+    Some((picture.epoch(), picture.closed().lost()))
+}
+
+// Whether a report has one epoch of three drops, with the tallies of an observer and a worker that toppled nothing.
+fn has_one_epoch(report: &Report) -> bool
+    requires epoch { 0 < length report.now.sheets }
+    requires observer { 0 < length (sheet_at report.now 0).tallies }
+    requires worker { 0 < length (sheet_at report.now 0).swept }
+{
+    let epochs = report.records().len();
+    let drops = (report.journal(0).len(), report.total().history().len());
+    let others = (report.tallies(0, 0).len(), report.swept(0, 0));
+    epochs == 1 && drops == (3, 3) && others == (16, 0)
+}
+
 #[test]
 fn albums_and_reports_take_no_memory(rt: HostRuntime) -> Result<(), Fail> {
     let alloc = rt.alloc();
@@ -222,20 +295,12 @@ fn albums_and_reports_take_no_memory(rt: HostRuntime) -> Result<(), Fail> {
     assert!(rt; album.places() == 1);
     let mut report = run_into(&rt, alloc, &start, ONE_EPOCH, &Open, &album)?;
     refuse(alloc, 0);
-    assert_eq!(rt; (album.places(), report.records().len()), (1, 1));
-    let mut note = album.note(0);
-    let seen = album
-        .look(0, &mut note)
-        .map(|picture| (picture.epoch(), picture.closed().lost()));
-    assert_eq!(rt; seen, Some((0, 0)));
-    assert_eq!(rt;
-        (report.journal(0).len(), report.total().history().len()),
-        (3, 3)
-    );
-    assert_eq!(rt; (report.tallies(0, 0).len(), report.swept(0, 0)), (16, 0));
+    assert!(rt; album.places() == 1);
+    assert!(rt; first_picture(&album) == Some((0, 0)));
+    assert!(rt; has_one_epoch(&report));
     let known = report.note(0);
     assert!(rt; !was_refused(alloc));
-    drop((note, known));
+    drop(known);
     Ok(())
 }
 

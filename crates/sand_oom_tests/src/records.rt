@@ -1,43 +1,16 @@
 //! Records: copied, shared, and grown by one that follows.
 
-ghost use Rattle.std.specs.Prelude.{◌≡◌, ◌+◌, ◌<◌, ◌≤◌, length, sum, IfOk, OnErr};
-ghost use Rattle.sand_model.specs.Grid.{sites};
+ghost use Rattle.std.specs.Prelude.{◌≡◌, ◌+◌, ◌≤◌, length, sum, IfOk, OnErr};
 ghost use Rattle.sand_model.specs.Piles.{most_grains};
-ghost use Rattle.sand_shared.specs.OpenPile.{grid_of_terms};
-ghost use Rattle.sand_shared.specs.Passes.{IsPassOf};
 
 use crate::memory::{refuse, was_refused};
 use crate::trying::{MEMORY, Spares, Tried, came_to, each_number, each_refused};
-use sand_model::{GRAIN_LIMIT, Pile};
-use sand_shared::{Pass, Record, SharedPile};
+use sand_shared::Record;
 use sand_testing::piles::one_site;
-use sand_testing::records::is_record;
+use sand_testing::records::{are_within_limit, is_record};
+use sand_testing::shared::dropped_on;
 use std::alloc::Global;
 use std::test::Fail;
-
-// Drops up to three grains on the first site: as many as the pass has left.
-fn drop_three(pile: &SharedPile, pass: &mut Pass)
-    requires pass { IsPassOf pile.now pass.old }
-    requires site { 0 < sites (grid_of_terms pile.now.terms) }
-    ensures { IsPassOf pile.now pass.new }
-{
-    let _ = pile.drop_at(pass, 0);
-    let _ = pile.drop_at(pass, 0);
-    let _ = pile.drop_at(pass, 0);
-}
-
-// The record of this many grains on the first site, three at most.
-fn record_of(alloc: Global, start: &Pile, drops: u64) -> Result<Record, Fail>
-    ensures { IfOk result (λ r. r.start ≡ start.now) }
-{
-    if start.shape().sites() == 0 {
-        return Err("a pile without sites".into());
-    }
-    let (pile, mut pass) = SharedPile::new(alloc, start, drops)?;
-    drop_three(&pile, &mut pass);
-    let record = pile.close(alloc, pass).ok().ok_or("close")?;
-    Ok(record)
-}
 
 // Three drops on an empty site, and one more. The fourth topples the site.
 fn three_and_one(alloc: Global) -> Result<(Record, Record), Fail>
@@ -45,9 +18,9 @@ fn three_and_one(alloc: Global) -> Result<(Record, Record), Fail>
     ensures limit { IfOk result (λ r. sum r.0.start.heights + (length r.0.history + length r.1.history) ≤ most_grains) }
 {
     let start = one_site(alloc, 0)?;
-    let three = record_of(alloc, &start, 3)?;
-    let one = record_of(alloc, three.pile(), 1)?;
-    if three.start().grains() + (three.history().len() + one.history().len()) as u64 > GRAIN_LIMIT {
+    let three = dropped_on(alloc, &start, 3)?;
+    let one = dropped_on(alloc, three.pile(), 1)?;
+    if !are_within_limit(&three, &one) {
         return Err("too many grains".into());
     }
     Ok((three, one))
@@ -63,7 +36,7 @@ fn is_four(record: &Record) -> bool {
 
 #[test]
 fn copy_of_a_record_reports_out_of_memory(rt: HostRuntime) -> Result<(), Fail> {
-    let three = record_of(rt.alloc(), &one_site(rt.alloc(), 0)?, 3)?;
+    let three = dropped_on(rt.alloc(), &one_site(rt.alloc(), 0)?, 3)?;
     each_refused(
         &rt,
         rt.alloc(),
@@ -96,7 +69,7 @@ fn twice_reports_out_of_memory(rt: HostRuntime) -> Result<(), Fail> {
 }
 
 fn twice_once(alloc: Global, number: u32) -> Result<Tried, Fail> {
-    let three = record_of(alloc, &one_site(alloc, 0)?, 3)?;
+    let three = dropped_on(alloc, &one_site(alloc, 0)?, 3)?;
     refuse(alloc, number);
     let tried = three.twice(alloc);
     was_refused(alloc);
@@ -144,15 +117,24 @@ fn append_to_a_shared_history_reports_out_of_memory(rt: HostRuntime) -> Result<(
     )
 }
 
+// Three drops on an empty site, with room for one more, and the one more.
+fn roomy_three_and_one(alloc: Global) -> Result<(Record, Record), Fail>
+    ensures follows { IfOk result (λ r. r.1.start ≡ r.0.settled.pile) }
+    ensures limit { IfOk result (λ r. sum r.0.start.heights + (length r.0.history + length r.1.history) ≤ most_grains) }
+{
+    let (three, one) = three_and_one(alloc)?;
+    let roomy = three.copy_with_room(alloc, 1)?;
+    Ok((roomy, one))
+}
+
 // The heights and the odometer are copied, which takes two requests. There is room for the history, which takes none.
 #[test]
 fn drops_with_room_are_appended_without_memory(rt: HostRuntime) -> Result<(), Fail> {
     let alloc = rt.alloc();
-    let (three, one) = three_and_one(alloc)?;
-    let mut four = three.copy_with_room(alloc, one.history().len())?;
+    let (mut three, one) = roomy_three_and_one(alloc)?;
     refuse(alloc, 3);
-    let tried = append(alloc, &mut four, &one);
+    let tried = append(alloc, &mut three, &one);
     assert!(rt; !was_refused(alloc));
-    assert_eq!(rt; tried, Ok(true));
+    assert!(rt; tried == Ok(true));
     Ok(())
 }

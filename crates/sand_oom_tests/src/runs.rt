@@ -7,7 +7,7 @@ ghost use Rattle.sand_lab.specs.Albums.{IsPlace};
 
 use crate::memory::{refuse, was_refused};
 use crate::trying::{
-    MOST_REQUESTS, Spares, Tried, came_to, each_number, each_refused, tell_refused,
+    MEMORY, MOST_REQUESTS, Spares, Tried, came_to, each_number, each_refused, tell_refused,
 };
 use sand_desk::{journal_text, lab_text};
 use sand_lab::{Album, LabFault, Note, Open, Report, Wish, sites_of};
@@ -184,7 +184,26 @@ fn run_once<R: Threads + Sync>(
     came_to!(run_into(rt, alloc, start, trial.wish, &Open, album), report => is_report(&report, trial))
 }
 
-// Tries a run, each time with an album of its own.
+// One try of a run. If it fails, it is made once more with another album.
+fn try_run<R: Threads + Sync>(
+    rt: &R,
+    alloc: Global,
+    start: &Pile,
+    trial: &Trial,
+    number: u32,
+) -> Result<Tried, Fail> {
+    let album = Album::new(alloc, 2)?;
+    let other = Album::new(alloc, 2)?;
+    refuse(alloc, number);
+    let tried = run_once(rt, alloc, start, trial, &album);
+    was_refused(alloc);
+    Ok(match tried {
+        Ok(is_right) => Tried::done(is_right),
+        Err(fault) => Tried::failed(fault, run_once(rt, alloc, start, trial, &other) == Ok(true)),
+    })
+}
+
+// Tries a run, each time with albums of its own.
 fn each_refused_of_a_run<R: Threads + Sync + Print + Abort>(
     rt: &R,
     alloc: Global,
@@ -196,20 +215,7 @@ fn each_refused_of_a_run<R: Threads + Sync + Print + Abort>(
         alloc,
         trial.name,
         Spares::Thread,
-        |alloc: Global, number: u32| {
-            let album = Album::new(alloc, 2)?;
-            let other = Album::new(alloc, 2)?;
-            refuse(alloc, number);
-            let tried = run_once(rt, alloc, start, trial, &album);
-            was_refused(alloc);
-            Ok(match tried {
-                Ok(is_right) => Tried::done(is_right),
-                Err(fault) => Tried::failed(
-                    fault,
-                    run_once(rt, alloc, start, trial, &other) == Ok(true),
-                ),
-            })
-        },
+        |alloc: Global, number: u32| try_run(rt, alloc, start, trial, number),
     )
 }
 
@@ -250,15 +256,21 @@ fn heights_in(album: &Album) -> (Option<u64>, Option<u64>) {
     )
 }
 
-// Whether a run, with the request of this number refused, fails between the first epoch and the second. What is seen of the
-// album is then the first, also after one more run, which returns that the place of the first was set before. With another
-// album the run is made as ever.
-fn published_once<R: Threads + Sync + Abort>(
+// Whether a run into an album whose first place was set returns that, and changes nothing that is seen of it.
+fn stays_published<R: Threads + Sync>(rt: &R, alloc: Global, start: &Pile, album: &Album) -> bool {
+    run_once(rt, alloc, start, &TWO_EPOCHS, album) == Err(17)
+        && heights_in(album) == (Some(2), None)
+}
+
+// A run with the request of this number refused. If it fails between the first epoch and the second, returns whether all is
+// right: the fault is out of memory, the first epoch is seen in the album and stays there, and with another album the run is
+// made as ever.
+fn published_once<R: Threads + Sync>(
     rt: &R,
     alloc: Global,
     start: &Pile,
     number: u32,
-) -> Result<bool, Fail> {
+) -> Result<Option<bool>, Fail> {
     let album = Album::new(alloc, 2)?;
     let other = Album::new(alloc, 2)?;
     refuse(alloc, number);
@@ -266,13 +278,12 @@ fn published_once<R: Threads + Sync + Abort>(
     was_refused(alloc);
     let (first, second) = heights_in(&album);
     if tried.is_ok() || first.is_none() || second.is_some() {
-        return Ok(false);
+        return Ok(None);
     }
-    assert_eq!(rt; (tried, first), (Err(4), Some(2)));
-    assert_eq!(rt; run_once(rt, alloc, start, &TWO_EPOCHS, &album), Err(17));
-    assert_eq!(rt; heights_in(&album), (Some(2), None));
-    assert_eq!(rt; run_once(rt, alloc, start, &TWO_EPOCHS, &other), Ok(true));
-    Ok(true)
+    let is_right = (tried, first) == (Err(MEMORY), Some(2))
+        && stays_published(rt, alloc, start, &album)
+        && run_once(rt, alloc, start, &TWO_EPOCHS, &other) == Ok(true);
+    Ok(Some(is_right))
 }
 
 // If the second epoch runs out of memory, what the first epoch published stays: its place is taken, and no other is.
@@ -282,7 +293,8 @@ fn the_first_epoch_stays_published_if_the_second_fails(rt: HostRuntime) -> Resul
     let start = one_site(alloc, 0)?;
     let mut met = 0u32;
     for number in 1..MOST_REQUESTS {
-        if published_once(&rt, alloc, &start, number)? {
+        if let Some(is_right) = published_once(&rt, alloc, &start, number)? {
+            assert!(rt; is_right, "at request {number}");
             met = met.saturating_add(1);
         }
         if !was_refused(alloc) {

@@ -9,7 +9,8 @@ use sand_testing::piles::open_pile;
 use std::alloc::Global;
 use std::test::Fail;
 
-fn is_settled(settled: &Settled, heights: &[u64], odometer: &[u64], lost: u64) -> bool {
+/// Whether a settled pile has these heights, this odometer and as many grains lost.
+pub fn is_settled(settled: &Settled, heights: &[u64], odometer: &[u64], lost: u64) -> bool {
     settled.pile().heights() == heights && settled.odometers() == odometer && settled.lost() == lost
 }
 
@@ -44,10 +45,9 @@ fn settle_by_a_guess_reports_out_of_memory(rt: HostRuntime) -> Result<(), Fail> 
 }
 
 fn is_one_pile(one: &OnePile, tally: u64, heights: &[u64], odometer: &[u64], lost: u64) -> bool {
-    one.tally() == tally
+    (one.tally(), one.lost()) == (tally, lost)
         && one.pile().heights() == heights
         && one.odometers() == odometer
-        && one.lost() == lost
 }
 
 #[test]
