@@ -2,12 +2,14 @@
 
 ghost use Rattle.std.specs.Prelude.{◌≡◌};
 ghost use Rattle.sand_model.specs.Grid.{sites};
+ghost use Rattle.sand_shared.specs.OpenPile.{grid_of_terms};
+ghost use Rattle.sand_shared.specs.Passes.{IsPassOf};
 
 use crate::pile_with_passes::Call::{DropAt, Join, Receipt, Split, Tally, ThrowAway};
 use crate::pile_with_passes::Told::{Done, Dropped, Fault, Number};
 use crate::pile_with_passes::{Left, PileWithPasses, Start, both_leave};
-use sand_model::{GRAIN_LIMIT, Pile};
-use sand_shared::{Record, SharedPile, SiteCounts};
+use sand_model::{GRAIN_LIMIT, Pile, Shape};
+use sand_shared::{Pass, Record, SharedPile, SiteCounts};
 use sand_testing::piles::{one_site, open_pile};
 use sand_testing::records::is_record;
 use std::alloc::Global;
@@ -140,14 +142,27 @@ fn two_passes_drop_in_turn(rt: HostRuntime) {
     assert!(rt; both_leave(rt.alloc(), start, &calls, left));
 }
 
+// Drops a list after a single grain.
+fn drop_one_and_three(alloc: Global, shape: Shape, pile: &SharedPile, pass: &mut Pass) -> bool
+    requires pass { IsPassOf pile.now pass.old }
+    requires grid { grid_of_terms pile.now.terms ≡ shape }
+    requires three { sites shape ≡ 3 }
+    ensures { IsPassOf pile.now pass.new }
+{
+    let Ok(mut counts) = SiteCounts::new(alloc, shape) else {
+        return false;
+    };
+    pile.drop_at(pass, 2).is_ok() && pile.drop_all(pass, &[1, 0, 1], &mut counts).is_ok()
+}
+
 // The record of a list of drops after a single one.
 fn one_and_three(alloc: Global, start: &Pile) -> Option<Record>
     requires { sites start.now.grid ≡ 3 }
 {
     let (pile, mut pass) = SharedPile::new(alloc, start, 4).ok()?;
-    let mut counts = SiteCounts::new(alloc, start.shape()).ok()?;
-    pile.drop_at(&mut pass, 2).ok()?;
-    pile.drop_all(&mut pass, &[1, 0, 1], &mut counts).ok()?;
+    if !drop_one_and_three(alloc, start.shape(), &pile, &mut pass) {
+        return None;
+    }
     pile.close(alloc, pass).ok()
 }
 

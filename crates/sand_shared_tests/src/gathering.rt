@@ -1,11 +1,15 @@
 //! Rows and quotas that passes hand on, and ends that are refused until all is gathered.
 
+ghost use Rattle.std.specs.Prelude.{IfOk};
+ghost use Rattle.sand_shared.specs.Passes.{IsPassOf};
+
 use crate::pile_with_passes::Call::{
     DropAt, IsWhole, Join, Rows, Split, SplitRows, Tally, ThrowAway,
 };
 use crate::pile_with_passes::Told::{Between, Done, Fault, Is, Number};
 use crate::pile_with_passes::{ENDINGS, Ending, Left, PileWithPasses, Start, both_leave};
-use sand_testing::shared::shared_pile;
+use sand_shared::{BarePass, SharedPile};
+use sand_testing::shared::{bare_of, shared_pile};
 use std::alloc::Global;
 use std::test::Fail;
 
@@ -158,17 +162,33 @@ fn ends_after_a_hundred_refusals(rt: HostRuntime) {
     }
 }
 
-// The upper row has toppled twice in place, and the lower one, which has 9 grains then, is left to be settled.
+// Two rows, of which the upper one has toppled twice in place, and a bare pass of each.
+fn two_rows(alloc: Global) -> Result<(SharedPile, BarePass, BarePass), Fail>
+    ensures { IfOk result (λ r. IsPassOf r.0 r.1 × IsPassOf r.0 r.2) }
+{
+    let (pile, mut pass) = shared_pile(alloc, 1, 2, &[8, 7], 0)?;
+    let lower = pile.split_rows(alloc, &mut pass, 1)?;
+    pile.sweep(&mut pass);
+    Ok((pile, bare_of(pass), bare_of(lower)))
+}
+
+// Whether a pass that lacks the rows of another one cannot settle the pile, and takes it in.
+fn take_in(alloc: Global, pile: &SharedPile, pass: &mut BarePass, other: BarePass) -> bool
+    requires pass { IsPassOf pile.now pass.old }
+    requires other { IsPassOf pile.now other }
+    ensures { IsPassOf pile.now pass.new }
+{
+    let is_refused = pile.settle_rest(alloc, pass).is_err();
+    let is_joined = pile.join_bare(alloc, pass, other).is_ok();
+    is_refused && is_joined
+}
+
+// The lower row has 9 grains then, and is left to be settled.
 #[test]
 fn bare_passes_are_gathered_and_settled(rt: HostRuntime) -> Result<(), Fail> {
-    let (pile, mut pass) = shared_pile(rt.alloc(), 1, 2, &[8, 7], 0)?;
-    let lower = pile.split_rows(rt.alloc(), &mut pass, 1)?;
-    pile.sweep(&mut pass);
-    let (mut pass, _) = pass.into_bare();
-    let (lower, _) = lower.into_bare();
-    assert!(rt; pile.settle_rest(rt.alloc(), &mut pass).is_err());
-    assert!(rt; pile.join_bare(rt.alloc(), &mut pass, lower).is_ok());
-    let rest = pile.settle_rest(rt.alloc(), &mut pass)?;
+    let (pile, mut upper, lower) = two_rows(rt.alloc())?;
+    assert!(rt; take_in(rt.alloc(), &pile, &mut upper, lower));
+    let rest = pile.settle_rest(rt.alloc(), &mut upper)?;
     assert!(rt; rest.pile().heights() == [2, 1].as_slice());
     assert!(rt; rest.odometers() == [0, 2].as_slice());
     assert_eq!(rt; (rest.topplings(), rest.lost()), (2, 6));

@@ -8,6 +8,7 @@ ghost use Rattle.sand_shared.specs.Passes.{IsPassOf};
 
 use crate::meeting::Meeting;
 use sand_shared::{Pass, SharedPile};
+use sand_testing::shared::drop_rest;
 use std::thread::{Threads, join};
 
 // Meets the other thread; then drops all that is left on a site, or sweeps if there is none. Also returns whether they met.
@@ -22,12 +23,11 @@ fn take_turn(
     ensures { IsPassOf pile.now result.0 }
 {
     let met = meeting.met(2);
-    let Some(site) = site else {
-        pile.sweep(&mut pass);
-        return (pass, met);
-    };
-    'drops: for _ in 0..pass.left() {
-        let _ = pile.drop_at(&mut pass, site);
+    match site {
+        Some(site) => drop_rest(pile, &mut pass, site),
+        None => {
+            pile.sweep(&mut pass);
+        }
     }
     (pass, met)
 }

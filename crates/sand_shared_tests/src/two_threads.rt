@@ -6,13 +6,16 @@ use crate::pile_with_passes::{ENDINGS, Ending, Left, PileWithPasses, Start};
 use std::alloc::Global;
 use std::thread::Threads;
 
-// Whether the numbers of two drops of each of two passes rise, and are 0 to 3 once they are joined.
-fn numbers_rise(alloc: Global, pile: PileWithPasses) -> Option<PileWithPasses> {
-    for pass in 0..2 {
-        if pile.number(pass, 0)? >= pile.number(pass, 1)? {
-            return None;
-        }
+// Whether the numbers of the first two drops of a pass rise.
+fn numbers_rise(pile: &PileWithPasses, pass: usize) -> bool {
+    match (pile.number(pass, 0), pile.number(pass, 1)) {
+        (Some(first), Some(second)) => first < second,
+        _ => false,
     }
+}
+
+// The pile with its passes joined, whose four drops have the numbers 0 to 3.
+fn numbered_once(alloc: Global, pile: PileWithPasses) -> Option<PileWithPasses> {
     let pile = pile.play(alloc, &[(Join(0, 1), Done)])?;
     let once = (0..4).all(|number| pile.receipts_with(0, number) == 1);
     once.then_some(pile)
@@ -36,7 +39,9 @@ fn two_threads_drop_on_one_site(rt: HostRuntime) {
     let pile = pile
         .both_at_once(&rt, Some(0), Some(0))
         .expect(&rt, "they meet");
-    let pile = numbers_rise(rt.alloc(), pile).expect(&rt, "rising numbers");
+    assert!(rt; numbers_rise(&pile, 0));
+    assert!(rt; numbers_rise(&pile, 1));
+    let pile = numbered_once(rt.alloc(), pile).expect(&rt, "four numbers");
     assert!(rt; pile.leaves(rt.alloc(), Ending::Close, left));
 }
 

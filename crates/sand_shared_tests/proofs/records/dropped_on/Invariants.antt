@@ -1,5 +1,0 @@
-use Rattle.sand_shared.specs.Passes.{IsPassOf}
-use Rattle.sand_shared_tests.proofs.records.dropped_on.Given as goal
-
-abbrev pub invariant-drops : goal.invariant-drops
-invariant-drops l = IsPassOf l.pile l.pass
