@@ -1,4 +1,4 @@
-"""Measures the Python module against the program, and four threads against one. bench/python runs it.
+"""Measures the Python module against the program, and four threads or processes against one. bench/python runs it.
 
 The two sides of a row take turns, and the least time of each counts: other work on the machine disturbs that least. `cpu` is the
 ratio of the least processor times, which it disturbs even less. A time of the program is that of its whole process, with reading
@@ -128,6 +128,21 @@ def replicas(turns, side=128, count=50_000, threads=4):
     row(f"{threads} replicas in {threads} threads, {side} by {side}", ours, theirs, *rates, "1/3, on four idle processors")
 
 
+def processes(turns, side=128, count=50_000, many=4):
+    """What the machine gives to runs that share nothing."""
+    words = ["drops", f"--count={count}", "--seed=7", "--table"]
+    runs = [Process(*words, f"--stream={stream}", text=text_of(np.full((side, side), 3))) for stream in range(many)]
+
+    def beside():
+        with ThreadPoolExecutor(many) as pool:
+            return list(pool.map(lambda run: run(), runs))
+
+    at_once, alone = Side(beside, times=many * count), Side(runs[0], times=count)
+    alternate(turns, at_once, alone)
+    rates = (f"{1 / one.seconds:,.0f} drops a second" for one in (at_once, alone))
+    row(f"{many} processes of the program, {side} by {side}", at_once, alone, *rates)
+
+
 def main():
     parser = argparse.ArgumentParser(prog="bench/python", description=__doc__.split("\n")[0])
     parser.add_argument("--quick", action="store_true", help="fewer turns")
@@ -135,12 +150,13 @@ def main():
     if not PROGRAM.exists():
         sys.exit("bench/python: the program is not built: run ./build first")
     print(f"{os.cpu_count()} processors, load {os.getloadavg()[0]:.1f} at the start; the least of {turns} turns\n")
-    print("| what | module | program, or one thread | ratio | cpu | wanted at most |\n|---|---|---|---|---|---|")
+    print("| what | module, or four at once | program, or one | ratio | cpu | wanted at most |\n|---|---|---|---|---|---|")
     sums(turns)
     settling(turns, "16,384 grains on each site of 256 by 256", np.full((256, 256), 16384))
     settling(turns, "random heights from 0 to 7 on 256 by 256", np.random.default_rng(2).integers(0, 8, (256, 256)))
     drops(turns)
     replicas(turns)
+    processes(turns)
     print(f"\nload {os.getloadavg()[0]:.1f} at the end")
 
 

@@ -147,16 +147,20 @@ class Threads(unittest.TestCase):
 
 
 STOPPED = """
-import sys, numpy as np, sandpile
+import threading, time, numpy as np, sandpile
 run = sandpile.Drive(np.full((64, 64), 3), seed=8)
+def tell(before):  # only then does Ctrl-C come
+    while run.drops == before:
+        time.sleep(0.01)
+    print("drops", flush=True)
 for _ in range(4):
     before = run.drops
     try:
-        print("drops", flush=True)
+        threading.Thread(target=tell, args=(before,)).start()
         run.drop(10**7)
     except KeyboardInterrupt:
         pass
-    assert len(run.table) < 10**7 and run.drops == before + len(run.table)
+    assert 0 < len(run.table) < 10**7 and run.drops == before + len(run.table)
     assert run.table["number"].tolist() == list(range(before, run.drops))
 assert run.drops > 0
 other = sandpile.Drive(np.full((64, 64), 3), seed=8)
@@ -176,8 +180,9 @@ class Stopped(unittest.TestCase):
         )
         chance = random.Random(3)
         for _ in range(4):
-            self.assertEqual(child.stdout.readline(), "drops\n")
-            time.sleep(chance.uniform(0.3, 0.7))
+            if child.stdout.readline() != "drops\n":
+                self.fail(child.communicate(timeout=120)[1])
+            time.sleep(chance.uniform(0, 0.5))
             child.send_signal(signal.SIGINT)
         text, errors = child.communicate(timeout=120)
         self.assertEqual(child.returncode, 0, errors)
