@@ -2,6 +2,7 @@
 use Rattle.std.proofs.Common.{◌≡◌, ◌∙◌, ◌+◌, ℕ, Bool, true, false, if◌then◌else◌, List, [], ◌∷◌, ◌++◌, length, refl, sym, ap, subst, arith}
 use Rattle.sand_settle.specs.declared.avalanche.Avalanche.{Avalanche}
 use Rattle.sand_settle.specs.Avalanches.{IsAvalanche}
+use Rattle.sand_settle.specs.Settling.{SettledView}
 use Rattle.sand_settle.specs.Drops.{OneView, grid_of_one_pile, topplings_between, Drops}
 use Rattle.sand_cli.specs.declared.task.Part.{Part}
 use Rattle.sand_cli.specs.declared.task.Part.TheVariants as parts
@@ -39,7 +40,7 @@ noted_push false v u w sites noted more site a number (rows, are, all) drop is e
     (rows ++ (u.number, a) ∷ [], rows_push v.number u.number v u w sites rows site a number are drop is, e ∙ ap (λ l. l ++ (u.number, a) ∷ []) all)
 
 -- what is noted gives the text
-pub noted_text : (part : Part) (noted rows : List (ℕ × Avalanche)) (last : OneView) → noted ≡ (if is_pile part then [] else rows) → drops_in part noted last ≡ drops_in part rows last
+pub noted_text : (part : Part) (noted rows : List (ℕ × Avalanche)) (last : SettledView) → noted ≡ (if is_pile part then [] else rows) → drops_in part noted last ≡ drops_in part rows last
 noted_text parts.Pile noted rows last is = refl
 noted_text parts.Table noted rows last is = ap (λ l. drops_in parts.Table l last) is
 noted_text parts.All noted rows last is = ap (λ l. drops_in parts.All l last) is

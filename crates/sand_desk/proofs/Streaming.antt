@@ -6,6 +6,7 @@ use Rattle.sand_model.specs.Grid.{sites}
 use Rattle.sand_model.specs.Piles.{PileView, most_grains}
 use Rattle.sand_settle.specs.declared.avalanche.Avalanche.{Avalanche}
 use Rattle.sand_settle.specs.Avalanches.{IsAvalanche}
+use Rattle.sand_settle.specs.Settling.{SettledView}
 use Rattle.sand_settle.specs.Drops.{OneView, IsAfter, Drops, grid_of_one_pile, topplings_between}
 use Rattle.sand_settle.proofs.Drops.{after_drop}
 use Rattle.sand_text.specs.Blocks.{BreaksIn, GrowsBy, Waiting}
@@ -48,14 +49,14 @@ no_rows parts.Table = no_entries
 no_rows parts.All = no_entries
 
 -- all of it
-pub text_in_parts : (part : Part) (rows : List (ℕ × Avalanche)) (last : OneView) → head_in part ++ (rows_in part rows ++ end_in part last) ≡ drops_in part rows last
+pub text_in_parts : (part : Part) (rows : List (ℕ × Avalanche)) (last : SettledView) → head_in part ++ (rows_in part rows ++ end_in part last) ≡ drops_in part rows last
 text_in_parts parts.Pile rows last = refl
 text_in_parts parts.Table rows last = ap (λ t. table_head ++ t) (append-nil (entries_text rows))
 text_in_parts parts.All rows last =
     let table = table_head ++ entries_text rows in
-    let pile = text_of last.settled.pile in
-    let lost = sum_line (codes "lost ") last.settled.lost in
-    let topplings = sum_line (codes "topplings ") last.settled.topplings in
+    let pile = text_of last.pile in
+    let lost = sum_line (codes "lost ") last.lost in
+    let topplings = sum_line (codes "topplings ") last.topplings in
     sym (append_assoc table_head (entries_text rows) (pile_and_sums last)) ∙ sym (append_assoc table (pile ++ lost) topplings)
     ∙ ap (λ t. t ++ topplings) (sym (append_assoc table pile lost))
 

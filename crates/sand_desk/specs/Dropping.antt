@@ -3,6 +3,7 @@ use Rattle.std.specs.Prelude.{ℕ, ◌≡◌, ◌+◌, ◌<◌, Bool, true, fals
 use Rattle.sand_model.specs.Piles.{PileView, most_grains}
 use Rattle.sand_settle.specs.declared.avalanche.Avalanche.{Avalanche}
 use Rattle.sand_settle.specs.Avalanches.{IsAvalanche}
+use Rattle.sand_settle.specs.Settling.{SettledView}
 use Rattle.sand_settle.specs.Drops.{OneView, grid_of_one_pile, topplings_between, IsAfter, Drops}
 use Rattle.sand_model.specs.Grid.{sites}
 use Rattle.sand_lab.specs.Streams.{stream_sites}
@@ -49,15 +50,15 @@ is_pile parts.Pile = true
 is_pile part = false
 
 -- the table of the drops, the pile that they leave, and the sums since the start
-abbrev pub drops_text_of : List (ℕ × Avalanche) → OneView → List ℕ
-drops_text_of rows last = table_text_of rows ++ text_of last.settled.pile
-    ++ sum_line (codes "lost ") last.settled.lost ++ sum_line (codes "topplings ") last.settled.topplings
+abbrev pub drops_text_of : List (ℕ × Avalanche) → SettledView → List ℕ
+drops_text_of rows last = table_text_of rows ++ text_of last.pile
+    ++ sum_line (codes "lost ") last.lost ++ sum_line (codes "topplings ") last.topplings
 
 -- the part of it that is wanted
-abbrev pub drops_in : Part → List (ℕ × Avalanche) → OneView → List ℕ
+abbrev pub drops_in : Part → List (ℕ × Avalanche) → SettledView → List ℕ
 drops_in parts.All rows last = drops_text_of rows last
 drops_in parts.Table rows last = table_text_of rows
-drops_in parts.Pile rows last = text_of last.settled.pile
+drops_in parts.Pile rows last = text_of last.pile
 
 -- the text of the drops on the settled pile that the input holds, or the part of it that is wanted
 pub record IsDropsText (drawn : Option Draw) (part : Part) (input text : List ℕ) : Type 0 where
@@ -70,7 +71,7 @@ pub record IsDropsText (drawn : Option Draw) (part : Part) (input text : List �
   pub start : IsAfter pile [] first
   pub dropped : AreRows (first_number drawn) first sites rows last
   pub end : IsAfter pile sites last
-  pub written : text ≡ drops_in part rows last
+  pub written : text ≡ drops_in part rows last.settled
 
 -- the grains of the pile and of the drops exceed the limit
 pub record IsOverfull (drawn : Option Draw) (input : List ℕ) : Type 0 where

@@ -1,8 +1,8 @@
 -- What `drops --count` has written while it drops, part by part, at its end or when the writer fails.
 use Rattle.std.specs.Prelude.{ℕ, ◌≡◌, List, [], ◌++◌, codes, Option}
-use Rattle.std.specs.Io.KnownBytes.{Keeps}
 use Rattle.sand_model.specs.Piles.{PileView}
 use Rattle.sand_settle.specs.declared.avalanche.Avalanche.{Avalanche}
+use Rattle.sand_settle.specs.Settling.{SettledView}
 use Rattle.sand_settle.specs.Drops.{OneView, IsAfter}
 use Rattle.sand_text.specs.Blocks.{BreaksIn, GrowsBy, Waiting}
 use Rattle.sand_text.specs.Tables.{entries_text, entry_text, table_head}
@@ -11,7 +11,6 @@ use Rattle.sand_text.specs.declared.fault.StreamFault.{StreamFault}
 use Rattle.sand_cli.specs.declared.task.Part.{Part}
 use Rattle.sand_cli.specs.declared.task.Part.TheVariants as parts
 use Rattle.sand_desk.specs.declared.faults.DeskFault.{DeskFault}
-use Rattle.sand_desk.specs.declared.faults.DeskFault.TheVariants.{Memory}
 use Rattle.sand_desk.specs.Dropping.{AreRows}
 use Rattle.sand_desk.specs.Faults.{of_stream}
 
@@ -30,15 +29,15 @@ rows_in parts.Pile rows = []
 rows_in part rows = entries_text rows
 
 -- the pile, and the sums since the start
-abbrev pub pile_and_sums : OneView → List ℕ
-pile_and_sums last = text_of last.settled.pile
-    ++ sum_line (codes "lost ") last.settled.lost ++ sum_line (codes "topplings ") last.settled.topplings
+abbrev pub pile_and_sums : SettledView → List ℕ
+pile_and_sums last = text_of last.pile
+    ++ sum_line (codes "lost ") last.lost ++ sum_line (codes "topplings ") last.topplings
 
 -- what stands behind the rows
-abbrev pub end_in : Part → OneView → List ℕ
+abbrev pub end_in : Part → SettledView → List ℕ
 end_in parts.All last = pile_and_sums last
 end_in parts.Table last = []
-end_in parts.Pile last = text_of last.settled.pile
+end_in parts.Pile last = text_of last.pile
 
 -- the drops at these sites lead from v to w, and the text grew by their rows, from number n on
 pub record AreAdded (part : Part) (n : ℕ) (v : OneView) (sites : List ℕ) (w : OneView) (held held' : Option (List ℕ)) (b b' : Waiting) : Type 0 where
@@ -55,8 +54,3 @@ pub record BreaksInRows (start : PileView) (part : Part) (n : ℕ) (v : OneView)
   pub dropped : AreRows n v sites rows last
   pub end : IsAfter start sites last
   pub broken : BreaksIn held held' b (rows_in part rows) why
-
--- memory ran out before anything was written
-pub record IsStarvedBefore (held held' : Option (List ℕ)) (fault : DeskFault) : Type 0 where
-  pub memory : fault ≡ Memory
-  pub unwritten : Keeps held held'

@@ -1,11 +1,10 @@
 //! The command `drops` at the sites of a stream, which writes while it drops.
 //!
 //! The rows go out in blocks while grains fall, so memory does not grow with the drops. After the first byte nothing but the
-//! writer can fail: whether there is room for all grains is known before the first drop, and the pile's workspace, which the
-//! first drop makes, is the last memory that is taken. If the writer fails, the drops that were not made would have led to the
-//! rest of a text, for on any stable pile a grain settles.
+//! writer can fail: whether there is room for all grains is known before the first drop, and no drop takes memory. If the
+//! writer fails, the drops that were not made would have led to the rest of a text, for on any stable pile a grain settles.
 
-ghost use Rattle.std.specs.Prelude.{◌≡◌, ◌+◌, ◌≤◌, ◌⊎◌, [], Some, IfErr, OnOk};
+ghost use Rattle.std.specs.Prelude.{◌≡◌, ◌+◌, ◌≤◌, [], Some, IfErr, OnOk};
 ghost use Rattle.sand_model.specs.Grid.{sites};
 ghost use Rattle.sand_model.specs.Piles.{PileView, most_grains};
 ghost use Rattle.sand_settle.specs.Drops.{grid_of_one_pile, IsAfter};
@@ -13,14 +12,14 @@ ghost use Rattle.sand_text.specs.Blocks.{BreaksIn, GrowsBy};
 ghost use Rattle.sand_cli.specs.Asked.{IsDraw};
 ghost use Rattle.sand_desk.specs.Commands.{IsDropsFault, IsWritten, WorkEnds};
 ghost use Rattle.sand_desk.specs.Dropping.{IsDropsText, drawn_sites};
-ghost use Rattle.sand_desk.specs.Streaming.{AreAdded, BreaksInRows, IsStarvedBefore, end_in, head_in, pile_and_sums, row_in};
+ghost use Rattle.sand_desk.specs.Streaming.{AreAdded, BreaksInRows, end_in, head_in, pile_and_sums, row_in};
 
 use crate::faults::DeskFault;
 use crate::texts::read_pile;
 use sand_cli::{Draw, Part};
 use sand_lab::{Gate, Role, SiteReader};
 use sand_model::GRAIN_LIMIT;
-use sand_settle::{Avalanche, OnePile};
+use sand_settle::{Avalanche, DrivenPile, Settled};
 use sand_text::{Blocks, StreamFault, table_head};
 use std::alloc::Global;
 use std::io::Write;
@@ -54,31 +53,28 @@ fn push_row<W: Write>(
 
 // Drops grains at the sites of a draw, each read as its grain drops, and adds the row of each.
 fn drop_drawn<G: Gate, W: Write>(
-    alloc: Global,
     gate: &G,
-    pile: &mut OnePile,
+    pile: &mut DrivenPile,
     draw: Draw,
     part: Part,
     blocks: &mut Blocks,
     writer: &mut W,
 ) -> Result<(), DeskFault>
     requires draw { IsDraw draw }
-    requires first { pile.old.number ≡ 0 }
     requires room { pile.old.grains + draw.count ≤ most_grains }
     ensures rows { OnOk result (AreAdded part draw.from pile.old (drawn_sites (sites (grid_of_one_pile pile.old)) draw) pile.new
         (W.contents writer.old) (W.contents writer.new) blocks.old blocks.new) }
     ensures after { OnOk result ((start : PileView) → IsAfter start [] pile.old
         → IsAfter start (drawn_sites (sites (grid_of_one_pile pile.old)) draw) pile.new) }
-    ensures fault { IfErr result (λ e. IsStarvedBefore (W.contents writer.old) (W.contents writer.new) e
-        ⊎ ((start : PileView) → IsAfter start [] pile.old
+    ensures fault { IfErr result (λ e. (start : PileView) → IsAfter start [] pile.old
         → BreaksInRows start part draw.from pile.old (drawn_sites (sites (grid_of_one_pile pile.old)) draw)
-        (W.contents writer.old) (W.contents writer.new) blocks.old e)) }
+        (W.contents writer.old) (W.contents writer.new) blocks.old e) }
 {
-    let mut reader = SiteReader::new(pile.pile().shape(), draw.seed, draw.stream);
+    let mut reader = SiteReader::new(pile.shape(), draw.seed, draw.stream);
     reader.go_to(draw.from);
     for read in 0..draw.count {
         gate.turn(Role::Dropper, 0, read);
-        let (_, avalanche) = pile.drop_at(alloc, reader.next_site())?;
+        let (_, avalanche) = pile.drop_at(reader.next_site())?;
         push_row(blocks, writer, part, draw.from + u64::from(read), avalanche)?;
     }
     Ok(())
@@ -88,14 +84,14 @@ fn drop_drawn<G: Gate, W: Write>(
 fn push_pile_and_sums<W: Write>(
     blocks: &mut Blocks,
     writer: &mut W,
-    pile: &OnePile,
+    last: &Settled,
 ) -> Result<(), StreamFault>
-    ensures ok { OnOk result (GrowsBy (W.contents writer.old) (W.contents writer.new) blocks.old blocks.new (pile_and_sums pile.now)) }
-    ensures err { IfErr result (BreaksIn (W.contents writer.old) (W.contents writer.new) blocks.old (pile_and_sums pile.now)) }
+    ensures ok { OnOk result (GrowsBy (W.contents writer.old) (W.contents writer.new) blocks.old blocks.new (pile_and_sums last.now)) }
+    ensures err { IfErr result (BreaksIn (W.contents writer.old) (W.contents writer.new) blocks.old (pile_and_sums last.now)) }
 {
-    blocks.push_pile(writer, pile.pile())?;
-    blocks.push_sum(writer, "lost ", pile.lost())?;
-    blocks.push_sum(writer, "topplings ", pile.topplings())
+    blocks.push_pile(writer, last.pile())?;
+    blocks.push_sum(writer, "lost ", last.lost())?;
+    blocks.push_sum(writer, "topplings ", last.topplings())
 }
 
 // Adds what is behind the rows.
@@ -103,15 +99,15 @@ fn push_end<W: Write>(
     blocks: &mut Blocks,
     writer: &mut W,
     part: Part,
-    pile: &OnePile,
+    last: &Settled,
 ) -> Result<(), StreamFault>
-    ensures ok { OnOk result (GrowsBy (W.contents writer.old) (W.contents writer.new) blocks.old blocks.new (end_in part pile.now)) }
-    ensures err { IfErr result (BreaksIn (W.contents writer.old) (W.contents writer.new) blocks.old (end_in part pile.now)) }
+    ensures ok { OnOk result (GrowsBy (W.contents writer.old) (W.contents writer.new) blocks.old blocks.new (end_in part last.now)) }
+    ensures err { IfErr result (BreaksIn (W.contents writer.old) (W.contents writer.new) blocks.old (end_in part last.now)) }
 {
     match part {
-        Part::All => push_pile_and_sums(blocks, writer, pile),
+        Part::All => push_pile_and_sums(blocks, writer, last),
         Part::Table => Ok(()),
-        Part::Pile => blocks.push_pile(writer, pile.pile()),
+        Part::Pile => blocks.push_pile(writer, last.pile()),
     }
 }
 
@@ -131,13 +127,14 @@ pub(crate) fn drawn_drops<G: Gate, W: Write>(
         (W.contents writer.old) (W.contents writer.new)) }
 {
     let start = read_pile(alloc, input)?;
-    let mut pile = OnePile::new(alloc, &start)?;
+    let mut pile = DrivenPile::new(alloc, &start)?;
     if u64::from(draw.count) > GRAIN_LIMIT - start.grains() {
         return Err(DeskFault::Full);
     }
     let mut blocks = Blocks::new(alloc, head_of(part))?;
-    drop_drawn(alloc, gate, &mut pile, draw, part, &mut blocks, writer)?;
-    push_end(&mut blocks, writer, part, &pile)?;
+    drop_drawn(gate, &mut pile, draw, part, &mut blocks, writer)?;
+    let last = pile.finish();
+    push_end(&mut blocks, writer, part, &last)?;
     blocks.finish(writer)?;
     Ok(())
 }

@@ -10,7 +10,7 @@ ghost use Rattle.sand_desk.specs.Dropping.{AreNoted, IsDropsText, drops_in, drop
 use crate::faults::DeskFault;
 use crate::texts::{pile_text, read_drops, table_text};
 use sand_cli::Part;
-use sand_settle::{Avalanche, OnePile};
+use sand_settle::{Avalanche, DrivenPile, Settled};
 use sand_text::push_sum;
 use std::alloc::{AllocError, Global};
 
@@ -46,7 +46,7 @@ fn note(rows: &mut Vec<(u64, Avalanche)>, row: (u64, Avalanche), alone: bool)
 // Drops a grain at each site in turn, and notes each drop's number and avalanche, unless the pile alone is wanted.
 fn drop_all(
     alloc: Global,
-    pile: &mut OnePile,
+    pile: &mut DrivenPile,
     drops: &[usize],
     alone: bool,
 ) -> Result<Vec<(u64, Avalanche)>, DeskFault>
@@ -57,7 +57,7 @@ fn drop_all(
 {
     let mut rows = list_of_rows(alloc, drops.len(), alone)?;
     for site in drops {
-        let row = pile.drop_at(alloc, *site)?;
+        let row = pile.drop_at(*site)?;
         note(&mut rows, row, alone);
     }
     Ok(rows)
@@ -67,16 +67,16 @@ fn drop_all(
 fn drops_text(
     alloc: Global,
     rows: &[(u64, Avalanche)],
-    pile: &OnePile,
+    last: &Settled,
 ) -> Result<Vec<u8>, DeskFault>
-    ensures text { IfOk result (λ text. text.items ≡ drops_text_of rows.now pile.now) }
+    ensures text { IfOk result (λ text. text.items ≡ drops_text_of rows.now last.now) }
     ensures memory { IsOkUnless result DeskFault.Memory }
 {
     let mut text = table_text(alloc, rows)?;
-    let heights = pile_text(alloc, pile.pile())?;
+    let heights = pile_text(alloc, last.pile())?;
     text.extend_from_slice(heights.as_slice())?;
-    push_sum(&mut text, "lost ", pile.lost())?;
-    push_sum(&mut text, "topplings ", pile.topplings())?;
+    push_sum(&mut text, "lost ", last.lost())?;
+    push_sum(&mut text, "topplings ", last.topplings())?;
     Ok(text)
 }
 
@@ -84,16 +84,16 @@ fn drops_text(
 fn part_text(
     alloc: Global,
     rows: &[(u64, Avalanche)],
-    pile: &OnePile,
+    last: &Settled,
     part: Part,
 ) -> Result<Vec<u8>, DeskFault>
-    ensures text { IfOk result (λ text. text.items ≡ drops_in part rows.now pile.now) }
+    ensures text { IfOk result (λ text. text.items ≡ drops_in part rows.now last.now) }
     ensures memory { IsOkUnless result DeskFault.Memory }
 {
     match part {
-        Part::All => drops_text(alloc, rows, pile),
+        Part::All => drops_text(alloc, rows, last),
         Part::Table => table_text(alloc, rows),
-        Part::Pile => pile_text(alloc, pile.pile()),
+        Part::Pile => pile_text(alloc, last.pile()),
     }
 }
 
@@ -112,7 +112,8 @@ pub(crate) fn listed_drops(alloc: Global, input: &[u8], part: Part) -> Result<Ve
     ensures fault { IfErr result (Finds (IsDropsFault None input.now)) }
 {
     let (start, drops) = read_drops(alloc, input)?;
-    let mut pile = OnePile::new(alloc, &start)?;
+    let mut pile = DrivenPile::new(alloc, &start)?;
     let rows = drop_all(alloc, &mut pile, drops.as_slice(), is_pile(part))?;
-    part_text(alloc, rows.as_slice(), &pile, part)
+    let last = pile.finish();
+    part_text(alloc, rows.as_slice(), &last, part)
 }

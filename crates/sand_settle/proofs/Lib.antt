@@ -5,3 +5,4 @@ pub mod Records
 pub mod Collected
 pub mod Held
 pub mod Drops
+pub mod Driven

@@ -3,6 +3,7 @@
 
 mod avalanche;
 mod choice;
+mod driven_pile;
 mod faults;
 pub mod laws;
 mod one_pile;
@@ -14,6 +15,7 @@ mod waves;
 mod workspace;
 
 pub use avalanche::Avalanche;
+pub use driven_pile::DrivenPile;
 pub use faults::{OneFault, SettleFault};
 pub use one_pile::OnePile;
 pub use settled::Settled;

@@ -1,7 +1,6 @@
-use Rattle.std.proofs.Common.{◌≡◌, ◌∙◌, ◌+◌, ◌-◌, ◌<◌, ◌++◌, ◌∷◌, [], ℕ, List, All, drop, length, refl, sym, ap, arith, subst, append_assoc, inr}
+use Rattle.std.proofs.Common.{◌≡◌, ◌∙◌, ◌+◌, ◌-◌, ◌<◌, ◌++◌, ◌∷◌, [], ℕ, List, All, drop, length, refl, sym, ap, arith, subst, append_assoc}
 use Rattle.std.proofs.lemmas.Result.{err_from_is_err_and}
 use Rattle.sand_model.specs.Grid.{Grid, sites}
-use Rattle.sand_model.specs.Piles.{PileView}
 use Rattle.sand_settle.specs.Drops.{grid_of_one_pile, IsAfter}
 use Rattle.sand_lab.specs.Streams.{Reading, site_at, stream_sites}
 use Rattle.sand_desk.specs.Faults.{of_stream}
@@ -15,7 +14,7 @@ loop-read-init g c =
     let n : ℕ = sites (grid_of_one_pile c.args.pile.now) in
     let from : ℕ = c.args.draw.from in
     let none = drawn_none n c.args.draw.seed c.args.draw.stream from in
-    let shape = c.shape.ensures.value ∙ ap (λ (p : PileView). p.grid) c.pile.ensures in
+    let shape = c.shape.ensures.value in
     let place : from ≡ from + 0 = omega arith in
     record {
       rows = none_added c.args.part from c.args.pile.now (drop from (stream_sites n c.args.draw.seed c.args.draw.stream (from + 0))) (g.W.Write.contents c.args.writer.now) c.args.blocks.now none;
@@ -26,8 +25,6 @@ loop-read-init g c =
           ∙ ap (λ (k : ℕ). record { sites = n; seed = c.args.draw.seed; stream = c.args.draw.stream; read = k }) place;
       grid = refl;
       grains = omega arith;
-      number = c.requires.first;
-      kept = λ _. refl;
     }
 
 pub returns-in_err-push_row-clause-fault : goal.returns-in_err-push_row-clause-fault
@@ -53,14 +50,13 @@ returns-in_err-push_row-clause-fault g c =
     let some : 0 < n = omega (arith, c.next_site.ensures.inside, there) in
     let broken = rw c.from.ensures at c.in_err-push_row.ensures.err in
     rw (p.1, p.2)
-    (inr
     (λ start first.
     let inside : All (λ j. j < sites start.grid) later = subst (λ (h : Grid). All (λ j. j < sites h) later) first.settled.grid (drawn_inside n seed stream some (from + (read + 1)) (from + count)) in
     subst (λ xs. BreaksInRows start c.args.part from c.args.pile.now xs (g.W.Write.contents c.args.writer.now) (g.W.Write.contents c.push_row.new.writer) c.args.blocks.now (of_stream c.in_err-push_row.field-0.0)) (sym whole)
     (broke_in_row start c.args.part from (from + read) c.args.pile.now c.loop-read.pile c.drop_at.new.self before c.next_site.result later c.in_ok-avalanche.avalanche
     (g.W.Write.contents c.args.writer.now) (g.W.Write.contents c.loop-read.writer) (g.W.Write.contents c.push_row.new.writer) c.args.blocks.now c.loop-read.blocks _
     number c.loop-read.invariant.rows (c.loop-read.invariant.after start first) c.in_ok-avalanche.ensures.drops c.in_ok-avalanche.ensures.avalanche broken inside
-    (let grains = first.grains in let room = c.requires.room in omega (arith, grains, room, long, left, c.loop-read-test.true)))))
+    (let grains = first.grains in let room = c.requires.room in omega (arith, grains, room, long, left, c.loop-read-test.true))))
 
 pub loop-read-preserved : goal.loop-read-preserved
 loop-read-preserved g c =
@@ -87,6 +83,4 @@ loop-read-preserved g c =
           ∙ ap (λ (k : ℕ). record { sites = n; seed = seed; stream = stream; read = k }) next;
       grid = c.in_ok-avalanche.ensures.drops.settled.grid ∙ c.loop-read.invariant.grid;
       grains = omega (arith, c.in_ok-avalanche.ensures.drops.grains, c.loop-read.invariant.grains);
-      number = omega (arith, c.in_ok-avalanche.ensures.drops.number, c.loop-read.invariant.number);
-      kept = λ none. absurd (omega (arith, none));
     }

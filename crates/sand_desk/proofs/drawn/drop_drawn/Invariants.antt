@@ -15,6 +15,4 @@ invariant-loop-read g l = record {
   reader : l.reader ≡ record { sites = sites (grid_of_one_pile l.initial.pile); seed = l.fn.draw.seed; stream = l.fn.draw.stream; read = l.fn.draw.from + l.read };
   grid : grid_of_one_pile l.pile ≡ grid_of_one_pile l.initial.pile;
   grains : l.pile.grains ≡ l.initial.pile.grains + l.read;
-  number : l.pile.number ≡ l.read;
-  kept : l.read ≡ 0 → g.W.Write.contents l.writer ≡ g.W.Write.contents l.initial.writer;
 }

@@ -27,6 +27,6 @@ returns-clause-text c =
       start = c.in_ok-pile.ensures.settled;
       dropped = subst P c.in_ok-pile.ensures.settled.number noted.1;
       end = rw c.as_slice.ensures.value at (c.in_ok-rows.ensures.after c.in_ok-start.start c.in_ok-pile.ensures.settled);
-      written = (rw c.as_slice-2.ensures.value at written) ∙ noted_text c.args.part c.in_ok-rows.rows.items noted.0 c.drop_all.new.pile (rw c.is_pile.ensures at noted.2);
+      written = (rw (c.as_slice-2.ensures.value, c.finish-last.ensures) at written) ∙ noted_text c.args.part c.in_ok-rows.rows.items noted.0 c.drop_all.new.pile.settled (rw c.is_pile.ensures at noted.2);
     })
     c.part_text.ensures.text
