@@ -11,13 +11,13 @@ use crate::arguments::{grains_of, grid_of};
 use crate::avalanche::{SandpileAvalanche, like};
 use crate::faults::{Fault, answer};
 use sand_model::{GRAIN_LIMIT, Pile, Shape};
-use sand_settle::OnePile;
+use sand_settle::DrivenPile;
 use std::alloc::Global;
 
 // Drops a grain at each site in turn, and notes each avalanche.
 fn drop_all(
     alloc: Global,
-    pile: &mut OnePile,
+    pile: &mut DrivenPile,
     drops: &[usize],
 ) -> Result<Vec<SandpileAvalanche>, Fault>
     requires sites { All (λ site. site < sites (grid_of_one_pile pile.old)) drops.now }
@@ -29,7 +29,7 @@ fn drop_all(
 {
     let mut rows = Vec::with_capacity(alloc, drops.len())?;
     for site in drops {
-        let (_, avalanche) = pile.drop_at(alloc, *site)?;
+        let (_, avalanche) = pile.drop_at(*site)?;
         let row = like(avalanche);
         rows.push_reserved(row);
     }
@@ -122,10 +122,11 @@ fn drop_into(
     let start = start_of(
         alloc, width, height, cylinder, heights, odometer, drops, avalanches,
     )?;
-    let mut pile = OnePile::new(alloc, &start)?;
+    let mut pile = DrivenPile::new(alloc, &start)?;
     let rows = drop_all(alloc, &mut pile, drops)?;
-    heights.copy_from_slice(pile.pile().heights());
-    odometer.copy_from_slice(pile.odometers());
+    let last = pile.finish();
+    heights.copy_from_slice(last.pile().heights());
+    odometer.copy_from_slice(last.odometers());
     avalanches.copy_from_slice(rows.as_slice());
     Ok(())
 }
