@@ -1,15 +1,22 @@
-//! What no run of the program shows: commands over readers that fail and writers that stop, what a fault says of itself, and
-//! the readings as calls.
+//! Tests of `sand_text` and `sand_desk` that no run of the program shows: readers that fail and writers that stop, what a fault
+//! says of itself, pictures, texts that no command writes, and the readings as calls.
 //!
-//! `stopping` has the readers and the writer. They are not tests: those that have bytes to say say them, and are proved to.
+//! `stopping` has the readers and the writer. They are not tests: each proves that it tells its bytes.
 #![tactic(auto)]
 
 #[cfg(test)]
 mod faults;
 #[cfg(test)]
+mod flow;
+#[cfg(test)]
 mod gates;
 #[cfg(test)]
 mod help;
+pub mod journal;
+#[cfg(test)]
+mod pictures;
+#[cfg(test)]
+mod piles;
 #[cfg(test)]
 mod readings;
 #[cfg(test)]
@@ -17,3 +24,5 @@ mod runs;
 pub mod stopping;
 #[cfg(test)]
 mod streams;
+#[cfg(test)]
+mod text_faults;

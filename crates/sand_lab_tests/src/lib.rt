@@ -1,14 +1,27 @@
-//! Tests of `sand_lab`: worked examples, and what no clause says: that a call succeeds, that the threads of a run work at
-//! the same time, and that each calls the gate before each of its turns.
+//! Tests of `sand_shared` and `sand_lab`: worked examples, and what no clause says: that a call succeeds, that threads really
+//! meet, and that a run calls its gate before each turn.
 #![tactic(auto)]
 
 #[cfg(test)]
 mod album;
 #[cfg(test)]
+mod crews;
+#[cfg(test)]
+mod dropping;
+#[cfg(test)]
 mod gates;
+#[cfg(test)]
+mod gathering;
 pub mod holding;
+pub mod meeting;
+#[cfg(test)]
+mod pairs;
+#[cfg(test)]
+mod pile_with_passes;
 #[cfg(test)]
 mod plan;
+#[cfg(test)]
+mod records;
 #[cfg(test)]
 mod refusals;
 #[cfg(test)]
@@ -18,6 +31,10 @@ mod setup;
 #[cfg(test)]
 mod streams;
 #[cfg(test)]
+mod sweeping;
+#[cfg(test)]
 mod sweeps;
 #[cfg(test)]
 mod turns;
+#[cfg(test)]
+mod two_threads;

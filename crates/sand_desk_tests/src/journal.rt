@@ -2,7 +2,7 @@
 
 ghost use Rattle.std.specs.Prelude.{◌≡◌, ℕ, ◌++◌, ◌≤◌, length, map, IfOk, OnOk};
 ghost use Rattle.sand_text.specs.Runs.{journal_lines, journal_text_of};
-ghost use Rattle.sand_text_tests.specs.declared.journal.Entry.{Entry};
+ghost use Rattle.sand_desk_tests.specs.declared.journal.Entry.{Entry};
 
 use sand_text::{push_journal_head, push_journal_line};
 use std::alloc::{AllocError, Global};

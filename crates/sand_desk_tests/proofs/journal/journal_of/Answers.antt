@@ -1,8 +1,8 @@
 use Rattle.std.proofs.Common.{ℕ, List, Bor, ◌++◌, ◌∙◌, ap, arith, codes, map}
 use Rattle.sand_text.specs.Runs.{journal_lines}
-use Rattle.sand_text_tests.specs.declared.journal.Entry.{Entry}
+use Rattle.sand_desk_tests.specs.declared.journal.Entry.{Entry}
 use Rattle.sand_text.proofs.NumberedLines.{no_line, one_line_more, all_lines_of}
-use Rattle.sand_text_tests.proofs.journal.journal_of.Goals as goal
+use Rattle.sand_desk_tests.proofs.journal.journal_of.Goals as goal
 
 -- the drops of an epoch
 abbrev drops_of : Bor (List Entry) → List (ℕ × ℕ)

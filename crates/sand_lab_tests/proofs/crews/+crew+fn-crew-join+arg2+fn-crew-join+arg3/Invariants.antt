@@ -1,5 +1,5 @@
 use Rattle.std.proofs.Common.{◌+◌, ◌*◌}
-use Rattle.sand_shared_tests.proofs.crews.+crew+fn-crew-join+arg2+fn-crew-join+arg3.Given as goal
+use Rattle.sand_lab_tests.proofs.crews.+crew+fn-crew-join+arg2+fn-crew-join+arg3.Given as goal
 
 abbrev pub decreases-crew : goal.decreases-crew
 decreases-crew g l = 2 * l.depth

@@ -1,8 +1,8 @@
 use Rattle.std.proofs.Common.{ℕ, arith}
 use Rattle.sand_text.specs.Runs.{journal_line}
-use Rattle.sand_text_tests.specs.declared.journal.Entry.{Entry}
+use Rattle.sand_desk_tests.specs.declared.journal.Entry.{Entry}
 use Rattle.sand_text.proofs.NumberedLines.{no_line, one_line_more, all_lines_of}
-use Rattle.sand_text_tests.proofs.journal.push_epoch.Goals as goal
+use Rattle.sand_desk_tests.proofs.journal.push_epoch.Goals as goal
 
 abbrev drop_of : Entry → ℕ × ℕ
 drop_of e = (e.dropper, e.site)
