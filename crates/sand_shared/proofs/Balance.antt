@@ -1,10 +1,10 @@
--- Balance, and the bound on topplings, after steps that topple nothing.
+-- Balance and the bound on topplings after steps that topple nothing.
 use Rattle.std.proofs.Common.{◌≡◌, ℕ, ◌+◌, ◌*◌, ◌<◌, ◌≤◌, arith}
 use Rattle.sand_model.specs.Grid.{Grid, sites}
 use Rattle.sand_model.specs.Sand.{flow, IsToppled, Stabilises}
 use Rattle.sand_model.proofs.Flow.{flow_same, flow-scale}
 
--- as many grains came to be poured at a site as came to be present there
+-- poured and present grow by the same amount at each site
 pub balance_kept : (g : Grid) (s u r s' u' r' : ℕ → ℕ) → ((i : ℕ) → u' i ≡ u i) → ((i : ℕ) → i < sites g → r' i + s i ≡ r i + s' i) → IsToppled g s u r → IsToppled g s' u' r'
 balance_kept g s u r s' u' r' still even b = record {
   balance = λ i l.

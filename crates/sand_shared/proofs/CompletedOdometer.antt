@@ -1,4 +1,5 @@
--- A whole pass that settles what is left: its counts and the rest's odometer are the least odometer of the start and all drops.
+-- Settling the rest: the counts of a whole pass plus the odometer of the rest are the least odometer of the start and
+-- all drops.
 use Rattle.std.proofs.Common.{◌≡◌, ℕ, zero, suc, ◌+◌, ◌-◌, ◌*◌, ◌^◌, ◌<◌, ◌≤◌, List, [], All, length, sum, sym, refl, ap, ◌∙◌, subst, ⊎_elim, arith}
 use Rattle.std.specs.Prelude.{slice_index}
 use Rattle.std.proofs.lemmas.Bool.{cases_eq}
@@ -36,7 +37,7 @@ sum_below_above (suc n) f i l = ⊎_elim
     (λ (ne : i ≡ n → ⊥). let r = sum_below_above n f i (omega arith) in omega arith)
     (cases_eq i n)
 
--- a look by a pass that has all tells what is left there
+-- a look by a pass that has everything tells exactly what is left there
 pub looked_exactly : (t : Terms) (a i : ℕ) (v w : View) (n : ℕ) → Happened t (look a i) v n w → v.hand ≡ [] → HasAll t v → n + 4 * toppled_by v i ≡ laid t v i + flow (grid_of_terms t) (toppled_by v) i
 looked_exactly t a i v w n h free all =
     let most = looked_at_most t a i v w n h free in
@@ -66,7 +67,7 @@ module _ (t : Terms) (a : ℕ) (v : View) (s : Stands t a v) (all : HasAll t v) 
   pub is_underway : v.base + length v.counts ≤ sites (grid_of_terms t) → (h : ℕ → ℕ) → IsToppled (grid_of_terms t) (laid t v) (toppled_by v) h → IsUnderway (grid_of_terms t) (laid t v) (toppled_by v) h
   is_underway fits h toppled = record { toppled = toppled; bounded = (stands_sparing t a v s all fits).needed }
 
--- a pass that has gathered all stands, and the rest of its pile is settled
+-- a pass that has gathered everything, and the settled rest of its pile
 pub record IsCompletedBy (t : Terms) (p : PassView) (r : SettledView) (a : ℕ) (v : View) : Type 0 where
   pub stands : Stands t a v
   pub me : v ≡ record (at_rest p) { spot = v.spot; least = v.least }
@@ -130,7 +131,7 @@ module _ {t : Terms} {p : PassView} {r : SettledView} {a : ℕ} {v : View} (b : 
             b.rest.settled;
       }
 
--- a whole pass's counts are by site
+-- the counts of a whole pass, by site
 pub left_underway : (t : Terms) (p : PassView) → p.grid ≡ grid_of_terms t → length p.counts ≡ count_of p.rows * p.grid.width → IsWhole t p → (h : ℕ → ℕ)
     → IsUnderway (grid_of_terms t) (laid t (at_rest p)) (toppled_by (at_rest p)) h → IsUnderway (grid_of_terms t) (laid t (at_rest p)) (slice_index p.counts) h
 left_underway t p same each whole h =

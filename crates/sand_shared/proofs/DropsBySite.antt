@@ -1,4 +1,4 @@
--- The grains of a list are counted site by site, and laid down site by site.
+-- The grains of a list are counted by site and laid by site.
 use Rattle.std.proofs.Common.{◌≡◌, ℕ, suc, ◌+◌, ◌<◌, ◌≤◌, ◌≢◌, eqb, List, [], ◌∷◌, All, take, length, set, get_or, sym, refl, ap, ◌∙◌, ⊎_elim, arith}
 use Rattle.std.specs.Prelude.{count_by, slice_index}
 use Rattle.std.proofs.lemmas.Bool.{cases_eq}
@@ -18,11 +18,11 @@ use Rattle.sand_shared.proofs.NumbersOnce.{one_if_same, one_if_other}
 use Rattle.sand_shared.proofs.GrainsAtSite.{amount_here, amount_else, held-cons}
 use Rattle.sand_shared.proofs.HandAfterPlacing.{laid_on, held-laid, all_laid}
 
--- what is read at a site of the list is its count
+-- an entry of the list finds the count of its site
 pub read_count : (n k c : ℕ) (counts drops : List ℕ) → length counts ≡ n → All (λ i. i < n) drops → k < length drops → c ≡ get_or counts (get_or drops k 0) c → c ≡ slice_index counts (get_or drops k 0)
 read_count n k c counts drops long inside below read = let here = inside k 0 below in get_or_read counts (get_or drops k 0) c (omega arith) read 0
 
--- one site of the list more is counted
+-- one more entry is counted
 pub counted_more : (n k : ℕ) (counts drops : List ℕ) → k < length drops → get_or drops k 0 < length counts → ((i : ℕ) → i < n → slice_index counts i ≡ tally (take k drops) i)
     → (i : ℕ) → i < n → slice_index (set counts (get_or drops k 0) (slice_index counts (get_or drops k 0) + 1)) i ≡ tally (take (k + 1) drops) i
 counted_more n k counts drops inside there counted i l =
@@ -44,7 +44,7 @@ counted_more n k counts drops inside there counted i l =
 pub tally_small : (k : ℕ) (drops : List ℕ) (i : ℕ) → k < length drops → tally (take k drops) i ≤ k
 tally_small k drops i inside = let few = count_by-le-length (λ j. eqb j i) (take k drops) in omega (arith, length-take k drops)
 
--- Single grains are in hand for sites of a list that are still to come, and the counts tell how many for each.
+-- The grains in hand are single, and the counts say how many of them are for each site that is still to come.
 pub record Waits (n : ℕ) (counts : List ℕ) (hand : List Grains) (coming : List ℕ) : Type 0 where
   pub long : length counts ≡ n
   pub single : All (λ g. (g.site < n) × (g.amount ≡ 1)) hand
@@ -60,7 +60,7 @@ module _ (n : ℕ) where
   held-one_for_each : (is : List ℕ) (j : ℕ) → held (one_for_each is) j ≡ tally is j
   held-one_for_each is j = sum_by-map (λ (g : Grains). amount_at g.site g.amount j) (λ i. grains i 1) is
 
-  -- if all are single, as many entries are for a site as grains
+  -- single grains for a site are as many as their entries
   pub count_is : (i : ℕ) (hand : List Grains) → All (λ g. (g.site < n) × (g.amount ≡ 1)) hand → count_by (are_for i 1) hand ≡ held hand i
   count_is i [] single = refl
   count_is i (g ∷ gs) single =
@@ -84,7 +84,7 @@ module _ (n : ℕ) where
     come_else : (i : ℕ) → x ≢ i → 0 < tally (x ∷ coming) i → 0 < tally coming i
     come_else i ne some_there = let all = tally-cons x coming i in let none = one_if_other x i ne in omega arith
 
-    -- the grains of this site were laid down before
+    -- the grains of this site were laid earlier
     pub waits_past : (counts : List ℕ) (hand : List Grains) → slice_index counts x ≡ 0 → Waits n counts hand (x ∷ coming) → Waits n counts hand coming
     waits_past counts hand none w = record {
       long = w.long;
@@ -93,7 +93,7 @@ module _ (n : ℕ) where
       come = λ i l some_there. come_else i (λ e. let same = ap (slice_index counts) e in absurd (omega arith)) (w.come i l some_there);
     }
 
-    -- and now they are laid down
+    -- they are laid now
     pub waits_laid : (counts : List ℕ) (hand : List Grains) → x < n → Waits n counts hand (x ∷ coming) → Waits n (set counts x 0) (laid_on x (slice_index counts x) hand) coming
     waits_laid counts hand inside w =
         let c = slice_index counts x in

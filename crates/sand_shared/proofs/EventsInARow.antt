@@ -1,4 +1,5 @@
--- Events in a row, in one step: draws, and places on one site. When they may happen, what they lead to and what they tell.
+-- Events in a row, in one step: draws, and places on one site. When they can happen, where they lead, and what they
+-- tell.
 use Rattle.std.proofs.Common.{◌≡◌, ℕ, zero, suc, ◌+◌, ◌-◌, ◌*◌, ◌/◌, ◌%◌, ◌^◌, ◌<◌, ◌≤◌, List, [], ◌∷◌, ◌++◌, drop, length, get_or, sym, refl, ap, ◌∙◌, subst, arith, length-append}
 use Rattle.std.specs.Prelude.{slice_index, All, count_by}
 use Rattle.std.proofs.lemmas.List.{append_assoc, append-nil, set-set, length-set, length-map, length-replicate, get_or-set_same}
@@ -19,7 +20,7 @@ use Rattle.sand_shared.proofs.Lawfulness.{event_keeps, all_keep, few_drawn}
 use Rattle.sand_shared.proofs.WordsShowPile.{stepped_to, pass_at-with, shows_draw, shows_arrived}
 use Rattle.sand_shared.proofs.StepsAreEvents.{pile_of, lawful_now, pass_there, pass_is}
 
--- events after events
+-- Lists of events
 
 pub after_all-append : (t : Terms) (p : OpenPile) (es fs : List Event) → after_all t p (es ++ fs) ≡ after_all t (after_all t p es) fs
 after_all-append t p [] fs = refl
@@ -29,7 +30,7 @@ pub happen_append : (t : Terms) (p : OpenPile) (es fs : List Event) → AllHappe
 happen_append t p [] fs happen more = more
 happen_append t p (x ∷ xs) fs happen more = (happen.0, happen_append t (after t p x) xs fs happen.1 more)
 
--- the rule holds after some events more
+-- the rule holds after further events
 many_more : (t : Terms) (s s' : State ℕ View) (h : IsRunning t s) (es : List Event) → AllHappen t (pile_of t s h) es → Shows t (after_all t (pile_of t s h) es) s' → IsRunning t s'
 many_more t s s' h es may shown =
     let p = after t (unopened t) begin in
@@ -40,9 +41,9 @@ many_more t s s' h es may shown =
       shown = subst (λ q. Shows t q s') (sym (after_all-append t p h.events es)) shown;
     }
 
--- a step on a word that is several events
+-- A step that is several events
 
--- an event of the pass a that adds 1 to a word, whatever else happened
+-- an event of the pass a that adds 1 to a word, whatever else has happened
 abbrev AddsOne : Terms → ℕ → ℕ → Event → Type 0
 AddsOne t word a e = (p : OpenPile) (s : State ℕ View) → AreTerms t → IsLawful t p → May t p e → Shows t p s
     → (slice_index s.words word ≡ found p e) × Shows t (after t p e) (stepped_to s word ((slice_index s.words word + 1) % 2 ^ 64) a (pass_at (after t p e) a))
@@ -56,11 +57,11 @@ mod_plus n k m =
     let parts = mod-add-div' n m in
     sym (add-mul-mod_self_right (n % m + k) (n / m) m) ∙ ap (λ z. z % m) {x = n % m + k + n / m * m} {y = n + k} (omega arith)
 
--- a word that is stepped to twice
+-- two steps on one word
 stepped_twice : (s : State ℕ View) (word x y a : ℕ) (v w : View) → stepped_to (stepped_to s word x a v) word y a w ≡ stepped_to s word y a w
 stepped_twice s word x y a v w = λ q. record { words = set-set s.words word x y q; homes = s.homes; views = set-set s.views a v w q }
 
--- together they add as many as they are
+-- n such events add n
 shows_row : (t : Terms) (word a : ℕ) (e : Event) (es : List Event) (p : OpenPile) (s : State ℕ View) → word < sites (grid_of_terms t) + 2 → AddsOne t word a e → AllAddOne t word a es
     → AreTerms t → IsLawful t p → AllHappen t p (e ∷ es) → Shows t p s
     → Shows t (after_all t p (e ∷ es)) (stepped_to s word ((slice_index s.words word + suc (length es)) % 2 ^ 64) a (pass_at (after_all t p (e ∷ es)) a))
@@ -79,7 +80,7 @@ shows_row t word a e (f ∷ es) p s fits one ones terms r may h =
     let w = pass_at (after_all t q (f ∷ es)) a in
     subst (Shows t (after_all t q (f ∷ es))) (ap (λ z. stepped_to s' word z a w) sum ∙ stepped_twice s word x ((n + suc (suc (length es))) % 2 ^ 64) a v w) rest
 
--- a step may be taken if its events may happen, whatever else has happened
+-- a step is allowed if its events can happen whatever else has happened
 takes_row : (t : Terms) (a word k : ℕ) (e : Event) (es : List Event) (slots : ℕ) (m : Me ℕ View) → word < sites (grid_of_terms t) + 2 → AddsOne t word a e → AllAddOne t word a es → suc (length es) ≡ k
     → ((p : OpenPile) → a < length p.passes → pass_at p a ≡ m.0 → AllHappen t p (e ∷ es))
     → Allows (IsRunning t) slots a m word (λ n. (n + k) % 2 ^ 64) (TakesInARow t a (e ∷ es) m)
@@ -101,7 +102,7 @@ takes_row t a word k e es slots m fits one ones long can s h _ at inside =
 
 -- Draws in a row
 
--- one draw and then others
+-- a draw and then further draws
 drew_more : (v : View) (n i : ℕ) (is : List ℕ) → drew_all (drew v n i) (n + 1) is ≡ drew_all v n (i ∷ is)
 drew_more v n i is =
     let left : v.left - 1 - length is ≡ v.left - suc (length is) = omega arith in
@@ -127,7 +128,7 @@ module _ (t : Terms) (a : ℕ) where
   still_there : (p : OpenPile) (i : ℕ) → a < length p.passes → a < length (after t p (draw a i)).passes
   still_there p i there = let e = length-set p.passes a (drew (pass_at p a) (length p.drawn) i) in omega arith
 
-  -- a draw, and then others, of which this is so if the pass has seen all draws
+  -- after its first draw a pass has seen all draws, as the induction requires
   pass_after_first : (p : OpenPile) (i : ℕ) (is : List ℕ) → a < length p.passes
       → ((q : OpenPile) → a < length q.passes → (pass_at q a).seen ≡ length q.drawn → pass_at (after_all t q (all_draws a is)) a ≡ drew_all (pass_at q a) (length q.drawn) is)
       → pass_at (after_all t p (all_draws a (i ∷ is))) a ≡ drew_all (pass_at p a) (length p.drawn) (i ∷ is)
@@ -142,12 +143,12 @@ module _ (t : Terms) (a : ℕ) where
   pass_after_all p [] there seen = sym (drew_none (pass_at p a) (length p.drawn) seen)
   pass_after_all p (i ∷ is) there seen = pass_after_first p i is there (λ q. pass_after_all q is)
 
-  -- from the first on, whatever the pass had seen
+  -- whatever the pass had seen
   pass_after_some : (p : OpenPile) (is : List ℕ) → a < length p.passes → 0 < length is → pass_at (after_all t p (all_draws a is)) a ≡ drew_all (pass_at p a) (length p.drawn) is
   pass_after_some p [] there many = absurd (omega arith)
   pass_after_some p (i ∷ is) there many = pass_after_first p i is there (λ q. pass_after_all q is)
 
-  -- they may happen if so much is left
+  -- they can happen if the pass has enough quota left
   all_may : (p : OpenPile) (is : List ℕ) → a < length p.passes → length is ≤ (pass_at p a).left → All (λ i. i < sites (grid_of_terms t)) is → AllHappen t p (all_draws a is)
   all_may p [] there left inside = tt
   all_may p (i ∷ is) there left inside =
@@ -160,7 +161,7 @@ module _ (t : Terms) (a : ℕ) where
   draws_add_one [] = tt
   draws_add_one (i ∷ is) = (λ p s terms r may h. (h.number, shows_draw t p s a i terms r may h), draws_add_one is)
 
-  -- the step may be taken at any moment
+  -- the step is allowed at any moment
   pub draws_row : (is : List ℕ) (slots : ℕ) (m : Me ℕ View) → 0 < length is → length is ≤ m.0.left → All (λ i. i < sites (grid_of_terms t)) is
       → Allows (IsRunning t) slots a m 1 (λ n. (n + length is) % 2 ^ 64) (TakesInARow t a (all_draws a is) m)
   draws_row [] slots m some_drops left inside = absurd (omega arith)
@@ -183,7 +184,7 @@ module _ (t : Terms) (a i : ℕ) where
   pass_after_places p (suc k) there =
       pass_after_places (after t p (place a i)) k (there_still p there) ∙ ap (λ (v : View). record v { hand = laid_on i k v.hand }) (pass_after_place p there)
 
-  -- they may happen if so many grains are in hand for the site
+  -- they can happen if the hand has k single grains for the site
   all_laid_may : (p : OpenPile) (k : ℕ) → a < length p.passes → k ≤ count_by (are_for i 1) (pass_at p a).hand → i < sites (grid_of_terms t) → AllHappen t p (all_places a i k)
   all_laid_may p zero there enough inside = tt
   all_laid_may p (suc k) there enough inside =
@@ -197,7 +198,7 @@ module _ (t : Terms) (a i : ℕ) where
   places_add_one inside zero = tt
   places_add_one inside (suc k) = (λ p s terms r may h. (h.heights i inside, shows_arrived t p s a i 1 terms r may.there may.in_hand inside h), places_add_one inside k)
 
-  -- the step may be taken at any moment
+  -- the step is allowed at any moment
   pub places_row : (k slots : ℕ) (m : Me ℕ View) → 0 < k → k ≤ count_by (are_for i 1) m.0.hand → i < sites (grid_of_terms t)
       → Allows (IsRunning t) slots a m (i + 2) (λ n. (n + k) % 2 ^ 64) (TakesInARow t a (all_places a i k) m)
   places_row zero slots m some_grains in_hand inside = absurd (omega arith)
@@ -206,15 +207,15 @@ module _ (t : Terms) (a i : ℕ) where
       takes_row t a (i + 2) (suc k) (place a i) (all_places a i k) slots m (omega arith) ones.0 ones.1 (ap suc (length-replicate k (place a i)))
       (λ p there same. all_laid_may p (suc k) there (let enough = ap (λ (v : View). count_by (are_for i 1) v.hand) same in omega arith) inside)
 
-  -- and leaves the pass without these grains
+  -- the pass is then without these grains
   pub laid_is : (k : ℕ) (v w : View) (n : ℕ) → HappenedInARow t a (all_places a i k) v n w → w ≡ record v { hand = laid_on i k v.hand }
   laid_is k v w n h = sym h.pass_after ∙ (pass_after_places h.before.pile k h.before.there ∙ ap (λ (u : View). record u { hand = laid_on i k u.hand }) h.before.pass)
 
--- what was picked is that of the step
+-- the events chosen at the call are those of the step
 pub happened_picked_row : {t t' : Terms} {b a : ℕ} {ds is : List Event} {v w : View} {n : ℕ} → (t' ≡ t) × (b ≡ a) × (ds ≡ is) → HappenedInARow t' b ds v n w → HappenedInARow t a is v n w
 happened_picked_row {v = v} {w = w} {n = n} same = subst (λ (z : Terms × ℕ × List Event). HappenedInARow z.0 z.1 z.2 v n w) (λ i. (same.0 i, same.1 i, same.2 i))
 
--- what draws in a row tell
+-- what consecutive draws tell
 found_draws : (p : OpenPile) (a : ℕ) (is : List ℕ) → 0 < length is → found_first p (all_draws a is) ≡ length p.drawn
 found_draws p a [] some_drops = absurd (omega arith)
 found_draws p a (i ∷ is) some_drops = refl
@@ -241,7 +242,7 @@ module _ (t : Terms) (a : ℕ) (is : List ℕ) (v w : View) (n : ℕ) (some_drop
       let long = drawn_long t a p is in
       let number = number_is in omega arith
 
--- the receipts of drops in a row
+-- Receipts of consecutive drops
 
 pub receipts_long : (n : ℕ) (is : List ℕ) → length (receipts_from n is) ≡ length is
 receipts_long n [] = refl
@@ -260,10 +261,10 @@ once_row m n (i ∷ is) rs le below once =
     subst EachOnce (append_assoc rs (receipt n i ∷ []) (receipts_from (n + 1) is))
     (once_row (n + 1) (n + 1) is (rs ++ receipt n i ∷ []) (omega arith) (below_push m n i rs le below) (once_more m n i rs le below once))
 
--- one receipt more is written
+-- one more receipt is written
 pub note_more : (rs : List Receipt) (n i : ℕ) (is : List ℕ) → (rs ++ receipt n i ∷ []) ++ receipts_from (n + 1) is ≡ rs ++ receipts_from n (i ∷ is)
 note_more rs n i is = append_assoc rs (receipt n i ∷ []) (receipts_from (n + 1) is)
 
--- what is in a list from a place on begins with what is at that place
+-- the tail of a list from a place on begins with the entry there
 pub from_here : (is : List ℕ) (k : ℕ) → k < length is → drop k is ≡ get_or is k 0 ∷ drop (k + 1) is
 from_here is k inside = drop-cons is k 0 inside ∙ ap (λ n. get_or is k 0 ∷ drop n is) {x = suc k} {y = k + 1} (omega arith)

@@ -27,7 +27,7 @@ amount_is i k j = ⊎_elim
     (λ (ne : i ≡ j → ⊥). let a = amount_else i k j ne in let b : one_at i j ≡ 0 = rw (ne_eqb i j ne) in let c = ap (λ z. k * z) b in omega arith)
     (cases_eq i j)
 
--- what k topplings at i bring to j is what its neighbours are sent for j
+-- k topplings at i bring to j what they send to the neighbours of i for j
 pub flow-amount : (g : Grid) (i k j : ℕ) → i < sites g → j < sites g → flow g (amount_at i k) j ≡ flow g (λ m. amount_at m k j) i
 flow-amount g i k j li lj =
     flow_same g (amount_at i k) (λ m. k * one_at i m) (λ m _. amount_is i k m) j lj
@@ -46,7 +46,7 @@ pub held-sent : (t : Terms) (i k j : ℕ) → held (sent t i k) j ≡ flow (grid
 unfolding flow
 held-sent t i k j = sum_by-map (λ (g : Grains). amount_at g.site g.amount j) (λ m. grains m k) (neighbours (grid_of_terms t) i)
 
--- a site that a pass holds has its place among the counts
+-- a site of a pass has an index among its counts
 pub place_inside : (v : View) (i : ℕ) → holds_site v i ≡ true → (v.base ≤ i) × (i - v.base < length v.counts)
 place_inside v i own = (grind (arith, nat_tests), grind (arith, nat_tests))
 
@@ -56,7 +56,7 @@ toppled_from v i le = let t : leb v.base i ≡ true = grind (arith, nat_tests) i
 pub toppled_before : (v : View) (i : ℕ) → i < v.base → toppled_by v i ≡ 0
 toppled_before v i lt = let t : leb v.base i ≡ false = grind (arith, nat_tests) in rw t
 
--- a site has toppled as often as it had, and k times more if the pass toppled it k times
+-- a site has toppled k more times if a pass has toppled it k more times
 pub toppled-unloaded : (t : Terms) (v : View) (i k j : ℕ) → holds_site v i ≡ true → toppled_by (unloaded t v i k) j ≡ toppled_by v j + amount_at i k j
 toppled-unloaded t v i k j own =
     let at = place_inside v i own in

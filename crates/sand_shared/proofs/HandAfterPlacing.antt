@@ -1,4 +1,4 @@
--- What a hand has once grains were laid down, in whichever order.
+-- A hand after grains are laid, in any order.
 use Rattle.std.proofs.Common.{◌≡◌, ℕ, zero, suc, ◌+◌, ◌<◌, ◌≤◌, List, [], ◌∷◌, All, true, false, ap, ◌∙◌, ⊎_elim, arith}
 use Rattle.std.specs.Prelude.{count_by}
 use Rattle.std.proofs.lemmas.Bool.{cases_Bool, cases_eq}
@@ -27,7 +27,7 @@ module _ (i k : ℕ) where
   same_amount : (g : Grains) → are_for i k g ≡ true → g.amount ≡ k
   same_amount g e = grind (arith, nat_tests)
 
-  -- the grains that are laid down were in hand for their site
+  -- the laid grains were in hand for their site
   pub held-without : (hand : List Grains) (j : ℕ) → 0 < count_by (are_for i k) hand → held hand j ≡ amount_at i k j + held (without i k hand) j
   held-without [] j some_there = absurd (omega arith)
   held-without (g ∷ gs) j some_there =
@@ -43,7 +43,7 @@ module _ (i k : ℕ) where
       let rest = held-without gs j (omega arith) in omega arith)
       (cases_Bool (are_for i k g))
 
-  -- and are one entry less
+  -- there is one entry less
   pub count-without : (hand : List Grains) → 0 < count_by (are_for i k) hand → count_by (are_for i k) (without i k hand) + 1 ≡ count_by (are_for i k) hand
   count-without [] some_there = absurd (omega arith)
   count-without (g ∷ gs) some_there =
@@ -67,7 +67,6 @@ module _ (i k : ℕ) where
       (λ (e : are_for i k g ≡ false). rw (without-else g gs e) (All-cons P g (without i k gs) (all 0 g (omega arith)) (all_without P gs tail)))
       (cases_Bool (are_for i k g))
 
-  -- grains that are the first in a hand
   are_first : are_for i k (grains i k) ≡ true
   are_first = grind (arith, nat_tests)
 
@@ -76,7 +75,7 @@ module _ (i k : ℕ) where
       let count = ap (count_by (are_for i k)) first ∙ count-cons (grains i k) (behind_first hand) in
       let one = ap one_if are_first in omega arith
 
--- a hand that lays single grains on the site i, so many times
+-- a hand after n single grains are laid on the site i
 abbrev pub laid_on : ℕ → ℕ → List Grains → List Grains
 laid_on i zero hand = hand
 laid_on i (suc c) hand = laid_on i c (without i 1 hand)

@@ -1,5 +1,5 @@
--- What the last open pile is to a pass that has all, with nothing in hand and nothing left to topple: its heights are
--- the settled pile of the start and all drops, and the pass's counts are the least odometer.
+-- The last open pile of a pass that has everything, with nothing in hand and nothing left to topple: the heights are
+-- the settled pile of the start and all drops, and the counts are the least odometer.
 use Rattle.std.proofs.Common.{◌≡◌, ℕ, ◌+◌, ◌-◌, ◌*◌, ◌<◌, List, [], All, length, sym, refl, ap, ◌∙◌, subst, arith}
 use Rattle.std.specs.Prelude.{slice_index, nat_lt}
 use Rattle.atomic_table.specs.declared.shared.Seat.{Seat}
@@ -27,7 +27,7 @@ use Rattle.sand_shared.proofs.RecordSums.{LeadsTo}
 use Rattle.sand_shared.proofs.WholeHasAll.{whole_base, whole_counts, swept_has_all}
 
 module _ (t : Terms) (a : ℕ) (v : View) (s : Stands t a v) (all : HasAll t v) where
-  -- the same at its open pile
+  -- the same on its open pile
   pub has_all : HasAll t (pass_at s.pile a)
   has_all = subst (HasAll t) (sym s.pass) all
 
@@ -112,7 +112,7 @@ module _ (t : Terms) (a : ℕ) (v : View) (heights : List ℕ) (last : IsLast t 
             settled = subst (λ (l : List ℕ). IsSettled (grid_of_terms t) (λ i. height_of t.start i + tally l i) (slice_index v.counts) (slice_index heights)) (sym drawn) settles;
           }
 
--- a pass that has gathered all, as its own fields have it
+-- a pass that has gathered everything, by its own fields
 pub record HasGathered (t : Terms) (p : PassView) : Type 0 where
   pub grid : p.grid ≡ grid_of_terms t
   pub one_each : length p.counts ≡ count_of p.rows * p.grid.width
@@ -127,12 +127,12 @@ gathered pile_is pass_is inv of_pile whole = record {
   below = inv.below;
 }
 
--- the history has a place for each receipt
+-- the history has an entry for each receipt
 pub numbers_inside : {receipts listed : List Receipt} {seen : ℕ} (history : List ℕ) → listed ≡ receipts → AllBelow seen receipts → seen ≡ length receipts → length history ≡ length receipts → All (λ r. r.number < length history) listed
 numbers_inside history same below seen long =
     subst (All (λ (r : Receipt). r.number < length history)) (sym same) (λ k d l. let b = below k d l in omega arith)
 
--- it has swept until nothing toppled, and the table was closed with its seat
+-- it has swept until nothing toppled, and the table is closed with its seat
 pub record IsClosedBy (t : Terms) (p : PassView) (counts heights : List ℕ) (a : ℕ) (v : View) : Type 0 where
   pub last : IsLast t a v heights
   pub me : v ≡ record (at_rest p) { counts = counts; spot = v.spot; least = v.least }

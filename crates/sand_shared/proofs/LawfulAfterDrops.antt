@@ -1,4 +1,4 @@
--- A pass draws a number for a grain, and lays grains in hand on their site: the pile stays lawful.
+-- The pile stays lawful when a pass draws a number for a grain, and when it lays grains in hand on their site.
 use Rattle.std.proofs.Common.{◌≡◌, ℕ, zero, suc, ◌+◌, ◌<◌, List, [], ◌∷◌, ◌++◌, Some, eqb, ltb, length, refl, ap, ◌∙◌, arith, length-append}
 use Rattle.std.specs.Prelude.{slice_get, count_by}
 use Rattle.std.proofs.lemmas.Bool.Decides.{nat_tests}
@@ -83,7 +83,6 @@ module _ (t : Terms) (p : OpenPile) (a i : ℕ) (r : IsLawful t p) (may : May t 
         passes = all_after (IsLawfulPass t p) (IsLawfulPass t q) p.passes a w drawn_pass other_pass r.passes;
       }
 
--- k grains in hand are laid on the site i
 module _ (t : Terms) (p : OpenPile) (a i k : ℕ) (r : IsLawful t p) (there : a < length p.passes) (in_hand : 0 < count_by (are_for i k) (pass_at p a).hand) where
   taken : (j : ℕ) → held (pass_at p a).hand j ≡ amount_at i k j + held (without i k (pass_at p a).hand) j
   taken j = held-without i k (pass_at p a).hand j in_hand

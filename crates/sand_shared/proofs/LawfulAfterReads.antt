@@ -1,5 +1,5 @@
--- The pile stays lawful if a pass drops and topples nothing. So it does if a pass reads how many drops were begun, or the
--- height of a site of its rows.
+-- The pile stays lawful if a pass neither drops nor topples, as when it reads the number of drops or the height of a
+-- site of its rows.
 use Rattle.std.proofs.Common.{◌≡◌, ℕ, ◌+◌, ◌<◌, ◌≤◌, List, true, length, refl, ◌∙◌, arith}
 use Rattle.std.proofs.lemmas.List.Sums.{sum_by-set}
 use Rattle.sand_model.specs.Grid.{sites}
@@ -12,7 +12,7 @@ use Rattle.sand_shared.specs.Events.{count, look, with_pass, May, after}
 use Rattle.sand_shared.proofs.SumsOverPasses.{sum_by_kept, all_after}
 use Rattle.sand_shared.proofs.Balance.{balance_kept}
 
--- a pass that drops nothing and topples nothing: at each site as many grains are in hand or lie there as before
+-- a pass that neither drops nor topples: each site has as many grains, on it and in hand, as before
 pub still_lawful : (t : Terms) (p : OpenPile) (a seen spot least : ℕ) (hand : List Grains) (height : ℕ → ℕ) → IsLawful t p → a < length p.passes
     → let w = record (pass_at p a) { seen = seen; hand = hand; spot = spot; least = least } in let q = record (with_pass p a w) { height = height } in
     ((i : ℕ) → held hand i + height i ≡ held (pass_at p a).hand i + p.height i) → IsLawfulPass t q w → ((u : View) → IsLawfulPass t p u → IsLawfulPass t q u) → IsLawful t q

@@ -1,4 +1,4 @@
--- Passes are split and joined: what they have together stays, and so the pile stays lawful.
+-- The pile stays lawful when passes are split and joined: together they still have the same.
 use Rattle.std.proofs.Common.{◌≡◌, ℕ, ◌+◌, ◌≤◌, List, [], ◌∷◌, ◌++◌, Some, eqb, All, sum_by, length, set, get_or, sym, refl, ap, ◌∙◌, subst, arith, length-append}
 use Rattle.std.specs.Prelude.{slice_get}
 use Rattle.std.proofs.lemmas.Bool.Decides.{nat_tests}
@@ -24,11 +24,11 @@ pub record SharesOut (v w x y : View) : Type 0 where
   pub toppled : (i : ℕ) → toppled_by x i + toppled_by y i ≡ toppled_by v i + toppled_by w i
   pub sites_held : (i : ℕ) → one_if (holds_site x i) + one_if (holds_site y i) ≡ one_if (holds_site v i) + one_if (holds_site w i)
 
--- one that has nothing adds nothing
+-- a pass with nothing adds nothing
 none_held : (i : ℕ) → one_if (holds_site nobody i) ≡ 0
 none_held i = grind (arith, nat_tests)
 
--- if v and w are replaced by x and y, and what all passes have together is the same
+-- v and w are replaced by x and y, and all passes together still have the same
 regrouped : (t : Terms) (p : OpenPile) (views : List View) (v w x y : View) → IsLawful t p → SharesOut v w x y
     → ((f : View → ℕ) → f x + f y ≡ f v + f w → f nobody ≡ 0 → sum_by f views ≡ sum_by f p.passes)
     → All (IsLawfulPass t (record p { passes = views })) views → IsLawful t (record p { passes = views })
@@ -50,7 +50,7 @@ regrouped t p views v w x y r a stays each =
 same_pile : (t : Terms) (p : OpenPile) (views : List View) (u : View) → IsLawfulPass t p u → IsLawfulPass t (record p { passes = views }) u
 same_pile t p views u f = record { seen = f.seen; receipts = f.receipts; hand = f.hand; least = f.least }
 
--- a pass with nothing in hand and no receipts, that looked at nothing
+-- a pass with nothing in hand, no receipts and no look
 bare_pass : (t : Terms) (p : OpenPile) (u : View) → u.seen ≤ length p.drawn → u.receipts ≡ [] → u.hand ≡ [] → u.least ≡ 0 → IsLawfulPass t p u
 bare_pass t p u seen none free unknown =
     let P : Receipt → Type 0 = λ q. slice_get p.drawn q.number ≡ Some q.site in

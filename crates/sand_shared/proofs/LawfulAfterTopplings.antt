@@ -1,5 +1,5 @@
--- A pass takes grains from a site of its rows, to send them to the neighbours: the pile stays lawful.
--- That the site topples no more often than needed is least action: the grains are on it, so w has to topple it too.
+-- The pile stays lawful when a pass takes grains from a site of its rows, to send them to the neighbours.
+-- No site topples more often than needed (least action): the grains are on it, so w topples it too.
 use Rattle.std.proofs.Common.{◌≡◌, ℕ, ◌+◌, ◌-◌, ◌*◌, ◌<◌, ◌≤◌, ◌≢◌, Bool, true, false, length, set, get_or, sym, refl, ap, ◌∙◌, subst, ⊎_elim, arith}
 use Rattle.std.proofs.lemmas.Bool.{cases_eq}
 use Rattle.std.proofs.lemmas.List.{get_or-set_same, get_or-set_other, length-set}
@@ -18,7 +18,7 @@ use Rattle.sand_shared.proofs.GrainsAtSite.{amount_here, amount_else, flow-amoun
 use Rattle.sand_shared.proofs.OneHolder.{others_without}
 
 module _ (t : Terms) (p : OpenPile) (a i k : ℕ) (r : IsLawful t p) (may : May t p (unload a i k)) where
-  -- what the site gives up
+  -- what the site loses
   height_given : (j : ℕ) → (p.height j - amount_at i (4 * k) j) + 4 * amount_at i k j ≡ p.height j
   height_given j = ⊎_elim
       (λ (e : i ≡ j). let b = amount_here i k j e in let c = amount_here i (4 * k) j e in let h = ap p.height e in let high = may.high in omega arith)
@@ -31,7 +31,7 @@ module _ (t : Terms) (p : OpenPile) (a i k : ℕ) (r : IsLawful t p) (may : May 
       let c = sum_by-set (λ (u : View). toppled_by u j) p.passes a w nobody may.there in
       let e = toppled-unloaded t (pass_at p a) i k j may.own in omega arith
 
-  -- what its hand gets for j, in all and of the topplings
+  -- what the hand gets for j
   more_held : (j : ℕ) → j < sites (grid_of_terms t) → held (unloaded t (pass_at p a) i k).hand j ≡ held (pass_at p a).hand j + flow (grid_of_terms t) (amount_at i k) j
   more_held j l = held-append (pass_at p a).hand (sent t i k) j ∙ ap (λ n. held (pass_at p a).hand j + n) (held-sent t i k j ∙ sym (flow-amount (grid_of_terms t) i k j may.inside l))
 
@@ -79,7 +79,7 @@ module _ (t : Terms) (p : OpenPile) (a i k : ℕ) (r : IsLawful t p) (may : May 
         least = λ own l. omega arith;
       }
 
-  -- what another pass knows of a site of its own rows stays so
+  -- a lower bound that another pass knows on its own rows still holds
   other_pass : (b : ℕ) → b < length p.passes → b ≢ a → IsLawfulPass t (after t p (unload a i k)) (pass_at p b)
   other_pass b lb ne =
       let u = pass_at p b in

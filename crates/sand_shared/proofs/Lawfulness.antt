@@ -1,4 +1,4 @@
--- Each event keeps the pile lawful, and so any list of events does.
+-- Each event keeps the pile lawful, so any list of events does.
 use Rattle.std.proofs.Common.{length, ◌≡◌, ℕ, ◌+◌, ◌<◌, ◌≤◌, List, [], ◌∷◌, ◌++◌, sum, sum_by, refl, ap, arith}
 use Rattle.sand_model.specs.Grid.{sites}
 use Rattle.sand_model.specs.Sand.{tally}
@@ -19,7 +19,7 @@ use Rattle.sand_shared.proofs.LawfulAfterDrops.{draw_keeps, place_keeps, deliver
 use Rattle.sand_shared.proofs.LawfulAfterTopplings.{unload_keeps}
 use Rattle.sand_shared.proofs.LawfulAfterRegrouping.{split_keeps, join_keeps}
 
--- a pile that has begun has a pass, so it does not begin again
+-- a pile begins only once: after its begin it has a pass
 no_second_begin : (t : Terms) (p : OpenPile) → AreTerms t → IsLawful t p → May t p begin → IsLawful t (after t p begin)
 no_second_begin t p terms r none =
     let one = r.holders 0 (some_sites (grid_of_terms t) terms.pile.grid) in
@@ -43,7 +43,7 @@ all_keep t p (e ∷ es) terms r happen = all_keep t (after t p e) es terms (even
 pub always_lawful : (t : Terms) (events : List Event) → AreTerms t → AllHappen t (unopened t) (begin ∷ events) → IsLawful t (after_all t (unopened t) (begin ∷ events))
 always_lawful t events terms happen = all_keep t (after t (unopened t) begin) events terms (begun t) happen.1
 
--- one event more
+-- one more event
 pub after_all-push : (t : Terms) (p : OpenPile) (es : List Event) (e : Event) → after_all t p (es ++ e ∷ []) ≡ after t (after_all t p es) e
 after_all-push t p [] e = refl
 after_all-push t p (x ∷ xs) e = after_all-push t (after t p x) xs e
@@ -52,7 +52,7 @@ pub happen_push : (t : Terms) (p : OpenPile) (es : List Event) (e : Event) → A
 happen_push t p [] e happen may = (may, tt)
 happen_push t p (x ∷ xs) e happen may = (happen.0, happen_push t (after t p x) xs e happen.1 may)
 
--- the grains on a site and those in hand for it are at most all grains of the start and the quota
+-- the grains on a site and in hand for it are at most the start and the quota together
 pub few_present : (t : Terms) (p : OpenPile) → AreTerms t → IsLawful t p → (i : ℕ) → i < sites (grid_of_terms t) → present p i ≤ sum t.start.heights + t.quota
 few_present t p terms r i inside =
     let g = grid_of_terms t in

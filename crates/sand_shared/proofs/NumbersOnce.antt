@@ -1,4 +1,4 @@
--- The receipts of a pass: no two have the same number, and each number is below what the pass has seen.
+-- No two receipts of a pass have the same number, and each number is below what the pass has seen.
 use Rattle.std.proofs.Common.{◌≡◌, ℕ, ◌+◌, ◌<◌, ◌≤◌, ◌≢◌, max, List, [], ◌∷◌, ◌++◌, Bool, true, false, length, get_or, eqb, ap, ⊎_elim, arith}
 use Rattle.std.specs.Prelude.{nat_lt}
 use Rattle.std.proofs.lemmas.Bool.{cases_eq, eq-eqb, ne_eqb}
@@ -24,7 +24,7 @@ one_if_same a b e = rw (eq-eqb a b e)
 pub one_if_other : (a b : ℕ) → a ≢ b → one_if (eqb a b) ≡ 0
 one_if_other a b ne = rw (ne_eqb a b ne)
 
--- a number that is not below what was seen is on no receipt
+-- a number that was not yet seen is on no receipt
 numbered_none : (m n : ℕ) (rs : List Receipt) → AllBelow m rs → m ≤ n → numbered rs n ≡ 0
 numbered_none m n rs below le = sum_by_none (λ (r : Receipt). one_if (eqb r.number n)) rs (receipt 0 0)
     (λ k l. let b = below k (receipt 0 0) l in one_if_other (get_or rs k (receipt 0 0)).number n (λ e. absurd (omega arith)))

@@ -1,11 +1,11 @@
--- A pass that has everything can sweep in one way alone: each site finds what it finds, since those before it have toppled.
+-- The sweep of a pass that has everything is determined: what each site finds depends only on the sites before it.
 use Rattle.std.proofs.Common.{◌≡◌, ℕ, zero, suc, ◌+◌, ◌-◌, ◌*◌, ◌<◌, ◌≤◌, List, [], ◌∷◌, ◌++◌, length, get_or, take, drop, sum, sym, refl, ap, ◌∙◌, subst, arith}
 use Rattle.std.proofs.lemmas.List.{take_more, take_all}
 use Rattle.sand_shared.specs.declared.view.View.{View}
 use Rattle.sand_shared.specs.declared.view.Terms.{Terms}
 use Rattle.sand_shared.specs.Sweeps.{LeavesAtMost, LeavesAtLeast, HasAll, with_counts, coming_to, Swept}
 
--- the grains on a site allow one number of topplings
+-- the grains on a site allow only one number of topplings
 at_most_allowed : (t : Terms) (u : View) (i a b : ℕ) → LeavesAtLeast t u i (4 * a) → LeavesAtMost t u i (4 * b + 3) → a ≤ b
 at_most_allowed t u i a b least most = omega arith
 

@@ -1,4 +1,4 @@
--- What a pass has after the step of an event, and what the number that it found tells it.
+-- What a pass has after the step of an event, and what the value found tells it.
 use Rattle.std.proofs.Common.{◌≡◌, ℕ, ◌≤◌, length, sym, ap, ◌∙◌, arith}
 use Rattle.sand_shared.specs.declared.view.View.{View}
 use Rattle.sand_shared.specs.declared.view.Terms.{Terms}
@@ -19,13 +19,13 @@ module _ (t : Terms) (a i k : ℕ) (v w : View) (n : ℕ) where
   pub unloaded_is : Happened t (unload a i k) v n w → w ≡ unloaded t v i k
   unloaded_is h = let p = h.before.pile in sym h.pass_after ∙ pass_at-with p a (unloaded t (pass_at p a) i k) h.before.there ∙ (λ q. unloaded t (h.before.pass q) i k)
 
-  -- the number drawn is one that the pass had not seen, within the quota
+  -- the number drawn is within the quota, and the pass had not seen it
   pub drawn_fresh : Happened t (draw a i) v n w → v.seen ≤ n
   drawn_fresh h =
       let seen = (h.before.lawful.passes a nobody h.before.there).seen in
       let same = ap (λ (u : View). u.seen) h.before.pass in
       let number = h.number in omega arith
 
--- a pass is what it has, whatever it knows of a height
+-- equal passes, with what is known of a height kept
 pub known_is : (w v : View) → w ≡ v → w ≡ record v { spot = w.spot; least = w.least }
 known_is w v e = e ∙ (λ q. record v { spot = (sym e q).spot; least = (sym e q).least })

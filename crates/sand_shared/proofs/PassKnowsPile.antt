@@ -1,5 +1,5 @@
--- What a pass knows of the pile by what it has, whatever others do: how much is left on a site of its rows, and that
--- it has toppled no more than needed.
+-- What a pass knows of the pile whatever other threads do: how much is left on a site of its rows, and that it has
+-- toppled no more than needed.
 use Rattle.std.proofs.Common.{◌≡◌, ℕ, ◌+◌, ◌*◌, ◌^◌, ◌<◌, ◌≤◌, ◌≢◌, List, [], ◌∷◌, true, length, sum, sum_by, sym, refl, ap, ◌∙◌, subst, ⊎_elim, arith}
 use Rattle.std.proofs.lemmas.Bool.{cases_eq}
 use Rattle.std.proofs.lemmas.List.Sums.{get_or-le-sum_by}
@@ -26,7 +26,6 @@ use Rattle.sand_shared.proofs.SumOfCounts.{sum_counts}
 use Rattle.sand_shared.proofs.Lawfulness.{event_keeps}
 use Rattle.std.proofs.lemmas.List.{length-set}
 
--- what all passes sent to a site
 all_flow : (t : Terms) (p : OpenPile) (i : ℕ) → sum_by (λ (v : View). flow (grid_of_terms t) (toppled_by v) i) p.passes ≡ flow (grid_of_terms t) (toppled p) i
 unfolding flow
 all_flow t p i = sum_by_swap toppled_by p.passes (neighbours (grid_of_terms t) i)
@@ -36,7 +35,7 @@ empty [] e = refl
 empty (x ∷ xs) e = absurd (omega arith)
 
 module _ (t : Terms) (p : OpenPile) (r : IsLawful t p) (a : ℕ) (there : a < length p.passes) where
-  -- with nothing in its own hand, all others' hands hold no more than others dropped and sent
+  -- if its own hand is empty, all other hands hold at most what the others dropped and sent
   at_most : (i : ℕ) → i < sites (grid_of_terms t) → holds_site (pass_at p a) i ≡ true → (pass_at p a).hand ≡ [] → LeavesAtMost t (pass_at p a) i (p.height i)
   at_most i inside own free =
       let g = grid_of_terms t in
@@ -111,7 +110,7 @@ module _ (t : Terms) (p : OpenPile) (r : IsLawful t p) (a : ℕ) (there : a < le
       let mine = sum_below_le (sites g) (toppled_by v) (toppled p) (λ j _. get_or-le-sum_by (λ (u : View). toppled_by u j) p.passes a nobody there) in
       let counts = sum_counts v (sites g) fits in omega arith
 
--- the same of what a pass has, on whichever lawful pile
+-- The same for what a pass has, on whichever lawful pile
 
 pub stands_few : (t : Terms) (a : ℕ) (v : View) → Stands t a v → v.base + length v.counts ≤ sites (grid_of_terms t) → sum v.counts < 2 ^ 54
 stands_few t a v s fits = subst (λ (u : View). sum u.counts < 2 ^ 54) s.pass (few t s.pile s.lawful a s.there s.terms (subst (λ (u : View). u.base + length u.counts ≤ sites (grid_of_terms t)) (sym s.pass) fits))
@@ -130,7 +129,7 @@ looked_at_least t a i v w n h free all =
     let s = h.before in
     subst (λ (z : View × ℕ). LeavesAtLeast t z.0 i z.1) (λ q. (s.pass q, sym h.number q)) (at_least t s.pile s.lawful a s.there (subst (HasAll t) (sym s.pass) all) i h.may.inside (ap (λ (u : View). u.hand) s.pass ∙ free))
 
--- after an unload the pass is still one of a lawful pile
+-- after an unload the pass still belongs to a lawful pile
 pub stands_unloaded : (t : Terms) (a i k : ℕ) (v w : View) (n : ℕ) → Happened t (unload a i k) v n w → Stands t a w
 stands_unloaded t a i k v w n h =
     let s = h.before in

@@ -1,4 +1,4 @@
--- The seat that the rule makes of two passes' seats is that of both passes together.
+-- Joining two seats gives the seat of the joined pass.
 use Rattle.std.proofs.Common.{◌≡◌, ℕ, ◌+◌, ◌*◌, ◌≤◌, [], true, length, sym, ap, ◌∙◌, subst, arith}
 use Rattle.std.specs.Prelude.{◌||◌}
 use Rattle.std.proofs.lemmas.List.Sums.{get_or-le-sum_by}
@@ -16,7 +16,7 @@ use Rattle.sand_shared.proofs.NumbersOnce.{below_join, stands_once}
 use Rattle.sand_shared.proofs.PassAfterEvent.{known_is}
 use Rattle.sand_shared.proofs.RowsJoined.{joined_rest, together_rows, together_each}
 
--- what a pass has left and what it has dropped are within the limit
+-- what a pass has left and what it has dropped are together within the limit
 pub within_limit : (t : Terms) (a : ℕ) (v : View) → Stands t a v → v.left + length v.receipts ≤ most_grains
 within_limit t a v s =
     let left = get_or-le-sum_by (λ (u : View). u.left) s.pile.passes a nobody s.there in
@@ -28,7 +28,7 @@ within_limit t a v s =
     let same_made = ap (λ (u : View). length u.receipts) s.pass in omega arith
 
 module _ (p q : PassView) {seat seat' : Seat ℕ View} {room room' : ℕ} (inv : IsPass seat p room) (inv' : IsPass seat' q room') (same : q.grid ≡ p.grid) where
-  -- what the rule makes of both
+  -- the joined view
   pub joined_view : joined seat.me.0 seat'.me.0 ≡ at_rest (together p q)
   joined_view =
       (λ i. joined (inv.me i).0 (inv'.me i).0)

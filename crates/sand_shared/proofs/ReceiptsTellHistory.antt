@@ -1,4 +1,4 @@
--- A history that is written from receipts: each receipt's site is at its number.
+-- A history written from receipts: the site of each receipt is at its number.
 use Rattle.std.proofs.Common.{◌≡◌, ℕ, zero, suc, ◌+◌, ◌-◌, ◌<◌, ◌≤◌, ◌≢◌, List, [], ◌∷◌, Some, true, length, set, get_or, eqb, ltb, sym, refl, ap, ◌∙◌, ⊎_elim, arith}
 use Rattle.std.specs.Prelude.{slice_get, nat_lt}
 use Rattle.std.proofs.lemmas.Bool.{cases_eq, lt-ltb}
@@ -12,7 +12,7 @@ use Rattle.sand_shared.specs.Record.{Tells}
 use Rattle.sand_shared.proofs.SumsOverPasses.{sum_by_two}
 use Rattle.sand_shared.proofs.NumbersOnce.{one_if_same, one_if_other}
 
--- what is written at a place is there, and nothing else changes
+-- a write changes its own entry only
 pub get_set_here : {A : Type 0} (l : List A) (i : ℕ) (x : A) → i < length l → slice_get (set l i x) i ≡ Some x
 get_set_here [] i x h = absurd (omega arith)
 get_set_here (y ∷ ys) zero x h = refl
@@ -25,7 +25,7 @@ get_set_else (y ∷ ys) zero (suc j) x n = refl
 get_set_else (y ∷ ys) (suc i) zero x n = refl
 get_set_else (y ∷ ys) (suc i) (suc j) x n = get_set_else ys i j x (λ e. n (ap suc e))
 
--- receipts at two places have two numbers
+-- two receipts have different numbers
 apart : (rs : List Receipt) (i j : ℕ) (d : Receipt) → EachOnce rs → i < length rs → j < length rs → j ≢ i → (get_or rs j d).number ≢ (get_or rs i d).number
 apart rs i j d once li lj ne e =
     let n = (get_or rs i d).number in
@@ -43,7 +43,7 @@ told_more rs j d history there once inside before k up =
     (λ (ne : k ≡ j → ⊥). get_set_else history q.number (get_or rs k d).number q.site (apart rs j k d once there (omega arith) ne) ∙ before k (omega arith))
     (cases_eq k j)
 
--- a number that some receipt has
+-- some receipt has the number
 found : (rs : List Receipt) (n : ℕ) (d : Receipt) → 0 < numbered rs n → (k : ℕ) × (k < length rs) × ((get_or rs k d).number ≡ n)
 found [] n d some = absurd (omega arith)
 found (r ∷ rs) n d some =
@@ -55,7 +55,7 @@ found (r ∷ rs) n d some =
 one_below : (n m : ℕ) → n < m → one_if (nat_lt n m) ≡ 1
 one_below n m l = let t : ltb n m ≡ true = lt-ltb n m l in rw t
 
--- lists that agree at each place
+-- lists that agree at each index are equal
 same_lists : (l m : List ℕ) → length l ≡ length m → ((i : ℕ) → i < length l → slice_get l i ≡ slice_get m i) → l ≡ m
 same_lists [] [] e each = refl
 same_lists [] (y ∷ ys) e each = absurd (omega arith)
@@ -65,7 +65,7 @@ same_lists (x ∷ xs) (y ∷ ys) e each =
     let h : x ≡ y = cc in
     let t : xs ≡ ys = same_lists xs ys (omega arith) (λ i l. each (suc i) (omega arith)) in λ k. h k ∷ t k
 
--- all that the receipts tell of one list they tell of the other
+-- two lists that agree with the receipts are equal
 module _ (rs : List Receipt) (drawn : List ℕ) (numbers : (n : ℕ) → numbered rs n ≡ one_if (nat_lt n (length drawn))) where
   pub history_is : (history : List ℕ) → length history ≡ length drawn → Tells rs history → Tells rs drawn → history ≡ drawn
   history_is history long told true_of = same_lists history drawn long (λ n inside.
@@ -75,7 +75,7 @@ module _ (rs : List Receipt) (drawn : List ℕ) (numbers : (n : ℕ) → numbere
       let f = found rs n d (omega arith) in
       ap (slice_get history) (sym f.2) ∙ told f.0 d f.1 ∙ sym (true_of f.0 d f.1) ∙ ap (slice_get drawn) f.2)
 
-  -- what a pass with all receipts has seen is all of it
+  -- a pass with all receipts has seen all drops
   pub all_seen : (seen : ℕ) → AllBelow seen rs → length drawn ≤ seen
   all_seen seen below = ⊎_elim
       (λ (none : length drawn ≡ 0). omega arith)

@@ -1,4 +1,4 @@
--- What a record is made of: its sums are right and small.
+-- The sums in a record are right, and small.
 use Rattle.std.proofs.Common.{◌≡◌, ℕ, ◌+◌, ◌-◌, ◌*◌, ◌^◌, ◌<◌, ◌≤◌, List, ◌++◌, All, length, sum, sym, refl, ap, ◌∙◌, subst, ⊎_elim, arith, length-append}
 use Rattle.std.specs.Prelude.{slice_index}
 use Rattle.std.proofs.Math.ListN.{get_or-eq_default}
@@ -16,7 +16,7 @@ use Rattle.sand_model.proofs.Bounds.{topplings_bound}
 use Rattle.sand_settle.specs.Settling.{SettledView, IsRecord, IsSettledRecord, odometer_of}
 use Rattle.sand_shared.specs.Record.{RecordView, IsOneThreads}
 
--- a start, a history, and the heights and the odometer that these lead to
+-- a start and a history, with the heights and the odometer that they lead to
 pub record LeadsTo (start : PileView) (history heights odometer : List ℕ) : Type 0 where
   pub pile : IsPile start
   pub all_sites : All (λ i. i < sites start.grid) history
@@ -41,7 +41,7 @@ module _ (start : PileView) (history heights odometer : List ℕ) (l : LeadsTo s
       let bound = topplings_bound g (λ i. height_of start i + tally history i) (slice_index odometer) (slice_index heights) l.pile.grid (omega arith) l.settled.toppled in
       let counts = sum_is_grains g odometer l.odometer_each in omega arith
 
-  -- the grains that came are on the pile or were lost
+  -- each grain is on the pile or lost
   pub grains_left : sum start.heights + length history ≡ sum heights + lost start.grid (slice_index odometer)
   grains_left =
       let g = start.grid in
@@ -72,7 +72,7 @@ module _ (start : PileView) (history heights odometer : List ℕ) (l : LeadsTo s
         };
       }
 
--- what a record leads to, and how small its numbers are
+-- how small the numbers of a record are
 pub leads_of : (r : RecordView) → IsOneThreads r → LeadsTo r.start r.history r.settled.pile.heights r.settled.odometer
 leads_of r one = record {
   pile = one.one.start_pile;
@@ -127,7 +127,8 @@ are_added r q one next joint mine theirs sums mine_is theirs_is long each = reco
       let b = ap (λ (l : List ℕ). slice_index l i) theirs_is in omega arith);
 }
 
--- a record that goes on from where another ended: settling in two parts is settling at once, and the odometers add
+-- the second record starts from the pile of the first: settling in two parts is settling at once, and the odometers add
+-- up
 module _ (r q : RecordView) (one : IsOneThreads r) (next : IsOneThreads q) (joint : q.start ≡ r.settled.pile) (limit : sum r.start.heights + (length r.history + length q.history) ≤ most_grains) (sums : List ℕ) (added : AreAdded r q sums) where
   pub same_grid : q.start.grid ≡ r.start.grid
   same_grid = ap (λ (p : PileView). p.grid) joint ∙ one.one.settled.grid

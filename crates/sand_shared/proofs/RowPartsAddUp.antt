@@ -1,4 +1,4 @@
--- Rows in two parts: what the parts have toppled and hold is what the whole has toppled and holds.
+-- Rows in two parts: together the parts hold, and have toppled, what the whole does.
 use Rattle.std.proofs.Common.{◌≡◌, ℕ, ◌+◌, ◌-◌, ◌<◌, ◌≤◌, ◌⊎◌, List, ◌++◌, true, false, length, get_or, eqb, leb, ltb, sym, refl, ap, ◌∙◌, subst, inl, inr, ⊎_elim, arith, length-append}
 use Rattle.std.specs.Prelude.{slice_index, ◌&&◌, ◌||◌}
 use Rattle.std.proofs.lemmas.Bool.{cases_eq, cases_lt, cases_Bool, ne_eqb}
@@ -43,7 +43,7 @@ held_in v b i begins = ⊎_elim
 held_together : (b m n i : ℕ) → one_if (leb b i && ltb i (b + m)) + one_if (leb (b + m) i && ltb i ((b + m) + n)) ≡ one_if (leb b i && ltb i (b + (m + n)))
 held_together b m n i = grind (arith, nat_tests)
 
--- x has the first of the rows of z, and y the rest
+-- x has the first rows of z, and y the rest
 pub record AreParts (x y z : View) : Type 0 where
   pub first : BeginsAt x z.base
   pub second : BeginsAt y (z.base + length x.counts)
@@ -88,7 +88,7 @@ begins_based v b e = ⊎_elim
     (λ (some : length v.counts ≡ 0 → ⊥). inr (e ∙ (let f : eqb (length v.counts) 0 ≡ false = ne_eqb (length v.counts) 0 some in rw f)))
     (cases_eq (length v.counts) 0)
 
--- what a pass keeps and what it gives away are parts of what it had
+-- what a pass keeps and what it gives away are the parts of what it had
 pub cut_parts : (v : View) (q n : ℕ) → n ≤ length v.counts → AreParts (parent v q n) (child v q n) v
 cut_parts v q n fits =
     let kept = length v.counts - n in
@@ -119,7 +119,7 @@ append_parts v w z next base counts =
     behind : (length w.counts ≡ 0 → ⊥) → w.base ≡ v.base + length v.counts
     behind some = grind (arith, nat_tests)
 
--- two passes whose rows touch have the rows of the one that they become
+-- the rows of two passes that touch are those of the joined pass
 pub record AddRows (v w z : View) (i : ℕ) : Type 0 where
   pub toppled : toppled_by v i + toppled_by w i ≡ toppled_by z i
   pub held : one_if (holds_site v i) + one_if (holds_site w i) ≡ one_if (holds_site z i)

@@ -1,4 +1,4 @@
--- The sites of rows: the site i is in the row i / width, and rows begin at a multiple of the width.
+-- The sites of rows: the site i is in row i / width, and a row begins at a multiple of the width.
 use Rattle.std.proofs.Common.{◌≡◌, ℕ, ◌+◌, ◌*◌, ◌/◌, ◌<◌, ◌≤◌, sym, ap, ◌∙◌, arith}
 use Rattle.std.proofs.Math.Nat.{mul-le-mul_right}
 use Rattle.std.proofs.lemmas.Nat.{div-add-mod', mod_below}
@@ -9,7 +9,7 @@ use Rattle.sand_shared.specs.Rows.{count_of, HoldsSite, AreRowsOf}
 pub times_plus : (a b w : ℕ) → (a + b) * w ≡ a * w + b * w
 times_plus a b w = grind arith
 
--- at which site rows begin, how many sites they have, and at which site they end
+-- where rows begin and end, and how many sites they have
 pub rows_end : (r : Rows) (w : ℕ) → r.first ≤ r.end → r.first * w + count_of r * w ≡ r.end * w
 rows_end r w le = sym (times_plus r.first (count_of r) w) ∙ ap (λ n. n * w) (omega arith)
 

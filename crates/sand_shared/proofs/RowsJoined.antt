@@ -1,4 +1,4 @@
--- Two passes whose rows touch, and the pass that they become.
+-- Two passes whose rows touch, and the joined pass.
 use Rattle.std.proofs.Common.{◌≡◌, ℕ, ◌+◌, ◌-◌, ◌*◌, ◌<◌, ◌≤◌, ◌⊎◌, max, [], ◌++◌, Bool, true, false, eqb, length, sym, refl, ap, ◌∙◌, inl, inr, ⊎_elim, subst, arith, length-append}
 use Rattle.std.specs.Prelude.{◌||◌, if◌then◌else◌}
 use Rattle.std.proofs.Math.Nat.{mul-le-mul_right}
@@ -38,7 +38,7 @@ times_one a b w some e = ⊎_elim
     (λ (le : a ≤ b). omega arith) (cases_lt b a))
     (cases_lt a b)
 
--- rows that come directly after others, or are none, make more rows of the grid
+-- adjacent rows together are rows of the grid
 rows_after : (g : Grid) (r s : Rows) → AreRowsOf g r → AreRowsOf g s → (s.first ≡ s.end) ⊎ (s.first ≡ r.end) → AreRowsOf g record { first = r.first; end = r.end + count_of s }
 rows_after g r s rows more near =
     let ordered = rows.ordered in
@@ -54,7 +54,7 @@ rows_after g r s rows more near =
 next_or_none : (r s : Rows) → rows_follow r s ≡ true → (s.first ≡ s.end) ⊎ (s.first ≡ r.end)
 next_or_none r s t = ⊎_elim (λ (e : s.first ≡ s.end). inl e) (λ (ne : s.first ≡ s.end → ⊥). inr (grind (arith, nat_tests))) (cases_eq s.first s.end)
 
--- what two passes of one grid have
+-- two passes of one grid
 module _ (p q : PassView) (sides : IsGrid p.grid) (same : q.grid ≡ p.grid) (rows : AreRowsOf p.grid p.rows) (rows' : AreRowsOf q.grid q.rows) (each : length p.counts ≡ count_of p.rows * p.grid.width) (each' : length q.counts ≡ count_of q.rows * q.grid.width) where
   others : AreRowsOf p.grid q.rows
   others = subst (λ (g : Grid). AreRowsOf g q.rows) same rows'
@@ -78,7 +78,7 @@ module _ (p q : PassView) (sides : IsGrid p.grid) (same : q.grid ≡ p.grid) (ro
       (λ e. let z = ap (λ n. n * w) e in omega arith) in
       λ i. none i || next i
 
-  -- the pass that the rule makes of both has what both have
+  -- joined by the rule, they have what both have
   pub joined_rest : (s l s' l' : ℕ) → joined (record (at_rest p) { spot = s; least = l }) (record (at_rest q) { spot = s'; least = l' }) ≡ at_rest (together p q)
   joined_rest s l s' l' =
       let x = at_rest p in

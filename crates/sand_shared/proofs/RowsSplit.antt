@@ -1,4 +1,4 @@
--- Rows that a pass keeps and gives away: at which site they begin, and how many sites they have.
+-- The rows that a pass keeps and gives away: at which site they begin, and how many sites they have.
 use Rattle.std.proofs.Common.{◌≡◌, ℕ, ◌+◌, ◌-◌, ◌*◌, ◌<◌, ◌≤◌, List, [], true, false, eqb, ltb, take, drop, length, sym, refl, ap, ◌∙◌, subst, ⊎_elim, arith}
 use Rattle.std.proofs.Math.Nat.{mul-le-mul_right}
 use Rattle.std.proofs.lemmas.Bool.{cases_lt, eq-eqb, ne_eqb, lt-ltb, le-ltb}
@@ -24,7 +24,7 @@ base_none i l e = let t : eqb (length l) 0 ≡ true = eq-eqb (length l) 0 e in r
 base_some : (i : ℕ) (l : List ℕ) → 0 < length l → base_of i l ≡ i
 base_some i l some = let t : eqb (length l) 0 ≡ false = ne_eqb (length l) 0 (λ e. absurd (omega arith)) in rw t
 
--- these sites are those of these rows
+-- the sites of the rows r
 pub record AreSitesOf (g : Grid) (r : Rows) (base : ℕ) (cs : List ℕ) : Type 0 where
   pub base_is : base_of base cs ≡ r.first * g.width
   pub one_each : length cs ≡ count_of r * g.width
@@ -80,7 +80,7 @@ module _ (g : Grid) (r : Rows) (cs : List ℕ) (k : ℕ) (sides : IsGrid g) (row
       let count = ap (λ n. n * w) {x = r.end - (r.end - k)} {y = k} (omega arith) in
       sites_between g (r.end - k) r.end (r.first * w + (length cs - k * w)) (drop (length cs - k * w) cs) sides (omega arith) inside (omega arith) (length-drop (length cs - k * w) cs ∙ omega arith)
 
--- what the rule leaves to a pass, and gives to a new one, is what these have between their calls
+-- the rule's parts of a pass are what the two passes have between calls
 module _ (p : PassView) (q spot least kept : ℕ) (r : Rows) (cs : List ℕ) (fits : kept ≤ length p.counts) where
   pub parent_rest : (left : ℕ) → p.left - q ≡ left → take kept p.counts ≡ cs → AreSitesOf p.grid r (p.rows.first * p.grid.width) (take kept p.counts)
       → parent (record (at_rest p) { spot = spot; least = least }) q (length p.counts - kept) ≡ record (at_rest (record p { left = left; rows = r; counts = cs })) { spot = spot }

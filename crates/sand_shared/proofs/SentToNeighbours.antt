@@ -1,4 +1,4 @@
--- The grains of a toppling go to the places round the site, one after another.
+-- The grains of a toppling go to the places around the site, one after another.
 use Rattle.std.proofs.Common.{◌≡◌, ℕ, List, [], ◌∷◌, Option, Some, None, IfSome, map, get_or, refl, sym, ap, ◌∙◌}
 use Rattle.std.specs.List.{filter_map}
 use Rattle.sand_shared.specs.declared.view.View.{View}
@@ -8,7 +8,7 @@ use Rattle.sand_shared.specs.declared.view.Terms.{Terms}
 use Rattle.sand_shared.specs.OpenPile.{grid_of_terms}
 use Rattle.sand_shared.specs.Events.{grains, sent, behind_first, delivered_to}
 
--- k grains for each neighbour that is at one of these places
+-- k grains for each of these places that has a neighbour
 abbrev pub sends : ℕ → List (Option ℕ) → List Grains
 sends k ps = map (λ j. grains j k) (filter_map (λ p. p) ps)
 
@@ -20,12 +20,11 @@ pub rest_sent : (k : ℕ) (p : Option ℕ) (ps : List (Option ℕ)) (v w : View)
 rest_sent k None ps v w e = e
 rest_sent k (Some j) ps v w e = λ q. record (e q) { hand = behind_first (e q).hand }
 
--- what a toppling sends goes to the places round the site
 pub sent_is : (t : Terms) (i k : ℕ) → sent t i k ≡ sends k (places (grid_of_terms t) i)
 unfolding neighbours
 sent_is t i k = refl
 
--- four deliveries, one to each place round the site, empty the hand
+-- four deliveries, one for each place around the site, empty the hand
 module _ (t : Terms) (i k : ℕ) (ps : List (Option ℕ)) (around : ps ≡ places (grid_of_terms t) i) (v : View) (hand : v.hand ≡ sent t i k) where
   place : ℕ → Option ℕ
   place n = get_or ps n None

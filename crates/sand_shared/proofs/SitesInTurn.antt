@@ -1,4 +1,4 @@
--- A sweep site by site: the counts that it comes with to a site, and what the site may then topple.
+-- A sweep site by site: the counts with which it comes to a site, and how often the site may then topple.
 use Rattle.std.proofs.Common.{◌≡◌, ℕ, zero, suc, ◌+◌, ◌-◌, ◌*◌, ◌<◌, ◌≤◌, List, [], ◌∷◌, ◌++◌, length, set, get_or, take, drop, sym, refl, ap, ◌∙◌, subst, ⊎_elim, arith}
 use Rattle.std.proofs.lemmas.Bool.{cases_eq}
 use Rattle.std.proofs.lemmas.List.{get_or-set_same, get_or-set_other, take-set-le}
@@ -6,7 +6,7 @@ use Rattle.sand_shared.specs.declared.view.View.{View}
 use Rattle.sand_shared.specs.declared.view.Terms.{Terms}
 use Rattle.sand_shared.specs.Sweeps.{LeavesAtMost, LeavesAtLeast, with_counts, TopplesInTurn}
 
--- lists that are the same from a place on
+-- lists with the same tail
 same_behind : (xs ys : List ℕ) (k : ℕ) → length xs ≡ length ys → ((j : ℕ) → k ≤ j → get_or xs j 0 ≡ get_or ys j 0) → take k xs ++ drop k ys ≡ xs
 same_behind [] [] zero long same = refl
 same_behind [] [] (suc k) long same = refl
@@ -23,7 +23,7 @@ module _ (t : Terms) (v : View) (cs : List ℕ) (k times : ℕ) (inside : k < le
   after : List ℕ
   after = set cs k (get_or cs k 0 + times)
 
-  -- the sweep comes to the k-th site with the counts that it has
+  -- the sweep comes to the k-th site with its current counts
   here : LeavesAtLeast t (with_counts v cs) (v.base + k) (4 * times) → LeavesAtMost t (with_counts v cs) (v.base + k) (4 * times + 3) → TopplesInTurn t v after k
   unfolding after
   here least most =
@@ -36,7 +36,7 @@ module _ (t : Terms) (v : View) (cs : List ℕ) (k times : ℕ) (inside : k < le
         subst (λ (z : List ℕ × ℕ). LeavesAtMost t (with_counts v z.0) (v.base + k) (4 * z.1 + 3)) (λ i. (sym came i, sym rise i)) most,
       )
 
-  -- what it does there changes nothing of what it came with to those before
+  -- toppling there does not change what it found at the sites before
   before : (j : ℕ) → j < k → TopplesInTurn t v cs j → TopplesInTurn t v after j
   unfolding after
   before j l did =

@@ -1,4 +1,4 @@
--- Each step of a call may be taken at any moment: it is an event that may happen then.
+-- Each step of a call is allowed at any moment: it is an event that can happen then.
 use Rattle.std.proofs.Common.{◌≡◌, ℕ, zero, suc, ◌+◌, ◌-◌, ◌*◌, ◌%◌, ◌^◌, ◌<◌, ◌≤◌, List, [], ◌∷◌, ◌++◌, true, length, set, get_or, sym, refl, ap, ◌∙◌, subst, arith}
 use Rattle.std.specs.Prelude.{slice_index, count_by, ◌||◌}
 use mathlib.Core.Option.{some, some-injective, some-ne-none}
@@ -28,14 +28,14 @@ module _ {A : Type 0} where
   some_there (y ∷ ys) zero x d e = some-injective y x e
   some_there (y ∷ ys) (suc i) x d e = some_there ys i x d e
 
--- the open pile that a table shows
+-- the open pile that the table shows
 abbrev pub pile_of : (t : Terms) (s : State ℕ View) → IsRunning t s → OpenPile
 pile_of t s h = after_all t (unopened t) (begin ∷ h.events)
 
 pub lawful_now : (t : Terms) (s : State ℕ View) (h : IsRunning t s) → IsLawful t (pile_of t s h)
 lawful_now t s h = always_lawful t h.events h.terms h.happened
 
--- the rule holds after one event more
+-- the rule holds after one more event
 one_more : (t : Terms) (s s' : State ℕ View) (h : IsRunning t s) (e : Event) → May t (pile_of t s h) e → Shows t (after t (pile_of t s h) e) s' → IsRunning t s'
 one_more t s s' h e may shown =
     let p = after t (unopened t) begin in
@@ -53,7 +53,7 @@ module _ (t : Terms) (s : State ℕ View) (h : IsRunning t s) (a : ℕ) (v : Vie
   pub pass_is : pass_at (pile_of t s h) a ≡ v
   pass_is = ap (λ (l : List View). get_or l a nobody) (sym h.shown.passes) ∙ some_there s.views a v nobody at
 
--- a step may be taken if its event may happen, whatever else has happened, and the words show it
+-- a step is allowed if its event can happen whatever else has happened, and the words show the result
 takes : (t : Terms) (e : Event) (slots : ℕ) (m : Me ℕ View) (word : ℕ) (f : ℕ → ℕ)
     → ((p : OpenPile) → IsLawful t p → actor e < length p.passes → pass_at p (actor e) ≡ m.0 → May t p e)
     → ((p : OpenPile) (s : State ℕ View) → AreTerms t → IsLawful t p → May t p e → Shows t p s
@@ -97,7 +97,7 @@ looks t a i slots m inside own = takes t (look a i) slots m (i + 2) (λ n. n)
     (λ p r there is. record { there = there; inside = inside; own = subst (λ (v : View). holds_site v i ≡ true) (sym is) own })
     (λ p s terms r may h. (h.heights i inside, shows_load t p s (i + 2) a (looked (pass_at p a) i (p.height i)) h may.there))
 
--- what a pass found at the site is still there, for nobody else takes grains from it
+-- what a pass found at a site is still there, because nobody else takes grains from it
 pub unloads : (t : Terms) (a i k slots : ℕ) (m : Me ℕ View) → i < sites (grid_of_terms t) → holds_site m.0 i ≡ true → m.0.spot ≡ i → 4 * k ≤ m.0.least
     → Allows (IsRunning t) slots a m (i + 2) (λ n. (n + (2 ^ 64 - 4 * k)) % 2 ^ 64) (Takes t (unload a i k) m)
 unloads t a i k slots m inside own spot enough = takes t (unload a i k) slots m (i + 2) (λ n. (n + (2 ^ 64 - 4 * k)) % 2 ^ 64)
@@ -108,7 +108,7 @@ unloads t a i k slots m inside own spot enough = takes t (unload a i k) slots m 
     let same = ap (λ (v : View). v.least) is in record { there = there; inside = inside; own = mine; high = omega arith })
     (λ p s terms r may h. (h.heights i inside, shows_unload t p s a i k terms r may h))
 
--- a load of the base's own word, which is no event
+-- a load of the table's own word, which is no event
 pub learns : (t : Terms) (a slots : ℕ) (m : Me ℕ View) → Allows (IsRunning t) slots a m 0 (λ n. n) (Learns t a m)
 learns t a slots m s h _ at fits =
     let there = pass_there t s h a m.0 at in
@@ -158,7 +158,7 @@ third xs i = ap (λ k. get_or (0 ∷ 0 ∷ xs) k 0) two
     two : i + 2 ≡ suc (suc i)
     two = omega arith
 
--- the table as it is made
+-- the new table
 pub opens : (t : Terms) → AreTerms t → IsRunning t (opening (0 ∷ 0 ∷ t.start.heights) [] (first_pass t))
 opens t terms = record {
   terms = terms;
@@ -172,11 +172,11 @@ opens t terms = record {
   };
 }
 
--- the terms and the event that a call picked are those of the step
+-- the terms and the event chosen at the call are those of the step
 pub happened_picked : {t t' : Terms} {e e' : Event} {v w : View} {n : ℕ} → (t' ≡ t) × (e' ≡ e) → Happened t' e' v n w → Happened t e v n w
 happened_picked {v = v} {w = w} {n = n} same = subst (λ (z : Terms × Event). Happened z.0 z.1 v n w) (λ i. (same.0 i, same.1 i))
 
--- the heights that are read when the table is closed are those of the last open pile
+-- the heights read when the table is closed are those of the last open pile
 pub last_is : (t : Terms) (a : ℕ) (v : View) (s : State ℕ View) (h : IsRunning t s) → get_elem? s.views a ≡ some v → (heights : List ℕ) → length heights ≡ sites (grid_of_terms t)
     → ((i : ℕ) → i < sites (grid_of_terms t) → slice_index heights i ≡ slice_index s.words (i + 2)) → IsLast t a v heights
 last_is t a v s h at heights long read = record {

@@ -1,5 +1,5 @@
--- What the table asks of a step on one of its words: a seat at the table, a word that the table has, and that the rule allows
--- the step. The words inside are those that contracts see now; the terms and the events are those that the call picked.
+-- The table requires of a step: a seat at the table, a word in range, and a step that the rule allows. The words are
+-- those that contracts see; the terms and the events are those chosen at the call.
 use Rattle.std.proofs.Common.{◌≡◌, ℕ, ◌+◌, ◌<◌, List, sym, ap, ◌∙◌, subst, arith}
 use Rattle.atomic_table.specs.Table.{Allows}
 use Rattle.atomic_table.specs.declared.shared.Seat.{Seat}
@@ -27,7 +27,7 @@ module _ {key : Terms} {lattice : Grid} {inside now : SharedView} (words : AreWo
     pub at_table : seat.table_id ≡ inside.table
     at_table = at.table ∙ sym (ap (λ (w : SharedView). w.table) is)
 
-    -- a step that is an event
+    -- a step that is one event
     pub asks_event : {t : Terms} {d : Event} (e : Event) (word : ℕ) (f : ℕ → ℕ) → word < sites (grid_of_terms now.terms) + 2 → (t ≡ now.terms) × (d ≡ e)
         → Allows (IsRunning now.terms) inside.table.slots seat.id seat.me word f (Takes now.terms e seat.me)
         → (seat.table_id ≡ inside.table) × (word < inside.table.words) × Allows (IsRunning key) inside.table.slots seat.id seat.me word f (Takes t d seat.me)
@@ -37,7 +37,7 @@ module _ {key : Terms} {lattice : Grid} {inside now : SharedView} (words : AreWo
       subst (λ (z : Terms × Terms × Event). Allows (IsRunning z.0) inside.table.slots seat.id seat.me word f (Takes z.1 z.2 seat.me)) (λ i. (sym key_now i, sym picked.0 i, sym picked.1 i)) may,
     )
 
-    -- a step that is events in a row
+    -- a step that is several events in a row
     pub asks_row : {t : Terms} {b : ℕ} {ds : List Event} (es : List Event) (word : ℕ) (f : ℕ → ℕ) → word < sites (grid_of_terms now.terms) + 2 → (t ≡ now.terms) × (b ≡ seat.id) × (ds ≡ es)
         → Allows (IsRunning now.terms) inside.table.slots seat.id seat.me word f (TakesInARow now.terms seat.id es seat.me)
         → (seat.table_id ≡ inside.table) × (word < inside.table.words) × Allows (IsRunning key) inside.table.slots seat.id seat.me word f (TakesInARow t b ds seat.me)

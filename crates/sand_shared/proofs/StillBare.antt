@@ -1,4 +1,4 @@
--- A bare pass is the same one after a look or a load, by which it learns nothing but a height.
+-- A bare pass stays the same after a look or a load; it learns only a height.
 use Rattle.std.proofs.Common.{◌≡◌, ℕ, List, [], length, sym, ap, ◌∙◌, subst, arith}
 use Rattle.atomic_table.specs.declared.shared.Seat.{Seat}
 use Rattle.atomic_table.specs.Seated.{TableId}

@@ -9,7 +9,7 @@ use Rattle.sand_shared.specs.declared.view.View.{View}
 use Rattle.sand_shared.specs.OpenPile.{toppled_by}
 use Rattle.sand_shared.proofs.GrainsAtSite.{toppled_from, toppled_before}
 
--- the sum over the first n sites is that of the counts of these sites
+-- the sum over the first n sites is the sum of their counts
 counts_below : (v : View) (n : ℕ) → sum_below n (toppled_by v) ≡ sum (take (n - v.base) v.counts)
 unfolding sum_below
 counts_below v zero = ap (λ k. sum (take k v.counts)) {x = 0} {y = 0 - v.base} (omega arith)

@@ -1,4 +1,4 @@
--- Sums over the passes of a pile: if one pass changes, if one has all, and in two orders.
+-- Sums over the passes of a pile: one pass changes, one has everything, and the order of two sums.
 use Rattle.std.proofs.Common.{◌≡◌, ℕ, zero, suc, ◌+◌, ◌<◌, ◌≤◌, ◌≢◌, List, [], ◌∷◌, map, length, set, get_or, sum_by, All, sym, refl, ap, subst, ⊎_elim, arith}
 use Rattle.std.proofs.lemmas.Bool.{cases_eq}
 use Rattle.std.proofs.lemmas.List.{get_or-set_same, get_or-set_other, length-set}
@@ -41,11 +41,11 @@ module _ {A : Type 0} where
       let b = sum_by-cons g x xs in
       let c = sum_by-cons (λ y. f y + g y) x xs in omega arith
 
-  -- one of the list was exchanged for one that has as much
+  -- an entry is replaced by one with the same f
   pub sum_by_kept : (f : A → ℕ) (l : List A) (i : ℕ) (w d : A) → i < length l → f w ≡ f (get_or l i d) → sum_by f (set l i w) ≡ sum_by f l
   sum_by_kept f l i w d inside same = let t = sum_by-set f l i w d inside in omega arith
 
-  -- two at different places have at most what all have
+  -- two different entries have at most the total
   pub sum_by_two : (f : A → ℕ) (l : List A) (i j : ℕ) (d : A) → i < length l → j < length l → j ≢ i → f (get_or l i d) + f (get_or l j d) ≤ sum_by f l
   sum_by_two f [] i j d li lj ne = absurd (omega arith)
   sum_by_two f (x ∷ xs) zero zero d li lj ne = absurd (ne refl)
@@ -55,7 +55,7 @@ module _ {A : Type 0} where
       let a = sum_by-cons f x xs in
       let b = sum_by_two f xs i j d (omega arith) (omega arith) (λ e. ne (ap suc e)) in omega arith
 
-  -- if all others have none, all have what one has
+  -- if all others have none, one entry has the total
   pub sum_by_only : (f : A → ℕ) (l : List A) (i : ℕ) (d : A) → i < length l → ((j : ℕ) → j < length l → j ≢ i → f (get_or l j d) ≡ 0) → sum_by f l ≡ f (get_or l i d)
   sum_by_only f [] i d inside none = absurd (omega arith)
   sum_by_only f (x ∷ xs) zero d inside none =
@@ -66,7 +66,7 @@ module _ {A : Type 0} where
       let here = none 0 (omega arith) (λ e. omega arith) in
       let rest = sum_by_only f xs i d (omega arith) (λ j l ne. none (suc j) (omega arith) (λ e. ne (omega arith))) in omega arith
 
-  -- if one has no f, the f of all and its g are at most the g of all
+  -- if an entry has no f, the total of f plus its g is at most the total of g
   pub sum_by_beside : (f g : A → ℕ) (l : List A) (i : ℕ) (d : A) → i < length l → f (get_or l i d) ≡ 0 → ((j : ℕ) → j < length l → f (get_or l j d) ≤ g (get_or l j d)) → sum_by f l + g (get_or l i d) ≤ sum_by g l
   sum_by_beside f g [] i d inside zero_here le = absurd (omega arith)
   sum_by_beside f g (x ∷ xs) zero d inside zero_here le =
@@ -79,14 +79,14 @@ module _ {A : Type 0} where
       let here = le 0 (omega arith) in
       let rest = sum_by_beside f g xs i d (omega arith) zero_here (λ j l. le (suc j) (omega arith)) in omega arith
 
-  -- each of a list with one changed
+  -- all entries after one changes
   pub all_after : (P Q : A → Type 0) (l : List A) (i : ℕ) (w : A) → Q w → ((x : A) → P x → Q x) → All P l → All Q (set l i w)
   all_after P Q l i w new others was = λ k d inside. let long = length-set l i w in ⊎_elim
       (λ (e : k ≡ i). subst (λ z. Q (get_or (set l i w) z d)) (sym e) (subst Q (sym (get_or-set_same l i w d (omega arith))) new))
       (λ (ne : k ≡ i → ⊥). subst Q (sym (get_or-set_other l i k w d ne)) (others (get_or l k d) (was k d (omega arith))))
       (cases_eq k i)
 
--- what holds at each place holds of each
+-- what holds at each index holds for each entry
 pub all_at : {A : Type 0} (P : A → Type 0) (l : List A) (d : A) → ((k : ℕ) → k < length l → P (get_or l k d)) → All P l
 all_at P l d each = λ k e inside. subst P (get_or_any l k d e inside) (each k inside)
   where
@@ -102,7 +102,7 @@ sum_by-map f h (x ∷ xs) =
     let a = sum_by-cons f (h x) (map h xs) in
     let b = sum_by-cons (λ y. f (h y)) x xs in omega arith
 
--- a sum of sums, in two orders
+-- a double sum, in both orders
 pub sum_by_swap : {A B : Type 0} (f : A → B → ℕ) (l : List A) (m : List B) → sum_by (λ x. sum_by (f x) m) l ≡ sum_by (λ y. sum_by (λ x. f x y) l) m
 sum_by_swap f [] m = sym (zeros m)
   where

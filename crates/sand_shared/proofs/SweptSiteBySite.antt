@@ -17,7 +17,7 @@ use Rattle.sand_shared.proofs.RowPartsAddUp.{none_toppled}
 use Rattle.sand_shared.proofs.SitesInTurn.{AllInTurn, one_in_turn}
 use Rattle.std.proofs.lemmas.Bool.{cases_lt}
 
--- the first k of a pass's sites are swept
+-- the first k sites of a pass have been swept
 pub record Sweeps (t : Terms) (v : View) (cs : List ℕ) (k topplings : ℕ) : Type 0 where
   pub same_rows : length cs ≡ length v.counts
   pub risen : sum cs ≡ sum v.counts + topplings
@@ -34,14 +34,14 @@ pub record Sweeps (t : Terms) (v : View) (cs : List ℕ) (k topplings : ℕ) : T
 pub toppled-row : (v : View) (k : ℕ) → toppled_by v (v.base + k) ≡ slice_index v.counts k
 toppled-row v k = toppled_from v (v.base + k) (omega arith) ∙ ap (slice_index v.counts) {x = (v.base + k) - v.base} {y = k} (omega arith)
 
--- counts that are nowhere lower topple no site less
+-- higher counts mean no fewer topplings
 toppled_more : (v : View) (cs : List ℕ) → ((j : ℕ) → slice_index v.counts j ≤ slice_index cs j) → (i : ℕ) → toppled_by v i ≤ toppled_by (with_counts v cs) i
 toppled_more v cs more i = ⊎_elim
     (λ (early : i < v.base). let a = toppled_before v i early in let b = toppled_before (with_counts v cs) i early in omega arith)
     (λ (past : v.base ≤ i). let a = toppled_from v i past in let b = toppled_from (with_counts v cs) i past in let m = more (i - v.base) in omega arith)
     (cases_lt i v.base)
 
--- the counts rose meanwhile, so that what is left now was left before
+-- the counts only rose, so the bound held before
 at_most_before : (t : Terms) (v : View) (cs : List ℕ) (i n : ℕ) → i < sites (grid_of_terms t) → ((j : ℕ) → slice_index v.counts j ≤ slice_index cs j) → toppled_by (with_counts v cs) i ≡ toppled_by v i
     → LeavesAtMost t (with_counts v cs) i n → LeavesAtMost t v i n
 at_most_before t v cs i n inside more same left =
@@ -91,7 +91,7 @@ sweeps_more t v cs k topplings times spot least rows inside s left few no_more s
     still : HasAll t v → HasAll t (with_counts v cs)
     still all = record { quota = all.quota; all_sites = λ i l. ap (λ n. leb v.base i && ltb i (v.base + n)) s.same_rows ∙ all.all_sites i l }
 
--- the next site of the rows is relieved
+-- the next site is relieved
 module _ (t : Terms) (v me new : View) (cs : List ℕ) (base k times : ℕ) (from : v.base ≡ base)
     (view : me ≡ record (looked v me.spot me.least) { counts = cs }) (relieved : new ≡ record (looked me (base + k) new.least) { counts = raised me (base + k) times }) where
   new_is : new ≡ record (looked (record (looked v me.spot me.least) { counts = cs }) (v.base + k) new.least) { counts = raised (with_counts v cs) (v.base + k) times }
@@ -113,7 +113,7 @@ module _ (t : Terms) (v me new : View) (cs : List ℕ) (base k times : ℕ) (fro
       (λ all. subst (λ (z : View × ℕ). LeavesAtLeast t z.0 (z.1 + k) (4 * times)) (λ q. (view q, sym from q)) (no_more (still all)))
       (λ all. let s = subst (IsSparing t) new_is (spares (still all)) in record { needed = s.needed; weighed = s.weighed })
 
-  -- and did not topple
+  -- it did not topple
   module _ (none : times ≡ 0) where
     kept : set cs k (get_or cs k 0 + times) ≡ cs
     kept = ap (set cs k) {x = get_or cs k 0 + times} {y = get_or cs k 0} (omega arith) ∙ set-get_or cs k 0
@@ -131,7 +131,7 @@ no_sum : (l : List ℕ) → length l ≡ 0 → sum l ≡ 0
 no_sum [] e = refl
 no_sum (x ∷ xs) e = absurd (omega arith)
 
--- with all sites, a sweep that topples nothing found nothing left anywhere
+-- if a pass with all sites topples nothing, nothing was left anywhere
 calm_back : (t : Terms) (v : View) (cs : List ℕ) (topplings : ℕ) → HasAll t v → Sweeps t v cs (length v.counts) topplings → topplings ≡ 0 → IsCalm t v
 calm_back t v cs topplings all s none i inside =
     let own = all.all_sites i inside in
@@ -168,7 +168,7 @@ sweeps_few t v cs topplings s = let long = s.same_rows in ⊎_elim
     (λ (some : length v.counts ≡ 0 → ⊥). s.few (omega arith))
     (cases_eq (length v.counts) 0)
 
--- a sweep says the same of a pass that knows other heights
+-- a sweep does not depend on what the pass knows of heights
 pub swept_as : (t : Terms) (v : View) (cs : List ℕ) (topplings spot least : ℕ) → Swept t v cs topplings → Swept t (record v { spot = spot; least = least }) cs topplings
 swept_as t v cs topplings spot least s = record {
   same_rows = s.same_rows;
@@ -181,7 +181,7 @@ swept_as t v cs topplings spot least s = record {
   sparing = λ all. (let q = s.sparing (record { quota = all.quota; all_sites = all.all_sites }) in record { needed = q.needed; weighed = q.weighed });
 }
 
--- a sweep over all sites that topples nothing found nothing left anywhere, whatever pass swept
+-- if a sweep over all sites topples nothing, nothing was left anywhere
 pub calm_at_rest : (t : Terms) (v me : View) (cs new : List ℕ) (topplings : ℕ) → v.base ≡ 0 → length cs ≡ sites (grid_of_terms t) → me ≡ record (looked v me.spot me.least) { counts = cs } → Swept t me new topplings → topplings ≡ 0 → IsCalm t (with_counts v new)
 calm_at_rest t v me cs new topplings base long is s none i inside =
     let counts : me.counts ≡ cs = ap (λ (u : View). u.counts) is in

@@ -32,7 +32,7 @@ module _ (t : Terms) (p : PassView) (same : p.grid ≡ grid_of_terms t) (each : 
       held : (at_rest p).base ≡ 0 → length p.counts ≡ sites (grid_of_terms t) → (i : ℕ) → i < sites (grid_of_terms t) → holds_site (at_rest p) i ≡ true
       held base all i l = grind (arith, nat_tests)
 
-  -- and still does after it has swept
+  -- it still does after a sweep
   pub swept_has_all : (counts : List ℕ) (spot least : ℕ) → length counts ≡ length p.counts → HasAll t (record (at_rest p) { counts = counts; spot = spot; least = least })
   swept_has_all counts spot least long =
       let all = whole_has_all in

@@ -1,4 +1,4 @@
--- What the words and the views show after a step on one word: the open pile after the event.
+-- After a step on one word, the words and the views show the open pile after the event.
 use Rattle.std.proofs.Common.{◌≡◌, ℕ, ◌+◌, ◌-◌, ◌*◌, ◌%◌, ◌^◌, ◌<◌, ◌≢◌, List, [], ◌∷◌, length, set, get_or, sym, refl, ap, ◌∙◌, ⊎_elim, arith, mod-eq_of_lt, length-append}
 use Rattle.std.specs.Prelude.{slice_index, count_by}
 use Rattle.std.proofs.Math.Nat.{add-mod_right}
@@ -17,14 +17,14 @@ use Rattle.sand_shared.proofs.GrainsAtSite.{amount_here, amount_else}
 use Rattle.sand_shared.proofs.HandAfterPlacing.{held-without}
 use Rattle.sand_shared.proofs.Lawfulness.{few_present}
 
--- the state after a step of the seat a on a word
+-- the state after the seat a takes a step on a word
 abbrev pub stepped_to : State ℕ View → ℕ → ℕ → ℕ → View → State ℕ View
 stepped_to s word n a w = record { words = set s.words word n; homes = s.homes; views = set s.views a w }
 
 pub pass_at-with : (p : OpenPile) (a : ℕ) (w : View) → a < length p.passes → pass_at (with_pass p a w) a ≡ w
 pass_at-with p a w there = get_or-set_same p.passes a w nobody there
 
--- the views after a pass has become w
+-- the views after the pass a becomes w
 passes_step : (p : OpenPile) (views : List View) (a : ℕ) (w : View) → views ≡ p.passes → a < length p.passes → set views a (pass_at (with_pass p a w) a) ≡ set p.passes a w
 passes_step p views a w e there = λ q. set (e q) a (pass_at-with p a w there q)
 
@@ -59,7 +59,7 @@ shows_draw t p s a i terms r may h =
       passes = passes_step p s.views a (drew (pass_at p a) (length p.drawn) i) h.passes may.there;
     }
 
--- the word of a site becomes x, and all others stay
+-- the word of a site becomes x, and the others stay
 height_shown : (t : Terms) (p q : OpenPile) (s : State ℕ View) (i x : ℕ) → i < sites (grid_of_terms t) → Shows t p s → q.height i ≡ x → ((j : ℕ) → i ≢ j → q.height j ≡ p.height j)
     → (j : ℕ) → j < sites (grid_of_terms t) → slice_index (set s.words (i + 2) x) (j + 2) ≡ q.height j
 height_shown t p q s i x inside h here others j l = let wide = h.wide in ⊎_elim
@@ -67,7 +67,7 @@ height_shown t p q s i x inside h here others j l = let wide = h.wide in ⊎_eli
     (λ (ne : i ≡ j → ⊥). get_or-set_other s.words (i + 2) (j + 2) x 0 (λ e. ne (omega arith)) ∙ (h.heights j l ∙ sym (others j ne)))
     (cases_eq i j)
 
--- grains that are laid on a site are added to its word
+-- grains laid on a site are added to its word
 pub shows_arrived : (t : Terms) (p : OpenPile) (s : State ℕ View) (a i k : ℕ) → AreTerms t → IsLawful t p → a < length p.passes → 0 < count_by (are_for i k) (pass_at p a).hand → i < sites (grid_of_terms t) → Shows t p s
     → Shows t (arrived p a i k) (stepped_to s (i + 2) ((slice_index s.words (i + 2) + k) % 2 ^ 64) a (pass_at (arrived p a i k) a))
 shows_arrived t p s a i k terms r there in_hand inside h =
@@ -89,7 +89,7 @@ shows_arrived t p s a i k terms r there in_hand inside h =
       passes = passes_step p s.views a (laid_down v i k) h.passes there;
     }
 
--- grains that are taken from a site are taken from its word
+-- grains taken from a site are subtracted from its word
 pub shows_unload : (t : Terms) (p : OpenPile) (s : State ℕ View) (a i k : ℕ) → AreTerms t → IsLawful t p → May t p (unload a i k) → Shows t p s
     → Shows t (after t p (unload a i k)) (stepped_to s (i + 2) ((slice_index s.words (i + 2) + (2 ^ 64 - 4 * k)) % 2 ^ 64) a (pass_at (after t p (unload a i k)) a))
 shows_unload t p s a i k terms r may h =

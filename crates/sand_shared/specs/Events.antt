@@ -1,4 +1,4 @@
--- The events of an open pile, each as its condition and its effect. Passes are named by their place in the list.
+-- The events of an open pile, each with its condition and its effect. A pass is named by its place in the list.
 use Rattle.std.specs.Prelude.{ℕ, Bool, true, ◌≡◌, ◌≢◌, ◌+◌, ◌-◌, ◌*◌, ◌<◌, ◌≤◌, ◌==◌, ◌&&◌, ◌||◌, if◌then◌else◌, max, List, [], ◌∷◌, ◌++◌, map, take, drop, length, slice_index, slice_set, replicate, count_by, Option, Some, None}
 use Rattle.sand_model.specs.Grid.{sites, neighbours}
 use Rattle.sand_model.specs.declared.shape.Edge.TheVariants.{Open}
@@ -14,17 +14,17 @@ pub data Event : Type 0 where
   begin : Event
   -- a pass draws a number for a grain on a site
   draw : ℕ → ℕ → Event
-  -- a pass lays a grain that it has drawn on its site
+  -- a pass lays a grain that it drew on its site
   place : ℕ → ℕ → Event
-  -- a pass reads how many drops were begun
+  -- a pass reads how many drops have begun
   count : ℕ → Event
-  -- a pass gives some of its quota and its last sites, so many of each, to a new one
+  -- a pass gives part of its quota and the last of its sites to a new one
   split : ℕ → ℕ → ℕ → Event
-  -- a pass takes in all that another one has
+  -- a pass takes over all that another one has
   join : ℕ → ℕ → Event
   -- a pass reads the height of a site of its rows
   look : ℕ → ℕ → Event
-  -- a pass takes 4 * k grains from a site of its rows, and has k for each neighbour in hand
+  -- a pass takes 4 * k grains from a site of its rows, and k for each neighbour are in hand
   unload : ℕ → ℕ → ℕ → Event
   -- a pass lays k grains in hand on their site
   deliver : ℕ → ℕ → ℕ → Event
@@ -44,7 +44,7 @@ zeros n = replicate n 0
 abbrev pub first_pass : Terms → View
 first_pass t = record nobody { left = t.quota; counts = zeros (sites (grid_of_terms t)) }
 
--- what is behind the first of a list
+-- a list without its first entry
 abbrev pub behind_first : List Grains → List Grains
 behind_first [] = []
 behind_first (g ∷ gs) = gs
@@ -52,24 +52,24 @@ behind_first (g ∷ gs) = gs
 abbrev pub drew : View → ℕ → ℕ → View
 drew v n i = record v { left = v.left - 1; seen = n + 1; receipts = v.receipts ++ receipt n i ∷ []; hand = v.hand ++ grains i 1 ∷ [] }
 
--- the receipts of drops in a row, from the number n on
+-- the receipts of consecutive drops, numbered from n on
 abbrev pub receipts_from : ℕ → List ℕ → List Receipt
 receipts_from n [] = []
 receipts_from n (i ∷ is) = receipt n i ∷ receipts_from (n + 1) is
 
--- one grain for each of some sites
+-- one grain for each site of a list
 abbrev pub one_for_each : List ℕ → List Grains
 one_for_each is = map (λ i. grains i 1) is
 
--- what draws in a row leave a pass with, from the number n on
+-- a pass after consecutive draws, numbered from n on
 abbrev pub drew_all : View → ℕ → List ℕ → View
 drew_all v n is = record v { left = v.left - length is; seen = n + length is; receipts = v.receipts ++ receipts_from n is; hand = v.hand ++ one_for_each is }
 
--- whether these are k grains for the site i
+-- these are k grains for the site i
 abbrev pub are_for : ℕ → ℕ → Grains → Bool
 are_for i k g = (g.site == i) && (g.amount == k)
 
--- a hand without the first k grains for the site i
+-- a hand without its first entry of k grains for the site i
 abbrev pub without : ℕ → ℕ → List Grains → List Grains
 without i k [] = []
 without i k (g ∷ gs) = if are_for i k g then gs else g ∷ without i k gs
@@ -77,7 +77,7 @@ without i k (g ∷ gs) = if are_for i k g then gs else g ∷ without i k gs
 abbrev pub laid_down : View → ℕ → ℕ → View
 laid_down v i k = record v { hand = without i k v.hand }
 
--- if there is a neighbour at a place, the first grains in hand go to it
+-- the first grains in hand go to the neighbour at a place, if there is one
 abbrev pub delivered_to : Option ℕ → View → View
 delivered_to None v = v
 delivered_to (Some j) v = record v { hand = behind_first v.hand }
@@ -103,7 +103,7 @@ unloaded t v i k = record v { hand = v.hand ++ sent t i k; counts = raised v i k
 abbrev pub base_of : ℕ → List ℕ → ℕ
 base_of i counts = if length counts == 0 then 0 else i
 
--- what a pass keeps, of its quota all but q and of its sites all but the last n
+-- what a pass keeps when it gives away q of its quota and its last n sites
 abbrev pub parent : View → ℕ → ℕ → View
 parent v q n = let kept = length v.counts - n in record v {
   left = v.left - q;
@@ -112,7 +112,7 @@ parent v q n = let kept = length v.counts - n in record v {
   least = 0;
 }
 
--- and what it gives away, with all that it has seen
+-- what it gives away; the new pass has seen as much
 abbrev pub child : View → ℕ → ℕ → View
 child v q n = let kept = length v.counts - n in record nobody {
   left = q;
@@ -121,11 +121,11 @@ child v q n = let kept = length v.counts - n in record nobody {
   counts = drop kept v.counts;
 }
 
--- whether the second has no rows, or they come directly after those of the first
+-- w has no rows, or they come directly after those of v
 abbrev pub follows : View → View → Bool
 follows v w = (length w.counts == 0) || (w.base == v.base + length v.counts)
 
--- two passes as one, the rows in their order
+-- two passes as one, their rows in order
 abbrev pub joined : View → View → View
 joined v w = record {
   left = v.left + w.left;
@@ -143,32 +143,32 @@ joined v w = record {
 abbrev pub with_pass : OpenPile → ℕ → View → OpenPile
 with_pass p a v = record p { passes = slice_set p.passes a v }
 
--- k grains from a pass's hand lie on a site
+-- k grains move from a pass's hand to a site
 abbrev pub arrived : OpenPile → ℕ → ℕ → ℕ → OpenPile
 arrived p a i k = record (with_pass p a (laid_down (pass_at p a) i k)) { height = λ j. p.height j + amount_at i k j }
 
 -- When an event may happen
 
--- a draw: the pass has something left
+-- draw: the pass has quota left
 pub record MayDraw (t : Terms) (p : OpenPile) (a i : ℕ) : Type 0 where
   pub there : a < length p.passes
   pub some_left : 0 < (pass_at p a).left
   pub inside : i < sites (grid_of_terms t)
 
--- a place or a deliver: k grains for the site are in its hand
+-- place, deliver: k grains for the site are in its hand, as one entry
 pub record MayLay (t : Terms) (p : OpenPile) (a i k : ℕ) : Type 0 where
   pub there : a < length p.passes
   pub in_hand : 0 < count_by (are_for i k) (pass_at p a).hand
   pub inside : i < sites (grid_of_terms t)
 
--- a split: the pass has that quota and those sites, and nothing in hand
+-- split: the pass has that quota and those sites, and nothing in hand
 pub record MaySplit (p : OpenPile) (a q n : ℕ) : Type 0 where
   pub there : a < length p.passes
   pub quota : q ≤ (pass_at p a).left
   pub counts : n ≤ length (pass_at p a).counts
   pub free : (pass_at p a).hand ≡ []
 
--- a join: of two passes with nothing in hand, whose rows touch
+-- join: both passes have nothing in hand, and their rows touch
 pub record MayJoin (p : OpenPile) (a b : ℕ) : Type 0 where
   pub there : a < length p.passes
   pub other_there : b < length p.passes
@@ -177,13 +177,13 @@ pub record MayJoin (p : OpenPile) (a b : ℕ) : Type 0 where
   pub other_free : (pass_at p b).hand ≡ []
   pub touch : (follows (pass_at p a) (pass_at p b) || follows (pass_at p b) (pass_at p a)) ≡ true
 
--- a look: at a site of its rows
+-- look: the site is in its rows
 pub record MayLook (t : Terms) (p : OpenPile) (a i : ℕ) : Type 0 where
   pub there : a < length p.passes
   pub inside : i < sites (grid_of_terms t)
   pub own : holds_site (pass_at p a) i ≡ true
 
--- an unload: from a site of its rows, on which so many grains lie
+-- unload: the site is in its rows, and has at least 4 * k grains
 pub record MayUnload (t : Terms) (p : OpenPile) (a i k : ℕ) : Type 0 where
   pub there : a < length p.passes
   pub inside : i < sites (grid_of_terms t)
@@ -201,7 +201,7 @@ May t p (look a i) = MayLook t p a i
 May t p (unload a i k) = MayUnload t p a i k
 May t p (deliver a i k) = MayLay t p a i k
 
--- what an event does
+-- the effect of an event
 abbrev pub after : Terms → OpenPile → Event → OpenPile
 after t p begin = record p { passes = first_pass t ∷ [] }
 after t p (draw a i) = record (with_pass p a (drew (pass_at p a) (length p.drawn) i)) { drawn = p.drawn ++ i ∷ [] }
@@ -217,25 +217,25 @@ after t p (deliver a i k) = arrived p a i k
 abbrev pub unopened : Terms → OpenPile
 unopened t = record { height = height_of t.start; drawn = []; passes = [] }
 
--- the events of a list may happen one after another
+-- the events of a list can happen one after another
 abbrev pub AllHappen : Terms → OpenPile → List Event → Type 0
 AllHappen t p [] = Unit {0}
 AllHappen t p (e ∷ es) = May t p e × AllHappen t (after t p e) es
 
--- and where they lead
+-- the pile after them
 abbrev pub after_all : Terms → OpenPile → List Event → OpenPile
 after_all t p [] = p
 after_all t p (e ∷ es) = after_all t (after t p e) es
 
--- a pass draws numbers for grains on some sites, in a row
+-- a pass draws consecutive numbers for grains on some sites
 abbrev pub all_draws : ℕ → List ℕ → List Event
 all_draws a is = map (λ i. draw a i) is
 
--- a pass lays k grains that it has drawn on one site, in a row
+-- a pass lays k single grains on one site
 abbrev pub all_places : ℕ → ℕ → ℕ → List Event
 all_places a i k = replicate k (place a i)
 
--- the quota and the sites that a split gives away
+-- the quota and the number of sites that a split gives away
 abbrev pub quota_given : Event → ℕ
 quota_given (split a q n) = q
 quota_given _ = 0
@@ -244,6 +244,6 @@ abbrev pub sites_given : Event → ℕ
 sites_given (split a q n) = n
 sites_given _ = 0
 
--- terms of no pile, if nothing is picked
+-- placeholder terms, if nothing is picked
 abbrev pub no_terms : Terms
 no_terms = record { start = record { grid = record { width = 0; height = 0; edge = Open }; heights = [] }; quota = 0 }

@@ -9,30 +9,30 @@ use Rattle.sand_shared.specs.Events.{Event, begin, unopened, AllHappen, after_al
 use Rattle.sand_shared.specs.Running.{Shows}
 use Rattle.sand_shared.specs.Sweeps.{HasAll, Swept}
 
--- after its begin and any list of events that may happen, the open pile is lawful
+-- the open pile is lawful after its begin and any list of events that can happen
 abbrev pub AlwaysLawful : Type 0
 AlwaysLawful = (t : Terms) (events : List Event) → AreTerms t → AllHappen t (unopened t) (begin ∷ events)
     → IsLawful t (after_all t (unopened t) (begin ∷ events))
 
--- an open pile that is lawful, and of which the words and the views show all
+-- a lawful open pile that the words and the views show
 pub record ShowLawful (t : Terms) (s : State ℕ View) : Type 0 where
   pub pile : OpenPile
   pub lawful : IsLawful t pile
   pub shown : Shows t pile s
 
--- whatever words and views this rule holds of, they show a lawful open pile
+-- if this rule holds of words and views, they show a lawful open pile
 abbrev pub HoldsLawful : (Terms → State ℕ View → Type 0) → Type 0
 HoldsLawful rule = (t : Terms) (s : State ℕ View) → rule t s → ShowLawful t s
 
--- on a lawful pile the grains that lie on a site and those in hand for it are at most those of the start and the quota
+-- on a lawful pile, the grains on a site and in hand for it are at most the start and the quota together
 abbrev pub FewGrains : Type 0
 FewGrains = (t : Terms) (p : OpenPile) → AreTerms t → IsLawful t p → (i : ℕ) → i < sites (grid_of_terms t) → present p i ≤ sum t.start.heights + t.quota
 
--- and no more drops were begun than the quota
+-- no more drops have begun than the quota
 abbrev pub FewDraws : Type 0
 FewDraws = (t : Terms) (p : OpenPile) → IsLawful t p → length p.drawn ≤ t.quota
 
--- two sweeps of one pass that has all leave the same counts and return the same
+-- any two sweeps of a pass that has everything leave the same counts and return the same
 abbrev pub OneSweep : Type 0
 OneSweep = (t : Terms) (v : View) (counts others : List ℕ) (topplings other : ℕ) → HasAll t v → Swept t v counts topplings → Swept t v others other
     → (counts ≡ others) × (topplings ≡ other)

@@ -1,4 +1,4 @@
--- What contracts see of a history: the site of each drop by its number.
+-- What contracts see of a history: the site of each drop, by number.
 use Rattle.std.specs.Prelude.{ℕ, List}
 use Rattle.std.specs.Arc.{arc_slice_items}
 use Rattle.sand_shared.specs.declared.history.Sites.{Sites}

@@ -1,5 +1,6 @@
--- The open pile: one pile of sand on which passes drop grains and topple sites at once, as plain data, and when it is lawful.
--- Source: this project's own. Balance and what stabilises are those of Dhar 1990 and of chip-firing, in `sand_model`.
+-- The open pile, as plain data: a pile on which passes drop grains and topple sites concurrently, and when it is
+-- lawful.
+-- Source: this project's own. Balance and stabilising are those of Dhar 1990 and of chip-firing, in `sand_model`.
 use Rattle.std.specs.Prelude.{ℕ, Bool, true, ◌≡◌, ◌+◌, ◌-◌, ◌<◌, ◌≤◌, ◌==◌, ◌&&◌, nat_lt, nat_le, if◌then◌else◌, Some, List, [], All, length, sum, sum_by, count_by, slice_get, slice_index, slice_index_or}
 use Rattle.sand_model.specs.Grid.{Grid, sites}
 use Rattle.sand_model.specs.Sand.{tally, flow, IsToppled, Stabilises}
@@ -19,14 +20,14 @@ pub record OpenPile : Type 0 where
 abbrev pub grid_of_terms : Terms → Grid
 grid_of_terms t = t.start.grid
 
--- a pile, with a quota that keeps its grains within the limit
+-- a start and a quota, which together stay within the limit
 pub record AreTerms (t : Terms) : Type 0 where
   pub pile : IsPile t.start
   pub limit : sum t.start.heights + t.quota ≤ most_grains
 
 -- What a pass has
 
--- a pass that has nothing
+-- a pass with nothing
 abbrev pub nobody : View
 nobody = record { left = 0; seen = 0; receipts = []; hand = []; base = 0; counts = []; spot = 0; least = 0 }
 
@@ -38,15 +39,15 @@ amount_at i k j = if i == j then k else 0
 abbrev pub held : List Grains → ℕ → ℕ
 held hand j = sum_by (λ g. amount_at g.site g.amount j) hand
 
--- how many receipts are for a site
+-- how many receipts are for the site j
 abbrev pub dropped : List Receipt → ℕ → ℕ
 dropped receipts j = count_by (λ r. r.site == j) receipts
 
--- how many receipts have a number
+-- how many receipts have the number n
 abbrev pub numbered : List Receipt → ℕ → ℕ
 numbered receipts n = count_by (λ r. r.number == n) receipts
 
--- whether a site is in the rows of a pass
+-- the site is in the rows of the pass
 abbrev pub holds_site : View → ℕ → Bool
 holds_site v i = nat_le v.base i && nat_lt i (v.base + length v.counts)
 
@@ -56,11 +57,11 @@ toppled_by v i = if nat_le v.base i then slice_index v.counts (i - v.base) else 
 
 -- What all passes have
 
--- the pass at a place in the list
+-- the pass at place a, or one with nothing
 abbrev pub pass_at : OpenPile → ℕ → View
 pass_at p a = slice_index_or p.passes a nobody
 
--- f of each pass, added up
+-- the sum of f over all passes
 abbrev pub in_all : (View → ℕ) → OpenPile → ℕ
 in_all f p = sum_by f p.passes
 
@@ -68,16 +69,17 @@ in_all f p = sum_by f p.passes
 abbrev pub toppled : OpenPile → ℕ → ℕ
 toppled p i = in_all (λ v. toppled_by v i) p
 
--- the grains that lie on a site, and those in hand for it
+-- the grains on a site and those in hand for it
 abbrev pub present : OpenPile → ℕ → ℕ
 present p i = p.height i + in_all (λ v. held v.hand i) p
 
--- the start with all grains that were drawn
+-- the start and all drawn grains
 abbrev pub poured : Terms → OpenPile → ℕ → ℕ
 poured t p i = height_of t.start i + tally p.drawn i
 
--- What is so of each pass: it has seen no more drops than were begun, its receipts tell sites and numbers rightly, its
--- grains in hand come from its receipts and from its topplings next to their site, and what it looked at has not fallen.
+-- A pass has seen no more drops than have begun, its receipts have the right sites and numbers, its grains in hand come
+-- from its receipts and from its topplings next to their site, and the site at which it looked has at least as many
+-- grains as it found.
 pub record IsLawfulPass (t : Terms) (p : OpenPile) (v : View) : Type 0 where
   pub seen : v.seen ≤ length p.drawn
   pub receipts : All (λ r. slice_get p.drawn r.number ≡ Some r.site) v.receipts
@@ -87,9 +89,9 @@ pub record IsLawfulPass (t : Terms) (p : OpenPile) (v : View) : Type 0 where
 pub record IsLawful (t : Terms) (p : OpenPile) : Type 0 where
   -- no grain vanishes or is doubled
   pub balance : IsToppled (grid_of_terms t) (poured t p) (toppled p) (present p)
-  -- no site has toppled more often than whatever stabilises the start with all drawn grains allows
+  -- no site has toppled more often than in any w that stabilises the start and all drawn grains
   pub needed : (w : ℕ → ℕ) → Stabilises (grid_of_terms t) (poured t p) w → (i : ℕ) → i < sites (grid_of_terms t) → toppled p i ≤ w i
-  -- the receipts have the numbers 0 to n - 1, each once, and at each site as many as it was drawn
+  -- the receipts have the numbers 0 to n - 1, each once, and each site has as many receipts as draws
   pub numbers : (n : ℕ) → in_all (λ v. numbered v.receipts n) p ≡ one_if (nat_lt n (length p.drawn))
   pub receipts : in_all (λ v. length v.receipts) p ≡ length p.drawn
   pub receipts_by_site : (i : ℕ) → in_all (λ v. dropped v.receipts i) p ≡ tally p.drawn i

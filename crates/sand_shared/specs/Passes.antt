@@ -10,12 +10,12 @@ use Rattle.sand_shared.specs.declared.rows.Rows.{Rows}
 use Rattle.sand_shared.specs.OpenPile.{grid_of_terms, numbered}
 use Rattle.sand_shared.specs.Rows.{count_of, rows_follow, rows_together, AreRowsOf}
 
--- a shared pile: which table it is, and what it began with
+-- a shared pile: its table, and what it began with
 pub record SharedView : Type 0 where
   pub table : TableId
   pub terms : Terms
 
--- a pass: which table and which grid it is of, and what it has; the counts are by site, from the first of its rows on
+-- a pass: its table, its grid, and what it has; the counts are by site, from the first of its rows on
 pub record PassView : Type 0 where
   pub table : TableId
   pub grid : Grid
@@ -25,19 +25,19 @@ pub record PassView : Type 0 where
   pub rows : Rows
   pub counts : List ℕ
 
--- the pass is of this pile
+-- the pass belongs to this pile
 pub record IsPassOf (pile : SharedView) (pass : PassView) : Type 0 where
   pub table : pass.table ≡ pile.table
   pub grid : pass.grid ≡ grid_of_terms pile.terms
 
--- no number is there twice
+-- no two receipts have the same number
 abbrev pub EachOnce : List Receipt → Type 0
 EachOnce receipts = (n : ℕ) → numbered receipts n ≤ 1
 
 abbrev pub AllBelow : ℕ → List Receipt → Type 0
 AllBelow n receipts = All (λ r. r.number < n) receipts
 
--- what a pass is to the rule between its calls: it has nothing in hand
+-- what a pass is to the rule between calls: it has nothing in hand
 abbrev pub at_rest : PassView → View
 at_rest p = record {
   left = p.left;
@@ -50,7 +50,7 @@ at_rest p = record {
   least = 0;
 }
 
--- the seat is that of the pass; there is room for so many receipts
+-- the seat is that of the pass, and its list has room for `room` receipts
 pub record IsPass (seat : Seat ℕ View) (p : PassView) (room : ℕ) : Type 0 where
   pub me : seat.me ≡ (record (at_rest p) { spot = seat.me.0.spot; least = seat.me.0.least }, [])
   pub receipts_fit : length p.receipts + p.left ≤ room
@@ -60,18 +60,18 @@ pub record IsPass (seat : Seat ℕ View) (p : PassView) (room : ℕ) : Type 0 wh
   pub rows : AreRowsOf p.grid p.rows
   pub one_each : length p.counts ≡ count_of p.rows * p.grid.width
 
--- the seat is that of a bare pass, which has made so many drops
+-- the seat is that of a bare pass with `made` receipts
 pub record IsBare (seat : Seat ℕ View) (p : PassView) (made : ℕ) : Type 0 where
   pub pass : IsPass seat p (length p.receipts + p.left)
   pub each_made : made ≡ length p.receipts
 
--- Parts and wholes
+-- Splitting and joining
 
--- how many of its sites a pass keeps that gives its last k rows away
+-- how many of its sites a pass keeps if it gives away its last k rows
 abbrev pub sites_kept : PassView → ℕ → ℕ
 sites_kept p k = length p.counts - k * p.grid.width
 
--- what two passes have together
+-- two passes as one
 abbrev pub together : PassView → PassView → PassView
 together p q = record p {
   left = p.left + q.left;
@@ -81,7 +81,7 @@ together p q = record p {
   counts = if rows_follow p.rows q.rows then p.counts ++ q.counts else q.counts ++ p.counts;
 }
 
--- all of the quota, as what is left or as receipts, and all rows
+-- the whole quota, left or as receipts, and all rows
 pub record IsWhole (terms : Terms) (p : PassView) : Type 0 where
   pub quota : p.left + length p.receipts ≡ terms.quota
   pub rows : p.rows ≡ record { first = 0; end = (grid_of_terms terms).height }

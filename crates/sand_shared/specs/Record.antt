@@ -10,25 +10,25 @@ use Rattle.sand_shared.specs.declared.view.Terms.{Terms}
 use Rattle.sand_shared.specs.OpenPile.{grid_of_terms}
 use Rattle.sand_shared.specs.Running.{Stands}
 
--- the start, the site of each drop by its number, and what these lead to
+-- the start, the site of each drop by number, and the result
 pub record RecordView : Type 0 where
   pub start : PileView
   pub history : List ℕ
   pub settled : SettledView
 
--- the pile of one thread at which the record stands
+-- the state of one thread's pile after the history
 abbrev pub one_of : RecordView → OneView
 one_of r = record { settled = r.settled; number = length r.history; grains = sum r.start.heights + length r.history }
 
--- it is what one thread gets that drops the history on the start, in order
+-- it is the result of one thread that drops the history on the start, in order
 pub record IsOneThreads (r : RecordView) : Type 0 where
   pub one : IsAfter r.start r.history (one_of r)
 
--- each receipt's site stands at its number
+-- the site of each receipt is at its number
 abbrev pub Tells : List Receipt → List ℕ → Type 0
 Tells receipts history = All (λ r. slice_get history r.number ≡ Some r.site) receipts
 
--- the last moment of a pile: the pass has v on a lawful open pile, which has these heights
+-- the last moment: the pass a has v on a lawful open pile with these heights
 pub record IsLast (t : Terms) (a : ℕ) (v : View) (heights : List ℕ) : Type 0 where
   pub stands : Stands t a v
   pub one_each : length heights ≡ sites (grid_of_terms t)

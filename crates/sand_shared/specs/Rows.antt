@@ -1,4 +1,4 @@
--- The rows that a pass holds: from the first up to the end, which is one past the last. Both are 0 if it holds none.
+-- The rows of a pass: from the first up to the end, which is one past the last. Both are 0 if there are none.
 use Rattle.std.specs.Prelude.{ℕ, Bool, ◌≡◌, ◌≢◌, ◌+◌, ◌-◌, ◌<◌, ◌≤◌, ◌==◌, ◌||◌, nat_lt, if◌then◌else◌}
 use Rattle.sand_model.specs.Grid.{Grid, row}
 use Rattle.sand_shared.specs.declared.rows.Rows.{Rows}
@@ -13,28 +13,28 @@ rows_between a b = if nat_lt a b then record { first = a; end = b } else no_rows
 abbrev pub count_of : Rows → ℕ
 count_of r = r.end - r.first
 
--- all but the last k rows, and these
+-- all but the last k rows, and those
 abbrev pub upper_rows : Rows → ℕ → Rows
 upper_rows r k = rows_between r.first (r.end - k)
 
 abbrev pub lower_rows : Rows → ℕ → Rows
 lower_rows r k = rows_between (r.end - k) r.end
 
--- whether the second are none, or come directly after the first
+-- q is empty, or begins where r ends
 abbrev pub rows_follow : Rows → Rows → Bool
 rows_follow r q = (q.first == q.end) || (q.first == r.end)
 
 abbrev pub rows_together : Rows → Rows → Rows
 rows_together r q = if rows_follow r q then record { first = r.first; end = r.end + count_of q } else record { first = q.first; end = q.end + count_of r }
 
--- both are some, and neither's end is the other's begin
+-- neither is empty, and neither begins where the other ends
 pub record AreApart (r q : Rows) : Type 0 where
   pub some_first : r.first ≢ r.end
   pub some_second : q.first ≢ q.end
   pub not_after : r.end ≢ q.first
   pub not_before : q.end ≢ r.first
 
--- rows of a grid, as numbers in their one form
+-- rows of a grid; if there are none, both numbers are 0
 pub record AreRowsOf (g : Grid) (r : Rows) : Type 0 where
   pub ordered : r.first ≤ r.end
   pub inside : r.end ≤ g.height

@@ -1,5 +1,5 @@
 -- The rule of the table of words, and what a step on it tells the pass that takes it.
--- Word 0 is the base's own, word 1 is the number word, and word i + 2 has the height of the site i.
+-- Word 0 is the table's own, word 1 is the number word, and word i + 2 is the height of the site i.
 use Rattle.std.specs.Prelude.{ℕ, ◌≡◌, ◌+◌, ◌<◌, List, [], ◌∷◌, length, slice_index}
 use Rattle.atomic_table.specs.Table.{State, Me}
 use Rattle.sand_model.specs.Grid.{sites}
@@ -22,7 +22,7 @@ pub record IsRunning (t : Terms) (s : State ℕ View) : Type 0 where
   pub happened : AllHappen t (unopened t) (begin ∷ events)
   pub shown : Shows t (after_all t (unopened t) (begin ∷ events)) s
 
--- the pass whose step an event is
+-- the pass that takes the step of an event
 abbrev pub actor : Event → ℕ
 actor begin = 0
 actor (draw a i) = a
@@ -34,7 +34,7 @@ actor (look a i) = a
 actor (unload a i k) = a
 actor (deliver a i k) = a
 
--- the number that the step of an event finds in its word
+-- the value that the step of an event finds in its word
 abbrev pub found : OpenPile → Event → ℕ
 found p begin = 0
 found p (draw a i) = length p.drawn
@@ -46,7 +46,7 @@ found p (look a i) = p.height i
 found p (unload a i k) = p.height i
 found p (deliver a i k) = p.height i
 
--- v is what the pass a has on some lawful open pile
+-- the pass a has v on some lawful open pile
 pub record Stands (t : Terms) (a : ℕ) (v : View) : Type 0 where
   pub terms : AreTerms t
   pub pile : OpenPile
@@ -54,7 +54,7 @@ pub record Stands (t : Terms) (a : ℕ) (v : View) : Type 0 where
   pub there : a < length pile.passes
   pub pass : pass_at pile a ≡ v
 
--- a pass that had v took the step of an event, which could happen, found n, and has w after it
+-- the event could happen on a lawful open pile where its pass had v; its step found n, and the pass then has w
 pub record Happened (t : Terms) (e : Event) (v : View) (n : ℕ) (w : View) : Type 0 where
   pub before : Stands t (actor e) v
   pub may : May t before.pile e
@@ -65,17 +65,17 @@ pub record Happened (t : Terms) (e : Event) (v : View) (n : ℕ) (w : View) : Ty
 abbrev pub Takes : Terms → Event → Me ℕ View → ℕ → Me ℕ View → Type 0
 Takes t e v n w = Happened t e v.0 n w.0 × (w.1 ≡ v.1)
 
--- what a load tells that is no event: the pass has what it had
+-- what a load that is no event tells: the pass has what it had
 abbrev pub Learns : Terms → ℕ → Me ℕ View → ℕ → Me ℕ View → Type 0
 Learns t a v n w = Stands t a v.0 × (w ≡ v)
 
--- the number that the first of some events finds in its word
+-- the value that the first of the events finds in its word
 abbrev pub found_first : OpenPile → List Event → ℕ
 found_first p [] = 0
 found_first p (e ∷ es) = found p e
 
--- a pass a that had v took some events of its own in one step, which could happen one after another, found n, and has w
--- after them
+-- the pass a had v and took these events in one step: they could happen one after another, the step found n, and the
+-- pass then has w
 pub record HappenedInARow (t : Terms) (a : ℕ) (es : List Event) (v : View) (n : ℕ) (w : View) : Type 0 where
   pub before : Stands t a v
   pub may : AllHappen t before.pile es

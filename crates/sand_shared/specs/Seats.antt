@@ -1,4 +1,4 @@
--- What the steps on the table of words see of it and of a pass's seat.
+-- What contracts of steps see of the table of words and of a pass's seat.
 use Rattle.std.specs.Prelude.{ℕ, ◌≡◌, ◌+◌, []}
 use Rattle.atomic_table.specs.declared.shared.Seat.{Seat}
 use Rattle.sand_model.specs.Grid.{Grid, sites}
@@ -7,7 +7,7 @@ use Rattle.sand_shared.specs.declared.view.Terms.{Terms}
 use Rattle.sand_shared.specs.OpenPile.{grid_of_terms, AreTerms}
 use Rattle.sand_shared.specs.Passes.{SharedView}
 
--- a number word, a word a site, and the base's own; and the lattice of the grid
+-- the table's own word, the number word and a word for each site; and the lattice of the grid
 pub record AreWords (key : Terms) (lattice : Grid) (words : SharedView) : Type 0 where
   pub key_is : key ≡ words.terms
   pub lattice_is : lattice ≡ grid_of_terms words.terms
@@ -15,12 +15,12 @@ pub record AreWords (key : Terms) (lattice : Grid) (words : SharedView) : Type 0
   pub no_slots : words.table.slots ≡ 0
   pub terms : AreTerms words.terms
 
--- a seat at this table, which holds no slot
+-- a seat at this table, without slots
 pub record IsSeatAt (words : SharedView) (seat : Seat ℕ View) : Type 0 where
   pub table : seat.table_id ≡ words.table
   pub bare : seat.me.1 ≡ []
 
--- the same seat at the same table, whatever it has now
+-- the same seat, whatever it has now
 pub record StaysSeated (old new : Seat ℕ View) : Type 0 where
   pub table : new.table_id ≡ old.table_id
   pub id : new.id ≡ old.id

@@ -1,5 +1,5 @@
--- What a sweep owes to the pass that sweeps, whatever others do meanwhile.
--- With k = start + own receipts - L(own counts), L the toppling matrix (Dhar 1990), written without subtraction.
+-- What a sweep promises the pass that sweeps, whatever other threads do meanwhile.
+-- Here k = start + own receipts - L(own counts), with the toppling matrix L (Dhar 1990), written without subtraction.
 use Rattle.std.specs.Prelude.{ℕ, true, ◌≡◌, ◌+◌, ◌-◌, ◌*◌, ◌<◌, ◌≤◌, ◌↔◌, List, ◌++◌, length, sum, take, drop, slice_index}
 use Rattle.sand_model.specs.Grid.{sites}
 use Rattle.sand_model.specs.Sand.{flow, IsSettled, Stabilises, weight, topplings as topplings_of, lost as lost_of}
@@ -10,7 +10,7 @@ use Rattle.sand_shared.specs.declared.view.Terms.{Terms}
 use Rattle.sand_shared.specs.OpenPile.{grid_of_terms, dropped, holds_site, toppled_by}
 use Rattle.sand_shared.specs.Passes.{PassView, at_rest}
 
--- the start and the grains of a pass's own receipts
+-- the start and the pass's own receipts
 abbrev pub laid : Terms → View → ℕ → ℕ
 laid t v i = height_of t.start i + dropped v.receipts i
 
@@ -26,46 +26,44 @@ LeavesAtLeast t v i n = n + 4 * toppled_by v i ≤ laid t v i + flow (grid_of_te
 abbrev pub IsCalm : Terms → View → Type 0
 IsCalm t v = (i : ℕ) → i < sites (grid_of_terms t) → LeavesAtMost t v i 3
 
--- all of the quota, and all sites
+-- the whole quota and all sites
 pub record HasAll (t : Terms) (v : View) : Type 0 where
   pub quota : t.quota ≤ v.left + length v.receipts
   pub all_sites : (i : ℕ) → i < sites (grid_of_terms t) → holds_site v i ≡ true
 
--- no more topplings than the start and the receipts need, site by site and in all
+-- no site has toppled more often than the start and the receipts require, and the total is bounded by their weight
 pub record IsSparing (t : Terms) (v : View) : Type 0 where
   pub needed : (w : ℕ → ℕ) → Stabilises (grid_of_terms t) (laid t v) w → (i : ℕ) → i < sites (grid_of_terms t) → toppled_by v i ≤ w i
   pub weighed : 2 * sum v.counts ≤ weight (grid_of_terms t) (laid t v)
 
--- a pass with these counts
 abbrev pub with_counts : View → List ℕ → View
 with_counts v counts = record v { counts = counts }
 
--- what a pass has counted when its sweep, which left these counts, comes to the j-th of its sites: those before it have
--- toppled, it and those behind it have not
+-- the pass when a sweep that ends with these counts comes to the j-th of its sites: only the sites before it have been
+-- swept
 abbrev pub coming_to : View → List ℕ → ℕ → View
 coming_to v counts j = with_counts v (take j counts ++ drop j v.counts)
 
--- the j-th site toppled as often as k allowed when the sweep came to it: k was at least 4 times that, and less than 4 more
+-- the j-th site toppled k div 4 times, for the k when the sweep came to it
 abbrev pub TopplesInTurn : Terms → View → List ℕ → ℕ → Type 0
 TopplesInTurn t v counts j = let times = slice_index counts j - slice_index v.counts j in
     LeavesAtLeast t (coming_to v counts j) (v.base + j) (4 * times) × LeavesAtMost t (coming_to v counts j) (v.base + j) (4 * times + 3)
 
--- a sweep over the rows of v, with the counts that it leaves and the topplings that it returns
+-- a sweep over the rows of v that leaves these counts and returns these topplings
 pub record Swept (t : Terms) (v : View) (counts : List ℕ) (topplings : ℕ) : Type 0 where
   pub same_rows : length counts ≡ length v.counts
-  -- the counts rose by these topplings
   pub risen : sum counts ≡ sum v.counts + topplings
   pub idle : topplings ≡ 0 → counts ≡ v.counts
   pub never_fall : (j : ℕ) → slice_index v.counts j ≤ slice_index counts j
-  -- a site with k of 4 or more has toppled at least k div 4 times
+  -- each site toppled at least k div 4 times
   pub enough : (j : ℕ) → j < length v.counts → LeavesAtMost t v (v.base + j) (4 * (slice_index counts j - slice_index v.counts j) + 3)
-  -- a pass that has all topples nothing if and only if nothing is left to topple
+  -- a pass that has everything topples nothing if and only if nothing was left to topple
   pub calm : HasAll t v → (topplings ≡ 0) ↔ IsCalm t v
   pub sparing : HasAll t v → IsSparing t (with_counts v counts)
-  -- a pass that has all goes to each site once, in turn, and topples it just as often as the grains on it then allow
+  -- it visits each site once, in turn, and topples it as often as its grains then allow
   pub in_turn : HasAll t v → (j : ℕ) → j < length v.counts → TopplesInTurn t v counts j
 
--- r settles what a whole pass has left to topple: its counts and r's odometer together are the least odometer of the start
+-- r settles what a whole pass has left to topple: its counts and r's odometer add up to the least odometer of the start
 -- and its receipts
 pub record IsRestOf (t : Terms) (p : PassView) (r : SettledView) : Type 0 where
   pub grid : r.pile.grid ≡ grid_of_terms t

@@ -1,7 +1,7 @@
-//! Bare passes: passes without the list of their receipts, which their owner keeps.
+//! Bare passes: passes without the list of their receipts, which the owner keeps.
 //!
-//! Sixteen bytes a receipt are much to copy, when many passes become one. So passes can be gathered bare: what the rule of the
-//! pile knows of their receipts goes along, and the lists stay where they are, to be read by other threads meanwhile.
+//! A receipt takes sixteen bytes, so joining many passes copies much. Bare passes are joined without their lists, which
+//! other threads can read meanwhile. The rule of the pile still keeps track of their receipts.
 
 ghost use Rattle.std.specs.Prelude.{◌≡◌, ◌+◌, ◌≤◌, ◌↔◌, length, vec_capacity, IfErr, OnOk, OnErr};
 ghost use Rattle.sand_shared.specs.Passes.{IsPassOf, together};
@@ -18,8 +18,8 @@ use sand_model::Shape;
 use std::alloc::Global;
 use std::marker::{Brand, Model};
 
-/// A pass whose receipts are in lists that its owner keeps. It has all else that a pass has, and what contracts see of it is
-/// a pass, with its receipts.
+/// A pass without its list of receipts, which the owner keeps. To contracts it is a pass with its receipts. A caller
+/// cannot turn it back into a `Pass`.
 #[derive(Drop)]
 pub struct BarePass {
     pub(crate) seat: Seat<u8, View>,
@@ -58,7 +58,7 @@ impl Model for BarePass {
 }
 
 impl Pass {
-    /// The pass without its receipts, and their list.
+    /// Separates a pass from the list of its receipts.
     pub fn into_bare(self) -> (BarePass, Vec<Receipt>)
         ensures bare { result.0 ≡ self }
         ensures receipts { result.1.items ≡ self.receipts }
@@ -87,7 +87,7 @@ impl Pass {
 }
 
 impl BarePass {
-    // The pass with the list of its receipts.
+    // The inverse of `into_bare`.
     pub(crate) fn with_receipts(self, receipts: Vec<Receipt>) -> Pass
         requires receipts { receipts.items ≡ self.receipts }
         requires room { length self.receipts + self.left ≤ vec_capacity receipts }
@@ -115,8 +115,8 @@ impl BarePass {
 }
 
 impl SharedPile {
-    /// Takes in all that another bare pass of this pile has, as `SharedPile::join` does. The receipts of the other pass come
-    /// behind the pass's own.
+    /// Joins a bare pass of the same pile to another, as `SharedPile::join` does. The receipts of `other` come after
+    /// those of `pass`.
     pub fn join_bare(
         &self,
         _alloc: Global,

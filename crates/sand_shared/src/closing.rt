@@ -1,8 +1,8 @@
-//! Closing a shared pile with a pass that has gathered all: it topples in place until nothing topples.
+//! Closing a shared pile with a pass that has gathered everything: it sweeps until nothing topples.
 //!
-//! Then the pass's own counts are all topplings there were, and with nothing in hand the heights are the start and all
-//! drops, less what toppled. At most 3 are left everywhere, and no site toppled more often than needed: that is the
-//! settled pile with its least odometer.
+//! Then the pass's counts are all topplings and nothing is in hand, so the heights are the start plus all drops, minus
+//! what toppled. Each height is at most 3, and no site toppled more often than needed: this is the settled pile with
+//! its least odometer.
 
 ghost use Rattle.std.specs.Prelude.{◌≡◌, ℕ, ◌+◌, ◌*◌, ◌^◌, ◌<◌, ◌≤◌, ◌↔◌, true, [], length, sum, slice_index, vec_capacity, IfOk, IfErr, OnOk, All};
 ghost use Rattle.sand_model.specs.Grid.{sites};
@@ -39,7 +39,7 @@ impl Words {
     }
 }
 
-// Writes the site of each receipt at its number.
+// Writes each receipt's site at its number.
 pub(crate) fn fill(history: &mut Vec<usize>, receipts: &[Receipt])
     requires inside { All (λ r. r.number < length history.old.items) receipts.now }
     requires once { EachOnce receipts.now }
@@ -52,10 +52,9 @@ pub(crate) fn fill(history: &mut Vec<usize>, receipts: &[Receipt])
 }
 
 impl SharedPile {
-    /// Closes the pile with a pass that has gathered all, and returns its record. Refuses a pass that lacks quota,
-    /// receipts or rows (Missing), then Memory, before anything topples; the pile and the pass then come back.
-    ///
-    /// `SharedPile::settle` returns the same record, and is faster when much is left to topple.
+    /// Closes the pile with a pass that has gathered everything, and returns the record, the same as
+    /// `SharedPile::settle`. Returns Missing if the pass lacks quota, receipts or rows; else Memory if an allocation
+    /// fails. On error nothing has toppled, and the pile and the pass come back.
     pub fn close(self, alloc: Global, pass: Pass) -> Result<Record, (CloseFault, SharedPile, Pass)>
         requires { IsPassOf self pass }
         ensures missing { IfErr result (λ e. (e.0 ≡ CloseFault.Missing) ↔ ¬ IsWhole self.terms pass) }
@@ -63,12 +62,12 @@ impl SharedPile {
         ensures pile_back { IfErr result (λ e. e.1 ≡ self) }
         ensures pass_back { IfErr result (λ e. e.2 ≡ pass) }
 
-        // What one thread would have got that drops the history on the start, in order: the settled pile, the grains
-        // lost, and the least odometer.
+        // The result of one thread that drops the history on the start, in order: the settled pile, the grains lost,
+        // and the least odometer.
         ensures one_threads { IfOk result IsOneThreads }
         ensures start { IfOk result (λ r. r.start ≡ self.terms.start) }
 
-        // Each drop call once, at the number that it returned, and after all that its pass had seen.
+        // Each drop is there once, at the number that its call returned, after all drops that its pass had seen.
         ensures history { IfOk result (λ r. Tells pass.receipts r.history) }
         ensures each_drop_once { IfOk result (λ r. length r.history ≡ length pass.receipts) }
         ensures each_number_once { OnOk result (EachOnce pass.receipts) }
@@ -84,7 +83,7 @@ impl SharedPile {
         Ok(self.topple_out(pass, history, heights))
     }
 
-    // A history with a place for each receipt of the pass, if the pass has all.
+    // A history with an entry for each receipt, if the pass is whole.
     pub(crate) fn blank_history(&self, alloc: Global, pass: &Pass) -> Result<Vec<usize>, CloseFault>
         requires { IsPassOf self.now pass.now }
         ensures missing { IfErr result (λ e. (e ≡ CloseFault.Missing) ↔ ¬ IsWhole self.now.terms pass.now) }
@@ -98,7 +97,7 @@ impl SharedPile {
         Ok(history)
     }
 
-    // Lists that have room for the history and the heights of a record, if the pass has all.
+    // Lists with room for the history and the heights of a record, if the pass is whole.
     fn room_for_record(
         &self,
         alloc: Global,
@@ -115,7 +114,7 @@ impl SharedPile {
         Ok((history, heights))
     }
 
-    // Topples until nothing topples, and writes the record into lists that have room for it.
+    // Sweeps until nothing topples, and writes the record into the given lists.
     fn topple_out(self, pass: Pass, mut history: Vec<usize>, mut heights: Vec<u64>) -> Record
         requires pass { IsPassOf self pass }
         requires whole { IsWhole self.terms pass }

@@ -1,4 +1,4 @@
-//! Why a call on a shared pile was refused, with the number of each fault.
+//! The faults of calls on a shared pile, and their numbers.
 
 ghost use Rattle.std.specs.Prelude.{◌≡◌};
 ghost use Rattle.sand_shared.specs.declared.faults.SharedFault.TheVariants.{Memory};
@@ -8,7 +8,7 @@ ghost use Rattle.sand_shared.specs.declared.faults.CloseFault.TheVariants.{Memor
 use std::alloc::AllocError;
 use thiserror::Error;
 
-/// Why a shared pile was not made, or a record not copied or continued.
+/// Why a shared pile could not be made, or a record copied or continued.
 #[derive(Debug, Drop, Error)]
 pub enum SharedFault {
     #[error("more grains than the limit, with the quota")]
@@ -17,7 +17,7 @@ pub enum SharedFault {
     Memory(AllocError),
 }
 
-/// Why a pass was not split.
+/// Why a pass could not be split.
 #[derive(Debug, Drop, Error)]
 pub enum SplitFault {
     #[error("quota over what is left")]
@@ -28,7 +28,7 @@ pub enum SplitFault {
     Memory(AllocError),
 }
 
-/// Why two passes were not joined.
+/// Why two passes could not be joined.
 #[derive(Debug, Drop, Error)]
 pub enum JoinFault {
     #[error("both passes have rows, and they do not touch")]
@@ -37,14 +37,14 @@ pub enum JoinFault {
     Memory(AllocError),
 }
 
-/// Why no grain was dropped.
+/// Why a grain could not be dropped.
 #[derive(Clone, Copy, Debug, PartialEq, Eq, Error)]
 pub enum DropFault {
     #[error("nothing left to drop")]
     Spent,
 }
 
-/// Why a shared pile was not closed.
+/// Why a shared pile could not be closed.
 #[derive(Debug, Drop, Error)]
 pub enum CloseFault {
     #[error("quota, receipts or rows that the pass has not gathered")]

@@ -1,6 +1,7 @@
-//! Records that follow one another: the next one starts from the pile of the first, and both become one.
+//! Consecutive records: the second starts from the pile of the first, and both become one.
 //!
-//! To settle in two parts is to settle at once, so the history of both has the next one's pile, and the odometers add.
+//! Settling in two parts is settling at once, so the joint record has the second one's pile, and the odometers add up.
+//! Appending takes time in proportion to the second history and to the number of sites.
 
 ghost use Rattle.std.specs.Prelude.{◌≡◌, ℕ, ◌+◌, ◌<◌, ◌≤◌, ◌++◌, IfOk, OnOk, OnErr, IsOkUnless, alloc_error, length, sum};
 ghost use Rattle.sand_model.specs.Grid.{sites};
@@ -15,9 +16,8 @@ use sand_settle::Settled;
 use std::alloc::Global;
 
 impl Record {
-    /// Grows by a record that starts from this one's pile, and is then the record of both histories, one after the
-    /// other. It costs time in proportion to the next history and to the sites. Returns Memory if an allocation fails;
-    /// this record is then unchanged.
+    /// Appends a record that starts from this one's pile: this becomes the record of both histories, one after the
+    /// other. Returns Memory if an allocation fails; this record is then unchanged.
     pub fn append(&mut self, alloc: Global, next: &Record) -> Result<(), SharedFault>
         requires start { next.now.start ≡ self.old.settled.pile }
         requires limit { sum self.old.start.heights + (length self.old.history + length next.now.history) ≤ most_grains }
@@ -42,7 +42,7 @@ impl Record {
         Ok(())
     }
 
-    /// The record of both histories, one after the other, if the next one starts from this one's pile.
+    /// Like `append`, but returns a new record.
     pub fn followed_by(&self, alloc: Global, next: &Record) -> Result<Record, SharedFault>
         requires start { next.now.start ≡ self.now.settled.pile }
         requires limit { sum self.now.start.heights + (length self.now.history + length next.now.history) ≤ most_grains }

@@ -1,7 +1,7 @@
-//! The history of a record: the site of each drop by its number, in a list of its own or in one that copies share.
+//! The history of a record: the site of each drop by number, in a list of its own or in one that copies share.
 //!
-//! A history has as many numbers as a run has drops. So a record that is copied shares its history first, and only a
-//! record that grows has a list of its own.
+//! A history has an entry for each drop of a run, so a record is made to share its history before it is copied: the
+//! copy then takes no time and no memory for it. Only a record that grows needs its own list.
 
 ghost use Rattle.std.specs.Prelude.{◌≡◌, ◌++◌, IfOk, OnOk, OnErr};
 
@@ -30,7 +30,7 @@ impl Model for History {
     ghost view = { λ h. listed h.sites };
 }
 
-// A copy of a list, with room for so many more.
+// A copy of a list, with room for `more` further entries.
 fn list_with_room(alloc: Global, list: &[usize], more: usize) -> Result<Vec<usize>, AllocError>
     ensures { IfOk result (λ v. v.items ≡ list.now) }
 {
@@ -57,7 +57,7 @@ impl History {
         }
     }
 
-    /// The same history, in a list that copies share.
+    /// The same history, in a list that its copies share.
     pub(crate) fn share(self) -> Result<History, AllocError>
         ensures { IfOk result (λ h. h ≡ self) }
     {
@@ -70,7 +70,7 @@ impl History {
         })
     }
 
-    /// A copy, which shares the list of a shared history.
+    /// A copy. Copies of a shared history share its list.
     pub(crate) fn copy(&self, alloc: Global) -> Result<History, AllocError>
         ensures { IfOk result (λ h. h ≡ self.now) }
     {
@@ -82,7 +82,7 @@ impl History {
         }
     }
 
-    /// A copy with a list of its own that has room for so many drops more.
+    /// A copy with its own list, with room for `drops` more.
     pub(crate) fn copy_with_room(&self, alloc: Global, drops: usize) -> Result<History, AllocError>
         ensures { IfOk result (λ h. h ≡ self.now) }
     {
@@ -90,7 +90,7 @@ impl History {
         Ok(History::of(sites))
     }
 
-    /// Grows by the sites of a next history. Returns an error if an allocation fails; the history is then unchanged.
+    /// Appends the sites of the next history. Returns an error if an allocation fails; the history is then unchanged.
     pub(crate) fn append(&mut self, alloc: Global, next: &[usize]) -> Result<(), AllocError>
         ensures both { OnOk result (self.new ≡ self.old ++ next.now) }
         ensures unchanged { OnErr result (self.new ≡ self.old) }

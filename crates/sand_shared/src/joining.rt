@@ -1,4 +1,4 @@
-//! How a pass takes in another one of the same pile.
+//! Joining two passes of one pile.
 
 ghost use Rattle.std.specs.Prelude.{◌≡◌, ◌++◌, ◌↔◌, if◌then◌else◌, IfOk, IfErr, OnOk, OnErr};
 ghost use Rattle.sand_shared.specs.Passes.{IsPassOf, together};
@@ -10,7 +10,7 @@ use crate::shared_pile::SharedPile;
 use std::alloc::{AllocError, Global};
 use std::marker::Brand;
 
-/// The first list becomes both: the second is appended if they are in order, and put in front if not.
+/// Puts the second list after the first, or in front of it if they are not in order.
 pub(crate) fn lay_together(
     first: &mut Vec<u64>,
     second: &mut Vec<u64>,
@@ -28,9 +28,9 @@ pub(crate) fn lay_together(
 }
 
 impl SharedPile {
-    /// Takes in all that another pass of this pile has: its quota, its receipts behind the pass's own, what it has
-    /// seen, and its rows with their counts. Returns Apart if its rows do not touch the pass's own, else Memory if an
-    /// allocation fails; both give the other pass back.
+    /// Joins `other`, a pass of the same pile, to `pass`: adds its quota, appends its receipts, takes its rows with
+    /// their counts, and keeps the greater `seen`. Returns Apart if the rows do not touch; else Memory if an allocation
+    /// fails. Both errors give `other` back.
     pub fn join(
         &self,
         _alloc: Global,

@@ -1,8 +1,8 @@
-//! One pile of sand that many threads share: they drop grains on it and topple its sites in place, all at once.
+//! One pile of sand shared by many threads, which drop grains on it and topple its sites in place concurrently.
 //!
-//! The definitions are in `specs/`: `OpenPile` (the pile while it is shared, and when it is lawful), `Events` (the
-//! nine kinds of step, each as its condition and its effect) and `Running` (the rule of the table of words: events
-//! have led to what it shows).
+//! The definitions are in `specs/`: `OpenPile` (the pile while it is shared, and when it is lawful), `Events` (the nine
+//! kinds of event, each with its condition and its effect) and `Running` (the rule of the table of words: events have
+//! led to what it shows).
 #![tactic(auto)]
 
 mod bare;

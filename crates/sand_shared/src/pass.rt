@@ -1,4 +1,4 @@
-//! Passes: what a thread holds to drop grains on a shared pile and to topple rows of it.
+//! Passes: what a thread holds to drop grains on a shared pile and to topple some of its rows.
 
 ghost use Rattle.std.specs.Prelude.{◌≡◌, ℕ, ◌-◌, ◌*◌, ◌≤◌};
 ghost use Rattle.sand_shared.specs.Passes.{EachOnce, AllBelow, at_rest};
@@ -12,14 +12,14 @@ use atomic_table::Seat;
 use sand_model::Shape;
 use std::marker::Model;
 
-/// A right to drop a number of grains on a shared pile and to topple some of its rows.
+/// The right to drop a number of grains on a shared pile and to topple some of its rows.
 ///
-/// One thread has it at a time, and may send it to another. All that it says of itself stays true whatever other
-/// threads do: nobody else can draw a number that one of its receipts has, drop what it has left, or topple its rows.
-/// What it has seen is how many drops it knows to have begun; the pile's may be more by now.
+/// One thread holds it at a time, and may send it to another. What a pass says of itself stays true whatever other
+/// threads do: nobody else can draw the number of one of its receipts, use its quota, or topple its rows. `seen` is how
+/// many drops it knows have begun; there may be more by now.
 ///
-/// A pass with nothing left, no receipts and no rows may be thrown away. With any other one that is thrown away the
-/// pile cannot be closed again.
+/// A pass with no quota left, no receipts and no rows may be discarded. If any other pass is discarded, the pile can no
+/// longer be closed.
 #[derive(Drop)]
 pub struct Pass {
     pub(crate) seat: Seat<u8, View>,
@@ -66,14 +66,14 @@ impl Pass {
         self.left
     }
 
-    /// How many drops it knows to have begun.
+    /// How many drops it knows have begun.
     pub fn seen(&self) -> u64
         ensures { result ≡ self.now.seen }
     {
         self.seen
     }
 
-    /// The drops that were made with it and with passes joined to it.
+    /// The drops made with it and with passes joined to it.
     pub fn receipts(&self) -> &[Receipt]
         ensures value { result.now ≡ self.now.receipts }
         ensures each_once { EachOnce self.now.receipts }
@@ -82,7 +82,7 @@ impl Pass {
         self.receipts.as_slice()
     }
 
-    /// Its rows: the first, and one past the last; both are 0 where it has none.
+    /// Its first row, and one past its last; both are 0 if it has none.
     pub fn rows(&self) -> (u16, u16)
         ensures { result ≡ (self.now.rows.first, self.now.rows.end) }
     {

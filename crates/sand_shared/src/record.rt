@@ -1,4 +1,4 @@
-//! The record of a closed pile: what one thread would have got.
+//! The record of a closed pile: the result that one thread would get.
 
 ghost use Rattle.std.specs.Prelude.{◌≡◌, ◌+◌, ◌^◌, ◌<◌, ◌≤◌, All, IfOk, IsOkUnless, alloc_error, length, sum, slice_index};
 ghost use Rattle.sand_model.specs.Grid.{sites};
@@ -14,8 +14,8 @@ use sand_settle::Settled;
 use std::alloc::{AllocError, Global};
 use std::marker::Model;
 
-/// A closed pile: its start, the site of each drop by its number, and what these lead to: the settled pile, and how often
-/// each site has toppled since the start. It is what one thread gets that drops the history in order.
+/// A closed pile: its start, the site of each drop by number, the settled pile, and how often each site has toppled
+/// since the start. It is the result of one thread that drops the history in order.
 #[derive(Debug, Drop)]
 pub struct Record {
     pub(crate) start: Pile,
@@ -33,7 +33,7 @@ impl Model for Record {
     ghost invariant = { λ r. IsOneThreads (record { start = r.start; history = r.history; settled = r.settled }) };
 }
 
-// A copy of a pile, of which nothing but memory can be refused.
+// Copies a pile; only an allocation can fail.
 pub(crate) fn copy_of(alloc: Global, pile: &Pile) -> Result<Pile, AllocError>
     ensures { IfOk result (λ p. p ≡ pile.now) }
 {
@@ -44,7 +44,7 @@ pub(crate) fn copy_of(alloc: Global, pile: &Pile) -> Result<Pile, AllocError>
 }
 
 impl Record {
-    /// A record of the lists themselves. Takes no memory.
+    /// A record made of the lists themselves. Allocates nothing.
     pub(crate) fn of_lists(
         start: Pile,
         history: Vec<usize>,
@@ -77,7 +77,7 @@ impl Record {
         &self.start
     }
 
-    /// The site of each drop, by its number.
+    /// The site of each drop, by number.
     pub fn history(&self) -> &[usize]
         ensures value { result.now ≡ self.now.history }
         ensures one_threads { IsOneThreads self.now }
@@ -101,7 +101,7 @@ impl Record {
         self.settled.odometer(site)
     }
 
-    /// How often each site has toppled, by site.
+    /// How often each site has toppled.
     pub fn odometers(&self) -> &[u64]
         ensures value { result.now ≡ self.now.settled.odometer }
         ensures one_threads { IsOneThreads self.now }
@@ -109,7 +109,7 @@ impl Record {
         self.settled.odometers()
     }
 
-    /// How many topplings there were in all.
+    /// The total number of topplings.
     pub fn topplings(&self) -> u64
         ensures value { result ≡ self.now.settled.topplings }
         ensures few { result < 2 ^ 54 }
@@ -125,8 +125,8 @@ impl Record {
         self.settled.lost()
     }
 
-    /// Two records that are both this one, and share its history: so the second costs no time and no memory for the
-    /// history. Returns an error if an allocation fails; the record is then gone.
+    /// Two records equal to this one, which share its history. Returns an error if an allocation fails; the record is
+    /// then gone.
     pub fn twice(self, alloc: Global) -> Result<(Record, Record), AllocError>
         ensures first { IfOk result (λ r. r.0 ≡ self) }
         ensures second { IfOk result (λ r. r.1 ≡ self) }
@@ -147,7 +147,7 @@ impl Record {
         Ok((first, second))
     }
 
-    /// A copy. It copies the heights and the odometer, and the history unless the record shares it (`twice`).
+    /// A copy. It shares the history if this record does (`twice`).
     pub fn copy(&self, alloc: Global) -> Result<Record, SharedFault>
         ensures made { IfOk result (λ r. r ≡ self.now) }
         ensures memory { IsOkUnless result (SharedFault.Memory alloc_error) }
@@ -156,7 +156,7 @@ impl Record {
         Ok(self.copy_with(alloc, history)?)
     }
 
-    /// A copy with room for so many more drops: an `append` of no more than these allocates nothing for their history.
+    /// A copy with room for `drops` more drops: an `append` of at most that many allocates nothing for their history.
     pub fn copy_with_room(&self, alloc: Global, drops: usize) -> Result<Record, SharedFault>
         ensures made { IfOk result (λ r. r ≡ self.now) }
         ensures memory { IsOkUnless result (SharedFault.Memory alloc_error) }
@@ -165,7 +165,7 @@ impl Record {
         Ok(self.copy_with(alloc, history)?)
     }
 
-    // A copy with a copy of the history.
+    // A copy with the given copy of the history.
     fn copy_with(&self, alloc: Global, history: History) -> Result<Record, AllocError>
         requires copy { history ≡ self.now.history }
         ensures made { IfOk result (λ r. r ≡ self.now) }

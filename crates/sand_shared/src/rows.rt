@@ -3,7 +3,7 @@
 ghost use Rattle.std.specs.Prelude.{◌≡◌, ◌≤◌, ◌↔◌, ◌+◌, ◌<◌, ◌^◌, ◌||◌, IsTrue, ℕ};
 ghost use Rattle.sand_shared.specs.Rows.{no_rows, rows_between, count_of, upper_rows, lower_rows, rows_follow, rows_together};
 
-/// Rows of a grid, from the first up to the end, which is one past the last; both are 0 if there are none.
+/// Rows of a grid, from `first` up to `end`, which is one past the last. Both are 0 if there are none.
 #[derive(Clone, Copy, Debug, PartialEq, Eq)]
 pub(crate) struct Rows {
     pub(crate) first: u16,
@@ -11,7 +11,7 @@ pub(crate) struct Rows {
 }
 
 impl Rows {
-    /// The rows from one number up to another.
+    /// The rows from `first` up to `end`, or none.
     pub(crate) fn between(first: u16, end: u16) -> Rows
         ensures { result ≡ rows_between first end }
     {
@@ -22,7 +22,6 @@ impl Rows {
         }
     }
 
-    /// How many rows these are.
     pub(crate) fn count(self) -> u16
         requires { self.first ≤ self.end }
         ensures { result ≡ count_of self }
@@ -30,7 +29,7 @@ impl Rows {
         self.end - self.first
     }
 
-    /// All but the last so many rows, and these.
+    /// All but the last `count` rows, and those.
     pub(crate) fn cut(self, count: u16) -> (Rows, Rows)
         requires { self.first + count ≤ self.end }
         ensures upper { result.0 ≡ upper_rows self count }
@@ -43,21 +42,21 @@ impl Rows {
         )
     }
 
-    /// Whether the others are none, or come directly after these.
+    /// Whether `other` is empty or begins where these rows end.
     pub(crate) fn are_followed_by(self, other: Rows) -> bool
         ensures { result ≡ rows_follow self other }
     {
         other.first == other.end || other.first == self.end
     }
 
-    /// Whether these rows come directly after the others, or the others after these, or either are none.
+    /// Whether either is empty, or one begins where the other ends.
     pub(crate) fn touch(self, other: Rows) -> bool
         ensures { result ≡ (rows_follow self other || rows_follow other self) }
     {
         self.are_followed_by(other) || other.are_followed_by(self)
     }
 
-    /// These rows and others that touch them.
+    /// The rows of both, if they touch.
     pub(crate) fn together(self, other: Rows) -> Rows
         requires ordered { (self.first ≤ self.end) × (other.first ≤ other.end) }
         requires small { self.end + other.end < 2 ^ 16 }

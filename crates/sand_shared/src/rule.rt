@@ -1,15 +1,16 @@
 //! The rule of the table of words, and what each step on it tells.
 //!
-//! The rule is that events have led from the first state to what the words and the views show. It speaks of states: no step
-//! can be taken that leads to words and views to which no events lead. Which events a step is, one, several in a row or
-//! none, is said by the play of the step (`Take`, `TakeRow`, `Learn`), and so by the contract of each function in `steps`.
-//! That the pile is lawful whenever the rule holds is a law (`laws::lawful_at_every_moment`), by induction over the events.
+//! The rule is that events have led from the first state to what the words and the views show. It is a predicate on
+//! states: no step leads to words and views to which no events lead. Which events a step is (one, several in a row, or
+//! none) is said by the play of the step (`Take`, `TakeRow`, `Learn`), and so by the contract of each function in
+//! `steps`. That the pile is lawful whenever the rule holds is a law (`laws::lawful_at_every_moment`), proved by
+//! induction over the events.
 
 use crate::view::{Terms, View};
 use atomic_table::{Join, Play, Split, TableRule};
 use std::marker::{Brand, PhantomData};
 
-/// The event that a step is, picked at the call for the proofs alone.
+/// The event of a step, chosen at the call for the proofs alone.
 pub trait Picked {
     ghost use Rattle.sand_shared.specs.declared.view.Terms.{Terms as TermsOf};
     ghost use Rattle.sand_shared.specs.Events.{Event};
@@ -27,7 +28,7 @@ impl Picked for Brand {
     ghost event = { begin };
 }
 
-/// Events have led to what is there, and the first pass has all.
+/// The rule: events have led to the current state. The first pass has everything.
 pub struct Running;
 
 impl TableRule<u8, View, Terms> for Running {
@@ -39,7 +40,7 @@ impl TableRule<u8, View, Terms> for Running {
     ghost first = { first_pass };
 }
 
-/// The step of an event.
+/// A step that is one event.
 pub struct Take<J> {
     picked: PhantomData<J>,
 }
@@ -50,7 +51,7 @@ impl<J: Picked> Play<u8, View> for Take<J> {
     ghost then = { λ step. Takes J.terms J.event };
 }
 
-/// The pass and the events that one step is, picked at the call for the proofs alone.
+/// The pass and the events of one step, chosen at the call for the proofs alone.
 pub trait PickedRow {
     ghost use Rattle.std.specs.Prelude.{ℕ, List};
     ghost use Rattle.sand_shared.specs.declared.view.Terms.{Terms as TermsOf};
@@ -74,7 +75,7 @@ impl PickedRow for Brand {
     ghost events = { [] };
 }
 
-/// The step of several events of a pass, in a row.
+/// A step that is several events of a pass in a row.
 pub struct TakeRow<J> {
     picked: PhantomData<J>,
 }
@@ -85,7 +86,7 @@ impl<J: PickedRow> Play<u8, View> for TakeRow<J> {
     ghost then = { λ step. TakesInARow J.terms J.pass J.events };
 }
 
-/// A load that is no event and changes nothing, by which a pass learns that what it has fits the rule.
+/// A load that is no event and changes nothing. It tells a pass that what it has fits the rule.
 pub struct Learn<J> {
     picked: PhantomData<J>,
 }
@@ -96,7 +97,7 @@ impl<J: Picked> Play<u8, View> for Learn<J> {
     ghost then = { λ step. Learns J.terms (actor J.event) };
 }
 
-/// A pass gives a part of what it has to a new one.
+/// A pass gives part of what it has to a new one.
 pub struct Cut<J> {
     picked: PhantomData<J>,
 }
@@ -109,7 +110,7 @@ impl<J: Picked> Split<View> for Cut<J> {
     ghost right = { λ v. child v (quota_given J.event) (sites_given J.event) };
 }
 
-/// A pass takes in all that another one has.
+/// A pass takes over all that another one has.
 pub struct Gather;
 
 impl Join<View> for Gather {

@@ -1,10 +1,14 @@
-//! Settling a shared pile with a pass that has gathered all: its heights are read, and one thread settles them.
+//! Settling a shared pile with a pass that has gathered everything: its heights are read, and one thread settles them.
 //!
-//! No site has toppled in place more often than needed, so the odometer is what has toppled there and the odometer of the
-//! pile that is left (`sand_model::laws::settles_after`). All memory is taken before the shared words are closed.
+//! No site has toppled in place more often than needed, so the odometer is what has toppled in place plus the odometer
+//! of the rest (`sand_model::laws::settles_after`). All memory is allocated before the shared words are closed.
 //!
-//! It is done in two steps, which many threads can share with other work: `SharedPile::settle_rest` settles what is left, and
-//! `SharedPile::complete` makes the record, of a history that may be written meanwhile.
+//! It takes two steps, so that other threads can do other work at the same time: `SharedPile::settle_rest` settles the
+//! rest, and `SharedPile::complete` makes the record from a history that may be written meanwhile.
+//!
+//! `SharedPile::settle` reads each height once and topples in plain memory, as `sand_settle::settle` does: use it if
+//! much is left to topple. `SharedPile::close` topples by whole sweeps over the shared words and allocates only the
+//! record: use it if little is left, or if memory is short.
 
 ghost use Rattle.std.specs.Prelude.{◌≡◌, ℕ, ◌+◌, ◌^◌, ◌<◌, ◌≤◌, ◌↔◌, [], length, sum, slice_index, vec_capacity, IfOk, IfErr, OnOk, IsTrue};
 ghost use Rattle.sand_model.specs.Grid.{sites};
@@ -32,7 +36,7 @@ use std::alloc::Global;
 use std::marker::Brand;
 
 impl Words {
-    // Reads the heights of all sites into a list that has room for them, for a pass that has all.
+    // Reads the heights of all sites into a list with room for them, for a pass that has everything.
     fn read(&self, seat: &mut PassSeat, heights: &mut Vec<u64>)
         requires seat { IsSeatAt self.now seat.old }
         requires hand { seat.old.me.0.hand ≡ [] }
@@ -55,7 +59,7 @@ impl Words {
     }
 }
 
-// Adds the numbers of a list, place by place.
+// Adds the second list to the first, entry by entry.
 pub(crate) fn add(numbers: &mut Vec<u64>, more: &[u64])
     requires lengths { length numbers.old.items ≡ length more.now }
     requires small { (i : ℕ) → i < length more.now → slice_index numbers.old.items i + slice_index more.now i < 2 ^ 64 }
@@ -69,14 +73,9 @@ pub(crate) fn add(numbers: &mut Vec<u64>, more: &[u64])
 }
 
 impl SharedPile {
-    /// Settles the pile with a pass that has gathered all, and returns its record: the one that `SharedPile::close`
-    /// returns.
-    ///
-    /// Call `settle` when much is left to topple: it reads each height once, and then topples as `sand_settle::settle`
-    /// does, in plain memory of its own. Call `close` when little is left, or when memory is short: it topples by whole
-    /// sweeps over the shared words, as many as there are, and takes no memory but that of the record.
-    ///
-    /// Refuses a pass that lacks quota, receipts or rows (Missing), then Memory; the pile and the pass then come back.
+    /// Settles the pile with a pass that has gathered everything, and returns the record, the same as
+    /// `SharedPile::close`. Returns Missing if the pass lacks quota, receipts or rows; else Memory if an allocation
+    /// fails. On error the pile and the pass come back.
     pub fn settle(self, alloc: Global, pass: Pass) -> Result<Record, (CloseFault, SharedPile, Pass)>
         requires { IsPassOf self pass }
         ensures missing { IfErr result (λ e. (e.0 ≡ CloseFault.Missing) ↔ ¬ IsWhole self.terms pass) }
@@ -84,12 +83,12 @@ impl SharedPile {
         ensures pile_back { IfErr result (λ e. e.1 ≡ self) }
         ensures pass_back { IfErr result (λ e. e.2 ≡ pass) }
 
-        // What one thread would have got that drops the history on the start, in order: the settled pile, the grains
-        // lost, and the least odometer.
+        // The result of one thread that drops the history on the start, in order: the settled pile, the grains lost,
+        // and the least odometer.
         ensures one_threads { IfOk result IsOneThreads }
         ensures start { IfOk result (λ r. r.start ≡ self.terms.start) }
 
-        // Each drop call once, at the number that it returned, and after all that its pass had seen.
+        // Each drop is there once, at the number that its call returned, after all drops that its pass had seen.
         ensures history { IfOk result (λ r. Tells pass.receipts r.history) }
         ensures each_drop_once { IfOk result (λ r. length r.history ≡ length pass.receipts) }
         ensures each_number_once { OnOk result (EachOnce pass.receipts) }
@@ -111,8 +110,8 @@ impl SharedPile {
         Ok(self.complete(bare, rest, history))
     }
 
-    /// Settles what a pass that has gathered all has left to topple, in plain memory, and returns it settled. The shared pile
-    /// and the pass are as before. Returns Missing if the pass lacks quota, receipts or rows; else Memory if an allocation
+    /// Settles what is left to topple, in plain memory, with a pass that has gathered everything. The shared pile and
+    /// the pass do not change. Returns Missing if the pass lacks quota, receipts or rows; else Memory if an allocation
     /// fails.
     pub fn settle_rest(&self, alloc: Global, pass: &mut BarePass) -> Result<Settled, CloseFault>
         requires { IsPassOf self.now pass.old }
@@ -132,7 +131,7 @@ impl SharedPile {
         }
     }
 
-    // Whether the pass has all of the quota, as what is left or as receipts, and all rows.
+    // Whether the pass has the whole quota, left or as receipts, and all rows.
     fn is_all(&self, pass: &BarePass) -> bool
         requires { IsPassOf self.now pass.now }
         ensures { IsTrue result ↔ IsWhole self.now.terms pass.now }
@@ -144,7 +143,7 @@ impl SharedPile {
             && usize::from(pass.rows.end) == terms.start.shape().height()
     }
 
-    // The heights that the shared pile has now, in a list that has room for them, for a pass that has all.
+    // The shared pile as it is now, read into the given list by a pass that has everything.
     fn current_pile(&self, pass: &mut BarePass, mut heights: Vec<u64>) -> Pile
         requires pass { IsPassOf self.now pass.old }
         requires whole { IsWhole self.now.terms pass.old }
@@ -157,7 +156,7 @@ impl SharedPile {
         Pile::from_vec(pass.shape, heights)
     }
 
-    // Writes the site of each receipt of a pass that has all at its number.
+    // Writes each receipt's site at its number, for a pass that has everything.
     fn write_history(&self, pass: &mut BarePass, history: &mut Vec<usize>, receipts: &[Receipt])
         requires pass { IsPassOf self.now pass.old }
         requires whole { IsWhole self.now.terms pass.old }
@@ -171,8 +170,8 @@ impl SharedPile {
         fill(history, receipts);
     }
 
-    /// Makes the record of a pile, of what has toppled in place, of the rest that `SharedPile::settle_rest` has settled, and of
-    /// the history of the pass's receipts.
+    /// Makes the record from what has toppled in place, the rest that `SharedPile::settle_rest` has settled, and the
+    /// history of the pass's receipts.
     pub fn complete(self, pass: BarePass, rest: Settled, history: Vec<usize>) -> Record
         requires pass { IsPassOf self pass }
         requires whole { IsWhole self.terms pass }

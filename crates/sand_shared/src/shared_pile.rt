@@ -1,4 +1,4 @@
-//! The pile that threads share: how it begins, drops, and the tally.
+//! The pile that threads share: how it is made, single drops, and the tally.
 
 ghost use Rattle.std.specs.Prelude.{◌≡◌, ℕ, ◌+◌, ◌-◌, ◌<◌, ◌≤◌, ◌↔◌, [], ◌∷◌, ◌++◌, sum, IfOk, IsErr, OnErr, IsTrue};
 ghost use Rattle.sand_model.specs.Grid.{sites};
@@ -18,10 +18,10 @@ use sand_model::{GRAIN_LIMIT, Pile};
 use std::alloc::Global;
 use std::marker::{Brand, Model};
 
-/// A pile of sand that many threads share by reference, each with a pass of its own.
+/// A pile of sand that many threads share by reference, each with its own pass.
 ///
-/// Calls on it take single atomic steps and never wait for another thread. At every moment its words and its passes are an open
-/// pile to which the events of `specs/Events` have led, and so a lawful one (`laws::lawful_at_every_moment`).
+/// Its calls take single atomic steps and never wait for another thread. At every moment its words and its passes are
+/// an open pile to which the events of `specs/Events` have led, and so a lawful one (`laws::lawful_at_every_moment`).
 #[derive(Drop)]
 pub struct SharedPile {
     pub(crate) words: Words,
@@ -36,9 +36,9 @@ impl Model for SharedPile {
 }
 
 impl SharedPile {
-    /// A pile with the heights of the start, which may be unstable, and its first pass: that has the whole quota and
-    /// all rows, has seen no drop and has no receipts. Returns TooManyGrains if the start has, with the quota, more grains
-    /// than the limit; else Memory if an allocation fails.
+    /// A pile with the heights of `start`, which may be unstable, and its first pass, which has the whole quota and all
+    /// rows, has seen no drop and has no receipts. Returns TooManyGrains if the start and the quota together exceed the
+    /// limit; else Memory if an allocation fails.
     pub fn new(alloc: Global, start: &Pile, quota: u64) -> Result<(SharedPile, Pass), SharedFault>
         ensures limit { (result ≡ Err SharedFault.TooManyGrains) ↔ (most_grains < sum start.now.heights + quota) }
         ensures terms { IfOk result (λ r. r.0.terms ≡ record { start = start.now; quota = quota }) }
@@ -76,8 +76,8 @@ impl SharedPile {
         Ok((SharedPile { words }, pass))
     }
 
-    /// Drops a grain on a site, and returns the number of the drop in the history. Returns Spent if the pass has nothing
-    /// left.
+    /// Drops a grain on a site, and returns the number of the drop in the history. Returns Spent if the pass has no
+    /// quota left.
     pub fn drop_at(&self, pass: &mut Pass, site: usize) -> Result<u64, DropFault>
         requires pass { IsPassOf self.now pass.old }
         requires site { site < sites (grid_of_terms self.now.terms) }
@@ -103,7 +103,7 @@ impl SharedPile {
         Ok(number)
     }
 
-    /// How many drops were begun so far.
+    /// How many drops have begun so far.
     pub fn tally(&self, pass: &mut Pass) -> u64
         requires { IsPassOf self.now pass.old }
         ensures of_pile { IsPassOf self.now pass.new }
@@ -116,7 +116,7 @@ impl SharedPile {
         drops
     }
 
-    /// Whether the pass has all of the quota, as what is left or as receipts, and all rows.
+    /// Whether the pass has the whole quota, left or as receipts, and all rows.
     pub fn is_whole(&self, pass: &Pass) -> bool
         requires { IsPassOf self.now pass.now }
         ensures { IsTrue result ↔ IsWhole self.now.terms pass.now }

@@ -1,4 +1,4 @@
-//! Room to count the grains of a list site by site.
+//! Counters for the grains of a list, by site.
 
 ghost use Rattle.std.specs.Prelude.{◌≡◌, IfOk};
 
@@ -6,9 +6,9 @@ use sand_model::Shape;
 use std::alloc::{AllocError, Global};
 use std::marker::Model;
 
-/// Room for a count at each site of a grid, which `SharedPile::drop_all` borrows, so that it takes no memory.
+/// A counter for each site of a grid. `SharedPile::drop_all` borrows them, so that it allocates nothing.
 ///
-/// All counts are 0 between calls, so one value serves any number of calls, on any piles with this grid.
+/// All counters are 0 between calls, so one value serves any number of calls, on any piles with this grid.
 #[derive(Drop)]
 pub struct SiteCounts {
     shape: Shape,

@@ -1,4 +1,4 @@
-//! How a pass gives some of its quota, or the last of its rows, to a new pass.
+//! Splitting a pass: part of its quota, or its last rows, go to a new pass.
 
 ghost use Rattle.std.specs.Prelude.{◌≡◌, ◌≢◌, ℕ, ◌-◌, ◌<◌, ◌↔◌, [], take, drop, IfOk, OnOk, OnErr};
 ghost use Rattle.sand_shared.specs.Passes.{IsPassOf, sites_kept};
@@ -12,8 +12,8 @@ use std::alloc::Global;
 use std::marker::Brand;
 
 impl SharedPile {
-    /// Gives some of what a pass has left to a new one, which has seen as much and has no receipts and no rows.
-    /// Returns TooMuch if that is more than is left; else Memory if an allocation fails.
+    /// Moves `quota` from a pass to a new one, which has seen as much and has no receipts and no rows. Returns TooMuch
+    /// if the pass has less left; else Memory if an allocation fails.
     pub fn split(&self, alloc: Global, pass: &mut Pass, quota: u64) -> Result<Pass, SplitFault>
         requires { IsPassOf self.now pass.old }
         ensures of_pile { IsPassOf self.now pass.new }
@@ -43,8 +43,8 @@ impl SharedPile {
         })
     }
 
-    /// Gives the last `k` rows of a pass, with their counts, to a new one, which has seen as much and has no quota and
-    /// no receipts. Returns Rows if it has fewer rows; else Memory if an allocation fails.
+    /// Moves the last `k` rows of a pass, with their counts, to a new one, which has seen as much and has no quota and
+    /// no receipts. Returns Rows if the pass has fewer rows; else Memory if an allocation fails.
     pub fn split_rows(&self, alloc: Global, pass: &mut Pass, k: u16) -> Result<Pass, SplitFault>
         requires { IsPassOf self.now pass.old }
         ensures of_pile { IsPassOf self.now pass.new }

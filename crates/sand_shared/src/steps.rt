@@ -1,6 +1,6 @@
-//! The table of words under its rule, and the steps on it: each function here takes one step. The contract of a step from
-//! draw to deliver names the event that it is, or the events in a row. Those of split and join say what the passes have
-//! afterwards, and `learn` is a load that is no event.
+//! The table of words under its rule: each function here takes one step on it. The contracts from draw to deliver name
+//! the event, or the events in a row, that the step is. Those of split and join say what the passes have afterwards,
+//! and `learn` is a load that is no event.
 //!
 //! A parameter that only the contract names, such as the site of a draw, begins with an underscore.
 
@@ -22,8 +22,8 @@ use std::marker::Model;
 
 pub(crate) type PassSeat = Seat<u8, View>;
 
-/// The words that threads share: the number of draws, and the height of each site. With them is the lattice of their
-/// grid, so that a sweep finds neighbours without a division.
+/// The words that threads share: the number of draws, and the height of each site. The lattice of their grid finds
+/// neighbours without a division.
 #[derive(Drop)]
 pub(crate) struct Words {
     table: Table<u8, View, Terms, Running, Global>,
@@ -43,7 +43,7 @@ impl Model for Words {
 }
 
 impl Words {
-    /// The words of a pile that begins so, and the seat of its first pass.
+    /// The words of a new pile, and the seat of its first pass.
     pub(crate) fn new(alloc: Global, terms: Terms) -> Result<(Words, PassSeat), AllocError>
         requires { AreTerms terms }
         ensures terms { IfOk result (λ w. w.0.terms ≡ terms) }
@@ -72,7 +72,7 @@ impl Words {
         &self.terms
     }
 
-    /// Tells a proof that the terms are within their limits. It does nothing.
+    /// Tells a proof that the terms are within their limits. Does nothing else.
     #[inline(always)]
     pub(crate) fn tell_limits(&self)
         ensures { AreTerms self.now.terms }
@@ -101,7 +101,7 @@ impl Words {
         self.table.shared.fetch_add::<Take<J>>(seat, 1, 1)
     }
 
-    /// Draws numbers for grains on some sites, in a row and in one step. Returns the first.
+    /// Draws consecutive numbers for grains on some sites, in one step. Returns the first.
     pub(crate) fn draw_all<J: PickedRow>(&self, seat: &mut PassSeat, drops: &[usize]) -> u64
         requires seat { IsSeatAt self.now seat.old }
         requires some { 0 < length drops.now }
@@ -116,7 +116,7 @@ impl Words {
             .fetch_add::<TakeRow<J>>(seat, 1, drops.len() as u64)
     }
 
-    /// Lays so many of the grains that were drawn for a site on it, in a row and in one step.
+    /// Lays `amount` of the grains drawn for a site on it, in one step.
     pub(crate) fn place<J: PickedRow>(&self, seat: &mut PassSeat, site: usize, amount: u64)
         requires seat { IsSeatAt self.now seat.old }
         requires some { 0 < amount }
@@ -131,7 +131,7 @@ impl Words {
             .fetch_add::<TakeRow<J>>(seat, site + 2, amount);
     }
 
-    /// Reads how many drops were begun.
+    /// Reads how many drops have begun.
     pub(crate) fn count<J: Picked>(&self, seat: &mut PassSeat) -> u64
         requires seat { IsSeatAt self.now seat.old }
         requires picked { (J.terms ≡ self.now.terms) × (J.event ≡ count seat.old.id) }
@@ -153,7 +153,7 @@ impl Words {
         self.table.shared.load::<Take<J>>(seat, site + 2)
     }
 
-    /// Takes four times so many grains from the site at which the pass looked, and has so many for each neighbour in hand.
+    /// Takes `4 * times` grains from the site at which the pass looked; then `times` for each neighbour are in hand.
     pub(crate) fn unload<J: Picked>(&self, seat: &mut PassSeat, site: usize, times: u64)
         requires seat { IsSeatAt self.now seat.old }
         requires own { (holds_site seat.old.me.0 site ≡ true) × (seat.old.me.0.spot ≡ site) }
@@ -183,7 +183,7 @@ impl Words {
             .fetch_add::<Take<J>>(seat, site + 2, amount);
     }
 
-    /// Learns that what the pass has fits the rule, by a load that is no event.
+    /// Tells the pass that what it has fits the rule, by a load that is no event.
     pub(crate) fn learn<J: Picked>(&self, seat: &mut PassSeat)
         requires seat { IsSeatAt self.now seat.old }
         requires picked { (J.terms ≡ self.now.terms) × (actor J.event ≡ seat.old.id) }
@@ -194,7 +194,7 @@ impl Words {
         self.table.shared.load::<Learn<J>>(seat, 0);
     }
 
-    /// Gives a part of the pass's quota and the last of its sites to a new pass.
+    /// Moves part of the pass's quota and the last of its sites to a new pass.
     pub(crate) fn split<J: Picked>(
         &self,
         seat: &mut PassSeat,
@@ -214,7 +214,7 @@ impl Words {
         self.table.shared.split_seat::<Cut<J>>(seat)
     }
 
-    /// Takes in all that another pass has.
+    /// Takes over all that another pass has.
     pub(crate) fn join(&self, seat: &mut PassSeat, other: PassSeat)
         requires seat { IsSeatAt self.now seat.old }
         requires other { IsSeatAt self.now other }
@@ -226,7 +226,7 @@ impl Words {
         self.table.shared.join_seat::<Gather>(seat, other);
     }
 
-    /// Closes the table with the seat of a pass, and reads the heights into a list that has room for them.
+    /// Closes the table with the seat of a pass, and reads the heights into a list with room for them.
     pub(crate) fn close(self, seat: PassSeat, heights: &mut Vec<u64>) -> Terms
         requires seat { IsSeatAt self seat }
         requires room { (heights.old.items ≡ []) × (sites (grid_of_terms self.terms) ≤ vec_capacity heights.old) }
@@ -244,7 +244,7 @@ impl Words {
         terms
     }
 
-    /// Closes the table with the seat of a pass, and reads nothing.
+    /// Closes the table with the seat of a pass, without reading it.
     pub(crate) fn end(self, seat: PassSeat) -> Terms
         requires seat { IsSeatAt self seat }
         ensures terms { result ≡ self.terms }
@@ -259,7 +259,7 @@ impl Words {
     }
 }
 
-// The heights of the sites, from the words of a table that is closed.
+// The heights of the sites, from the words of a closed table.
 fn read_heights(closed: &Closed<u8, Global>, sites: usize, heights: &mut Vec<u64>)
     requires closed { (slots_len closed.now.words ≡ sites + 2) × IsFull closed.now.words × (sites ≤ 65536) }
     requires room { (heights.old.items ≡ []) × (sites ≤ vec_capacity heights.old) }

@@ -1,8 +1,8 @@
-//! Toppling in place: a sweep goes over the rows of a pass, while other threads drop and topple.
+//! Toppling in place: a sweep over the rows of a pass, while other threads drop and topple.
 //!
-//! Only the holder of a row takes grains from its sites, so what a look finds is still there at the unload, and what
-//! is unloaded is in hand for the neighbours until it is delivered. So no grain vanishes, and no site topples more
-//! often than needed: the grains lie on it, and whatever stabilises the pile has to topple it too.
+//! Only the holder of a row takes grains from its sites, so what a look finds is still there at the unload, and what is
+//! unloaded stays in hand until it is delivered to the neighbours. So no grain vanishes, and no site topples more often
+//! than needed: the grains are on it, so whatever stabilises the pile topples it too.
 
 ghost use Rattle.std.specs.Prelude.{◌≡◌, ℕ, ◌+◌, ◌*◌, ◌^◌, ◌<◌, ◌≤◌, true, [], ◌∷◌, length, sum, IfSome};
 ghost use Rattle.sand_model.specs.Grid.{sites, places};
@@ -33,7 +33,7 @@ impl Words {
         }
     }
 
-    // Delivers the grains in hand to the neighbours of a site, north, west, east and south.
+    // Delivers the grains in hand to the neighbours of a site: north, west, east and south.
     fn deliver_around(&self, seat: &mut PassSeat, site: usize, times: u64)
         requires seat { IsSeatAt self.now seat.old }
         requires hand { seat.old.me.0.hand ≡ sent self.now.terms site times }
@@ -70,7 +70,7 @@ impl Words {
         times
     }
 
-    // Goes once over the sites of the pass's rows, from the base on. Returns the topplings.
+    // Sweeps once over the sites of the pass's rows, the first of which is `base`. Returns the number of topplings.
     pub(crate) fn sweep_rows(&self, seat: &mut PassSeat, base: usize, counts: &mut Vec<u64>) -> u64
         requires seat { IsSeatAt self.now seat.old }
         requires hand { seat.old.me.0.hand ≡ [] }
@@ -96,9 +96,9 @@ impl Words {
 }
 
 impl SharedPile {
-    /// Goes once over the sites of the pass's rows by number, looks at each, and topples it as often as the grains
-    /// found allow. Returns the topplings, and 0 for a pass without rows. For a pass that has everything, the contract
-    /// fixes how often each site topples (`in_turn` of `Swept`); for another, that it topples often enough (`enough`).
+    /// Visits each site of the pass's rows once, in order of number, and topples it as often as the grains found there
+    /// allow. Returns the number of topplings, 0 for a pass without rows. If the pass has everything, the contract
+    /// determines how often each site topples (`in_turn` of `Swept`); otherwise it gives a lower bound (`enough`).
     pub fn sweep(&self, pass: &mut Pass) -> u64
         requires { IsPassOf self.now pass.old }
         ensures of_pile { IsPassOf self.now pass.new }

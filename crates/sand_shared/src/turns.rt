@@ -1,9 +1,9 @@
-//! Drops in a row: a pass draws numbers for a whole list of grains in one step, and then lays down the grains of each
-//! site in one step.
+//! Drops in a row: a pass draws numbers for a whole list of grains in one step, and then lays the grains of each site
+//! in one step.
 //!
-//! So threads seldom meet at a word: at the number word once a list, and at the word of a site once for all grains that
-//! the list has for it. The counts by site tell how many these are. They begin with 0 everywhere, grow while the list is
-//! counted, and fall back to 0 one by one as the grains are laid down, so no pass over the whole grid is needed.
+//! So threads rarely meet at a word: at the number word once a list, and at a site's word once for all its grains in
+//! the list. Counters by site say how many these are. They start at 0, grow while the list is counted, and return to 0
+//! one by one as the grains are laid, so no scan of the whole grid is needed.
 
 ghost use Rattle.std.specs.Prelude.{◌≡◌, ℕ, ◌+◌, ◌-◌, ◌^◌, ◌<◌, ◌≤◌, ◌↔◌, [], ◌++◌, All, length, slice_index, vec_capacity, IfOk, IsErr, OnErr};
 ghost use Rattle.sand_model.specs.Grid.{sites};
@@ -21,7 +21,7 @@ use crate::steps::{PassSeat, Words};
 use crate::view::Receipt;
 use std::marker::Brand;
 
-// Counts the sites of a list.
+// Counts the drops of a list by site.
 fn count_sites(counts: &mut Vec<u64>, drops: &[usize])
     requires none { (i : ℕ) → i < length counts.old.items → slice_index counts.old.items i ≡ 0 }
     requires inside { All (λ i. i < length counts.old.items) drops.now }
@@ -34,7 +34,7 @@ fn count_sites(counts: &mut Vec<u64>, drops: &[usize])
 }
 
 impl Words {
-    // Lays the grains in hand, one for each drop of a list, on their sites, and sets their counts back to 0.
+    // Lays the grains in hand, one for each drop of a list, on their sites, and resets their counts to 0.
     fn place_all(&self, seat: &mut PassSeat, drops: &[usize], counts: &mut Vec<u64>)
         requires seat { IsSeatAt self.now seat.old }
         requires hand { seat.old.me.0.hand ≡ one_for_each drops.now }
@@ -55,7 +55,7 @@ impl Words {
     }
 }
 
-// Writes the receipts of drops in a row, from a number on, behind those that are there.
+// Appends the receipts of consecutive drops, numbered from `number` on.
 fn note(receipts: &mut Vec<Receipt>, number: u64, drops: &[usize])
     requires room { length receipts.old.items + length drops.now ≤ vec_capacity receipts.old }
     requires small { number + length drops.now < 2 ^ 64 }
@@ -73,8 +73,8 @@ fn note(receipts: &mut Vec<Receipt>, number: u64, drops: &[usize])
 }
 
 impl SharedPile {
-    /// Drops grains on sites, one on each in their order, with numbers that follow one another, and returns the first
-    /// number; for an empty list, what the pass has seen. Returns Spent if the pass has less left than the list is long.
+    /// Drops a grain on each site of a list, in order, with consecutive numbers. Returns the first number; for an empty
+    /// list, what the pass has seen. Returns Spent if the pass has less quota left than the list is long.
     pub fn drop_all(
         &self,
         pass: &mut Pass,

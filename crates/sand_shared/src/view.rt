@@ -3,35 +3,35 @@
 use sand_model::Pile;
 use std::collections::LinkedList;
 
-/// A drop that was made: its number in the history, and its site.
+/// A drop: its number in the history, and its site.
 #[derive(Clone, Copy, Debug, PartialEq, Eq)]
 pub struct Receipt {
     pub number: u64,
     pub site: usize,
 }
 
-/// Grains in hand, addressed to one site. No value of it is made.
+/// Grains in hand for one site. Only proofs use it.
 pub struct Grains {
     pub site: usize,
     pub amount: u64,
 }
 
-/// What a pass has and knows. No value of it is made.
+/// What a pass has and knows. Only proofs use it.
 pub struct View {
     /// How many grains it may still drop.
     pub left: u64,
-    /// How many drops it knows to have begun.
+    /// How many drops it knows have begun.
     pub seen: u64,
     pub receipts: LinkedList<Receipt>,
-    /// What it has taken up and not yet laid down.
+    /// Grains drawn or unloaded, and not yet laid.
     pub hand: LinkedList<Grains>,
     /// The first site of its rows, 0 if it has none.
     pub base: usize,
     /// How often each site of its rows has toppled since the pile was made.
     pub counts: LinkedList<u64>,
-    /// The site at which it looked last.
+    /// The site at which it last looked.
     pub spot: usize,
-    /// How many grains it knows to lie there at least.
+    /// A lower bound on the grains there.
     pub least: u64,
 }
 

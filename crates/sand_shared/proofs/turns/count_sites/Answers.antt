@@ -5,7 +5,7 @@ use Rattle.sand_shared.proofs.DropsBySite.{read_count, counted_more, tally_small
 use Rattle.sand_shared.proofs.turns.count_sites.Goals as goal
 use Rattle.sand_shared.proofs.turns.count_sites.Goals.{After-index_mut}
 
--- what is read at a site of the list is its count so far
+-- a read at an entry of the list finds the count so far
 read : (c : After-index_mut) → c.index_mut.result.now ≡ slice_index c.drops.counts.items (get_or c.args.drops.now c.drops.site-index 0)
 read c = read_count (length c.args.counts.now.items) c.drops.site-index _ c.drops.counts.items c.args.drops.now c.drops.invariant.long c.requires.inside c.drops-test.true c.index_mut.ensures.value
 

@@ -12,7 +12,7 @@ use Rattle.sand_shared.proofs.PassesJoined.{joined_pass}
 use Rattle.sand_shared.proofs.shared_pile.SharedPile.join.Goals as goal
 use Rattle.sand_shared.proofs.shared_pile.SharedPile.join.Goals.{After-touch}
 
--- what contracts see of both passes
+-- both passes as contracts see them
 abbrev first : After-touch → PassView
 first c = let p = c.pass.inside in record { table = p.seat.table_id; grid = p.shape; left = p.left; seen = p.seen; receipts = p.receipts.items; rows = p.rows; counts = p.counts.items }
 
@@ -38,7 +38,7 @@ invariant_of-pass-in-Err-lay_together c =
       one_each = ap (λ (l : List ℕ). length l) counts ∙ inv.one_each;
     }
 
--- both passes are of the pile's grid
+-- both passes have the pile's grid
 one_grid : (c : After-touch) → c.other.inside.shape ≡ c.pass.inside.shape
 one_grid c =
     let grid = λ (v : PassView). v.grid in

@@ -10,14 +10,14 @@ use Rattle.sand_shared.proofs.PassesJoined.{joined_view, joined_pass}
 use Rattle.sand_shared.proofs.shared_pile.SharedPile.join_bare.Goals as goal
 use Rattle.sand_shared.proofs.shared_pile.SharedPile.join_bare.Goals.{After-touch}
 
--- what contracts see of both passes
+-- both passes as contracts see them
 abbrev first : After-touch → PassView
 first c = let p = c.pass.inside in record { table = p.seat.table_id; grid = p.shape; left = p.left; seen = p.seen; receipts = p.seat.me.0.receipts; rows = p.rows; counts = p.counts.items }
 
 abbrev second : After-touch → PassView
 second c = let o = c.other.inside in record { table = o.seat.table_id; grid = o.shape; left = o.left; seen = o.seen; receipts = o.seat.me.0.receipts; rows = o.rows; counts = o.counts.items }
 
--- both passes are of the pile's grid
+-- both passes have the pile's grid
 one_grid : (c : After-touch) → c.other.inside.shape ≡ c.pass.inside.shape
 one_grid c =
     let grid = λ (v : PassView). v.grid in

@@ -11,11 +11,11 @@ use Rattle.sand_shared.proofs.RowsSplit.{AreSitesOf, upper_sites, lower_sites, p
 use Rattle.sand_shared.proofs.PassAfterEvent.{known_is}
 use Rattle.sand_shared.proofs.shared_pile.SharedPile.split_rows.Goals as goal
 
--- what contracts see of the pass
+-- the pass as contracts see it
 abbrev was : goal.After-new → PassView
 was c = let p = c.pass.inside in record { table = p.seat.table_id; grid = p.shape; left = p.left; seen = p.seen; receipts = p.receipts.items; rows = p.rows; counts = p.counts.items }
 
--- the sites that are kept, as the code counts them
+-- the sites kept, as the code computes them
 kept_is : (c : goal.After-new) → c.len.result - c.from.result * c.width.result ≡ length c.pass.inside.counts.items - c.args.k * c.pass.inside.shape.width
 kept_is c =
     let long = c.pass.inside.counts.ok.0 in

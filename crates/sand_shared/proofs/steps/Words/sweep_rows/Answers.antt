@@ -17,7 +17,7 @@ overflow_add-base c =
     let end = c.len-i-end.ensures in
     let long = c.args.counts.now.ok.0 in omega arith
 
--- the place that a sweep is at is one of the pass's, and these are sites of the grid
+-- the sweep is at a site of the pass and of the grid
 inside : (c : After-relieve-times) → let v = c.args.seat.now.me.0 in (v.base + length v.counts ≤ sites (grid_of_terms c.args.self.now.terms)) × (c.sites.i < length v.counts)
 inside c =
     let first = ap (λ (l : List ℕ). length l) c.requires.counts.1 in
@@ -68,7 +68,7 @@ sites-preserved c =
           (next_swept t v me new cs c.args.base i times base inv.view did.view c.sites.topplings at.0 place inv.swept did.enough did.few did.no_more did.sparing);
     }
 
--- all are swept
+-- all sites have been swept
 swept_all : (c : After-sites) → let v = c.args.seat.now.me.0 in Sweeps c.args.self.now.terms v c.sites.counts.items (length v.counts) c.sites.topplings
 swept_all c =
     let v = c.args.seat.now.me.0 in
