@@ -1,4 +1,4 @@
--- The bands of the workers, joined in their order, are all rows.
+-- The bands of the workers, joined in order, are all rows.
 use Rattle.std.proofs.Common.{◌≡◌, ℕ, zero, suc, ◌+◌, ◌*◌, ◌/◌, ◌<◌, ◌≤◌, ⊎_elim, Bool, true, false, max, cond, eqb, List, [], ◌∷◌, ◌++◌, length, Some, refl, ap, ap₂, ◌∙◌, arith, append-nil}
 use Rattle.std.specs.Prelude.{slice_get, ◌||◌}
 use Rattle.std.proofs.lemmas.Bool.{cases_lt, eq-eqb}
@@ -31,7 +31,7 @@ rows_joined b e le =
     let all : b + count_of (rows_between b e) ≡ e = omega (arith, count_between b e le, le) in
     rw follow (ap top all)
 
--- and with it they reach to its end
+-- joined with the next band, the rows reach to its end
 pub band_joined : (s : SharedView) (p q : PassView) (b e : ℕ) → b ≤ e → p.rows ≡ top b → q ≡ record (banded s (rows_between b e)) { counts = q.counts }
     → together p q ≡ record p { seen = (together p q).seen; rows = top e; counts = p.counts ++ q.counts }
 band_joined s p q b e le above is =
@@ -43,12 +43,12 @@ band_joined s p q b e le above is =
     ap₂ (λ (f : (Rows × List ℕ)) (g : (ℕ × List Receipt)). record p { left = g.0; seen = max p.seen q.seen; receipts = g.1; rows = f.0; counts = f.1 })
     (ap₂ (λ (r : Rows) (c : List ℕ). (r, c)) rows counts) (ap₂ (λ (l : ℕ) (r : List Receipt). (l, r)) left receipts)
 
--- the next item of a list, behind those before it
+-- the next item of a list, after those before it
 pub next_at : {A : Type 0} (ys zs : List A) (x : A) → slice_get (ys ++ x ∷ zs) (length ys) ≡ Some x
 next_at [] zs x = refl
 next_at (y ∷ ys) zs x = next_at ys zs x
 
--- the share of one worker more is no smaller
+-- the first j + 1 workers have at least the rows of the first j
 pub share_grows : (j h n : ℕ) → j * h / n ≤ (j + 1) * h / n
 share_grows j h zero = omega arith
 share_grows j h (suc n) = le-div (j * h / suc n) ((j + 1) * h) (suc n) (omega arith) (let low = div-mul-le_self (j * h) (suc n) in let more : j * h ≤ (j + 1) * h = grind arith in omega (arith, low, more))

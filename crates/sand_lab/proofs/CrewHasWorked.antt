@@ -1,4 +1,4 @@
--- What each of a crew may do, and what it has done then.
+-- What each member of a crew may do, and what it has done afterwards.
 use Rattle.std.proofs.Common.{◌≡◌, ℕ, zero, suc, ◌+◌, ◌-◌, ◌*◌, ◌/◌, ◌<◌, ◌≤◌, List, [], ◌∷◌, cond, leb, All, length, take, drop, sum, sum_by, get_or, refl, sym, ap, ◌∙◌, subst, arith}
 use Rattle.std.specs.Prelude.{slice_index}
 use Rattle.sand_shared.specs.declared.rows.Rows.{Rows}
@@ -23,7 +23,7 @@ use Rattle.sand_lab.specs.Jobs.{CanDrop, CanSweep, CanWatch, HasDropped, HasSwep
 use Rattle.sand_lab.proofs.EachAtItsPlace.{each_zip}
 use Rattle.sand_lab.specs.Streams.{Reading, stream_sites}
 
--- a pass that has the table and the grid of a pile is of that pile
+-- a pass with the table and the grid of a pile belongs to it
 of_pile : (s : SharedView) (p q : PassView) → p ≡ q → q.table ≡ s.table → q.grid ≡ grid_of_terms s.terms → IsPassOf s p
 of_pile s p q e table grid = record { table = ap (λ (x : PassView). x.table) e ∙ table; grid = ap (λ (x : PassView). x.grid) e ∙ grid }
 
@@ -66,7 +66,7 @@ emptied s w t k d e is has = record {
   within = has.within;
 }
 
--- lists, of which one has at each place at least a quarter of what the other has
+-- each count is at least a quarter of the height at its index
 quarters : (hs cs : List ℕ) → length hs ≤ length cs → ((j : ℕ) → j < length hs → get_or hs j 0 / 4 ≤ get_or cs j 0) → sum_by (λ h. h / 4) hs ≤ sum cs
 quarters [] cs le each = omega arith
 quarters (h ∷ hs) [] le each = absurd (omega (arith, le))
@@ -75,7 +75,7 @@ quarters (h ∷ hs) (c ∷ cs) le each =
     let first = each 0 (omega arith) in
     omega (arith, rest, first, sum_by-cons (λ n. n / 4) h hs, sum_by-cons (λ n. n) c cs)
 
--- if nothing has toppled, each site has less than four grains for each time that it topples
+-- if nothing had toppled, n is at least the height div 4
 few_left : (s : SharedView) (v : PassView) (i n : ℕ) → LeavesAtMost s.terms (at_rest v) i (4 * n + 3) → toppled_by (at_rest v) i ≡ 0 → height_of s.terms.start i / 4 ≤ n
 few_left s v i n most none =
     let low : height_of s.terms.start i ≤ 4 * n + 3 = omega (arith, most, none) in
@@ -91,7 +91,7 @@ none_toppled v n i e =
     let zero_there : slice_index v.counts (i - v.rows.first * v.grid.width) ≡ 0 = ap (λ (cs : List ℕ). get_or cs (i - v.rows.first * v.grid.width) 0) e ∙ zeros_at n _ in
     ap (λ (m : ℕ). cond (leb (v.rows.first * v.grid.width) i) m 0) zero_there ∙ cond_same _ 0
 
--- a first perform of at least one sweep does what is due
+-- a worker that sweeps at least once does what is due
 due_swept : (s : SharedView) (rows : Rows) (turns : ℕ) (w x : Worker) → w.pass ≡ banded s rows → 0 < turns → HasSwept s turns w x → due s.terms.start rows ≤ x.swept
 due_swept s rows turns w x is some has =
     let width = (grid_of_terms s.terms).width in
@@ -127,7 +127,7 @@ sums_up (x ∷ xs) (y ∷ ys) long up =
     let rest = sums_up xs ys (omega (arith, long)) (λ j. up (suc j)) in
     omega (arith, first, rest, sum_by-cons (λ n. n) x xs, sum_by-cons (λ n. n) y ys)
 
--- a further round undoes nothing
+-- another round undoes nothing
 pub tended_more : (s : SharedView) (w : Wish) (j turns : ℕ) (x y : Worker) → HasTended s w j x → HasSwept s turns x y → HasTended s w j y
 tended_more s w j turns x y is has = record {
   pass = has.kept ∙ ap (λ (p : PassView). record p { counts = y.pass.counts }) is.pass;
@@ -146,7 +146,7 @@ has_read s i o p is has = record {
   climbs = climbs_to 0 p.pass.seen s.terms.quota p.tallies.items has.climbs (omega arith) has.within;
 }
 
--- what a crew has done that had not begun
+-- a crew that had not begun has done its work
 pub worked : (s : SharedView) (w : Wish) (t : ℕ) (c d : Crew) → IsCrew s w t c → AllZip (HasDropped s w.drops) c.droppers.items d.droppers.items
     → AllZip (HasSwept s w.sweeps) c.workers.items d.workers.items → AllZip (HasWatched s 16) c.observers.items d.observers.items → HasWorked s w t d
 worked s w t c d is dropped swept watched = record {
@@ -158,7 +158,7 @@ worked s w t c d is dropped swept watched = record {
   all_observers = AllZip-long (HasWatched s 16) c.observers.items d.observers.items watched ∙ is.all_observers;
 }
 
--- and after a further round of its workers
+-- also after another round of its workers
 pub worked_on : (s : SharedView) (w : Wish) (t turns : ℕ) (c d : Crew) → HasWorked s w t c → AllZip (HasSwept s turns) c.workers.items d.workers.items
     → d.droppers ≡ c.droppers → d.observers ≡ c.observers → HasWorked s w t d
 worked_on s w t turns c d has swept same also = record {

@@ -1,4 +1,4 @@
--- A dropper reads one site of its stream more, and drops on all that it has read.
+-- A dropper reads one more site of its stream, and drops on all that it has read.
 use Rattle.std.proofs.Common.{◌≡◌, ℕ, ◌+◌, ◌<◌, ◌≤◌, List, [], ◌∷◌, ◌++◌, All, length, refl, sym, ap, ◌∙◌, subst, arith, append_assoc, append-nil, length-append, add-one}
 use Rattle.std.specs.Prelude.{vec_capacity}
 use Rattle.std.specs.Int.{div_ceil}
@@ -12,11 +12,11 @@ use Rattle.sand_lab.specs.Jobs.{CanDrop, IsDropping, HasDropped, dropped_at}
 use Rattle.sand_lab.specs.Journals.{Ascends}
 use Rattle.sand_lab.specs.Streams.{Reading, site_at}
 
--- some drops make batches of at least one
+-- a batch has at least one drop
 pub some_in_a_batch : (drops : ℕ) → 0 < drops → 0 < div_ceil drops 16
 some_in_a_batch drops some = let enough = (div_ceil_times drops 16 (omega arith)).0 in omega arith
 
--- a dropper that may begin has read and dropped nothing
+-- a dropper that has not begun has read and dropped nothing
 pub begins : (s : SharedView) (turns : ℕ) (d : Dropper) → CanDrop s turns d → IsDropping s turns 0 d d
 begins s turns d can =
     let none = can.none_read in
@@ -62,7 +62,7 @@ reads_one s turns n d e f site h more who pass counts reading items room is insi
       below = subst (λ (p : PassView). AllBelow p.seen p.receipts) (sym pass) h.below;
     }
 
--- a dropper that has read all and holds none has dropped on all
+-- a dropper that has read all sites and holds none has dropped on all of them
 pub has_dropped : (s : SharedView) (turns : ℕ) (d e : Dropper) → IsDropping s turns turns d e → e.batch.items ≡ [] → HasDropped s turns d e
 has_dropped s turns d e h none =
     let long = ap (λ (xs : List ℕ). length xs) none in

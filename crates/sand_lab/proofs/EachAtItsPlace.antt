@@ -1,4 +1,4 @@
--- What holds of each element of a list at its place, as the list grows.
+-- What holds of each element of a list at its index, as the list grows.
 use Rattle.std.proofs.Common.{◌≡◌, ℕ, zero, suc, ◌+◌, List, [], ◌∷◌, ◌++◌, All, length, map, refl, subst, arith}
 use Rattle.std.specs.List.{AllZip}
 use Rattle.std.proofs.lemmas.List.Elements.{All-nil, All-cons}
@@ -6,14 +6,14 @@ use Rattle.std.proofs.lemmas.Option.{none-some, same_Some}
 use Rattle.sand_lab.specs.Crews.{EachAt}
 
 module _ {A : Type 0} where
-  -- one more at the end
+  -- one more element at the end
   pub each_push : (P : ℕ → A → Type 0) (xs : List A) (x : A) → EachAt P xs → P (length xs) x → EachAt P (xs ++ x ∷ [])
   each_push P [] x h p zero y e = subst (λ (z : A). P 0 z) (same_Some _ _ e) p
   each_push P [] x h p (suc i) y e = absurd (none-some y e)
   each_push P (z ∷ xs) x h p zero y e = h zero y e
   each_push P (z ∷ xs) x h p (suc i) y e = each_push (λ j. P (suc j)) xs x (λ j w g. h (suc j) w g) p i y e
 
-  -- one more in front, if the places are counted from n
+  -- one more element in front, with the indices counted from n
   pub each_first : (P : ℕ → A → Type 0) (n : ℕ) (xs : List A) (x : A) → EachAt (λ i. P (suc n + i)) xs → P n x → EachAt (λ i. P (n + i)) (x ∷ xs)
   each_first P n xs x h p zero y e = let same : n ≡ n + 0 = omega arith in subst (λ (m : ℕ). P m y) same (subst (λ (z : A). P n z) (same_Some _ _ e) p)
   each_first P n xs x h p (suc i) y e = let same : suc n + i ≡ n + suc i = omega arith in subst (λ (m : ℕ). P m y) same (h i y e)
@@ -22,12 +22,12 @@ module _ {A : Type 0} where
   each_none P i x e = absurd (none-some x e)
 
 module _ {A : Type 0} where
-  -- what each is at its place, each is
+  -- what holds at each index holds of all
   pub each_all : (P : ℕ → A → Type 0) (Q : A → Type 0) (xs : List A) → EachAt P xs → ((i : ℕ) (x : A) → P i x → Q x) → All Q xs
   each_all P Q [] h f = All-nil Q
   each_all P Q (x ∷ xs) h f = All-cons Q x xs (f 0 x (h 0 x refl)) (each_all (λ i. P (suc i)) Q xs (λ i y e. h (suc i) y e) (λ i y p. f (suc i) y p))
 
-  -- what becomes of each at its place
+  -- each element at its index becomes another
   pub each_zip : (P Q : ℕ → A → Type 0) (R : A → A → Type 0) (xs ys : List A) → EachAt P xs → AllZip R xs ys → ((i : ℕ) (x y : A) → P i x → R x y → Q i y) → EachAt Q ys
   each_zip P Q R [] [] h z f i y e = absurd (none-some y e)
   each_zip P Q R [] (y ∷ ys) h z f i v e = absurd z
@@ -36,7 +36,7 @@ module _ {A : Type 0} where
   each_zip P Q R (x ∷ xs) (y ∷ ys) h z f (suc i) v e = each_zip (λ j. P (suc j)) (λ j. Q (suc j)) R xs ys (λ j w g. h (suc j) w g) z.1 (λ j a b p r. f (suc j) a b p r) i v e
 
 module _ {A B : Type 0} where
-  -- what is so of each is so of what is made of it
+  -- what follows for something made of each element
   pub all_map : (P : ℕ → A → Type 0) (Q : B → Type 0) (v : A → B) (xs : List A) → EachAt P xs → ((i : ℕ) (x : A) → P i x → Q (v x)) → All Q (map v xs)
   all_map P Q v [] h f = All-nil Q
   all_map P Q v (x ∷ xs) h f = All-cons Q (v x) (map v xs) (f 0 x (h 0 x refl)) (all_map (λ i. P (suc i)) Q v xs (λ i y e. h (suc i) y e) (λ i y p. f (suc i) y p))

@@ -1,4 +1,4 @@
--- The numbers of receipts: with each at most once and all below their count, each number below it is that of one receipt.
+-- Receipts whose numbers are all different and below the count of receipts: each number below it occurs exactly once.
 use Rattle.std.proofs.Common.{ℕ, suc, ◌≡◌, ◌<◌, ◌≤◌, List, [], ◌∷◌, map, length, get_or, eqb, Some, refl, sym, ap, ◌∙◌, ⊎_elim, arith}
 use Rattle.std.proofs.lemmas.Bool.{cases_eq, cases_lt}
 use Rattle.std.proofs.lemmas.List.{length-map}
@@ -20,11 +20,11 @@ use Rattle.sand_shared.proofs.NumbersOnce.{one_if_same, one_if_other}
 abbrev pub numbers_of : List Receipt → List ℕ
 numbers_of rs = map (λ (r : Receipt). r.number) rs
 
--- to count the receipts with a number is to tally the numbers
+-- counting the receipts with a number is tallying their numbers
 tally-numbers : (rs : List Receipt) (n : ℕ) → tally (numbers_of rs) n ≡ numbered rs n
 tally-numbers rs n = sum_by-map (λ j. one_at j n) (λ (r : Receipt). r.number) rs
 
--- with as many receipts as there are numbers, and no number twice, no number is left out
+-- n different numbers below n leave none out
 pub each_number : (rs : List Receipt) → EachOnce rs → AllBelow (length rs) rs → (n : ℕ) → n < length rs → numbered rs n ≡ 1
 each_number rs once below n inside =
     let all : sum_below (length rs) (tally (numbers_of rs)) ≡ length (numbers_of rs) = sum_below-tally (length rs) (numbers_of rs) (All-map (λ j. j < length rs) (λ (r : Receipt). r.number) rs below) in
@@ -38,7 +38,7 @@ each_number rs once below n inside =
     (λ (some : 1 ≤ numbered rs n). omega arith)
     (cases_lt (numbered rs n) 1)
 
--- a receipt at some place has the number n
+-- some receipt has the number n
 abbrev pub HasNumber : List Receipt → ℕ → Type 0
 HasNumber rs n = (i : ℕ) × (r : Receipt) × (slice_get rs i ≡ Some r) × (r.number ≡ n)
 
@@ -54,11 +54,11 @@ some_receipt (r ∷ rs) n some =
     (suc later.0, later.1, later.2, later.3))
     (cases_eq r.number n)
 
--- so each number below their count has its receipt
+-- so each number below their count has a receipt
 pub receipt_of : (rs : List Receipt) → EachOnce rs → AllBelow (length rs) rs → (n : ℕ) → n < length rs → HasNumber rs n
 receipt_of rs once below n inside = let one = each_number rs once below n inside in some_receipt rs n (omega arith)
 
--- two receipts with the same number are at the same place
+-- receipts with the same number have the same index
 pub one_place : (rs : List Receipt) (i j : ℕ) (r q : Receipt) → EachOnce rs → slice_get rs i ≡ Some r → slice_get rs j ≡ Some q → r.number ≡ q.number → i ≡ j
 one_place rs i j r q once here there same =
     ⊎_elim

@@ -15,11 +15,11 @@ use Rattle.sand_lab.proofs.JournalFollowsStreams.{in_all, in_part, length-part, 
 
 -- One part
 
--- the entry of each receipt before the i-th of a part is at its number
+-- the entry of each of the first i receipts of a part is at its number
 abbrev pub PartNoted : ℕ → ℕ → List Receipt → List Entry → Type 0
 PartNoted dropper i rs js = (j : ℕ) (r : Receipt) → j < i → slice_get rs j ≡ Some r → slice_get js r.number ≡ Some (entry dropper r.site)
 
--- and at other numbers two journals agree
+-- at other numbers the two journals agree
 abbrev pub AgreeElse : ℕ → List Receipt → List Entry → List Entry → Type 0
 AgreeElse i rs before after = (n : ℕ) → ((j : ℕ) (r : Receipt) → j < i → slice_get rs j ≡ Some r → r.number ≢ n) → slice_get after n ≡ slice_get before n
 
@@ -48,13 +48,12 @@ module _ (dropper i : ℕ) (rs : List Receipt) (js : List Entry) (r : Receipt) (
 
 -- All parts
 
--- the k-th part, of a list of lists
 pub part_at : (parts : List (Vec Receipt Global)) (k : ℕ) (d : Vec Receipt Global) → k < length parts → slice_get (lists parts) k ≡ Some (get_or parts k d).items
 part_at [] k d inside = absurd (omega arith)
 part_at (part ∷ parts) zero d inside = refl
 part_at (part ∷ parts) (suc k) d inside = part_at parts k d (omega arith)
 
--- the entry of each receipt before the i-th is at its number
+-- the entry of each of the first i receipts is at its number
 abbrev pub NotedBelow : ℕ → ℕ → List Receipt → List Entry → Type 0
 NotedBelow drops i rs js = (j : ℕ) (r : Receipt) → j < i → slice_get rs j ≡ Some r → slice_get js r.number ≡ Some (entry (j / drops) r.site)
 
@@ -65,7 +64,7 @@ module _ (drops : ℕ) (parts : List (List Receipt)) (rs : List Receipt) (are : 
       subst (λ (r : Receipt). r.number < long) (same_receipt drops parts rs are k part at i d fits)
       (below (k * drops + i) d (place_inside drops parts rs are k part at i fits))
 
-  -- with one part more
+  -- with one more part
   pub noted_more : (k : ℕ) (part : List Receipt) (before after : List Entry) → slice_get parts k ≡ Some part → EachOnce rs
       → HasEntries k part after → AgreeBeside part before after → NotedBelow drops (k * drops) rs before → NotedBelow drops ((k + 1) * drops) rs after
   noted_more k part before after at once entries agree noted j r less there =
@@ -85,7 +84,7 @@ module _ (drops : ℕ) (parts : List (List Receipt)) (rs : List Receipt) (are : 
       entries i r (in_part drops parts rs are k part at i r inside here) ∙ ap (λ n. Some (entry n r.site)) whose)
       (cases_lt j (k * drops))
 
-  -- and with all
+  -- with all parts
   pub all_noted : (js : List Entry) → length js ≡ length rs → NotedBelow drops (length parts * drops) rs js → IsJournal drops rs js
   all_noted js long noted = record {
     one_each = long;

@@ -1,4 +1,4 @@
--- What a gathered crew leaves: a whole pass, and a closed epoch.
+-- A gathered crew makes a whole pass and a closed epoch.
 use Rattle.std.proofs.Common.{◌≡◌, ℕ, suc, ◌*◌, ◌<◌, ◌≤◌, List, [], ◌∷◌, All, length, sum, get_or, refl, sym, ap, ◌∙◌, subst, arith}
 use Rattle.std.specs.List.{flat_map}
 use Rattle.std.specs.Prelude.{slice_index}
@@ -90,11 +90,11 @@ module _ (s : SharedView) (w : Wish) (t : ℕ) (c : Crew) (p : PassView) (quota 
   pub whole : IsWhole s.terms p
   whole = record { quota = (let none = gathered.left in let all = all_dropped in omega (arith, none, all, quota)); rows = gathered.rows }
 
-  -- the lists of the droppers' receipts are all receipts
+  -- the lists of the droppers' receipts together are all receipts
   pub gathered_parts : (lists : List (List Receipt)) → lists ≡ parts_of c.droppers.items → joined lists ≡ p.receipts
   gathered_parts lists same = ap joined same ∙ parts.whole
 
-  -- a journal of all has a place for each
+  -- a journal of all drops has an entry for each
   pub places : (lists : List (List Receipt)) (long : ℕ) → lists ≡ parts_of c.droppers.items → long ≡ quota_of w → EachOnce p.receipts → IsPlan w → HavePlaces w.drops lists long
   places lists long same all once plan =
       let mine = sym (gathered_parts lists same) in

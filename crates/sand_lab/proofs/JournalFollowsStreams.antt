@@ -1,4 +1,4 @@
--- What a journal says of the drops of each dropper, whose receipts are a part of all.
+-- What a journal says of the drops of one dropper, whose receipts are a part of all.
 use Rattle.std.proofs.Common.{ℕ, zero, suc, ◌≡◌, ◌+◌, ◌*◌, ◌/◌, ◌%◌, ◌<◌, ◌≤◌, List, [], ◌∷◌, All, take, length, get_or, Some, sym, ap, ◌∙◌, subst, arith, length-append}
 use Rattle.std.proofs.lemmas.List.{take_all}
 use Rattle.std.proofs.lemmas.List.Concat.{get_or-flat_map}
@@ -15,7 +15,7 @@ use Rattle.sand_lab.proofs.JournalSites.{entry_of}
 use Rattle.sand_lab.proofs.EachNumberOnce.{HasNumber}
 use Rattle.sand_lab.proofs.SitesOfOneDropper.{HasEntry, sites_of, picked}
 
--- k parts of so many each have k times so many
+-- the first k parts of d receipts each have k * d receipts
 length-first : (drops k : ℕ) (parts : List (List Receipt)) → All (λ (part : List Receipt). length part ≡ drops) parts → k ≤ length parts → length (joined (take k parts)) ≡ k * drops
 length-first drops zero parts long few = omega arith
 length-first drops (suc k) [] long few = absurd (omega arith)
@@ -24,7 +24,7 @@ length-first drops (suc k) (part ∷ parts) long few =
     let later = length-first drops k parts (λ i d inside. long (suc i) d (omega arith)) (omega arith) in
     let both = length-append part (joined (take k parts)) in omega arith
 
--- parts that have any receipts have some each
+-- if there is any receipt, no part is empty
 some_each : (n many drops : ℕ) → n < many * drops → 0 < drops
 some_each n many zero inside = absurd (omega arith)
 some_each n many (suc drops) inside = omega arith
@@ -46,7 +46,7 @@ module _ (drops : ℕ) (parts : List (List Receipt)) (rs : List Receipt) (are : 
     pub ascends : Ascends part
     ascends = subst Ascends read (are.ascend k [] (slice_get_within parts k part there))
 
-    -- the i-th receipt of the k-th part is at k * drops + i
+    -- the i-th receipt of part k has the index k * drops + i
     pub same_receipt : (i : ℕ) (d : Receipt) → i < drops → get_or rs (k * drops + i) d ≡ get_or part i d
     same_receipt i d inside =
         let within = slice_get_within parts k part there in
@@ -68,14 +68,14 @@ module _ (drops : ℕ) (parts : List (List Receipt)) (rs : List Receipt) (are : 
         let inside : i < drops = omega arith in
         slice_get-get_or rs (k * drops + i) r (place_inside i inside) ∙ ap Some (same_receipt i r inside ∙ get_or_from_slice_get part i r r at_part)
 
-    -- and the other way round
+    -- and the converse
     pub in_part : (i : ℕ) (r : Receipt) → i < drops → slice_get rs (k * drops + i) ≡ Some r → slice_get part i ≡ Some r
     in_part i r inside at_all =
         let long = length-part in
         slice_get-get_or part i r (omega (arith, inside, long)) ∙ ap Some (sym (same_receipt i r inside) ∙ get_or_from_slice_get rs (k * drops + i) r r at_all)
 
     module _ (js : List Entry) (once : EachOnce rs) (below : AllBelow (length rs) rs) (journal : IsJournal drops rs js) where
-      -- each receipt of the part has its entry, as one of the k-th dropper
+      -- each receipt of the part has its entry, under the k-th dropper
       entries : (i : ℕ) (r : Receipt) → slice_get part i ≡ Some r → HasEntry k 0 js r
       entries i r at_part =
           let long = length-part in
@@ -83,7 +83,7 @@ module _ (drops : ℕ) (parts : List (List Receipt)) (rs : List Receipt) (are : 
           let inside : i < drops = omega arith in
           (r.number, omega arith, journal.noted (k * drops + i) r (in_all i r at_part) ∙ ap (λ x. Some (entry x r.site)) (div-mul-add k drops i inside))
 
-      -- and each entry of the k-th dropper has its receipt in the part
+      -- each entry of the k-th dropper has its receipt in the part
       receipts : (n : ℕ) (e : Entry) → slice_get js n ≡ Some e → e.dropper ≡ k → HasNumber part (0 + n)
       receipts n e at_journal is =
           let as_many = journal.one_each in
@@ -105,7 +105,7 @@ module _ (drops : ℕ) (parts : List (List Receipt)) (rs : List Receipt) (are : 
       pub part_sites : sites_by k js ≡ sites_of part
       part_sites = picked k js zero part (record { ascends = ascends; entries = entries; receipts = receipts })
 
--- if the sites of the k-th part are those of the k-th dropper's stream, the journal follows the streams
+-- if each part has the sites of its dropper's stream, the journal follows the streams
 pub follows_streams : (sites seed droppers drops epoch : ℕ) (parts : List (List Receipt)) (rs : List Receipt) (js : List Entry) → AreParts drops parts rs → length parts ≡ droppers
     → EachOnce rs → AllBelow (length rs) rs → IsJournal drops rs js
     → ((k : ℕ) (part : List Receipt) → slice_get parts k ≡ Some part → sites_of part ≡ stream_sites sites seed (stream_of epoch k) drops)

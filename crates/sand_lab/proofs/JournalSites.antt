@@ -1,4 +1,4 @@
--- The sites of a journal are those of the history.
+-- The sites of a journal are the history.
 use Rattle.std.proofs.Common.{ℕ, ◌≡◌, ◌/◌, ◌<◌, List, length, get_or, Some, sym, ap, ◌∙◌, subst, arith}
 use Rattle.std.proofs.lemmas.List.{ext_get_or, length-map, get_or-map}
 use Rattle.std.proofs.lemmas.Option.{get_or_from_slice_get, slice_get-get_or, slice_get-map, slice_get_within}
@@ -10,7 +10,7 @@ use Rattle.sand_lab.specs.declared.journal.Entry.{Entry}
 use Rattle.sand_lab.specs.Journals.{entry, sites_in, IsJournal}
 use Rattle.sand_lab.proofs.EachNumberOnce.{receipt_of}
 
--- the entry of each number is that of its receipt
+-- the entry at each number is that of its receipt
 pub entry_of : (drops : ℕ) (rs : List Receipt) (js : List Entry) → EachOnce rs → AllBelow (length rs) rs → IsJournal drops rs js → (n : ℕ) → n < length rs
     → (i : ℕ) × (r : Receipt) × (slice_get rs i ≡ Some r) × (r.number ≡ n) × (slice_get js n ≡ Some (entry (i / drops) r.site))
 entry_of drops rs js once below journal n inside =
@@ -33,7 +33,7 @@ journal_sites drops rs js history journal told once below long =
     get_or-map (λ (e : Entry). e.site) js n (entry 0 0) 0 (omega arith)
     ∙ (ap (λ (e : Entry). e.site) read ∙ sym (get_or_from_slice_get history n r.site 0 (ap (slice_get history) (sym found.3) ∙ tells))))
 
--- and the sites of a journal tell its receipts
+-- the sites of a journal agree with its receipts
 pub journal_tells : (drops : ℕ) (rs : List Receipt) (js : List Entry) → IsJournal drops rs js → Tells rs (sites_in js)
 journal_tells drops rs js journal k d inside =
     let r = get_or rs k d in

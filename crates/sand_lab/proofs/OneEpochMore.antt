@@ -1,4 +1,4 @@
--- A report with one epoch more, and why each epoch keeps within the limit.
+-- A report with one more epoch, and why each epoch stays within the limit.
 use Rattle.std.proofs.Common.{◌≡◌, ℕ, zero, suc, ◌+◌, ◌*◌, ◌<◌, ◌≤◌, List, [], ◌∷◌, ◌++◌, length, sum, sum_by, refl, sym, ap, ◌∙◌, subst, arith, append_assoc, append-nil, length-append}
 use Rattle.std.proofs.lemmas.List.{length-map}
 use Rattle.std.proofs.lemmas.List.Sums.{sum_by-cons, sum_by-append}
@@ -64,7 +64,7 @@ report_first album w start r s e = record {
   };
 }
 
--- and one epoch more, which starts from the pile after all before it
+-- one more epoch, which starts from the pile of the total
 pub report_more : (album : List ℕ) (w : Wish) (start : PileView) (n : ℕ) (p q : ReportView) (r : RecordView) (s : SheetView) → IsReportOf album w start n p → IsEpoch album w p.total.settled.pile n r s
     → HasGrown p r s q → IsReportOf album w start (n + 1) q
 report_more album w start n p q r s is e g =
@@ -78,7 +78,7 @@ report_more album w start n p q r s is e g =
       total = subst (λ (rs : List RecordView). IsTotal start rs q.total) (sym g.records) (total_more start p.records p.total r q.total is.total g.total);
     }
 
--- an epoch has as many drops as its quota
+-- an epoch makes as many drops as its quota
 pub epoch_drops : (album : List ℕ) (w : Wish) (start : PileView) (t : ℕ) (r : RecordView) (s : SheetView) → IsEpoch album w start t r s → length r.history ≡ quota_of w
 epoch_drops album w start t r s e = ap length (sym e.closed.history) ∙ length-map s.journal (λ (x : Entry). x.site) ∙ e.closed.streams.all
 
@@ -91,14 +91,14 @@ all_dropped album w start t (r ∷ rs) (s ∷ ss) h =
     let both = length-append r.history (histories rs) in
     omega (arith, one, rest, both)
 
--- as many drops were made as the epochs so far have
+-- the epochs so far made as many drops as their quotas
 pub dropped_so_far : (album : List ℕ) (w : Wish) (start : PileView) (n : ℕ) (p : ReportView) → IsReportOf album w start n p → length p.total.history ≡ n * quota_of w
 dropped_so_far album w start n p is = ap length is.total.history ∙ all_dropped album w start 0 p.records p.sheets is.epochs ∙ ap (λ (m : ℕ). m * quota_of w) is.all
 
 one_more : (n epochs quota : ℕ) → n < epochs → n * quota + quota ≤ quota * epochs
 one_more n epochs quota lt = grind (arith, lt)
 
--- before each epoch there is room for its drops
+-- each epoch has room for its drops
 pub room_for_epoch : (album : List ℕ) (w : Wish) (start : PileView) (n : ℕ) (p : ReportView) → IsReportOf album w start n p → n < w.epochs → sum start.heights + all_drops w ≤ most_grains
     → (sum p.total.start.heights + (length p.total.history + quota_of w) ≤ most_grains) × (sum p.total.settled.pile.heights + quota_of w ≤ most_grains)
 room_for_epoch album w start n p is lt limit =

@@ -1,4 +1,4 @@
--- One turn more: a receipt, a tally, a sweep.
+-- One more turn: a receipt, a tally, a sweep.
 use Rattle.std.proofs.Common.{◌≡◌, ℕ, zero, suc, subst, ◌+◌, ◌-◌, ◌*◌, ◌<◌, ◌≤◌, List, [], ◌∷◌, ◌++◌, length, refl, sym, ap, arith, append_assoc, append-nil}
 use Rattle.std.specs.List.{AllZip}
 use Rattle.sand_shared.specs.declared.view.Receipt.{Receipt}
@@ -12,14 +12,14 @@ use Rattle.sand_shared.specs.Sweeps.{LeavesAtMost, Swept}
 use Rattle.sand_lab.specs.Journals.{Ascends}
 use Rattle.sand_lab.specs.Jobs.{Climbs, dropped_at}
 
--- a receipt with a number that is at least what was seen
+-- a receipt whose number is at least what was seen
 pub ascends_push : (seen : ℕ) (rs : List Receipt) (r : Receipt) → Ascends rs → AllBelow seen rs → seen ≤ r.number → Ascends (rs ++ r ∷ [])
 ascends_push seen rs r up below le = all_pairs_push (λ (a b : Receipt). a.number < b.number) rs r up (λ k d lt. let one = below k d lt in omega (arith, one, le))
 
 pub below_push : (seen : ℕ) (rs : List Receipt) (r : Receipt) → AllBelow seen rs → seen ≤ r.number → AllBelow (r.number + 1) (rs ++ r ∷ [])
 below_push seen rs r below le = All-push (λ (a : Receipt). a.number < r.number + 1) rs r (λ k d lt. let one = below k d lt in omega (arith, one, le)) (omega arith)
 
--- and with receipts of drops in a row, whose numbers are from one on that is at least what was seen
+-- receipts of consecutive drops, numbered from at least what was seen
 pub ascends_row : (seen n : ℕ) (rs : List Receipt) (is : List ℕ) → Ascends rs → AllBelow seen rs → seen ≤ n → Ascends (rs ++ receipts_from n is)
 ascends_row seen n rs [] up below le = subst Ascends (sym (append-nil rs)) up
 ascends_row seen n rs (i ∷ is) up below le =
@@ -56,11 +56,11 @@ zip_append R [] ys (u ∷ us) vs h k = absurd h
 zip_append R (x ∷ xs) ys [] vs h k = absurd h
 zip_append R (x ∷ xs) ys (u ∷ us) vs h k = (h.0, zip_append R xs ys us vs h.1 k)
 
--- each site has toppled as often since the pass p as its own grains made it
+-- each site has toppled, since the pass p, as often as its own grains require
 abbrev pub EnoughSince : Terms → PassView → List ℕ → Type 0
 EnoughSince t p counts = (j : ℕ) → j < length p.counts → LeavesAtMost t (at_rest p) ((at_rest p).base + j) (4 * (slice_index counts j - slice_index p.counts j) + 3)
 
--- the first sweep does enough, and the next ones undo nothing
+-- the first sweep does enough, and later ones undo nothing
 pub enough_after : (t : Terms) (p q : PassView) (counts : List ℕ) (topplings turn : ℕ) → (turn ≡ 0 → q ≡ p) → (0 < turn → EnoughSince t p q.counts) → Swept t (at_rest q) counts topplings → EnoughSince t p counts
 enough_after t p q counts topplings zero begun before swept j lt = (subst (λ (x : PassView). Swept t (at_rest x) counts topplings) (begun refl) swept).enough j lt
 enough_after t p q counts topplings (suc n) begun before swept j lt =

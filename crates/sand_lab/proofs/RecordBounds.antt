@@ -1,4 +1,4 @@
--- What a record of one thread bounds: how many grains its pile has at most, and how many topplings there were at least.
+-- Bounds from a record of one thread: on the grains of its pile, and on the topplings of its sweeps.
 use Rattle.std.proofs.Common.{ℕ, ◌≡◌, ◌+◌, ◌≤◌, List, length, sum, arith}
 use Rattle.std.specs.Prelude.{slice_index}
 use Rattle.sand_model.specs.Grid.{sites}
@@ -8,11 +8,11 @@ use Rattle.sand_settle.specs.Settling.{odometer_of}
 use Rattle.sand_shared.specs.Record.{RecordView, IsOneThreads}
 use Rattle.sand_shared.proofs.RecordSums.{leads_of, grains_left}
 
--- no grain comes from nowhere
+-- no grain appears from nowhere
 pub settled_grains : (r : RecordView) → IsOneThreads r → sum r.settled.pile.heights ≤ sum r.start.heights + length r.history
 settled_grains r one = let left = grains_left r.start r.history r.settled.pile.heights r.settled.odometer (leads_of r one) in omega arith
 
--- counts that are at most the odometer at each site come to no more than all topplings
+-- counts that are at most the odometer add up to at most all topplings
 pub counts_below : (r : RecordView) (cs : List ℕ) → IsOneThreads r → length cs ≡ sites r.start.grid → ((i : ℕ) → slice_index cs i ≤ odometer_of r.settled i) → sum cs ≤ r.settled.topplings
 counts_below r cs one long below =
     let counted = sum_is_grains r.start.grid cs long in

@@ -1,4 +1,4 @@
--- How the rows of a pass are shared out in bands, from the last one on.
+-- Splitting the rows of a pass into bands, starting with the last.
 use Rattle.std.proofs.Common.{◌≡◌, ℕ, zero, suc, ◌+◌, ◌-◌, ◌*◌, ◌<◌, ◌≤◌, ⊎_elim, List, [], take, drop, refl, sym, ap, ap₂, ◌∙◌, arith}
 use Rattle.std.proofs.lemmas.Bool.{cases_lt}
 use Rattle.std.proofs.lemmas.List.{drop-replicate, take-replicate, length-replicate}
@@ -10,7 +10,7 @@ use Rattle.sand_shared.specs.Rows.{rows_between, count_of, upper_rows, lower_row
 use Rattle.sand_shared.proofs.RowsSplit.{between_some, between_none}
 use Rattle.sand_lab.specs.Crews.{rowless, upper_part, banded}
 
--- so many rows from the top
+-- the first n rows
 abbrev pub top : ℕ → Rows
 top n = record { first = 0; end = n }
 
@@ -40,7 +40,7 @@ module _ (s : SharedView) (b e : ℕ) (le : b ≤ e) where
   kept_sites : sites_kept (upper_part s 0 e) (e - b) ≡ w * b
   kept_sites = ap (λ (n : ℕ). n - (e - b) * w) (length-replicate (w * e) 0) ∙ kept w b e le
 
-  -- what is split off has the rows from b to e
+  -- the part split off has the rows from b to e
   pub band_split : record (upper_part s 0 e) { left = 0; receipts = []; rows = lower_rows (top e) (e - b); counts = drop (sites_kept (upper_part s 0 e) (e - b)) (zeros (w * e)) } ≡ banded s (rows_between b e)
   band_split =
       let rows : lower_rows (top e) (e - b) ≡ rows_between b e = ap (λ (n : ℕ). rows_between n e) (take_back b e le) in
@@ -48,7 +48,7 @@ module _ (s : SharedView) (b e : ℕ) (le : b ≤ e) where
       ap (λ (n : ℕ). drop n (zeros (w * e))) kept_sites ∙ drop-replicate (w * b) (w * e) 0 ∙ ap zeros (rest w b e le ∙ ap (λ (n : ℕ). n * w) (sym (count_between b e le))) in
       ap₂ (λ (r : Rows) (c : List ℕ). record (rowless s 0) { rows = r; counts = c }) rows counts
 
-  -- and what is left has the rows up to b
+  -- the rest has the rows up to b
   pub band_left : record (upper_part s 0 e) { rows = upper_rows (top e) (e - b); counts = take (sites_kept (upper_part s 0 e) (e - b)) (zeros (w * e)) } ≡ upper_part s 0 b
   band_left =
       let rows : upper_rows (top e) (e - b) ≡ top b = ap (λ (n : ℕ). rows_between 0 n) (take_back b e le) ∙ from_top b in

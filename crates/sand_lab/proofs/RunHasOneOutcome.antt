@@ -1,5 +1,5 @@
--- Why a run has one outcome. A record is what its start and its tallies make it, since heights settle to one pile by one
--- odometer; and how often a site is tallied in an epoch, the streams alone say.
+-- Why a run has one outcome. A record is determined by its start and the drops on each site, because heights settle to
+-- one pile with one odometer. How often a site is dropped on in an epoch is determined by the streams.
 use Rattle.std.proofs.Common.{ℕ, ◌≡◌, ◌+◌, ◌*◌, ◌<◌, List, [], ◌∷◌, map, length, sum, refl, sym, ap, ◌∙◌, subst, arith}
 use Rattle.std.specs.Prelude.{slice_index}
 use Rattle.std.proofs.lemmas.List.{ext_get_or}
@@ -18,7 +18,7 @@ use Rattle.sand_lab.specs.Reports.{SheetView, IsEpoch, AreEpochs, histories}
 use Rattle.sand_lab.specs.Streams.{stream_of, stream_sites}
 use Rattle.sand_lab.proofs.TallyOfStreams.{tally_of_streams}
 
--- heights that are the same at each site of a grid have one settled record
+-- equal heights have one settled record
 module _ (g : Grid) (s s' : ℕ → ℕ) (r q : SettledView) (same : (i : ℕ) → i < sites g → s i ≡ s' i) (mine : IsRecord g s r) (theirs : IsRecord g s' q) where
   same_start : IsSettled g s' (odometer_of r) (height_of r.pile)
   same_start = settled_same g s s' (odometer_of r) (odometer_of r) (height_of r.pile) (height_of r.pile) same (λ i l. refl) (λ i l. refl) mine.settled
@@ -40,7 +40,7 @@ module _ (g : Grid) (s s' : ℕ → ℕ) (r q : SettledView) (same : (i : ℕ) �
       let gone = mine.all_lost ∙ ap (λ (u : List ℕ). lost g (slice_index u)) same_odometer ∙ sym theirs.all_lost in
       λ k. record { pile = record { grid = grids k; heights = same_heights k }; odometer = same_odometer k; topplings = tops k; lost = gone k }
 
--- what one thread gets is a matter of the start and of how often each site was dropped on, in whatever order
+-- the result of one thread depends only on the start and on how often each site was dropped on, in any order
 pub one_threads_once : (r q : RecordView) → IsOneThreads r → IsOneThreads q → r.start ≡ q.start → ((i : ℕ) → tally r.history i ≡ tally q.history i) → r.settled ≡ q.settled
 one_threads_once r q one other starts tallies =
     let P : PileView → Type 0 = λ p. IsRecord p.grid (λ i. height_of p i + tally q.history i) q.settled in
@@ -49,18 +49,18 @@ one_threads_once r q one other starts tallies =
     one.one.settled
     (subst P (sym starts) other.one.settled)
 
--- an epoch tallies what the streams do
+-- an epoch's drops on each site are those of its streams
 pub epoch_tally : (album : List ℕ) (w : Wish) (start : PileView) (t : ℕ) (r : RecordView) (s : SheetView) → IsEpoch album w start t r s → (i : ℕ)
     → tally r.history i ≡ sum_below w.droppers (λ k. tally (stream_sites (sites start.grid) w.seed (stream_of t k) w.drops) i)
 epoch_tally album w start t r s epoch i =
     ap (λ (h : List ℕ). tally h i) (sym epoch.closed.history) ∙ tally_of_streams (sites start.grid) w.seed w.droppers w.drops t s.journal epoch.closed.streams i
 
--- records that show the same piles of one thread, and tallied alike in all
+-- records with equal results, whose histories together have equal tallies
 record SettleAlike (rs qs : List RecordView) : Type 0 where
   ones : map one_of rs ≡ map one_of qs
   tallies : (i : ℕ) → tally (histories rs) i ≡ tally (histories qs) i
 
--- one more epoch before such records
+-- one more epoch in front of such records
 alike_more : (r q : RecordView) (rs qs : List RecordView) → one_of r ≡ one_of q → ((i : ℕ) → tally r.history i ≡ tally q.history i) → SettleAlike rs qs → SettleAlike (r ∷ rs) (q ∷ qs)
 alike_more r q rs qs same tallies rest = record {
   ones = λ k. same k ∷ rest.ones k;
@@ -71,7 +71,7 @@ alike_more r q rs qs same tallies rest = record {
       let after = rest.tallies i in omega arith;
 }
 
--- the same start, the same settled record and as many drops
+-- the same start, the same settled record and the same number of drops
 one_same : (r q : RecordView) → r.start ≡ q.start → r.settled ≡ q.settled → length r.history ≡ length q.history → one_of r ≡ one_of q
 one_same r q starts same long k = record { settled = same k; number = long k; grains = sum (starts k).heights + long k }
 
@@ -79,7 +79,7 @@ module _ (album album' : List ℕ) (w v : Wish) (asks : AskTheSame w v) where
   same_quota : quota_of w ≡ quota_of v
   same_quota k = asks.droppers k * asks.drops k
 
-  -- from one start both runs have such epochs
+  -- from equal starts both runs have such epochs
   epochs_alike : (start start' : PileView) (t : ℕ) (rs qs : List RecordView) (ss us : List SheetView) → start ≡ start' → length rs ≡ length qs → AreEpochs album w start t rs ss → AreEpochs album' v start' t qs us → SettleAlike rs qs
   epochs_alike start start' t [] [] ss us starts long mine theirs = record { ones = refl; tallies = λ i. refl }
   epochs_alike start start' t [] (q ∷ qs) ss us starts long mine theirs = absurd (omega arith)

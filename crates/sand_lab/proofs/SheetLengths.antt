@@ -1,5 +1,4 @@
--- What a report keeps of each epoch has as many tallies and swept numbers as the plan has observers and workers, and names
--- the epoch's place.
+-- For each epoch a report has a tally list for each observer, a swept number for each worker, and the album's place.
 use Rattle.std.proofs.Common.{ℕ, ◌≡◌, ◌+◌, ◌<◌, zero, suc, List, [], ◌∷◌, length, slice_index_or, None, subst, arith}
 use Rattle.sand_model.specs.Piles.{PileView}
 use Rattle.sand_shared.specs.Record.{RecordView}
@@ -15,7 +14,7 @@ pub record IsSheet (album : List ℕ) (w : Wish) (t : ℕ) (s : SheetView) : Typ
 sheet_of : (album : List ℕ) (w : Wish) (start : PileView) (t : ℕ) (r : RecordView) (s : SheetView) → IsEpoch album w start t r s → IsSheet album w t s
 sheet_of album w start t r s epoch = record { tallies = epoch.closed.read.all; swept = epoch.closed.tended.all; place = epoch.place }
 
--- the sheet at place t of those from an epoch on is that of epoch n
+-- the sheets start at epoch `from`, so the one at index t is that of epoch from + t
 sheets_of : (album : List ℕ) (w : Wish) (none : SheetView) (start : PileView) (from : ℕ) (rs : List RecordView) (ss : List SheetView) → AreEpochs album w start from rs ss
     → (t n : ℕ) → from + t ≡ n → t < length rs → IsSheet album w n (slice_index_or ss t none)
 sheets_of album w none start from [] ss epochs t n is l = absurd (omega (arith, l))
@@ -25,7 +24,7 @@ sheets_of album w none start from (r ∷ rs) (s ∷ ss) epochs zero n is l =
     subst (λ m. IsSheet album w m s) here (sheet_of album w start from r s epochs.0)
 sheets_of album w none start from (r ∷ rs) (s ∷ ss) epochs (suc t) n is l = sheets_of album w none r.settled.pile (from + 1) rs ss epochs.1 t n (omega (arith, is)) (omega (arith, l))
 
--- v is what a plan was made of w
+-- v is w, as the plan holds it
 pub sheets : (album : List ℕ) (v w : Wish) → v ≡ w → (start : PileView) (p : ReportView) → IsReport album v start p → (t : ℕ) → t < w.epochs → IsSheet album w t (sheet_at p t)
 sheets album v w same start p made t l =
     let none : SheetView = record { journal = []; tallies = []; swept = []; place = 0; shown = None } in

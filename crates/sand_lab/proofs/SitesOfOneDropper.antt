@@ -12,9 +12,9 @@ use Rattle.sand_lab.proofs.EachNumberOnce.{HasNumber}
 abbrev pub sites_of : List Receipt → List ℕ
 sites_of rs = map (λ (r : Receipt). r.site) rs
 
--- Below, js is the end of a journal, whose entries have the numbers from m on.
+-- Below, js is the tail of a journal, whose entries are numbered from m on.
 
--- the entry of the receipt r, as one of dropper k, is there at its number
+-- the entry of receipt r, under dropper k, is at its number
 abbrev pub HasEntry : ℕ → ℕ → List Entry → Receipt → Type 0
 HasEntry k m js r = (n : ℕ) × (r.number ≡ m + n) × (slice_get js n ≡ Some (entry k r.site))
 
@@ -24,7 +24,7 @@ pub record Matches (k m : ℕ) (js : List Entry) (rs : List Receipt) : Type 0 wh
   pub entries : (i : ℕ) (r : Receipt) → slice_get rs i ≡ Some r → HasEntry k m js r
   pub receipts : (n : ℕ) (e : Entry) → slice_get js n ≡ Some e → e.dropper ≡ k → HasNumber rs (m + n)
 
--- the first receipt's number is below that of each later one
+-- the first number is below every later one
 below_later : (r : Receipt) (rs : List Receipt) → Ascends (r ∷ rs) → (i : ℕ) (q : Receipt) → slice_get rs i ≡ Some q → r.number < q.number
 below_later r rs up i q there =
     let less = up 0 (suc i) q (omega arith) (let inside = slice_get_within rs i q there in omega arith) in
@@ -33,7 +33,7 @@ below_later r rs up i q there =
 ascends_later : (r : Receipt) (rs : List Receipt) → Ascends (r ∷ rs) → Ascends rs
 ascends_later r rs up = λ i j d before inside. up (suc i) (suc j) d (omega arith) (omega arith)
 
--- if the first entry is the dropper's, the first receipt has its number
+-- if the first entry is the dropper's, it has the number of the first receipt
 first_number : (k m : ℕ) (e : Entry) (js : List Entry) (r : Receipt) (rs : List Receipt) → Matches k m (e ∷ js) (r ∷ rs) → e.dropper ≡ k → r.number ≡ m
 first_number k m e js r rs given is = at_first (given.receipts zero e refl is)
   where
@@ -43,7 +43,7 @@ first_number k m e js r rs given is = at_first (given.receipts zero e refl is)
         let less = below_later r rs given.ascends i q there in
         let from = (given.entries zero r refl).1 in absurd (omega arith)
 
--- and its site
+-- and the site of the first receipt
 first_site : (k m : ℕ) (e : Entry) (js : List Entry) (r : Receipt) (rs : List Receipt) → Matches k m (e ∷ js) (r ∷ rs) → r.number ≡ m → e.site ≡ r.site
 first_site k m e js r rs given first = at_first (given.entries zero r refl)
   where
@@ -51,12 +51,12 @@ first_site k m e js r rs given first = at_first (given.entries zero r refl)
     at_first (zero, number, there) = ap (λ (x : Entry). x.site) (same_Some e (entry k r.site) there)
     at_first (suc n, number, there) = absurd (omega arith)
 
--- an entry with a greater number than the first is in the rest
+-- an entry with a greater number is in the rest
 in_rest : (k m : ℕ) (e : Entry) (js : List Entry) (r : Receipt) → m < r.number → HasEntry k m (e ∷ js) r → HasEntry k (m + 1) js r
 in_rest k m e js r later (zero, number, there) = absurd (omega arith)
 in_rest k m e js r later (suc n, number, there) = (n, omega arith, there)
 
--- past the dropper's first entry, its other entries are those of its other receipts
+-- after the dropper's first entry, its other entries match its other receipts
 past_first : (k m : ℕ) (e : Entry) (js : List Entry) (r : Receipt) (rs : List Receipt) → Matches k m (e ∷ js) (r ∷ rs) → r.number ≡ m → Matches k (m + 1) js rs
 past_first k m e js r rs given first = record {
   ascends = ascends_later r rs given.ascends;
@@ -68,7 +68,7 @@ past_first k m e js r rs given first = record {
     not_first n (zero, q, there, number) = let same = ap (λ (x : Receipt). x.number) (same_Some r q there) in absurd (omega arith)
     not_first n (suc i, q, there, number) = (i, q, there, omega arith)
 
--- past another dropper's entry nothing has changed
+-- after another dropper's entry nothing has changed
 past_other : (k m : ℕ) (e : Entry) (js : List Entry) (rs : List Receipt) → Matches k m (e ∷ js) rs → e.dropper ≢ k → Matches k (m + 1) js rs
 past_other k m e js rs given other = record {
   ascends = given.ascends;

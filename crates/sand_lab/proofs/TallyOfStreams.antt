@@ -1,4 +1,4 @@
--- How often a site is in a journal that follows the streams: as often as in all of them.
+-- A journal that follows the streams has each site as often as all streams together.
 use Rattle.std.proofs.Common.{ℕ, zero, suc, Bool, true, false, cond, ltb, eqb, ◌≡◌, ◌+◌, ◌*◌, ◌<◌, ◌≤◌, List, [], ◌∷◌, filter, sum_by, length, refl, sym, ap, ◌∙◌, ⊎_elim, arith, length-append}
 use Rattle.std.proofs.lemmas.Bool.{cases_Bool, cases_lt, lt-ltb, le-ltb}
 use Rattle.std.proofs.lemmas.List.{length-map}
@@ -11,7 +11,6 @@ use Rattle.sand_lab.specs.declared.journal.Entry.{Entry}
 use Rattle.sand_lab.specs.Journals.{sites_in, sites_by, FollowsStreams}
 use Rattle.sand_lab.specs.Streams.{site_at, stream_of, stream_sites}
 
--- the first n sites of a stream are n
 pub length-stream_sites : (sites seed stream n : ℕ) → length (stream_sites sites seed stream n) ≡ n
 length-stream_sites sites seed stream zero = refl
 length-stream_sites sites seed stream (suc n) =
@@ -25,12 +24,12 @@ of_dropper k js = filter (λ (e : Entry). eqb e.dropper k) js
 abbrev pub of_first : ℕ → List Entry → List Entry
 of_first n js = filter (λ (e : Entry). ltb e.dropper n) js
 
--- one more entry in a sum over those that pass
+-- one more entry in a sum over those kept
 sum_by-kept : (w : Entry → ℕ) (passes : Bool) (e : Entry) (js : List Entry) → sum_by w (cond passes (e ∷ js) js) ≡ w e * cond passes 1 0 + sum_by w js
 sum_by-kept w true e js = let both = sum_by-cons w e js in omega arith
 sum_by-kept w false e js = omega arith
 
--- of the numbers below n one is x, if x is below n
+-- the sum of w over the numbers below n that equal x
 sum_below-one_at_before : (n x w : ℕ) → sum_below n (λ k. w * one_at x k) ≡ w * cond (ltb x n) 1 0
 sum_below-one_at_before n x w =
     ⊎_elim
@@ -38,7 +37,7 @@ sum_below-one_at_before n x w =
     (λ (past : n ≤ x). let none = sum_below-one_at_past n x (λ k. w) past in rw (le-ltb x n past) (omega arith))
     (cases_lt x n)
 
--- what the first n droppers have one by one, they have together
+-- the sums of the first n droppers add up to the sum over their entries
 sum_below-droppers : (w : Entry → ℕ) (n : ℕ) (js : List Entry) → sum_below n (λ k. sum_by w (of_dropper k js)) ≡ sum_by w (of_first n js)
 sum_below-droppers w n [] = sum_below-zero n
 sum_below-droppers w n (e ∷ js) =
@@ -48,7 +47,7 @@ sum_below-droppers w n (e ∷ js) =
     let rest = sum_below-droppers w n js in
     let all = sum_by-kept w (ltb e.dropper n) e (of_first n js) in omega arith
 
--- if no fewer pass than there are, all pass
+-- if as many entries are kept as there are, all are kept
 all_pass : (p : Entry → Bool) (js : List Entry) → length (filter p js) ≡ length js → filter p js ≡ js
 all_pass p [] as_many = refl
 all_pass p (e ∷ js) as_many =
@@ -61,12 +60,12 @@ all_pass p (e ∷ js) as_many =
     absurd (omega arith))
     (cases_Bool (p e))
 
--- entries are as many as their sites
+-- there are as many entries as sites
 sum_by-ones : (js : List Entry) → sum_by (λ e. 1) js ≡ length (sites_in js)
 sum_by-ones js = sym (sum_by-map (λ j. 1) (λ (e : Entry). e.site) js) ∙ sum_by_ones (sites_in js)
 
 module _ (sites seed droppers drops epoch : ℕ) (js : List Entry) (follows : FollowsStreams sites seed droppers drops epoch js) where
-  -- the droppers have as many entries as there are
+  -- the droppers have all entries
   as_many : sum_below droppers (λ k. length (sites_by k js)) ≡ length js
   as_many =
       let each = sum_below_same droppers (λ k. length (sites_by k js)) (λ k. drops * 1)
@@ -75,7 +74,7 @@ module _ (sites seed droppers drops epoch : ℕ) (js : List Entry) (follows : Fo
       let times = ap (λ n. drops * n) (sum_below-ones droppers) in
       let all = follows.all in omega arith
 
-  -- so every entry is one of theirs
+  -- so every entry belongs to one of them
   all_of_droppers : of_first droppers js ≡ js
   all_of_droppers =
       let each = sum_below_same droppers (λ k. sum_by (λ e. 1) (of_dropper k js)) (λ k. length (sites_by k js)) (λ k less. sum_by-ones (of_dropper k js)) in

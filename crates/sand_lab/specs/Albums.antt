@@ -1,4 +1,4 @@
--- The places of an album, each by the name of its cell, and what a note of a place knows.
+-- The places of an album, by the names of their cells, and what a note of a place knows.
 use Rattle.std.specs.Prelude.{ℕ, ◌≡◌, List, map, slice_get, Some}
 use Rattle.std.specs.declared.alloc.Global.{Global}
 use Rattle.once_cell.specs.Once.{cell_name}
@@ -8,11 +8,11 @@ use Rattle.sand_shared.specs.Record.{RecordView}
 abbrev pub names_of : List (Global × ℕ) → List ℕ
 names_of cells = map cell_name cells
 
--- the cell of this name is the album's place k
+-- this cell is the album's place k
 abbrev pub IsPlace : List ℕ → ℕ → ℕ → Type 0
 IsPlace album k name = slice_get album k ≡ Some name
 
--- what contracts see of a picture: the epoch, and its record
+-- a picture: the epoch, and its record
 pub record PictureView : Type 0 where
   pub epoch : ℕ
   pub closed : RecordView

@@ -1,4 +1,4 @@
--- The crew of an epoch: its droppers, workers and observers, as they begin and as they end.
+-- The crew of an epoch: its droppers, workers and observers, before and after their work.
 use Rattle.std.specs.Prelude.{ℕ, ◌≡◌, ◌+◌, ◌*◌, ◌/◌, ◌<◌, ◌≤◌, List, [], length, sum, sum_by, take, drop, slice_get, vec_capacity, Some}
 use Rattle.std.specs.Int.{div_ceil}
 use Rattle.sand_model.specs.Grid.{sites}
@@ -17,7 +17,7 @@ use Rattle.sand_lab.specs.Jobs.{dropped_at, Climbs}
 use Rattle.sand_lab.specs.Journals.{Ascends}
 use Rattle.sand_lab.specs.Streams.{stream_of, stream_sites}
 
--- each element of a list is so at its place
+-- P holds of each element at its index
 abbrev pub EachAt : {A : Type 0} → (ℕ → A → Type 0) → List A → Type 0
 EachAt P xs = (i : ℕ) (x : _) → slice_get xs i ≡ Some x → P i x
 
@@ -25,12 +25,12 @@ EachAt P xs = (i : ℕ) (x : _) → slice_get xs i ≡ Some x → P i x
 abbrev pub tallies_each : ℕ
 tallies_each = 16
 
--- the rows of a worker: as even a share as there is
+-- the rows of a worker, shared out as evenly as possible
 abbrev pub band : ℕ → ℕ → ℕ → Rows
 band height workers j = rows_between (j * height / workers) ((j + 1) * height / workers)
 
--- how often the sites of rows topple at least that begin with these heights: 4 grains at a time, without what is
--- delivered to them
+-- a lower bound on the topplings of these rows from these heights: 4 grains at a time, without what is delivered to
+-- them
 abbrev pub due : PileView → Rows → ℕ
 due p rows = sum_by (λ h. h / 4) (take (count_of rows * p.grid.width) (drop (rows.first * p.grid.width) p.heights))
 
@@ -40,11 +40,11 @@ due p rows = sum_by (λ h. h / 4) (take (count_of rows * p.grid.width) (drop (ro
 abbrev pub rowless : SharedView → ℕ → PassView
 rowless s quota = record { table = s.table; grid = grid_of_terms s.terms; left = quota; seen = 0; receipts = []; rows = no_rows; counts = [] }
 
--- a pass with a quota and the rows above one of them, in which nothing has toppled
+-- a pass with a quota and the rows above `end`, in which nothing has toppled
 abbrev pub upper_part : SharedView → ℕ → ℕ → PassView
 upper_part s quota end = record (rowless s quota) { rows = record { first = 0; end = end }; counts = zeros ((grid_of_terms s.terms).width * end) }
 
--- a pass with a quota and all rows, as the first one is
+-- a pass with a quota and all rows, like the first one
 abbrev pub unshared : SharedView → ℕ → PassView
 unshared s quota = upper_part s quota (grid_of_terms s.terms).height
 
@@ -84,20 +84,20 @@ pub record IsCrew (s : SharedView) (w : Wish) (epoch : ℕ) (c : Crew) : Type 0 
 
 -- After
 
--- it dropped its whole quota at the sites of its stream, in order
+-- it has dropped its whole quota at the sites of its stream, in order
 pub record HasEmptied (s : SharedView) (w : Wish) (epoch k : ℕ) (d : Dropper) : Type 0 where
   pub pass : d.pass ≡ record (rowless s 0) { seen = d.pass.seen; receipts = d.pass.receipts }
   pub sites : dropped_at d.pass.receipts ≡ stream_sites (sites (grid_of_terms s.terms)) w.seed (stream_of epoch k) w.drops
   pub ascends : Ascends d.pass.receipts
   pub within : AllBelow s.terms.quota d.pass.receipts
 
--- it swept its band; if at least once, then what was due there
+-- it has swept its band; if at least once, it has toppled what was due there
 pub record HasTended (s : SharedView) (w : Wish) (j : ℕ) (x : Worker) : Type 0 where
   pub pass : x.pass ≡ record (banded s (band (grid_of_terms s.terms).height w.workers j)) { counts = x.pass.counts }
   pub swept : x.swept ≡ sum x.pass.counts
   pub enough : 0 < w.sweeps → due s.terms.start (band (grid_of_terms s.terms).height w.workers j) ≤ x.swept
 
--- it read its tallies, which never fell and were at most the quota
+-- it has read its tallies, which never fell and never exceeded the quota
 pub record HasRead (s : SharedView) (i : ℕ) (o : Observer) : Type 0 where
   pub pass : o.pass ≡ record (rowless s 0) { seen = o.pass.seen }
   pub sixteen : length o.tallies.items ≡ tallies_each
@@ -112,6 +112,6 @@ pub record HasWorked (s : SharedView) (w : Wish) (epoch : ℕ) (c : Crew) : Type
   pub observers : EachAt (HasRead s) c.observers.items
   pub all_observers : length c.observers.items ≡ w.observers
 
--- the crew c has become d by its work, in whichever epoch
+-- in any epoch, its work has turned the crew c into d
 pub record HasBecome (s : SharedView) (w : Wish) (c d : Crew) : Type 0 where
   pub worked : (epoch : ℕ) → IsCrew s w epoch c → HasWorked s w epoch d

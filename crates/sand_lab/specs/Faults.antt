@@ -1,4 +1,4 @@
--- The faults of a run: their numbers, and which of them an epoch may meet.
+-- The faults of a run: their numbers, and those that can occur in an epoch.
 use Rattle.std.specs.Prelude.{ℕ, ⊤}
 use Rattle.sand_lab.specs.declared.faults.LabFault.{LabFault}
 use Rattle.sand_lab.specs.declared.faults.LabFault.TheVariants.{TooManyGrains, Memory, Plan, AlbumSize, Taken}
@@ -14,7 +14,7 @@ abbrev pub IsMemory : LabFault → Type 0
 IsMemory (Memory e) = ⊤
 IsMemory _ = ⊥
 
--- an allocation that failed, or an album's place that was set before
+-- a failed allocation, or a place of the album that was already set
 abbrev pub IsOfEpoch : LabFault → Type 0
 IsOfEpoch (Memory e) = ⊤
 IsOfEpoch Taken = ⊤

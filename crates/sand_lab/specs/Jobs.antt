@@ -1,4 +1,4 @@
--- What the threads of an epoch do with their passes: droppers, workers and observers, each in so many turns.
+-- What droppers, workers and observers do with their passes in a number of turns.
 use Rattle.std.specs.Prelude.{ℕ, ◌≡◌, ◌+◌, ◌-◌, ◌*◌, ◌<◌, ◌≤◌, List, [], ◌∷◌, ◌++◌, All, length, map, sum, slice_index, vec_capacity}
 use Rattle.std.specs.Int.{div_ceil}
 use Rattle.sand_model.specs.Grid.{sites}
@@ -18,7 +18,7 @@ use Rattle.sand_lab.specs.declared.observers.Observer.{Observer}
 abbrev pub dropped_at : List Receipt → List ℕ
 dropped_at receipts = map (λ (r : Receipt). r.site) receipts
 
--- a dropper that has not begun, may drop so many grains, and has room for a batch: a sixteenth of them
+-- a dropper that has not begun, has `turns` grains to drop, and has room for a batch of a sixteenth of them
 pub record CanDrop (s : SharedView) (turns : ℕ) (d : Dropper) : Type 0 where
   pub of_pile : IsPassOf s d.pass
   pub left : d.pass.left ≡ turns
@@ -29,7 +29,7 @@ pub record CanDrop (s : SharedView) (turns : ℕ) (d : Dropper) : Type 0 where
   pub room : div_ceil turns 16 ≤ vec_capacity d.batch
   pub counts : d.counts ≡ grid_of_terms s.terms
 
--- it was d, has read so many sites of its stream, and has dropped on all of them except those of a batch that it holds
+-- the dropper d became e: it has read `read` sites of its stream, and has dropped on all except those in its batch
 pub record IsDropping (s : SharedView) (turns read : ℕ) (d e : Dropper) : Type 0 where
   pub who : e.who ≡ d.who
   pub of_pile : IsPassOf s e.pass
@@ -62,8 +62,8 @@ pub record CanSweep (s : SharedView) (w : Worker) : Type 0 where
   pub of_pile : IsPassOf s w.pass
   pub swept : w.swept ≡ sum w.pass.counts
 
--- it has swept its rows; if at least once, then each site has toppled at least as often as the worker's own grains there
--- made it (k div 4 times)
+-- it has swept its rows; if at least once, each site has toppled at least k div 4 times, for the k of the worker's own
+-- grains there
 pub record HasSwept (s : SharedView) (turns : ℕ) (w x : Worker) : Type 0 where
   pub who : x.who ≡ w.who
   pub can : CanSweep s x
@@ -75,18 +75,18 @@ pub record HasSwept (s : SharedView) (turns : ℕ) (w x : Worker) : Type 0 where
 
 -- Observers
 
--- the tallies never fall, from one that is at least `from`, and are at most `to`
+-- the tallies never fall, begin at `from` or above, and are at most `to`
 abbrev pub Climbs : ℕ → List ℕ → ℕ → Type 0
 Climbs from [] to = from ≤ to
 Climbs from (n ∷ ns) to = (from ≤ n) × Climbs n ns to
 
--- an observer that has not begun, with room for so many tallies
+-- an observer that has not begun, with room for `turns` tallies
 pub record CanWatch (s : SharedView) (turns : ℕ) (o : Observer) : Type 0 where
   pub of_pile : IsPassOf s o.pass
   pub no_tallies : o.tallies.items ≡ []
   pub room : turns ≤ vec_capacity o.tallies
 
--- it has read so many tallies, and each is at most the quota
+-- it has read `turns` tallies, each at most the quota
 pub record HasWatched (s : SharedView) (turns : ℕ) (o p : Observer) : Type 0 where
   pub who : p.who ≡ o.who
   pub of_pile : IsPassOf s p.pass

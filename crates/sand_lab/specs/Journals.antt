@@ -1,4 +1,4 @@
--- The journal of an epoch: which dropper made each drop, and where, by the drop's number.
+-- The journal of an epoch: which dropper made each drop, and where, by the number of the drop.
 use Rattle.std.specs.Prelude.{ℕ, ◌≡◌, ◌≢◌, ◌*◌, ◌/◌, ◌^◌, ◌<◌, ◌≤◌, ◌==◌, List, Vec, All, AllPairs, length, map, filter, slice_get, Some}
 use Rattle.std.specs.List.{flat_map}
 use Rattle.std.specs.declared.alloc.Global.{Global}
@@ -30,14 +30,14 @@ lists parts = map (λ part. part.items) parts
 abbrev pub joined : List (List Receipt) → List Receipt
 joined parts = flat_map (λ (part : List Receipt). part) parts
 
--- the receipts are the parts one after another, of which each has so many with numbers that rise
+-- the receipts are the parts one after another; each part has `drops` receipts, with ascending numbers
 pub record AreParts (drops : ℕ) (parts : List (List Receipt)) (receipts : List Receipt) : Type 0 where
   pub whole : joined parts ≡ receipts
   pub long : All (λ part. length part ≡ drops) parts
   pub ascend : All Ascends parts
 
--- such parts of at most 2^32 droppers, whose receipts have each number below their count once, so that a journal of so many
--- entries has a place for each
+-- such parts of at most 2^32 droppers, in which each number below their length occurs once, so that a journal of length
+-- `long` has an entry for each receipt
 pub record HavePlaces (drops : ℕ) (parts : List (List Receipt)) (long : ℕ) : Type 0 where
   pub are_parts : AreParts drops parts (joined parts)
   pub one_each : long ≡ length (joined parts)
@@ -45,20 +45,20 @@ pub record HavePlaces (drops : ℕ) (parts : List (List Receipt)) (long : ℕ) :
   pub below : AllBelow (length (joined parts)) (joined parts)
   pub few_droppers : length parts ≤ 2 ^ 32
 
--- a journal has the entry of each receipt of one dropper at its number
+-- the entry of each of a dropper's receipts is at its number
 abbrev pub HasEntries : ℕ → List Receipt → List Entry → Type 0
 HasEntries dropper receipts journal = (i : ℕ) (r : Receipt) → slice_get receipts i ≡ Some r → slice_get journal r.number ≡ Some (entry dropper r.site)
 
--- two journals have the same entries, except at the numbers of receipts
+-- two journals have the same entries, except at the numbers of the receipts
 abbrev pub AgreeBeside : List Receipt → List Entry → List Entry → Type 0
 AgreeBeside receipts before after = (n : ℕ) → All (λ (r : Receipt). r.number ≢ n) receipts → slice_get after n ≡ slice_get before n
 
--- the receipts of the droppers come one dropper's after another's, so many each, and the entry of each is at its number
+-- the receipts of the droppers come one dropper after another, `drops` each, and the entry of each is at its number
 pub record IsJournal (drops : ℕ) (receipts : List Receipt) (journal : List Entry) : Type 0 where
   pub one_each : length journal ≡ length receipts
   pub noted : (i : ℕ) (r : Receipt) → slice_get receipts i ≡ Some r → slice_get journal r.number ≡ Some (entry (i / drops) r.site)
 
--- each dropper dropped at exactly the sites of its stream, in order, and nobody else dropped
+-- each dropper dropped at the sites of its stream, in order, and nobody else dropped
 pub record FollowsStreams (sites seed droppers drops epoch : ℕ) (journal : List Entry) : Type 0 where
   pub all : length journal ≡ droppers * drops
   pub each : (k : ℕ) → k < droppers → sites_by k journal ≡ stream_sites sites seed (stream_of epoch k) drops

@@ -6,20 +6,19 @@ use Rattle.sand_shared.specs.Record.{one_of}
 use Rattle.sand_plan.specs.declared.wish.Wish.{Wish}
 use Rattle.sand_lab.specs.Reports.{ReportView, IsReport}
 
--- two wishes that may differ only in how the work is spread: in workers, sweeps and observers
+-- the wishes differ at most in workers, sweeps and observers
 pub record AskTheSame (w v : Wish) : Type 0 where
   pub seed : w.seed ≡ v.seed
   pub droppers : w.droppers ≡ v.droppers
   pub drops : w.drops ≡ v.drops
   pub epochs : w.epochs ≡ v.epochs
 
--- two reports show the same piles of one thread, epoch by epoch and in all: piles, odometers, topplings, grains lost and
--- numbers of drops
+-- the reports have the same piles, odometers, topplings, grains lost and numbers of drops, in each epoch and in all
 pub record AreAlike (p q : ReportView) : Type 0 where
   pub epochs : map one_of p.records ≡ map one_of q.records
   pub total : one_of p.total ≡ one_of q.total
 
--- however the drops of two runs interleaved, and whoever swept concurrently
+-- however the drops of two runs interleave, and whoever sweeps meanwhile
 abbrev pub OneOutcome : Type 0
 OneOutcome = (album album' : List ℕ) (w v : Wish) (start : PileView) (p q : ReportView) → AskTheSame w v
     → IsReport album w start p → IsReport album' v start q → AreAlike p q

@@ -1,5 +1,5 @@
--- What a run leaves: a record of each epoch, with its journal, its tallies, what its workers swept and the album's note
--- of it; and one record of all epochs.
+-- The result of a run: a record of each epoch, with its journal, its tallies, what its workers swept and the album's
+-- note of it; and one record of all epochs.
 use Rattle.std.specs.Prelude.{ℕ, ◌≡◌, ◌+◌, ◌<◌, ◌≤◌, List, [], ◌∷◌, ◌++◌, Option, Some, None, All, length, sum, sum_by, slice_index, slice_index_or}
 use Rattle.std.specs.List.{flat_map}
 use Rattle.sand_model.specs.Grid.{sites}
@@ -15,8 +15,7 @@ use Rattle.sand_lab.specs.Jobs.{Climbs}
 use Rattle.sand_lab.specs.Journals.{FollowsStreams, sites_in}
 use Rattle.sand_plan.specs.Plans.{quota_of}
 
--- what contracts see of what is kept of an epoch with its record; `place` names the album's place, and `shown` is what
--- the note of it knows
+-- what is kept of an epoch with its record; `place` names the album's place, and `shown` is what the note of it knows
 pub record SheetView : Type 0 where
   pub journal : List Entry
   pub tallies : List (List ℕ)
@@ -29,19 +28,19 @@ pub record ReportView : Type 0 where
   pub sheets : List SheetView
   pub total : RecordView
 
--- the tallies of each observer never fell, and were at most the quota
+-- the tallies of each observer never fell and never exceeded the quota
 pub record AreTallies (w : Wish) (tallies : List (List ℕ)) : Type 0 where
   pub all : length tallies ≡ w.observers
   pub as_many : All (λ ts. length ts ≡ tallies_each) tallies
   pub climb : All (λ ts. Climbs 0 ts (quota_of w)) tallies
 
--- the workers swept no more than toppled, and each that swept at all at least what was due in its band
+-- the workers swept no more than toppled in all; with at least one sweep, each swept at least what was due in its band
 pub record AreSwept (w : Wish) (start : PileView) (r : RecordView) (swept : List ℕ) : Type 0 where
   pub all : length swept ≡ w.workers
   pub few : sum swept ≤ r.settled.topplings
   pub enough : 0 < w.sweeps → (j : ℕ) → j < w.workers → due start (band start.grid.height w.workers j) ≤ slice_index swept j
 
--- the record of a pile that was closed with a pass which had gathered all
+-- the record of a pile that was closed with a pass that has gathered everything
 pub record IsRecordOf (s : SharedView) (p : PassView) (r : RecordView) : Type 0 where
   pub one_threads : IsOneThreads r
   pub start : r.start ≡ s.terms.start
@@ -49,8 +48,7 @@ pub record IsRecordOf (s : SharedView) (p : PassView) (r : RecordView) : Type 0 
   pub each_drop_once : length r.history ≡ length p.receipts
   pub never_fall : (i : ℕ) → slice_index p.counts i ≤ odometer_of r.settled i
 
--- a closed epoch t, from a start: the drops of its history are those of the journal, and of each dropper the journal has
--- the sites of its stream
+-- epoch t is closed: the history has the drops of the journal, and there each dropper has the sites of its stream
 pub record IsClosed (w : Wish) (start : PileView) (t : ℕ) (r : RecordView)
     (journal : List Entry) (tallies : List (List ℕ)) (swept : List ℕ) : Type 0 where
   pub one_threads : IsOneThreads r
@@ -66,7 +64,7 @@ pub record IsEpoch (album : List ℕ) (w : Wish) (start : PileView) (t : ℕ) (r
   pub place : IsPlace album t s.place
   pub shown : s.shown ≡ Some (record { epoch = t; closed = r })
 
--- the epochs from t on, each from the pile that the one before it left
+-- the epochs from t on, each starting from the pile of the one before it
 abbrev pub AreEpochs : List ℕ → Wish → PileView → ℕ → List RecordView → List SheetView → Type 0
 AreEpochs album w start t [] [] = Unit {0}
 AreEpochs album w start t (r ∷ rs) (s ∷ ss) = IsEpoch album w start t r s × AreEpochs album w r.settled.pile (t + 1) rs ss
@@ -80,7 +78,7 @@ last_pile start (r ∷ rs) = last_pile r.settled.pile rs
 abbrev pub histories : List RecordView → List ℕ
 histories records = flat_map (λ (r : RecordView). r.history) records
 
--- one record of all: what one thread would have got that drops all histories, one after the other
+-- one record of all: the result of one thread that drops all histories, one after the other
 pub record IsTotal (start : PileView) (records : List RecordView) (total : RecordView) : Type 0 where
   pub one_threads : IsOneThreads total
   pub from_start : total.start ≡ start
@@ -90,7 +88,7 @@ pub record IsTotal (start : PileView) (records : List RecordView) (total : Recor
   pub topplings : total.settled.topplings ≡ sum_by (λ (r : RecordView). r.settled.topplings) records
   pub lost : total.settled.lost ≡ sum_by (λ (r : RecordView). r.settled.lost) records
 
--- the report of n epochs of a plan from a start, into an album
+-- the report of the first n epochs of a plan from a start, published in an album
 pub record IsReportOf (album : List ℕ) (w : Wish) (start : PileView) (n : ℕ) (p : ReportView) : Type 0 where
   pub all : length p.records ≡ n
   pub epochs : AreEpochs album w start 0 p.records p.sheets
@@ -100,15 +98,15 @@ pub record IsReportOf (album : List ℕ) (w : Wish) (start : PileView) (n : ℕ)
 abbrev pub IsReport : List ℕ → Wish → PileView → ReportView → Type 0
 IsReport album w start p = IsReportOf album w start w.epochs p
 
--- what is kept of an epoch, by its number
+-- what is kept of epoch number t
 abbrev pub sheet_at : ReportView → ℕ → SheetView
 sheet_at p t = slice_index_or p.sheets t (record { journal = []; tallies = []; swept = []; place = 0; shown = None })
 
--- the report of a first epoch
+-- the report of the first epoch
 abbrev pub report_of : RecordView → SheetView → ReportView
 report_of r s = record { records = r ∷ []; sheets = s ∷ []; total = r }
 
--- two records as one, if the next starts from the pile of the first
+-- two records as one; the second starts from the pile of the first
 pub record IsBoth (first next both : RecordView) : Type 0 where
   pub one_threads : IsOneThreads both
   pub start : both.start ≡ first.start
@@ -118,7 +116,7 @@ pub record IsBoth (first next both : RecordView) : Type 0 where
   pub topplings : both.settled.topplings ≡ first.settled.topplings + next.settled.topplings
   pub lost : both.settled.lost ≡ first.settled.lost + next.settled.lost
 
--- the report with one epoch more
+-- the report with one more epoch
 pub record HasGrown (p : ReportView) (r : RecordView) (s : SheetView) (q : ReportView) : Type 0 where
   pub records : q.records ≡ p.records ++ r ∷ []
   pub sheets : q.sheets ≡ p.sheets ++ s ∷ []

@@ -1,8 +1,8 @@
-//! An album: a place for the picture of each epoch, which is set once; and notes, by which readers agree.
+//! An album has a place for the picture of each epoch, which is set once. By notes, readers agree on what they saw.
 //!
-//! Whoever looks at a place sees no picture or the one picture that it will ever hold. A note tells what its holder has
-//! seen of a place: once it knows a picture, every look with it finds that one, and two notes of a place that know one
-//! know the same.
+//! A look at a place finds no picture, or the only one that it will ever hold. A note records what its holder has seen
+//! of a place: once it knows a picture, every look with it finds that one, and any two notes of a place that know a
+//! picture know the same one.
 
 ghost use Rattle.std.specs.Prelude.{◌≡◌, ℕ, ◌+◌, ◌<◌, ◌^◌, ◌⊎◌, List, length, vec_len, IfOk, IfErr, IfSome, IsOkUnless, MatchOption, alloc_error};
 ghost use Rattle.std.specs.declared.option.Option.TheVariants.{None, Some};
@@ -15,7 +15,7 @@ use sand_shared::Record;
 use std::alloc::{AllocError, Global};
 use std::marker::Model;
 
-/// What a closed epoch left.
+/// The result of a closed epoch.
 #[derive(Debug, Drop)]
 pub struct Picture {
     epoch: u32,
@@ -51,7 +51,7 @@ impl Picture {
     }
 }
 
-/// What its holder has seen of one place of an album. It takes no memory.
+/// What its holder has seen of one place of an album. It allocates nothing.
 pub type Note = once_cell::race::Note<Picture>;
 
 /// A place for the picture of each epoch. Contracts see the names of the places.
@@ -72,8 +72,7 @@ impl Model for Album {
 }
 
 impl Album {
-    /// An album with a place for each epoch, none of them set. Returns Memory if an allocation fails, and
-    /// no other fault.
+    /// An album with an empty place for each epoch. Returns Memory if an allocation fails; there is no other error.
     pub fn new(alloc: Global, epochs: u32) -> Result<Album, LabFault>
         ensures places { IfOk result (λ a. length a ≡ epochs) }
         ensures memory { IsOkUnless result (LabFault.Memory alloc_error) }
@@ -85,7 +84,7 @@ impl Album {
         Ok(Album { places })
     }
 
-    /// How many places there are.
+    /// The number of places.
     pub fn places(&self) -> u32
         ensures { result ≡ length self.now }
     {
@@ -101,7 +100,7 @@ impl Album {
         self.places[k as usize].note()
     }
 
-    /// The picture at place `k`, if one is found. A note that knows a picture finds that one, and a note that finds one
+    /// The picture at place `k`, if there is one. A note that knows a picture finds that one; a note that finds one
     /// knows it from then on.
     pub fn look<'a>(&'a self, k: u32, note: &mut Note) -> Option<&'a Picture>
         requires { IsPlace self.now k note.old.cell }
@@ -113,7 +112,7 @@ impl Album {
         self.places[k as usize].get_as(note)
     }
 
-    /// Tells that two notes of place `k` that know a picture know the same one.
+    /// Tells a proof that two notes of place `k` that know a picture know the same one.
     pub fn agree(&self, k: u32, note: &mut Note, other: Note)
         requires place { IsPlace self.now k note.old.cell }
         requires other { IsPlace self.now k other.cell }
@@ -123,8 +122,8 @@ impl Album {
         note.compare(other);
     }
 
-    /// Sets place `k`, and returns a note that knows the picture. Returns Memory if an allocation fails, and Taken if the
-    /// place was set before.
+    /// Sets place `k`, and returns a note that knows the picture. Returns Memory if an allocation fails, and Taken if
+    /// the place was already set.
     pub(crate) fn publish(&self, alloc: Global, k: u32, picture: Picture) -> Result<Note, LabFault>
         requires { k < length self.now }
         ensures place { IfOk result (λ n. IsPlace self.now k n.cell) }

@@ -16,7 +16,7 @@ use sand_plan::Wish;
 use sand_shared::SharedPile;
 use std::thread::{Threads, join_mut};
 
-/// All who work on a shared pile in an epoch.
+/// All who work on the shared pile of an epoch.
 #[derive(Drop)]
 pub(crate) struct Crew {
     pub(crate) droppers: Vec<Dropper>,
@@ -24,7 +24,6 @@ pub(crate) struct Crew {
     pub(crate) observers: Vec<Observer>,
 }
 
-// Does all works of a list.
 fn do_list<R: Threads + Sync, G: Gate, W: Work>(
     rt: &R,
     pile: &SharedPile,
@@ -38,7 +37,7 @@ fn do_list<R: Threads + Sync, G: Gate, W: Work>(
     do_all(rt, pile, gate, turns, works.as_mut_slice());
 }
 
-// The workers' sweeps and, concurrently, the observers' tallies.
+// Workers sweep while observers read the tally.
 fn sweep_and_watch<R: Threads + Sync, G: Gate>(
     rt: &R,
     pile: &SharedPile,
@@ -65,7 +64,6 @@ fn sweep_and_watch<R: Threads + Sync, G: Gate>(
     );
 }
 
-// All work of an epoch, done concurrently.
 fn all_work<R: Threads + Sync, G: Gate>(
     rt: &R,
     pile: &SharedPile,
@@ -119,14 +117,14 @@ impl Crew {
         );
     }
 
-    // Whether the last sweep of each worker toppled nothing.
+    // Whether no worker toppled anything in its last sweep.
     fn is_calm(&self) -> bool
         ensures { IsTrue result ↔ All (λ w. w.last ≡ 0) self.now.workers.items }
     {
         self.workers.iter().all(|worker| worker.last == 0)
     }
 
-    /// Rounds in which each worker sweeps once, up to one that topples nothing; at most so many.
+    /// Rounds in which each worker sweeps once, until one topples nothing; at most `rounds`.
     pub(crate) fn sweep_on<R: Threads + Sync>(&mut self, rt: &R, pile: &SharedPile, rounds: u32)
         requires { (wish : Wish) × (epoch : ℕ) × HasWorked pile.now wish epoch self.old }
         ensures { (wish : Wish) (epoch : ℕ) → HasWorked pile.now wish epoch self.old → HasWorked pile.now wish epoch self.new }

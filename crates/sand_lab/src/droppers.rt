@@ -1,9 +1,9 @@
 //! Droppers: each drops the quota of its pass at the sites of its stream.
 //!
-//! If the gate holds threads, each drop is made before the gate is called for the next one, and its site is read from the
-//! stream just before. Threads that write to the same words one grain at a time wait for each other. So if the gate says
-//! that it holds none, a dropper drops in batches: it reads the sites of a sixteenth of its drops, and then drops on all
-//! of them in few atomic steps.
+//! If the gate holds threads, a dropper reads the site of each drop just before the drop, and makes the drop before it
+//! calls the gate again. Threads that write to the same words one grain at a time wait for each other. So if the gate
+//! says that it holds none, a dropper drops in batches: it reads the sites of a sixteenth of its drops, and then drops
+//! on all of them in few atomic steps.
 
 ghost use Rattle.std.specs.Prelude.{◌≡◌, ℕ, ◌+◌, ◌<◌, [], length};
 ghost use Rattle.std.specs.Int.{div_ceil};
@@ -14,22 +14,21 @@ use crate::work::Work;
 use sand_shared::{Pass, SharedPile, SiteCounts};
 use sand_streams::SiteReader;
 
-/// How many batches a dropper drops at most.
+/// The largest number of batches of a dropper.
 const BATCHES: u32 = 16;
 
-/// One that drops grains.
 #[derive(Drop)]
 pub(crate) struct Dropper {
     pub(crate) who: u32,
     pub(crate) sites: SiteReader,
-    /// The sites of a batch, which were read and not yet dropped on.
+    /// Sites that were read and not yet dropped on.
     pub(crate) batch: Vec<usize>,
-    /// Room to count them by site.
+    /// Counters for the sites of a batch.
     pub(crate) counts: SiteCounts,
     pub(crate) pass: Pass,
 }
 
-/// How many drops a batch has, if a dropper makes so many drops in all.
+/// The number of drops in a batch, of `drops` in all.
 pub(crate) fn batch_size(drops: u32) -> u32
     ensures { result ≡ div_ceil drops 16 }
 {
@@ -37,7 +36,7 @@ pub(crate) fn batch_size(drops: u32) -> u32
 }
 
 impl Dropper {
-    // Drops on the next site of the stream, if the batch is empty.
+    // Drops on the next site of the stream; the batch is empty.
     fn drop_next(&mut self, pile: &SharedPile, _turns: u32)
         requires dropping { (read : ℕ) × (first : Dropper) × (read < _turns) × IsDropping pile.now _turns read first self.old }
         requires empty { self.old.batch.items ≡ [] }
@@ -51,7 +50,7 @@ impl Dropper {
         };
     }
 
-    // Drops on the sites of the batch.
+    // Drops on all sites of the batch.
     fn drop_batch(&mut self, pile: &SharedPile)
         requires { (turns : ℕ) × (read : ℕ) × (first : Dropper) × IsDropping pile.now turns read first self.old }
         ensures dropped { (turns : ℕ) (read : ℕ) (first : Dropper)
@@ -65,7 +64,7 @@ impl Dropper {
         self.batch.clear();
     }
 
-    // Reads the next site of the stream into the batch, and drops on the sites of a full one.
+    // Reads the next site of the stream into the batch, and drops on its sites when it is full.
     fn read_next(&mut self, pile: &SharedPile, turns: u32)
         requires dropping { (read : ℕ) × (first : Dropper) × (read < turns) × IsDropping pile.now turns read first self.old }
         requires few { length self.old.batch.items < div_ceil turns 16 }

@@ -27,7 +27,7 @@ use std::alloc::Global;
 use std::marker::Model;
 use std::thread::{Threads, join, join_mut};
 
-/// What is kept of an epoch beside its record.
+/// What is kept of an epoch, apart from its record.
 #[derive(Drop)]
 pub(crate) struct Sheet {
     pub(crate) journal: Vec<Entry>,
@@ -50,14 +50,14 @@ impl Model for Sheet {
     } };
 }
 
-// Lists for the journal and for the history of an epoch, which say nothing yet.
+// Blank lists for the journal and the history of an epoch.
 #[derive(Drop)]
 struct Blank {
     journal: Vec<Entry>,
     history: Vec<usize>,
 }
 
-// What a closed epoch leaves: its record, for the report and for the album, and what is kept beside it.
+// A closed epoch: its record, once for the report and once for the album, and what else is kept of it.
 #[derive(Drop)]
 struct ClosedEpoch {
     closed: Record,
@@ -73,7 +73,7 @@ pub(crate) fn quota_of(wish: Wish) -> u64
     u64::from(wish.droppers) * u64::from(wish.drops)
 }
 
-// The pile of an epoch, and its first pass.
+// The shared pile of an epoch, and its first pass.
 fn share(alloc: Global, start: &Pile, quota: u64) -> Result<(SharedPile, Pass), LabFault>
     requires limit { sum start.now.heights + quota ≤ most_grains }
     ensures terms { IfOk result (λ r. r.0.terms ≡ record { start = start.now; quota = quota }) }
@@ -86,7 +86,7 @@ fn share(alloc: Global, start: &Pile, quota: u64) -> Result<(SharedPile, Pass), 
     }
 }
 
-// Settles what is left of the pile of an epoch, with a pass that has gathered all.
+// Settles the rest of an epoch's pile, with a pass that has gathered everything.
 fn settle_rest(alloc: Global, pile: &SharedPile, all: &mut BarePass) -> Result<Settled, LabFault>
     requires of_pile { IsPassOf pile.now all.old }
     requires whole { IsWhole pile.now.terms all.old }
@@ -100,8 +100,7 @@ fn settle_rest(alloc: Global, pile: &SharedPile, all: &mut BarePass) -> Result<S
     }
 }
 
-// Writes the journal of all receipts, which are in parts, in another thread if there is one, while this one settles what is
-// left of the pile.
+// Writes the journal of all receipts on another thread, if there is one, while this one settles the rest of the pile.
 fn note_and_settle<R: Threads + Sync>(
     rt: &R,
     alloc: Global,
@@ -135,7 +134,7 @@ fn note_and_settle<R: Threads + Sync>(
     rest
 }
 
-// Writes the history that a journal has into a list with room for it, while another thread frees the receipts.
+// Writes the history of a journal into a list with room for it, while another thread frees the receipts.
 fn write_history_and_free<R: Threads>(
     rt: &R,
     blank: Vec<usize>,
@@ -157,7 +156,7 @@ fn write_history_and_free<R: Threads>(
     history
 }
 
-// Makes the record of an epoch, and its journal, with a pass that has gathered all.
+// Makes the journal and the record of an epoch, with a pass that has gathered everything.
 fn note_and_close<R: Threads + Sync>(
     rt: &R,
     alloc: Global,
@@ -193,7 +192,7 @@ fn note_and_close<R: Threads + Sync>(
     Ok((journal, pile.complete(all, rest, history)))
 }
 
-// A blank journal and a blank history of so many drops, at once. To touch so much new memory takes longer than the drops.
+// A blank journal and a blank history, made concurrently: touching that much new memory takes longer than the drops.
 fn make_blank<R: Threads + Sync>(rt: &R, alloc: Global, drops: u64) -> Result<Blank, LabFault>
     ensures journal { IfOk result (λ b. vec_len b.journal ≡ drops) }
     ensures history { IfOk result (λ b. (b.history.items ≡ []) × (drops ≤ vec_capacity b.history)) }
@@ -216,7 +215,7 @@ fn make_blank<R: Threads + Sync>(rt: &R, alloc: Global, drops: u64) -> Result<Bl
     Ok(Blank { journal, history })
 }
 
-// A crew works, while lists are made for what it leaves.
+// A crew works while the lists for its results are made.
 fn work_and_make_blank<R: Threads + Sync, G: Gate>(
     rt: &R,
     alloc: Global,
@@ -248,8 +247,8 @@ fn work_and_make_blank<R: Threads + Sync, G: Gate>(
     blank
 }
 
-// A copy of a record for the total to grow from, with room for so many drops more. A total that does not grow shares the
-// history.
+// A copy of a record from which the total grows, with room for `drops` more drops. A total that does not grow shares
+// the history.
 fn copy_to_grow(alloc: Global, closed: &Record, drops: u64) -> Result<Record, LabFault>
     requires limit { sum closed.now.start.heights + (length closed.now.history + drops) ≤ most_grains }
     ensures copy { IfOk result (λ r. r ≡ closed.now) }
@@ -266,7 +265,7 @@ fn copy_to_grow(alloc: Global, closed: &Record, drops: u64) -> Result<Record, La
     }
 }
 
-// The journal and the record of a pile on which a crew has worked.
+// The journal and the record of a pile, after its crew has worked.
 fn closed_epoch<R: Threads + Sync, G: Gate>(
     rt: &R,
     alloc: Global,
@@ -298,7 +297,7 @@ fn closed_epoch<R: Threads + Sync, G: Gate>(
     })
 }
 
-// Publishes an epoch's record. Returns the album's note of it.
+// Publishes the record of an epoch, and returns the album's note of it.
 fn published(alloc: Global, epoch: u32, album: &Album, shown: Record) -> Result<Note, LabFault>
     requires place { epoch < length album.now }
     ensures place { IfOk result (λ n. IsPlace album.now epoch n.cell) }
@@ -308,9 +307,9 @@ fn published(alloc: Global, epoch: u32, album: &Album, shown: Record) -> Result<
     album.publish(alloc, epoch, Picture::new(epoch, shown))
 }
 
-/// The first epoch of a plan, from a start: its record, which is published in the album, what is kept beside it, and a
-/// copy of the record with room for so many drops more. Returns Memory if an allocation fails, and Taken if the album's
-/// place was set before.
+/// Runs the first epoch of a plan: publishes its record in the album and returns it, what else is kept of it, and a
+/// copy of the record with room for `drops` more drops. Returns Memory if an allocation fails, and Taken if the album's
+/// place was already set.
 pub(crate) fn run_first_epoch<R: Threads + Sync, G: Gate>(
     rt: &R,
     alloc: Global,
@@ -343,8 +342,8 @@ pub(crate) fn run_first_epoch<R: Threads + Sync, G: Gate>(
     Ok((closed, sheet, total))
 }
 
-/// One epoch of a plan, from a start: its record, which is published in the album, and what is kept beside it. Returns
-/// Memory if an allocation fails, and Taken if the album's place was set before.
+/// Runs one epoch of a plan: publishes its record in the album and returns it and what else is kept of it. Returns
+/// Memory if an allocation fails, and Taken if the album's place was already set.
 pub(crate) fn run_epoch<R: Threads + Sync, G: Gate>(
     rt: &R,
     alloc: Global,

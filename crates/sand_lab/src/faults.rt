@@ -1,4 +1,4 @@
-//! Why a run was refused, with the number of each fault.
+//! The faults of the laboratory, and their numbers.
 
 ghost use Rattle.std.specs.Prelude.{◌≡◌};
 ghost use Rattle.sand_lab.specs.declared.faults.LabFault.TheVariants.{Memory};
@@ -47,12 +47,12 @@ impl LabFault {
     }
 }
 
-// A run asks a shared pile for nothing that it would refuse, so its faults are those of memory.
+// A run never asks a shared pile for anything it would refuse, so the only faults left are those of memory.
 impl LabFault {
     ghost use Rattle.std.specs.Prelude.{◌≢◌};
     ghost use Rattle.sand_lab.specs.Faults.{IsMemory};
 
-    /// The fault of a shared pile or of a record, if their grains keep within the limit.
+    /// The fault of a shared pile or a record whose grains stay within the limit.
     pub(crate) fn of_shared(fault: SharedFault) -> LabFault
         requires { fault ≢ SharedFault.TooManyGrains }
         ensures { IsMemory result }
@@ -63,7 +63,7 @@ impl LabFault {
         }
     }
 
-    /// The fault of a split, if the pass has the quota and the rows that it gives away.
+    /// The fault of a split of a pass that has the quota and the rows to give away.
     pub(crate) fn of_split(fault: SplitFault) -> LabFault
         requires quota { fault ≢ SplitFault.TooMuch }
         requires rows { fault ≢ SplitFault.Rows }
@@ -75,7 +75,7 @@ impl LabFault {
         }
     }
 
-    /// The fault of a join, if the rows touch.
+    /// The fault of a join of passes whose rows touch.
     pub(crate) fn of_join(fault: JoinFault) -> LabFault
         requires { fault ≢ JoinFault.Apart }
         ensures { IsMemory result }
@@ -86,7 +86,7 @@ impl LabFault {
         }
     }
 
-    /// The fault of a close, if the pass has gathered all.
+    /// The fault of a close with a pass that has gathered everything.
     pub(crate) fn of_close(fault: CloseFault) -> LabFault
         requires { fault ≢ CloseFault.Missing }
         ensures { IsMemory result }

@@ -1,25 +1,25 @@
-//! Gates: what each thread of a run passes before each of its turns.
+//! Gates: what each thread of a run calls before each of its turns.
 
 /// Whose turn it is.
 #[derive(Clone, Copy, Debug, PartialEq, Eq)]
 pub enum Role {
-    /// One that drops grains.
+    /// Drops grains.
     Dropper,
-    /// One that sweeps its rows.
+    /// Sweeps its rows.
     Worker,
-    /// One that reads the tally.
+    /// Reads the tally.
     Observer,
 }
 
-/// What is called before each drop, each tally of an observer, and each sweep, except those of the rounds after the
-/// droppers have ended. It may hold the thread that calls it. It changes nothing of the pile.
+/// Called before each drop, each tally of an observer, and each sweep, except in the rounds after the droppers have
+/// ended. It may hold the calling thread. It does not change the pile.
 pub trait Gate: Sync {
-    /// Called before a drop, a sweep or a tally: `who` is the thread's number in its role, and `turn` counts from 0 in
+    /// Called before a drop, a sweep or a tally. `who` is the thread's number within its role; `turn` counts from 0 in
     /// each epoch.
     fn turn(&self, role: Role, who: u32, turn: u32);
 
-    /// Whether a call of `turn` may wait, or look at what drops have done. If so, each drop is made before the gate is
-    /// called for the next one. If not, nothing can tell when a drop is made, and droppers drop in batches, which is faster.
+    /// Whether `turn` may wait, or look at what drops have done. If so, each drop is made before the gate is called for
+    /// the next one. If not, nobody can tell when a drop is made, and droppers drop in batches, which is faster.
     fn holds(&self) -> bool {
         true
     }

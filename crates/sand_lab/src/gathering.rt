@@ -1,5 +1,5 @@
-//! How the passes of a crew are gathered: droppers' in order, then workers' in the order of their bands, then
-//! observers'; and what workers and observers found. They are gathered bare, so no receipt is copied.
+//! Gathering the passes of a crew: the droppers' in order, the workers' in the order of their bands, then the
+//! observers'; and what workers and observers found. The passes are gathered bare, so no receipt is copied.
 
 ghost use Rattle.std.specs.Prelude.{◌≡◌, ℕ, ◌+◌, ◌<◌, ◌≤◌, ◌++◌, [], length, map, All, IfOk, IfErr, OnOk};
 ghost use Rattle.std.specs.List.{flat_map};
@@ -20,7 +20,7 @@ use crate::workers::Worker;
 use sand_shared::{BarePass, Pass, Receipt, SharedPile};
 use std::alloc::Global;
 
-/// What a crew leaves: the receipts of each dropper, and what the workers and the observers found.
+/// The receipts of each dropper, and what the workers and the observers found.
 #[derive(Debug, Drop)]
 pub(crate) struct Gathered {
     pub(crate) parts: Vec<Vec<Receipt>>,
@@ -34,7 +34,7 @@ pub(crate) struct Findings {
     pub(crate) tallies: Vec<Vec<u64>>,
 }
 
-// The first pass takes in another one, whose rows touch its own. Returns the receipts of the other one.
+// Joins a pass with adjacent rows to the first one, and returns its receipts.
 fn take_in(
     alloc: Global,
     pile: &SharedPile,
@@ -56,7 +56,7 @@ fn take_in(
     }
 }
 
-// Takes in a pass that has nothing but receipts, and returns them.
+// Joins a pass that has only receipts, and returns them.
 fn take_in_receipts(
     alloc: Global,
     pile: &SharedPile,
@@ -73,7 +73,7 @@ fn take_in_receipts(
     take_in(alloc, pile, first, other)
 }
 
-// Takes in the passes of droppers, in order. Returns the receipts of each.
+// Joins the passes of the droppers, in order. Returns the receipts of each.
 fn gather_droppers(
     alloc: Global,
     pile: &SharedPile,
@@ -102,7 +102,7 @@ fn gather_droppers(
     Ok(all)
 }
 
-// Takes in the passes of workers, in the order of their bands. Returns what each has swept.
+// Joins the passes of the workers, in the order of their bands. Returns what each has swept.
 fn gather_workers(
     alloc: Global,
     pile: &SharedPile,
@@ -136,7 +136,7 @@ fn gather_workers(
     Ok(all)
 }
 
-// Takes in the passes of observers. Returns what each has read.
+// Joins the passes of the observers. Returns what each has read.
 fn gather_observers(
     alloc: Global,
     pile: &SharedPile,
@@ -164,8 +164,8 @@ fn gather_observers(
 }
 
 impl Crew {
-    /// The first pass takes in all passes of the crew. Returns the lists of the droppers' receipts, and what the workers and
-    /// the observers found; or Memory if an allocation fails, and no other fault.
+    /// Joins all passes of the crew to the first one. Returns the receipts of each dropper, and what the workers and
+    /// the observers found. Returns Memory if an allocation fails; there is no other error.
     pub(crate) fn gather(
         self,
         alloc: Global,

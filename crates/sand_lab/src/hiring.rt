@@ -1,4 +1,4 @@
-//! How a crew is hired: each gets a pass of its own, which is split off the first one.
+//! Hiring a crew: each member gets its own pass, split off the first one.
 
 ghost use Rattle.std.specs.Prelude.{◌≡◌, ℕ, ◌+◌, ◌-◌, ◌*◌, ◌/◌, ◌<◌, ◌≤◌, [], length, take, drop, IfOk, OnOk, IfErr};
 ghost use Rattle.sand_shared.specs.OpenPile.{grid_of_terms};
@@ -19,7 +19,7 @@ use sand_shared::{Pass, SharedPile, SiteCounts};
 use sand_streams::{SiteReader, stream_of};
 use std::alloc::{AllocError, Global};
 
-// A pass with so much of the quota that the first one has left.
+// A pass with `quota` grains that the first one has left.
 fn split_quota(
     alloc: Global,
     pile: &SharedPile,
@@ -39,7 +39,7 @@ fn split_quota(
     }
 }
 
-// The droppers, each with its own part of the quota, its own stream, and room for a batch.
+// The droppers, each with its part of the quota, its stream, and room for a batch.
 fn hire_droppers(
     alloc: Global,
     pile: &SharedPile,
@@ -88,7 +88,7 @@ fn band_of(shape: Shape, workers: u32, who: u32) -> (u16, u16)
     (begin as u16, end as u16)
 }
 
-// A pass with so many of the last rows that the first one has.
+// A pass with the last `rows` rows of the first one.
 fn split_band(
     alloc: Global,
     pile: &SharedPile,
@@ -116,7 +116,7 @@ fn split_band(
     }
 }
 
-// The workers, each with its band of rows. The last one's is split off first, since a pass gives its last rows away.
+// The workers, each with its band of rows. The last one comes first, because a split gives the last rows away.
 fn hire_workers(
     alloc: Global,
     pile: &SharedPile,
@@ -151,7 +151,7 @@ fn hire_workers(
     Ok(hired)
 }
 
-// The observers, which have neither quota nor rows.
+// The observers, without quota or rows.
 fn hire_observers(
     alloc: Global,
     pile: &SharedPile,
@@ -174,8 +174,8 @@ fn hire_observers(
 }
 
 impl Crew {
-    /// A crew for one epoch of a plan, who take the whole quota and all rows of the first pass. Returns Memory if an
-    /// allocation fails, and no other fault.
+    /// A crew for one epoch of a plan, which takes the whole quota and all rows of the first pass. Returns Memory if an
+    /// allocation fails; there is no other error.
     pub(crate) fn hire(
         alloc: Global,
         pile: &SharedPile,

@@ -1,5 +1,5 @@
-//! The journal of an epoch: which dropper made each drop, and where, by the number of the drop; and the history, which is its
-//! sites.
+//! The journal of an epoch: which dropper made each drop, and where, by the number of the drop. Its sites are the
+//! history.
 
 ghost use Rattle.std.specs.Prelude.{◌≡◌, ◌≤◌, [], length, vec_len, vec_capacity, IfOk, IfErr};
 ghost use Rattle.sand_shared.specs.Passes.{AllBelow};
@@ -17,7 +17,7 @@ pub struct Entry {
     pub site: usize,
 }
 
-/// A journal of so many drops that says nothing yet. Returns Memory if the allocation fails, and no other fault.
+/// A blank journal with `drops` entries. Returns Memory if the allocation fails; there is no other error.
 pub(crate) fn blank_journal(alloc: Global, drops: u64) -> Result<Vec<Entry>, LabFault>
     ensures long { IfOk result (λ v. vec_len v ≡ drops) }
     ensures memory { IfErr result IsMemory }
@@ -46,8 +46,7 @@ fn write_part(journal: &mut Vec<Entry>, dropper: u32, receipts: &[Receipt])
     }
 }
 
-/// Writes a journal that is as long as the receipts of all droppers, which are in parts: one dropper's, then the next
-/// one's, each with `drops` of them.
+/// Writes the journal of all receipts. They come in parts, one for each dropper, with `_drops` receipts each.
 pub(crate) fn write_journal(journal: &mut Vec<Entry>, parts: &[Vec<Receipt>], _drops: u32)
     requires { HavePlaces _drops (lists parts.now) (vec_len journal.old) }
     ensures journal { IsJournal _drops (joined (lists parts.now)) journal.new.items }
@@ -57,8 +56,8 @@ pub(crate) fn write_journal(journal: &mut Vec<Entry>, parts: &[Vec<Receipt>], _d
     }
 }
 
-/// A list with room for the history of so many drops, which the system has given already. Returns Memory if the allocation
-/// fails, and no other fault.
+/// A list with room for a history of `drops` drops, in memory that the system has already provided. Returns Memory if
+/// the allocation fails; there is no other error.
 pub(crate) fn blank_history(alloc: Global, drops: u64) -> Result<Vec<usize>, LabFault>
     ensures empty { IfOk result (λ v. v.items ≡ []) }
     ensures room { IfOk result (λ v. drops ≤ vec_capacity v) }
@@ -69,7 +68,7 @@ pub(crate) fn blank_history(alloc: Global, drops: u64) -> Result<Vec<usize>, Lab
     Ok(history)
 }
 
-/// The sites of a journal, in a list that has room for them.
+/// The sites of a journal, in the given list.
 pub(crate) fn history_of(mut blank: Vec<usize>, journal: &[Entry]) -> Vec<usize>
     requires empty { blank.items ≡ [] }
     requires room { length journal.now ≤ vec_capacity blank }

@@ -1,16 +1,18 @@
 //! The law of the laboratory, as the contract of a function that does nothing.
 //!
-//! **One outcome.** The piles, the odometers, the topplings and the grains lost of a run are a function of its start and of
-//! the plan's seed, droppers, drops and epochs alone: its workers, sweeps and observers, and how the threads took turns,
-//! leave no mark on them. They do leave marks on histories, journals, tallies and what the workers swept. For each dropper
-//! drops at the sites of its own stream, so how often a site is dropped on in an epoch is a sum over the streams, whatever
-//! the order. What one thread gets that drops these grains on the start is a matter of the heights that they sum to, and
-//! heights have one settled pile and one odometer. So the same start has the same pile and odometer, and the next epoch the
-//! same start. The record of all epochs is one thread's too, of all their drops on the first start.
+//! **One outcome.** The piles, odometers, topplings and grains lost of a run are a function of its start and of the
+//! plan's seed, droppers, drops and epochs alone. Workers, sweeps, observers and the interleaving of the threads do not
+//! affect them; they do affect histories, journals, tallies and what the workers swept.
+//!
+//! The reason: each dropper drops at the sites of its own stream, so how often a site is dropped on in an epoch is a
+//! sum over the streams, in any order. The result of one thread that drops these grains on the start depends only on
+//! the heights that they sum to, and heights have one settled pile and one odometer. So equal starts have equal piles
+//! and odometers, and the next epoch has an equal start. The record of all epochs is also that of one thread, which
+//! makes all their drops on the first start.
 
 ghost use Rattle.sand_lab.specs.Laws.{OneOutcome};
 
-/// However the drops of two runs interleaved, and whoever swept concurrently, both leave the same piles, odometers,
+/// However the drops of two runs interleave, and whoever sweeps meanwhile, both have the same piles, odometers,
 /// topplings and grains lost.
 pub fn one_outcome()
     ensures { OneOutcome }

@@ -1,4 +1,4 @@
-//! Observers: each reads the tally again and again.
+//! Observers: each reads the tally repeatedly.
 
 use crate::gate::{Gate, Role};
 use crate::work::Work;
@@ -7,7 +7,6 @@ use sand_shared::{Pass, SharedPile};
 /// How often an observer reads the tally.
 pub(crate) const TALLIES: u32 = 16;
 
-/// One that reads the tally.
 #[derive(Drop)]
 pub(crate) struct Observer {
     pub(crate) who: u32,

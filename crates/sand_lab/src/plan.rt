@@ -1,4 +1,4 @@
-//! What a run is to do: a wish within its limits.
+//! A plan: a wish within its limits.
 
 ghost use Rattle.std.specs.Prelude.{◌≡◌, ◌↔◌, IfOk, IsErr};
 ghost use Rattle.sand_plan.specs.Plans.{IsPlan};
@@ -38,7 +38,7 @@ impl Plan {
         }
     }
 
-    /// What it is the plan of.
+    /// The wish that the plan was made of.
     pub fn wish(&self) -> Wish
         ensures value { result ≡ self.now }
         ensures limits { IsPlan result }

@@ -13,7 +13,7 @@ use sand_shared::Record;
 use std::alloc::Global;
 use std::marker::Model;
 
-/// What a run leaves.
+/// The result of a run.
 #[derive(Drop)]
 pub struct Report {
     records: Vec<Record>,
@@ -33,7 +33,7 @@ impl Model for Report {
 }
 
 impl Report {
-    /// The record of each epoch. There are as many of all else that is kept by epoch.
+    /// The record of each epoch, in order. Whatever else is kept by epoch has the same length.
     pub fn records(&self) -> &[Record]
         ensures value { result.now ≡ self.now.records }
         ensures sheets { length self.now.sheets ≡ length self.now.records }
@@ -57,7 +57,7 @@ impl Report {
         self.sheets[epoch as usize].journal.as_slice()
     }
 
-    /// What an observer read in an epoch: sixteen tallies.
+    /// The sixteen tallies that an observer read in an epoch.
     pub fn tallies(&self, epoch: u32, observer: u32) -> &[u64]
         requires epoch { epoch < length self.now.sheets }
         requires observer { observer < length (sheet_at self.now epoch).tallies }
@@ -67,7 +67,7 @@ impl Report {
         sheet.findings.tallies[observer as usize].as_slice()
     }
 
-    /// How many topplings the sweeps of a worker returned in an epoch.
+    /// The total of the topplings that a worker's sweeps returned in an epoch.
     pub fn swept(&self, epoch: u32, worker: u32) -> u64
         requires epoch { epoch < length self.now.sheets }
         requires worker { worker < length (sheet_at self.now epoch).swept }
@@ -77,7 +77,7 @@ impl Report {
         sheet.findings.swept[worker as usize]
     }
 
-    /// A note of the album's place for an epoch, which knows the picture of its record.
+    /// A note of the album's place for an epoch. It knows the picture of the epoch's record.
     pub fn note(&mut self, epoch: u32) -> Note
         requires { epoch < length self.old.sheets }
         ensures same { self.new ≡ self.old }
@@ -89,7 +89,6 @@ impl Report {
 }
 
 impl Sheet {
-    // A second note of the album's place.
     fn again(&mut self) -> Note
         ensures same { self.new ≡ self.old }
         ensures place { result.cell ≡ self.old.place }
@@ -99,7 +98,7 @@ impl Sheet {
     }
 }
 
-// The total grows by a record that starts from its pile.
+// Appends a record that starts from the pile of the total.
 fn append(alloc: Global, total: &mut Record, next: &Record) -> Result<(), LabFault>
     requires start { next.now.start ≡ total.old.settled.pile }
     requires limit { sum total.old.start.heights + (length total.old.history + length next.now.history) ≤ most_grains }
@@ -114,8 +113,8 @@ fn append(alloc: Global, total: &mut Record, next: &Record) -> Result<(), LabFau
 }
 
 impl Report {
-    /// The report of a first epoch of so many, whose record is also the total. Returns Memory if an allocation fails, and
-    /// no other fault.
+    /// The report of the first of `epochs` epochs; its record is also the total. Returns Memory if an allocation fails;
+    /// there is no other error.
     pub(crate) fn of(
         alloc: Global,
         epochs: u32,
@@ -139,8 +138,8 @@ impl Report {
         })
     }
 
-    /// One epoch more, which starts from the pile after all before it. The total grows in place. Returns Memory if an
-    /// allocation fails, and no other fault; the report is then unchanged.
+    /// Adds an epoch that starts from the pile of the total, which grows in place. Returns Memory if an allocation
+    /// fails; there is no other error, and the report is then unchanged.
     pub(crate) fn add(
         &mut self,
         alloc: Global,

@@ -1,4 +1,4 @@
-//! A run: epoch after epoch, each from the pile that the one before it left.
+//! A run: epoch after epoch, each starting from the pile of the one before it.
 
 ghost use Rattle.std.specs.Prelude.{◌≡◌, ◌≢◌, ◌↔◌, ◌+◌, ◌*◌, ◌<◌, ◌≤◌, length, sum, IfOk, IfErr};
 ghost use Rattle.sand_lab.specs.Faults.{IsOfEpoch};
@@ -17,7 +17,7 @@ use sand_plan::Wish;
 use std::alloc::Global;
 use std::thread::Threads;
 
-// All epochs of a plan, which fit the limit and the album.
+// Runs all epochs of a plan that fits the limit and the album.
 fn run_all<R: Threads + Sync, G: Gate>(
     rt: &R,
     alloc: Global,
@@ -43,18 +43,19 @@ fn run_all<R: Threads + Sync, G: Gate>(
     Ok(report)
 }
 
-/// Runs a plan from a start: in each epoch droppers drop at the sites of their streams, workers sweep their bands and
-/// observers read the tally, all on one shared pile, which is then settled; its record is published at the epoch's place
-/// of the album. The gate is called before each drop, each tally, and each sweep, except those of the rounds after the
-/// droppers have ended.
+/// Runs a plan from a start. In each epoch droppers drop at the sites of their streams, workers sweep their bands and
+/// observers read the tally, all on one shared pile. Then the pile is settled, and its record is published at the
+/// epoch's place in the album. The gate is called before each drop, each tally and each sweep, except in the rounds
+/// after the droppers have ended.
 ///
-/// The piles, the odometers, the topplings and the grains lost are a function of the start and of the plan's seed, droppers,
-/// drops and epochs alone (`laws::one_outcome`). The histories, the journals, the tallies and what the workers swept also
+/// The piles, odometers, topplings and grains lost are a function of the start and of the plan's seed, droppers, drops
+/// and epochs alone (`laws::one_outcome`). The histories, the journals, the tallies and what the workers swept also
 /// depend on how the threads take turns.
 ///
-/// Returns AlbumSize if the album hasn't one place per epoch; TooManyGrains if the start has, with all drops, more grains
-/// than the limit; then, in the epoch in which it occurs, Memory if an allocation fails, and Taken if the epoch's place was
-/// set before. After these two the places that are published stay so, and nothing else of the run remains.
+/// Returns AlbumSize if the album does not have one place for each epoch; TooManyGrains if the start and all drops
+/// together exceed the limit; then, in the epoch in which it occurs, Memory if an allocation fails, and Taken if the
+/// epoch's place was already set. After these two, the places already published stay published, and nothing else of the
+/// run remains.
 pub fn run<R: Threads + Sync, G: Gate>(
     rt: &R,
     alloc: Global,

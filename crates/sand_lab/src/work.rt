@@ -1,8 +1,7 @@
-//! Work: what one thread of an epoch does with a pass of its own, in so many turns; and how a list of works is done,
-//! each in a thread of its own.
+//! Work: what one thread of an epoch does with its pass, turn by turn; and how all works of a list are done, each on
+//! its own thread.
 //!
-//! The list is lent in two halves to the two sides of one join, down to one work, so any number of them takes no list
-//! of threads.
+//! The list is split into halves for the two sides of a join, down to single works, so no list of threads is needed.
 
 ghost use Rattle.std.specs.Prelude.{◌≡◌, ℕ, ◌+◌, ◌<◌, All, length};
 ghost use Rattle.std.specs.List.{AllZip};
@@ -15,18 +14,18 @@ use std::thread::{Threads, join_mut};
 
 /// What one thread does.
 pub(crate) trait Work: Send {
-    // when it may begin, and what it has done, in so many turns on a pile
+    // when it may begin, and what it has done, in a number of turns on a pile
     ghost ready: { SharedView → ℕ → Self → Type 0 };
 
     ghost done: { SharedView → ℕ → Self → Self → Type 0 };
 
-    /// Takes so many turns.
+    /// Takes `turns` turns.
     fn take_turns<G: Gate>(&mut self, pile: &SharedPile, gate: &G, turns: u32)
         requires { ready pile.now turns self.old }
         ensures { done pile.now turns self.old self.new };
 }
 
-/// Does all works of a list, each in so many turns, in a thread of its own if one can be made.
+/// Does all works of a list, `turns` turns each, each on its own thread if one can be made.
 #[cycle(works)]
 #[tactic(auto, using(crate::proofs::OneTurnMore::zip_append))]
 pub(crate) fn do_all<R: Threads + Sync, G: Gate, W: Work>(
@@ -50,7 +49,7 @@ pub(crate) fn do_all<R: Threads + Sync, G: Gate, W: Work>(
     do_both(rt, pile, gate, turns, front, back);
 }
 
-// The two halves, one in another thread if one can be made.
+// Does the two halves, one on another thread if one can be made.
 #[cycle(works)]
 fn do_both<R: Threads + Sync, G: Gate, W: Work>(
     rt: &R,

@@ -4,13 +4,12 @@ use crate::gate::{Gate, Role};
 use crate::work::Work;
 use sand_shared::{Pass, SharedPile};
 
-/// One that sweeps the rows of its pass.
 #[derive(Drop)]
 pub(crate) struct Worker {
     pub(crate) who: u32,
-    /// How many topplings its sweeps have returned in all.
+    /// The topplings that all its sweeps returned.
     pub(crate) swept: u64,
-    /// How many the last of them returned.
+    /// The topplings that the last one returned.
     pub(crate) last: u64,
     pub(crate) pass: Pass,
 }

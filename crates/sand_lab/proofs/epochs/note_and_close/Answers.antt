@@ -9,7 +9,7 @@ use Rattle.sand_lab.specs.Journals.{IsJournal, joined, lists, sites_in}
 use Rattle.sand_lab.proofs.JournalSites.{journal_tells}
 use Rattle.sand_lab.proofs.epochs.note_and_close.Goals as goal
 
--- a history that has the sites of the journal of all receipts
+-- a history with the sites of the journal of all receipts
 module _ (drops : ℕ) (rs : List Receipt) (parts lent : List (Vec Receipt Global)) (js read : List Entry) (history : List ℕ) (same : lent ≡ parts) (whole : joined (lists parts) ≡ rs) (as_is : read ≡ js) (sites : history ≡ sites_in read) (written : IsJournal drops (joined (lists lent)) js) where
   journal : IsJournal drops rs js
   journal = subst (λ (qs : List Receipt). IsJournal drops qs js) (ap (λ ps. joined (lists ps)) same ∙ whole) written

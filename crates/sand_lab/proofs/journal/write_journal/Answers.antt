@@ -8,7 +8,7 @@ use Rattle.sand_lab.proofs.JournalFollowsStreams.{ascends}
 use Rattle.sand_lab.proofs.journal.write_journal.Goals as goal
 use Rattle.sand_lab.proofs.journal.write_journal.Goals.{After-as_slice}
 
--- the part that is written is the k-th
+-- the part being written is the k-th
 here : (c : After-as_slice) → slice_get (lists c.args.parts.now) c.loop-dropper.dropper ≡ Some c.as_slice.result.now
 here c =
     let part = c.index-parts-dropper.result in
