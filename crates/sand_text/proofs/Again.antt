@@ -1,4 +1,4 @@
--- What is written of a pile is read as the same pile.
+-- The written text of a pile is read as the same pile.
 use Rattle.std.proofs.Common.{◌≡◌, ℕ, zero, suc, ◌+◌, ◌*◌, ◌<◌, ◌≤◌, ◌^◌, List, [], ◌∷◌, ◌++◌, length, take, drop, get_or, None, decimal, refl, sym, ◌∙◌, ap, arith, append_assoc, length-drop, zero-mul, suc-mul, mul_comm, ◌&&◌, ltb, eq-eqb, not, true, false, cond, eqb, sum, min}
 use Rattle.std.specs.Prelude.{Ok}
 use Rattle.std.specs.Bool.{if◌then◌else◌, ◌==◌}
@@ -38,7 +38,7 @@ digit_no_space b e = grind (arith, nat_tests)
 no_space : (n : ℕ) → n < 2 ^ 64 → All (λ b. is_space b ≡ false) (decimal n)
 no_space n h = λ k d lt. digit_no_space (get_or (decimal n) k d) (digit_in n h k d lt)
 
--- the digits of a number are a token that is the number
+-- the digits of a number are a token with its value
 number_token : (at n : ℕ) → n ≤ most_grains → token_of at (decimal n) ≡ Number at n
 unfolding token_of
 number_token at n le =
@@ -49,7 +49,7 @@ number_token at n le =
     let small : min n (most_grains + 1) ≡ n = omega arith in
     rw (test, value, small) refl
 
--- a number and white space behind it
+-- a number followed by white space
 number_first : (at n y : ℕ) (rest : List ℕ) → n ≤ most_grains → is_space y ≡ true → tokens_at at (decimal n ++ y ∷ rest) ≡ Number at n ∷ tokens_at (at + length (decimal n) + 1) rest
 number_first at n y rest le e =
     let fits : n < 2 ^ 64 = omega arith in
@@ -59,12 +59,12 @@ number_first at n y rest le e =
 
 -- ---- rows of numbers
 
--- the tokens of numbers, each with one byte behind it
+-- the tokens of numbers, each followed by one byte
 abbrev number_tokens : ℕ → List ℕ → List Token
 number_tokens at [] = []
 number_tokens at (n ∷ ns) = Number at n ∷ number_tokens (at + length (decimal n) + 1) ns
 
--- the place behind these numbers
+-- the place after these numbers
 abbrev behind : ℕ → List ℕ → ℕ
 behind at [] = at
 behind at (n ∷ ns) = behind (at + length (decimal n) + 1) ns
@@ -124,7 +124,7 @@ same_numbers at (x ∷ xs) = ap (λ l. x ∷ l) (same_numbers (at + length (deci
 
 -- ---- the whole text
 
--- the tokens behind the sides
+-- the tokens after the sides
 abbrev tail_tokens : Edge → ℕ → List ℕ → List Token
 tail_tokens Open at ns = number_tokens at ns
 tail_tokens Cylinder at ns = Letter at ∷ number_tokens (at + 1 + 1) ns
@@ -178,7 +178,7 @@ wide_enough : (e : Edge) (w : ℕ) → (joins e ≡ true → 3 ≤ w) → (joins
 wide_enough Open w h = refl
 wide_enough Cylinder w h = let wide : 3 ≤ w = h refl in grind (arith, nat_tests)
 
--- a grid is made of its own sides
+-- the sides and the edge of a grid make the same grid
 grid_again : (g : Grid) → IsGrid g → grid_with_edge g.width g.height g.edge ≡ Ok g
 grid_again g h =
     let sides : (is_side g.width && is_side g.height) ≡ true = grind (arith, nat_tests, h.some_width, h.width_limit, h.some_height, h.height_limit) in

@@ -1,4 +1,4 @@
--- What is made of the chunks of a list, one after another.
+-- Writing the chunks of a list, one after another.
 use Rattle.std.proofs.Common.{◌≡◌, ℕ, suc, ◌+◌, ◌-◌, ◌/◌, ◌%◌, ◌<◌, List, [], ◌++◌, length, take, drop, min, Some, None, Bor, refl, sym, ◌∙◌, ap, arith, inl, inr, append_assoc, append-nil, length-drop}
 use Rattle.std.proofs.Math.Nat.{div-eq_of_lt, mod-eq_of_lt, zero-div, zero-mod, add-div_right, add-mod_right}
 use Rattle.std.proofs.lemmas.Bool.{cases_lt}
@@ -10,7 +10,7 @@ use Rattle.std.specs.Slice.Iter.{chunks_rest, chunks_size, chunks_steps}
 use Rattle.std.specs.declared.slice.Chunks.{Chunks}
 use Rattle.sand_text.specs.Pictures.{chunks}
 
--- behind a chunk there is one chunk less
+-- after the first chunk there is one chunk less
 one_less : (n size : ℕ) → 0 < size → 0 < n → div_ceil n size ≡ suc (div_ceil (n - size) size)
 one_less n size some left = elim (cases_lt n size) [
   | inl low ↦
@@ -25,7 +25,7 @@ one_less n size some left = elim (cases_lt n size) [
       omega arith
 ]
 
--- the first chunk, and the chunks behind it
+-- the first chunk, and the chunks after it
 pub chunks-next : (f : List ℕ → List ℕ) (size : ℕ) (ns : List ℕ) → 0 < size → 0 < length ns → flat_map f (chunks ns size) ≡ f (take size ns) ++ flat_map f (chunks (drop size ns) size)
 unfolding chunks
 chunks-next f size ns some left =
@@ -38,7 +38,7 @@ chunks-end f size ns none =
     let count : div_ceil (length ns) size ≡ 0 = rw (none, zero-div size, zero-mod size) refl in
     ap (λ n. flat_map f (first_chunks size n ns)) count
 
--- a text that becomes whole by what is made of the chunks that an iterator has left
+-- a text that becomes whole when the chunks left are written
 pub record IsBegun (f : List ℕ → List ℕ) (size : ℕ) (left : Chunks ℕ) (text whole : List ℕ) : Type 0 where
   pub each : chunks_size left ≡ size
   pub rest : text ++ flat_map f (chunks (chunks_rest left) size) ≡ whole
@@ -49,7 +49,7 @@ one_chunk f size ns chunk after some cut len left =
     let back : drop size ns ≡ after = sym (drop_min size ns) ∙ (ap (λ n. drop n ns) (sym len) ∙ (ap (drop (length chunk)) cut ∙ drop_at chunk after (length chunk) refl)) in
     chunks-next f size ns some left ∙ rw (front, back) refl
 
--- what is made of one chunk more is written
+-- one more chunk is written
 pub further : (f : List ℕ → List ℕ) (size : ℕ) (left after : Chunks ℕ) (chunk : Bor (List ℕ)) (text more whole : List ℕ) → 0 < size → chunks_steps left (Some chunk) after → more ≡ text ++ f chunk.now → IsBegun f size left text whole → IsBegun f size after more whole
 further f size left after chunk text more whole some step grown begun =
     let len : length chunk.now ≡ min size (length (chunks_rest left)) = step.1.1 ∙ ap (λ n. min n (length (chunks_rest left))) begun.each in

@@ -1,4 +1,4 @@
--- What is at the front of a text: white space, or a token.
+-- The front of a text: white space, or a token.
 use Rattle.std.proofs.Common.{◌≡◌, ℕ, suc, ◌+◌, ◌<◌, ◌≤◌, List, [], ◌∷◌, Bool, true, false, not, length, take, drop, get_or, refl, sym, ◌∙◌, ap, arith, add-zero, add-one, drop-cons, length-drop, inl, inr, eqb}
 use Rattle.std.proofs.lemmas.Grind.{common_steps}
 use Rattle.std.specs.List.{position_or_len, slice_split, position}
@@ -18,15 +18,15 @@ unwrap_position p xs = grind (arith, common_steps, prefix_len-le-length (λ x. n
 drop_next : (k x : ℕ) (xs : List ℕ) → drop (1 + k) (x ∷ xs) ≡ drop k xs
 drop_next k x xs = let e : 1 + k ≡ suc k = omega arith in rw e refl
 
--- the tokens of a text that white space, or whatever passes s, cuts
+-- the tokens of a text that is cut at white space, or at the bytes that satisfy s
 abbrev cut_by : (s : ℕ → Bool) → ℕ → List ℕ → List Token
 cut_by s at bs = tokens_from at (slice_split s bs)
 
--- how many bytes at the front are white space
+-- the number of bytes of white space at the front
 abbrev gap_len : (s : ℕ → Bool) → List ℕ → ℕ
 gap_len s bs = position_or_len (λ b. not (s b)) bs
 
--- white space at the front only moves the places
+-- white space at the front only shifts the places
 abbrev skips : (s : ℕ → Bool) → ℕ → List ℕ → Type 0
 skips s at bs = cut_by s at bs ≡ cut_by s (at + gap_len s bs) (drop (gap_len s bs) bs)
 
@@ -47,7 +47,7 @@ gap s at (x ∷ xs) = elim (s x) as (λ v. s x ≡ v → skips s at (x ∷ xs)) 
 not_empty : (n : ℕ) → 0 < n → eqb n 0 ≡ false
 not_empty n some = grind (arith, common_steps)
 
--- where the parts are known
+-- a first part of known length
 pub one_part : (at k : ℕ) (part : List ℕ) (more : List (List ℕ)) → length part ≡ k → 0 < k → tokens_from at (part ∷ more) ≡ (token_of at part ∷ tokens_from (at + k + 1) more)
 unfolding tokens_from
 one_part at k part more len some = rw (len, not_empty k some) refl
@@ -85,7 +85,7 @@ empty : (t : List ℕ) → length t ≡ 0 → t ≡ []
 empty [] e = refl
 empty (x ∷ xs) e = absurd (omega arith)
 
--- behind the white space at the front no byte stands
+-- nothing follows the white space at the front
 pub none_left : (at k : ℕ) (bs : List ℕ) → k ≡ gap_len is_space bs → length (drop k bs) ≡ 0 → tokens_at at bs ≡ []
 unfolding tokens_from
 none_left at k bs e none =
@@ -103,7 +103,7 @@ begins k bs t ke te some =
     let no_space = not-true (is_space (get_or bs k 0)) (rw (← ke) at (passes_at_first {X = ℕ} (λ b. not (is_space b)) bs 0 (rw (← ke) lt))) in
     some_first t (ap is_space first ∙ no_space) some
 
--- t is what stands from the first token on, w the token and r what stands behind it
+-- t is the text from the first token on, w the token, and r what follows it
 pub token_left : (at k len : ℕ) (bs t w r : List ℕ) → k ≡ gap_len is_space bs → t ≡ drop k bs → len ≡ token_len t → 0 < length t → w ≡ take len t → r ≡ drop len t → tokens_at at bs ≡ (token_of (at + k) w ∷ tokens_at (at + k + len) r)
 token_left at k len bs t w r ke te le some we re =
     let moved : tokens_at at bs ≡ tokens_at (at + k) t = rw (te, ke) (gap is_space at bs) in

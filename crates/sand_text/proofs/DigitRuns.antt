@@ -22,11 +22,11 @@ run_values_of runs = map (λ run. capped (digits_value 10 run)) runs
 abbrev run_values : List ℕ → List ℕ
 run_values bs = map (λ run. capped (digits_value 10 run)) (digit_runs bs)
 
--- a byte that is no digit belongs to no run
+-- a byte that is not a digit belongs to no run
 other_first : (x : ℕ) (xs : List ℕ) → is_other x ≡ true → digit_runs (x ∷ xs) ≡ digit_runs xs
 other_first x xs e = rw e refl
 
--- white space is no digit
+-- white space is not a digit
 space_other : (b : ℕ) → is_space b ≡ true → is_other b ≡ true
 space_other b e = grind (arith, nat_tests)
 
@@ -51,19 +51,19 @@ digits_first w (y ∷ r) some digits other =
     let test : ltb 0 (length w) ≡ true = grind (arith, nat_tests) in
     ap (λ parts. filter (λ run. ltb 0 (length run)) parts) cut ∙ rw test (ap (λ rs. w ∷ rs) (sym (other_first y r (other (omega arith)))))
 
--- what stands behind a token begins with white space
+-- what follows a token begins with white space
 behind_token : (t : List ℕ) → 0 < length (drop (token_len t) t) → is_other (get_or (drop (token_len t) t) 0 0) ≡ true
 behind_token t some =
     let lt : token_len t < length t = omega (arith, length-drop (token_len t) t) in
     let here : get_or (drop (token_len t) t) 0 0 ≡ get_or t (token_len t) 0 = get_or-drop (token_len t) t 0 0 ∙ ap (λ n. get_or t n 0) (add-zero (token_len t)) in
     ap is_other here ∙ space_other (get_or t (token_len t) 0) (passes_at_first {X = ℕ} is_space t 0 lt)
 
--- a letter that is spared
+-- an allowed letter
 spared_rest : (b : Bool) (rest : Option ℕ) (at : ℕ) → cond b rest (Some at) ≡ None → rest ≡ None
 spared_rest true rest at e = e
 spared_rest false rest at e = absurd cc
 
--- where the claim holds of what stands behind a token
+-- the claim for what follows a token
 abbrev Rest : List ℕ → List Token → Type 0
 Rest bs ws = (spared : List ℕ) (n : ℕ) → first_strange spared n ws ≡ None → numbers ws ≡ run_values bs
 

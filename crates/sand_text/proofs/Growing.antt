@@ -1,4 +1,4 @@
--- A text that goes out in blocks grows part by part, and may break off in one of them.
+-- A text that is written in blocks grows part by part, and writing may fail in one of them.
 use Rattle.std.proofs.Common.{◌≡◌, ℕ, ◌+◌, List, [], ◌++◌, length, take, length-append, append-nil, append_assoc, sym, ◌∙◌, ap, arith, subst}
 use Rattle.std.proofs.Math.Seq.{take-append-add}
 use Rattle.std.specs.Prelude.{Option}
@@ -9,11 +9,10 @@ use Rattle.sand_text.specs.declared.fault.StreamFault.{StreamFault}
 use Rattle.sand_text.specs.declared.fault.StreamFault.TheVariants.{Write}
 use Rattle.sand_text.specs.Blocks.{BreaksIn, GrowsBy, Waiting}
 
--- nothing was added
 pub stays : (held : Option (List ℕ)) (b : Waiting) → GrowsBy held held b b []
 stays held b = record { gone = []; all = append-nil b.bytes; count = omega arith; written = Appends-nil held }
 
--- one part, and then another
+-- one part, then another
 pub grows_on : (held mid held' : Option (List ℕ)) (b c d : Waiting) (p q : List ℕ) → GrowsBy held mid b c p → GrowsBy mid held' c d q → GrowsBy held held' b d (p ++ q)
 grows_on held mid held' b c d p q first next = record {
   gone = first.gone ++ next.gone;
@@ -24,7 +23,7 @@ grows_on held mid held' b c d p q first next = record {
   written = Appends-trans held mid held' first.gone next.gone first.written next.written;
 }
 
--- one part, and then it broke off in another
+-- one part, then a failure in another
 pub breaks_on : (held mid held' : Option (List ℕ)) (b c : Waiting) (p q : List ℕ) (fault : StreamFault) → GrowsBy held mid b c p → BreaksIn mid held' c q fault → BreaksIn held held' b (p ++ q) fault
 breaks_on held mid held' b c p q fault first broken =
     let whole : b.bytes ++ (p ++ q) ≡ first.gone ++ (c.bytes ++ q) = sym (append_assoc b.bytes p q) ∙ ap (λ t. t ++ q) first.all ∙ append_assoc first.gone c.bytes q in
@@ -39,7 +38,7 @@ breaks_on held mid held' b c p q fault first broken =
       written = subst (Appends held held') (sym front) (Appends-trans held mid held' first.gone (take broken.taken (c.bytes ++ q)) first.written broken.written);
     }
 
--- where it broke off, it did so whatever was to follow
+-- a failure in a part is a failure whatever follows
 pub breaks_before : (held held' : Option (List ℕ)) (b : Waiting) (p q : List ℕ) (fault : StreamFault) → BreaksIn held held' b p fault → BreaksIn held held' b (p ++ q) fault
 breaks_before held held' b p q fault broken =
     let whole : b.bytes ++ (p ++ q) ≡ (b.bytes ++ p) ++ q = sym (append_assoc b.bytes p q) in
@@ -51,7 +50,7 @@ breaks_before held held' b p q fault broken =
       written = subst (Appends held held') (sym (ap (take broken.taken) whole ∙ take-append-le broken.taken (b.bytes ++ p) q broken.within)) broken.written;
     }
 
--- one part, and then it broke off in another, whatever was to follow
+-- one part, then a failure in another, whatever follows
 pub breaks_within : (held mid held' : Option (List ℕ)) (b c : Waiting) (p q rest whole : List ℕ) (fault : StreamFault) → p ++ (q ++ rest) ≡ whole → GrowsBy held mid b c p → BreaksIn mid held' c q fault
     → BreaksIn held held' b whole fault
 breaks_within held mid held' b c p q rest whole fault all first broken =

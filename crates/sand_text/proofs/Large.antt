@@ -13,7 +13,7 @@ use Rattle.sand_model.specs.Piles.{most_grains}
 abbrev over : List ℕ → Bool
 over run = nat_lt most_grains (digits_value 10 run)
 
--- whether one of the runs is over the limit, where the first goes on from digits of this value
+-- one of the runs is over the limit, if the first continues digits with the value v
 abbrev large_on : ℕ → List (List ℕ) → Bool
 large_on v [] = false
 large_on v (run ∷ more) = nat_lt most_grains (digits_value_after 10 v run) || list_any over more
@@ -48,7 +48,7 @@ digit_over v b (run ∷ more) lt =
 break_on : (v : ℕ) (runs : List (List ℕ)) → v ≤ most_grains → large_on v ([] ∷ runs) ≡ large_on 0 runs
 break_on v runs le = let test : ltb most_grains v ≡ false = grind (arith, nat_tests) in rw test (sym (from_none runs))
 
--- what one more byte makes of the runs, by whether it is a digit
+-- one more byte changes the runs by whether it is a digit
 by_byte : (d : Bool) (v w b : ℕ) (rest : List ℕ) → is_digit b ≡ d → v ≤ most_grains → w ≡ (if d then capped (v * 10 + digit_value b) else 0) → w ≤ most_grains → large_on w (slice_split is_other rest) ≡ large_on v (slice_split is_other (b ∷ rest))
 by_byte true v w b rest is le value small =
     let exact : w ≡ v * 10 + digit_value b = omega arith in

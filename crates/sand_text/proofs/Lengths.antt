@@ -8,7 +8,7 @@ use Rattle.sand_text.specs.declared.tokens.Token.TheVariants.{Number, Letter, St
 use Rattle.sand_text.specs.Bytes.{is_space}
 use Rattle.sand_text.specs.Tokens.{tokens_from, tokens_at, numbers}
 
--- how many tokens these parts have
+-- the number of tokens of these parts
 abbrev count_tokens : ℕ → List (List ℕ) → ℕ
 count_tokens at parts = length (tokens_from at parts)
 
@@ -19,7 +19,7 @@ empty_counts : (at : ℕ) (part : List ℕ) (more : List (List ℕ)) → length 
 unfolding tokens_from
 empty_counts at part more none = let test : eqb (length part) 0 ≡ true = eq-eqb (length part) 0 none in rw test refl
 
--- places do not matter
+-- the count does not depend on places
 same_count : (a b : ℕ) (parts : List (List ℕ)) → count_tokens a parts ≡ count_tokens b parts
 unfolding tokens_from
 same_count a b [] = refl
@@ -28,7 +28,7 @@ same_count a b (part ∷ more) = elim (cases_lt 0 (length part)) [
   | inr none ↦ empty_counts a part more (omega arith) ∙ (same_count (a + 1) (b + 1) more ∙ sym (empty_counts b part more (omega arith)))
 ]
 
--- one byte more is at most one token more
+-- one more byte makes at most one more token
 one_byte : (at x : ℕ) (parts : List (List ℕ)) → count_tokens at (onto_first x parts) ≤ suc (count_tokens at parts)
 unfolding tokens_from
 one_byte at x [] = let one = part_counts at (x ∷ []) [] (omega arith) in omega arith

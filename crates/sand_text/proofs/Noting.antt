@@ -1,4 +1,4 @@
--- One more number behind the sides of a text: a height, or the site of a drop.
+-- One more number after the sides of a text: a height, or the site of a drop.
 use Rattle.std.proofs.Common.{◌≡◌, ℕ, ◌+◌, ◌-◌, ◌<◌, ◌≤◌, append_assoc, not, List, [], ◌∷◌, ◌++◌, Bool, true, false, length, take, drop, get_or, eqb, ltb, cond, refl, sym, ◌∙◌, ap, arith, inl, inr, length-drop, Option, Some, None, nat_lt, nat_le, sum}
 use Rattle.std.specs.Bool.{if◌then◌else◌}
 use Rattle.std.specs.List.{position, position_or_len}
@@ -28,7 +28,7 @@ sum_push room value g ns h = elim (cases_lt (length ns) room) [
       rw (test, take-append-le room ns (value ∷ []) high) h
 ]
 
--- the first place at which a test passes, where none before the last is one
+-- the first index that passes a test, if none before the last does
 found_last : (b : Bool) (count next more : ℕ) → next ≡ count + cond b 0 1 → more ≡ count + 1 → cond (nat_lt next more) (Some next) None ≡ (if b then Some count else None)
 found_last true count next more is len =
     let here : next ≡ count = omega arith in
@@ -38,7 +38,7 @@ found_last false count next more is len =
     let test : ltb next more ≡ false = grind (arith, nat_tests) in
     rw test refl
 
--- the first place at which a test passes
+-- the first index that passes a test
 found_push : (b : Bool) (first count next more : ℕ) → first ≤ count → next ≡ cond (eqb first count) (count + cond b 0 1) first → more ≡ count + 1 → cond (nat_lt next more) (Some next) None ≡ option_or (cond (nat_lt first count) (Some first) None) (if b then Some count else None)
 found_push b first count next more le is len = elim (cases_lt first count) [
   | inl lt ↦
@@ -56,7 +56,7 @@ found_push b first count next more le is len = elim (cases_lt first count) [
 position_push : (p : ℕ → Bool) (ns : List ℕ) (y : ℕ) → position p (ns ++ y ∷ []) ≡ option_or (position p ns) (if p y then Some (length ns) else None)
 position_push p ns y = found_push (p y) (position_or_len p ns) (length ns) (position_or_len p (ns ++ y ∷ [])) (length (ns ++ y ∷ [])) (prefix_len-le-length (λ x. not (p x)) ns) (position_or_len_push p ns y) (length_push ns y)
 
--- the first drop on no site
+-- the first drop outside the grid
 pub no_site_push : (room value : ℕ) (a : Option ℕ) (ns : List ℕ) → a ≡ position (nat_le room) (drop room ns) → option_or a (if nat_lt (length ns) room then None else (if nat_le room value then Some (length ns - room) else None)) ≡ position (nat_le room) (drop room (ns ++ value ∷ []))
 no_site_push room value a ns h = elim (cases_lt (length ns) room) [
   | inl low ↦
@@ -71,7 +71,7 @@ no_site_push room value a ns h = elim (cases_lt (length ns) room) [
       rw (test, cut, h, ← length-drop room ns) (sym (position_push (nat_le room) (drop room ns) value))
 ]
 
--- the numbers behind the sides, with one more
+-- the numbers after the sides, with one more
 pub noted-next : (ws : List Token) (k v : ℕ) → 2 ≤ k → k < length (numbers ws) → get_or (numbers ws) k 0 ≡ v → noted (k + 1) ws ≡ noted k ws ++ v ∷ []
 noted-next ws k v le lt is =
     let ns = numbers ws in
@@ -86,6 +86,6 @@ length-noted ws k le = length-take-le (k - 2) (drop 2 (numbers ws)) (omega (arit
 pub noted-none : (ws : List Token) (k : ℕ) → k ≤ 2 → noted k ws ≡ []
 noted-none ws k le = let e : k - 2 ≡ 0 = omega arith in rw e refl
 
--- one drop more, taken from what is left
+-- one more drop, taken from those left
 pub one_drop : (heights drops more left all : List ℕ) (site : ℕ) → (heights ++ drops) ++ (site ∷ left) ≡ all → more ≡ drops ++ site ∷ [] → (heights ++ more) ++ left ≡ all
 one_drop heights drops more left all site so_far is = rw is (simp append_assoc (simp append_assoc at so_far))

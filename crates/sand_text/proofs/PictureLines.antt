@@ -16,18 +16,18 @@ use Rattle.sand_text.specs.Texts.{row_text}
 use Rattle.sand_text.specs.Pictures.{chunks, lines_text, values_text, pgm_text_of, IsShort, NoLongLine}
 use Rattle.sand_text.proofs.Chunks.{chunks-next, chunks-end}
 
--- what line ends set apart in a text
+-- the lines of a text
 abbrev cut_lines : List ℕ → List (List ℕ)
 cut_lines text = slice_split (λ b. b == 10) text
 
--- the byte is no line end
+-- the byte is not a line end
 abbrev IsPlain : ℕ → Type 0
 IsPlain b = (b == 10) ≡ false
 
 abbrev AreLow : List ℕ → Type 0
 AreLow ns = All (λ n. n ≤ 3) ns
 
--- a text of short lines with a line end behind each, whatever stands behind it
+-- short lines, each with its line end, whatever follows them
 record IsLines (text : List ℕ) : Type 0 where
   lines : List (List ℕ)
   cut : (rest : List ℕ) → cut_lines (text ++ rest) ≡ lines ++ cut_lines rest
@@ -55,7 +55,7 @@ IsLines-same a b e lines = subst IsLines (sym e) lines
 
 -- ---- values
 
--- a line of low values: without its line end it has one character for each, and one between two
+-- a line of stable heights: a digit for each, and a space between any two
 record IsRow (ns line : List ℕ) : Type 0 where
   text : row_text ns ≡ line ++ 10 ∷ []
   len : length line + 1 ≡ 2 * length ns
@@ -98,7 +98,7 @@ row_lines (n ∷ ns) some most low =
     let len : length row.0 + 1 ≡ 2 * length (n ∷ ns) = row.1.len in
     IsLines-same (row_text (n ∷ ns)) (row.0 ++ 10 ∷ []) row.1.text (IsLines-one row.0 row.1.plain (omega arith, omega arith))
 
--- what is made of chunks of low values, where each chunk makes short lines
+-- the chunks of a list of stable heights, if each chunk makes short lines
 all_lines : (f : List ℕ → List ℕ) (size fuel : ℕ) (ns : List ℕ) → 0 < size → ((chunk : List ℕ) → 0 < length chunk → length chunk ≤ size → AreLow chunk → IsLines (f chunk)) → length ns ≤ fuel → AreLow ns → IsLines (flat_map f (chunks ns size))
 all_lines f size zero ns some each le low = IsLines-same (flat_map f (chunks ns size)) [] (chunks-end f size ns (omega arith)) IsLines-nil
 all_lines f size (suc fuel) ns some each le low = elim (cases_lt 0 (length ns)) [

@@ -1,4 +1,4 @@
--- What the survey of all tokens says of a text: the pile that it holds, or the pile and the drops.
+-- What the survey of all tokens says of a text: its pile, or its pile and drops.
 use Rattle.std.proofs.Common.{◌≡◌, ℕ, ◌-◌, List, [], ◌∷◌, Bool, true, false, length, take, drop, refl, sym, ◌∙◌, arith, length-drop, Option, Some, None, nat_le}
 use Rattle.std.specs.List.{position}
 use Rattle.std.specs.Prelude.{Result, Ok, Err}
@@ -49,7 +49,7 @@ front_is : (last : Bool) (text : List ℕ) (front : Result (PileView × List ℕ
 unfolding front_of
 front_is last text front plain is = rw plain is
 
--- the heights of a pile are as many as its sites
+-- a pile has as many heights as sites
 pub one_each : (last : Bool) (end : ℕ) (ws : List Token) (s : Survey) (g : Grid) → IsShaped last end ws s g → length (take (sites g) (drop 2 (numbers ws))) ≡ sites g
 one_each last end ws s g h = length-take-le (sites g) (drop 2 (numbers ws)) (omega (arith, h.enough, length-drop 2 (numbers ws)))
 
@@ -81,7 +81,7 @@ with_drops : (text : List ℕ) (s : Survey) (g : Grid) → plain_tokens (2 ∷ [
 unfolding drops_of
 with_drops text s g plain h = rw (front_is false text (Ok (pile_among g (numbers (tokens text)))) plain h.read) refl
 
--- the first drop on no site
+-- the first drop outside the grid
 no_site_is : (ws : List Token) (s : Survey) (g : Grid) → IsUnderway ws [] s → sites_of s ≡ sites g → s.no_site ≡ position (nat_le (sites g)) (drop (sites g) (drop 2 (numbers ws)))
 no_site_is ws s g h room =
     let all : noted s.count ws ≡ drop 2 (numbers ws) = take_all (s.count - 2) (drop 2 (numbers ws)) (omega (arith, count_at_end ws s h, length-drop 2 (numbers ws))) in
@@ -97,6 +97,6 @@ good_drops text s g plain h shaped is =
     let first = sym (no_site_is (tokens text) s g h shaped.room) ∙ is in
     with_drops text s g plain shaped ∙ rw first refl
 
--- how many drops there are
+-- the number of drops
 pub drop_count : (end : ℕ) (ws : List Token) (s : Survey) (g : Grid) → IsUnderway ws [] s → IsShaped false end ws s g → length (drop (sites g) (drop 2 (numbers ws))) ≡ s.count - 2 - sites g
 drop_count end ws s g h shaped = omega (arith, count_at_end ws s h, length-drop 2 (numbers ws), length-drop (sites g) (drop 2 (numbers ws)))

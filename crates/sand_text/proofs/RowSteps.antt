@@ -26,7 +26,7 @@ pub rows_text-none : (n w : ℕ) (ns : List ℕ) → n ≡ 0 → rows_text n w n
 unfolding rows_text
 rows_text-none n w ns e = rw e refl
 
--- the numbers of the rows that are left
+-- the numbers of the rows left
 pub fewer_rows : (n k w rest after : ℕ) → n ≡ k + 1 → rest ≡ n * w → after + w ≡ rest → after ≡ k * w
 fewer_rows n k w rest after e all cut =
     let product : n * w ≡ (k + 1) * w = ap (λ m. m * w) e in

@@ -25,7 +25,7 @@ or_open : (e : Edge) → edge_or e Open ≡ e
 or_open Open = refl
 or_open Cylinder = refl
 
--- a letter behind k numbers does not come behind more of them
+-- a letter after k numbers is not after more than k
 pub no_later_letter : (k n : ℕ) (ws : List Token) → k < n → edge_behind k n ws ≡ Open
 unfolding edge_behind
 no_later_letter k n [] lt = refl
@@ -33,7 +33,7 @@ no_later_letter k n (Number at value ∷ ws) lt = no_later_letter k (n + 1) ws (
 no_later_letter k n (Letter at ∷ ws) lt = let test : eqb k n ≡ false = grind (arith, nat_tests) in rw test (no_later_letter k n ws lt)
 no_later_letter k n (Strange at ∷ ws) lt = no_later_letter k n ws lt
 
--- a full pile has a site at least
+-- a full pile has at least one site
 pub full_count : (s : Survey) → IsFull s → 3 ≤ s.count
 full_count s full =
     let width : 1 ≤ s.width = grind (arith, nat_tests, full.width) in
@@ -86,7 +86,7 @@ many e last end [] lt = absurd (omega arith)
 many e last end (w ∷ []) lt = absurd (omega arith)
 many e last end (w ∷ h ∷ ns) lt = refl
 
--- the sides, and the numbers behind them
+-- the sides, and the numbers after them
 sized : (last : Bool) (end : ℕ) (ws rest : List Token) (s : Survey) (grid : Result Grid ShapeFault) → IsUnderway ws rest s → IsEnd last rest s → 2 ≤ s.count → grid ≡ grid_with_edge s.width s.height s.edge
     → pile_at (edge_behind 2 0 ws) last end (numbers ws) ≡ filled last grid (drop 2 (numbers ws))
 sized last end ws rest s grid h ends le is =
@@ -98,7 +98,7 @@ pub no_shape : (last : Bool) (end : ℕ) (ws rest : List Token) (s : Survey) (fa
     → pile_at (edge_behind 2 0 ws) last end (numbers ws) ≡ Err (of_shape fault)
 no_shape last end ws rest s fault h ends le is = sized last end ws rest s (Err fault) h ends le is
 
--- a grid that is made has the sides that it is made of
+-- a grid has the sides that it was made of
 made_of : (some narrow : Bool) (w h : ℕ) (e : Edge) (g : Grid) → Ok g ≡ (if some then (if narrow then Err Narrow else Ok (record { width = w; height = h; edge = e })) else Err Side) → (some ≡ true) × (g.width ≡ w) × (g.height ≡ h)
 made_of true true w h e g is = absurd (cc)
 made_of true false w h e g is =
@@ -114,7 +114,7 @@ both false b is = absurd (cc)
 in_range : (s : Survey) (g : Grid) → Ok g ≡ grid_with_edge s.width s.height s.edge → IsTrue (is_side s.width) × IsTrue (is_side s.height)
 in_range s g is = both (is_side s.width) (is_side s.height) (made_of (is_side s.width && is_side s.height) (joins s.edge && ltb s.width 3) s.width s.height s.edge g is).0
 
--- the sides of a grid are so small that the number of its sites fits
+-- the sides are small enough for the number of sites to fit
 fitting : (s : Survey) (g : Grid) → Ok g ≡ grid_with_edge s.width s.height s.edge → (s.width * s.height ≡ sites g) × (sites_of s ≡ sites g)
 fitting s g is =
     let made = made_of (is_side s.width && is_side s.height) (joins s.edge && ltb s.width 3) s.width s.height s.edge g is in
@@ -125,9 +125,9 @@ fitting s g is =
     let same : sites g ≡ s.width * s.height = rw (made.1, made.2) refl in
     (sym same, omega arith)
 
--- ---- how many heights there are
+-- ---- the number of heights
 
--- the numbers that were surveyed are as many as are wanted where all numbers are
+-- the surveyed count is right if and only if the count of all numbers is
 same_count : (last : Bool) (ws rest : List Token) (s : Survey) (g : Grid) → IsUnderway ws rest s → IsEnd last rest s → Ok g ≡ grid_with_edge s.width s.height s.edge → is_count last (length (drop 2 (numbers ws))) (sites g) ≡ is_count last (s.count - 2) (sites g)
 same_count last ws rest s g h ends is = elim (by_end last rest s ends) [
   | inl none ↦
@@ -148,7 +148,7 @@ pub wrong_count : (last : Bool) (end : ℕ) (ws rest : List Token) (s : Survey) 
     → pile_at (edge_behind 2 0 ws) last end (numbers ws) ≡ Err Length
 wrong_count last end ws rest s g h ends le is wrong = sized last end ws rest s (Ok g) h ends le is ∙ rw (same_count last ws rest s g h ends is, wrong) refl
 
--- ---- how many grains there are
+-- ---- the number of grains
 
 counted : (ws rest : List Token) (s : Survey) (g : Grid) → IsUnderway ws rest s → sites_of s ≡ sites g → sites g ≤ s.count - 2 → s.grains ≡ min (sum (take (sites g) (drop 2 (numbers ws)))) (most_grains + 1)
 counted ws rest s g h room some =

@@ -18,14 +18,14 @@ pushed bs i lt =
     let len : length (take i bs) ≡ i = length-take i bs ∙ omega arith in
     ap digits_len (take_more bs i 0 lt) ∙ (position_or_len_push is_other (take i bs) (get_or bs i 0) ∙ rw len refl)
 
--- the byte goes on a run of digits
+-- the byte continues the digits at the front
 pub more_digits : (bs : List ℕ) (i d : ℕ) → i < length bs → d ≡ digits_len (take i bs) → d ≡ i → is_digit (get_or bs i 0) ≡ true → d + 1 ≡ digits_len (take (i + 1) bs)
 more_digits bs i d lt e here digit =
     let same : eqb (digits_len (take i bs)) i ≡ true = eq-eqb (digits_len (take i bs)) i (sym e ∙ here) in
     let next = rw (same, digit) at (pushed bs i lt) in
     omega arith
 
--- the byte is no digit, or one that stands behind another byte
+-- the byte is not a digit, or the digits at the front have already ended
 pub no_more_digits : (bs : List ℕ) (i d : ℕ) → i < length bs → d ≡ digits_len (take i bs) → is_digit (get_or bs i 0) ≡ false → d ≡ digits_len (take (i + 1) bs)
 no_more_digits bs i d lt e other =
     let next = rw other at (pushed bs i lt) in
@@ -36,7 +36,7 @@ digits_ended bs i d lt e behind =
     let next = pushed bs i lt in
     grind (arith, nat_tests)
 
--- the value of one digit more
+-- the value of one more digit
 pub more_value : (bs : List ℕ) (i d value more : ℕ) → i < length bs → d ≡ i → value ≡ capped (digits_value 10 (take d bs)) → more ≡ capped (value * 10 + digit_value (get_or bs i 0)) → more ≡ capped (digits_value 10 (take (d + 1) bs))
 more_value bs i d value more lt here so_far grown =
     let place : digit_value (get_or bs d 0) ≡ digit_value (get_or bs i 0) = ap (λ k. digit_value (get_or bs k 0)) here in

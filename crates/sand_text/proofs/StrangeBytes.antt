@@ -14,7 +14,7 @@ use Rattle.sand_text.specs.Tokens.{token_of, tokens_at, tokens, first_strange}
 use Rattle.sand_text.specs.Laws.{is_strange, OnlyLetters, StrangeByte}
 use Rattle.sand_text.proofs.Cuts.{none_left, token_left, begins}
 
--- what is claimed of a text that stands at a place
+-- the claim for a text that starts at a place
 abbrev Claim : ℕ → List ℕ → Option ℕ → Type 0
 Claim at bs found = MatchOption found (OnlyLetters bs (length bs)) (λ p. (j : ℕ) × (p ≡ at + j) × (j < length bs) × (is_strange (get_or bs j 0) ≡ true) × OnlyLetters bs j)
 
@@ -27,7 +27,7 @@ only_more bs m e f g = λ k lt s. elim (cases_lt k m) [
       sym here ∙ g (k - m) (omega arith) (ap is_strange here ∙ s)
 ]
 
--- from what stands behind the first bytes
+-- from what follows the first bytes
 from_rest : (at m : ℕ) (bs : List ℕ) (found : Option ℕ) → m ≤ length bs → OnlyLetters bs m → Claim (at + m) (drop m bs) found → Claim at bs found
 from_rest at m bs None le front h =
     let all = only_more bs m (length (drop m bs)) front h in
@@ -40,7 +40,7 @@ no_and : (b : Bool) → (b && false) ≡ false
 no_and true = refl
 no_and false = refl
 
--- a digit is not strange, and neither is white space
+-- neither a digit nor white space is strange
 digit_passes : (b : ℕ) → is_other b ≡ false → is_strange b ≡ true → ⊥
 digit_passes b e s = let none : is_strange b ≡ false = rw e refl in cc
 
@@ -67,7 +67,7 @@ only_digits t len = λ k lt s.
     let below : k < len = omega (arith, length-take len t) in
     absurd (digit_passes (get_or t k 0) (sym (ap is_other (get_or-take len t k 0 below)) ∙ fails_before_first is_other w k 0 lt) s)
 
--- a token at the front, where the claim holds of what stands behind it
+-- a token at the front; the claim holds for what follows it
 abbrev Rest : ℕ → List ℕ → List Token → Type 0
 Rest at bs ws = (spared : List ℕ) (n : ℕ) → Claim at bs (first_strange spared n ws)
 
@@ -125,11 +125,11 @@ no_tokens : (spared : List ℕ) (n at : ℕ) (bs : List ℕ) → OnlyLetters bs 
 unfolding first_strange
 no_tokens spared n at bs only e = rw e only
 
--- how many bytes of white space stand at the front
+-- the number of bytes of white space at the front
 abbrev pub gap_len : List ℕ → ℕ
 gap_len bs = position_or_len (λ b. not (is_space b)) bs
 
--- behind white space stands a token
+-- a token follows the white space
 at_token : (spared : List ℕ) (n at k : ℕ) (bs t : List ℕ) → k ≡ gap_len bs → t ≡ drop k bs → 0 < length t → Rest (at + k + token_len t) (drop (token_len t) t) (tokens_at (at + k + token_len t) (drop (token_len t) t)) → Claim at bs (first_strange spared n (tokens_at at bs))
 at_token spared n at k bs t ke te some rest =
     let first = token_left at k (token_len t) bs t (take (token_len t) t) (drop (token_len t) t) ke te refl some refl refl in
@@ -144,7 +144,7 @@ at_end spared n at k bs ke none =
     let spaces : OnlyLetters bs k = rw ke (only_spaces bs) in
     no_tokens spared n at bs (λ i lt. spaces i (omega (arith, length-drop k bs))) (none_left at k bs ke none)
 
--- by the number of bytes
+-- by induction on the number of bytes
 by_length : (fuel : ℕ) (spared : List ℕ) (n at : ℕ) (bs : List ℕ) → length bs ≤ fuel → Claim at bs (first_strange spared n (tokens_at at bs))
 by_length zero spared n at bs le = at_end spared n at (gap_len bs) bs refl (omega (arith, length-drop (gap_len bs) bs))
 by_length (suc fuel) spared n at bs le =

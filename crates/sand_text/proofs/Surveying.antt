@@ -26,7 +26,7 @@ large_next None false start later = refl
 large_next (Some at) true start later = refl
 large_next (Some at) false start later = refl
 
--- the same sides make as many sites
+-- equal sides make as many sites
 same_sites : (s t : Survey) → t.width ≡ s.width → t.height ≡ s.height → sites_of t ≡ sites_of s
 same_sites s t width height = rw (width, height) refl
 
@@ -36,18 +36,18 @@ take-nil n = take_all n [] (omega arith)
 drop-nil : (n : ℕ) → drop {A = ℕ} n [] ≡ []
 drop-nil n = drop_all n [] (omega arith)
 
--- what a survey says of the numbers behind the sides
+-- what a survey says of the numbers after the sides
 abbrev IsBehind : List Token → Survey → Type 0
 IsBehind ws s = (s.grains ≡ capped (sum (take (sites_of s) (noted s.count ws)))) × (s.no_site ≡ position (nat_le (sites_of s)) (drop (sites_of s) (noted s.count ws)))
 
--- one side more, and no number behind the sides
+-- one more side, and no number after the sides
 side_next : (ws : List Token) (s t : Survey) → s.count < 2 → t.count ≡ s.count + 1 → IsBehind ws s → t.grains ≡ s.grains → t.no_site ≡ s.no_site → IsBehind ws t
 side_next ws s t low count so_far grains no_site =
     let before : noted s.count ws ≡ [] = noted-none ws s.count (omega arith) in
     let after : noted t.count ws ≡ [] = noted-none ws t.count (omega arith) in
     (grains ∙ (rw (before, take-nil (sites_of s)) at so_far.0 ∙ rw (after, take-nil (sites_of t)) refl), no_site ∙ (rw (before, drop-nil (sites_of s)) at so_far.1 ∙ rw (after, drop-nil (sites_of t)) refl))
 
--- one number more behind the sides
+-- one more number after the sides
 behind_next : (ws : List Token) (s t : Survey) (value : ℕ) → 2 ≤ s.count → s.count < length (numbers ws) → get_or (numbers ws) s.count 0 ≡ value → t.count ≡ s.count + 1 → sites_of t ≡ sites_of s → IsBehind ws s → t.grains ≡ grains_with s (s.count - 2) value → t.no_site ≡ option_or s.no_site (if_no_site s (s.count - 2) value) → IsBehind ws t
 behind_next ws s t value high lt here count same so_far grains no_site =
     let next : noted t.count ws ≡ noted s.count ws ++ value ∷ [] = ap (λ n. noted n ws) count ∙ noted-next ws s.count value high lt here in
@@ -56,7 +56,7 @@ behind_next ws s t value high lt here count same so_far grains no_site =
     let sites = rw len at (no_site_push (sites_of s) value s.no_site (noted s.count ws) so_far.1) in
     (rw (next, same) (grains ∙ sums), rw (next, same) (no_site ∙ sites))
 
--- a number, as a side or behind the sides
+-- a number, either a side or after the sides
 noted_step : (ws rest : List Token) (s t : Survey) (start value : ℕ) → IsUnderway ws (Number start value ∷ rest) s
     → t.count ≡ s.count + 1
     → t.width ≡ (if s.count == 0 then value else s.width)
@@ -76,7 +76,7 @@ noted_step ws rest s t start value h count width height grains no_site = elim (c
       behind_next ws s t value high next.0 next.1 count (same_sites s t (rw not_first at width) (rw not_second at height)) (h.grains, h.no_site) (rw test at grains) (rw test at no_site)
 ]
 
--- counts of numbers that are still to come
+-- counts greater than m are greater than n
 sooner : (n m : ℕ) (more : List ℕ) → n ≤ m → All (λ k. m < k) more → All (λ k. n < k) more
 sooner n m more le later = λ k d lt. omega (arith, later k d lt)
 
@@ -114,7 +114,7 @@ note_step ws rest s t start value h count width height edge grains no_site large
       no_site = behind.1;
     }
 
--- the letter behind n numbers is not one of those that are spared behind more numbers
+-- the letter after n numbers is not one of those allowed after more numbers
 others : (n : ℕ) (more : List ℕ) → All (λ k. n < k) more → All (λ k. (k == n) ≡ false) more
 others n more later = λ k d lt. let behind = later k d lt in grind (arith, nat_tests)
 
@@ -126,7 +126,7 @@ kept n (k ∷ more) later =
     let rest = kept n more (λ i d lt. later (suc i) d (omega arith)) in
     rw (test, rest) refl
 
--- a letter that is spared
+-- an allowed letter
 pub spare_step : (ws rest : List Token) (s t : Survey) (at : ℕ) → IsUnderway ws (Letter at ∷ rest) s → s.count ≡ 2 → s.edge ≡ Open → t ≡ record s { edge = Cylinder } → IsUnderway ws rest t
 unfolding first_strange first_large edge_behind
 spare_step ws rest s t at h two is_open is = rw is (record {
@@ -155,7 +155,7 @@ letter_first Open n at rest more not_spared later =
     rw (test, list_any_none (λ k. k == n) more (others n more later)) refl
 letter_first Cylinder n at rest more not_spared later = rw (list_any_none (λ k. k == n) more (others n more later)) refl
 
--- a letter that is not spared
+-- a letter that is not allowed
 pub strange_letter : (ws rest : List Token) (s : Survey) (at : ℕ) → IsUnderway ws (Letter at ∷ rest) s → ((s.count ≡ 2) × (s.edge ≡ Open) → ⊥) → IsStrangeAt ws s (Text at)
 unfolding first_strange
 strange_letter ws rest s at h not_spared = record {
@@ -175,10 +175,10 @@ strange_token ws rest s at h = record {
   bare = λ is_open. sym (h.bare is_open);
 }
 
--- the token that the walk comes to
+-- the next token of the pass
 pub at_token : (ws rest : List Token) (s : Survey) (w v : Token) → w ≡ v → IsUnderway ws (w ∷ rest) s → IsUnderway ws (v ∷ rest) s
 at_token ws rest s w v e h = let P : Token → Type 0 = λ x. IsUnderway ws (x ∷ rest) s in subst P e h
 
--- the tokens that are left
+-- the tokens left
 pub at_tokens : (ws left rest : List Token) (s : Survey) → left ≡ rest → IsUnderway ws left s → IsUnderway ws rest s
 at_tokens ws left rest s e h = let P : List Token → Type 0 = λ l. IsUnderway ws l s in subst P e h

@@ -1,4 +1,4 @@
--- What the surveys of two piles say of a text that holds both.
+-- What the surveys of two piles say of a text with both.
 use Rattle.std.proofs.Common.{◌≡◌, ℕ, ◌+◌, ◌*◌, ◌<◌, ◌≤◌, List, [], ◌∷◌, Bool, true, false, length, drop, eqb, not, refl, sym, ◌∙◌, ap, arith, inl, inr, Option, Some, None, slice_index, ◌||◌, sum, subst}
 use Rattle.std.specs.Prelude.{Result, Ok, Err}
 use Rattle.std.specs.Bool.{if◌then◌else◌, ◌==◌}
@@ -23,9 +23,9 @@ use Rattle.sand_text.proofs.Shapes.{full_count, all_taken}
 use Rattle.sand_text.proofs.Readings.{large_is, one_each}
 use Rattle.sand_text.proofs.TwoWalks.{later_letter}
 
--- ---- counts of numbers, from another number on
+-- ---- counts from another number on
 
--- where no letter is spared, it does not matter how many numbers stand before
+-- if no letter is allowed, the number of numbers before does not matter
 none_spared : (n m : ℕ) (ws : List Token) → first_strange [] n ws ≡ first_strange [] m ws
 unfolding first_strange
 none_spared n m [] = refl
@@ -39,7 +39,7 @@ one_letter true false k i j d at ws same = absurd (cc)
 one_letter false true k i j d at ws same = absurd (cc)
 one_letter false false k i j d at ws same = refl
 
--- a letter that is spared behind k numbers, with d numbers more before all of them
+-- a letter allowed after k numbers, with d more numbers before all of them
 shifted : (k i d : ℕ) (ws : List Token) → first_strange (k ∷ []) i ws ≡ first_strange ((k + d) ∷ []) (i + d) ws
 unfolding first_strange
 shifted k i d [] = refl
@@ -70,7 +70,7 @@ by_letter : (b : Bool) (x y z : Option ℕ) → x ≡ y → (if b then x else z)
 by_letter true x y z same = same
 by_letter false x y z same = refl
 
--- behind more than two numbers the first letter is no longer spared
+-- after more than two numbers the first letter is no longer allowed
 spared_later : (more : List ℕ) (n : ℕ) (ws : List Token) → 2 < n → first_strange (2 ∷ more) n ws ≡ first_strange more n ws
 unfolding first_strange
 spared_later more n [] lt = refl
@@ -86,7 +86,7 @@ still_later Cylinder more n ws lt = refl
 
 -- ---- from the first pile to the second
 
--- the second letter stands behind the first pile and two numbers more
+-- the second letter follows the first pile and two more numbers
 letter_of_full : (ns : List ℕ) (s : Survey) → 2 ≤ length ns → s.width ≡ slice_index ns 0 → s.height ≡ slice_index ns 1 → IsFull s → second_letter false ns ≡ (2 + s.count) ∷ []
 letter_of_full [] s le width height full = absurd (omega arith)
 letter_of_full (w ∷ []) s le width height full = absurd (omega arith)
@@ -125,7 +125,7 @@ strange_first text e (at, is, first) = rw (first, is) refl
 pub strange_second : (text : List ℕ) (rest : List Token) (s : Survey) (e : TextFault) → IsFront (tokens text) rest s → IsFirstStrange (second_spared text) rest e → plain_tokens (two_letters text) text ≡ Err e
 strange_second text rest s e h (at, is, first) = rw (handed (has_large text) (tokens text) rest s h ∙ first, is) refl
 
--- the first number over the limit, of both piles
+-- the first number over the limit in either pile
 large_of_two : (ws rest : List Token) (first second : Survey) → IsFront ws rest first → IsUnderway rest [] second → first_large ws ≡ option_or first.large second.large
 large_of_two ws rest first second h g = sym h.underway.large ∙ ap (option_or first.large) (large_is rest second g)
 
@@ -135,13 +135,13 @@ large_in_two text rest first second at h g plain is = rw (handed (has_large text
 pub plain_two : (text : List ℕ) (rest : List Token) (first second : Survey) → IsFront (tokens text) rest first → IsUnderway rest [] second → first_strange (second_spared text) 0 rest ≡ None → option_or first.large second.large ≡ None → plain_tokens (two_letters text) text ≡ Ok (tokens text)
 plain_two text rest first second h g plain is = rw (handed (has_large text) (tokens text) rest first h ∙ plain, large_of_two (tokens text) rest first second h g ∙ is) refl
 
--- the first pile of a text, where these are its tokens
+-- the first pile of a text with these tokens
 pub front_tokens : (ws vs rest : List Token) (s : Survey) → ws ≡ vs → IsFront ws rest s → IsFront vs rest s
 front_tokens ws vs rest s e h = let P : List Token → Type 0 = λ l. IsFront l rest s in subst P e h
 
 -- ---- the second pile
 
--- the first survey stops at the pile's last height
+-- the first survey ends at the pile's last height
 counted : (end : ℕ) (ws rest : List Token) (s : Survey) (g : Grid) → IsFront ws rest s → IsShaped false end ws s g → s.count ≡ 2 + sites g
 counted end ws rest s g h shaped = elim h.end [
   | inl none ↦
@@ -172,7 +172,7 @@ pub misshapen_first : (text : List ℕ) (e : TextFault) → plain_tokens (two_le
 unfolding two_of
 misshapen_first text e plain is = rw (plain, is) refl
 
--- the second pile, where the first has no fault
+-- the second pile, if the first has no fault
 second_of : (text : List ℕ) (rest : List Token) (s : Survey) (g : Grid) (second : Result (PileView × List ℕ) TextFault) → IsFront (tokens text) rest s → IsShaped false (length text) (tokens text) s g → pile_at (edge_behind 2 0 rest) true (length text) (numbers rest) ≡ second
     → pile_at (edge_behind (sites g + 4) 0 (tokens text)) true (length text) (behind_heights g text) ≡ second
 second_of text rest s g second h shaped is = rw (second_edge (length text) (tokens text) rest s g h shaped, behind_first (length text) (tokens text) rest s g h shaped) is
@@ -188,7 +188,7 @@ good_two text rest first second g k plain h shaped next =
     let there = second_of text rest first g (Ok (pile_among k (numbers rest))) h shaped next.read in
     rw (plain, shaped.read, there, sym (behind_first (length text) (tokens text) rest first g h shaped)) refl
 
--- what is known of the second pile, said of the text
+-- what is known of the second pile, in terms of the text
 pub second_facts : (text : List ℕ) (rest : List Token) (first second : Survey) (g k : Grid) → IsFront (tokens text) rest first → IsShaped false (length text) (tokens text) first g → IsShaped true (length text) rest second k
     → (2 + sites k ≤ length (behind_heights g text)) × (length (heights_behind g k text) ≡ sites k) × (second.grains ≡ sum (heights_behind g k text))
 second_facts text rest first second g k h shaped next =

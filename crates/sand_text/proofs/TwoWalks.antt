@@ -1,4 +1,4 @@
--- The walk over the tokens of two piles.
+-- The pass over the tokens of two piles.
 use Rattle.std.proofs.Common.{◌≡◌, ◌≢◌, ℕ, ◌+◌, ◌*◌, ◌<◌, ◌≤◌, List, [], ◌∷◌, All, Bool, true, false, refl, sym, ◌∙◌, arith, inl, inr, Some, None, slice_index, ◌&&◌}
 use Rattle.std.specs.Prelude.{IsTrue}
 use Rattle.std.specs.Bool.{if◌then◌else◌}
@@ -19,7 +19,7 @@ use Rattle.sand_text.specs.Surveys.{IsUnderway, IsStrangeAt, IsFull, IsWithinPil
 
 -- ---- the first pile
 
--- one token more, of a pile that is not full
+-- one more token of a pile that is not full
 pub one_further : (ws left rest : List Token) (s t : Survey) → IsUnderway ws left s → IsUnderway ws rest t → IsWithinPile s → (IsFull s → ⊥) → t.count ≤ s.count + 1 → IsWithinPile t
 one_further ws left rest s t before after within is_open few some width height = elim (cases_lt t.count 3) [
   | inl low ↦ omega arith
@@ -37,7 +37,7 @@ by_sides : (b : Bool) (n k : ℕ) → (b ≡ true → n < k) → All (λ j. n < 
 by_sides true n k h = λ i d lt. let first : i ≡ 0 = omega arith in rw first (h refl)
 by_sides false n k h = λ i d lt. absurd (omega arith)
 
--- the second letter comes later than the numbers of the first pile
+-- the second letter comes after the numbers of the first pile
 letter_later : (over : Bool) (ns : List ℕ) (s : Survey) → (0 < s.count → s.width ≡ slice_index ns 0) → (1 < s.count → s.height ≡ slice_index ns 1) → IsWithinPile s → All (λ k. s.count < k) (second_letter over ns)
 letter_later true ns s width height within = λ i d lt. absurd (omega arith)
 letter_later false [] s width height within = λ i d lt. absurd (omega arith)
@@ -88,7 +88,7 @@ none_at_end false ws s h is_open = sym (h.plain [] (λ i d lt. absurd (omega ari
 pub plain_second : (text : List ℕ) (ws : List Token) (s : Survey) → IsUnderway ws [] s → (has_large text ≡ true → s.edge ≡ Open) → first_strange (second_spared text) 0 ws ≡ None
 plain_second text ws s h is_open = none_at_end (has_large text) ws s h is_open
 
--- a token that is not barred leaves the edge is_open
+-- with a number over the limit, a token that is not barred leaves the edge open
 pub still_open : (over : Bool) (token : Token) (e f : Edge) → barred_at over token ≡ None → over ≡ true → e ≡ Open → f ≡ edge_with e token → f ≡ Open
 still_open true (Letter at) e f none is is_open with = absurd (cc)
 still_open true (Number at value) e f none is is_open with = with ∙ is_open

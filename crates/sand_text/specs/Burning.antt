@@ -1,4 +1,4 @@
--- The one text of what the burning test returns.
+-- The unique text of a result of the burning test.
 use Rattle.std.specs.Prelude.{ℕ, List, ◌++◌, All, ◌<◌, length, decimal, codes}
 use Rattle.std.specs.List.{flat_map}
 use Rattle.sand_model.specs.Grid.{Grid, column, row, sites}
@@ -9,12 +9,12 @@ use Rattle.sand_group.specs.declared.burning.Burned.TheVariants.{Recurrent, Forb
 abbrev pub place_text : Grid → ℕ → List ℕ
 place_text g i = decimal (column g i) ++ codes " " ++ decimal (row g i) ++ codes "\n"
 
--- the line `recurrent`; else how many sites the forbidden set has, and a line for each
+-- the line `recurrent`; or the number of sites in the forbidden set, and a line for each
 abbrev pub burn_text_of : Grid → Burned → List ℕ
 burn_text_of g (Recurrent order) = codes "recurrent\n"
 burn_text_of g (Forbidden set) = codes "forbidden " ++ decimal (length set.items) ++ codes "\n" ++ flat_map (place_text g) set.items
 
--- the sites of a result are sites of the grid
+-- the sites of the result are sites of the grid
 abbrev pub AreSitesOf : Grid → Burned → Type 0
 AreSitesOf g (Recurrent order) = All (λ i. i < sites g) order.items
 AreSitesOf g (Forbidden set) = All (λ i. i < sites g) set.items

@@ -14,22 +14,22 @@ is_other b = not (is_digit b)
 abbrev pub is_space : ℕ → Bool
 is_space b = (b == 9) || (b == 10) || (b == 13) || (b == 32)
 
--- how many digits are at the front
+-- the number of digits at the front
 abbrev pub digits_len : List ℕ → ℕ
 digits_len bytes = position_or_len is_other bytes
 
--- how many bytes are before the first white space
+-- the number of bytes before the first white space
 abbrev pub token_len : List ℕ → ℕ
 token_len text = position_or_len is_space text
 
--- the letter `c` alone
+-- a single letter `c`
 abbrev pub is_letter : List ℕ → Bool
 is_letter token = length token == 1 && slice_index token 0 == 99
 
--- a value, or one over the grain limit if it is larger
+-- the value, or one over the grain limit if it is larger
 abbrev pub capped : ℕ → ℕ
 capped value = min value (most_grains + 1)
 
--- whether a run of digits, wherever it is in a text, is a number over the limit
+-- some run of digits anywhere in the text is a number over the limit
 abbrev pub has_large : List ℕ → Bool
 has_large text = list_any (λ run. nat_lt most_grains (digits_value 10 run)) (slice_split is_other text)

@@ -16,7 +16,7 @@ text_fault_number text.Length = 2
 text_fault_number text.TooManyGrains = 3
 text_fault_number (text.NoSite index) = 25
 
--- a text that was not read has the number of what is wrong with it
+-- a text that could not be read has the number of its fault
 abbrev pub read_fault_number : ReadFault → ℕ
 read_fault_number read.Memory = 4
 read_fault_number (read.Text fault) = text_fault_number fault

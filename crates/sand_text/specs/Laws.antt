@@ -1,4 +1,4 @@
--- What the definitions by tokens say of the bytes themselves, and of a text that was written.
+-- What the definitions by tokens say of bytes, and of a written text.
 use Rattle.std.specs.Prelude.{◌≡◌, ℕ, ◌<◌, List, Bool, true, not, ◌&&◌, length, slice_index, MatchOption, None, Ok, nat_lt, filter, map}
 use Rattle.std.specs.List.{slice_split}
 use Rattle.std.specs.Str.Parse.{digits_value}
@@ -12,18 +12,18 @@ use Rattle.sand_text.specs.Reading.{pile_of}
 abbrev pub is_strange : ℕ → Bool
 is_strange b = is_other b && not (is_space b)
 
--- before this place no byte is strange but the letter `c`
+-- before this place, all strange bytes are letters `c`
 abbrev pub OnlyLetters : List ℕ → ℕ → Type 0
 OnlyLetters text end = (k : ℕ) → k < end → is_strange (slice_index text k) ≡ true → slice_index text k ≡ 99
 
--- the first strange byte is neither a digit nor white space, and only letters stand before it that are neither; where
--- there is none, only letters stand in the whole text that are neither
+-- the first strange byte is neither a digit nor white space, and all such bytes before it are letters; if there is
+-- none, all such bytes of the text are letters
 abbrev pub StrangeByte : Type 0
 StrangeByte = (spared text : List ℕ) → MatchOption (first_strange spared 0 (tokens text))
     (OnlyLetters text (length text))
     (λ at. (at < length text) × (is_strange (slice_index text at) ≡ true) × OnlyLetters text at)
 
--- what is written of a pile is read as the same pile
+-- the written text of a pile is read as the same pile
 abbrev pub ReadAgain : Type 0
 ReadAgain = (p : PileView) → IsPile p → pile_of (text_of p) ≡ Ok p
 

@@ -5,7 +5,6 @@ use Rattle.sand_text.specs.declared.tokens.Tokens.{Tokens}
 use Rattle.sand_text.specs.declared.numbers.Numbers.{Numbers}
 use Rattle.sand_text.specs.Tokens.{tokens_at, numbers}
 
--- the tokens that are left
 abbrev pub tokens_left : Tokens → List Token
 tokens_left s = tokens_at s.at s.rest.now
 

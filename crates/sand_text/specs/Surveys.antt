@@ -1,4 +1,4 @@
--- What the walk over a text's tokens knows at each token.
+-- What the pass over a text's tokens knows at each token.
 use Rattle.std.specs.Prelude.{◌≡◌, ℕ, ◌+◌, ◌-◌, ◌*◌, ◌^◌, ◌<◌, ◌≤◌, ◌⊎◌, List, [], ◌∷◌, Bool, true, false, All, IsTrue, nat_lt, nat_le, min, length, take, drop, sum, position, slice_index, Option, Some, None, Ok, if◌then◌else◌}
 use Rattle.std.specs.Option.{option_or}
 use Rattle.sand_model.specs.declared.shape.Edge.{Edge}
@@ -14,34 +14,34 @@ use Rattle.sand_text.specs.Bytes.{capped}
 use Rattle.sand_text.specs.Tokens.{first_strange, first_large, edge_behind, numbers}
 use Rattle.sand_text.specs.Reading.{pile_at}
 
--- the letter behind the second number is spared once, and letters behind more numbers
+-- the letters still allowed: one after the second number, until it is found, and those after more numbers
 abbrev pub still_spared : Edge → List ℕ → List ℕ
 still_spared Open more = 2 ∷ more
 still_spared Cylinder more = more
 
--- a letter that was found, or else what the tokens that are left say
+-- a cylinder if its letter was found, else what the tokens left say
 abbrev pub edge_or : Edge → Edge → Edge
 edge_or Open later = later
 edge_or Cylinder later = Cylinder
 
--- how many sites the sides make, or the most that the type of a count can say
+-- the number of sites that the sides make, or the largest value of its type
 abbrev pub sites_of : Survey → ℕ
 sites_of s = min (s.width * s.height) (2 ^ 64 - 1)
 
--- the sum of the heights, with the number at this place behind the sides
+-- the sum of the heights, including the number at this index after the sides
 abbrev pub grains_with : Survey → ℕ → ℕ → ℕ
 grains_with s place value = if nat_lt place (sites_of s) then capped (s.grains + value) else s.grains
 
--- the index of this number among the drops, where it stands at this place behind the sides and is no site
+-- the index of this number among the drops, if it is a drop outside the grid
 abbrev pub if_no_site : Survey → ℕ → ℕ → Option ℕ
 if_no_site s place value = if nat_lt place (sites_of s) then None else (if nat_le (sites_of s) value then Some (place - sites_of s) else None)
 
--- those of the first so many numbers that follow the sides
+-- the numbers after the sides, among the first `count`
 abbrev pub noted : ℕ → List Token → List ℕ
 noted count ws = take (count - 2) (drop 2 (numbers ws))
 
--- the survey of the tokens before the rest of ws, none of them strange where letters are spared behind the second number
--- and behind counts of numbers that are still to come
+-- the survey of the tokens of ws before `rest`, none of them strange; letters are allowed after the second number and
+-- after further counts of numbers
 pub record IsUnderway (ws rest : List Token) (s : Survey) : Type 0 where
   pub plain : (more : List ℕ) → All (λ k. s.count < k) more → first_strange (still_spared s.edge more) s.count rest ≡ first_strange (2 ∷ more) 0 ws
   pub bare : s.edge ≡ Open → first_strange [] s.count rest ≡ first_strange [] 0 ws
@@ -55,36 +55,36 @@ pub record IsUnderway (ws rest : List Token) (s : Survey) : Type 0 where
   pub grains : s.grains ≡ capped (sum (take (sites_of s) (noted s.count ws)))
   pub no_site : s.no_site ≡ position (nat_le (sites_of s)) (drop (sites_of s) (noted s.count ws))
 
--- the edge with one token more
+-- the edge after one more token
 abbrev pub edge_with : Edge → Token → Edge
 edge_with e (Number at value) = e
 edge_with e (Letter at) = Cylinder
 edge_with e (Strange at) = e
 
--- the fault is the first strange byte of ws, where letters are spared behind the second number and behind counts of
--- numbers that are still to come
+-- the fault is the first strange byte of ws; letters are allowed after the second number and after further counts of
+-- numbers
 pub record IsStrangeAt (ws : List Token) (s : Survey) (fault : TextFault) : Type 0 where
   pub at : ℕ
   pub is : fault ≡ Text at
   pub strange : (more : List ℕ) → All (λ k. s.count < k) more → first_strange (2 ∷ more) 0 ws ≡ Some at
   pub bare : s.edge ≡ Open → first_strange [] 0 ws ≡ Some at
 
--- the sides are in range, and as many heights as they make sites follow them
+-- the sides are in range, and followed by a height for each site
 pub record IsFull (s : Survey) : Type 0 where
   pub width : IsTrue (is_side s.width)
   pub height : IsTrue (is_side s.height)
   pub count : s.count ≡ s.width * s.height + 2
 
--- a survey of a pile ends at its last height, or with the text; that of the last pile in a text ends with the text
+-- the survey of a pile ends with its last height or with the text; that of the last pile ends with the text
 abbrev pub IsEnd : Bool → List Token → Survey → Type 0
 IsEnd true rest s = rest ≡ []
 IsEnd false rest s = (rest ≡ []) ⊎ IsFull s
 
--- the pile on a grid at the front of these numbers, and the numbers behind it
+-- the pile on a grid at the front of these numbers, and the numbers after it
 abbrev pub pile_among : Grid → List ℕ → PileView × List ℕ
 pile_among g ns = (record { grid = g; heights = take (sites g) (drop 2 ns) }, drop (sites g) (drop 2 ns))
 
--- the pile at the front of ws is on this grid, and its grains are those that the survey counted
+-- the pile at the front of ws is on this grid, and has the grains that the survey counted
 pub record IsShaped (last : Bool) (end : ℕ) (ws : List Token) (s : Survey) (g : Grid) : Type 0 where
   pub read : pile_at (edge_behind 2 0 ws) last end (numbers ws) ≡ Ok (pile_among g (numbers ws))
   pub width : IsTrue (is_side s.width)
@@ -99,17 +99,17 @@ pub record IsShaped (last : Bool) (end : ℕ) (ws : List Token) (s : Survey) (g 
 abbrev pub IsWithinPile : Survey → Type 0
 IsWithinPile s = 1 < s.count → IsTrue (is_side s.width) → IsTrue (is_side s.height) → s.count ≤ s.width * s.height + 2
 
--- the survey of the first pile of a text, and no further
+-- the survey of the first pile of a text alone
 pub record IsFront (ws rest : List Token) (s : Survey) : Type 0 where
   pub underway : IsUnderway ws rest s
   pub end : IsEnd false rest s
   pub within : IsWithinPile s
 
--- the place of a letter that only the first pile of the text may have
+-- the place of a letter that only the first pile may have
 abbrev pub barred_at : Bool → Token → Option ℕ
 barred_at true (Letter at) = Some at
 barred_at over _ = None
 
--- the fault is the first strange byte of ws, where letters are spared behind these counts of numbers
+-- the fault is the first strange byte of ws; letters are allowed after these counts of numbers
 abbrev pub IsFirstStrange : List ℕ → List Token → TextFault → Type 0
 IsFirstStrange spared ws fault = (at : ℕ) × (fault ≡ Text at) × (first_strange spared 0 ws ≡ Some at)

@@ -1,4 +1,4 @@
--- The one text in which a table of avalanches is written.
+-- The unique text of a table of avalanches.
 use Rattle.std.specs.Prelude.{ℕ, List, [], ◌∷◌, ◌++◌, codes}
 use Rattle.sand_settle.specs.declared.avalanche.Avalanche.{Avalanche}
 use Rattle.sand_text.specs.Texts.{row_text}
@@ -7,7 +7,6 @@ use Rattle.sand_text.specs.Texts.{row_text}
 abbrev pub entry_text : ℕ × Avalanche → List ℕ
 entry_text (n, a) = row_text (n ∷ a.site ∷ a.size ∷ a.area ∷ a.reach ∷ a.lost ∷ [])
 
--- the lines of drops, in order
 unfoldable pub entries_text : List (ℕ × Avalanche) → List ℕ
 entries_text [] = []
 entries_text (e ∷ es) = entry_text e ++ entries_text es

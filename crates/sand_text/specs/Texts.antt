@@ -1,4 +1,4 @@
--- The one text in which a pile is written, and that of a settled pile.
+-- The unique text of a pile, and of a settled pile.
 use Rattle.std.specs.Prelude.{ℕ, zero, suc, List, [], ◌∷◌, ◌++◌, length, take, drop, decimal, codes, ◌==◌, if◌then◌else◌}
 use Rattle.sand_model.specs.declared.shape.Edge.{Edge}
 use Rattle.sand_model.specs.declared.shape.Edge.TheVariants.{Open, Cylinder}
@@ -6,12 +6,12 @@ use Rattle.sand_model.specs.Grid.{Grid}
 use Rattle.sand_model.specs.Piles.{PileView}
 use Rattle.sand_settle.specs.Settling.{SettledView}
 
--- numbers with a space between two, and a line end after the last
+-- a line of numbers, separated by spaces
 unfoldable pub row_text : List ℕ → List ℕ
 row_text [] = []
 row_text (n ∷ ns) = decimal n ++ (if length ns == 0 then 10 else 32) ∷ row_text ns
 
--- so many rows of so many numbers
+-- a number of rows of equal length
 unfoldable pub rows_text : ℕ → ℕ → List ℕ → List ℕ
 rows_text zero width ns = []
 rows_text (suc height) width ns = row_text (take width ns) ++ rows_text height width (drop width ns)
@@ -41,6 +41,6 @@ abbrev pub settle_text_of : SettledView → List ℕ
 settle_text_of r = text_of r.pile ++ odometer_text r.pile.grid r.odometer
     ++ codes "lost " ++ decimal r.lost ++ codes "\ntopplings " ++ decimal r.topplings ++ codes "\n"
 
--- a line that names a sum
+-- a line with the name and the value of a sum
 abbrev pub sum_line : List ℕ → ℕ → List ℕ
 sum_line name n = name ++ decimal n ++ codes "\n"

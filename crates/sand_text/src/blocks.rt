@@ -1,7 +1,7 @@
-//! A text that goes out in blocks while it is made, so that its length needs no memory.
+//! A text that is written in blocks while it is made, so memory does not grow with its length.
 //!
-//! What was made waits in a block of fixed room. Before the next part is added, a block of `BLOCK` bytes or more goes to the
-//! writer. So the writer always has whole parts, and after the block was made nothing but the writer can fail.
+//! Finished parts wait in a buffer of fixed size. Before a part is added, a buffer of `BLOCK` bytes or more goes to the
+//! writer. So only whole parts are sent, and once the buffer is allocated only the writer can fail.
 
 ghost use Rattle.std.specs.Prelude.{◌≡◌, ◌+◌, ◌<◌, ◌≤◌, [], length, IfOk, IfErr, OnOk};
 ghost use Rattle.std.specs.Io.KnownBytes.{Appends};
@@ -20,10 +20,10 @@ use std::alloc::{AllocError, Global};
 use std::io::Write;
 use std::marker::Model;
 
-/// The bytes with which a block goes out. It may have one part more.
+/// The number of waiting bytes from which they are written. The buffer has room for one more part.
 const BLOCK: usize = 65_536;
 
-/// The most bytes of a part: a row of 256 numbers, each with a byte behind it.
+/// The most bytes of a part: a row of 256 numbers, each with one byte after it.
 const PART: usize = 5_376;
 
 /// The end of a text, which waits to be written.
@@ -45,7 +45,7 @@ impl Model for Blocks {
 }
 
 impl Blocks {
-    /// A text that has only its head so far. Later it takes no memory.
+    /// A text that has only its head so far. Only this call allocates.
     pub fn new(alloc: Global, head: &[u8]) -> Result<Blocks, AllocError>
         ensures { IfOk result (λ b. b ≡ record { bytes = head.now; sent = 0 }) }
     {
@@ -54,7 +54,7 @@ impl Blocks {
         Ok(Blocks { waiting, sent: 0 })
     }
 
-    // Writes all that waits.
+    // Writes everything that waits.
     fn send<W: Write>(&mut self, writer: &mut W) -> Result<(), StreamFault>
         ensures ok { OnOk result (GrowsBy (W.contents writer.old) (W.contents writer.new) self.old self.new []) }
         ensures all { OnOk result (self.new.bytes ≡ []) }
@@ -74,7 +74,7 @@ impl Blocks {
         }
     }
 
-    // Writes what waits if that is a block, so that there is room for a part.
+    // Writes what waits if it fills a block, so that there is room for a part.
     fn make_room<W: Write>(&mut self, writer: &mut W) -> Result<(), StreamFault>
         ensures ok { OnOk result (GrowsBy (W.contents writer.old) (W.contents writer.new) self.old self.new []) }
         ensures room { OnOk result (length self.new.bytes < 65536) }
@@ -86,7 +86,7 @@ impl Blocks {
         self.send(writer)
     }
 
-    /// Adds a part. Fails if the writer does (Write, with how many bytes of the text it took).
+    /// Adds a part. If the writer fails, returns Write with the number of bytes of the text that it took.
     pub fn push<W: Write>(&mut self, writer: &mut W, part: &[u8]) -> Result<(), StreamFault>
         requires { length part.now ≤ 5376 }
         ensures ok { OnOk result (GrowsBy (W.contents writer.old) (W.contents writer.new) self.old self.new part.now) }
@@ -100,7 +100,7 @@ impl Blocks {
         Ok(())
     }
 
-    // Adds numbers with a space between two, and a line end after the last.
+    // Adds a line of numbers, separated by spaces.
     fn push_row<W: Write>(&mut self, writer: &mut W, numbers: &[u64]) -> Result<(), StreamFault>
         requires { length numbers.now ≤ 256 }
         ensures ok { OnOk result (GrowsBy (W.contents writer.old) (W.contents writer.new) self.old self.new (row_text numbers.now)) }
@@ -114,7 +114,7 @@ impl Blocks {
         Ok(())
     }
 
-    /// Adds the line of a drop: its number, and what it set off.
+    /// Adds the line of a drop: its number, and its avalanche.
     pub fn push_entry<W: Write>(
         &mut self,
         writer: &mut W,
@@ -169,7 +169,7 @@ impl Blocks {
         self.push_sites(writer, pile.shape(), pile.heights())
     }
 
-    /// Adds a line that names a sum.
+    /// Adds a line with the name and the value of a sum.
     pub fn push_sum<W: Write>(
         &mut self,
         writer: &mut W,

@@ -1,4 +1,4 @@
-//! The result of the burning test as text.
+//! The result of the burning test, as text.
 
 ghost use Rattle.std.specs.Prelude.{◌≡◌, ◌++◌, ◌<◌, All, OnOk, IfOk};
 ghost use Rattle.std.specs.List.{flat_map};
@@ -22,7 +22,6 @@ fn push_place(text: &mut Vec<u8>, shape: Shape, site: usize) -> Result<(), Alloc
     text.extend_from_slice(b"\n")
 }
 
-// Writes the lines of sites.
 fn push_places(text: &mut Vec<u8>, shape: Shape, list: &[usize]) -> Result<(), AllocError>
     requires { All (λ i. i < sites shape) list.now }
     ensures { OnOk result (text.new.items ≡ text.old.items ++ flat_map (place_text shape) list.now) }
@@ -33,8 +32,8 @@ fn push_places(text: &mut Vec<u8>, shape: Shape, list: &[usize]) -> Result<(), A
     Ok(())
 }
 
-/// The text of what the burning test found on a grid of this shape: that the pile is recurrent, or how many sites its
-/// greatest forbidden set has and a line for each, with its column and its row.
+/// The text of the result of the burning test on a grid of this shape: that the pile is recurrent; or the number of
+/// sites in its largest forbidden set, and a line for each with its column and its row.
 pub fn burn_text(alloc: Global, shape: Shape, burned: &Burned) -> Result<Vec<u8>, AllocError>
     requires { AreSitesOf shape burned.now }
     ensures { IfOk result (λ text. text.items ≡ burn_text_of shape burned.now) }

@@ -1,7 +1,7 @@
-//! What is at the front of a text: white space, or a token.
+//! The front of a text: white space, or a token.
 //!
-//! A token's length, its digits and their value are found in one walk over its bytes. The value grows digit by digit and
-//! stops at one over the grain limit, so it never leaves its type.
+//! One pass over a token's bytes finds its length, its digits and their value. The value stops at one over the grain
+//! limit, so it cannot overflow.
 
 ghost use Rattle.std.specs.Prelude.{◌≡◌, ℕ, ◌+◌, ◌*◌, ◌<◌, ◌≤◌, length, take, not, position, true, if◌then◌else◌};
 ghost use Rattle.std.specs.List.{position_or_len};
@@ -12,12 +12,12 @@ ghost use Rattle.sand_model.specs.Piles.{most_grains};
 
 use sand_model::GRAIN_LIMIT;
 
-/// What is in a text up to its first white space.
+/// A text up to its first white space.
 #[derive(Clone, Copy)]
 pub(crate) struct Span {
-    /// How many bytes.
+    /// The number of bytes.
     pub len: usize,
-    /// How many of them are digits before the first that isn't one.
+    /// The number of digits at the front.
     pub digits: usize,
     /// The value of these digits, or one over the grain limit if it is larger.
     pub value: u64,
@@ -35,7 +35,7 @@ fn is_space(byte: u8) -> bool
     matches!(byte, b'\t' | b'\n' | b'\r' | b' ')
 }
 
-// The value that one more digit makes of a value.
+// The value after one more digit.
 fn grown(value: u64, digit: u8) -> u64
     requires small { value ≤ most_grains + 1 }
     requires digit { is_digit digit ≡ true }
@@ -44,14 +44,14 @@ fn grown(value: u64, digit: u8) -> u64
     (value * 10 + u64::from(digit - b'0')).min(GRAIN_LIMIT + 1)
 }
 
-// The place of the first byte that is no white space.
+// The index of the first byte that is not white space.
 fn token_start(text: &[u8]) -> Option<usize>
     ensures { result ≡ position (λ b. not (is_space b)) text.now }
 {
     text.iter().position(|byte| !is_space(*byte))
 }
 
-/// How many bytes of white space are at the front.
+/// The number of bytes of white space at the front.
 pub(crate) fn space_len(text: &[u8]) -> usize
     ensures first { result ≡ position_or_len (λ b. not (is_space b)) text.now }
     ensures within { result ≤ length text.now }
@@ -59,7 +59,7 @@ pub(crate) fn space_len(text: &[u8]) -> usize
     token_start(text).unwrap_or(text.len())
 }
 
-/// What is at the front of a text up to its first white space.
+/// The part of a text up to its first white space.
 pub(crate) fn span_of(text: &[u8]) -> Span
     ensures len { result.len ≡ token_len text.now }
     ensures within { result.len ≤ length text.now }
@@ -84,7 +84,7 @@ pub(crate) fn span_of(text: &[u8]) -> Span
     }
 }
 
-// The value of the run of digits that ends with a byte, where the bytes before it end one of this value.
+// The value of the run of digits that ends with a byte. The digits before it have `value`.
 fn run_value(value: u64, byte: u8) -> u64
     requires { value ≤ most_grains }
     ensures { result ≡ (if is_digit byte then capped (value * 10 + digit_value byte) else 0) }
@@ -96,7 +96,7 @@ fn run_value(value: u64, byte: u8) -> u64
     }
 }
 
-/// Whether a run of digits, wherever it is in a text, is a number over the grain limit.
+/// Whether a run of digits anywhere in a text is a number over the grain limit.
 pub(crate) fn has_large(text: &[u8]) -> bool
     ensures { result ≡ has_large text.now }
 {

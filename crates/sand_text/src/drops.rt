@@ -1,4 +1,4 @@
-//! A pile and the sites of the grains that are to be dropped on it, from their text.
+//! Reading a pile and the sites of the grains to be dropped on it.
 
 ghost use Rattle.std.specs.Prelude.{◌≡◌, ◌+◌, ◌≤◌, length, sum, IfOk, IfErr};
 ghost use Rattle.sand_model.specs.Grid.{sites};
@@ -12,8 +12,7 @@ use crate::survey::plain_survey;
 use sand_model::{Pile, Shape};
 use std::alloc::Global;
 
-// The shape and the grains of the pile at the front of a text, and how many drops follow it, if the text has no
-// fault.
+// The shape and the grains of the pile, and the number of drops after it, if the text has no fault.
 fn shape_of(text: &[u8]) -> Result<(Shape, u64, usize), TextFault>
     ensures drops { IfOk result (λ (g, _, _). drops_of text.now ≡ Ok (record { grid = g; heights = heights_on g text.now }, behind_heights g text.now)) }
     ensures enough { IfOk result (λ (g, _, _). 2 + sites g ≤ length (numbers (tokens text.now))) }
@@ -30,8 +29,8 @@ fn shape_of(text: &[u8]) -> Result<(Shape, u64, usize), TextFault>
     }
 }
 
-/// The pile that a text holds and the sites of the drops behind it, or the text's first fault. Every fault but want of
-/// memory is found before anything grows.
+/// The pile in a text and the sites of the drops after it, or the first fault of the text. Every fault except out of
+/// memory is found before anything is allocated.
 pub fn read_drops(alloc: Global, text: &[u8]) -> Result<(Pile, Vec<usize>), ReadFault>
     ensures { ReadsAs (λ (pile, drops). (pile, drops.items)) result (drops_of text.now) }
 {

@@ -1,4 +1,4 @@
-//! Why a text was not read, and why a stream ended early, with the number of each fault.
+//! Why a text could not be read or a stream ended early, and the number of each fault.
 
 ghost use Rattle.std.specs.Prelude.{◌≡◌};
 ghost use Rattle.sand_text.specs.declared.fault.ReadFault.TheVariants as read_faults;
@@ -11,7 +11,7 @@ use thiserror::Error;
 /// What is wrong with a text.
 #[derive(Clone, Copy, Debug, PartialEq, Eq, Error)]
 pub enum TextFault {
-    /// A byte that is in no text of a pile, with its offset; or fewer than two numbers, with the text's length.
+    /// A byte that is in no text of a pile, with its offset; or fewer than two numbers, with the length of the text.
     #[error("not the text of a pile, at byte {0}")]
     Text(usize),
     /// A number over the grain limit, with the offset of its first byte.
@@ -25,12 +25,12 @@ pub enum TextFault {
     Length,
     #[error("more grains than the limit")]
     TooManyGrains,
-    /// A drop on a site that the grid doesn't have, with its index among the drops, from 0.
+    /// A drop on a site outside the grid, with its index among the drops, from 0.
     #[error("drop {0} is on no site of the grid")]
     NoSite(usize),
 }
 
-/// Why a text was not read.
+/// Why a text could not be read.
 #[derive(Clone, Copy, Debug, PartialEq, Eq, Error)]
 pub enum ReadFault {
     #[error("out of memory")]
@@ -39,14 +39,14 @@ pub enum ReadFault {
     Text(TextFault),
 }
 
-/// Why a reader was not read to its end, or a writer did not take a whole text.
+/// Why a reader could not be read to its end, or a text not be written whole.
 #[derive(Clone, Copy, Debug, PartialEq, Eq, Error)]
 pub enum StreamFault {
     #[error("out of memory")]
     Memory,
     #[error("the reader failed")]
     Read,
-    /// The writer failed after it took so many bytes.
+    /// The writer failed after it took this many bytes.
     #[error("the writer failed after {0} bytes")]
     Write(usize),
     #[error("more input than the limit")]

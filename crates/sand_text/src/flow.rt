@@ -1,6 +1,6 @@
-//! The two loops over a stream: reading a reader to its end, and writing a whole text.
+//! The two loops over a stream: reading to the end, and writing a whole text.
 //!
-//! Each turn of a loop moves at least one byte or ends it. Any error is final, an interruption too.
+//! Each iteration moves at least one byte or ends the loop. Every error is final, even an interruption.
 
 ghost use Rattle.std.specs.Prelude.{◌≡◌, ◌≢◌, ℕ, ◌+◌, ◌≤◌, ◌<◌, length, take, IfOk, IfErr, OnOk, IsErrOf};
 ghost use Rattle.std.specs.Io.KnownBytes.{Appends};
@@ -10,19 +10,20 @@ use crate::fault::StreamFault;
 use std::alloc::Global;
 use std::io::{Read, Write};
 
-/// The most bytes that an input may have.
+/// The largest number of bytes of an input.
 pub const INPUT_LIMIT: usize = 1_048_576;
 
-/// The most bytes that are asked of a reader at once. They are on the stack, so a greater number makes the program need more.
+/// The largest number of bytes requested from a reader at once. They are on the stack, so a larger value needs more
+/// stack.
 const CHUNK: usize = 4_096;
 
-/// All that a reader gives. Fails if the reader fails (Read), if it gives more than `INPUT_LIMIT` bytes (TooLong), of which
-/// one more than the limit is taken, or if memory runs out (Memory).
+/// Reads a reader to its end. Returns Read if the reader fails; TooLong if it has more than `INPUT_LIMIT` bytes, after
+/// taking one byte over the limit; Memory if an allocation fails.
 pub fn read_all<R: Read>(alloc: Global, reader: &mut R) -> Result<Vec<u8>, StreamFault>
     ensures all { IfOk result (λ text. GivesAll (R.remaining reader.old) (R.remaining reader.new) text.items) }
     ensures within { IfOk result (λ text. length text.items ≤ most_bytes) }
 
-    // Where the reader is after a fault.
+    // How far the reader was read before a fault.
     ensures too_long { IsErrOf result StreamFault.TooLong → IsFurther (R.remaining reader.old) (R.remaining reader.new) (most_bytes + 1) }
     ensures failed { IfErr result (λ e. e ≢ StreamFault.TooLong → IsFurtherByAtMost (R.remaining reader.old) (R.remaining reader.new) most_bytes) }
     ensures fault { IfErr result IsOfReading }
@@ -45,8 +46,8 @@ pub fn read_all<R: Read>(alloc: Global, reader: &mut R) -> Result<Vec<u8>, Strea
     }
 }
 
-/// Writes a whole text, and flushes the writer. Where a write fails or takes nothing, or the flush fails, the fault says
-/// how many of the text's first bytes the writer took.
+/// Writes a whole text, and flushes the writer. If a write fails or takes nothing, or if the flush fails, returns Write
+/// with the number of bytes that the writer took.
 pub fn write_text<W: Write>(writer: &mut W, text: &[u8]) -> Result<(), StreamFault>
     ensures ok { OnOk result (Appends (W.contents writer.old) (W.contents writer.new) text.now) }
     ensures err { IfErr result (λ e. (sent : ℕ) × (e ≡ StreamFault.Write sent) × (sent ≤ length text.now)

@@ -1,5 +1,5 @@
-//! The journal of a run: a line for each drop, by epoch and by number within it. Whoever has the entries writes the head,
-//! and then a line for each of them, so that no entry is copied.
+//! The journal of a run: a line for each drop, by epoch and by number within it. The caller writes the head, then a
+//! line for each entry, so no entry is copied.
 
 ghost use Rattle.std.specs.Prelude.{◌≡◌, ◌++◌, codes, OnOk};
 ghost use Rattle.sand_text.specs.Runs.{journal_line};
@@ -7,7 +7,6 @@ ghost use Rattle.sand_text.specs.Runs.{journal_line};
 use crate::rows::push_row;
 use std::alloc::AllocError;
 
-/// Writes the journal's first line.
 pub fn push_journal_head(text: &mut Vec<u8>) -> Result<(), AllocError>
     ensures { OnOk result (text.new.items ≡ text.old.items ++ codes "journal\n") }
 {

@@ -1,15 +1,15 @@
 //! The laws of a pile's text, as contracts of functions that do nothing.
 //!
-//! **By tokens and by bytes.** A text is read by its tokens, since white space ends a number. Said of the bytes, the first
-//! strange byte is the first that is neither a digit nor white space, except for the letters that are allowed, and where
-//! there is none the numbers are the longest runs of digits.
+//! **Tokens and bytes.** A text is read as tokens separated by white space. In terms of bytes, the first strange byte
+//! is the first that is neither a digit, nor white space, nor an allowed letter; if there is none, the numbers are the
+//! longest runs of digits.
 //!
-//! **Round trip.** What is written of a pile is read as the same pile.
+//! **Round trip.** The written text of a pile is read as the same pile.
 
 ghost use Rattle.sand_text.specs.Laws.{StrangeByte, NumbersAreRuns, ReadAgain};
 
-/// The first strange byte is neither a digit nor white space, and before it only letters `c` are neither. Where there is
-/// none, only letters `c` are neither in the whole text.
+/// The first strange byte is neither a digit nor white space, and all such bytes before it are letters `c`. If there is
+/// none, all such bytes of the text are letters `c`.
 pub fn strange_byte()
     ensures { StrangeByte }
 {}
@@ -19,7 +19,7 @@ pub fn numbers_are_runs()
     ensures { NumbersAreRuns }
 {}
 
-/// What is written of a pile is read as the same pile.
+/// The written text of a pile is read as the same pile.
 pub fn read_again()
     ensures { ReadAgain }
 {}

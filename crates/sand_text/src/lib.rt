@@ -1,4 +1,4 @@
-//! Piles, drops, tables and the runs of the laboratory as text, and the loops that read and write texts.
+//! Piles, drops, tables and runs of the laboratory as text, and the loops that read and write texts.
 #![tactic(auto)]
 
 mod blocks;

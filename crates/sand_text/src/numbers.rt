@@ -1,4 +1,4 @@
-//! The numbers of a text, one after another.
+//! The numbers of a text, in order.
 
 ghost use Rattle.std.specs.Prelude.{◌≡◌, ◌+◌, ◌≤◌, length, take, drop, IfOk, OnOk};
 ghost use Rattle.std.specs.Iterator.{item_count, YieldsFirst};
@@ -8,7 +8,7 @@ ghost use Rattle.sand_text.specs.Left.{numbers_left};
 use crate::tokens::{Token, Tokens};
 use std::alloc::{AllocError, Global};
 
-/// The values of those tokens that are numbers.
+/// The values of the tokens that are numbers.
 #[derive(Clone, Copy)]
 pub(crate) struct Numbers<'a> {
     tokens: Tokens<'a>,
@@ -23,7 +23,7 @@ impl<'a> Numbers<'a> {
         }
     }
 
-    /// The heights of the pile that comes next, behind its sides.
+    /// The heights of the next pile, after its sides.
     pub(crate) fn next_heights(
         &mut self,
         alloc: Global,
@@ -44,7 +44,7 @@ impl<'a> Numbers<'a> {
         Ok(heights)
     }
 
-    /// All numbers that are left, as sites. There are so many.
+    /// All `count` numbers left, as sites.
     pub(crate) fn sites(self, alloc: Global, count: usize) -> Result<Vec<usize>, AllocError>
         requires { length (numbers_left self) ≡ count }
         ensures { IfOk result (λ v. v.items ≡ numbers_left self.entry) }

@@ -1,7 +1,7 @@
 //! The picture of a stable pile, as plain PGM.
 //!
-//! A value of a stable pile is one digit, so 35 of them with a byte behind each are the 70 characters that a line of
-//! plain PGM may have, the line end among them. A grid row begins a new line and takes as many lines as it fills.
+//! A height of a stable pile is one digit, so 35 of them, each followed by one byte, are the 70 characters that a line
+//! of plain PGM may have, line end included. Each grid row starts a new line and takes as many lines as it needs.
 
 ghost use Rattle.std.specs.Prelude.{◌≡◌, ◌++◌, OnOk, IfOk};
 ghost use Rattle.sand_model.specs.Sand.{IsStable};
@@ -15,10 +15,10 @@ use std::alloc::{AllocError, Global};
 /// The most values on a line.
 const LINE_VALUES: usize = 35;
 
-/// The most bytes before the first value, if each side has three digits.
+/// The most bytes before the first value, with sides of three digits.
 const HEAD_BYTES: usize = 13;
 
-// Writes what is before the first value: the magic, the sides, and the greatest value.
+// Writes the magic, the sides and the greatest value.
 fn push_head(text: &mut Vec<u8>, shape: Shape) -> Result<(), AllocError>
     ensures { OnOk result (text.new.items ≡ text.old.items ++ head_text shape) }
 {
@@ -30,7 +30,6 @@ fn push_head(text: &mut Vec<u8>, shape: Shape) -> Result<(), AllocError>
     Ok(())
 }
 
-// Writes the values of a grid row.
 fn push_lines(text: &mut Vec<u8>, row: &[u64]) -> Result<(), AllocError>
     ensures { OnOk result (text.new.items ≡ text.old.items ++ lines_text row.now) }
 {
@@ -40,8 +39,8 @@ fn push_lines(text: &mut Vec<u8>, row: &[u64]) -> Result<(), AllocError>
     Ok(())
 }
 
-/// The picture of a stable pile as plain PGM: a pixel for each site, black at height 0 and white at 3. The edge of the
-/// grid does not show.
+/// The picture of a stable pile as plain PGM: a pixel for each site, from black (height 0) to white (height 3). The
+/// edge of the grid is not shown.
 pub fn pgm_text(alloc: Global, pile: &Pile) -> Result<Vec<u8>, AllocError>
     requires { IsStable pile.now.grid (height_of pile.now) }
     ensures { IfOk result (λ text. text.items ≡ pgm_text_of pile.now) }
@@ -49,7 +48,7 @@ pub fn pgm_text(alloc: Global, pile: &Pile) -> Result<Vec<u8>, AllocError>
     let shape = pile.shape();
     let heights = pile.heights();
 
-    // Each value takes two bytes, so the text has all its room from the start.
+    // Each value takes two bytes, so all memory is allocated here.
     let mut text = Vec::with_capacity(alloc, HEAD_BYTES + 2 * heights.len())?;
     push_head(&mut text, shape)?;
     for row in heights.chunks(shape.width()) {

@@ -1,4 +1,4 @@
-//! A pile from its text, the text of a pile, and that of a settled pile.
+//! Reading a pile, and writing a pile or a settled pile.
 
 ghost use Rattle.std.specs.Prelude.{◌≡◌, ◌+◌, ◌≤◌, ◌++◌, length, sum, vec_len, vec_capacity, IsOk, OnOk, IfOk, IfErr};
 ghost use Rattle.sand_model.specs.Grid.{sites};
@@ -15,7 +15,7 @@ use sand_model::{Edge, Pile, Shape};
 use sand_settle::Settled;
 use std::alloc::{AllocError, Global};
 
-// The shape and the grains of the pile that a text holds, if the text has no fault.
+// The shape and the grains of the pile, if the text has no fault.
 fn shape_of(text: &[u8]) -> Result<(Shape, u64), TextFault>
     ensures pile { IfOk result (λ (g, _). pile_of text.now ≡ Ok (record { grid = g; heights = heights_on g text.now })) }
     ensures enough { IfOk result (λ (g, _). 2 + sites g ≤ length (numbers (tokens text.now))) }
@@ -28,7 +28,8 @@ fn shape_of(text: &[u8]) -> Result<(Shape, u64), TextFault>
     Ok((shape, survey.grains))
 }
 
-/// The pile that a text holds, or its first fault. Every fault except out of memory is found before anything grows.
+/// The pile in a text, or the first fault of the text. Every fault except out of memory is found before anything is
+/// allocated.
 pub fn read_pile(alloc: Global, text: &[u8]) -> Result<Pile, ReadFault>
     ensures { Reads result (pile_of text.now) }
 {
@@ -41,7 +42,7 @@ pub fn read_pile(alloc: Global, text: &[u8]) -> Result<Pile, ReadFault>
 pub(crate) fn push_shape(text: &mut Vec<u8>, shape: Shape) -> Result<(), AllocError>
     ensures written { OnOk result (text.new.items ≡ text.old.items ++ shape_text shape) }
 
-    // With room for two numbers and what is behind each it succeeds.
+    // It succeeds if there is room for two numbers and what follows each.
     ensures room { vec_len text.old + 44 ≤ vec_capacity text.old → IsOk result }
     ensures capacity { vec_capacity text.old ≤ vec_capacity text.new }
 {
@@ -85,8 +86,8 @@ pub fn pile_text(alloc: Global, pile: &Pile) -> Result<Vec<u8>, AllocError>
     Ok(text)
 }
 
-/// The text of a settled pile: the pile's text, how often each site toppled, by grid rows, and the grains lost and the
-/// topplings in all.
+/// The text of a settled pile: the pile, how often each site toppled, by grid rows, the grains lost, and the total
+/// topplings.
 pub fn settle_text(alloc: Global, settled: &Settled) -> Result<Vec<u8>, AllocError>
     ensures { IfOk result (λ text. text.items ≡ settle_text_of settled.now) }
 {

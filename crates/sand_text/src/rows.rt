@@ -1,4 +1,4 @@
-//! Writing numbers, and rows of them, at the end of a text.
+//! Appending numbers, and rows of them, to a text.
 
 ghost use Rattle.std.specs.Prelude.{◌≡◌, ◌++◌, ◌+◌, ◌*◌, ◌<◌, ◌≤◌, ◌==◌, length, decimal, vec_len, vec_capacity, IsOk, OnOk, if◌then◌else◌};
 ghost use Rattle.sand_model.specs.Grid.{sites};
@@ -12,7 +12,7 @@ use std::alloc::AllocError;
 pub(crate) fn push_number(text: &mut Vec<u8>, number: u64) -> Result<(), AllocError>
     ensures written { OnOk result (text.new.items ≡ text.old.items ++ decimal number) }
 
-    // With room for a number it succeeds.
+    // It succeeds if there is room for a number.
     ensures room { vec_len text.old + 20 ≤ vec_capacity text.old → IsOk result }
     ensures few { vec_len text.new ≤ vec_len text.old + 20 }
     ensures capacity { vec_capacity text.old ≤ vec_capacity text.new }
@@ -21,7 +21,7 @@ pub(crate) fn push_number(text: &mut Vec<u8>, number: u64) -> Result<(), AllocEr
     text.extend_from_slice(buffer.format(number).as_bytes())
 }
 
-// The byte behind the number at a place of a row.
+// The byte after number `place` of a row of `count` numbers.
 fn separator(place: usize, count: usize) -> u8
     requires { place < count }
     ensures { result ≡ (if place + 1 == count then 10 else 32) }
@@ -29,11 +29,11 @@ fn separator(place: usize, count: usize) -> u8
     if place + 1 == count { b'\n' } else { b' ' }
 }
 
-/// Writes numbers with a space between two, and a line end after the last.
+/// Writes a line of numbers, separated by spaces.
 pub(crate) fn push_row(text: &mut Vec<u8>, numbers: &[u64]) -> Result<(), AllocError>
     ensures written { OnOk result (text.new.items ≡ text.old.items ++ row_text numbers.now) }
 
-    // With room for all numbers and what follows them it succeeds.
+    // It succeeds if there is room for all numbers and a byte after each.
     ensures room { vec_len text.old + 21 * length numbers.now ≤ vec_capacity text.old → IsOk result }
     ensures few { vec_len text.new ≤ vec_len text.old + 21 * length numbers.now }
     ensures capacity { vec_capacity text.old ≤ vec_capacity text.new }
@@ -45,11 +45,11 @@ pub(crate) fn push_row(text: &mut Vec<u8>, numbers: &[u64]) -> Result<(), AllocE
     Ok(())
 }
 
-/// Writes a line that names a sum.
+/// Writes a line with the name and the value of a sum.
 pub fn push_sum(text: &mut Vec<u8>, name: &str, sum: u64) -> Result<(), AllocError>
     ensures written { OnOk result (text.new.items ≡ text.old.items ++ sum_line name.now sum) }
 
-    // With room for the line it succeeds.
+    // It succeeds if there is room for the line.
     ensures room { vec_len text.old + length name.now + 21 ≤ vec_capacity text.old → IsOk result }
     ensures capacity { vec_capacity text.old ≤ vec_capacity text.new }
 {

@@ -1,4 +1,4 @@
-//! What a run of the laboratory came to: the sums of its epochs, the pile that it left, and the odometer.
+//! The text of a run of the laboratory: the sums of its epochs, the last pile, and the odometer.
 
 ghost use Rattle.std.specs.Prelude.{◌≡◌, ◌++◌, length, IfOk, OnOk};
 ghost use Rattle.sand_model.specs.Grid.{sites};
@@ -14,20 +14,19 @@ use std::alloc::{AllocError, Global};
 pub struct Sums {
     pub drops: u64,
     pub topplings: u64,
-    /// The grains that left the pile.
+    /// The grains that fell into the sink.
     pub lost: u64,
     /// The grains on the pile at the end.
     pub grains: u64,
 }
 
-// Writes sums, with a line end after the last.
+// Writes sums as the end of a line.
 fn push_sums(text: &mut Vec<u8>, sums: Sums) -> Result<(), AllocError>
     ensures { OnOk result (text.new.items ≡ text.old.items ++ sums_text sums) }
 {
     push_row(text, &[sums.drops, sums.topplings, sums.lost, sums.grains])
 }
 
-// Writes the line of an epoch.
 fn push_epoch(text: &mut Vec<u8>, epoch: u64, sums: Sums) -> Result<(), AllocError>
     ensures { OnOk result (text.new.items ≡ text.old.items ++ epoch_line epoch sums) }
 {
@@ -36,7 +35,6 @@ fn push_epoch(text: &mut Vec<u8>, epoch: u64, sums: Sums) -> Result<(), AllocErr
     push_sums(text, sums)
 }
 
-// Writes the lines of all epochs.
 fn push_epochs(text: &mut Vec<u8>, epochs: &[Sums]) -> Result<(), AllocError>
     ensures { OnOk result (text.new.items ≡ text.old.items ++ lines_from epoch_line 0 epochs.now) }
 {
@@ -46,7 +44,6 @@ fn push_epochs(text: &mut Vec<u8>, epochs: &[Sums]) -> Result<(), AllocError>
     Ok(())
 }
 
-// Writes the line of a whole run.
 fn push_total(text: &mut Vec<u8>, total: Sums) -> Result<(), AllocError>
     ensures { OnOk result (text.new.items ≡ text.old.items ++ total_line total) }
 {
@@ -54,8 +51,8 @@ fn push_total(text: &mut Vec<u8>, total: Sums) -> Result<(), AllocError>
     push_sums(text, total)
 }
 
-/// The text of a run: a first line that names the columns, a line of sums for each epoch and one for the whole run, the
-/// pile that is left, and how often each of its sites toppled, by grid rows.
+/// The text of a run: a line that names the columns, a line of sums for each epoch and one for the whole run, the last
+/// pile, and how often each of its sites toppled, by grid rows.
 pub fn lab_text(
     alloc: Global,
     epochs: &[Sums],

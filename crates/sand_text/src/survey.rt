@@ -1,6 +1,6 @@
-//! What the tokens of a text say of a pile: its sides, its edge, the sum of its heights, and where the faults are.
+//! What the tokens of a text say of a pile: its sides, its edge, the sum of its heights, and the places of faults.
 //!
-//! A survey keeps what the faults need and no list, so each fault is found before anything grows.
+//! A survey keeps only what the faults require, and no list. So every fault is found before anything is allocated.
 
 ghost use Rattle.std.specs.Prelude.{◌≡◌, ℕ, ◌+◌, ◌-◌, ◌^◌, List, [], ◌∷◌, Bool, ◌<◌, ◌≤◌, ◌↔◌, ◌==◌, nat_lt, IsTrue, IfOk, IfErr, OnOk, if◌then◌else◌};
 ghost use Rattle.std.specs.Option.{option_or};
@@ -13,7 +13,7 @@ use crate::fault::TextFault;
 use crate::tokens::{Token, Tokens};
 use sand_model::{Edge, GRAIN_LIMIT, SIDE_LIMIT, Shape};
 
-/// What the tokens of a pile's text say so far, if none is strange.
+/// What the tokens of a pile's text say so far, none of them strange.
 #[derive(Clone, Copy)]
 pub(crate) struct Survey {
     /// How many numbers there are.
@@ -22,17 +22,17 @@ pub(crate) struct Survey {
     pub width: u64,
     /// The second number.
     pub height: u64,
-    /// A cylinder where a letter follows the second number.
+    /// A cylinder if a letter follows the second number.
     pub edge: Edge,
     /// The sum of the heights, or one over the grain limit if it is larger.
     pub grains: u64,
-    /// Where the first number begins that is over the limit.
+    /// The place of the first number over the limit.
     pub large: Option<usize>,
-    /// The index of the first drop, among the drops, that is on no site.
+    /// The index of the first drop outside the grid, among the drops.
     pub no_site: Option<usize>,
 }
 
-// Whether so many numbers are the heights that are wanted: no more if the pile is the last in its text.
+// Whether the number of heights is right: `wanted`, or more if the pile is not the last in its text.
 fn is_count(last: bool, count: usize, wanted: usize) -> bool
     ensures { result ≡ is_count last count wanted }
 {
@@ -59,14 +59,14 @@ impl Survey {
         }
     }
 
-    // How many sites the sides make.
+    // The number of sites that the sides make.
     fn sites(&self) -> usize
         ensures { result ≡ sites_of self.now }
     {
         self.width.saturating_mul(self.height) as usize
     }
 
-    // Takes the number at a place behind the sides: a height, or the site of a drop behind the heights.
+    // Takes the number at index `place` after the sides: a height, or the site of a drop.
     fn note_behind(&mut self, place: usize, value: u64)
         ensures { self.new ≡ record self.old {
           grains = grains_with self.old place value;
@@ -81,7 +81,7 @@ impl Survey {
         }
     }
 
-    // Takes a number that begins at a place.
+    // Takes a number whose token starts at `start`.
     fn note(&mut self, start: usize, value: u64)
         requires { self.old.count < 2 ^ 63 }
         ensures count { self.new.count ≡ self.old.count + 1 }
@@ -117,7 +117,7 @@ impl Survey {
         true
     }
 
-    /// Takes a token. Refuses a strange one (Text).
+    /// Takes a token. Returns Text if it is strange.
     pub(crate) fn take(&mut self, token: Token) -> Result<(), TextFault>
         requires { self.old.count < 2 ^ 63 }
         ensures taken { OnOk result ((ws rest : List Token) → IsUnderway ws (token ∷ rest) self.old → IsUnderway ws rest self.new) }
@@ -137,7 +137,7 @@ impl Survey {
         Ok(())
     }
 
-    /// Whether the sides are in range, and a height for each site follows them.
+    /// Whether the sides are in range and followed by a height for each site.
     pub(crate) fn is_full(&self) -> bool
         ensures { IsTrue result ↔ IsFull self.now }
     {
@@ -148,9 +148,9 @@ impl Survey {
             && self.count as u64 == self.width * self.height + 2
     }
 
-    /// The shape of the pile that was surveyed, in a text of so many bytes, or the first of the faults that come behind
-    /// strange bytes and numbers over the limit: fewer than two numbers (Text), Side, Narrow, Length, TooManyGrains.
-    /// Only if the pile is not the last in its text may more numbers follow than it has sites.
+    /// The shape of the surveyed pile, in a text of `end` bytes, or the first fault other than a strange byte or a
+    /// number over the limit: fewer than two numbers (Text), Side, Narrow, Length, TooManyGrains. If the pile is not
+    /// the last in its text, more numbers may follow than it has sites.
     pub(crate) fn shape(&self, last: bool, end: usize) -> Result<Shape, TextFault>
         ensures ok { IfOk result (λ g. (ws rest : List Token) → IsUnderway ws rest self.now → IsEnd last rest self.now → IsShaped last end ws self.now g) }
         ensures err { IfErr result (λ e. (ws rest : List Token) → IsUnderway ws rest self.now → IsEnd last rest self.now
@@ -170,7 +170,7 @@ impl Survey {
     }
 }
 
-// The survey of all tokens of a text, or its first strange byte as the fault.
+// The survey of all tokens of a text. Returns Text at the first strange byte.
 fn survey_of(text: &[u8]) -> Result<Survey, TextFault>
     ensures ok { IfOk result (IsUnderway (tokens text.now) []) }
     ensures err { IfErr result (λ e. plain_tokens (2 ∷ []) text.now ≡ Err e) }
@@ -182,8 +182,8 @@ fn survey_of(text: &[u8]) -> Result<Survey, TextFault>
     Ok(survey)
 }
 
-/// The survey of a text in which no byte is strange and no number over the limit; else the first such byte (Text), or the
-/// first such number (TooLarge).
+/// The survey of a whole text. Returns Text at the first strange byte; else TooLarge at the first number over the
+/// limit.
 pub(crate) fn plain_survey(text: &[u8]) -> Result<Survey, TextFault>
     ensures ok { IfOk result (IsUnderway (tokens text.now) []) }
     ensures plain { IfOk result (λ s. plain_tokens (2 ∷ []) text.now ≡ Ok (tokens text.now)) }

@@ -1,4 +1,4 @@
-//! The table of the avalanches that drops set off.
+//! The table of the avalanches of drops.
 
 ghost use Rattle.std.specs.Prelude.{◌≡◌, ◌++◌, IfOk, OnOk};
 ghost use Rattle.sand_text.specs.Tables.{entry_text, table_head, table_text_of};
@@ -8,7 +8,7 @@ use crate::rows::push_row;
 use sand_settle::Avalanche;
 use std::alloc::{AllocError, Global};
 
-/// The numbers in the line of a drop: its own, and what it set off.
+/// The numbers in the line of a drop: its own, and its avalanche's.
 pub(crate) fn fields_of(number: u64, avalanche: Avalanche) -> [u64; 6]
     ensures { row_text result ≡ entry_text (number, avalanche) }
 {
@@ -29,7 +29,6 @@ pub(crate) fn fields_of(number: u64, avalanche: Avalanche) -> [u64; 6]
     ]
 }
 
-// Writes the line of a drop.
 fn push_entry(text: &mut Vec<u8>, number: u64, avalanche: Avalanche) -> Result<(), AllocError>
     ensures { OnOk result (text.new.items ≡ text.old.items ++ entry_text (number, avalanche)) }
 {
@@ -43,8 +42,7 @@ pub fn table_head() -> &'static [u8]
     b"number site size area reach lost\n"
 }
 
-/// The table of a run of drops: a first line that names the columns, and a line for each drop, with its number and what
-/// it set off.
+/// The table of drops: a line that names the columns, and a line for each drop, with its number and its avalanche.
 pub fn table_text(alloc: Global, rows: &[(u64, Avalanche)]) -> Result<Vec<u8>, AllocError>
     ensures { IfOk result (λ text. text.items ≡ table_text_of rows.now) }
 {

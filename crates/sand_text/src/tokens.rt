@@ -1,4 +1,4 @@
-//! The tokens of a text, one after another. A token's bytes are looked at once.
+//! The tokens of a text, in order. Each byte of a token is read once.
 
 ghost use Rattle.std.specs.Prelude.{◌≡◌, ℕ, ◌+◌, ◌<◌, ◌≤◌, ◌^◌, length, take};
 ghost use Rattle.std.specs.Iterator.{item_count, YieldsFirst};
@@ -8,18 +8,18 @@ ghost use Rattle.sand_text.specs.Tokens.{token_of};
 
 use crate::bytes::{Span, space_len, span_of};
 
-/// What a token of a text is, with its place.
+/// A token of a text, with its place.
 #[derive(Clone, Copy)]
 pub(crate) enum Token {
-    /// Digits alone. A value over the grain limit counts as one over it.
+    /// Digits only. A value over the grain limit counts as one over it.
     Number { start: usize, value: u64 },
-    /// The letter `c` alone.
+    /// A single letter `c`.
     Letter(usize),
-    /// Anything else, with the place of its first byte that is no digit.
+    /// Anything else, with the place of its first byte that is not a digit.
     Strange(usize),
 }
 
-/// The tokens of a text, from a place on at which no token goes on.
+/// The tokens of a text from a place on that is not inside a token.
 #[derive(Clone, Copy)]
 pub(crate) struct Tokens<'a> {
     at: usize,
@@ -27,7 +27,7 @@ pub(crate) struct Tokens<'a> {
     ghost room: { at + length rest.now < 2 ^ 63 },
 }
 
-// What a token at a place is, by its span.
+// The token at a place, by its span.
 #[tactic(auto, unfolding(crate::specs::Tokens::token_of))]
 fn token_at(start: usize, token: &[u8], span: Span) -> Token
     requires len { span.len ≡ length token.now }

@@ -1,8 +1,8 @@
-//! Two piles from one text, one after the other.
+//! Reading two piles, one after the other, from one text.
 //!
-//! One walk over the tokens surveys the first pile until it is full, and then the second. Where the second may have its
-//! letter the tokens before it decide, with one exception: in a text with a number over the limit, wherever that is, it
-//! may have none. So at a letter the text is looked through for such a number.
+//! One pass over the tokens surveys the first pile until it is full, and then the second. The tokens before a letter
+//! decide whether the second pile may have it there, with one exception: in a text with a number over the limit
+//! anywhere, the second pile may have no letter. So at a letter the whole text is searched for such a number.
 
 ghost use Rattle.std.specs.Prelude.{◌≡◌, ◌+◌, ◌≤◌, List, [], ◌∷◌, Bool, length, take, drop, sum, None, IfOk, IfErr};
 ghost use Rattle.sand_model.specs.Grid.{sites};
@@ -22,7 +22,7 @@ use crate::tokens::{Token, Tokens};
 use sand_model::{Pile, Shape};
 use std::alloc::Global;
 
-// The survey of the first pile. The tokens behind it are left.
+// The survey of the first pile. The tokens after the pile are left.
 fn first_survey(tokens: &mut Tokens<'_>) -> Result<Survey, TextFault>
     ensures ok { IfOk result (IsFront (tokens_left tokens.old) (tokens_left tokens.new)) }
     ensures err { IfErr result (λ e. (over : Bool) → IsFirstStrange (2 ∷ second_letter over (numbers (tokens_left tokens.old))) (tokens_left tokens.old) e) }
@@ -37,7 +37,7 @@ fn first_survey(tokens: &mut Tokens<'_>) -> Result<Survey, TextFault>
     Ok(survey)
 }
 
-// The place of a letter that the second pile may not have, since a number of the text is over the limit.
+// The place of a letter that the second pile may not have, because the text has a number over the limit.
 fn barred_at(token: Token, text: &[u8]) -> Option<usize>
     ensures { result ≡ barred_at (has_large text.now) token }
 {
@@ -47,7 +47,7 @@ fn barred_at(token: Token, text: &[u8]) -> Option<usize>
     }
 }
 
-// The survey of the second pile, of which these are all tokens.
+// The survey of the second pile, which has all these tokens.
 fn second_survey(tokens: Tokens<'_>, text: &[u8]) -> Result<Survey, TextFault>
     ensures ok { IfOk result (IsUnderway (tokens_left tokens.entry) []) }
     ensures plain { IfOk result (λ s. first_strange (second_spared text.now) 0 (tokens_left tokens.entry) ≡ None) }
@@ -63,8 +63,8 @@ fn second_survey(tokens: Tokens<'_>, text: &[u8]) -> Result<Survey, TextFault>
     Ok(survey)
 }
 
-// The surveys of the two piles of a text in which no byte is strange and no number over the limit; else the first such byte
-// (Text), or the first such number (TooLarge).
+// The surveys of the two piles of a text. Returns Text at the first strange byte; else TooLarge at the first number
+// over the limit.
 fn two_surveys(text: &[u8]) -> Result<(Survey, Survey), TextFault>
     ensures piles { IfOk result (λ (first, second). (rest : List Token) × IsFront (tokens text.now) rest first × IsUnderway rest [] second) }
     ensures plain { IfOk result (λ _. plain_tokens (two_letters text.now) text.now ≡ Ok (tokens text.now)) }
@@ -79,7 +79,7 @@ fn two_surveys(text: &[u8]) -> Result<(Survey, Survey), TextFault>
     }
 }
 
-// The shapes and the grains of the two piles that a text holds, if the text has no fault.
+// The shapes and the grains of the two piles, if the text has no fault.
 fn shapes_of(text: &[u8]) -> Result<((Shape, u64), (Shape, u64)), TextFault>
     ensures piles { IfOk result (λ ((g, _), (h, _)). two_of text.now ≡ Ok (
       record { grid = g; heights = heights_on g text.now },
@@ -97,8 +97,8 @@ fn shapes_of(text: &[u8]) -> Result<((Shape, u64), (Shape, u64)), TextFault>
     Ok(((first_shape, first.grains), (second_shape, second.grains)))
 }
 
-/// The two piles that a text holds, one after the other, or its first fault. Every fault except out of memory is found before
-/// anything grows.
+/// The two piles in a text, or the first fault of the text. Every fault except out of memory is found before anything
+/// is allocated.
 pub fn read_two(alloc: Global, text: &[u8]) -> Result<(Pile, Pile), ReadFault>
     ensures { ReadsAs (λ piles. piles) result (two_of text.now) }
 {
