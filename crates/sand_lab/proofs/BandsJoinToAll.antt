@@ -43,7 +43,6 @@ band_joined s p q b e le above is =
     ap₂ (λ (f : (Rows × List ℕ)) (g : (ℕ × List Receipt)). record p { left = g.0; seen = max p.seen q.seen; receipts = g.1; rows = f.0; counts = f.1 })
     (ap₂ (λ (r : Rows) (c : List ℕ). (r, c)) rows counts) (ap₂ (λ (l : ℕ) (r : List Receipt). (l, r)) left receipts)
 
--- the next item of a list, after those before it
 pub next_at : {A : Type 0} (ys zs : List A) (x : A) → slice_get (ys ++ x ∷ zs) (length ys) ≡ Some x
 next_at [] zs x = refl
 next_at (y ∷ ys) zs x = next_at ys zs x

@@ -146,7 +146,7 @@ has_read s i o p is has = record {
   climbs = climbs_to 0 p.pass.seen s.terms.quota p.tallies.items has.climbs (omega arith) has.within;
 }
 
--- a crew that had not begun has done its work
+-- what a crew has done
 pub worked : (s : SharedView) (w : Wish) (t : ℕ) (c d : Crew) → IsCrew s w t c → AllZip (HasDropped s w.drops) c.droppers.items d.droppers.items
     → AllZip (HasSwept s w.sweeps) c.workers.items d.workers.items → AllZip (HasWatched s 16) c.observers.items d.observers.items → HasWorked s w t d
 worked s w t c d is dropped swept watched = record {
@@ -158,7 +158,7 @@ worked s w t c d is dropped swept watched = record {
   all_observers = AllZip-long (HasWatched s 16) c.observers.items d.observers.items watched ∙ is.all_observers;
 }
 
--- also after another round of its workers
+-- and after another round of its workers
 pub worked_on : (s : SharedView) (w : Wish) (t turns : ℕ) (c d : Crew) → HasWorked s w t c → AllZip (HasSwept s turns) c.workers.items d.workers.items
     → d.droppers ≡ c.droppers → d.observers ≡ c.observers → HasWorked s w t d
 worked_on s w t turns c d has swept same also = record {

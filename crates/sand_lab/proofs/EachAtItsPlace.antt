@@ -22,12 +22,10 @@ module _ {A : Type 0} where
   each_none P i x e = absurd (none-some x e)
 
 module _ {A : Type 0} where
-  -- what holds at each index holds of all
   pub each_all : (P : ℕ → A → Type 0) (Q : A → Type 0) (xs : List A) → EachAt P xs → ((i : ℕ) (x : A) → P i x → Q x) → All Q xs
   each_all P Q [] h f = All-nil Q
   each_all P Q (x ∷ xs) h f = All-cons Q x xs (f 0 x (h 0 x refl)) (each_all (λ i. P (suc i)) Q xs (λ i y e. h (suc i) y e) (λ i y p. f (suc i) y p))
 
-  -- each element at its index becomes another
   pub each_zip : (P Q : ℕ → A → Type 0) (R : A → A → Type 0) (xs ys : List A) → EachAt P xs → AllZip R xs ys → ((i : ℕ) (x y : A) → P i x → R x y → Q i y) → EachAt Q ys
   each_zip P Q R [] [] h z f i y e = absurd (none-some y e)
   each_zip P Q R [] (y ∷ ys) h z f i v e = absurd z
@@ -36,7 +34,6 @@ module _ {A : Type 0} where
   each_zip P Q R (x ∷ xs) (y ∷ ys) h z f (suc i) v e = each_zip (λ j. P (suc j)) (λ j. Q (suc j)) R xs ys (λ j w g. h (suc j) w g) z.1 (λ j a b p r. f (suc j) a b p r) i v e
 
 module _ {A B : Type 0} where
-  -- what follows for something made of each element
   pub all_map : (P : ℕ → A → Type 0) (Q : B → Type 0) (v : A → B) (xs : List A) → EachAt P xs → ((i : ℕ) (x : A) → P i x → Q (v x)) → All Q (map v xs)
   all_map P Q v [] h f = All-nil Q
   all_map P Q v (x ∷ xs) h f = All-cons Q (v x) (map v xs) (f 0 x (h 0 x refl)) (all_map (λ i. P (suc i)) Q v xs (λ i y e. h (suc i) y e) (λ i y p. f (suc i) y p))

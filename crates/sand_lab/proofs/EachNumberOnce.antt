@@ -1,4 +1,4 @@
--- Receipts whose numbers are all different and below the count of receipts: each number below it occurs exactly once.
+-- If the numbers of receipts are all different and below their count, each number below it occurs exactly once.
 use Rattle.std.proofs.Common.{ℕ, suc, ◌≡◌, ◌<◌, ◌≤◌, List, [], ◌∷◌, map, length, get_or, eqb, Some, refl, sym, ap, ◌∙◌, ⊎_elim, arith}
 use Rattle.std.proofs.lemmas.Bool.{cases_eq, cases_lt}
 use Rattle.std.proofs.lemmas.List.{length-map}
@@ -16,11 +16,9 @@ use Rattle.sand_shared.specs.Passes.{EachOnce, AllBelow}
 use Rattle.sand_shared.proofs.SumsOverPasses.{sum_by-map, sum_by_two}
 use Rattle.sand_shared.proofs.NumbersOnce.{one_if_same, one_if_other}
 
--- the numbers of receipts
 abbrev pub numbers_of : List Receipt → List ℕ
 numbers_of rs = map (λ (r : Receipt). r.number) rs
 
--- counting the receipts with a number is tallying their numbers
 tally-numbers : (rs : List Receipt) (n : ℕ) → tally (numbers_of rs) n ≡ numbered rs n
 tally-numbers rs n = sum_by-map (λ j. one_at j n) (λ (r : Receipt). r.number) rs
 

@@ -48,7 +48,6 @@ total_more start rs p r q t b = record {
   lost = (let push = sum_push (λ x. x.settled.lost) rs r in let both = b.lost in let was = t.lost in omega (arith, both, was, push));
 }
 
--- a report of one epoch
 pub report_first : (album : List ℕ) (w : Wish) (start : PileView) (r : RecordView) (s : SheetView) → IsEpoch album w start 0 r s → IsReportOf album w start 1 (report_of r s)
 report_first album w start r s e = record {
   all = refl;

@@ -8,7 +8,6 @@ use Rattle.sand_settle.specs.Settling.{odometer_of}
 use Rattle.sand_shared.specs.Record.{RecordView, IsOneThreads}
 use Rattle.sand_shared.proofs.RecordSums.{leads_of, grains_left}
 
--- no grain appears from nowhere
 pub settled_grains : (r : RecordView) → IsOneThreads r → sum r.settled.pile.heights ≤ sum r.start.heights + length r.history
 settled_grains r one = let left = grains_left r.start r.history r.settled.pile.heights r.settled.odometer (leads_of r one) in omega arith
 

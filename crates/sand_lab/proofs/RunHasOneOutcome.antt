@@ -71,7 +71,6 @@ alike_more r q rs qs same tallies rest = record {
       let after = rest.tallies i in omega arith;
 }
 
--- the same start, the same settled record and the same number of drops
 one_same : (r q : RecordView) → r.start ≡ q.start → r.settled ≡ q.settled → length r.history ≡ length q.history → one_of r ≡ one_of q
 one_same r q starts same long k = record { settled = same k; number = long k; grains = sum (starts k).heights + long k }
 

@@ -24,7 +24,6 @@ sheets_of album w none start from (r ∷ rs) (s ∷ ss) epochs zero n is l =
     subst (λ m. IsSheet album w m s) here (sheet_of album w start from r s epochs.0)
 sheets_of album w none start from (r ∷ rs) (s ∷ ss) epochs (suc t) n is l = sheets_of album w none r.settled.pile (from + 1) rs ss epochs.1 t n (omega (arith, is)) (omega (arith, l))
 
--- v is w, as the plan holds it
 pub sheets : (album : List ℕ) (v w : Wish) → v ≡ w → (start : PileView) (p : ReportView) → IsReport album v start p → (t : ℕ) → t < w.epochs → IsSheet album w t (sheet_at p t)
 sheets album v w same start p made t l =
     let none : SheetView = record { journal = []; tallies = []; swept = []; place = 0; shown = None } in

@@ -8,7 +8,6 @@ use Rattle.sand_lab.specs.declared.journal.Entry.{Entry}
 use Rattle.sand_lab.specs.Journals.{entry, sites_by, Ascends}
 use Rattle.sand_lab.proofs.EachNumberOnce.{HasNumber}
 
--- the sites of receipts
 abbrev pub sites_of : List Receipt → List ℕ
 sites_of rs = map (λ (r : Receipt). r.site) rs
 

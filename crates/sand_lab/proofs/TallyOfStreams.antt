@@ -24,7 +24,6 @@ of_dropper k js = filter (λ (e : Entry). eqb e.dropper k) js
 abbrev pub of_first : ℕ → List Entry → List Entry
 of_first n js = filter (λ (e : Entry). ltb e.dropper n) js
 
--- one more entry in a sum over those kept
 sum_by-kept : (w : Entry → ℕ) (passes : Bool) (e : Entry) (js : List Entry) → sum_by w (cond passes (e ∷ js) js) ≡ w e * cond passes 1 0 + sum_by w js
 sum_by-kept w true e js = let both = sum_by-cons w e js in omega arith
 sum_by-kept w false e js = omega arith

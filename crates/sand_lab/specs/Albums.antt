@@ -4,7 +4,6 @@ use Rattle.std.specs.declared.alloc.Global.{Global}
 use Rattle.once_cell.specs.Once.{cell_name}
 use Rattle.sand_shared.specs.Record.{RecordView}
 
--- the names of cells
 abbrev pub names_of : List (Global × ℕ) → List ℕ
 names_of cells = map cell_name cells
 

@@ -29,8 +29,7 @@ tallies_each = 16
 abbrev pub band : ℕ → ℕ → ℕ → Rows
 band height workers j = rows_between (j * height / workers) ((j + 1) * height / workers)
 
--- a lower bound on the topplings of these rows from these heights: 4 grains at a time, without what is delivered to
--- them
+-- a lower bound on the topplings of these rows from these heights: 4 grains at a time, without deliveries
 abbrev pub due : PileView → Rows → ℕ
 due p rows = sum_by (λ h. h / 4) (take (count_of rows * p.grid.width) (drop (rows.first * p.grid.width) p.heights))
 
@@ -40,7 +39,7 @@ due p rows = sum_by (λ h. h / 4) (take (count_of rows * p.grid.width) (drop (ro
 abbrev pub rowless : SharedView → ℕ → PassView
 rowless s quota = record { table = s.table; grid = grid_of_terms s.terms; left = quota; seen = 0; receipts = []; rows = no_rows; counts = [] }
 
--- a pass with a quota and the rows above `end`, in which nothing has toppled
+-- a pass with a quota and the rows above `end`, none of them toppled
 abbrev pub upper_part : SharedView → ℕ → ℕ → PassView
 upper_part s quota end = record (rowless s quota) { rows = record { first = 0; end = end }; counts = zeros ((grid_of_terms s.terms).width * end) }
 
@@ -48,7 +47,7 @@ upper_part s quota end = record (rowless s quota) { rows = record { first = 0; e
 abbrev pub unshared : SharedView → ℕ → PassView
 unshared s quota = upper_part s quota (grid_of_terms s.terms).height
 
--- a pass with rows in which nothing has toppled, and no quota
+-- a pass with rows, none of them toppled, and no quota
 abbrev pub banded : SharedView → Rows → PassView
 banded s rows = record (rowless s 0) { rows = rows; counts = zeros (count_of rows * (grid_of_terms s.terms).width) }
 

@@ -34,11 +34,9 @@ all_receipts droppers = flat_map (λ (d : Dropper). d.pass.receipts) droppers
 abbrev pub all_counts : List Worker → List ℕ
 all_counts workers = flat_map (λ (x : Worker). x.pass.counts) workers
 
--- what the workers swept
 abbrev pub all_swept : List Worker → List ℕ
 all_swept workers = map (λ (x : Worker). x.swept) workers
 
--- what the observers read
 abbrev pub readings : List Observer → List (List ℕ)
 readings observers = map (λ (o : Observer). o.tallies.items) observers
 

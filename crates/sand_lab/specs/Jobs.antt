@@ -14,7 +14,6 @@ use Rattle.sand_lab.specs.declared.observers.Observer.{Observer}
 
 -- Droppers
 
--- the sites of receipts
 abbrev pub dropped_at : List Receipt → List ℕ
 dropped_at receipts = map (λ (r : Receipt). r.site) receipts
 
@@ -62,8 +61,8 @@ pub record CanSweep (s : SharedView) (w : Worker) : Type 0 where
   pub of_pile : IsPassOf s w.pass
   pub swept : w.swept ≡ sum w.pass.counts
 
--- it has swept its rows; if at least once, each site has toppled at least k div 4 times, for the k of the worker's own
--- grains there
+-- it has swept its rows; if at least once, each site has toppled at least k div 4 times (k as in `Sweeps` of
+-- sand_shared)
 pub record HasSwept (s : SharedView) (turns : ℕ) (w x : Worker) : Type 0 where
   pub who : x.who ≡ w.who
   pub can : CanSweep s x

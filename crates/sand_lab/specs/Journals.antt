@@ -10,7 +10,6 @@ use Rattle.sand_lab.specs.Streams.{stream_of, stream_sites}
 abbrev pub entry : ℕ → ℕ → Entry
 entry dropper site = record { dropper = dropper; site = site }
 
--- the sites of a journal
 abbrev pub sites_in : List Entry → List ℕ
 sites_in journal = map (λ e. e.site) journal
 
@@ -26,7 +25,6 @@ Ascends receipts = AllPairs (λ r s. r.number < s.number) receipts
 abbrev pub lists : List (Vec Receipt Global) → List (List Receipt)
 lists parts = map (λ part. part.items) parts
 
--- the parts one after another
 abbrev pub joined : List (List Receipt) → List Receipt
 joined parts = flat_map (λ (part : List Receipt). part) parts
 

@@ -1,8 +1,8 @@
-//! An album has a place for the picture of each epoch, which is set once. By notes, readers agree on what they saw.
+//! An album: a place for the picture of each epoch, set once, and notes by which readers agree on what they saw.
 //!
 //! A look at a place finds no picture, or the only one that it will ever hold. A note records what its holder has seen
-//! of a place: once it knows a picture, every look with it finds that one, and any two notes of a place that know a
-//! picture know the same one.
+//! of a place: once it knows a picture, every look with it finds that one. Any two notes of a place that know a picture
+//! know the same one.
 
 ghost use Rattle.std.specs.Prelude.{◌≡◌, ℕ, ◌+◌, ◌<◌, ◌^◌, ◌⊎◌, List, length, vec_len, IfOk, IfErr, IfSome, IsOkUnless, MatchOption, alloc_error};
 ghost use Rattle.std.specs.declared.option.Option.TheVariants.{None, Some};
@@ -72,7 +72,7 @@ impl Model for Album {
 }
 
 impl Album {
-    /// An album with an empty place for each epoch. Returns Memory if an allocation fails; there is no other error.
+    /// An album with an empty place for each epoch. The only error is Memory.
     pub fn new(alloc: Global, epochs: u32) -> Result<Album, LabFault>
         ensures places { IfOk result (λ a. length a ≡ epochs) }
         ensures memory { IsOkUnless result (LabFault.Memory alloc_error) }

@@ -66,7 +66,6 @@ struct ClosedEpoch {
     findings: Findings,
 }
 
-// The number of drops of an epoch.
 pub(crate) fn quota_of(wish: Wish) -> u64
     ensures { result ≡ quota_of wish }
 {

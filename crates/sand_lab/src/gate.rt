@@ -11,11 +11,10 @@ pub enum Role {
     Observer,
 }
 
-/// Called before each drop, each tally of an observer, and each sweep, except in the rounds after the droppers have
-/// ended. It may hold the calling thread. It does not change the pile.
+/// A hook that is called before each drop, each tally of an observer, and each sweep, except in the rounds after the
+/// droppers have ended. It may hold the calling thread. It does not change the pile.
 pub trait Gate: Sync {
-    /// Called before a drop, a sweep or a tally. `who` is the thread's number within its role; `turn` counts from 0 in
-    /// each epoch.
+    /// `who` is the thread's number within its role; `turn` counts from 0 in each epoch.
     fn turn(&self, role: Role, who: u32, turn: u32);
 
     /// Whether `turn` may wait, or look at what drops have done. If so, each drop is made before the gate is called for

@@ -165,7 +165,7 @@ fn gather_observers(
 
 impl Crew {
     /// Joins all passes of the crew to the first one. Returns the receipts of each dropper, and what the workers and
-    /// the observers found. Returns Memory if an allocation fails; there is no other error.
+    /// the observers found. The only error is Memory.
     pub(crate) fn gather(
         self,
         alloc: Global,

@@ -174,8 +174,8 @@ fn hire_observers(
 }
 
 impl Crew {
-    /// A crew for one epoch of a plan, which takes the whole quota and all rows of the first pass. Returns Memory if an
-    /// allocation fails; there is no other error.
+    /// A crew for one epoch of a plan, which takes the whole quota and all rows of the first pass. The only error is
+    /// Memory.
     pub(crate) fn hire(
         alloc: Global,
         pile: &SharedPile,

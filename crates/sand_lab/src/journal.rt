@@ -1,5 +1,4 @@
-//! The journal of an epoch: which dropper made each drop, and where, by the number of the drop. Its sites are the
-//! history.
+//! The journal of an epoch: which dropper made each drop, and where, by drop number. Its sites are the history.
 
 ghost use Rattle.std.specs.Prelude.{◌≡◌, ◌≤◌, [], length, vec_len, vec_capacity, IfOk, IfErr};
 ghost use Rattle.sand_shared.specs.Passes.{AllBelow};
@@ -17,7 +16,7 @@ pub struct Entry {
     pub site: usize,
 }
 
-/// A blank journal with `drops` entries. Returns Memory if the allocation fails; there is no other error.
+/// A blank journal with `drops` entries. The only error is Memory.
 pub(crate) fn blank_journal(alloc: Global, drops: u64) -> Result<Vec<Entry>, LabFault>
     ensures long { IfOk result (λ v. vec_len v ≡ drops) }
     ensures memory { IfErr result IsMemory }
@@ -30,7 +29,6 @@ pub(crate) fn blank_journal(alloc: Global, drops: u64) -> Result<Vec<Entry>, Lab
     Ok(journal)
 }
 
-// Writes the entries of one dropper's drops.
 fn write_part(journal: &mut Vec<Entry>, dropper: u32, receipts: &[Receipt])
     requires ascends { Ascends receipts.now }
     requires below { AllBelow (vec_len journal.old) receipts.now }
@@ -56,8 +54,8 @@ pub(crate) fn write_journal(journal: &mut Vec<Entry>, parts: &[Vec<Receipt>], _d
     }
 }
 
-/// A list with room for a history of `drops` drops, in memory that the system has already provided. Returns Memory if
-/// the allocation fails; there is no other error.
+/// A list with room for a history of `drops` drops, in memory that the system has already provided. The only error is
+/// Memory.
 pub(crate) fn blank_history(alloc: Global, drops: u64) -> Result<Vec<usize>, LabFault>
     ensures empty { IfOk result (λ v. v.items ≡ []) }
     ensures room { IfOk result (λ v. drops ≤ vec_capacity v) }

@@ -67,7 +67,7 @@ impl Report {
         sheet.findings.tallies[observer as usize].as_slice()
     }
 
-    /// The total of the topplings that a worker's sweeps returned in an epoch.
+    /// How many topplings a worker's sweeps returned in an epoch.
     pub fn swept(&self, epoch: u32, worker: u32) -> u64
         requires epoch { epoch < length self.now.sheets }
         requires worker { worker < length (sheet_at self.now epoch).swept }
@@ -113,8 +113,7 @@ fn append(alloc: Global, total: &mut Record, next: &Record) -> Result<(), LabFau
 }
 
 impl Report {
-    /// The report of the first of `epochs` epochs; its record is also the total. Returns Memory if an allocation fails;
-    /// there is no other error.
+    /// The report of the first of `epochs` epochs; its record is also the total. The only error is Memory.
     pub(crate) fn of(
         alloc: Global,
         epochs: u32,
@@ -138,8 +137,8 @@ impl Report {
         })
     }
 
-    /// Adds an epoch that starts from the pile of the total, which grows in place. Returns Memory if an allocation
-    /// fails; there is no other error, and the report is then unchanged.
+    /// Adds an epoch that starts from the pile of the total, which grows in place. The only error is Memory; the report
+    /// is then unchanged.
     pub(crate) fn add(
         &mut self,
         alloc: Global,

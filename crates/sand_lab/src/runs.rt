@@ -45,8 +45,7 @@ fn run_all<R: Threads + Sync, G: Gate>(
 
 /// Runs a plan from a start. In each epoch droppers drop at the sites of their streams, workers sweep their bands and
 /// observers read the tally, all on one shared pile. Then the pile is settled, and its record is published at the
-/// epoch's place in the album. The gate is called before each drop, each tally and each sweep, except in the rounds
-/// after the droppers have ended.
+/// epoch's place in the album. `Gate` says when the gate is called.
 ///
 /// The piles, odometers, topplings and grains lost are a function of the start and of the plan's seed, droppers, drops
 /// and epochs alone (`laws::one_outcome`). The histories, the journals, the tallies and what the workers swept also

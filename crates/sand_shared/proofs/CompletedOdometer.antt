@@ -1,5 +1,4 @@
--- Settling the rest: the counts of a whole pass plus the odometer of the rest are the least odometer of the start and
--- all drops.
+-- The counts of a whole pass plus the odometer of the settled rest are the least odometer of the start and all drops.
 use Rattle.std.proofs.Common.{◌≡◌, ℕ, zero, suc, ◌+◌, ◌-◌, ◌*◌, ◌^◌, ◌<◌, ◌≤◌, List, [], All, length, sum, sym, refl, ap, ◌∙◌, subst, ⊎_elim, arith}
 use Rattle.std.specs.Prelude.{slice_index}
 use Rattle.std.proofs.lemmas.Bool.{cases_eq}

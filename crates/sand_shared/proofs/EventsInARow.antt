@@ -1,5 +1,4 @@
--- Events in a row, in one step: draws, and places on one site. When they can happen, where they lead, and what they
--- tell.
+-- Several events in one step, draws or places on one site: when they can happen, where they lead, what they tell.
 use Rattle.std.proofs.Common.{◌≡◌, ℕ, zero, suc, ◌+◌, ◌-◌, ◌*◌, ◌/◌, ◌%◌, ◌^◌, ◌<◌, ◌≤◌, List, [], ◌∷◌, ◌++◌, drop, length, get_or, sym, refl, ap, ◌∙◌, subst, arith, length-append}
 use Rattle.std.specs.Prelude.{slice_index, All, count_by}
 use Rattle.std.proofs.lemmas.List.{append_assoc, append-nil, set-set, length-set, length-map, length-replicate, get_or-set_same}
@@ -57,7 +56,6 @@ mod_plus n k m =
     let parts = mod-add-div' n m in
     sym (add-mul-mod_self_right (n % m + k) (n / m) m) ∙ ap (λ z. z % m) {x = n % m + k + n / m * m} {y = n + k} (omega arith)
 
--- two steps on one word
 stepped_twice : (s : State ℕ View) (word x y a : ℕ) (v w : View) → stepped_to (stepped_to s word x a v) word y a w ≡ stepped_to s word y a w
 stepped_twice s word x y a v w = λ q. record { words = set-set s.words word x y q; homes = s.homes; views = set-set s.views a v w q }
 
@@ -102,7 +100,6 @@ takes_row t a word k e es slots m fits one ones long can s h _ at inside =
 
 -- Draws in a row
 
--- a draw and then further draws
 drew_more : (v : View) (n i : ℕ) (is : List ℕ) → drew_all (drew v n i) (n + 1) is ≡ drew_all v n (i ∷ is)
 drew_more v n i is =
     let left : v.left - 1 - length is ≡ v.left - suc (length is) = omega arith in
@@ -215,7 +212,6 @@ module _ (t : Terms) (a i : ℕ) where
 pub happened_picked_row : {t t' : Terms} {b a : ℕ} {ds is : List Event} {v w : View} {n : ℕ} → (t' ≡ t) × (b ≡ a) × (ds ≡ is) → HappenedInARow t' b ds v n w → HappenedInARow t a is v n w
 happened_picked_row {v = v} {w = w} {n = n} same = subst (λ (z : Terms × ℕ × List Event). HappenedInARow z.0 z.1 z.2 v n w) (λ i. (same.0 i, same.1 i, same.2 i))
 
--- what consecutive draws tell
 found_draws : (p : OpenPile) (a : ℕ) (is : List ℕ) → 0 < length is → found_first p (all_draws a is) ≡ length p.drawn
 found_draws p a [] some_drops = absurd (omega arith)
 found_draws p a (i ∷ is) some_drops = refl
@@ -261,10 +257,8 @@ once_row m n (i ∷ is) rs le below once =
     subst EachOnce (append_assoc rs (receipt n i ∷ []) (receipts_from (n + 1) is))
     (once_row (n + 1) (n + 1) is (rs ++ receipt n i ∷ []) (omega arith) (below_push m n i rs le below) (once_more m n i rs le below once))
 
--- one more receipt is written
 pub note_more : (rs : List Receipt) (n i : ℕ) (is : List ℕ) → (rs ++ receipt n i ∷ []) ++ receipts_from (n + 1) is ≡ rs ++ receipts_from n (i ∷ is)
 note_more rs n i is = append_assoc rs (receipt n i ∷ []) (receipts_from (n + 1) is)
 
--- the tail of a list from a place on begins with the entry there
 pub from_here : (is : List ℕ) (k : ℕ) → k < length is → drop k is ≡ get_or is k 0 ∷ drop (k + 1) is
 from_here is k inside = drop-cons is k 0 inside ∙ ap (λ n. get_or is k 0 ∷ drop n is) {x = suc k} {y = k + 1} (omega arith)

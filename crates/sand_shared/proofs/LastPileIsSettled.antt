@@ -27,7 +27,6 @@ use Rattle.sand_shared.proofs.RecordSums.{LeadsTo}
 use Rattle.sand_shared.proofs.WholeHasAll.{whole_base, whole_counts, swept_has_all}
 
 module _ (t : Terms) (a : ℕ) (v : View) (s : Stands t a v) (all : HasAll t v) where
-  -- the same on its open pile
   pub has_all : HasAll t (pass_at s.pile a)
   has_all = subst (HasAll t) (sym s.pass) all
 

@@ -1,5 +1,4 @@
--- The pile stays lawful if a pass neither drops nor topples, as when it reads the number of drops or the height of a
--- site of its rows.
+-- The pile stays lawful if a pass neither drops nor topples, but reads the number of drops or the height of a site.
 use Rattle.std.proofs.Common.{◌≡◌, ℕ, ◌+◌, ◌<◌, ◌≤◌, List, true, length, refl, ◌∙◌, arith}
 use Rattle.std.proofs.lemmas.List.Sums.{sum_by-set}
 use Rattle.sand_model.specs.Grid.{sites}

@@ -43,7 +43,6 @@ all_keep t p (e ∷ es) terms r happen = all_keep t (after t p e) es terms (even
 pub always_lawful : (t : Terms) (events : List Event) → AreTerms t → AllHappen t (unopened t) (begin ∷ events) → IsLawful t (after_all t (unopened t) (begin ∷ events))
 always_lawful t events terms happen = all_keep t (after t (unopened t) begin) events terms (begun t) happen.1
 
--- one more event
 pub after_all-push : (t : Terms) (p : OpenPile) (es : List Event) (e : Event) → after_all t p (es ++ e ∷ []) ≡ after t (after_all t p es) e
 after_all-push t p [] e = refl
 after_all-push t p (x ∷ xs) e = after_all-push t (after t p x) xs e

@@ -28,7 +28,6 @@ within_limit t a v s =
     let same_made = ap (λ (u : View). length u.receipts) s.pass in omega arith
 
 module _ (p q : PassView) {seat seat' : Seat ℕ View} {room room' : ℕ} (inv : IsPass seat p room) (inv' : IsPass seat' q room') (same : q.grid ≡ p.grid) where
-  -- the joined view
   pub joined_view : joined seat.me.0 seat'.me.0 ≡ at_rest (together p q)
   joined_view =
       (λ i. joined (inv.me i).0 (inv'.me i).0)

@@ -43,7 +43,6 @@ told_more rs j d history there once inside before k up =
     (λ (ne : k ≡ j → ⊥). get_set_else history q.number (get_or rs k d).number q.site (apart rs j k d once there (omega arith) ne) ∙ before k (omega arith))
     (cases_eq k j)
 
--- some receipt has the number
 found : (rs : List Receipt) (n : ℕ) (d : Receipt) → 0 < numbered rs n → (k : ℕ) × (k < length rs) × ((get_or rs k d).number ≡ n)
 found [] n d some = absurd (omega arith)
 found (r ∷ rs) n d some =
@@ -55,7 +54,6 @@ found (r ∷ rs) n d some =
 one_below : (n m : ℕ) → n < m → one_if (nat_lt n m) ≡ 1
 one_below n m l = let t : ltb n m ≡ true = lt-ltb n m l in rw t
 
--- lists that agree at each index are equal
 same_lists : (l m : List ℕ) → length l ≡ length m → ((i : ℕ) → i < length l → slice_get l i ≡ slice_get m i) → l ≡ m
 same_lists [] [] e each = refl
 same_lists [] (y ∷ ys) e each = absurd (omega arith)

@@ -127,8 +127,7 @@ are_added r q one next joint mine theirs sums mine_is theirs_is long each = reco
       let b = ap (λ (l : List ℕ). slice_index l i) theirs_is in omega arith);
 }
 
--- the second record starts from the pile of the first: settling in two parts is settling at once, and the odometers add
--- up
+-- the second record starts from the pile of the first: settling in two parts is settling at once
 module _ (r q : RecordView) (one : IsOneThreads r) (next : IsOneThreads q) (joint : q.start ≡ r.settled.pile) (limit : sum r.start.heights + (length r.history + length q.history) ≤ most_grains) (sums : List ℕ) (added : AreAdded r q sums) where
   pub same_grid : q.start.grid ≡ r.start.grid
   same_grid = ap (λ (p : PileView). p.grid) joint ∙ one.one.settled.grid

@@ -54,7 +54,6 @@ rows_after g r s rows more near =
 next_or_none : (r s : Rows) → rows_follow r s ≡ true → (s.first ≡ s.end) ⊎ (s.first ≡ r.end)
 next_or_none r s t = ⊎_elim (λ (e : s.first ≡ s.end). inl e) (λ (ne : s.first ≡ s.end → ⊥). inr (grind (arith, nat_tests))) (cases_eq s.first s.end)
 
--- two passes of one grid
 module _ (p q : PassView) (sides : IsGrid p.grid) (same : q.grid ≡ p.grid) (rows : AreRowsOf p.grid p.rows) (rows' : AreRowsOf q.grid q.rows) (each : length p.counts ≡ count_of p.rows * p.grid.width) (each' : length q.counts ≡ count_of q.rows * q.grid.width) where
   others : AreRowsOf p.grid q.rows
   others = subst (λ (g : Grid). AreRowsOf g q.rows) same rows'

@@ -6,7 +6,6 @@ use Rattle.sand_shared.specs.declared.view.View.{View}
 use Rattle.sand_shared.specs.declared.view.Terms.{Terms}
 use Rattle.sand_shared.specs.Sweeps.{LeavesAtMost, LeavesAtLeast, with_counts, TopplesInTurn}
 
--- lists with the same tail
 same_behind : (xs ys : List ℕ) (k : ℕ) → length xs ≡ length ys → ((j : ℕ) → k ≤ j → get_or xs j 0 ≡ get_or ys j 0) → take k xs ++ drop k ys ≡ xs
 same_behind [] [] zero long same = refl
 same_behind [] [] (suc k) long same = refl

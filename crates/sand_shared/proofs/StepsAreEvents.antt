@@ -158,7 +158,6 @@ third xs i = ap (λ k. get_or (0 ∷ 0 ∷ xs) k 0) two
     two : i + 2 ≡ suc (suc i)
     two = omega arith
 
--- the new table
 pub opens : (t : Terms) → AreTerms t → IsRunning t (opening (0 ∷ 0 ∷ t.start.heights) [] (first_pass t))
 opens t terms = record {
   terms = terms;

@@ -79,14 +79,12 @@ module _ {A : Type 0} where
       let here = le 0 (omega arith) in
       let rest = sum_by_beside f g xs i d (omega arith) zero_here (λ j l. le (suc j) (omega arith)) in omega arith
 
-  -- all entries after one changes
   pub all_after : (P Q : A → Type 0) (l : List A) (i : ℕ) (w : A) → Q w → ((x : A) → P x → Q x) → All P l → All Q (set l i w)
   all_after P Q l i w new others was = λ k d inside. let long = length-set l i w in ⊎_elim
       (λ (e : k ≡ i). subst (λ z. Q (get_or (set l i w) z d)) (sym e) (subst Q (sym (get_or-set_same l i w d (omega arith))) new))
       (λ (ne : k ≡ i → ⊥). subst Q (sym (get_or-set_other l i k w d ne)) (others (get_or l k d) (was k d (omega arith))))
       (cases_eq k i)
 
--- what holds at each index holds for each entry
 pub all_at : {A : Type 0} (P : A → Type 0) (l : List A) (d : A) → ((k : ℕ) → k < length l → P (get_or l k d)) → All P l
 all_at P l d each = λ k e inside. subst P (get_or_any l k d e inside) (each k inside)
   where
@@ -102,7 +100,6 @@ sum_by-map f h (x ∷ xs) =
     let a = sum_by-cons f (h x) (map h xs) in
     let b = sum_by-cons (λ y. f (h y)) x xs in omega arith
 
--- a double sum, in both orders
 pub sum_by_swap : {A B : Type 0} (f : A → B → ℕ) (l : List A) (m : List B) → sum_by (λ x. sum_by (f x) m) l ≡ sum_by (λ y. sum_by (λ x. f x y) l) m
 sum_by_swap f [] m = sym (zeros m)
   where

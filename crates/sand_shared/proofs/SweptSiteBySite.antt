@@ -91,7 +91,6 @@ sweeps_more t v cs k topplings times spot least rows inside s left few no_more s
     still : HasAll t v → HasAll t (with_counts v cs)
     still all = record { quota = all.quota; all_sites = λ i l. ap (λ n. leb v.base i && ltb i (v.base + n)) s.same_rows ∙ all.all_sites i l }
 
--- the next site is relieved
 module _ (t : Terms) (v me new : View) (cs : List ℕ) (base k times : ℕ) (from : v.base ≡ base)
     (view : me ≡ record (looked v me.spot me.least) { counts = cs }) (relieved : new ≡ record (looked me (base + k) new.least) { counts = raised me (base + k) times }) where
   new_is : new ≡ record (looked (record (looked v me.spot me.least) { counts = cs }) (v.base + k) new.least) { counts = raised (with_counts v cs) (v.base + k) times }
@@ -113,7 +112,6 @@ module _ (t : Terms) (v me new : View) (cs : List ℕ) (base k times : ℕ) (fro
       (λ all. subst (λ (z : View × ℕ). LeavesAtLeast t z.0 (z.1 + k) (4 * times)) (λ q. (view q, sym from q)) (no_more (still all)))
       (λ all. let s = subst (IsSparing t) new_is (spares (still all)) in record { needed = s.needed; weighed = s.weighed })
 
-  -- it did not topple
   module _ (none : times ≡ 0) where
     kept : set cs k (get_or cs k 0 + times) ≡ cs
     kept = ap (set cs k) {x = get_or cs k 0 + times} {y = get_or cs k 0} (omega arith) ∙ set-get_or cs k 0

@@ -1,5 +1,4 @@
--- The open pile, as plain data: a pile on which passes drop grains and topple sites concurrently, and when it is
--- lawful.
+-- The open pile, as plain data: a pile on which passes drop and topple concurrently, and when it is lawful.
 -- Source: this project's own. Balance and stabilising are those of Dhar 1990 and of chip-firing, in `sand_model`.
 use Rattle.std.specs.Prelude.{ℕ, Bool, true, ◌≡◌, ◌+◌, ◌-◌, ◌<◌, ◌≤◌, ◌==◌, ◌&&◌, nat_lt, nat_le, if◌then◌else◌, Some, List, [], All, length, sum, sum_by, count_by, slice_get, slice_index, slice_index_or}
 use Rattle.sand_model.specs.Grid.{Grid, sites}

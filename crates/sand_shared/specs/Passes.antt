@@ -81,7 +81,7 @@ together p q = record p {
   counts = if rows_follow p.rows q.rows then p.counts ++ q.counts else q.counts ++ p.counts;
 }
 
--- the whole quota, left or as receipts, and all rows
+-- the whole quota, unspent or as receipts, and all rows
 pub record IsWhole (terms : Terms) (p : PassView) : Type 0 where
   pub quota : p.left + length p.receipts ≡ terms.quota
   pub rows : p.rows ≡ record { first = 0; end = (grid_of_terms terms).height }

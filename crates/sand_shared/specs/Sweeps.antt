@@ -39,8 +39,7 @@ pub record IsSparing (t : Terms) (v : View) : Type 0 where
 abbrev pub with_counts : View → List ℕ → View
 with_counts v counts = record v { counts = counts }
 
--- the pass when a sweep that ends with these counts comes to the j-th of its sites: only the sites before it have been
--- swept
+-- the pass when a sweep that ends with these counts comes to its j-th site: only the sites before it are swept
 abbrev pub coming_to : View → List ℕ → ℕ → View
 coming_to v counts j = with_counts v (take j counts ++ drop j v.counts)
 
@@ -60,7 +59,7 @@ pub record Swept (t : Terms) (v : View) (counts : List ℕ) (topplings : ℕ) : 
   -- a pass that has everything topples nothing if and only if nothing was left to topple
   pub calm : HasAll t v → (topplings ≡ 0) ↔ IsCalm t v
   pub sparing : HasAll t v → IsSparing t (with_counts v counts)
-  -- it visits each site once, in turn, and topples it as often as its grains then allow
+  -- such a pass visits each site once, in turn, and topples it as often as its grains then allow
   pub in_turn : HasAll t v → (j : ℕ) → j < length v.counts → TopplesInTurn t v counts j
 
 -- r settles what a whole pass has left to topple: its counts and r's odometer add up to the least odometer of the start

@@ -115,8 +115,8 @@ impl BarePass {
 }
 
 impl SharedPile {
-    /// Joins a bare pass of the same pile to another, as `SharedPile::join` does. The receipts of `other` come after
-    /// those of `pass`.
+    /// Joins two bare passes of one pile, as `SharedPile::join` does. The receipts of `other` come after those of
+    /// `pass`.
     pub fn join_bare(
         &self,
         _alloc: Global,

@@ -23,7 +23,6 @@ use crate::view::{Receipt, Terms};
 use std::alloc::Global;
 
 impl Words {
-    // Sweeps all sites until a sweep topples nothing.
     fn sweep_out(&self, seat: &mut PassSeat, counts: &mut Vec<u64>)
         requires seat { IsSeatAt self.now seat.old }
         requires hand { seat.old.me.0.hand ≡ [] }

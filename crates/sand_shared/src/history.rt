@@ -15,7 +15,6 @@ enum Sites {
     Shared(ArcSlice<usize>),
 }
 
-/// The site of each drop, by its number.
 #[derive(Debug, Drop)]
 pub(crate) struct History {
     sites: Sites,

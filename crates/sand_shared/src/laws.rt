@@ -23,7 +23,7 @@ pub fn words_are_small()
     ensures draws { FewDraws }
 {}
 
-/// What a pass that has everything has determines its sweep: any two sweeps of it topple each site equally often.
+/// Any two sweeps of a pass that has everything topple each site equally often: what the pass has determines its sweep.
 pub fn one_sweep()
     ensures { OneSweep }
 {}

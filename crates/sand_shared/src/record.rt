@@ -165,7 +165,6 @@ impl Record {
         Ok(self.copy_with(alloc, history)?)
     }
 
-    // A copy with the given copy of the history.
     fn copy_with(&self, alloc: Global, history: History) -> Result<Record, AllocError>
         requires copy { history ≡ self.now.history }
         ensures made { IfOk result (λ r. r ≡ self.now) }

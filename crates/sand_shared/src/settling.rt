@@ -1,14 +1,14 @@
 //! Settling a shared pile with a pass that has gathered everything: its heights are read, and one thread settles them.
 //!
-//! No site has toppled in place more often than needed, so the odometer is what has toppled in place plus the odometer
-//! of the rest (`sand_model::laws::settles_after`). All memory is allocated before the shared words are closed.
+//! No site has toppled in place more often than needed, so the odometer is what toppled in place plus the odometer of
+//! the rest (`sand_model::laws::settles_after`). All memory is allocated before the shared words are closed.
 //!
-//! It takes two steps, so that other threads can do other work at the same time: `SharedPile::settle_rest` settles the
-//! rest, and `SharedPile::complete` makes the record from a history that may be written meanwhile.
+//! The two steps leave other threads free: `SharedPile::settle_rest` settles the rest, and `SharedPile::complete` makes
+//! the record from a history that may be written meanwhile.
 //!
 //! `SharedPile::settle` reads each height once and topples in plain memory, as `sand_settle::settle` does: use it if
-//! much is left to topple. `SharedPile::close` topples by whole sweeps over the shared words and allocates only the
-//! record: use it if little is left, or if memory is short.
+//! much is left to topple. `SharedPile::close` sweeps the shared words and allocates only the record: use it if little
+//! is left, or if memory is short.
 
 ghost use Rattle.std.specs.Prelude.{◌≡◌, ℕ, ◌+◌, ◌^◌, ◌<◌, ◌≤◌, ◌↔◌, [], length, sum, slice_index, vec_capacity, IfOk, IfErr, OnOk, IsTrue};
 ghost use Rattle.sand_model.specs.Grid.{sites};
@@ -131,7 +131,7 @@ impl SharedPile {
         }
     }
 
-    // Whether the pass has the whole quota, left or as receipts, and all rows.
+    // Whether the pass has the whole quota, unspent or as receipts, and all rows.
     fn is_all(&self, pass: &BarePass) -> bool
         requires { IsPassOf self.now pass.now }
         ensures { IsTrue result ↔ IsWhole self.now.terms pass.now }

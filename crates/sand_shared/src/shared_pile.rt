@@ -116,7 +116,7 @@ impl SharedPile {
         drops
     }
 
-    /// Whether the pass has the whole quota, left or as receipts, and all rows.
+    /// Whether the pass has the whole quota, unspent or as receipts, and all rows.
     pub fn is_whole(&self, pass: &Pass) -> bool
         requires { IsPassOf self.now pass.now }
         ensures { IsTrue result ↔ IsWhole self.now.terms pass.now }

@@ -1,9 +1,9 @@
 //! Drops in a row: a pass draws numbers for a whole list of grains in one step, and then lays the grains of each site
 //! in one step.
 //!
-//! So threads rarely meet at a word: at the number word once a list, and at a site's word once for all its grains in
-//! the list. Counters by site say how many these are. They start at 0, grow while the list is counted, and return to 0
-//! one by one as the grains are laid, so no scan of the whole grid is needed.
+//! So threads rarely contend for a word: they write the number word once a list, and a site's word once for all its
+//! grains in the list. Counters by site say how many these are. They start at 0, grow while the list is counted, and
+//! return to 0 one by one as the grains are laid, so no scan of the whole grid is needed.
 
 ghost use Rattle.std.specs.Prelude.{◌≡◌, ℕ, ◌+◌, ◌-◌, ◌^◌, ◌<◌, ◌≤◌, ◌↔◌, [], ◌++◌, All, length, slice_index, vec_capacity, IfOk, IsErr, OnErr};
 ghost use Rattle.sand_model.specs.Grid.{sites};

@@ -10,13 +10,13 @@ pub struct Receipt {
     pub site: usize,
 }
 
-/// Grains in hand for one site. Only proofs use it.
+/// Grains in hand for one site. No value of it exists at run time.
 pub struct Grains {
     pub site: usize,
     pub amount: u64,
 }
 
-/// What a pass has and knows. Only proofs use it.
+/// What a pass has and knows. No value of it exists at run time.
 pub struct View {
     /// How many grains it may still drop.
     pub left: u64,

@@ -64,7 +64,6 @@ abbrev number_tokens : ℕ → List ℕ → List Token
 number_tokens at [] = []
 number_tokens at (n ∷ ns) = Number at n ∷ number_tokens (at + length (decimal n) + 1) ns
 
--- the place after these numbers
 abbrev behind : ℕ → List ℕ → ℕ
 behind at [] = at
 behind at (n ∷ ns) = behind (at + length (decimal n) + 1) ns
@@ -129,7 +128,6 @@ abbrev tail_tokens : Edge → ℕ → List ℕ → List Token
 tail_tokens Open at ns = number_tokens at ns
 tail_tokens Cylinder at ns = Letter at ∷ number_tokens (at + 1 + 1) ns
 
--- the tokens of a pile's text
 abbrev pile_tokens : PileView → List Token
 pile_tokens p =
     let second : ℕ = 0 + length (decimal p.grid.width) + 1 in

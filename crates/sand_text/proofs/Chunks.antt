@@ -59,6 +59,5 @@ further f size left after chunk text more whole some step grown begun =
       rest = ap (λ t. t ++ flat_map f (chunks (chunks_rest after) size)) grown ∙ (append_assoc text (f chunk.now) (flat_map f (chunks (chunks_rest after) size)) ∙ (ap (λ t. text ++ t) (sym next) ∙ begun.rest));
     }
 
--- no chunk is left
 pub done : (f : List ℕ → List ℕ) (size : ℕ) (left after : Chunks ℕ) (text whole : List ℕ) → chunks_steps left None after → IsBegun f size left text whole → text ≡ whole
 done f size left after text whole step begun = sym (append-nil text) ∙ (ap (λ t. text ++ t) (sym (chunks-end f size (chunks_rest left) step.1.0)) ∙ begun.rest)

@@ -59,7 +59,6 @@ cut_first at x xs e = rw e refl
 next_cut : (at k : ℕ) (bs : List ℕ) → k < length bs → is_space (get_or bs k 0) ≡ true → tokens_at (at + 1) (drop (k + 1) bs) ≡ tokens_at at (drop k bs)
 next_cut at k bs lt e = sym (ap (λ (r : List ℕ). tokens_at at r) (drop-cons bs k 0 lt) ∙ cut_first at (get_or bs k 0) (drop (suc k) bs) e ∙ ap (λ (n : ℕ). tokens_at (at + 1) (drop n bs)) (sym (add-one k)))
 
--- a token at the front
 abbrev Begins : ℕ → List ℕ → Type 0
 Begins at bs = tokens_at at bs ≡ (token_of at (take (token_len bs) bs) ∷ tokens_at (at + token_len bs) (drop (token_len bs) bs))
 

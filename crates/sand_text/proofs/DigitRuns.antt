@@ -14,11 +14,9 @@ use Rattle.sand_text.specs.Laws.{digit_runs, NumbersAreRuns}
 use Rattle.sand_text.proofs.Cuts.{none_left, token_left, begins}
 use Rattle.sand_text.proofs.StrangeBytes.{gap_len, token_number, token_letter, token_strange}
 
--- the values of runs
 abbrev run_values_of : List (List ℕ) → List ℕ
 run_values_of runs = map (λ run. capped (digits_value 10 run)) runs
 
--- the values of the runs of a text
 abbrev run_values : List ℕ → List ℕ
 run_values bs = map (λ run. capped (digits_value 10 run)) (digit_runs bs)
 

@@ -12,7 +12,6 @@ use Rattle.sand_text.specs.Blocks.{BreaksIn, GrowsBy, Waiting}
 pub stays : (held : Option (List ℕ)) (b : Waiting) → GrowsBy held held b b []
 stays held b = record { gone = []; all = append-nil b.bytes; count = omega arith; written = Appends-nil held }
 
--- one part, then another
 pub grows_on : (held mid held' : Option (List ℕ)) (b c d : Waiting) (p q : List ℕ) → GrowsBy held mid b c p → GrowsBy mid held' c d q → GrowsBy held held' b d (p ++ q)
 grows_on held mid held' b c d p q first next = record {
   gone = first.gone ++ next.gone;

@@ -8,7 +8,6 @@ use Rattle.sand_text.specs.declared.tokens.Token.TheVariants.{Number, Letter, St
 use Rattle.sand_text.specs.Bytes.{is_space}
 use Rattle.sand_text.specs.Tokens.{tokens_from, tokens_at, numbers}
 
--- the number of tokens of these parts
 abbrev count_tokens : ℕ → List (List ℕ) → ℕ
 count_tokens at parts = length (tokens_from at parts)
 

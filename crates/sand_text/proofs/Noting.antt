@@ -13,7 +13,6 @@ use Rattle.sand_text.specs.Bytes.{capped}
 use Rattle.sand_text.specs.Tokens.{numbers}
 use Rattle.sand_text.specs.Surveys.{noted}
 
--- the sum of the heights
 pub sum_push : (room value g : ℕ) (ns : List ℕ) → g ≡ capped (sum (take room ns)) → (if nat_lt (length ns) room then capped (g + value) else g) ≡ capped (sum (take room (ns ++ value ∷ [])))
 sum_push room value g ns h = elim (cases_lt (length ns) room) [
   | inl low ↦
@@ -71,7 +70,6 @@ no_site_push room value a ns h = elim (cases_lt (length ns) room) [
       rw (test, cut, h, ← length-drop room ns) (sym (position_push (nat_le room) (drop room ns) value))
 ]
 
--- the numbers after the sides, with one more
 pub noted-next : (ws : List Token) (k v : ℕ) → 2 ≤ k → k < length (numbers ws) → get_or (numbers ws) k 0 ≡ v → noted (k + 1) ws ≡ noted k ws ++ v ∷ []
 noted-next ws k v le lt is =
     let ns = numbers ws in

@@ -14,18 +14,15 @@ lines_from-more line n (y ∷ ys) x =
     ap (λ t. line n y ++ t) (lines_from-more line (n + 1) ys x ∙ ap (λ k. lines_from line (n + 1) ys ++ line k x) here)
     ∙ sym (append_assoc (line n y) (lines_from line (n + 1) ys) (line (n + length (y ∷ ys)) x))
 
--- the lines of mapped items
 pub lines_from-map : {A B : Type 0} (f : A → B) (line : ℕ → B → List ℕ) (n : ℕ) (xs : List A) → lines_from line n (map f xs) ≡ lines_from (λ k x. line k (f x)) n xs
 unfolding lines_from
 lines_from-map f line n [] = refl
 lines_from-map f line n (x ∷ xs) = ap (λ t. line n (f x) ++ t) (lines_from-map f line (n + 1) xs)
 
--- nothing is written yet
 pub no_line : {A : Type 0} (line : ℕ → A → List ℕ) (xs : List A) (start : List ℕ) → start ≡ start ++ lines_from line 0 (take 0 xs)
 unfolding lines_from
 no_line line xs start = sym (append-nil start)
 
--- the lines of one more item
 lines_from-take : {A : Type 0} (line : ℕ → A → List ℕ) (xs : List A) (k : ℕ) (d : A) → k < length xs → lines_from line 0 (take (k + 1) xs) ≡ lines_from line 0 (take k xs) ++ line k (get_or xs k d)
 lines_from-take line xs k d lt =
     let before : 0 + length (take k xs) ≡ k = omega (arith, length-take k xs) in
@@ -37,7 +34,6 @@ one_line_more line xs k d start text more lt grown so_far =
     let next = lines_from-take line xs k d lt in
     rw (grown, so_far, next) (append_assoc start (lines_from line 0 (take k xs)) (line k (get_or xs k d)))
 
--- every line is written
 pub all_lines : {A : Type 0} (line : ℕ → A → List ℕ) (xs : List A) (k : ℕ) (start text : List ℕ) → length xs ≤ k → text ≡ start ++ lines_from line 0 (take k xs) → text ≡ start ++ lines_from line 0 xs
 all_lines line xs k start text le so_far = so_far ∙ ap (λ ys. start ++ lines_from line 0 ys) (take_all k xs le)
 

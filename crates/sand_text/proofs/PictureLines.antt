@@ -16,7 +16,6 @@ use Rattle.sand_text.specs.Texts.{row_text}
 use Rattle.sand_text.specs.Pictures.{chunks, lines_text, values_text, pgm_text_of, IsShort, NoLongLine}
 use Rattle.sand_text.proofs.Chunks.{chunks-next, chunks-end}
 
--- the lines of a text
 abbrev cut_lines : List ℕ → List (List ℕ)
 cut_lines text = slice_split (λ b. b == 10) text
 
@@ -123,7 +122,6 @@ in_digits b h = grind (arith, nat_tests, h.0, h.1)
 number_plain : (n : ℕ) → n < 2 ^ 64 → All IsPlain (decimal n)
 number_plain n small = λ k d lt. in_digits (get_or (decimal n) k d) (rw (get_or_default (decimal n) k 0 d lt) at (digit_at (decimal n) k (decimal_is_IsNumeral n small).0.1 lt))
 
--- the line of the sides
 sides_line : (w h : ℕ) → w ≤ 256 → h ≤ 256 → IsLines ((decimal w ++ 32 ∷ decimal h) ++ 10 ∷ [])
 sides_line w h wide high =
     let width_len : length (decimal w) ≤ 3 = length-decimal-le 3 w (omega arith) (omega arith) (omega arith) in

@@ -97,6 +97,5 @@ good_drops text s g plain h shaped is =
     let first = sym (no_site_is (tokens text) s g h shaped.room) ∙ is in
     with_drops text s g plain shaped ∙ rw first refl
 
--- the number of drops
 pub drop_count : (end : ℕ) (ws : List Token) (s : Survey) (g : Grid) → IsUnderway ws [] s → IsShaped false end ws s g → length (drop (sites g) (drop 2 (numbers ws))) ≡ s.count - 2 - sites g
 drop_count end ws s g h shaped = omega (arith, count_at_end ws s h, length-drop 2 (numbers ws), length-drop (sites g) (drop 2 (numbers ws)))

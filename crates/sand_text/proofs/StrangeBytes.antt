@@ -40,7 +40,6 @@ no_and : (b : Bool) → (b && false) ≡ false
 no_and true = refl
 no_and false = refl
 
--- neither a digit nor white space is strange
 digit_passes : (b : ℕ) → is_other b ≡ false → is_strange b ≡ true → ⊥
 digit_passes b e s = let none : is_strange b ≡ false = rw e refl in cc
 
@@ -117,7 +116,6 @@ front_token spared n at t ws rest = elim (eqb (digits_len (take (token_len t) t)
   ] refl
 ] refl
 
--- white space is not strange
 only_spaces : (bs : List ℕ) → OnlyLetters bs (position_or_len (λ b. not (is_space b)) bs)
 only_spaces bs = λ k lt s. absurd (space_passes (get_or bs k 0) (fails_before_first (λ b. not (is_space b)) bs k 0 lt) s)
 

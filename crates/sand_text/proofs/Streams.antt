@@ -28,7 +28,6 @@ further a b c xs ys n p q e =
 pub further_kept : (a b c : Option (List ℕ)) (xs : List ℕ) → Consumes a b xs → Keeps b c → IsFurther a c (length xs)
 further_kept a b c xs p q = gave a c xs (Consumes-kept a b c xs p q)
 
--- all bytes of a reader
 pub all_given : (a b c : Option (List ℕ)) (xs ys : List ℕ) → Consumes a b xs → Consumes b c ys → length ys ≡ 0 → IsAtEnd c → GivesAll a c xs
 all_given None b c xs ys p q none end = tt
 all_given (Some all) None c xs ys p q none end = absurd p
@@ -38,7 +37,6 @@ all_given (Some all) (Some rest) (Some left) xs ys p q none end =
     let same : rest ≡ [] = q ∙ (ap (λ l. l ++ left) nothing ∙ end) in
     (sym (p ∙ (ap (λ l. xs ++ l) same ∙ append-nil xs)), ap Some end)
 
--- what holds of every fault holds of this one
 pub any_fault : {T E : Type 0} (r : Result T E) (P : E → Type 0) → ((e : E) → P e) → IfErr r P
 any_fault (Ok x) P h = tt
 any_fault (Err e) P h = h e

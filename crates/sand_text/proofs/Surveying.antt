@@ -80,7 +80,6 @@ noted_step ws rest s t start value h count width height grains no_site = elim (c
 sooner : (n m : ℕ) (more : List ℕ) → n ≤ m → All (λ k. m < k) more → All (λ k. n < k) more
 sooner n m more le later = λ k d lt. omega (arith, later k d lt)
 
--- a number
 pub note_step : (ws rest : List Token) (s t : Survey) (start value : ℕ) → IsUnderway ws (Number start value ∷ rest) s
     → t.count ≡ s.count + 1
     → t.width ≡ (if s.count == 0 then value else s.width)
@@ -165,7 +164,6 @@ strange_letter ws rest s at h not_spared = record {
   bare = λ is_open. sym (h.bare is_open);
 }
 
--- a strange token
 pub strange_token : (ws rest : List Token) (s : Survey) (at : ℕ) → IsUnderway ws (Strange at ∷ rest) s → IsStrangeAt ws s (Text at)
 unfolding first_strange
 strange_token ws rest s at h = record {
@@ -175,10 +173,8 @@ strange_token ws rest s at h = record {
   bare = λ is_open. sym (h.bare is_open);
 }
 
--- the next token of the pass
 pub at_token : (ws rest : List Token) (s : Survey) (w v : Token) → w ≡ v → IsUnderway ws (w ∷ rest) s → IsUnderway ws (v ∷ rest) s
 at_token ws rest s w v e h = let P : Token → Type 0 = λ x. IsUnderway ws (x ∷ rest) s in subst P e h
 
--- the tokens left
 pub at_tokens : (ws left rest : List Token) (s : Survey) → left ≡ rest → IsUnderway ws left s → IsUnderway ws rest s
 at_tokens ws left rest s e h = let P : List Token → Type 0 = λ l. IsUnderway ws l s in subst P e h

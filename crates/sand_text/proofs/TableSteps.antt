@@ -8,7 +8,6 @@ entries_text-next : (es : List (ℕ × Avalanche)) (k : ℕ) (d : ℕ × Avalanc
 unfolding entries_text
 entries_text-next es k d lt = ap entries_text (drop-cons es k d lt) ∙ rw add-one refl
 
--- a text with one more line
 pub one_line : (es : List (ℕ × Avalanche)) (k : ℕ) (d : ℕ × Avalanche) (text more whole : List ℕ) → k < length es → more ≡ text ++ entry_text (get_or es k d) → text ++ entries_text (drop k es) ≡ whole → more ++ entries_text (drop (k + 1) es) ≡ whole
 one_line es k d text more whole lt grown so_far =
     ap (λ t. t ++ entries_text (drop (k + 1) es)) grown ∙ (append_assoc text (entry_text (get_or es k d)) (entries_text (drop (k + 1) es)) ∙ (ap (λ t. text ++ t) (sym (entries_text-next es k d lt)) ∙ so_far))

@@ -2,7 +2,6 @@
 use Rattle.std.proofs.Common.{◌≡◌, ◌<◌, ℕ, suc, ◌+◌, List, [], ◌∷◌, ◌++◌, take, drop, length, get_or, ◌∙◌, ap, arith, sym, length-drop, drop-cons}
 use Rattle.std.proofs.lemmas.List.{take_more}
 
--- the element at an index, and those after it
 pub next_of : (ns rest : List ℕ) (k v : ℕ) → drop k ns ≡ v ∷ rest → (k < length ns) × (get_or ns k 0 ≡ v) × (drop (k + 1) ns ≡ rest)
 next_of ns rest k v e =
     let lt : k < length ns = omega (arith, length-drop k ns, ap length e) in
@@ -11,7 +10,6 @@ next_of ns rest k v e =
     let places : drop (k + 1) ns ≡ drop (suc k) ns = ap (λ n. drop n ns) one in
     (lt, cc, cc)
 
--- k elements taken, and one more
 pub one_more : (ns rest taken more : List ℕ) (k v : ℕ) → drop k ns ≡ v ∷ rest → taken ≡ take k ns → more ≡ taken ++ v ∷ [] → more ≡ take (k + 1) ns
 one_more ns rest taken more k v e so_far grown =
     let next = next_of ns rest k v e in

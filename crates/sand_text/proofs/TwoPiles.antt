@@ -135,7 +135,6 @@ large_in_two text rest first second at h g plain is = rw (handed (has_large text
 pub plain_two : (text : List ℕ) (rest : List Token) (first second : Survey) → IsFront (tokens text) rest first → IsUnderway rest [] second → first_strange (second_spared text) 0 rest ≡ None → option_or first.large second.large ≡ None → plain_tokens (two_letters text) text ≡ Ok (tokens text)
 plain_two text rest first second h g plain is = rw (handed (has_large text) (tokens text) rest first h ∙ plain, large_of_two (tokens text) rest first second h g ∙ is) refl
 
--- the first pile of a text with these tokens
 pub front_tokens : (ws vs rest : List Token) (s : Survey) → ws ≡ vs → IsFront ws rest s → IsFront vs rest s
 front_tokens ws vs rest s e h = let P : List Token → Type 0 = λ l. IsFront l rest s in subst P e h
 

@@ -10,7 +10,6 @@ is_digit b = nat_le 48 b && nat_le b 57
 abbrev pub is_other : ℕ → Bool
 is_other b = not (is_digit b)
 
--- white space
 abbrev pub is_space : ℕ → Bool
 is_space b = (b == 9) || (b == 10) || (b == 13) || (b == 32)
 

@@ -23,8 +23,7 @@ abbrev pub unless_at : {A : Type 0} → Option ℕ → (ℕ → TextFault) → R
 unless_at None fault read = read
 unless_at (Some at) fault read = Err (fault at)
 
--- the tokens of a text without a strange byte or a number over the limit; letters are allowed after these counts of
--- numbers
+-- the tokens of a text without a strange byte or a number over the limit; letters are allowed after `spared` numbers
 abbrev pub plain_tokens : List ℕ → List ℕ → Result (List Token) TextFault
 plain_tokens spared text = let ws = tokens text in unless_at (first_strange spared 0 ws) Text (unless_at (first_large ws) TooLarge (Ok ws))
 

@@ -11,7 +11,6 @@ unfoldable pub entries_text : List (ℕ × Avalanche) → List ℕ
 entries_text [] = []
 entries_text (e ∷ es) = entry_text e ++ entries_text es
 
--- the line that names the columns
 abbrev pub table_head : List ℕ
 table_head = codes "number site size area reach lost\n"
 

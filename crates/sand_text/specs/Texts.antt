@@ -32,7 +32,6 @@ shape_text g = decimal g.width ++ codes " " ++ decimal g.height ++ edge_text g.e
 abbrev pub text_of : PileView → List ℕ
 text_of p = shape_text p.grid ++ sites_text p.grid p.heights
 
--- how often each site toppled
 abbrev pub odometer_text : Grid → List ℕ → List ℕ
 odometer_text g ns = codes "odometer\n" ++ sites_text g ns
 

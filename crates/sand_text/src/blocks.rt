@@ -20,7 +20,7 @@ use std::alloc::{AllocError, Global};
 use std::io::Write;
 use std::marker::Model;
 
-/// The number of waiting bytes from which they are written. The buffer has room for one more part.
+/// Waiting bytes are written once there are this many. The buffer has room for one more part.
 const BLOCK: usize = 65_536;
 
 /// The most bytes of a part: a row of 256 numbers, each with one byte after it.
@@ -54,7 +54,6 @@ impl Blocks {
         Ok(Blocks { waiting, sent: 0 })
     }
 
-    // Writes everything that waits.
     fn send<W: Write>(&mut self, writer: &mut W) -> Result<(), StreamFault>
         ensures ok { OnOk result (GrowsBy (W.contents writer.old) (W.contents writer.new) self.old self.new []) }
         ensures all { OnOk result (self.new.bytes ≡ []) }
@@ -148,7 +147,6 @@ impl Blocks {
         Ok(())
     }
 
-    // Adds the first line of a pile's text.
     fn push_shape<W: Write>(&mut self, writer: &mut W, shape: Shape) -> Result<(), StreamFault>
         ensures ok { OnOk result (GrowsBy (W.contents writer.old) (W.contents writer.new) self.old self.new (shape_text shape)) }
         ensures err { IfErr result (BreaksIn (W.contents writer.old) (W.contents writer.new) self.old (shape_text shape)) }

@@ -29,8 +29,8 @@ fn shape_of(text: &[u8]) -> Result<(Shape, u64, usize), TextFault>
     }
 }
 
-/// The pile in a text and the sites of the drops after it, or the first fault of the text. Every fault except out of
-/// memory is found before anything is allocated.
+/// The pile in a text and the sites of the drops after it, or its first fault. Every fault except out of memory is
+/// found before anything is allocated.
 pub fn read_drops(alloc: Global, text: &[u8]) -> Result<(Pile, Vec<usize>), ReadFault>
     ensures { ReadsAs (λ (pile, drops). (pile, drops.items)) result (drops_of text.now) }
 {

@@ -13,8 +13,7 @@ use std::io::{Read, Write};
 /// The largest number of bytes of an input.
 pub const INPUT_LIMIT: usize = 1_048_576;
 
-/// The largest number of bytes requested from a reader at once. They are on the stack, so a larger value needs more
-/// stack.
+/// The most bytes requested from a reader at once. The buffer for them is on the stack.
 const CHUNK: usize = 4_096;
 
 /// Reads a reader to its end. Returns Read if the reader fails; TooLong if it has more than `INPUT_LIMIT` bytes, after

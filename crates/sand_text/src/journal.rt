@@ -7,6 +7,7 @@ ghost use Rattle.sand_text.specs.Runs.{journal_line};
 use crate::rows::push_row;
 use std::alloc::AllocError;
 
+/// Writes the journal's first line.
 pub fn push_journal_head(text: &mut Vec<u8>) -> Result<(), AllocError>
     ensures { OnOk result (text.new.items ≡ text.old.items ++ codes "journal\n") }
 {

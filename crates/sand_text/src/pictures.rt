@@ -12,13 +12,11 @@ use crate::rows::{push_number, push_row};
 use sand_model::{Pile, Shape};
 use std::alloc::{AllocError, Global};
 
-/// The most values on a line.
 const LINE_VALUES: usize = 35;
 
 /// The most bytes before the first value, with sides of three digits.
 const HEAD_BYTES: usize = 13;
 
-// Writes the magic, the sides and the greatest value.
 fn push_head(text: &mut Vec<u8>, shape: Shape) -> Result<(), AllocError>
     ensures { OnOk result (text.new.items ≡ text.old.items ++ head_text shape) }
 {

@@ -28,8 +28,7 @@ fn shape_of(text: &[u8]) -> Result<(Shape, u64), TextFault>
     Ok((shape, survey.grains))
 }
 
-/// The pile in a text, or the first fault of the text. Every fault except out of memory is found before anything is
-/// allocated.
+/// The pile in a text, or its first fault. Every fault except out of memory is found before anything is allocated.
 pub fn read_pile(alloc: Global, text: &[u8]) -> Result<Pile, ReadFault>
     ensures { Reads result (pile_of text.now) }
 {
@@ -56,7 +55,6 @@ pub(crate) fn push_shape(text: &mut Vec<u8>, shape: Shape) -> Result<(), AllocEr
     Ok(())
 }
 
-/// Writes a pile's text.
 pub(crate) fn push_pile(text: &mut Vec<u8>, pile: &Pile) -> Result<(), AllocError>
     ensures { OnOk result (text.new.items ≡ text.old.items ++ text_of pile.now) }
 {

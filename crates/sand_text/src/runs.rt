@@ -20,7 +20,6 @@ pub struct Sums {
     pub grains: u64,
 }
 
-// Writes sums as the end of a line.
 fn push_sums(text: &mut Vec<u8>, sums: Sums) -> Result<(), AllocError>
     ensures { OnOk result (text.new.items ≡ text.old.items ++ sums_text sums) }
 {

@@ -59,7 +59,6 @@ impl Survey {
         }
     }
 
-    // The number of sites that the sides make.
     fn sites(&self) -> usize
         ensures { result ≡ sites_of self.now }
     {
@@ -170,7 +169,7 @@ impl Survey {
     }
 }
 
-// The survey of all tokens of a text. Returns Text at the first strange byte.
+// The survey of all tokens of a text, or Text at the first strange byte.
 fn survey_of(text: &[u8]) -> Result<Survey, TextFault>
     ensures ok { IfOk result (IsUnderway (tokens text.now) []) }
     ensures err { IfErr result (λ e. plain_tokens (2 ∷ []) text.now ≡ Err e) }
@@ -182,8 +181,7 @@ fn survey_of(text: &[u8]) -> Result<Survey, TextFault>
     Ok(survey)
 }
 
-/// The survey of a whole text. Returns Text at the first strange byte; else TooLarge at the first number over the
-/// limit.
+/// The survey of a whole text; else Text at the first strange byte, else TooLarge at the first number over the limit.
 pub(crate) fn plain_survey(text: &[u8]) -> Result<Survey, TextFault>
     ensures ok { IfOk result (IsUnderway (tokens text.now) []) }
     ensures plain { IfOk result (λ s. plain_tokens (2 ∷ []) text.now ≡ Ok (tokens text.now)) }

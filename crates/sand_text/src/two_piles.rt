@@ -63,8 +63,8 @@ fn second_survey(tokens: Tokens<'_>, text: &[u8]) -> Result<Survey, TextFault>
     Ok(survey)
 }
 
-// The surveys of the two piles of a text. Returns Text at the first strange byte; else TooLarge at the first number
-// over the limit.
+// The surveys of the two piles of a text; else Text at the first strange byte, else TooLarge at the first number over
+// the limit.
 fn two_surveys(text: &[u8]) -> Result<(Survey, Survey), TextFault>
     ensures piles { IfOk result (λ (first, second). (rest : List Token) × IsFront (tokens text.now) rest first × IsUnderway rest [] second) }
     ensures plain { IfOk result (λ _. plain_tokens (two_letters text.now) text.now ≡ Ok (tokens text.now)) }
@@ -97,8 +97,7 @@ fn shapes_of(text: &[u8]) -> Result<((Shape, u64), (Shape, u64)), TextFault>
     Ok(((first_shape, first.grains), (second_shape, second.grains)))
 }
 
-/// The two piles in a text, or the first fault of the text. Every fault except out of memory is found before anything
-/// is allocated.
+/// The two piles in a text, or its first fault. Every fault except out of memory is found before anything is allocated.
 pub fn read_two(alloc: Global, text: &[u8]) -> Result<(Pile, Pile), ReadFault>
     ensures { ReadsAs (λ piles. piles) result (two_of text.now) }
 {

@@ -8,7 +8,6 @@ use Rattle.sand_lab.specs.declared.droppers.Dropper.{Dropper}
 use Rattle.sand_lab.specs.Gathering.{all_receipts, HoldsReceipts}
 use Rattle.sand_lab.proofs.gathering.gather_droppers.Goals as goal
 
--- one more dropper
 more : (ds : List Dropper) (d : Dropper) → all_receipts (ds ++ d ∷ []) ≡ all_receipts ds ++ d.pass.receipts
 more ds d = flat_map-append (λ (x : Dropper). x.pass.receipts) ds (d ∷ []) ∙ ap (λ rs. all_receipts ds ++ rs) (append-nil d.pass.receipts)
 

@@ -16,7 +16,6 @@ nothing_left : {A : Type 0} (xs : List A) → length xs ≡ 0 → xs ≡ []
 nothing_left [] e = refl
 nothing_left (x ∷ xs) e = absurd (omega (arith, e))
 
--- one more worker
 more : (xs : List Worker) (x : Worker) → all_counts (xs ++ x ∷ []) ≡ all_counts xs ++ x.pass.counts
 more xs x = flat_map-append (λ (w : Worker). w.pass.counts) xs (x ∷ []) ∙ ap (λ cs. all_counts xs ++ cs) (append-nil x.pass.counts)
 

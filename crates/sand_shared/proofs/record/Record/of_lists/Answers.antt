@@ -21,7 +21,6 @@ overflow_sub-lost c =
     let drops = c.len.ensures in
     let long = c.args.history.ok.0 in omega arith
 
--- the record made of the lists
 made : (c : After-grains-2) → IsOneThreads (record { start = c.args.start; history = c.args.history.items; settled = record { pile = c.from_vec-pile.result; odometer = c.args.odometer.items; topplings = sum c.args.odometer.items; lost = c.grains.result + c.len.result - c.grains-2.result } })
 made c =
     let start = c.grains.ensures.value in

@@ -38,7 +38,6 @@ invariant_of-pass-in-Err-lay_together c =
       one_each = ap (λ (l : List ℕ). length l) counts ∙ inv.one_each;
     }
 
--- both passes have the pile's grid
 one_grid : (c : After-touch) → c.other.inside.shape ≡ c.pass.inside.shape
 one_grid c =
     let grid = λ (v : PassView). v.grid in

@@ -17,7 +17,6 @@ first c = let p = c.pass.inside in record { table = p.seat.table_id; grid = p.sh
 abbrev second : After-touch → PassView
 second c = let o = c.other.inside in record { table = o.seat.table_id; grid = o.shape; left = o.left; seen = o.seen; receipts = o.seat.me.0.receipts; rows = o.rows; counts = o.counts.items }
 
--- both passes have the pile's grid
 one_grid : (c : After-touch) → c.other.inside.shape ≡ c.pass.inside.shape
 one_grid c =
     let grid = λ (v : PassView). v.grid in

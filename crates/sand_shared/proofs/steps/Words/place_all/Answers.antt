@@ -67,7 +67,6 @@ drops-preserved c =
           })
     ]
 
--- nothing is still to come
 none_waits : (c : After-drops) → Waits (sites (grid_of_terms c.args.self.now.terms)) c.drops.counts.items c.drops.seat.me.0.hand []
 none_waits c =
     let done = c.drops-test.false in

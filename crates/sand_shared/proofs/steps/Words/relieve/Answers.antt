@@ -11,7 +11,6 @@ use Rattle.sand_shared.proofs.PassAfterEvent.{looked_is, unloaded_is}
 use Rattle.sand_shared.proofs.PassKnowsPile.{stands_few, stands_sparing, looked_at_most, looked_at_least, stands_unloaded}
 use Rattle.sand_shared.proofs.steps.Words.relieve.Goals as goal
 
--- the pass after it has unloaded
 unloaded_view : (c : goal.After-deliver_around) → c.unload.new.seat.me.0 ≡ unloaded c.args.self.now.terms (looked c.args.seat.now.me.0 c.args.site c.look-times.result) c.args.site (c.look-times.result / 4)
 unloaded_view c =
     let t = c.args.self.now.terms in

@@ -68,7 +68,6 @@ sites-preserved c =
           (next_swept t v me new cs c.args.base i times base inv.view did.view c.sites.topplings at.0 place inv.swept did.enough did.few did.no_more did.sparing);
     }
 
--- all sites have been swept
 swept_all : (c : After-sites) → let v = c.args.seat.now.me.0 in Sweeps c.args.self.now.terms v c.sites.counts.items (length v.counts) c.sites.topplings
 swept_all c =
     let v = c.args.seat.now.me.0 in
