@@ -1,4 +1,4 @@
--- The first and the last row, told by the number of a site, and the column and the row of the next site.
+-- The first and the last row, by the number of a site, and the column and row of the next site.
 use Rattle.std.proofs.Common.{ℕ, suc, ◌≡◌, ◌+◌, ◌/◌, ◌%◌, ◌<◌, ◌≤◌, refl, sym, arith, add-one, None, ⊎_elim, Bool, true, false, leb, ltb, ◌&&◌}
 use Rattle.std.proofs.lemmas.Bool.{le-ltb, lt-ltb, lt-leb, le-leb, cases_lt}
 use Rattle.std.proofs.lemmas.Nat.{le-div, div_below, div-add-mod'}
@@ -47,7 +47,7 @@ inner_told g i w end x inside width all at_column =
     let told = rows_told g i inside in
     rw (width, all, at_column, told.0, told.1) (and_joined (ltb 0 (row g i)) (ltb (row g i + 1) g.height) (ltb 0 (column g i)) (ltb (column g i + 1) g.width))
 
--- ---- the next site, behind a row's last and elsewhere
+-- ---- the next site, after the end of a row and elsewhere
 
 pub next_row : (w i : ℕ) → i % w + 1 ≡ w → (0 ≡ (i + 1) % w) × (i / w + 1 ≡ (i + 1) / w)
 next_row w i last = (

@@ -1,4 +1,4 @@
--- How many sites a grid has, and what bounds the topplings of a pile: its weight, and so its grains.
+-- The number of sites of a grid, and what bounds the topplings of a pile: its weight, and so its grains.
 use Rattle.std.proofs.Common.{ℕ, zero, suc, ◌≡◌, ◌+◌, ◌-◌, ◌*◌, ◌^◌, ◌<◌, ◌≤◌, ap, arith, ⊎_elim}
 use Rattle.std.proofs.lemmas.Bool.{cases_lt}
 use Rattle.std.proofs.lemmas.Nat.{mul-le, div-add-mod', div_below}
@@ -25,7 +25,6 @@ product_bound a b small =
     (λ (more : b ≤ a). let e : a ≡ b + (a - b) = omega arith in let least = product_ordered b (a - b) (omega arith) in let turned = ap (λ m. m * b) e in let other = ap (λ m. b * m) e in omega arith)
     (cases_lt a b)
 
--- no grain weighs more
 grain_weight_bound : (g : Grid) (i : ℕ) → IsGrid g → i < sites g → grain_weight g i ≤ 16512
 grain_weight_bound g i sides l =
     let pos = some_width g.width g.height i l in
@@ -41,14 +40,13 @@ weight_bound g s sides =
     let scaled = sum_below-scale (sites g) 16512 s in
     omega arith
 
--- topplings are at most half the weight, whether legal or not, as long as no height falls below 0
+-- topplings number at most half the weight, legal or not, if no height ends below 0
 pub topplings_bound : (g : Grid) (s u t : ℕ → ℕ) → IsGrid g → grains g s ≤ most_grains → IsToppled g s u t → topplings g u < 2 ^ 54
 topplings_bound g s u t sides few done =
     let falls = weight_after g s u t done in
     let start = weight_bound g s sides in
     omega arith
 
--- one number is at most the sum of all
 pub at_most_sum_below : (n : ℕ) (f : ℕ → ℕ) (i : ℕ) → i < n → f i ≤ sum_below n f
 unfolding sum_below
 at_most_sum_below zero f i l = absurd (omega arith)
@@ -63,7 +61,7 @@ at_most_all n f few =
     let ones = sum_below-ones n in
     omega arith
 
--- numbers of at most 1, one of which is 0, are fewer than all in sum
+-- if each of n terms is at most 1 and one of them is 0, their sum is below n
 pub fewer_than_all : (n : ℕ) (f : ℕ → ℕ) (j : ℕ) → ((i : ℕ) → i < n → f i ≤ 1) → j < n → f j ≡ 0 → sum_below n f < n
 unfolding sum_below
 fewer_than_all zero f j few l none = absurd (omega arith)

@@ -1,4 +1,5 @@
--- Each pile settles: as long as a site may topple, a toppling lowers the weight, and no odometer passes the least.
+-- Each pile settles: while a site may topple, a toppling lowers the weight, and the counts never exceed the least
+-- odometer.
 use Rattle.std.proofs.Common.{ℕ, zero, suc, true, false, leb, ◌≡◌, ◌+◌, ◌-◌, ◌*◌, ◌<◌, ◌≤◌, ◌⊎◌, inl, inr, refl, ap, arith, ⊎_elim}
 use Rattle.std.proofs.lemmas.Bool.{cases_eq, leb-true, leb-false}
 use Rattle.sand_model.specs.Grid.{Grid, sites}
@@ -48,6 +49,5 @@ settles_from (suc n) g s u t l way =
     (λ (low : (i : ℕ) → i < sites g → t i ≤ 3). (u, t, underway_end g s u t way low))
     (high_site (sites g) t)
 
--- each pile has an odometer and a settled pile
 pub settles : (g : Grid) (s : ℕ → ℕ) → (u : ℕ → ℕ) × (t : ℕ → ℕ) × IsSettled g s u t
 settles g s = settles_from (weight g s) g s (λ i. 0) s (omega arith) (underway_start g s (λ i. 0) (λ i l. refl))

@@ -30,7 +30,6 @@ equivalent_sym g s t same = record {
       omega (arith, ints);
 }
 
--- if s - t and r - q are equivalent to all 0, so is their sum
 pub equivalent_add : (g : Grid) (s t r q : ℕ → ℤ) → IsEquivalent g s t → IsEquivalent g r q → IsEquivalent g (λ i. s i +ℤ r i) (λ i. t i +ℤ q i)
 equivalent_add g s t r q one two = record {
   by_topplings = λ j. one.by_topplings j +ℤ two.by_topplings j;
@@ -41,7 +40,7 @@ equivalent_add g s t r q one two = record {
       omega (arith, ints);
 }
 
--- equivalence is a matter of the difference alone
+-- equivalence depends on the difference alone
 pub equivalent_same : (g : Grid) (s t r q : ℕ → ℤ) → IsEquivalent g s t → ((i : ℕ) → i < sites g → (r i -ℤ q i) ≡ (s i -ℤ t i)) → IsEquivalent g r q
 equivalent_same g s t r q same equal = record {
   by_topplings = same.by_topplings;
@@ -52,7 +51,7 @@ pub equivalent_trans : (g : Grid) (s t r : ℕ → ℤ) → IsEquivalent g s t �
 equivalent_trans g s t r one two =
     equivalent_same g (λ i. s i +ℤ t i) (λ i. t i +ℤ r i) s r (equivalent_add g s t t r one two) (λ i l. omega (arith, ints))
 
--- what is equivalent to all 0 stays so k times
+-- k times a pile that is equivalent to all 0 is equivalent to all 0
 pub equivalent_times : (g : Grid) (d : ℕ → ℕ) (k : ℕ) → IsEquivalent g (λ i. pos (d i)) (λ i. pos 0) → IsEquivalent g (λ i. pos (k * d i)) (λ i. pos 0)
 equivalent_times g d zero none =
     equivalent_same g (λ i. pos (d i)) (λ i. pos (d i)) (λ i. pos (0 * d i)) (λ i. pos 0)

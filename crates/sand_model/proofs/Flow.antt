@@ -1,4 +1,4 @@
--- The sum over a site's neighbours: monotone, additive, and the same on both sides of a product.
+-- The sum over a site's neighbours is monotone, additive and self-adjoint.
 use Rattle.std.proofs.Common.{ℕ, Bool, ◌≡◌, ◌+◌, ◌*◌, ◌<◌, ◌≤◌, refl, sym, ◌∙◌, ap, arith, List, [], ◌∷◌, All, Option, None, sum_by, count_by, get_or}
 use Rattle.std.proofs.lemmas.List.Sums.{sum_by-cons}
 use Rattle.std.proofs.lemmas.List.Elements.{All-head, All-tail}
@@ -61,7 +61,7 @@ flow_spread : (g : Grid) (u : ℕ → ℕ) (i : ℕ) → i < sites g → flow g 
 unfolding flow
 flow_spread g u i l = sum_by_spread (sites g) u (neighbours g i) (neighbours_below g i l)
 
--- the sums of f * flow u and of u * flow f are one
+-- flow is self-adjoint: f * flow u and u * flow f have the same sum
 pub flow_self_adjoint : (g : Grid) (f u : ℕ → ℕ) → sum_below (sites g) (λ i. f i * flow g u i) ≡ sum_below (sites g) (λ i. u i * flow g f i)
 flow_self_adjoint g f u =
     sum_below_same (sites g) (λ i. f i * flow g u i) (λ i. sum_below (sites g) (λ j. f i * (u j * tally (neighbours g i) j)))
@@ -78,7 +78,7 @@ flow_mutual : (g : Grid) (i j : ℕ) → i < sites g → j < sites g → flow g 
 unfolding flow
 flow_mutual g i j li lj = neighbours_mutual g i j li lj
 
--- what one toppling at i brings to j is what j's place is among the neighbours of i
+-- one toppling at i gives j a grain for each time that j is a neighbour of i
 pub flow-one_at : (g : Grid) (i j : ℕ) → i < sites g → j < sites g → flow g (one_at i) j ≡ flow g (λ k. one_at k j) i
 flow-one_at g i j li lj =
     flow_same g (one_at i) (λ k. one_at k i) (λ k m. one_at_comm i k) j lj ∙ flow_mutual g j i lj li

@@ -1,4 +1,4 @@
--- Lists of the numbers below n that pass a test: what is in one, how long it is, how it grows and shrinks.
+-- Lists of the numbers below n that pass a test: their members, their length, and how they grow and shrink.
 use Rattle.std.proofs.Common.{ℕ, zero, suc, Bool, true, false, cond, ltb, ◌≡◌, ◌≢◌, ◌+◌, ◌<◌, ◌≤◌, ◌⊎◌, ◌&&◌, inl, inr, refl, sym, ◌∙◌, ap, subst, arith, List, [], ◌∷◌, ◌++◌, length, take, get_or, All, ⊎_elim}
 use Rattle.std.proofs.lemmas.Bool.{cases_eq, cases_lt, cases_Bool, lt-ltb, le-ltb}
 use Rattle.std.proofs.lemmas.List.{get_or_read}
@@ -30,14 +30,14 @@ all_or_one (suc n) p =
 
 -- ---- what a listing says of one number
 
--- a number below n is there once if it passes, and not if it fails
+-- a number below n occurs once if it passes, and otherwise not at all
 tally-listing : (n : ℕ) (p : ℕ → Bool) (xs : List ℕ) (i : ℕ) → Lists n p xs → i < n → tally xs i ≡ one_if (p i)
 tally-listing n p xs i list l = let test = lt-ltb i n l in let e = list.each i in e ∙ rw test refl
 
 outside : (n : ℕ) (p : ℕ → Bool) (xs : List ℕ) (i : ℕ) → Lists n p xs → n ≤ i → tally xs i ≡ 0
 outside n p xs i list past = let test = le-ltb i n past in let e = list.each i in e ∙ rw test refl
 
--- and a list of which this is known is a listing
+-- conversely, a list with these tallies is a listing
 pub lists_from : (n : ℕ) (p : ℕ → Bool) (xs : List ℕ) → ((i : ℕ) → i < n → tally xs i ≡ one_if (p i)) → ((i : ℕ) → n ≤ i → tally xs i ≡ 0) → Lists n p xs
 lists_from n p xs inside none = record {
   each = λ i.
@@ -65,7 +65,7 @@ passes n p xs i list some =
 
 -- ---- what is in a listing
 
--- what is in a list is tallied there
+-- an element of a list has a tally of at least 1
 tally_at : (xs : List ℕ) (k : ℕ) → k < length xs → 1 ≤ tally xs (get_or xs k 0)
 tally_at xs k l =
     let le = get_or-le-sum_by (λ j. one_at j (get_or xs k 0)) xs k 0 l in
@@ -80,7 +80,7 @@ lists_below n p xs list =
     (λ (past : n ≤ get_or xs k 0). let none = outside n p xs (get_or xs k 0) list past in let some = tally_at xs k l in absurd (omega arith))
     (cases_lt (get_or xs k 0) n))
 
--- what is read from a listing is below n
+-- an element of a listing is below n
 pub read_below : (n : ℕ) (p : ℕ → Bool) (xs : List ℕ) (k x : ℕ) → Lists n p xs → k < length xs → x ≡ get_or xs k x → x < n
 read_below n p xs k x list l read = let below = lists_below n p xs list k x l in omega arith
 
@@ -92,7 +92,7 @@ read_passes n p xs k x list l read =
     let some = tally_at xs k l in
     passes n p xs x list (omega arith)
 
--- and is not before its place
+-- and does not occur earlier
 pub read_fresh : (n : ℕ) (p : ℕ → Bool) (xs : List ℕ) (k x : ℕ) → Lists n p xs → k < length xs → x ≡ get_or xs k x → tally (take k xs) x ≡ 0
 read_fresh n p xs k x list l read =
     let le = sum_by_more_le (λ j. one_at j (get_or xs k 0)) xs k 0 l in
@@ -124,19 +124,19 @@ lists_length n p xs list =
     let few = at_most_all n (λ i. one_if (p i)) (λ i l. at_most_one (p i)) in
     omega arith
 
--- if a number fails, there is room for it
+-- if a number fails, the listing is shorter than n
 pub lists_room : (n : ℕ) (p : ℕ → Bool) (xs : List ℕ) (i : ℕ) → Lists n p xs → i < n → p i ≡ false → length xs < n
 lists_room n p xs i list l fail =
     let all = length-listing n p xs list in
     let few = fewer_than_all n (λ j. one_if (p j)) i (λ j m. at_most_one (p j)) l (ap one_if fail) in
     omega arith
 
--- a list as long as can be has all numbers
+-- a listing of length n has all numbers
 pub lists_all : (n : ℕ) (p : ℕ → Bool) (xs : List ℕ) → Lists n p xs → length xs ≡ n → (i : ℕ) → i < n → p i ≡ true
 lists_all n p xs list full i l =
     ⊎_elim (λ (pass : p i ≡ true). pass) (λ (fail : p i ≡ false). let room = lists_room n p xs i list l fail in absurd (omega arith)) (cases_Bool (p i))
 
--- and a shorter one leaves a number out
+-- and a shorter one lacks a number
 pub lists_leave : (n : ℕ) (p : ℕ → Bool) (xs : List ℕ) → Lists n p xs → length xs ≢ n → (i : ℕ) × (i < n) × (p i ≡ false)
 lists_leave n p xs list short =
     ⊎_elim
@@ -145,13 +145,13 @@ lists_leave n p xs list short =
     (λ (one : (i : ℕ) × (i < n) × (p i ≡ false)). one)
     (all_or_one n p)
 
--- ---- as the test changes
+-- ---- when the test changes
 
 pub lists_same : (n : ℕ) (p q : ℕ → Bool) (xs : List ℕ) → ((j : ℕ) → j < n → p j ≡ q j) → Lists n p xs → Lists n q xs
 lists_same n p q xs same list =
     lists_from n q xs (λ j l. tally-listing n p xs j list l ∙ ap one_if (same j l)) (λ j past. outside n p xs j list past)
 
--- a number that passes from now on joins at the end
+-- a number that begins to pass is appended
 pub lists_push : (n : ℕ) (p q : ℕ → Bool) (xs : List ℕ) (i : ℕ) → Lists n p xs → i < n → p i ≡ false → q i ≡ true → ((j : ℕ) → j < n → j ≢ i → p j ≡ q j) → Lists n q (xs ++ i ∷ [])
 lists_push n p q xs i list l fail pass others =
     lists_from n q (xs ++ i ∷ [])
@@ -171,7 +171,7 @@ lists_push n p q xs i list l fail pass others =
     (cases_eq j i))
     (λ j past. let push = tally-push xs i j in let none = one_at_other i j (λ e. omega arith) in let was = outside n p xs j list past in omega arith)
 
--- the number at the front leaves as it passes no more
+-- the number at the front is dropped when it no longer passes
 pub lists_pop : (n : ℕ) (p q : ℕ → Bool) (xs : List ℕ) (i : ℕ) → Lists n p (i ∷ xs) → q i ≡ false → ((j : ℕ) → j < n → j ≢ i → p j ≡ q j) → Lists n q xs
 lists_pop n p q xs i list fail others =
     lists_from n q xs

@@ -1,4 +1,4 @@
--- The four places round a site: how many, below the number of sites, and mutual.
+-- The four places around a site: their number, that they are sites, and that neighbours are mutual.
 use Rattle.std.proofs.Common.{ℕ, zero, suc, ◌≡◌, ◌+◌, ◌-◌, ◌*◌, ◌/◌, ◌%◌, ◌<◌, ◌≤◌, ◌⊎◌, Bool, true, false, cond, eqb, ltb, refl, sym, ◌∙◌, ap, arith, ⊎_elim, inl, inr, List, [], ◌∷◌, length, Option, Some, None, All, sum_by, count_by, is_none, IfSome, get_or}
 use Rattle.std.specs.List.{filter_map}
 use Rattle.std.proofs.lemmas.Bool.{cases_eq, cases_lt, eq-eqb, ne_eqb, lt-ltb, le-ltb, cases_Bool, ltb-true, ltb-false}
@@ -47,7 +47,6 @@ pub missing_is : (g : Grid) (i : ℕ) → missing g i ≡ count_by is_none (plac
 unfolding missing neighbours
 missing_is g i = let all = somes_and_nones (places g i) in omega arith
 
--- the row and the column of a site
 pub some_width : (w h i : ℕ) → i < w * h → 0 < w
 some_width zero h i l = absurd (omega arith)
 some_width (suc w) h i l = omega arith
@@ -73,7 +72,7 @@ next_column w i pos =
       (λ l. let e : i + 1 ≡ (i / w + 1) * w + 0 = omega arith in rw e (mod-mul-add (i / w + 1) w 0 pos)),
     )
 
--- one place is another's neighbour as often as that one is its
+-- j is north of i if and only if i is south of j
 north_south : (g : Grid) (i j : ℕ) → i < sites g → j < sites g → value_at (λ k. one_at k j) (north g i) ≡ value_at (λ k. one_at k i) (south g j)
 unfolding north south
 north_south g i j li lj =
@@ -99,7 +98,7 @@ north_south g i j li lj =
     (cases_Bool (ltb 0 (i / g.width))))
     (cases_eq (j + g.width) i))
 
--- what a place to one side of i is worth
+-- the value of u at the place to one side of i
 side : (u : ℕ → ℕ) (near wraps : Bool) (a b : ℕ) → value_at u (cond near (Some a) (cond wraps (Some b) None)) ≡ cond near (u a) (cond wraps (u b) 0)
 side u true wraps a b = refl
 side u false true a b = refl
@@ -253,7 +252,6 @@ south_below g i k l e =
     let next = (row_below g.width g.height i pos).0 (ltb-true _ _ at.0) in
     omega arith
 
--- each neighbour is a site
 pub neighbours_below : (g : Grid) (i : ℕ) → i < sites g → All (λ j. j < sites g) (neighbours g i)
 unfolding neighbours
 neighbours_below g i l =
@@ -273,6 +271,6 @@ place_below g i (suc (suc zero)) l = if_some (sites g) (east g i) (λ k. east_be
 place_below g i (suc (suc (suc zero))) l = if_some (sites g) (south g i) (λ k. south_below g i k l)
 place_below g i (suc (suc (suc (suc k)))) l = tt
 
--- each place in a list of the places round a site is a site
+-- the same for an entry of the list of places
 pub place_inside : (g : Grid) (i n k : ℕ) (ps : List (Option ℕ)) → ps ≡ places g i → i < sites g → n ≡ sites g → IfSome (get_or ps k None) (λ j. j < n)
 place_inside g i n k ps e l s = rw (s, e) (place_below g i k l)

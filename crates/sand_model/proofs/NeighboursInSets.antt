@@ -8,7 +8,7 @@ use Rattle.sand_model.proofs.Flow.{flow_le, indicator}
 use Rattle.sand_model.proofs.Neighbours.{flow_four}
 use Rattle.sand_model.proofs.Lists.{at_most_one}
 
--- a set within another has no more of the neighbours
+-- a subset contains no more of a site's neighbours
 pub count_within : (g : Grid) (set other : ℕ → Bool) (i : ℕ) → i < sites g → ((j : ℕ) → j < sites g → set j ≡ true → other j ≡ true) → count_by set (neighbours g i) ≤ count_by other (neighbours g i)
 unfolding flow
 count_within g set other i l within =
@@ -39,7 +39,7 @@ north_in_set : (set : ℕ → Bool) (p : Option ℕ) → 1 ≤ value_at (indicat
 north_in_set set None l = absurd (omega arith)
 north_in_set set (Some j) l = (j, refl, one_in_set (set j) l)
 
--- if all four neighbours of a site are in a set, there is a neighbour in the north
+-- a site with four neighbours in a set has a northern neighbour in it
 pub north_of_four : (g : Grid) (set : ℕ → Bool) (i : ℕ) → 4 ≤ flow g (indicator set) i → (j : ℕ) × (north g i ≡ Some j) × (set j ≡ true)
 north_of_four g set i l =
     let four = flow_four g (indicator set) i in

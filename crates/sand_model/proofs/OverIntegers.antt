@@ -1,4 +1,4 @@
--- The definitions over the natural numbers are those over the whole numbers.
+-- The definitions over the natural numbers agree with those over the integers.
 use Rattle.std.proofs.Common.{ℕ, zero, suc, ◌≡◌, ◌+◌, ◌*◌, ◌<◌, refl, arith, List, [], ◌∷◌, sum_by}
 use Rattle.std.specs.Prelude.{ℤ, pos, negsuc, ◌+ℤ◌, ◌-ℤ◌, ◌*ℤ◌, ◌≤ℤ◌, ◌↔◌}
 use Rattle.std.proofs.lemmas.Int.{ints}
@@ -9,9 +9,9 @@ use Rattle.sand_model.specs.Integers.{whole_sum_by, whole_sum_below, laplacian, 
 use Rattle.sand_model.proofs.SumsBelow.{sum_below-add, sum_below-scale}
 use Rattle.sand_model.proofs.Sandpile.{flow_and_lost}
 
--- ---- a whole number in two parts
+-- ---- an integer in two parts
 
--- the part above 0, and the part below
+-- the part above 0, and the part below 0
 pub above : ℤ → ℕ
 above (pos n) = n
 above (negsuc n) = 0
@@ -111,7 +111,7 @@ unfolding above below
 product-parts m (pos n) = omega (arith, ints)
 product-parts m (negsuc n) = omega (arith, ints)
 
--- the Laplacian of every u sums up to what u loses
+-- the Laplacian of any u sums to the grains that u loses
 whole_sum_below-laplacian : (g : Grid) (u : ℕ → ℤ) → whole_sum_below (sites g) (laplacian g u) ≡ whole_sum_below (sites g) (λ i. pos (missing g i) *ℤ u i)
 whole_sum_below-laplacian g u =
     let a : ℕ → ℕ = λ i. above (u i) in

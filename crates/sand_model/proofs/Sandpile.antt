@@ -1,4 +1,4 @@
--- The laws of piles: least action, settling in parts, what the weight loses.
+-- The laws of piles: least action, settling in parts, the fall of the weight.
 use Rattle.std.proofs.Common.{ℕ, Bool, true, false, zero, suc, ◌≡◌, ◌+◌, ◌-◌, ◌*◌, ◌/◌, ◌%◌, ◌<◌, ◌≤◌, cond, refl, sym, ◌∙◌, ap, arith, List, [], ◌∷◌, length, sum_by, Some, None, ltb, ⊎_elim}
 use Rattle.std.proofs.lemmas.Bool.{cases_lt, lt-ltb, le-ltb, cases_eq, ltb-true, ltb-false}
 use Rattle.std.proofs.lemmas.Nat.{div_below, div-add-mod', mod_below, div-mul-add}
@@ -11,19 +11,20 @@ use Rattle.sand_model.proofs.SumsBelow.{sum_below-one_at, one_at_same, one_at_ot
 use Rattle.sand_model.proofs.Neighbours.{neighbours_at_most_four, flow_four, some_width}
 use Rattle.sand_model.proofs.Flow.{flow_le, flow_same, flow-add, flow_self_adjoint}
 
--- if a site may topple k times more, the odometer of anything that stabilises leaves room for them
+-- if a site may topple k more times, any w that stabilises has room for them
 pub least_action : (g : Grid) (s u w : ℕ → ℕ) (i k : ℕ) → i < sites g → Stabilises g s w → ((j : ℕ) → j < sites g → u j ≤ w j) → 4 * u i + 4 * k ≤ s i + flow g u i → u i + k ≤ w i
 least_action g s u w i k l stable below high =
     let more = flow_le g u w below i l in
     let limit = stable.at_most_three i l in
     omega arith
 
--- what remains of one that stabilises, after a first part
+-- the flow of w is the flow of a first part u plus the flow of the rest
 flow_rest : (g : Grid) (u w : ℕ → ℕ) → ((j : ℕ) → j < sites g → u j ≤ w j) → (i : ℕ) → i < sites g → flow g w i ≡ flow g u i + flow g (λ j. w j - u j) i
 flow_rest g u w below i l =
     sym (flow_same g (λ j. u j + (w j - u j)) w (λ j m. let le = below j m in omega arith) i l) ∙ flow-add g u (λ j. w j - u j) i
 
--- topplings that were at most what is needed, and the odometer of the pile that they left, are the odometer of the start
+-- if u is at most every w that stabilises the start, u plus the odometer of the pile after u is the odometer of the
+-- start
 pub settles_after : (g : Grid) (s u h v t : ℕ → ℕ) → IsUnderway g s u h → IsSettled g h v t → IsSettled g s (λ i. u i + v i) t
 settles_after g s u h v t first second = record {
   toppled = record {
@@ -56,7 +57,6 @@ settles_after g s u h v t first second = record {
   };
 }
 
--- settling in two parts is settling at once, and the odometers add
 pub settled_in_parts : (g : Grid) (a b u t v r : ℕ → ℕ) → IsSettled g a u t → IsSettled g (λ i. t i + b i) v r → IsSettled g (λ i. a i + b i) (λ i. u i + v i) r
 settled_in_parts g a b u t v r first second = settles_after g (λ i. a i + b i) u (λ i. t i + b i) v r
     (record {
@@ -65,7 +65,6 @@ settled_in_parts g a b u t v r first second = settles_after g (λ i. a i + b i) 
     })
     second
 
--- a pile has one settled pile and one odometer
 pub odometer_unique : (g : Grid) (s u v : ℕ → ℕ) → IsLeast g s u → IsLeast g s v → (i : ℕ) → i < sites g → u i ≡ v i
 odometer_unique g s u v a b i l =
     let up = a.least v b.stabilises i l in
@@ -80,7 +79,6 @@ settled_unique g s u v t r a b i l =
     let two = b.toppled.balance i l in
     omega arith
 
--- what settles is stable
 pub settled_stable : (g : Grid) (s u t : ℕ → ℕ) → IsSettled g s u t → IsStable g t
 settled_stable g s u t done = record {
   low = λ i l.
@@ -89,7 +87,7 @@ settled_stable g s u t done = record {
       omega arith;
 }
 
--- what settles is a matter of the numbers at the sites alone
+-- settling depends only on the numbers at the sites
 pub settled_same : (g : Grid) (s s' u u' t t' : ℕ → ℕ) → ((i : ℕ) → i < sites g → s i ≡ s' i) → ((i : ℕ) → i < sites g → u i ≡ u' i) → ((i : ℕ) → i < sites g → t i ≡ t' i) → IsSettled g s u t → IsSettled g s' u' t'
 settled_same g s s' u u' t t' starts counts piles done = record {
   toppled = record {
@@ -141,7 +139,7 @@ flow_ones g i =
     let ones = sum_by_ones (neighbours g i) in
     omega arith
 
--- of four grains that a toppling takes, some reach a neighbour and the others are lost
+-- of the four grains of a toppling, some reach a neighbour and the others are lost
 pub flow_and_lost : (g : Grid) (u : ℕ → ℕ) → sum_below (sites g) (flow g u) + lost g u ≡ 4 * sum_below (sites g) u
 flow_and_lost g u =
     let turned = flow_self_adjoint g (λ j. 1) u in
@@ -153,7 +151,6 @@ flow_and_lost g u =
     let scaled = sum_below-scale (sites g) 4 u in
     omega arith
 
--- grains before are grains after and grains lost
 pub laplacian_sum : (g : Grid) (s u t : ℕ → ℕ) → IsToppled g s u t → grains g s ≡ grains g t + lost g u
 laplacian_sum g s u t done =
     let four = sum_below-scale (sites g) 4 u in
@@ -184,7 +181,7 @@ row_before : (r w : ℕ) → 0 < r → (r - 1) * w + w ≡ r * w
 row_before zero w l = absurd (omega arith)
 row_before (suc q) w l = let one : suc q - 1 ≡ q = omega arith in rw one (omega arith)
 
--- what the weight of a grain is to be one row up, in the same row, and one row down
+-- bounds on the weight of a grain one row up, in the same row, and one row down
 weight_up : (g : Grid) (i : ℕ) → i < sites g → value_at (grain_weight g) (north g i) ≤ row g i * (g.height - row g i + 1)
 unfolding north grain_weight
 weight_up g i l =
@@ -218,7 +215,7 @@ weight_down g i l =
     rw test (omega arith))
     (cases_lt (i / g.width + 1) g.height)
 
--- both sides of a site are in its own row
+-- the sites to both sides are in the same row
 weight_in_row : (g : Grid) (near wraps : Bool) (i a b : ℕ) → (near ≡ true → row g a ≡ row g i) → (near ≡ false → row g b ≡ row g i) → value_at (grain_weight g) (cond near (Some a) (cond wraps (Some b) None)) ≤ grain_weight g i
 unfolding grain_weight
 weight_in_row g true wraps i a b here there = rw (here refl) (omega arith)
@@ -253,7 +250,7 @@ pub grain_weight_is : (g : Grid) (i : ℕ) → grain_weight g i ≡ (row g i + 1
 unfolding grain_weight
 grain_weight_is g i = refl
 
--- the neighbours' weights fall short of four times a site's own by 2 at least
+-- the neighbours' weights sum to at least 2 less than four times the site's own
 grain_weight_falls : (g : Grid) (i : ℕ) → i < sites g → flow g (grain_weight g) i + 2 ≤ 4 * grain_weight g i
 grain_weight_falls g i l =
     let four = flow_four g (grain_weight g) i in
@@ -280,7 +277,7 @@ weight_after g s u t done =
     (λ i l. let e = mul-le-mul_left (u i) (grain_weight_falls g i l) in omega arith) in
     omega arith
 
--- one toppling more stays below what stabilises
+-- one more legal toppling does not exceed w
 one_more : (g : Grid) (s u w : ℕ → ℕ) (i : ℕ) → Stabilises g s w → ((j : ℕ) → j < sites g → u j ≤ w j) → MayToppleAfter g s u i → (j : ℕ) → j < sites g → u j + one_at i j ≤ w j
 one_more g s u w i stable below may j l =
     ⊎_elim
@@ -291,7 +288,7 @@ one_more g s u w i stable below may j l =
     (λ (ne : i ≡ j → ⊥). let none = one_at_other i j ne in let le = below j l in omega arith)
     (cases_eq i j)
 
--- and so do any number of them
+-- nor does any number of them
 legal_after : (g : Grid) (s u w : ℕ → ℕ) (order : List ℕ) → AreLegal g s u order → Stabilises g s w → ((j : ℕ) → j < sites g → u j ≤ w j) → (i : ℕ) → i < sites g → u i + tally order i ≤ w i
 legal_after g s u w [] legal stable below i l = let le = below i l in omega arith
 legal_after g s u w (k ∷ order) legal stable below i l =
@@ -299,7 +296,7 @@ legal_after g s u w (k ∷ order) legal stable below i l =
     let first = sum_by-cons (λ j. one_at j i) k order in
     rw first (omega arith)
 
--- the laws, as they are stated
+-- the laws, as stated in specs/Laws
 pub legal_below : (g : Grid) (s w : ℕ → ℕ) (order : List ℕ) → AreLegal g s (λ j. 0) order → Stabilises g s w → (i : ℕ) → i < sites g → tally order i ≤ w i
 legal_below g s w order legal stable i l =
     let all = legal_after g s (λ j. 0) w order legal stable (λ j m. omega arith) i l in

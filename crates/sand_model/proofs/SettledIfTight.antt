@@ -1,4 +1,4 @@
--- What topples to 3 at most, with no forbidden set of sites that have toppled, is settled.
+-- Topplings settle the pile if they leave at most 3 at each site, and no forbidden set of sites that have toppled.
 use Rattle.std.proofs.Common.{ℕ, zero, suc, cond, eqb, ◌≡◌, ◌+◌, ◌-◌, ◌*◌, ◌<◌, ◌≤◌, refl, ap, arith, ⊎_elim}
 use Rattle.std.proofs.lemmas.Bool.{cases_eq, cases_lt, eq-eqb, ne_eqb, eqb-true}
 use Rattle.std.proofs.Math.Nat.{mul-le-mul_left}
@@ -33,7 +33,7 @@ greatest (suc (suc n)) p l =
     ))
     (cases_lt (p before.0) (p (suc n)))
 
--- if p topplings too many were made and q too few, the sites of the greatest p are forbidden
+-- if sites toppled p times too often or q times too rarely, the sites of the greatest p are forbidden
 pub top_is_forbidden : (g : Grid) (t p q : ℕ → ℕ) (k : ℕ) → ((i : ℕ) → i < sites g → t i + 4 * p i + flow g q i ≤ 3 + 4 * q i + flow g p i) → ((i : ℕ) → 0 < p i → q i ≡ 0) → k < sites g → ((i : ℕ) → i < sites g → p i ≤ p k) → 0 < p k → IsForbidden g t (λ i. eqb (p i) (p k))
 top_is_forbidden g t p q k balance apart inside top some = record {
   some = (k, inside, eq-eqb (p k) (p k) refl);
@@ -60,7 +60,7 @@ excess g s u w t done stable i l =
     let same = flow_same g (λ j. u j + (w j - u j)) (λ j. w j + (u j - w j)) (λ j m. omega arith) i l in
     omega arith
 
--- u exceeds nothing that stabilises s
+-- u is at most every w that stabilises s
 never_above : (g : Grid) (s u w t : ℕ → ℕ) → IsToppled g s u t → IsTight g t u → Stabilises g s w → (i : ℕ) → i < sites g → u i ≤ w i
 never_above g s u w t done tight stable i l =
     let top = greatest (sites g) (λ j. u j - w j) (omega arith) in

@@ -15,7 +15,7 @@ tally-push xs x j = sum_by_push (λ k. one_at k j) xs x
 pub tally-append : (xs ys : List ℕ) (j : ℕ) → tally (xs ++ ys) j ≡ tally xs j + tally ys j
 tally-append xs ys j = sum_by-append (λ k. one_at k j) xs ys
 
--- a list of sites is as long as its tally is in all
+-- the tallies of a list of sites sum to its length
 pub sum_below-tally : (n : ℕ) (xs : List ℕ) → All (λ j. j < n) xs → sum_below n (tally xs) ≡ length xs
 sum_below-tally n xs below =
     sum_below_same n (tally xs) (λ j. 1 * tally xs j) (λ j l. omega arith)

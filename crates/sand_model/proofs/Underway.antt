@@ -1,4 +1,4 @@
--- A pile on its way to rest: legal topplings keep it on the way, and when no site may topple it is settled.
+-- A pile that is underway: legal topplings keep it underway, and when no site may topple it is settled.
 use Rattle.std.proofs.Common.{ℕ, ◌≡◌, ◌+◌, ◌*◌, ◌<◌, ◌≤◌, ap, arith, ⊎_elim}
 use Rattle.std.proofs.lemmas.Bool.{cases_eq}
 use Rattle.sand_model.specs.Grid.{Grid, sites}
@@ -19,7 +19,7 @@ underway_start g s u none = record {
   bounded = λ w stable i l. let e = none i l in omega arith;
 }
 
--- k legal topplings more of the site i
+-- k more legal topplings of site i
 pub underway_step : (g : Grid) (s u t v r : ℕ → ℕ) (i k : ℕ) → i < sites g → 4 * k ≤ t i → IsUnderway g s u t → ((j : ℕ) → j < sites g → v j ≡ u j + k * one_at i j) → IsToppled g t (λ j. k * one_at i j) r → IsUnderway g s v r
 underway_step g s u t v r i k site high before counts after = record {
   toppled = record {

@@ -1,4 +1,4 @@
--- The columns and the rows of all sites, by site.
+-- The columns and rows of all sites, by site.
 use Rattle.std.specs.Prelude.{ℕ, ◌≡◌, ◌<◌, List, length, slice_index}
 use Rattle.sand_model.specs.Grid.{Grid, sites, column, row}
 

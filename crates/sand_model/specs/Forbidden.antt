@@ -1,9 +1,9 @@
 -- Forbidden sets of sites. A set of sites is a test, true at its sites.
--- Sources: Dhar 1990; Friedrich and Levine 2010 (topplings are right if none can be taken back).
+-- Sources: Dhar 1990; Friedrich and Levine 2010 (topplings are least if none can be taken back).
 use Rattle.std.specs.Prelude.{ℕ, Bool, ◌<◌, IsTrue, count_by}
 use Rattle.sand_model.specs.Grid.{Grid, sites, neighbours}
 
--- a set of sites that is not empty, and each of its heights is below the number of the site's neighbours in the set
+-- a non-empty set of sites, each of a height below its number of neighbours in the set
 pub record IsForbidden (g : Grid) (s : ℕ → ℕ) (set : ℕ → Bool) : Type 0 where
   pub some : (i : ℕ) × (i < sites g) × IsTrue (set i)
   pub low : (i : ℕ) → i < sites g → IsTrue (set i) → s i < count_by set (neighbours g i)

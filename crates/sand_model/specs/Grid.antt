@@ -1,5 +1,5 @@
 -- The sites of a grid, and which of them are neighbours.
--- Source: Bak, Tang and Wiesenfeld 1987 (open edges); the cylinder joins the west and the east end of each row.
+-- Source: Bak, Tang and Wiesenfeld 1987 (open edges). The cylinder joins the west and east ends of each row.
 use Rattle.std.specs.Prelude.{ℕ, Bool, true, false, ◌≡◌, ◌+◌, ◌-◌, ◌*◌, ◌/◌, ◌%◌, ◌≤◌, List, [], ◌∷◌, Option, Some, None, Result, Ok, Err, nat_lt, nat_le, if◌then◌else◌, length, ◌&&◌, min}
 use Rattle.std.specs.Int.{abs_diff}
 use Rattle.std.specs.List.{filter_map}
@@ -14,7 +14,7 @@ pub record Grid : Type 0 where
   pub height : ℕ
   pub edge : Edge
 
--- whether the west and the east end of a row are neighbours
+-- whether the west and east ends of a row are neighbours
 abbrev pub joins : Edge → Bool
 joins Open = false
 joins Cylinder = true
@@ -33,7 +33,7 @@ pub record IsGrid (g : Grid) : Type 0 where
 abbrev pub is_side : ℕ → Bool
 is_side n = nat_le 1 n && nat_le n 256
 
--- the grid with these sides and this edge, or the fault that it would have
+-- the grid with these sides and this edge, or the error for an invalid one
 abbrev pub grid_with_edge : ℕ → ℕ → Edge → Result Grid ShapeFault
 grid_with_edge w h edge =
     if is_side w && is_side h then
@@ -51,8 +51,8 @@ row g i = i / g.width
 abbrev pub site_at : Grid → ℕ → ℕ → Option ℕ
 site_at g x y = if nat_lt x g.width && nat_lt y g.height then Some (y * g.width + x) else None
 
--- the places round a site, if they are in the grid; no subtraction is below 0, because there is a row to the north, a site to
--- the west, or the rest of the row between its two ends
+-- the places around a site, if they are in the grid; no subtraction goes below 0, because there is a row to the north,
+-- a site to the west, or the rest of the row between its two ends
 unfoldable pub north : Grid → ℕ → Option ℕ
 north g i = if nat_lt 0 (row g i) then Some (i - g.width) else None
 
@@ -65,7 +65,7 @@ east g i = if nat_lt (column g i + 1) g.width then Some (i + 1) else (if joins g
 unfoldable pub south : Grid → ℕ → Option ℕ
 south g i = if nat_lt (row g i + 1) g.height then Some (i + g.width) else None
 
--- the four places round a site, in the order in which they are named
+-- the four places around a site, in the order north, west, east, south
 abbrev pub places : Grid → ℕ → List (Option ℕ)
 places g i = north g i ∷ west g i ∷ east g i ∷ south g i ∷ []
 
@@ -81,7 +81,7 @@ neighbours g i = filter_map (λ p. p) (places g i)
 unfoldable pub missing : Grid → ℕ → ℕ
 missing g i = 4 - length (neighbours g i)
 
--- how many columns are between two sites, on a cylinder the shorter way round; two columns are less than the width apart
+-- the number of columns between two sites, the shorter way around on a cylinder; across is below the width
 abbrev pub columns_apart : Grid → ℕ → ℕ → ℕ
 columns_apart g i j = let across = abs_diff (column g i) (column g j) in if joins g.edge then min across (g.width - across) else across
 

@@ -1,4 +1,4 @@
--- Toppling over the whole numbers, negative ones too.
+-- Toppling over the integers.
 -- Source: Dhar 1990, the toppling matrix and the group that it generates.
 use Rattle.std.specs.Prelude.{ℕ, zero, suc, ℤ, pos, ◌≡◌, ◌+ℤ◌, ◌-ℤ◌, ◌*ℤ◌, ◌<◌, List, [], ◌∷◌}
 use Rattle.sand_model.specs.Grid.{Grid, sites, neighbours}
@@ -17,7 +17,7 @@ whole_sum_below (suc n) z = whole_sum_below n z +ℤ z n
 unfoldable pub laplacian : Grid → (ℕ → ℤ) → ℕ → ℤ
 laplacian g z i = (pos 4 *ℤ z i) -ℤ whole_sum_by z (neighbours g i)
 
--- numbers over the sites, as whole numbers
+-- numbers over the sites, as integers
 abbrev pub whole : (ℕ → ℕ) → ℕ → ℤ
 whole s i = pos (s i)
 

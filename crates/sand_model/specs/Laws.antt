@@ -5,22 +5,22 @@ use Rattle.sand_model.specs.Forbidden.{IsTight}
 use Rattle.sand_model.specs.Sand.{flow, tally, one_at, IsStable, IsToppled, Stabilises, IsUnderway, IsSettled, grains, lost, weight}
 use Rattle.sand_model.specs.Integers.{laplacian, whole_sum_below, whole, IsEquivalent}
 
--- after each site toppled u times, the site i may topple: s - Lu is 4 or more there
+-- after each site has toppled u times, site i may topple: s - Lu is at least 4 there
 pub record MayToppleAfter (g : Grid) (s u : ℕ → ℕ) (i : ℕ) : Type 0 where
   pub site : i < sites g
   pub high : 4 * u i + 4 ≤ s i + flow g u i
 
--- the sites of the list topple one after another, and each may when its turn comes
+-- the sites of the list topple one after another, each of them legally
 abbrev pub AreLegal : Grid → (ℕ → ℕ) → (ℕ → ℕ) → List ℕ → Type 0
 AreLegal g s u [] = Unit {0}
 AreLegal g s u (i ∷ order) = MayToppleAfter g s u i × AreLegal g s (λ j. u j + one_at i j) order
 
--- legal topplings stay at or below whatever stabilises the pile
+-- legal topplings never exceed any w that stabilises the pile
 abbrev pub LeastAction : Type 0
 LeastAction = (g : Grid) (s w : ℕ → ℕ) (order : List ℕ) → AreLegal g s (λ j. 0) order → Stabilises g s w
     → (i : ℕ) → i < sites g → tally order i ≤ w i
 
--- one toppling lowers the weight by 2 at least
+-- one toppling lowers the weight by at least 2
 abbrev pub WeightFalls : Type 0
 WeightFalls = (g : Grid) (s t : ℕ → ℕ) (i : ℕ) → i < sites g → IsToppled g s (one_at i) t → weight g t + 2 ≤ weight g s
 
@@ -28,12 +28,12 @@ WeightFalls = (g : Grid) (s t : ℕ → ℕ) (i : ℕ) → i < sites g → IsTop
 abbrev pub LaplacianSum : Type 0
 LaplacianSum = (g : Grid) (s u t : ℕ → ℕ) → IsToppled g s u t → grains g s ≡ grains g t + lost g u
 
--- the same over the whole numbers, for every u, legal or not
+-- the same over the integers, for every u, legal or not
 abbrev pub LaplacianSumOverIntegers : Type 0
 LaplacianSumOverIntegers = (g : Grid) (s u : ℕ → ℤ) → whole_sum_below (sites g) s
     ≡ whole_sum_below (sites g) (λ i. s i -ℤ laplacian g u i) +ℤ whole_sum_below (sites g) (λ i. pos (missing g i) *ℤ u i)
 
--- each pile settles: it has a settled pile, with a least odometer, for all heights
+-- each pile has a settled pile and a least odometer
 abbrev pub EachSettles : Type 0
 EachSettles = (g : Grid) (s : ℕ → ℕ) → (u : ℕ → ℕ) × (t : ℕ → ℕ) × IsSettled g s u t
 
@@ -42,8 +42,8 @@ abbrev pub Abelian : Type 0
 Abelian = (g : Grid) (a b u t v r : ℕ → ℕ) → IsSettled g a u t → IsSettled g (λ i. t i + b i) v r
     → IsSettled g (λ i. a i + b i) (λ i. u i + v i) r
 
--- the same after topplings that need not have settled anything: if u is at most every w that stabilises s, and s - Lu is
--- a pile h, then the odometer of s is u plus the odometer of h (least action; Fey, Levine and Peres 2010)
+-- the same after topplings that need not settle anything: if u is at most every w that stabilises s, and s - Lu is a
+-- pile h, then the odometer of s is u plus the odometer of h (least action; Fey, Levine and Peres 2010)
 abbrev pub SettlesAfter : Type 0
 SettlesAfter = (g : Grid) (s u h v t : ℕ → ℕ) → IsUnderway g s u h → IsSettled g h v t → IsSettled g s (λ i. u i + v i) t
 
@@ -51,16 +51,16 @@ SettlesAfter = (g : Grid) (s u h v t : ℕ → ℕ) → IsUnderway g s u h → I
 abbrev pub SettledOnce : Type 0
 SettledOnce = (g : Grid) (s u v t r : ℕ → ℕ) → IsSettled g s u t → IsSettled g s v r → (i : ℕ) → i < sites g → (u i ≡ v i) × (t i ≡ r i)
 
--- toppling to 3 at most, with no forbidden set of sites that have all toppled, is settling
+-- topplings settle the pile if they leave at most 3 at each site, and no forbidden set of sites that have all toppled
 abbrev pub LeastIfTight : Type 0
 LeastIfTight = (g : Grid) (s u t : ℕ → ℕ) → IsToppled g s u t → IsStable g t → IsTight g t u → IsSettled g s u t
 
--- t = s - Lu over the whole numbers
+-- t = s - Lu over the integers
 abbrev pub ToppledOverIntegers : Type 0
 ToppledOverIntegers = (g : Grid) (s u t : ℕ → ℕ) → IsToppled g s u t
     ↔ ((i : ℕ) → i < sites g → pos (t i) ≡ pos (s i) -ℤ laplacian g (whole u) i)
 
--- s - Lu ≤ 3 over the whole numbers
+-- s - Lu ≤ 3 over the integers
 abbrev pub StabilisesOverIntegers : Type 0
 StabilisesOverIntegers = (g : Grid) (s u : ℕ → ℕ) → Stabilises g s u
     ↔ ((i : ℕ) → i < sites g → (pos (s i) -ℤ laplacian g (whole u) i) ≤ℤ pos 3)

@@ -1,6 +1,6 @@
 -- Numbers over the sites of a grid: topplings, what stabilises, the least odometer.
--- Sources: Dhar 1990 (the toppling matrix), and for the least odometer the least action principle of chip-firing
--- (Fey, Levine and Peres 2010). A list of heights is read as its numbers by site, and is 0 past its end.
+-- Sources: Dhar 1990 (the toppling matrix), and for the least odometer the least action principle of chip-firing (Fey,
+-- Levine and Peres 2010). A list of heights is read by site, and as 0 past its end.
 use Rattle.std.specs.Prelude.{ℕ, zero, suc, ◌≡◌, ◌+◌, ◌-◌, ◌*◌, ◌<◌, ◌≤◌, List, sum_by, count_by, ◌==◌, if◌then◌else◌, Option, Some, None}
 use Rattle.sand_model.specs.Grid.{Grid, sites, neighbours, missing, row}
 
@@ -22,7 +22,7 @@ abbrev pub value_at : (ℕ → ℕ) → Option ℕ → ℕ
 value_at u None = 0
 value_at u (Some i) = u i
 
--- the sum of u over the neighbours of a site: what it gains when each of them topples u times
+-- the sum of u over the neighbours of a site: what it gains when each site topples u times
 unfoldable pub flow : Grid → (ℕ → ℕ) → ℕ → ℕ
 flow g u i = sum_by u (neighbours g i)
 
@@ -34,16 +34,16 @@ pub record IsStable (g : Grid) (s : ℕ → ℕ) : Type 0 where
 pub record IsToppled (g : Grid) (s u t : ℕ → ℕ) : Type 0 where
   pub balance : (i : ℕ) → i < sites g → t i + 4 * u i ≡ s i + flow g u i
 
--- s - Lu is at most 3 at each site; it may be negative somewhere, and no legal topplings need lead there
+-- s - Lu is at most 3 at each site; it may be negative somewhere, and legal topplings need not lead there
 pub record Stabilises (g : Grid) (s u : ℕ → ℕ) : Type 0 where
   pub at_most_three : (i : ℕ) → i < sites g → s i + flow g u i ≤ 4 * u i + 3
 
--- from the start s each site toppled u times so far, which left t, and u is at most whatever stabilises s
+-- toppling each site u times so far turned s into t, and u is at most every w that stabilises s
 pub record IsUnderway (g : Grid) (s u t : ℕ → ℕ) : Type 0 where
   pub toppled : IsToppled g s u t
   pub bounded : (w : ℕ → ℕ) → Stabilises g s w → (i : ℕ) → i < sites g → u i ≤ w i
 
--- u is the least that stabilises s
+-- u is the least odometer that stabilises s
 pub record IsLeast (g : Grid) (s u : ℕ → ℕ) : Type 0 where
   pub stabilises : Stabilises g s u
   pub least : (w : ℕ → ℕ) → Stabilises g s w → (i : ℕ) → i < sites g → u i ≤ w i
@@ -63,7 +63,7 @@ topplings g u = sum_below (sites g) u
 abbrev pub lost : Grid → (ℕ → ℕ) → ℕ
 lost g u = sum_below (sites g) (λ i. missing g i * u i)
 
--- what a grain weighs: (y + 1) * (height - y), in row y; a site's row is below the height
+-- the weight of a grain in row y: (y + 1) * (height - y); each row is below the height
 unfoldable pub grain_weight : Grid → ℕ → ℕ
 grain_weight g i = (row g i + 1) * (g.height - row g i)
 

@@ -1,10 +1,10 @@
 -- A pile that is being settled, from one moment to a later one.
--- Source: least action (chip-firing): whatever stabilises the start bounds every legal toppling on the way.
+-- Source: least action (chip-firing): every w that stabilises the start bounds the legal topplings.
 use Rattle.std.specs.Prelude.{ℕ, ◌+◌, ◌*◌, ◌≤◌}
 use Rattle.sand_model.specs.Grid.{Grid}
 use Rattle.sand_model.specs.Sand.{IsUnderway, grains, topplings, weight}
 
--- from the counts u and the heights t legal topplings lead to the counts v and the heights r
+-- legal topplings lead from the counts u and the heights t to the counts v and the heights r
 pub record Advances (g : Grid) (u t v r : ℕ → ℕ) : Type 0 where
   pub underway : (s : ℕ → ℕ) → IsUnderway g s u t → IsUnderway g s v r
   pub weight_pays : 2 * topplings g v + weight g r ≤ 2 * topplings g u + weight g t

@@ -1,7 +1,7 @@
-//! A grid whose neighbours and distances are found without a division.
+//! A grid that finds neighbours and distances without a division.
 //!
-//! A `Shape` divides to find the neighbours of a site, and needs no memory. If they are needed at every toppling, a table
-//! of two bytes for each site saves the division.
+//! A `Shape` divides to find the neighbours of a site, and needs no memory. If they are needed at every toppling, a
+//! table of two bytes a site saves the division.
 
 ghost use Rattle.std.specs.Prelude.{◌≡◌, ◌<◌, Some, IfOk, IsTrue, map};
 ghost use Rattle.sand_model.specs.Grid.{IsGrid, sites, places, is_inner, missing, distance};
@@ -14,7 +14,7 @@ use std::marker::Model;
 /// A grid with a table of the column and the row of each site.
 #[derive(Debug, Drop)]
 pub struct Lattice {
-    // The width and the number of sites again, so that `is_inner` has no multiplication.
+    // Copies of the width and the number of sites, so that `is_inner` needs no multiplication.
     width: usize,
     end: usize,
     shape: Shape,
@@ -90,8 +90,8 @@ impl Lattice {
         self.shape.places(site, usize::from(self.columns[site]))
     }
 
-    /// Whether a site is in none of the first row, the last row, the first column and the last column. Most sites are
-    /// inner, on a cylinder too, and `inner_neighbours` finds their neighbours without a test.
+    /// Whether a site is in none of the first row, the last row, the first column and the last column, on a cylinder
+    /// too. `inner_neighbours` finds the neighbours of such a site without a test.
     #[inline(always)]
     pub fn is_inner(&self, site: usize) -> bool
         requires { site < sites self.now }
@@ -123,7 +123,7 @@ impl Lattice {
         u64::from(outside(&self.neighbours(site)))
     }
 
-    /// The number of columns and rows between two sites, on a cylinder the shorter way round.
+    /// The distance between two sites in columns and rows, |dx| + |dy|; on a cylinder, the shorter way around.
     #[inline(always)]
     #[tactic(auto, unfolding(crate::specs::Grid::distance))]
     pub fn distance(&self, from: usize, to: usize) -> u32

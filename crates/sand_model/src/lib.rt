@@ -1,9 +1,10 @@
-//! Piles of sand on a rectangular grid with open edges or on a cylinder, the toppling of one site, and the laws of toppling.
+//! Sandpiles on a rectangular grid with open edges or on a cylinder, the toppling of one site, and the laws of
+//! toppling.
 //!
-//! The definitions of the subject are in `specs/`: `Grid` (sites and neighbours), `Columns` (a table of the columns
-//! and rows of all sites), `Sand` (topplings, what stabilises, the least odometer), `Underway` (from one moment of settling to
-//! a later one), `Integers` (the same over the whole numbers), `Lists` (lists that stand for a set of sites), `Piles` (what
-//! contracts see of a pile) and `Laws`. All crates above cite these.
+//! The definitions of the subject are in `specs/`: `Grid` (sites and neighbours), `Columns` (a table of the columns and
+//! rows of all sites), `Sand` (topplings, what stabilises, the least odometer), `Forbidden` (forbidden sets),
+//! `Underway` (from one moment of settling to a later one), `Integers` (the same over the integers), `Lists` (lists
+//! read as sets of sites), `Piles` (what contracts see of a pile) and `Laws`. All crates above cite these.
 #![tactic(auto)]
 
 mod faults;

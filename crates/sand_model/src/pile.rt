@@ -13,7 +13,7 @@ use std::marker::Model;
 /// The most grains that a pile holds, 2^40 - 1.
 pub const GRAIN_LIMIT: u64 = 1_099_511_627_775;
 
-/// The height at which a site may topple: it then loses as many grains.
+/// The height from which a site may topple, and the number of grains that it then loses.
 pub const TOPPLING_HEIGHT: u64 = 4;
 
 /// A pile: a height for each site of a shape, with at most `GRAIN_LIMIT` grains in all.
@@ -38,8 +38,8 @@ impl Model for Pile {
 impl Pile {
     ghost use Rattle.std.specs.Prelude.{IsOkUnless, alloc_error};
 
-    /// A pile with these heights, by site. Returns Length if there is not one height for each site, TooManyGrains if the
-    /// heights are over the limit in all, and Memory if an allocation fails.
+    /// Makes a pile with these heights, by site. Returns Length if there is not one height for each site, TooManyGrains
+    /// if the sum of the heights is over the limit, and Memory if an allocation fails.
     pub fn new(alloc: Global, shape: Shape, heights: &[u64]) -> Result<Pile, PileFault>
         ensures made { IfOk result (λ p. p ≡ record { grid = shape; heights = heights.now }) }
         ensures length { (result ≡ Err PileFault.Length) ↔ (length heights.now ≢ sites shape) }
@@ -64,7 +64,7 @@ impl Pile {
         })
     }
 
-    /// A pile that takes over a list of heights.
+    /// Makes a pile that takes over a list of heights.
     pub fn from_vec(shape: Shape, heights: Vec<u64>) -> Pile
         requires one_each { length heights.items ≡ sites shape }
         requires limit { sum heights.items ≤ most_grains }
@@ -77,7 +77,7 @@ impl Pile {
         Pile::from_counted(shape, heights, grains)
     }
 
-    /// A pile that takes over a list of heights whose sum is known. It reads no height.
+    /// The same for a list with a known sum: no height is read.
     pub fn from_counted(shape: Shape, heights: Vec<u64>, grains: u64) -> Pile
         requires one_each { length heights.items ≡ sites shape }
         requires limit { sum heights.items ≤ most_grains }
@@ -92,7 +92,7 @@ impl Pile {
         }
     }
 
-    /// The shape and the list of heights. It reads no height.
+    /// Splits the pile into its shape and its list of heights, and reads no height.
     pub fn into_parts(self) -> (Shape, Vec<u64>)
         ensures shape { result.0 ≡ self.grid }
         ensures heights { result.1.items ≡ self.heights }
@@ -150,8 +150,7 @@ impl Pile {
         })
     }
 
-    /// Adds one grain at a site. If the pile has as many grains as the limit, it returns TooManyGrains and does not change
-    /// the pile.
+    /// Adds one grain at a site. If the pile is at the limit, it returns TooManyGrains and changes nothing.
     pub fn add_grain(&mut self, site: usize) -> Result<(), PileFault>
         requires { site < sites self.old.grid }
         ensures ok { OnOk result (self.new
@@ -205,8 +204,8 @@ fn spread(shape: Shape, heights: &mut [u64], site: usize)
     give(heights, south);
 }
 
-/// Topples a site once, and returns the number of grains lost, 0 to 4. If the height is below 4, it returns TooLow and does
-/// not change the pile.
+/// Topples a site once, and returns the number of grains lost, 0 to 4. If the height is below 4, it returns TooLow and
+/// changes nothing.
 pub fn topple(pile: &mut Pile, site: usize) -> Result<u8, ToppleFault>
     requires { site < sites pile.old.grid }
     ensures shape { pile.new.grid ≡ pile.old.grid }

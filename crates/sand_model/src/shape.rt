@@ -64,8 +64,8 @@ impl Shape {
         Shape::with_edge(w, h, Edge::Open)
     }
 
-    /// A grid with this edge. Returns Side if a side is outside 1 to 256, and otherwise Narrow if it is a cylinder less
-    /// than 3 wide.
+    /// A grid with this edge. Returns Side if a side is outside 1 to 256, and otherwise Narrow for a cylinder less than
+    /// 3 wide.
     pub fn with_edge(w: usize, h: usize, edge: Edge) -> Result<Shape, ShapeFault>
         ensures { result ≡ grid_with_edge w h edge }
     {
@@ -192,8 +192,8 @@ impl Shape {
         }
     }
 
-    // The places round a site in column `x`. Neighbours are derived only here: `neighbours` divides to find the column,
-    // and a `Lattice` looks it up.
+    // The places around a site in column `x`. Neighbours are derived only here: `neighbours` divides to find the
+    // column, and a `Lattice` looks it up.
     #[inline(always)]
     pub(crate) fn places(self, site: usize, x: usize) -> [Option<usize>; 4]
         requires site { site < sites self }

@@ -7,7 +7,6 @@ use Rattle.sand_model.proofs.Borders.{next_row, same_row}
 use Rattle.sand_model.proofs.lattice.tables_of.Goals as goal
 use Rattle.sand_model.proofs.lattice.tables_of.Goals.{then-column-width, else-column-width}
 
--- the column and the row of the next site
 next_place : (c : goal.Joined-column-width) → (c.if-column-width.column ≡ column c.args.shape (c.loop.counter + 1)) × (c.if-column-width.row ≡ row c.args.shape (c.loop.counter + 1))
 next_place c =
     let inv = c.loop.invariant in
@@ -22,7 +21,7 @@ next_place c =
           (omega (arith, next.0, w.column-is, inv.column_is), omega (arith, next.1, w.row-is, inv.row_is)))
     ]
 
--- a list of all values of f below n, with one more
+-- a list of the values of f below n, and one more
 one_more : (f : ℕ → ℕ) (xs ys : List ℕ) (n x : ℕ) → ys ≡ xs ++ x ∷ [] → length xs ≡ n → x ≡ f n → ((i : ℕ) → i < n → get_or xs i 0 ≡ f i) → (i : ℕ) → i < n + 1 → get_or ys i 0 ≡ f i
 one_more f xs ys n x pushed long is each i below =
     ap (λ (zs : List ℕ). get_or zs i 0) pushed
