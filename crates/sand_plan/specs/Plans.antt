@@ -1,4 +1,4 @@
--- The limits of a run, and the sums that it stands for.
+-- The limits of a run, and its numbers of drops.
 use Rattle.std.specs.Prelude.{ℕ, ◌≤◌, ◌*◌}
 use Rattle.sand_plan.specs.declared.wish.Wish.{Wish}
 

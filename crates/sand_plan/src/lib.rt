@@ -1,6 +1,6 @@
-//! What a run of the laboratory is asked to do, with its limits.
+//! What a run of the laboratory is asked to do, and its limits.
 //!
-//! The laboratory and the command line are built on this crate, so that there is one set of limits.
+//! The laboratory and the command line share these limits.
 #![tactic(auto)]
 
 mod wish;

@@ -1,4 +1,4 @@
-//! A wish for a run, and its limits.
+//! What is asked of a run, and its limits.
 
 ghost use Rattle.std.specs.Prelude.{◌≡◌, ◌↔◌, true};
 ghost use Rattle.sand_plan.specs.Plans.{IsPlan};
@@ -26,17 +26,18 @@ pub const MOST_OBSERVERS: u32 = 16;
 pub struct Wish {
     /// The seed of the streams of drop sites.
     pub seed: u64,
-    /// How many threads drop: from 1 to `MOST_DROPPERS`.
+    /// The number of threads that drop: from 1 to `MOST_DROPPERS`.
     pub droppers: u32,
-    /// How many grains each of them drops in an epoch: at most `MOST_DROPS`.
+    /// The number of grains that each of them drops in an epoch: at most `MOST_DROPS`.
     pub drops: u32,
-    /// How many times the pile is shared, and closed again: from 1 to `MOST_EPOCHS`.
+    /// How often the pile is shared and closed again: from 1 to `MOST_EPOCHS`.
     pub epochs: u32,
-    /// Over how many threads the rows are spread: from 1 to `MOST_WORKERS`.
+    /// The number of threads that sweep the rows: from 1 to `MOST_WORKERS`.
     pub workers: u32,
-    /// How often each of them sweeps its rows while the droppers drop: at most `MOST_SWEEPS`. At most as many rounds follow.
+    /// How often each of them sweeps its rows during the drops: at most `MOST_SWEEPS`. At most `sweeps` rounds of one
+    /// sweep each follow.
     pub sweeps: u32,
-    /// How many threads read the tally while the droppers drop: at most `MOST_OBSERVERS`.
+    /// The number of threads that read the tally during the drops: at most `MOST_OBSERVERS`.
     pub observers: u32,
 }
 
