@@ -1,4 +1,4 @@
--- What holds at each place of a list holds when one element more is pushed, for which it holds.
+-- What holds at each index of a list still holds after a push of an element for which it holds.
 use Rattle.std.proofs.Common.{◌≡◌, ◌∙◌, ℕ, ◌+◌, ◌<◌, ◌⊎◌, List, [], ◌∷◌, ◌++◌, ap, arith, get_or, inl, inr, length, subst, sym}
 use Rattle.std.proofs.Math.Nat.{eq-or-lt_of_le}
 use Rattle.std.proofs.lemmas.List.{get_or_append_left, get_or_push}

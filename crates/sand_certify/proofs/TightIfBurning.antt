@@ -8,13 +8,13 @@ use Rattle.sand_certify.specs.Certificate.{no_earlier, ToppledSitesBurn, IsShown
 use Rattle.sand_model.specs.Forbidden.{IsTight}
 use Rattle.sand_model.proofs.SettledIfTight.{settled_if_tight}
 
--- a site of a set, below n, whose turn is the earliest there
+-- a site below n with the earliest turn of a set
 record IsEarliest (n : ℕ) (set : ℕ → Bool) (turn : ℕ → ℕ) (i : ℕ) : Type 0 where
   inside : i < n
   member : set i ≡ true
   first : (j : ℕ) → j < n → set j ≡ true → turn i ≤ turn j
 
--- with one number more: the earliest so far stays if it is not later than the new one
+-- from n to n + 1: the earliest site, or the new one if it is earlier
 earliest_or_new : (n : ℕ) (set : ℕ → Bool) (turn : ℕ → ℕ) (i : ℕ) → IsEarliest n set turn i → (k : ℕ) × IsEarliest (suc n) set turn k
 earliest_or_new n set turn i best =
     ⊎_elim
@@ -56,7 +56,7 @@ earliest_or_new n set turn i best =
     ))
     (cases_Bool (set n))
 
--- below n the set has no site, or one of the earliest turn
+-- below n the set has no site, or one with the earliest turn
 earliest_below : (n : ℕ) (set : ℕ → Bool) (turn : ℕ → ℕ) → ((j : ℕ) → j < n → set j ≡ false) ⊎ ((i : ℕ) × IsEarliest n set turn i)
 earliest_below zero set turn = inl (λ j m. absurd (omega arith))
 earliest_below (suc n) set turn =
@@ -89,7 +89,7 @@ earliest n set turn k l member =
     (λ (some : (i : ℕ) × IsEarliest n set turn i). some)
     (earliest_below n set turn)
 
--- the neighbours in a set are among those that burn no earlier than its earliest
+-- the neighbours in a set are among those that burn no earlier than its earliest site
 set_is_no_earlier : (g : Grid) (set : ℕ → Bool) (turn : ℕ → ℕ) (i : ℕ) → IsEarliest (sites g) set turn i → count_by set (neighbours g i) ≤ no_earlier g turn i
 set_is_no_earlier g set turn i best =
     count_within g set (λ j. leb (turn i) (turn j)) i best.inside (λ j m member. le-leb (turn i) (turn j) (best.first j m member))

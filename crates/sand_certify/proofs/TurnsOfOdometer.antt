@@ -1,5 +1,5 @@
--- Each odometer has turns that show it: the sites that have toppled burn round by round, and a site's turn counts the rounds
--- that find it unburnt.
+-- Each odometer has turns that show it: the sites that have toppled burn round by round, and a site's turn is the
+-- number of rounds that find it unburnt.
 use Rattle.std.proofs.Common.{ℕ, zero, suc, Bool, true, false, not, eqb, ltb, leb, ◌≡◌, ◌+◌, ◌-◌, ◌*◌, ◌<◌, ◌≤◌, ◌⊎◌, ◌&&◌, ◌||◌, refl, sym, ◌∙◌, ap, arith, count_by, inl, inr, ⊎_elim}
 use Rattle.std.proofs.lemmas.Bool.{cases_Bool, cases_eq, cases_lt, and_parts, lt-ltb, ltb-true, ltb-false, leb-true}
 use Rattle.std.proofs.Math.Nat.{mul-le-mul_left}
@@ -57,13 +57,13 @@ tight_if_settled g s u t done = record {
 
 -- ---- rounds
 
--- the sites that have toppled and are not burnt after so many rounds: in a round a site burns if its height is at least the
+-- the sites that have toppled and are not burnt after n rounds: in a round, a site burns if its height is at least the
 -- number of its unburnt neighbours
 unburnt : Grid → (ℕ → ℕ) → (ℕ → ℕ) → ℕ → ℕ → Bool
 unburnt g t u zero j = ltb 0 (u j)
 unburnt g t u (suc n) j = unburnt g t u n j && ltb (t j) (count_by (unburnt g t u n) (neighbours g j))
 
--- how many of the first n rounds find a site unburnt
+-- the number of the first n rounds that find a site unburnt
 rounds : Grid → (ℕ → ℕ) → (ℕ → ℕ) → ℕ → ℕ → ℕ
 rounds g t u zero j = 0
 rounds g t u (suc n) j = rounds g t u n j + one_if (unburnt g t u n j)
@@ -99,7 +99,7 @@ has_toppled : (g : Grid) (t u : ℕ → ℕ) (n j : ℕ) → unburnt g t u n j �
 has_toppled g t u zero j e = ltb-true 0 (u j) (sym (toppled_first g t u j) ∙ e)
 has_toppled g t u (suc n) j e = has_toppled g t u n j (before g t u n j e)
 
--- a site that is unburnt after n rounds was found so by each
+-- a site that is unburnt after n rounds was unburnt in each
 in_each : (g : Grid) (t u : ℕ → ℕ) (n j : ℕ) → unburnt g t u n j ≡ true → rounds g t u n j ≡ n
 in_each g t u zero j e = no_round g t u j
 in_each g t u (suc n) j e =
@@ -109,7 +109,7 @@ in_each g t u (suc n) j e =
     let more = round_more g t u n j in
     omega arith
 
--- a site that is burnt stays so, and later rounds do not count it
+-- a burnt site stays burnt, and later rounds do not count it
 stays : (g : Grid) (t u : ℕ → ℕ) (k n j : ℕ) → k ≤ n → unburnt g t u k j ≡ false → (unburnt g t u n j ≡ false) × (rounds g t u n j ≡ rounds g t u k j)
 stays g t u k zero j le burnt =
     let e : k ≡ zero = omega arith in
@@ -127,7 +127,7 @@ stays g t u k (suc n) j le burnt =
     (sym (ap (λ m. unburnt g t u m j) e) ∙ burnt, sym (ap (λ m. rounds g t u m j) e)))
     (cases_lt k (suc n))
 
--- what more than k of n rounds count is unburnt after k of them
+-- a site that more than k of n rounds count is unburnt after k rounds
 counted : (g : Grid) (t u : ℕ → ℕ) (k n j : ℕ) → k ≤ n → k < rounds g t u n j → unburnt g t u k j ≡ true
 counted g t u k n j le many =
     ⊎_elim (λ (yes : unburnt g t u k j ≡ true). yes)
@@ -168,7 +168,6 @@ burns g t u (suc n) j some burnt =
 
 -- ---- each site burns
 
--- how many sites are unburnt after n rounds
 abbrev left : Grid → (ℕ → ℕ) → (ℕ → ℕ) → ℕ → ℕ
 left g t u n = sum_below (sites g) (λ j. one_if (unburnt g t u n j))
 
@@ -203,7 +202,7 @@ unburnt_at : (b : Bool) → not b ≡ false → b ≡ true
 unburnt_at true e = refl
 unburnt_at false e = cc
 
--- if no site burns in a round, none is left, since the sites that are left would be a forbidden set
+-- if no site burns in a round, none is left: the sites left would be a forbidden set
 all_or_none : (g : Grid) (t u : ℕ → ℕ) (n : ℕ) → IsTight g t u → ((j : ℕ) → j < sites g → unburnt g t u n j ≡ true → unburnt g t u (suc n) j ≡ true) → left g t u n ≡ 0
 all_or_none g t u n tight stay =
     ⊎_elim (λ (none : (j : ℕ) → j < sites g → not (unburnt g t u n j) ≡ true). none_left g t u n none)
@@ -267,7 +266,7 @@ all_burn g t u tight j l =
 
 -- ---- the turns
 
--- a site burns at its turn: the neighbours whose turns are no earlier are unburnt in its round
+-- a site burns at its turn: neighbours with turns not earlier are unburnt in its round
 burns_at_turn : (g : Grid) (t u : ℕ → ℕ) (i : ℕ) → i < sites g → BurnsAfter g t u (sites g) i → no_earlier g (rounds g t u (sites g)) i ≤ t i
 burns_at_turn g t u i l b =
     let high = b.high in

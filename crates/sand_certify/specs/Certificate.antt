@@ -5,7 +5,7 @@ use Rattle.std.specs.Prelude.{ℕ, ◌≡◌, ◌+◌, ◌*◌, ◌^◌, ◌<◌
 use Rattle.sand_model.specs.Grid.{Grid, sites, neighbours}
 use Rattle.sand_model.specs.Sand.{flow}
 
--- how many neighbours of a site have a turn that is no earlier than its own
+-- the number of neighbours of a site whose turn is not earlier than its own
 abbrev pub no_earlier : Grid → (ℕ → ℕ) → ℕ → ℕ
 no_earlier g turn i = count_by (λ j. nat_le (turn i) (turn j)) (neighbours g i)
 
@@ -13,13 +13,13 @@ no_earlier g turn i = count_by (λ j. nat_le (turn i) (turn j)) (neighbours g i)
 pub record ToppledSitesBurn (g : Grid) (t u turn : ℕ → ℕ) : Type 0 where
   pub each : (i : ℕ) → i < sites g → 0 < u i → no_earlier g turn i ≤ t i
 
--- the counts u and the turns are right at the site i: s - Lu is from 0 to 3, and i burns at its turn if it has toppled
+-- the counts u and the turns are right at site i: s - Lu is from 0 to 3, and i burns at its turn if it has toppled
 pub record IsShownAt (g : Grid) (s u turn : ℕ → ℕ) (i : ℕ) : Type 0 where
   pub not_negative : 4 * u i ≤ s i + flow g u i
   pub at_most_three : s i + flow g u i ≤ 4 * u i + 3
   pub burns : 0 < u i → 4 * u i + no_earlier g turn i ≤ s i + flow g u i
 
--- they are right at each site
+-- the counts and the turns are right at each site
 pub record IsShownEverywhere (g : Grid) (s u turn : ℕ → ℕ) : Type 0 where
   pub each : (i : ℕ) → i < sites g → IsShownAt g s u turn i
 
@@ -30,7 +30,7 @@ pub record IsCertificate (g : Grid) (s : ℕ → ℕ) (counts turns : List ℕ) 
   pub few : All (λ n. n < 2 ^ 54) counts
   pub shown : IsShownEverywhere g s (slice_index counts) (slice_index turns)
 
--- they are right at the site i, and s - Lu is h there
+-- the counts and the turns are right at site i, and s - Lu is h there
 pub record IsLeftAt (g : Grid) (s u turn : ℕ → ℕ) (i h : ℕ) : Type 0 where
   pub shown : IsShownAt g s u turn i
   pub balance : h + 4 * u i ≡ s i + flow g u i

@@ -9,12 +9,12 @@ use Rattle.sand_certify.specs.Certificate.{ToppledSitesBurn, IsShownEverywhere, 
 abbrev pub TightIfBurning : Type 0
 TightIfBurning = (g : Grid) (t u turn : ℕ → ℕ) → ToppledSitesBurn g t u turn → IsTight g t u
 
--- a certificate shows the odometer
+-- a certificate shows that the counts are the odometer
 abbrev pub SettledIfShown : Type 0
 SettledIfShown = (g : Grid) (s t : ℕ → ℕ) (counts turns : List ℕ) → IsCertificate g s counts turns
     → IsToppled g s (slice_index counts) t → IsSettled g s (slice_index counts) t
 
--- each odometer has turns that show it, none later than the number of sites
+-- each odometer has turns that show it, none above the number of sites
 abbrev pub EachOdometerIsShown : Type 0
 EachOdometerIsShown = (g : Grid) (s u t : ℕ → ℕ) → IsSettled g s u t
     → (turn : ℕ → ℕ) × ((i : ℕ) → turn i ≤ sites g) × IsShownEverywhere g s u turn

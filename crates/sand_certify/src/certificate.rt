@@ -1,9 +1,9 @@
 //! The certifier: whether claimed counts and turns show how often each site of a pile topples.
 //!
-//! For each site it computes the height t = s - Lu that the counts u leave, in 64-bit numbers that cannot overflow
-//! because each count is below `COUNT_LIMIT`. It checks three things: t is not negative; t is at most 3; and if the site
-//! has toppled, t is at least the number of its neighbours whose turn is not earlier. If all sites pass, the counts are
-//! the least odometer (`laws`). It takes one pass over the grid.
+//! For each site it computes the height t = s - Lu that the counts u leave. 64-bit numbers do not overflow, because
+//! each count is below `COUNT_LIMIT`. It checks three things: t is not negative; t is at most 3; and if the site has
+//! toppled, t is at least the number of its neighbours whose turn is not earlier. If all sites pass, the counts are the
+//! least odometer (`laws`). It takes one pass over the grid.
 
 ghost use Rattle.std.specs.Prelude.{◌≡◌, ℕ, ◌+◌, ◌*◌, ◌^◌, ◌<◌, ◌≤◌, ◌↔◌, length, slice_index, nat_le, if◌then◌else◌, IfOk, IfSome, IsTrue, IsSome, MatchOption, All};
 ghost use Rattle.sand_model.specs.Grid.{sites};
@@ -14,10 +14,9 @@ ghost use Rattle.sand_certify.specs.Certificate.{no_earlier, IsShownAt, IsLeftAt
 use sand_model::{Lattice, Pile};
 use std::alloc::{AllocError, Global};
 
-/// What each count is below, 2^54: no site of a pile topples so often, and no sum of counts here overflows.
+/// The bound on each count, 2^54. No site of a pile topples this often, and no sum of counts here overflows.
 pub const COUNT_LIMIT: u64 = 18_014_398_509_481_984;
 
-// The number at a place, and 0 in the sink.
 #[inline(always)]
 fn value(values: &[u64], place: Option<usize>) -> u64
     requires { IfSome place (λ j. j < length values.now) }
@@ -59,7 +58,7 @@ fn is_no_earlier(turns: &[u32], turn: u32, place: Option<usize>) -> u64
     }
 }
 
-// How many neighbours of a site have a turn that is no earlier than its own.
+// The number of neighbours of a site whose turn is not earlier than its own.
 #[inline(always)]
 fn unburnt(lattice: &Lattice, turns: &[u32], site: usize) -> u64
     requires one_each { length turns.now ≡ sites lattice.now }
@@ -75,7 +74,7 @@ fn unburnt(lattice: &Lattice, turns: &[u32], site: usize) -> u64
     up + left + right + down
 }
 
-// The height that the counts leave at a site, if the counts are shown to be right there.
+// The height that the counts leave at a site, if they pass the three checks there.
 #[inline(always)]
 fn height_left(
     lattice: &Lattice,
@@ -106,14 +105,13 @@ fn height_left(
     Some(height)
 }
 
-// Whether each count is below the limit.
 pub(crate) fn are_few(counts: &[u64]) -> bool
     ensures { IsTrue result ↔ All (λ n. n < 2 ^ 54) counts.now }
 {
     counts.iter().all(|count| *count < COUNT_LIMIT)
 }
 
-// The heights that the counts leave at all sites, if the counts are shown to be right at each.
+// The heights that the counts leave at all sites, if every site passes the checks.
 fn heights_left(
     alloc: Global,
     lattice: &Lattice,
@@ -143,9 +141,9 @@ fn heights_left(
     Ok(Some(heights))
 }
 
-/// The heights that are left when each site of a pile topples as often as `counts` says, if `counts` and `turns`, by
-/// site, are a certificate of the pile. Then the counts are its odometer. Returns None if they are not a certificate, and
-/// an error if an allocation fails.
+/// The heights after each site of a pile topples as often as `counts` says, if `counts` and `turns`, by site, are a
+/// certificate of the pile. Then the counts are its odometer. Returns None if they are not a certificate, and an error
+/// if an allocation fails.
 pub fn certified(
     alloc: Global,
     pile: &Pile,

@@ -1,7 +1,7 @@
-//! The pile that claimed counts of topplings take to nothing: e = Lu.
+//! The pile that claimed counts of topplings empty: e = Lu.
 //!
-//! Toppling each site u times takes e to s - Lu = 0, so e is equivalent to the pile without a grain, wherever the
-//! counts came from. It takes one pass over the grid.
+//! Toppling each site u times takes e to s - Lu = 0. So e is equivalent to the empty pile, wherever the counts came
+//! from. It takes one pass over the grid.
 
 ghost use Rattle.std.specs.Prelude.{◌≡◌, ℕ, ◌*◌, ◌^◌, ◌<◌, ◌≤◌, ◌↔◌, length, slice_index, IfOk, IfSome, IsSome, MatchOption, All};
 ghost use Rattle.sand_model.specs.Grid.{sites};
@@ -12,7 +12,7 @@ use crate::certificate::{are_few, inflow};
 use sand_model::{Lattice, Shape};
 use std::alloc::{AllocError, Global};
 
-// The height at a site that the counts take to 0, if it is from 0 to 3.
+// The height that the counts take to 0 at a site, if it is from 0 to 3.
 #[inline(always)]
 fn height_emptied(lattice: &Lattice, counts: &[u64], site: usize) -> Option<u64>
     requires one_each { length counts.now ≡ sites lattice.now }
@@ -30,7 +30,7 @@ fn height_emptied(lattice: &Lattice, counts: &[u64], site: usize) -> Option<u64>
     Some(taken - given)
 }
 
-// The heights at all sites that the counts take to 0, if each is from 0 to 3.
+// The heights that the counts take to 0 at all sites, if each is from 0 to 3.
 fn heights_emptied(
     alloc: Global,
     lattice: &Lattice,
@@ -55,7 +55,7 @@ fn heights_emptied(
     Ok(Some(heights))
 }
 
-/// The heights of the stable pile that toppling each site as often as `counts` says takes to nothing. Returns None if
+/// The heights of the stable pile that is empty once each site has toppled as often as `counts` says. Returns None if
 /// there is no such pile, and an error if an allocation fails.
 pub fn emptied(alloc: Global, shape: Shape, counts: &[u64]) -> Result<Option<Vec<u64>>, AllocError>
     ensures exactly { IfOk result (λ o. IsSome o ↔ IsEmptying shape counts.now) }
