@@ -1,36 +1,36 @@
-//! A grid with an edge all round, so that a cell's neighbours need no test and no division.
+//! A grid with a border all around, so that finding a cell's neighbours needs no test and no division.
 
 ghost use Rattle.std.specs.Prelude.{◌≤◌, ◌<◌};
 
 use crate::frame::Frame;
 use std::alloc::{AllocError, Global};
 
-// More bits than the number of a cell has: there are at most 258 * 258.
+// More bits than the index of a cell has: there are at most 258 * 258 cells.
 const CELL_BITS: usize = 0xff_ffff;
 
-/// A cell as a number in a list. The mask changes none; it spares a proof.
+/// The index of a cell in a list. The mask changes nothing; it spares a proof.
 #[inline(always)]
 pub(crate) fn cell_number(at: usize) -> u32 {
     (at & CELL_BITS) as u32
 }
 
-// The home of a cell of the edge that stands for no site.
+// The home of a border cell that stands for no site.
 const NOWHERE: u32 = 0xffff_ffff;
 
-/// The cells of a grid and of the edge round it, row by row.
+/// The cells of a grid and of its border, row by row.
 #[derive(Drop)]
 pub(crate) struct Border {
     pub(crate) frame: Frame,
-    /// How many cells a row has.
+    /// The number of cells in a row.
     pub(crate) stride: usize,
-    /// By cell the cell of the site that it stands for: itself, or in the edge of a row that goes round the cell at the
-    /// row's other end. No cell for the rest of the edge.
+    /// By cell, the cell of the site that it stands for. That is the cell itself or, in the border of a row that wraps
+    /// around, the cell at the row's other end. `NOWHERE` in the rest of the border.
     pub(crate) home: Vec<u32>,
     ghost wide: { 1 ≤ stride },
     ghost narrow: { stride ≤ 258 },
 }
 
-// The column of the site that a column with an edge at either end stands for.
+// The column of the site that column `x` of a bordered row stands for.
 fn column_of(frame: Frame, x: usize) -> Option<usize> {
     if x >= 1 && x <= frame.width {
         Some(x)
@@ -43,7 +43,7 @@ fn column_of(frame: Frame, x: usize) -> Option<usize> {
     }
 }
 
-// Adds the homes of a row of cells. In the row above the first row of sites and in that below the last there are none.
+// Adds the homes of a row of cells. The rows above and below the grid have none.
 fn push_row(home: &mut Vec<u32>, frame: Frame, has_sites: bool) -> Result<(), AllocError> {
     let from = home.len();
     for x in 0..frame.width + 2 {
@@ -77,7 +77,7 @@ impl Border {
         (y + 1) * self.stride + 1
     }
 
-    /// The cell of the site that a cell stands for: most often itself.
+    /// The cell of the site that a cell stands for, usually itself.
     #[inline(always)]
     pub(crate) fn home_of(&self, at: usize) -> usize {
         if at < self.home.len() {
@@ -98,7 +98,7 @@ impl Border {
         ]
     }
 
-    /// The site of a cell that is not of the edge.
+    /// The site of a cell that is not in the border.
     pub(crate) fn site_of(&self, at: usize) -> usize {
         let row = (at / self.stride).saturating_sub(1);
         let column = (at % self.stride).saturating_sub(1);

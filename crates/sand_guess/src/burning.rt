@@ -1,10 +1,10 @@
 //! Burning what has toppled, and taking back what does not burn.
 //!
-//! A site burns if its height is at least the number of its neighbours that have toppled and do not burn yet. What
-//! does not burn is the greatest set of sites that have toppled and is forbidden, and each of its sites can be
-//! untoppled once: the heights stay 3 at most. If all burns, nothing can be untoppled, and the order is the proof.
+//! A site burns if its height is at least the number of its neighbours that have toppled and are not burnt yet. The
+//! sites that do not burn are the greatest forbidden set of sites that have toppled, and each of them can be untoppled
+//! once: heights stay at most 3. If all burn, nothing can be untoppled, and the order is the proof.
 //!
-//! The grid has an edge all round here (`border`). In the edge of a row that goes round are the marks of its other end.
+//! The grid has a border here (`border`). If rows wrap around, a row's border has the marks of its other end.
 
 ghost use Rattle.std.specs.Prelude.{◌≤◌, ◌<◌};
 
@@ -12,41 +12,40 @@ use crate::border::{Border, cell_number};
 use crate::frame::{Frame, run, run_mut};
 use std::alloc::{AllocError, Global};
 
-// What is added to a height in a byte.
+// The offset of a height in a byte.
 const LEVEL: u8 = 128;
 
-// All bits of a byte. A height that does not fit loses its other bits.
+// A height that does not fit into a byte loses its other bits.
 const BYTE_BITS: u64 = 0xff;
 
-// Marks of cells: burnt or never toppled, and toppled.
+// The marks of cells: burnt or never toppled, and toppled.
 const AWAY: u8 = 0;
 
 const TOPPLED: u8 = 1;
 
-/// A fire over a grid with an edge all round.
+/// A fire over a grid with a border.
 #[derive(Drop)]
 pub(crate) struct Fire {
     pub(crate) border: Border,
     marks: Vec<u8>,
-    /// By site its height in a byte, `LEVEL` above what it is.
+    /// By site, its height plus `LEVEL`.
     heights: Vec<u8>,
-    /// `LEVEL` above how far a height is above the number of neighbours that are marked, and 0 where nothing toppled.
+    /// By cell, `LEVEL` plus the height less the number of marked neighbours, and 0 where nothing toppled.
     room: Vec<u8>,
-    /// How many neighbours of each site of one row are marked.
+    /// For each site of one row, the number of its marked neighbours.
     around: Vec<u8>,
-    /// The cells that burn, one after another, and how many they are.
+    /// The cells that burn, in order, and their number.
     order: Vec<u32>,
     burnt: usize,
 }
 
-// Adds the marks of the cells beside those of a row.
 fn add_row(sums: &mut [u8], marks: &[u8]) {
     for x in 0..sums.len().min(marks.len()) {
         sums[x] = sums[x].wrapping_add(marks[x]);
     }
 }
 
-// How many marked neighbours each cell has of the row that begins at `first`.
+// For each cell of the row that begins at `first`, the number of its marked neighbours.
 fn count_around(border: &Border, marks: &[u8], first: usize, sums: &mut [u8]) {
     sums.fill(0);
     for beside in &border.around(first) {
@@ -54,7 +53,7 @@ fn count_around(border: &Border, marks: &[u8], first: usize, sums: &mut [u8]) {
     }
 }
 
-// Marks the sites of a row that have toppled, and returns how many.
+// Marks the sites of a row that have toppled, and returns their number.
 fn mark_row(marks: &mut [u8], counts: &[i64], least: i64) -> u32 {
     let mut found = 0u32;
     for x in 0..marks.len().min(counts.len()) {
@@ -93,7 +92,7 @@ fn lower_row(counts: &mut [i64], marks: &[u8]) {
     }
 }
 
-// Lists a cell that burns, after `burnt` others, and returns how many burn then.
+// Appends a cell to the order if it burns, and returns the new number of burnt cells.
 #[inline(always)]
 fn list_if(order: &mut [u32], burnt: usize, at: usize, burns: bool) -> usize {
     if burnt >= order.len() {
@@ -103,7 +102,7 @@ fn list_if(order: &mut [u32], burnt: usize, at: usize, burns: bool) -> usize {
     burnt.wrapping_add(usize::from(burns))
 }
 
-// Lists the cells of a row that burn at once, after `burnt` others, and returns how many burn then.
+// Appends the cells of a row that burn from the start, and returns the new number of burnt cells.
 fn kindle_row(row: &[u8], order: &mut [u32], burnt: usize, first: usize) -> usize {
     let mut burnt = burnt;
     for (x, room) in row.iter().enumerate() {
@@ -119,7 +118,7 @@ fn push_marks(left: &mut Vec<f64>, marks: &[u8]) -> Result<(), AllocError> {
     Ok(())
 }
 
-// A neighbour of this cell burns; if that lets its site burn, the site is listed. Cells without a mark never come so far.
+// A neighbour of this cell burns. If its site can now burn, the site is listed. An unmarked cell never reaches `LEVEL`.
 #[inline(always)]
 fn warm(border: &Border, room: &mut [u8], order: &mut [u32], burnt: usize, at: usize) -> usize {
     let home = if border.frame.goes_round {
@@ -145,13 +144,13 @@ impl Fire {
             heights: vec![in alloc; LEVEL; frame.sites()]?,
             room: vec![in alloc; 0u8; cells]?,
             around: vec![in alloc; 0u8; frame.width]?,
-            // One place more than sites, since a cell is written before it is known whether it burns.
+            // One more than the sites, since a cell is written before it is known whether it burns.
             order: vec![in alloc; 0u32; frame.sites() + 1]?,
             burnt: 0,
         })
     }
 
-    // The edge of each row that goes round gets the marks of its other end.
+    // In each row that wraps around, copies the marks of each end into the border at the other end.
     fn join_ends(&mut self) {
         if !self.border.frame.goes_round {
             return;
@@ -167,7 +166,7 @@ impl Fire {
         }
     }
 
-    // Marks the sites whose counts are above the least, and returns how many.
+    // Marks the sites with counts above the least, and returns their number.
     fn mark(&mut self, counts: &[i64], least: i64) -> u32 {
         let width = self.border.frame.width;
         let mut found = 0u32;
@@ -181,7 +180,7 @@ impl Fire {
         found
     }
 
-    // How far each height is above the number of neighbours that have toppled.
+    // Sets `room`: each height less the number of neighbours that have toppled.
     fn find_room(&mut self) {
         let width = self.border.frame.width;
         for y in 0..self.border.frame.height {
@@ -196,7 +195,7 @@ impl Fire {
         }
     }
 
-    // Lists the sites that burn at once.
+    // Lists the sites that burn from the start.
     fn kindle(&mut self) {
         self.burnt = 0;
         for y in 0..self.border.frame.height {
@@ -206,7 +205,7 @@ impl Fire {
         }
     }
 
-    // Burns all that burns; the rest keeps its mark.
+    // Burns until no more sites burn. The others keep their marks.
     fn burn_out(&mut self) {
         self.kindle();
         let mut burnt = self.burnt;
@@ -233,7 +232,7 @@ impl Fire {
         self.burnt = burnt;
     }
 
-    // Takes one toppling back at each site that keeps its mark.
+    // Takes back one toppling at each site that keeps its mark.
     fn untopple(&mut self, counts: &mut [i64]) {
         self.join_ends();
         let width = self.border.frame.width;
@@ -248,8 +247,8 @@ impl Fire {
         }
     }
 
-    /// Takes back topplings, the greatest set that can be at a time and at most so often, and says whether none is left
-    /// that can be. No count goes below `least`. The heights that they leave are stable, and stay so.
+    /// Takes back topplings, the greatest set possible each time and at most `times` times, and returns whether no more
+    /// can be taken back. No count goes below `least`. The heights after these counts are stable, and stay so.
     pub(crate) fn take_back(
         &mut self,
         heights: &[i64],
@@ -270,7 +269,7 @@ impl Fire {
         false
     }
 
-    /// By site 1 if the last fire left it, and else 0.
+    /// By site, 1 if the last fire did not burn it, and otherwise 0.
     pub(crate) fn unburnt(&self, alloc: Global) -> Result<Vec<f64>, AllocError> {
         let mut left = Vec::with_capacity(alloc, self.border.frame.sites())?;
         for y in 0..self.border.frame.height {
@@ -280,7 +279,7 @@ impl Fire {
         Ok(left)
     }
 
-    /// By site the turn at which it burns, from 1 on, or 0 if it does not.
+    /// By site, the turn at which it burns, from 1 on, or 0 if it does not burn.
     pub(crate) fn turns(&self, alloc: Global) -> Result<Vec<u32>, AllocError> {
         let mut turns = vec![in alloc; 0u32; self.border.frame.sites()]?;
         let mut turn = 0u32;

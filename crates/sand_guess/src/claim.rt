@@ -1,4 +1,4 @@
-//! The guess: from the smallest of the halved piles to the pile itself.
+//! The guess, from the smallest of the halved piles up to the pile itself.
 
 ghost use Rattle.std.specs.Prelude.{◌≤◌, ◌<◌};
 
@@ -10,23 +10,23 @@ use crate::solver::Solver;
 use sand_model::{Pile, Shape};
 use std::alloc::{AllocError, Global};
 
-// A guess leaves so many grains a site too many, since toppling them off is cheaper than taking topplings back.
+// The mean excess of grains per site in a guess: toppling them off is cheaper than taking topplings back.
 const EXCESS: f64 = 0.03;
 
-// About as many sweeps as a guess takes.
+// About the number of sweeps that take as long as a guess.
 const SWEEPS_OF_A_GUESS: usize = 7_000;
 
 // More halvings than a side takes.
 const MOST_HALVINGS: usize = 6;
 
-/// By site how often it topples, and the turn at which it burns, as a claim.
+/// A claim: by site, how often it topples and the turn at which it burns.
 #[derive(Debug, Drop)]
 pub struct Claim {
     pub counts: Vec<u64>,
     pub turns: Vec<u32>,
 }
 
-// The pile itself, as the greatest of the sizes.
+// The pile itself, at full size.
 fn first_level(alloc: Global, pile: &Pile) -> Result<Level, AllocError> {
     let mut start = Vec::with_capacity(alloc, pile.heights().len())?;
     for height in pile.heights() {
@@ -39,7 +39,7 @@ fn first_level(alloc: Global, pile: &Pile) -> Result<Level, AllocError> {
     })
 }
 
-// A pile without a grain, from which topplings may be taken back.
+// The empty pile, from which topplings may be taken back.
 fn empty_level(alloc: Global, shape: Shape) -> Result<Level, AllocError> {
     let frame = frame_of(shape);
     Ok(Level {
@@ -49,7 +49,7 @@ fn empty_level(alloc: Global, shape: Shape) -> Result<Level, AllocError> {
     })
 }
 
-// The piles from the given one to the smallest.
+// The piles from the given one down to the smallest.
 fn levels_from(alloc: Global, first: Level) -> Result<Vec<Level>, AllocError> {
     let mut levels = Vec::new(alloc);
     let mut level = first;
@@ -64,7 +64,7 @@ fn levels_from(alloc: Global, first: Level) -> Result<Vec<Level>, AllocError> {
     Ok(levels)
 }
 
-// Counts of a level, made right, from what is known of the one of half its size.
+// The repaired counts of a level, from what is known of the level of half its size.
 fn repaired(
     alloc: Global,
     level: &Level,
@@ -85,7 +85,7 @@ fn repaired(
     Ok(Some((repair, known)))
 }
 
-// Counts of the first of the levels, made right from the last to the first.
+// The repaired counts of the first level, found from the last level up.
 fn repaired_first(alloc: Global, levels: Vec<Level>) -> Result<Option<Repair>, AllocError> {
     let mut levels = levels;
     let mut half = None;
@@ -104,7 +104,7 @@ fn repaired_first(alloc: Global, levels: Vec<Level>) -> Result<Option<Repair>, A
     Ok(None)
 }
 
-// How far each count is from 0.
+// The absolute values of the counts.
 fn sizes_of(alloc: Global, repair: &Repair) -> Result<Vec<u64>, AllocError> {
     let mut sizes = Vec::with_capacity(alloc, repair.counts.len())?;
     for count in &repair.counts {
@@ -113,7 +113,6 @@ fn sizes_of(alloc: Global, repair: &Repair) -> Result<Vec<u64>, AllocError> {
     Ok(sizes)
 }
 
-// What the counts of a repair claim.
 fn claim_of(alloc: Global, repair: &Repair) -> Result<Claim, AllocError> {
     Ok(Claim {
         counts: sizes_of(alloc, repair)?,
@@ -121,8 +120,8 @@ fn claim_of(alloc: Global, repair: &Repair) -> Result<Claim, AllocError> {
     })
 }
 
-/// How often each site of a pile topples by sweeps of all sites, with the turns at which sites burn, or None if that takes
-/// longer than a guess. Nothing is claimed of it, as of a guess. Fails only with Memory.
+/// How often each site of a pile topples, found by sweeps over all sites, with the turns at which sites burn. Returns
+/// None if that takes longer than a guess. Like a guess, it is not proved right. Fails only if an allocation fails.
 pub fn toppled(alloc: Global, pile: &Pile) -> Result<Option<Claim>, AllocError> {
     let level = first_level(alloc, pile)?;
     let mut repair = Repair::new(alloc, level.frame)?;
@@ -132,8 +131,8 @@ pub fn toppled(alloc: Global, pile: &Pile) -> Result<Option<Claim>, AllocError> 
     Ok(Some(claim_of(alloc, &repair)?))
 }
 
-/// A guess of how often each site of a pile topples, with the turns at which sites burn, or None if no guess is made.
-/// Nothing is claimed of it; `sand_certify::certified` decides whether it is right. Fails only with Memory.
+/// A guess of how often each site of a pile topples, with the turns at which sites burn, or None. It is not proved
+/// right: `sand_certify::certified` decides. Fails only if an allocation fails.
 pub fn guessed(alloc: Global, pile: &Pile) -> Result<Option<Claim>, AllocError> {
     let levels = levels_from(alloc, first_level(alloc, pile)?)?;
     let Some(repair) = repaired_first(alloc, levels)? else {
@@ -142,9 +141,9 @@ pub fn guessed(alloc: Global, pile: &Pile) -> Result<Option<Claim>, AllocError> 
     Ok(Some(claim_of(alloc, &repair)?))
 }
 
-/// A guess of w for which Lw is the identity of the group of recurrent piles, or None if no guess is made. It is found as
-/// an odometer is, from a pile without a grain, but each count may go below 0 and each site counts as toppled. Nothing is
-/// claimed of it: the caller computes Lw and burns it. Fails only with Memory.
+/// A guess of w for which Lw is the identity of the group of recurrent piles, or None. It is found as an odometer is,
+/// from the empty pile, except that counts may go below 0 and each site counts as toppled. It is not proved right: the
+/// caller computes Lw and burns it. Fails only if an allocation fails.
 pub fn guessed_identity(alloc: Global, shape: Shape) -> Result<Option<Vec<u64>>, AllocError> {
     let levels = levels_from(alloc, empty_level(alloc, shape)?)?;
     let Some(repair) = repaired_first(alloc, levels)? else {

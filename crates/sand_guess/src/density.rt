@@ -1,5 +1,4 @@
-//! The density of a settled pile: local means of its heights, and what is expected from them of a pile of twice
-//! the size.
+//! The density of a settled pile: local means of its heights, and what they predict for a pile of twice the size.
 
 ghost use Rattle.std.specs.Prelude.{◌≤◌, ◌<◌};
 
@@ -7,16 +6,16 @@ use crate::frame::Frame;
 use std::alloc::{AllocError, Global};
 use std::num::{nearest_i64_to_f64, nearest_usize_to_f64};
 
-/// The density that is expected if nothing is known: that of a large pile which more and more sand was added to.
+/// The density that is expected if nothing is known: that of a large pile to which much sand has been added.
 pub(crate) const USUAL: f64 = 2.125;
 
-// A mean is taken over so many cells to either side.
+// The number of cells to either side that a mean includes.
 const RADIUS: usize = 3;
 
-// Of what was found beyond expectation in a pile of half the size, so much is expected once more.
+// The fraction of the deviation found at half the size that is expected again.
 const TREND: f64 = 0.25;
 
-// A line of numbers in a list: its first place, and the steps to the next.
+// A line of numbers in a list: its first index, and the step to the next.
 #[derive(Clone, Copy)]
 struct Line {
     from: usize,
@@ -27,12 +26,12 @@ struct Line {
 }
 
 impl Line {
-    // The place of a cell in the list.
+    // The index of a cell in the list.
     fn place(self, cell: usize) -> usize {
         self.from.wrapping_add(cell.wrapping_mul(self.step))
     }
 
-    // The cell that is i - RADIUS cells beyond the first: around the line as often as it takes, or no cell of it.
+    // Cell i - RADIUS of the line: wrapped around as often as needed, or a number past its cells.
     fn cell_at(self, i: usize) -> usize
         requires { i ≤ 1024 }
     {
@@ -43,7 +42,7 @@ impl Line {
         }
     }
 
-    // How many cells a mean is taken over.
+    // The number of cells in the mean at a cell.
     fn seen_from(self, cell: usize) -> usize
         requires { cell ≤ 1024 }
     {
@@ -56,7 +55,7 @@ impl Line {
     }
 }
 
-// A copy of a line and of what it sees beyond its ends: its other end if it goes round, and else zeros.
+// A copy of a line and of what it sees beyond its ends: the other end if it wraps around, and otherwise zeros.
 fn copy_line(all: &[f64], line: Line, copy: &mut Vec<f64>) -> Result<(), AllocError> {
     copy.clear();
     for i in 0..line.cells + 2 * RADIUS {
@@ -68,7 +67,7 @@ fn copy_line(all: &[f64], line: Line, copy: &mut Vec<f64>) -> Result<(), AllocEr
     Ok(())
 }
 
-// The means along a line. `copy` has the line and what it sees beyond its ends.
+// Replaces a line by its means. `copy` has the line and what it sees beyond its ends.
 fn blur_line(all: &mut [f64], line: Line, copy: &[f64]) {
     let mut sum = 0.0;
     for i in 0..copy.len().min(line.cells + 2 * RADIUS) {
@@ -135,7 +134,7 @@ pub(crate) fn density_of(
     Ok(all)
 }
 
-/// What was expected of a pile, and what was found.
+/// The density expected of a pile, and the density found.
 #[derive(Drop)]
 pub(crate) struct Known {
     pub(crate) frame: Frame,
@@ -143,13 +142,12 @@ pub(crate) struct Known {
     pub(crate) found: Vec<f64>,
 }
 
-// The number at a place, or the usual one if there is none.
 fn at_or(all: &[f64], at: usize, usual: f64) -> f64 {
     all.get(at).copied().unwrap_or(usual)
 }
 
 impl Known {
-    // The density expected at a site of a pile of twice the size, in which a short side may be as long as here.
+    // The density expected at a site of a pile of twice the size. A short side may have the same length here.
     fn expected_at(&self, frame: Frame, x: usize, y: usize) -> f64 {
         let across = 1 + usize::from(self.frame.width != frame.width);
         let down = 1 + usize::from(self.frame.height != frame.height);
@@ -161,8 +159,7 @@ impl Known {
     }
 }
 
-/// The density expected of a pile from that of one of half its size: what was found there, and some of what that was
-/// beyond expectation.
+/// The density expected of a pile: what was found at half its size, and a part of the deviation found there.
 pub(crate) fn expected_from(
     alloc: Global,
     frame: Frame,

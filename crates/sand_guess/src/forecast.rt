@@ -1,34 +1,35 @@
-//! Whether a pile is high: whether so much of it topples that a guess is faster than toppling. And whether it is flat.
+//! Whether a pile is high, so that a guess is faster than toppling, and whether it is flat.
 //!
-//! If L is symmetric and u topples s to t, then for any v the sum of (s - t) * v is the sum of Lu * v, which is that of
-//! u * Lv. So if Lv is at most 1 everywhere, the topplings are at least the sum of (s - t) * v, and as t is at most 3,
-//! at least that of (s - 3) * v. With p(x) a parabola over the columns that is 0 just outside the grid and bends by 1, and
-//! q(y) one over the rows, such a v is p * q / (the greatest p + the greatest q), and on a cylinder it is q. It costs a
-//! multiplication a site. Where a pile is empty, s - 3 is negative, so a pile with grains on a small part only is not seen
-//! as high unless they are many, as 2^17 - 1 grains at the centre of 256 by 256 with open edges.
+//! L is symmetric. If u topples s to t, then for any v the sum of (s - t) * v is the sum of Lu * v, which is the sum of
+//! u * Lv. So if Lv is at most 1 everywhere, the topplings number at least the sum of (s - t) * v. Since t is at most
+//! 3, that is at least the sum of (s - 3) * v. Let p(x) be a parabola over the columns that is 0 just outside the grid
+//! and has the second difference -1, and q(y) one over the rows. Such a v is p * q / (the greatest p + the greatest q),
+//! and on a cylinder it is q. It costs a multiplication per site. Where a pile is empty, s - 3 is negative. So a pile
+//! with all its grains on a small part is not found to be high unless they are many, such as 2^17 - 1 grains at the
+//! centre of 256 by 256 with open edges.
 
 ghost use Rattle.std.specs.Prelude.{◌≤◌, ◌<◌};
 
 use crate::frame::{frame_of, run, signed};
 use sand_model::Pile;
 
-// So many topplings a site take the queue longer than a guess takes.
+// The number of topplings per site for which the queue takes longer than a guess.
 const MANY: i64 = 256;
 
-// The greatest v of a grid on which a guess is worth while. On a smaller one, and on a narrow one, sand leaves the grid
-// in few turns, however much it is.
+// The least value of the greatest v of a grid for which a guess pays. From a smaller or a narrower grid sand leaves in
+// few turns, however much there is.
 const LEAST_DEPTH: i64 = 24;
 
 // More bits than an arch has: it is at most 128 * 129.
 const ARCH_BITS: usize = 0xf_ffff;
 
-// Twice a parabola over a side.
+// Twice the parabola over a side.
 fn arch(side: usize, at: usize) -> i64 {
     let twice = at.wrapping_add(1).wrapping_mul(side.wrapping_sub(at));
     (twice & ARCH_BITS) as i64
 }
 
-// The sum of what each height of a row has above 3, times the arch over its column if the row's ends are open.
+// The sum of each height of a row less 3, times the arch over its column if the row's ends are open.
 fn row_above(row: &[u64], goes_round: bool) -> i64 {
     let mut sum = 0i64;
     for (x, height) in row.iter().enumerate() {
@@ -39,10 +40,10 @@ fn row_above(row: &[u64], goes_round: bool) -> i64 {
     sum
 }
 
-// The greatest height of a flat pile. Higher heaps would have to be evened out before a sweep, at length.
+// The greatest height of a flat pile. Evening out higher heaps before a sweep would take long.
 const MOST_OF_FLAT: u64 = 100;
 
-/// Whether no site has many grains, so that sweeps over all sites can begin at once or nearly so.
+/// Whether no site has many grains, so that sweeps over all sites can begin at once or soon.
 pub fn is_flat(pile: &Pile) -> bool {
     let mut highest = 0u64;
     for height in pile.heights() {
@@ -51,7 +52,7 @@ pub fn is_flat(pile: &Pile) -> bool {
     highest <= MOST_OF_FLAT
 }
 
-/// Whether a pile is seen to be high. Nothing is claimed of it.
+/// Whether a pile is found to be high. Nothing is proved of the result.
 pub fn is_high(pile: &Pile) -> bool {
     let frame = frame_of(pile.shape());
     let tall = arch(frame.height, frame.height / 2);

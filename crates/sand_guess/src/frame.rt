@@ -1,16 +1,16 @@
-//! The grid at one of the sizes, and parts of lists that are its rows.
+//! The grid at one of its sizes, and the slices of lists that are its rows.
 
 ghost use Rattle.std.specs.Prelude.{◌<◌, ◌≤◌, ◌*◌, ◌≡◌};
 
 use sand_model::{Edge, GRAIN_LIMIT, Shape};
 
-/// A height as a signed number. No height of a pile is above the limit, so `min` changes none; it spares a proof.
+/// A height as a signed number. No height of a pile is above the limit, so `min` changes nothing; it spares a proof.
 #[inline(always)]
 pub(crate) fn signed(height: u64) -> i64 {
     height.min(GRAIN_LIMIT) as i64
 }
 
-/// The sides of a grid, and whether its rows go round.
+/// The sides of a grid, and whether its rows wrap around.
 #[derive(Clone, Copy)]
 pub(crate) struct Frame {
     pub(crate) width: usize,
@@ -30,7 +30,6 @@ impl Frame {
     }
 }
 
-/// The grid of a shape.
 pub(crate) fn frame_of(shape: Shape) -> Frame {
     Frame {
         width: shape.width(),
@@ -39,7 +38,7 @@ pub(crate) fn frame_of(shape: Shape) -> Frame {
     }
 }
 
-/// So many items from a place on, or none if they are not all there.
+/// `count` items from an index on, or none if they are not all there.
 #[inline(always)]
 pub(crate) fn run<T>(all: &[T], from: usize, count: usize) -> &[T] {
     if from <= all.len() && count <= all.len() - from {
@@ -49,7 +48,7 @@ pub(crate) fn run<T>(all: &[T], from: usize, count: usize) -> &[T] {
     }
 }
 
-/// The same, to be written.
+/// The same, mutable.
 #[inline(always)]
 pub(crate) fn run_mut<T>(all: &mut [T], from: usize, count: usize) -> &mut [T] {
     if from <= all.len() && count <= all.len() - from {

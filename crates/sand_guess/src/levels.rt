@@ -1,11 +1,11 @@
-//! Piles of half the size, with the same number of grains a site.
+//! Piles of half the size, with the same number of grains per site.
 
 ghost use Rattle.std.specs.Prelude.{◌≤◌, ◌<◌};
 
 use crate::frame::{Frame, run};
 use std::alloc::{AllocError, Global};
 
-/// A side that is no longer than this is not halved.
+/// A side of at most this length is not halved.
 const LEAST_SIDE: usize = 24;
 
 /// A pile at one of the sizes.
@@ -13,12 +13,12 @@ const LEAST_SIDE: usize = 24;
 pub(crate) struct Level {
     pub(crate) frame: Frame,
     pub(crate) start: Vec<i64>,
-    /// No count goes below this: 0 for the topplings of a pile, and far below 0 if topplings may also be taken back from a
-    /// pile on which nothing toppled.
+    /// No count goes below this: 0 for the topplings of a pile, and far below 0 if topplings may also be taken back
+    /// from a pile where nothing has toppled.
     pub(crate) least: i64,
 }
 
-// How many cells of a side make one cell of half its size.
+// The number of cells of a side that become one cell at half its size.
 fn share_of(side: usize) -> usize
     ensures some { 1 ≤ result }
     ensures two { result ≤ 2 }
@@ -26,7 +26,6 @@ fn share_of(side: usize) -> usize
     if side > LEAST_SIDE { 2 } else { 1 }
 }
 
-// The sum of heights.
 fn sum_of(heights: &[i64]) -> i64 {
     let mut sum = 0i64;
     for height in heights {
@@ -35,7 +34,7 @@ fn sum_of(heights: &[i64]) -> i64 {
     sum
 }
 
-// The mean of a cell's grains, in quarters. At the end of an odd side a cell is made of fewer cells.
+// The mean height of the cells that become one cell, in quarters. At the end of an odd side they are fewer.
 fn quarters_at(level: &Level, across: usize, down: usize, x: usize, y: usize) -> i64
     requires column { x ≤ 256 }
     requires row { y ≤ 256 }
@@ -56,7 +55,7 @@ fn quarters_at(level: &Level, across: usize, down: usize, x: usize, y: usize) ->
     }
 }
 
-/// A pile of half the size, or None if neither side is halved.
+/// The pile at half the size, or None if neither side is halved.
 pub(crate) fn halved(alloc: Global, level: &Level) -> Result<Option<Level>, AllocError> {
     let frame = level.frame;
     let across = share_of(frame.width);
@@ -70,7 +69,7 @@ pub(crate) fn halved(alloc: Global, level: &Level) -> Result<Option<Level>, Allo
     let mut carry = 0i64;
     for y in 0..height {
         for x in 0..width {
-            // What a division leaves goes to the next cell, so that no grain is lost.
+            // The remainder of a division goes to the next cell, so that no grain is lost.
             let sum = quarters_at(level, across, down, x, y).wrapping_add(carry);
             start.push(sum >> 2)?;
             carry = sum & 3;

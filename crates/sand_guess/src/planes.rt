@@ -1,14 +1,15 @@
-//! Heights in bit planes, 64 rows in a word: a sweep topples 128 sites at once.
+//! Heights in bit planes, 64 rows to a word: a sweep topples 128 sites at a time.
 //!
-//! Rows are interleaved: with n classes of rows, row y is bit y / n of class y % n, and a class has one word a column. So
-//! the neighbours west and east of a word's sites are the words before and after it, and those north and south are the
-//! word of the same column in the class before and after. Only from the last class to the first they are one bit further.
+//! Rows are interleaved: with n classes of rows, row y is bit y / n of class y % n, and a class has one word per
+//! column. So the western and eastern neighbours of a word's sites are the words before and after it. The northern and
+//! southern ones are the word of the same column in the class before and after, shifted by one bit only between the
+//! last class and the first.
 //!
-//! A plane has one bit of a number for each site. Four planes have the heights, `LEVEL` above what they are, so that
-//! the sites that may topple are the ones of the last plane; four more have how often each site toppled. Numbers are
-//! added as an adder does it, bit by bit and with carries.
+//! A plane has one bit of a number for each site. Four planes have the heights plus `LEVEL`, so that the sites that may
+//! topple are the ones of the last plane; four more count how often each site has toppled. Numbers are added as an
+//! adder does it, bit by bit and with carries.
 //!
-//! In a sweep a site topples at most once. The grains that are on their way to a class are added only when the sweep comes by:
+//! In a sweep a site topples at most once. Grains on their way to a class are added only when the sweep reaches it:
 //! they are what its neighbours toppled last.
 
 ghost use Rattle.std.specs.Prelude.{◌≤◌, ◌<◌};
@@ -18,53 +19,53 @@ use std::alloc::{AllocError, Global};
 use std::mem;
 use std::simd::prelude::*;
 
-// How many rows a word has a bit for.
+// The number of rows in a word.
 const ROWS: usize = 64;
 
-// How many words are toppled at once. With four, the numbers of a step do not fit into the registers.
+// The number of words toppled at a time. With four, the numbers of a step do not fit into the registers.
 const LANES: usize = 2;
 
-// How many columns a strip has.
+// The number of columns in a strip.
 const STRIP: usize = 32;
 
-// The planes of the heights, and of the counts of the last sweeps.
+// The numbers of planes for the heights, and for the counts of the last sweeps.
 const HEIGHT_PLANES: usize = 4;
 
 const COUNT_PLANES: usize = 4;
 
-// The planes of a strip, one after another.
+// The words of a strip: its planes, one after another.
 const BLOCK: usize = (HEIGHT_PLANES + COUNT_PLANES) * STRIP;
 
-// So many sweeps fill the planes of the counts: they then are added to those of the sums.
+// This number of sweeps fills the planes of the counts, which are then added to those of the sums.
 const SWEEPS_A_COUNT: usize = 15;
 
-// The planes of the sums, for each strip one after another.
+// The number of planes for the sums.
 const SUM_PLANES: usize = 12;
 
 const SUM_BLOCK: usize = SUM_PLANES * STRIP;
 
-// So many sweeps fill the planes of the sums: they then are added to the counts by site.
+// This number of sweeps fills the planes of the sums, which are then added to the counts by site.
 const SWEEPS_A_SUM: usize = 4095;
 
-// What is added to a height in the planes.
+// The offset of a height in the planes.
 const LEVEL: i64 = 4;
 
-// The greatest number in the planes before a sweep. It then gets four grains at most, and has room.
+// The greatest number in the planes before a sweep: it still fits with four grains more.
 const MOST: u64 = 11;
 
-/// Heights in bit planes, and topplings that are under way.
+/// Heights in bit planes, and topplings that are underway.
 #[derive(Drop)]
 pub(crate) struct Planes {
     frame: Frame,
     classes: usize,
     strips: usize,
-    /// By class the bits that are rows of the grid.
+    /// By class, the bits that are rows of the grid.
     inside: Vec<u64>,
-    /// Class by class and strip by strip the planes of heights and counts.
+    /// The planes of heights and counts, class by class and strip by strip.
     blocks: Vec<u64>,
-    /// In the same order the planes of the sums.
+    /// The planes of the sums, in the same order.
     sums: Vec<u64>,
-    /// By class which sites toppled last, in words with `LANES` more at either end; and room for one class.
+    /// By class, the sites that toppled last, in words with `LANES` more at either end; and room for one class.
     toppled: Vec<Vec<u64>>,
     spare: Vec<u64>,
     ghost some: { 0 < classes },
@@ -72,14 +73,14 @@ pub(crate) struct Planes {
     ghost narrow: { strips ≤ 8 },
 }
 
-// The sum of four bits at each place, as ones, twos and fours.
+// For each bit position the sum of four bits, as ones, twos and fours.
 #[inline(always)]
 fn sum_of(a: u64x2, b: u64x2, c: u64x2, d: u64x2) -> [u64x2; 3] {
     let carry = (a ^ b) & (c ^ d);
     [a ^ b ^ c ^ d, (a & b) ^ (c & d) ^ carry, (a & b) & (c & d)]
 }
 
-// Adds what toppled to the counts of a block, in the column x and the next.
+// Adds what toppled to the counts of a block, in column x and the next.
 #[inline(always)]
 fn count_up(block: &mut [u64], x: usize, toppled: u64x2)
     requires { x < 31 }
@@ -96,8 +97,8 @@ fn count_up(block: &mut [u64], x: usize, toppled: u64x2)
     }
 }
 
-// Topples a strip by what toppled around it: the words `here` begin one before it, and those north of the first class
-// and south of the last are one bit off. Says whether any site toppled.
+// Topples a strip, once it has the grains that toppled around it, and returns whether any site toppled. `here` begins
+// one word before the strip. The words north of the first class and south of the last are shifted by one bit.
 #[inline(always)]
 fn topple_strip(
     block: &mut [u64],
@@ -151,7 +152,7 @@ fn topple_strip(
     seen.reduce_or() != 0
 }
 
-/// Whether a height has room in the planes.
+/// Whether the planes have room for a height.
 #[inline(always)]
 pub(crate) fn has_room(height: i64) -> bool {
     height.wrapping_add(LEVEL).cast_unsigned() <= MOST
@@ -172,7 +173,7 @@ fn put_row(block: &mut [u64], heights: &[i64], bit: u32) {
     }
 }
 
-// Adds the counts of a column to the sums, and forgets them.
+// Adds the counts of a column to the sums.
 #[inline(always)]
 fn add_column(block: &mut [u64], sums: &mut [u64], x: usize)
     requires { x < 32 }
@@ -193,7 +194,7 @@ fn add_column(block: &mut [u64], sums: &mut [u64], x: usize)
     }
 }
 
-// Adds the counts of a block to the sums, and forgets them.
+// Adds the counts of a block to the sums, and clears them.
 fn add_counts(block: &mut [u64], sums: &mut [u64]) {
     for x in 0..STRIP {
         add_column(block, sums, x);
@@ -201,7 +202,7 @@ fn add_counts(block: &mut [u64], sums: &mut [u64]) {
     run_mut(block, HEIGHT_PLANES * STRIP, COUNT_PLANES * STRIP).fill(0);
 }
 
-// The number that a site has in the planes of the sums.
+// The number of a site in the planes of the sums.
 #[inline(always)]
 fn sum_at(sums: &[u64], x: usize, bit: u32) -> u64
     requires { x < 32 }
@@ -252,13 +253,13 @@ impl Planes {
         })
     }
 
-    // The number of a strip of a class in the order of the blocks.
+    // The index of a strip of a class among the blocks.
     #[inline(always)]
     fn place(&self, class: usize, strip: usize) -> usize {
         class.wrapping_mul(self.strips).wrapping_add(strip)
     }
 
-    // The sites of a row in a strip: the first, and how many.
+    // The sites of a row in a strip: the first, and their number.
     #[inline(always)]
     fn sites_of(&self, y: usize, strip: usize) -> (usize, usize)
         requires { strip < 8 }
@@ -268,7 +269,6 @@ impl Planes {
         (first, self.frame.width.saturating_sub(x).min(STRIP))
     }
 
-    // Sets the bits of a row.
     fn put_row(&mut self, heights: &[i64], y: usize)
         requires { y < 256 }
     {
@@ -281,7 +281,7 @@ impl Planes {
         }
     }
 
-    /// Takes heights over. All of them have room.
+    /// Loads heights. The planes have room for all of them.
     pub(crate) fn put(&mut self, heights: &[i64]) {
         self.blocks.fill(0);
         for row in &mut self.toppled {
@@ -292,7 +292,6 @@ impl Planes {
         }
     }
 
-    // Adds all counts to the sums.
     fn add_counts(&mut self) {
         for place in 0..self.classes * self.strips {
             let block = run_mut(&mut self.blocks, place.wrapping_mul(BLOCK), BLOCK);
@@ -314,7 +313,7 @@ impl Planes {
         }
     }
 
-    // Adds what toppled since the last time to the counts.
+    // Adds what toppled since the last call to the counts.
     fn count(&mut self, counts: &mut [i64]) {
         self.add_counts();
         for y in 0..self.frame.height {
@@ -334,7 +333,7 @@ impl Planes {
         (north, south)
     }
 
-    // Topples a strip of a class, and says whether any site toppled.
+    // Topples a strip of a class, and returns whether any site toppled.
     #[inline(always)]
     fn topple_strip(&mut self, class: usize, strip: usize) -> bool
         requires class { class < 4 }
@@ -374,8 +373,8 @@ impl Planes {
         }
     }
 
-    // Puts what toppled in a class in the place of what toppled there before. Columns beyond the last have toppled nothing, but
-    // for the first again if rows go round.
+    // Stores what toppled in a class in place of what toppled there before. The columns beyond the ends are empty, or
+    // those of the other end if rows wrap around.
     fn keep(&mut self, class: usize) {
         let end = LANES + self.frame.width;
         let row = &mut self.spare;
@@ -389,7 +388,7 @@ impl Planes {
         }
     }
 
-    // Topples the sites of a class, and says whether any toppled.
+    // Topples the sites of a class, and returns whether any toppled.
     fn sweep_class(&mut self, class: usize) -> bool
         requires { class < 4 }
     {
@@ -401,7 +400,7 @@ impl Planes {
         is_any
     }
 
-    // Topples the sites of all classes once, and says whether any toppled.
+    // Topples the sites of all classes once, and returns whether any toppled.
     fn sweep(&mut self) -> bool {
         let mut is_any = false;
         for class in 0..self.classes {
@@ -410,8 +409,8 @@ impl Planes {
         is_any
     }
 
-    /// Topples until no site may topple, and says whether it came to that in so many sweeps. The heights then are to be
-    /// taken over from the counts again.
+    /// Topples until no site may topple, and returns whether `sweeps` sweeps were enough. The caller then computes the
+    /// heights again from the counts.
     pub(crate) fn topple(&mut self, counts: &mut [i64], sweeps: usize) -> bool {
         for sweep in 0..sweeps {
             if sweep % SWEEPS_A_SUM == 0 {

@@ -1,7 +1,7 @@
 //! Products of matrices, four rows and four columns at a time.
 //!
-//! A right factor is kept in blocks of four columns, each block row by row, so that a block stays in the cache while all
-//! rows of the left factor pass it. Sizes are multiples of four.
+//! The right factor is in blocks of four columns, each block row by row, so that a block stays in the cache while all
+//! rows of the left factor pass. Sizes are multiples of four.
 
 ghost use Rattle.std.specs.Prelude.{◌≤◌, ◌<◌};
 
@@ -9,7 +9,7 @@ use crate::frame::{run, run_mut};
 use std::alloc::{AllocError, Global};
 use std::simd::prelude::*;
 
-/// How many columns a block has, and how many rows go at a time.
+/// The number of columns in a block, and of rows multiplied at a time.
 pub(crate) const BLOCK: usize = 4;
 
 // Four rows times a block.
@@ -69,7 +69,7 @@ fn times_block(source: &[f64], columns: usize, block: &[f64], column: usize, out
     }
 }
 
-/// The rows of `source` times a matrix in blocks, both with so many columns.
+/// The rows of `source` times a matrix in blocks, both with `columns` columns.
 pub(crate) fn multiply(source: &[f64], columns: usize, blocks: &[f64], out: &mut [f64]) {
     let size = columns.wrapping_mul(BLOCK);
     let mut from = 0usize;
@@ -79,7 +79,7 @@ pub(crate) fn multiply(source: &[f64], columns: usize, blocks: &[f64], out: &mut
     }
 }
 
-// Adds a block of four columns from one on, row by row. Outside the list it is filled up with zeros.
+// Adds a block of four columns from `first` on, row by row, with zeros outside the list.
 fn push_block(
     blocks: &mut Vec<f64>,
     values: &[f64],
@@ -100,8 +100,8 @@ fn push_block(
     Ok(())
 }
 
-/// A list of rows of `width` numbers as a matrix of so many columns in blocks, filled up with zeros; or, if it is
-/// turned, with its rows as columns.
+/// A list of rows of `width` numbers as a matrix of `columns` columns in blocks, padded with zeros. If it is turned,
+/// its rows become columns.
 pub(crate) fn in_blocks(
     alloc: Global,
     values: &[f64],

@@ -1,5 +1,4 @@
-//! Making counts right: from any counts that come near, to those that topple no site without need and leave none
-//! unstable.
+//! Correcting counts: from any that come near, to those that topple no site needlessly and leave none unstable.
 
 ghost use Rattle.std.specs.Prelude.{◌≤◌, ◌<◌};
 
@@ -12,37 +11,37 @@ use crate::solver::Solver;
 use std::alloc::{AllocError, Global};
 use std::num::{nearest_i64_to_f64, saturating_f64_to_i64};
 
-// How often Lu = r is solved for what is left before a guess is given up. Nearly always the first solve does.
+// The most solves for the residual before a guess is given up. The first is nearly always enough.
 const SOLVES: usize = 3;
 
-// How often heights are evened out after each solve.
+// The most times that heights are evened out after a solve.
 const EVENINGS: usize = 400;
 
-// So many sweeps are made before a guess is given up: several times as many as any pile was seen to take.
+// The most sweeps before a guess is given up: several times as many as any pile was seen to take.
 const MOST_SWEEPS: usize = 100_000;
 
-// How often topplings are taken back before all counts are lowered, by what density first, and how many times as much
-// each time after that. A fire takes as long as some 150 sweeps.
+// How often topplings are taken back before all counts are lowered, the density of the first lowering, and its factor
+// from each lowering to the next. A fire takes as long as about 150 sweeps.
 const MOST_TAKEN_BACK: usize = 24;
 
 const FIRST_LOWERING: f64 = 0.03;
 
 const DENSER: f64 = 4.0;
 
-// How often counts are lowered.
+// The most lowerings before a guess is given up.
 const LOWERINGS: usize = 10;
 
-/// Counts under repair, with room for what the repair needs.
+/// Counts under repair, with working memory.
 #[derive(Drop)]
 pub(crate) struct Repair {
     pub(crate) counts: Vec<i64>,
     pub(crate) fire: Fire,
-    /// The heights that the counts leave.
+    /// The heights after these counts.
     pub(crate) left: Vec<i64>,
     planes: Planes,
 }
 
-// Adds what is nearest to each number, and keeps counts from the least on.
+// Adds each number times `factor`, rounded, and keeps counts at `least` or above.
 fn add_rounded(counts: &mut [i64], least: i64, numbers: &[f64], factor: f64) {
     for at in 0..counts.len().min(numbers.len()) {
         let twice = saturating_f64_to_i64(2.0 * factor * numbers[at]);
@@ -52,7 +51,7 @@ fn add_rounded(counts: &mut [i64], least: i64, numbers: &[f64], factor: f64) {
     }
 }
 
-// How far each height is above the expected one and the excess.
+// Each height less the expected one and the excess.
 fn rest_of(
     alloc: Global,
     left: &[i64],
@@ -76,7 +75,7 @@ impl Repair {
         })
     }
 
-    // Computes the heights again, evens them out until they have room, and says whether they do.
+    // Computes the heights again, evens them out until the planes have room for them, and returns whether they do.
     fn even_out(&mut self, level: &Level) -> bool {
         subtract(level.frame, &level.start, &self.counts, &mut self.left);
         for _ in 0..EVENINGS {
@@ -88,25 +87,26 @@ impl Repair {
         false
     }
 
-    // Topples until no site may topple, and says whether it came to that in so many sweeps. The heights have room.
+    // Topples until no site may topple, and returns whether `sweeps` sweeps were enough. The planes have room for the
+    // heights.
     fn topple(&mut self, level: &Level, sweeps: usize) -> bool {
         let is_stable = self.planes.topple(&mut self.counts, sweeps);
         subtract(level.frame, &level.start, &self.counts, &mut self.left);
         is_stable
     }
 
-    // Takes back topplings until none is left that can be, and says whether it came to that. The heights are stable.
+    // Takes back topplings until no more can be taken back, and returns whether it got there. The heights are stable.
     fn take_back(&mut self, level: &Level) -> bool {
         self.fire
             .take_back(&self.left, &mut self.counts, level.least, MOST_TAKEN_BACK)
     }
 
-    /// Topples from the counts as they are, and says whether that made them right in so many sweeps.
+    /// Topples from the present counts, and returns whether that made them right in `sweeps` sweeps.
     pub(crate) fn sweep(&mut self, level: &Level, sweeps: usize) -> bool {
         self.even_out(level) && self.topple(level, sweeps) && self.take_back(level)
     }
 
-    /// Counts that leave heights near the expected ones; says whether they do so near enough.
+    /// Finds counts with heights near the expected ones, and returns whether they are near enough.
     pub(crate) fn begin(
         &mut self,
         alloc: Global,
@@ -127,8 +127,8 @@ impl Repair {
         Ok(false)
     }
 
-    /// Makes the counts right, and says whether it came to an end. If topplings have to be taken back over and over,
-    /// counts are lowered by what a higher density would have made of them where the last fire left sites.
+    /// Makes the counts right, and returns whether it got there. If topplings must be taken back over and over, the
+    /// counts are lowered, as by a higher density where the last fire left sites unburnt.
     pub(crate) fn finish(
         &mut self,
         alloc: Global,

@@ -1,10 +1,10 @@
-//! The heights s - Lu that counts leave, in whole numbers.
+//! The heights s - Lu after given counts, in integers.
 //!
-//! The solve is in floating point, but what is left of the start is always computed from it anew and exactly. So
-//! however large the counts are, an error of rounding is in the residual and is solved for again.
+//! The solve is in floating point, but the residual is always computed exactly, from the start. So however large the
+//! counts are, a rounding error shows in the residual and is solved for again.
 //!
-//! Counts are listed by site, without an edge: a row is added as a whole to the one above or below, and shifted by a cell
-//! for its sides, which the compiler does for many cells at once.
+//! Counts are listed by site, without a border: a row is added as a whole to the one above or below, and shifted by a
+//! cell to its sides, which the compiler does for many cells at once.
 
 ghost use Rattle.std.specs.Prelude.{◌≤◌, ◌<◌};
 
@@ -12,7 +12,7 @@ use crate::frame::{Frame, run, run_mut};
 use crate::levels::Level;
 use crate::planes::has_room;
 
-// The start less four topplings a count.
+// The start less four grains per toppling.
 fn begin_row(row: &mut [i64], start: &[i64], counts: &[i64]) {
     let cells = row.len().min(start.len()).min(counts.len());
     for x in 0..cells {
@@ -27,7 +27,7 @@ fn add_row(row: &mut [i64], counts: &[i64]) {
     }
 }
 
-// Adds the counts west and east, and beyond the seam if there is one.
+// Adds the counts west and east, and across the seam if there is one.
 fn add_sides(row: &mut [i64], counts: &[i64], goes_round: bool) {
     let cells = row.len().min(counts.len());
     if cells == 0 {
@@ -72,7 +72,7 @@ fn give(left: &mut [i64], at: usize, grains: i64) {
     }
 }
 
-// The sites west and east of column x in the row that begins at `from`, or no site of the grid.
+// The sites west and east of column x in the row that begins at `from`, or a number outside the grid.
 fn sides_of(frame: Frame, from: usize, x: usize) -> (usize, usize) {
     let at = from.wrapping_add(x);
     let end = from.wrapping_add(frame.width);
@@ -86,8 +86,8 @@ fn sides_of(frame: Frame, from: usize, x: usize) -> (usize, usize) {
     (west, if east == end { after } else { east })
 }
 
-// If a height has no room, topples the site or takes topplings back, so that its height is from 2 to 5 or its count the
-// least.
+// If the planes have no room for a height, topples the site or takes topplings back, so that its height is from 2 to 5
+// or its count is the least.
 fn even_out(level: &Level, counts: &mut [i64], left: &mut [i64], from: usize, x: usize) {
     let at = from.wrapping_add(x);
     if at >= left.len() || at >= counts.len() || has_room(left[at]) {
@@ -121,7 +121,8 @@ fn have_room(heights: &[i64]) -> bool {
     have_room
 }
 
-/// Evens out heights that have no room in planes, once over the grid and once back, and says whether there were any.
+/// Evens out heights that the planes have no room for, once over the grid and once back, and returns whether there were
+/// any.
 pub(crate) fn smooth(level: &Level, counts: &mut [i64], left: &mut [i64]) -> bool {
     let width = level.frame.width;
     let rows = level.frame.height;

@@ -1,9 +1,9 @@
-//! A direct solve of Lv = r in floating point.
+//! A direct solver of Lv = r in floating point.
 //!
-//! A row is split into its even and its odd part (`waves`), and each is solved for by half of the columns. A product
-//! turns each row into its waves. For each wave a line of equations is left along y, in which each unknown
-//! meets only the one above and the one below: these are eliminated from the first row to the last, and then
-//! the unknowns are found from the last to the first. A product turns waves into rows again.
+//! A row is split into its even and its odd part (`waves`), and each is solved on half of the columns. A product turns
+//! each row into its modes. Each mode has a line of equations along y, in which each unknown meets only the one above
+//! and the one below: these are eliminated from the first row to the last, and then the unknowns are found from the
+//! last to the first. A product turns modes into rows again.
 
 ghost use Rattle.std.specs.Prelude.{◌≤◌, ◌<◌};
 
@@ -12,7 +12,7 @@ use crate::product::{BLOCK, in_blocks, multiply};
 use crate::waves::{Waves, waves_of};
 use std::alloc::{AllocError, Global};
 
-/// What solves Lv = r for one parity of r, by the first half of the columns.
+/// The solver of Lv = r for one parity of r, on the first half of the columns.
 #[derive(Drop)]
 struct Part {
     to_waves: Vec<f64>,
@@ -20,13 +20,13 @@ struct Part {
     own: Vec<f64>,
 }
 
-/// What solves Lv = r on a frame.
+/// The solver of Lv = r on a frame.
 #[derive(Drop)]
 pub(crate) struct Solver {
     frame: Frame,
-    /// Half the width, rounded up to whole blocks: rows of a part are this long.
+    /// Half the width, rounded up to whole blocks: the length of a part's rows.
     columns: usize,
-    /// The height, rounded up in the same way.
+    /// The height, rounded up to whole blocks.
     rows: usize,
     even: Part,
     odd: Part,
@@ -41,7 +41,7 @@ fn rounded_up(count: usize) -> usize
     (count + (BLOCK - 1)) / BLOCK * BLOCK
 }
 
-// The first row of unknowns: `shares` is how much of a row is taken from the next.
+// The first row of unknowns. `shares` are the factors of the next row.
 fn eliminate_first(own: &[f64], shares: &mut [f64], row: &mut [f64]) {
     let cells = own.len().min(shares.len()).min(row.len());
     for k in 0..cells {
@@ -72,7 +72,6 @@ fn substitute(shares: &[f64], row: &mut [f64], after: &[f64]) {
     }
 }
 
-// Eliminates from the first row to the last.
 fn eliminate_all(own: &[f64], shares: &mut [f64], all: &mut [f64], rows: usize) {
     let columns = own.len();
     eliminate_first(own, shares, all);
@@ -105,7 +104,8 @@ fn substitute_all(columns: usize, shares: &[f64], all: &mut [f64], rows: usize) 
     }
 }
 
-// The even and the odd part of a row, by its first half. A column in the middle is its own mirror, and counts once.
+// The even and the odd part of a row, on its first half. A column in the middle is its own mirror image, and counts
+// once.
 fn split_row(row: &[f64], even: &mut [f64], odd: &mut [f64]) {
     let width = row.len();
     for x in 0..(width / 2).min(even.len()).min(odd.len()) {
@@ -145,7 +145,7 @@ impl Part {
         })
     }
 
-    // Turns r into v. `waves` has as much room as `all`.
+    // Turns r into v. `waves` is as long as `all`.
     fn solve(&self, all: &mut [f64], waves: &mut [f64], rows: usize) {
         let columns = self.own.len();
         multiply(all, columns, &self.to_waves, waves);

@@ -1,12 +1,10 @@
-//! The waves along a row that toppling keeps: sines if the row's ends are open, sines and cosines if it goes
-//! round.
+//! The modes of a row under toppling: sines if its ends are open, sines and cosines if it wraps around.
 //!
-//! Each wave v has neighbours' sums that are a multiple of v, so in these waves Lu = r falls apart into one line of
-//! equations along y for each wave. The waves are orthogonal and of length 1.
+//! For each mode v, the sum over a column's neighbours in the row is a multiple of v. So in modes Lu = r splits into
+//! one line of equations along y for each mode. The modes are orthogonal and of length 1.
 //!
-//! The mirror that changes the ends of a row leaves each wave as it is, or turns it into its opposite: waves are even or
-//! odd. So the first half of the columns tells the rest, and the waves of one parity are solved for by half of the
-//! columns, at a quarter of the cost.
+//! Reflecting a row keeps each mode, or changes its sign: modes are even or odd. So the first half of the columns
+//! determines the rest, and the modes of one parity are solved on half of the columns, at a quarter of the cost.
 
 ghost use Rattle.std.specs.Prelude.{◌≡◌, ◌*◌, ◌≤◌, ◌<◌, length, IfOk};
 
@@ -16,7 +14,7 @@ use std::num::nearest_usize_to_f64;
 
 const PI: f64 = 3.141592653589793;
 
-// So many terms of the series after the first give a sine up to half pi to the last bit or nearly so.
+// This number of terms after the first gives a sine up to half pi to the last bit or nearly so.
 const TERMS: usize = 12;
 
 // The sine of x, for x from 0 to half pi.
@@ -33,19 +31,19 @@ fn sine(x: f64) -> f64 {
     sum
 }
 
-// The sine of m * pi / half, for m up to twice `half`.
+// The sine of m * pi / half, for m up to 2 * half.
 fn sine_of(m: usize, half: usize) -> f64 {
     let (m, sign) = if m > half { (m - half, -1.0) } else { (m, 1.0) };
     let m = m.min(half.saturating_sub(m));
     sign * sine(PI * nearest_usize_to_f64(m) / nearest_usize_to_f64(half))
 }
 
-/// Waves of one parity, as numbers over the first half of the columns, and what each adds along y.
+/// Modes of one parity, on the first half of the columns, and what each adds along y.
 #[derive(Drop)]
 pub(crate) struct Waves {
-    /// Wave by wave, the values in the columns.
+    /// Mode by mode, the values in the columns.
     pub(crate) values: Vec<f64>,
-    /// Wave by wave, 4 less the multiple that its neighbours in the row sum to.
+    /// Mode by mode, 4 less its eigenvalue under the sum over neighbours in the row.
     pub(crate) own: Vec<f64>,
 }
 
@@ -58,8 +56,7 @@ impl Waves {
     }
 }
 
-// The values of a wave in the columns: a factor times those of a full turn of sines, from the place `first` on, `step`
-// places apart.
+// The values of a mode in the columns: a factor times a full turn of sines, from index `first` on, `step` apart.
 fn push_wave(
     values: &mut Vec<f64>,
     sines: &[f64],
@@ -103,7 +100,7 @@ fn own_of(m: usize, half: usize) -> f64
     2.0 + 4.0 * sine * sine
 }
 
-// Sines that are 0 just outside the row. Those of an odd number of half turns are even.
+// Sines that are 0 just outside the row. Those with an odd number of half turns are even.
 fn open_waves(alloc: Global, width: usize) -> Result<(Waves, Waves), AllocError>
     requires { width ≤ 256 }
 {
@@ -124,7 +121,7 @@ fn open_waves(alloc: Global, width: usize) -> Result<(Waves, Waves), AllocError>
     Ok((even, odd))
 }
 
-// Cosines, which are even, and sines, which are odd, of as many turns as fit, counted from the middle of the row. The
+// Cosines, which are even, and sines, which are odd, with as many turns as fit, counted from the middle of the row. The
 // sine of no turn and the cosine of a turn in two columns are 0 everywhere.
 fn round_waves(alloc: Global, width: usize) -> Result<(Waves, Waves), AllocError>
     requires some { 0 < width }
@@ -132,7 +129,7 @@ fn round_waves(alloc: Global, width: usize) -> Result<(Waves, Waves), AllocError
 {
     let columns = (width + 1) / 2;
     let wide = (2.0 / nearest_usize_to_f64(width)).sqrt();
-    // Four steps for each column, so that half a column and a quarter turn are whole numbers of steps.
+    // Four steps per column, so that half a column and a quarter turn are whole numbers of steps.
     let sines = turn_of_sines(alloc, 2 * width)?;
     let mut even = Waves::new(alloc);
     let mut odd = Waves::new(alloc);
@@ -159,7 +156,7 @@ fn round_waves(alloc: Global, width: usize) -> Result<(Waves, Waves), AllocError
     Ok((even, odd))
 }
 
-/// The waves along the rows of a frame, the even ones and the odd ones.
+/// The even and the odd modes along the rows of a frame.
 pub(crate) fn waves_of(alloc: Global, frame: Frame) -> Result<(Waves, Waves), AllocError> {
     if frame.goes_round {
         round_waves(alloc, frame.width)
