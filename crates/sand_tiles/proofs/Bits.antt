@@ -14,7 +14,7 @@ bit_le a p = let b = bit_at-lt a p in omega arith
 half_of : (x y : ℕ) → x < 2 → y < 2 → x + y ≡ (x + y) % 2 + 2 * min x y
 half_of x y a b = omega arith
 
--- two sets added at each place: the sum and the carry
+-- two sets added at each place: sum and carry
 pub half : (a b p : ℕ) → bit a p + bit b p ≡ bit (bit_xor a b) p + 2 * bit (bit_and a b) p
 unfolding bit
 half a b p = half_of (bit_at a p) (bit_at b p) (bit_at-lt a p) (bit_at-lt b p) ∙ sym (ap (λ x. x + 2 * bit_at (bit_and a b) p) (bit_at_xor a b p) ∙ ap (λ x. (bit_at a p + bit_at b p) % 2 + 2 * x) (bit_at_and a b p))
@@ -30,11 +30,11 @@ either a b p = ap (λ x. x + bit_at (bit_and a b) p) (bit_at_or a b p) ∙ ap (�
 pub both_le : (a b p : ℕ) → (bit (bit_and a b) p ≤ bit a p) × (bit (bit_and a b) p ≤ bit b p) × (bit a p + bit b p ≤ 1 + bit (bit_and a b) p)
 both_le a b p = let h = half a b p in let e = either a b p in let x = bit_le (bit_xor a b) p in let o = bit_le (bit_or a b) p in let y = bit_le (bit_and a b) p in let m = bit_le a p in let n = bit_le b p in (omega arith, omega arith, omega arith)
 
--- the union of two sets that are apart
+-- the union of two disjoint sets
 pub apart : (a b p : ℕ) → bit a p + bit b p ≤ 1 → bit (bit_or a b) p ≡ bit a p + bit b p
 apart a b p few = let e = either a b p in let h = half a b p in omega arith
 
--- the bit-sliced sum of four sets and two planes, where the sum is at most 7 at the place
+-- the bit-sliced sum of four sets and two planes, if it is at most 7 at the place
 pub added : (low high a b c d p : ℕ) →
     bit low p + 2 * bit high p + (bit a p + bit b p + bit c p + bit d p)
     ≡ bit (bit_xor (bit_xor (bit_xor a b) low) (bit_xor c d)) p
@@ -75,7 +75,7 @@ added low high a b c d p =
     let s10 = apart (bit_or f1 f2) f3 p few_123 in
     omega arith
 
--- two words that share no place: their union is their sum
+-- the union of two disjoint words is their sum
 pub apart_words : (a b : ℕ) → a < 2 ^ 64 → ((p : ℕ) → p < 64 → bit a p + bit b p ≤ 1) → bit_or a b ≡ a + b
 unfolding bit
 apart_words a b fits few =
@@ -86,7 +86,7 @@ pub bit_none : (p : ℕ) → bit 0 p ≡ 0
 unfolding bit
 bit_none p = bit_at-zero p
 
--- a set added to two planes, with the set of the places that are due
+-- a set added to two planes, and the places that become due
 pub received : (low high due gain p : ℕ) →
     (bit (bit_xor low gain) p + 2 * bit (bit_xor high (bit_and low gain)) p ≡ (bit low p + 2 * bit high p + bit gain p) % 4)
     × (bit low p + 2 * bit high p + bit gain p + 4 * bit due p ≤ 7 → bit (bit_xor low gain) p + 2 * bit (bit_xor high (bit_and low gain)) p + 4 * bit (bit_or due (bit_and high (bit_and low gain))) p ≡ bit low p + 2 * bit high p + bit gain p + 4 * bit due p)
@@ -105,7 +105,7 @@ received low high due gain p =
     let x = bit_le (bit_xor due four) p in
     (omega arith, λ few. omega arith)
 
--- a greater set has at least the same places of another
+-- a larger set still meets another set
 pub or_grows : (a b free : ℕ) → 0 < bit_and a free → 0 < bit_and (bit_or a b) free
 unfolding bit
 or_grows a b free some =

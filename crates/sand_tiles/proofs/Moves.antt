@@ -1,4 +1,4 @@
--- What the shifts of a word and the masks of the first and the last column do to each place.
+-- What the shifts of a word, and the masks of the first and the last column, do to each place.
 use Rattle.std.proofs.Common.{ℕ, eqb, cond, ◌≡◌, ◌+◌, ◌-◌, ◌*◌, ◌/◌, ◌%◌, ◌^◌, ◌<◌, ◌≤◌, refl, sym, ◌∙◌, ap, arith, ⊎_elim}
 use Rattle.std.specs.Prelude.{bit_and}
 use Rattle.std.specs.Int.{bit_at}
@@ -41,7 +41,7 @@ masked_out a m p e = let le = both_le a m p in omega arith
 pub masked_in : (a m p : ℕ) → bit m p ≡ 1 → bit (bit_and a m) p ≡ bit a p
 masked_in a m p e = let le = both_le a m p in let l = bit_le a p in omega arith
 
--- the set of all places but those of the first column, and of all but those of the last
+-- all places except the first column, and all except the last
 not_first : (p : ℕ) → p < 64 → eqb (bit_at 18374403900871474942 p) 0 ≡ eqb (p % 8) 0
 not_first p low = agree_below_at (λ q. eqb (bit_at 18374403900871474942 q) 0) (λ q. eqb (q % 8) 0) 64 p refl low
 

@@ -1,4 +1,4 @@
--- How many places a set has.
+-- The number of places in a set.
 use Rattle.std.proofs.Common.{ℕ, zero, suc, ◌≡◌, ◌+◌, ◌*◌, ◌/◌, ◌%◌, ◌^◌, ◌<◌, ◌≤◌, refl, ◌∙◌, ap, arith, ⊎_elim}
 use Rattle.std.specs.Prelude.{bit_and, count_ones}
 use Rattle.std.specs.Int.{bit_at}
@@ -34,7 +34,7 @@ count_ones_of set fits = ap ones (let e : set ≡ set % 2 ^ 64 = omega arith in 
 pub few_ones : (set : ℕ) → sum_below 64 (bit set) ≤ 64
 few_ones set = at_most_all 64 (bit set) (λ p low. bit_le set p)
 
--- ---- numbers of three bits, over the places of a set
+-- ---- three-bit numbers, summed over the places of a set
 
 both_is : (a b p : ℕ) → bit (bit_and a b) p ≡ bit a p * bit b p
 both_is a b p =

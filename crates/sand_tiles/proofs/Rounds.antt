@@ -7,11 +7,11 @@ use Rattle.sand_tiles.specs.Places.{bit, height, around, unused, IsSpent, Stills
 use Rattle.sand_tiles.proofs.Bits.{bit_le, bit_none, both_le, apart, apart_words}
 use Rattle.sand_tiles.proofs.Around.{around_sum, around_le, around_few, around_none}
 
--- the places of `new` that have toppled before this round
+-- the places of `new` that toppled before this round
 abbrev pub done : ℕ → ℕ → ℕ → ℕ
 done new front q = bit new q - bit front q
 
--- the state of a visit that began with the tile t, as it comes to the tile u, with the next front
+-- the state of a visit that began with the tile t and has come to the tile u, with its next front
 pub record IsVisit (t u : Tile) (free due new front : ℕ) : Type 0 where
   pub inside : (p : ℕ) → p < 64 → bit front p ≤ bit new p
   pub due_in : (p : ℕ) → p < 64 → bit due p ≤ bit new p
@@ -33,7 +33,7 @@ visit_begins t free due spent = record {
   least = λ w stills. stills.due_in;
 }
 
--- so far and with this front, no more than the places that had not toppled
+-- so far and with this front, at most the places that had not toppled
 so_far : (t u : Tile) (free due new front p : ℕ) → IsVisit t u free due new front → p < 64
     → (around (done new front) p + around (bit front) p ≡ around (bit new) p) × (around (bit new) p ≤ around (unused free due t.wave) p) × (around (bit new) p ≤ 4)
 so_far t u free due new front p v low = (
@@ -43,7 +43,7 @@ so_far t u free due new front p v low = (
   around_few (bit new) p low (λ q l. bit_le new q),
 )
 
--- a place that has toppled or is due does not become 4 again
+-- a place that has toppled or is due does not reach 4 again
 pub apart_from : (t u w : Tile) (free due new front four p : ℕ) → IsSpent t free due → IsVisit t u free due new front → p < 64
     → height u p + around (bit front) p ≡ height w p + 4 * bit four p
     → bit t.wave p + bit new p + bit (bit_and four free) p ≤ 1
@@ -67,7 +67,7 @@ apart_from t u w free due new front four p spent v low e =
     (λ (not : bit free p ≡ 1 → ⊥). omega arith)
     (cases_eq (bit free p) 1)
 
--- a place that becomes 4 topples in whatever leaves no place with 4
+-- a place that reaches 4 topples in any w that leaves no place with 4
 least_more : (t u w : Tile) (free due new front four p : ℕ) (r : ℕ → ℕ) → IsSpent t free due → IsVisit t u free due new front → Stills t free due r → p < 64
     → height u p + around (bit front) p ≡ height w p + 4 * bit four p
     → bit (bit_or new (bit_and four free)) p ≡ bit new p + bit (bit_and four free) p
@@ -91,7 +91,7 @@ least_more t u w free due new front four p r spent v stills low e j =
     omega arith)
     (cases_eq (bit (bit_and four free) p) 0)
 
--- one round more
+-- one more round
 pub visit_goes_on : (t u w : Tile) (free due new front four : ℕ) → IsSpent t free due → IsVisit t u free due new front
     → ((p : ℕ) → p < 64 → height u p + around (bit front) p ≡ height w p + 4 * bit four p)
     → IsVisit t w free due (bit_or new (bit_and four free)) (bit_and four free)
@@ -111,7 +111,7 @@ visit_goes_on t u w free due new front four spent v round =
       least = λ r stills p low. let j = joined p low in least_more t u w free due new front four p r spent v stills low (round p low) j;
     }
 
--- each round makes the set of those that have toppled greater, also as a number
+-- each round enlarges the set of places that have toppled, also as a number
 pub visit_grows : (t u w : Tile) (free due new front four : ℕ) → new < 2 ^ 64 → IsSpent t free due → IsVisit t u free due new front
     → ((p : ℕ) → p < 64 → height u p + around (bit front) p ≡ height w p + 4 * bit four p)
     → bit_or new (bit_and four free) ≡ new + bit_and four free
@@ -137,7 +137,7 @@ visit_ends t u w free due new front empty v low high set =
       least = v.least;
     }
 
--- the places that a visit begins with
+-- the places with which a visit begins
 due_of : (t : Tile) (free start : ℕ) → IsReady t free start → (p : ℕ) → p < 64
     → (bit free p ≡ 1 → bit (bit_or (bit_and t.due free) start) p ≡ bit t.due p) × (bit free p ≡ 0 → bit (bit_or (bit_and t.due free) start) p ≡ bit start p)
 due_of t free start ready p low =
@@ -162,7 +162,7 @@ due_below t free start w ready calms p low =
     (λ (not : bit free p ≡ 1 → ⊥). let d1 = d.1 (omega arith) in let s = calms.start_in p low in omega arith)
     (cases_eq (bit free p) 1)
 
--- a tile of which each open place has had at most 7 grains is ready for the places that are due there and what starts
+-- a tile that is ready for what starts is spent for its due places and those that start
 pub ready_spent : (t : Tile) (free start : ℕ) → IsReady t free start → IsSpent (record t { due = 0 }) free (bit_or (bit_and t.due free) start)
 ready_spent t free start ready = record {
   fresh = λ p low. let d = due_of t free start ready p low in let s = bit_le t.wave p in let r = bit_le start p in let f = bit_le free p in let z = bit_le t.due p in

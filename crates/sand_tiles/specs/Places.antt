@@ -1,22 +1,23 @@
 -- A tile of 8 by 8 places, numbered row by row from the north-west corner, one bit of a word for each place.
--- Source: site waves (Ivashkevich, Ktitarev and Priezzhev 1994), in which each site topples once at most; a tile is this project's own.
+-- Source: waves of topplings (Ivashkevich, Ktitarev and Priezzhev 1994), in which each site topples at most once. Tiles
+-- are this project's own.
 use Rattle.std.specs.Prelude.{ℕ, ◌≡◌, ◌+◌, ◌-◌, ◌*◌, ◌%◌, ◌<◌, ◌≤◌, max, if◌then◌else◌, nat_lt, ◌==◌, bit_and}
 use Rattle.std.specs.Int.{bit_at}
 use Rattle.sand_tiles.specs.declared.tile.Tile.{Tile}
 
--- 1 if a place is in the set that a word is, and otherwise 0
+-- 1 if a place is in the set of a word, and otherwise 0
 unfoldable pub bit : ℕ → ℕ → ℕ
 bit word p = bit_at word p
 
--- how many grains lie at a place
+-- the number of grains at a place
 abbrev pub height : Tile → ℕ → ℕ
 height t p = bit t.low p + 2 * bit t.high p
 
--- a number from 0 to 7: the height, and 4 more if the place is due
+-- the height, and 4 more if the place is due: 0 to 7
 abbrev pub number : Tile → ℕ → ℕ
 number t p = height t p + 4 * bit t.due p
 
--- f at the neighbour of a place, and 0 where this is outside the tile
+-- f at the neighbour of a place, and 0 if that is outside the tile
 unfoldable pub north : (ℕ → ℕ) → ℕ → ℕ
 north f p = if nat_lt p 8 then 0 else f (p - 8)
 
@@ -33,21 +34,22 @@ east f p = if p % 8 == 7 then 0 else f (p + 1)
 abbrev pub around : (ℕ → ℕ) → ℕ → ℕ
 around f p = north f p + south f p + west f p + east f p
 
--- the places that may topple and have not
+-- the places that may topple and have not yet
 abbrev pub unused : ℕ → ℕ → ℕ → ℕ → ℕ
 unused free due set q = max (bit free q) (bit due q) - bit set q
 
--- no due place has toppled, and no free place that has toppled or is due could become 4 again, even if each other place of the tile toppled
+-- no due place has toppled, and no free place that has toppled or is due could reach 4 again, even if each other place
+-- of the tile toppled
 pub record IsSpent (t : Tile) (free due : ℕ) : Type 0 where
   pub fresh : (p : ℕ) → p < 64 → bit t.wave p + bit due p ≤ 1
   pub low : (p : ℕ) → p < 64 → bit free p ≡ 1 → 1 ≤ bit t.wave p + bit due p → height t p + around (unused free due t.wave) p ≤ 3
 
--- if the due places and each open place topple w times, no open place has 4 in the end
+-- w topples each due place, and leaves at most 3 at each free place
 pub record Stills (t : Tile) (free due : ℕ) (w : ℕ → ℕ) : Type 0 where
   pub due_in : (p : ℕ) → p < 64 → bit due p ≤ w p
   pub at_most_three : (p : ℕ) → p < 64 → bit free p ≡ 1 → height t p + 4 * bit due p + around w p ≤ 4 * w p + 3
 
--- in a tile some places were due, and the places of the set `new` toppled, each once: the due ones, and the free ones that this brought to 4
+-- the places of the set `new` topple, each once: the due places of a tile, and the free ones that this brings to 4
 pub record Topples (t u : Tile) (free due new : ℕ) : Type 0 where
   pub due_in : (p : ℕ) → p < 64 → bit due p ≤ bit new p
   pub once : (p : ℕ) → p < 64 → bit u.wave p ≡ bit t.wave p + bit new p
@@ -56,28 +58,30 @@ pub record Topples (t u : Tile) (free due new : ℕ) : Type 0 where
   pub modulo : (p : ℕ) → p < 64 → height u p ≡ (height t p + around (bit new) p) % 4
   pub least : (w : ℕ → ℕ) → Stills t free due w → (p : ℕ) → p < 64 → bit new p ≤ w p
 
--- a tile gets a grain at each place of the set `gain`; a place that would have 4 has 0 and is due
+-- a tile gets a grain at each place of the set `gain`; a place that reaches 4 has 0 and is due
 pub record Receives (t u : Tile) (gain : ℕ) : Type 0 where
   pub wave : u.wave ≡ t.wave
   pub due_grows : (free : ℕ) → 0 < bit_and t.due free → 0 < bit_and u.due free
   pub each : (p : ℕ) → p < 64 → height t p + 4 * (bit t.wave p + bit t.due p) + bit gain p ≤ 7 → height u p + 4 * (bit u.wave p + bit u.due p) ≡ height t p + 4 * (bit t.wave p + bit t.due p) + bit gain p
   pub modulo : (p : ℕ) → p < 64 → height u p ≡ (height t p + bit gain p) % 4
 
--- the grains that a place of a tile has had since the wave began, with 4 for having toppled, and 4 for being due
+-- the grains that a place has had since the wave began: its height, 4 if it has toppled, and 4 if it is due
 abbrev pub had : Tile → ℕ → ℕ
 had t p = height t p + 4 * (bit t.wave p + bit t.due p)
 
--- no open place can have had 8 grains, even if each other place of the tile toppled; what starts has not toppled, and is not open
+-- even if each other place of the tile toppled, no free place would have had 8 grains; places that start have not
+-- toppled, and are not free
 pub record IsReady (t : Tile) (free start : ℕ) : Type 0 where
   pub low : (p : ℕ) → p < 64 → bit free p ≡ 1 → had t p + around (unused free start t.wave) p ≤ 7
   pub held : (p : ℕ) → p < 64 → bit start p ≡ 1 → (bit free p ≡ 0) × (bit t.wave p ≡ 0)
 
--- w is above what starts, and if each open place toppled w times more, none would have 4 in the end
+-- w topples each place that starts, and leaves at most 3 at each free place
 pub record Calms (t : Tile) (free start : ℕ) (w : ℕ → ℕ) : Type 0 where
   pub start_in : (p : ℕ) → p < 64 → bit start p ≤ w p
   pub at_most_three : (p : ℕ) → p < 64 → bit free p ≡ 1 → had t p + around w p ≤ 4 * (bit t.wave p + w p) + 3
 
--- a visit topples what starts, the open places that are due, and those that this brings to 4; none is due in the end
+-- a visit topples the places that start, the free places that are due, and those that this brings to 4; none is due in
+-- the end
 pub record Visits (t u : Tile) (free start new : ℕ) : Type 0 where
   pub once : (p : ℕ) → p < 64 → bit u.wave p ≡ bit t.wave p + bit new p
   pub none_due : u.due ≡ 0

@@ -1,10 +1,10 @@
-//! Sets of places, counted.
+//! Counting sets of places.
 //!
-//! The number of places of a set is the number of ones in a word, and a sum of small numbers over them is a sum of three such
-//! counts (`sum_over`). How often each of 64 places has toppled is kept in five
-//! planes of bits, one for each power of 2 below 32: to count one toppling of each place of a set is to add a number of one
-//! bit at each place, by half adders. After 31 sets no carry has left the last plane, and the planes are spilled: what they
-//! count is added to a list of 64 numbers, and they are 0 again.
+//! The size of a set is the number of ones in a word, and a sum of small numbers over a set is a sum of three sizes
+//! (`sum_over`). How often each of 64 places has toppled is kept in five bit planes, one for each power of 2 below 32.
+//! To count one toppling at each place of a set, half adders add a one-bit number at each place. Up to 31 sets no carry
+//! leaves the last plane. Then the planes are spilled: their counts are added to a list of 64 numbers, and they are
+//! cleared.
 
 ghost use Rattle.std.specs.Prelude.{◌≡◌, ℕ, ◌+◌, ◌*◌, ◌^◌, ◌<◌, ◌≤◌};
 ghost use Rattle.sand_model.specs.Sand.{sum_below};
@@ -13,7 +13,7 @@ ghost use Rattle.sand_tiles.specs.Counts.{times, counted, IsCount};
 
 use crate::tile::Tile;
 
-/// How many places a set has.
+/// The number of places in a set.
 #[inline(always)]
 pub fn size(set: u64) -> u64
     ensures value { result ≡ sum_below 64 (bit set) }
@@ -31,7 +31,7 @@ pub fn sum_over(numbers: &Tile, set: u64) -> u64
     size(set & numbers.low) + 2 * size(set & numbers.high) + 4 * size(set & numbers.due)
 }
 
-/// A number from 0 to 31 at each place of a tile: one plane of bits for each power of 2.
+/// A number from 0 to 31 at each place of a tile: one bit plane for each power of 2.
 #[derive(Clone, Copy, Debug)]
 pub struct Planes {
     pub ones: u64,
@@ -41,7 +41,7 @@ pub struct Planes {
     pub sixteens: u64,
 }
 
-// How many sets the planes count before they are spilled.
+// The number of sets that the planes count before they are spilled.
 const SPILL: u64 = 31;
 
 const EMPTY: Planes = Planes {
@@ -55,11 +55,11 @@ const EMPTY: Planes = Planes {
 /// How often each place of a tile has toppled.
 #[derive(Clone, Copy, Debug)]
 pub struct Count {
-    /// The last topplings.
+    /// The topplings since the last spill.
     pub planes: Planes,
-    /// How many sets are counted in the planes.
+    /// The number of sets counted in the planes.
     pub sets: u64,
-    /// All topplings before these.
+    /// All earlier topplings.
     pub spilled: [u64; 64],
 }
 
@@ -80,7 +80,6 @@ fn add_to(planes: &mut Planes, set: u64)
     planes.sixteens ^= sixteen;
 }
 
-// The number at a place.
 #[inline(always)]
 fn number_at(planes: &Planes, place: usize) -> u64
     requires { place < 64 }
@@ -93,7 +92,7 @@ fn number_at(planes: &Planes, place: usize) -> u64
         + 16 * (planes.sixteens >> place & 1)
 }
 
-// Moves what the planes count to the list.
+// Moves the counts of the planes to the list.
 fn spill(count: &mut Count)
     requires few { (p : ℕ) → p < 64 → counted count.old p < 2 ^ 63 }
     ensures kept { (p : ℕ) → p < 64 → counted count.new p ≡ counted count.old p }
@@ -106,7 +105,7 @@ fn spill(count: &mut Count)
     count.sets = 0;
 }
 
-/// A count of nothing.
+/// A count of no topplings.
 pub fn no_count() -> Count
     ensures sound { IsCount result }
     ensures none { (p : ℕ) → p < 64 → counted result p ≡ 0 }

@@ -1,8 +1,8 @@
 //! Tiles of a sandpile: 8 by 8 sites, one bit of a word for each.
 //!
-//! On a stable pile a height is a number from 0 to 3, so two words hold the heights of 64 sites (`tile`). All sites of a
-//! tile that may topple do so at once, by a few operations on words (`visiting`), and how often each has toppled is
-//! counted in words, too (`counting`). A tile knows nothing of the grid that it is part of: `sand_fronts` joins tiles.
+//! On a stable pile heights are from 0 to 3, so two words hold the heights of 64 sites (`tile`). All sites of a tile
+//! that may topple do so at once, by a few word operations (`visiting`). Words also count how often each has toppled
+//! (`counting`). A tile knows nothing of its grid: `sand_fronts` joins tiles.
 #![tactic(auto)]
 
 mod counting;

@@ -1,27 +1,27 @@
 //! One tile, and the grains that it gets.
 //!
-//! `low` and `high` hold each height modulo 4. A place that comes to 4 grains is 0 in them, and its bit in `due` says that it
-//! has 4 more and must topple. A place that has toppled in this wave is in `wave`. So a place has had
-//! `low + 2 high + 4 (due + wave)` grains since the wave began.
+//! `low` and `high` hold each height modulo 4. A place that reaches 4 grains is 0 in them, and its bit in `due` says
+//! that it has 4 more and must topple. A place that has toppled in this wave is in `wave`. So since the wave began, a
+//! place has had `low + 2 high + 4 (due + wave)` grains.
 
 ghost use Rattle.std.specs.Prelude.{◌≡◌, ℕ, ◌+◌, ◌*◌, ◌<◌, ◌≤◌, ◌==◌};
 ghost use Rattle.sand_model.specs.Sand.{one_at};
 ghost use Rattle.sand_tiles.specs.Places.{bit, height, had, Receives};
 
-/// The heights of 8 by 8 places modulo 4, and the sets of those that are due to topple and of those that have.
+/// The heights of 8 by 8 places modulo 4, the places that are due to topple, and those that have toppled.
 #[derive(Clone, Copy, Debug)]
 pub struct Tile {
     /// The low bit of each height.
     pub low: u64,
     /// The high bit of each height.
     pub high: u64,
-    /// The places that have come to 4 grains and have not toppled since.
+    /// The places that have reached 4 grains and have not toppled since.
     pub due: u64,
     /// The places that have toppled in this wave.
     pub wave: u64,
 }
 
-/// Adds a grain at each place of a set, and makes due the places that have 4 from then on.
+/// Adds a grain at each place of a set. The places that reach 4 become due.
 #[inline(always)]
 pub fn receive(tile: &mut Tile, gain: u64)
     ensures { Receives tile.old tile.new gain }
@@ -32,7 +32,7 @@ pub fn receive(tile: &mut Tile, gain: u64)
     tile.high ^= carry;
 }
 
-/// A tile with no grain on it.
+/// An empty tile.
 pub const BARE: Tile = Tile {
     low: 0,
     high: 0,
@@ -49,7 +49,7 @@ pub fn set_of(place: usize) -> u64
     1 << place
 }
 
-/// Adds grains at each place of a set, one after another.
+/// Adds `grains` grains at each place of a set, one after another.
 pub fn add_grains(tile: &mut Tile, set: u64, grains: u64)
     requires few { (p : ℕ) → p < 64 → had tile.old p + grains * bit set p ≤ 7 }
     ensures each { (p : ℕ) → p < 64 → had tile.new p ≡ had tile.old p + grains * bit set p }

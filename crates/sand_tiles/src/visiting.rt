@@ -1,29 +1,29 @@
 //! One visit to a tile: all that is due topples, then what this brings to 4, until nothing is due.
 //!
-//! - **A front goes four ways by shifts.** The places of a front topple at once. A shift by 8 moves a set a row to the north
-//!   or the south, a shift by 1 a column to the west or the east; a mask cuts off what would pass from one end of a row to
-//!   the other. What is shifted out of the word leaves the tile; `sand_fronts` gives it to the tiles around.
-//! - **The four shifted sets are added to the planes** `low` and `high` like numbers of one bit, for all 64 places at
-//!   once, by half adders. At each place height and neighbours in the front are at most 7, so their sum is the new
-//!   height, plus 4 where a carry leaves the plane `high`.
+//! - **Shifts move a front four ways.** The places of a front topple at once. A shift by 8 moves a set one row north or
+//!   south, a shift by 1 one column west or east; a mask cuts off what would wrap from one end of a row to the other.
+//!   What is shifted out of the word leaves the tile; `sand_fronts` gives it to the tiles around.
+//! - **The four shifted sets are added to the planes** `low` and `high` as one-bit numbers, for all 64 places at once,
+//!   by half adders. At each place the height plus the neighbours in the front is at most 7. So the sum is the new
+//!   height, plus 4 if a carry leaves the plane `high`.
 //! - **The carry is the next front**, cut to the free places: those that may topple in this wave.
-//! - **No place topples twice in a wave.** It had at most 3 grains, gets one from each of its four neighbours at most, and
-//!   pays 4. So each front has only places that were in none before. The set of all fronts grows, also as a number, and
-//!   the rounds end (`proofs/Rounds`).
-//! - **It is least.** Whatever stabilises the free places topples each place that is in a front (`Visits`: `least`). Without
-//!   this, places could support each other in a ring, and the balance of grains would be right all the same.
+//! - **No place topples twice in a wave.** It had at most 3 grains, gets at most one from each of its four neighbours,
+//!   and pays 4. So each front has only new places. The set of all fronts grows, also as a number, and the rounds end
+//!   (`proofs/Rounds`).
+//! - **It is least.** Whatever stabilises the free places topples each place of a front (`Visits`: `least`). Without
+//!   this clause, places could support each other in a ring, and the grains would still balance.
 
 ghost use Rattle.std.specs.Prelude.{◌≡◌, ℕ, ◌+◌, ◌*◌, ◌<◌, ◌≤◌};
 ghost use Rattle.sand_tiles.specs.Places.{bit, height, around, IsSpent, Topples, IsReady, Visits};
 
 use crate::tile::Tile;
 
-// All places but those of the first column, and all but those of the last.
+// All places except the first column, and all except the last.
 const NOT_FIRST: u64 = 0xfefe_fefe_fefe_fefe;
 
 const NOT_LAST: u64 = 0x7f7f_7f7f_7f7f_7f7f;
 
-// Gives a grain to each neighbour of each place of the front that is inside the tile. Returns the places that lose 4.
+// Gives a grain to each neighbour, inside the tile, of each place of the front. Returns the places that lose 4.
 #[inline(always)]
 fn topple_front(tile: &mut Tile, front: u64) -> u64
     ensures heights { (p : ℕ) → p < 64 → height tile.old p + around (bit front) p ≡ height tile.new p + 4 * bit result p }
@@ -43,8 +43,8 @@ fn topple_front(tile: &mut Tile, front: u64) -> u64
     four
 }
 
-// Topples the due places of a tile, all at a time, and then the free ones that this brings to 4, until none is left.
-// Returns those that have toppled.
+// Topples the due places of a tile at once, then the free ones that this brings to 4, until there are none. Returns the
+// places that have toppled.
 #[inline(always)]
 fn topple_due(tile: &mut Tile, free: u64, due: u64) -> u64
     requires { IsSpent tile.old free due }
@@ -62,7 +62,8 @@ fn topple_due(tile: &mut Tile, free: u64, due: u64) -> u64
     new
 }
 
-/// Topples what starts, the free places that are due, and those that this brings to 4. Returns those that have toppled.
+/// Topples the places of `start`, the free places that are due, and those that this brings to 4. Returns the places
+/// that have toppled.
 #[inline(always)]
 pub fn visit(tile: &mut Tile, free: u64, start: u64) -> u64
     requires { IsReady tile.old free start }
