@@ -1,4 +1,4 @@
--- The tiles beside the tile of a site are on the board.
+-- The neighbours of the tile of a site are on the board.
 use Rattle.std.proofs.Common.{ℕ, Bool, true, false, cond, ◌≡◌, ◌+◌, ◌-◌, ◌*◌, ◌/◌, ◌%◌, ◌<◌, ◌≤◌, List, [], ◌∷◌, ◌++◌, length, sym, ◌∙◌, ap, subst, arith, ⊎_elim}
 use Rattle.std.proofs.lemmas.Bool.{cases_lt}
 use Rattle.std.proofs.lemmas.List.{get_or_push, get_or_append_left}
@@ -9,7 +9,7 @@ use Rattle.sand_fronts.specs.declared.sides.Beside.{Beside}
 use Rattle.sand_fronts.specs.Tiling.{across, down, pitch, tiles, tile_of, to_west, to_east, shift_west, shift_east, seam_west, seam_east}
 use Rattle.sand_fronts.specs.Waves.{IsBeside, IsBoard, beside_at}
 
--- a row of tiles follows the tile of a site
+-- the tile of a site is not in the last row of tiles
 pub row_after : (g : Grid) (j : ℕ) → j < sites g → tile_of g j + pitch g < tiles g
 unfolding tile_of
 row_after g j inside =
@@ -58,7 +58,7 @@ board_of g all one_each small each =
       );
     }
 
--- one tile more
+-- one more tile
 pub sides_more : (g : Grid) (xs ys : List Beside) (b : Beside) (n : ℕ) → ys ≡ xs ++ b ∷ [] → length xs ≡ n → IsBeside g n b → ((k : ℕ) → k < n → IsBeside g k (beside_at xs k))
     → (k : ℕ) → k < n + 1 → IsBeside g k (beside_at ys k)
 sides_more g xs ys b n pushed long is each k below =
@@ -71,7 +71,7 @@ sides_more g xs ys b n pushed long is each k below =
     (λ (last : n ≤ k). let e : n ≡ k = omega arith in subst P (sym (get_or_push xs b none k (long ∙ e))) (subst Q e is))
     (cases_lt k n))
 
--- the tile and the place that are found for a site
+-- the tile and the place found for a site
 pub found_inside : (g : Grid) (j x y a : ℕ) → j < sites g → x ≡ j % g.width → y ≡ j / g.width → a ≡ across g
     → ((y / 8 + 2) * (a + 2) + (x / 8 + 1) < tiles g) × (y % 8 * 8 + x % 8 < 64)
 unfolding tile_of

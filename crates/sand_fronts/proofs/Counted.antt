@@ -91,9 +91,9 @@ counted_more τ σ ρ c d e first second = record {
   clear = λ m was. second.clear m (first.clear m was);
 }
 
--- ---- how many
+-- ---- numbers
 
--- a sum in which one number becomes 0
+-- a sum in which one term becomes 0
 pub sum_less_one : (n k : ℕ) (f h : ℕ → ℕ) → k < n → h k ≡ 0 → ((i : ℕ) → (i ≡ k → ⊥) → h i ≡ f i) → f k + sum_below n h ≡ sum_below n f
 sum_less_one n k f h inside none others =
     let parts = sum_below_same n f (λ i. h i + f k * one_at k i) (λ i l. ⊎_elim
@@ -104,7 +104,7 @@ sum_less_one n k f h inside none others =
     let one = sum_below-one_at n k (λ i. f k) inside in
     omega arith
 
--- a tile leaves the wave, with what F makes of its set
+-- a tile leaves the wave, and F of its set leaves the sum
 pub wave_less : (F : ℕ → ℕ → ℕ) (τ σ : ℕ → Tile) (k n : ℕ) → k < n → F k 0 ≡ 0 → (σ k).wave ≡ 0 → ((m : ℕ) → m ≢ k → (σ m).wave ≡ (τ m).wave)
     → F k (τ k).wave + sum_below n (λ m. F m (σ m).wave) ≡ sum_below n (λ m. F m (τ m).wave)
 wave_less F τ σ k n less none empty others =
@@ -212,7 +212,7 @@ marked_one cs k word d x y inside counts marks =
 
 -- ---- turn by turn
 
--- what is left is in the rest of the list
+-- the tiles still in the wave are in the rest of the list
 pub rest_listed : (τ σ : ℕ → Tile) (c d : ℕ → Count) (here k : ℕ) (list : List ℕ) (turn end : ℕ) → AreListed here list turn end τ → AreCounted τ σ c d → IsClear (σ here)
     → IsClear (σ k) → k ≡ get_or list turn 0 → AreListed here list (turn + 1) end σ
 rest_listed τ σ c d here k list turn end listed counts first clear is m = ⊎_elim

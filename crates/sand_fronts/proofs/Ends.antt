@@ -1,4 +1,4 @@
--- How a wave begins, what it leaves, and when the next one follows.
+-- How a wave begins, the heights after it, and when the next one follows.
 use Rattle.std.proofs.Common.{ℕ, ◌≡◌, ◌≢◌, ◌+◌, ◌-◌, ◌*◌, ◌<◌, ◌≤◌, sym, ◌∙◌, ap, arith, ⊎_elim}
 use Rattle.std.proofs.lemmas.Bool.{cases_eq}
 use Rattle.sand_model.specs.Grid.{Grid, sites}
@@ -54,7 +54,7 @@ one_at_le' v i j some = ⊎_elim
     (λ (ne : j ≡ i → ⊥). let o = one_at_other j i ne in omega arith)
     (cases_eq j i)
 
--- what each site has in the end
+-- the height of each site in the end
 pub wave_balance : (g : Grid) (site : ℕ) (h : ℕ → ℕ) (τ : ℕ → Tile) (k : ℕ → ℕ) → IsWave g site h τ → toppled g τ site ≡ 1
     → ((j : ℕ) → j < sites g → j ≢ site → bit (τ (tile_of g j)).due (place_of g j) ≡ 0) → Leaves g site h τ k → (j : ℕ) → j < sites g
     → k j + 4 * toppled g τ j ≡ h j + flow g (toppled g τ) j
@@ -104,7 +104,7 @@ wave_advances g site h τ k u v wave started done leaves sums =
       grains_fall = let s = laplacian_sum g h t k toppled' in omega arith;
     }
 
--- where the held site is 0 in the planes and others have toppled, it has 4 again
+-- if the held site is 0 in the planes and others have toppled, it has 4 again
 pub four_again : (g : Grid) (site : ℕ) (h : ℕ → ℕ) (τ : ℕ → Tile) (k : ℕ → ℕ) (i : ℕ) → IsWave g site h τ → site < sites g → toppled g τ site ≡ 1 → h site ≡ 4
     → ((j : ℕ) → j < sites g → j ≢ site → h j ≤ 3)
     → ((j : ℕ) → j < sites g → j ≢ site → bit (τ (tile_of g j)).due (place_of g j) ≡ 0) → Leaves g site h τ k

@@ -169,7 +169,7 @@ on_below g v m p most low few = ⊎_elim
     (λ (no : is_site g m p ≡ false). let a = off_site g v m p no in omega arith)
     (cases_Bool (is_site g m p))
 
--- after so many waves of a drop that began with the tiles τ and the counts c
+-- after any number of waves of a drop that began with the tiles τ and the counts c
 pub record AreWaves (g : Grid) (site : ℕ) (more : Bool) (τ σ : ℕ → Tile) (c d : ℕ → Count) : Type 0 where
   pub clear : (m : ℕ) → IsClear (σ m)
   pub none_due : (j : ℕ) → j < sites g → j ≢ site → bit (σ (tile_of g j)).due (place_of g j) ≡ 0
@@ -209,7 +209,7 @@ wave_counts g site τ σ ρ c d e h counts moved clear j =
     let z = clear m p low in
     omega arith
 
--- one wave more
+-- one more wave
 pub waves_more : (g : Grid) (site : ℕ) (more : Bool) (τ σ ω ρ : ℕ → Tile) (c d e : ℕ → Count) → site < sites g → AreWaves g site true τ σ c d
     → IsWave g site (heights_before g site σ) ω → toppled g ω site ≡ 1
     → ((j : ℕ) → j < sites g → j ≢ site → bit (ω (tile_of g j)).due (place_of g j) ≡ 0)
@@ -272,14 +272,14 @@ waves_more g site more τ σ ω ρ c d e inside waves wave started none_due adva
       (let a = next.weight_pays in omega arith),
     )
 
--- how many sites a wave has
+-- the number of sites in a wave
 pub wave_size : (g : Grid) (site n : ℕ) (h : ℕ → ℕ) (τ : ℕ → Tile) → IsWave g site h τ → ((j : ℕ) → j < sites g → tile_of g j < n) → in_wave n τ ≡ topplings g (toppled g τ)
 wave_size g site n h τ wave here =
     sum_below_same n (λ k. sum_below 64 (bit (τ k).wave)) (λ k. sum_below 64 (λ p. on_tiles g (toppled g τ) k p))
     (λ k l. sum_below_same 64 (bit (τ k).wave) (λ p. on_tiles g (toppled g τ) k p) (λ p m. wave.inside k p m))
     ∙ sum_on_tiles g (toppled g τ) n here
 
--- how many grains a wave loses
+-- the number of grains that a wave loses
 on_product : (g : Grid) (u v : ℕ → ℕ) (k p : ℕ) → on_tiles g u k p * on_tiles g v k p ≡ on_tiles g (λ j. u j * v j) k p
 on_product g u v k p = ⊎_elim
     (λ (yes : is_site g k p ≡ true).
@@ -342,7 +342,7 @@ few_counted g site more τ σ c d m p sides waves low few =
     let e = waves.counts m p low in
     omega arith
 
--- when the last wave has passed
+-- after the last wave
 pub waves_end : (g : Grid) (site : ℕ) (τ σ : ℕ → Tile) (c d : ℕ → Count) → AreWaves g site false τ σ c d → IsSettled g (heights_before g site τ) (grown_on g c d) (heights_on g σ)
 waves_end g site τ σ c d waves =
     underway_end g (heights_before g site τ) (grown_on g c d) (heights_on g σ)
@@ -362,7 +362,7 @@ none_grown g c =
 pub none_counted : (g : Grid) (c : ℕ → Count) (m p : ℕ) → p < 64 → counted (c m) p ≡ counted (c m) p + on_tiles g (grown_on g c c) m p
 none_counted g c m p low = let b = on_below g (grown_on g c c) m p 0 low (λ j l. omega arith) in omega arith
 
--- what is no longer due in a tile changes no height
+-- clearing what is due in a tile changes no height
 heights_kept : (g : Grid) (ts : List Tile) (here : ℕ) (t : Tile) (j : ℕ) → here < length ts → t.low ≡ (tile_at ts here).low → t.high ≡ (tile_at ts here).high
     → heights_on g (tile_at ts) j ≡ heights_on g (tile_at (set ts here t)) j
 heights_kept g ts here t j inside low high = ⊎_elim

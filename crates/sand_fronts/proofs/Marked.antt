@@ -29,7 +29,6 @@ few_in_sets n x =
 pub none_in_sets : (n : ℕ) (x : ℕ → ℕ) → ((m : ℕ) → x m ≡ 0) → in_sets n x ≡ 0
 none_in_sets n x none = sum_below_same n (λ k. sum_below 64 (bit (x k))) (λ k. 0) (λ k l. ap (λ w. sum_below 64 (bit w)) (none k) ∙ none_of_none) ∙ sum_below-zero n
 
--- the set of the tile k is taken
 pub set_taken : (x y : ℕ → ℕ) (k m : ℕ) → ((i : ℕ) → y i ≡ cond (eqb i k) 0 (x i)) → m ≡ k → y m ≡ 0
 set_taken x y k m each e = each m ∙ ap (λ b. cond b 0 (x m)) (eq-eqb m k e)
 
@@ -83,7 +82,7 @@ marked_word g c d a b m p low marked none counts =
     omega arith)
     (cases_Bool (is_site g m p))
 
--- so the sets have as many places as sites have toppled
+-- so the sets have a place for each site that has toppled
 pub area_is : (g : Grid) (n : ℕ) (v b : ℕ → ℕ) → ((m p : ℕ) → p < 64 → bit (b m) p ≡ on_tiles g v m p) → ((j : ℕ) → j < sites g → tile_of g j < n) → in_sets n b ≡ sum_below (sites g) v
 area_is g n v b each here =
     sum_below_same n (λ k. sum_below 64 (bit (b k))) (λ k. sum_below 64 (λ p. on_tiles g v k p)) (λ k l. sum_below_same 64 (bit (b k)) (λ p. on_tiles g v k p) (λ p m. each k p m))

@@ -1,4 +1,4 @@
--- What the neighbours of a site are on the tiles.
+-- The neighbours of a site, on the tiles.
 use Rattle.std.proofs.Common.{ℕ, Bool, true, false, cond, eqb, ltb, ◌&&◌, ◌≡◌, ◌+◌, ◌-◌, ◌*◌, ◌/◌, ◌%◌, ◌<◌, ◌≤◌, refl, sym, ◌∙◌, ap, arith, ⊎_elim, Some, None}
 use Rattle.std.proofs.lemmas.Bool.{cases_lt, cases_eq, cases_Bool, lt-ltb, le-ltb, eq-eqb, ne_eqb, eqb-true, and_parts}
 use Rattle.std.proofs.lemmas.Nat.{div-mul-add, mod-mul-add, div-add-mod', mod_below}
@@ -27,7 +27,6 @@ value_of v false k = refl
 same2 : (u : ℕ → ℕ → ℕ) (k l p q : ℕ) → k ≡ l → p ≡ q → u k p ≡ u l q
 same2 u k l p q a b = ap (λ i. u i p) a ∙ ap (u l) b
 
--- north
 pub north_side : (g : Grid) (u : ℕ → ℕ → ℕ) (j : ℕ) → IsBlank g u → j < sites g
     → value_at (at_site g u) (north g j) ≡ inner_north (u (tile_of g j)) (place_of g j) + over_north (u (tile_of g j - pitch g)) (place_of g j)
 unfolding north inner_north over_north tile_of place_of
@@ -118,7 +117,7 @@ south_side g u j blank inside =
     (cases_lt (y + 1) h))
     (cases_eq (y % 8) 7)
 
--- the value beside a site: near, or across the seam
+-- the value next to a site: near, or across the seam
 value_beside : (v : ℕ → ℕ) (near wraps : Bool) (a b : ℕ) → value_at v (cond near (Some a) (cond wraps (Some b) None)) ≡ cond near (v a) (cond wraps (v b) 0)
 value_beside v true wraps a b = refl
 value_beside v false true a b = refl
@@ -269,7 +268,7 @@ east_side g u j blank inside =
     (cases_Bool (joins g.edge)))
     (cases_lt (x + 1) w)
 
--- what a site gains from its neighbours is what its place gains on the tiles
+-- a site gains from its neighbours what its place gains on the tiles
 pub flow_on_tiles : (g : Grid) (u : ℕ → ℕ → ℕ) (j : ℕ) → IsBlank g u → j < sites g → flow g (at_site g u) j ≡ tile_flow g u (tile_of g j) (place_of g j)
 flow_on_tiles g u j blank inside =
     let all = flow_four g (at_site g u) j in

@@ -29,7 +29,7 @@ nothing_sound = record { few = omega arith; each = λ p low. let z = bit_none p 
 nothing_counted : (p : ℕ) → counted nothing p ≡ 0
 nothing_counted p = let z = bit_none p in let e = get_or-eq_default {A = ℕ} [] 0 {n = p} (omega arith) in omega arith
 
--- each count is the same one, or nothing past the end
+-- each count is the same one, or empty past the end
 count_is : (P : Count → Type 0) (items : List Count) (n m : ℕ) (x : Count) → items ≡ replicate n x → P x → P nothing → P (count_at items m)
 count_is P items n m x all is none = ⊎_elim
     (λ (less : m < n). subst P (sym (ap (λ (xs : List Count). count_at xs m) all ∙ get_or-replicate {A = Count} n m x nothing less)) is)
@@ -42,7 +42,7 @@ counts_sound items n m x all sound = count_is IsCount items n m x all sound noth
 pub counts_none : (items : List Count) (n m p : ℕ) (x : Count) → items ≡ replicate n x → counted x p ≡ 0 → counted (count_at items m) p ≡ 0
 counts_none items n m p x all none = count_is (λ c. counted c p ≡ 0) items n m x all none (nothing_counted p)
 
--- tiles on which each site has had its height are at rest
+-- tiles where each site has had just its height are at rest
 pub new_quiet : (g : Grid) (h : ℕ → ℕ) (τ : ℕ → Tile) → ((j : ℕ) → j < sites g → h j ≤ 3) → ((m p : ℕ) → p < 64 → had (τ m) p ≡ on_tiles g h m p) → AreQuiet g τ
 new_quiet g h τ low all = record {
   clear = λ m p l. let e = all m p l in let f = on_below g h m p 3 l low in omega arith;
@@ -56,7 +56,7 @@ new_heights g h τ j low all l =
     let f = low j l in
     omega arith
 
--- ---- how many places round each site are outside
+-- ---- the number of places around each site outside the grid
 
 pub few_outside : (g : Grid) (xs : List ℕ) (j : ℕ) → slice_index xs j ≡ missing g j → slice_index xs j ≤ 7
 unfolding missing
@@ -71,7 +71,7 @@ outside_on_tiles g xs τ same clear all m p low =
     let b = on_tiles_le g (missing g) (slice_index xs) m p low (λ j l. let s = same j l in omega arith) in
     omega arith
 
--- one number more
+-- one more number
 pub numbers_more : (f : ℕ → ℕ) (xs ys : List ℕ) (y n : ℕ) → ys ≡ xs ++ y ∷ [] → length xs ≡ n → y ≡ f n → ((j : ℕ) → j < n → slice_index xs j ≡ f j)
     → (j : ℕ) → j < n + 1 → slice_index ys j ≡ f j
 numbers_more f xs ys y n pushed long is each j below =
@@ -81,7 +81,7 @@ numbers_more f xs ys y n pushed long is each j below =
     (λ (last : n ≤ j). let e : n ≡ j = omega arith in get_or_push xs y 0 j (long ∙ e) ∙ is ∙ ap f e)
     (cases_lt j n)
 
--- ---- counts of nothing, and of one drop more
+-- ---- counts of no topplings, and of one more drop
 
 pub counts_no_site : (g : Grid) (c : ℕ → Count) → ((m p : ℕ) → p < 64 → counted (c m) p ≡ 0) → (m p : ℕ) → p < 64 → counted (c m) p ≡ on_tiles g (counted_on g c) m p
 counts_no_site g c none m p low =

@@ -1,4 +1,4 @@
--- What a drop leaves of a pile on tiles, as its contracts see it.
+-- The result of a drop on a pile on tiles, as its contracts see it.
 use Rattle.std.proofs.Common.{ℕ, List, ltb, ◌≡◌, ◌+◌, ◌-◌, ◌*◌, ◌^◌, ◌<◌, ◌≤◌, sym, ◌∙◌, ap, subst, arith}
 use Rattle.std.specs.Prelude.{slice_index}
 use Rattle.sand_model.specs.Grid.{Grid, sites, missing}
@@ -56,7 +56,7 @@ dropped_by_site g site ts us cs ds f settled fall grown =
       fall = fall_same g site (grown_on g (count_at cs) (count_at ds)) (toppled_between (tiled_view g ts cs) (tiled_view g us ds)) f between fall;
     }
 
--- the same, of lists that are known by equations
+-- the same, for lists that are known by equations
 pub dropped : (g : Grid) (site : ℕ) (ts old us new : List Tile) (cs before ds after : List Count) (f : Fall) (v : TiledView)
     → tiled_view g old before ≡ v → ts ≡ old → cs ≡ before → new ≡ us → after ≡ ds
     → IsSettled g (λ j. heights_on g (tile_at ts) j + one_at site j) (grown_on g (count_at cs) (count_at ds)) (heights_on g (tile_at us))

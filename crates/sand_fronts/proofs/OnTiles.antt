@@ -14,7 +14,7 @@ pub place_below : (g : Grid) (j : ℕ) → place_of g j < 64
 unfolding place_of
 place_below g j = omega arith
 
--- the tile and the place of a site are those of this site
+-- from a site to its tile and place, and back
 pub back_again : (g : Grid) (j : ℕ) → j < sites g → (is_site g (tile_of g j) (place_of g j) ≡ true) × (site_on g (tile_of g j) (place_of g j) ≡ j)
 unfolding tile_of place_of is_site site_on
 back_again g j inside =
@@ -36,7 +36,7 @@ back_again g j inside =
       ap (λ t. t * w + column_at g k p) row_is ∙ omega arith,
     )
 
--- the site of a place that is a site
+-- from a place that is a site to the site, and back
 pub there_again : (g : Grid) (k p : ℕ) → p < 64 → is_site g k p ≡ true
     → (site_on g k p < sites g) × (tile_of g (site_on g k p) ≡ k) × (place_of g (site_on g k p) ≡ p)
 unfolding tile_of place_of is_site site_on
@@ -94,7 +94,7 @@ on_tiles_blank g v = record {
 by_site : (g : Grid) (u : ℕ → ℕ → ℕ) (j k p : ℕ) → tile_of g j ≡ k → place_of g j ≡ p → u (tile_of g j) (place_of g j) ≡ u k p
 by_site g u j k p a b = ap (λ m. u m (place_of g j)) a ∙ ap (u k) b
 
--- what holds of each site holds of each place
+-- a bound at each site holds at each place
 pub on_tiles_le : (g : Grid) (v w : ℕ → ℕ) (k p : ℕ) → p < 64 → ((j : ℕ) → j < sites g → v j ≤ w j) → on_tiles g v k p ≤ on_tiles g w k p
 unfolding on_tiles
 on_tiles_le g v w k p low le =
@@ -110,7 +110,7 @@ on_tiles_le g v w k p low le =
     omega arith)
     (cases_Bool (is_site g k p))
 
--- numbers that are 0 at each place that is no site are the same read by site and back
+-- numbers that are 0 at each place that is no site do not change when read by site and back
 pub on_tiles_is : (g : Grid) (u : ℕ → ℕ → ℕ) (k p : ℕ) → p < 64 → (is_site g k p ≡ false → u k p ≡ 0) → u k p ≡ on_tiles g (at_site g u) k p
 unfolding on_tiles
 on_tiles_is g u k p low none =
@@ -126,7 +126,7 @@ on_tiles_is g u k p low none =
     omega arith)
     (cases_Bool (is_site g k p))
 
--- v at a place, if this is a site
+-- v at a place that is a site
 pub on_site : (g : Grid) (v : ℕ → ℕ) (k p : ℕ) → is_site g k p ≡ true → on_tiles g v k p ≡ v (site_on g k p)
 unfolding on_tiles
 on_site g v k p is = ap (λ b. cond b (v (site_on g k p)) 0) is

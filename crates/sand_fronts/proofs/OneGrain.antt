@@ -1,4 +1,4 @@
--- A grain that is added at a site of a stable pile on tiles.
+-- A grain added at a site of a stable pile on tiles.
 use Rattle.std.proofs.Common.{ℕ, Bool, true, false, eqb, List, length, get_or, ◌≡◌, ◌≢◌, ◌+◌, ◌-◌, ◌*◌, ◌<◌, ◌≤◌, refl, sym, ◌∙◌, ap, arith, ⊎_elim}
 use Rattle.std.specs.Prelude.{bit_xor, slice_index}
 use Rattle.std.proofs.Math.ListN.{set}
@@ -26,7 +26,7 @@ use Rattle.sand_fronts.proofs.Gained.{tile_set_same, tile_set_other}
 at_most_one_at : (k j : ℕ) → one_at k j ≤ 1
 at_most_one_at k j = at_most_one (eqb k j)
 
--- sites of one tile are the same if their places are
+-- sites of one tile are equal if their places are
 same_site : (g : Grid) (i j : ℕ) → i < sites g → j < sites g → tile_of g j ≡ tile_of g i → one_at (place_of g i) (place_of g j) ≡ one_at i j
 same_site g i j li lj tile = ⊎_elim
     (λ (e : i ≡ j). ap (one_at (place_of g i)) (ap (place_of g) (sym e)) ∙ one_at_same (place_of g i) ∙ sym (ap (one_at i) (sym e) ∙ one_at_same i))
@@ -35,7 +35,7 @@ same_site g i j li lj tile = ⊎_elim
     ∙ sym (one_at_other i j ne))
     (cases_eq i j)
 
--- the tiles ts become those with t in place of the tile of the site, which got a grain there
+-- t, the tile of the site with one grain more, replaces that tile in ts
 pub record GetsGrain (g : Grid) (site : ℕ) (ts : List Tile) (here grain : ℕ) (t : Tile) : Type 0 where
   pub site_inside : site < sites g
   pub is : here ≡ tile_of g site

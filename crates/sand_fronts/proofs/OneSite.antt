@@ -101,7 +101,7 @@ all_filled g h n m p all low =
     let b = on_tiles_le g h (up_to h n) m p low (λ j l. let e = same j l in omega arith) in
     omega arith
 
--- no number so far is above the limit of all
+-- no number so far is above the common limit
 pub few_filled : (g : Grid) (h : ℕ → ℕ) (n m p most : ℕ) → p < 64 → ((j : ℕ) → j < sites g → h j ≤ most) → on_tiles g (up_to h n) m p ≤ most
 few_filled g h n m p most low few = ⊎_elim
     (λ (yes : is_site g m p ≡ true).
@@ -115,7 +115,7 @@ few_filled g h n m p most low few = ⊎_elim
     (λ (no : is_site g m p ≡ false). let a = off_site g (up_to h n) m p no in omega arith)
     (cases_Bool (is_site g m p))
 
--- ---- a list of words, and of tiles, with one site more
+-- ---- a list of words, and of tiles, with one more site
 
 pub word_more : (g : Grid) (words : List ℕ) (n k here x : ℕ) → n < sites g → k ≡ tile_of g n → k < length words → x ≡ get_or words k 0
     → ((p : ℕ) → p < 64 → bit here p ≡ one_at (place_of g n) p)
@@ -162,7 +162,7 @@ tile_more g h ts n k here t inside tile within one more each m p low =
     omega arith)
     (cases_eq m k)
 
--- there is room for the grains of one site more
+-- there is room for the grains of one more site
 pub tile_room : (g : Grid) (h : ℕ → ℕ) (τ : ℕ → Tile) (n k here p : ℕ) → n < sites g → k ≡ tile_of g n → ((j : ℕ) → j < sites g → h j ≤ 7)
     → ((q : ℕ) → q < 64 → bit here q ≡ one_at (place_of g n) q) → ((m q : ℕ) → q < 64 → had (τ m) q ≡ on_tiles g (up_to h n) m q)
     → p < 64 → had (τ k) p + h n * bit here p ≤ 7

@@ -19,7 +19,7 @@ use Rattle.sand_tiles.specs.declared.counting.Count.{Count}
 use Rattle.sand_fronts.specs.Drops.{grown_on}
 use Rattle.sand_fronts.proofs.OnTiles.{place_below, back_again, there_again, at_on, on_site, off_site}
 
--- ---- how far a place of a tile may be
+-- ---- bounds on the distance of a place of a tile
 
 columns_within : (x l c : ℕ) → c ≤ 7 → abs_diff x (l + c) ≤ max (abs_diff x l) (abs_diff x (l + 7))
 columns_within x l c few = omega arith
@@ -43,7 +43,7 @@ pub lowest : (n : ℕ) → n ≢ 0 → n < 2 ^ 64 → (trailing_zeros w64 n < 64
 unfolding bit
 lowest n some fits = let l = bit_at-trailing_zeros w64 n (omega arith) fits in (l.0, l.1)
 
--- a place leaves a set
+-- a place is removed from a set
 pub place_less : (rest place one : ℕ) → place < 64 → bit rest place ≡ 1 → ((p : ℕ) → p < 64 → bit one p ≡ one_at place p)
     → (p : ℕ) → p < 64 → bit (bit_xor rest one) p + one_at place p ≡ bit rest p
 place_less rest place one inside is each p low =
@@ -63,7 +63,7 @@ fewer_left rest next place inside each =
     let one = sum_below-one_at 64 place (λ p. 1) inside in
     omega arith
 
--- of a set, the places that are no longer in the rest have been read
+-- the places of a set that are no longer in the rest have been read
 pub record Reads (g : Grid) (s corner : Spot) (set rest reach far : ℕ) : Type 0 where
   pub within_set : (p : ℕ) → p < 64 → bit rest p ≤ bit set p
   pub grows : reach ≤ far

@@ -1,4 +1,4 @@
--- The grains that leave a tile over its rim: by the tile that they leave, and by the tile that they reach.
+-- The grains that leave a tile over its rim, by the tile that they leave and by the tile that they reach.
 use Rattle.std.proofs.Common.{ℕ, Bool, true, false, cond, eqb, ltb, ◌&&◌, ◌≡◌, ◌+◌, ◌-◌, ◌*◌, ◌/◌, ◌%◌, ◌^◌, ◌<◌, ◌≤◌, refl, sym, ◌∙◌, ap, arith, ⊎_elim}
 use Rattle.std.specs.Prelude.{bit_and}
 use Rattle.std.specs.Int.{bit_at}
@@ -117,7 +117,7 @@ pub record IsInner (g : Grid) (k : ℕ) : Type 0 where
   pub last : k % pitch g ≤ across g
   pub rows : 2 * pitch g ≤ k
 
--- the column of the tile so many tiles to the east, in its row
+-- the column of the tile d tiles to the east, in its row
 column_more : (g : Grid) (k d : ℕ) → k % pitch g + d < pitch g → (k + d) % pitch g ≡ k % pitch g + d
 column_more g k d less = let parts = div-add-mod' k (pitch g) in ap (λ i. i % pitch g) (let e : k + d ≡ k / pitch g * pitch g + (k % pitch g + d) = omega arith in e) ∙ mod-mul-add (k / pitch g) (pitch g) (k % pitch g + d) less
 
@@ -127,7 +127,7 @@ column_less g k d le pos =
     let small : k % pitch g < pitch g = mod_below k (pitch g) pos in
     ap (λ i. i % pitch g) (let e : k - d ≡ k / pitch g * pitch g + (k % pitch g - d) = omega arith in e) ∙ mod-mul-add (k / pitch g) (pitch g) (k % pitch g - d) (omega arith)
 
--- the tile to the west of m is k where m is the tile to the east of k
+-- if k is the tile to the west of m, then m is the tile to the east of k
 pub west_then_east : (g : Grid) (m k : ℕ) → IsInner g m → IsInner g k → to_west g m ≡ k → (m ≡ to_east g k) × (shift_west g m ≡ shift_east g k)
 unfolding to_west to_east shift_west shift_east
 west_then_east g m k im ik to =

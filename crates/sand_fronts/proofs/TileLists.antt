@@ -1,4 +1,4 @@
--- Tiles that join a list as places become due in them.
+-- Tiles that join a list when places in them become due.
 use Rattle.std.proofs.Common.{ℕ, Bool, true, false, cond, ltb, eqb, not, ◌&&◌, List, [], ◌∷◌, ◌++◌, ◌≡◌, ◌≢◌, ◌+◌, ◌<◌, ◌≤◌, length, drop, get_or, length-append, refl, sym, ◌∙◌, ap, subst, arith, ⊎_elim}
 use Rattle.std.specs.Prelude.{bit_and}
 use Rattle.std.proofs.lemmas.Bool.{cases_Bool, cases_eq, cases_lt, lt-ltb, le-ltb, eqb-true, eqb-false, and_parts, and_cases, not-true, not-false, eq-eqb, ne_eqb}
@@ -28,7 +28,7 @@ same_before : (joins : Bool) (list : List ℕ) (i t : ℕ) → t < length list �
 same_before true list i t less = get_or_append_left list (i ∷ []) 0 t less
 same_before false list i t less = refl
 
--- a tile in which places become due joins the list if it did not wait before
+-- a tile whose places become due joins the list if it did not wait before
 pub joins_one : (ts : List Tile) (free : ℕ → ℕ) (k n : ℕ) (t : Tile) (l m : ListView) → n ≡ length ts → k < length ts
     → (0 < bit_and (tile_at ts k).due (free k) → 0 < bit_and t.due (free k))
     → m ≡ record l { tiles = cond (eqb (bit_and (tile_at ts k).due (free k)) 0 && not (eqb (bit_and t.due (free k)) 0)) (l.tiles ++ k ∷ []) l.tiles }
@@ -74,7 +74,7 @@ joins_more n a b p q r l m s first second =
       waiting = λ turn within all. second.waiting turn (omega arith) (first.waiting turn within all);
     }
 
--- a tile that was visited, and has no due place, waits no more
+-- a visited tile without due places waits no more
 pub visited_waits : (ts : List Tile) (free : ℕ → ℕ) (k m : ℕ) (t : Tile) → k < length ts → t.due ≡ 0 → waits_but k (tile_at ts) free m ≡ waits (tile_at (set ts k t)) free m
 visited_waits ts free k m t inside none =
     ⊎_elim
@@ -95,7 +95,7 @@ joins_from n a p p' q l m same joins = record {
   waiting = λ turn within all. joins.waiting turn within (lists_same n p p' (drop turn l.tiles) same all);
 }
 
--- the same where the tile is read again afterwards
+-- the same, if the tile is read again afterwards
 pub joins_read : (ts : List Tile) (free : ℕ → ℕ) (k n : ℕ) (t : Tile) (l m : ListView) → n ≡ length ts → k < length ts
     → (0 < bit_and (tile_at ts k).due (free k) → 0 < bit_and t.due (free k))
     → m ≡ record l { tiles = cond (eqb (bit_and (tile_at ts k).due (free k)) 0 && not (eqb (bit_and (tile_at (set ts k t) k).due (free k)) 0)) (l.tiles ++ k ∷ []) l.tiles }

@@ -28,7 +28,7 @@ bit_is : (a p : ℕ) → bit_at a p ≡ 1 → bit a p ≡ 1
 unfolding bit
 bit_is a p e = e
 
--- a waiting tile is that of a site which is due
+-- a waiting tile has a site that is due
 pub record IsDueSite (g : Grid) (site : ℕ) (τ : ℕ → Tile) (k j : ℕ) : Type 0 where
   pub inside : j < sites g
   pub other : j ≢ site
@@ -59,11 +59,11 @@ starts_none g site k p low =
     let n = on_nothing g k p in
     omega arith
 
--- each set of toppled sites after a step
+-- the sites that have toppled after a step
 sum_after : (g : Grid) (τ σ : ℕ → Tile) (k new : ℕ) → ((m p : ℕ) → p < 64 → bit (σ m).wave p ≡ bit (τ m).wave p + only k (bit new) m p) → (j : ℕ) → toppled g σ j ≡ toppled g τ j + at_site g (only k (bit new)) j
 sum_after g τ σ k new once j = once (tile_of g j) (place_of g j) (place_below g j)
 
--- one turn more: the wave goes on, and one site more at least has toppled
+-- one more turn: the wave goes on, and at least one more site has toppled
 pub turn_more : (g : Grid) (site : ℕ) (h : ℕ → ℕ) (free : ℕ → ℕ) (τ σ : ℕ → Tile) (k new j : ℕ) (b : Beside) → AreOpen g site free → IsWave g site h τ → site < sites g
     → ((i : ℕ) → i < sites g → i ≢ site → h i ≤ 3) → 4 ≤ h site → toppled g τ site ≡ 1 → IsDueSite g site τ k j → IsBeside g k b → Steps τ σ (free k) b k 0 new
     → (IsWave g site h σ) × (toppled g σ site ≡ 1) × (topplings g (toppled g τ) + 1 ≤ topplings g (toppled g σ))
@@ -143,7 +143,7 @@ front_of n turn k p list all less is =
     let at = subst P whole all in
     (front_below n p (drop (turn + 1) list) k at, front_passes n p (drop (turn + 1) list) k at, at)
 
--- without it, the others wait
+-- after its removal the others wait
 pub others_wait : (n turn k : ℕ) (τ : ℕ → Tile) (free : ℕ → ℕ) (list : List ℕ) → Lists n (waits τ free) (k ∷ drop (turn + 1) list) → Lists n (waits_but k τ free) (drop (turn + 1) list)
 others_wait n turn k τ free list all =
     lists_pop n (waits τ free) (waits_but k τ free) (drop (turn + 1) list) k all
@@ -172,7 +172,7 @@ pub none_wait : (g : Grid) (site n k : ℕ) (τ : ℕ → Tile) (free : ℕ → 
 none_wait g site n k τ free open' rest fits =
     lists_same n (λ j. false) (waits_but k τ free) [] (λ j l. sym (and_none (not (eqb j k)) (waits τ free j) (quiet_at g site τ free j open' rest (fits j)))) (lists_from n (λ j. false) [] (λ j l. refl) (λ j l. refl))
 
--- what the board says of the tile k, which is that of the site j
+-- what the board says of tile k, the tile of site j
 pub record AtTile (g : Grid) (n k : ℕ) (b : Beside) : Type 0 where
   pub inside : k < n
   pub each : IsBeside g k b
@@ -202,7 +202,7 @@ clear_site g site τ rest = rest.clear (tile_of g site) (place_of g site) (place
 pub few_topplings : (g : Grid) (τ : ℕ → Tile) → topplings g (toppled g τ) ≤ sites g
 few_topplings g τ = at_most_all (sites g) (toppled g τ) (λ j l. bit_le _ _)
 
--- where no tile waits, no open site is due
+-- if no tile waits, no free site is due
 pub none_left : (g : Grid) (site n : ℕ) (τ : ℕ → Tile) (free : ℕ → ℕ) (all : List Beside) → AreOpen g site free → IsBoard g n all → Lists n (waits τ free) []
     → (j : ℕ) → j < sites g → j ≢ site → bit (τ (tile_of g j)).due (place_of g j) ≡ 0
 none_left g site n τ free all open' board none j inside other =
@@ -218,7 +218,7 @@ none_left g site n τ free all open' board none j inside other =
     let z = one_at_other site j (λ e. other (sym e)) in
     omega arith
 
--- ---- where the sites are that have toppled
+-- ---- the tiles with sites that have toppled
 
 -- the wave of a tile after a step
 wave_after : (τ σ : ℕ → Tile) (free k start new m p : ℕ) (b : Beside) → Steps τ σ free b k start new → p < 64 → (m ≡ k → ⊥) → bit (σ m).wave p ≡ bit (τ m).wave p
@@ -232,7 +232,7 @@ first_listed g site τ σ free here start new b list rest steps m = ⊎_elim
     (λ (ne : m ≡ here → ⊥). inl (λ p low. wave_after τ σ free here start new m p b steps low ne ∙ rest.clear m p low))
     (cases_eq m here)
 
--- one turn more
+-- one more turn
 pub turn_listed : (τ σ : ℕ → Tile) (free here k turn new : ℕ) (b : Beside) (before after : List ℕ) → AreListed here before 0 turn τ → Steps τ σ free b k 0 new
     → k ≡ get_or before turn 0 → ((t : ℕ) → t < turn + 1 → get_or after t 0 ≡ get_or before t 0) → AreListed here after 0 (turn + 1) σ
 turn_listed τ σ free here k turn new b before after listed steps is kept m = ⊎_elim

@@ -1,4 +1,4 @@
--- One step of a wave: a tile is visited, and the grains of what toppled reach all neighbours.
+-- One step of a wave: a tile is visited, and the grains of its topplings reach all neighbours.
 use Rattle.std.proofs.Common.{ℕ, true, false, cond, ◌≡◌, ◌≢◌, ◌+◌, ◌-◌, ◌*◌, ◌<◌, ◌≤◌, sym, ◌∙◌, ap, arith, ⊎_elim}
 use Rattle.std.proofs.lemmas.Bool.{cases_Bool, cases_eq, eq-eqb, ne_eqb}
 use Rattle.sand_model.specs.Grid.{Grid, sites}
@@ -33,7 +33,7 @@ around_some g v j l =
     let same = flow_same g (at_site g (on_tiles g v)) v (λ i m. at_on g v i m) j l in
     omega arith
 
--- an open place is a site that is not held
+-- a free place is a site that is not held
 pub open_site : (g : Grid) (site : ℕ) (free : ℕ → ℕ) (k p : ℕ) → AreOpen g site free → p < 64 → bit (free k) p ≡ 1
     → (is_site g k p ≡ true) × (site_on g k p ≢ site)
 open_site g site free k p open' low is =
@@ -48,7 +48,7 @@ open_site g site free k p open' low is =
 set_is : (g : Grid) (τ : ℕ → Tile) (j : ℕ) → toppled g τ j ≤ 1
 set_is g τ j = bit_le _ _
 
--- a tile may be visited
+-- a tile is ready for a visit
 pub wave_ready : (g : Grid) (site : ℕ) (h : ℕ → ℕ) (free : ℕ → ℕ) (τ : ℕ → Tile) (k start s : ℕ) → AreOpen g site free → IsWave g site h τ → site < sites g
     → ((j : ℕ) → j < sites g → j ≢ site → h j ≤ 3)
     → ((p : ℕ) → p < 64 → bit start p ≡ on_tiles g (λ j. s * one_at site j) k p) → toppled g τ site + s ≤ 1
@@ -107,7 +107,7 @@ wave_ready g site h free τ k start s open' wave inside low begins first =
           (cases_Bool (is_site g k p));
     }
 
--- what topples in a visit is a site
+-- only sites topple in a visit
 pub newly : (g : Grid) (site : ℕ) (free : ℕ → ℕ) (τ : ℕ → Tile) (v : Tile) (k start s new m p : ℕ) → AreOpen g site free
     → ((q : ℕ) → q < 64 → bit start q ≡ on_tiles g (λ j. s * one_at site j) k q) → Visits (τ k) v (free k) start new → p < 64
     → only k (bit new) m p ≡ on_tiles g (at_site g (only k (bit new))) m p
@@ -126,7 +126,7 @@ newly g site free τ v k start s new m p open' begins visits low =
     (λ (there : m ≡ k → ⊥). only_other k m (bit new) p there)
     (cases_eq m k))
 
--- whatever stabilises the pile leaves nothing with 4 in this tile
+-- whatever stabilises the pile leaves no 4 in this tile
 calm : (g : Grid) (site : ℕ) (h : ℕ → ℕ) (free : ℕ → ℕ) (τ : ℕ → Tile) (k start s : ℕ) (w : ℕ → ℕ) → AreOpen g site free → IsWave g site h τ → site < sites g → 4 ≤ h site
     → ((p : ℕ) → p < 64 → bit start p ≡ on_tiles g (λ j. s * one_at site j) k p) → toppled g τ site + s ≤ 1 → Stabilises g h w
     → Calms (τ k) (free k) start (on_tiles g (λ j. w j - toppled g τ j) k)

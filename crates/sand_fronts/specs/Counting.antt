@@ -7,11 +7,11 @@ use Rattle.sand_tiles.specs.Places.{bit, number}
 use Rattle.sand_tiles.specs.Counts.{counted, IsCount}
 use Rattle.sand_fronts.specs.TileLists.{IsClear}
 
--- the count of a tile by its number, and one of nothing past the end
+-- the count of a tile by its number, and an empty one past the end
 abbrev pub count_at : List Count → ℕ → Count
 count_at counts k = slice_index_or counts k (record { planes = record { ones = 0; twos = 0; fours = 0; eights = 0; sixteens = 0 }; sets = 0; spilled = [] })
 
--- how many places of n tiles have toppled in this wave
+-- the number of places of n tiles that have toppled in this wave
 abbrev pub in_wave : ℕ → (ℕ → Tile) → ℕ
 in_wave n τ = sum_below n (λ k. sum_below 64 (bit (τ k).wave))
 
@@ -19,7 +19,7 @@ in_wave n τ = sum_below n (λ k. sum_below 64 (bit (τ k).wave))
 abbrev pub over_wave : ℕ → (ℕ → Tile) → (ℕ → Tile) → ℕ
 over_wave n ν τ = sum_below n (λ k. sum_below 64 (λ p. number (ν k) p * bit (τ k).wave p))
 
--- how often a place has toppled, with this wave
+-- how often a place has toppled, including this wave
 abbrev pub with_wave : (ℕ → Tile) → (ℕ → Count) → ℕ → ℕ → ℕ
 with_wave τ c k p = counted (c k) p + bit (τ k).wave p
 

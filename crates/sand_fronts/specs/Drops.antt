@@ -1,4 +1,4 @@
--- What a drop topples, as tiles and counts show it.
+-- What a drop topples, by tiles and counts.
 use Rattle.std.specs.Prelude.{ℕ, ◌≡◌, ◌-◌, ◌<◌}
 use Rattle.sand_model.specs.Grid.{Grid, sites, missing}
 use Rattle.sand_tiles.specs.declared.tile.Tile.{Tile}
@@ -16,15 +16,15 @@ heights_on g τ j = height (τ (tile_of g j)) (place_of g j)
 abbrev pub counted_on : Grid → (ℕ → Count) → ℕ → ℕ
 counted_on g c j = counted (c (tile_of g j)) (place_of g j)
 
--- by how much the count of each site has grown
+-- the growth of the count of each site
 abbrev pub grown_on : Grid → (ℕ → Count) → (ℕ → Count) → ℕ → ℕ
 grown_on g c d j = counted_on g d j - counted_on g c j
 
--- nothing is in a wave, and no site is due
+-- no place is in a wave, and no site is due
 pub record AreQuiet (g : Grid) (τ : ℕ → Tile) : Type 0 where
   pub clear : (m : ℕ) → IsClear (τ m)
   pub none_due : (j : ℕ) → j < sites g → bit (τ (tile_of g j)).due (place_of g j) ≡ 0
 
--- the numbers on the tiles are how many places round each site are outside the grid
+-- the numbers on the tiles are the numbers of places around each site outside the grid
 abbrev pub AreOutside : Grid → (ℕ → Tile) → Type 0
 AreOutside g ν = (k p : ℕ) → p < 64 → number (ν k) p ≡ on_tiles g (missing g) k p

@@ -5,15 +5,15 @@ use Rattle.sand_tiles.specs.declared.counting.Count.{Count}
 use Rattle.sand_tiles.specs.Places.{bit}
 use Rattle.sand_tiles.specs.Counts.{counted}
 
--- the sets before one tile are empty, and so are those from another on
+-- the sets before tile `first`, and from tile `end` on, are empty
 abbrev pub AreBetween : ℕ → ℕ → List ℕ → Type 0
 AreBetween first end words = (m : ℕ) → (m < first) ⊎ (end ≤ m) → slice_index words m ≡ 0
 
--- how many places n sets have
+-- the number of places in n sets
 abbrev pub in_sets : ℕ → (ℕ → ℕ) → ℕ
 in_sets n words = sum_below n (λ k. sum_below 64 (bit (words k)))
 
--- as the counts c become d, the places whose count grows are added to the sets a, which become b
+-- when the counts c become d, the places whose count grows join the sets a, which become b
 pub record AreMarked (c d : ℕ → Count) (a b : ℕ → ℕ) : Type 0 where
   pub never_falls : (m p : ℕ) → p < 64 → counted (c m) p ≤ counted (d m) p
   pub kept : (m p : ℕ) → p < 64 → bit (a m) p ≤ bit (b m) p

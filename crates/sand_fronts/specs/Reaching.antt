@@ -1,4 +1,4 @@
--- How far a drop has reached, by columns and rows.
+-- How far a drop has reached, in columns and rows.
 use Rattle.std.specs.Prelude.{ℕ, ◌≡◌, ◌+◌, ◌-◌, ◌*◌, ◌/◌, ◌%◌, ◌<◌, ◌≤◌, if◌then◌else◌, min}
 use Rattle.std.specs.Int.{abs_diff}
 use Rattle.sand_model.specs.Grid.{Grid, sites, joins, column, row, distance}
@@ -6,11 +6,11 @@ use Rattle.sand_tiles.specs.Places.{bit}
 use Rattle.sand_fronts.specs.Tiling.{pitch}
 use Rattle.sand_fronts.specs.declared.reach.Spot.{Spot}
 
--- how many columns and rows are between a spot and a column and a row, on a cylinder the shorter way round
+-- the distance from a spot to a column and a row; on a cylinder, the shorter way around
 abbrev pub distance_between : Grid → Spot → ℕ → ℕ → ℕ
 distance_between g s x y = (if joins g.edge then min (abs_diff s.column x) (g.width - abs_diff s.column x) else abs_diff s.column x) + abs_diff s.row y
 
--- the same of a place of a tile
+-- the same for a place of a tile
 abbrev pub distance_within : Grid → Spot → Spot → ℕ → ℕ
 distance_within g s corner p = distance_between g s (corner.column + p % 8) (corner.row + p / 8)
 
@@ -27,7 +27,7 @@ pub record IsReachedFrom (g : Grid) (s corner : Spot) (set reach far : ℕ) : Ty
   pub within : (p : ℕ) → p < 64 → bit set p ≡ 1 → distance_within g s corner p ≤ far
   pub reached : reach < far → (p : ℕ) × (p < 64) × (bit set p ≡ 1) × (distance_within g s corner p ≡ far)
 
--- reach is the greatest distance of the places of all sets, or 0 if there are none
+-- reach is the greatest distance of a place of any set, or 0 if there is none
 pub record IsReachedIn (g : Grid) (s : Spot) (words : ℕ → ℕ) (reach : ℕ) : Type 0 where
   pub within : (m p : ℕ) → p < 64 → bit (words m) p ≡ 1 → distance_within g s (corner_of g m) p ≤ reach
   pub reached : 0 < reach → (m : ℕ) × (p : ℕ) × (p < 64) × (bit (words m) p ≡ 1) × (distance_within g s (corner_of g m) p ≡ reach)

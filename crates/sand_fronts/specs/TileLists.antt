@@ -1,23 +1,24 @@
--- Lists of tiles that wait.
+-- Lists of waiting tiles.
 use Rattle.std.specs.Prelude.{ℕ, Bool, List, ◌≡◌, ◌⊎◌, ◌+◌, ◌<◌, ◌≤◌, length, drop, slice_index, nat_lt, bit_and, ◌&&◌, not, ◌==◌}
 use Rattle.sand_model.specs.Lists.{Lists}
 use Rattle.sand_tiles.specs.declared.tile.Tile.{Tile}
 use Rattle.sand_tiles.specs.Places.{bit}
 
--- what contracts see of a list of tiles with room made beforehand
+-- what contracts see of a list of tiles with a fixed capacity
 pub record ListView : Type 0 where
   pub tiles : List ℕ
   pub room : ℕ
 
--- whether an open place of a tile is due
+-- whether a free place of a tile is due
 abbrev pub waits : (ℕ → Tile) → (ℕ → ℕ) → ℕ → Bool
 waits τ free k = nat_lt 0 (bit_and (τ k).due (free k))
 
--- the same, but for one tile
+-- the same, except for one tile
 abbrev pub waits_but : ℕ → (ℕ → Tile) → (ℕ → ℕ) → ℕ → Bool
 waits_but k τ free m = not (m == k) && waits τ free m
 
--- at most so many tiles join the end of a list, and it still has each tile that passes, once, from a turn on
+-- at most `most` tiles join the end of a list; if from some turn on it had each tile that passes p once, it now has
+-- each that passes q
 pub record Joins (n most : ℕ) (p q : ℕ → Bool) (l m : ListView) : Type 0 where
   pub room : m.room ≡ l.room
   pub longer : length l.tiles ≤ length m.tiles
@@ -29,6 +30,6 @@ pub record Joins (n most : ℕ) (p q : ℕ → Bool) (l m : ListView) : Type 0 w
 abbrev pub IsClear : Tile → Type 0
 IsClear t = (p : ℕ) → p < 64 → bit t.wave p ≡ 0
 
--- each tile with a site that has toppled in this wave is the tile `here`, or one of a list from one turn to before another
+-- each tile with a site that has toppled in this wave is the tile `here`, or in a list from one turn to before another
 abbrev pub AreListed : ℕ → List ℕ → ℕ → ℕ → (ℕ → Tile) → Type 0
 AreListed here list from end τ = (m : ℕ) → IsClear (τ m) ⊎ ((m ≡ here) ⊎ ((t : ℕ) × (from ≤ t) × (t < end) × (slice_index list t ≡ m)))

@@ -1,4 +1,4 @@
--- A stable pile on tiles, and what a grain that is dropped on it leaves.
+-- A stable pile on tiles, and the result of dropping a grain on it.
 use Rattle.std.specs.Prelude.{ℕ, List, ◌≡◌, ◌+◌, ◌-◌, ◌<◌, ◌≤◌, length, map, slice_index}
 use Rattle.std.specs.List.{range_with_len}
 use Rattle.sand_model.specs.Grid.{Grid, sites}
@@ -12,8 +12,8 @@ use Rattle.sand_fronts.specs.Waves.{tile_at, AreAllOpen, IsBoard}
 use Rattle.sand_fronts.specs.Counting.{count_at}
 use Rattle.sand_fronts.specs.Drops.{heights_on, counted_on, AreQuiet, AreOutside}
 
--- tiles, the words of their sites, the tiles beside each, a list with room, counts, sets in which nothing is marked, and how many
--- places round each site are outside: between two drops
+-- the state between two drops: tiles, the words of their sites, the neighbours of each tile, a list with enough room,
+-- counts, empty sets of marks, and the numbers of places around each site outside the grid
 pub record IsTiledPile (g : Grid) (ts : List Tile) (free : List ℕ) (beside : List Beside) (list : ListView) (counts : List Count) (marks : List ℕ) (outside : List Tile) : Type 0 where
   pub tiles_each : length ts ≡ tiles g
   pub free_each : length free ≡ tiles g
@@ -34,19 +34,18 @@ pub record TiledView : Type 0 where
   pub heights : List ℕ
   pub times : List ℕ
 
--- the numbers f of all sites, in a list
+-- the list of f at all sites
 unfoldable pub by_site : Grid → (ℕ → ℕ) → List ℕ
 by_site g f = map f (range_with_len 0 (sites g))
 
 abbrev pub tiled_view : Grid → List Tile → List Count → TiledView
 tiled_view g ts counts = record { grid = g; heights = by_site g (heights_on g (tile_at ts)); times = by_site g (counted_on g (count_at counts)) }
 
--- there is a height and a count for each site
 pub record IsTiledView (v : TiledView) : Type 0 where
   pub heights_each : length v.heights ≡ sites v.grid
   pub times_each : length v.times ≡ sites v.grid
 
--- how often each site topples as a pile on tiles becomes another
+-- how often each site topples from one pile on tiles to another
 abbrev pub toppled_between : TiledView → TiledView → ℕ → ℕ
 toppled_between v w j = slice_index w.times j - slice_index v.times j
 

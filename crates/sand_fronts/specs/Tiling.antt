@@ -1,17 +1,17 @@
--- The sites of a grid on tiles of 8 by 8 places, with a border of tiles round them: one at each end of a row, and two rows
--- above and below. Source: this project's own.
+-- The sites of a grid on tiles of 8 by 8 places, in a border of tiles: one at each end of a row, and two rows above and
+-- below. Source: this project's own.
 use Rattle.std.specs.Prelude.{ℕ, Bool, ◌≡◌, ◌+◌, ◌-◌, ◌*◌, ◌/◌, ◌%◌, ◌<◌, ◌≤◌, if◌then◌else◌, nat_lt, nat_le, ◌==◌, ◌&&◌}
 use Rattle.sand_model.specs.Grid.{Grid, joins, row, column}
 use Rattle.sand_tiles.specs.Places.{around}
 
--- how many tiles of a row have sites, and how many there are in a row
+-- the number of tiles with sites in a row, and of all tiles in a row
 abbrev pub across : Grid → ℕ
 across g = (g.width + 7) / 8
 
 abbrev pub pitch : Grid → ℕ
 pitch g = across g + 2
 
--- how many tiles of a column have sites, and how many tiles there are
+-- the number of tiles with sites in a column, and of all tiles
 abbrev pub down : Grid → ℕ
 down g = (g.height + 7) / 8
 
@@ -25,7 +25,8 @@ tile_of g j = (row g j / 8 + 2) * pitch g + (column g j / 8 + 1)
 unfoldable pub place_of : Grid → ℕ → ℕ
 place_of g j = row g j % 8 * 8 + column g j % 8
 
--- f at the neighbour of a place in the tile to one side, and 0 where this neighbour is not there; `shift` is the last column of the tile to the west
+-- f at a place's neighbour in the tile to one side, and 0 if the neighbour is not there; `shift` is the last column of
+-- the tile to the west
 unfoldable pub over_north : (ℕ → ℕ) → ℕ → ℕ
 over_north f p = if nat_lt p 8 then f (p + 56) else 0
 
@@ -38,7 +39,7 @@ over_west shift f p = if p % 8 == 0 then f (p + shift) else 0
 unfoldable pub over_east : ℕ → (ℕ → ℕ) → ℕ → ℕ
 over_east shift f p = if p % 8 == shift then f (p - shift) else 0
 
--- the tiles to the west and to the east, on a cylinder across the seam, and the last column of the western one of the two
+-- the tiles to the west and east, across the seam on a cylinder, and the last column of the western one of the two
 abbrev pub seam_west : Grid → ℕ → Bool
 seam_west g k = joins g.edge && (k % pitch g == 1)
 
@@ -62,14 +63,14 @@ abbrev pub tile_flow : Grid → (ℕ → ℕ → ℕ) → ℕ → ℕ → ℕ
 tile_flow g u k p = around (u k) p + over_north (u (k - pitch g)) p + over_south (u (k + pitch g)) p
     + over_west (shift_west g k) (u (to_west g k)) p + over_east (shift_east g k) (u (to_east g k)) p
 
--- u is 0 at each place that is no site: in the border rows, in the border columns, and beyond the last row and the last column
+-- u is 0 at each place that is no site: in the border rows, in the border columns, and past the last row and column
 pub record IsBlank (g : Grid) (u : ℕ → ℕ → ℕ) : Type 0 where
   pub above : (c p : ℕ) → c < pitch g → u (1 * pitch g + c) p ≡ 0
   pub below : (q c y x : ℕ) → c < pitch g → y < 8 → x < 8 → g.height ≤ q * 8 + y → u ((q + 2) * pitch g + c) (y * 8 + x) ≡ 0
   pub before : (q p : ℕ) → u ((q + 2) * pitch g) p ≡ 0
   pub beyond : (q c y x : ℕ) → c + 1 < pitch g → y < 8 → x < 8 → g.width ≤ c * 8 + x → u ((q + 2) * pitch g + (c + 1)) (y * 8 + x) ≡ 0
 
--- the row and the column of a place, whether it is a site, and which
+-- the row and column of a place, whether it is a site, and which
 abbrev pub row_at : Grid → ℕ → ℕ → ℕ
 row_at g k p = (k / pitch g - 2) * 8 + p / 8
 

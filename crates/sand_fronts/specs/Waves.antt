@@ -1,4 +1,5 @@
--- A wave on tiles: from a dropped site that has 4, each site topples once at most, and the dropped one is held back after it has.
+-- A wave on tiles: from a dropped site that has 4, each site topples at most once; the dropped site is held after its
+-- toppling.
 use Rattle.std.specs.Prelude.{ℕ, List, length, slice_index_or, ◌≡◌, ◌≢◌, ◌+◌, ◌-◌, ◌*◌, ◌%◌, ◌^◌, ◌<◌, ◌≤◌, if◌then◌else◌, ◌==◌}
 use Rattle.sand_model.specs.Grid.{Grid, sites}
 use Rattle.sand_model.specs.Sand.{Stabilises, flow, one_at}
@@ -19,7 +20,7 @@ toppled g τ = at_site g (λ k p. bit (τ k).wave p)
 unfoldable pub only : ℕ → (ℕ → ℕ) → ℕ → ℕ → ℕ
 only k f m p = if m == k then f p else 0
 
--- the words of the open places: all sites but the one that is held
+-- the words of the free places: all sites except the held one
 abbrev pub AreOpen : Grid → ℕ → (ℕ → ℕ) → Type 0
 AreOpen g site free = (k p : ℕ) → p < 64 → bit (free k) p ≡ on_tiles g (λ j. 1 - one_at site j) k p
 
@@ -34,18 +35,18 @@ pub record IsWave (g : Grid) (site : ℕ) (h : ℕ → ℕ) (τ : ℕ → Tile) 
   pub at_held : height (τ (tile_of g site)) (place_of g site) ≡ (h site + flow g (toppled g τ) site) % 4
   pub needed : (w : ℕ → ℕ) → Stabilises g h w → (j : ℕ) → j < sites g → toppled g τ j ≤ w j
 
--- the places of the set `new` of the tile k topple, and their grains reach all neighbours
+-- the places of the set `new` of tile k topple, and their grains reach all neighbours
 pub record Spreads (g : Grid) (site k new : ℕ) (τ σ : ℕ → Tile) : Type 0 where
   pub once : (m p : ℕ) → p < 64 → bit (σ m).wave p ≡ bit (τ m).wave p + only k (bit new) m p
   pub at_open : (j : ℕ) → j < sites g → j ≢ site → had (τ (tile_of g j)) (place_of g j) + flow g (at_site g (only k (bit new))) j ≤ 7
       → had (σ (tile_of g j)) (place_of g j) ≡ had (τ (tile_of g j)) (place_of g j) + flow g (at_site g (only k (bit new))) j
   pub at_held : height (σ (tile_of g site)) (place_of g site) ≡ (height (τ (tile_of g site)) (place_of g site) + flow g (at_site g (only k (bit new))) site) % 4
 
--- a tile by its number, and one with nothing past the end
+-- a tile by its number, and an empty one past the end
 abbrev pub tile_at : List Tile → ℕ → Tile
 tile_at tiles k = slice_index_or tiles k (record { low = 0; high = 0; due = 0; wave = 0 })
 
--- each place gains so many grains; a place that has had at most 7 has had just so many more
+-- each place gains `gain` grains: exactly if it has had at most 7 with them, and always modulo 4
 pub record Gains (τ σ : ℕ → Tile) (gain : ℕ → ℕ → ℕ) : Type 0 where
   pub wave : (m p : ℕ) → p < 64 → bit (σ m).wave p ≡ bit (τ m).wave p
   pub each : (m p : ℕ) → p < 64 → had (τ m) p + gain m p ≤ 7 → had (σ m) p ≡ had (τ m) p + gain m p
@@ -56,7 +57,7 @@ abbrev pub over_rim : Beside → ℕ → ℕ → ℕ → ℕ
 over_rim b new m p = only b.north (over_south (bit new)) m p + only b.south (over_north (bit new)) m p
     + only b.west (over_east b.west_shift (bit new)) m p + only b.east (over_west b.east_shift (bit new)) m p
 
--- the four tiles beside the tile k, and how far the columns shift
+-- the four tiles next to tile k, and how far the columns shift
 pub record IsBeside (g : Grid) (k : ℕ) (b : Beside) : Type 0 where
   pub north : b.north ≡ k - pitch g
   pub south : b.south ≡ k + pitch g
@@ -65,14 +66,14 @@ pub record IsBeside (g : Grid) (k : ℕ) (b : Beside) : Type 0 where
   pub west_shift : b.west_shift ≡ shift_west g k
   pub east_shift : b.east_shift ≡ shift_east g k
 
--- the tile k is visited, which leaves the tile v, and what leaves it reaches the tiles beside it
+-- tile k is visited and becomes `visited`, and the grains that leave it reach the tiles next to it
 pub record Steps (τ σ : ℕ → Tile) (free : ℕ) (b : Beside) (k start new : ℕ) : Type 0 where
   pub visited : Tile
   pub visits : Visits (τ k) visited free start new
   pub fits : new < 2 ^ 64
   pub gains : Gains (λ m. if m == k then visited else τ m) σ (over_rim b new)
 
--- the heights that a wave has left: those in the planes, and what the held site has after its toppling
+-- the heights after a wave: those in the planes, and what the held site has after its toppling
 pub record Leaves (g : Grid) (site : ℕ) (h : ℕ → ℕ) (τ : ℕ → Tile) (k : ℕ → ℕ) : Type 0 where
   pub others : (j : ℕ) → j < sites g → j ≢ site → k j ≡ height (τ (tile_of g j)) (place_of g j)
   pub held : k site + 4 ≡ h site + flow g (toppled g τ) site
@@ -80,7 +81,7 @@ pub record Leaves (g : Grid) (site : ℕ) (h : ℕ → ℕ) (τ : ℕ → Tile) 
 abbrev pub beside_at : List Beside → ℕ → Beside
 beside_at all k = slice_index_or all k (record { north = 0; south = 0; west = 0; east = 0; west_shift = 0; east_shift = 0 })
 
--- n tiles, and for the tile of each site the four beside it
+-- n tiles, and for the tile of each site its four neighbours
 pub record IsBoard (g : Grid) (n : ℕ) (all : List Beside) : Type 0 where
   pub small : n ≤ 65536
   pub one_each : length all ≡ n
@@ -92,11 +93,11 @@ pub record IsBoard (g : Grid) (n : ℕ) (all : List Beside) : Type 0 where
   pub east : (j : ℕ) → j < sites g → (beside_at all (tile_of g j)).east < n
   pub shifts : (j : ℕ) → j < sites g → ((beside_at all (tile_of g j)).west_shift ≤ 7) × ((beside_at all (tile_of g j)).east_shift ≤ 7)
 
--- the heights with which a wave begins: the dropped site has 4 more than in the planes
+-- the heights at the start of a wave: the dropped site has 4 more than in the planes
 abbrev pub heights_before : Grid → ℕ → (ℕ → Tile) → ℕ → ℕ
 heights_before g site τ j = height (τ (tile_of g j)) (place_of g j) + 4 * one_at site j
 
--- between waves nothing has toppled, no open place is due, and the dropped site is 0 in the planes
+-- between waves nothing has toppled, no free place is due, and the dropped site is 0 in the planes
 pub record AreAtRest (g : Grid) (site : ℕ) (τ : ℕ → Tile) : Type 0 where
   pub clear : (m p : ℕ) → p < 64 → bit (τ m).wave p ≡ 0
   pub none_due : (j : ℕ) → j < sites g → j ≢ site → bit (τ (tile_of g j)).due (place_of g j) ≡ 0

@@ -1,11 +1,11 @@
-//! What a wave leaves: its sites are counted and marked, and taken out of the tiles.
+//! Counting a wave: its sites are counted and marked, and taken out of the tiles.
 //!
-//! Each tile in which a site has toppled is the tile of the dropped site or in the list of the wave. It may be there several
-//! times, but its set is empty from the second time on, and then nothing is left to do. So what is counted so far and what
-//! is still in the tiles are together what was in the tiles before (`AreCounted`: `each`; `size`, `lost`), and in the end
-//! nothing is left in them.
+//! Each tile in which a site has toppled is the tile of the dropped site or in the list of the wave. It may be listed
+//! several times, but from the second time on its set is empty. So the sites counted so far and those still in the
+//! tiles are together those that were in the tiles before (`AreCounted`: `each`; `size`, `lost`), and in the end the
+//! tiles have none.
 //!
-//! How many grains a site loses when it topples, 0 to 4, is kept on tiles, too: in `outside`, in place of heights.
+//! How many grains a site loses when it topples, 0 to 4, is also kept on tiles: in `outside`, in place of heights.
 
 ghost use Rattle.std.specs.Prelude.{◌≡◌, ◌≢◌, ℕ, ◌+◌, ◌^◌, ◌<◌, ◌≤◌, length, slice_index};
 ghost use Rattle.sand_tiles.specs.Counts.{counted, IsCount};
@@ -18,7 +18,7 @@ use crate::marks::Marks;
 use crate::tile_list::TileList;
 use sand_tiles::{Count, Tile, count_set, size, sum_over};
 
-/// How many topplings there were, and how many grains fell into the sink.
+/// The number of topplings, and of grains that fell into the sink.
 #[derive(Clone, Copy, Debug)]
 pub struct Total {
     pub size: u64,
@@ -27,7 +27,7 @@ pub struct Total {
 
 pub(crate) const NOTHING: Total = Total { size: 0, lost: 0 };
 
-// Counts and marks the places of a tile that have toppled, and takes them out of the wave. Returns them.
+// Counts and marks the places of a tile that have toppled, takes them out of the wave, and returns them.
 #[inline(always)]
 fn count_tile(tiles: &mut [Tile], counts: &mut [Count], marks: &mut Marks, k: usize) -> u64
     requires tile { k < length tiles.old }
@@ -51,7 +51,7 @@ fn count_tile(tiles: &mut [Tile], counts: &mut [Count], marks: &mut Marks, k: us
     set
 }
 
-// Counts and marks the places of a tile that have toppled, takes them out of the wave, and adds them to the total.
+// The same, adding them to the total.
 #[inline(always)]
 fn add_tile(
     tiles: &mut [Tile],
@@ -80,7 +80,7 @@ fn add_tile(
     }
 }
 
-/// Counts and marks the sites of a wave, and takes them out of the tiles. Returns what has toppled in it.
+/// Counts and marks the sites of a wave, and takes them out of the tiles. Returns their total.
 pub(crate) fn count_wave(
     tiles: &mut [Tile],
     counts: &mut [Count],

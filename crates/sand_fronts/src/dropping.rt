@@ -1,16 +1,17 @@
 //! What one drop topples: wave after wave, until no site may topple.
 //!
-//! - **One wave** (`one_wave`) topples the dropped site, and each other site that this brings to 4, once each. So after it
-//!   only the dropped site may have 4.
+//! - **One wave** (`one_wave`) topples the dropped site, and each other site that this brings to 4, once each. So after
+//!   it only the dropped site may have 4.
 //! - **Whether it has.** It had 4 and lost them, so it has what its neighbours gave it: 0 to 4. Its planes are 0 if
-//!   this is 0 or 4. If no other site has toppled, it is 0. If others have, it is not 0: else the site's one toppling
-//!   would have settled the pile, and by least action no other site would have toppled (`proofs/Ends`: `four_again`).
+//!   this is 0 or 4. If no other site has toppled, it is 0. If others have, it is not 0: otherwise the site's one
+//!   toppling would have settled the pile, and by least action no other site would have toppled (`proofs/Ends`:
+//!   `four_again`).
 //! - **It ends**, since each toppling lowers the weight of the pile.
-//! - **It is right**: each wave is a legal sequence of topplings and the end is stable, so what the counts have grown by is
+//! - **It is right**: each wave is a legal sequence of topplings and the end is stable, so the growth of the counts is
 //!   the least odometer (`settled`).
 //!
-//! The dropped site is not free in its waves, and may have been made due. When they have passed, nothing else is due in its
-//! tile, and `due` is set to 0: else the next drop would topple the site for no reason.
+//! The dropped site is not free in its waves, and may have become due. After them nothing else is due in its tile, and
+//! `due` is set to 0: otherwise the next drop would topple the site for no reason.
 
 ghost use Rattle.std.specs.Prelude.{◌≡◌, ◌≢◌, ℕ, ◌+◌, ◌^◌, ◌<◌, ◌≤◌, length, slice_index};
 ghost use Rattle.sand_model.specs.Grid.{sites};
@@ -30,8 +31,8 @@ use crate::tile_list::TileList;
 use sand_model::Shape;
 use sand_tiles::{Count, Tile, height_at, set_of};
 
-/// Topples a site that has 4, and all that follows. Counts the topplings of each site and marks the sites, and returns how many
-/// topplings there were and how many grains fell into the sink.
+/// Topples a site that has 4, and all that follows. Counts the topplings of each site and marks the sites. Returns the
+/// number of topplings, and of grains that fell into the sink.
 pub fn topple_all(
     shape: Shape,
     tiles: &mut [Tile],
@@ -65,7 +66,7 @@ pub fn topple_all(
     ensures sound { (m : ℕ) → IsCount (count_at counts.new m) }
     ensures room { list.new.room ≡ list.old.room }
 {
-    // Its sides are within the limits.
+    // For the proof: the sides are within the limits.
     let _ = shape.sites();
     let start = set_of(place);
     let mut total = NOTHING;

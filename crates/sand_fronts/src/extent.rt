@@ -1,4 +1,4 @@
-//! How far a drop has reached, read from the sets of the sites that toppled: how many they are, and the greatest distance.
+//! How far a drop has reached: the number of sites that toppled and their greatest distance, from their sets.
 
 ghost use Rattle.std.specs.Prelude.{◌≡◌, ℕ, ◌+◌, ◌^◌, ◌<◌, ◌≤◌, length, slice_index};
 ghost use Rattle.sand_model.specs.Grid.{sites};
@@ -14,7 +14,7 @@ use crate::tiling::across;
 use sand_model::Shape;
 use sand_tiles::size;
 
-/// How many sites toppled, and the greatest distance of one, or 0 if none did.
+/// The number of sites that toppled, and the greatest distance of one, or 0 if none did.
 #[derive(Clone, Copy, Debug)]
 pub(crate) struct Extent {
     pub(crate) area: u64,
@@ -35,7 +35,6 @@ fn corner(shape: Shape, k: usize) -> Spot
     }
 }
 
-// The spot of a site.
 fn spot(shape: Shape, site: usize) -> Spot
     requires { site < sites shape }
     ensures value { result ≡ spot_of shape site }
@@ -45,7 +44,7 @@ fn spot(shape: Shape, site: usize) -> Spot
     Spot { column, row }
 }
 
-// Adds the places of a set in a tile.
+// Adds the places of a set in a tile to the extent.
 #[inline(always)]
 fn add_set(shape: Shape, from: Spot, k: usize, set: u64, extent: Extent) -> Extent
     requires tile { k < 2 ^ 20 }
@@ -62,7 +61,7 @@ fn add_set(shape: Shape, from: Spot, k: usize, set: u64, extent: Extent) -> Exte
     }
 }
 
-/// Takes all places out of the sets. Returns how far they reached from a site.
+/// Clears all sets. Returns how far they reached from a site.
 pub(crate) fn take_all(shape: Shape, site: usize, marks: &mut Marks) -> Extent
     requires site { site < sites shape }
     requires small { length marks.old ≤ 65536 }

@@ -1,7 +1,7 @@
 //! The sites that a drop has toppled: a set of places for each tile.
 //!
-//! Most drops topple sites of a few tiles, so the sets are known to be empty before a first tile and from a last one on: what
-//! is read after a drop is only what is between.
+//! Most drops topple sites of a few tiles. All sets before a first tile and from an end on are known to be empty, so
+//! only those in between are read after a drop.
 
 ghost use Rattle.std.specs.Prelude.{◌≡◌, ℕ, ◌<◌, ◌≤◌, ◌⊎◌, ◌==◌, bit_or, length, slice_index, if◌then◌else◌, IfOk};
 
@@ -12,7 +12,7 @@ use std::marker::Model;
 #[derive(Debug, Drop)]
 pub struct Marks {
     words: Vec<u64>,
-    // The sets before this tile are empty, and so are those from the end on.
+    // The sets before `first`, and from `end` on, are empty.
     first: usize,
     end: usize,
 }
@@ -54,7 +54,7 @@ impl Marks {
         self.end = self.end.max(k + 1);
     }
 
-    /// The tiles between which all sets that are not empty are: from the first, before the second.
+    /// The range of tiles that has all non-empty sets: from the first number, before the second.
     pub(crate) fn between(&self) -> (usize, usize)
         ensures empty { (m : ℕ) → (m < result.0) ⊎ (result.1 ≤ m) → slice_index self.now m ≡ 0 }
         ensures within { result.1 ≤ length self.now }

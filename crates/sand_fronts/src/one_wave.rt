@@ -1,18 +1,20 @@
-//! One wave over the tiles of a grid: the dropped site topples, and then, each once, all others that this brings to 4.
+//! One wave over the tiles of a grid: the dropped site topples, then each other site that this brings to 4, once each.
 //!
-//! - **The balance.** Let h be the heights as the wave begins, T the sites that have toppled and D those that are due. For
-//!   every site j except the dropped one, h(j) and its neighbours in T are the height in its tile's planes, and 4 more if j is
-//!   in T or D (`IsWave`). A visit to a tile keeps this, with the grains that leave the tile given to the tiles beside it.
-//! - **No site topples twice.** h(j) is at most 3 and there are four neighbours, so the balance is at most 7 on its left
-//!   side, and what has toppled cannot become due again. The dropped site could; it is not free in its own wave.
+//! - **The balance.** Let h be the heights at the start of the wave, T the sites that have toppled and D those that are
+//!   due. For every site j except the dropped one, h(j) plus the number of its neighbours in T is the height in its
+//!   tile's planes, plus 4 if j is in T or D (`IsWave`). A visit to a tile keeps this balance, once the grains that
+//!   leave the tile are given to the tiles next to it.
+//! - **No site topples twice.** h(j) is at most 3 and there are four neighbours, so the left side of the balance is at
+//!   most 7, and a site that has toppled cannot become due again. The dropped site could; it is not free in its own
+//!   wave.
 //! - **Each toppling is legal, and the order does not matter.** Whatever stabilises the heights topples each site in T
 //!   (`IsWave`: `needed`). So the wave is a legal sequence of topplings (`advances`), though none is ever written down.
-//! - **The list.** A tile joins the list as a free site becomes due in it and none was before, and its turn topples
-//!   all that is due there. So each turn topples a new site, and the list never has more tiles than there are sites, one
-//!   and the four that a turn may add. When its end is reached, no free site is due (`none_due`).
+//! - **The list.** A tile joins the list when a free site in it becomes due and none was before. Its turn topples all
+//!   that is due there. So each turn topples a new site, and the list never has more tiles than there are sites, plus
+//!   one, plus the four that a turn may add. At the end of the list no free site is due (`none_due`).
 //!
-//! A border of tiles in which no site is free spares all tests for the edge of the grid: grains that fall into the sink
-//! are added to tiles that nobody reads. On a cylinder the tiles at the ends of a row are beside each other, and the last
+//! A border of tiles without free sites spares all tests for the edge of the grid: grains that fall into the sink are
+//! added to tiles that nobody reads. On a cylinder the tiles at the two ends of a row are neighbours, and the last
 //! column of the grid need not be the last of its tile: hence the shifts of `Beside`.
 
 ghost use Rattle.std.specs.Prelude.{◌≡◌, ◌≢◌, ℕ, ◌+◌, ◌*◌, ◌<◌, ◌≤◌, length, slice_index};
@@ -32,7 +34,7 @@ use sand_tiles::{Tile, receive, visit};
 // The first column of a tile.
 const FIRST: u64 = 0x0101_0101_0101_0101;
 
-// Adds a grain at each place of a set in a tile, and lists the tile if a free place becomes due there and none was before.
+// Adds a grain at each place of a set in a tile, and lists the tile if a free place becomes due and none was before.
 #[inline(always)]
 fn gain_at(tiles: &mut [Tile], free: &[u64], list: &mut TileList, k: usize, gain: u64)
     requires inside { k < length tiles.old }
@@ -49,7 +51,7 @@ fn gain_at(tiles: &mut [Tile], free: &[u64], list: &mut TileList, k: usize, gain
     list.push_if(k, (before == 0) & (after != 0));
 }
 
-// Gives the grains that leave a tile to the four tiles beside it.
+// Gives the grains that leave a tile to the four tiles next to it.
 #[inline(always)]
 fn hand_over(tiles: &mut [Tile], free: &[u64], list: &mut TileList, beside: &Beside, new: u64)
     requires north { beside.now.north < length tiles.old }
@@ -81,7 +83,7 @@ fn hand_over(tiles: &mut [Tile], free: &[u64], list: &mut TileList, beside: &Bes
     );
 }
 
-// Visits a tile, and gives the grains that leave it to the tiles beside it.
+// Visits a tile, hands over the grains that leave it, and returns the places that toppled.
 #[inline(always)]
 fn topple_tile(
     tiles: &mut [Tile],
@@ -110,7 +112,7 @@ fn topple_tile(
     new
 }
 
-/// One wave: the dropped site topples, and then, each once, all others that this brings to 4.
+/// One wave: the dropped site topples, then each other site that this brings to 4, once each.
 pub fn topple_wave(
     shape: Shape,
     tiles: &mut [Tile],

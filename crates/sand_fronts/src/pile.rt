@@ -1,5 +1,5 @@
-//! A stable pile on tiles, on which grains are dropped one after another. All room that its drops need is made with it, so that
-//! none of them can fail.
+//! A stable pile on tiles, for dropping grains one by one. It allocates all memory that its drops need, so that no drop
+//! can fail.
 
 ghost use Rattle.std.specs.Prelude.{◌≡◌, ℕ, ◌+◌, ◌-◌, ◌^◌, ◌<◌, ◌≤◌, length, slice_index, IfOk};
 ghost use Rattle.sand_model.specs.Grid.{missing, sites};
@@ -32,9 +32,9 @@ pub struct TiledPile {
     beside: Vec<Beside>,
     // How often each place of each tile has toppled.
     counts: Vec<Count>,
-    // The sites that toppled in a drop. There are none between two drops.
+    // The sites that toppled in a drop: none between two drops.
     marks: Marks,
-    // How many places round each site are outside the grid, in place of heights.
+    // The number of places around each site that are outside the grid, in place of heights.
     outside: Vec<Tile>,
     list: TileList,
 }
@@ -49,7 +49,7 @@ impl Model for TiledPile {
     ghost invariant = { λ p. IsTiledPile p.shape p.tiles.items p.free.items p.beside.items p.list p.counts.items p.marks p.outside.items × CountsSites p.shape p.counts.items };
 }
 
-// Counts of nothing. Fails only if an allocation fails.
+// Counts of no topplings. Fails only if an allocation fails.
 fn no_counts(alloc: Global, n: usize) -> Result<Vec<Count>, AllocError>
     ensures one_each { IfOk result (λ counts. length counts.items ≡ n) }
     ensures sound { IfOk result (λ counts. (m : ℕ) → IsCount (count_at counts.items m)) }
@@ -60,7 +60,7 @@ fn no_counts(alloc: Global, n: usize) -> Result<Vec<Count>, AllocError>
     Ok(counts)
 }
 
-// How many places round each site are outside the grid, by site. Fails only if an allocation fails.
+// By site, the number of places around it that are outside the grid. Fails only if an allocation fails.
 fn outside_by_site(alloc: Global, shape: Shape) -> Result<Vec<u64>, AllocError>
     ensures one_each { IfOk result (λ all. length all.items ≡ sites shape) }
     ensures each { IfOk result (λ all. (j : ℕ) → j < sites shape → slice_index all.items j ≡ missing shape j) }
@@ -83,7 +83,7 @@ fn all_outside(alloc: Global, shape: Shape) -> Result<Vec<Tile>, AllocError>
 }
 
 impl TiledPile {
-    /// A stable pile on tiles, on which no site has toppled. Fails only if an allocation fails.
+    /// A stable pile on tiles where no site has toppled yet. Fails only if an allocation fails.
     pub fn new(alloc: Global, shape: Shape, heights: &[u64]) -> Result<TiledPile, AllocError>
         requires one_each { length heights.now ≡ sites shape }
         requires low { (j : ℕ) → j < sites shape → slice_index heights.now j ≤ 3 }
@@ -113,7 +113,7 @@ impl TiledPile {
         })
     }
 
-    /// Drops a grain at a site, and lets it topple. Returns the numbers of its avalanche.
+    /// Drops a grain at a site, and topples until the pile is stable. Returns the numbers of the avalanche.
     pub fn drop_at(&mut self, site: usize) -> Fall
         requires site { site < sites self.old.grid }
         requires few { (j : ℕ) → j < sites self.old.grid → slice_index self.old.times j < 2 ^ 60 }
@@ -147,7 +147,7 @@ impl TiledPile {
         height_at(&self.tiles[tile], place)
     }
 
-    /// How often a site toppled.
+    /// How often a site has toppled.
     pub fn times(&self, site: usize) -> u64
         requires site { site < sites self.now.grid }
         requires few { slice_index self.now.times site < 2 ^ 63 }

@@ -1,7 +1,7 @@
 //! How far a drop has reached in one tile.
 //!
-//! A place is known by the column and the row of its tile's first place and its own within the tile, so that no table is read.
-//! If no place of a tile can be farther than what is reached already, its places are not looked at.
+//! The column and row of a place are found from those of its tile's first place, without a table. If no place of a tile
+//! can be farther than the reach so far, its places are skipped.
 
 ghost use Rattle.std.specs.Prelude.{◌≡◌, ℕ, ◌+◌, ◌/◌, ◌%◌, ◌^◌, ◌<◌, ◌≤◌, if◌then◌else◌, min};
 ghost use Rattle.sand_model.specs.Grid.{joins};
@@ -18,7 +18,7 @@ pub(crate) struct Spot {
     pub(crate) row: usize,
 }
 
-// On a cylinder the shorter of two ways.
+// On a cylinder, the shorter of two ways.
 #[inline(always)]
 fn shorter(shape: Shape, across: usize, back: usize) -> usize
     ensures { result ≡ (if joins shape.edge then min across back else across) }
@@ -38,7 +38,7 @@ fn distance_to(shape: Shape, from: Spot, column: usize, row: usize) -> usize
     shorter(shape, across, shape.width().saturating_sub(across)) + from.row.abs_diff(row)
 }
 
-// No place of a tile is farther than this.
+// A bound on the distance of each place of a tile.
 #[inline(always)]
 fn farthest(shape: Shape, from: Spot, corner: Spot) -> usize
     requires small { (from.column < 2 ^ 32) × (from.row < 2 ^ 32) × (corner.column < 2 ^ 32) × (corner.row < 2 ^ 32) }
@@ -51,7 +51,7 @@ fn farthest(shape: Shape, from: Spot, corner: Spot) -> usize
     shorter(shape, across, shape.width() / 2) + down
 }
 
-// The greater of a reach and the distance of each place of a set.
+// The same as `reach_of`, place by place.
 fn reach_in(shape: Shape, from: Spot, corner: Spot, set: u64, reach: usize) -> usize
     requires small { (from.column < 2 ^ 32) × (from.row < 2 ^ 32) × (corner.column < 2 ^ 31) × (corner.row < 2 ^ 31) }
     ensures { IsReachedFrom shape from corner set reach result }
@@ -67,7 +67,7 @@ fn reach_in(shape: Shape, from: Spot, corner: Spot, set: u64, reach: usize) -> u
     far
 }
 
-/// The greater of a reach and the distance of each place of a set in a tile.
+/// The greatest of a reach and the distances of the places of a set in a tile.
 pub(crate) fn reach_of(shape: Shape, from: Spot, corner: Spot, set: u64, reach: usize) -> usize
     requires small { (from.column < 2 ^ 32) × (from.row < 2 ^ 32) × (corner.column < 2 ^ 31) × (corner.row < 2 ^ 31) }
     ensures { IsReachedFrom shape from corner set reach result }

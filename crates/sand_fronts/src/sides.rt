@@ -1,9 +1,9 @@
-//! What is beside each tile.
+//! The neighbours of each tile.
 //!
-//! The tiles are numbered row by row, with those of the border. So the tiles to the north and to the south are a row of
-//! tiles away, and those to the west and to the east are the tiles before and after. On a cylinder the first and the last
-//! tile of a row with sites are beside each other instead, across the seam. There the last column of the grid, which
-//! may be any column of its tile, is beside the first: a grain moves from one to the other by a shift over that many columns.
+//! The tiles are numbered row by row, including the border. So the tiles to the north and south are a row of tiles
+//! away, and those to the west and east are the tiles before and after. On a cylinder the first and the last tile of a
+//! row with sites are neighbours instead, across the seam. There the last column of the grid, which may be any column
+//! of its tile, is next to the first: a grain moves from one to the other by a shift over that many columns.
 
 ghost use Rattle.std.specs.Prelude.{◌≡◌, ◌-◌, ◌^◌, ◌<◌, ◌==◌, ◌&&◌, ◌%◌, length, IfOk};
 ghost use Rattle.sand_model.specs.Grid.{joins};
@@ -14,7 +14,7 @@ use crate::tiling::{across, tiles};
 use sand_model::{Edge, Shape};
 use std::alloc::{AllocError, Global};
 
-/// The four tiles beside a tile, and how far a column shifts to the west and to the east of it.
+/// The four tiles next to a tile, and how far a column shifts to the west and to the east of it.
 #[derive(Clone, Copy, Debug)]
 pub struct Beside {
     pub north: usize,
@@ -35,14 +35,14 @@ fn is_at_seam(shape: Shape, k: usize, column: usize) -> bool
     }
 }
 
-// The last column of the grid in its tile.
+// The last column of the grid, within its tile.
 fn last_column(shape: Shape) -> u32
     ensures { result ≡ (shape.width - 1) % 8 }
 {
     ((shape.width() - 1) % 8) as u32
 }
 
-// The tile to the west, and the last column there that has sites.
+// The tile to the west, and its last column with sites.
 #[tactic(auto, unfolding(crate::specs::Tiling::to_west, crate::specs::Tiling::shift_west))]
 fn west_of(shape: Shape, k: usize) -> (usize, u32)
     requires { k < 2 ^ 32 }
@@ -56,7 +56,7 @@ fn west_of(shape: Shape, k: usize) -> (usize, u32)
     }
 }
 
-// The tile to the east, and the last column with sites of the tile to the west of that.
+// The tile to the east, and the last column with sites of the tile `k` itself.
 #[tactic(auto, unfolding(crate::specs::Tiling::to_east, crate::specs::Tiling::shift_east))]
 fn east_of(shape: Shape, k: usize) -> (usize, u32)
     requires { k < 2 ^ 32 }
@@ -88,7 +88,7 @@ fn sides_of(shape: Shape, k: usize) -> Beside
     }
 }
 
-/// What is beside each tile of a grid. Fails only if an allocation fails.
+/// The neighbours of each tile of a grid. Fails only if an allocation fails.
 pub fn all_sides(alloc: Global, shape: Shape) -> Result<Vec<Beside>, AllocError>
     ensures one_each { IfOk result (λ all. length all.items ≡ tiles shape) }
     ensures board { IfOk result (λ all. IsBoard shape (tiles shape) all.items) }

@@ -1,4 +1,4 @@
-//! A list of tiles in room that was made for it beforehand.
+//! A list of tiles, in memory that is allocated beforehand.
 
 ghost use Rattle.std.specs.Prelude.{◌≡◌, ℕ, ◌+◌, ◌<◌, ◌≤◌, ◌^◌, [], ◌∷◌, ◌++◌, length, slice_index, IfOk, if◌then◌else◌};
 
@@ -24,7 +24,7 @@ impl Model for TileList {
 }
 
 impl TileList {
-    /// An empty list.
+    /// An empty list. Fails only if an allocation fails.
     pub fn new(alloc: Global, room: usize) -> Result<TileList, AllocError>
         ensures { IfOk result (λ l. l ≡ record { tiles = []; room = room }) }
     {
@@ -55,8 +55,7 @@ impl TileList {
         self.len = 0;
     }
 
-    /// Adds a tile if the test is true. The tile is written either way, so that a test whose outcome no processor can
-    /// foresee costs no branch.
+    /// Adds a tile if `test` is true. The tile is written either way, so that an unpredictable test costs no branch.
     #[inline(always)]
     pub fn push_if(&mut self, tile: usize, test: bool)
         requires room { length self.old.tiles < self.old.room }

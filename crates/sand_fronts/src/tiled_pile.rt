@@ -1,8 +1,8 @@
 //! A grain dropped on a stable pile on tiles.
 //!
-//! The grain is added to the planes of its tile. If its site is due then, it topples, and all that follows (`dropping`). In its
-//! waves the site is not free: its bit is taken out of the word of its tile, and the whole word is put back when they have
-//! passed. Then area and reach are read from the sites that are marked (`extent`).
+//! The grain is added to the planes of its tile. If its site is then due, it topples, and all that follows
+//! (`dropping`). In its waves the site is not free: its bit is taken out of the word of its tile, and put back after
+//! them. Then area and reach are read from the marked sites (`extent`).
 
 ghost use Rattle.std.specs.Prelude.{◌≡◌, ℕ, ◌+◌, ◌^◌, ◌<◌};
 ghost use Rattle.sand_model.specs.Grid.{sites};
@@ -25,16 +25,16 @@ use crate::tiling::find;
 use sand_model::Shape;
 use sand_tiles::{Count, Tile, is_due, receive, set_of};
 
-/// What one drop has toppled.
+/// The numbers of one avalanche.
 #[derive(Clone, Copy, Debug)]
 pub struct Fall {
-    /// How many topplings there were.
+    /// The number of topplings.
     pub size: u64,
-    /// How many sites toppled.
+    /// The number of sites that toppled.
     pub area: u64,
     /// The greatest distance from the drop to a site that toppled, in columns and rows, or 0 if none did.
     pub reach: usize,
-    /// How many grains fell into the sink.
+    /// The number of grains that fell into the sink.
     pub lost: u64,
 }
 
@@ -45,7 +45,8 @@ const CALM: Fall = Fall {
     lost: 0,
 };
 
-/// Drops a grain at a site, and lets it topple. Counts the topplings of each site, and returns their numbers.
+/// Drops a grain at a site, and topples until the pile is stable. Counts the topplings of each site, and returns the
+/// numbers of the avalanche.
 pub fn drop_grain(
     shape: Shape,
     tiles: &mut [Tile],

@@ -1,8 +1,8 @@
 //! A grid cut into tiles, and the place of each site.
 //!
-//! The tile in the north-west corner of the grid has its first 8 rows and columns. The tiles at the end of a row and of a
-//! column may have places that are no sites. Round the tiles with sites is a border of tiles without: grains that fall
-//! into the sink are added there or at places that are no sites, and nobody reads them.
+//! The tile in the north-west corner has the first 8 rows and columns of the grid. The last tiles of a row and of a
+//! column may have places that are no sites. Around the tiles with sites is a border of tiles without: grains that fall
+//! into the sink are added there, or at places that are no sites, and are never read.
 
 ghost use Rattle.std.specs.Prelude.{◌≡◌, ℕ, ◌<◌, ◌≤◌, ◌^◌, length, slice_index, IfOk};
 ghost use Rattle.sand_model.specs.Grid.{IsGrid, sites};
@@ -15,10 +15,10 @@ use sand_model::Shape;
 use sand_tiles::{BARE, Tile, add_grains, set_of};
 use std::alloc::{AllocError, Global};
 
-/// The sides of a tile.
+/// The side of a tile.
 const SIDE: usize = 8;
 
-/// How many tiles of a row have sites.
+/// The number of tiles in a row that have sites.
 #[inline(always)]
 pub(crate) fn across(shape: Shape) -> usize
     ensures value { result ≡ across shape }
@@ -29,7 +29,7 @@ pub(crate) fn across(shape: Shape) -> usize
     shape.width().div_ceil(SIDE)
 }
 
-/// How many tiles there are, with those of the border.
+/// The number of tiles, including the border.
 pub(crate) fn tiles(shape: Shape) -> usize
     ensures value { result ≡ tiles shape }
     ensures limit { result ≤ 65536 }
@@ -51,7 +51,7 @@ pub(crate) fn find(shape: Shape, site: usize) -> (usize, usize)
     (tile, row % SIDE * SIDE + column % SIDE)
 }
 
-/// The word of each tile with all places that are sites. Fails only if an allocation fails.
+/// For each tile, the word of its places that are sites. Fails only if an allocation fails.
 pub(crate) fn all_open(alloc: Global, shape: Shape) -> Result<Vec<u64>, AllocError>
     ensures one_each { IfOk result (λ free. length free.items ≡ tiles shape) }
     ensures all { IfOk result (λ free. AreAllOpen shape (slice_index free.items)) }
@@ -64,7 +64,7 @@ pub(crate) fn all_open(alloc: Global, shape: Shape) -> Result<Vec<u64>, AllocErr
     Ok(free)
 }
 
-/// Tiles with these numbers: heights, and 4 more for what is due. Fails only if an allocation fails.
+/// Tiles with these numbers by site: heights, and 4 more for sites that are due. Fails only if an allocation fails.
 pub(crate) fn tiles_with(
     alloc: Global,
     shape: Shape,

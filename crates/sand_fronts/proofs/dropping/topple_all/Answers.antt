@@ -58,7 +58,7 @@ waves-init c = record {
   lost_is = none_lost c.args.shape (count_at c.args.counts.now);
 }
 
--- what the wave leaves
+-- the size of the wave
 size_of : (c : goal.After-height_at) → c.count_wave-wave.result.size ≡ topplings c.args.shape (toppled c.args.shape (tile_at c.topple_wave.new.tiles))
 size_of c =
     c.count_wave-wave.ensures.size

@@ -8,7 +8,7 @@ use Rattle.sand_fronts.proofs.pile.TiledPile.drop_at.Goals as goal
 pub drop_grain-requires-clause-few : goal.drop_grain-requires-clause-few
 drop_grain-requires-clause-few c = few_now c.self.inside.shape c.self.inside.tiles.items c.deref_mut-3.result.now c.self.inside.counts.items c.args.self.now c.self.view_is c.deref_mut-3.ensures.value c.self.invariant.1 c.requires.few
 
--- the lists that the drop leaves
+-- the lists after the drop
 tiles_are : (c : After-drop_grain) → take c.self.inside.tiles.len (c.drop_grain.new.tiles ++ drop (length c.drop_grain.new.tiles) c.self.inside.tiles.items) ≡ c.drop_grain.new.tiles
 tiles_are c = take_at c.drop_grain.new.tiles (drop (length c.drop_grain.new.tiles) c.self.inside.tiles.items) c.self.inside.tiles.len (omega (arith, c.drop_grain.auto.tiles, c.deref_mut.ensures.len))
 
