@@ -1,5 +1,6 @@
 -- The numbered streams of drop sites.
--- Source: ChaCha8 (Bernstein 2008) with a 64-bit stream number, as `rand_chacha` has it; the seed's layout is this project's.
+-- Source: ChaCha8 (Bernstein 2008) with a 64-bit stream number, as in `rand_chacha`; the layout of the seed is this
+-- project's.
 use Rattle.std.specs.Prelude.{ℕ, zero, suc, ◌+◌, ◌*◌, ◌%◌, List, [], ◌∷◌, ◌++◌, replicate}
 use Rattle.std.specs.Int.{w64, to_le_bytes}
 use Rattle.rand_chacha.specs.ChaCha.{word_at, key_of}
@@ -8,7 +9,6 @@ use Rattle.rand_chacha.specs.ChaCha.{word_at, key_of}
 unfoldable pub key_bytes : ℕ → List ℕ
 key_bytes seed = to_le_bytes w64 seed ++ replicate 24 0
 
--- the key of a seed
 unfoldable pub key_of_seed : ℕ → List ℕ
 key_of_seed seed = key_of (key_bytes seed)
 
@@ -16,11 +16,11 @@ key_of_seed seed = key_of (key_bytes seed)
 unfoldable pub stream_word : ℕ → ℕ → ℕ → ℕ
 stream_word seed stream n = word_at 4 (key_of_seed seed) stream n
 
--- site n of a stream, on a grid with so many sites
+-- site n of a stream, on a grid with `sites` sites
 abbrev pub site_at : ℕ → ℕ → ℕ → ℕ → ℕ
 site_at sites seed stream n = stream_word seed stream n % sites
 
--- the first sites of a stream, so many
+-- the first n sites of a stream
 abbrev pub stream_sites : ℕ → ℕ → ℕ → ℕ → List ℕ
 stream_sites sites seed stream zero = []
 stream_sites sites seed stream (suc n) = stream_sites sites seed stream n ++ site_at sites seed stream n ∷ []
@@ -29,7 +29,7 @@ stream_sites sites seed stream (suc n) = stream_sites sites seed stream n ++ sit
 abbrev pub stream_of : ℕ → ℕ → ℕ
 stream_of epoch dropper = epoch * 64 + dropper
 
--- what contracts see of a reader of sites: how many sites the grid has, the seed, the stream, and the place of the next site
+-- what contracts see of a reader: the number of sites of the grid, the seed, the stream, and the place of the next site
 pub record Reading : Type 0 where
   pub sites : ℕ
   pub seed : ℕ

@@ -1,4 +1,4 @@
-//! The numbered streams of drop sites, for all that drops at random sites: in one thread, in many, or called from C.
+//! The numbered streams of drop sites, for everything that drops at random sites: one thread, many threads, or C.
 #![tactic(auto)]
 
 mod streams;

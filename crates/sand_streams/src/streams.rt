@@ -11,7 +11,7 @@ use sand_model::Shape;
 use std::alloc::{AllocError, Global};
 use std::marker::Model;
 
-// The seed's bytes, the low byte first, and zeros.
+// The bytes of the seed, the low byte first, and zeros.
 #[tactic(auto, unfolding(crate::specs::Streams::key_bytes))]
 fn key_bytes(seed: u64) -> [u8; 32]
     ensures { result ≡ key_bytes seed }
@@ -21,14 +21,14 @@ fn key_bytes(seed: u64) -> [u8; 32]
     bytes
 }
 
-/// The stream of a dropper in an epoch: those of one epoch come before those of the next.
+/// The number of the stream of a dropper in an epoch. The streams of one epoch come before those of the next.
 pub fn stream_of(epoch: u32, dropper: u32) -> u64
     ensures { result ≡ stream_of epoch dropper }
 {
     u64::from(epoch) * 64 + u64::from(dropper)
 }
 
-/// A stream of drop sites, of which each is read when it is wanted.
+/// A stream of drop sites, read one by one.
 #[derive(Drop)]
 pub struct SiteReader {
     words: ChaCha8Rng,
@@ -48,7 +48,7 @@ impl Model for SiteReader {
 }
 
 impl SiteReader {
-    /// The stream of this number, from its place 0.
+    /// The stream with this number, from place 0.
     #[tactic(auto, unfolding(crate::specs::Streams::key_of_seed))]
     pub fn new(shape: Shape, seed: u64, stream: u64) -> SiteReader
         ensures { result ≡ record { sites = sites shape; seed = seed; stream = stream; read = 0 } }
@@ -62,7 +62,7 @@ impl SiteReader {
         }
     }
 
-    /// Goes to a place of the stream, whose site is the next one.
+    /// Moves to a place of the stream: its site is the next one.
     pub fn go_to(&mut self, place: u64)
         ensures { self.new ≡ record self.old { read = place } }
     {
@@ -82,8 +82,8 @@ impl SiteReader {
     }
 }
 
-/// The first `count` sites of a stream: its 32-bit words from place 0 on, modulo the sites of the shape.
-/// Fails only if an allocation does.
+/// The first `count` sites of a stream: its 32-bit words from place 0 on, modulo the number of sites of the shape.
+/// Fails only if an allocation fails.
 pub fn sites_of(
     alloc: Global,
     shape: Shape,
