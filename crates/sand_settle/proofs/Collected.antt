@@ -1,4 +1,4 @@
--- An avalanche that is read from the counts, site by site.
+-- An avalanche read from the counts, site by site.
 use Rattle.std.proofs.Common.{ℕ, ◌≡◌, ◌+◌, ◌*◌, ◌<◌, ◌≤◌, refl, sym, ◌∙◌, ap, subst, arith, List, [], ◌∷◌, length, get_or, drop, max, ⊎_elim, ltb}
 use Rattle.std.proofs.lemmas.Bool.{cases_eq, cases_lt, ltb-true, ltb-false}
 use Rattle.std.proofs.Math.ListN.{set}
@@ -15,7 +15,7 @@ use Rattle.sand_settle.specs.Avalanches.{IsAvalanche, IsReached}
 use Rattle.sand_settle.proofs.Queue.{leaves}
 use Rattle.sand_settle.proofs.Underway.{topplings_more}
 
--- of the counts before, those that are no longer there now have been read into the avalanche
+-- the counts before that are no longer there now have been read into the avalanche
 pub record Collects (g : Grid) (site : ℕ) (before now : ℕ → ℕ) (a : Avalanche) : Type 0 where
   pub falls : (j : ℕ) → j < sites g → now j ≤ before j
   pub size : a.size + topplings g now ≡ topplings g before
@@ -87,7 +87,7 @@ avalanche_same g site u v a same was = record {
   all_lost = was.all_lost ∙ sum_below_same (sites g) (λ j. missing g j * u j) (λ j. missing g j * v j) (λ j l. ap (λ m. missing g j * m) (same j l));
 }
 
--- where no site topples
+-- if no site topples
 pub avalanche_none : (g : Grid) (site : ℕ) (v : ℕ → ℕ) (a : Avalanche) → ((j : ℕ) → j < sites g → v j ≡ 0) → a ≡ record { site = site; size = 0; area = 0; reach = 0; lost = 0 } → IsAvalanche g site v a
 avalanche_none g site v a none calm = record {
   origin = ap (λ (b : Avalanche). b.site) calm;
@@ -98,7 +98,7 @@ avalanche_none g site v a none calm = record {
   all_lost = ap (λ (b : Avalanche). b.lost) calm ∙ sym (nothing_lost g v none);
 }
 
--- ---- the list of the sites that are still to be read
+-- ---- the list of the sites still to be read
 
 pub rest_of : (n : ℕ) (u xs : List ℕ) (turn i : ℕ) → i ≡ get_or xs turn 0 → turn < length xs → Lists n (has_toppled (λ j. get_or u j 0)) (drop turn xs) → Lists n (has_toppled (λ j. get_or u j 0)) (i ∷ drop (turn + 1) xs)
 rest_of n u xs turn i e l all =
@@ -117,11 +117,11 @@ rest_more n u xs turn i each e l all =
     let P : ℕ → Type 0 = λ m. Lists m (has_toppled (λ j. get_or u j 0)) (i ∷ drop (turn + 1) xs) → i < m → Lists m (has_toppled (λ j. get_or (set u i 0) j 0)) (drop (turn + 1) xs) in
     subst P each (λ listed inside. leaves (ltb 0) u (drop (turn + 1) xs) i 0 listed inside refl) (rest_of n u xs turn i e l all) (rest_inside n u xs turn i e l all)
 
--- a count that is taken away
+-- a count that is cleared
 pub cleared : (i : ℕ) (u : List ℕ) → i < length u → (j : ℕ) → get_or u j 0 ≡ get_or (set u i 0) j 0 + get_or u i 0 * one_at i j
 cleared i u inside j = let all = get_or-written u i 0 j inside in omega arith
 
--- what is counted nowhere in the grid is counted nowhere
+-- counts that are 0 at each site of the grid are 0 everywhere
 pub none_anywhere : (n : ℕ) (u : List ℕ) → length u ≡ n → Lists n (has_toppled (λ j. get_or u j 0)) [] → (j : ℕ) → get_or u j 0 ≡ 0
 none_anywhere n u each all j =
     ⊎_elim

@@ -26,7 +26,7 @@ use Rattle.sand_settle.proofs.Drops.{after_start, paid_start, paid_after, grains
 
 -- ---- before a drop
 
--- the tiles hold the heights of the record r of the start, none of their sites has toppled, and the sums are those of r
+-- the tiles have the heights of the record r of the start, none of their sites has toppled, and the sums are those of r
 pub record IsAtStart (start : PileView) (r : SettledView) (t : TiledView) (all gone : ℕ) : Type 0 where
   pub pile : IsPile start
   pub record_of : IsRecord start.grid (height_of start) r
@@ -77,7 +77,7 @@ driven_view start r t all gone at = after_start start (driven_record r t all gon
 
 -- ---- a drop
 
--- no site has toppled too often for a number
+-- the counts of all sites are small
 pub few_counts : (r : SettledView) (t : TiledView) (number all gone grains : ℕ) → IsDriven r t number all gone grains → (j : ℕ) → j < sites t.grid → slice_index r.odometer j + slice_index t.times j < 2 ^ 60
 few_counts r t number all gone grains driven j l =
     let one = ap sites driven.one_grid in
@@ -144,7 +144,7 @@ driven_avalanche r t u site f number all gone grains a driven fall made =
       all_lost = ap (λ (x : Avalanche). x.lost) made ∙ fell.all_lost ∙ sum_below_same (sites g) (λ j. missing g j * v j) (λ j. missing g j * w j) (λ j l. ap (λ m. missing g j * m) (same j l));
     }
 
--- a drop leaves a record that is right
+-- after a drop the record is right
 pub driven_after : (r : SettledView) (t u : TiledView) (site : ℕ) (f : Fall) (number all gone grains : ℕ) → IsDriven r t number all gone grains → u.grid ≡ t.grid → site < sites r.pile.grid → grains < most_grains
     → TakesGrain (driven_record r t all gone) site (driven_record r u (all + f.size) (gone + f.lost)) → IsDriven r u (number + 1) (all + f.size) (gone + f.lost) (grains + 1)
 driven_after r t u site f number all gone grains driven grid inside room taken =
@@ -176,7 +176,7 @@ near g i j sides inside there =
     let across = apart_below (joins g.edge) (abs_diff (column g i) (column g j)) (g.width - abs_diff (column g i) (column g j)) 256 (omega arith) in
     omega arith
 
--- the numbers of an avalanche fit 32 bits
+-- the numbers of an avalanche fit into 32 bits
 pub small_fall : (g : Grid) (site : ℕ) (v : ℕ → ℕ) (f : Fall) → IsGrid g → site < sites g → IsFall g site v f → (f.area < 2 ^ 32) × (f.reach < 2 ^ 32)
 small_fall g site v f sides inside fall =
     let most = at_most_all (sites g) (λ j. one_if (ltb 0 (v j))) (λ j l. at_most_one (ltb 0 (v j))) in

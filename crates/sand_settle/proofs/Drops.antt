@@ -1,4 +1,4 @@
--- One drop more on a settled pile, and what a list of drops leads to.
+-- One more drop on a settled pile, and the result of a list of drops.
 use Rattle.std.proofs.Common.{ℕ, ◌≡◌, ◌≢◌, ◌+◌, ◌-◌, ◌*◌, ◌<◌, ◌≤◌, ◌^◌, refl, sym, ◌∙◌, ap, subst, arith, List, [], ◌∷◌, ◌++◌, length, sum, get_or, append_assoc, Option, Some}
 use Rattle.std.proofs.Math.ListN.{set}
 use Rattle.std.proofs.lemmas.List.{length-append, append-nil, length-set, get_or_default}
@@ -19,11 +19,11 @@ use Rattle.sand_settle.specs.declared.avalanche.Avalanche.{Avalanche}
 use Rattle.sand_settle.specs.Avalanches.{IsAvalanche}
 use Rattle.sand_settle.proofs.Collected.{lost_sum, avalanche_same}
 
--- a pile in which no site may topple is its own settled pile
+-- a stable pile is its own settled pile
 pub settled_already : (g : Grid) (s u : ℕ → ℕ) → ((i : ℕ) → i < sites g → s i ≤ 3) → ((i : ℕ) → i < sites g → u i ≡ 0) → IsSettled g s u s
 settled_already g s u low none = underway_end g s u s (underway_start g s u none) low
 
--- the grains that lie on a settled pile or were lost are those of its start
+-- the grains on a settled pile and those lost are the grains of its start
 pub grains_kept : (g : Grid) (s : ℕ → ℕ) (r : SettledView) → IsRecord g s r → sum r.pile.heights + r.lost ≡ grains g s
 grains_kept g s r done =
     let all = laplacian_sum g s (λ j. get_or r.odometer j 0) (λ j. get_or r.pile.heights j 0) done.settled.toppled in
@@ -80,7 +80,7 @@ after_start start r pile done = record {
       omega arith;
 }
 
--- ---- a grain more
+-- ---- one more grain
 
 one_grain : (g : Grid) (site : ℕ) → site < sites g → grains g (one_at site) ≡ 1
 one_grain g site l = sum_below_same (sites g) (one_at site) (λ j. 1 * one_at site j) (λ j m. omega arith) ∙ topplings_at g site 1 l
@@ -132,7 +132,7 @@ paid_after r q site paid inside room taken =
       paid = rw same (weight_left r q site paid inside taken);
     }
 
--- ---- from a start and its drops to one drop more
+-- ---- from a start and its drops to one more drop
 
 -- a grain dropped on the settled pile of some heights leads to the record of these heights and the grain
 record_of_more : (g : Grid) (s : ℕ → ℕ) (site : ℕ) (r q : SettledView) → IsRecord g s r → TakesGrain r site q → IsRecord g (λ j. s j + one_at site j) q
@@ -165,7 +165,7 @@ some_record_after r q site (s, before) taken =
     let P : Grid → Type 0 = λ g. IsRecord g (λ j. s j + one_at site j) q in
     (λ j. s j + one_at site j, subst P (sym taken.grid) (record_of_more r.pile.grid s site r q before taken))
 
--- the record of the start and the grains so far is that of one grain more
+-- from the record of the start and the grains so far to the record with one more grain
 record_after : (g : Grid) (s : ℕ → ℕ) (history : List ℕ) (site : ℕ) (r q : SettledView) → IsRecord g (λ j. s j + tally history j) r → TakesGrain r site q → IsRecord g (λ j. s j + tally (history ++ site ∷ []) j) q
 record_after g s history site r q before taken =
     let more = record_of_more g (λ j. s j + tally history j) site r q before taken in
@@ -214,7 +214,7 @@ small_settling g h u t sides each limit done =
     let all = laplacian_sum g (λ j. get_or h j 0) (λ j. get_or u j 0) t done.toppled in
     (topplings_bound g (λ j. get_or h j 0) (λ j. get_or u j 0) t sides (omega arith) done.toppled, omega arith)
 
--- how often a site toppled is what its place in the odometer has grown by
+-- how often a site toppled is the growth of its place in the odometer
 pub settled_between : (g k : Grid) (h u old new t : List ℕ) → g ≡ k → ((j : ℕ) → get_or new j 0 ≡ get_or old j 0 + get_or u j 0) → IsSettled g (λ j. get_or h j 0) (λ j. get_or u j 0) (λ j. get_or t j 0) → IsSettled k (λ j. get_or h j 0) (λ j. get_or new j 0 - get_or old j 0) (λ j. get_or t j 0)
 settled_between g k h u old new t same counts done =
     let P : Grid → Type 0 = λ q. IsSettled q (λ j. get_or h j 0) (λ j. get_or new j 0 - get_or old j 0) (λ j. get_or t j 0) in
@@ -236,7 +236,7 @@ settled_calm g h u site low others =
 
 -- ---- a drop in the code
 
--- the height of a site is one more than it was
+-- the height of a site grows by one
 pub raised : (items heights h : List ℕ) (site now : ℕ) → items ≡ heights → site < length heights → now ≡ get_or items site now → h ≡ set items site (now + 1) → h ≡ set heights site (get_or heights site 0 + 1)
 raised items heights h site now same inside is written =
     let P : List ℕ → Type 0 = λ xs. now ≡ get_or xs site now → h ≡ set xs site (now + 1) → h ≡ set heights site (get_or heights site 0 + 1) in
@@ -244,7 +244,7 @@ raised items heights h site now same inside is written =
     (λ value list. let first : now ≡ get_or heights site 0 = value ∙ get_or_default heights site now 0 inside in list ∙ ap (λ m. set heights site (m + 1)) first)
     is written
 
--- the record r is left with the heights k and the odometer new, once a grain at the site has set off the avalanche a
+-- a grain at the site turns the record r into the heights k and the odometer new, with the avalanche a
 pub record Pours (r : SettledView) (site : ℕ) (k new : List ℕ) (a : Avalanche) : Type 0 where
   pub paid : IsPaid r
   pub inside : site < sites r.pile.grid
@@ -276,7 +276,7 @@ pours r site g h k old new a paid inside room grids list same heights counts ris
       avalanche = subst S same (subst R grids set_off);
     }
 
--- the grains that are left, with those lost, are those before and the one
+-- the grains on the pile after the drop and those lost are those before and the new one
 pub poured_sum : (r : SettledView) (site : ℕ) (k new : List ℕ) (a : Avalanche) → Pours r site k new a → sum k + a.lost ≡ sum r.pile.heights + 1
 poured_sum r site k new a all =
     let falls = laplacian_sum r.pile.grid (λ j. get_or r.pile.heights j 0 + one_at site j) (λ j. get_or new j 0 - get_or r.odometer j 0) (λ j. get_or k j 0) all.settled.toppled in

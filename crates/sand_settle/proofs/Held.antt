@@ -1,4 +1,4 @@
--- A wave of topplings, in which each site topples once at most, and one is held back once it has.
+-- A wave of topplings: each site topples at most once, and one site is held after its toppling.
 use Rattle.std.proofs.Common.{ℕ, Bool, eqb, ◌≡◌, ◌≢◌, ◌+◌, ◌-◌, ◌*◌, ◌<◌, ◌≤◌, sym, ◌∙◌, ap, subst, take, drop, arith, List, [], ◌∷◌, ◌++◌, length, sum, get_or, leb, length-append, ⊎_elim}
 use Rattle.std.proofs.Math.ListN.{set}
 use Rattle.std.proofs.lemmas.Bool.{cases_eq, cases_lt, lt-leb, le-leb}
@@ -28,7 +28,7 @@ lists_swap n test xs ys all = record {
   each = λ i. let one = all.each i in let a = tally-append xs ys i in let b = tally-append ys xs i in omega arith;
 }
 
--- h with the 4 grains that the held site has still to lose taken away
+-- h without the 4 grains that the held site still has to lose
 abbrev pub lowered : List ℕ → ℕ → List ℕ
 lowered h site = set h site (get_or h site 0 - 4)
 
@@ -39,7 +39,7 @@ lowered_at h site inside high j =
     let taken = ap (λ q. q * one_at site j) rest in
     omega arith
 
--- the state of a wave that began with the heights h, after so many turns, in which each site toppled v times
+-- the state of a wave that began with the heights h, after `turn` turns, in which each site toppled v times
 pub record IsWave (g : Grid) (site : ℕ) (h k list : List ℕ) (v : ℕ → ℕ) (turn : ℕ) : Type 0 where
   pub within : turn ≤ length list
   pub low : (j : ℕ) → j < sites g → j ≢ site → get_or h j 0 ≤ 3
@@ -59,7 +59,7 @@ toppled_low g site h k list v turn j wave l ne =
     let none = ap (λ q. 4 * q) (one_at_other site j (λ e'. ne (sym e'))) in
     omega arith
 
--- so the list holds no more than all sites
+-- so the list has at most all sites
 pub wave_few : (g : Grid) (site : ℕ) (h k list : List ℕ) (v : ℕ → ℕ) (turn : ℕ) → site < sites g → IsWave g site h k list v turn → length list ≤ sites g
 wave_few g site h k list v turn inside wave =
     let long = length-listing (sites g) (may_topple (λ j. get_or k j 0)) ((site ∷ []) ++ drop turn list) wave.waiting in
@@ -84,14 +84,14 @@ wave_few g site h k list v turn inside wave =
     let one = sum_below-one_at (sites g) site (λ j. 1) inside in
     omega arith
 
--- a list has a site as often as any part of it, or more often
+-- a site is in a part of a list at most as often as in the list
 pub tally_part : (xs : List ℕ) (n j : ℕ) → tally (take n xs) j ≤ tally xs j
 tally_part xs n j =
     let parts = tally-append (take n xs) (drop n xs) j in
     let whole = ap (λ ys. tally ys j) (take-append-drop n xs) in
     omega arith
 
--- the sites that have toppled after one turn more
+-- the sites that have toppled after one more turn
 pub turn_tally : (list longer : List ℕ) (turn i : ℕ) → i ≡ get_or list turn 0 → turn < length list → take (turn + 1) longer ≡ take (turn + 1) list → (take (turn + 1) longer ≡ take turn list ++ i ∷ []) × ((j : ℕ) → tally (take (turn + 1) longer) j ≡ tally (take turn list) j + one_at i j)
 turn_tally list longer turn i e l kept =
     let longer_is : take (turn + 1) longer ≡ take turn list ++ i ∷ [] = kept ∙ take_more list turn 0 l ∙ ap (λ x. take turn list ++ x ∷ []) (sym e) in
@@ -115,7 +115,7 @@ wave_begins g site h k list v inside some low counts gives waiting = record {
   waiting = waiting;
 }
 
--- one that waits in the grid, and not the held one
+-- the site whose turn it is waits in the grid, and is not the held one
 pub wave_turn : (g : Grid) (site i : ℕ) (h k list : List ℕ) (v : ℕ → ℕ) (turn : ℕ) → i ≡ get_or list turn 0 → turn < length list → IsWave g site h k list v turn → (i < sites g) × (4 ≤ get_or k i 0) × (i ≢ site)
 wave_turn g site i h k list v turn e l wave =
     let queue = lists_swap (sites g) (may_topple (λ j. get_or k j 0)) (site ∷ []) (drop turn list) wave.waiting in (
@@ -132,7 +132,7 @@ wave_turn g site i h k list v turn e l wave =
           absurd (omega arith),
     )
 
--- its turn: it has toppled, and what it gave is in q and the longer list
+-- after its turn: it has toppled, its grains are in q, and the longer list has the sites that this brings to 4
 pub wave_goes_on : (g : Grid) (site i : ℕ) (h k list q longer : List ℕ) (v w : ℕ → ℕ) (turn : ℕ) → length k ≡ sites g → i ≡ get_or list turn 0 → turn < length list → IsWave g site h k list v turn → ((j : ℕ) → w j ≡ v j + one_at i j) → ((j : ℕ) → j < sites g → get_or q j 0 ≡ get_or (set k i (get_or k i 0 - 4)) j 0 + flow g (one_at i) j) → length list ≤ length longer → Lists (sites g) (may_topple (λ j. get_or q j 0)) ((site ∷ []) ++ drop (turn + 1) longer) → IsWave g site h q longer w (turn + 1)
 wave_goes_on g site i h k list q longer v w turn each e l wave counts gives longer' waiting =
     let here = wave_turn g site i h k list v turn e l wave in
@@ -161,7 +161,7 @@ wave_goes_on g site i h k list q longer v w turn each e l wave counts gives long
       waiting = waiting;
     }
 
--- those behind it wait, once it has lost its grains
+-- those behind it wait, after it has lost its grains
 pub wave_waits : (g : Grid) (site i : ℕ) (h k list : List ℕ) (v : ℕ → ℕ) (turn : ℕ) → length k ≡ sites g → i ≡ get_or list turn 0 → turn < length list → IsWave g site h k list v turn → Lists (sites g) (may_topple (λ j. get_or (set k i (get_or k i 0 - 4)) j 0)) ((site ∷ []) ++ drop (turn + 1) list)
 wave_waits g site i h k list v turn each e l wave =
     let here = wave_turn g site i h k list v turn e l wave in
@@ -176,7 +176,7 @@ wave_waits g site i h k list v turn each e l wave =
 pub wave_held : (g : Grid) (site : ℕ) (h k list : List ℕ) (v : ℕ → ℕ) (turn : ℕ) → IsWave g site h k list v turn → 4 ≤ get_or k site 0
 wave_held g site h k list v turn wave = front_is_high (sites g) (λ j. get_or k j 0) (drop turn list) site wave.waiting
 
--- and if no other waits, none has 4
+-- and if no other site waits, none has 4
 pub wave_ends : (g : Grid) (site : ℕ) (h k list : List ℕ) (v : ℕ → ℕ) (turn : ℕ) → length list ≤ turn → length k ≡ sites g → site < sites g → IsWave g site h k list v turn → (j : ℕ) → j < sites g → j ≢ site → get_or (lowered k site) j 0 ≤ 3
 wave_ends g site h k list v turn done each inside wave j l ne =
     let end = drop_all turn list done in
@@ -211,20 +211,20 @@ turn_toppled g site i k q inside there ne each each' high some high' gives =
 pub lowered_other : (k : List ℕ) (site i : ℕ) → i ≢ site → get_or (lowered k site) i 0 ≡ get_or k i 0
 lowered_other k site i ne = get_or-set_other k site i (get_or k site 0 - 4) 0 ne
 
--- the grains of a wave are few
+-- the grains of a wave stay few
 pub held_sum : (g : Grid) (site : ℕ) (h k : List ℕ) (u v : ℕ → ℕ) → site < sites g → length h ≡ sites g → length k ≡ sites g → 4 ≤ get_or k site 0 → Advances g u (λ j. get_or h j 0) v (λ j. get_or (lowered k site) j 0) → sum k ≤ sum h + 4
 held_sum g site h k u v inside each each' high advances =
     let falls = sum_falls g u v h (lowered k site) each (length-set k site (get_or k site 0 - 4) ∙ each') advances in
     let parts = sum_by-set (λ x. x) k site (get_or k site 0 - 4) 0 (omega arith) in
     omega arith
 
--- a number that is lowered lowers the sum
+-- lowering a number lowers the sum
 pub sum_lower : (k : List ℕ) (i v : ℕ) → i < length k → v ≤ get_or k i 0 → sum (set k i v) ≤ sum k
 sum_lower k i v inside less =
     let parts = sum_by-set (λ x. x) k i v 0 inside in
     omega arith
 
--- the site held back waits from the first
+-- the held site waits from the start
 pub first_waits : (g : Grid) (site : ℕ) (h : List ℕ) (list : List ℕ) → list ≡ site ∷ [] → site < sites g → 4 ≤ get_or h site 0 → ((j : ℕ) → j < sites g → j ≢ site → get_or h j 0 ≤ 3) → Lists (sites g) (may_topple (λ j. get_or h j 0)) ((site ∷ []) ++ drop 1 list)
 first_waits g site h list only inside high low =
     rw only

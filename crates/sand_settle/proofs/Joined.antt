@@ -1,4 +1,4 @@
--- What a site gives to its neighbours, and the sites that join a list for it.
+-- The grains that a site gives to its neighbours, and the sites that join a list because of them.
 use Rattle.std.proofs.Common.{ℕ, Bool, true, false, cond, ltb, leb, ◌&&◌, Option, Some, None, map, ◌≡◌, ◌+◌, ◌-◌, ◌*◌, ◌<◌, ◌≤◌, refl, sym, ◌∙◌, ap, subst, take, drop, arith, List, [], ◌∷◌, ◌++◌, length, get_or, length-append, ⊎_elim}
 use Rattle.std.proofs.Math.ListN.{set}
 use Rattle.std.proofs.lemmas.Bool.{cases_Bool}
@@ -15,7 +15,7 @@ use Rattle.sand_settle.proofs.Queue.{queued}
 
 -- ---- the sites that join a list
 
--- the queue from one turn on, after a site has got grains, and joined it if it may topple from now on
+-- the queue from one turn on, after a site got grains, and joined it if it may topple from now on
 pub queued_from : (h front list : List ℕ) (turn i v : ℕ) → turn ≤ length list → i < length h → get_or h i 0 ≤ v → Lists (length h) (may_topple (λ j. get_or h j 0)) (front ++ drop turn list) → Lists (length h) (may_topple (λ j. get_or (set h i v) j 0)) (front ++ drop turn (cond (ltb (get_or h i 0) 4 && leb 4 v) (list ++ i ∷ []) list))
 queued_from h front list turn i v within inside more all =
     ⊎_elim
@@ -27,7 +27,7 @@ queued_from h front list turn i v within inside more all =
     rw not (rw not at was))
     (cases_Bool (ltb (get_or h i 0) 4 && leb 4 v))
 
--- one that joins a list, or does not, changes nothing before it
+-- a site that joins a list, or does not, changes nothing before it
 pub kept_from : (list : List ℕ) (turn i : ℕ) (joins : Bool) → turn ≤ length list → take turn (cond joins (list ++ i ∷ []) list) ≡ take turn list
 kept_from list turn i true within = take-append-le turn list (i ∷ []) within
 kept_from list turn i false within = refl
@@ -80,7 +80,7 @@ some_four g i xs e =
     let long : length xs ≡ 4 = sym (length-map xs Some) ∙ ap length e in
     four_of xs long ∙ e
 
--- what k topplings of one site give, it has lost
+-- k topplings of one site take from it what they give to its neighbours
 pub spread_from : (g : Grid) (i k : ℕ) (r q : ℕ → ℕ) → ((j : ℕ) → j < sites g → q j + k * (4 * one_at i j) ≡ r j + k * flow g (one_at i) j) → IsToppled g r (λ j. k * one_at i j) q
 spread_from g i k r q each = record {
   balance = λ j l. let e = each j l in let one = flow-scale g k (one_at i) j in omega arith;

@@ -1,4 +1,4 @@
--- The list of the sites whose number passes a test, as one number is written.
+-- The list of the sites whose number passes a test, when one number is written.
 use Rattle.std.proofs.Common.{ℕ, Bool, true, false, ◌≡◌, ◌≢◌, ◌+◌, ◌-◌, ◌*◌, ◌/◌, ◌<◌, ◌≤◌, refl, sym, ◌∙◌, ap, subst, drop, arith, List, [], ◌∷◌, ◌++◌, length, get_or, append_assoc, length-append, cond, ltb, leb, eqb, ◌&&◌, ⊎_elim}
 use Rattle.std.proofs.Math.ListN.{set}
 use Rattle.std.proofs.lemmas.Bool.{cases_eq, cases_lt, lt-leb, le-leb, lt-ltb, le-ltb, leb-true, leb-false, eq-eqb, ne_eqb}
@@ -13,12 +13,12 @@ others_kept test h i v j ne = ap test (sym (get_or-set_other h i j v 0 ne))
 written : (test : ℕ → Bool) (h : List ℕ) (i v : ℕ) → i < length h → test (get_or (set h i v) i 0) ≡ test v
 written test h i v l = ap test (get_or-set_same h i v 0 l)
 
--- a number that passes from now on
+-- a number that begins to pass
 pub joins : (test : ℕ → Bool) (h xs : List ℕ) (i v : ℕ) → Lists (length h) (λ j. test (get_or h j 0)) xs → i < length h → test (get_or h i 0) ≡ false → test v ≡ true → Lists (length h) (λ j. test (get_or (set h i v) j 0)) (xs ++ i ∷ [])
 joins test h xs i v all l out in' =
     lists_push (length h) (λ j. test (get_or h j 0)) (λ j. test (get_or (set h i v) j 0)) xs i all l out (written test h i v l ∙ in') (λ j m ne. others_kept test h i v j ne)
 
--- a number that passes no more, and whose site is at the front
+-- a number that no longer passes, with its site at the front
 pub leaves : (test : ℕ → Bool) (h xs : List ℕ) (i v : ℕ) → Lists (length h) (λ j. test (get_or h j 0)) (i ∷ xs) → i < length h → test v ≡ false → Lists (length h) (λ j. test (get_or (set h i v) j 0)) xs
 leaves test h xs i v all l out =
     lists_pop (length h) (λ j. test (get_or h j 0)) (λ j. test (get_or (set h i v) j 0)) xs i all (written test h i v l ∙ out) (λ j m ne. others_kept test h i v j ne)
@@ -33,14 +33,14 @@ stays test h xs i v all l same =
     (cases_eq j i))
     all
 
--- what is at the front may topple, and where the queue is empty nothing may
+-- the front may topple, and if the queue is empty no site may
 pub front_is_high : (n : ℕ) (s : ℕ → ℕ) (xs : List ℕ) (i : ℕ) → Lists n (may_topple s) (i ∷ xs) → 4 ≤ s i
 front_is_high n s xs i all = leb-true 4 (s i) (front_passes n (may_topple s) xs i all)
 
 pub all_low : (n : ℕ) (s : ℕ → ℕ) → Lists n (may_topple s) [] → (i : ℕ) → i < n → s i ≤ 3
 all_low n s all i l = let low = leb-false 4 (s i) (none_passes n (may_topple s) all i l) in omega arith
 
--- the queue after a site has got grains, and joined it if it may topple from now on
+-- the queue after a site got grains, and joined it if it may topple from now on
 pub queued : (h rest next : List ℕ) (i v : ℕ) → i < length h → get_or h i 0 ≤ v → Lists (length h) (may_topple (λ j. get_or h j 0)) (rest ++ next) → Lists (length h) (may_topple (λ j. get_or (set h i v) j 0)) (rest ++ cond (ltb (get_or h i 0) 4 && leb 4 v) (next ++ i ∷ []) next)
 queued h rest next i v inside more all =
     ⊎_elim
@@ -52,7 +52,7 @@ queued h rest next i v inside more all =
     (λ (high : 4 ≤ get_or h i 0). rw (le-ltb (get_or h i 0) 4 high) (stays (leb 4) h (rest ++ next) i v all inside (le-leb 4 (get_or h i 0) high ∙ sym (le-leb 4 v (omega arith)))))
     (cases_lt (get_or h i 0) 4)
 
--- the sites that have toppled after one more has, which joins them at its first toppling
+-- the sites that have toppled, after one more toppling; a site joins them at its first
 pub noted : (u toppled : List ℕ) (i k : ℕ) → i < length u → 0 < k → Lists (length u) (has_toppled (λ j. get_or u j 0)) toppled → Lists (length u) (has_toppled (λ j. get_or (set u i (get_or u i 0 + k)) j 0)) (cond (eqb (get_or u i 0) 0) (toppled ++ i ∷ []) toppled)
 noted u toppled i k inside some all =
     let now : ltb 0 (get_or u i 0 + k) ≡ true = lt-ltb 0 (get_or u i 0 + k) (omega arith) in
@@ -78,7 +78,7 @@ turn_inside n test wave next turn i e l all = front_below n test (drop (turn + 1
 pub turn_high : (n : ℕ) (s : ℕ → ℕ) (wave next : List ℕ) (turn i : ℕ) → i ≡ get_or wave turn 0 → turn < length wave → Lists n (may_topple s) (drop turn wave ++ next) → 4 ≤ s i
 turn_high n s wave next turn i e l all = front_is_high n s (drop (turn + 1) wave ++ next) i (turn_of n (may_topple s) wave next turn i e l all)
 
--- once the site whose turn it is has given its grains away, those behind it and the next wave wait
+-- once the site whose turn it is has toppled, those behind it and the next wave wait
 pub others_wait : (n : ℕ) (h wave next : List ℕ) (turn i : ℕ) → n ≡ length h → i ≡ get_or wave turn 0 → turn < length wave → Lists n (may_topple (λ j. get_or h j 0)) (drop turn wave ++ next) → Lists (length h) (may_topple (λ j. get_or (set h i (get_or h i 0 - 4 * (get_or h i 0 / 4))) j 0)) (drop (turn + 1) wave ++ next)
 others_wait n h wave next turn i all_sites e l all =
     let now = lists_of n (length h) (may_topple (λ j. get_or h j 0)) (i ∷ (drop (turn + 1) wave ++ next)) all_sites (turn_of n (may_topple (λ j. get_or h j 0)) wave next turn i e l all) in

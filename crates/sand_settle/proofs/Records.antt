@@ -1,4 +1,4 @@
--- What a drained pile has of the settled record.
+-- The settled record of a pile, from its parts.
 use Rattle.std.proofs.Common.{ℕ, ◌≡◌, ◌-◌, ◌*◌, ◌^◌, ◌<◌, ◌≤◌, ◌∙◌, arith, List, length, sum, get_or}
 use Rattle.sand_model.specs.Grid.{sites}
 use Rattle.sand_model.specs.Sand.{IsSettled, weight}

@@ -14,7 +14,7 @@ use Rattle.sand_model.specs.Piles.{most_grains}
 pub topplings_at : (g : Grid) (i k : ℕ) → i < sites g → topplings g (λ j. k * one_at i j) ≡ k
 topplings_at g i k l = sum_below-one_at (sites g) i (λ j. k) l
 
--- what k topplings of one site leave of the weight
+-- the weight after k topplings of one site
 pub weight_step : (g : Grid) (i k : ℕ) (t r : ℕ → ℕ) → i < sites g → IsToppled g t (λ j. k * one_at i j) r → weight g r + 2 * k ≤ weight g t
 weight_step g i k t r l done =
     let all = weight_after g t (λ j. k * one_at i j) r done in
@@ -48,7 +48,7 @@ advance_turn g v r w q i k l high counts done = record {
 pub turn_counts : (g : Grid) (v w : ℕ → ℕ) (i k : ℕ) → i < sites g → ((j : ℕ) → j < sites g → w j ≡ v j + k * one_at i j) → 0 < k → topplings g v + 1 ≤ topplings g w
 turn_counts g v w i k l counts some = let count = topplings_more g v w i k l counts in omega arith
 
--- what has been counted stays small, and so do the grains
+-- counts and grains stay small
 pub counts_small : (g : Grid) (u t v r : ℕ → ℕ) (i : ℕ) → Advances g u t v r → 2 * topplings g u + weight g t < 2 ^ 55 → i < sites g → v i < 2 ^ 54
 counts_small g u t v r i advances few l =
     let part = at_most_sum_below (sites g) v i l in
@@ -73,11 +73,11 @@ few_at_first g u h sides each limit none =
 
 -- ---- at the end
 
--- no site may topple but this one, and it may not either
+-- neither this site nor any other may topple
 pub all_stable : (g : Grid) (t : ℕ → ℕ) (site : ℕ) → t site ≤ 3 → ((j : ℕ) → j < sites g → j ≢ site → t j ≤ 3) → (j : ℕ) → j < sites g → t j ≤ 3
 all_stable g t site low others j l =
     ⊎_elim (λ (e : j ≡ site). let same = ap t e in omega arith) (λ (ne : j ≡ site → ⊥). others j l ne) (cases_eq j site)
 
--- the counts, which were 0, are the odometer
+-- counts that began at 0 are the odometer
 pub settled_at_last : (g : Grid) (s u v t : ℕ → ℕ) → ((j : ℕ) → u j ≡ 0) → Advances g u s v t → ((j : ℕ) → j < sites g → t j ≤ 3) → IsSettled g s v t
 settled_at_last g s u v t none all low = underway_end g s v t (all.underway s (underway_start g s u (λ j l. none j))) low

@@ -1,4 +1,4 @@
--- What makes an avalanche the sum of the topplings of one drop.
+-- What makes numbers the avalanche of one drop.
 -- Source: chip-firing (size, area, lost); the reach is this project's own.
 use Rattle.std.specs.Prelude.{ℕ, ◌≡◌, ◌<◌, ◌≤◌}
 use Rattle.sand_model.specs.Grid.{Grid, sites, distance}
@@ -7,7 +7,7 @@ use Rattle.sand_model.specs.Lists.{one_if}
 use Rattle.sand_settle.specs.SiteLists.{has_toppled}
 use Rattle.sand_settle.specs.declared.avalanche.Avalanche.{Avalanche}
 
--- how many sites topple
+-- the number of sites that topple
 abbrev pub area_of : Grid → (ℕ → ℕ) → ℕ
 area_of g v = sum_below (sites g) (λ j. one_if (has_toppled v j))
 
@@ -15,7 +15,7 @@ area_of g v = sum_below (sites g) (λ j. one_if (has_toppled v j))
 abbrev pub IsReached : Grid → ℕ → (ℕ → ℕ) → ℕ → Type 0
 IsReached g site v d = (j : ℕ) × (j < sites g) × (0 < v j) × (distance g site j ≡ d)
 
--- a drop at the site made each site j topple v j times; the reach is the greatest distance that is reached, or 0
+-- a drop at the site topples each site j v j times; the reach is the greatest distance of a site that topples, or 0
 pub record IsAvalanche (g : Grid) (site : ℕ) (v : ℕ → ℕ) (a : Avalanche) : Type 0 where
   pub origin : a.site ≡ site
   pub size : a.size ≡ topplings g v

@@ -6,17 +6,16 @@ use Rattle.sand_model.specs.Sand.{IsStable, IsSettled, one_at, tally, topplings,
 use Rattle.sand_model.specs.Piles.{PileView, IsPile, height_of, most_grains}
 use Rattle.sand_settle.specs.Settling.{SettledView, IsRecord, odometer_of}
 
--- the settled record since the start, how many drops there were, and the grains of the start and the drops
+-- the settled record since the start, the number of drops, and the grains of the start and the drops
 pub record OneView : Type 0 where
   pub settled : SettledView
   pub number : ℕ
   pub grains : ℕ
 
--- the grid of the pile
 abbrev pub grid_of_one_pile : OneView → Grid
 grid_of_one_pile v = v.settled.pile.grid
 
--- v is what this start and these drops lead to: the settled record of the start and the tally of the drops
+-- v is the result of this start and these drops: the settled record of the start and the tally of the drops
 pub record IsAfter (start : PileView) (history : List ℕ) (v : OneView) : Type 0 where
   pub start_pile : IsPile start
   pub all_sites : All (λ j. j < sites start.grid) history
@@ -29,7 +28,7 @@ pub record IsAfter (start : PileView) (history : List ℕ) (v : OneView) : Type 
 abbrev pub topplings_between : SettledView → SettledView → ℕ → ℕ
 topplings_between r q j = odometer_of q j - odometer_of r j
 
--- a grain dropped at a site of the settled pile of r, and what toppled then, lead to q
+-- a grain dropped at a site of the settled pile of r, and the topplings that follow, lead to q
 pub record TakesGrain (r : SettledView) (site : ℕ) (q : SettledView) : Type 0 where
   pub grid : q.pile.grid ≡ r.pile.grid
   pub heights_each : length q.pile.heights ≡ sites r.pile.grid
@@ -47,12 +46,12 @@ pub record Drops (v : OneView) (site : ℕ) (w : OneView) : Type 0 where
   pub number : w.number ≡ v.number + 1
   pub grains : w.grains ≡ v.grains + 1
 
--- drops at the sites of a list, one after another, lead from v to w
+-- drops at the sites of a list, one by one, lead from v to w
 abbrev pub DropsAll : OneView → List ℕ → OneView → Type 0
 DropsAll v [] w = v ≡ w
 DropsAll v (site ∷ history) w = (u : OneView) × Drops v site u × DropsAll u history w
 
--- what one settled record has of itself: its sums are right and small, however it came about
+-- what holds of a settled record by itself: its sums are right and small, however it came about
 pub record IsPaid (r : SettledView) : Type 0 where
   pub sides : IsGrid r.pile.grid
   pub heights_each : length r.pile.heights ≡ sites r.pile.grid
@@ -62,11 +61,11 @@ pub record IsPaid (r : SettledView) : Type 0 where
   pub all_topplings : r.topplings ≡ topplings r.pile.grid (odometer_of r)
   pub paid : 2 * r.topplings + weight r.pile.grid (height_of r.pile) ≤ 16512 * (sum r.pile.heights + r.lost)
 
--- a record is seen with the grains that lie on the pile or were lost
+-- a record, seen with the grains that are on the pile or were lost
 abbrev pub one_view : SettledView → ℕ → OneView
 one_view r number = record { settled = r; number = number; grains = sum r.pile.heights + r.lost }
 
--- the record is right, each drop brought a grain, a workspace is one for the grid, and a drop leaves one
+-- the record is right, each drop added a grain, any workspace is for the grid, and after a drop there is one
 pub record IsOnePile (r : SettledView) (workspace : Option Grid) (number : ℕ) : Type 0 where
   pub paid : IsPaid r
   pub few : number ≤ sum r.pile.heights + r.lost

@@ -1,4 +1,4 @@
--- What a pile leaves when it has settled.
+-- What a pile settles to.
 use Rattle.std.specs.Prelude.{◌≡◌, length, slice_index}
 use Rattle.sand_model.specs.Grid.{sites}
 use Rattle.sand_model.specs.Sand.{IsSettled}

@@ -1,17 +1,16 @@
--- Lists of sites, and the tests that their sites pass.
+-- Lists of sites, and the tests of their sites.
 use Rattle.std.specs.Prelude.{ℕ, Bool, List, ◌≡◌, ◌+◌, ◌-◌, ◌≤◌, ◌++◌, length, take, drop, slice_index, nat_le, nat_lt}
 use Rattle.sand_model.specs.Lists.{Lists}
 
--- what contracts see of a list of sites with room made beforehand
+-- what contracts see of a list of sites with a fixed capacity
 pub record ListView : Type 0 where
   pub sites : List ℕ
   pub room : ℕ
 
--- whether a site of the heights s may topple
+-- whether a site may topple at the heights s
 abbrev pub may_topple : (ℕ → ℕ) → ℕ → Bool
 may_topple s j = nat_le 4 (s j)
 
--- whether a site has toppled
 abbrev pub has_toppled : (ℕ → ℕ) → ℕ → Bool
 has_toppled u j = nat_lt 0 (u j)
 
@@ -19,12 +18,12 @@ has_toppled u j = nat_lt 0 (u j)
 abbrev pub ListsUnstable : ℕ → List ℕ → List ℕ → Type 0
 ListsUnstable n h xs = Lists n (may_topple (slice_index h)) xs
 
--- by how much each number of a list has grown
+-- how much each number of a list has grown
 abbrev pub grown : List ℕ → List ℕ → ℕ → ℕ
 grown u v j = slice_index v j - slice_index u j
 
--- while the heights h become k, at most so many sites join the end of a list: those that may topple from then on,
--- whatever sites wait in front of it from a turn on
+-- as the heights h become k, at most `most` sites join the end of a list; if from some turn on, with any sites in
+-- front, it had the sites that may topple at h, it now has those that may topple at k
 pub record Joins (most : ℕ) (h k : List ℕ) (l m : ListView) : Type 0 where
   pub room : m.room ≡ l.room
   pub longer : length l.sites ≤ length m.sites

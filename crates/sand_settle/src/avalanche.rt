@@ -1,8 +1,8 @@
-//! What one drop sets off.
+//! The avalanche of one drop.
 //!
-//! While sand topples, the topplings of each site are counted and the sites that topple are listed. Once it has come to
-//! rest, one pass over that list reads the avalanche from the counts, adds them to the odometer and sets them back to 0.
-//! So an avalanche costs work in proportion to the sites that topple, however large the grid is.
+//! While sand topples, the topplings of each site are counted and the sites that topple are listed. Once the pile is
+//! stable, one pass over that list reads the avalanche from the counts, adds them to the odometer and sets them back to
+//! 0. So the cost of an avalanche is proportional to the number of sites that topple, however large the grid is.
 
 ghost use Rattle.std.specs.Prelude.{◌≡◌, ℕ, ◌+◌, ◌^◌, ◌<◌, length, slice_index};
 ghost use Rattle.sand_model.specs.Grid.{sites};
@@ -15,22 +15,22 @@ use crate::site_list::SiteList;
 use crate::spreading::knows_sides;
 use sand_model::Lattice;
 
-/// What one drop set off.
+/// The numbers of one avalanche.
 #[derive(Clone, Copy, Debug, PartialEq, Eq)]
 pub struct Avalanche {
     /// The site of the drop.
     pub site: usize,
-    /// How many topplings there were.
+    /// The number of topplings.
     pub size: u64,
-    /// How many sites toppled.
+    /// The number of sites that toppled.
     pub area: u32,
     /// The greatest distance from the drop to a site that toppled, in columns and rows, or 0 if none did.
     pub reach: u32,
-    /// How many grains fell into the sink.
+    /// The number of grains that fell into the sink.
     pub lost: u64,
 }
 
-// The avalanche of a drop, of which no site has been counted yet.
+// The avalanche of a drop, before any site is counted.
 fn begun(site: usize, area: u32) -> Avalanche
     ensures { result ≡ record { site = site; size = 0; area = area; reach = 0; lost = 0 } }
 {

@@ -1,11 +1,11 @@
-//! Which way a pile is settled: by the queue, or by a guess that is certified.
+//! How a pile is settled: by the queue, or by a guess that is certified.
 //!
-//! The queue is the plain way, and always right. It is fast if little topples. So it goes first, for a few turns a site,
-//! unless the pile is seen to be high (`sand_guess::is_high`): then the queue is given no turn. If the queue did not
-//! settle the pile, its odometer is claimed: first, of a low pile without heaps, by sweeps over all sites
-//! (`sand_guess::toppled`), and then by a guess (`sand_guess::guessed`). A claim is certified (`sand_certify`), which is a
-//! proof. If all are refused, the queue settles the pile from nothing, in whatever time it takes. Nothing is claimed of
-//! what `sand_guess` returns: if it is wrong, that costs time, and the result is the same.
+//! The queue is the plain way, always right, and fast if little topples. So it comes first, for a few turns per site,
+//! unless the pile is found to be high (`sand_guess::is_high`). If the queue has not settled the pile, its odometer is
+//! claimed: by sweeps over all sites if the pile is low and flat (`sand_guess::toppled`), and then by a guess
+//! (`sand_guess::guessed`). A claim is certified (`sand_certify`), which is a proof. If every claim is rejected, the
+//! queue settles the pile from the start, however long that takes. Nothing is proved of what `sand_guess` returns: a
+//! wrong claim costs time, and the result is the same.
 
 ghost use Rattle.std.specs.Prelude.{◌≤◌, ◌^◌, IfOk, IfSome, IsSome};
 ghost use Rattle.sand_settle.specs.Rests.{IsSettledRest};
@@ -16,10 +16,10 @@ use sand_guess::{Claim, guessed, is_flat, is_high, toppled};
 use sand_model::Pile;
 use std::alloc::{AllocError, Global};
 
-// How many turns a site the queue has before a guess is tried: a quarter of the time that a guess takes.
+// The turns per site that the queue has before a guess is tried: a quarter of the time that a guess takes.
 const TURNS_BEFORE_A_GUESS: u64 = 16;
 
-// How many it has before sweeps are tried. They take less time than this only if hardly anything topples.
+// The same before sweeps are tried. The queue is faster than sweeps only if hardly anything topples.
 const TURNS_BEFORE_SWEEPS: u64 = 1;
 
 /// The heights of a settled pile, and how often each site toppled.
@@ -29,7 +29,7 @@ pub(crate) struct Rest {
     pub(crate) odometer: Vec<u64>,
 }
 
-/// What a pile settles to by the queue, or None if as many sites as `turns` had their turn, or more, and others wait.
+/// Settles a pile by the queue. Returns None if `turns` sites or more have had their turn and others wait.
 pub(crate) fn settle_by_queue(
     alloc: Global,
     pile: &Pile,
@@ -46,7 +46,7 @@ pub(crate) fn settle_by_queue(
     Ok(Some(Rest { heights, odometer }))
 }
 
-/// What a pile settles to, if the odometer is claimed and the claim is certified.
+/// Settles a pile by a claim of its odometer, if the claim is certified.
 pub(crate) fn settle_by_claim(
     alloc: Global,
     pile: &Pile,
@@ -67,7 +67,7 @@ pub(crate) fn settle_by_claim(
     }))
 }
 
-// What a pile settles to, if little topples: by the queue in a few turns, or by sweeps.
+// Settles a pile if little topples: by the queue in a few turns, or by sweeps.
 fn settle_if_low(alloc: Global, pile: &Pile) -> Result<Option<Rest>, AllocError>
     ensures { IfOk result (λ o. IfSome o (IsSettledRest pile.now)) }
 {
@@ -84,7 +84,7 @@ fn settle_if_low(alloc: Global, pile: &Pile) -> Result<Option<Rest>, AllocError>
     settle_by_claim(alloc, pile, toppled(alloc, pile)?)
 }
 
-/// What a pile settles to: by the queue or by sweeps if little topples, else by a guess, and if that is wrong by the
+/// Settles a pile: by the queue or by sweeps if little topples, otherwise by a guess, and if that is wrong by the
 /// queue.
 pub(crate) fn settle_by_any(alloc: Global, pile: &Pile) -> Result<Rest, AllocError>
     ensures { IfOk result (IsSettledRest pile.now) }

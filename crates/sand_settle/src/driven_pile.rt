@@ -1,7 +1,9 @@
-//! The pile of one thread, driven by fronts: as `OnePile`, but its heights and its odometer are on tiles until they are read.
+//! The pile of one thread, driven by fronts: like `OnePile`, but its heights and its odometer are on tiles until they
+//! are read.
 //!
-//! All room is made with the pile, so no drop asks for memory. A drop topples 64 sites a step (`sand_fronts`). What it leaves is
-//! the settled record of the start and the drops, in the same definitions (`IsAfter`, `Drops`, `IsAvalanche`).
+//! All memory is allocated with the pile, so no drop allocates. A drop topples 64 sites a step (`sand_fronts`). Its
+//! result is the settled record of the start and the drops, by the same definitions (`IsAfter`, `Drops`,
+//! `IsAvalanche`).
 
 ghost use Rattle.std.specs.Prelude.{◌≡◌, ℕ, ◌+◌, ◌^◌, ◌<◌, ◌↔◌, List, [], ◌∷◌, ◌++◌, length, slice_index, IfOk, OnOk, OnErr, IfErr, IsOkUnless, alloc_error};
 ghost use Rattle.sand_model.specs.Grid.{sites};
@@ -19,12 +21,12 @@ use sand_model::{GRAIN_LIMIT, Pile, Shape};
 use std::alloc::{AllocError, Global};
 use std::marker::Model;
 
-/// A pile on which one thread drops grains, one after another, with all that toppled since its start.
+/// A pile on which one thread drops grains one by one, with all topplings since its start.
 #[derive(Debug, Drop)]
 pub struct DrivenPile {
-    // The settled start, of which the odometer is read.
+    // The settled start, for its odometer.
     start: Settled,
-    // The heights now, and what has toppled since the start was settled.
+    // The heights now, and the topplings since the start was settled.
     fronts: TiledPile,
     number: u64,
     topplings: u64,
@@ -44,7 +46,6 @@ impl Model for DrivenPile {
     ghost invariant = { λ p. IsDriven p.start p.fronts p.number p.topplings p.lost p.grains };
 }
 
-// The avalanche with these numbers.
 fn avalanche_of(site: usize, fall: Fall) -> Avalanche
     requires small { (fall.area < 2 ^ 32) × (fall.reach < 2 ^ 32) }
     ensures { result ≡ record { site = site; size = fall.size; area = fall.area; reach = fall.reach; lost = fall.lost } }
@@ -58,7 +59,6 @@ fn avalanche_of(site: usize, fall: Fall) -> Avalanche
     }
 }
 
-// Writes the heights of the sites.
 fn read_heights(fronts: &TiledPile, heights: &mut [u64])
     requires one_each { length heights.old ≡ sites fronts.now.grid }
     requires all { length fronts.now.heights ≡ sites fronts.now.grid }
@@ -69,7 +69,7 @@ fn read_heights(fronts: &TiledPile, heights: &mut [u64])
     }
 }
 
-// Adds how often each site has toppled.
+// Adds the topplings on the tiles to an odometer.
 fn add_times(fronts: &TiledPile, odometer: &mut [u64])
     requires one_each { length odometer.old ≡ sites fronts.now.grid }
     requires few { (j : ℕ) → j < sites fronts.now.grid → slice_index odometer.old j + slice_index fronts.now.times j < 2 ^ 63 }
@@ -81,13 +81,13 @@ fn add_times(fronts: &TiledPile, odometer: &mut [u64])
 }
 
 impl DrivenPile {
-    /// The settled start, before any drop. Fails only with Memory.
+    /// The settled start, before any drop. Fails only if an allocation fails (Memory).
     pub fn new(alloc: Global, start: &Pile) -> Result<DrivenPile, OneFault>
         ensures settled { IfOk result (λ v. IsAfter start.now [] v) }
         ensures memory { IsOkUnless result (OneFault.Memory alloc_error) }
     {
         let settled = settle(alloc, start)?;
-        // The start's grains are within the limit, and so are those that lie on the settled pile or were lost.
+        // For the proof: the start's grains are within the limit, so those on the settled pile and those lost are too.
         let _ = start.grains();
         let shape = settled.pile().shape();
         let Ok(fronts) = TiledPile::new(alloc, shape, settled.pile().heights()) else {
@@ -105,14 +105,15 @@ impl DrivenPile {
         })
     }
 
-    /// Drops a grain at a site and lets it topple. Returns the number of the drop, of which the first is 0, and its
-    /// avalanche. Fails only if the start and all drops have as many grains as the limit (Full), and then changes nothing.
+    /// Drops a grain at a site, and topples until the pile is stable. Returns the number of the drop, from 0 on, and
+    /// its avalanche. Fails only if the start and all drops have as many grains as the limit (Full), and then changes
+    /// nothing.
     pub fn drop_at(&mut self, site: usize) -> Result<(u64, Avalanche), OneFault>
         requires { site < sites (grid_of_one_pile self.old) }
         ensures number { IfOk result (λ r. r.0 ≡ self.old.number) }
         ensures avalanche { IfOk result (λ r. IsAvalanche (grid_of_one_pile self.old) site (topplings_between self.old.settled self.new.settled) r.1) }
 
-        // From the record before, and from whatever start and drops lead to it.
+        // From the record before, and from any start and drops that lead to it.
         ensures drops { OnOk result (Drops self.old site self.new) }
         ensures after { OnOk result ((start : PileView) (history : List ℕ) → IsAfter start history self.old → IsAfter start (history ++ site ∷ []) self.new) }
 
@@ -138,7 +139,7 @@ impl DrivenPile {
         self.start.pile().shape()
     }
 
-    /// How many drops there were.
+    /// The number of drops.
     pub fn tally(&self) -> u64
         ensures { result ≡ self.now.number }
     {
@@ -152,21 +153,21 @@ impl DrivenPile {
         self.fronts.height(site)
     }
 
-    /// How many topplings there were since the start, its settling included.
+    /// The number of topplings since the start, including its settling.
     pub fn topplings(&self) -> u64
         ensures { result ≡ self.now.settled.topplings }
     {
         self.topplings
     }
 
-    /// How many grains fell into the sink since the start, its settling included.
+    /// The number of grains that fell into the sink since the start, including its settling.
     pub fn lost(&self) -> u64
         ensures { result ≡ self.now.settled.lost }
     {
         self.lost
     }
 
-    /// The settled record of the start and all drops. Copies nothing.
+    /// The settled record of the start and all drops, without a copy.
     pub fn finish(self) -> Settled
         ensures { result ≡ self.settled }
     {

@@ -1,4 +1,4 @@
-//! Settling a pile of sand on one thread.
+//! Settling a sandpile on one thread.
 #![tactic(auto)]
 
 mod avalanche;

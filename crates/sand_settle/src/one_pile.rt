@@ -1,11 +1,10 @@
-//! The pile of one thread: grains are dropped on it one after another, and each settles before the next.
+//! The pile of one thread: grains are dropped on it one by one, and each settles before the next.
 //!
-//! A drop takes the record out and puts the new one in its place (`replace_with`). Its pile is taken apart, its list of
-//! heights topples in place, and the new pile has the grains that are left, which are known without a sum. So a drop costs
-//! work in proportion to the sites that topple in it. The room of the first drop serves all later ones, so none of these
-//! runs out of memory (`room_is_kept`). The record is the same as if all grains had been on the start together
-//! (`laws::drops_add_up`). No count outgrows its number, because of the weight: a grain has 16,512 at most, and a toppling
-//! takes 2 (`IsPaid`).
+//! A drop takes the record out and puts the new one in its place (`replace_with`). The list of heights topples in
+//! place, and the grains of the new pile are known without a sum. So the cost of a drop is proportional to the number
+//! of sites that topple in it. The memory of the first drop serves all later ones, so they never run out of memory
+//! (`room_is_kept`). The record is the same as if all grains had been on the start together (`laws::drops_add_up`). No
+//! count overflows, because of the weight: a grain weighs at most 16,512, and a toppling takes 2 (`IsPaid`).
 
 ghost use Rattle.std.specs.Prelude.{◌≡◌, ℕ, ◌+◌, ◌^◌, ◌<◌, ◌≤◌, ◌↔◌, List, [], ◌∷◌, ◌++◌, length, sum, IfOk, IfErr, IfSome, IsSome, IsOk, OnOk, OnErr, IsTrue, IsOkUnless, alloc_error};
 ghost use Rattle.sand_model.specs.Grid.{sites};
@@ -24,7 +23,7 @@ use sand_model::{GRAIN_LIMIT, Pile, Shape};
 use std::alloc::Global;
 use std::marker::Model;
 
-/// A pile on which one thread drops grains, one after another, with all that toppled since its start.
+/// A pile on which one thread drops grains one by one, with all topplings since its start.
 #[derive(Debug, Drop)]
 pub struct OnePile {
     settled: Settled,
@@ -43,7 +42,7 @@ impl Model for OnePile {
     ghost invariant = { λ p. IsOnePile p.settled p.workspace p.number };
 }
 
-// Drops a grain at a site of a settled pile, settles it in the workspace, and adds what toppled to the record.
+// Drops a grain at a site of a settled pile, settles it in the workspace, and adds the topplings to the record.
 fn drop_grain(settled: Settled, drop: (Workspace, usize)) -> (Settled, (Workspace, Avalanche))
     requires site { drop.1 < sites settled.pile.grid }
     requires room { drop.0 ≡ settled.pile.grid }
@@ -92,13 +91,13 @@ fn take_workspace(
 }
 
 impl OnePile {
-    /// The settled start, before any drop. Fails only with Memory.
+    /// The settled start, before any drop. Fails only if an allocation fails (Memory).
     pub fn new(alloc: Global, start: &Pile) -> Result<OnePile, OneFault>
         ensures settled { IfOk result (λ v. IsAfter start.now [] v) }
         ensures memory { IsOkUnless result (OneFault.Memory alloc_error) }
     {
         let settled = settle(alloc, start)?;
-        // The start's grains are within the limit, and so are those that lie on the settled pile or were lost.
+        // For the proof: the start's grains are within the limit, so those on the settled pile and those lost are too.
         let _ = start.grains();
         Ok(OnePile {
             settled,
@@ -107,22 +106,22 @@ impl OnePile {
         })
     }
 
-    /// Drops a grain at a site and lets it topple. Returns the number of the drop, of which the first is 0, and its
-    /// avalanche. Fails if the start and all drops have as many grains as the limit (Full), then if an allocation fails
-    /// (Memory), and then changes nothing. After the first drop no other fails with Memory.
+    /// Drops a grain at a site, and topples until the pile is stable. Returns the number of the drop, from 0 on, and
+    /// its avalanche. Fails if the start and all drops have as many grains as the limit (Full), otherwise if an
+    /// allocation fails (Memory), and then changes nothing. After the first drop, no drop fails with Memory.
     pub fn drop_at(&mut self, alloc: Global, site: usize) -> Result<(u64, Avalanche), OneFault>
         requires { site < sites (grid_of_one_pile self.old) }
         ensures number { IfOk result (λ r. r.0 ≡ self.old.number) }
         ensures avalanche { IfOk result (λ r. IsAvalanche (grid_of_one_pile self.old) site (topplings_between self.old.settled self.new.settled) r.1) }
 
-        // From the record before, and from whatever start and drops lead to it.
+        // From the record before, and from any start and drops that lead to it.
         ensures drops { OnOk result (Drops self.old site self.new) }
         ensures after { OnOk result ((start : PileView) (history : List ℕ) → IsAfter start history self.old → IsAfter start (history ++ site ∷ []) self.new) }
 
         ensures full { (result ≡ Err OneFault.Full) ↔ (self.old.grains ≡ most_grains) }
         ensures err { OnErr result (self.new ≡ self.old) }
 
-        // The room of the first drop serves all later ones.
+        // The memory of the first drop serves all later ones.
         ensures room_is_kept { 0 < self.old.number → IfErr result (λ e. e ≡ OneFault.Full) }
     {
         if self.is_full() {
@@ -137,7 +136,7 @@ impl OnePile {
         Ok((number, avalanche))
     }
 
-    // Whether one grain more would exceed the limit.
+    // Whether one more grain would exceed the limit.
     fn is_full(&self) -> bool
         ensures full { IsTrue result ↔ (self.now.grains ≡ most_grains) }
         ensures limit { self.now.grains ≤ most_grains }
@@ -154,7 +153,7 @@ impl OnePile {
         &self.settled
     }
 
-    /// How many drops there were.
+    /// The number of drops.
     pub fn tally(&self) -> u64
         ensures { result ≡ self.now.number }
     {
@@ -175,7 +174,7 @@ impl OnePile {
         self.pile().height(site)
     }
 
-    /// How often a site toppled since the start, its settling included.
+    /// How often a site has toppled since the start, including its settling.
     pub fn odometer(&self, site: usize) -> u64
         requires { site < sites (grid_of_one_pile self.now) }
         ensures { result ≡ odometer_of self.now.settled site }
@@ -183,7 +182,7 @@ impl OnePile {
         self.settled().odometer(site)
     }
 
-    /// How often each site toppled since the start, its settling included, by site.
+    /// The same for all sites, by site.
     pub fn odometers(&self) -> &[u64]
         ensures value { result.now ≡ self.now.settled.odometer }
         ensures one_each { length self.now.settled.odometer ≡ sites (grid_of_one_pile self.now) }
@@ -191,7 +190,7 @@ impl OnePile {
         self.settled().odometers()
     }
 
-    /// How many topplings there were since the start, its settling included.
+    /// The number of topplings since the start, including its settling.
     pub fn topplings(&self) -> u64
         ensures value { result ≡ self.now.settled.topplings }
         ensures bound { result < 2 ^ 54 }
@@ -199,7 +198,7 @@ impl OnePile {
         self.settled().topplings()
     }
 
-    /// How many grains fell into the sink since the start, its settling included.
+    /// The number of grains that fell into the sink since the start, including its settling.
     pub fn lost(&self) -> u64
         ensures { result ≡ self.now.settled.lost }
     {

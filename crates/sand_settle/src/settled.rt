@@ -1,6 +1,7 @@
-//! The settled record of a pile: its settled pile, its odometer, and what the settling cost.
+//! The settled record of a pile: its settled pile, its odometer, its topplings and the grains lost.
 //!
-//! A `Settled` is always the settled record of some heights, whoever made it: its odometer is the least that settles them.
+//! A `Settled` is always the settled record of some heights, however it was made: its odometer is the least that
+//! stabilises them.
 
 ghost use Rattle.std.specs.Prelude.{◌≡◌, ◌<◌, ◌^◌, IfOk, length, sum};
 ghost use Rattle.sand_model.specs.Grid.{sites};
@@ -37,8 +38,8 @@ fn sum_of(counts: &[u64]) -> u64
 }
 
 impl Settled {
-    /// The record of a settled pile, how often each site toppled, and how many grains fell into the sink, if they are those
-    /// of some heights. Copies nothing.
+    /// The record of a settled pile, its odometer and the number of grains lost, which must be those of some heights.
+    /// Copies nothing.
     pub fn of_parts(pile: Pile, odometer: Vec<u64>, lost: u64) -> Settled
         requires settled { IsSettledRecord (record { pile = pile; odometer = odometer.items; topplings = sum odometer.items; lost = lost }) }
         requires small { sum odometer.items < 2 ^ 64 }
@@ -76,7 +77,7 @@ impl Settled {
         &self.pile
     }
 
-    /// The settled pile itself: no height is copied.
+    /// The settled pile itself, without a copy.
     pub fn into_pile(self) -> Pile
         ensures { result ≡ self.pile }
     {
@@ -91,7 +92,7 @@ impl Settled {
         self.odometer[site]
     }
 
-    /// How often each site toppled, by site.
+    /// The same for all sites, by site.
     pub fn odometers(&self) -> &[u64]
         ensures value { result.now ≡ self.now.odometer }
         ensures odometer_each { length self.now.odometer ≡ sites self.now.pile.grid }
@@ -99,14 +100,14 @@ impl Settled {
         self.odometer.as_slice()
     }
 
-    /// How many topplings there were in all.
+    /// The number of topplings.
     pub fn topplings(&self) -> u64
         ensures { result ≡ self.now.topplings }
     {
         self.topplings
     }
 
-    /// How many grains fell into the sink.
+    /// The number of grains that fell into the sink.
     pub fn lost(&self) -> u64
         ensures { result ≡ self.now.lost }
     {

@@ -1,14 +1,14 @@
 //! Settling: toppling until no site may topple.
 //!
-//! Sand topples in waves. A wave lists the sites that may topple, each once, and no other; one after another each
-//! topples as often as its height allows, and each neighbour that this brings to 4 or more joins the next wave, at the
-//! end of the queue that the two make. A site leaves the queue as it topples and joins it as it passes 4, so the queue
-//! never holds more than all sites, and nothing grows while sand topples.
+//! Sand topples in waves. A wave lists all sites that may topple, each once. In turn each topples as often as its
+//! height allows, and each neighbour that this raises to 4 or more joins the next wave, at the end of the queue that
+//! the two waves form. A site leaves the queue when it topples and joins it when it reaches 4, so the queue never holds
+//! more than all sites, and nothing grows while sand topples.
 //!
-//! - It ends, since each toppling lowers the weight of the pile by 2 at least.
+//! - It ends, since each toppling lowers the weight of the pile by at least 2.
 //! - No site topples more often than in any `w` that stabilises the start: each toppling is legal, so this is least
 //!   action (`sand_model::laws`), and it holds from turn to turn (`IsUnderway`).
-//! - At the end the queue is empty, so no site may topple: what has toppled stabilises the start, and is the least.
+//! - At the end the queue is empty, so no site may topple: the topplings stabilise the start, and are the least.
 
 ghost use Rattle.std.specs.Prelude.{◌≡◌, ◌+◌, ◌*◌, ◌^◌, ◌<◌, ◌≤◌, length, sum, slice_index, IfOk, IfSome, IsSome};
 ghost use Rattle.sand_model.specs.Grid.{sites};
@@ -58,7 +58,6 @@ fn topple_wave(
     }
 }
 
-// Lists the sites that may topple.
 fn list_unstable(heights: &[u64], wave: &mut SiteList)
     requires small { length heights.now ≤ 65536 }
     requires room { length heights.now < wave.old.room }
@@ -72,8 +71,8 @@ fn list_unstable(heights: &[u64], wave: &mut SiteList)
 }
 
 impl Workspace {
-    /// Topples until no site may topple, and returns how often each site did; or returns None before a wave if as many
-    /// sites as `turns` had their turn, or more.
+    /// Topples until no site may topple, and returns how often each site toppled. Returns None before a wave if `turns`
+    /// sites or more have had their turn.
     pub(crate) fn settle(self, heights: &mut [u64], turns: u64) -> Option<Vec<u64>>
         requires one_each { length heights.old ≡ sites self }
         requires limit { sum heights.old ≤ most_grains }
@@ -103,7 +102,7 @@ impl Workspace {
     }
 }
 
-// The settled record of a pile, from what it settled to.
+// The settled record of a pile, from its settled heights and its odometer.
 fn record_of(pile: &Pile, rest: Rest) -> Settled
     requires { IsSettledRest pile.now rest }
     ensures record { IsRecord pile.now.grid (height_of pile.now) result }
@@ -117,8 +116,8 @@ fn record_of(pile: &Pile, rest: Rest) -> Settled
     Settled::of_parts(settled, odometer, lost)
 }
 
-/// The settled record of a pile: its settled pile, its least odometer, the grains lost and the topplings. It is refused
-/// only if an allocation fails, and then with Memory; the pile is unchanged.
+/// The settled record of a pile: its settled pile, its least odometer, the grains lost and the topplings. Fails only if
+/// an allocation fails (Memory). The pile is unchanged.
 pub fn settle(alloc: Global, pile: &Pile) -> Result<Settled, SettleFault>
     ensures record { IfOk result (λ r. IsRecord pile.now.grid (height_of pile.now) r) }
     ensures half { IfOk result (λ r. 2 * r.topplings ≤ weight pile.now.grid (height_of pile.now)) }

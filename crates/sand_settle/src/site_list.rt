@@ -1,11 +1,11 @@
-//! A list of sites in room that was made for it beforehand.
+//! A list of sites, in memory that is allocated beforehand.
 
 ghost use Rattle.std.specs.Prelude.{◌≡◌, ℕ, ◌+◌, ◌<◌, ◌≤◌, ◌^◌, [], ◌∷◌, ◌++◌, length, slice_index, IfOk, if◌then◌else◌};
 
 use std::alloc::{AllocError, Global};
 use std::marker::Model;
 
-/// A list of sites, with room for so many.
+/// A list of sites, with room for `room` of them.
 #[derive(Debug, Drop)]
 pub(crate) struct SiteList {
     len: usize,
@@ -24,7 +24,7 @@ impl Model for SiteList {
 }
 
 impl SiteList {
-    /// An empty list.
+    /// An empty list. Fails only if an allocation fails.
     pub(crate) fn new(alloc: Global, room: usize) -> Result<SiteList, AllocError>
         ensures { IfOk result (λ l. l ≡ record { sites = []; room = room }) }
     {
@@ -55,8 +55,7 @@ impl SiteList {
         self.len = 0;
     }
 
-    /// Adds a site if the test is true. The site is written either way, so that a test whose outcome no processor can
-    /// foresee costs no branch.
+    /// Adds a site if `test` is true. The site is written either way, so that an unpredictable test costs no branch.
     #[inline(always)]
     pub(crate) fn push_if(&mut self, site: usize, test: bool)
         requires room { length self.old.sites < self.old.room }

@@ -1,4 +1,4 @@
-//! Giving the grains that a site loses to its neighbours, and listing those that may topple from then on.
+//! Gives the grains of a toppling site to its neighbours, and lists those that may topple from then on.
 
 ghost use Rattle.std.specs.Prelude.{◌≡◌, ℕ, ◌+◌, ◌*◌, ◌^◌, ◌<◌, ◌≤◌, length, sum, slice_index, slice_index_or, None, IfSome};
 ghost use Rattle.sand_model.specs.Grid.{Grid, IsGrid, sites, places};
@@ -9,8 +9,8 @@ ghost use Rattle.sand_settle.specs.Underway.{NeighboursGain};
 use crate::site_list::SiteList;
 use sand_model::{Lattice, TOPPLING_HEIGHT};
 
-/// Does nothing at run time. A proof learns that no side of the grid is above 256: there are at most 65,536 sites, so each
-/// fits 32 bits.
+/// Does nothing at run time. It tells the proof that no side of the grid is above 256: there are at most 65,536 sites,
+/// so each fits into 32 bits.
 #[inline(always)]
 pub(crate) fn knows_sides(lattice: &Lattice)
     ensures { IsGrid lattice.now }
@@ -38,7 +38,7 @@ fn deliver(heights: &mut [u64], list: &mut SiteList, place: Option<usize>, times
     }
 }
 
-// Gives grains to each of the places round a site that is in the grid.
+// Gives grains to each place around a site that is in the grid.
 #[inline(always)]
 fn deliver_four(heights: &mut [u64], list: &mut SiteList, around: [Option<usize>; 4], times: u64)
     requires inside { (k : ℕ) → IfSome (slice_index_or around k None) (λ j. j < length heights.old) }
@@ -55,8 +55,8 @@ fn deliver_four(heights: &mut [u64], list: &mut SiteList, around: [Option<usize>
     deliver(heights, list, south, times);
 }
 
-/// Gives grains to each neighbour of a site, and lists those that may topple from now on. Most sites are inner, and the
-/// test for this spares one for each place.
+/// Gives grains to each neighbour of a site, and lists those that may topple from now on. Most sites are inner: one
+/// test for this saves a test for each place.
 #[inline(always)]
 pub(crate) fn spread(
     lattice: &Lattice,

@@ -1,22 +1,23 @@
-//! What one drop topples, by site waves.
+//! What one drop topples, in waves of topplings.
 //!
-//! Before a drop no site has more than 3 grains, so at most the site of the drop has 4 then. In one wave this site topples
-//! once and is then held back, and each other site that has 4 topples. If the held site has 4 again, the next wave follows.
+//! Before a drop no site has more than 3 grains, so after it at most the site of the drop has 4. In one wave this site
+//! topples once and is then held, and each other site that reaches 4 topples. If the held site has 4 again, the next
+//! wave follows.
 //!
-//! - **No site topples twice in a wave.** It had at most 3, gains at most one grain from each of its 4 neighbours, and
-//!   loses 4 as it topples, so at most 3 are left. The held site could gain 4 again; it waits for the next wave.
-//! - **So a wave is a plain list**: a site is listed as it becomes 4, and topples when its turn comes. The list never
-//!   has more than all sites, and in the end it is the set of the sites that toppled, each once.
-//! - **The invariant** (`IsWave` in `proofs/Held`), after so many turns: the height of a site is that before the wave, plus
-//!   its neighbours among the sites that have toppled, less 4 if it has toppled itself. The sites that have 4 are
-//!   those that wait in the list and the held site.
-//! - **It ends**, since each toppling lowers the weight of the pile by 2 at least.
-//! - **It is right**: each toppling is legal and the end is stable, so what has toppled is the least odometer
-//!   (`sand_model::laws`, least action). `Workspace::settle_at` says so: `settled`.
+//! - **No site topples twice in a wave.** It had at most 3 grains, gains at most one from each of its 4 neighbours, and
+//!   loses 4 when it topples, so it then has at most 3. The held site could have 4 again; it waits for the next wave.
+//! - **So a wave is a plain list**: a site is listed when it reaches 4, and topples in its turn. The list never has
+//!   more than all sites, and in the end it is the set of the sites that toppled, each once.
+//! - **The invariant** (`IsWave` in `proofs/Held`), after any number of turns: the height of a site is its height
+//!   before the wave, plus the number of its neighbours that have toppled, less 4 if it has toppled itself. The sites
+//!   that have 4 are those that wait in the list, and the held site.
+//! - **It ends**, since each toppling lowers the weight of the pile by at least 2.
+//! - **It is right**: each toppling is legal and the end is stable, so the topplings are the least odometer
+//!   (`sand_model::laws`, least action). `Workspace::settle_at` states it: `settled`.
 //!
-//! The held site keeps the 4 grains that it loses until the end of its wave. So its height never passes from 3 to 4, and no
-//! test is needed to keep it off the list. Topplings are counted in a second pass over the list: the loop over the
-//! heights is shorter for it, and faster.
+//! The held site keeps the 4 grains that it loses until the end of its wave. So its height never goes from 3 to 4, and
+//! no test is needed to keep it off the list. Topplings are counted in a second pass over the list, which makes the
+//! loop over the heights shorter and faster.
 
 ghost use Rattle.std.specs.Prelude.{◌≡◌, ◌≢◌, ℕ, ◌+◌, ◌*◌, ◌^◌, ◌<◌, ◌≤◌, length, sum, slice_index, All};
 ghost use Rattle.sand_model.specs.Grid.{sites};
@@ -33,7 +34,8 @@ use crate::spreading::{knows_sides, spread};
 use crate::workspace::Workspace;
 use sand_model::{Lattice, TOPPLING_HEIGHT};
 
-// One wave: topples a site that may, and then, each once, all others that this brings to 4. Lists the sites that topple.
+// One wave: topples a site that may topple, then each other site that this brings to 4, once each. Lists the sites that
+// topple.
 fn topple_once(lattice: &Lattice, heights: &mut [u64], list: &mut SiteList, site: usize)
     requires site { site < sites lattice.now }
     requires one_each { length heights.old ≡ sites lattice.now }
@@ -82,7 +84,7 @@ fn count_each(counts: &mut [u64], toppled: &mut SiteList, list: &SiteList)
 }
 
 impl Workspace {
-    /// Settles a pile in which no site but this one may topple, and adds what toppled to the odometer.
+    /// Settles a pile in which only this site may topple, and adds the topplings to the odometer.
     #[inline(always)]
     pub(crate) fn settle_at(
         &mut self,

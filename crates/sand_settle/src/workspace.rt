@@ -1,4 +1,4 @@
-//! The room in which sand settles: of a whole pile (`settling`), or of drop after drop on one (`waves`).
+//! The memory for settling: a whole pile (`settling`), or drop after drop on one (`waves`).
 
 ghost use Rattle.std.specs.Prelude.{◌≡◌, IfOk};
 
@@ -11,9 +11,9 @@ use std::marker::Model;
 #[derive(Debug, Drop)]
 pub(crate) struct Workspace {
     pub(crate) lattice: Lattice,
-    /// How often each site toppled.
+    /// How often each site has toppled.
     pub(crate) counts: Vec<u64>,
-    /// The sites that have their turn.
+    /// The sites of this wave.
     pub(crate) wave: SiteList,
     /// The next wave of a whole pile, or the sites that toppled in a drop.
     pub(crate) spare: SiteList,
@@ -34,7 +34,7 @@ impl Workspace {
     pub(crate) fn new(alloc: Global, shape: Shape) -> Result<Workspace, AllocError>
         ensures { IfOk result (λ w. w ≡ shape) }
     {
-        // A site lists 4 more as it topples.
+        // A toppling site may list 4 more.
         let room = shape.sites() + 4;
         let lattice = Lattice::new(alloc, shape)?;
         let counts = vec![in alloc; 0u64; shape.sites()]?;

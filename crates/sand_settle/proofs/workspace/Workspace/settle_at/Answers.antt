@@ -52,7 +52,7 @@ waves-preserved c = record {
   spare_room = c.count_each.ensures.room ∙ c.waves.invariant.spare_room;
 }
 
--- what the waves leave when they end
+-- ---- after the last wave
 pub collect-requires-clause-few : goal.collect-requires-clause-few
 collect-requires-clause-few c =
     let settled = settled_at_last c.self.inside.lattice (λ j. get_or c.args.heights.now j 0) (λ j. get_or c.as_mut_slice-counts.result.now j 0) (λ j. get_or c.waves.counts j 0) (λ j. get_or c.waves.heights j 0) (λ j. ap (λ u. get_or u j 0) c.as_mut_slice-counts.ensures.value ∙ c.self.invariant.uncounted j) c.waves.invariant.advances (all_stable c.self.inside.lattice (λ j. get_or c.waves.heights j 0) c.args.site (omega arith) c.waves.invariant.others_low) in
