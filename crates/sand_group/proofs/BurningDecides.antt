@@ -1,7 +1,7 @@
--- A stable pile is recurrent if and only if there is a burning order.
+-- A stable pile is recurrent if and only if it has a burning order.
 --
--- In a recurrent pile the unburnt sites are never a forbidden set, so one of them may burn, until none is left. The
--- other way round, of a forbidden set the first site in the order has all its neighbours in the set after it.
+-- In a recurrent pile the unburnt sites are never a forbidden set, so one of them may burn, until none is left.
+-- Conversely, the first site of a forbidden set in the order has all its neighbours in the set after it.
 use Rattle.std.proofs.Common.{ℕ, zero, suc, Bool, true, false, not, cond, eqb, ltb, leb, ◌≡◌, ◌+◌, ◌-◌, ◌*◌, ◌/◌, ◌%◌, ◌<◌, ◌≤◌, ◌&&◌, refl, sym, ◌∙◌, ap, arith, List, [], ◌∷◌, All, count_by, Some, None, ⊎_elim}
 use Rattle.std.specs.Prelude.{◌↔◌}
 use Rattle.std.proofs.lemmas.Bool.{cases_eq, cases_Bool, eq-eqb, ne_eqb, lt-ltb, ltb-true, ltb-false, leb-true, leb-false, and_parts, and_cases, true_from_ne_false, not-false, not-true}
@@ -88,11 +88,11 @@ without_within set i j here =
 
 -- ---- an order from a recurrent pile
 
--- whether a site of the set may burn when the others of the set do not burn yet
+-- whether a site of the set may burn before the others of the set
 abbrev may_go : Grid → (ℕ → ℕ) → (ℕ → Bool) → ℕ → Bool
 may_go g s set i = set i && leb (count_by set (neighbours g i)) (s i)
 
--- an order in which just the sites of a set burn
+-- an order in which exactly the sites of a set burn
 record Orders (g : Grid) (s : ℕ → ℕ) (set : ℕ → Bool) : Type 0 where
   order : List ℕ
   only_sites : All (λ i. i < sites g) order
@@ -130,7 +130,7 @@ one_first g s set i l goes rest =
       );
     }
 
--- a set that is not empty and not forbidden has a site that may burn first
+-- a non-empty set that is not forbidden has a site that may burn first
 some_goes : (g : Grid) (s : ℕ → ℕ) (set : ℕ → Bool) → IsRecurrent g s → (i : ℕ) → i < sites g → set i ≡ true → (k : ℕ) × (k < sites g) × (may_go g s set k ≡ true)
 some_goes g s set recurrent i l here =
     ⊎_elim

@@ -1,4 +1,4 @@
--- The identity by what takes it to nothing: a pile that some topplings take to all 0 is equivalent to it.
+-- The identity from topplings that empty it: a pile that some topplings take to all 0 is equivalent to all 0.
 use Rattle.std.proofs.Common.{ℕ, ◌≡◌, ◌≤◌, refl, arith, List, length, sum, All}
 use Rattle.std.specs.Prelude.{pos}
 use Rattle.std.proofs.lemmas.Int.{ints}
@@ -20,14 +20,14 @@ emptied_is_none g s w done = record {
   difference = λ i l. let e = (toppled_is_integers g s w (λ i. 0)).0 done i l in omega (arith, ints);
 }
 
--- heights of 3 at most are far below the limit in all
+-- heights of at most 3 are within the limit in total
 pub low_within_limit : (g : Grid) (heights : List ℕ) → IsGrid g → length heights ≡ sites g → All (λ h. h ≤ 3) heights → sum heights ≤ most_grains
 low_within_limit g heights grid len low =
     let all = sum_by-le (λ h. h) 3 heights low in
     let area = sites_limit g grid in
     omega arith
 
--- the identity is what some d settles to, however it was found
+-- the identity, however it was found, is the settled pile of some d
 pub identity_settles : (g : Grid) (p : PileView) → p.grid ≡ g → length p.heights ≡ sites g → IsIdentity g (height_of p) → (d : ℕ → ℕ) × IsSurplus g d × IsSettledPile g d p
 identity_settles g p grid each identity =
     let d = some_surplus g in

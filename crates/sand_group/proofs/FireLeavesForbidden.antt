@@ -1,4 +1,4 @@
--- What a fire leaves: no site of a forbidden set burns, and the order in which the others burn is a burning order.
+-- The end of a fire: no site of a forbidden set burns, and the order in which the others burn is a burning order.
 use Rattle.std.proofs.Common.{Option, Some, None, IfSome, get_or, take, not, ℕ, Bool, true, ◌≡◌, ◌+◌, ◌<◌, ◌≤◌, refl, sym, ◌∙◌, ap, arith, List, [], ◌∷◌, ◌++◌, length, All, count_by, append_assoc, append-nil, ⊎_elim}
 use Rattle.std.proofs.lemmas.Bool.{cases_eq, ltb-true, leb-false, not-true}
 use Rattle.std.proofs.lemmas.List.{get_or_push, get_or_append_left, take-take, take_more, length-take}
@@ -60,7 +60,7 @@ in_turn g s before (x ∷ xs) below once burnt = (
 
 -- ---- the numbers of unburnt neighbours
 
--- a site that burns is taken from its neighbours' numbers
+-- a site that burns is subtracted from its neighbours' numbers
 split_out : (g : Grid) (burnt : List ℕ) (i j : ℕ) → j < sites g → tally burnt i ≡ 0 → count_by (is_out burnt) (neighbours g j) ≡ count_by (is_out (burnt ++ i ∷ [])) (neighbours g j) + tally (neighbours g j) i
 unfolding flow
 split_out g burnt i j l fresh =
@@ -116,14 +116,14 @@ counts_none g unburnt full = record {
       omega arith;
 }
 
--- one number more, for the next site
+-- one more number, for the next site
 pub counts_push : (g : Grid) (xs : List ℕ) (n v : ℕ) → length xs ≡ n → ((k : ℕ) → k < n → get_or xs k 0 + missing g k ≡ 4) → v + missing g n ≡ 4 → (k : ℕ) → k < n + 1 → get_or (xs ++ v ∷ []) k 0 + missing g k ≡ 4
 counts_push g xs n v len before here k l =
     ⊎_elim (λ (e : k ≡ n). let read = get_or_push xs v 0 k (omega arith) in let same = ap (missing g) e in omega arith)
     (λ (ne : k ≡ n → ⊥). let less : k < n = grind arith in let read = get_or_append_left xs (v ∷ []) 0 k (omega arith) in let was = before k less in omega arith)
     (cases_eq k n)
 
--- ---- a place round a site that burns
+-- ---- a place around a site that burns
 
 pub some_left : (n : ℕ) (u : ℕ → ℕ) (p : Option ℕ) → IfSome p (λ j. j < n) → ((j : ℕ) → j < n → value_at (λ k. one_at k j) p ≤ u j) → IfSome p (λ j. 0 < u j)
 some_left n u None inside le = tt
@@ -140,7 +140,7 @@ kept_longer before after n len kept =
     let same = ap length kept in
     omega arith
 
--- ---- what the fire leaves
+-- ---- the end of a fire
 
 -- a fire that reaches all sites burns them in a burning order, and the pile is recurrent
 pub burned_recurrent : (g : Grid) (s unburnt : ℕ → ℕ) (burnt : List ℕ) → IsStable g s → Lists (sites g) (may_burn s unburnt) burnt → FireSpreadsFrom g s [] burnt → length burnt ≡ sites g → IsRecurrent g s × IsBurningOrder g s burnt
@@ -160,7 +160,7 @@ burned_recurrent g s unburnt burnt stable list order full = (
   },
 )
 
--- what a fire does not reach is the greatest forbidden set
+-- the sites that a fire does not reach are the greatest forbidden set
 pub burned_forbidden : (g : Grid) (s unburnt : ℕ → ℕ) (burnt left : List ℕ) → CountsUnburnt g burnt unburnt → Lists (sites g) (may_burn s unburnt) burnt → FireSpreadsFrom g s [] burnt → (length burnt ≡ sites g → ⊥) → Lists (sites g) (λ i. not (may_burn s unburnt i)) left → IsStrictlyIncreasing left → IsGreatestForbidden g s left
 burned_forbidden g s unburnt burnt left counts list order short rest rises =
     let member : (i : ℕ) → i < sites g → is_in left i ≡ not (may_burn s unburnt i) = λ i l. is_in_listing (sites g) (λ j. not (may_burn s unburnt j)) left i rest l in

@@ -1,4 +1,4 @@
--- The n-fold sums of a recurrent pile: they add up as n does.
+-- The n-fold sums of a recurrent pile add up as n does.
 use Rattle.std.proofs.Common.{ℕ, ◌≡◌, ◌+◌, ◌*◌, ◌<◌, arith}
 use Rattle.std.specs.Prelude.{ℤ, pos, ◌+ℤ◌, ◌↔◌}
 use Rattle.std.proofs.lemmas.Int.{ints}
@@ -10,7 +10,7 @@ use Rattle.sand_group.specs.Recurrence.{IsRecurrent}
 use Rattle.sand_group.specs.Group.{Represents, IsSum, IsMultiple, IsIdentity}
 use Rattle.sand_group.proofs.OperationsSettle.{class_has_one, represents_itself, represented_once}
 
--- what represents x represents y, if they are equal at each site
+-- what represents x represents y, if x and y are equal at each site
 represents_same : (g : Grid) (x y : ℕ → ℤ) (c : ℕ → ℕ) → ((i : ℕ) → i < sites g → x i ≡ y i) → Represents g x c → Represents g y c
 represents_same g x y c equal is = record {
   recurrent = is.recurrent;
@@ -29,7 +29,7 @@ one_is_itself g c recurrent = represents_same g (whole c) (λ i. pos (1 * c i)) 
 pub copy_is_multiple : (g : Grid) (n : ℕ) (c e : PileView) → n ≡ 1 → e ≡ c → IsRecurrent g (height_of c) → IsMultiple g n (height_of c) (height_of e)
 copy_is_multiple g n c e one same recurrent = rw (one, same) (one_is_itself g (height_of c) recurrent)
 
--- the sum of the n-fold and the m-fold sum is the (n + m)-fold one
+-- the sum of the n-fold and the m-fold sum is the (n + m)-fold sum
 pub multiples_sum : (g : Grid) (n m : ℕ) (c a b e : ℕ → ℕ) → IsMultiple g n c a → IsMultiple g m c b → IsSum g a b e → IsMultiple g (n + m) c e
 multiples_sum g n m c a b e one two sum =
     let both = equivalent_add g (whole a) (λ i. pos (n * c i)) (whole b) (λ i. pos (m * c i)) one.equivalent two.equivalent in
@@ -40,7 +40,7 @@ multiples_sum g n m c a b e one two sum =
           (equivalent_same g (λ i. whole a i +ℤ whole b i) (λ i. pos (n * c i) +ℤ pos (m * c i)) (λ i. pos (a i + b i)) (λ i. pos ((n + m) * c i)) both (λ i l. omega (arith, ints)));
     }
 
--- the same, for any n that is their sum
+-- the same for any number equal to k + m
 pub sum_is_multiple : (g h : Grid) (n k m : ℕ) (c a b e : ℕ → ℕ) → h ≡ g → n ≡ k + m → IsMultiple g k c a → IsMultiple g m c b → IsSum h a b e → IsMultiple g n c e
 sum_is_multiple g h n k m c a b e same is one two sum = rw is (multiples_sum g k m c a b e one two (rw same at sum))
 

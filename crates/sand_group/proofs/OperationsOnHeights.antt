@@ -1,4 +1,4 @@
--- What the operations of the group make, from the lists of heights that they settle.
+-- The results of the operations of the group, from the lists of heights that they settle.
 use Rattle.std.proofs.Common.{ℕ, ◌≡◌, ◌+◌, ◌-◌, ◌*◌, ◌<◌, ◌≤◌, refl, sym, ◌∙◌, ap, arith, List, length, sum, get_or, replicate, All, ⊎_elim}
 use Rattle.std.proofs.Math.ListN.{set}
 use Rattle.std.proofs.lemmas.Bool.{cases_lt}
@@ -16,7 +16,7 @@ use Rattle.sand_group.specs.Recurrence.{IsRecurrent}
 use Rattle.sand_group.specs.Group.{IsSettledPile, IsSurplus, IsIdentity, IsEquivalentRecurrent}
 use Rattle.sand_group.proofs.OperationsSettle.{equivalent_is_settled, represents_itself, represented_once}
 
--- heights of 12 at most are far below the limit in all
+-- heights of at most 12 are within the limit in total
 pub within_limit : (g : Grid) (heights : List ℕ) → IsGrid g → length heights ≡ sites g → All (λ h. h ≤ 12) heights → sum heights ≤ most_grains
 within_limit g heights grid len low =
     let all = sum_by-le (λ h. h) 12 heights low in
@@ -28,7 +28,7 @@ pub low_heights : (p : PileView) (heights : List ℕ) → IsPile p → heights �
 low_heights p heights is same stable =
     rw same (All-from_get_or (λ h. h ≤ 3) p.heights 0 (λ i l. let each = is.one_each in stable.low i (omega arith)))
 
--- ---- what settles
+-- ---- settled piles
 
 pile_settles : (g h : Grid) (s r : ℕ → ℕ) (p : PileView) → IsSettledPile g s p → h ≡ g → ((i : ℕ) → i < sites g → r i ≡ s i) → IsSettledPile h r p
 pile_settles g h s r p done same equal = rw same (record {
@@ -82,7 +82,7 @@ equivalent_itself p c is recurrent done =
     (λ i l. let each = done.one_each in represented_once p.grid (whole (height_of p)) (height_of c) (height_of p) done.represents (represents_itself p.grid (height_of p) recurrent) i (omega arith)) in
     ap (λ (h : List ℕ). record { grid = c.grid; heights = h }) heights ∙ ap (λ (g : Grid). record { grid = g; heights = p.heights }) done.grid
 
--- ---- d, and what 2d - c settles to
+-- ---- d, and the settled pile of 2d - c
 
 pub surplus_is : (g : Grid) (twice v h : List ℕ) (p : PileView) → twice ≡ replicate (sites g) 6 → IsSettledPile g (λ i. get_or twice i 0) p → h ≡ p.heights → ((i : ℕ) → i < length h → get_or v i 0 + get_or h i 0 ≡ 6) → IsSurplus g (λ i. get_or v i 0)
 surplus_is g twice v h p full done same rests = record {
@@ -105,7 +105,7 @@ difference_settles g c p hc hd d v grid is same same_d differences done =
     pile_settles g c.grid (λ i. get_or v i 0) (λ i. 2 * get_or d i 0 - height_of c i) p done (sym grid)
     (λ i l. let e = differences i (omega arith) in let here = ap (λ (xs : List ℕ). get_or xs i 0) same in let from = ap (λ (xs : List ℕ). get_or xs i 0) same_d in omega arith)
 
--- ---- one grain more
+-- ---- one more grain
 
 pub grain_settles : (g : Grid) (c p : PileView) (h : List ℕ) (site x : ℕ) → g ≡ c.grid → IsPile c → h ≡ c.heights → site < sites c.grid → x ≡ get_or h site x → IsSettledPile g (λ i. get_or (set h site (x + 1)) i 0) p → IsSettledPile c.grid (λ i. height_of c i + one_at site i) p
 grain_settles g c p h site x grid is same inside read done =

@@ -1,5 +1,5 @@
--- The members of the group: what settles from high piles is recurrent, and so is what settles from a recurrent pile
--- with more grains; the settled piles of a + b, d and 2d - c are the sum, the identity and the inverse.
+-- The members of the group: high piles, and recurrent piles with more grains, settle to recurrent piles; a + b, d and
+-- 2d - c settle to the sum, the identity and the inverse.
 use Rattle.std.proofs.Common.{ℕ, ◌≡◌, ◌+◌, ◌-◌, ◌*◌, ◌<◌, ◌≤◌, refl, sym, arith}
 use Rattle.std.specs.Prelude.{ℤ, pos, ◌+ℤ◌, ◌-ℤ◌}
 use Rattle.std.proofs.lemmas.Int.{ints}
@@ -17,18 +17,18 @@ use Rattle.sand_group.proofs.SettledIsRecurrent.{settled_recurrent}
 use Rattle.sand_group.proofs.RecurrentIsUnique.{recurrent_unique}
 use Rattle.sand_model.proofs.EquivalenceIsLinear.{equivalent_sym, equivalent_add, equivalent_same, equivalent_times, equivalent_trans}
 
--- what is true of each pile that s settles to, is true of one: s settles
+-- s settles, so it is enough that P is true of each pile that s settles to
 pub settles_to : (g : Grid) (s : ℕ → ℕ) (P : (ℕ → ℕ) → Type 0) → ((u t : ℕ → ℕ) → IsSettled g s u t → P t) → SettlesTo g s P
 settles_to g s P each = let done = settles g s in record { odometer = done.0; rest = done.1; settled = done.2; each = each }
 
 -- ---- recurrent piles
 
--- what settles from heights of 3 and more is recurrent
+-- heights of at least 3 settle to a recurrent pile
 high_recurrent : (g : Grid) (s u t : ℕ → ℕ) → IsSettled g s u t → ((i : ℕ) → i < sites g → 3 ≤ s i) → IsRecurrent g t
 high_recurrent g s u t done high =
     settled_recurrent g (λ i. s i - 3) u t (settled_same g s (λ i. 3 + (s i - 3)) u u t t (λ i l. let h = high i l in omega arith) (λ i l. refl) (λ i l. refl) done)
 
--- a pile that is 3 or more at each site and equivalent to all 0
+-- such a d is at least 3 at each site
 surplus_high : (g : Grid) (d : ℕ → ℕ) → IsSurplus g d → (i : ℕ) → i < sites g → 3 ≤ d i
 surplus_high g d is i l =
     let e = is.difference i l in
@@ -40,7 +40,7 @@ surplus_is_none g d is =
     equivalent_same g (whole (λ i. 6)) (whole is.rest) (whole d) (λ i. pos 0) (settled_equivalent g (λ i. 6) is.odometer is.rest is.settled)
     (λ i l. let e = is.difference i l in omega (arith, ints))
 
--- there is such a pile
+-- there is such a d
 pub some_surplus : (g : Grid) → (d : ℕ → ℕ) × IsSurplus g d
 some_surplus g =
     let full = settles g (λ i. 6) in (
@@ -53,7 +53,7 @@ some_surplus g =
       },
     )
 
--- a recurrent pile is what some heights of 3 and more settle to
+-- a recurrent pile is the settled pile of some heights of at least 3
 pub recurrent_from_full : (g : Grid) (c : ℕ → ℕ) → IsRecurrent g c → (a : ℕ → ℕ) × (u : ℕ → ℕ) × IsSettled g (λ i. 3 + a i) u c
 recurrent_from_full g c recurrent =
     let d = some_surplus g in
@@ -67,7 +67,6 @@ recurrent_from_full g c recurrent =
     let class = equivalent_trans g (whole c) (whole (λ i. 3 + (c i + (d.0 i - 3)))) (whole done.1) start back in
     (λ i. c i + (d.0 i - 3), done.0, settled_same g (λ i. 3 + (c i + (d.0 i - 3))) (λ i. 3 + (c i + (d.0 i - 3))) done.0 done.0 done.1 c (λ i l. refl) (λ i l. refl) (λ i l. sym (recurrent_unique g c done.1 recurrent again class i l)) done.2)
 
--- more grains on a recurrent pile settle to a recurrent pile
 pub recurrent_plus : (g : Grid) (a b u r : ℕ → ℕ) → IsRecurrent g a → IsSettled g (λ i. a i + b i) u r → IsRecurrent g r
 recurrent_plus g a b u r recurrent done =
     let full = recurrent_from_full g a recurrent in
@@ -101,9 +100,9 @@ inverse_is_settled g c d u r recurrent is done =
           (λ i l. let high = surplus_high g d is i l in let low = recurrent.stable.low i l in omega (arith, ints)));
     }
 
--- ---- each class has one
+-- ---- each class has a recurrent pile
 
--- x and enough times d are 3 or more everywhere, and what they settle to is recurrent
+-- x plus a large enough multiple of d is at least 3 everywhere, and settles to a recurrent pile
 pub class_has_one : (g : Grid) (x : ℕ → ℤ) → (c : ℕ → ℕ) × Represents g x c
 class_has_one g x =
     let d = some_surplus g in
@@ -160,14 +159,12 @@ pub represented_once : (g : Grid) (x : ℕ → ℤ) (c d : ℕ → ℕ) → Repr
 represented_once g x c d one two =
     recurrent_unique g c d one.recurrent two.recurrent (equivalent_trans g (whole c) x (whole d) one.equivalent (equivalent_sym g (whole d) x two.equivalent))
 
--- a sum with the identity is the pile itself
 pub identity_neutral : (g : Grid) (c e u r : ℕ → ℕ) → IsRecurrent g c → IsIdentity g e → IsSettled g (λ i. c i + e i) u r → (i : ℕ) → i < sites g → r i ≡ c i
 identity_neutral g c e u r recurrent identity done =
     let class = (sum_is_settled g c e u r recurrent done).equivalent in
     let none : IsEquivalent g (λ i. pos (c i + e i)) (whole c) = equivalent_same g (whole e) (λ i. pos 0) (λ i. pos (c i + e i)) (whole c) identity.equivalent (λ i l. omega (arith, ints)) in
     recurrent_unique g r c (recurrent_plus g c e u r recurrent done) recurrent (equivalent_trans g (whole r) (λ i. pos (c i + e i)) (whole c) class none)
 
--- a sum with the inverse is the identity
 pub inverse_cancels : (g : Grid) (c v u r : ℕ → ℕ) → IsRecurrent g c → IsInverse g c v → IsSettled g (λ i. c i + v i) u r → IsIdentity g r
 inverse_cancels g c v u r recurrent inverse done = record {
   recurrent = recurrent_plus g c v u r recurrent done;

@@ -1,7 +1,7 @@
--- Two recurrent piles that are equivalent are equal.
+-- Two equivalent recurrent piles are equal.
 --
--- If they differ by the topplings z, split z into its part p above 0 and its part q below. If p is not 0, the
--- sites at which it is greatest are forbidden in the second pile. So p is 0, and q is 0 by the same.
+-- If they differ by the topplings z, split z into its part p above 0 and its part q below 0. If p is not 0, the sites
+-- where it is greatest are forbidden in the second pile. So p is 0, and in the same way q is 0.
 use Rattle.std.proofs.Common.{ℕ, eqb, ◌≡◌, ◌+◌, ◌-◌, ◌*◌, ◌<◌, ◌≤◌, sym, ◌∙◌, arith, ⊎_elim}
 use Rattle.std.specs.Prelude.{ℤ, pos, ◌-ℤ◌}
 use Rattle.std.proofs.lemmas.Int.{ints}

@@ -1,9 +1,9 @@
--- What settles from a pile with 3 grains or more at each site is recurrent.
+-- A pile of at least 3 grains at each site settles to a recurrent pile.
 --
--- Let t be what m + a settles to, m being the pile of all 3, and u its least odometer. Let F be forbidden in t.
--- If each site of F toppled, toppling each of them once less also stabilises m + a, against leastness.
--- A site of F that did not topple has height 3 still: all four of its neighbours are in F, and none of them toppled.
--- Its northern neighbour is another such site; but there is no endless way north.
+-- Let m be the pile of all 3, t the settled pile of m + a, and u its least odometer. Let F be forbidden in t. If each
+-- site of F toppled, toppling each of them once less also stabilises m + a, although u is the least. A site of F that
+-- did not topple still has height 3: all four of its neighbours are in F, and none of them toppled. Its northern
+-- neighbour is another such site; but there is no endless way north.
 use Rattle.std.proofs.Common.{ℕ, zero, suc, Bool, true, false, ◌≡◌, ◌+◌, ◌-◌, ◌<◌, ◌≤◌, refl, ap, arith, Some, ⊎_elim}
 use Rattle.std.proofs.lemmas.Bool.{cases_lt, cases_Bool, ltb-true}
 use Rattle.sand_model.specs.Grid.{Grid, sites, north}
@@ -15,7 +15,7 @@ use Rattle.sand_group.specs.Recurrence.{IsRecurrent}
 use Rattle.sand_model.specs.Forbidden.{IsForbidden}
 use Rattle.sand_model.proofs.NeighboursInSets.{flow_at_most_four, north_of_four}
 
--- the northern neighbour is a site with a smaller number
+-- the northern neighbour has a smaller number
 north_before : (g : Grid) (i j : ℕ) → i < sites g → north g i ≡ Some j → j < i
 unfolding north
 north_before g i j l e =
@@ -31,7 +31,7 @@ north_flow g u i j e =
     let here : value_at u (north g i) ≡ u j = ap (value_at u) e in
     omega arith
 
--- there is no site of a forbidden set that never toppled, among the first k
+-- each of the first k sites that is in a forbidden set has toppled
 all_toppled : (g : Grid) (a u t : ℕ → ℕ) (set : ℕ → Bool) → IsToppled g (λ i. 3 + a i) u t → IsForbidden g t set → (k i : ℕ) → i < k → i < sites g → set i ≡ true → u i ≡ 0 → ⊥
 all_toppled g a u t set done bad zero i l m in' none = absurd (omega arith)
 all_toppled g a u t set done bad (suc k) i l m in' none =
@@ -44,7 +44,7 @@ all_toppled g a u t set done bad (suc k) i l m in' none =
     let little = north_flow g u i up.0 up.1 in
     all_toppled g a u t set done bad k up.0 (omega arith) (omega arith) up.2 (omega arith)
 
--- toppling each site of the set once less stabilises all the same
+-- toppling each site of the set once less still stabilises
 less_stabilises : (g : Grid) (a u t : ℕ → ℕ) (set : ℕ → Bool) → IsSettled g (λ i. 3 + a i) u t → IsForbidden g t set → Stabilises g (λ i. 3 + a i) (λ i. u i - indicator set i)
 less_stabilises g a u t set done bad = record {
   at_most_three = λ i l.
@@ -64,7 +64,6 @@ less_stabilises g a u t set done bad = record {
       (cases_Bool (set i));
 }
 
--- what settles from 3 or more at each site is recurrent
 pub settled_recurrent : (g : Grid) (a u t : ℕ → ℕ) → IsSettled g (λ i. 3 + a i) u t → IsRecurrent g t
 settled_recurrent g a u t done = record {
   stable = settled_stable g (λ i. 3 + a i) u t done;

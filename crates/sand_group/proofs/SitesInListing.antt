@@ -1,4 +1,4 @@
--- Lists of the sites that pass a test: whether a site is in one, and that an ascending one stays ascending.
+-- Lists of the sites that pass a test: whether a site is in one, and that an ascending list stays ascending.
 use Rattle.std.proofs.Common.{ℕ, Bool, true, false, not, ◌≡◌, ◌+◌, ◌<◌, ◌≤◌, sym, ◌∙◌, ap, arith, List, [], ◌∷◌, ◌++◌, length, All, ⊎_elim}
 use Rattle.std.specs.List.Sorted.{IsStrictlyIncreasing}
 use Rattle.std.proofs.lemmas.Bool.{cases_lt, cases_Bool, lt-ltb, le-ltb}
@@ -10,7 +10,7 @@ use Rattle.sand_model.proofs.Lists.{listed, unlisted}
 use Rattle.sand_group.specs.Recurrence.{is_in}
 use Rattle.sand_group.specs.Fire.{is_out}
 
--- what is not tallied is out of a list, and what is tallied is in it
+-- what has no tally is outside a list, and what has one is in it
 pub is_out-none : (xs : List ℕ) (i : ℕ) → tally xs i ≡ 0 → is_out xs i ≡ true
 is_out-none xs i none = ap not (le-ltb 0 (tally xs i) (omega arith))
 
@@ -26,7 +26,7 @@ is_in_listing n p xs i list l =
 pub is_out_of_listing : (n : ℕ) (p : ℕ → Bool) (xs : List ℕ) (i : ℕ) → Lists n p xs → i < n → is_out xs i ≡ not (p i)
 is_out_of_listing n p xs i list l = ap not (is_in_listing n p xs i list l)
 
--- a number above all others, at the end of a list that rises
+-- an ascending list stays ascending after a push of a greater number
 pub increasing_push : (n : ℕ) (xs : List ℕ) → IsStrictlyIncreasing xs → All (λ i. i < n) xs → IsStrictlyIncreasing (xs ++ n ∷ [])
 increasing_push n xs rises below k l =
     let push = length_push xs n in

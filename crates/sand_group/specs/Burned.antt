@@ -5,7 +5,7 @@ use Rattle.sand_group.specs.declared.burning.Burned.TheVariants.{Recurrent, Forb
 use Rattle.sand_model.specs.Grid.{Grid}
 use Rattle.sand_group.specs.Recurrence.{IsRecurrent, IsBurningOrder, IsGreatestForbidden}
 
--- a recurrent pile comes with a burning order, and any other with its greatest forbidden set
+-- a recurrent pile comes with a burning order, any other pile with its greatest forbidden set
 abbrev pub IsBurned : Grid → (ℕ → ℕ) → Burned → Type 0
 IsBurned g s (Recurrent order) = IsRecurrent g s × IsBurningOrder g s order.items
 IsBurned g s (Forbidden set) = IsGreatestForbidden g s set.items

@@ -8,21 +8,21 @@ use Rattle.sand_model.specs.Integers.{whole, IsEquivalent}
 use Rattle.sand_model.specs.Piles.{PileView, height_of}
 use Rattle.sand_group.specs.Recurrence.{IsRecurrent}
 
--- the pile is what the heights s settle to
+-- the heights s settle to the pile
 pub record IsSettledPile (g : Grid) (s : ℕ → ℕ) (pile : PileView) : Type 0 where
   pub grid : pile.grid ≡ g
   pub one_each : length pile.heights ≡ sites g
   pub odometer : ℕ → ℕ
   pub settled : IsSettled g s odometer (height_of pile)
 
--- s has a settled pile, and P is true of each pile that s settles to
+-- s settles, and P is true of each pile that s settles to
 pub record SettlesTo (g : Grid) (s : ℕ → ℕ) (P : (ℕ → ℕ) → Type 0) : Type 0 where
   pub odometer : ℕ → ℕ
   pub rest : ℕ → ℕ
   pub settled : IsSettled g s odometer rest
   pub each : (u t : ℕ → ℕ) → IsSettled g s u t → P t
 
--- d = 2m - settled(2m): it is equivalent to all 0, and 3 or more at each site
+-- d = 2m - settled(2m): it is equivalent to all 0, and at least 3 at each site
 pub record IsSurplus (g : Grid) (d : ℕ → ℕ) : Type 0 where
   pub odometer : ℕ → ℕ
   pub rest : ℕ → ℕ
@@ -50,7 +50,7 @@ IsIdentity g = Represents g (λ i. pos 0)
 abbrev pub IsInverse : Grid → (ℕ → ℕ) → (ℕ → ℕ) → Type 0
 IsInverse g c = Represents g (λ i. pos 0 -ℤ pos (c i))
 
--- the pile is the recurrent pile that is equivalent to the heights s
+-- the pile is the recurrent pile equivalent to the heights s
 pub record IsEquivalentRecurrent (g : Grid) (s : ℕ → ℕ) (pile : PileView) : Type 0 where
   pub grid : pile.grid ≡ g
   pub one_each : length pile.heights ≡ sites g

@@ -10,11 +10,11 @@ use Rattle.sand_group.specs.Group.{SettlesTo, IsSurplus, Represents, IsSum, IsMu
 abbrev pub BurningDecides : Type 0
 BurningDecides = (g : Grid) (s : ℕ → ℕ) → IsGrid g → IsStable g s → IsRecurrent g s ↔ ((order : List ℕ) × IsBurningOrder g s order)
 
--- the recurrent piles are those that settle from 3 grains or more at each site
+-- the recurrent piles are those that settle from at least 3 grains at each site
 abbrev pub RecurrentFromFull : Type 0
 RecurrentFromFull = (g : Grid) (c : ℕ → ℕ) → IsRecurrent g c ↔ ((a : ℕ → ℕ) × (u : ℕ → ℕ) × IsSettled g (λ i. 3 + a i) u c)
 
--- more grains on a recurrent pile settle to a recurrent pile
+-- a recurrent pile with more grains settles to a recurrent pile
 abbrev pub StaysRecurrent : Type 0
 StaysRecurrent = (g : Grid) (c a : ℕ → ℕ) → IsRecurrent g c → SettlesTo g (λ i. c i + a i) (IsRecurrent g)
 
@@ -27,50 +27,50 @@ abbrev pub EquivalentRecurrentsAreEqual : Type 0
 EquivalentRecurrentsAreEqual = (g : Grid) (c e : ℕ → ℕ) → IsRecurrent g c → IsRecurrent g e
     → IsEquivalent g (whole c) (whole e) → (i : ℕ) → i < sites g → c i ≡ e i
 
--- so each class has only one recurrent pile: there is one sum, one identity and one inverse
+-- so each class has only one recurrent pile: the sum, the identity and the inverse are unique
 abbrev pub RepresentativesAreEqual : Type 0
 RepresentativesAreEqual = (g : Grid) (x : ℕ → ℤ) (c e : ℕ → ℕ) → Represents g x c → Represents g x e
     → (i : ℕ) → i < sites g → c i ≡ e i
 
--- the sum of a and b is what a + b settles to
+-- a + b settles to the sum of a and b
 abbrev pub SumIsSettled : Type 0
 SumIsSettled = (g : Grid) (a b : ℕ → ℕ) → IsRecurrent g a → IsRecurrent g b → SettlesTo g (λ i. a i + b i) (IsSum g a b)
 
--- there is a d from which the identity and the inverse are settled
+-- there is a d that gives the identity and the inverse
 abbrev pub EachGridHasSurplus : Type 0
 EachGridHasSurplus = (g : Grid) → (d : ℕ → ℕ) × IsSurplus g d
 
--- the identity is what d settles to
+-- d settles to the identity
 abbrev pub IdentityIsSettled : Type 0
 IdentityIsSettled = (g : Grid) (d : ℕ → ℕ) → IsSurplus g d → SettlesTo g d (IsIdentity g)
 
--- the inverse of c is what 2d - c settles to; d is at least 3 and c at most 3, so 2d - c is at least 3 at each site
+-- 2d - c settles to the inverse of c; d is at least 3 and c at most 3, so 2d - c is at least 3 at each site
 abbrev pub InverseIsSettled : Type 0
 InverseIsSettled = (g : Grid) (c d : ℕ → ℕ) → IsRecurrent g c → IsSurplus g d → SettlesTo g (λ i. 2 * d i - c i) (IsInverse g c)
 
--- c and the identity settle to c
+-- c plus the identity settles to c
 abbrev pub IdentityIsNeutral : Type 0
 IdentityIsNeutral = (g : Grid) (c e : ℕ → ℕ) → IsRecurrent g c → IsIdentity g e
     → SettlesTo g (λ i. c i + e i) (λ t. (i : ℕ) → i < sites g → t i ≡ c i)
 
--- c and its inverse settle to the identity
+-- c plus its inverse settles to the identity
 abbrev pub InverseCancels : Type 0
 InverseCancels = (g : Grid) (c v : ℕ → ℕ) → IsRecurrent g c → IsInverse g c v → SettlesTo g (λ i. c i + v i) (IsIdentity g)
 
--- what the settled pile of s and the identity settle to is the recurrent pile equivalent to s
+-- the settled pile of s plus the identity settles to the recurrent pile equivalent to s
 abbrev pub EquivalentIsSettled : Type 0
 EquivalentIsSettled = (g : Grid) (s e : ℕ → ℕ) → IsIdentity g e → SettlesTo g s (λ t. SettlesTo g (λ i. e i + t i) (Represents g (whole s)))
 
--- of a recurrent pile it is the pile itself
+-- a recurrent pile represents itself
 abbrev pub RepresentsItself : Type 0
 RepresentsItself = (g : Grid) (c : ℕ → ℕ) → IsRecurrent g c → Represents g (whole c) c
 
--- that of a + b is the sum of those of a and b
+-- the recurrent pile equivalent to a + b is the sum of those equivalent to a and to b
 abbrev pub EquivalentsAddUp : Type 0
 EquivalentsAddUp = (g : Grid) (a b c d e : ℕ → ℕ) → Represents g (whole a) c → Represents g (whole b) d
     → Represents g (whole (λ i. a i + b i)) e → IsSum g c d e
 
--- each pile has one n-fold sum
+-- each pile has exactly one n-fold sum
 abbrev pub EachHasOneMultiple : Type 0
 EachHasOneMultiple = (g : Grid) (n : ℕ) (c : ℕ → ℕ) → (a : ℕ → ℕ) × IsMultiple g n c a
     × ((b : ℕ → ℕ) → IsMultiple g n c b → (i : ℕ) → i < sites g → b i ≡ a i)
@@ -83,7 +83,7 @@ NoneIsIdentity = (g : Grid) (c e : ℕ → ℕ) → IsMultiple g 0 c e ↔ IsIde
 abbrev pub OneIsItself : Type 0
 OneIsItself = (g : Grid) (c : ℕ → ℕ) → IsRecurrent g c → IsMultiple g 1 c c
 
--- the (n + m)-fold sum is the sum of the n-fold one and the m-fold one
+-- the (n + m)-fold sum is the sum of the n-fold and the m-fold sum
 abbrev pub MultiplesAddUp : Type 0
 MultiplesAddUp = (g : Grid) (n m : ℕ) (c a b e : ℕ → ℕ) → IsMultiple g n c a → IsMultiple g m c b
     → IsMultiple g (n + m) c e ↔ IsSum g a b e

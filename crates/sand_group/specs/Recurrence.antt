@@ -6,12 +6,11 @@ use Rattle.sand_model.specs.Forbidden.{IsForbidden}
 use Rattle.sand_model.specs.Grid.{Grid, sites, neighbours}
 use Rattle.sand_model.specs.Sand.{tally, IsStable}
 
--- stable, and no set is forbidden
+-- stable, with no forbidden set
 pub record IsRecurrent (g : Grid) (s : ℕ → ℕ) : Type 0 where
   pub stable : IsStable g s
   pub none : (set : ℕ → Bool) → ¬ IsForbidden g s set
 
--- whether a site is in a list of sites
 abbrev pub is_in : List ℕ → ℕ → Bool
 is_in xs i = nat_lt 0 (tally xs i)
 
@@ -26,7 +25,7 @@ pub record IsBurningOrder (g : Grid) (s : ℕ → ℕ) (order : List ℕ) : Type
   pub each_once : (i : ℕ) → i < sites g → tally order i ≡ 1
   pub in_turn : BurnsInOrder g s order
 
--- the sites of a forbidden set that includes every forbidden set, ascending, each once
+-- the sites of a forbidden set that contains every forbidden set, in ascending order
 pub record IsGreatestForbidden (g : Grid) (s : ℕ → ℕ) (set : List ℕ) : Type 0 where
   pub only_sites : All (λ i. i < sites g) set
   pub ascending : IsStrictlyIncreasing set

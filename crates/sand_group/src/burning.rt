@@ -1,13 +1,13 @@
 //! The burning test: whether a stable pile is recurrent.
 //!
-//! A site burns when its height is at least the number of its neighbours that do not burn yet. No site of a forbidden
-//! set ever burns: the first of them to burn would have all of its neighbours in the set still unburnt, and its height
-//! is below their number. The sites that stay unburnt are themselves a forbidden set, or there are none. So they are
-//! the greatest forbidden set, and a pile is recurrent if and only if all sites burn.
+//! A site burns when its height is at least the number of its unburnt neighbours. No site of a forbidden set ever
+//! burns: when the first of them burnt, all of its neighbours in the set would still be unburnt, and its height is
+//! below their number. The sites that stay unburnt are themselves a forbidden set, or there are none. So they are the
+//! greatest forbidden set, and a pile is recurrent if and only if all sites burn.
 //!
-//! The list of burnt sites is itself the queue: a site is appended when its height reaches the number of its unburnt
-//! neighbours, which happens once, and a head walks over the list and takes one from the numbers of the neighbours of
-//! each site. Each site is walked over once, so the test takes time in proportion to the sites.
+//! The list of burnt sites is also the queue. A site is appended when the number of its unburnt neighbours falls to its
+//! height, which happens once. A head moves along the list and subtracts one from the numbers of the neighbours of each
+//! site. Each site is visited once, so the test takes time proportional to the number of sites.
 
 ghost use Rattle.std.specs.Prelude.{◌≡◌, ℕ, ◌+◌, ◌<◌, ◌≤◌, ◌↔◌, [], length, slice_index, vec_len, vec_capacity, take, IfSome, IfOk, IsOkUnless, alloc_error};
 ghost use Rattle.std.specs.List.Sorted.{IsStrictlyIncreasing};
@@ -24,13 +24,14 @@ use std::alloc::{AllocError, Global};
 /// What the burning test found.
 #[derive(Debug, Drop)]
 pub enum Burned {
-    /// A burning order: all sites, each once, the height of each at least the number of its neighbours that come later.
+    /// A burning order: all sites, each once; the height of each is at least the number of its neighbours that come
+    /// later.
     Recurrent(Vec<usize>),
-    /// The sites of the greatest forbidden set, which includes every other, ascending.
+    /// The sites of the greatest forbidden set, which contains every other, in ascending order.
     Forbidden(Vec<usize>),
 }
 
-// For each site the number of its neighbours. None of them has burnt yet.
+// For each site, the number of its neighbours. None of them has burnt yet.
 fn neighbour_counts(alloc: Global, lattice: &Lattice) -> Result<Vec<u8>, AllocError>
     ensures one_each { IfOk result (λ v. length v.items ≡ sites lattice.now) }
     ensures counts { IfOk result (λ v. CountsUnburnt lattice.now [] (slice_index v.items)) }
@@ -43,7 +44,7 @@ fn neighbour_counts(alloc: Global, lattice: &Lattice) -> Result<Vec<u8>, AllocEr
     Ok(counts)
 }
 
-// The sites that may burn at once, ascending, with room for all sites.
+// The sites that may burn from the start, ascending, with capacity for all sites.
 fn first_to_burn(alloc: Global, heights: &[u64], unburnt: &[u8]) -> Result<Vec<usize>, AllocError>
     requires one_each { length unburnt.now ≡ length heights.now }
     ensures all { IfOk result (λ v. ListsBurning (length heights.now) heights.now unburnt.now v.items) }
@@ -58,8 +59,8 @@ fn first_to_burn(alloc: Global, heights: &[u64], unburnt: &[u8]) -> Result<Vec<u
     Ok(burnt)
 }
 
-// Takes one from the number of unburnt neighbours of the site at a place, and lets the site burn if that number is now
-// its height.
+// Subtracts one from the number of unburnt neighbours of the site at a place, and lets the site burn if that number is
+// now its height.
 fn note_burnt_neighbour(
     heights: &[u64],
     unburnt: &mut Vec<u8>,
@@ -86,7 +87,7 @@ fn note_burnt_neighbour(
     }
 }
 
-// Takes one from the number of unburnt neighbours of each neighbour of a burnt site, and lets those burn that now may.
+// The same for each neighbour of a burnt site.
 fn spread_fire(
     lattice: &Lattice,
     heights: &[u64],
@@ -114,7 +115,7 @@ fn spread_fire(
     note_burnt_neighbour(heights, unburnt, burnt, south);
 }
 
-// Lets the fire spread from the sites that may burn at once, until no other may.
+// Spreads the fire from the sites that may burn from the start, until no other may.
 fn burn_out(lattice: &Lattice, heights: &[u64], unburnt: &mut Vec<u8>, burnt: &mut Vec<usize>)
     requires heights_each { length heights.now ≡ sites lattice.now }
     requires one_each { length unburnt.old.items ≡ sites lattice.now }

@@ -1,7 +1,7 @@
 //! The n-fold sum of a recurrent pile, by doubling.
 //!
-//! Twice the sum for n / 2, and the pile once more if n is odd: at most 126 sums for any n. Each settles two stable piles, so
-//! no height is over 6, however large n is.
+//! It is twice the sum for n / 2, plus the pile once more if n is odd: at most 126 sums for any n. Each settles two
+//! stable piles, so no height is over 6, however large n is.
 
 ghost use Rattle.std.specs.Prelude.{◌≡◌, IfOk, IsOkUnless, length, alloc_error};
 ghost use Rattle.sand_model.specs.Grid.{sites};
@@ -12,8 +12,8 @@ use crate::faults::GroupFault;
 use crate::group::{Recurrent, add, identity};
 use std::alloc::Global;
 
-/// The n-fold sum of a recurrent pile: the identity if n is 0, and the pile itself if n is 1. Fails only with Memory, if an
-/// allocation fails.
+/// The n-fold sum of a recurrent pile: the identity if n is 0, and the pile itself if n is 1. Fails only if an
+/// allocation fails (Memory).
 pub fn multiple(alloc: Global, c: &Recurrent, n: u64) -> Result<Recurrent, GroupFault>
     ensures memory { IsOkUnless result (GroupFault.Memory alloc_error) }
     ensures grid { IfOk result (λ m. m.grid ≡ c.now.grid) }

@@ -1,8 +1,8 @@
-//! The group of recurrent piles: the sum of two is what they settle to together.
+//! The group of recurrent piles: to add two, put their grains together and settle.
 //!
-//! With m the pile of all 3, d = 2m - settled(2m) is equivalent to all 0, and 3 or more at each site, since a settled
-//! pile is at most 3. What settles from 3 or more at each site is recurrent, so settled(d) is the recurrent pile
-//! equivalent to all 0, and settled(2d - c) the one equivalent to -c.
+//! Let m be the pile of all 3. Then d = 2m - settled(2m) is equivalent to all 0, and at least 3 at each site, since a
+//! settled pile is at most 3. A pile of at least 3 at each site settles to a recurrent pile. So settled(d) is the
+//! recurrent pile equivalent to all 0, and settled(2d - c) the one equivalent to -c.
 
 ghost use Rattle.std.specs.Prelude.{◌≡◌, ◌≢◌, ℕ, ◌+◌, ◌-◌, ◌*◌, ◌<◌, ◌≤◌, ◌↔◌, ◌⊎◌, All, length, slice_index, sum, IfOk, IfErr, IsOkUnless, OnOk, alloc_error};
 ghost use Rattle.sand_model.specs.Grid.{sites};
@@ -37,8 +37,8 @@ impl Model for Recurrent {
 }
 
 impl Recurrent {
-    /// A recurrent pile with the same heights. Returns Unstable if a height is over 3, NotRecurrent if a set is forbidden,
-    /// and Memory if an allocation fails.
+    /// A recurrent pile with the same heights. Returns Unstable if a height is over 3, NotRecurrent if a set is
+    /// forbidden, and Memory if an allocation fails.
     pub fn from_pile(alloc: Global, pile: &Pile) -> Result<Recurrent, GroupFault>
         ensures made { IfOk result (λ c. c ≡ pile.now) }
         ensures recurrent { OnOk result (IsRecurrent pile.now.grid (height_of pile.now)) }
@@ -57,7 +57,7 @@ impl Recurrent {
         }
     }
 
-    /// The same recurrent pile. Fails only with Memory, if an allocation fails.
+    /// Fails only if an allocation fails (Memory).
     pub(crate) fn copy(&self, alloc: Global) -> Result<Recurrent, GroupFault>
         ensures same { IfOk result (λ c. c ≡ self.now) }
         ensures memory { IsOkUnless result (GroupFault.Memory alloc_error) }
@@ -77,7 +77,7 @@ impl Recurrent {
     }
 }
 
-// What a list of heights settles to.
+// Settles a list of heights.
 pub(crate) fn settled(alloc: Global, shape: Shape, heights: Vec<u64>) -> Result<Pile, GroupFault>
     requires one_each { length heights.items ≡ sites shape }
     requires low { All (λ h. h ≤ 12) heights.items }
@@ -89,7 +89,6 @@ pub(crate) fn settled(alloc: Global, shape: Shape, heights: Vec<u64>) -> Result<
     Ok(settled.into_pile())
 }
 
-// The sums of two lists of heights, by site.
 pub(crate) fn sums(alloc: Global, a: &[u64], b: &[u64]) -> Result<Vec<u64>, AllocError>
     requires same_length { length a.now ≡ length b.now }
     requires low_a { All (λ h. h ≤ 3) a.now }
@@ -105,7 +104,6 @@ pub(crate) fn sums(alloc: Global, a: &[u64], b: &[u64]) -> Result<Vec<u64>, Allo
     Ok(sums)
 }
 
-// Six less the heights of a list, by site.
 fn six_less(alloc: Global, heights: &[u64]) -> Result<Vec<u64>, AllocError>
     requires { All (λ h. h ≤ 3) heights.now }
     ensures one_each { IfOk result (λ v. length v.items ≡ length heights.now) }
@@ -119,7 +117,7 @@ fn six_less(alloc: Global, heights: &[u64]) -> Result<Vec<u64>, AllocError>
     Ok(rests)
 }
 
-// Twice the heights of one list less those of the other, by site.
+// 2 * `twice` - `less`, by site.
 fn twice_less(alloc: Global, twice: &[u64], less: &[u64]) -> Result<Vec<u64>, AllocError>
     requires same_length { length less.now ≡ length twice.now }
     requires high { All (λ h. 3 ≤ h) twice.now }
@@ -131,7 +129,7 @@ fn twice_less(alloc: Global, twice: &[u64], less: &[u64]) -> Result<Vec<u64>, Al
 {
     let mut differences = Vec::with_capacity(alloc, less.len())?;
     for (site, height) in less.iter().enumerate() {
-        // At least 2 * 3 - 3, so it is never below 0.
+        // At least 2 * 3 - 3, so never negative.
         differences.push(2 * twice[site] - *height)?;
     }
     Ok(differences)
@@ -148,8 +146,8 @@ fn surplus(alloc: Global, shape: Shape) -> Result<Vec<u64>, GroupFault>
     Ok(six_less(alloc, rest.heights())?)
 }
 
-/// The sum of two recurrent piles: what their grains settle to together. Returns Shapes if their shapes differ, and
-/// Memory if an allocation fails.
+/// The sum of two recurrent piles: their grains together, settled. Returns Shapes if their shapes differ, and Memory if
+/// an allocation fails.
 pub fn add(alloc: Global, a: &Recurrent, b: &Recurrent) -> Result<Recurrent, GroupFault>
     ensures shapes { (result ≡ Err GroupFault.Shapes) ↔ (a.now.grid ≢ b.now.grid) }
     ensures one_shape { OnOk result (a.now.grid ≡ b.now.grid) }
@@ -179,8 +177,8 @@ fn settled_identity(alloc: Global, shape: Shape) -> Result<Recurrent, GroupFault
     })
 }
 
-/// The identity of the group of a shape: what d settles to, from a guess if one is shown to be right. Fails only with
-/// Memory, if an allocation fails.
+/// The identity of the group of a shape: settled(d), from a guess if one is shown to be right. Fails only if an
+/// allocation fails (Memory).
 pub fn identity(alloc: Global, shape: Shape) -> Result<Recurrent, GroupFault>
     ensures memory { IsOkUnless result (GroupFault.Memory alloc_error) }
     ensures settled { IfOk result (λ e. (d : ℕ → ℕ) × IsSurplus shape d × IsSettledPile shape d e) }
@@ -192,7 +190,7 @@ pub fn identity(alloc: Global, shape: Shape) -> Result<Recurrent, GroupFault>
     }
 }
 
-/// The inverse of a recurrent pile: what 2d - c settles to. Fails only with Memory, if an allocation fails.
+/// The inverse of a recurrent pile: settled(2d - c). Fails only if an allocation fails (Memory).
 pub fn inverse(alloc: Global, c: &Recurrent) -> Result<Recurrent, GroupFault>
     ensures memory { IsOkUnless result (GroupFault.Memory alloc_error) }
     ensures settled { IfOk result (λ v. (d : ℕ → ℕ) × IsSurplus c.now.grid d
@@ -207,7 +205,7 @@ pub fn inverse(alloc: Global, c: &Recurrent) -> Result<Recurrent, GroupFault>
     })
 }
 
-/// What a recurrent pile settles to with one grain more at a site. Fails only with Memory, if an allocation fails.
+/// A recurrent pile with one more grain at a site, settled. Fails only if an allocation fails (Memory).
 pub fn act(alloc: Global, c: &Recurrent, site: usize) -> Result<Recurrent, GroupFault>
     requires { site < sites c.now.grid }
     ensures memory { IsOkUnless result (GroupFault.Memory alloc_error) }

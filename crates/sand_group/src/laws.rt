@@ -1,20 +1,20 @@
 //! The laws of recurrent piles and of their group, as contracts of functions that do nothing.
 //!
-//! **Burning.** In a recurrent pile the unburnt sites are no forbidden set, so one of them may burn, until all have
-//! burnt. Conversely, if all burn in some order, the first site of a set to burn has all its neighbours in the set after
-//! it, so the set is not forbidden.
+//! **Burning.** In a recurrent pile the unburnt sites are not a forbidden set, so one of them may burn, until all have
+//! burnt. Conversely, if all burn in some order, the first site of a set to burn has all its neighbours in the set
+//! after it, so the set is not forbidden.
 //!
-//! **From full piles.** Let t be what m + a settles to, m the pile of all 3, and u its odometer. If a set F were
-//! forbidden in t and all its sites had toppled, then u less 1 on F would also stabilise m + a, against leastness. A
-//! site of F that did not topple is 3 high with all four neighbours in F, none of which toppled, and so on northwards
-//! without end.
+//! **From full piles.** Let m be the pile of all 3, t the settled pile of m + a, and u its odometer. Let a set F be
+//! forbidden in t. If all its sites had toppled, u less 1 on F would also stabilise m + a, although u is the least. A
+//! site of F that did not topple still has height 3, so all four of its neighbours are in F, and none of them toppled.
+//! The same holds for its northern neighbour, and so on without end.
 //!
-//! **No law assumes that a pile settles.** Each pile does (`sand_model::laws::each_settles`), so a law says that it settles,
-//! and what is true of each pile that it settles to (`SettlesTo`).
+//! **No law assumes that a pile settles.** Each pile does (`sand_model::laws::each_settles`). So a law says that it
+//! settles, and what is true of each pile that it settles to (`SettlesTo`).
 //!
-//! **One in each class.** If two recurrent piles differ by Lz, the sites at which z is greatest are forbidden in the
-//! second, unless z is at most 0. The same holds for -z. So a recurrent c is what c + d settles to, for
-//! d = 2m - settled(2m): d is equivalent to all 0 and at least m.
+//! **One in each class.** If two recurrent piles differ by Lz, the sites where z is greatest are forbidden in the
+//! second, unless z is at most 0. The same holds for -z. So two equivalent recurrent piles are equal. And a recurrent c
+//! is what c + d settles to, for d = 2m - settled(2m): d is equivalent to all 0 and at least m.
 
 ghost use Rattle.sand_group.specs.Laws.{BurningDecides, RecurrentFromFull, StaysRecurrent, EachClassHasOne, EquivalentRecurrentsAreEqual, RepresentativesAreEqual, SumIsSettled, EachGridHasSurplus, IdentityIsSettled, InverseIsSettled, IdentityIsNeutral, InverseCancels, EquivalentIsSettled, RepresentsItself, EquivalentsAddUp, EachHasOneMultiple, NoneIsIdentity, OneIsItself, MultiplesAddUp};
 
@@ -23,13 +23,13 @@ pub fn burning_decides()
     ensures { BurningDecides }
 {}
 
-/// The recurrent piles are those that settle from 3 grains or more at each site, and more grains keep them recurrent.
+/// The recurrent piles are those that settle from at least 3 grains at each site, and more grains keep them recurrent.
 pub fn recurrent_from_full()
     ensures exactly { RecurrentFromFull }
     ensures stays { StaysRecurrent }
 {}
 
-/// Each class of equivalent piles has one recurrent pile.
+/// Each class of equivalent piles has exactly one recurrent pile.
 pub fn one_in_each_class()
     ensures some { EachClassHasOne }
     ensures equivalent { EquivalentRecurrentsAreEqual }
@@ -44,21 +44,21 @@ pub fn settling_is_adding()
     ensures inverse { InverseIsSettled }
 {}
 
-/// A sum with the identity is the pile itself, and a sum with the inverse is the identity.
+/// A pile plus the identity is the pile itself, and a pile plus its inverse is the identity.
 pub fn is_group()
     ensures neutral { IdentityIsNeutral }
     ensures inverse { InverseCancels }
 {}
 
-/// The recurrent pile that is equivalent to a pile is what the settled pile and the identity settle to. Of a recurrent
-/// pile it is the pile itself, and that of a + b is the sum of those of a and b.
+/// The recurrent pile that is equivalent to a pile is the settled pile plus the identity, settled. For a recurrent pile
+/// it is the pile itself, and for a + b it is the sum of those for a and b.
 pub fn equivalents_add_up()
     ensures settled { EquivalentIsSettled }
     ensures itself { RepresentsItself }
     ensures sum { EquivalentsAddUp }
 {}
 
-/// Each pile has one n-fold sum: for 0 the identity, for 1 the pile itself, and for n + m the sum of those for n and for m.
+/// Each pile has one n-fold sum: the identity for 0, the pile itself for 1, and for n + m the sum of those for n and m.
 pub fn multiples_add_up()
     ensures one { EachHasOneMultiple }
     ensures none { NoneIsIdentity }

@@ -1,7 +1,7 @@
 //! The burning test, and the group of recurrent piles.
 //!
-//! The definitions are in `specs/`: `Recurrence` (forbidden sets, recurrent piles, burning orders), `Group` (sums,
-//! multiples, the identity, inverses, the recurrent pile of a class) and `Laws`.
+//! The definitions are in `specs/`: `Recurrence` (recurrent piles, burning orders, the greatest forbidden set), `Group`
+//! (sums, multiples, the identity, inverses, the recurrent pile of a class) and `Laws`.
 #![tactic(auto)]
 
 mod burning;

@@ -1,8 +1,8 @@
 //! The identity of the group from a guess, in place of two settlings.
 //!
-//! A recurrent pile that some topplings take to nothing is equivalent to all 0, so it is the identity, wherever it came
-//! from. The topplings are guessed (`sand_guess::guessed_identity`), and nothing is claimed of the guess. The pile that
-//! they take to nothing is computed (`sand_certify::emptied`) and burnt.
+//! A recurrent pile that some topplings empty is equivalent to all 0, so it is the identity, wherever it came from. The
+//! topplings are guessed (`sand_guess::guessed_identity`), and nothing is proved of the guess. The pile that they empty
+//! is computed (`sand_certify::emptied`) and burnt.
 
 ghost use Rattle.std.specs.Prelude.{◌≡◌, length, IfOk, IfSome, IsOkUnless, alloc_error};
 ghost use Rattle.sand_model.specs.Grid.{sites};
@@ -16,7 +16,8 @@ use sand_guess::guessed_identity;
 use sand_model::{Pile, Shape};
 use std::alloc::{AllocError, Global};
 
-/// The identity of the group of a shape, if a guess of it is made and shown to be right.
+/// The identity of the group of a shape, if a guess is made and shown to be right. Fails only if an allocation fails
+/// (Memory).
 pub(crate) fn shown_identity(alloc: Global, shape: Shape) -> Result<Option<Pile>, GroupFault>
     ensures memory { IsOkUnless result (GroupFault.Memory alloc_error) }
     ensures shape { IfOk result (λ o. IfSome o (λ e. e.grid ≡ shape)) }
@@ -34,7 +35,7 @@ pub(crate) fn shown_identity(alloc: Global, shape: Shape) -> Result<Option<Pile>
     match burn(alloc, &pile) {
         Ok(Burned::Recurrent(_)) => Ok(Some(pile)),
         Ok(Burned::Forbidden(_)) => Ok(None),
-        // A stable pile is burnt unless an allocation fails.
+        // Burning a stable pile fails only if an allocation does.
         Err(_) => Err(GroupFault::Memory(AllocError)),
     }
 }

@@ -4,7 +4,7 @@ use Rattle.sand_group.specs.Group.{IsEquivalentRecurrent}
 use Rattle.sand_group.proofs.OperationsOnHeights.{equivalent_settles, equivalent_itself, recurrent_of}
 use Rattle.sand_group.proofs.equivalent.equivalent_recurrent.Goals as goal
 
--- what is returned is the recurrent pile of the class
+-- the result is the recurrent pile of the class
 found : (c : goal.In_ok-settled) → IsEquivalentRecurrent c.args.pile.now.grid (height_of c.args.pile.now) c.in_ok-settled.field-0
 found c =
     let start = c.in_ok-settle.ensures.record in
