@@ -1,4 +1,4 @@
--- Where no two arguments have one id, each argument is alone with its id.
+-- If no two arguments share an id, each argument is the only one with its id.
 use Rattle.std.proofs.Common.{◌≡◌, Bool, true, false, not, ◌&&◌, List, [], ◌∷◌, refl, sym, true≢false}
 use Rattle.std.specs.List.{list_all}
 use Rattle.std.specs.Str.{bytes_eq}
@@ -11,7 +11,7 @@ use Rattle.sand_cli.proofs.Each.{Each, each_both}
 abbrev lacks : Text → List Rule → Bool
 lacks id c = list_all (λ b. not (bytes_eq b.id id)) c
 
--- no two arguments have one id
+-- no two arguments share an id
 abbrev pub are_apart : List Rule → Bool
 are_apart [] = true
 are_apart (a ∷ c) = lacks a.id c && are_apart c
@@ -24,14 +24,14 @@ refused : {A : Type 0} (b : Bool) → not b ≡ true → b ≡ true → A
 refused true n e = absurd (true≢false (sym n))
 refused false n e = absurd (true≢false (sym e))
 
--- of those that lack the id of `a`, none is taken for `a`
+-- `a` is alone among arguments that lack its id
 none_is : (a : Rule) (c : List Rule) → lacks a.id c ≡ true → IsAlone c a
 none_is a [] e = tt
 none_is a (b ∷ c) e =
     let parts = both _ _ e in
     ((λ same. refused (bytes_eq b.id a.id) parts.0 same), none_is a c parts.1)
 
--- nor is `a` taken for one of them
+-- the same, seen from each of them
 is_none : (a : Rule) (c : List Rule) → lacks a.id c ≡ true → Each (λ b. bytes_eq a.id b.id ≡ true → a ≡ b) c
 is_none a [] e = tt
 is_none a (b ∷ c) e =

@@ -1,4 +1,4 @@
--- Where `drops` takes its words, each number of its draw is in its range.
+-- If `drops` accepts its words, each number of its draw is in range.
 use Rattle.std.proofs.Common.{◌≡◌, ◌∙◌, ◌≤◌, ℕ, Bool, true, false, cond, ◌||◌, List, [], ◌∷◌, Option, Some, None, refl, sym, ap, subst, arith, codes, true≢false}
 use Rattle.std.specs.Prelude.{IfSome, find, option_and_then, unwrap_or}
 use Rattle.std.specs.Str.{bytes_eq}
@@ -36,7 +36,7 @@ no_row id (r ∷ rs) e = go (no_row id rs) (bytes_eq r.id id) e
     go later true f = absurd (true≢false f)
     go later false f = later f
 
--- a number that is given is in its range
+-- a given number is in range
 given_is_within : (name : Text) (most : ℕ) (words : List Text) → most ≤ 4294967295 → IsAlone drops_built.rules (built_number name 0 most)
     → level_fault drops_built [] nothing_held words false [] ≡ [] → IfSome (setting_in name (rows_after drops_built.rules [] words)) (λ n. n ≤ most)
 given_is_within name most words small alone passes = go (has_row name rows) refl
@@ -57,12 +57,12 @@ given_is_within name most words small alone passes = go (has_row name rows) refl
         let is : setting_in name rows ≡ Some (value_of text.0) = ap (option_and_then (number_of 4294967295)) text.1 ∙ read.0 in
         subst Within (sym is) read.2
 
--- so is 0, which stands for what isn't given
+-- so is 0, the default
 usual_is_within : (given : Option ℕ) → IfSome given (λ n. n ≤ 4294967295) → unwrap_or given 0 ≤ 4294967295
 usual_is_within None h = omega arith
 usual_is_within (Some n) h = h
 
--- and so are all numbers of a draw
+-- so are all numbers of a draw
 draw_is_within : (count seed stream from : Option ℕ) → IfSome count (λ n. n ≤ 4294967295) → IfSome seed (λ n. n ≤ 4294967295) → IfSome stream (λ n. n ≤ 4294967295)
     → IfSome from (λ n. n ≤ 4294967295) → IfSome (draw_by count seed stream from) IsDraw
 draw_is_within None seed stream from c s k f = tt

@@ -1,4 +1,4 @@
--- Where each number of a draw is given, and a flag behind them, `drops` takes its words and asks for that draw.
+-- With every number of a draw given, and possibly a flag after them, `drops` accepts its words and asks for that draw.
 use Rattle.std.proofs.Common.{◌≡◌, ◌∙◌, ℕ, false, Option, List, [], ◌∷◌, ◌++◌, Some, None, refl, ap, arith, codes, decimal, fold, take}
 use Rattle.clap.specs.Faults.{check_fault, defaults_fault, level_fault, settle_fault}
 use Rattle.clap.specs.Kinds.{Kinds, or_else}
@@ -15,7 +15,6 @@ use Rattle.sand_cli.proofs.Draws.{drops_built}
 use Rattle.sand_cli.proofs.NumberTexts.{IsNumberText, number_text}
 use Rattle.sand_cli.proofs.Walks.{Reads, end_fault, given, given_row, level_ends, reads_both, reads_nothing, reads_option, reads_word, rows_end}
 
--- what stands behind `drops`
 abbrev pub drops_words : Draw → Part → List Text
 drops_words draw part = draw_words (Some draw) ++ part_words part
 
@@ -32,11 +31,11 @@ module _ (draw : Draw) (within : IsDraw draw) where
   from : IsNumberText 0 4294967295 (decimal draw.from) draw.from
   from = number_text 0 4294967295 draw.from (omega arith) within.from (omega arith)
 
-  -- the rows of the numbers before the last
+  -- the rows of all numbers but the last
   abbrev rows : List Row
   rows = given_row (codes "count") (decimal draw.count) ∷ given_row (codes "seed") (decimal draw.seed) ∷ given_row (codes "stream") (decimal draw.stream) ∷ []
 
-  -- the walk behind a number, which is still pending, and so many others
+  -- the walk after the first k numbers and one that is still pending
   abbrev behind : ℕ → Text → ℕ → Walk
   behind k name n = given (take k rows) name (decimal n)
 
@@ -78,7 +77,7 @@ module _ (draw : Draw) (within : IsDraw draw) where
   words_read : (part : Part) → Reads drops_built (walk_from nothing_held) (drops_words draw part) (end_of (part_words part))
   words_read part = reads_both draw_read (flag_read part)
 
-  -- the value that is still pending passes
+  -- the pending value passes
   settles : settle_fault drops_built.rules drops_built.args_override_self all.held ≡ []
   unfolding all clap_on_literals
   settles = rw from.passes refl
@@ -138,7 +137,7 @@ module _ (draw : Draw) (within : IsDraw draw) where
   draws : (count seed stream from : Option ℕ) → count ≡ Some draw.count → seed ≡ Some draw.seed → stream ≡ Some draw.stream → from ≡ Some draw.from → draw_by count seed stream from ≡ Some draw
   draws count seed stream from c s k f = rw (c, s, k, f) refl
 
-  -- they say the draw
+  -- they describe the draw
   end_draws : (part : Part) → draw_of (end_rows part) ≡ Some draw
   end_draws part =
       draws (setting_in (codes "count") (end_rows part)) (setting_in (codes "seed") (end_rows part)) (setting_in (codes "stream") (end_rows part)) (setting_in (codes "from") (end_rows part))
@@ -150,7 +149,7 @@ module _ (draw : Draw) (within : IsDraw draw) where
   end_parts Table = refl
   end_parts Pile = refl
 
-  -- and go together
+  -- and no options conflict
   counted_is_free : (rows : List Row) → pile_and (codes "pgm") rows ≡ false → pile_and (codes "journal") rows ≡ false → pile_and (codes "table") rows ≡ false → setting_in (codes "count") rows ≡ Some draw.count
       → conflict_of (codes "drops", rows) ≡ None
   counted_is_free rows pgm journal table counted = rw (pgm, journal, table, counted) refl
@@ -165,7 +164,7 @@ module _ (draw : Draw) (within : IsDraw draw) where
   pub drops_passes : (part : Part) → level_fault drops_built [] nothing_held (drops_words draw part) false [] ≡ []
   drops_passes part = level_ends (words_read part) ∙ end_passes part
 
-  -- and its rows say the draw and the part
+  -- and its rows describe the draw and the part
   pub drops_draw : (part : Part) → draw_of (rows_after drops_built.rules [] (drops_words draw part)) ≡ Some draw
   drops_draw part = ap draw_of (rows_end (words_read part)) ∙ end_draws part
 

@@ -1,8 +1,8 @@
--- What holds of each element of a list.
+-- A property of each element of a list.
 use Rattle.std.proofs.Common.{◌≡◌, Bool, true, false, cond, List, [], ◌∷◌, ◌++◌, Some, refl, subst}
 use Rattle.std.specs.Prelude.{IfSome, ⊤, find}
 
--- P of each element
+-- P holds of each element
 abbrev pub Each : {X : Type 0} → (X → Type 0) → List X → Type 0
 Each P [] = ⊤
 Each P (x ∷ xs) = P x × Each P xs
@@ -11,12 +11,11 @@ pub each_append : {X : Type 0} (P : X → Type 0) (xs ys : List X) → Each P xs
 each_append P [] ys h k = k
 each_append P (x ∷ xs) ys h k = (h.0, each_append P xs ys h.1 k)
 
--- two facts of each element
 pub each_both : {X : Type 0} (P Q : X → Type 0) (xs : List X) → Each P xs → Each Q xs → Each (λ x. P x × Q x) xs
 each_both P Q [] h k = tt
 each_both P Q (x ∷ xs) h k = ((h.0, k.0), each_both P Q xs h.1 k.1)
 
--- what holds of each element holds of the one that is found
+-- a property of each element holds of the one that `find` returns
 pub each_found : {X : Type 0} (test : X → Bool) (P : X → Type 0) (xs : List X) → Each P xs → IfSome (find test xs) P
 each_found test P [] each = tt
 each_found test P (x ∷ xs) each = go (each_found test P xs each.1) (test x)
@@ -25,7 +24,7 @@ each_found test P (x ∷ xs) each = go (each_found test P xs each.1) (test x)
     go later true = each.0
     go later false = later
 
--- what holds of each element that passes the test holds of the one that is found
+-- a property of each element that passes the test holds of the one that `find` returns
 pub of_found : {X : Type 0} (test : X → Bool) (P : X → Type 0) (xs : List X) (s : X) → Each (λ x. test x ≡ true → P x) xs → find test xs ≡ Some s → P s
 of_found test P [] s each e = cc
 of_found test P (x ∷ xs) s each e = go (λ f. of_found test P xs s each.1 f) (test x) refl e

@@ -1,4 +1,4 @@
--- A command line that wants a command enters one where it takes the words.
+-- A command line that requires a command enters one if it accepts the words.
 use Rattle.std.proofs.Common.{◌≡◌, Bool, true, false, not, ◌&&◌, List, [], ◌∷◌, Option, Some, None, is_some, option_map, refl, sym, true≢false}
 use Rattle.std.specs.Prelude.{find}
 use Rattle.std.specs.Option.{option_map_or}
@@ -7,7 +7,7 @@ use Rattle.clap.specs.Walk.{Held, Text, answers_to, finished, nothing_held, sett
 use Rattle.clap.specs.Simple.{App, Shape, entered, label_of, names_of, rows_at}
 use Rattle.clap.specs.Faults.{built_fault, check_fault, defaults_fault, entered_fault, level_fault, settle_fault, walk_fault}
 
--- where two steps do not fail, neither does the first, nor the second
+-- if two steps in a row do not fail, neither step does
 pub first_passes : (a b : Kinds) → or_else a b ≡ [] → a ≡ []
 first_passes [] b e = refl
 first_passes (k ∷ ks) b e = e
@@ -16,7 +16,7 @@ pub second_passes : (a b : Kinds) → or_else a b ≡ [] → b ≡ []
 second_passes [] b e = e
 second_passes (k ∷ ks) b e = cc
 
--- the walk stopped at a command of the line, whose own level passes
+-- the walk stopped at a command of the line, and that command's level passes
 abbrev pub Enters : App → Option (Text × List Text) → Type 0
 Enters a None = ⊥
 Enters a (Some p) = (s : Shape) × (find (λ s. answers_to p.0 (label_of s)) a.subs ≡ Some s) × (level_fault s [] nothing_held p.1 false [] ≡ [])
@@ -27,7 +27,7 @@ wants true false required argument r e = cc
 wants false false true argument r e = cc
 wants false false false argument r e = absurd (true≢false (sym r))
 
--- where a command line wants a command and takes the words, they name one
+-- if a command line requires a command and accepts the words, they name one
 pub enters : (a : App) (words : List Text) → a.top.subcommand_required ≡ true → built_fault a nothing_held words ≡ [] → Enters a (stop_after a.top.rules (names_of a) words)
 enters a words required e =
     go stop (first_passes (entered_fault a stop) _ past_walk)

@@ -1,10 +1,10 @@
--- The command line is one of those that clap's model covers.
+-- The command line is within clap's model.
 use Rattle.std.proofs.Common.{◌≡◌, true, refl}
 use Rattle.clap.specs.Words.{is_simple, is_simple_and_free}
 use Rattle.clap.proofs.OnLiterals.{clap_on_literals}
 use Rattle.sand_cli.specs.Line.{command_line}
 
--- clap's model gives the matches of the command line
+-- the model describes its matches
 pub line_is_simple : is_simple command_line ≡ true
 unfolding command_line clap_on_literals
 line_is_simple = refl

@@ -1,4 +1,4 @@
--- Where clap's model answers words with help, it gives no other kind of error.
+-- If clap's model responds with help, it reports no other kind of error.
 use Rattle.std.proofs.Common.{◌≡◌, ℕ, Bool, true, false, not, cond, ◌&&◌, zero, suc, List, [], ◌∷◌, Option, Some, None, inl, inr, refl, sym, ap, length, true≢false}
 use Rattle.std.specs.Prelude.{IfSome, find, slice_get}
 use Rattle.std.specs.Option.{option_map_or}
@@ -16,7 +16,7 @@ use Rattle.sand_cli.specs.Asked.{AskForHelp, faults}
 use Rattle.sand_cli.specs.Line.{command_line}
 use Rattle.sand_cli.proofs.Each.{Each, each_found}
 
--- help is the only kind, where it is one
+-- help is the only kind, if it is one
 record IsClear (kinds : Kinds) : Type 0 where
   alone : IsAmong kind.DisplayHelp kinds → kinds ≡ kind.DisplayHelp ∷ []
 
@@ -198,7 +198,7 @@ commands_are_helpless : Each (λ s. s.disable_help_subcommand ≡ true) (built c
 unfolding command_line
 commands_are_helpless = (refl, (refl, (refl, (refl, (refl, (refl, (refl, (refl, (refl, tt)))))))))
 
--- words that may be answered with help are answered with nothing else
+-- if help is a possible response, it is the only one
 pub help_alone : (words : List Text) → IsAmong kind.DisplayHelp (faults words) → AskForHelp words
 help_alone words = (level_clear (built command_line).top line_is_helpless (names_of (built command_line)) nothing_held (argument_words command_line words) _ _
     (entered_clear (built command_line) commands_are_helpless _)).alone

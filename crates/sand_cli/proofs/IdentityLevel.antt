@@ -1,4 +1,4 @@
--- Where both sides are given, and flags behind them, `identity` takes its words and asks for that grid.
+-- With both sides given, and flags after them, `identity` accepts its words and asks for that grid.
 use Rattle.std.proofs.Common.{◌≡◌, ◌∙◌, ◌≤◌, ℕ, Bool, true, false, List, [], ◌∷◌, ◌++◌, Option, Some, None, refl, ap, arith, codes, decimal, fold}
 use Rattle.clap.specs.Faults.{level_fault}
 use Rattle.clap.specs.Walk.{Walk, finished, nothing_held, rows_after, walk_from, walked}
@@ -20,7 +20,6 @@ flags_for cylinder pgm = flag_words (codes "--cylinder") cylinder ++ flag_words 
 abbrev sides_for : ℕ → ℕ → List Text
 sides_for m n = codes "--width" ∷ decimal m ∷ codes "--height" ∷ decimal n ∷ []
 
--- what stands behind `identity`
 abbrev pub identity_words : ℕ → ℕ → Bool → Bool → List Text
 identity_words m n cylinder pgm = sides_for m n ++ flags_for cylinder pgm
 
@@ -31,7 +30,7 @@ module _ (m n : ℕ) (within : (1 ≤ m) × (m ≤ 256) × (1 ≤ n) × (n ≤ 2
   height : IsNumberText 1 256 (decimal n) n
   height = number_text 1 256 n within.2 within.3 (omega arith)
 
-  -- the walk behind both sides, of which the second is still pending
+  -- the walk after both sides; the second is still pending
   both : Walk
   both = given (given_row (codes "width") (decimal m) ∷ []) (codes "height") (decimal n)
 
@@ -72,7 +71,7 @@ module _ (m n : ℕ) (within : (1 ≤ m) × (m ≤ 256) × (1 ≤ n) × (n ≤ 2
   height_read : read n ≡ Some n
   height_read = height.reads 18446744073709551615 (omega arith)
 
-  -- the rows at the end say the task
+  -- the rows at the end describe the task
   end_asks : (cylinder pgm : Bool) → identity_of (finished identity_built.rules (end_of (flags_for cylinder pgm)).held) ≡ Some (Identity m n cylinder pgm)
   unfolding both clap_on_literals
   end_asks true true = rw (width_read, height_read) refl
@@ -84,7 +83,7 @@ module _ (m n : ℕ) (within : (1 ≤ m) × (m ≤ 256) × (1 ≤ n) × (n ≤ 2
   pub identity_passes : (cylinder pgm : Bool) → level_fault identity_built [] nothing_held (identity_words m n cylinder pgm) false [] ≡ []
   identity_passes cylinder pgm = level_ends (words_read cylinder pgm) ∙ end_passes cylinder pgm
 
-  -- and its rows say the task
+  -- and its rows describe the task
   pub identity_reads : (cylinder pgm : Bool) → identity_of (rows_after identity_built.rules [] (identity_words m n cylinder pgm))
       ≡ Some (Identity m n cylinder pgm)
   identity_reads cylinder pgm = ap identity_of (rows_end (words_read cylinder pgm)) ∙ end_asks cylinder pgm
@@ -96,6 +95,6 @@ module _ (m n : ℕ) (within : (1 ≤ m) × (m ≤ 256) × (1 ≤ n) × (n ≤ 2
   end_free false true = refl
   end_free false false = refl
 
-  -- and go together
+  -- and no options conflict
   pub identity_free : (cylinder pgm : Bool) → conflict_of (codes "identity", rows_after identity_built.rules [] (identity_words m n cylinder pgm)) ≡ None
   identity_free cylinder pgm = ap (λ rows. conflict_of (codes "identity", rows)) (rows_end (words_read cylinder pgm)) ∙ end_free cylinder pgm

@@ -1,4 +1,4 @@
--- Where each setting is given, and flags behind them, `lab` takes its words and asks for that run.
+-- With every setting given, and flags after them, `lab` accepts its words and asks for that run.
 use Rattle.std.proofs.Common.{◌≡◌, ◌∙◌, ℕ, Bool, true, false, List, [], ◌∷◌, ◌++◌, Option, Some, None, refl, ap, arith, codes, decimal, fold, take}
 use Rattle.std.specs.Prelude.{option_map}
 use Rattle.clap.specs.Faults.{check_fault, defaults_fault, level_fault, settle_fault}
@@ -23,7 +23,6 @@ use Rattle.sand_cli.proofs.Walks.{Reads, end_fault, given, given_row, level_ends
 abbrev flags_for : Bool → Form → List Text
 flags_for journal form = flag_words (codes "--journal") journal ++ form_words form
 
--- what stands behind `lab`
 abbrev pub lab_words : Wish → Bool → Form → List Text
 lab_words wish journal form = settings_of wish ++ flags_for journal form
 
@@ -49,7 +48,7 @@ module _ (wish : Wish) (within : IsRun wish) where
   observers : IsNumberText 0 most_observers (decimal wish.observers) wish.observers
   observers = number_text 0 most_observers wish.observers (omega arith) within.plan.observers (omega arith)
 
-  -- the rows of the settings before the last
+  -- the rows of all settings but the last
   abbrev rows : List Row
   rows = given_row (codes "seed") (decimal wish.seed)
       ∷ given_row (codes "droppers") (decimal wish.droppers)
@@ -58,7 +57,7 @@ module _ (wish : Wish) (within : IsRun wish) where
       ∷ given_row (codes "workers") (decimal wish.workers)
       ∷ given_row (codes "sweeps") (decimal wish.sweeps) ∷ []
 
-  -- the walk behind a setting, which is still pending, and so many others
+  -- the walk after the first k settings and one that is still pending
   abbrev behind : ℕ → Text → ℕ → Walk
   behind k name n = given (take k rows) name (decimal n)
 
@@ -122,7 +121,7 @@ module _ (wish : Wish) (within : IsRun wish) where
   words_read : (journal : Bool) (form : Form) → Reads lab_built (walk_from nothing_held) (lab_words wish journal form) (end_of (flags_for journal form))
   words_read journal form = reads_both settings_read (flags_read journal form)
 
-  -- the value that is still pending passes
+  -- the pending value passes
   settles : settle_fault lab_built.rules lab_built.args_override_self all.held ≡ []
   unfolding all clap_on_literals
   settles = rw observers.passes refl
@@ -145,7 +144,7 @@ module _ (wish : Wish) (within : IsRun wish) where
   wish_read : with_settings (read wish.seed) (read wish.droppers) (read wish.drops) (read wish.epochs) (read wish.workers) (read wish.sweeps) (read wish.observers) ≡ Some wish
   wish_read = rw (seed.reads 4294967295 (omega arith), droppers.reads 4294967295 (omega arith), drops.reads 4294967295 (omega arith), epochs.reads 4294967295 (omega arith), workers.reads 4294967295 (omega arith), sweeps.reads 4294967295 (omega arith), observers.reads 4294967295 (omega arith)) refl
 
-  -- the rows at the end say the run
+  -- the rows at the end describe the run
   end_asks : (journal : Bool) (form : Form) → lab_of (finished lab_built.rules (end_of (flags_for journal form)).held) ≡ Some (Lab wish journal form)
   unfolding all clap_on_literals
   end_asks true Picture = ap (option_map (λ r. Lab r true Picture)) wish_read
@@ -155,7 +154,7 @@ module _ (wish : Wish) (within : IsRun wish) where
   end_asks false Pile = ap (option_map (λ r. Lab r false Pile)) wish_read
   end_asks false forms.Text = ap (option_map (λ r. Lab r false forms.Text)) wish_read
 
-  -- and go together
+  -- and no options conflict
   end_free : (journal : Bool) (form : Form) → GoTogether journal form → conflict_of (codes "lab", finished lab_built.rules (end_of (flags_for journal form)).held) ≡ None
   unfolding all clap_on_literals
   end_free true Picture together = refl
@@ -169,10 +168,10 @@ module _ (wish : Wish) (within : IsRun wish) where
   pub lab_passes : (journal : Bool) (form : Form) → level_fault lab_built [] nothing_held (lab_words wish journal form) false [] ≡ []
   lab_passes journal form = level_ends (words_read journal form) ∙ end_passes journal form
 
-  -- and its rows say the task
+  -- and its rows describe the task
   pub lab_reads : (journal : Bool) (form : Form) → lab_of (rows_after lab_built.rules [] (lab_words wish journal form)) ≡ Some (Lab wish journal form)
   lab_reads journal form = ap lab_of (rows_end (words_read journal form)) ∙ end_asks journal form
 
-  -- which go together where the form goes with a journal
+  -- and no options conflict, if the form goes with a journal
   pub lab_free : (journal : Bool) (form : Form) → GoTogether journal form → conflict_of (codes "lab", rows_after lab_built.rules [] (lab_words wish journal form)) ≡ None
   lab_free journal form together = ap (λ rows. conflict_of (codes "lab", rows)) (rows_end (words_read journal form)) ∙ end_free journal form together

@@ -1,4 +1,4 @@
--- Where a number of times is given, and a flag behind it, `multiple` takes its words and asks for that multiple.
+-- With a number of copies given, and possibly a flag after it, `multiple` accepts its words and asks for that multiple.
 use Rattle.std.proofs.Common.{◌≡◌, ◌∙◌, ◌≤◌, ℕ, Bool, true, false, List, [], ◌∷◌, ◌++◌, Some, None, refl, ap, arith, codes, decimal, fold}
 use Rattle.clap.specs.Faults.{level_fault}
 use Rattle.clap.specs.Walk.{Walk, finished, nothing_held, rows_after, walk_from, walked}
@@ -12,7 +12,6 @@ use Rattle.sand_cli.proofs.NumberTexts.{IsNumberText, number_text}
 use Rattle.sand_cli.proofs.Times.{multiple_built}
 use Rattle.sand_cli.proofs.Walks.{Reads, end_fault, given, level_ends, reads_both, reads_nothing, reads_option, reads_word, rows_end}
 
--- what stands behind `multiple`
 abbrev pub multiple_words : ℕ → Bool → List Text
 multiple_words n pgm = (codes "--times" ∷ decimal n ∷ []) ++ flag_words (codes "--pgm") pgm
 
@@ -20,7 +19,7 @@ module _ (n : ℕ) (within : n ≤ 18446744073709551615) where
   times : IsNumberText 0 18446744073709551615 (decimal n) n
   times = number_text 0 18446744073709551615 n (omega arith) within (omega arith)
 
-  -- the walk behind the number, which is still pending
+  -- the walk after the number, which is still pending
   number : Walk
   number = given [] (codes "times") (decimal n)
 
@@ -50,7 +49,7 @@ module _ (n : ℕ) (within : n ≤ 18446744073709551615) where
   is_read : number_of 18446744073709551615 (decimal n) ≡ Some n
   is_read = times.reads 18446744073709551615 (omega arith)
 
-  -- the rows at the end say the task
+  -- the rows at the end describe the task
   end_asks : (pgm : Bool) → multiple_of (finished multiple_built.rules (end_of (flags_for pgm)).held) ≡ Some (Multiple n pgm)
   unfolding number clap_on_literals
   end_asks true = rw is_read refl
@@ -65,10 +64,10 @@ module _ (n : ℕ) (within : n ≤ 18446744073709551615) where
   pub multiple_passes : (pgm : Bool) → level_fault multiple_built [] nothing_held (multiple_words n pgm) false [] ≡ []
   multiple_passes pgm = level_ends (words_read pgm) ∙ end_passes pgm
 
-  -- and its rows say the task
+  -- and its rows describe the task
   pub multiple_reads : (pgm : Bool) → multiple_of (rows_after multiple_built.rules [] (multiple_words n pgm)) ≡ Some (Multiple n pgm)
   multiple_reads pgm = ap multiple_of (rows_end (words_read pgm)) ∙ end_asks pgm
 
-  -- and go together
+  -- and no options conflict
   pub multiple_free : (pgm : Bool) → conflict_of (codes "multiple", rows_after multiple_built.rules [] (multiple_words n pgm)) ≡ None
   multiple_free pgm = ap (λ rows. conflict_of (codes "multiple", rows)) (rows_end (words_read pgm)) ∙ end_free pgm

@@ -1,4 +1,4 @@
--- What the digits of a number say to clap: they are the number, and look like no option.
+-- How clap reads the digits of a number: as that number, and never as an option.
 use Rattle.std.proofs.Common.{◌≡◌, ◌≢◌, ◌∙◌, ◌<◌, ◌≤◌, ◌^◌, ℕ, Bool, true, false, cond, [], ◌∷◌, Some, None, zero, suc, refl, sym, ap, subst, codes, decimal, get_or, arith}
 use Rattle.std.specs.Prelude.{option_and_then}
 use Rattle.std.specs.Str.{bytes_eq}
@@ -15,13 +15,13 @@ use Rattle.clap.proofs.ValueTestLemmas.{Accepts-accepts}
 use Rattle.sand_cli.specs.Options.{number_of}
 use Rattle.sand_cli.proofs.Reading.{passed_number}
 
--- the text looks like no option
+-- the text does not look like an option
 pub record IsNoOption (text : Text) : Type 0 where
   pub no_end : bytes_eq text (codes "--") ≡ false
   pub no_long : long_of text ≡ None
   pub no_short : short_of text ≡ None
 
--- the text is the number n, from `least` to `most`, and looks like no option
+-- the text is the number n, from `least` to `most`, and does not look like an option
 pub record IsNumberText (least most : ℕ) (text : Text) (n : ℕ) : Type 0 where
   pub no_option : IsNoOption text
   pub passes : is_unsigned_in least most text ≡ true

@@ -1,4 +1,4 @@
--- A level of a parse that passes holds a value of each argument that takes one and has a row, one that passed its parser.
+-- After a level of a parse passes, each argument that takes a value and has a row holds a value that passed its parser.
 use Rattle.std.proofs.Common.{◌≡◌, ◌∙◌, ℕ, Bool, true, false, not, cond, ◌&&◌, ◌||◌, zero, suc, List, [], ◌∷◌, ◌++◌, Option, Some, None, is_some, length, min, ◌+◌, refl, sym, ap, subst, fold, true≢false}
 use Rattle.std.specs.Prelude.{IfSome, find, option_and_then, option_map, slice_get}
 use Rattle.std.specs.Option.{option_map_or}
@@ -48,7 +48,7 @@ first_kept : (a : Rule) (xs ys : List Text) → FirstPasses a xs → FirstPasses
 first_kept a [] ys h = absurd h
 first_kept a (x ∷ xs) ys h = h
 
--- the row, where it is the argument's, has a value that passed and is read as the argument's parser says
+-- the row, if it is the argument's, has a value that passed and is read as the argument's parser says
 abbrev pub Holds : Rule → Row → Type 0
 Holds a r = bytes_eq r.id a.id ≡ true → FirstPasses a r.values × (r.reading ≡ reading_by a)
 
@@ -118,7 +118,7 @@ own_used a c again (v ∷ vs) rows takes e all =
     let held = own_values a CommandLine v vs (without a.id rows) passes (removed a a.id rows all) in
     subst (λ x. Each (Holds a) (used_as x a.id (reading_by a) (v ∷ vs) rows)) (sym takes.set) held
 
--- a use that passes leaves each row of the argument with a value that passed
+-- after a use that passes, each row of the argument has a value that passed
 use_holds : (a : Rule) (c : List Rule) (again : Bool) (b : Rule) (values : List Text) (rows : List Row) → TakesOne a c → (bytes_eq b.id a.id ≡ true → b ≡ a)
     → use_fault again b values rows ≡ [] → Each (Holds a) rows → Each (Holds a) (used b values rows)
 use_holds a c again b values rows takes same e all = go (bytes_eq b.id a.id) refl
@@ -131,7 +131,7 @@ use_holds a c again b values rows takes same e all = go (bytes_eq b.id a.id) ref
 
 -- ---- the walk
 
--- each row that is held for the argument has a value that passed
+-- each row held for the argument has a value that passed
 abbrev pub IsFine : Rule → Held → Type 0
 IsFine a h = Each (Holds a) h.rows
 
@@ -314,14 +314,14 @@ module _ (a : Rule) (s : Shape) (takes : TakesOne a s.rules) where
       defaults_fine a s.rules s.args_override_self takes s.rules (settled s.rules end).rows takes.none_else defaults
       (settled_fine a s.rules s.args_override_self takes end settles (walk_fine [] (walk_from nothing_held) words (first_passes (walk_fault s [] (walk_from nothing_held) words) _ e) tt))
 
--- the last checks of a level that passes pass
+-- if a level passes, so do its last checks
 pub level_checks : (s : Shape) (words : List Text) → level_fault s [] nothing_held words false [] ≡ [] → check_fault s (rows_after s.rules [] words) false ≡ []
 level_checks s words e =
     let end = (walk s.rules [] nothing_held words).held in
     let after_walk = second_passes (walk_fault s [] (walk_from nothing_held) words) _ e in
     second_passes (defaults_fault (settled s.rules end).rows s.rules) _ (second_passes (settle_fault s.rules s.args_override_self end) _ after_walk)
 
--- the argument that has a row has a first value, which passed
+-- an argument with a row has a first value, which passed
 pub row_passes : (a : Rule) (rows : List Row) → Each (Holds a) rows → has_row a.id rows ≡ true
     → (v : Text) × (one_of a.id rows ≡ Some (read_as (reading_by a) v)) × (value_passes a v ≡ true)
 row_passes a [] holds has = absurd (true≢false (sym has))
@@ -340,7 +340,7 @@ row_passes a (r ∷ rs) holds has = go (row_passes a rs holds.1) (bytes_eq r.id 
         first r.values refl held.0 held.1
     go later false is f = later f
 
--- the argument that was given has a row
+-- an argument that was given has a row
 pub given_has_row : (id : Text) (rows : List Row) → is_given id rows ≡ true → has_row id rows ≡ true
 given_has_row id [] given = given
 given_has_row id (r ∷ rs) given = go (given_has_row id rs) (bytes_eq r.id id) given

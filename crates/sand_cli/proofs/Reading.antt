@@ -1,4 +1,4 @@
--- What clap's getters read, as the options say.
+-- What clap's getters return, in terms of the options.
 use Rattle.std.proofs.Common.{◌≡◌, ◌≢◌, ◌∙◌, ℕ, Bool, true, false, cond, Option, Some, None, Result, Ok, Err, codes, refl, sym, ap, arith, ◌+◌, ◌^◌, ◌<◌, ◌≤◌}
 use Rattle.std.specs.Prelude.{option_and_then, unwrap_or}
 use Rattle.std.specs.Option.{option_map_or}
@@ -11,7 +11,7 @@ use Rattle.clap.specs.declared.builder.value_parser.ValueParser.TheVariants as p
 use Rattle.clap.proofs.ValueTestLemmas.{Accepts-accepts, accepts-Accepts}
 use Rattle.sand_cli.specs.Options.{number_of, value_of}
 
--- a flag that is read as a `bool`, or false
+-- a flag's value as a `bool`; false if it has none
 pub flag_is : (E : Type 0) (text : Option Text) (r : Option Bool) → (text ≡ None → r ≡ None) → ((t : Text) → text ≡ Some t → ReadsOne (ParsesBool {E = E}) t r)
     → unwrap_or r false ≡ option_map_or (λ t. bytes_eq t (codes "true")) text false
 flag_is E None r none some = ap (λ o. unwrap_or o false) (none refl)
@@ -26,7 +26,7 @@ flag_is E (Some t) r none some = go r (some t refl)
     go (Some false) h = ap (λ x. bytes_eq x (codes "true")) (sym h)
     go None (e, h) = not_true (bytes_eq t true_text) refl h.0
 
--- a number that is read as a type of so many bits, of which `most` is the greatest number
+-- a number read as a type of `bits` bits, with `most` the greatest number
 pub number_is : (E : Type 0) (G : Text → Result ℕ E → Type 0) (bits most : ℕ) (text : Option Text) (r : Option ℕ) → most + 1 ≡ 2 ^ bits → most < 2 ^ 64
     → ((t : Text) (x : Result ℕ E) → G t x → ParsesUnsigned bits 10 t x) → (text ≡ None → r ≡ None) → ((t : Text) → text ≡ Some t → ReadsOne G t r)
     → r ≡ option_and_then (number_of most) text

@@ -1,4 +1,4 @@
--- Where `lab` takes its words, each setting is a number in its range.
+-- If `lab` accepts its words, each setting is a number in its range.
 use Rattle.std.proofs.Common.{◌≡◌, ◌∙◌, ◌≤◌, ℕ, Bool, true, false, cond, ◌&&◌, List, [], Some, None, refl, ap, arith, codes}
 use Rattle.std.specs.Prelude.{option_and_then, option_map}
 use Rattle.clap.specs.Words.{Rule, Text}
@@ -31,7 +31,7 @@ built_setting name least most usual = with_index 1 (filled (setting name least m
 alone : Each (IsAlone lab_built.rules) lab_built.rules
 alone = each_alone lab_built.rules refl
 
--- a setting is a number in its range, whether it was given or not
+-- a setting, given or default, is a number in its range
 setting_is_number : (name usual : Text) (least most : ℕ) (words : List Text) → most ≤ 4294967295 → IsAlone lab_built.rules (built_setting name least most usual)
     → level_fault lab_built [] nothing_held words false [] ≡ [] → has_row name (rows_after lab_built.rules [] words) ≡ true
     → (n : ℕ) × (setting_in name (rows_after lab_built.rules [] words) ≡ Some n) × (least ≤ n) × (n ≤ most)
@@ -42,7 +42,7 @@ setting_is_number name usual least most words small alone passes has =
     let number = passed_number least most 4294967295 text.0 small text.2 in
     (value_of text.0, ap (option_and_then (number_of 4294967295)) text.1 ∙ number.0, number.1, number.2)
 
--- a journal and a pile alone exclude one another
+-- `--journal` and `--pile` exclude each other
 go_together : (pile pgm journal table : Bool)
     → cond (pile && pgm) (Some PileAndPicture) (cond (pile && journal) (Some PileAndJournal) (cond (pile && table) (Some PileAndTable) None)) ≡ None
     → GoTogether journal (cond pile Pile (cond pgm Picture forms.Text))
@@ -54,7 +54,7 @@ go_together false true false table free = tt
 go_together false false true table free = tt
 go_together false false false table free = tt
 
--- `lab` asks for a run within the limits, where its options go together
+-- if its options do not conflict, `lab` asks for a run within the limits
 pub lab_is_sound : (words : List Text) → level_fault lab_built [] nothing_held words false [] ≡ [] → conflict_of (codes "lab", rows_after lab_built.rules [] words) ≡ None
     → IsSound (lab_of (rows_after lab_built.rules [] words))
 lab_is_sound words passes free =

@@ -1,4 +1,4 @@
--- Where `identity` takes its words, both sides are numbers from 1 to 256.
+-- If `identity` accepts its words, both sides are numbers from 1 to 256.
 use Rattle.std.proofs.Common.{◌≡◌, ◌∙◌, ◌≤◌, ℕ, Bool, true, false, not, cond, ◌||◌, List, [], ◌∷◌, Option, Some, refl, ap, ap₂, arith, codes}
 use Rattle.std.specs.Prelude.{option_and_then}
 use Rattle.clap.specs.Words.{Rule, Text}
@@ -16,7 +16,7 @@ use Rattle.sand_cli.proofs.Each.{Each}
 use Rattle.sand_cli.proofs.Passing.{given_has_row, level_checks, level_fine, row_passes}
 use Rattle.sand_cli.proofs.Reading.{passed_number}
 
--- the option has a task, which is within the limits
+-- there is a task, and it is within the limits
 abbrev pub IsSound : Option Task → Type 0
 IsSound o = (t : Task) × (o ≡ Some t) × IsWithin t
 
@@ -30,7 +30,7 @@ built_side name = with_index 1 (filled (side name))
 alone : Each (IsAlone identity_built.rules) identity_built.rules
 alone = each_alone identity_built.rules refl
 
--- a side that is there is a number in range
+-- a side that is given is a number in range
 side_is_number : (name : Text) (words : List Text) → IsAlone identity_built.rules (built_side name) → level_fault identity_built [] nothing_held words false [] ≡ []
     → is_given name (rows_after identity_built.rules [] words) ≡ true → (n : ℕ) × (number_in name (rows_after identity_built.rules [] words) ≡ Some n) × (1 ≤ n) × (n ≤ 256)
 side_is_number name words alone passes given =

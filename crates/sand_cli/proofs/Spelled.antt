@@ -1,4 +1,4 @@
--- Each task is asked for by the words that spell it.
+-- The words that spell a task ask for it.
 use Rattle.std.proofs.Common.{Err, Ok, is_some, ◌≡◌, ◌∙◌, true, false, List, [], ◌∷◌, Some, None, refl, sym, ap, ap₂, codes}
 use Rattle.std.specs.Prelude.{option_and_then}
 use Rattle.clap.specs.Faults.{check_fault, defaults_fault, entered_fault, level_fault, settle_fault}
@@ -35,13 +35,13 @@ top = (built command_line).top
 abbrev names : Names
 names = names_of (built command_line)
 
--- the faults of the whole line, from the end of its walk and the faults on the way
+-- the faults of the whole line, given the end of its walk and the faults on the way
 abbrev top_fault : Walk → Kinds → Kinds
 top_fault end fault = or_else fault (or_else (entered_fault (built command_line) end.stopped)
     (or_else (settle_fault top.rules top.args_override_self end.held) (or_else (defaults_fault (settled top.rules end.held).rows top.rules)
     (check_fault top (finished top.rules end.held) (is_some (entered (built command_line) end.stopped))))))
 
--- words behind `identity` that its level takes are taken
+-- if the level of `identity` accepts its words, so does the command line
 identity_taken : (program : Text) (words : List Text) → level_fault identity_built [] nothing_held words false [] ≡ [] → faults (program ∷ codes "identity" ∷ words) ≡ []
 unfolding command_line clap_on_literals
 identity_taken program words passes =
@@ -59,7 +59,7 @@ identity_asked : (program : Text) (words : List Text) (task : Task) → level_fa
 identity_asked program words task passes free reads =
     taken_ask _ (identity_taken program words passes) (ap (option_and_then conflict_of) (identity_named program words) ∙ free) ∙ (ap (option_and_then task_named) (identity_named program words) ∙ reads)
 
--- the same of `drops`
+-- the same for `drops`
 drops_taken : (program : Text) (words : List Text) → level_fault drops_built [] nothing_held words false [] ≡ [] → faults (program ∷ codes "drops" ∷ words) ≡ []
 unfolding command_line clap_on_literals
 drops_taken program words passes =
@@ -78,7 +78,7 @@ drops_asked : (program : Text) (words : List Text) (task : Task) → level_fault
 drops_asked program words task passes free reads =
     taken_ask _ (drops_taken program words passes) (ap (option_and_then conflict_of) (drops_named program words) ∙ free) ∙ (ap (option_and_then task_named) (drops_named program words) ∙ reads)
 
--- the same of `multiple`
+-- the same for `multiple`
 multiple_taken : (program : Text) (words : List Text) → level_fault multiple_built [] nothing_held words false [] ≡ [] → faults (program ∷ codes "multiple" ∷ words) ≡ []
 unfolding command_line clap_on_literals
 multiple_taken program words passes =
@@ -96,7 +96,7 @@ multiple_asked : (program : Text) (words : List Text) (task : Task) → level_fa
 multiple_asked program words task passes free reads =
     taken_ask _ (multiple_taken program words passes) (ap (option_and_then conflict_of) (multiple_named program words) ∙ free) ∙ (ap (option_and_then task_named) (multiple_named program words) ∙ reads)
 
--- the same of `lab`
+-- the same for `lab`
 lab_taken : (program : Text) (words : List Text) → level_fault lab_built [] nothing_held words false [] ≡ [] → faults (program ∷ codes "lab" ∷ words) ≡ []
 unfolding command_line clap_on_literals
 lab_taken program words passes =
@@ -114,7 +114,7 @@ lab_asked : (program : Text) (words : List Text) (task : Task) → level_fault l
 lab_asked program words task passes free reads =
     taken_ask _ (lab_taken program words passes) (ap (option_and_then conflict_of) (lab_named program words) ∙ free) ∙ (ap (option_and_then task_named) (lab_named program words) ∙ reads)
 
--- each task is asked for by the words that spell it
+-- the words that spell a task ask for it
 pub spelled_is_asked : (program : Text) (task : Task) → IsWithin task → asked (program ∷ words_of task) ≡ Some task
 unfolding command_line clap_on_literals
 spelled_is_asked program (Settle Picture) within = refl
@@ -140,13 +140,13 @@ spelled_is_asked program (Recurrent false) within = refl
 spelled_is_asked program (Lab wish journal form) within =
     lab_asked program (lab_words wish journal form) _ (lab_passes wish within.0 journal form) (lab_free wish within.0 journal form within.1) (lab_reads wish within.0 journal form)
 
--- so an answer that is asked for is the task that is spelled
+-- so a parse to the task that is asked for heeds the spelling
 pub heeds_by_task : (words : List Text) (t : Task) → asked words ≡ Some t → Heeds words (Ok t)
 heeds_by_task words t is program task within same =
     let both : Some t ≡ Some task = sym is ∙ (ap asked same ∙ spelled_is_asked program task within) in
     cc
 
--- and words that spell a task are refused for memory alone
+-- and words that spell a task fail only if memory runs out
 pub heeds_by_fault : (words : List Text) (fault : WordsFault) → (IsUsage fault → asked words ≡ None) → Heeds words (Err fault)
 heeds_by_fault words Memory none program task within same = refl
 heeds_by_fault words (Clash conflict) none program task within same =

@@ -1,11 +1,11 @@
--- A walk that met a command hands it all the words behind its name.
+-- A walk that meets a command passes it all the words after its name.
 use Rattle.std.proofs.Common.{◌≡◌, ◌∙◌, List, [], ◌∷◌, ◌++◌, Some, refl, sym, ap, fold, append_assoc}
 use Rattle.std.proofs.lemmas.List.{append-nil}
 use Rattle.clap.specs.Walk.{Names, Rule, Text, Walk, walked}
 use Rattle.clap.specs.Simple.{Shape}
 use Rattle.clap.specs.Faults.{walk_fault}
 
--- the walk, with the command that it met and the words behind its name
+-- the walk, stopped at this command with these words after its name
 abbrev pub stopped_at : Walk → Text → List Text → Walk
 stopped_at w name words = record w { stopped = Some (name, words) }
 

@@ -1,4 +1,4 @@
--- What a parse of the command line gives, from what clap says of it.
+-- The result of a parse, in terms of what clap guarantees.
 use Rattle.std.proofs.Common.{◌≡◌, ◌↔◌, ◌∙◌, inl, inr, true, false, List, [], ◌∷◌, Option, Some, None, ⊎_elim, refl, sym, ap, ap₂, subst}
 use Rattle.std.specs.Prelude.{option_and_then, option_map}
 use Rattle.clap.specs.Words.{App, HasKind, HasMatchesOf, IsAmong, Kinds, Text, fault_of, is_simple, is_simple_and_free, kind_of, subcommand_of, subcommand_rows_of, built}
@@ -24,15 +24,15 @@ use Rattle.sand_cli.proofs.Sides.{IsSound, identity_is_sound}
 use Rattle.sand_cli.proofs.Times.{multiple_is_sound}
 use Rattle.sand_cli.proofs.Free.{line_is_free, line_is_simple}
 
--- a parse that succeeds does so on words that have no fault
+-- if a parse succeeds, its words have no fault
 pub taken : (a : App) (words : List Text) → a ≡ command_line → (is_simple_and_free a ≡ true → fault_of a words ≡ []) → faults words ≡ []
 taken a words line h = ap (λ b. fault_of b words) (sym line) ∙ h (ap is_simple_and_free line ∙ line_is_free)
 
--- and names the command that clap's model gives
+-- and it names the command that clap's model finds
 pub names : (a : App) (words : List Text) (m : ArgMatches) → a ≡ command_line → HasMatchesOf a words m → subcommand_rows_of m ≡ subcommand_of command_line words
 names a words m line h = (h (ap is_simple line ∙ line_is_simple)).1 ∙ ap (λ b. subcommand_of b words) line
 
--- a parse that fails does so for memory, or by one of the kinds of the words' faults
+-- if a parse fails, memory ran out or the error is one of the kinds of the words' faults
 pub fails_by_kind : (a : App) (words : List Text) (e : Error) (f : WordsFault) → a ≡ command_line → (is_simple_and_free a ≡ true → HasKind (fault_of a words) e)
     → IsFaultOf e f → IsOfKinds (faults words) f
 fails_by_kind a words e Memory line h is = tt
@@ -41,17 +41,17 @@ fails_by_kind a words e (Usage kept) line h is =
     subst (λ x. IsAmong (kind_of x) (faults words)) (sym is.0) (⊎_elim (λ memory. absurd (is.1 memory)) (λ k. k) known)
 fails_by_kind a words e (Clash conflict) line h is = absurd is
 
--- and tells of no options that exclude one another
+-- and it reports no conflict
 pub tells_nothing : (among : Option Conflict) (e : Error) (f : WordsFault) → IsFaultOf e f → TellsConflict among f
 tells_nothing among e Memory is = tt
 tells_nothing among e (Usage kept) is = tt
 tells_nothing among e (Clash conflict) is = absurd is
 
--- the task that is asked for, by the faults of the words and their options that exclude one another
+-- the task that is asked for, given the faults and the conflict of the words
 abbrev task_by : List Text → Kinds → Option Conflict → Option Task
 task_by words kinds conflict = unless kinds (freely conflict (option_and_then task_named (subcommand_of command_line words)))
 
--- words that are refused ask for nothing
+-- rejected words ask for nothing
 pub refused_ask_nothing : (words : List Text) (f : WordsFault) → IsOfKinds (faults words) f → TellsConflict (conflict_among words) f → IsUsage f → asked words ≡ None
 refused_ask_nothing words Memory h told usage = absurd usage
 refused_ask_nothing words (Clash conflict) h told usage = ap₂ (task_by words) h told
@@ -61,7 +61,7 @@ refused_ask_nothing words (Usage error) h told usage = go (faults words) h
     go [] k = absurd k
     go (x ∷ xs) k = refl
 
--- words that are refused are answered with help exactly where they ask for it
+-- rejected words show help if and only if they ask for it
 pub shows_help : (words : List Text) (f : WordsFault) → IsOfKinds (faults words) f → IsUsage f → ShowsHelp f ↔ AskForHelp words
 shows_help words Memory h usage = absurd usage
 shows_help words (Clash conflict) h usage = ((λ shown. absurd shown), (λ alone. let bad : [] ≡ DisplayHelp ∷ [] = sym h ∙ alone in cc))
@@ -77,11 +77,11 @@ shows_help words (Usage error) h usage = (shown, asked_for)
     asked_for : AskForHelp words → kind_of error ≡ DisplayHelp
     asked_for alone = only (subst (IsAmong (kind_of error)) alone h)
 
--- words with no fault, whose options go together, ask for what they name
+-- words without faults or conflicts ask for what they name
 pub taken_ask : (words : List Text) → faults words ≡ [] → conflict_among words ≡ None → asked words ≡ option_and_then task_named (subcommand_of command_line words)
 taken_ask words none free = ap₂ (task_by words) none free
 
--- a command that passes, and whose options go together, names a task, which is within the limits
+-- a command that passes, without conflicts, names a task within the limits
 abbrev NamesTask : Text × List Text → Shape → Type 0
 NamesTask p s = level_fault s [] nothing_held p.1 false [] ≡ [] → conflict_of (rows_at s p.1) ≡ None → IsSound (task_named (rows_at s p.1))
 
@@ -114,7 +114,7 @@ wants_command : (built command_line).top.subcommand_required ≡ true
 unfolding command_line
 wants_command = refl
 
--- words with no fault, whose options go together, ask for a task, which is within the limits
+-- words without faults or conflicts ask for a task within the limits
 pub taken_are_sound : (words : List Text) → faults words ≡ [] → conflict_among words ≡ None → IsSound (option_and_then task_named (subcommand_of command_line words))
 taken_are_sound words none free = go _ free (enters (built command_line) (argument_words command_line words) wants_command none)
   where

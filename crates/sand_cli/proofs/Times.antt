@@ -1,4 +1,4 @@
--- Where `multiple` takes its words, it has a number of times in range.
+-- If `multiple` accepts its words, its number of copies is in range.
 use Rattle.std.proofs.Common.{◌≡◌, ◌∙◌, ◌≤◌, ℕ, Bool, true, false, not, cond, ◌||◌, List, [], ◌∷◌, refl, ap, arith, codes}
 use Rattle.std.specs.Prelude.{option_and_then, option_map}
 use Rattle.clap.specs.Words.{Rule, Text}
@@ -31,7 +31,7 @@ is_there : (v : Bool) → cond (not v || false) (MissingRequiredArgument ∷ [])
 is_there true e = refl
 is_there false e = cc
 
--- `multiple` asks for a number of times in range
+-- `multiple` asks for a number of copies in range
 pub multiple_is_sound : (words : List Text) → level_fault multiple_built [] nothing_held words false [] ≡ [] → IsSound (multiple_of (rows_after multiple_built.rules [] words))
 multiple_is_sound words passes =
     let rows = rows_after multiple_built.rules [] words in

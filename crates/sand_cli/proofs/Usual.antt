@@ -34,7 +34,7 @@ own_at id s values missing (r ∷ rs) e = go (own_at id s values missing rs e) (
     go later true is = ap (λ x. x || has_row id rs) is
     go later false is = ap (λ x. x || has_row id (at_row id (more_values s values) missing rs)) is ∙ later
 
--- a row stays, whatever defaults come
+-- adding defaults removes no row
 kept_by : (id : Text) (b : Rule) (rows : List Row) → has_row id rows ≡ true → has_row id (with_default rows b) ≡ true
 kept_by id b rows e = go (has_row b.id rows)
   where

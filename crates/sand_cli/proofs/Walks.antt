@@ -1,4 +1,4 @@
--- Walks over words that a level of a parse reads without fault.
+-- Walks over words that a level of a parse reads without a fault.
 use Rattle.std.proofs.Common.{◌≡◌, ◌∙◌, false, cond, List, [], ◌∷◌, ◌++◌, Some, None, refl, sym, ap, ap₂, fold, append_assoc, codes}
 use Rattle.std.proofs.lemmas.List.{append-nil}
 use Rattle.std.specs.Option.{option_map_or}
@@ -13,7 +13,7 @@ use Rattle.clap.specs.declared.builder.value_parser.Reading.TheVariants.{AsWritt
 use Rattle.clap.specs.declared.parser.matches.ValueSource.TheVariants.{CommandLine}
 use Rattle.sand_cli.proofs.NumberTexts.{IsNoOption}
 
--- from one point of its walk the level reads the words without fault, and comes to another
+-- the level reads the words without a fault, and its walk goes from `from` to `to`
 pub record Reads (s : Shape) (from : Walk) (words : List Text) (to : Walk) : Type 0 where
   pub walks : (rest : List Text) → fold (walked s.rules []) from (words ++ rest) ≡ fold (walked s.rules []) to rest
   pub passes : (rest : List Text) → walk_fault s [] from (words ++ rest) ≡ walk_fault s [] to rest
@@ -28,7 +28,7 @@ reads_word s from to word passes is = record {
   passes = λ rest. ap₂ or_else passes (ap (λ w. walk_fault s [] w rest) is);
 }
 
--- first these words, then those
+-- one list of words after another
 pub reads_both : {s : Shape} {u v w : Walk} {xs ys : List Text} → Reads s u xs v → Reads s v ys w → Reads s u (xs ++ ys) w
 reads_both {s} {u} {v} {w} {xs} {ys} first second = record {
   walks = λ rest. ap (fold (walked s.rules []) u) (append_assoc xs ys rest) ∙ (first.walks (ys ++ rest) ∙ second.walks rest);
@@ -37,7 +37,7 @@ reads_both {s} {u} {v} {w} {xs} {ys} first second = record {
 
 -- ---- an option and its value
 
--- the option waits for its value, behind these rows
+-- the option waits for its value, after these rows
 abbrev pub awaiting : List Row → Text → Walk
 awaiting rows id = record {
   held = record { rows = rows; pending = Some (id, []); skip = 0 };
@@ -47,7 +47,7 @@ awaiting rows id = record {
   stopped = None;
 }
 
--- and has it
+-- the option has its value
 abbrev pub given : List Row → Text → Text → Walk
 given rows id text = record {
   held = record { rows = rows; pending = Some (id, text ∷ []); skip = 0 };
@@ -57,7 +57,7 @@ given rows id text = record {
   stopped = None;
 }
 
--- the row of an option that was given so
+-- the row of an option given with this value
 abbrev pub given_row : Text → Text → Row
 given_row id text = record {
   id = id;
@@ -67,13 +67,13 @@ given_row id text = record {
   reading = AsWritten;
 }
 
--- a text that looks like no option is the value of the one that waits
+-- a text that does not look like an option is the value of the option that waits for one
 value_met : (c : List Rule) (id text : Text) (h : Held) → IsNoOption text → word_met c [] false (option id) 1 text h ≡ plain_word c (option id) text h
 value_met c id text h plain =
     ap (λ b. cond b (h, Step.trailing 1) (long_or_other c (option id) text (long_of text) h)) plain.no_end
     ∙ (ap (λ o. long_or_other c (option id) text o h) plain.no_long ∙ ap (λ o. short_or_plain c (option id) text o h) plain.no_short)
 
--- the word of an option that takes one value, and its value
+-- an option that takes one value, followed by that value
 pub reads_option : (s : Shape) (from : Walk) (rows : List Row) (word id text : Text) → turn_fault s [] from word ≡ [] → walked s.rules [] from word ≡ awaiting rows id
     → plain_word s.rules (option id) text (awaiting rows id).held ≡ ((given rows id text).held, next idle) → IsNoOption text
     → Reads s from (word ∷ text ∷ []) (given rows id text)
@@ -97,14 +97,14 @@ reads_option s from rows word id text passes is takes plain =
 
 -- ---- the end
 
--- what is found at the end of a level
+-- the faults at the end of a level
 abbrev pub end_fault : Shape → Held → Kinds
 end_fault s h = or_else (settle_fault s.rules s.args_override_self h) (or_else (defaults_fault (settled s.rules h).rows s.rules) (check_fault s (finished s.rules h) false))
 
 abbrev level_of : Shape → Walk → Kinds → Kinds
 level_of s end fault = or_else fault (end_fault s end.held)
 
--- where the words are read, the level's fault is that of its end
+-- if the words are read, the only faults of the level are those at its end
 pub level_ends : {s : Shape} {words : List Text} {end : Walk} → Reads s (walk_from nothing_held) words end → level_fault s [] nothing_held words false [] ≡ end_fault s end.held
 unfolding walk_fault
 level_ends {s} {words} {end} reads =
@@ -113,7 +113,7 @@ level_ends {s} {words} {end} reads =
     let passes = ap (walk_fault s [] (walk_from nothing_held)) (sym same) ∙ reads.passes [] in
     ap₂ (level_of s) walks passes
 
--- and its rows are those there
+-- and its rows are those at its end
 pub rows_end : {s : Shape} {words : List Text} {end : Walk} → Reads s (walk_from nothing_held) words end → rows_after s.rules [] words ≡ finished s.rules end.held
 rows_end {s} {words} {end} reads =
     ap (λ (w : Walk). finished s.rules w.held) (ap (fold (walked s.rules []) (walk_from nothing_held)) (sym (append-nil words)) ∙ reads.walks [])

@@ -1,4 +1,4 @@
--- The command line that is taken, as clap's model has it.
+-- The accepted command line, in terms of clap's model.
 use Rattle.std.specs.Prelude.{ℕ, [], ◌∷◌, Some, codes, fold, true}
 use Rattle.clap.specs.Words.{App, Rule, Text, new_app, new_rule, with_rule, with_subcommand}
 use Rattle.clap.specs.Simple.{on_top}
@@ -6,11 +6,11 @@ use Rattle.sand_plan.specs.Plans.{most_droppers, most_drops, most_epochs, most_o
 use Rattle.clap.specs.declared.builder.action.ArgAction.TheVariants.{Set, SetTrue}
 use Rattle.clap.specs.declared.builder.value_parser.ValueParser.TheVariants as parser
 
--- an option that is there or not
+-- an option without a value
 abbrev pub flag : Text → Rule
 flag name = record (new_rule name) { long = Some name; action = Some SetTrue }
 
--- an option with a whole number from `least` to `most`
+-- an option with an integer from `least` to `most`
 abbrev pub number : Text → ℕ → ℕ → Rule
 number name least most = record (new_rule name) {
   long = Some name;
@@ -18,15 +18,15 @@ number name least most = record (new_rule name) {
   parser = Some (parser.Unsigned least most);
 }
 
--- a side of a grid, which must be given
+-- a side of a grid; required
 abbrev pub side : Text → Rule
 side name = record (number name 1 256) { required = true }
 
--- how many copies of a pile are added, which must be given
+-- the number of copies of a pile; required
 abbrev pub times : Rule
 times = record (number (codes "times") 0 18446744073709551615) { required = true }
 
--- an option with a number that is `usual` if it isn't given
+-- an option with an integer that defaults to `usual`
 abbrev pub setting : Text → ℕ → ℕ → Text → Rule
 setting name least most usual = record (number name least most) { defaults = usual ∷ [] }
 
@@ -34,11 +34,9 @@ setting name least most usual = record (number name least most) { defaults = usu
 abbrev pub bare_line : Text → App
 bare_line name = new_app name
 
--- `settle`, with the forms of its pile
 abbrev pub settle_line : App
 settle_line = fold with_rule (bare_line (codes "settle")) (flag (codes "pile") ∷ flag (codes "pgm") ∷ [])
 
--- `drops`, with the numbers of a draw
 abbrev pub drops_line : App
 drops_line = fold with_rule (bare_line (codes "drops")) (
     number (codes "count") 0 4294967295 ∷ number (codes "seed") 0 4294967295 ∷ number (codes "stream") 0 4294967295
@@ -49,16 +47,13 @@ drops_line = fold with_rule (bare_line (codes "drops")) (
 abbrev pub pgm_line : Text → App
 pgm_line name = with_rule (bare_line name) (flag (codes "pgm"))
 
--- `identity`, with the sides and the edge of the grid
 abbrev pub identity_line : App
 identity_line = fold with_rule (bare_line (codes "identity"))
     (side (codes "width") ∷ side (codes "height") ∷ flag (codes "cylinder") ∷ flag (codes "pgm") ∷ [])
 
--- `multiple`, with how many copies are added
 abbrev pub multiple_line : App
 multiple_line = fold with_rule (bare_line (codes "multiple")) (times ∷ flag (codes "pgm") ∷ [])
 
--- `lab`, with the settings of its run
 abbrev pub lab_line : App
 lab_line = fold with_rule (bare_line (codes "lab")) (
     setting (codes "seed") 0 4294967295 (codes "0")
@@ -71,15 +66,15 @@ lab_line = fold with_rule (bare_line (codes "lab")) (
     ∷ flag (codes "journal") ∷ flag (codes "pile") ∷ flag (codes "pgm") ∷ []
     )
 
--- words that name no command are refused, and `help` names none
+-- a command is required, and `help` is not one
 abbrev pub wanting_command : App → App
 wanting_command line = on_top (λ s. record s { subcommand_required = true; disable_help_subcommand = true }) line
 
--- the line with one command more
+-- the line with one more command
 abbrev pub or_command : App → App → App
 or_command line command = with_subcommand line command.top
 
--- `sandpile`, which wants one of its commands
+-- `sandpile`, which requires one of its commands
 unfoldable pub command_line : App
 command_line = fold or_command (wanting_command (bare_line (codes "sandpile"))) (
     settle_line ∷ bare_line (codes "burn") ∷ identity_line

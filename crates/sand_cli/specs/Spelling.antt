@@ -17,13 +17,11 @@ use Rattle.sand_cli.specs.declared.task.Task.TheVariants.{Add, Burn, Drops, Iden
 abbrev pub flag_words : Text → Bool → List Text
 flag_words flag wanted = if wanted then flag ∷ [] else []
 
--- the flag of a form
 abbrev pub form_words : Form → List Text
 form_words forms.Text = []
 form_words forms.Pile = codes "--pile" ∷ []
 form_words forms.Picture = codes "--pgm" ∷ []
 
--- the settings of a run
 abbrev pub settings_of : Wish → List Text
 settings_of wish =
     codes "--seed" ∷ decimal wish.seed ∷ codes "--droppers" ∷ decimal wish.droppers
@@ -31,20 +29,18 @@ settings_of wish =
     ∷ codes "--workers" ∷ decimal wish.workers ∷ codes "--sweeps" ∷ decimal wish.sweeps
     ∷ codes "--observers" ∷ decimal wish.observers ∷ []
 
--- the numbers of a draw, if there is one
 abbrev pub draw_words : Option Draw → List Text
 draw_words None = []
 draw_words (Some draw) =
     codes "--count" ∷ decimal draw.count ∷ codes "--seed" ∷ decimal draw.seed
     ∷ codes "--stream" ∷ decimal draw.stream ∷ codes "--from" ∷ decimal draw.from ∷ []
 
--- the flag of a part
 abbrev pub part_words : Part → List Text
 part_words parts.All = []
 part_words parts.Table = codes "--table" ∷ []
 part_words parts.Pile = codes "--pile" ∷ []
 
--- what follows the program's name
+-- the words after the program's name
 abbrev pub words_of : Task → List Text
 words_of (Settle form) = codes "settle" ∷ form_words form
 words_of Burn = codes "burn" ∷ []
@@ -59,7 +55,7 @@ words_of (Recurrent pgm) = codes "recurrent" ∷ flag_words (codes "--pgm") pgm
 words_of (Lab wish journal form) =
     codes "lab" ∷ (settings_of wish ++ (flag_words (codes "--journal") journal ++ form_words form))
 
--- words that spell a task, whatever the program's name, return that task, unless memory runs out
+-- words that spell a task, after any program name, parse to that task unless memory runs out
 abbrev pub Heeds : List Text → Result Task WordsFault → Type 0
 Heeds words answer = (program : Text) (task : Task) → IsWithin task → words ≡ program ∷ words_of task
     → MatchResult answer (λ t. t ≡ task) (λ fault. fault ≡ Memory)

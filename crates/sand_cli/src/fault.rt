@@ -1,4 +1,4 @@
-//! Why the words ask for no task, with the number of each fault.
+//! Errors in the words of the command line, and their fault numbers.
 
 ghost use Rattle.std.specs.Prelude.{◌≡◌};
 ghost use Rattle.sand_cli.specs.Fault.{IsFaultOf, words_fault_number};
@@ -7,33 +7,33 @@ use clap::error::ErrorKind;
 use std::alloc::AllocError;
 use thiserror::Error;
 
-/// Options that are taken by the command line, but not together.
+/// Options that cannot be combined.
 #[derive(Clone, Copy, Debug, PartialEq, Eq, Error)]
 pub enum Conflict {
-    /// A pile alone, and a picture.
+    /// `--pile` with `--pgm`.
     #[error("error: the argument '--pile' cannot be used with '--pgm'\n\nFor more information, try '--help'.")]
     PileAndPicture,
-    /// A pile alone, and a journal.
+    /// `--pile` with `--journal`.
     #[error("error: the argument '--pile' cannot be used with '--journal'\n\nFor more information, try '--help'.")]
     PileAndJournal,
-    /// A pile alone, and a table alone.
+    /// `--pile` with `--table`.
     #[error("error: the argument '--pile' cannot be used with '--table'\n\nFor more information, try '--help'.")]
     PileAndTable,
-    /// A seed, a stream or a first place in it, without a count.
+    /// `--seed`, `--stream` or `--from` without `--count`.
     #[error("error: the arguments '--seed', '--stream' and '--from' cannot be used without '--count'\n\nFor more information, try '--help'.")]
     Uncounted,
 }
 
-/// Why the words ask for no task.
+/// Why the words name no task.
 #[derive(Debug, Drop, Error)]
 pub enum WordsFault {
     /// Memory ran out.
     #[error("out of memory")]
     Memory,
-    /// The words were refused, or they ask for help.
+    /// The words are invalid, or ask for help.
     #[error("{0}")]
     Usage(clap::Error),
-    /// The words have options that do not go together.
+    /// The words combine options that exclude each other.
     #[error("{0}")]
     Clash(Conflict),
 }

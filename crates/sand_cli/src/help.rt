@@ -1,20 +1,21 @@
-//! The texts of help: what goes in, what comes out, the limits, and an example.
+//! The help texts: what each command reads and writes, its limits, and an example.
 //!
-//! The help of the program says what holds for all commands, once: how a pile is written, the limits, and the status. `-h` writes
-//! what a command does and its options, and `--help` what follows them, too.
+//! What holds for every command (how a pile is written, the limits, the exit status) is in the help of the program
+//! only. `-h` prints what a command does and its options; `--help` also prints the text after the options.
 
-/// What help says of the program or of one command.
+/// The help of the program or of one command.
 #[derive(Clone, Copy)]
 pub(crate) struct Help {
     /// What it does, in one line.
     pub(crate) about: &'static str,
-    /// How long help begins, if not with this line.
+    /// The start of the long help, if it is not `about`.
     pub(crate) purpose: Option<&'static str>,
-    /// What follows the options in long help.
+    /// The text after the options in the long help.
     pub(crate) details: &'static str,
 }
 
-/// What follows the options of the program in short help. The program itself takes `-V`, `help` and `explain`.
+/// The text after the options in the program's short help. `-V`, `help` and `explain` are handled by the program
+/// itself.
 pub(crate) const SHORT: &str = "\
 \x20 -V, --version  Print the version
 

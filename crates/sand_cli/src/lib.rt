@@ -1,4 +1,4 @@
-//! What the words of the command line ask for.
+//! Parses the words of the command line into a task.
 #![tactic(auto)]
 
 mod fault;

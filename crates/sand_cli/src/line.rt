@@ -1,4 +1,4 @@
-//! The command line that is taken, made by clap's builders.
+//! The command line that `sandpile` accepts, built with clap.
 
 ghost use Rattle.std.specs.Prelude.{◌≡◌, IfOk, Ok, codes, false};
 ghost use Rattle.clap.specs.Words.{AddsArg, AddsSubcommand, app_of, rule_of};
@@ -14,7 +14,7 @@ use sand_plan::{
 };
 use std::alloc::{AllocError, Global};
 
-// An option that is there or not.
+// An option without a value.
 fn flag<'a>(alloc: Global, name: &'a str, about: &'static str) -> Arg<'a>
     ensures rule { rule_of result ≡ flag name.entry.now }
     ensures local { result.global ≡ false }
@@ -25,7 +25,7 @@ fn flag<'a>(alloc: Global, name: &'a str, about: &'static str) -> Arg<'a>
         .help(about)
 }
 
-// An option with a whole number from `least` to `most`.
+// An option with an integer from `least` to `most`.
 fn number<'a>(alloc: Global, name: &'a str, least: u64, most: u64, about: &'static str) -> Arg<'a>
     ensures rule { rule_of result ≡ number name.entry.now least most }
     ensures local { result.global ≡ false }
@@ -37,7 +37,7 @@ fn number<'a>(alloc: Global, name: &'a str, least: u64, most: u64, about: &'stat
         .help(about)
 }
 
-// An option with a whole number of 32 bits.
+// An option with a 32-bit unsigned integer.
 fn word<'a>(alloc: Global, name: &'a str, about: &'static str) -> Arg<'a>
     ensures rule { rule_of result ≡ number name.entry.now 0 4294967295 }
     ensures local { result.global ≡ false }
@@ -45,7 +45,7 @@ fn word<'a>(alloc: Global, name: &'a str, about: &'static str) -> Arg<'a>
     number(alloc, name, 0, 4294967295, about)
 }
 
-// A side of a grid, which must be given.
+// A side of a grid; required.
 fn side<'a>(alloc: Global, name: &'a str, about: &'static str) -> Arg<'a>
     ensures rule { rule_of result ≡ side name.entry.now }
     ensures local { result.global ≡ false }
@@ -53,7 +53,7 @@ fn side<'a>(alloc: Global, name: &'a str, about: &'static str) -> Arg<'a>
     number(alloc, name, 1, 256, about).required(true)
 }
 
-// How many copies of a pile are added, which must be given.
+// The number of copies of a pile; required.
 fn times<'a>(alloc: Global) -> Arg<'a>
     ensures rule { rule_of result ≡ times }
     ensures local { result.global ≡ false }
@@ -68,7 +68,7 @@ fn times<'a>(alloc: Global) -> Arg<'a>
     .required(true)
 }
 
-// An option with a number that is `usual` if it isn't given.
+// An option with an integer that defaults to `usual`.
 fn setting<'a>(
     alloc: Global,
     name: &'a str,
@@ -114,8 +114,8 @@ fn program_line<'a>(alloc: Global) -> Command<'a>
     bare_line(alloc, "sandpile", help::PROGRAM).after_help(help::SHORT)
 }
 
-// A command with one option more, if there is a command. It takes a result, since in a chain of `?` each value that lives on is
-// looked up again at each later call, which doubles the time of the proofs.
+// Adds an option to a command. Takes a `Result` because in a chain of `?` the prover looks up every live value again at
+// each later call, which doubles the proof time.
 fn with_option<'a>(
     line: Result<Command<'a>, AllocError>,
     option: Arg<'a>,
@@ -211,7 +211,7 @@ fn lab_line<'a>(alloc: Global) -> Result<Command<'a>, AllocError>
     with_option(line, pgm(alloc))
 }
 
-// A command line with one command more, if there are both.
+// Adds a command to the command line, if both are `Ok`.
 fn with_command<'a>(
     line: Result<Command<'a>, AllocError>,
     command: Result<Command<'a>, AllocError>,

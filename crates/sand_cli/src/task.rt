@@ -1,4 +1,4 @@
-//! What the words of the command line ask for.
+//! The task that the command line asks for.
 
 ghost use Rattle.std.specs.Prelude.{◌≡◌, ◌↔◌, IfErr, IfOk, Some, None, map, option_and_then, string_bytes};
 ghost use Rattle.clap.specs.Words.{found_of, rows_of, subcommand_rows_of};
@@ -13,42 +13,42 @@ use clap::ArgMatches;
 use sand_plan::Wish;
 use std::alloc::Global;
 
-/// Drops at the sites of a stream.
+/// Drops at the sites of a random stream.
 #[derive(Clone, Copy, Debug, PartialEq, Eq)]
 pub struct Draw {
-    /// How many, at most 4,294,967,295.
+    /// The number of drops, at most 4,294,967,295.
     pub count: u32,
     /// The seed, at most 4,294,967,295.
     pub seed: u64,
     /// The number of the stream, at most 4,294,967,295.
     pub stream: u64,
-    /// How many sites of the stream are left out before the first, at most 4,294,967,295.
+    /// The number of sites of the stream to skip, at most 4,294,967,295.
     pub from: u64,
 }
 
-/// Which part of what drops leave is written.
+/// The part of the output of `drops` that is written.
 #[derive(Clone, Copy, Debug, PartialEq, Eq)]
 pub enum Part {
     /// The table of the drops, the pile and the sums.
     All,
-    /// The table alone.
+    /// Only the table.
     Table,
-    /// The pile alone.
+    /// Only the pile.
     Pile,
 }
 
-/// In which form a pile is written.
+/// The form in which a pile is written.
 #[derive(Clone, Copy, Debug, PartialEq, Eq)]
 pub enum Form {
-    /// As text, with all that the command says of it.
+    /// As text, with the other results of the command.
     Text,
-    /// Alone, as text that is read as this pile.
+    /// Alone, as text that parses back to this pile.
     Pile,
     /// As a picture.
     Picture,
 }
 
-/// What is to be done. `pgm` asks for a picture in place of text, `pile` for the pile alone.
+/// What to do. `pgm` asks for a picture instead of text.
 #[derive(Clone, Copy, Debug, PartialEq, Eq)]
 pub enum Task {
     /// Settles a pile.
@@ -57,14 +57,14 @@ pub enum Task {
     },
     /// Tests whether a pile is recurrent.
     Burn,
-    /// Writes the identity of a grid, which has sides from 1 to 256. Its rows go round on a cylinder.
+    /// Writes the identity of a grid with sides from 1 to 256. On a cylinder the rows wrap around.
     Identity {
         width: usize,
         height: usize,
         cylinder: bool,
         pgm: bool,
     },
-    /// Drops grains on a pile, one after another: at the sites that are drawn, or at those of the input.
+    /// Drops grains on a pile one after another, at the drawn sites or at those in the input.
     Drops {
         drawn: Option<Draw>,
         part: Part,
@@ -86,7 +86,7 @@ pub enum Task {
     Recurrent {
         pgm: bool,
     },
-    /// Drops grains on a pile by many threads at once. `journal` asks for a line for each drop in a text.
+    /// Drops grains on a pile on many threads at once. `journal` adds a line for each drop to the text.
     Lab {
         wish: Wish,
         journal: bool,
@@ -189,14 +189,14 @@ fn task_named(name: &str, options: &ArgMatches<'_>) -> Option<Task>
     }
 }
 
-// Whether a pile alone is asked for, and what another flag asks for.
+// Whether `--pile` is given together with another flag.
 fn pile_and(other: &str, options: &ArgMatches<'_>) -> bool
     ensures { result ≡ pile_and other.now (rows_of (found_of options.now)) }
 {
     flag_in(options, "pile") & flag_in(options, other)
 }
 
-// Whether drops have a seed, a stream or a first place in it, and no count.
+// Whether `drops` has `--seed`, `--stream` or `--from` without `--count`.
 fn lacks_count(name: &str, options: &ArgMatches<'_>) -> bool
     ensures { result ≡ lacks_count name.now (rows_of (found_of options.now)) }
 {
@@ -237,8 +237,8 @@ fn chosen(matches: &ArgMatches<'_>) -> Option<Task>
     task_named(name, options)
 }
 
-/// The task that the words ask for. The first word is the program's name. Refuses words that the command line doesn't
-/// take, and those that ask for help (Usage), options that do not go together (Clash), and out of memory (Memory).
+/// Parses the words into a task; the first word is the program's name. The error is `Usage` if the command line rejects
+/// the words or they ask for help, `Clash` if options exclude each other, and `Memory` if memory runs out.
 pub fn task_of<'a>(alloc: Global, words: &'a [String]) -> Result<Task, WordsFault>
     ensures ok { IfOk result (λ t. asked (map string_bytes words.now) ≡ Some t) }
     ensures spelled { Heeds (map string_bytes words.now) result }

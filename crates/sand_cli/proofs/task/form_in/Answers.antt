@@ -5,7 +5,6 @@ use Rattle.sand_cli.specs.declared.task.Form.{Form}
 use Rattle.sand_cli.specs.declared.task.Form.TheVariants.{Picture, Pile, Text}
 use Rattle.sand_cli.proofs.task.form_in.Goals as goal
 
--- the form by two flags
 abbrev by_flags : Bool → Bool → Form
 by_flags pile pgm = if pile then Pile else if pgm then Picture else Text
 

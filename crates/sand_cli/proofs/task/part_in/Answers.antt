@@ -5,7 +5,6 @@ use Rattle.sand_cli.specs.declared.task.Part.{Part}
 use Rattle.sand_cli.specs.declared.task.Part.TheVariants.{All, Pile, Table}
 use Rattle.sand_cli.proofs.task.part_in.Goals as goal
 
--- the part by two flags
 abbrev by_flags : Bool → Bool → Part
 by_flags pile table = if pile then Pile else if table then Table else All
 
