@@ -1,4 +1,4 @@
--- The faults of drops that are drawn: the pile can't be read, or there is no room for all of them.
+-- The faults of `drops --count`: the pile cannot be read, or there is no room for all drops.
 use Rattle.std.proofs.Common.{◌≡◌, ◌+◌, ◌<◌, ℕ, List, refl, sym, ap, subst, arith, length, sum}
 use Rattle.std.specs.Prelude.{Some, Ok, Err}
 use Rattle.sand_model.specs.Grid.{sites}
@@ -15,7 +15,7 @@ use Rattle.sand_desk.specs.Dropping.{IsOverfull, drawn_sites, with_draw}
 use Rattle.sand_desk.specs.Faults.{of_text}
 use Rattle.sand_desk.proofs.DrawnSites.{length-drawn}
 
--- a text that holds no pile has none to draw on
+-- a text without a pile has none to drop on
 read_fault : (draw : Draw) (input : List ℕ) (why : TextFault) → pile_of input ≡ Err why → Finds (IsDropsFault (Some draw) input) (of_text why)
 read_fault draw input (text.Text place) e = record { why = text.Text place; read = ap (λ r. r >>= with_draw draw) e; told = refl }
 read_fault draw input (text.TooLarge place) e = record { why = text.TooLarge place; read = ap (λ r. r >>= with_draw draw) e; told = refl }
@@ -48,7 +48,7 @@ unread draw input (desk.Clash conflict) (why, e, is) = by_why draw input (desk.C
 unread draw input desk.Narrow (why, e, is) = by_why draw input desk.Narrow why e is
 unread draw input (desk.NoSite index) (why, e, is) = by_why draw input (desk.NoSite index) why e is
 
--- with more grains and drops than the limit there is no room for all that are drawn
+-- if the grains and drops exceed the limit, there is no room for all drops
 pub overfull : (draw : Draw) (input : List ℕ) (start : PileView) → pile_of input ≡ Ok start → most_grains < sum start.heights + draw.count → IsOverfull (Some draw) input
 overfull draw input start read over =
     let drawn = drawn_sites (sites start.grid) draw in

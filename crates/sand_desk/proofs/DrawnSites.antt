@@ -1,4 +1,4 @@
--- The sites of a draw, as they are read one by one.
+-- The sites of a draw, read one by one.
 use Rattle.std.proofs.Common.{◌≡◌, ◌∙◌, ◌+◌, ◌<◌, ◌≤◌, ℕ, zero, suc, [], ◌∷◌, ◌++◌, All, length, drop, refl, sym, ap, subst, arith, append_assoc, append-nil}
 use Rattle.std.proofs.Math.Nat.{mod-lt}
 use Rattle.std.proofs.lemmas.List.{drop-append-le, drop_all, length-drop}
@@ -7,7 +7,7 @@ use Rattle.sand_lab.specs.Streams.{site_at, stream_sites}
 use Rattle.sand_lab.proofs.TallyOfStreams.{length-stream_sites}
 
 module _ (sites seed stream : ℕ) where
-  -- the sites of the first k words are those of the first a, and the rest
+  -- the sites of the first k words are those of the first a, then the rest
   sites_split : (a b k : ℕ) → a + b ≡ k → stream_sites sites seed stream k ≡ stream_sites sites seed stream a ++ drop a (stream_sites sites seed stream k)
   sites_split a zero k e =
       let P : ℕ → Type 0 = λ n. stream_sites sites seed stream n ≡ stream_sites sites seed stream a ++ drop a (stream_sites sites seed stream n) in
@@ -26,7 +26,7 @@ module _ (sites seed stream : ℕ) where
       ∙ ap (λ l. stream_sites sites seed stream a ++ l) (sym (drop-append-le a all (site ∷ []) (omega (arith, long)))) in
       subst P next grown
 
-  -- a draw is what it begins with, and the rest
+  -- a draw is its beginning, then the rest
   pub drawn_split : (from a b k : ℕ) → from ≤ a → a + b ≡ k → drop from (stream_sites sites seed stream k) ≡ drop from (stream_sites sites seed stream a) ++ drop a (stream_sites sites seed stream k)
   drawn_split from a b k low e =
       let long = length-stream_sites sites seed stream a in
@@ -41,7 +41,7 @@ module _ (sites seed stream : ℕ) where
   pub drawn_none : (from : ℕ) → drop from (stream_sites sites seed stream (from + 0)) ≡ []
   drawn_none from = let long = length-stream_sites sites seed stream (from + 0) in drop_all from (stream_sites sites seed stream (from + 0)) (omega (arith, long))
 
-  -- one site more is drawn
+  -- one more site is drawn
   pub drawn_more : (from n site : ℕ) → site ≡ site_at sites seed stream (from + n)
       → drop from (stream_sites sites seed stream (from + (n + 1))) ≡ drop from (stream_sites sites seed stream (from + n)) ++ site ∷ []
   drawn_more from n site is =
@@ -51,7 +51,7 @@ module _ (sites seed stream : ℕ) where
       ∙ drop-append-le from (stream_sites sites seed stream (from + n)) (site_at sites seed stream (from + n) ∷ []) (omega (arith, long))
       ∙ ap (λ s. drop from (stream_sites sites seed stream (from + n)) ++ s ∷ []) (sym is)
 
-  -- all are sites of the grid
+  -- all are inside the grid
   sites_inside : 0 < sites → (k : ℕ) → All (λ j. j < sites) (stream_sites sites seed stream k)
   sites_inside some zero = All-nil (λ j. j < sites)
   sites_inside some (suc k) =

@@ -1,4 +1,4 @@
--- The whole text of drops at random, from its parts, at its end or where the writer failed.
+-- The whole text of drops at random, from its parts: at its end, or if the writer failed.
 use Rattle.std.proofs.Common.{◌≡◌, ◌∙◌, ◌+◌, ◌≤◌, ℕ, List, [], ◌++◌, length, take, refl, sym, ap, subst, arith, append-nil, inl}
 use Rattle.std.specs.Prelude.{Option, Some, Ok}
 use Rattle.std.specs.Io.KnownBytes.{Appends}
@@ -21,7 +21,7 @@ use Rattle.sand_desk.specs.Faults.{of_stream}
 use Rattle.sand_desk.specs.Streaming.{AreAdded, BreaksInRows, end_in, head_in, rows_in}
 use Rattle.sand_desk.proofs.Streaming.{text_in_parts}
 
--- the drops of a draw were made on the pile that the input holds
+-- the drops of a draw, made on the pile in the input
 pub record AreDrawn (draw : Draw) (input : List ℕ) (first : OneView) (rows : List (ℕ × Avalanche)) (last : OneView) : Type 0 where
   pub start : PileView
   pub read : pile_of input ≡ Ok start
@@ -47,11 +47,11 @@ drawn_text draw part input first last rows drawn =
       written = refl;
     }
 
--- a text that has its head so far
+-- a text with only its head so far
 abbrev pub head_of : Part → Waiting
 head_of part = record { bytes = head_in part; sent = 0 }
 
--- the writer failed among the bytes of the text
+-- the writer failed within the text
 pub drawn_breaks : (draw : Draw) (part : Part) (input : List ℕ) (first last : OneView) (rows : List (ℕ × Avalanche)) (held held' : Option (List ℕ)) (b : Waiting) (why : StreamFault)
     → AreDrawn draw input first rows last → b ≡ head_of part → BreaksIn held held' b (rows_in part rows ++ end_in part last.settled) why
     → WorkEnds (IsDropsText (Some draw) part input) (IsDropsFault (Some draw) input) held held' (of_stream why)
@@ -87,7 +87,7 @@ module _ (draw : Draw) (part : Part) (input : List ℕ) (start : PileView) (firs
   drawn : AreDrawn draw input first added.rows last
   drawn = record { start = start; read = read; settled = settled; dropped = added.dropped; end = after start settled }
 
-  -- the writer failed behind the rows
+  -- the writer failed after the rows
   pub end_fails : (held' : Option (List ℕ)) (why : StreamFault) → BreaksIn mid held' c (end_in part last.settled) why → WorkEnds (IsDropsText (Some draw) part input) (IsDropsFault (Some draw) input) held held' (of_stream why)
   end_fails held' why broken =
       drawn_breaks draw part input first last added.rows held held' b why drawn is (breaks_on held mid held' b c (rows_in part added.rows) (end_in part last.settled) why added.grown broken)
@@ -103,7 +103,7 @@ module _ (draw : Draw) (part : Part) (input : List ℕ) (start : PileView) (firs
         drawn_breaks draw part input first last added.rows held held' b why drawn is
         (subst P (append-nil (rows_in part added.rows ++ end_in part last.settled)) (breaks_on held more held' b d (rows_in part added.rows ++ end_in part last.settled) [] why whole broken))
 
-    -- the writer took all
+    -- the writer took everything
     pub all_taken : (held' : Option (List ℕ)) → Appends more held' d.bytes → IsWritten (IsDropsText (Some draw) part input) held held'
     all_taken held' rest =
         let text : whole.gone ++ d.bytes ≡ drops_in part added.rows last.settled =

@@ -1,4 +1,4 @@
--- The sites of the drops that a text holds are sites of its pile.
+-- The drop sites in a text are sites of its pile.
 use Rattle.std.proofs.Common.{◌≡◌, ◌+◌, ◌<◌, ◌≤◌, ℕ, true, false, not, leb, List, [], ◌∷◌, refl, ap, subst, All, arith, length, ⊎_elim}
 use Rattle.std.specs.List.{prefix_len}
 use Rattle.std.specs.Prelude.{Option, Some, None, Result, Ok, Err, position}

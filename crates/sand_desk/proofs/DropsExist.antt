@@ -1,4 +1,4 @@
--- On a settled pile grains can drop at any sites, within the limit: each settles, and sets off an avalanche.
+-- On a settled pile grains can drop at any sites, within the grain limit: each settles and causes an avalanche.
 use Rattle.std.proofs.Common.{ℕ, zero, suc, ◌≡◌, ◌+◌, ◌-◌, ◌<◌, ◌≤◌, refl, sym, ap, ◌∙◌, subst, arith, List, [], ◌∷◌, ◌++◌, All, map, length, sum, get_or, append_assoc, append-nil, ⊎_elim}
 use Rattle.std.specs.List.{range_with_len}
 use Rattle.std.proofs.lemmas.Bool.{cases_lt}
@@ -29,7 +29,7 @@ get_or-by_site : (g : Grid) (f : ℕ → ℕ) (j : ℕ) → j < sites g → get_
 unfolding by_site
 get_or-by_site g f j l = get_or-map-range_with_len f 0 (sites g) j j 0 l (omega arith)
 
--- the record after a grain that made each site j topple u j times, and left t
+-- the record after a drop by which each site j topples u j times, with the heights t
 poured : SettledView → (ℕ → ℕ) → (ℕ → ℕ) → SettledView
 poured r u t =
     let counts : List ℕ = by_site r.pile.grid (λ j. odometer_of r j + u j) in
@@ -67,7 +67,7 @@ record IsReach (g : Grid) (site : ℕ) (v : ℕ → ℕ) (n reach : ℕ) : Type 
   within : (j : ℕ) → j < n → 0 < v j → distance g site j ≤ reach
   reached : 0 < reach → (j : ℕ) × (j < n) × (0 < v j) × (distance g site j ≡ reach)
 
--- the same, with one site more
+-- the same, with one more site
 reach_more : (g : Grid) (site : ℕ) (v : ℕ → ℕ) (n near far : ℕ) → ((j : ℕ) → j < n → 0 < v j → distance g site j ≤ near) → near ≤ far → (0 < v n → distance g site n ≤ far)
     → (0 < far → (j : ℕ) × (j < suc n) × (0 < v j) × (distance g site j ≡ far)) → IsReach g site v (suc n) far
 reach_more g site v n near far within more last reached = record {
@@ -112,7 +112,6 @@ avalanche_of g site v =
       },
     )
 
--- a grain can drop
 drop_exists : (v : OneView) (site : ℕ) → length v.settled.odometer ≡ sites (grid_of_one_pile v) → site < sites (grid_of_one_pile v) → v.grains < most_grains
     → (w : OneView) × (a : Avalanche) × Drops v site w × IsAvalanche (grid_of_one_pile v) site (topplings_between v.settled w.settled) a
 drop_exists v site each inside room =
@@ -139,7 +138,7 @@ pub record Continues (start : PileView) (past : List ℕ) (n : ℕ) (v : OneView
   pub dropped : AreRows n v more rows last
   pub end : IsAfter start (past ++ more) last
 
--- from any stable pile and any list of sites within the grain limit there are drops and avalanches
+-- for any stable pile and any list of sites within the grain limit, the drops and avalanches exist
 pub drops_exist : (start : PileView) (past more : List ℕ) (n : ℕ) (v : OneView) → IsAfter start past v → All (λ j. j < sites start.grid) more
     → sum start.heights + (length past + length more) ≤ most_grains → Continues start past n v more
 drops_exist start past [] n v after inside few =

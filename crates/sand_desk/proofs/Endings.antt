@@ -1,4 +1,4 @@
--- How a command ends, from how its reading, its work or its writing ended.
+-- How a command ends, given how its reading, its work or its writing ended.
 use Rattle.std.proofs.Common.{◌≡◌, ◌+◌, ◌≤◌, ℕ, Bool, List, true, false, length, take, refl, sym, ap, subst, ◌∙◌, arith, true≢false, inl, inr, ⊎_elim}
 use Rattle.std.proofs.Math.Seq.{drop-length}
 use Rattle.std.specs.Prelude.{Option, Some, None}
@@ -17,20 +17,20 @@ keeps : (held : Option (List ℕ)) → Keeps held held
 keeps None = tt
 keeps (Some bytes) = refl
 
--- a reader that gave nothing
+-- the reader gave nothing
 none_given : (left left' : Option (List ℕ)) → Keeps left left' → IsFurtherByAtMost left left' most_bytes
 none_given None left' kept = (0, omega arith, tt)
 none_given (Some all) None kept = absurd kept
 none_given (Some all) (Some rest) kept = (0, omega arith, (omega arith, ap Some kept))
 
--- a reader that gave all it had, within the limit
+-- the reader gave all it had, within the limit
 all_given : (left left' : Option (List ℕ)) (input : List ℕ) → GivesAll left left' input → length input ≤ most_bytes → IsFurtherByAtMost left left' most_bytes
 all_given None left' input all within = (length input, within, tt)
 all_given (Some bytes) left' input all within =
     let same : length input ≡ length bytes = ap length all.0 in
     (length bytes, omega (arith, within, same), (omega arith, all.1 ∙ ap Some (sym (drop-length bytes))))
 
--- a task's input was taken
+-- a task's input was read
 taken : (reads : Bool) (left left' : Option (List ℕ)) (input : List ℕ) → Takes reads left left' input → length input ≤ most_bytes → IsFurtherByAtMost left left' most_bytes
 taken true left left' input all within = all_given left left' input all within
 taken false left left' input all within = none_given left left' all.0
@@ -57,7 +57,6 @@ starved_working asked left left' held held' task input read kept = record {
   unwritten = kept;
 }
 
--- the reading failed
 pub reading_ends : (asked : Option Task) (left left' held : Option (List ℕ)) (task : Task) (f : StreamFault) → asked ≡ Some task → reads_input task ≡ true → IsOfReading f
     → (f ≡ stream.TooLong → IsFurther left left' (most_bytes + 1)) → ((f ≡ stream.TooLong → ⊥) → IsFurtherByAtMost left left' most_bytes)
     → EndsBy asked left left' held held (of_stream f)
@@ -122,7 +121,6 @@ cut_short asked left left' held held' task input fault read broken =
     } in
     subst (EndsBy asked left left' held held') (sym broken.told) ends
 
--- the work failed
 pub work_ends : (asked : Option Task) (left left' held held' : Option (List ℕ)) (task : Task) (input : List ℕ) (fault : DeskFault) → IsRead asked left left' task input → WorkEnds (IsTextOf task input) (IsFaultOf task input) held held' fault
     → EndsBy asked left left' held held' fault
 work_ends asked left left' held held' task input fault read ends =
@@ -131,11 +129,11 @@ work_ends asked left left' held held' task input fault read ends =
     (λ (no : IsRefused (IsFaultOf task input) held held' fault). refused asked left left' held held' task input fault read no.found no.unwritten)
     ends
 
--- a fault that is found was found before anything was written
+-- a fault of the work was found before anything was written
 pub found_first : (IsText : List ℕ → Type 0) (IsFault : DeskFault → Type 0) (held : Option (List ℕ)) (fault : DeskFault) → Finds IsFault fault → WorkEnds IsText IsFault held held fault
 found_first IsText IsFault held fault found = inr (record { found = found; unwritten = keeps held })
 
--- the writer failed in a whole text
+-- the writer failed within a whole text
 pub text_broke : (IsText : List ℕ → Type 0) (IsFault : DeskFault → Type 0) (held held' : Option (List ℕ)) (text : List ℕ) (f : StreamFault) → IsText text
     → ((sent : ℕ) × (f ≡ stream.Write sent) × (sent ≤ length text) × Appends held held' (take sent text)) → WorkEnds IsText IsFault held held' (of_stream f)
 text_broke IsText IsFault held held' text f answer cut = inl (record {
@@ -147,7 +145,7 @@ text_broke IsText IsFault held held' text f answer cut = inl (record {
   written = cut.3;
 })
 
--- a fault of the work is none of the words
+-- a fault of the work is not a fault of the words
 found_no_help : (words : List Text) (IsFault : DeskFault → Type 0) (fault : DeskFault) → Finds IsFault fault → HelpsIfAsked words fault × TellsWords words fault
 found_no_help words IsFault desk.Memory found = (tt, tt)
 found_no_help words IsFault desk.Read found = (tt, tt)

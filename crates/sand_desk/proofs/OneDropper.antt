@@ -1,4 +1,4 @@
--- The drops of a draw and those of one dropper are tallied alike, so they leave one settled record.
+-- The drops of a draw and those of one dropper have the same tally, so they leave the same settled record.
 use Rattle.std.proofs.Common.{◌≡◌, ◌+◌, ℕ, List, [], ◌∷◌, drop, length, refl, sym, ap, ◌∙◌, subst, arith}
 use Rattle.std.specs.Prelude.{Result, Ok, Err}
 use Rattle.sand_model.specs.Grid.{sites}
@@ -20,11 +20,10 @@ use Rattle.sand_cli.specs.declared.task.Part.TheVariants as parts
 use Rattle.sand_desk.specs.Drawing.{DropsTheDraw, LeavesTheSame, WritesTheSamePile}
 use Rattle.sand_desk.specs.Dropping.{drawn_sites, with_draw}
 
--- the sites of a draw on a pile
 abbrev drawn_on : Draw → PileView → List ℕ
 drawn_on draw start = drawn_sites (sites start.grid) draw
 
--- one dropper drops on each site in one epoch as often as the draw
+-- in one epoch, one dropper drops on each site as often as the draw
 epoch_of_draw : (draw : Draw) (w : Wish) → DropsTheDraw draw w → (start : PileView) (i : ℕ)
     → sum_below w.droppers (λ k. tally (stream_sites (sites start.grid) w.seed (stream_of 0 k) w.drops) i) ≡ tally (drawn_on draw start) i
 unfolding sum_below
@@ -37,7 +36,7 @@ epoch_of_draw draw w asks start i =
     let first : each 0 ≡ tally (drawn_on draw start) i = λ k. tally (drop (none k) (stream_sites (sites start.grid) (asks.seed k) (sym asks.stream k) (count k))) i in
     omega (arith, one, alone, first)
 
--- so the run does
+-- so does the run
 run_of_draw : (draw : Draw) (album : List ℕ) (w : Wish) → DropsTheDraw draw w → (start : PileView) (rs : List RecordView) (ss : List SheetView) → length rs ≡ 1
     → AreEpochs album w start 0 rs ss → (i : ℕ) → tally (histories rs) i ≡ tally (drawn_on draw start) i
 run_of_draw draw album w asks start [] ss one epochs i = absurd (omega arith)
@@ -49,7 +48,7 @@ run_of_draw draw album w asks start (r ∷ []) (s ∷ ss) one epochs i =
     omega (arith, whole, each, drawn)
 run_of_draw draw album w asks start (r ∷ q ∷ rs) ss one epochs i = absurd (omega arith)
 
--- the record of the run is that of the pile of one thread
+-- the record of the run is that of the single-threaded pile
 same_record : (draw : Draw) (album : List ℕ) (w : Wish) → DropsTheDraw draw w → (start : PileView) (last : OneView) (report : ReportView) → IsAfter start (drawn_on draw start) last
     → IsReport album w start report → last.settled ≡ report.total.settled
 same_record draw album w asks start last report after left =
@@ -67,7 +66,7 @@ same_record draw album w asks start last report after left =
     one_threads_once mine report.total one left.total.one_threads (sym left.total.from_start)
     (λ i. sym (run_of_draw draw album w asks start report.records report.sheets (left.all ∙ asks.epochs) left.epochs i) ∙ ap (λ (h : List ℕ). tally h i) (sym left.total.history))
 
--- what was read, where something was
+-- what was read, if anything was
 read_or : {A : Type 0} → A → Result A TextFault → A
 read_or x (Ok y) = y
 read_or x (Err e) = x

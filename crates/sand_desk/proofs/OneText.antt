@@ -1,4 +1,4 @@
--- What two runs that ask for the same write is the same.
+-- Two runs that ask for the same thing write the same text.
 use Rattle.std.proofs.Common.{◌≡◌, ℕ, false, List, [], ◌++◌, map, sum, sym, ap, ap₂, ◌∙◌, subst}
 use Rattle.std.specs.Prelude.{Result, Ok, Err}
 use Rattle.std.proofs.lemmas.Simd.{map-map}
@@ -16,11 +16,10 @@ use Rattle.sand_lab.specs.Laws.{AreAlike, OneOutcome}
 use Rattle.sand_lab.specs.Reports.{ReportView, IsReport}
 use Rattle.sand_desk.specs.Laboratory.{sums_of, lab_text_of_report, report_text_of, OneLabText}
 
--- the sums of a pile of one thread
 sums_of_one : OneView → Sums
 sums_of_one o = record { drops = o.number; topplings = o.settled.topplings; lost = o.settled.lost; grains = sum o.settled.pile.heights }
 
--- what a report shows is what its piles of one thread show
+-- what a report shows is what its single-threaded piles show
 shown : List OneView → OneView → List ℕ
 shown ones total = lab_text_of (map sums_of_one ones) (sums_of_one total) total.settled.pile total.settled.odometer
 
@@ -33,12 +32,12 @@ same_text Picture p q alike = ap (λ (o : OneView). pgm_text_of o.settled.pile) 
 same_text Pile p q alike = ap (λ (o : OneView). text_of o.settled.pile) alike.total
 same_text Text p q alike = ap (λ text. text ++ []) (text_shown p ∙ ap₂ shown alike.epochs alike.total ∙ sym (text_shown q))
 
--- what was read, where something was
+-- what was read, if anything was
 read_or : PileView → Result PileView TextFault → PileView
 read_or p (Ok q) = q
 read_or p (Err e) = p
 
--- two readings that are one hold one pile
+-- equal readings hold the same pile
 same_start : (p q : PileView) → ◌≡◌ {A = Result PileView TextFault} (Ok p) (Ok q) → p ≡ q
 unfolding read_or
 same_start p q e = ap (read_or p) e

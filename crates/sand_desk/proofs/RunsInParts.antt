@@ -1,4 +1,5 @@
--- A drop sees the pile before it and its site alone, so a run that goes on from the pile of another is the rest of one run.
+-- A drop depends only on its site and the pile before it, so a run that continues from the pile of another is the rest
+-- of a single run.
 use Rattle.std.proofs.Common.{◌≡◌, ◌∙◌, ◌+◌, ◌<◌, ◌≤◌, ℕ, List, [], ◌∷◌, ◌++◌, drop, length, refl, sym, ap, ap₂, subst, arith, get_or, ⊎_elim}
 use Rattle.std.specs.Prelude.{Result, Ok, Err}
 use Rattle.std.proofs.lemmas.Bool.{cases_lt}
@@ -23,7 +24,7 @@ use Rattle.sand_desk.proofs.DrawnSites.{drawn_split, length-drawn}
 
 -- ---- one drop
 
--- two piles on one grid with the same heights are one
+-- two piles on one grid with the same heights are equal
 same_pile : (p q : PileView) → p.grid ≡ q.grid → length p.heights ≡ sites p.grid → length q.heights ≡ sites p.grid → ((i : ℕ) → i < sites p.grid → get_or p.heights i 0 ≡ get_or q.heights i 0) → p ≡ q
 same_pile p q grid one other each =
     let heights : p.heights ≡ q.heights = ext_get_or 0 p.heights q.heights (omega (arith, one, other)) (λ i l. each i (omega (arith, l, one))) in
@@ -36,7 +37,7 @@ no_farther g site v a b one other =
     (λ (here : a.reach ≤ 0). omega (arith, here))
     (cases_lt 0 a.reach)
 
--- what topples is one avalanche
+-- the topplings determine the avalanche
 same_avalanche : (g : Grid) (site : ℕ) (v : ℕ → ℕ) (a b : Avalanche) → IsAvalanche g site v a → IsAvalanche g site v b → a ≡ b
 same_avalanche g site v a b one other =
     let more = no_farther g site v a b one other in
@@ -48,7 +49,7 @@ same_avalanche g site v a b one other =
     let gone : a.lost ≡ b.lost = one.all_lost ∙ sym other.all_lost in
     λ k. record { site = origin k; size = size k; area = area k; reach = reach k; lost = gone k }
 
--- a drop at one site of one pile leaves one pile, and is one avalanche
+-- the pile and the site determine the next pile and the avalanche
 same_drop : (v w v' w' : OneView) (site : ℕ) (a b : Avalanche) → v.settled.pile ≡ v'.settled.pile → Drops v site w → Drops v' site w' → IsAvalanche (grid_of_one_pile v) site (topplings_between v.settled w.settled) a
     → IsAvalanche (grid_of_one_pile v') site (topplings_between v'.settled w'.settled) b → (w.settled.pile ≡ w'.settled.pile) × (a ≡ b)
 same_drop v w v' w' site a b same drop drop' is is' =
@@ -114,7 +115,7 @@ rows_split n v w (site ∷ places) later rows (u, a, others, drop, is, e, rest) 
 
 -- ---- what was read
 
--- what was read, where something was
+-- what was read, if anything was
 read_or : {A : Type 0} → A → Result A TextFault → A
 read_or x (Ok y) = y
 read_or x (Err e) = x
@@ -123,7 +124,7 @@ same_reading : {A : Type 0} (x y : A) → ◌≡◌ {A = Result A TextFault} (Ok
 unfolding read_or
 same_reading x y e = ap (read_or x) e
 
--- what a draw drops on and where
+-- the pile that a draw drops on, and its sites
 record IsDrawnOn (draw : Draw) (read : Result PileView TextFault) (pile : PileView) (places : List ℕ) : Type 0 where
   held : read ≡ Ok pile
   places_are : drawn_sites (sites pile.grid) draw ≡ places
@@ -138,7 +139,7 @@ drawn_on draw (Ok p) pile places e =
       places_are = ap (λ (x : PileView). drawn_sites (sites x.grid) draw) (sym same) ∙ ap (λ (x : PileView × List ℕ). x.1) pair;
     }
 
--- two settled records of one pile leave one pile
+-- two settled records of one start have the same pile
 same_start : (start other : PileView) (v w : OneView) → start ≡ other → IsAfter start [] v → IsAfter other [] w → v.settled.pile ≡ w.settled.pile
 same_start start other v w same one two =
     let P : PileView → Type 0 = λ p. IsAfter p [] w in
@@ -148,7 +149,7 @@ same_start start other v w same one two =
     same_pile v.settled.pile w.settled.pile (one.settled.grid ∙ sym two.settled.grid) (one.settled.heights_each ∙ sym here) (two.settled.heights_each ∙ sym here)
     (λ i l. (settled_once g (λ j. get_or start.heights j 0 + tally [] j) (odometer_of v.settled) (odometer_of w.settled) (λ j. get_or v.settled.pile.heights j 0) (λ j. get_or w.settled.pile.heights j 0) one.settled.settled two.settled.settled i (omega (arith, l, here))).1)
 
--- a pile that was left settles to itself
+-- the pile that a run leaves settles to itself
 rests : (start : PileView) (past : List ℕ) (v w : OneView) → IsAfter start past v → IsAfter v.settled.pile [] w → v.settled.pile ≡ w.settled.pile
 rests start past v w left again =
     let p : PileView = v.settled.pile in

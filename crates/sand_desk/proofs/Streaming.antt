@@ -1,4 +1,4 @@
--- The text of drops at random, as it grows by a row, or breaks off in one.
+-- The text of drops at random, as a row is added or the writer fails in one.
 use Rattle.std.proofs.Common.{◌≡◌, ◌∙◌, ◌+◌, ◌<◌, ◌≤◌, ℕ, suc, List, [], ◌∷◌, ◌++◌, All, codes, length, sum, refl, sym, ap, subst, arith, append_assoc, append-nil}
 use Rattle.std.specs.Prelude.{Option}
 use Rattle.std.proofs.lemmas.List.{length-append}
@@ -37,7 +37,7 @@ no_entries : entries_text [] ≡ []
 unfolding entries_text
 no_entries = refl
 
--- the rows of some drops, a row, and the rows after it
+-- the rows of some drops, one row, and the rows after it
 rows_around : (part : Part) (rows : List (ℕ × Avalanche)) (row : ℕ × Avalanche) (more : List (ℕ × Avalanche)) → rows_in part rows ++ (row_in part row ++ rows_in part more) ≡ rows_in part (rows ++ row ∷ more)
 rows_around parts.Pile rows row more = refl
 rows_around parts.Table rows row more = ap (λ t. entries_text rows ++ t) (sym (entries_first row more)) ∙ sym (entries_join rows (row ∷ more))
@@ -48,7 +48,7 @@ no_rows parts.Pile = refl
 no_rows parts.Table = no_entries
 no_rows parts.All = no_entries
 
--- all of it
+-- the whole text
 pub text_in_parts : (part : Part) (rows : List (ℕ × Avalanche)) (last : SettledView) → head_in part ++ (rows_in part rows ++ end_in part last) ≡ drops_in part rows last
 text_in_parts parts.Pile rows last = refl
 text_in_parts parts.Table rows last = ap (λ t. table_head ++ t) (append-nil (entries_text rows))
@@ -60,7 +60,7 @@ text_in_parts parts.All rows last =
     sym (append_assoc table_head (entries_text rows) (pile_and_sums last)) ∙ sym (append_assoc table (pile ++ lost) topplings)
     ∙ ap (λ t. t ++ topplings) (sym (append_assoc table pile lost))
 
--- ---- a row more
+-- ---- one more row
 
 pub none_added : (part : Part) (n : ℕ) (v : OneView) (sites : List ℕ) (held : Option (List ℕ)) (b : Waiting) → sites ≡ [] → AreAdded part n v sites v held held b b
 none_added part n v sites held b none =

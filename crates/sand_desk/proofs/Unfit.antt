@@ -1,4 +1,4 @@
--- Why a pile isn't recurrent, from what the burning test refused.
+-- Why a pile is not recurrent, given what the burning test rejected.
 use Rattle.std.proofs.Common.{◌≡◌, ℕ, List, refl, arith, inl, inr}
 use Rattle.std.specs.Prelude.{◌↔◌, ◌⊎◌, Result, Ok, Err, alloc_error}
 use Rattle.std.proofs.lemmas.Bool.{cases_lt}
@@ -14,7 +14,7 @@ use Rattle.sand_desk.specs.Faults.{of_group}
 use Rattle.sand_desk.specs.Group.{IsUnfit}
 use Rattle.sand_desk.specs.declared.faults.DeskFault.TheVariants as desk
 
--- a pile that can't be unstable is stable
+-- a pile that cannot be unstable is stable
 pub stable : (g : Grid) (s : ℕ → ℕ) → ((IsStable g s → ⊥) → ⊥) → IsStable g s
 stable g s not_high = record {
   low = λ i lt. elim (cases_lt 3 (s i)) [
@@ -23,7 +23,7 @@ stable g s not_high = record {
   ];
 }
 
--- what is known of a pile that was refused
+-- what is known of a rejected pile
 pub record IsRefused {A : Type 0} (pile : PileView) (answer : Result A GroupFault) (fault : GroupFault) : Type 0 where
   pub is : answer ≡ Err fault
   pub unstable : (answer ≡ Err group.Unstable) ↔ (IsStable pile.grid (height_of pile) → ⊥)
@@ -53,14 +53,14 @@ pair_refused input first second group.Shapes read (inr (inl why)) = absurd why
 pair_refused input first second group.Shapes read (inr (inr why)) = absurd why.1
 pair_refused input first second (group.Memory error) read why = tt
 
--- the first of two piles was refused
+-- the first of two piles was rejected
 pub first_refused : {A : Type 0} (input : List ℕ) (first second : PileView) (answer : Result A GroupFault) (fault : GroupFault) → two_of input ≡ Ok (first, second) → IsRefused first answer fault → Finds (IsSumFault input) (of_group fault)
 first_refused input first second answer fault read h = pair_refused input first second fault read (elim (unfit first answer fault h) [
   | inl memory ↦ inl memory
   | inr why ↦ inr (inl why)
 ])
 
--- the second was refused, and the first is recurrent
+-- the second was rejected, and the first is recurrent
 pub second_refused : {A : Type 0} (input : List ℕ) (first second : PileView) (answer : Result A GroupFault) (fault : GroupFault) → two_of input ≡ Ok (first, second) → IsRecurrent first.grid (height_of first) → IsRefused second answer fault → Finds (IsSumFault input) (of_group fault)
 second_refused input first second answer fault read fit h = pair_refused input first second fault read (elim (unfit second answer fault h) [
   | inl memory ↦ inl memory

@@ -1,4 +1,4 @@
--- What a command does: the text that it writes for an input, the fault that it finds there, and how it ends.
+-- What a command does: the text that it writes for an input, the fault that it finds in it, and how it ends.
 use Rattle.std.specs.Prelude.{ℕ, ⊤, ◌≡◌, ◌↔◌, ◌⊎◌, ◌+◌, ◌<◌, ◌≤◌, Bool, true, false, List, [], length, take, Option, Some, None, Result, Err}
 use Rattle.std.specs.Io.KnownBytes.{Appends, Keeps}
 use Rattle.sand_model.specs.declared.faults.ShapeFault.{ShapeFault}
@@ -22,12 +22,11 @@ use Rattle.sand_desk.specs.Laboratory.{IsLabText, IsOvergrown, IsRunnable}
 use Rattle.sand_desk.specs.Settling.{IsSettleText}
 use Rattle.sand_model.specs.Piles.{most_grains}
 
--- whether a task reads an input
 abbrev pub reads_input : Task → Bool
 reads_input (task.Identity width height cylinder pgm) = false
 reads_input _ = true
 
--- whether a task writes its text when the whole of it is there; drops at random are written while they are made
+-- whether a task writes its text once it is complete; drops at random are written as they are made
 abbrev pub writes_whole : Task → Bool
 writes_whole (task.Drops (Some draw) part) = false
 writes_whole _ = true
@@ -49,13 +48,13 @@ IsTextOf (task.Multiple times pgm) input text = IsMultipleText times pgm input t
 IsTextOf (task.Recurrent pgm) input text = IsRecurrentText pgm input text
 IsTextOf (task.Lab wish journal form) input text = IsLabText wish journal form input text
 
--- the input doesn't hold what the task wants
+-- the input is not what the task needs
 pub record IsUnreadable {A : Type 0} (reading : Result A TextFault) (fault : DeskFault) : Type 0 where
   pub why : TextFault
   pub read : reading ≡ Err why
   pub told : fault ≡ of_text why
 
--- a drop was refused: there were more grains with all drops than the limit, or memory ran out
+-- dropping failed: the pile and all drops exceed the grain limit, or memory ran out
 abbrev pub IsDropFault : ℕ → DeskFault → Type 0
 IsDropFault grains desk.Full = most_grains < grains
 IsDropFault grains desk.Memory = Unit {0}
@@ -65,38 +64,38 @@ abbrev pub IsDropsFault : Option Draw → List ℕ → DeskFault → Type 0
 IsDropsFault drawn input desk.Full = IsOverfull drawn input
 IsDropsFault drawn input fault = IsUnreadable (drops_for drawn input) fault
 
--- the burning test refuses a pile that isn't stable
+-- the burning test needs a stable pile
 abbrev pub IsBurnFault : List ℕ → DeskFault → Type 0
 IsBurnFault input desk.Unstable = IsUnstable input
 IsBurnFault input fault = IsUnreadable (pile_of input) fault
 
--- the grid has no such shape
+-- the shape is invalid
 pub record IsShapeless (width height : ℕ) (cylinder : Bool) (fault : DeskFault) : Type 0 where
   pub why : ShapeFault
   pub unmade : grid_with_edge width height (edge_of cylinder) ≡ Err why
   pub told : fault ≡ of_shape why
 
--- a sum wants two recurrent piles of one shape: the first pile's fault comes before the second's
+-- a sum needs two recurrent piles of one shape; the first pile's fault comes before the second's
 abbrev pub IsSumFault : List ℕ → DeskFault → Type 0
 IsSumFault input desk.Unstable = IsUnfitPair input desk.Unstable
 IsSumFault input desk.NotRecurrent = IsUnfitPair input desk.NotRecurrent
 IsSumFault input desk.Shapes = IsMismatch input
 IsSumFault input fault = IsUnreadable (two_of input) fault
 
--- an inverse and a multiple want a recurrent pile
+-- an inverse and a multiple need a recurrent pile
 abbrev pub IsElementFault : List ℕ → DeskFault → Type 0
 IsElementFault input desk.Unstable = IsUnfitPile input desk.Unstable
 IsElementFault input desk.NotRecurrent = IsUnfitPile input desk.NotRecurrent
 IsElementFault input fault = IsUnreadable (pile_of input) fault
 
--- a run was refused: there are more grains with all drops than the limit, memory ran out, or a place of the album was taken
+-- a run failed: the pile and all drops exceed the grain limit, memory ran out, or a place of the album was taken
 abbrev pub IsRunFault : ℕ → DeskFault → Type 0
 IsRunFault grains desk.TooManyGrains = most_grains < grains
 IsRunFault grains desk.Memory = Unit {0}
 IsRunFault grains desk.Taken = grains ≤ most_grains
 IsRunFault grains fault = ⊥
 
--- a run wants room for all its drops
+-- a run needs room for all its drops
 abbrev pub IsLabFault : Wish → List ℕ → DeskFault → Type 0
 IsLabFault w input desk.TooManyGrains = IsUnreadable (pile_of input) desk.TooManyGrains ⊎ IsOvergrown w input
 IsLabFault w input desk.Taken = IsRunnable w input
@@ -114,7 +113,7 @@ IsFaultOf (task.Multiple times pgm) input fault = IsElementFault input fault
 IsFaultOf (task.Recurrent pgm) input fault = IsUnreadable (pile_of input) fault
 IsFaultOf (task.Lab wish journal form) input fault = IsLabFault wish input fault
 
--- a fault that a task finds in its input, or out of memory; no fault of the words or of a stream
+-- a fault that a task finds in its input, or out of memory; never a fault of the words or of a stream
 abbrev pub Finds : (DeskFault → Type 0) → DeskFault → Type 0
 Finds IsFault desk.Memory = Unit {0}
 Finds IsFault (desk.Usage error) = ⊥
@@ -124,13 +123,13 @@ Finds IsFault desk.TooLong = ⊥
 Finds IsFault (desk.Write sent) = ⊥
 Finds IsFault fault = IsFault fault
 
--- the writer took such a text
+-- the writer took a whole text of this kind
 pub record IsWritten (IsText : List ℕ → Type 0) (held held' : Option (List ℕ)) : Type 0 where
   pub text : List ℕ
   pub answer : IsText text
   pub written : Appends held held' text
 
--- the writer failed after it had taken some of such a text
+-- the writer failed after it took part of such a text
 pub record IsBrokenOff (IsText : List ℕ → Type 0) (held held' : Option (List ℕ)) (fault : DeskFault) : Type 0 where
   pub sent : ℕ
   pub told : fault ≡ desk.Write sent
@@ -144,22 +143,22 @@ pub record IsRefused (IsFault : DeskFault → Type 0) (held held' : Option (List
   pub found : Finds IsFault fault
   pub unwritten : Keeps held held'
 
--- how work ends that writes a text and has a fault
+-- how work ends that writes a text of this kind or finds a fault of this kind
 abbrev pub WorkEnds : (List ℕ → Type 0) → (DeskFault → Type 0) → Option (List ℕ) → Option (List ℕ) → DeskFault → Type 0
 WorkEnds IsText IsFault held held' fault = IsBrokenOff IsText held held' fault ⊎ IsRefused IsFault held held' fault
 
--- the reader gave all its bytes as the input; or none is wanted, and the reader is as it was
+-- the input is everything the reader had; or none is wanted, and the reader is untouched
 abbrev pub Takes : Bool → Option (List ℕ) → Option (List ℕ) → List ℕ → Type 0
 Takes true left left' input = GivesAll left left' input
 Takes false left left' input = Keeps left left' × (input ≡ [])
 
--- a task was asked for, and its input was taken, within the limit
+-- a task was asked for, and its input was read, within the limit
 pub record IsRead (asked : Option Task) (left left' : Option (List ℕ)) (task : Task) (input : List ℕ) : Type 0 where
   pub is_asked : asked ≡ Some task
   pub all : Takes (reads_input task) left left' input
   pub within : length input ≤ most_bytes
 
--- the command was done: the writer took the text of the task for the whole input
+-- success: the writer took the text of the task for the whole input
 pub record IsDone (asked : Option Task) (left left' held held' : Option (List ℕ)) : Type 0 where
   pub task : Task
   pub input : List ℕ
@@ -168,7 +167,7 @@ pub record IsDone (asked : Option Task) (left left' held held' : Option (List �
   pub answer : IsTextOf task input text
   pub written : Appends held held' text
 
--- the writer failed after it had taken so many bytes of the text of the task for the whole input
+-- the writer failed after it took `sent` bytes of the text of the task for the whole input
 pub record IsCutShort (asked : Option Task) (left left' held held' : Option (List ℕ)) (sent : ℕ) : Type 0 where
   pub task : Task
   pub input : List ℕ
@@ -186,7 +185,7 @@ pub record IsFaulty (asked : Option Task) (left left' held held' : Option (List 
   pub found : IsFaultOf task input fault
   pub unwritten : Keeps held held'
 
--- the reading was stopped by a failure, after some bytes within the limit, and nothing was written
+-- reading failed after some bytes within the limit, and nothing was written
 pub record IsStopped (asked : Option Task) (left left' held held' : Option (List ℕ)) : Type 0 where
   pub task : Task
   pub is_asked : asked ≡ Some task
@@ -194,7 +193,7 @@ pub record IsStopped (asked : Option Task) (left left' held held' : Option (List
   pub further : IsFurtherByAtMost left left' most_bytes
   pub unwritten : Keeps held held'
 
--- the reader gave more than the limit, and nothing was written
+-- the reader had more than the limit, and nothing was written
 pub record IsFlooded (asked : Option Task) (left left' held held' : Option (List ℕ)) : Type 0 where
   pub task : Task
   pub is_asked : asked ≡ Some task
@@ -208,26 +207,27 @@ pub record IsMisuse (asked : Option Task) (left left' held held' : Option (List 
   pub unread : Keeps left left'
   pub unwritten : Keeps held held'
 
--- memory ran out, and nothing was written: the reader gave some bytes within the limit, or none if no input was asked for
+-- memory ran out, and nothing was written; the reader gave some bytes within the limit, or none if no input was asked
+-- for
 pub record IsStarved (asked : Option Task) (left left' held held' : Option (List ℕ)) : Type 0 where
   pub further : IsFurtherByAtMost left left' most_bytes
   pub unread : asks_for_input asked ≡ false → Keeps left left'
   pub unwritten : Keeps held held'
 
--- a fault of the words shows help if and only if the words ask for help and for nothing else
+-- a fault of the words shows help if and only if the words ask for help and nothing else
 abbrev pub HelpsIfAsked : List Text → DeskFault → Type 0
 HelpsIfAsked words (desk.Usage error) = (kind_of error ≡ DisplayHelp) ↔ AskForHelp words
 HelpsIfAsked words (desk.Clash conflict) = ¬ AskForHelp words
 HelpsIfAsked words fault = ⊤
 
--- a fault of the words says what is wrong with them: clap's error has one of the kinds that the words give, and options that
--- do not go together are those of the words
+-- a fault of the words reports what is wrong with them: clap's error is of one of their kinds, and a conflict of
+-- options is theirs
 abbrev pub TellsWords : List Text → DeskFault → Type 0
 TellsWords words (desk.Usage error) = IsAmong (kind_of error) (faults words)
 TellsWords words (desk.Clash conflict) = conflict_among words ≡ Some conflict
 TellsWords words fault = ⊤
 
--- how a command ends by each fault; memory may run out anywhere before the text is written
+-- how a command ends with each fault; memory may run out anywhere before the text is written
 abbrev pub EndsBy : Option Task → Option (List ℕ) → Option (List ℕ) → Option (List ℕ) → Option (List ℕ) → DeskFault → Type 0
 EndsBy asked left left' held held' (desk.Usage error) = IsMisuse asked left left' held held'
 EndsBy asked left left' held held' (desk.Clash conflict) = IsMisuse asked left left' held held'

@@ -1,4 +1,4 @@
--- What `drops --count` leaves is what a run of the laboratory with one dropper leaves, and may be made in parts.
+-- `drops --count` has the result of a laboratory run with one dropper, and can be run in parts.
 use Rattle.std.specs.Prelude.{ℕ, ◌≡◌, ◌+◌, Bool, List, ◌++◌, Some, Ok}
 use Rattle.sand_text.specs.Reading.{pile_of}
 use Rattle.sand_plan.specs.declared.wish.Wish.{Wish}
@@ -10,7 +10,8 @@ use Rattle.sand_cli.specs.declared.task.Part.TheVariants as parts
 use Rattle.sand_desk.specs.Dropping.{IsDropsText}
 use Rattle.sand_desk.specs.Laboratory.{IsLabText}
 
--- the run of one epoch whose one dropper makes the drops of the draw: as many, of the same seed, at the sites of stream 0
+-- a run of one epoch in which one dropper makes the drops of the draw: as many, with the same seed, at the sites of
+-- stream 0
 pub record DropsTheDraw (draw : Draw) (w : Wish) : Type 0 where
   pub stream : draw.stream ≡ 0
   pub from : draw.from ≡ 0
@@ -19,17 +20,17 @@ pub record DropsTheDraw (draw : Draw) (w : Wish) : Type 0 where
   pub drops : w.drops ≡ draw.count
   pub epochs : w.epochs ≡ 1
 
--- both texts show one settled record: its pile, the grains lost and the topplings
+-- both texts show the same settled record: its pile, the grains lost and the topplings
 abbrev pub LeavesTheSame : Type 0
 LeavesTheSame = (draw : Draw) (w : Wish) (part : Part) (journal : Bool) (form : Form) (input one other : List ℕ) → DropsTheDraw draw w
     → (drops : IsDropsText (Some draw) part input one) → (run : IsLabText w journal form input other) → drops.last.settled ≡ run.report.total.settled
 
--- so the piles alone are one text
+-- so with `--pile` the texts are the same
 abbrev pub WritesTheSamePile : Type 0
 WritesTheSamePile = (draw : Draw) (w : Wish) (journal : Bool) (input one other : List ℕ) → DropsTheDraw draw w
     → IsDropsText (Some draw) parts.Pile input one → IsLabText w journal Pile input other → one ≡ other
 
--- one draw begins with the sites of the first, and goes on with those of the second
+-- a draw begins with the sites of the first part and continues with those of the second
 pub record IsCutInTwo (whole first second : Draw) : Type 0 where
   pub seeds : (first.seed ≡ whole.seed) × (second.seed ≡ whole.seed)
   pub streams : (first.stream ≡ whole.stream) × (second.stream ≡ whole.stream)
@@ -37,7 +38,7 @@ pub record IsCutInTwo (whole first second : Draw) : Type 0 where
   pub goes_on : second.from ≡ first.from + first.count
   pub all : whole.count ≡ first.count + second.count
 
--- a run, and then one from the pile that it left, are one run that was cut in two: the rows, and the pile that is left
+-- a run, and one from the pile that it left, have the rows and the final pile of a single run
 abbrev pub RunsInParts : Type 0
 RunsInParts = (whole first second : Draw) (a b c : Part) (input left all one other : List ℕ) → IsCutInTwo whole first second
     → (uncut : IsDropsText (Some whole) a input all) → (begun : IsDropsText (Some first) b input one) → (resumed : IsDropsText (Some second) c left other)

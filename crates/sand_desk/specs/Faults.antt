@@ -25,7 +25,6 @@ use Rattle.sand_cli.specs.Fault.{words_fault_number}
 use Rattle.sand_desk.specs.declared.faults.DeskFault.{DeskFault}
 use Rattle.sand_desk.specs.declared.faults.DeskFault.TheVariants.{Side, Length, TooManyGrains, Memory, Full, Unstable, NotRecurrent, Shapes, Taken, Text, TooLarge, Read, Write, TooLong, Usage, Clash, Narrow, NoSite}
 
--- the table of the numbers of the program's faults
 abbrev pub number_of : DeskFault → ℕ
 number_of Side = 1
 number_of Length = 2
@@ -66,7 +65,7 @@ name_of (Clash conflict) = codes "Usage"
 name_of Narrow = codes "Narrow"
 name_of (NoSite index) = codes "NoSite"
 
--- where in the input, or after how many bytes of the output
+-- the place in the input, or the number of bytes written
 abbrev pub place_of : DeskFault → List ℕ
 place_of Side = []
 place_of Length = []
@@ -87,11 +86,10 @@ place_of (Clash conflict) = []
 place_of Narrow = []
 place_of (NoSite index) = codes " at " ++ decimal index
 
--- the line that reports a fault
 abbrev pub fault_line : DeskFault → List ℕ
 fault_line fault = codes "fault " ++ decimal (number_of fault) ++ codes " " ++ name_of fault ++ place_of fault ++ codes "\n"
 
--- help is no misuse
+-- a call for help is not misuse
 abbrev pub usage_status : ErrorKind → ℕ
 usage_status kind.DisplayHelp = 0
 usage_status kind.DisplayVersion = 0
@@ -155,7 +153,7 @@ abbrev pub of_shape : ShapeFault → DeskFault
 of_shape shape.Side = Side
 of_shape shape.Narrow = Narrow
 
--- a fault of the crates below keeps its number when it becomes the program's
+-- a fault of a lower crate keeps its number when it becomes the program's
 pub record KeepNumbers : Type 0 where
   pub shape : (fault : ShapeFault) → number_of (of_shape fault) ≡ shape_fault_number fault
   pub one : (fault : OneFault) → number_of (of_one fault) ≡ one_fault_number fault

@@ -1,4 +1,4 @@
--- What `burn`, `identity`, `add`, `inverse`, `multiple` and `recurrent` write, and why they refuse a pile.
+-- What `burn`, `identity`, `add`, `inverse`, `multiple` and `recurrent` write, and why they reject a pile.
 use Rattle.std.specs.Prelude.{ℕ, ◌≡◌, ◌≢◌, ◌⊎◌, Bool, true, false, List, length, Ok}
 use Rattle.sand_model.specs.declared.shape.Edge.{Edge}
 use Rattle.sand_model.specs.declared.shape.Edge.TheVariants.{Open, Cylinder}
@@ -18,7 +18,7 @@ use Rattle.sand_desk.specs.Settling.{pile_or_picture}
 
 -- ---- the texts
 
--- what the burning test finds in the pile that the input holds, which is stable
+-- the result of the burning test on the pile in the input, which is stable
 pub record IsBurnText (input text : List ℕ) : Type 0 where
   pub pile : PileView
   pub burned : Burned
@@ -31,7 +31,7 @@ abbrev pub edge_of : Bool → Edge
 edge_of false = Open
 edge_of true = Cylinder
 
--- the one pile on this grid whose heights are of this kind, as text or as a picture
+-- a pile on this grid, with heights of this kind, as text or as a picture
 pub record IsPileText (g : Grid) (IsWanted : (ℕ → ℕ) → Type 0) (pgm : Bool) (text : List ℕ) : Type 0 where
   pub pile : PileView
   pub grid : pile.grid ≡ g
@@ -39,13 +39,13 @@ pub record IsPileText (g : Grid) (IsWanted : (ℕ → ℕ) → Type 0) (pgm : Bo
   pub wanted : IsWanted (height_of pile)
   pub written : text ≡ pile_or_picture pgm pile
 
--- the identity of the group on the grid of these sides
+-- the identity of the group on a grid with these sides
 pub record IsIdentityText (width height : ℕ) (cylinder pgm : Bool) (text : List ℕ) : Type 0 where
   pub grid : Grid
   pub made : grid_with_edge width height (edge_of cylinder) ≡ Ok grid
   pub answer : IsPileText grid (IsIdentity grid) pgm text
 
--- the sum of the two piles that the input holds, which are recurrent and of one shape
+-- the sum of the two piles in the input, which are recurrent and of one shape
 pub record IsSumText (pgm : Bool) (input text : List ℕ) : Type 0 where
   pub first : PileView
   pub second : PileView
@@ -55,21 +55,21 @@ pub record IsSumText (pgm : Bool) (input text : List ℕ) : Type 0 where
   pub one_shape : first.grid ≡ second.grid
   pub answer : IsPileText first.grid (IsSum first.grid (height_of first) (height_of second)) pgm text
 
--- the inverse of the pile that the input holds, which is recurrent
+-- the inverse of the pile in the input, which is recurrent
 pub record IsInverseText (pgm : Bool) (input text : List ℕ) : Type 0 where
   pub pile : PileView
   pub read : pile_of input ≡ Ok pile
   pub recurrent : IsRecurrent pile.grid (height_of pile)
   pub answer : IsPileText pile.grid (IsInverse pile.grid (height_of pile)) pgm text
 
--- the n-fold sum of the pile that the input holds, which is recurrent
+-- the n-fold sum of the pile in the input, which is recurrent
 pub record IsMultipleText (n : ℕ) (pgm : Bool) (input text : List ℕ) : Type 0 where
   pub pile : PileView
   pub read : pile_of input ≡ Ok pile
   pub recurrent : IsRecurrent pile.grid (height_of pile)
   pub answer : IsPileText pile.grid (IsMultiple pile.grid n (height_of pile)) pgm text
 
--- the recurrent pile that is equivalent to the pile that the input holds
+-- the recurrent pile equivalent to the pile in the input
 pub record IsRecurrentText (pgm : Bool) (input text : List ℕ) : Type 0 where
   pub pile : PileView
   pub read : pile_of input ≡ Ok pile
@@ -77,32 +77,32 @@ pub record IsRecurrentText (pgm : Bool) (input text : List ℕ) : Type 0 where
 
 -- ---- the refusals
 
--- why a pile isn't recurrent: a height is over 3; or none is, and a set is forbidden
+-- why a pile is not recurrent: a height is over 3; or none is, and a set is forbidden
 abbrev pub IsUnfit : PileView → DeskFault → Type 0
 IsUnfit pile desk.Unstable = ¬ IsStable pile.grid (height_of pile)
 IsUnfit pile desk.NotRecurrent = IsStable pile.grid (height_of pile) × ¬ IsRecurrent pile.grid (height_of pile)
 IsUnfit pile fault = ⊥
 
--- the pile that the input holds isn't stable
+-- the pile in the input is not stable
 pub record IsUnstable (input : List ℕ) : Type 0 where
   pub pile : PileView
   pub read : pile_of input ≡ Ok pile
   pub high : ¬ IsStable pile.grid (height_of pile)
 
--- the pile that the input holds isn't recurrent
+-- the pile in the input is not recurrent
 pub record IsUnfitPile (input : List ℕ) (fault : DeskFault) : Type 0 where
   pub pile : PileView
   pub read : pile_of input ≡ Ok pile
   pub unfit : IsUnfit pile fault
 
--- the first of the two piles that the input holds isn't recurrent, or it is and the second isn't
+-- the first of the two piles in the input is not recurrent, or it is and the second is not
 pub record IsUnfitPair (input : List ℕ) (fault : DeskFault) : Type 0 where
   pub first : PileView
   pub second : PileView
   pub read : two_of input ≡ Ok (first, second)
   pub unfit : IsUnfit first fault ⊎ (IsRecurrent first.grid (height_of first) × IsUnfit second fault)
 
--- the two piles that the input holds are recurrent, and of different shapes
+-- the two piles in the input are recurrent, and of different shapes
 pub record IsMismatch (input : List ℕ) : Type 0 where
   pub first : PileView
   pub second : PileView

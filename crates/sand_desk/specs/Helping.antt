@@ -1,17 +1,17 @@
--- How a program ends that shows the help which the words asked for.
+-- How the program ends when it shows the help that the words asked for.
 use Rattle.std.specs.Prelude.{ℕ, ◌≡◌, ◌≢◌, ◌⊎◌, ◌≤◌, List, length, take, Option, None, IfSome}
 use Rattle.std.specs.Io.KnownBytes.{Appends, Keeps}
 use Rattle.sand_desk.specs.declared.faults.DeskFault.{DeskFault}
 use Rattle.sand_desk.specs.declared.faults.DeskFault.TheVariants.{Memory, Write}
 use Rattle.sand_desk.specs.Faults.{status_of}
 
--- the writer took a whole text: this one, if it is known
+-- the writer took a whole text, which is `known` if that is given
 pub record IsShown (known held held' : Option (List ℕ)) : Type 0 where
   pub text : List ℕ
   pub same : IfSome known (λ bytes. text ≡ bytes)
   pub written : Appends held held' text
 
--- the writer failed after it had taken so many bytes of a text: of this one, if it is known
+-- the writer failed after it took part of a text, which is `known` if that is given
 pub record IsShownInPart (known held held' : Option (List ℕ)) (ending : DeskFault) : Type 0 where
   pub text : List ℕ
   pub same : IfSome known (λ bytes. text ≡ bytes)
@@ -24,7 +24,7 @@ pub record IsShownInPart (known held held' : Option (List ℕ)) (ending : DeskFa
 abbrev pub IsUnshown : Option (List ℕ) → Option (List ℕ) → Option (List ℕ) → DeskFault → Type 0
 IsUnshown known held held' ending = IsShownInPart known held held' ending ⊎ ((ending ≡ Memory) × Keeps held held')
 
--- the words asked for help, and the writer took a whole text, of which clap does not say that it is the help
+-- the words asked for help, and the writer took a whole text; clap does not say that it is the help
 abbrev pub IsHelped : DeskFault → Option (List ℕ) → Option (List ℕ) → Type 0
 IsHelped fault held held' = (status_of fault ≡ 0) × IsShown None held held'
 

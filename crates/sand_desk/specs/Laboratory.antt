@@ -15,11 +15,10 @@ use Rattle.sand_lab.specs.Laws.{AskTheSame}
 use Rattle.sand_plan.specs.Plans.{all_drops}
 use Rattle.sand_lab.specs.Reports.{SheetView, ReportView, IsReport}
 
--- what a record came to
 abbrev pub sums_of : RecordView → Sums
 sums_of r = record { drops = length r.history; topplings = r.settled.topplings; lost = r.settled.lost; grains = sum r.settled.pile.heights }
 
--- the sums of each epoch and of all, the last pile, and how often each site toppled
+-- the sums of each epoch and of all epochs, the last pile, and how often each site toppled
 abbrev pub lab_text_of_report : ReportView → List ℕ
 lab_text_of_report p = lab_text_of (map sums_of p.records) (sums_of p.total) p.total.settled.pile p.total.settled.odometer
 
@@ -30,13 +29,13 @@ dropper_and_site e = (e.dropper, e.site)
 abbrev pub journal_text_of_report : ReportView → List ℕ
 journal_text_of_report p = journal_text_of (map (λ (s : SheetView). map dropper_and_site s.journal) p.sheets)
 
--- the text, with the journal if that is wanted, or the last pile alone, as text or as a picture
+-- the text, with the journal if wanted, or only the last pile, as text or as a picture
 abbrev pub report_text_of : Bool → Form → ReportView → List ℕ
 report_text_of journal Text p = lab_text_of_report p ++ (if journal then journal_text_of_report p else [])
 report_text_of journal Pile p = text_of p.total.settled.pile
 report_text_of journal Picture p = pgm_text_of p.total.settled.pile
 
--- the text of some report of the run that is wished for, from the pile that the input holds
+-- the text of some report of the wished run, from the pile in the input
 pub record IsLabText (w : Wish) (journal : Bool) (form : Form) (input text : List ℕ) : Type 0 where
   pub start : PileView
   pub album : List ℕ
@@ -45,18 +44,18 @@ pub record IsLabText (w : Wish) (journal : Bool) (form : Form) (input text : Lis
   pub left : IsReport album w start report
   pub written : text ≡ report_text_of journal form report
 
--- without its journal there is one text for an input, a seed, and numbers of droppers, drops and epochs
+-- without the journal, the text is determined by the input, the seed, and the numbers of droppers, drops and epochs
 abbrev pub OneLabText : Type 0
 OneLabText = (w v : Wish) (form : Form) (input one other : List ℕ) → AskTheSame w v
     → IsLabText w false form input one → IsLabText v false form input other → one ≡ other
 
--- the grains of the pile, with all drops, exceed the limit
+-- the pile and all drops exceed the grain limit
 pub record IsOvergrown (w : Wish) (input : List ℕ) : Type 0 where
   pub start : PileView
   pub read : pile_of input ≡ Ok start
   pub over : most_grains < sum start.heights + all_drops w
 
--- the grains of the pile, with all drops, are within the limit
+-- the pile and all drops are within the grain limit
 pub record IsRunnable (w : Wish) (input : List ℕ) : Type 0 where
   pub start : PileView
   pub read : pile_of input ≡ Ok start

@@ -13,13 +13,13 @@ abbrev pub pile_or_picture : Bool → PileView → List ℕ
 pile_or_picture false pile = text_of pile
 pile_or_picture true pile = pgm_text_of pile
 
--- the text of a settled record, or its pile alone, as text or as a picture
+-- the text of a settled record, or only its pile, as text or as a picture
 abbrev pub record_in : Form → SettledView → List ℕ
 record_in Text settled = settle_text_of settled
 record_in Pile settled = text_of settled.pile
 record_in Picture settled = pgm_text_of settled.pile
 
--- the settled record of the pile that the input holds, in this form
+-- the settled record of the pile in the input, in this form
 pub record IsSettleText (form : Form) (input text : List ℕ) : Type 0 where
   pub pile : PileView
   pub settled : SettledView

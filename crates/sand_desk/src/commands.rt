@@ -1,8 +1,8 @@
-//! A command, from its words and its input to the text that it writes.
+//! Runs a command: from its words and its input to the text that it writes.
 //!
-//! Faults come in one order: misuse of the words; the reader's, too much input or out of memory, whichever is met
-//! first; the input's; the command's own; out of memory for the text; the writer's. Nothing is written before the
-//! whole text is there, or, of drops at random, before nothing but the writer can fail.
+//! Faults are reported in this order: misuse of the words; a failing reader, too much input or out of memory, whichever
+//! comes first; faults of the input; faults of the command; out of memory for the text; a failing writer. Nothing is
+//! written before the whole text is ready or, in `drops --count`, before only the writer can fail.
 
 ghost use Rattle.std.specs.Prelude.{◌≡◌, ◌≢◌, ◌+◌, ◌≤◌, ◌<◌, true, length, map, string_bytes, IfOk, IfErr, OnOk, IsErrOf};
 ghost use Rattle.sand_text.specs.Flow.{IsFurther, IsFurtherByAtMost, IsOfReading, most_bytes};
@@ -24,7 +24,7 @@ use std::alloc::Global;
 use std::io::{Read, Write};
 use std::thread::Threads;
 
-// The input of a task: all that the reader gives, or nothing for a task that reads none.
+// The task's input: everything the reader has, or nothing if the task reads none.
 fn take_input<R: Read>(alloc: Global, task: Task, reader: &mut R) -> Result<Vec<u8>, StreamFault>
     ensures taken { IfOk result (λ input. Takes (reads_input task) (R.remaining reader.old) (R.remaining reader.new) input.items) }
     ensures within { IfOk result (λ input. length input.items ≤ most_bytes) }
@@ -75,7 +75,7 @@ fn perform<T: Threads + Sync, G: Gate>(
     }
 }
 
-// Does a task and writes its text: that of drops at random while they are made, and any other when the whole of it is there.
+// Does a task and writes its text: drops at random are written as they are made, any other text once it is complete.
 fn carry_out<T: Threads + Sync, G: Gate, W: Write>(
     rt: &T,
     alloc: Global,
@@ -100,13 +100,13 @@ fn carry_out<T: Threads + Sync, G: Gate, W: Write>(
     Ok(())
 }
 
-/// Runs the command that the words name, the program's name being the first: reads all input, and writes the whole text
-/// of the command or, if it finds a fault, nothing.
+/// Runs the command that the words name (the first word is the program's name). Reads all input, then writes the
+/// command's whole text or, if there is a fault, nothing.
 ///
-/// The faults, in this order: words that the command line does not take (Usage) and options that do not go together
-/// (Clash), and then nothing is read; a reader that fails (Read), more than 1,048,576 bytes (TooLong) or out of memory,
-/// whichever comes first; the faults of the text; those of the command; out of memory for the text; a writer that fails
-/// (Write, with how many bytes it took).
+/// Faults, in this order: words that the command line rejects (`Usage`) or options that exclude each other (`Clash`),
+/// before anything is read; a reader that fails (`Read`), more than 1,048,576 bytes (`TooLong`) or out of memory,
+/// whichever comes first; faults of the text; faults of the command; out of memory for the text; a writer that fails
+/// (`Write`, with the number of bytes it took).
 pub fn run_command<T: Threads + Sync, R: Read, W: Write>(
     rt: &T,
     alloc: Global,
@@ -125,7 +125,8 @@ pub fn run_command<T: Threads + Sync, R: Read, W: Write>(
     run_gated_command(rt, alloc, &Open, words, reader, writer)
 }
 
-/// Does the same, and calls a gate before each drop of `drops --count`, and before the turns of `lab` as `sand_lab::run` does.
+/// Like `run_command`, with a gate that is called before each drop of `drops --count`, and in `lab` as by
+/// `sand_lab::run`.
 pub fn run_gated_command<T: Threads + Sync, G: Gate, R: Read, W: Write>(
     rt: &T,
     alloc: Global,

@@ -1,8 +1,9 @@
-//! The command `drops` at the sites of a stream, which writes while it drops.
+//! The command `drops` at the sites of a stream. It writes while it drops.
 //!
-//! The rows go out in blocks while grains fall, so memory does not grow with the drops. After the first byte nothing but the
-//! writer can fail: whether there is room for all grains is known before the first drop, and no drop takes memory. If the
-//! writer fails, the drops that were not made would have led to the rest of a text, for on any stable pile a grain settles.
+//! Rows are written in blocks, so memory does not grow with the number of drops. After the first byte only the writer
+//! can fail: room for all grains is checked before the first drop, and a drop allocates nothing. If the writer fails,
+//! what it took is the start of a whole text: on a stable pile every grain settles, so the missing drops could have
+//! been made.
 
 ghost use Rattle.std.specs.Prelude.{◌≡◌, ◌+◌, ◌≤◌, [], Some, IfErr, OnOk};
 ghost use Rattle.sand_model.specs.Grid.{sites};
@@ -34,7 +35,7 @@ fn head_of(part: Part) -> &'static [u8]
     }
 }
 
-// Adds the row of a drop, unless the pile alone is wanted.
+// Appends the row of a drop, unless only the pile is wanted.
 fn push_row<W: Write>(
     blocks: &mut Blocks,
     writer: &mut W,
@@ -51,7 +52,7 @@ fn push_row<W: Write>(
     }
 }
 
-// Drops grains at the sites of a draw, each read as its grain drops, and adds the row of each.
+// Drops grains at the sites of a draw, reading each site as its grain drops, and appends a row for each.
 fn drop_drawn<G: Gate, W: Write>(
     gate: &G,
     pile: &mut DrivenPile,
@@ -80,7 +81,6 @@ fn drop_drawn<G: Gate, W: Write>(
     Ok(())
 }
 
-// Adds the pile, and the sums since the start.
 fn push_pile_and_sums<W: Write>(
     blocks: &mut Blocks,
     writer: &mut W,
@@ -94,7 +94,7 @@ fn push_pile_and_sums<W: Write>(
     blocks.push_sum(writer, "topplings ", last.topplings())
 }
 
-// Adds what is behind the rows.
+// Appends what follows the rows.
 fn push_end<W: Write>(
     blocks: &mut Blocks,
     writer: &mut W,
@@ -111,8 +111,8 @@ fn push_end<W: Write>(
     }
 }
 
-/// Drops grains on the pile that the input holds, at the sites of a stream, and writes the text of the drops meanwhile, or the
-/// part of it that is wanted. The gate is called before each drop.
+/// Drops grains on the pile in the input, at the sites of a stream, and meanwhile writes the wanted part of the text.
+/// Calls the gate before each drop.
 pub(crate) fn drawn_drops<G: Gate, W: Write>(
     alloc: Global,
     gate: &G,

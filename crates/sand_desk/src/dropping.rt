@@ -1,4 +1,4 @@
-//! The command `drops` at the sites that the input has behind its pile.
+//! The command `drops` at the sites listed after the pile in the input.
 
 ghost use Rattle.std.specs.Prelude.{◌≡◌, ◌+◌, ◌<◌, [], ◌∷◌, ◌++◌, false, length, vec_len, vec_capacity, if◌then◌else◌, All, None, IfOk, IfErr, OnOk, IsOkUnless};
 ghost use Rattle.sand_model.specs.Grid.{sites};
@@ -14,7 +14,7 @@ use sand_settle::{Avalanche, DrivenPile, Settled};
 use sand_text::push_sum;
 use std::alloc::{AllocError, Global};
 
-// A list with room for a row of each drop, or with none if the pile alone is wanted.
+// A list with room for a row per drop, or for none if only the pile is wanted.
 fn list_of_rows(
     alloc: Global,
     drops: usize,
@@ -31,7 +31,7 @@ fn list_of_rows(
     }
 }
 
-// Notes a drop's number and avalanche, unless the pile alone is wanted.
+// Records a drop's number and avalanche, unless only the pile is wanted.
 fn note(rows: &mut Vec<(u64, Avalanche)>, row: (u64, Avalanche), alone: bool)
     requires { alone ≡ false → vec_len rows.old < vec_capacity rows.old }
     ensures rows { rows.new.items ≡ (if alone then rows.old.items else rows.old.items ++ row ∷ []) }
@@ -43,7 +43,7 @@ fn note(rows: &mut Vec<(u64, Avalanche)>, row: (u64, Avalanche), alone: bool)
     }
 }
 
-// Drops a grain at each site in turn, and notes each drop's number and avalanche, unless the pile alone is wanted.
+// Drops a grain at each site in turn and records its row, unless only the pile is wanted.
 fn drop_all(
     alloc: Global,
     pile: &mut DrivenPile,
@@ -63,7 +63,7 @@ fn drop_all(
     Ok(rows)
 }
 
-// The table of the drops, the pile that they leave, and the sums since the start.
+// The table of the drops, the final pile, and the sums since the start.
 fn drops_text(
     alloc: Global,
     rows: &[(u64, Avalanche)],
@@ -80,7 +80,7 @@ fn drops_text(
     Ok(text)
 }
 
-// The part that is wanted of the text of the drops.
+// The wanted part of the text of the drops.
 fn part_text(
     alloc: Global,
     rows: &[(u64, Avalanche)],
@@ -106,7 +106,7 @@ fn is_pile(part: Part) -> bool
     }
 }
 
-/// The text of the drops on the settled pile that the input holds, at the sites behind it, or the part of it that is wanted.
+/// The wanted part of the text of the drops on the settled pile in the input, at the sites listed after it.
 pub(crate) fn listed_drops(alloc: Global, input: &[u8], part: Part) -> Result<Vec<u8>, DeskFault>
     ensures text { IfOk result (λ text. IsDropsText None part input.now text.items) }
     ensures fault { IfErr result (Finds (IsDropsFault None input.now)) }

@@ -1,4 +1,4 @@
-//! Why a command ended before its text was written: the fault, its number and name, its line and the exit status.
+//! The faults of commands: number, name, line and exit status.
 
 ghost use Rattle.std.specs.Prelude.{◌≡◌, ◌≢◌, ℕ, ◌+◌, ◌<◌, ◌≤◌, List, [], ◌++◌, length, take, codes, decimal, OnOk, IfErr};
 ghost use Rattle.std.specs.Io.KnownBytes.{Appends};
@@ -18,7 +18,7 @@ use std::alloc::AllocError;
 use std::io::Write;
 use thiserror::Error;
 
-/// Why a command ended before its text was written.
+/// Why a command ended without writing all of its text.
 #[derive(Debug, Drop, Error)]
 pub enum DeskFault {
     #[error("width or height outside 1 to 256")]
@@ -39,7 +39,7 @@ pub enum DeskFault {
     Shapes,
     #[error("the album's place of an epoch was set before")]
     Taken,
-    /// A byte that is in no text of a pile, with its offset; or fewer than two numbers, with the text's length.
+    /// A byte that cannot be in the text of a pile, with its offset; or fewer than two numbers, with the text's length.
     #[error("not the text of a pile, at byte {0}")]
     Text(usize),
     /// A number over the grain limit, with the offset of its first byte.
@@ -47,20 +47,20 @@ pub enum DeskFault {
     TooLarge(usize),
     #[error("the reader failed")]
     Read,
-    /// The writer failed after it took so many bytes.
+    /// The writer failed, with the number of bytes it took.
     #[error("the writer failed after {0} bytes")]
     Write(usize),
     #[error("more input than the limit")]
     TooLong,
-    /// The command line was refused, or it asks for help.
+    /// The command line was rejected, or it asks for help.
     #[error("{0}")]
     Usage(clap::Error),
-    /// The command line has options that do not go together.
+    /// The command line combines options that exclude each other.
     #[error("{0}")]
     Clash(Conflict),
     #[error("a cylinder of width below 3")]
     Narrow,
-    /// A drop at a site that the grid hasn't got, with its index among the drops.
+    /// A drop at a site outside the grid, with its index among the drops.
     #[error("no such site, at drop {0}")]
     NoSite(usize),
 }
@@ -194,7 +194,7 @@ impl From<AllocError> for DeskFault {
     }
 }
 
-/// The exit status of a program that ends with this fault: 2 for misuse, 0 for a call for help, else 1.
+/// The exit status of a program that ends with this fault: 2 for misuse, 0 for a call for help, 1 otherwise.
 pub fn status(fault: &DeskFault) -> u8
     ensures { result ≡ status_of fault.now }
 {
@@ -233,7 +233,7 @@ fn name(fault: &DeskFault) -> &'static str
     }
 }
 
-/// The most bytes that the line of a fault may have.
+/// The maximum length of a fault's line, in bytes.
 const LINE_ROOM: usize = 64;
 
 fn push(line: &mut ArrayString<LINE_ROOM>, part: &str)
@@ -243,7 +243,7 @@ fn push(line: &mut ArrayString<LINE_ROOM>, part: &str)
     let _ = line.try_push_str(part);
 }
 
-// Where in the input the fault is, or after how many bytes of the output.
+// Appends where in the input the fault is, or how many bytes of the output were written.
 fn push_place(line: &mut ArrayString<LINE_ROOM>, fault: &DeskFault)
     requires { array_string_len line.old ≤ 34 }
     ensures place { line.new.bytes ≡ line.old.bytes ++ place_of fault.now }
@@ -263,7 +263,6 @@ fn push_place(line: &mut ArrayString<LINE_ROOM>, fault: &DeskFault)
     }
 }
 
-// The line that reports a fault.
 fn line_of(fault: &DeskFault) -> ArrayString<LINE_ROOM>
     ensures { result.bytes ≡ fault_line fault.now }
 {
@@ -278,8 +277,8 @@ fn line_of(fault: &DeskFault) -> ArrayString<LINE_ROOM>
     line
 }
 
-/// Writes the line of a fault, as `fault 18 Text at 6` and a newline. It takes no memory. Refuses a writer that fails,
-/// with how many of the line's first bytes it took (Write).
+/// Writes the line of a fault, such as `fault 18 Text at 6`, and a newline. Allocates nothing. Fails if the writer
+/// fails (`Write`, with the number of bytes it took).
 pub fn write_fault<W: Write>(fault: &DeskFault, writer: &mut W) -> Result<(), DeskFault>
     requires { number_of fault.now ≢ 23 }
     ensures ok { OnOk result (Appends (W.contents writer.old) (W.contents writer.new) (fault_line fault.now)) }

@@ -14,7 +14,7 @@ use sand_group::{Recurrent, add, burn, equivalent_recurrent, identity, inverse, 
 use sand_model::{Edge, Pile, Shape};
 use std::alloc::Global;
 
-// The text of a stable pile, or its picture.
+// A stable pile, as text or as a picture.
 fn pile_or_picture(alloc: Global, pile: &Pile, pgm: bool) -> Result<Vec<u8>, DeskFault>
     requires { IsStable pile.now.grid (height_of pile.now) }
     ensures text { IfOk result (λ text. text.items ≡ pile_or_picture pgm pile.now) }
@@ -27,7 +27,7 @@ fn pile_or_picture(alloc: Global, pile: &Pile, pgm: bool) -> Result<Vec<u8>, Des
     }
 }
 
-/// What the burning test finds in the pile that the input holds. Refuses a pile that isn't stable (Unstable).
+/// The result of the burning test on the pile in the input. Fails if the pile is not stable (`Unstable`).
 pub(crate) fn burn_input(alloc: Global, input: &[u8]) -> Result<Vec<u8>, DeskFault>
     ensures text { IfOk result (λ text. IsBurnText input.now text.items) }
     ensures fault { IfErr result (Finds (IsBurnFault input.now)) }
@@ -43,7 +43,7 @@ fn edge_of(cylinder: bool) -> Edge
     if cylinder { Edge::Cylinder } else { Edge::Open }
 }
 
-/// The identity of the group on a grid, as text or as a picture. Refuses a shape that there isn't (Side, Narrow).
+/// The identity of the group on a grid, as text or as a picture. Fails for an invalid shape (`Side`, `Narrow`).
 pub(crate) fn identity_text(
     alloc: Global,
     width: usize,
@@ -59,8 +59,8 @@ pub(crate) fn identity_text(
     pile_or_picture(alloc, neutral.pile(), pgm)
 }
 
-/// The sum of the two piles that the input holds, as text or as a picture. Refuses the first pile, then the second, if
-/// it isn't recurrent (Unstable, NotRecurrent), then two shapes (Shapes).
+/// The sum of the two piles in the input, as text or as a picture. Fails if the first pile is not recurrent, then if
+/// the second is not (`Unstable`, `NotRecurrent`), then if the shapes differ (`Shapes`).
 pub(crate) fn sum_input(alloc: Global, input: &[u8], pgm: bool) -> Result<Vec<u8>, DeskFault>
     ensures text { IfOk result (λ text. IsSumText pgm input.now text.items) }
     ensures fault { IfErr result (Finds (IsSumFault input.now)) }
@@ -72,8 +72,8 @@ pub(crate) fn sum_input(alloc: Global, input: &[u8], pgm: bool) -> Result<Vec<u8
     pile_or_picture(alloc, sum.pile(), pgm)
 }
 
-/// The inverse of the pile that the input holds, as text or as a picture. Refuses a pile that isn't recurrent (Unstable,
-/// NotRecurrent).
+/// The inverse of the pile in the input, as text or as a picture. Fails if that pile is not recurrent (`Unstable`,
+/// `NotRecurrent`).
 pub(crate) fn inverse_input(alloc: Global, input: &[u8], pgm: bool) -> Result<Vec<u8>, DeskFault>
     ensures text { IfOk result (λ text. IsInverseText pgm input.now text.items) }
     ensures fault { IfErr result (Finds (IsElementFault input.now)) }
@@ -84,8 +84,8 @@ pub(crate) fn inverse_input(alloc: Global, input: &[u8], pgm: bool) -> Result<Ve
     pile_or_picture(alloc, inverse.pile(), pgm)
 }
 
-/// The sum of `times` copies of the pile that the input holds, as text or as a picture. Refuses a pile that isn't recurrent
-/// (Unstable, NotRecurrent).
+/// The sum of `times` copies of the pile in the input, as text or as a picture. Fails if that pile is not recurrent
+/// (`Unstable`, `NotRecurrent`).
 pub(crate) fn multiple_input(
     alloc: Global,
     input: &[u8],
@@ -101,8 +101,8 @@ pub(crate) fn multiple_input(
     pile_or_picture(alloc, sum.pile(), pgm)
 }
 
-/// The recurrent pile that is equivalent to the pile that the input holds, as text or as a picture. Every pile has one, so
-/// only the text is refused.
+/// The recurrent pile equivalent to the pile in the input, as text or as a picture. Every pile has one, so only the
+/// input text can be at fault.
 pub(crate) fn recurrent_input(alloc: Global, input: &[u8], pgm: bool) -> Result<Vec<u8>, DeskFault>
     ensures text { IfOk result (λ text. IsRecurrentText pgm input.now text.items) }
     ensures fault { IfErr result (Finds (IsUnreadable (pile_of input.now))) }

@@ -1,4 +1,4 @@
-//! Help: what the words ask for in place of a task, and how a program ends that shows it.
+//! Help: whether the words ask for it, and how the program ends that shows it.
 
 ghost use Rattle.std.specs.Prelude.{◌≢◌, IfErr, OnOk};
 ghost use Rattle.sand_desk.specs.Faults.{status_of};
@@ -10,8 +10,8 @@ use std::alloc::Global;
 use std::fmt::Display;
 use std::io::Write;
 
-// Writes the text of a value. It is generic, so that its contract can name the text: a type says which text its values
-// have, and clap's error does not.
+// Writes the text of a value. It is generic so that its contract can name the text as `D.output`; clap's error does not
+// specify its own.
 fn show<D: Display, W: Write>(alloc: Global, value: &D, writer: &mut W) -> Result<(), DeskFault>
     ensures shown { OnOk result (IsShown (D.output value.now) (W.contents writer.old) (W.contents writer.new)) }
     ensures fault { IfErr result (IsUnshown (D.output value.now) (W.contents writer.old) (W.contents writer.new)) }
@@ -21,10 +21,10 @@ fn show<D: Display, W: Write>(alloc: Global, value: &D, writer: &mut W) -> Resul
     Ok(())
 }
 
-/// Writes the help that the words asked for, as a fault of `run_command` says.
+/// Writes the help that the words asked for, given the fault that `run_command` returned.
 ///
-/// Fails if the writer fails (Write, with how many bytes it took) or if memory runs out for the text (Memory). Any other
-/// fault is returned unchanged, and nothing is written. No fault that is returned has status 0.
+/// Fails if the writer fails (`Write`, with the number of bytes it took) or memory runs out for the text (`Memory`).
+/// Any other fault is returned unchanged, and nothing is written. No returned fault has status 0.
 pub fn show_help<W: Write>(alloc: Global, fault: DeskFault, writer: &mut W) -> Result<(), DeskFault>
     ensures shown { OnOk result (IsHelped fault (W.contents writer.old) (W.contents writer.new)) }
     ensures fault { IfErr result (IsUnhelped fault (W.contents writer.old) (W.contents writer.new)) }

@@ -21,7 +21,6 @@ use sand_text::{Sums, push_journal_head, push_journal_line};
 use std::alloc::{AllocError, Global};
 use std::thread::Threads;
 
-// What a record came to.
 fn sums_of(record_of: &Record) -> Sums
     ensures { result ≡ sums_of record_of.now }
 {
@@ -33,7 +32,6 @@ fn sums_of(record_of: &Record) -> Sums
     }
 }
 
-// What each epoch of a report came to.
 fn sums_of_all(alloc: Global, records: &[Record]) -> Result<Vec<Sums>, AllocError>
     ensures { IfOk result (λ v. v.items ≡ map sums_of records.now) }
 {
@@ -44,7 +42,7 @@ fn sums_of_all(alloc: Global, records: &[Record]) -> Result<Vec<Sums>, AllocErro
     Ok(sums)
 }
 
-/// The text of a report: the sums of each epoch and of all, the last pile, and how often each site toppled.
+/// The text of a report: the sums of each epoch and of all epochs, the last pile, and how often each site toppled.
 pub fn lab_text(alloc: Global, report: &Report) -> Result<Vec<u8>, DeskFault>
     ensures text { IfOk result (λ text. text.items ≡ lab_text_of_report report.now) }
     ensures memory { IsOkUnless result DeskFault.Memory }
@@ -60,7 +58,7 @@ pub fn lab_text(alloc: Global, report: &Report) -> Result<Vec<u8>, DeskFault>
     )?)
 }
 
-// Writes the lines of an epoch's drops, by number.
+// Appends a line for each drop of an epoch, by number.
 fn push_journal(text: &mut Vec<u8>, epoch: u32, journal: &[Entry]) -> Result<(), AllocError>
     ensures { OnOk result (text.new.items ≡ text.old.items ++ journal_lines epoch (map dropper_and_site journal.now)) }
 {
@@ -70,7 +68,6 @@ fn push_journal(text: &mut Vec<u8>, epoch: u32, journal: &[Entry]) -> Result<(),
     Ok(())
 }
 
-// Writes the journal of a report.
 fn push_journals(text: &mut Vec<u8>, report: &Report) -> Result<(), AllocError>
     ensures { OnOk result (text.new.items ≡ text.old.items ++ journal_text_of_report report.now) }
 {
@@ -92,7 +89,7 @@ pub fn journal_text(alloc: Global, report: &Report) -> Result<Vec<u8>, DeskFault
     Ok(text)
 }
 
-// The plan of a run that the command line asks for, with all of its settings.
+// The plan of the run that the command line asks for, with all of its settings.
 fn plan_of(wish: Wish) -> Plan
     requires { IsRun wish }
     ensures { result ≡ wish }
@@ -103,7 +100,7 @@ fn plan_of(wish: Wish) -> Plan
     plan
 }
 
-// Runs what is wished for from a start, by as many threads.
+// Runs a wish from a starting pile, on as many threads as it asks for.
 fn report_on<T: Threads + Sync, G: Gate>(
     rt: &T,
     alloc: Global,
@@ -128,7 +125,7 @@ fn report_on<T: Threads + Sync, G: Gate>(
     }
 }
 
-// The text of a report, with its journal if that is wanted.
+// The text of a report, with its journal if wanted.
 fn whole_text(alloc: Global, report: &Report, journal: bool) -> Result<Vec<u8>, DeskFault>
     ensures text { IfOk result (λ text. text.items ≡ report_text_of journal forms.Text report.now) }
     ensures memory { IsOkUnless result DeskFault.Memory }
@@ -140,7 +137,7 @@ fn whole_text(alloc: Global, report: &Report, journal: bool) -> Result<Vec<u8>, 
     Ok(text)
 }
 
-// The text of a report, with its journal if that is wanted, or its last pile alone, as text or as a picture.
+// The text of a report, with its journal if wanted, or only its last pile, as text or as a picture.
 fn report_text(
     alloc: Global,
     report: &Report,
@@ -158,9 +155,8 @@ fn report_text(
     }
 }
 
-/// What a run of the laboratory leaves that starts from the pile which the input holds: text, with its journal if that is
-/// wanted, or its last pile alone, as text or as a picture. Refuses more grains than the limit with all drops
-/// (TooManyGrains).
+/// The result of a run on the pile in the input: text, with its journal if wanted, or only the last pile, as text or as
+/// a picture. Fails if the pile and all drops exceed the grain limit (`TooManyGrains`).
 pub(crate) fn lab_input<T: Threads + Sync, G: Gate>(
     rt: &T,
     alloc: Global,

@@ -1,13 +1,14 @@
 //! The laws of the program, as the contracts of functions that do nothing.
 //!
-//! **One text.** The laboratory's law says that piles, odometers, sums and numbers of drops are a function of the start and
-//! of seed, droppers, drops and epochs; the text shows nothing else.
+//! **One text.** The laboratory's law says that piles, odometers, sums and numbers of drops are a function of the start
+//! and of seed, droppers, drops and epochs; the text shows nothing else.
 //!
-//! **One dropper.** A run of one epoch with one dropper drops on each site as often as `drops --count` of the same seed, for
-//! both read stream 0. What one thread leaves depends on these numbers alone.
+//! **One dropper.** In a run of one epoch with one dropper, each site receives as many drops as from `drops --count`
+//! with the same seed, since both read stream 0. These numbers alone determine the result of one thread.
 //!
-//! **Runs in parts.** A drop sees the pile before it and its site, and nothing else. So `drops --count M --from N` on the pile that
-//! `drops --count N` left makes the drops from number N on of one run of N + M, with the same numbers and avalanches.
+//! **Runs in parts.** A drop depends only on its site and on the pile before it. So `drops --count M --from N`, on the
+//! pile that `drops --count N` left, makes the last M drops of a single run of N + M, with the same numbers and
+//! avalanches.
 
 ghost use Rattle.sand_desk.specs.Drawing.{LeavesTheSame, RunsInParts, WritesTheSamePile};
 ghost use Rattle.sand_desk.specs.Faults.{KeepNumbers};
@@ -15,26 +16,27 @@ ghost use Rattle.sand_desk.specs.Laboratory.{OneLabText};
 
 use sand_lab::laws::one_outcome;
 
-/// However many threads swept and watched, and however the drops interleaved.
+/// Without its journal, the text of `lab` does not depend on how many threads sweep and watch, or on how the drops
+/// interleave.
 pub fn one_lab_text()
     ensures { OneLabText }
 {
     one_outcome();
 }
 
-/// `drops --count N --seed S` leaves the pile, the grains lost and the topplings of `lab --droppers 1 --drops N --seed S`, and
-/// with `--pile` both write the same text.
+/// `drops --count N --seed S` and `lab --droppers 1 --drops N --seed S` have the same final pile, grains lost and
+/// topplings; with `--pile` both write the same text.
 pub fn drops_of_one_dropper()
     ensures record { LeavesTheSame }
     ensures pile { WritesTheSamePile }
 {}
 
-/// A run, and then one with `--from` from the pile that it left, have the rows of one run, and leave its pile.
+/// A run, then one with `--from` on the resulting pile, have the rows and the final pile of a single run.
 pub fn runs_in_parts()
     ensures { RunsInParts }
 {}
 
-/// A fault of the crates below keeps its number when it becomes the program's.
+/// A fault of a lower crate keeps its number when it becomes the program's.
 pub fn one_number()
     ensures { KeepNumbers }
 {}

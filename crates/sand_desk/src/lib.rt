@@ -1,7 +1,7 @@
 //! The program's commands: from words and bytes to bytes.
 //!
-//! `commands` asks `sand_cli` for the task that the words name, reads the input, does the task and writes its text.
-//! `texts` has the readings and the texts of `sand_text`, `faults` the one fault type of it all, `helping` shows help, and
+//! `commands` gets the task from `sand_cli`, reads the input, does the task and writes its text. `texts` wraps the
+//! parsers and writers of `sand_text`, `faults` has the one fault type for all of this, `helping` shows help, and
 //! `version` writes the version.
 #![tactic(auto)]
 

@@ -13,7 +13,7 @@ use sand_cli::Form;
 use sand_settle::settle;
 use std::alloc::Global;
 
-/// The settled record of the pile that the input holds as text, or its pile alone, as text or as a picture.
+/// The settled record of the pile in the input as text, or only its pile, as text or as a picture.
 pub(crate) fn settle_input(alloc: Global, input: &[u8], form: Form) -> Result<Vec<u8>, DeskFault>
     ensures text { IfOk result (λ text. IsSettleText form input.now text.items) }
     ensures fault { IfErr result (Finds (IsUnreadable (pile_of input.now))) }

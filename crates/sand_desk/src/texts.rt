@@ -1,4 +1,4 @@
-//! The readings and the texts of `sand_text`, with the program's faults.
+//! The parsers and writers of `sand_text`, with the program's faults.
 
 ghost use Rattle.std.specs.Prelude.{◌≡◌, IfOk, IsOkUnless};
 ghost use Rattle.sand_model.specs.Sand.{IsStable};
@@ -16,7 +16,7 @@ use sand_model::{Pile, Shape};
 use sand_settle::{Avalanche, Settled};
 use std::alloc::Global;
 
-/// The pile that a text holds. Every fault of the text is found before anything grows, and out of memory comes last.
+/// Parses a pile. Every fault of the text is found before anything is allocated, so out of memory comes last.
 pub fn read_pile(alloc: Global, text: &[u8]) -> Result<Pile, DeskFault>
     ensures { ReadsAs (λ pile. pile) result (pile_of text.now) }
 {
@@ -48,16 +48,16 @@ pub fn pgm_text(alloc: Global, pile: &Pile) -> Result<Vec<u8>, DeskFault>
     Ok(sand_text::pgm_text(alloc, pile)?)
 }
 
-/// The two piles that a text holds, one after the other. Every fault of the text is found before anything grows, and want
-/// of memory comes last.
+/// Parses two piles, one after the other. Every fault of the text is found before anything is allocated, so out of
+/// memory comes last.
 pub fn read_two(alloc: Global, text: &[u8]) -> Result<(Pile, Pile), DeskFault>
     ensures { ReadsAs (λ piles. piles) result (two_of text.now) }
 {
     Ok(sand_text::read_two(alloc, text)?)
 }
 
-/// The text of what the burning test found on a grid of this shape: that the pile is recurrent, or the sites of its
-/// greatest forbidden set.
+/// The text of a burning test on a grid of this shape: that the pile is recurrent, or the sites of its greatest
+/// forbidden set.
 pub fn burn_text(alloc: Global, shape: Shape, burned: &Burned) -> Result<Vec<u8>, DeskFault>
     requires { AreSitesOf shape burned.now }
     ensures text { IfOk result (λ text. text.items ≡ burn_text_of shape burned.now) }
@@ -66,15 +66,15 @@ pub fn burn_text(alloc: Global, shape: Shape, burned: &Burned) -> Result<Vec<u8>
     Ok(sand_text::burn_text(alloc, shape, burned)?)
 }
 
-/// The pile that a text holds and the sites of the drops behind it. Every fault of the text is found before anything
-/// grows, and out of memory comes last.
+/// Parses a pile and the sites of the drops after it. Every fault of the text is found before anything is allocated, so
+/// out of memory comes last.
 pub fn read_drops(alloc: Global, text: &[u8]) -> Result<(Pile, Vec<usize>), DeskFault>
     ensures { ReadsAs (λ (pile, drops). (pile, drops.items)) result (drops_of text.now) }
 {
     Ok(sand_text::read_drops(alloc, text)?)
 }
 
-/// The table of drops: a first line that names the columns, then for each drop its number and its avalanche.
+/// The table of drops: a line with the column names, then the number and the avalanche of each drop.
 pub fn table_text(alloc: Global, rows: &[(u64, Avalanche)]) -> Result<Vec<u8>, DeskFault>
     ensures text { IfOk result (λ text. text.items ≡ table_text_of rows.now) }
     ensures memory { IsOkUnless result DeskFault.Memory }

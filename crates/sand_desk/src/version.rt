@@ -8,7 +8,7 @@ use crate::faults::DeskFault;
 use sand_text::write_text;
 use std::io::Write;
 
-/// Whether the words, of which the first is the program's name, ask for the version.
+/// Whether the words, starting with the program's name, ask for the version.
 pub fn asks_for_version(words: &[String]) -> bool
     ensures { result ≡ asks_for_version (map string_bytes words.now) }
 {
@@ -18,7 +18,7 @@ pub fn asks_for_version(words: &[String]) -> bool
     }
 }
 
-/// Writes the version. It takes no memory. Fails if the writer fails (Write, with how many bytes it took).
+/// Writes the version. Allocates nothing. Fails if the writer fails (`Write`, with the number of bytes it took).
 pub fn write_version<W: Write>(writer: &mut W) -> Result<(), DeskFault>
     ensures ok { OnOk result (Appends (W.contents writer.old) (W.contents writer.new) version_text) }
     ensures err { IfErr result (λ e. (sent : ℕ) × (e ≡ DeskFault.Write sent) × (sent ≤ length version_text)

@@ -7,7 +7,6 @@ use Rattle.sand_lab.specs.Reports.{SheetView}
 use Rattle.sand_desk.specs.Laboratory.{dropper_and_site}
 use Rattle.sand_desk.proofs.laboratory.push_journals.Goals as goal
 
--- the drops of an epoch
 abbrev drops_of : SheetView → List (ℕ × ℕ)
 drops_of s = map dropper_and_site s.journal
 
