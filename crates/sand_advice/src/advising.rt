@@ -1,6 +1,6 @@
-//! What a person is told of a fault, beside its line: what was found in the input and where, and what to do.
+//! Advice to a person on a fault, in addition to its line: what was found in the input, where, and what to do.
 //!
-//! The input is looked at again, from its bytes alone. What a command promises does not depend on any of this.
+//! It examines the bytes of the input again. No promise of a command depends on any of this.
 
 use crate::faults::{Explained, of_fault};
 use crate::outline::Numbers;
@@ -11,7 +11,7 @@ use sand_desk::DeskFault;
 use sand_model::GRAIN_LIMIT;
 use std::alloc::{AllocError, Global};
 
-// An input that ends before it has a width and a height.
+// An input that ends before a width and a height.
 fn push_end(text: &mut String, refused: &Refused<'_>) -> Result<(), AllocError> {
     let (numbers, name) = match refused.first() {
         Some(first) => (first.drops(), "the second pile"),
@@ -33,7 +33,7 @@ fn push_end(text: &mut String, refused: &Refused<'_>) -> Result<(), AllocError> 
     }
 }
 
-// A byte that is in no text of a pile, or an input that ends too early.
+// A byte that cannot be in the text of a pile, or an input that ends too early.
 fn push_text(text: &mut String, refused: &Refused<'_>, at: usize) -> Result<(), AllocError> {
     let Some(byte) = refused.input.get(at) else {
         return push_end(text, refused);
@@ -53,7 +53,7 @@ fn push_large(text: &mut String, refused: &Refused<'_>, at: usize) -> Result<(),
     text.push_str("\n")
 }
 
-// More grains than the limit, with all drops.
+// A pile and drops that exceed the grain limit together.
 fn push_full(text: &mut String, refused: &Refused<'_>) -> Result<(), AllocError> {
     let Some(pile) = refused.first() else {
         return Ok(());
@@ -65,7 +65,7 @@ fn push_full(text: &mut String, refused: &Refused<'_>) -> Result<(), AllocError>
     text.push_str("\n")
 }
 
-// What was found in the input, if the fault is one of the input.
+// What was found in the input, if the fault is in the input.
 fn push_found(
     text: &mut String,
     alloc: Global,
@@ -88,7 +88,7 @@ fn push_found(
     }
 }
 
-// Whether the sentences on a fault's input say what to do, too.
+// Whether the sentences about the input also say what to do.
 fn says_what_to_do(fault: &DeskFault) -> bool {
     matches!(
         fault,
@@ -96,7 +96,7 @@ fn says_what_to_do(fault: &DeskFault) -> bool {
     )
 }
 
-// What is said of a fault of any input.
+// What to do about a fault, whatever the input.
 fn push_usual(
     text: &mut String,
     command: &str,
@@ -115,8 +115,8 @@ fn push_usual(
     text.push_str("\n")
 }
 
-/// What a person is told of a fault of a command, beside its line: one or two sentences, each with its line end. The input is
-/// what the command read, if that is known. Fails if memory runs out.
+/// The advice on a command's fault: one or two sentences, each with its line end. `input` is what the command read, if
+/// known. Fails if memory runs out.
 pub fn advice(
     alloc: Global,
     command: &str,

@@ -1,4 +1,4 @@
-//! The faults that a command may report: what each means, and what to do about it.
+//! The faults that a command may report: what each one means, and what to do about it.
 
 ghost use Rattle.std.specs.Prelude.{◌≢◌, IfErr};
 ghost use Rattle.sand_desk.specs.Faults.{status_of};
@@ -8,7 +8,7 @@ use sand_text::write_text;
 use std::alloc::{AllocError, Global};
 use std::io::Write;
 
-/// What is said of a fault. Its lines are at most 76 bytes long, since they are written with two spaces before them.
+/// The explanation of a fault. Its lines are at most 76 bytes long, because they are indented by two spaces.
 #[derive(Clone, Copy)]
 pub struct Explained {
     pub number: u32,
@@ -170,7 +170,7 @@ height, less 1.",
     },
 ];
 
-/// What `sandpile explain --help` writes.
+/// The help of `sandpile explain`.
 const EXPLAIN_HELP: &str = "\
 Says what a fault means, and what to do about it
 
@@ -192,7 +192,7 @@ Example:
     Make it wider, or leave out the letter c after the height, or --cylinder.
 ";
 
-/// What is said of the fault that has this number or this name, if a command may report it.
+/// The explanation of the fault with this number or name, if a command may report it.
 pub fn fault_named(word: &str) -> Option<&'static Explained> {
     let number = word.parse::<u32>().ok();
     FAULTS
@@ -200,13 +200,13 @@ pub fn fault_named(word: &str) -> Option<&'static Explained> {
         .find(|fault| number == Some(fault.number) || word == fault.name)
 }
 
-/// What is said of a fault, if it is one that a command may report.
+/// The explanation of a fault, if a command may report it.
 pub(crate) fn of_fault(fault: &DeskFault) -> Option<&'static Explained> {
     let number = fault.number();
     FAULTS.iter().find(|explained| explained.number == number)
 }
 
-// Adds the lines of a text, each with two spaces before it.
+// Appends lines, each indented by two spaces.
 fn push_indented(text: &mut String, lines: &str) -> Result<(), AllocError> {
     for line in lines.split('\n') {
         text.push_str("  ")?;
@@ -226,8 +226,8 @@ fn push_explained(text: &mut String, fault: &Explained) -> Result<(), AllocError
     push_indented(text, fault.remedy)
 }
 
-/// Writes what is said of these faults, with an empty line between two. Fails if memory runs out for the text (Memory), or if
-/// the writer fails (Write, with how many bytes it took).
+/// Writes the explanations of these faults, separated by empty lines. Fails if memory runs out for the text (`Memory`)
+/// or the writer fails (`Write`, with the number of bytes it took).
 pub fn write_explained<W: Write>(
     alloc: Global,
     faults: &[Explained],
@@ -246,7 +246,8 @@ pub fn write_explained<W: Write>(
     Ok(())
 }
 
-/// Writes the help of `sandpile explain`. It takes no memory. Fails if the writer fails (Write, with how many bytes it took).
+/// Writes the help of `sandpile explain`. Allocates nothing. Fails if the writer fails (`Write`, with the number of
+/// bytes it took).
 pub fn write_explain_help<W: Write>(writer: &mut W) -> Result<(), DeskFault>
     ensures { IfErr result (λ e. status_of e ≢ 0) }
 {

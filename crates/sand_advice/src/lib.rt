@@ -1,9 +1,8 @@
-//! What the program says to a person: of each fault what it means and what to do, of a refused input what was found and where,
-//! and of refused words how to write them.
+//! What the program says to a person: what a fault means and what to do, what is wrong with a rejected input and where,
+//! and how to write rejected words.
 //!
-//! `faults` has the table of faults, of which `sandpile explain` writes what it is asked for. `advising` looks at the input of
-//! a command that was refused, and says of it what the line of its fault leaves out. `misuse` looks at the words.
-//! `progress` says how far a long command is.
+//! `faults` has the table of faults that `sandpile explain` prints. `advising` examines a rejected input and adds what
+//! the line of its fault leaves out. `misuse` examines the words. `progress` shows how far a long command is.
 //!
 //! No script reads these texts, so no contract fixes their words: `cases/at-a-terminal` shows them.
 #![tactic(auto)]

@@ -1,8 +1,8 @@
-//! Tips for words that the command line refuses: a file's name, and a value that is no whole number.
+//! Tips for words that the command line rejects: a file's name, or a value that is not a whole number.
 
 use std::alloc::{AllocError, Global};
 
-/// The commands that read a pile from the standard input.
+/// The commands that read a pile from standard input.
 static READERS: [&str; 8] = [
     "settle",
     "burn",
@@ -17,7 +17,7 @@ static READERS: [&str; 8] = [
 /// The commands that read nothing.
 static OTHERS: [&str; 2] = ["identity", "explain"];
 
-/// The options that no value follows.
+/// The options without a value.
 static FLAGS: [&str; 7] = [
     "--pile",
     "--pgm",
@@ -28,12 +28,12 @@ static FLAGS: [&str; 7] = [
     "--version",
 ];
 
-/// A word that is refused, and perhaps why.
+/// A rejected word, and what may be wrong with it.
 #[derive(Clone, Copy)]
 enum Mistake<'a> {
-    /// A word where a command takes none. It may be a file's name.
+    /// A word that the command does not take. It may be a file's name.
     Stray(&'a str),
-    /// A value that is no whole number.
+    /// A value that is not a whole number.
     NotWhole(&'a str),
 }
 
@@ -46,24 +46,24 @@ pub fn is_command(word: &str) -> bool {
     reads_a_pile(word) || OTHERS.iter().any(|command| *command == word)
 }
 
-// Whether a word is a whole number, as options take it.
+// Whether a word is a whole number as options accept it.
 fn is_whole(word: &str) -> bool {
     let digits = word.strip_prefix('+').unwrap_or(word);
     !digits.is_empty() && digits.as_bytes().iter().all(|byte| byte.is_ascii_digit())
 }
 
-// Whether a shell takes a word as it is.
+// Whether a shell takes a word literally.
 fn is_plain(word: &str) -> bool {
     word.as_bytes().iter().all(|byte| byte.is_ascii_alphanumeric()
         || matches!(byte, b'.' | b'_' | b'-' | b'/'))
 }
 
-// Whether the word is an option that the next word gives a value.
+// Whether the word is an option that takes the next word as its value.
 fn awaits_value(word: &str) -> bool {
     word.starts_with("--") && !word.contains('=') && !FLAGS.iter().any(|flag| *flag == word)
 }
 
-// The mistake in a value, if there is one. Clap says enough of an empty value.
+// The mistake in a value, if there is one. For an empty value clap's message is enough.
 fn mistake_in_value(value: &str) -> Option<Mistake<'_>> {
     if value.is_empty() || value.starts_with("--") || is_whole(value) {
         None
@@ -89,7 +89,7 @@ fn mistake_in<'a>(before: &str, word: &'a str) -> Option<Mistake<'a>> {
     }
 }
 
-// The mistake with this index in the words that follow a command.
+// The mistake with this index in the words after a command.
 fn mistake_at<'a>(words: &'a [String], index: usize) -> Option<Mistake<'a>> {
     words
         .iter()
@@ -98,7 +98,7 @@ fn mistake_at<'a>(words: &'a [String], index: usize) -> Option<Mistake<'a>> {
         .nth(index)
 }
 
-// How a command reads a file.
+// The tip to read one file.
 fn push_reading(text: &mut String, command: &str, file: &str) -> Result<(), AllocError> {
     let file = if is_plain(file) { file } else { "FILE" };
     write!(
@@ -107,7 +107,7 @@ fn push_reading(text: &mut String, command: &str, file: &str) -> Result<(), Allo
     )
 }
 
-// How a command reads two files.
+// The tip to read two files.
 fn push_joining(text: &mut String, first: &str, second: &str) -> Result<(), AllocError> {
     let (first, second) = if is_plain(first) && is_plain(second) {
         (first, second)
@@ -120,7 +120,7 @@ fn push_joining(text: &mut String, first: &str, second: &str) -> Result<(), Allo
     )
 }
 
-// A tip for the words that follow a command.
+// A tip on the words after a command.
 fn push_tip(text: &mut String, command: &str, words: &[String]) -> Result<(), AllocError> {
     match (mistake_at(words, 0), mistake_at(words, 1)) {
         (Some(Mistake::NotWhole(value)), _) => {
@@ -140,12 +140,13 @@ fn push_tip(text: &mut String, command: &str, words: &[String]) -> Result<(), Al
     }
 }
 
-// Whether a word in the place of a command looks like a file's name.
+// Whether a word in place of a command looks like a file's name.
 fn is_file(word: &str) -> bool {
     !word.starts_with('-') && (word.contains('.') || word.contains('/'))
 }
 
-/// A tip for words that the command line refuses, the program's name being the first, or nothing. Fails if memory runs out.
+/// A tip on words that the command line rejects, or nothing. The first word is the program's name. Fails if memory runs
+/// out.
 pub fn tip(alloc: Global, words: &[String]) -> Result<String, AllocError> {
     let mut text = String::new(alloc);
     if let [_, after @ ..] = words {

@@ -1,18 +1,18 @@
-//! What an input says of its piles, as far as it goes: for inputs that were refused, so nothing here relies on more than bytes.
+//! The piles in an input, as far as it goes. The input was rejected, so nothing here relies on more than its bytes.
 
 ghost use Rattle.std.specs.Prelude.{length};
 ghost use Rattle.std.specs.Iterator.{at_most};
 
 use sand_model::{CYLINDER_WIDTH, GRAIN_LIMIT, SIDE_LIMIT, TOPPLING_HEIGHT};
 
-/// A number of an input, with the offset of its first digit. A value over the range is the greatest of the range.
+/// A number in an input, with the offset of its first digit. A value too large for its type is the type's maximum.
 #[derive(Clone, Copy)]
 pub(crate) struct Number {
     pub start: usize,
     pub value: u64,
 }
 
-/// The numbers of an input, from a place on.
+/// The numbers of an input, from an offset on.
 #[derive(Clone, Copy)]
 pub(crate) struct Numbers<'a> {
     at: usize,
@@ -23,7 +23,7 @@ fn is_digit(byte: u8) -> bool {
     byte.is_ascii_digit()
 }
 
-// The number that goes on with one digit more.
+// Appends a digit to a number.
 fn with_digit(value: u64, digit: u8) -> u64 {
     value
         .saturating_mul(10)
@@ -35,13 +35,13 @@ impl<'a> Numbers<'a> {
         Numbers { at: 0, rest: text }
     }
 
-    // Whether the letter of a cylinder is next.
+    // Whether the `c` of a cylinder is next.
     fn has_letter(&self) -> bool {
         let next = self.rest.iter().find(|byte| !byte.is_ascii_whitespace());
         next == Some(&b'c')
     }
 
-    // The numbers that are left after so many.
+    // The numbers after the first `count`.
     fn after(mut self, count: usize) -> Numbers<'a> {
         'numbers: for _ in 0..count {
             if self.next().is_none() {
@@ -79,7 +79,7 @@ impl<'a> Iterator for Numbers<'a> {
     }
 }
 
-/// Why a pile may be refused, if it is the first of two.
+/// What may be wrong with the first of two piles.
 #[derive(Clone, Copy)]
 pub(crate) enum Defect {
     Side,
@@ -90,18 +90,18 @@ pub(crate) enum Defect {
     Unstable,
 }
 
-/// What an input says of one pile.
+/// What an input says about one pile.
 #[derive(Clone, Copy)]
 pub(crate) struct Outline<'a> {
     pub width: Number,
     pub height: Number,
     pub is_cylinder: bool,
-    /// The numbers behind the sides, up to the end of the input.
+    /// The numbers after the sides, up to the end of the input.
     pub behind: Numbers<'a>,
 }
 
 impl<'a> Outline<'a> {
-    /// The pile that begins at a place, if both its sides are there.
+    /// The pile that starts here, if both its sides are there.
     pub(crate) fn at(mut numbers: Numbers<'a>) -> Option<Outline<'a>> {
         let width = numbers.next()?;
         let height = numbers.next()?;
@@ -113,12 +113,12 @@ impl<'a> Outline<'a> {
         })
     }
 
-    /// How many sites the sides make.
+    /// Width times height.
     pub(crate) fn sites(&self) -> usize {
         self.width.value.saturating_mul(self.height.value) as usize
     }
 
-    /// The heights that are there, at most one for each site.
+    /// The heights that are there, at most one per site.
     pub(crate) fn heights(&self) -> std::iter::Take<Numbers<'a>> {
         self.behind.take(self.sites())
     }
@@ -153,31 +153,31 @@ impl<'a> Outline<'a> {
         }
     }
 
-    /// The first site with more than 3 grains, and their number.
+    /// The first site with more than 3 grains, and its height.
     pub(crate) fn unstable(&self) -> Option<(usize, Number)> {
         self.heights()
             .enumerate()
             .find(|(_, height)| height.value >= TOPPLING_HEIGHT)
     }
 
-    /// The numbers behind the heights.
+    /// The numbers after the heights.
     pub(crate) fn drops(&self) -> Numbers<'a> {
         self.behind.after(self.sites())
     }
 
-    /// The pile behind this one, if both its sides are there.
+    /// The next pile, if both its sides are there.
     pub(crate) fn next(&self) -> Option<Outline<'a>> {
         Outline::at(self.drops())
     }
 }
 
-// How many numbers a line has.
+// The number of numbers in a line.
 fn numbers_in(line: &[u8]) -> usize {
     Numbers::new(line).count()
 }
 
-/// The columns and rows of an input whose lines all have as many numbers, and at least three, if the first line is therefore no
-/// size: a grid without its size.
+/// The columns and rows of a grid whose size is missing: all lines have the same number of numbers, at least three, so
+/// the first line is not a size.
 pub(crate) fn grid_without_size(text: &[u8]) -> Option<(usize, usize)> {
     let mut columns = 0;
     let mut rows = 0usize;

@@ -1,4 +1,4 @@
-//! What is said of piles that were refused: of their sides, their heights and their grains.
+//! What is said about the sides, the heights and the grains of a rejected pile.
 
 use crate::outline::{Defect, Outline, grid_without_size};
 use crate::pushing::{push_grouped, push_heights, push_place, push_sides};
@@ -51,7 +51,7 @@ pub(crate) fn push_narrow(text: &mut String, refused: &Refused<'_>) -> Result<()
     )
 }
 
-// Whether what follows the heights of a pile is one pile more.
+// Whether the heights of a pile are followed by exactly one more pile.
 fn is_followed(pile: &Outline<'_>) -> bool {
     match pile.next() {
         Some(second) => second.bad_side().is_none() && second.behind.count() == second.sites(),
@@ -59,7 +59,7 @@ fn is_followed(pile: &Outline<'_>) -> bool {
     }
 }
 
-// What to do about another number of heights.
+// What to do about a wrong number of heights.
 fn push_length_hint(
     text: &mut String,
     refused: &Refused<'_>,
@@ -77,7 +77,7 @@ fn push_length_hint(
     }
 }
 
-/// Another number of heights than sites.
+/// A wrong number of heights.
 pub(crate) fn push_length(text: &mut String, refused: &Refused<'_>) -> Result<(), AllocError> {
     let Some(found) = refused.culprit(Defect::Length) else {
         return Ok(());
@@ -145,7 +145,7 @@ pub(crate) fn push_shapes(text: &mut String, refused: &Refused<'_>) -> Result<()
     text.push_str("\n")
 }
 
-// What a pile is called that is not recurrent.
+// The name of the pile that is not recurrent.
 fn not_recurrent(alloc: Global, refused: &Refused<'_>) -> &'static str {
     if !refused.reads_two() {
         return "the pile";
@@ -170,7 +170,7 @@ pub(crate) fn push_forbidden(
     write!(text, "{name} has a forbidden set, so it is not recurrent\n")
 }
 
-/// A drop at a site that is not in the grid.
+/// A drop at a site outside the grid.
 pub(crate) fn push_no_site(
     text: &mut String,
     refused: &Refused<'_>,

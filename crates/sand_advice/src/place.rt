@@ -1,17 +1,17 @@
-//! Places in a text, as a person counts them: lines and columns, both from 1.
+//! Positions in a text as people count them: lines and columns, both from 1.
 
 ghost use Rattle.std.specs.Prelude.{◌≡◌, ◌≤◌, count_by, length, not, reverse};
 ghost use Rattle.std.specs.List.{take_while};
 ghost use Rattle.sand_advice.specs.Places.{ends_line, line_of, column_of};
 
-// How many lines end in a text.
+// The number of line ends in a text.
 fn line_ends(text: &[u8]) -> usize
     ensures { result ≡ count_by ends_line text.now }
 {
     text.iter().filter(|byte| **byte == b'\n').count()
 }
 
-// How many bytes a text has behind its last line end.
+// The number of bytes after the last line end of a text.
 fn last_line_len(text: &[u8]) -> usize
     ensures { result ≡ length (take_while (λ byte. not (ends_line byte)) (reverse text.now)) }
 {

@@ -1,4 +1,4 @@
-//! How far a long command is, in one line.
+//! The progress of a long command, in one line.
 
 use crate::pushing::push_grouped;
 use std::alloc::{AllocError, Global};
@@ -7,7 +7,7 @@ const MINUTE: u64 = 60;
 
 const HOUR: u64 = 60 * MINUTE;
 
-// Adds a time: `41 s`, `1 min 20 s`, `2 h 5 min`.
+// Appends a time: `41 s`, `1 min 20 s`, `2 h 5 min`.
 fn push_time(text: &mut String, seconds: u64) -> Result<(), AllocError> {
     let hours = seconds / HOUR;
     let minutes = seconds % HOUR / MINUTE;
@@ -19,14 +19,14 @@ fn push_time(text: &mut String, seconds: u64) -> Result<(), AllocError> {
     }
 }
 
-// A part of a number, rounded down: the number times `of`, divided by `by`.
+// `number` times `of`, divided by `by` and rounded down.
 fn scaled(number: u64, of: u64, by: u64) -> u64 {
     let product = u128::from(number).saturating_mul(u128::from(of));
     u64::try_from(product / u128::from(by.max(1))).unwrap_or(u64::MAX)
 }
 
-/// How many drops of how many are made, in percent too, after how many seconds, and how long the others take at this rate:
-/// `drops 3,400,000 of 10,000,000   34 %   41 s   1 min 19 s left`. Fails if memory runs out.
+/// The drops made, out of how many, in percent, the seconds so far, and the estimated time left: `drops 3,400,000 of
+/// 10,000,000   34 %   41 s   1 min 19 s left`. Fails if memory runs out.
 pub fn progress_line(
     alloc: Global,
     command: &str,

@@ -1,15 +1,15 @@
-//! A command that was refused, and which pile of its input a fault speaks of.
+//! A rejected command, and the pile of its input that a fault is about.
 
 use crate::outline::{Defect, Numbers, Outline};
 
-/// A command that was refused, and the bytes that it read.
+/// A rejected command, and the bytes that it read.
 #[derive(Clone, Copy)]
 pub(crate) struct Refused<'a> {
     pub command: &'a str,
     pub input: &'a [u8],
 }
 
-/// A pile of the input, and what a sentence calls it.
+/// A pile in the input, and its name in a sentence.
 #[derive(Clone, Copy)]
 pub(crate) struct Culprit<'a> {
     pub name: &'static str,
@@ -32,7 +32,7 @@ impl<'a> Refused<'a> {
         self.first()?.next()
     }
 
-    /// The pile with a defect. Of two it is the second, if it isn't the first.
+    /// The pile with a defect. If there are two, it is the second unless it is the first.
     pub(crate) fn culprit(&self, defect: Defect) -> Option<Culprit<'a>> {
         let first = self.first()?;
         if !self.reads_two() {

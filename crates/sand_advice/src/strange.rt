@@ -1,4 +1,4 @@
-//! What a byte that is in no text of a pile may mean.
+//! What a byte that cannot be in the text of a pile may mean.
 
 const SETTLED: &str = "\
 This looks like the text of settle, drops or lab. With --pile they write the
@@ -53,8 +53,7 @@ pub(crate) const PLAIN: &str = "\
 A pile is written as numbers with white space between them: its width, its
 height, and the grains of each site, row by row.";
 
-/// How the rest of an input may begin, at its first byte that is in no text of a pile, and what to say then. The first that
-/// fits counts.
+/// What the input may contain from its first unexpected byte on, and what to say about it. The first match counts.
 static BEGINNINGS: [(&[u8], &str); 34] = [
     (b"odometer", SETTLED),
     (b"lost ", SETTLED),
@@ -98,7 +97,7 @@ fn follows_digit(text: &[u8], at: usize) -> bool {
     matches!(before, Some(b'0'..=b'9'))
 }
 
-/// What to say of the byte at an offset, which is in no text of a pile.
+/// What to say about the unexpected byte at an offset.
 pub(crate) fn meaning(text: &[u8], at: usize) -> &'static str {
     let rest = text.get(at..).unwrap_or(&[]);
     let found = BEGINNINGS
