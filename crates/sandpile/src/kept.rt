@@ -1,11 +1,11 @@
-//! A reader that keeps a copy of what it gives, so that the program can say what was wrong with it.
+//! A reader that keeps a copy of what it reads, so that the program can say what was wrong with it.
 
 ghost use Rattle.std.specs.Prelude.{length, ◌≤◌};
 
 use std::io;
 use std::io::Read;
 
-/// Gives what another reader gives. It keeps a copy if it begins with one, for as long as there is memory for it.
+/// Passes on what another reader gives. If it starts with a copy, it extends that copy as long as memory lasts.
 #[derive(Drop)]
 pub(crate) struct Kept<R> {
     reader: R,
@@ -17,7 +17,7 @@ impl<R> Kept<R> {
         Kept { reader, copy }
     }
 
-    /// What was read, if the copy is whole.
+    /// What was read, if the copy is complete.
     pub(crate) fn copy(&self) -> Option<&[u8]> {
         match &self.copy {
             Some(copy) => Some(copy.as_slice()),
@@ -26,7 +26,7 @@ impl<R> Kept<R> {
     }
 }
 
-// Adds bytes to a copy, or gives it up if there is no memory for them.
+// Appends bytes to a copy; drops the copy if memory runs out.
 fn with_bytes(copy: Option<Vec<u8>>, bytes: &[u8]) -> Option<Vec<u8>> {
     let mut copy = copy?;
     copy.extend_from_slice(bytes).ok()?;

@@ -1,6 +1,6 @@
-//! The program `sandpile`: passes its words, its standard input and its standard output to `sand_desk`, and reports how
-//! that ended by a line on the standard error and by its exit status. If the standard error is a terminal, the line is followed
-//! by what `sand_advice` says of it to a person, and long commands show there how far they are.
+//! The program `sandpile`. It passes its words, standard input and standard output to `sand_desk`, and reports a fault
+//! with a line on standard error and with its exit status. If standard error is a terminal, advice from `sand_advice`
+//! follows the line, and long commands show their progress there.
 #![tactic(auto)]
 
 ghost use Rattle.std.specs.Prelude.{◌≡◌, ◌≢◌, ◌<◌, IfErr, false, true, length};
@@ -64,7 +64,8 @@ fn main(rt: HostRuntime) -> ExitCode {
     }
 }
 
-// Runs the command that the words name, and shows on a terminal how far it is if it is long. The output may be the same one.
+// Runs the command that the words name, and shows the progress of a long one on the terminal. `is_same`: the output
+// goes to a terminal too.
 fn answer_and_show<T: Threads + Sync + Eprint + Clock, R: Read, W: Write + Drop>(
     rt: &T,
     alloc: Global,
@@ -89,7 +90,7 @@ fn answer_and_show<T: Threads + Sync + Eprint + Clock, R: Read, W: Write + Drop>
     answered
 }
 
-// Runs the command that the words name, or writes the version, the help or the meaning of faults that they ask for.
+// Runs the command that the words name, or writes the version, the help or the explanation of faults that they ask for.
 fn answer<T: Threads + Sync, G: Gate, R: Read, W: Write>(
     rt: &T,
     alloc: Global,
@@ -112,7 +113,7 @@ fn answer<T: Threads + Sync, G: Gate, R: Read, W: Write>(
     }
 }
 
-// Reports that `explain` is asked for something that is not one fault, if it is.
+// Reports a call of `explain` with anything but one fault.
 fn refuses<R: Eprint>(rt: &R, request: Request<'_>) -> bool {
     let _ = match request {
         Request::NoFault(word) => eprintln!(rt;
@@ -126,7 +127,7 @@ fn refuses<R: Eprint>(rt: &R, request: Request<'_>) -> bool {
     true
 }
 
-// Says to a person what a fault means here, and what to do. It is no fault if there is no memory for that.
+// Tells a person what a fault means here, and what to do. If memory runs out for that, nothing is said.
 fn advise<R: Eprint>(
     rt: &R,
     alloc: Global,
@@ -157,7 +158,7 @@ fn words_of(rt: &(impl Env + AllocGlobal)) -> io::Result<Vec<String>> {
     Ok(words)
 }
 
-// Whether the words are `help`, alone or with a command: then they are taken as `--help`, alone or after the command.
+// Whether the words are `help`, alone or with a command. They are then read as `--help`, alone or after the command.
 fn asks_for_help(words: &[String]) -> bool
     ensures { result ≡ true → 1 < length words.now }
 {
@@ -167,7 +168,7 @@ fn asks_for_help(words: &[String]) -> bool
     }
 }
 
-// A program that is started without any word has none here, or one empty word, which today's kernels make of none.
+// Whether the program was started without any word. Current kernels then pass one empty word.
 fn is_nothing(words: &[String]) -> bool
     ensures { result ≡ false → 0 < length words.now }
 {
@@ -178,8 +179,8 @@ fn is_nothing(words: &[String]) -> bool
     }
 }
 
-// Reports a fault on the standard error, and returns its status. Help was written before, or is a fault of the writer by
-// now.
+// Reports a fault on standard error, and returns its status. A call for help does not get here: the help was written,
+// or failed with a fault of the writer.
 fn end<R: Eprint, W: Write>(rt: &R, errors: &mut W, fault: &DeskFault) -> ExitCode
     requires { status_of fault.now ≢ 0 }
     ensures { exit_status result ≡ status_of fault.now }

@@ -1,4 +1,4 @@
-//! The line on a terminal that says how far a long command is, and the writer that clears it before anything else is written
+//! The progress line of a long command on a terminal, and the writer that clears it before anything else is written
 //! there.
 
 use sand_advice::progress_line;
@@ -12,11 +12,11 @@ use std::sync::atomic::Ordering::SeqCst;
 use std::sync::atomic::{AtomicBool, AtomicU64};
 use std::time::Instant;
 
-/// How many drops a dropper makes between two looks at the clock.
+/// The number of drops that a dropper makes between two looks at the clock.
 const STEP: u32 = 1024;
 
-/// Long work: the command's name, how many threads drop, how many grains each of them drops in an epoch, and how many drops
-/// there are in all.
+/// Long work: the command's name, the number of dropping threads, the drops of each of them per epoch, and the number
+/// of all drops.
 #[derive(Clone, Copy)]
 pub(crate) struct Work {
     command: &'static str,
@@ -25,7 +25,7 @@ pub(crate) struct Work {
     drops: u64,
 }
 
-/// The long work that the words ask for, if they do: drops at random, or a run of the laboratory.
+/// The long work that the words ask for, if any: drops at random, or a run of the laboratory.
 pub(crate) fn work_of(alloc: Global, words: &[String]) -> Option<Work> {
     match task_of(alloc, words).ok()? {
         Task::Drops {
@@ -49,7 +49,7 @@ pub(crate) fn work_of(alloc: Global, words: &[String]) -> Option<Work> {
     }
 }
 
-// A word for each dropper, which only that dropper writes: how many drops it has begun, but for those since its last step.
+// A counter for each dropper, written by that dropper alone: the drops it has begun, except those since its last step.
 fn counts_of(alloc: Global, droppers: u32) -> Result<Vec<AtomicU64>, AllocError> {
     let mut begun = Vec::with_capacity(alloc, droppers as usize)?;
     for _ in 0..droppers {
@@ -58,7 +58,7 @@ fn counts_of(alloc: Global, droppers: u32) -> Result<Vec<AtomicU64>, AllocError>
     Ok(begun)
 }
 
-/// A gate that holds no thread, and writes the line from the first second on, once a second.
+/// A gate that holds no thread, and writes the line once a second, the first time after one second.
 #[derive(Drop)]
 pub(crate) struct Progress<'a, R> {
     rt: &'a R,
@@ -66,13 +66,13 @@ pub(crate) struct Progress<'a, R> {
     work: Work,
     start: Instant,
     begun: Vec<AtomicU64>,
-    /// After how many seconds the line was last written.
+    /// The second in which the line was last written.
     shown: AtomicU64,
     is_over: AtomicBool,
 }
 
 impl<'a, R: Eprint + Clock> Progress<'a, R> {
-    /// Shows how far this work is, from now on.
+    /// Shows the progress of this work from now on.
     pub(crate) fn new(rt: &'a R, alloc: Global, work: Work) -> io::Result<Progress<'a, R>> {
         Ok(Progress {
             rt,
@@ -85,7 +85,7 @@ impl<'a, R: Eprint + Clock> Progress<'a, R> {
         })
     }
 
-    /// Clears the line, and writes none from now on.
+    /// Clears the line, and writes no more.
     pub(crate) fn end(&self) {
         self.is_over.store(true, SeqCst);
         if self.shown.swap(0, SeqCst) > 0 {
@@ -93,7 +93,7 @@ impl<'a, R: Eprint + Clock> Progress<'a, R> {
         }
     }
 
-    // How many drops are begun.
+    // The number of drops begun.
     fn made(&self) -> u64 {
         let mut made: u64 = 0;
         for begun in &self.begun {
@@ -102,7 +102,7 @@ impl<'a, R: Eprint + Clock> Progress<'a, R> {
         made
     }
 
-    // Writes the line if a second has passed since it was last written. Of several threads one does it.
+    // Writes the line if a second has passed since it was last written. Only one of several threads does.
     fn show(&self) {
         let Ok(time) = self.start.elapsed(self.rt) else {
             return;
@@ -123,7 +123,7 @@ impl<'a, R: Eprint + Clock> Progress<'a, R> {
         }
     }
 
-    // Notes that a dropper has begun a step. The first one of an epoch comes after all drops of the epochs before.
+    // Counts a step that a dropper has begun. The first step of an epoch comes after all drops of the epochs before it.
     fn note(&self, who: u32, turn: u32) {
         let Some(begun) = self.begun.get(who as usize) else {
             return;
@@ -157,7 +157,7 @@ impl<R: Eprint + Clock + Sync> Gate for Progress<'_, R> {
     }
 }
 
-/// Passes on what is written, and first clears the line if that goes to the same terminal.
+/// Passes on what is written. If that goes to the same terminal, it clears the line first.
 #[derive(Drop)]
 pub(crate) struct Cleared<'a, 'b, W, R> {
     writer: W,
@@ -165,7 +165,7 @@ pub(crate) struct Cleared<'a, 'b, W, R> {
 }
 
 impl<'a, 'b, W, R> Cleared<'a, 'b, W, R> {
-    /// The line of this progress is cleared, if one is given.
+    /// A writer that clears the line of `progress`, if given.
     pub(crate) fn new(writer: W, progress: Option<&'a Progress<'b, R>>) -> Cleared<'a, 'b, W, R> {
         Cleared { writer, progress }
     }

@@ -1,22 +1,22 @@
-//! What the words ask for: a task of a command, or something of the program itself.
+//! What the words ask for: a command's task, or something of the program itself.
 
 use sand_advice::{Explained, FAULTS, fault_named, is_command};
 use sand_desk::asks_for_version;
 use std::slice;
 
-/// What the words ask for, the program's name being the first.
+/// What the words ask for; the first word is the program's name.
 #[derive(Clone, Copy)]
 pub(crate) enum Request<'a> {
     Version,
-    /// What these faults mean.
+    /// The meaning of these faults.
     Explain(&'static [Explained]),
-    /// What `explain` does.
+    /// The help of `explain`.
     ExplainHelp,
-    /// What a word means that is no fault.
+    /// The meaning of a word that is not a fault.
     NoFault(&'a str),
-    /// What several words mean at once.
+    /// The meaning of several words at once.
     ManyFaults,
-    /// A task of a command, or its help.
+    /// A command's task, or its help.
     Command,
 }
 
@@ -28,7 +28,7 @@ fn is_help(word: &str) -> bool {
     matches!(word, "--help" | "-h")
 }
 
-// What `explain` is asked with one word.
+// What `explain` is asked for by one word.
 fn explanation_of(word: &str) -> Request<'_> {
     if is_help(word) {
         return Request::ExplainHelp;
@@ -39,7 +39,7 @@ fn explanation_of(word: &str) -> Request<'_> {
     }
 }
 
-// What two words ask for, of which the first one is a command.
+// What a command and one more word ask for.
 fn of_two<'a>(command: &'a str, word: &'a str) -> Request<'a> {
     if is_command(command) && is_version(word) {
         Request::Version
