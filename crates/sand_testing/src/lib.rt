@@ -1,5 +1,5 @@
-//! What several crates of tests use: piles of a few sites, records compared with values that were worked out by hand, runs, and
-//! the words of a command line.
+//! What the test crates share: piles of a few sites, records checked against values worked out by hand, runs, and the
+//! words of a command line.
 #![tactic(auto)]
 
 pub mod piles;

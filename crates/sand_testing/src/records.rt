@@ -1,4 +1,4 @@
-//! Records of a shared pile, against values that were worked out by hand.
+//! Records of a shared pile, checked against values worked out by hand.
 
 ghost use Rattle.std.specs.Prelude.{◌+◌, ◌≤◌, length, sum, IsTrue};
 ghost use Rattle.sand_model.specs.Piles.{most_grains};
@@ -6,8 +6,8 @@ ghost use Rattle.sand_model.specs.Piles.{most_grains};
 use sand_model::GRAIN_LIMIT;
 use sand_shared::Record;
 
-/// Whether a record has this history, these heights, this odometer, as many topplings as that adds up to, and so many grains
-/// lost.
+/// Whether a record has this history, these heights, this odometer with its sum as the topplings, and this number of
+/// lost grains.
 pub fn is_record(
     record: &Record,
     history: &[usize],
@@ -25,7 +25,7 @@ pub fn is_record(
         && record.lost() == lost
 }
 
-/// Whether a record and one that follows it have no more grains together than a pile may have.
+/// Whether the grains of the first record's start and the drops of both records are within the grain limit.
 pub fn are_within_limit(first: &Record, next: &Record) -> bool
     ensures { IsTrue result → sum first.now.start.heights + (length first.now.history + length next.now.history) ≤ most_grains }
 {

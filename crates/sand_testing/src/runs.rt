@@ -9,7 +9,7 @@ use sand_model::Pile;
 use std::alloc::Global;
 use std::thread::Threads;
 
-/// One epoch of one dropper that drops nothing and one worker that sweeps nothing.
+/// One epoch, with one dropper that drops nothing and one worker that sweeps nothing.
 pub const QUIET: Wish = Wish {
     seed: 0,
     droppers: 1,

@@ -1,4 +1,5 @@
-//! Shared piles of a few sites: made, dropped on and closed in one call each, since each call makes the proof of a test longer.
+//! Shared piles of a few sites: made, dropped on and closed in one call each, because each call lengthens the proof of
+//! a test.
 
 ghost use Rattle.std.specs.Prelude.{◌≡◌, ◌<◌, length, IfOk};
 ghost use Rattle.sand_model.specs.Grid.{sites};
@@ -23,7 +24,7 @@ pub fn shared_pile(
 {
     let shape = Shape::new(width, height)?;
     let start = Pile::new(alloc, shape, heights)?;
-    // `Pile::new` has refused another number of heights; here the proof learns it.
+    // `Pile::new` has rejected any other number of heights; this tells the prover.
     if shape.sites() != heights.len() {
         return Err("a height for each site".into());
     }
@@ -31,7 +32,7 @@ pub fn shared_pile(
     Ok((pile, pass))
 }
 
-/// Drops all that a pass has left on a site.
+/// Makes all remaining drops of a pass at one site.
 pub fn drop_rest(pile: &SharedPile, pass: &mut Pass, site: usize)
     requires pass { IsPassOf pile.now pass.old }
     requires site { site < sites (grid_of_terms pile.now.terms) }
@@ -49,7 +50,7 @@ pub fn bare_of(pass: Pass) -> BarePass
     pass.into_bare().0
 }
 
-/// The record of a shared pile that is closed with a pass that has gathered all.
+/// The record of a shared pile, closed with a pass that has gathered everything.
 pub fn closed(alloc: Global, pile: SharedPile, pass: Pass) -> Result<Record, Fail>
     requires { IsPassOf pile pass }
 {
@@ -57,7 +58,7 @@ pub fn closed(alloc: Global, pile: SharedPile, pass: Pass) -> Result<Record, Fai
     Ok(record)
 }
 
-/// The record of drops on the first site of a pile.
+/// The record of `drops` drops on the first site of a pile.
 pub fn dropped_on(alloc: Global, start: &Pile, drops: u64) -> Result<Record, Fail>
     ensures { IfOk result (λ r. r.start ≡ start.now) }
 {
