@@ -1,5 +1,5 @@
-//! A program that uses the libraries: it drops a tower of grains on the middle of a square, settles it, and prints how many
-//! topplings that took. Its own contract follows from that of `settle`.
+//! Uses the libraries: puts a tower of grains in the middle of a square, settles it, and prints the number of
+//! topplings. Its own contract follows from that of `settle`.
 #![tactic(auto)]
 
 ghost use Rattle.std.specs.Prelude.{◌*◌, ◌≤◌, IfOk};
@@ -17,7 +17,7 @@ fn tower(alloc: Global, shape: Shape, grains: u64) -> Result<Pile, PileFault> {
     Pile::new(alloc, shape, heights.as_slice())
 }
 
-// No pile takes more topplings than half its weight.
+// No pile topples more often than half its weight.
 fn topplings_of(alloc: Global, pile: &Pile) -> Result<u64, SettleFault>
     ensures { IfOk result (λ n. 2 * n ≤ weight pile.now.grid (height_of pile.now)) }
 {
