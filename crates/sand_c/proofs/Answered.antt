@@ -1,4 +1,4 @@
--- What an export returns, from what its call found.
+-- What an export returns, given how its call ended.
 use Rattle.std.proofs.Common.{◌≡◌, ℕ, refl, inl, inr}
 use Rattle.std.specs.Prelude.{◌↔◌, Result, Ok, Err, IsOk, IfErr, OnOk}
 use Rattle.sand_c.specs.declared.faults.Fault.{Fault}

@@ -1,4 +1,4 @@
--- How long the lists are that burning finds.
+-- The lengths of the lists that burning finds.
 use Rattle.std.proofs.Common.{◌≡◌, ◌<◌, ◌≤◌, ◌+◌, ◌-◌, ℕ, zero, suc, List, length, refl, sym, ◌∙◌, arith, inl, inr, slice_index}
 use Rattle.std.specs.List.Sorted.{IsStrictlyIncreasing}
 use Rattle.std.proofs.lemmas.Bool.{cases_lt}
@@ -20,11 +20,11 @@ rises : (xs : List ℕ) → IsStrictlyIncreasing xs → (k : ℕ) → k < length
 rises xs up zero lt = omega arith
 rises xs up (suc k) lt = let before = rises xs up k (omega arith) in let step = up k (omega arith) in let one : suc k ≡ k + 1 = omega arith in rw one (omega arith)
 
--- a burning order has all sites
+-- a burning order has as many sites as the grid
 order_fits : (g : Grid) (s : ℕ → ℕ) (order : List ℕ) → IsBurningOrder g s order → length order ≡ sites g
 order_fits g s order is = sym (sum_below-tally (sites g) order is.only_sites) ∙ ones (sites g) (tally order) is.each_once
 
--- a forbidden set has no more
+-- a forbidden set has at most as many
 set_fits : (g : Grid) (s : ℕ → ℕ) (set : List ℕ) → IsGreatestForbidden g s set → length set ≤ sites g
 set_fits g s set is = elim (cases_lt 0 (length set)) [
   | inl some ↦

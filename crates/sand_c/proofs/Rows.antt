@@ -1,4 +1,4 @@
--- The avalanches, as one drop more is noted.
+-- The avalanches, with one more drop.
 use Rattle.std.proofs.Common.{ℕ, List, [], ◌∷◌, ◌++◌, refl, sym, ap, subst}
 use Rattle.sand_settle.specs.Drops.{OneView, grid_of_one_pile, topplings_between, Drops}
 use Rattle.sand_c.specs.declared.avalanche.SandpileAvalanche.{SandpileAvalanche}

@@ -1,4 +1,4 @@
--- Why a pile is not recurrent, from what the burning test refused.
+-- Why a pile is not recurrent, given what the burning test rejected.
 use Rattle.std.proofs.Common.{◌≡◌, ℕ, refl, arith, inl, inr}
 use Rattle.std.specs.Prelude.{◌↔◌, ◌⊎◌, Result, Ok, Err, alloc_error}
 use Rattle.std.proofs.lemmas.Bool.{cases_lt}
@@ -12,7 +12,7 @@ use Rattle.sand_c.specs.Unfit.{IsUnfit}
 use Rattle.sand_c.specs.Faults.{of_group}
 use Rattle.sand_c.specs.declared.faults.Fault.TheVariants as c
 
--- a pile that can't be unstable is stable
+-- a pile that cannot be unstable is stable
 stable : (g : Grid) (s : ℕ → ℕ) → ((IsStable g s → ⊥) → ⊥) → IsStable g s
 stable g s not_high = record {
   low = λ i lt. elim (cases_lt 3 (s i)) [
@@ -21,7 +21,7 @@ stable g s not_high = record {
   ];
 }
 
--- what is known of a pile that was refused
+-- what is known of a rejected pile
 pub record IsRefused {A : Type 0} (pile : PileView) (answer : Result A GroupFault) (fault : GroupFault) : Type 0 where
   pub is : answer ≡ Err fault
   pub unstable : (answer ≡ Err group.Unstable) ↔ (IsStable pile.grid (height_of pile) → ⊥)
@@ -41,6 +41,6 @@ unfit pile answer group.Shapes h = elim (h.others (not_unstable pile answer grou
 ]
 unfit pile answer (group.Memory error) h = inl refl
 
--- what burns is stable
+-- a pile that can be burned is stable
 pub burnt : {A : Type 0} (g : Grid) (s : ℕ → ℕ) (answer : Result A GroupFault) (found : A) → answer ≡ Ok found → ((answer ≡ Err group.Unstable) ↔ (IsStable g s → ⊥)) → IsStable g s
 burnt g s answer found is unstable = stable g s (λ high. let refused = unstable.1 high in cc)

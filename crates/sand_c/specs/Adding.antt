@@ -13,12 +13,12 @@ use Rattle.sand_c.specs.Unfit.{IsUnfit}
 abbrev pub two_on : Grid → List ℕ → List ℕ → Result (PileView × PileView) Fault
 two_on g heights others = pile_on g heights >>= λ p. pile_on g others >>= λ q. Ok (p, q)
 
--- the piles that the arguments are
+-- the piles in the arguments
 abbrev pub adding_of : ℕ → ℕ → Bool → List ℕ → List ℕ → Result (PileView × PileView) Fault
 adding_of width height cylinder heights others =
     grid_of width height cylinder >>= λ g. has_length (sites g) (length heights) >>= λ _. has_length (sites g) (length others) >>= λ _. two_on g heights others
 
--- a sum is refused because of its arguments, or memory runs out, or the first pile is not recurrent, or the second
+-- a sum fails: its arguments have a fault, or memory runs out, or the first pile is not recurrent, or the second is not
 abbrev pub AddFails : Fault → Result (PileView × PileView) Fault → Type 0
 AddFails fault (Err e) = fault ≡ e
 AddFails fault (Ok (p, q)) = (fault ≡ Memory) ⊎ (IsUnfit p fault ⊎ (IsRecurrent p.grid (height_of p) × IsUnfit q fault))

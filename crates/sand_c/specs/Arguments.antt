@@ -1,4 +1,4 @@
--- What the arguments of a call mean, or the first fault that they have.
+-- The meaning of a call's arguments, or the first fault in them.
 use Rattle.std.specs.Prelude.{ℕ, ◌≡◌, ◌⊎◌, Bool, true, false, ◌==◌, nat_lt, if◌then◌else◌, List, length, sum, Result, Ok, Err, IsOk}
 use Rattle.sand_model.specs.declared.shape.Edge.{Edge}
 use Rattle.sand_model.specs.declared.shape.Edge.TheVariants.{Open, Cylinder}
@@ -22,30 +22,30 @@ abbrev pub shaped : Result Grid ShapeFault → Result Grid Fault
 shaped (Ok g) = Ok g
 shaped (Err fault) = Err (of_shape fault)
 
--- the grid of these sides and this edge
+-- the grid with these sides and this edge
 abbrev pub grid_of : ℕ → ℕ → Bool → Result Grid Fault
 grid_of width height cylinder = shaped (grid_with_edge width height (edge_of cylinder))
 
--- the length of a slice, if it is the one that is wanted
+-- the length of a slice, if it is the wanted one
 abbrev pub has_length : ℕ → ℕ → Result ℕ Fault
 has_length wanted n = if n == wanted then Ok n else Err Length
 
--- the pile of these heights on a grid
+-- the pile with these heights on a grid
 abbrev pub pile_on : Grid → List ℕ → Result PileView Fault
 pile_on g heights = if length heights == sites g
     then (if nat_lt most_grains (sum heights) then Err TooManyGrains else Ok (record { grid = g; heights = heights }))
     else Err Length
 
--- A call fails with the fault of its arguments. Memory runs out only if they have none.
+-- a call fails with the fault of its arguments; memory runs out only if they have none
 abbrev pub Fails : {A : Type 0} → Fault → Result A Fault → Type 0
 Fails Memory meaning = IsOk meaning
 Fails fault meaning = meaning ≡ Err fault
 
--- what a call returns: the number of its arguments' fault; or if they have none 0, or 4 if memory runs out
+-- what a call returns: the number of the fault in its arguments; or, if there is none, 0, or 4 if memory runs out
 abbrev pub Answers : {A : Type 0} → ℕ → Result A Fault → Type 0
 Answers n (Ok x) = (n ≡ 0) ⊎ (n ≡ 4)
 Answers n (Err fault) = n ≡ number_of fault
 
--- what a call returns: 0, or the number of a fault of which this is true
+-- what a call returns: 0, or the number of such a fault
 abbrev pub IsAnswer : ℕ → (Fault → Type 0) → Type 0
 IsAnswer n Is = (n ≡ 0) ⊎ ((fault : Fault) × (n ≡ number_of fault) × Is fault)

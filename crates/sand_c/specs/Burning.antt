@@ -10,7 +10,6 @@ use Rattle.sand_c.specs.declared.faults.Fault.{Fault}
 use Rattle.sand_c.specs.declared.faults.Fault.TheVariants.{Memory, Unstable}
 use Rattle.sand_c.specs.Arguments.{grid_of, has_length, pile_on, ◌>>=◌}
 
--- the pile that the arguments are
 abbrev pub burning_of : ℕ → ℕ → Bool → List ℕ → List ℕ → Result PileView Fault
 burning_of width height cylinder heights found =
     grid_of width height cylinder >>= λ g. has_length (sites g) (length heights) >>= λ _. has_length (sites g) (length found) >>= λ _. pile_on g heights
@@ -20,7 +19,7 @@ abbrev pub IsFound : Grid → (ℕ → ℕ) → Bool → List ℕ → Type 0
 IsFound g s true found = IsRecurrent g s × IsBurningOrder g s found
 IsFound g s false found = IsGreatestForbidden g s found
 
--- the sites of what burning found, and whether all burn
+-- the sites that burning found
 abbrev pub sites_in : Burned → List ℕ
 sites_in (Recurrent order) = order.items
 sites_in (Forbidden set) = set.items
@@ -29,7 +28,7 @@ abbrev pub burns_out : Burned → Bool
 burns_out (Recurrent order) = true
 burns_out (Forbidden set) = false
 
--- the arguments are a stable pile, and the first `count` places of what was written are what burning found
+-- the arguments are a stable pile, and burning it found the first `count` places of what was written
 pub record IsBurning (meaning : Result PileView Fault) (after : List ℕ) (count : ℕ) (recurrent : Bool) : Type 0 where
   pub pile : PileView
   pub meant : meaning ≡ Ok pile
@@ -37,7 +36,7 @@ pub record IsBurning (meaning : Result PileView Fault) (after : List ℕ) (count
   pub few : count ≤ sites pile.grid
   pub found : IsFound pile.grid (height_of pile) recurrent (take count after)
 
--- burning is refused because of its arguments, or memory runs out, or the pile is not stable
+-- burning fails: its arguments have a fault, or memory runs out, or the pile is not stable
 abbrev pub BurnFails : Fault → Result PileView Fault → Type 0
 BurnFails fault (Err e) = fault ≡ e
 BurnFails fault (Ok p) = (fault ≡ Memory) ⊎ ((fault ≡ Unstable) × (IsStable p.grid (height_of p) → ⊥))

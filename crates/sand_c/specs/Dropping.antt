@@ -10,11 +10,11 @@ use Rattle.sand_c.specs.declared.faults.Fault.{Fault}
 use Rattle.sand_c.specs.declared.faults.Fault.TheVariants.{Full, NoSite}
 use Rattle.sand_c.specs.Arguments.{grid_of, has_length, pile_on, ◌>>=◌}
 
--- whether all drops are at sites
+-- whether every drop is at a site
 abbrev pub are_sites : ℕ → List ℕ → Bool
 are_sites n drops = list_all (λ site. nat_lt site n) drops
 
--- the pile, if all drops are at its sites
+-- the pile, if every drop is at one of its sites
 abbrev pub with_sites : List ℕ → PileView → Result PileView Fault
 with_sites drops p = if are_sites (sites p.grid) drops then Ok p else Err NoSite
 
@@ -22,15 +22,14 @@ with_sites drops p = if are_sites (sites p.grid) drops then Ok p else Err NoSite
 abbrev pub with_room : ℕ → PileView → Result PileView Fault
 with_room count p = if nat_lt most_grains (sum p.heights + count) then Err Full else Ok p
 
--- the pile, if these drops may be made on it
+-- the pile, if these drops can be made on it
 abbrev pub with_drops : List ℕ → PileView → Result PileView Fault
 with_drops drops p = with_sites drops p >>= with_room (length drops)
 
--- the pile of these heights on a grid, if these drops may be made on it
+-- the pile with these heights on a grid, if these drops can be made on it
 abbrev pub drops_on : Grid → List ℕ → List ℕ → Result PileView Fault
 drops_on g heights drops = pile_on g heights >>= with_drops drops
 
--- the pile that the arguments are
 abbrev pub dropping_of : ℕ → ℕ → Bool → List ℕ → List ℕ → List ℕ → List SandpileAvalanche → Result PileView Fault
 dropping_of width height cylinder heights odometer drops avalanches =
     grid_of width height cylinder >>= λ g. has_length (sites g) (length heights) >>= λ _. has_length (sites g) (length odometer) >>= λ _. has_length (length drops) (length avalanches)

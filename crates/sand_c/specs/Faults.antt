@@ -1,4 +1,4 @@
--- The numbers of the faults, which are those of the crates below.
+-- The numbers of the faults, the same as in the lower crates.
 use Rattle.std.specs.Prelude.{ℕ}
 use Rattle.sand_group.specs.declared.faults.GroupFault.{GroupFault}
 use Rattle.sand_group.specs.declared.faults.GroupFault.TheVariants as group

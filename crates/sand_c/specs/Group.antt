@@ -7,7 +7,6 @@ use Rattle.sand_group.specs.Group.{IsIdentity, Represents}
 use Rattle.sand_c.specs.declared.faults.Fault.{Fault}
 use Rattle.sand_c.specs.Arguments.{grid_of, has_length, pile_on, ◌>>=◌}
 
--- the grid that the arguments are
 abbrev pub identity_of : ℕ → ℕ → Bool → List ℕ → Result Grid Fault
 identity_of width height cylinder heights = grid_of width height cylinder >>= λ g. has_length (sites g) (length heights) >>= λ _. Ok g
 
@@ -18,11 +17,10 @@ pub record IsIdentityOf (meaning : Result Grid Fault) (after : List ℕ) : Type 
   pub one_each : length after ≡ sites grid
   pub identity : IsIdentity grid (height_of (record { grid = grid; heights = after }))
 
--- the pile that the arguments are
 abbrev pub recurrent_of : ℕ → ℕ → Bool → List ℕ → Result PileView Fault
 recurrent_of width height cylinder heights = grid_of width height cylinder >>= λ g. pile_on g heights
 
--- the arguments are a pile, and what was written is the recurrent pile that is equivalent to it
+-- the arguments are a pile, and what was written is the recurrent pile equivalent to it
 pub record IsRecurrentOf (meaning : Result PileView Fault) (after : List ℕ) : Type 0 where
   pub start : PileView
   pub meant : meaning ≡ Ok start

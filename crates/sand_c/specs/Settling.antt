@@ -6,7 +6,6 @@ use Rattle.sand_settle.specs.Settling.{IsRecord}
 use Rattle.sand_c.specs.declared.faults.Fault.{Fault}
 use Rattle.sand_c.specs.Arguments.{grid_of, has_length, pile_on, ◌>>=◌}
 
--- the pile that the arguments are
 abbrev pub settling_of : ℕ → ℕ → Bool → List ℕ → List ℕ → Result PileView Fault
 settling_of width height cylinder heights odometer =
     grid_of width height cylinder >>= λ g. has_length (sites g) (length odometer) >>= λ _. pile_on g heights

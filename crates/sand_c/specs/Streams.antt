@@ -4,7 +4,7 @@ use Rattle.sand_model.specs.Grid.{Grid, sites}
 use Rattle.sand_streams.specs.Streams.{site_at}
 use Rattle.sand_c.specs.declared.faults.Fault.{Fault}
 
--- these are the sites of a stream from its place `from` on, on a grid with so many sites
+-- these are the sites of a stream from its place `from` on, on a grid of `sites` sites
 abbrev pub AreSitesFrom : ℕ → ℕ → ℕ → ℕ → List ℕ → Type 0
 AreSitesFrom count seed stream from drawn = (i : ℕ) → i < length drawn → get_or drawn i 0 ≡ site_at count seed stream (from + i)
 

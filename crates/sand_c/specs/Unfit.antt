@@ -1,4 +1,4 @@
--- The piles that are elements of the group, and why a pile is none.
+-- The piles that are elements of the group, and why a pile is not one.
 use Rattle.std.specs.Prelude.{ℕ, ◌≡◌, ◌⊎◌, Bool, List, length, Result, Ok, Err}
 use Rattle.sand_model.specs.Grid.{sites}
 use Rattle.sand_model.specs.Piles.{PileView, height_of}
@@ -8,7 +8,6 @@ use Rattle.sand_c.specs.declared.faults.Fault.{Fault}
 use Rattle.sand_c.specs.declared.faults.Fault.TheVariants.{Memory, Unstable, NotRecurrent}
 use Rattle.sand_c.specs.Arguments.{grid_of, has_length, pile_on, ◌>>=◌}
 
--- the pile that the arguments are
 abbrev pub element_of : ℕ → ℕ → Bool → List ℕ → Result PileView Fault
 element_of width height cylinder heights = grid_of width height cylinder >>= λ g. has_length (sites g) (length heights) >>= λ _. pile_on g heights
 
@@ -18,7 +17,7 @@ IsUnfit pile Unstable = IsStable pile.grid (height_of pile) → ⊥
 IsUnfit pile NotRecurrent = IsStable pile.grid (height_of pile) × (IsRecurrent pile.grid (height_of pile) → ⊥)
 IsUnfit pile fault = ⊥
 
--- a call is refused because of its arguments, or memory runs out, or the pile is not recurrent
+-- a call fails: its arguments have a fault, or memory runs out, or the pile is not recurrent
 abbrev pub ElementFails : Fault → Result PileView Fault → Type 0
 ElementFails fault (Err e) = fault ≡ e
 ElementFails fault (Ok p) = (fault ≡ Memory) ⊎ IsUnfit p fault

@@ -10,7 +10,6 @@ use crate::recurrent::recurrent_on;
 use sand_group::add;
 use std::alloc::Global;
 
-// Adds, and writes the sum once nothing can fail any more.
 fn add_into(
     alloc: Global,
     width: usize,
@@ -37,9 +36,9 @@ fn add_into(
     Ok(())
 }
 
-/// The heights become those of the sum of two recurrent piles. Returns 0, or else 1 (Side), 24 (Narrow), 2 (Length of a
-/// slice), 3 (TooManyGrains), 7 (Unstable) or 8 (NotRecurrent) of the first pile and then of the second, or 4 (Memory);
-/// and then nothing has changed.
+/// Replaces the heights with those of the sum of two recurrent piles. Returns 0, or the first of 1 (Side), 24 (Narrow),
+/// 2 (Length of a slice), 3 (TooManyGrains), and 7 (Unstable) or 8 (NotRecurrent) for the first pile, then for the
+/// second; or 4 (Memory).
 #[unsafe(no_mangle)]
 pub extern "C" fn sandpile_add(
     alloc: Global,

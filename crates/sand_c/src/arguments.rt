@@ -1,4 +1,4 @@
-//! What the arguments of a call mean.
+//! The meaning of a call's arguments.
 
 ghost use Rattle.std.specs.Prelude.{◌≡◌, ◌<◌, ◌≤◌, Ok, IfOk, IfErr, IfSome, IfNone, length, sum};
 ghost use Rattle.sand_model.specs.Piles.{most_grains};
@@ -15,7 +15,7 @@ fn edge_of(cylinder: bool) -> Edge
     if cylinder { Edge::Cylinder } else { Edge::Open }
 }
 
-/// The grid of these sides and this edge.
+/// The grid with these sides and this edge.
 pub(crate) fn grid_of(width: usize, height: usize, cylinder: bool) -> Result<Shape, Fault>
     ensures { result ≡ grid_of width height cylinder }
 {
@@ -25,7 +25,7 @@ pub(crate) fn grid_of(width: usize, height: usize, cylinder: bool) -> Result<Sha
     }
 }
 
-/// The pile of these heights.
+/// The pile with these heights.
 pub(crate) fn pile_on(alloc: Global, shape: Shape, heights: &[u64]) -> Result<Pile, Fault>
     ensures made { IfOk result (λ p. pile_on shape heights.now ≡ Ok p) }
     ensures fault { IfErr result (λ e. Fails e (pile_on shape heights.now)) }

@@ -1,26 +1,25 @@
-//! An avalanche, as C sees it.
+//! An avalanche, as passed to C.
 
 ghost use Rattle.std.specs.Prelude.{◌≡◌};
 
 use sand_settle::Avalanche;
 
-/// What one drop set off.
+/// What one drop caused.
 #[repr(C)]
 #[derive(Clone, Copy, Debug, PartialEq, Eq)]
 pub struct SandpileAvalanche {
     /// The site of the drop.
     pub site: usize,
-    /// How many topplings there were.
+    /// The number of topplings.
     pub size: u64,
-    /// How many sites toppled.
+    /// The number of sites that toppled.
     pub area: u32,
-    /// The greatest distance from the drop to a site that toppled, in columns and rows, or 0 if none did.
+    /// The greatest distance from the drop to a site that toppled, in columns plus rows; 0 if none did.
     pub reach: u32,
-    /// How many grains fell into the sink.
+    /// The number of grains lost to the sink.
     pub lost: u64,
 }
 
-/// The same avalanche.
 pub(crate) fn like(a: Avalanche) -> SandpileAvalanche
     ensures { result ≡ record { site = a.site; size = a.size; area = a.area; reach = a.reach; lost = a.lost } }
 {

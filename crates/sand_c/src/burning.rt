@@ -13,7 +13,7 @@ use sand_group::{Burned, burn};
 use sand_model::Pile;
 use std::alloc::Global;
 
-// Writes a list to the first places of a slice.
+// Copies a list to the front of a slice.
 fn write_front(places: &mut [usize], list: &[usize])
     requires { length list.now ≤ length places.old }
     ensures front { take (length list.now) places.new ≡ list.now }
@@ -23,7 +23,7 @@ fn write_front(places: &mut [usize], list: &[usize])
     front.copy_from_slice(list);
 }
 
-// Writes what burning found. Returns how many sites it wrote, and whether all burn.
+// Writes the result of burning. Returns the number of sites written, and whether all burn.
 fn write_burned(places: &mut [usize], burned: &Burned) -> (usize, bool)
     requires { length (sites_in burned.now) ≤ length places.old }
     ensures front { take result.0 places.new ≡ sites_in burned.now }
@@ -42,7 +42,6 @@ fn write_burned(places: &mut [usize], burned: &Burned) -> (usize, bool)
     }
 }
 
-// Burns a pile, and writes what it found once nothing can fail any more.
 #[tactic(auto, using(crate::proofs::Found::fits, crate::proofs::Found::found, crate::proofs::Unfit::burnt))]
 fn burn_into(
     alloc: Global,
@@ -77,9 +76,9 @@ fn burn_into(
     Ok(())
 }
 
-/// Burns a stable pile. If it is recurrent, all places become a burning order; and if not, the first ones the sites of the
-/// greatest forbidden set, ascending. Returns 0, or else 1 (Side), 24 (Narrow), 2 (Length of a slice), 3 (TooManyGrains) or
-/// 7 (Unstable), whichever is first, or 4 (Memory); and then nothing has changed.
+/// Burns a stable pile. If it is recurrent, `found` becomes a burning order; if not, its first `count` places become
+/// the sites of the greatest forbidden set, ascending. Returns 0, or the first of 1 (Side), 24 (Narrow), 2 (Length of a
+/// slice), 3 (TooManyGrains) and 7 (Unstable), or 4 (Memory).
 #[unsafe(no_mangle)]
 pub extern "C" fn sandpile_burn(
     alloc: Global,

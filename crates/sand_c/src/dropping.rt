@@ -14,7 +14,7 @@ use sand_model::{GRAIN_LIMIT, Pile, Shape};
 use sand_settle::DrivenPile;
 use std::alloc::Global;
 
-// Drops a grain at each site in turn, and notes each avalanche.
+// Drops a grain at each site in turn, and records each avalanche.
 fn drop_all(
     alloc: Global,
     pile: &mut DrivenPile,
@@ -36,7 +36,7 @@ fn drop_all(
     Ok(rows)
 }
 
-// Whether each drop is at a site.
+// Whether every drop is at a site.
 #[tactic(auto, using(crate::proofs::Sites::all_sites))]
 fn are_sites(drops: &[usize], sites: usize) -> bool
     ensures value { result ≡ are_sites sites drops.now }
@@ -45,7 +45,7 @@ fn are_sites(drops: &[usize], sites: usize) -> bool
     drops.iter().all(|site| *site < sites)
 }
 
-// Whether the heights are within the limit, each drop is at a site, and there is room for all.
+// Whether the heights are within the limit, every drop is at a site, and there is room for all drops.
 fn suit(shape: Shape, heights: &[u64], drops: &[usize]) -> Result<(), Fault>
     requires { length heights.now ≡ sites shape }
     ensures ok { OnOk result (drops_on shape heights.now drops.now ≡ Ok (record { grid = shape; heights = heights.now })) }
@@ -67,7 +67,7 @@ fn suit(shape: Shape, heights: &[u64], drops: &[usize]) -> Result<(), Fault>
     Ok(())
 }
 
-// The pile that the arguments are.
+// The pile in the arguments.
 fn start_of(
     alloc: Global,
     width: usize,
@@ -96,12 +96,11 @@ fn start_of(
     suit(shape, heights, drops)?;
     match Pile::new(alloc, shape, heights) {
         Ok(start) => Ok(start),
-        // Nothing else is left.
+        // All other faults are ruled out.
         Err(_) => Err(Fault::Memory),
     }
 }
 
-// Drops all grains, and writes what was found once nothing can fail any more.
 fn drop_into(
     alloc: Global,
     width: usize,
@@ -131,10 +130,9 @@ fn drop_into(
     Ok(())
 }
 
-/// Settles a pile, and drops a grain at each site in turn, of which each settles before the next. The heights become those
-/// that are left, the odometer how often each site toppled, the settling included, and the avalanches those of the drops.
-/// Returns 0, or else 1 (Side), 24 (Narrow), 2 (Length of a slice), 3 (TooManyGrains), 25 (NoSite) or 6 (Full), whichever
-/// is first, or 4 (Memory); and then nothing has changed.
+/// Settles a pile, then drops a grain at each site in turn; each settles before the next. Writes the final heights, how
+/// often each site toppled (the first settling included), and the avalanche of each drop. Returns 0, or the first of 1
+/// (Side), 24 (Narrow), 2 (Length of a slice), 3 (TooManyGrains), 25 (NoSite) and 6 (Full), or 4 (Memory).
 #[tactic(auto, using(crate::proofs::Answered::answered))]
 #[unsafe(no_mangle)]
 pub extern "C" fn sandpile_drop(

@@ -1,4 +1,4 @@
-//! Why a call was refused, with the number that it returns.
+//! The reasons why a call fails, with the numbers that it returns.
 
 ghost use Rattle.std.specs.Prelude.{◌≡◌, ◌↔◌, IfErr, IsOk};
 ghost use Rattle.sand_c.specs.Faults.{number_of, of_shape, of_pile, of_one, of_group};
@@ -9,28 +9,28 @@ use sand_model::{PileFault, ShapeFault};
 use sand_settle::{OneFault, SettleFault};
 use std::alloc::AllocError;
 
-/// Why a call was refused.
+/// Why a call failed.
 #[derive(Clone, Copy, Debug, PartialEq, Eq)]
 pub enum Fault {
     /// A side is outside 1 to 256.
     Side,
     /// A slice has the wrong length.
     Length,
-    /// The heights are over the limit in all.
+    /// The sum of the heights is over the grain limit.
     TooManyGrains,
     /// An allocation failed.
     Memory,
-    /// The grains and the drops are over the limit in all.
+    /// The grains and the drops together are over the grain limit.
     Full,
     /// A height is over 3.
     Unstable,
-    /// A forbidden set exists.
+    /// There is a forbidden set.
     NotRecurrent,
     /// Two piles have different shapes.
     Shapes,
     /// A cylinder is less than 3 wide.
     Narrow,
-    /// A drop is at a site that the grid has not got.
+    /// A drop is at a site outside the grid.
     NoSite,
 }
 

@@ -9,7 +9,6 @@ use crate::faults::{Fault, answer};
 use sand_group::{equivalent_recurrent, identity};
 use std::alloc::Global;
 
-// Writes the identity once nothing can fail any more.
 fn identity_into(
     alloc: Global,
     width: usize,
@@ -31,8 +30,8 @@ fn identity_into(
     Ok(())
 }
 
-/// Writes the heights of the identity of the group on a grid. Returns 0, or else 1 (Side), 24 (Narrow) or 2 (Length of the
-/// slice), whichever is first, or 4 (Memory); and then nothing has changed.
+/// Writes the heights of the identity of the group on a grid. Returns 0, or the first of 1 (Side), 24 (Narrow) and 2
+/// (Length of the slice), or 4 (Memory).
 #[tactic(auto, using(crate::proofs::Answered::answered))]
 #[unsafe(no_mangle)]
 pub extern "C" fn sandpile_identity(
@@ -49,7 +48,6 @@ pub extern "C" fn sandpile_identity(
     answer(identity_into(alloc, width, height, cylinder, heights))
 }
 
-// Writes the recurrent pile once nothing can fail any more.
 fn recurrent_into(
     alloc: Global,
     width: usize,
@@ -69,8 +67,8 @@ fn recurrent_into(
     Ok(())
 }
 
-/// The heights become those of the one recurrent pile that is equivalent to the pile. Returns 0, or else 1 (Side),
-/// 24 (Narrow), 2 (Length of the slice) or 3 (TooManyGrains), whichever is first, or 4 (Memory); and then nothing has changed.
+/// Replaces the heights with those of the unique recurrent pile equivalent to the pile. Returns 0, or the first of 1
+/// (Side), 24 (Narrow), 2 (Length of the slice) and 3 (TooManyGrains), or 4 (Memory).
 #[tactic(auto, using(crate::proofs::Answered::answered))]
 #[unsafe(no_mangle)]
 pub extern "C" fn sandpile_recurrent(

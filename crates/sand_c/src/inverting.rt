@@ -10,7 +10,6 @@ use crate::recurrent::element_of;
 use sand_group::inverse;
 use std::alloc::Global;
 
-// Inverts, and writes the inverse once nothing can fail any more.
 fn inverse_into(
     alloc: Global,
     width: usize,
@@ -28,9 +27,8 @@ fn inverse_into(
     Ok(())
 }
 
-/// The heights become those of the inverse of a recurrent pile. Returns 0, or else 1 (Side), 24 (Narrow), 2 (Length of the
-/// slice), 3 (TooManyGrains), 7 (Unstable) or 8 (NotRecurrent), whichever is first, or 4 (Memory); and then nothing has
-/// changed.
+/// Replaces the heights with those of the inverse of a recurrent pile. Returns 0, or the first of 1 (Side), 24
+/// (Narrow), 2 (Length of the slice), 3 (TooManyGrains), 7 (Unstable) and 8 (NotRecurrent), or 4 (Memory).
 #[unsafe(no_mangle)]
 pub extern "C" fn sandpile_inverse(
     alloc: Global,

@@ -1,8 +1,8 @@
-//! The sandpile library for C: each export takes plain numbers and slices, and returns 0 or the number of the fault, except
-//! that of the version.
+//! The sandpile library for C. Every export takes plain numbers and slices, and returns 0 or the number of a fault; the
+//! one for the version returns the version.
 //!
-//! An export checks its arguments, calls the library's function, and writes what it found once nothing can fail any more. So
-//! after a refusal no slice and no number has changed. No export keeps anything between calls.
+//! An export checks its arguments, calls the library's function, and writes its results only when nothing can fail any
+//! more. So after a fault no slice and no number has changed. No export keeps state between calls.
 #![tactic(auto)]
 
 mod adding;

@@ -10,7 +10,6 @@ use crate::recurrent::element_of;
 use sand_group::multiple;
 use std::alloc::Global;
 
-// Adds up, and writes the sum once nothing can fail any more.
 fn multiple_into(
     alloc: Global,
     width: usize,
@@ -29,9 +28,8 @@ fn multiple_into(
     Ok(())
 }
 
-/// The heights become those of the n-fold sum of a recurrent pile. Returns 0, or else 1 (Side), 24 (Narrow), 2 (Length of the
-/// slice), 3 (TooManyGrains), 7 (Unstable) or 8 (NotRecurrent), whichever is first, or 4 (Memory); and then nothing has
-/// changed.
+/// Replaces the heights with those of the n-fold sum of a recurrent pile. Returns 0, or the first of 1 (Side), 24
+/// (Narrow), 2 (Length of the slice), 3 (TooManyGrains), 7 (Unstable) and 8 (NotRecurrent), or 4 (Memory).
 #[unsafe(no_mangle)]
 pub extern "C" fn sandpile_multiple(
     alloc: Global,

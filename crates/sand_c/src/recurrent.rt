@@ -1,4 +1,4 @@
-//! The elements of the group: piles that are recurrent.
+//! The elements of the group: recurrent piles.
 
 ghost use Rattle.std.specs.Prelude.{◌≡◌, ◌≤◌, ◌⊎◌, length, sum, Ok, IfOk, IfErr};
 ghost use Rattle.sand_model.specs.Grid.{sites};
@@ -12,7 +12,7 @@ use sand_group::Recurrent;
 use sand_model::{Pile, Shape};
 use std::alloc::Global;
 
-/// The recurrent pile of these heights.
+/// The recurrent pile with these heights.
 #[tactic(auto, using(crate::proofs::Unfit::unfit))]
 pub(crate) fn recurrent_on(alloc: Global, shape: Shape, heights: &[u64]) -> Result<Recurrent, Fault>
     requires one_each { length heights.now ≡ sites shape }
@@ -29,7 +29,7 @@ pub(crate) fn recurrent_on(alloc: Global, shape: Shape, heights: &[u64]) -> Resu
     }
 }
 
-/// The recurrent pile that the arguments are.
+/// The recurrent pile in the arguments.
 pub(crate) fn element_of(
     alloc: Global,
     width: usize,

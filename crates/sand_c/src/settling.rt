@@ -9,7 +9,6 @@ use crate::faults::{Fault, answer};
 use sand_settle::settle;
 use std::alloc::Global;
 
-// Settles a pile, and writes what it found once nothing can fail any more.
 fn settle_into(
     alloc: Global,
     width: usize,
@@ -41,9 +40,9 @@ fn settle_into(
     Ok(())
 }
 
-/// Settles a pile: the heights become those of the settled pile, the odometer how often each site toppled, and the two
-/// numbers the grains lost and the topplings in all. Returns 0, or else 1 (Side), 24 (Narrow), 2 (Length of a slice) or
-/// 3 (TooManyGrains), whichever is first, or 4 (Memory); and then nothing has changed.
+/// Settles a pile. Writes the settled heights, how often each site toppled, the grains lost and the number of
+/// topplings. Returns 0, or the first of 1 (Side), 24 (Narrow), 2 (Length of a slice) and 3 (TooManyGrains), or 4
+/// (Memory).
 #[tactic(auto, using(crate::proofs::Answered::answered))]
 #[unsafe(no_mangle)]
 pub extern "C" fn sandpile_settle(

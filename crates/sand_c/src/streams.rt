@@ -8,7 +8,7 @@ use crate::arguments::grid_of;
 use crate::faults::{Fault, answer};
 use sand_streams::SiteReader;
 
-// Writes a site to each place, in turn.
+// Fills the places with sites, in order.
 fn read_into(reader: &mut SiteReader, places: &mut [usize])
     requires { reader.old.read + length places.old < 2 ^ 68 }
     ensures { AreSitesFrom reader.old.sites reader.old.seed reader.old.stream reader.old.read places.new }
@@ -18,7 +18,7 @@ fn read_into(reader: &mut SiteReader, places: &mut [usize])
     }
 }
 
-// Writes the sites, if there is a grid.
+// Writes the sites if the grid is valid.
 fn sites_into(
     width: usize,
     height: usize,
@@ -39,8 +39,8 @@ fn sites_into(
     Ok(())
 }
 
-/// Writes the sites of a stream of drops on a grid, from its place `from` on. Returns 0, or else 1 (Side) or 24 (Narrow), and
-/// then nothing has changed.
+/// Writes the sites of a stream of drops on a grid, from its place `from` on. Returns 0, or the first of 1 (Side) and
+/// 24 (Narrow).
 #[unsafe(no_mangle)]
 pub extern "C" fn sandpile_sites(
     width: usize,
