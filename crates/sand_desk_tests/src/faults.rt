@@ -1,4 +1,4 @@
-//! Lines that no command writes, and what a fault says of itself. docs/FORMATS.md has the names and numbers.
+//! Fault lines that no command writes. The names and numbers are in docs/FORMATS.md.
 
 use crate::runs::{fault_of, sent};
 use crate::stopping::{Failing, Sluggish};
@@ -28,7 +28,7 @@ fn a_line_that_does_not_fit(rt: HostRuntime) {
     assert!(rt; writer.taken.as_slice() == b"fault 2".as_slice());
 }
 
-// `sandpile explain` says more of each fault (cases/explain.txt).
+// `sandpile explain` says more about each fault (cases/explain.txt).
 #[test]
 fn what_a_fault_says(rt: HostRuntime) -> Result<(), Fail> {
     for (fault, number, want) in [

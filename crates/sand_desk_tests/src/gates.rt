@@ -1,4 +1,4 @@
-//! How often a command calls the gate that it is given.
+//! How often a command calls its gate.
 
 use crate::stopping::{Failing, Sluggish};
 use sand_desk::run_gated_command;
@@ -26,7 +26,7 @@ impl Gate for Count {
     }
 }
 
-// How many turns a command takes on one empty site, if they are those of one dropper, in order.
+// The number of turns that a command takes on one empty site, if one dropper takes them in order.
 fn turns_of<T: Threads + Sync>(rt: &T, alloc: Global, line: &str) -> Result<Option<u32>, Fail> {
     let gate = Count {
         turns: AtomicU32::new(0),

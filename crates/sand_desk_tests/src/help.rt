@@ -7,7 +7,7 @@ use std::alloc::Global;
 use std::test::Fail;
 use std::thread::Threads;
 
-// How many bytes of the help of `settle` were written before the writer failed, if it did.
+// The number of bytes of the help of `settle` written before the writer failed, if it did.
 fn helps<T: Threads + Sync>(
     rt: &T,
     alloc: Global,

@@ -1,10 +1,10 @@
-//! Texts that the readings of the desk take or refuse, and the line that reports each fault.
+//! Texts that the parsers accept or reject, and the fault line of each rejection.
 
 use sand_desk::{DeskFault, read_drops, read_pile, read_two, status, write_fault};
 use std::alloc::Global;
 use std::test::Fail;
 
-// The line that reports a fault, if it ends a program with status 1.
+// The line that reports a fault, if the program ends with status 1.
 fn line_of(alloc: Global, fault: &DeskFault) -> Option<Vec<u8>> {
     if fault.number() == 23 || status(fault) != 1 {
         return None;
@@ -14,7 +14,7 @@ fn line_of(alloc: Global, fault: &DeskFault) -> Option<Vec<u8>> {
     Some(line)
 }
 
-// Whether a text was refused with the fault of this line.
+// Whether parsing failed with the fault of this line.
 fn is_refused<T: Drop>(alloc: Global, read: Result<T, DeskFault>, line: &str) -> bool {
     match read {
         Ok(_) => false,

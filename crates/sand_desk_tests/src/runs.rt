@@ -1,4 +1,4 @@
-//! A command that is run over a reader of the tests and a writer that may stop.
+//! Runs a command with a reader of the tests and a writer that may stop.
 
 use crate::stopping::Sluggish;
 use sand_desk::{DeskFault, run_command};
@@ -8,7 +8,7 @@ use std::io::Read;
 use std::test::Fail;
 use std::thread::Threads;
 
-// The fault by which a command line ends.
+// The fault that a command line ends with.
 pub(crate) fn fault_of<T: Threads + Sync, R: Read>(
     rt: &T,
     alloc: Global,
@@ -26,7 +26,7 @@ pub(crate) fn fault_of<T: Threads + Sync, R: Read>(
     }
 }
 
-// Runs a command line that has no fault.
+// Runs a command line that must succeed.
 pub(crate) fn passes<T: Threads + Sync, R: Read>(
     rt: &T,
     alloc: Global,
@@ -44,7 +44,7 @@ pub(crate) fn passes<T: Threads + Sync, R: Read>(
     }
 }
 
-// How many bytes were written before the writer failed, if that is the fault.
+// The number of bytes written before the writer failed, if that is the fault.
 pub(crate) fn sent(fault: &DeskFault) -> Option<usize> {
     match fault {
         DeskFault::Write(after) => Some(*after),

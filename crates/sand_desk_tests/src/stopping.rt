@@ -1,7 +1,7 @@
-//! Readers and a writer that stop, and a reader that does not, for the tests.
+//! For the tests: readers and a writer that stop, and a reader that does not.
 //!
-//! A command promises most if the bytes of its reader and its writer are known. So these say theirs: what the writer has taken,
-//! and what a reader has left. A reader without an end has none to say.
+//! A contract of a command says most if the contents of its reader and writer are known. So these specify theirs: what
+//! the writer has taken, and what a reader has left. The endless reader cannot.
 
 ghost use Rattle.std.specs.Prelude.{Some};
 
@@ -9,18 +9,18 @@ use std::alloc::Global;
 use std::io;
 use std::io::{ErrorKind, Read, Write};
 
-/// Takes one byte a call, and stops after so many bytes.
+/// Takes one byte per call, and stops after `room` bytes.
 #[derive(Drop)]
 pub struct Sluggish {
     pub taken: Vec<u8>,
     pub room: usize,
-    /// Whether it then returns 0 bytes instead of an error.
+    /// Whether it then returns 0 instead of an error.
     pub is_full: bool,
     pub flushes: bool,
 }
 
 impl Sluggish {
-    /// One that has taken nothing yet, and will return an error.
+    /// A writer that has taken nothing yet, and stops with an error.
     pub fn new(alloc: Global, room: usize) -> Sluggish {
         Sluggish {
             taken: Vec::new(alloc),
@@ -58,7 +58,7 @@ impl Write for Sluggish {
     }
 }
 
-/// Gives one byte a call. After the last it fails, or ends.
+/// Gives one byte per call; then fails or ends.
 #[derive(Drop)]
 pub struct Failing<'a> {
     pub bytes: &'a [u8],
@@ -82,7 +82,7 @@ impl Read for Failing<'_> {
     }
 }
 
-/// Gives as many bytes as are requested, and fails after the last.
+/// Gives as many bytes as requested; then fails.
 #[derive(Drop)]
 pub struct Cut<'a> {
     pub bytes: &'a [u8],
@@ -99,7 +99,7 @@ impl Read for Cut<'_> {
     }
 }
 
-/// Gives spaces without end, one a call, and counts them.
+/// Gives one space per call, forever, and counts them.
 #[derive(Drop)]
 pub struct Endless {
     pub given: usize,

@@ -1,4 +1,4 @@
-//! Commands over readers that fail and writers that stop.
+//! Commands with readers that fail and writers that stop.
 
 use crate::runs::{fault_of, passes, sent};
 use crate::stopping::{Cut, Endless, Failing, Sluggish};
@@ -19,7 +19,7 @@ const JOURNAL: &[u8] =
 const DROPS: &[u8] =
     b"number site size area reach lost\n3 1 1 1 0 3\n4 0 0 0 0 0\n5 1 0 0 0 0\n2 1\n2 1\nlost 3\ntopplings 1\n";
 
-// A writer that stops, in either way, has the first bytes of the text, and the fault says how many.
+// However a writer stops, it has the first bytes of the text, and the fault says how many.
 fn stops<T: Threads + Sync + Abort>(
     rt: &T,
     alloc: Global,
@@ -75,7 +75,7 @@ fn a_writer_that_stops_in_drops_at_random(rt: HostRuntime) -> Result<(), Fail> {
     Ok(())
 }
 
-// The text of these drops at random has more than two blocks of 65,536 bytes.
+// The text of these random drops has more than two blocks of 65,536 bytes.
 const LONG: &str = "sandpile drops --count 10000 --seed 5";
 
 const FULL: &[u8] = b"2 2\n3 3\n3 3\n";
@@ -100,7 +100,7 @@ fn a_writer_that_stops_in_a_later_block(rt: HostRuntime) -> Result<(), Fail> {
     Ok(())
 }
 
-// The fault by which settling a reader's pile ends, over a writer with room for the text.
+// The fault of `settle` on a reader's pile, with a writer that has room for the text.
 fn settled<T: Threads + Sync, R: Read>(
     rt: &T,
     alloc: Global,
