@@ -1,5 +1,5 @@
-//! What no clause says: that a claim is made, by a guess or by sweeps, and on small piles is right; and which piles are seen
-//! to be high or flat.
+//! What no contract says: that a claim is made, by a guess or by sweeps, and is right for small piles; and which piles
+//! count as high or flat.
 
 use crate::piles::{ring, row};
 use sand_guess::{guessed, guessed_identity, is_flat, is_high, toppled};
@@ -7,7 +7,7 @@ use sand_model::{Pile, Shape};
 use std::alloc::Global;
 use std::test::Fail;
 
-// Whether these counts are guessed of a pile.
+// Whether the guess for a pile has these counts.
 fn is_guessed(alloc: Global, pile: Option<Pile>, counts: &[u64]) -> Option<bool> {
     let claim = guessed(alloc, &pile?).ok()??;
     Some(claim.counts.as_slice() == counts)
@@ -50,7 +50,7 @@ fn guesses_an_identity(rt: HostRuntime) -> Result<(), Fail> {
     Ok(())
 }
 
-// Whether so many grains on each site of a square are seen to be high.
+// Whether a square with `each` grains on every site counts as high.
 fn is_high_at(alloc: Global, side: usize, each: u64) -> Option<bool> {
     let shape = Shape::new(side, side).ok()?;
     let heights = vec![in alloc; each; shape.sites()].ok()?;
@@ -60,7 +60,7 @@ fn is_high_at(alloc: Global, side: usize, each: u64) -> Option<bool> {
 
 #[test]
 fn sees_what_is_high(rt: HostRuntime) {
-    // On a small grid the queue takes few turns, however high the pile is.
+    // On a small grid the queue takes few turns, however high the pile.
     for (side, each, want) in [(64, 6, true), (64, 3, false), (16, 1_000_000, false)] {
         let seen = is_high_at(rt.alloc(), side, each);
         assert!(rt; seen == Some(want), "{each} on {side}");

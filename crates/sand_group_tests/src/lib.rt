@@ -1,5 +1,5 @@
-//! Tests of `sand_group` and of the layers below it: values that were worked out by hand, and guesses, of which no contract says
-//! that they are made or right.
+//! Tests of `sand_group` and the layers below it: values worked out by hand, and guesses, since no contract says that a
+//! guess is made or right.
 #![tactic(auto)]
 
 #[cfg(test)]

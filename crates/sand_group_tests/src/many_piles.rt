@@ -1,4 +1,5 @@
-//! Guesses are made and accepted, on piles of all shapes, edges and heights; and so are claims by sweeps, of flat piles.
+//! Guesses are made and accepted for piles of all shapes, edges and heights, and so are claims by sweeps for flat
+//! piles.
 
 ghost use Rattle.std.specs.Prelude.{◌<◌};
 
@@ -8,10 +9,10 @@ use sand_guess::{Claim, guessed, is_flat, toppled};
 use sand_model::{Edge, Pile};
 use std::alloc::Global;
 
-// So many piles are guessed.
+// The number of piles that are guessed.
 const PILES: u64 = 400;
 
-// Numbers without a pattern, the same each time.
+// Numbers without a pattern, the same in every run.
 #[derive(Drop)]
 struct Numbers(u64);
 
@@ -41,7 +42,7 @@ impl Numbers {
         }
     }
 
-    // Of any order of size below 2^40.
+    // Any order of magnitude below 2^40.
     fn grains(&mut self) -> u64 {
         (1u64 << self.below(40)) - 1
     }
@@ -57,7 +58,7 @@ impl Numbers {
         Some(heights)
     }
 
-    // Adds grains on one site.
+    // Adds grains to one site.
     fn heap(&mut self, heights: &mut [u64]) {
         let grains = self.grains();
         let site = self.below((heights.len() as u64).max(1)) as usize;
@@ -74,7 +75,7 @@ impl Numbers {
         Some(heights)
     }
 
-    // Heights below 8, or alike, or nearly all grains on two sites.
+    // Heights below 8, or all equal, or nearly all grains on two sites.
     fn heights(&mut self, alloc: Global, sites: usize) -> Option<Vec<u64>> {
         match self.below(4) {
             0 => self.heights_below(alloc, 8, sites),
@@ -83,7 +84,7 @@ impl Numbers {
         }
     }
 
-    // A pile, or None if it would be too narrow or have too many grains.
+    // A pile, or `None` if it would be too narrow or have too many grains.
     fn pile(&mut self, alloc: Global) -> Option<Pile> {
         let edge = self.edge();
         let width = self.side();
@@ -93,7 +94,7 @@ impl Numbers {
     }
 }
 
-// The heights that a claim leaves, if it is accepted.
+// The heights that an accepted claim leaves.
 fn left_by(alloc: Global, pile: &Pile, claim: Claim) -> Option<Vec<u64>> {
     certified(alloc, pile, &claim.counts, &claim.turns).ok()?
 }
@@ -125,7 +126,7 @@ fn sweeps_of_many_flat_piles_are_accepted(rt: HostRuntime) {
     let mut piles = 0u64;
     for _ in 0..PILES {
         if let Some(pile) = numbers.pile(rt.alloc()) {
-            // A large pile of many grains may take more sweeps than are tried.
+            // A large pile with many grains may need more sweeps than are tried.
             if is_flat(&pile) && left_by_sweeps(rt.alloc(), &pile).is_some() {
                 piles = piles.saturating_add(1);
             }

@@ -9,7 +9,7 @@ use sand_model::{Edge, Pile, Shape};
 use std::alloc::{AllocError, Global};
 use std::test::Fail;
 
-// The forbidden set that burning leaves of a pile, or an empty list if there is none.
+// The forbidden set that burning finds in a pile, or an empty list if there is none.
 fn left(alloc: Global, pile: Option<Pile>) -> Option<Vec<usize>> {
     match burn(alloc, &pile?).ok()? {
         Burned::Recurrent(_) => Some(Vec::new(alloc)),
@@ -17,7 +17,7 @@ fn left(alloc: Global, pile: Option<Pile>) -> Option<Vec<usize>> {
     }
 }
 
-// Whether burning leaves this set.
+// Whether burning finds this set.
 fn leaves(alloc: Global, pile: Option<Pile>, set: &[usize]) -> bool {
     match left(alloc, pile) {
         Some(left) => left.as_slice() == set,
@@ -41,7 +41,7 @@ fn burns_nothing_of_a_square(rt: HostRuntime) {
     assert!(rt; leaves(rt.alloc(), square, &all));
 }
 
-// Whether an operation made the pile with these heights.
+// Whether an operation returned the pile with these heights.
 fn is_made(made: Result<Recurrent, GroupFault>, heights: &[u64]) -> bool {
     match made {
         Ok(made) => made.pile().heights() == heights,
@@ -49,7 +49,7 @@ fn is_made(made: Result<Recurrent, GroupFault>, heights: &[u64]) -> bool {
     }
 }
 
-// Whether the identity of a grid has these heights, and also its sum with itself.
+// Whether the identity of a grid, and its sum with itself, have these heights.
 fn is_identity(
     alloc: Global,
     width: usize,
@@ -78,7 +78,7 @@ fn knows_the_identity(rt: HostRuntime) {
     }
 }
 
-// A recurrent pile on one row.
+// A recurrent pile in one row.
 fn recurrent(alloc: Global, heights: &[u64]) -> Option<Recurrent> {
     let pile = row(alloc, heights)?;
     Recurrent::from_pile(alloc, &pile).ok()
@@ -121,7 +121,7 @@ fn multiplies(rt: HostRuntime) -> Result<(), Fail> {
     Ok(())
 }
 
-// What a pile settles to with one grain more on its first site, which each pile has.
+// What a pile settles to after a grain is added to its first site.
 fn acted(alloc: Global, pile: &Recurrent) -> Result<Recurrent, GroupFault> {
     let _ = pile.pile().shape().sites();
     act(alloc, pile, 0)
@@ -134,7 +134,7 @@ fn acts(rt: HostRuntime) -> Result<(), Fail> {
     Ok(())
 }
 
-// The number of the fault of a call of the group, or 0 if there is none.
+// The number of the fault of a call of the group, or 0.
 fn refusal<T: Drop>(called: Result<T, GroupFault>) -> u32 {
     match called {
         Ok(_) => 0,
@@ -172,7 +172,7 @@ fn numbers_of_the_faults_of_the_group(rt: HostRuntime) {
     }
 }
 
-// Whether the recurrent pile that is equivalent to a pile has these heights.
+// Whether the recurrent pile equivalent to a pile has these heights.
 fn is_equivalent(alloc: Global, pile: Option<Pile>, heights: &[u64]) -> bool {
     match pile {
         Some(pile) => is_made(equivalent_recurrent(alloc, &pile), heights),

@@ -4,7 +4,7 @@ use sand_model::{Edge, Pile, PileFault, Shape, ToppleFault, topple};
 use std::alloc::{AllocError, Global};
 use std::test::Fail;
 
-/// A pile on a grid with this edge, or None if it is refused.
+/// A pile on a grid with this edge, or `None` if it is rejected.
 pub(crate) fn pile_on(
     alloc: Global,
     width: usize,
@@ -16,12 +16,12 @@ pub(crate) fn pile_on(
     Pile::new(alloc, shape, heights).ok()
 }
 
-/// A pile on one row with open ends.
+/// A pile in one row with open ends.
 pub(crate) fn row(alloc: Global, heights: &[u64]) -> Option<Pile> {
     pile_on(alloc, heights.len(), 1, Edge::Open, heights)
 }
 
-/// A pile on one row that is joined at its ends.
+/// A pile in one row with joined ends.
 pub(crate) fn ring(alloc: Global, heights: &[u64]) -> Option<Pile> {
     pile_on(alloc, heights.len(), 1, Edge::Cylinder, heights)
 }
@@ -34,7 +34,7 @@ fn a_pile_and_its_copy(rt: HostRuntime) -> Result<(), Fail> {
     Ok(())
 }
 
-// The number of the fault by which heights are no pile on two sites.
+// The number of the fault if these heights are not a pile on two sites.
 fn refusal(alloc: Global, heights: &[u64]) -> Option<u32> {
     let pair = Shape::new(2, 1).ok()?;
     let fault = Pile::new(alloc, pair, heights).err()?;
@@ -47,7 +47,7 @@ fn heights_that_make_no_pile(rt: HostRuntime) {
     assert!(rt; refusal(rt.alloc(), &[1_099_511_627_775, 1]) == Some(3));
 }
 
-// What becomes of a pile of one site if a grain is added: the fault's number, or 0 if there is none, and the heights.
+// A pile of one site after a grain is added: the fault's number, or 0, and the heights.
 fn with_a_grain(alloc: Global, height: u64) -> Option<(u32, Vec<u64>)> {
     let mut pile = row(alloc, &[height])?;
     if pile.shape().sites() == 0 {
@@ -77,7 +77,7 @@ fn a_grain_is_added_up_to_the_limit(rt: HostRuntime) -> Result<(), Fail> {
     Ok(())
 }
 
-// Whether one toppling of a site returns this, and leaves these heights.
+// Whether toppling a site returns this and leaves these heights.
 fn topples(
     pile: Option<Pile>,
     site: usize,

@@ -1,4 +1,4 @@
-//! Worked examples, and what no clause says: that a call succeeds.
+//! Worked examples, and what no contract says: that a call succeeds.
 
 use crate::piles::{pile_on, ring, row};
 use sand_model::{Edge, Pile};
@@ -11,7 +11,7 @@ fn record_of(alloc: Global, start: Option<Pile>) -> Option<Settled> {
     settle(alloc, &start?).ok()
 }
 
-// Whether a record has these heights, this odometer, and so many grains lost and topplings.
+// Whether a record has these heights, this odometer, and these numbers of lost grains and topplings.
 fn is_record(record: Option<Settled>, heights: &[u64], odometer: &[u64], sums: (u64, u64)) -> bool {
     match record {
         Some(record) => {
@@ -51,7 +51,7 @@ fn settles_high_piles_of_one_site(rt: HostRuntime) {
     }
 }
 
-// Drops grains one after another, and returns the number and the avalanche of the last one, and the pile after it.
+// Drops grains one after another. Returns the number and the avalanche of the last drop, and the pile after it.
 fn dropped(
     alloc: Global,
     start: Option<Pile>,
@@ -119,7 +119,7 @@ fn drops_round_a_cylinder(rt: HostRuntime) -> Result<(), Fail> {
     Ok(())
 }
 
-// The number of the fault of a first drop on a pile of one site, and how many drops there were after it.
+// The number of the fault of a first drop on a pile of one site, and the number of drops after it.
 fn refusal(alloc: Global, height: u64) -> Option<(u32, u64)> {
     let start = row(alloc, &[height])?;
     let mut one = OnePile::new(alloc, &start).ok()?;

@@ -6,7 +6,7 @@ use sand_model::{Edge, ShapeFault};
 #[cfg(test)]
 use std::test::Fail;
 
-/// The neighbours of a site, and how many it lacks, if the site is in the grid.
+/// The neighbours of a site, and the number that are missing, if the site is in the grid.
 pub fn around(shape: Shape, site: usize) -> Option<([Option<usize>; 4], u8)> {
     if site < shape.sites() {
         Some((shape.neighbours(site), shape.missing(site)))
@@ -15,7 +15,7 @@ pub fn around(shape: Shape, site: usize) -> Option<([Option<usize>; 4], u8)> {
     }
 }
 
-// A corner, a middle and both ends of a row, on a grid and on a cylinder: north, west, east, south.
+// A corner, a middle site and both ends of a row, on a grid and on a cylinder: north, west, east, south.
 #[test]
 fn neighbours_on_a_grid_and_on_a_cylinder(rt: HostRuntime) -> Result<(), Fail> {
     let open = Shape::with_edge(4, 3, Edge::Open)?;
