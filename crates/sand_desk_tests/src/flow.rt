@@ -1,4 +1,4 @@
-//! Readers and writers that stop early, fail, or move few bytes in a call.
+//! Readers and writers that stop early, fail, or move few bytes per call.
 
 use sand_text::{INPUT_LIMIT, StreamFault, read_all, write_text};
 use std::alloc::Global;
@@ -6,7 +6,7 @@ use std::io;
 use std::io::{Read, Write};
 use std::test::Fail;
 
-/// Gives so many bytes, a few in each call, and fails in one call. It counts how often it is called.
+/// Gives `left` bytes, at most `step` per call; fails in call `fails_at`. Counts its calls.
 #[derive(Drop)]
 struct Giver {
     left: usize,
@@ -28,7 +28,7 @@ impl Read for Giver {
     }
 }
 
-/// Takes a few bytes in each call until it has so many; then it fails, or takes nothing.
+/// Takes at most `step` bytes per call up to `room`; then fails, or takes nothing.
 #[derive(Drop)]
 struct Taker {
     taken: Vec<u8>,
@@ -58,7 +58,7 @@ impl Write for Taker {
     }
 }
 
-// How many bytes `read_all` took, or its fault; how often it called; and how many bytes were left.
+// The number of bytes that `read_all` took, or its fault; the number of calls; and the number of bytes left.
 fn tried(
     alloc: Global,
     left: usize,
@@ -75,7 +75,7 @@ fn tried(
     (read, reader.calls, reader.left)
 }
 
-// A reader is called once after its last byte, and never after it failed, or gave too much.
+// A reader is called once after its last byte, and never after it failed or gave too much.
 #[test]
 fn a_reader_is_read_to_its_end(rt: HostRuntime) -> Result<(), Fail> {
     let too_long = Err(StreamFault::TooLong);
@@ -119,7 +119,7 @@ fn a_text_is_written_up_to_where_the_writer_stops(rt: HostRuntime) -> Result<(),
     Ok(())
 }
 
-/// Takes one byte in each call, and stops in one call: it fails, or takes nothing. It counts how often it is called.
+/// Takes one byte per call, except in call `stops_at`: there it fails, or takes nothing. Counts its calls.
 #[derive(Drop)]
 struct Once {
     taken: Vec<u8>,
@@ -148,7 +148,7 @@ impl Write for Once {
     }
 }
 
-// The writer would take more.
+// It would take more.
 #[test]
 fn a_writer_that_stopped_is_not_called_again(rt: HostRuntime) -> Result<(), Fail> {
     let text = b"3 1\n0 4 0\n";

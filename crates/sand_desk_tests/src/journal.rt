@@ -1,4 +1,4 @@
-//! Journals, byte by byte, written from entries of a type that `sand_text` does not know.
+//! Journals, byte by byte, written from an entry type unknown to `sand_text`.
 
 ghost use Rattle.std.specs.Prelude.{◌≡◌, ℕ, ◌++◌, ◌≤◌, length, map, IfOk, OnOk};
 ghost use Rattle.sand_text.specs.Runs.{journal_lines, journal_text_of};
@@ -8,14 +8,14 @@ use sand_text::{push_journal_head, push_journal_line};
 use std::alloc::{AllocError, Global};
 use std::test::Fail;
 
-/// A drop, as the owner of a journal may keep it.
+/// A drop, as a user of the crate may store it.
 #[derive(Clone, Copy)]
 pub struct Entry {
     pub site: usize,
     pub dropper: u32,
 }
 
-/// Writes the lines of an epoch.
+/// Appends the lines of an epoch.
 pub fn push_epoch(text: &mut Vec<u8>, epoch: u32, entries: &[Entry]) -> Result<(), AllocError>
     ensures { OnOk result (text.new.items ≡ text.old.items ++ journal_lines epoch (map (λ (e : Entry). (e.dropper, e.site)) entries.now)) }
 {
@@ -43,7 +43,7 @@ fn drop_by(dropper: u32, site: usize) -> Entry {
     Entry { site, dropper }
 }
 
-// Numbers begin at 0 in each epoch. An epoch without a drop has no line.
+// Numbers start at 0 in each epoch. An epoch without drops has no lines.
 #[test]
 fn a_journal_of_three_epochs(rt: HostRuntime) -> Result<(), Fail> {
     let first = [drop_by(1, 4), drop_by(0, 65535), drop_by(1, 2)];

@@ -4,7 +4,7 @@ use sand_model::{Pile, Shape};
 use sand_text::pgm_text;
 use std::alloc::Global;
 
-/// A line of 35 values, all of them 0.
+/// A line of 35 zeros.
 const LINE: &str = "0 0 0 0 0 0 0 0 0 0 0 0 0 0 0 0 0 0 0 0 0 0 0 0 0 0 0 0 0 0 0 0 0 0 0\n";
 
 // The picture of a pile, if it is stable.
@@ -17,7 +17,7 @@ fn picture(alloc: Global, width: usize, height: usize, heights: &[u64]) -> Optio
     pgm_text(alloc, &pile).ok()
 }
 
-// Whether a text has these parts, one after another.
+// Whether a text consists of these parts, in this order.
 fn has_parts(text: &[u8], parts: &[&str]) -> bool {
     let mut rest = text;
     for part in parts {
@@ -29,7 +29,7 @@ fn has_parts(text: &[u8], parts: &[&str]) -> bool {
     rest.is_empty()
 }
 
-// Each row of the grid begins a line, and a line has at most 35 values. No line is empty.
+// Each row of the grid starts a new line; a line has at most 35 values and is never empty.
 #[test]
 fn pictures_of_narrow_and_wide_piles(rt: HostRuntime) {
     for (width, height, heights, parts) in [

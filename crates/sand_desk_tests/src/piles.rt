@@ -1,4 +1,4 @@
-//! Piles that no command writes, since they are not settled.
+//! Piles that no command writes, because they are not settled.
 
 use sand_model::{Edge, Pile, Shape};
 use sand_text::pile_text;

@@ -4,7 +4,6 @@ use Rattle.sand_desk_tests.specs.declared.journal.Entry.{Entry}
 use Rattle.sand_text.proofs.NumberedLines.{no_line, one_line_more, all_lines_of}
 use Rattle.sand_desk_tests.proofs.journal.journal_of.Goals as goal
 
--- the drops of an epoch
 abbrev drops_of : Bor (List Entry) → List (ℕ × ℕ)
 drops_of entries = map (λ (e : Entry). (e.dropper, e.site)) entries.now
 
