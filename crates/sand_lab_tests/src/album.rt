@@ -1,4 +1,4 @@
-//! What a reader sees of an album before, during and after a run.
+//! What a reader sees in an album before, during and after a run.
 
 ghost use Rattle.std.specs.Prelude.{◌≡◌, ◌<◌, length};
 ghost use Rattle.sand_lab.specs.Albums.{IsPlace};
@@ -36,14 +36,14 @@ fn a_place_is_set_once(rt: HostRuntime) -> Result<(), Fail> {
     Ok(())
 }
 
-// What is seen with a note of the first place.
+// What a note shows of the first place.
 fn seen_first(album: &Album, mut note: Note) -> Option<(u32, u64)>
     requires { IsPlace album.now 0 note.cell }
 {
     seen(album, 0, &mut note)
 }
 
-// What two threads see at the first place, each with a note that knows nothing.
+// What two threads see at the first place, each with a new note.
 fn seen_by_two<R: Threads + Sync>(rt: &R, album: &Album) -> [Option<(u32, u64)>; 2]
     requires { 0 < length album.now }
 {
@@ -60,7 +60,7 @@ fn seen_by_two<R: Threads + Sync>(rt: &R, album: &Album) -> [Option<(u32, u64)>;
     [here, there]
 }
 
-// Of six drops in each of two epochs the first ones leave a height of 2, and the others of 0.
+// Two epochs of six drops: the first leaves a height of 2, the second a height of 0.
 #[test]
 fn each_epoch_is_at_its_place(rt: HostRuntime) -> Result<(), Fail> {
     let start = one_site(rt.alloc(), 0)?;
@@ -81,14 +81,13 @@ fn each_epoch_is_at_its_place(rt: HostRuntime) -> Result<(), Fail> {
     Ok(())
 }
 
-// Counts, at each turn, the places that show a picture.
+// Counts the places with a picture at each turn.
 #[derive(Drop)]
 struct Watch<'a> {
     album: &'a Album,
     pictures: AtomicU64,
 }
 
-// Whether a place shows a picture.
 fn is_set(album: &Album, k: u32) -> bool {
     if k >= album.places() {
         return false;
@@ -107,7 +106,7 @@ impl Gate for Watch<'_> {
     }
 }
 
-// One drop in each of four epochs: its turn finds the pictures of the epochs before, 0 and 1 and 2 and 3 of them.
+// One drop in each of four epochs. Its turn sees the pictures of the earlier epochs: 0, 1, 2 and 3 of them.
 #[test]
 fn an_epoch_is_shown_before_the_next_one(rt: HostRuntime) -> Result<(), Fail> {
     let start = one_site(rt.alloc(), 0)?;

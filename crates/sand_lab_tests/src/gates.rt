@@ -1,4 +1,4 @@
-//! Runs whose gates hold threads until others have begun a turn.
+//! Runs with gates that hold threads until others have begun a turn.
 
 use crate::holding::{Hold, Holds, dropper, observer, worker};
 use crate::setup::run_gated;
@@ -9,7 +9,7 @@ use std::alloc::{AllocError, Global};
 use std::test::Fail;
 use std::thread::Threads;
 
-// Whether the threads of a run on one site hold each other, and none is released early.
+// Whether the threads of a run on one site hold each other, with none released early.
 fn hold_each_other<R: Threads + Sync>(
     rt: &R,
     alloc: Global,
@@ -37,7 +37,7 @@ fn two_droppers_meet(rt: HostRuntime) -> Result<(), Fail> {
     Ok(())
 }
 
-// The dropper drops after the first sweep, and the worker sweeps again once it has begun.
+// The drop and the second sweep each wait for the other to begin.
 #[test]
 fn a_worker_sweeps_while_a_dropper_drops(rt: HostRuntime) -> Result<(), Fail> {
     let wish = Wish {
@@ -75,8 +75,8 @@ fn a_dropper_a_worker_and_an_observer_meet(rt: HostRuntime) -> Result<(), Fail> 
     Ok(())
 }
 
-// The first tally of an observer, if no thread was released early. It is read after the gate is called for this drop, and
-// before the drop is made; and no drop is made before the gate is called for the tally.
+// The first tally of an observer, if no thread was released early. It is read after the gate's call for drop `drop` and
+// before that drop is made; no drop is made before the gate's call for the tally.
 fn tally_before<R: Threads + Sync>(
     rt: &R,
     alloc: Global,
@@ -109,8 +109,8 @@ fn an_observer_reads_between_two_drops(rt: HostRuntime) -> Result<(), Fail> {
     Ok(())
 }
 
-// Holds by which the second dropper makes each of 33 drops after the first one has made the same drop of its own, and
-// before the first one makes its next.
+// Holds for 33 turns: the second dropper makes each drop after the first has made the same one, and before the first
+// makes its next.
 fn in_turn(alloc: Global, first: u32, second: u32) -> Result<Vec<Hold>, AllocError> {
     let mut holds = Vec::new(alloc);
     for turn in 0..33 {
@@ -120,7 +120,7 @@ fn in_turn(alloc: Global, first: u32, second: u32) -> Result<Vec<Hold>, AllocErr
     Ok(holds)
 }
 
-// Whether the first 66 drops of a journal are of two droppers in turn.
+// Whether two droppers alternate in the first 66 drops of a journal.
 fn alternates(journal: &[Entry], droppers: [u32; 2]) -> bool {
     for n in 0..66 {
         let dropper = journal.get(n).map(|entry| entry.dropper);
@@ -131,7 +131,7 @@ fn alternates(journal: &[Entry], droppers: [u32; 2]) -> bool {
     true
 }
 
-// Whether two droppers of a run on one site drop in turn, and none is released early.
+// Whether two droppers of a run on one site alternate, with none released early.
 fn drop_in_turn<R: Threads + Sync>(
     rt: &R,
     alloc: Global,
@@ -157,8 +157,9 @@ fn the_journal_has_the_order_of_the_drops(rt: HostRuntime) -> Result<(), Fail> {
     Ok(())
 }
 
-// Both drops are at the second site. The sweep after the first drop topples that site, and the round after the drops
-// topples the first one. A sweep before the drops would topple nothing, and leave the first site to the settling.
+// Both drops are on the second site. The sweep after the first drop topples that site, and the round after the drops
+// topples the first site. A sweep before the drops would topple nothing, and the first site would topple only in the
+// settling.
 #[test]
 fn a_worker_sweeps_after_its_gate(rt: HostRuntime) -> Result<(), Fail> {
     let start = open_pile(rt.alloc(), 2, 1, &[3, 3])?;
@@ -179,7 +180,7 @@ fn a_worker_sweeps_after_its_gate(rt: HostRuntime) -> Result<(), Fail> {
     Ok(())
 }
 
-// Both droppers wait for the worker's last turn, so it topples nothing before, and one sweep is not enough.
+// Both droppers wait for the worker's last turn, so nothing topples before it, and one sweep is not enough.
 #[test]
 fn rounds_sweep_until_nothing_topples(rt: HostRuntime) -> Result<(), Fail> {
     let start = open_pile(rt.alloc(), 8, 8, &[3; 64])?;

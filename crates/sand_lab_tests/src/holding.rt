@@ -1,13 +1,13 @@
-//! A gate that holds threads until others have begun a turn: they get past it only if they work at the same time.
+//! A gate that holds threads until others have begun a turn. They pass it only if they run at the same time.
 
 use sand_lab::{Gate, Role};
 use std::sync::atomic::AtomicBool;
 use std::sync::atomic::Ordering::SeqCst;
 
-// How often a thread that is held looks before it goes on.
+// How often a held thread checks before it goes on.
 const PATIENCE: u64 = 1_000_000_000;
 
-/// A turn of a thread: its role, its number there, and which of its turns it is.
+/// A turn of a thread: its role, its number in that role, and the number of the turn.
 #[derive(Clone, Copy, PartialEq, Eq)]
 pub struct Turn {
     role: Role,
@@ -32,7 +32,7 @@ impl Hold {
         }
     }
 
-    // Returns true as soon as the turn that is waited for has begun, and false if it does not begin.
+    // Returns true once the awaited turn has begun, and false if it does not begin.
     fn has_begun(&self) -> bool {
         for _ in 0..PATIENCE {
             if self.begun.load(SeqCst) {
@@ -63,7 +63,7 @@ impl<'a> Holds<'a> {
         !self.failed.load(SeqCst)
     }
 
-    // Tells the holds that wait for a turn that it has begun.
+    // Tells the holds that wait for this turn that it has begun.
     fn begin(&self, turn: Turn) {
         for hold in self.holds {
             if hold.until == turn {

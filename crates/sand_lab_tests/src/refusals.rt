@@ -1,4 +1,4 @@
-//! Runs that are refused.
+//! Runs that fail.
 
 use sand_lab::{Album, Open, Wish};
 use sand_testing::piles::one_site;
@@ -7,7 +7,7 @@ use std::alloc::Global;
 use std::test::Fail;
 use std::thread::Threads;
 
-// The number of the fault of a run of one drop an epoch, into an album with one place; or 0.
+// The number of the fault, or 0, of a run with one drop per epoch and an album with one place.
 fn fault_of<R: Threads + Sync>(
     rt: &R,
     alloc: Global,
@@ -27,7 +27,7 @@ fn fault_of<R: Threads + Sync>(
     }
 }
 
-// An album with one place for two epochs is reported first.
+// The fault that two epochs do not fit an album with one place comes first.
 #[test]
 fn too_many_grains_or_too_few_places(rt: HostRuntime) -> Result<(), Fail> {
     assert_eq!(rt; fault_of(&rt, rt.alloc(), 1_099_511_627_774, 1)?, 0);

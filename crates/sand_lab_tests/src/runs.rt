@@ -1,5 +1,5 @@
-//! Runs on piles that were worked out by hand. What a run leaves is the same however its work is spread over threads, and
-//! however they take turns.
+//! Runs on piles worked out by hand. The result does not depend on how the work is spread over threads, or on the order
+//! of their turns.
 
 use crate::setup::{Left, is_left, leaves, run_gated};
 use sand_lab::{Open, Wish};
@@ -9,7 +9,7 @@ use sand_testing::records::is_record;
 use sand_testing::runs::QUIET;
 use std::test::Fail;
 
-// What is left of one site.
+// The result on one site.
 fn one_left<'a>(height: &'a [u64; 1], topplings: &'a [u64; 1], lost: u64) -> Left<'a> {
     Left {
         heights: height,
@@ -18,7 +18,7 @@ fn one_left<'a>(height: &'a [u64; 1], topplings: &'a [u64; 1], lost: u64) -> Lef
     }
 }
 
-// Whether these are sixteen tallies that never fall, of six drops.
+// Whether these are sixteen tallies of six drops that never decrease.
 fn climbs(tallies: &[u64]) -> bool {
     let mut before = 0;
     for tally in tallies {
@@ -131,7 +131,7 @@ const SPREADS: [(u32, u32, u32); 8] = [
     (8, 20, 3),
 ];
 
-// What all drops of both droppers leave.
+// The result of all drops of both droppers.
 const LEFT: Left<'static> = Left {
     heights: &[
         1, 2, 2, 1, 1, 3, 1, 3, 3, 1, 1, 3, 0, 2, 0, 2, 3, 2, 1, 3, 2, 2, 1, 1, 2, 3, 3, 2, 3, 2,
@@ -146,7 +146,7 @@ const LEFT: Left<'static> = Left {
     lost: 272,
 };
 
-// Each of the spreads a dozen times.
+// Runs each spread twelve times.
 #[test]
 fn the_same_however_it_is_spread(rt: HostRuntime) -> Result<(), Fail> {
     let start = open_pile(rt.alloc(), 8, 8, &[3; 64])?;

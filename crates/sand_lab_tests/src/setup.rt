@@ -1,4 +1,4 @@
-//! Runs with an album of their own, and what they leave.
+//! Runs with an album of their own, and their results.
 
 ghost use Rattle.std.specs.Prelude.{◌≡◌, ℕ, ◌<◌, IfOk, length};
 ghost use Rattle.sand_lab.specs.Reports.{sheet_at};
@@ -27,7 +27,7 @@ pub fn run_gated<R: Threads + Sync, G: Gate>(
     run_into(rt, alloc, start, wish, gate, &album)
 }
 
-/// What a record leaves: the heights, the odometer and the grains lost.
+/// The result in a record: the heights, the odometer and the grains lost.
 #[derive(Clone, Copy)]
 pub struct Left<'a> {
     pub heights: &'a [u64],
@@ -35,7 +35,7 @@ pub struct Left<'a> {
     pub lost: u64,
 }
 
-/// Whether a record leaves this.
+/// Whether a record has this result.
 pub fn is_left(record: &Record, left: Left<'_>) -> bool {
     is_record(
         record,
@@ -46,7 +46,7 @@ pub fn is_left(record: &Record, left: Left<'_>) -> bool {
     )
 }
 
-/// Whether a run leaves this.
+/// Whether a run has this result.
 pub fn leaves<R: Threads + Sync>(
     rt: &R,
     alloc: Global,

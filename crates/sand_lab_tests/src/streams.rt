@@ -1,11 +1,11 @@
-//! The streams of drop sites, on worked values.
+//! The streams of drop sites, checked against known values.
 
 use sand_lab::sites_of;
 use sand_model::Shape;
 use std::test::Fail;
 
-// Seeds, streams, and the first eighteen sites, of which two are of the second block. The first row is the published keystream
-// of ChaCha8 under the key of zeros, which begins 3e 00 ef 2f 89 5f 40 d6.
+// Seeds, streams, and their first eighteen sites; the last two come from the second block. The first row is the
+// published keystream of ChaCha8 with an all-zero key, which begins 3e 00 ef 2f 89 5f 40 d6.
 #[test]
 fn the_low_halves_of_the_words(rt: HostRuntime) -> Result<(), Fail> {
     let rows = [
@@ -62,7 +62,7 @@ fn the_low_halves_of_the_words(rt: HostRuntime) -> Result<(), Fail> {
     Ok(())
 }
 
-// The same words, modulo a number that takes in their high halves.
+// The same words, modulo a number that involves their high halves.
 #[test]
 fn the_whole_words(rt: HostRuntime) -> Result<(), Fail> {
     let shape = Shape::new(7, 5)?;

@@ -1,4 +1,4 @@
-//! What workers sweep, on piles that were worked out by hand.
+//! What workers sweep, on piles worked out by hand.
 
 use crate::setup::run_gated;
 use sand_lab::{Open, Wish};
@@ -21,7 +21,7 @@ fn each_worker_sweeps_its_row(rt: HostRuntime) -> Result<(), Fail> {
     Ok(())
 }
 
-// Of sixteen bands of two rows only the eighth and the last have one.
+// Two rows are split into sixteen bands: only the eighth and the last have one.
 #[test]
 fn workers_without_rows_sweep_nothing(rt: HostRuntime) -> Result<(), Fail> {
     let start = open_pile(rt.alloc(), 2, 2, &[4; 4])?;
@@ -38,8 +38,8 @@ fn workers_without_rows_sweep_nothing(rt: HostRuntime) -> Result<(), Fail> {
     Ok(())
 }
 
-// The other band topples 330 and 111 times while the droppers work, and 37 and 11 times in two rounds; the first band never
-// topples. What is left topples when the pile is closed.
+// The second band topples 330 and 111 times while the droppers work, then 37 and 11 times in two rounds; the first band
+// never topples. The rest topples when the pile is closed.
 #[test]
 fn rounds_go_on_while_one_band_topples(rt: HostRuntime) -> Result<(), Fail> {
     let mut heights = [0; 64];

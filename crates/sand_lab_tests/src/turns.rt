@@ -8,7 +8,7 @@ use std::sync::atomic::Ordering::SeqCst;
 use std::sync::atomic::{AtomicBool, AtomicU32};
 use std::test::Fail;
 
-// Counts the calls of two of each role, which take so many turns each in an epoch.
+// Counts the calls of two threads per role, each with a fixed number of turns per epoch.
 #[derive(Drop)]
 struct Count {
     holds: bool,
@@ -17,7 +17,7 @@ struct Count {
     observers: Calls,
 }
 
-// The calls of two who take so many turns in an epoch.
+// The calls of two threads that take `turns` turns per epoch.
 #[derive(Drop)]
 struct Calls {
     turns: u32,
@@ -34,7 +34,7 @@ impl Calls {
         }
     }
 
-    // Counts a call, and whether it is the next one: turns count from 0 in each epoch.
+    // Counts a call, and checks that it is the next one: turns count from 0 in each epoch.
     fn count(&self, who: u32, turn: u32) {
         let is_next = match self.calls.get(who as usize) {
             Some(calls) => calls.fetch_add(1, SeqCst).checked_rem(self.turns) == Some(turn),
@@ -45,7 +45,7 @@ impl Calls {
         }
     }
 
-    // Whether both took all turns of so many epochs, in order.
+    // Whether both took all turns of `epochs` epochs, in order.
     fn are_all(&self, epochs: u32) -> bool {
         let all = self.turns.saturating_mul(epochs);
         !self.astray.load(SeqCst) && self.calls.iter().all(|calls| calls.load(SeqCst) == all)
@@ -53,7 +53,7 @@ impl Calls {
 }
 
 impl Count {
-    // Whether all took all turns of so many epochs, in order.
+    // Whether every thread took all turns of `epochs` epochs, in order.
     fn are_all(&self, epochs: u32) -> bool {
         [&self.droppers, &self.workers, &self.observers]
             .iter()
@@ -75,7 +75,7 @@ impl Gate for Count {
     }
 }
 
-// Rounds of sweeps follow each epoch's turns, and call no gate.
+// Rounds of sweeps follow each epoch's turns, without calling the gate.
 #[test]
 fn a_gate_is_called_before_each_turn(rt: HostRuntime) -> Result<(), Fail> {
     let start = one_site(rt.alloc(), 0)?;
@@ -99,7 +99,7 @@ fn a_gate_is_called_before_each_turn(rt: HostRuntime) -> Result<(), Fail> {
     Ok(())
 }
 
-// These numbers of drops make batches of more than one drop, and a shorter last batch.
+// These numbers of drops make batches of several drops, and a shorter last batch.
 #[test]
 fn a_gate_is_called_before_each_drop_of_a_batch(rt: HostRuntime) -> Result<(), Fail> {
     let start = one_site(rt.alloc(), 0)?;
