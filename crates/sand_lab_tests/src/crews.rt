@@ -1,5 +1,5 @@
-//! Eight threads that drop single grains and lists and sweep on one pile, against what one thread leaves that drops the same
-//! grains.
+//! Eight threads drop single grains and lists on one pile, and sweep it. The result is compared with that of one thread
+//! that drops the same grains.
 
 ghost use Rattle.std.specs.Prelude.{◌≡◌, IfSome};
 ghost use Rattle.std.specs.Thread.{IsSync};
@@ -16,7 +16,7 @@ use std::thread::{Threads, join};
 
 const ROUNDS: usize = 200;
 
-// Half of the rows and of the quota of a pass, as a pass of its own.
+// Splits off half of a pass: half of its rows and of its quota.
 fn half_of(alloc: Global, pile: &SharedPile, pass: &mut Pass) -> Option<Pass>
     requires { IsPassOf pile.now pass.old }
     ensures pass { IsPassOf pile.now pass.new }
@@ -31,7 +31,7 @@ fn half_of(alloc: Global, pile: &SharedPile, pass: &mut Pass) -> Option<Pass>
     Some(half)
 }
 
-// What two threads had, as one pass.
+// The passes of two threads, joined.
 fn gathered(
     alloc: Global,
     pile: &SharedPile,
@@ -48,7 +48,7 @@ fn gathered(
     Some(one)
 }
 
-// As many threads as 2 to the depth, each with its part of the pass.
+// Runs 2^depth threads, each with its part of the pass.
 fn crew<R: Threads + Sync>(
     rt: &R,
     alloc: Global,
@@ -97,7 +97,7 @@ fn closed_by_eight<R: Threads + Sync>(rt: &R, alloc: Global, start: &Pile) -> Op
     pile.close(alloc, pass).ok()
 }
 
-// Whether eight threads leave what one leaves.
+// Whether eight threads have the same result as one.
 fn are_as_one<R: Threads + Sync>(rt: &R, alloc: Global, start: &Pile) -> bool {
     match closed_by_eight(rt, alloc, start) {
         Some(record) => is_record(&record, record.history(), &HEIGHTS, &ODOMETER, 63),

@@ -1,4 +1,4 @@
-//! Single drops, lists of drops, quotas and tallies, on values that were worked out by hand.
+//! Single drops, lists of drops, quotas and tallies, on values worked out by hand.
 
 ghost use Rattle.std.specs.Prelude.{◌≡◌};
 ghost use Rattle.sand_model.specs.Grid.{sites};
@@ -15,7 +15,7 @@ use sand_testing::records::is_record;
 use std::alloc::Global;
 use std::test::Fail;
 
-// One site of this height, and this quota.
+// One site with this height, and this quota.
 fn site<'a>(height: &'a [u64; 1], quota: u64) -> Start<'a> {
     Start {
         sides: (1, 1),
@@ -24,7 +24,7 @@ fn site<'a>(height: &'a [u64; 1], quota: u64) -> Start<'a> {
     }
 }
 
-// A grain of the quota is gone with a child, which was thrown away.
+// A grain of the quota went to a child that was thrown away.
 #[test]
 fn a_quota_that_is_thrown_away_stays_missing(rt: HostRuntime) {
     let drops = [
@@ -88,7 +88,7 @@ fn the_last_grain_below_the_limit(rt: HostRuntime) {
     assert!(rt; both_leave(rt.alloc(), site(&[GRAIN_LIMIT - 1], 1), &calls, left));
 }
 
-// No clause says that a tally takes a step: what others have drawn since is seen by a test alone.
+// No contract requires a tally to take a step, so only a test shows that it includes what others have drawn since.
 #[test]
 fn a_tally_is_not_stale(rt: HostRuntime) {
     let calls = [
@@ -155,7 +155,7 @@ fn drop_one_and_three(alloc: Global, shape: Shape, pile: &SharedPile, pass: &mut
     pile.drop_at(pass, 2).is_ok() && pile.drop_all(pass, &[1, 0, 1], &mut counts).is_ok()
 }
 
-// The record of a list of drops after a single one.
+// The record of a single drop, then a list of drops.
 fn one_and_three(alloc: Global, start: &Pile) -> Option<Record>
     requires { sites start.now.grid ≡ 3 }
 {

@@ -1,4 +1,4 @@
-//! Rows and quotas that passes hand on, and ends that are refused until all is gathered.
+//! Passes that hand on rows and quotas, and endings that fail until everything is gathered.
 
 ghost use Rattle.std.specs.Prelude.{IfOk};
 ghost use Rattle.sand_shared.specs.Passes.{IsPassOf};
@@ -38,7 +38,7 @@ fn rows_are_handed_on(rt: HostRuntime) {
     assert!(rt; PileWithPasses::played(rt.alloc(), ROWS, &calls).is_some());
 }
 
-// The pass of the last row takes in those before it.
+// The pass of the last row takes in the rows before it.
 #[test]
 fn rows_are_joined_from_the_last_one(rt: HostRuntime) {
     let calls = [
@@ -52,7 +52,7 @@ fn rows_are_joined_from_the_last_one(rt: HostRuntime) {
     assert!(rt; PileWithPasses::played(rt.alloc(), ROWS, &calls).is_some());
 }
 
-// The first row touches the middle one, and not the last one.
+// The first row touches the middle one, but not the last.
 #[test]
 fn rows_that_are_thrown_away_stay_missing(rt: HostRuntime) {
     for (lost, joined) in [(1, Done), (2, Fault(12))] {
@@ -67,7 +67,7 @@ fn rows_that_are_thrown_away_stay_missing(rt: HostRuntime) {
     }
 }
 
-// Whether a pile whose quota and last row went to two children ends once both are joined, and not before.
+// Whether a pile, with its quota and last row split off to two children, ends once both are joined and not before.
 fn ends_once_gathered(alloc: Global, ending: Ending) -> Option<bool> {
     let start = Start {
         sides: (1, 2),
@@ -101,7 +101,7 @@ fn ends_once_all_is_gathered(rt: HostRuntime) {
     }
 }
 
-// One site of this height, and one grain to drop.
+// One site with this height, and one grain to drop.
 fn grain<'a>(height: &'a [u64; 1]) -> Start<'a> {
     Start {
         sides: (1, 1),
@@ -138,7 +138,7 @@ fn a_child_that_had_nothing_may_be_thrown_away(rt: HostRuntime) {
     assert!(rt; both_leave(rt.alloc(), grain(&[0]), &calls, left));
 }
 
-// Whether a pile ends after both ways to end it were refused a hundred times.
+// Whether a pile still ends after both endings failed a hundred times.
 fn ends_after_refusals(alloc: Global, ending: Ending) -> Option<bool> {
     let split = [(Split(0, 1), Done), (DropAt(1, 0), Number(0))];
     let mut pile = PileWithPasses::played(alloc, grain(&[3]), &split)?;
@@ -162,7 +162,7 @@ fn ends_after_a_hundred_refusals(rt: HostRuntime) {
     }
 }
 
-// Two rows, of which the upper one has toppled twice in place, and a bare pass of each.
+// Two rows and a bare pass of each; the upper row has toppled twice in place.
 fn two_rows(alloc: Global) -> Result<(SharedPile, BarePass, BarePass), Fail>
     ensures { IfOk result (λ r. IsPassOf r.0 r.1 × IsPassOf r.0 r.2) }
 {
@@ -172,7 +172,7 @@ fn two_rows(alloc: Global) -> Result<(SharedPile, BarePass, BarePass), Fail>
     Ok((pile, bare_of(pass), bare_of(lower)))
 }
 
-// Whether a pass that lacks the rows of another one cannot settle the pile, and takes it in.
+// Whether a pass that lacks the rows of another cannot settle the pile, and takes it in.
 fn take_in(alloc: Global, pile: &SharedPile, pass: &mut BarePass, other: BarePass) -> bool
     requires pass { IsPassOf pile.now pass.old }
     requires other { IsPassOf pile.now other }
@@ -183,7 +183,7 @@ fn take_in(alloc: Global, pile: &SharedPile, pass: &mut BarePass, other: BarePas
     is_refused && is_joined
 }
 
-// The lower row has 9 grains then, and is left to be settled.
+// The lower row then has 9 grains, which remain to be settled.
 #[test]
 fn bare_passes_are_gathered_and_settled(rt: HostRuntime) -> Result<(), Fail> {
     let (pile, mut upper, lower) = two_rows(rt.alloc())?;

@@ -9,13 +9,13 @@ use std::alloc::Global;
 use std::sync::atomic::AtomicU64;
 use std::sync::atomic::Ordering::SeqCst;
 
-// How often a thread looks for the others before it gives up.
+// How often a thread checks for the others before it gives up.
 const PATIENCE: u64 = 1_000_000_000;
 
-// Where most grains are dropped.
+// The site of most drops.
 const SITE: usize = 10;
 
-/// Where threads meet: each counts itself, and looks until all have begun.
+/// Where threads meet: each counts itself, then waits until all have begun.
 #[derive(Drop)]
 pub struct Meeting {
     begun: AtomicU64,
@@ -28,7 +28,7 @@ impl Meeting {
         }
     }
 
-    /// Returns true as soon as so many have begun, and false if they do not.
+    /// Returns true once `all` threads have begun, and false if they do not.
     pub fn met(&self, all: u64) -> bool {
         self.begun.fetch_add(1, SeqCst);
         for _ in 0..PATIENCE {
@@ -40,7 +40,7 @@ impl Meeting {
     }
 }
 
-/// Meets seven other threads, drops a grain and then three, and sweeps.
+/// Meets seven other threads, drops one grain, then three, and sweeps.
 pub fn take_part(
     alloc: Global,
     start: &Pile,

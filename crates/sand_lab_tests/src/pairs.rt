@@ -11,7 +11,8 @@ use sand_shared::{Pass, SharedPile};
 use sand_testing::shared::drop_rest;
 use std::thread::{Threads, join};
 
-// Meets the other thread; then drops all that is left on a site, or sweeps if there is none. Also returns whether they met.
+// Meets the other thread; then makes all remaining drops at a site, or sweeps if none is given. Also returns whether
+// they met.
 fn take_turn(
     pile: &SharedPile,
     meeting: &Meeting,
@@ -32,8 +33,8 @@ fn take_turn(
     (pass, met)
 }
 
-/// Two threads meet; then each drops all that its pass has left on its site, or sweeps if it has none. Also returns whether
-/// they met.
+/// Two threads meet; then each makes all remaining drops of its pass at its site, or sweeps if it has none. Also
+/// returns whether they met.
 pub fn both_at_once<R: Threads + Sync>(
     rt: &R,
     pile: &SharedPile,

@@ -1,8 +1,8 @@
-//! A shared pile with its passes in a list, on which a test makes calls from a table: each call with what it returns.
+//! A shared pile with its passes in a list, on which a test makes calls from a table, each with its expected result.
 //!
-//! The calls have the names of those of `sand_shared` that they make. They ensure nothing, since a test compares what they
-//! return, and require nothing, since the list is known to have passes of this pile. So the proof of a test is short: it has a
-//! table, and one call.
+//! The calls are named after the calls of `sand_shared` that they make. They ensure nothing, because a test compares
+//! results, and require nothing, because the list is known to hold passes of this pile. So the proof of a test is
+//! short: a table and one call.
 
 ghost use Rattle.std.specs.Prelude.{◌<◌, All, IsTrue, IfSome};
 ghost use Rattle.sand_model.specs.Grid.{sites};
@@ -16,17 +16,17 @@ use std::alloc::Global;
 use std::marker::Model;
 use std::thread::Threads;
 
-/// A call. It names passes by their places in the list, and sites by their numbers.
+/// A call. It names passes by their position in the list, and sites by their numbers.
 #[derive(Clone, Copy, Debug, PartialEq, Eq)]
 pub enum Call {
     DropAt(usize, usize),
     Tally(usize),
     Sweep(usize),
-    /// A quota goes to a child, which comes last in the list.
+    /// Gives a quota to a child, which is appended to the list.
     Split(usize, u64),
-    /// Rows go to a child, which comes last in the list.
+    /// Gives rows to a child, which is appended to the list.
     SplitRows(usize, u16),
-    /// The first pass takes in the other one, which leaves the list unless it is refused.
+    /// The first pass takes in the other, which leaves the list unless that fails.
     Join(usize, usize),
     ThrowAway(usize),
     IsWhole(usize),
@@ -44,7 +44,7 @@ pub enum Told {
     Number(u64),
     Fault(u32),
     Is(bool),
-    /// The first row and the one past the last.
+    /// The first row and one past the last.
     Between(u16, u16),
     /// A drop's number and its site.
     Dropped(u64, usize),
@@ -69,7 +69,7 @@ pub struct Start<'a> {
     pub quota: u64,
 }
 
-/// What a record has.
+/// The expected contents of a record.
 #[derive(Clone, Copy)]
 pub struct Left<'a> {
     pub history: &'a [usize],
@@ -88,7 +88,7 @@ fn is_inside(shape: Shape, site: Option<usize>) -> bool
     }
 }
 
-// Takes a pass out of a list of passes.
+// Takes a pass out of a list.
 fn take(_pile: &SharedPile, passes: &mut Vec<Pass>, place: usize) -> Option<Pass>
     requires { All (IsPassOf _pile.now) passes.old.items }
     ensures pass { IfSome result (IsPassOf _pile.now) }
@@ -100,7 +100,7 @@ fn take(_pile: &SharedPile, passes: &mut Vec<Pass>, place: usize) -> Option<Pass
     Some(passes.remove(place))
 }
 
-// Puts a pass at a place of a list of passes, if there is room for it.
+// Inserts a pass into a list, if there is room.
 fn put(_pile: &SharedPile, passes: &mut Vec<Pass>, place: usize, pass: Pass)
     requires passes { All (IsPassOf _pile.now) passes.old.items }
     requires pass { IsPassOf _pile.now pass }
@@ -111,7 +111,7 @@ fn put(_pile: &SharedPile, passes: &mut Vec<Pass>, place: usize, pass: Pass)
     }
 }
 
-/// A shared pile and its passes. The first pass is at 0.
+/// A shared pile and its passes, starting with the first pass.
 #[derive(Drop)]
 pub struct PileWithPasses {
     shape: Shape,
@@ -149,7 +149,7 @@ impl PileWithPasses {
         })
     }
 
-    /// A shared pile with this start, on which these calls have returned what is said.
+    /// A shared pile with this start, if these calls return what is expected.
     pub fn played(
         alloc: Global,
         start: Start<'_>,
@@ -162,7 +162,7 @@ impl PileWithPasses {
         pile.play(alloc, calls)
     }
 
-    /// The pile, if these calls return what is said.
+    /// The pile, if these calls return what is expected.
     pub fn play(mut self, alloc: Global, calls: &[(Call, Told)]) -> Option<PileWithPasses> {
         for (call, told) in calls {
             if self.call(alloc, *call) != *told {
@@ -172,7 +172,6 @@ impl PileWithPasses {
         Some(self)
     }
 
-    // What a call returns.
     fn call(&mut self, alloc: Global, call: Call) -> Told {
         match call {
             Call::DropAt(pass, site) => self.drop_at(pass, site),
@@ -313,7 +312,7 @@ impl PileWithPasses {
         Some(self.passes.get(pass)?.receipts().get(place)?.number)
     }
 
-    /// How many receipts have this number.
+    /// The number of receipts with this number.
     pub fn receipts_with(&self, pass: usize, number: u64) -> usize {
         let Some(pass) = self.passes.get(pass) else {
             return 0;
@@ -322,8 +321,8 @@ impl PileWithPasses {
         receipts.filter(|receipt| receipt.number == number).count()
     }
 
-    /// Its two passes on two threads that meet: each drops all that is left on its site, or sweeps if it has no site. Returns
-    /// None if they do not meet.
+    /// Runs its two passes on two threads that meet: each makes all remaining drops at its site, or sweeps if it has
+    /// none. Returns `None` if they do not meet.
     pub fn both_at_once<R: Threads + Sync>(
         self,
         rt: &R,
@@ -353,7 +352,7 @@ impl PileWithPasses {
         })
     }
 
-    // Ends the shared pile with its first pass. If that is refused, all come back, with the number of the fault.
+    // Ends the shared pile with its first pass. If that fails, everything comes back, with the number of the fault.
     fn end(self, alloc: Global, ending: Ending) -> Result<Record, (u32, PileWithPasses)> {
         let PileWithPasses {
             shape,
@@ -390,7 +389,7 @@ impl PileWithPasses {
         }
     }
 
-    // The pile, if this way to end is refused because something is missing.
+    // The pile, if this ending fails because something is missing.
     fn misses(self, alloc: Global, ending: Ending) -> Option<PileWithPasses> {
         match self.end(alloc, ending) {
             Err((14, pile)) => Some(pile),
@@ -398,13 +397,13 @@ impl PileWithPasses {
         }
     }
 
-    /// The pile, if neither way to end it is taken, because something is missing.
+    /// The pile, if both endings fail because something is missing.
     pub fn still_missing(self, alloc: Global) -> Option<PileWithPasses> {
         self.misses(alloc, Ending::Close)?
             .misses(alloc, Ending::Settle)
     }
 
-    /// Whether this way to end it leaves this.
+    /// Whether this ending has this result.
     pub fn leaves(self, alloc: Global, ending: Ending, left: Left<'_>) -> bool {
         match self.end(alloc, ending) {
             Ok(record) => is_record(
@@ -419,7 +418,7 @@ impl PileWithPasses {
     }
 }
 
-/// Whether a start, after these calls, leaves this by both ways to end it.
+/// Whether, after these calls, both endings have this result.
 pub fn both_leave(alloc: Global, start: Start<'_>, calls: &[(Call, Told)], left: Left<'_>) -> bool {
     ENDINGS.iter().all(|ending| match PileWithPasses::played(alloc, start, calls) {
         Some(pile) => pile.leaves(alloc, *ending, left),

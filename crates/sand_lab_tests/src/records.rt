@@ -7,7 +7,7 @@ use sand_testing::shared::dropped_on;
 use std::alloc::Global;
 use std::test::Fail;
 
-// A record that has the first one before it.
+// The first record followed by one more drop.
 fn after_the_first(alloc: Global, first: &Record) -> Result<Record, Fail> {
     let next = dropped_on(alloc, first.pile(), 1)?;
     if !are_within_limit(first, &next) {
@@ -27,14 +27,14 @@ fn append_one(alloc: Global, record: &mut Record) -> Result<(), Fail> {
     Ok(())
 }
 
-// A copy with room for one drop more, to which it is appended.
+// A copy with room for one more drop, which is then appended.
 fn grown_copy(alloc: Global, record: &Record) -> Result<Record, Fail> {
     let mut copy = record.copy_with_room(alloc, 1)?;
     append_one(alloc, &mut copy)?;
     Ok(copy)
 }
 
-// Three drops on an empty site, and one more, which topples it.
+// Three drops on an empty site, then one that topples it.
 #[test]
 fn one_record_after_another(rt: HostRuntime) -> Result<(), Fail> {
     let start = one_site(rt.alloc(), 0)?;
@@ -47,7 +47,7 @@ fn one_record_after_another(rt: HostRuntime) -> Result<(), Fail> {
     Ok(())
 }
 
-// Two records share a history. One grows, and the other one stays.
+// Two records share a history. One grows, the other does not change.
 #[test]
 fn a_shared_history_grows_in_one_record_alone(rt: HostRuntime) -> Result<(), Fail> {
     let start = one_site(rt.alloc(), 0)?;

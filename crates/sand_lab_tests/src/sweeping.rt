@@ -1,4 +1,4 @@
-//! Sweeps, on values that were worked out by hand.
+//! Sweeps, on values worked out by hand.
 
 use crate::pile_with_passes::Call::{DropAt, Join, Split, SplitRows, Sweep, Toppled};
 use crate::pile_with_passes::Told::{Done, Number};
@@ -61,8 +61,8 @@ fn sweeps_a_cylinder(rt: HostRuntime) -> Result<(), Fail> {
     Ok(())
 }
 
-// What a site sends back to one before it topples only in the next sweep. No clause says so of a pass that is not whole: this
-// one lacks the lower row and the quota.
+// What a site sends back to an earlier site topples only in the next sweep. No contract says so for a partial pass:
+// this one lacks the lower row and the quota.
 #[test]
 fn goes_once_over_the_rows_of_a_part(rt: HostRuntime) {
     let start = Start {
@@ -104,7 +104,7 @@ fn each_sweeps_its_own_row(rt: HostRuntime) {
     assert!(rt; both_leave(rt.alloc(), start, &calls, left));
 }
 
-// The first row has toppled twice in place, and the other one topples twice when it ends.
+// The first row has toppled twice in place; the other topples twice at the end.
 #[test]
 fn ends_with_what_a_row_left(rt: HostRuntime) {
     let start = Start {

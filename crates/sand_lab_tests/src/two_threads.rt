@@ -1,4 +1,4 @@
-//! Two threads that drop or sweep on one pile at the same time, on values that were worked out by hand.
+//! Two threads that drop or sweep on one pile at the same time, on values worked out by hand.
 
 use crate::pile_with_passes::Call::{DropAt, Join, Split, SplitRows};
 use crate::pile_with_passes::Told::{Done, Number};
@@ -6,7 +6,7 @@ use crate::pile_with_passes::{ENDINGS, Ending, Left, PileWithPasses, Start};
 use std::alloc::Global;
 use std::thread::Threads;
 
-// Whether the numbers of the first two drops of a pass rise.
+// Whether the numbers of the first two drops of a pass increase.
 fn numbers_rise(pile: &PileWithPasses, pass: usize) -> bool {
     match (pile.number(pass, 0), pile.number(pass, 1)) {
         (Some(first), Some(second)) => first < second,
@@ -14,7 +14,7 @@ fn numbers_rise(pile: &PileWithPasses, pass: usize) -> bool {
     }
 }
 
-// The pile with its passes joined, whose four drops have the numbers 0 to 3.
+// The pile with its passes joined, if its four drops have the numbers 0 to 3.
 fn numbered_once(alloc: Global, pile: PileWithPasses) -> Option<PileWithPasses> {
     let pile = pile.play(alloc, &[(Join(0, 1), Done)])?;
     let once = (0..4).all(|number| pile.receipts_with(0, number) == 1);
@@ -45,7 +45,7 @@ fn two_threads_drop_on_one_site(rt: HostRuntime) {
     assert!(rt; pile.leaves(rt.alloc(), Ending::Close, left));
 }
 
-// Whether two threads that drop on two sites leave the history that their numbers say.
+// Whether the history of two threads that drop on two sites has the order of their numbers.
 fn drop_on_two_sites<R: Threads + Sync>(rt: &R, alloc: Global, ending: Ending) -> Option<bool> {
     let start = Start {
         sides: (2, 1),
@@ -75,7 +75,7 @@ fn two_threads_drop_on_two_sites(rt: HostRuntime) {
     }
 }
 
-// Whether two threads that sweep after a drop at the middle leave what one leaves.
+// Whether two threads that sweep after a drop in the middle have the same result as one.
 fn sweep_at_once<R: Threads + Sync>(rt: &R, alloc: Global, ending: Ending) -> Option<bool> {
     let start = Start {
         sides: (3, 3),
