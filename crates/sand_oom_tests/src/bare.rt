@@ -1,4 +1,4 @@
-//! Bare passes: joined, and a pile that one of them settles.
+//! Bare passes: joined, and used to settle a pile.
 
 ghost use Rattle.std.specs.Prelude.{◌≡◌, [], IfOk, IfErr};
 ghost use Rattle.sand_shared.specs.Passes.{IsPassOf};
@@ -13,7 +13,7 @@ use std::alloc::Global;
 use std::process::Abort;
 use std::test::Fail;
 
-// Joins a bare pass to another one. If that fails, the pass comes back with the number of the fault.
+// Joins a bare pass to another. If that fails, the pass comes back with the number of the fault.
 fn join(
     alloc: Global,
     pile: &SharedPile,
@@ -31,7 +31,7 @@ fn join(
     }
 }
 
-// The bare pass of the last row of a pass.
+// Splits the last row off a pass, as a bare pass.
 fn last_row(alloc: Global, pile: &SharedPile, pass: &mut Pass) -> Result<BarePass, Fail>
     requires { IsPassOf pile.now pass.old }
     ensures of_pile { IsPassOf pile.now pass.new }
@@ -41,7 +41,7 @@ fn last_row(alloc: Global, pile: &SharedPile, pass: &mut Pass) -> Result<BarePas
     Ok(bare_of(row))
 }
 
-// The bare passes of the three rows of a pile, each of which has a grain.
+// A pile of three rows with a grain each, and the bare passes of its rows.
 fn rows(alloc: Global) -> Result<(SharedPile, BarePass, BarePass, BarePass), Fail>
     ensures { IfOk result (λ r. IsPassOf r.0 r.1 × IsPassOf r.0 r.2 × IsPassOf r.0 r.3) }
 {
@@ -51,8 +51,8 @@ fn rows(alloc: Global) -> Result<(SharedPile, BarePass, BarePass, BarePass), Fai
     Ok((pile, bare_of(pass), second, third))
 }
 
-// The pass of the second row takes in that of the third, with the request of this number refused, and if that fails once more.
-// It has to grow for its count. Returns the number of the first fault.
+// The pass of the second row takes in that of the third, with allocation `number` refused; if that fails, it tries
+// again. The pass has to grow for its count. Returns the number of the first fault.
 fn join_again(
     alloc: Global,
     number: u32,
@@ -76,7 +76,7 @@ fn join_again(
     }
 }
 
-// Then the first pass takes in both others, and can settle the pile, since it has all.
+// The first pass then takes in both others, and can settle the pile because it has everything.
 fn join_once(alloc: Global, number: u32) -> Result<Tried, Fail> {
     let (pile, mut first, mut second, third) = rows(alloc)?;
     let fault = join_again(alloc, number, &pile, &mut second, third)?;
@@ -98,7 +98,7 @@ fn join_bare_reports_out_of_memory(rt: HostRuntime) -> Result<(), Fail> {
     )
 }
 
-// Two sites of seven grains, on which nothing is dropped, and a bare pass that has all.
+// Two sites of seven grains without drops, and a bare pass that has everything.
 fn pair(alloc: Global) -> Result<(SharedPile, BarePass), Fail>
     ensures of_pile { IfOk result (λ r. IsPassOf r.0 r.1) }
     ensures no_drops { IfOk result (λ r. r.1.receipts ≡ []) }
@@ -108,8 +108,7 @@ fn pair(alloc: Global) -> Result<(SharedPile, BarePass), Fail>
     Ok((pile, bare_of(pass)))
 }
 
-// The record of a pile on which nothing was dropped. If memory fails, the pile and the pass come back with the number of the
-// fault.
+// The record of a pile without drops. If memory runs out, the pile and the pass come back with the number of the fault.
 fn record_of(
     alloc: Global,
     pile: SharedPile,

@@ -1,4 +1,4 @@
-//! A shared pile is closed or settled with a pass that has all.
+//! A shared pile, closed or settled with a pass that has everything.
 
 ghost use Rattle.std.specs.Prelude.{◌≡◌, IfOk, IfErr};
 ghost use Rattle.sand_shared.specs.Passes.{IsPassOf};
@@ -18,7 +18,7 @@ enum Way {
     Settle,
 }
 
-// Two sites, what a sweep topples there, if there is one, and the heights that they settle to. Each topples once.
+// Two sites that topple once each, the topplings of a sweep if there is one, and the settled heights.
 #[derive(Clone, Copy)]
 struct Pair {
     way: Way,
@@ -42,7 +42,7 @@ const SWEPT: Pair = Pair {
     ..UNTOUCHED
 };
 
-// What the second site gives to the first one topples when the pile is settled.
+// What the second site gives to the first topples when the pile is settled.
 const HALF_SWEPT: Pair = Pair {
     way: Way::Settle,
     start: [3, 4],
@@ -51,7 +51,7 @@ const HALF_SWEPT: Pair = Pair {
     settled: [0, 1],
 };
 
-// Sweeps once, and returns whether as much toppled as it should; or does nothing.
+// Sweeps once and returns whether the number of topplings is right, or does nothing.
 fn sweep(pile: &SharedPile, pass: &mut Pass, swept: Option<u64>) -> bool
     requires { IsPassOf pile.now pass.old }
     ensures of_pile { IsPassOf pile.now pass.new }
@@ -64,7 +64,7 @@ fn sweep(pile: &SharedPile, pass: &mut Pass, swept: Option<u64>) -> bool
     }
 }
 
-// The two sites on a shared pile, and a pass that has all.
+// The two sites on a shared pile, and a pass that has everything.
 fn made(alloc: Global, pair: Pair) -> Result<(SharedPile, Pass), Fail>
     ensures of_pile { IfOk result (λ r. IsPassOf r.0 r.1) }
     ensures first { IfOk result (λ r. HoldsSite r.1.grid r.1.rows 0) }
@@ -82,7 +82,7 @@ fn made(alloc: Global, pair: Pair) -> Result<(SharedPile, Pass), Fail>
     Ok((pile, pass))
 }
 
-// The record of a pile. If memory fails, the pile and the pass come back with the number of the fault.
+// The record of a pile. If memory runs out, the pile and the pass come back with the number of the fault.
 fn ended(
     alloc: Global,
     pile: SharedPile,
@@ -103,7 +103,7 @@ fn ended(
     }
 }
 
-// What has toppled in place stays counted, nothing else topples, and the pile can be closed with the same pass.
+// Topplings in place stay counted, nothing else topples, and the pile can be closed with the same pass.
 fn end_once(alloc: Global, number: u32, pair: Pair) -> Result<Tried, Fail> {
     let (pile, pass) = made(alloc, pair)?;
     refuse(alloc, number);

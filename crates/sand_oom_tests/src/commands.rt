@@ -9,7 +9,7 @@ use std::process::Abort;
 use std::test::Fail;
 use std::thread::Threads;
 
-// A command line, its input, and the text that it writes.
+// A command line, its input, and its output.
 type Case = (&'static str, &'static str, &'static str);
 
 const COMMANDS: [Case; 13] = [
@@ -70,8 +70,8 @@ const RUNS: [Case; 3] = [
     ),
 ];
 
-// Whether a command writes this text, or the number of its fault; 0 if it wrote something though it failed. Its output takes no
-// memory.
+// Whether a command writes this text, or the number of its fault; 0 if it failed but wrote something. Its writer
+// allocates nothing.
 fn writes<R: Threads + Sync>(
     rt: &R,
     alloc: Global,
@@ -112,7 +112,7 @@ fn try_command<R: Threads + Sync>(
     }
 }
 
-// Tries a command line with each of its requests refused in turn.
+// Tries a command line with each of its allocations refused in turn.
 fn each_refused_of<R: Threads + Sync + Print + Abort>(
     rt: &R,
     alloc: Global,

@@ -18,7 +18,7 @@ fn has_heights(recurrent: &Recurrent, heights: &[u64]) -> bool {
     recurrent.pile().heights() == heights
 }
 
-// The order of three sites in a row whose outer ones hold a grain: the one in the middle burns when both others have.
+// The burning order of three sites in a row with a grain at each end: the middle burns after both ends.
 fn is_order_of_three(burned: &Burned) -> bool {
     match burned {
         Burned::Recurrent(order) => {

@@ -1,12 +1,13 @@
-//! Each call that takes memory, with each of its requests refused in turn; and each call that takes none, with all
-//! refused.
+//! Every call that allocates, with each of its allocations refused in turn; and every call that does not allocate, with
+//! all allocations refused.
 //!
-//! A call is made again and again. First its first request for memory is refused, then its second, and so on until none is.
-//! Each time it returns out of memory and nothing else, and leaves what it was lent unchanged. Then it is made once more on the
-//! same things, and returns what it returns undisturbed: values that were worked out by hand.
+//! A call is repeated: with its first allocation refused, then its second, and so on until none is refused. Each time
+//! it reports out of memory and nothing else, and leaves its arguments unchanged. Then it is made again on the same
+//! arguments, and returns what it would have returned: values worked out by hand.
 //!
-//! No program can refuse itself memory. `refusals/run`, which the gate calls, loads a library that does; under `rt ci`
-//! alone nothing is refused, and each call is made once. Each trial prints how many requests of its call were refused.
+//! A program cannot refuse its own allocations. `refusals/run`, which the gate calls, loads a library that does; under
+//! plain `rt ci` nothing is refused, and each call is made once. Each trial prints how many allocations of its call
+//! were refused.
 #![tactic(auto)]
 
 #[cfg(test)]

@@ -1,8 +1,8 @@
-//! Requests for memory that are refused at will.
+//! Allocations that are refused on demand.
 //!
-//! The library that refuses sees every request of the program. So a request for more than any machine has is a message to it:
-//! the amount says what is wanted, and whether it is granted is the reply. Without the library no such request is granted, and
-//! nothing else is refused.
+//! The refusing library sees every allocation of the program. So a request for more memory than any machine has is a
+//! message to it: the amount is the question, and whether it is granted is the reply. Without the library no such
+//! request is granted, and nothing else is refused.
 
 use std::alloc::Global;
 
@@ -23,12 +23,12 @@ pub fn can_refuse(alloc: Global) -> bool {
     is_granted(alloc, IS_HERE)
 }
 
-/// From now on the request of this number is refused, where the first is 1, and no other; or each, where it is 0.
+/// From now on refuses only allocation `number`, counted from 1; 0 refuses all.
 pub fn refuse(alloc: Global, number: u32) {
     is_granted(alloc, BEGIN + number as usize);
 }
 
-/// From now on no request is refused. Returns whether one was.
+/// From now on refuses nothing. Returns whether an allocation was refused.
 pub fn was_refused(alloc: Global) -> bool {
     is_granted(alloc, END)
 }

@@ -1,4 +1,4 @@
-//! The shared pile and its passes: made, split and joined.
+//! Shared piles and passes: made, split and joined.
 
 ghost use Rattle.std.specs.Prelude.{IfErr};
 ghost use Rattle.sand_shared.specs.Passes.{IsPassOf};
@@ -13,7 +13,7 @@ use sand_testing::shared::{closed, drop_rest, shared_pile};
 use std::alloc::Global;
 use std::test::Fail;
 
-// What is left of a pass, how many receipts it has, what it has seen, and its rows.
+// The remaining quota of a pass, its number of receipts, what it has seen, and its rows.
 fn view(pass: &Pass) -> (u64, usize, u64, (u16, u16)) {
     (pass.left(), pass.receipts().len(), pass.seen(), pass.rows())
 }
@@ -40,7 +40,7 @@ fn new_site_counts_report_out_of_memory(rt: HostRuntime) -> Result<(), Fail> {
     })
 }
 
-// Splits a quota of 2 off a pass of quota 5. Returns whether both are right, or the number of the fault.
+// Splits a quota of 2 off a pass with a quota of 5. Returns whether both are right, or the number of the fault.
 fn split_two(alloc: Global, pile: &SharedPile, pass: &mut Pass) -> Result<bool, u32>
     requires { IsPassOf pile.now pass.old }
     ensures { IsPassOf pile.now pass.new }
@@ -114,7 +114,7 @@ fn split_rows_reports_out_of_memory(rt: HostRuntime) -> Result<(), Fail> {
     )
 }
 
-// Joins a pass to another one. If that fails, the pass comes back with the number of the fault.
+// Joins a pass to another. If that fails, the pass comes back with the number of the fault.
 fn join(alloc: Global, pile: &SharedPile, pass: &mut Pass, other: Pass) -> Result<(), (u32, Pass)>
     requires pass { IsPassOf pile.now pass.old }
     requires other { IsPassOf pile.now other }
@@ -127,8 +127,8 @@ fn join(alloc: Global, pile: &SharedPile, pass: &mut Pass, other: Pass) -> Resul
     }
 }
 
-// Joins a pass with the request of this number refused, and if that fails once more the pass that came back. Returns the
-// number of the first fault.
+// Joins a pass with allocation `number` refused; if that fails, joins the pass that came back. Returns the number of
+// the first fault.
 fn join_again(
     alloc: Global,
     number: u32,

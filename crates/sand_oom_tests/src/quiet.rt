@@ -1,4 +1,5 @@
-//! Calls that take no memory: if every request is refused, they return what they always return, and no request was made.
+//! Calls that allocate nothing: with every allocation refused they return what they always return, and none was
+//! attempted.
 
 ghost use Rattle.std.specs.Prelude.{◌≡◌, ◌<◌, length, IfOk};
 ghost use Rattle.sand_model.specs.Grid.{sites};
@@ -35,7 +36,7 @@ use sand_testing::shared::closed;
 use std::alloc::{AllocError, Global};
 use std::test::Fail;
 
-// Whether a cylinder of 4 by 3 sites tells its sides, its sites and their neighbours.
+// Whether a cylinder of 4 by 3 sites has the right sides, sites and neighbours.
 fn is_cylinder(shape: Shape) -> bool {
     if shape.sites() != 12 {
         return false;
@@ -61,7 +62,7 @@ fn shapes_take_no_memory(rt: HostRuntime) {
     assert!(rt; is_right);
 }
 
-// Whether a site of four grains topples once, and then takes a grain.
+// Whether a site of four grains topples once, then takes a grain.
 fn topples_once(pile: &mut Pile) -> bool
     requires { 0 < sites pile.old.grid }
 {
@@ -98,7 +99,7 @@ fn a_pile_at_the_limit_takes_no_memory(rt: HostRuntime) -> Result<(), Fail> {
     Ok(())
 }
 
-// Three sites, of which the one in the middle has toppled.
+// Three sites; the middle one has toppled.
 fn settled_row(alloc: Global) -> Result<Settled, Fail> {
     let start = open_pile(alloc, 3, 1, &[0, 4, 0])?;
     let settled = settle(alloc, &start)?;
@@ -131,7 +132,7 @@ fn piles_of_one_thread_take_no_memory(rt: HostRuntime) -> Result<(), Fail> {
     Ok(())
 }
 
-// Two sites, on the second of which a grain was dropped. Nothing has toppled.
+// Two sites with a grain dropped on the second. Nothing has toppled.
 fn dropped_on_two(alloc: Global) -> Result<OnePile, Fail>
     ensures { IfOk result (λ p. sites p.settled.pile.grid ≡ 2) }
 {
@@ -144,7 +145,8 @@ fn dropped_on_two(alloc: Global) -> Result<OnePile, Fail>
     Ok(one)
 }
 
-// Only the first drop requests memory: the room that it made, though nothing toppled, is enough for drops in which all sites do.
+// Only the first drop allocates. Though nothing toppled, the room it made is enough for drops in which all sites
+// topple.
 #[test]
 fn drops_after_the_first_take_no_memory(rt: HostRuntime) -> Result<(), Fail> {
     let alloc = rt.alloc();
@@ -168,7 +170,7 @@ fn recurrent_piles_take_no_memory(rt: HostRuntime) -> Result<(), Fail> {
     Ok(())
 }
 
-// Whether a pass that has one grain left drops it, and no other.
+// Whether a pass with one grain left drops it, and no other.
 fn drops_the_last(pile: &SharedPile, pass: &mut Pass) -> bool
     requires pass { IsPassOf pile.now pass.old }
     requires site { 1 < sites (grid_of_terms pile.now.terms) }
@@ -266,7 +268,7 @@ const ONE_EPOCH: Wish = Wish {
     ..QUIET
 };
 
-// The epoch of the picture at the first place of an album, as a new note finds it, and the grains that its pile has lost.
+// The epoch of the picture at an album's first place, seen with a new note, and the grains that its pile has lost.
 fn first_picture(album: &Album) -> Option<(u32, u64)>
     requires { 0 < length album.now }
 {
@@ -349,7 +351,7 @@ fn laws_of_shared_piles_and_runs_take_no_memory(rt: HostRuntime) {
     assert!(rt; !was_refused(alloc));
 }
 
-// Those of the other faults are looked up above, with what returns them.
+// The other faults are looked up above, with the calls that return them.
 #[test]
 fn numbers_of_faults_take_no_memory(rt: HostRuntime) {
     let alloc = rt.alloc();
@@ -388,7 +390,7 @@ fn faults_take_no_memory(rt: HostRuntime) -> Result<(), Fail> {
     Ok(())
 }
 
-// A fault of the text is found before anything grows.
+// A fault of the text is found before anything is allocated.
 #[test]
 fn texts_with_a_fault_take_no_memory(rt: HostRuntime) -> Result<(), Fail> {
     let alloc = rt.alloc();

@@ -1,4 +1,4 @@
-//! Records: copied, shared, and grown by one that follows.
+//! Records: copied, shared, and extended by the next one.
 
 ghost use Rattle.std.specs.Prelude.{◌≡◌, ◌+◌, ◌≤◌, length, sum, IfOk, OnErr};
 ghost use Rattle.sand_model.specs.Piles.{most_grains};
@@ -12,7 +12,7 @@ use sand_testing::shared::dropped_on;
 use std::alloc::Global;
 use std::test::Fail;
 
-// Three drops on an empty site, and one more. The fourth topples the site.
+// Three drops on an empty site, then one that topples it.
 fn three_and_one(alloc: Global) -> Result<(Record, Record), Fail>
     ensures follows { IfOk result (λ r. r.1.start ≡ r.0.settled.pile) }
     ensures limit { IfOk result (λ r. sum r.0.start.heights + (length r.0.history + length r.1.history) ≤ most_grains) }
@@ -56,7 +56,7 @@ fn followed_by_reports_out_of_memory(rt: HostRuntime) -> Result<(), Fail> {
     )
 }
 
-// The record of a failed call is gone.
+// After a failed call the record is gone.
 #[test]
 fn twice_reports_out_of_memory(rt: HostRuntime) -> Result<(), Fail> {
     each_number(
@@ -79,7 +79,7 @@ fn twice_once(alloc: Global, number: u32) -> Result<Tried, Fail> {
     }
 }
 
-// Appends a record to one of three drops. Returns whether the record is right then, or the number of the fault.
+// Appends a record to one of three drops. Returns whether the result is right, or the number of the fault.
 fn append(alloc: Global, three: &mut Record, one: &Record) -> Result<bool, u32>
     requires follows { one.now.start ≡ three.old.settled.pile }
     requires limit { sum three.old.start.heights + (length three.old.history + length one.now.history) ≤ most_grains }
@@ -91,7 +91,7 @@ fn append(alloc: Global, three: &mut Record, one: &Record) -> Result<bool, u32>
     }
 }
 
-// The record shares its history with another one, and keeps its own drops there if it cannot grow.
+// The record shares its history with another, and keeps its own drops there if it cannot grow.
 fn append_once(alloc: Global, number: u32) -> Result<Tried, Fail> {
     let (three, one) = three_and_one(alloc)?;
     let (mut three, shared) = three.twice(alloc)?;
@@ -117,7 +117,7 @@ fn append_to_a_shared_history_reports_out_of_memory(rt: HostRuntime) -> Result<(
     )
 }
 
-// Three drops on an empty site, with room for one more, and the one more.
+// Three drops on an empty site, with room for one more, and that one.
 fn roomy_three_and_one(alloc: Global) -> Result<(Record, Record), Fail>
     ensures follows { IfOk result (λ r. r.1.start ≡ r.0.settled.pile) }
     ensures limit { IfOk result (λ r. sum r.0.start.heights + (length r.0.history + length r.1.history) ≤ most_grains) }
@@ -127,7 +127,7 @@ fn roomy_three_and_one(alloc: Global) -> Result<(Record, Record), Fail>
     Ok((roomy, one))
 }
 
-// The heights and the odometer are copied, which takes two requests. There is room for the history, which takes none.
+// Copying the heights and the odometer takes two allocations. The history has room, so it takes none.
 #[test]
 fn drops_with_room_are_appended_without_memory(rt: HostRuntime) -> Result<(), Fail> {
     let alloc = rt.alloc();

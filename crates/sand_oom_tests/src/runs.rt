@@ -1,6 +1,6 @@
 //! The laboratory: streams, albums and runs, and the texts of a report.
 //!
-//! A run may do without a request: if a thread cannot be started, the thread that wanted it does its work.
+//! A run can do without a refused allocation: if a thread cannot be started, the thread that wanted it does its work.
 
 ghost use Rattle.std.specs.Prelude.{◌≡◌};
 ghost use Rattle.sand_lab.specs.Albums.{IsPlace};
@@ -20,7 +20,7 @@ use std::process::Abort;
 use std::test::Fail;
 use std::thread::Threads;
 
-// What a record shows of a pile whose sites are all alike: the drops, the height of each site, how often each toppled, and the
+// A record of a pile whose sites are all alike: the drops, the height of each site, how often each toppled, and the
 // grains lost.
 #[derive(Clone, Copy)]
 struct Left {
@@ -30,7 +30,7 @@ struct Left {
     lost: u64,
 }
 
-// A run of two epochs on a pile whose sites are all alike, and what each epoch leaves, and both.
+// A run of two epochs on a pile whose sites are all alike, and the result of each epoch and of both.
 #[derive(Clone, Copy)]
 struct Trial {
     name: &'static str,
@@ -101,7 +101,7 @@ const MANY: Trial = Trial {
     },
 };
 
-// On two by two sites of four grains, of which each worker has a row.
+// On two by two sites of four grains, with a row for each worker.
 const ROWS: Trial = Trial {
     name: "run, with a row for each worker",
     wish: Wish {
@@ -173,7 +173,7 @@ fn is_report(report: &Report, trial: &Trial) -> bool {
     }
 }
 
-// What a run into an album comes to.
+// Whether a run into an album has the right result, or the number of its fault.
 fn run_once<R: Threads + Sync>(
     rt: &R,
     alloc: Global,
@@ -184,7 +184,7 @@ fn run_once<R: Threads + Sync>(
     came_to!(run_into(rt, alloc, start, trial.wish, &Open, album), report => is_report(&report, trial))
 }
 
-// One try of a run. If it fails, it is made once more with another album.
+// One try of a run. If it fails, it is repeated with another album.
 fn try_run<R: Threads + Sync>(
     rt: &R,
     alloc: Global,
@@ -203,7 +203,7 @@ fn try_run<R: Threads + Sync>(
     })
 }
 
-// Tries a run, each time with albums of its own.
+// Tries a run, with new albums each time.
 fn each_refused_of_a_run<R: Threads + Sync + Print + Abort>(
     rt: &R,
     alloc: Global,
@@ -245,7 +245,7 @@ fn height_at(album: &Album, k: u32, mut note: Note) -> Option<u64>
     picture.closed().pile().heights().first().copied()
 }
 
-// What is seen of the two places of an album, each by a new note.
+// What new notes show of the two places of an album.
 fn heights_in(album: &Album) -> (Option<u64>, Option<u64>) {
     if album.places() != 2 {
         return (None, None);
@@ -256,15 +256,15 @@ fn heights_in(album: &Album) -> (Option<u64>, Option<u64>) {
     )
 }
 
-// Whether a run into an album whose first place was set returns that, and changes nothing that is seen of it.
+// Whether a run into an album with its first place taken reports that, and leaves the visible pictures unchanged.
 fn stays_published<R: Threads + Sync>(rt: &R, alloc: Global, start: &Pile, album: &Album) -> bool {
     run_once(rt, alloc, start, &TWO_EPOCHS, album) == Err(17)
         && heights_in(album) == (Some(2), None)
 }
 
-// A run with the request of this number refused. If it fails between the first epoch and the second, returns whether all is
-// right: the fault is out of memory, the first epoch is seen in the album and stays there, and with another album the run is
-// made as ever.
+// A run with allocation `number` refused. If it fails between the first epoch and the second, returns whether all is
+// right: the fault is out of memory, the first epoch is visible in the album and stays there, and with another album
+// the run succeeds.
 fn published_once<R: Threads + Sync>(
     rt: &R,
     alloc: Global,
@@ -286,7 +286,7 @@ fn published_once<R: Threads + Sync>(
     Ok(Some(is_right))
 }
 
-// If the second epoch runs out of memory, what the first epoch published stays: its place is taken, and no other is.
+// If the second epoch runs out of memory, what the first epoch published stays: its place is taken, the other is not.
 #[test]
 fn the_first_epoch_stays_published_if_the_second_fails(rt: HostRuntime) -> Result<(), Fail> {
     let alloc = rt.alloc();
@@ -304,7 +304,7 @@ fn the_first_epoch_stays_published_if_the_second_fails(rt: HostRuntime) -> Resul
     Err("a run that makes requests without end".into())
 }
 
-// The report of a run of one dropper, which drops two grains.
+// The report of a run with one dropper and two drops.
 fn report_of<R: Threads + Sync>(rt: &R, alloc: Global) -> Result<Report, Fail> {
     let start = one_site(alloc, 0)?;
     let album = Album::new(alloc, 1)?;

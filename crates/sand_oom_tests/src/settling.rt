@@ -1,4 +1,4 @@
-//! Settling, and the pile of one thread.
+//! Settling, and the single-threaded pile.
 
 use crate::memory::{refuse, was_refused};
 use crate::piles::full;
@@ -9,7 +9,7 @@ use sand_testing::piles::open_pile;
 use std::alloc::Global;
 use std::test::Fail;
 
-/// Whether a settled pile has these heights, this odometer and as many grains lost.
+/// Whether a settled pile has these heights, this odometer and this number of lost grains.
 pub fn is_settled(settled: &Settled, heights: &[u64], odometer: &[u64], lost: u64) -> bool {
     settled.pile().heights() == heights && settled.odometers() == odometer && settled.lost() == lost
 }
@@ -25,7 +25,7 @@ fn settle_reports_out_of_memory(rt: HostRuntime) -> Result<(), Fail> {
     )
 }
 
-// A pile that is high in the middle, of a list that the proofs need not go through place by place.
+// A pile that is high in the middle, from a list that the proofs need not examine place by place.
 fn heap(alloc: Global) -> Result<Pile, Fail> {
     let mut heights = vec![in alloc; 0u64; 256]?;
     heights[120] = 100_000;
@@ -61,14 +61,14 @@ fn new_one_pile_reports_out_of_memory(rt: HostRuntime) -> Result<(), Fail> {
     )
 }
 
-/// Whether one grain was dropped in the middle of nine sites that hold three grains each, and nothing else.
+/// Whether one grain was dropped in the middle of nine sites of three grains each, and nothing else.
 pub fn is_after_the_drop(one: &OnePile) -> bool {
     let heights = [1, 3, 1, 3, 0, 3, 1, 3, 1];
     let odometer = [1, 1, 1, 1, 2, 1, 1, 1, 1];
     is_one_pile(one, 1, &heights, &odometer, 12) && one.topplings() == 10
 }
 
-// The drop in the middle of nine sites that hold three grains each.
+// The drop in the middle of nine sites of three grains each.
 const MIDDLE: Avalanche = Avalanche {
     site: 4,
     size: 10,

@@ -1,17 +1,17 @@
-//! The trial of a call: each of its requests refused in turn.
+//! The trial of a call: each of its allocations refused in turn.
 
 use crate::memory::{can_refuse, refuse, was_refused};
 use std::alloc::Global;
 use std::process::Abort;
 use std::test::Fail;
 
-/// No call of the tests makes so many requests.
+/// More allocations than any tested call makes.
 pub const MOST_REQUESTS: u32 = 100_000;
 
 /// The number of the fault out of memory.
 pub const MEMORY: u32 = 4;
 
-/// What a call came to: whether its value is the right one, or the number of its fault.
+/// The outcome of a call: whether its value is right, or the number of its fault.
 macro_rules! came_to {
     ($call:expr, $value:ident => $is_right:expr) => {
         match $call {
@@ -23,18 +23,18 @@ macro_rules! came_to {
 
 pub(crate) use came_to;
 
-/// One try of a call, with a request refused.
+/// One try of a call, with an allocation refused.
 #[derive(Clone, Copy)]
 pub struct Tried {
     /// The number of the fault, if there was one.
     pub fault: Option<u32>,
-    /// Whether all that was compared is right: what the call returned, and what it left. If it failed, that is what the call
-    /// returned that was made once more on the same things.
+    /// Whether the call's result and its effects are right. If the call failed, this is about the same call, repeated
+    /// on the same arguments.
     pub is_right: bool,
 }
 
 impl Tried {
-    /// A call that worked.
+    /// A call that succeeded.
     pub fn done(is_right: bool) -> Tried {
         Tried {
             fault: None,
@@ -42,7 +42,7 @@ impl Tried {
         }
     }
 
-    /// A call that failed, and was made once more.
+    /// A call that failed and was repeated.
     pub fn failed(fault: u32, is_right: bool) -> Tried {
         Tried {
             fault: Some(fault),
@@ -51,7 +51,7 @@ impl Tried {
     }
 }
 
-/// What a call may do without if its request for memory is refused.
+/// What a call may do without if its allocation is refused.
 #[derive(Clone, Copy, Debug, PartialEq, Eq)]
 pub enum Spares {
     Nothing,
@@ -59,8 +59,8 @@ pub enum Spares {
     Thread,
 }
 
-/// Prints how many requests of a call were refused, and how many of these it did without. There are none only if the library
-/// is not loaded.
+/// Prints how many allocations of a call were refused, and how many of these it did without. None were refused only if
+/// the library is not loaded.
 pub fn tell_refused<R: Print + Abort>(
     rt: &R,
     alloc: Global,
@@ -76,8 +76,8 @@ pub fn tell_refused<R: Print + Abort>(
     Ok(())
 }
 
-/// Tries a call. `once` makes the call with the request of this number refused, and if it fails once more with all its
-/// memory, on the same things.
+/// Tries a call. `once` makes it with allocation `number` refused; if that fails, it repeats the call on the same
+/// arguments with all its memory.
 pub fn each_number<R, C>(
     rt: &R,
     alloc: Global,
@@ -113,7 +113,7 @@ where
     Err("a call that makes requests without end".into())
 }
 
-/// One try of a call that changes nothing that it is lent.
+/// One try of a call that leaves its arguments unchanged.
 pub fn again<C: Fn(Global) -> Result<bool, u32>>(alloc: Global, number: u32, call: &C) -> Tried
     requires { C.IsAlwaysCallable call.now }
 {
@@ -126,7 +126,7 @@ pub fn again<C: Fn(Global) -> Result<bool, u32>>(alloc: Global, number: u32, cal
     }
 }
 
-/// Tries a call that changes nothing that it is lent. It returns whether its value is the right one, or the number of its
+/// Tries a call that leaves its arguments unchanged. The call returns whether its value is right, or the number of its
 /// fault.
 pub fn each_refused<R, C>(rt: &R, alloc: Global, name: &str, call: C) -> Result<(), Fail>
 where
