@@ -16,7 +16,6 @@ use Rattle.sand_cli.proofs.Passing.{level_fine, row_passes}
 use Rattle.sand_cli.proofs.Reading.{passed_number}
 use Rattle.sand_cli.proofs.Sides.{IsSound}
 
--- `drops` and its numbers, as clap builds them
 abbrev pub drops_built : Shape
 drops_built = built_leaf drops_line.top
 

@@ -160,11 +160,10 @@ module _ (draw : Draw) (within : IsDraw draw) where
   end_free Table = counted_is_free (end_rows Table) refl refl refl (end_count Table)
   end_free Pile = counted_is_free (end_rows Pile) refl refl refl (end_count Pile)
 
-  -- the level passes
   pub drops_passes : (part : Part) → level_fault drops_built [] nothing_held (drops_words draw part) false [] ≡ []
   drops_passes part = level_ends (words_read part) ∙ end_passes part
 
-  -- and its rows describe the draw and the part
+  -- the level's rows describe the draw and the part
   pub drops_draw : (part : Part) → draw_of (rows_after drops_built.rules [] (drops_words draw part)) ≡ Some draw
   drops_draw part = ap draw_of (rows_end (words_read part)) ∙ end_draws part
 

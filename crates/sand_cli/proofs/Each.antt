@@ -2,7 +2,6 @@
 use Rattle.std.proofs.Common.{◌≡◌, Bool, true, false, cond, List, [], ◌∷◌, ◌++◌, Some, refl, subst}
 use Rattle.std.specs.Prelude.{IfSome, ⊤, find}
 
--- P holds of each element
 abbrev pub Each : {X : Type 0} → (X → Type 0) → List X → Type 0
 Each P [] = ⊤
 Each P (x ∷ xs) = P x × Each P xs

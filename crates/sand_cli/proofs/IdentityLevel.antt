@@ -79,11 +79,10 @@ module _ (m n : ℕ) (within : (1 ≤ m) × (m ≤ 256) × (1 ≤ n) × (n ≤ 2
   end_asks false true = rw (width_read, height_read) refl
   end_asks false false = rw (width_read, height_read) refl
 
-  -- the level passes
   pub identity_passes : (cylinder pgm : Bool) → level_fault identity_built [] nothing_held (identity_words m n cylinder pgm) false [] ≡ []
   identity_passes cylinder pgm = level_ends (words_read cylinder pgm) ∙ end_passes cylinder pgm
 
-  -- and its rows describe the task
+  -- the level's rows describe the task
   pub identity_reads : (cylinder pgm : Bool) → identity_of (rows_after identity_built.rules [] (identity_words m n cylinder pgm))
       ≡ Some (Identity m n cylinder pgm)
   identity_reads cylinder pgm = ap identity_of (rows_end (words_read cylinder pgm)) ∙ end_asks cylinder pgm

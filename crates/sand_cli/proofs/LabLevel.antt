@@ -164,11 +164,10 @@ module _ (wish : Wish) (within : IsRun wish) where
   end_free false Pile together = refl
   end_free false forms.Text together = refl
 
-  -- the level passes
   pub lab_passes : (journal : Bool) (form : Form) → level_fault lab_built [] nothing_held (lab_words wish journal form) false [] ≡ []
   lab_passes journal form = level_ends (words_read journal form) ∙ end_passes journal form
 
-  -- and its rows describe the task
+  -- the level's rows describe the task
   pub lab_reads : (journal : Bool) (form : Form) → lab_of (rows_after lab_built.rules [] (lab_words wish journal form)) ≡ Some (Lab wish journal form)
   lab_reads journal form = ap lab_of (rows_end (words_read journal form)) ∙ end_asks journal form
 

@@ -60,11 +60,10 @@ module _ (n : ℕ) (within : n ≤ 18446744073709551615) where
   end_free true = refl
   end_free false = refl
 
-  -- the level passes
   pub multiple_passes : (pgm : Bool) → level_fault multiple_built [] nothing_held (multiple_words n pgm) false [] ≡ []
   multiple_passes pgm = level_ends (words_read pgm) ∙ end_passes pgm
 
-  -- and its rows describe the task
+  -- the level's rows describe the task
   pub multiple_reads : (pgm : Bool) → multiple_of (rows_after multiple_built.rules [] (multiple_words n pgm)) ≡ Some (Multiple n pgm)
   multiple_reads pgm = ap multiple_of (rows_end (words_read pgm)) ∙ end_asks pgm
 

@@ -15,7 +15,6 @@ use Rattle.clap.proofs.ValueTestLemmas.{Accepts-accepts}
 use Rattle.sand_cli.specs.Options.{number_of}
 use Rattle.sand_cli.proofs.Reading.{passed_number}
 
--- the text does not look like an option
 pub record IsNoOption (text : Text) : Type 0 where
   pub no_end : bytes_eq text (codes "--") ≡ false
   pub no_long : long_of text ≡ None

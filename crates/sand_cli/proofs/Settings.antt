@@ -21,7 +21,6 @@ use Rattle.sand_cli.proofs.Reading.{passed_number}
 use Rattle.sand_cli.proofs.Sides.{IsSound}
 use Rattle.sand_cli.proofs.Usual.{each_has_row}
 
--- `lab` and its settings, as clap builds them
 abbrev pub lab_built : Shape
 lab_built = built_leaf lab_line.top
 

@@ -20,7 +20,6 @@ use Rattle.sand_cli.proofs.Reading.{passed_number}
 abbrev pub IsSound : Option Task → Type 0
 IsSound o = (t : Task) × (o ≡ Some t) × IsWithin t
 
--- `identity` and its sides, as clap builds them
 abbrev pub identity_built : Shape
 identity_built = built_leaf identity_line.top
 

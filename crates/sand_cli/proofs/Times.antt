@@ -17,7 +17,6 @@ use Rattle.sand_cli.proofs.Passing.{given_has_row, level_checks, level_fine, row
 use Rattle.sand_cli.proofs.Reading.{passed_number}
 use Rattle.sand_cli.proofs.Sides.{IsSound}
 
--- `multiple` and its number, as clap builds them
 abbrev pub multiple_built : Shape
 multiple_built = built_leaf multiple_line.top
 
