@@ -37,11 +37,9 @@ module _ (sites seed stream : ℕ) where
       let long = length-stream_sites sites seed stream k in
       let left = length-drop from (stream_sites sites seed stream k) in omega (arith, long, left, e)
 
-  -- nothing is drawn yet
   pub drawn_none : (from : ℕ) → drop from (stream_sites sites seed stream (from + 0)) ≡ []
   drawn_none from = let long = length-stream_sites sites seed stream (from + 0) in drop_all from (stream_sites sites seed stream (from + 0)) (omega (arith, long))
 
-  -- one more site is drawn
   pub drawn_more : (from n site : ℕ) → site ≡ site_at sites seed stream (from + n)
       → drop from (stream_sites sites seed stream (from + (n + 1))) ≡ drop from (stream_sites sites seed stream (from + n)) ++ site ∷ []
   drawn_more from n site is =
@@ -51,7 +49,7 @@ module _ (sites seed stream : ℕ) where
       ∙ drop-append-le from (stream_sites sites seed stream (from + n)) (site_at sites seed stream (from + n) ∷ []) (omega (arith, long))
       ∙ ap (λ s. drop from (stream_sites sites seed stream (from + n)) ++ s ∷ []) (sym is)
 
-  -- all are inside the grid
+  -- all sites are inside the grid
   sites_inside : 0 < sites → (k : ℕ) → All (λ j. j < sites) (stream_sites sites seed stream k)
   sites_inside some zero = All-nil (λ j. j < sites)
   sites_inside some (suc k) =

@@ -103,7 +103,6 @@ module _ (draw : Draw) (part : Part) (input : List ℕ) (start : PileView) (firs
         drawn_breaks draw part input first last added.rows held held' b why drawn is
         (subst P (append-nil (rows_in part added.rows ++ end_in part last.settled)) (breaks_on held more held' b d (rows_in part added.rows ++ end_in part last.settled) [] why whole broken))
 
-    -- the writer took everything
     pub all_taken : (held' : Option (List ℕ)) → Appends more held' d.bytes → IsWritten (IsDropsText (Some draw) part input) held held'
     all_taken held' rest =
         let text : whole.gone ++ d.bytes ≡ drops_in part added.rows last.settled =

@@ -66,7 +66,6 @@ same_record draw album w asks start last report after left =
     one_threads_once mine report.total one left.total.one_threads (sym left.total.from_start)
     (λ i. sym (run_of_draw draw album w asks start report.records report.sheets (left.all ∙ asks.epochs) left.epochs i) ∙ ap (λ (h : List ℕ). tally h i) (sym left.total.history))
 
--- what was read, if anything was
 read_or : {A : Type 0} → A → Result A TextFault → A
 read_or x (Ok y) = y
 read_or x (Err e) = x

@@ -32,7 +32,6 @@ same_text Picture p q alike = ap (λ (o : OneView). pgm_text_of o.settled.pile) 
 same_text Pile p q alike = ap (λ (o : OneView). text_of o.settled.pile) alike.total
 same_text Text p q alike = ap (λ text. text ++ []) (text_shown p ∙ ap₂ shown alike.epochs alike.total ∙ sym (text_shown q))
 
--- what was read, if anything was
 read_or : PileView → Result PileView TextFault → PileView
 read_or p (Ok q) = q
 read_or p (Err e) = p

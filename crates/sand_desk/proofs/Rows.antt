@@ -20,12 +20,10 @@ rows_join n m v u w [] later rows more number (none, same) after =
 rows_join n m v u w (site ∷ sites) later rows more number (next, a, others, first, its, e, rest) after =
     (next, a, others ++ more, first, its, ap (λ l. l ++ more) e, rows_join (n + 1) m next u w sites later others more (omega (arith, number)) rest after)
 
--- a drop, then the drops after it
 pub rows_first : (n : ℕ) (v u w : OneView) (site : ℕ) (sites : List ℕ) (a : Avalanche) (rows : List (ℕ × Avalanche)) → Drops v site u
     → IsAvalanche (grid_of_one_pile v) site (topplings_between v.settled u.settled) a → AreRows (n + 1) u sites rows w → AreRows n v (site ∷ sites) ((n, a) ∷ rows) w
 rows_first n v u w site sites a rows drop is rest = (u, a, rows, drop, is, refl, rest)
 
--- one more drop
 pub rows_push : (n m : ℕ) (v u w : OneView) (sites : List ℕ) (rows : List (ℕ × Avalanche)) (site : ℕ) (a : Avalanche) → m ≡ n + length sites → AreRows n v sites rows u → Drops u site w
     → IsAvalanche (grid_of_one_pile u) site (topplings_between u.settled w.settled) a → AreRows n v (sites ++ site ∷ []) (rows ++ (m, a) ∷ []) w
 rows_push n m v u w sites rows site a number are drop is =

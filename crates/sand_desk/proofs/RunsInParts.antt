@@ -115,7 +115,6 @@ rows_split n v w (site ∷ places) later rows (u, a, others, drop, is, e, rest) 
 
 -- ---- what was read
 
--- what was read, if anything was
 read_or : {A : Type 0} → A → Result A TextFault → A
 read_or x (Ok y) = y
 read_or x (Err e) = x

@@ -1,8 +1,6 @@
 //! Runs a command: from its words and its input to the text that it writes.
 //!
-//! Faults are reported in this order: misuse of the words; a failing reader, too much input or out of memory, whichever
-//! comes first; faults of the input; faults of the command; out of memory for the text; a failing writer. Nothing is
-//! written before the whole text is ready or, in `drops --count`, before only the writer can fail.
+//! Nothing is written before the whole text is ready or, in `drops --count`, before only the writer can fail.
 
 ghost use Rattle.std.specs.Prelude.{◌≡◌, ◌≢◌, ◌+◌, ◌≤◌, ◌<◌, true, length, map, string_bytes, IfOk, IfErr, OnOk, IsErrOf};
 ghost use Rattle.sand_text.specs.Flow.{IsFurther, IsFurtherByAtMost, IsOfReading, most_bytes};
@@ -100,8 +98,8 @@ fn carry_out<T: Threads + Sync, G: Gate, W: Write>(
     Ok(())
 }
 
-/// Runs the command that the words name (the first word is the program's name). Reads all input, then writes the
-/// command's whole text or, if there is a fault, nothing.
+/// Runs the command that the words name (the first word is the program's name). Reads all input, then writes the whole
+/// text or, if there is a fault, nothing.
 ///
 /// Faults, in this order: words that the command line rejects (`Usage`) or options that exclude each other (`Clash`),
 /// before anything is read; a reader that fails (`Read`), more than 1,048,576 bytes (`TooLong`) or out of memory,

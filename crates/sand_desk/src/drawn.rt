@@ -2,8 +2,7 @@
 //!
 //! Rows are written in blocks, so memory does not grow with the number of drops. After the first byte only the writer
 //! can fail: room for all grains is checked before the first drop, and a drop allocates nothing. If the writer fails,
-//! what it took is the start of a whole text: on a stable pile every grain settles, so the missing drops could have
-//! been made.
+//! it took the start of a whole text, because the missing drops would have settled too.
 
 ghost use Rattle.std.specs.Prelude.{◌≡◌, ◌+◌, ◌≤◌, [], Some, IfErr, OnOk};
 ghost use Rattle.sand_model.specs.Grid.{sites};

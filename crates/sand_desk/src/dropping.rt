@@ -63,7 +63,6 @@ fn drop_all(
     Ok(rows)
 }
 
-// The table of the drops, the final pile, and the sums since the start.
 fn drops_text(
     alloc: Global,
     rows: &[(u64, Avalanche)],
@@ -80,7 +79,6 @@ fn drops_text(
     Ok(text)
 }
 
-// The wanted part of the text of the drops.
 fn part_text(
     alloc: Global,
     rows: &[(u64, Avalanche)],

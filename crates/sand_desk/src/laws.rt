@@ -3,8 +3,8 @@
 //! **One text.** The laboratory's law says that piles, odometers, sums and numbers of drops are a function of the start
 //! and of seed, droppers, drops and epochs; the text shows nothing else.
 //!
-//! **One dropper.** In a run of one epoch with one dropper, each site receives as many drops as from `drops --count`
-//! with the same seed, since both read stream 0. These numbers alone determine the result of one thread.
+//! **One dropper.** A run of one epoch with one dropper puts as many drops on each site as `drops --count` with the
+//! same seed, since both read stream 0. These numbers alone determine the result of one thread.
 //!
 //! **Runs in parts.** A drop depends only on its site and on the pile before it. So `drops --count M --from N`, on the
 //! pile that `drops --count N` left, makes the last M drops of a single run of N + M, with the same numbers and
