@@ -45,7 +45,6 @@ fn push_text(text: &mut String, refused: &Refused<'_>, at: usize) -> Result<(), 
     text.push_str("\n")
 }
 
-// A number over the grain limit.
 fn push_large(text: &mut String, refused: &Refused<'_>, at: usize) -> Result<(), AllocError> {
     push_place(text, refused.input, at)?;
     text.push_str("the number is over ")?;

@@ -142,7 +142,6 @@ impl<'a> Outline<'a> {
         }
     }
 
-    /// Whether the pile has a defect.
     pub(crate) fn has(&self, defect: Defect) -> bool {
         match defect {
             Defect::Side => self.bad_side().is_some(),

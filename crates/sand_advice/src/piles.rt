@@ -19,7 +19,6 @@ fn push_size_hint(text: &mut String, input: &[u8]) -> Result<(), AllocError> {
     }
 }
 
-/// A side that is out of range.
 pub(crate) fn push_side(text: &mut String, refused: &Refused<'_>) -> Result<(), AllocError> {
     let Some(found) = refused.culprit(Defect::Side) else {
         return Ok(());
@@ -37,7 +36,6 @@ pub(crate) fn push_side(text: &mut String, refused: &Refused<'_>) -> Result<(), 
     push_size_hint(text, refused.input)
 }
 
-/// A cylinder that is too narrow.
 pub(crate) fn push_narrow(text: &mut String, refused: &Refused<'_>) -> Result<(), AllocError> {
     let Some(found) = refused.culprit(Defect::Narrow) else {
         return Ok(());
@@ -77,7 +75,6 @@ fn push_length_hint(
     }
 }
 
-/// A wrong number of heights.
 pub(crate) fn push_length(text: &mut String, refused: &Refused<'_>) -> Result<(), AllocError> {
     let Some(found) = refused.culprit(Defect::Length) else {
         return Ok(());
@@ -116,7 +113,6 @@ pub(crate) fn push_grains(text: &mut String, refused: &Refused<'_>) -> Result<()
     text.push_str("\n")
 }
 
-/// A site with more than 3 grains.
 pub(crate) fn push_unstable(text: &mut String, refused: &Refused<'_>) -> Result<(), AllocError> {
     let Some(found) = refused.culprit(Defect::Unstable) else {
         return Ok(());
@@ -133,7 +129,6 @@ pub(crate) fn push_unstable(text: &mut String, refused: &Refused<'_>) -> Result<
     )
 }
 
-/// Two piles of different shapes.
 pub(crate) fn push_shapes(text: &mut String, refused: &Refused<'_>) -> Result<(), AllocError> {
     let (Some(first), Some(second)) = (refused.first(), refused.second()) else {
         return Ok(());
@@ -160,7 +155,6 @@ fn not_recurrent(alloc: Global, refused: &Refused<'_>) -> &'static str {
     }
 }
 
-/// A pile that is not recurrent.
 pub(crate) fn push_forbidden(
     text: &mut String,
     alloc: Global,
@@ -170,7 +164,6 @@ pub(crate) fn push_forbidden(
     write!(text, "{name} has a forbidden set, so it is not recurrent\n")
 }
 
-/// A drop at a site outside the grid.
 pub(crate) fn push_no_site(
     text: &mut String,
     refused: &Refused<'_>,

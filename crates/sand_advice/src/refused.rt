@@ -17,7 +17,6 @@ pub(crate) struct Culprit<'a> {
 }
 
 impl<'a> Refused<'a> {
-    /// Whether the command reads two piles.
     pub(crate) fn reads_two(&self) -> bool {
         self.command == "add"
     }
