@@ -94,7 +94,6 @@ fn writes<R: Threads + Sync>(
     }
 }
 
-// One try of a command line.
 fn try_command<R: Threads + Sync>(
     rt: &R,
     alloc: Global,

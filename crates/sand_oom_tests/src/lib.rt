@@ -1,13 +1,12 @@
 //! Every call that allocates, with each of its allocations refused in turn; and every call that does not allocate, with
 //! all allocations refused.
 //!
-//! A call is repeated: with its first allocation refused, then its second, and so on until none is refused. Each time
-//! it reports out of memory and nothing else, and leaves its arguments unchanged. Then it is made again on the same
-//! arguments, and returns what it would have returned: values worked out by hand.
+//! A call runs with its first allocation refused, then its second, and so on until none is refused. Each time it
+//! reports out of memory and nothing else, and leaves its arguments unchanged. Repeated on the same arguments, it then
+//! returns values worked out by hand.
 //!
 //! A program cannot refuse its own allocations. `refusals/run`, which the gate calls, loads a library that does; under
-//! plain `rt ci` nothing is refused, and each call is made once. Each trial prints how many allocations of its call
-//! were refused.
+//! plain `rt ci` nothing is refused, and each call is made once. Each trial prints how many allocations were refused.
 #![tactic(auto)]
 
 #[cfg(test)]

@@ -351,7 +351,7 @@ fn laws_of_shared_piles_and_runs_take_no_memory(rt: HostRuntime) {
     assert!(rt; !was_refused(alloc));
 }
 
-// The other faults are looked up above, with the calls that return them.
+// The numbers of the other faults are checked above, with the calls that return them.
 #[test]
 fn numbers_of_faults_take_no_memory(rt: HostRuntime) {
     let alloc = rt.alloc();

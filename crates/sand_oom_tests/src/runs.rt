@@ -262,9 +262,8 @@ fn stays_published<R: Threads + Sync>(rt: &R, alloc: Global, start: &Pile, album
         && heights_in(album) == (Some(2), None)
 }
 
-// A run with allocation `number` refused. If it fails between the first epoch and the second, returns whether all is
-// right: the fault is out of memory, the first epoch is visible in the album and stays there, and with another album
-// the run succeeds.
+// A run with allocation `number` refused. If it fails between the two epochs, returns whether all is right: the fault
+// is out of memory, the first epoch is visible in the album and stays there, and with another album the run succeeds.
 fn published_once<R: Threads + Sync>(
     rt: &R,
     alloc: Global,
