@@ -9,7 +9,6 @@ use sand_guess::{Claim, guessed, is_flat, toppled};
 use sand_model::{Edge, Pile};
 use std::alloc::Global;
 
-// The number of piles that are guessed.
 const PILES: u64 = 400;
 
 // Numbers without a pattern, the same in every run.
@@ -58,7 +57,6 @@ impl Numbers {
         Some(heights)
     }
 
-    // Adds grains to one site.
     fn heap(&mut self, heights: &mut [u64]) {
         let grains = self.grains();
         let site = self.below((heights.len() as u64).max(1)) as usize;
