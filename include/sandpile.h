@@ -1,14 +1,15 @@
-/* libsandpile: abelian sandpiles on grids with open edges and on cylinders. C99 and C++.
+/* libsandpile: abelian sandpiles on grids with open edges and on cylinders, for C99 and C++.
 
-   A grid has `width` columns and `height` rows, each from 1 to 256; a cylinder, whose first and last columns are neighbours, is
-   at least 3 wide. Site `row * width + column` has the height `heights[row * width + column]`. An array is passed as a pointer
-   and the number of its elements. Piles have one element for each site, and 1,099,511,627,775 grains at most.
+   A grid has `width` columns and `height` rows, each from 1 to 256. On a cylinder the first and the last column are
+   neighbours, and the width is at least 3. Site `row * width + column` has the height `heights[row * width + column]`.
+   An array is passed as a pointer and its number of elements. A pile has one element per site, and at most
+   1,099,511,627,775 grains.
 
-   Each function that is listed with faults returns 0, or the number of a fault; then no array and no number that it was given
-   has changed. The faults are listed in the order in which they are looked for.
+   Functions that list faults return 0 or the number of a fault; after a fault, no array or number passed in has
+   changed. Faults are listed in the order in which they are checked.
 
-   Pointers are not null, also if the length is 0, and the arrays and numbers of one call do not overlap. Nothing is kept between
-   calls: many threads may call at once, on different arrays. */
+   Pointers must not be null, even if the length is 0, and the arrays and numbers of one call must not overlap. No state
+   is kept between calls: threads may call concurrently, on different arrays. */
 #ifndef SANDPILE_H
 #define SANDPILE_H
 
@@ -35,7 +36,7 @@ enum {
     SANDPILE_NO_SITE = 25
 };
 
-/* What a fault says. */
+/* A sentence for a fault. */
 static inline const char *sandpile_explain(uint32_t fault) {
     switch (fault) {
     case 0: return "no fault";
@@ -52,37 +53,37 @@ static inline const char *sandpile_explain(uint32_t fault) {
     }
 }
 
-/* The version of the library that is linked, as SANDPILE_VERSION has that of the header. */
+/* The version of the linked library, in the format of SANDPILE_VERSION. */
 uint32_t sandpile_version(void);
 
-/* What one drop set off. */
+/* What one drop caused. */
 typedef struct sandpile_avalanche {
     size_t site;    /* where the grain was dropped */
     uint64_t size;  /* topplings */
     uint32_t area;  /* sites that toppled */
-    uint32_t reach; /* the greatest distance from the drop to a site that toppled, in columns and rows; 0 if none did */
+    uint32_t reach; /* greatest distance from the drop to a site that toppled, in columns plus rows; 0 if none did */
     uint64_t lost;  /* grains that fell over the edge */
 } sandpile_avalanche;
 
-/* Settles a pile. Writes the settled heights, how often each site toppled, the grains lost and the topplings in all.
+/* Settles a pile. Writes the settled heights, how often each site toppled, the grains lost and the number of topplings.
    SIDE, NARROW, LENGTH, TOO_MANY_GRAINS, MEMORY. */
 uint32_t sandpile_settle(size_t width, size_t height, bool cylinder, uint64_t *heights, size_t heights_length,
                          uint64_t *odometer, size_t odometer_length, uint64_t *lost, uint64_t *topplings);
 
-/* Settles a pile, then drops a grain at each site in turn; each settles before the next one drops. Writes the heights that are
-   left, how often each site toppled in this call (the first settling included), and an avalanche for each drop.
+/* Settles a pile, then drops a grain at each site in turn; each settles before the next. Writes the final heights, how
+   often each site toppled in this call (the first settling included), and an avalanche for each drop.
    SIDE, NARROW, LENGTH, TOO_MANY_GRAINS, NO_SITE, FULL, MEMORY. */
 uint32_t sandpile_drop(size_t width, size_t height, bool cylinder, uint64_t *heights, size_t heights_length,
                        uint64_t *odometer, size_t odometer_length, const size_t *sites, size_t sites_length,
                        sandpile_avalanche *avalanches, size_t avalanches_length);
 
-/* Writes the sites of a stream of random drops, from its place `from` on: a stream is the 32-bit words of ChaCha8 under the seed,
-   each modulo the sites of the grid. SIDE, NARROW. */
+/* Writes the sites of a stream of random drops, from its place `from` on. A stream consists of the 32-bit words of
+   ChaCha8 under the seed, each modulo the number of sites. SIDE, NARROW. */
 uint32_t sandpile_sites(size_t width, size_t height, bool cylinder, uint64_t seed, uint64_t stream, uint64_t from, size_t *sites,
                         size_t sites_length);
 
-/* Burns a stable pile. If it is recurrent, `found` becomes a burning order of all sites; if not, its first `count` elements
-   become the greatest forbidden set, ascending. `found` has one element for each site.
+/* Burns a stable pile. If it is recurrent, `found` becomes a burning order of all sites; if not, its first `count`
+   elements become the greatest forbidden set, ascending. `found` has one element per site.
    SIDE, NARROW, LENGTH, TOO_MANY_GRAINS; then UNSTABLE or MEMORY. */
 uint32_t sandpile_burn(size_t width, size_t height, bool cylinder, const uint64_t *heights, size_t heights_length,
                        size_t *found, size_t found_length, size_t *count, bool *recurrent);
@@ -90,20 +91,20 @@ uint32_t sandpile_burn(size_t width, size_t height, bool cylinder, const uint64_
 /* Writes the identity of the group of recurrent piles. SIDE, NARROW, LENGTH, MEMORY. */
 uint32_t sandpile_identity(size_t width, size_t height, bool cylinder, uint64_t *heights, size_t heights_length);
 
-/* Writes the recurrent pile that is equivalent to a pile. SIDE, NARROW, LENGTH, TOO_MANY_GRAINS, MEMORY. */
+/* Replaces a pile with the recurrent pile equivalent to it. SIDE, NARROW, LENGTH, TOO_MANY_GRAINS, MEMORY. */
 uint32_t sandpile_recurrent(size_t width, size_t height, bool cylinder, uint64_t *heights, size_t heights_length);
 
-/* Writes the sum of two recurrent piles over the first. SIDE, NARROW, LENGTH, TOO_MANY_GRAINS; then UNSTABLE or NOT_RECURRENT
-   of the first pile and then of the second, or MEMORY. */
+/* Replaces the first of two recurrent piles with their sum. SIDE, NARROW, LENGTH, TOO_MANY_GRAINS; then UNSTABLE or
+   NOT_RECURRENT for the first pile, then for the second; or MEMORY. */
 uint32_t sandpile_add(size_t width, size_t height, bool cylinder, uint64_t *heights, size_t heights_length,
                       const uint64_t *others, size_t others_length);
 
-/* Writes the inverse of a recurrent pile over it. SIDE, NARROW, LENGTH, TOO_MANY_GRAINS; then UNSTABLE, NOT_RECURRENT or
+/* Replaces a recurrent pile with its inverse. SIDE, NARROW, LENGTH, TOO_MANY_GRAINS; then UNSTABLE, NOT_RECURRENT or
    MEMORY. */
 uint32_t sandpile_inverse(size_t width, size_t height, bool cylinder, uint64_t *heights, size_t heights_length);
 
-/* Writes the sum of n copies of a recurrent pile over it: the identity for 0. SIDE, NARROW, LENGTH, TOO_MANY_GRAINS; then
-   UNSTABLE, NOT_RECURRENT or MEMORY. */
+/* Replaces a recurrent pile with the sum of n copies of it; for n = 0 that is the identity. SIDE, NARROW, LENGTH,
+   TOO_MANY_GRAINS; then UNSTABLE, NOT_RECURRENT or MEMORY. */
 uint32_t sandpile_multiple(size_t width, size_t height, bool cylinder, uint64_t *heights, size_t heights_length, uint64_t n);
 
 #ifdef __cplusplus
