@@ -1,6 +1,6 @@
-"""The package carries libsandpile along: the one that `./build library` has built in this checkout.
+"""Packages libsandpile, as built by `./build library` in this checkout.
 
-All else is in pyproject.toml.
+Everything else is in pyproject.toml.
 """
 
 import shutil
@@ -14,7 +14,7 @@ LIBRARY = Path(__file__).resolve().parent.parent / "crates" / "sand_c" / "out" /
 
 
 class WithLibrary(build_py):
-    """Puts the library next to the modules."""
+    """Copies the library next to the modules."""
 
     def run(self):
         if not LIBRARY.exists():
@@ -25,7 +25,7 @@ class WithLibrary(build_py):
 
 
 class ForThisMachine(bdist_wheel):
-    """Any Python 3 will do, but the library is for this kind of machine."""
+    """A wheel for any Python 3, but for this platform only, because of the library."""
 
     def finalize_options(self):
         super().finalize_options()

@@ -1,19 +1,20 @@
-"""Abelian sandpiles on grids with open edges and on cylinders, over NumPy arrays.
+"""Abelian sandpiles on grids with open edges and on cylinders, for NumPy arrays.
 
-What the calls return is proved: libsandpile, which they call, is written in Rattle (Rust with contracts), and each of its
-exports has a contract, from the settled pile with the least odometer to the group of recurrent piles. This module checks the
-arguments and passes them on; it is tested, not proved.
+The results are proved: libsandpile, which computes them, is written in Rattle (Rust with contracts), and each of its
+exports has a contract, from the settled pile with the least odometer to the group of recurrent piles. This module
+checks the arguments and passes them on; it is tested, not proved.
 
-A pile is an array of the shape (height, width), of any integer type; sides are from 1 to 256. Arrays that are returned are
-new, of type uint64. No call changes its arguments. ``cylinder=True`` makes the first and the last column neighbours. What is
-refused is a `Fault` or a `TypeError`, and then nothing has changed. Calls let go of Python's lock, so threads run side by side.
+A pile is an array of shape (height, width) and any integer type; sides are from 1 to 256. Returned arrays are new, of
+type uint64. No call changes its arguments. ``cylinder=True`` makes the first and the last column neighbours. Invalid
+input raises a `Fault` or a `TypeError`, and then nothing has changed. Calls release the global interpreter lock, so
+threads run in parallel.
 
 ======================================  ==========================================================
 `settle`                                the settled pile, and how often each site topples
-`Drive`                                 drops grains one by one, and returns the avalanche of each
+`Drive`                                 drops grains one by one, and returns their avalanches
 `burn`                                  whether a pile is recurrent
 `recurrent`, `identity`, `Recurrent`    the sandpile group
-`lab`                                   a seeded run over many threads, by the program
+`lab`                                   a seeded run on many threads, by the program
 `show`                                  a picture
 ======================================  ==========================================================
 

@@ -1,4 +1,4 @@
-"""Arrays in: what is accepted as a pile, a shape or a list of sites."""
+"""Checks arguments: what is accepted as a pile, a shape or a list of sites."""
 
 from __future__ import annotations
 
@@ -16,7 +16,7 @@ _MOST_SIDE = 256
 
 
 def _integers(values: ArrayLike, what: str) -> NDArray[Any]:
-    """The array of these values, whose type must be one of NumPy's integer types."""
+    """The values as an array, which must have one of NumPy's integer types."""
     if isinstance(values, np.ma.MaskedArray):
         raise TypeError(f"{what} are a plain array, and this one has a mask")
     array = np.asarray(values)
@@ -26,7 +26,7 @@ def _integers(values: ArrayLike, what: str) -> NDArray[Any]:
 
 
 def heights_of(pile: ArrayLike) -> Heights:
-    """A new contiguous array of the heights, which are checked: two dimensions, integers, none below 0."""
+    """A new contiguous array of the heights, checked to be a two-dimensional array of non-negative integers."""
     array = _integers(pile, "heights")
     if array.ndim != 2:
         raise TypeError(f"a pile has the shape (height, width), and this array has {array.ndim} dimensions")
@@ -38,7 +38,7 @@ def heights_of(pile: ArrayLike) -> Heights:
 
 
 def check_sides(shape: tuple[int, ...]) -> None:
-    """Refuses a side that is not from 1 to 256. So no array of such a shape is made."""
+    """Raises a fault for a side outside 1 to 256, before an array of such a shape is made."""
     if not all(1 <= side <= _MOST_SIDE for side in shape):
         raise Fault(1)
 
@@ -67,7 +67,7 @@ def sites_of(sites: ArrayLike, count: int) -> NDArray[np.uintp]:
 
 
 def count_of(number: int, what: str, most: int = 2**64 - 1) -> int:
-    """A number of Python or NumPy, if it is an integer from 0 to `most`."""
+    """A Python or NumPy number, which must be an integer from 0 to `most`."""
     try:
         value = operator.index(number)
     except TypeError:

@@ -14,7 +14,7 @@ from .faults import Fault
 _NAME = "libsandpile.so.1"
 _HERE = Path(__file__).resolve().parent
 _CHECKOUT = _HERE.parent.parent / "crates" / "sand_c" / "out"
-# The major version of include/sandpile.h, whose calls are declared here.
+# The major version of include/sandpile.h that the declarations below are for.
 _MAJOR = 1
 
 _SIDES = (ctypes.c_size_t, ctypes.c_size_t, ctypes.c_bool)
@@ -35,7 +35,8 @@ _TAKES = {
 
 
 def _places() -> list[str]:
-    """Where the library may be, the first choice first: named, carried along, built in the checkout, known to the system."""
+    """Where the library may be, in order of preference: named, in this package, built in the checkout, known to the
+    system."""
     if "LIBSANDPILE" in os.environ:
         return [os.environ["LIBSANDPILE"]]
     files = (_HERE / _NAME, _CHECKOUT / _NAME)
@@ -60,10 +61,10 @@ library = _load()
 
 
 def call(name: str, shape: tuple[int, ...], cylinder: bool, *arguments: Any) -> None:
-    """Calls an export on the grid of this shape. An array is passed as a pointer and a length.
+    """Calls an export on a grid of this shape. An array is passed as a pointer and a length.
 
-    The arrays are contiguous, and those that the export writes are new. Python's lock is free during the call. Raises the
-    fault that the export returns.
+    Arrays must be contiguous, and new if the export writes to them. The global interpreter lock is released during the
+    call. Raises the fault that the export returns.
     """
     passed: list[Any] = []
     for argument in arguments:

@@ -14,17 +14,18 @@ from ._library import call
 
 @dataclass(frozen=True)
 class Burned:
-    """What burning finds.
+    """The result of burning.
 
     Attributes
     ----------
     is_recurrent : bool
-        Whether all sites burn, so that the pile is recurrent.
+        Whether all sites burn, that is, whether the pile is recurrent.
     order : numpy.ndarray
-        Site numbers, ``row * width + column``, in an order in which all sites burn; shape (sites,), intp. It is empty if the
+        Site numbers, ``row * width + column``, in an order in which all sites burn; shape (sites,), intp. Empty if the
         pile is not recurrent.
     forbidden : numpy.ndarray
-        Which sites are in the greatest forbidden set; shape (height, width), bool. None is, if the pile is recurrent.
+        Which sites are in the greatest forbidden set; shape (height, width), bool. All False if the pile is
+        recurrent.
     """
 
     is_recurrent: bool
@@ -33,12 +34,12 @@ class Burned:
 
 
 def burn(pile: ArrayLike, cylinder: bool = False) -> Burned:
-    """Burns a stable pile from its edge. What does not burn is the greatest forbidden set.
+    """Burns a stable pile from its edge. The sites that do not burn are the greatest forbidden set.
 
     Parameters
     ----------
     pile : array_like of int
-        Grains on each site, shape (height, width), each from 0 to 3. It does not change.
+        Grains on each site, shape (height, width), each from 0 to 3. Not modified.
     cylinder : bool
         Whether the first and the last column are neighbours.
 
@@ -47,7 +48,7 @@ def burn(pile: ArrayLike, cylinder: bool = False) -> Burned:
     Fault
         Side (1), Narrow (24), TooManyGrains (3), Unstable (7) or Memory (4).
     TypeError
-        If `pile` is not an array of two dimensions of integers that are 0 or more.
+        If `pile` is not a two-dimensional array of non-negative integers.
 
     Examples
     --------

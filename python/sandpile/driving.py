@@ -1,4 +1,4 @@
-"""A pile that is driven by single grains: the avalanche of each drop."""
+"""A pile driven by single grains, with the avalanche of each drop."""
 
 from __future__ import annotations
 
@@ -17,22 +17,23 @@ from .progress import Bar
 from .settling import settle
 
 _MOST_GRAINS = 1_099_511_627_775
-# The most drops of a block, between two moments at which Ctrl-C can stop, and the most drops times sites. The time of a drop is
-# in proportion to the sites, and so is what a call costs in addition: that is about a hundredth of a block. On the largest grid
-# a block takes some tenths of a second, and less on others.
+# Limits of a block of drops, which Ctrl-C cannot interrupt: the number of drops, and drops times sites. The time of a
+# drop is proportional to the number of sites, and so is the overhead of a call, about a hundredth of a block. A block
+# takes a few tenths of a second on the largest grid, and less on others.
 _MOST_IN_BLOCK, _WORK_IN_BLOCK = 8192, 1 << 27
 
 _FOUND = [("size", "u8"), ("area", "u4"), ("reach", "u4"), ("lost", "u8")]
-# As include/sandpile.h has it.
+# The struct of include/sandpile.h.
 _AVALANCHE = np.dtype([("site", np.uintp), *_FOUND])
 
-#: What `Drive.drop` returns has a row of this type for each drop.
+#: The type of the rows that `Drive.drop` returns, one for each drop.
 AVALANCHE = np.dtype([("number", "u8"), ("site", np.intp), *_FOUND])
 
 
 @dataclass(frozen=True)
 class _State:
-    """All that changes as grains drop. A block of drops changes it in one step, so that it can be stopped at any time."""
+    """All that changes as grains drop. A block of drops replaces it in one step, so a run can be stopped at any
+    time."""
 
     pile: Heights
     odometer: Heights
@@ -43,22 +44,23 @@ class _State:
 
 
 def _block(pile: Heights, cylinder: bool, sites: NDArray[np.uintp]) -> tuple[Heights, Heights, NDArray[np.void]]:
-    """The pile after a grain dropped at each of these sites, its odometer, and the avalanches."""
+    """The pile after a drop at each of these sites, its odometer, and the avalanches."""
     heights, odometer, avalanches = pile.copy(), np.zeros_like(pile), np.zeros(sites.size, _AVALANCHE)
     call("drop", heights.shape, cylinder, heights, odometer, sites, avalanches)
     return heights, odometer, avalanches
 
 
 class Drive:
-    """A pile on which grains drop one by one, at random or at given sites. Each settles before the next one drops.
+    """A pile on which grains drop one by one, at random or given sites. Each settles before the next.
 
     Parameters
     ----------
     pile : array_like of int
-        The start, shape (height, width), sides from 1 to 256, any integer type. It is settled at once, and does not change.
+        The start, shape (height, width), sides from 1 to 256, any integer type. Settled first; the
+        argument is not modified.
     seed, stream : int
-        Which random sites are drawn: stream `stream` of the seed `seed`, each from 0 to 2**64 - 1. Streams of one seed are
-        independent, so replicas get a stream each. ``sandpile drops --count N --seed S --stream T`` drops at the same sites.
+        The random sites: stream `stream` of seed `seed`, each from 0 to 2**64 - 1. Streams of one seed are independent,
+        so give each replica its own. ``sandpile drops --count N --seed S --stream T`` drops at the same sites.
     cylinder : bool
         Whether the first and the last column are neighbours.
 
@@ -67,11 +69,11 @@ class Drive:
     Fault
         Side (1), Narrow (24), TooManyGrains (3), Memory (4), or Plan (15) if `seed` or `stream` is outside its limits.
     TypeError
-        If `pile` is not an array of two dimensions of integers that are 0 or more, or `seed` or `stream` is no integer.
+        If `pile` is not a two-dimensional array of non-negative integers, or `seed` or `stream` is not an integer.
 
     Notes
     -----
-    One `Drive` belongs to one thread at a time. Different ones run at once in different threads.
+    Use a `Drive` in one thread at a time. Different ones can run in parallel in different threads.
 
     Examples
     --------
@@ -89,38 +91,39 @@ class Drive:
         self._seed, self._stream = count_of(seed, "seed"), count_of(stream, "stream")
         self._cylinder = bool(cylinder)
         settled = settle(heights, self._cylinder)
-        # The grains of the start and of all drops are within the limit, so each count of the odometer fits.
+        # The start and all drops together are within the grain limit, so each count of the odometer fits.
         self._start_grains = int(heights.sum())
         self._state = _State(settled.pile, settled.odometer, settled.lost, 0, 0, np.empty(0, AVALANCHE))
 
     @property
     def pile(self) -> Heights:
-        """The heights now, each from 0 to 3; a new array of shape (height, width), uint64."""
+        """The current heights, each from 0 to 3; a new array of shape (height, width), uint64."""
         return self._state.pile.copy()
 
     @property
     def odometer(self) -> Heights:
-        """How often each site toppled so far, as the start settled too; a new array of shape (height, width), uint64."""
+        """How often each site has toppled, the settling of the start included; a new array of shape (height, width),
+        uint64."""
         return self._state.odometer.copy()
 
     @property
     def lost(self) -> int:
-        """Grains that fell over the edge so far, as the start settled too."""
+        """Grains lost over the edge so far, the settling of the start included."""
         return self._state.lost
 
     @property
     def topplings(self) -> int:
-        """Topplings so far, as the start settled too."""
+        """Topplings so far, the settling of the start included."""
         return int(self._state.odometer.sum())
 
     @property
     def drops(self) -> int:
-        """Grains that dropped so far."""
+        """Grains dropped so far."""
         return self._state.drops
 
     @property
     def table(self) -> NDArray[np.void]:
-        """What the last call of `drop` or `drop_at` has done, also if Ctrl-C stopped it."""
+        """The avalanches of the last call of `drop` or `drop_at`, even if Ctrl-C stopped it."""
         return self._state.table
 
     @property
@@ -141,30 +144,30 @@ class Drive:
     def drop(self, n: int, progress: bool = False) -> NDArray[np.void]:
         """Drops `n` grains at the next random sites.
 
-        Ctrl-C stops between two blocks of drops. Then `KeyboardInterrupt` is raised, the pile is as the drops so far left it,
-        and `table` has their avalanches; the next call goes on from there.
+        Ctrl-C stops between two blocks of drops. It raises `KeyboardInterrupt`; the pile then has all drops so far, and
+        `table` has their avalanches. The next call continues from there.
 
         Parameters
         ----------
         n : int
-            How many grains.
+            Number of grains.
         progress : bool
-            Whether to show on the standard error how far it is, by tqdm if it is installed.
+            Whether to show the progress on standard error, with tqdm if it is installed.
 
         Returns
         -------
         numpy.ndarray
-            A structured array with a row for each drop: its `number` from 0 over all calls, its `site` (row * width + column),
-            the `size` (topplings), the `area` (sites that toppled), the `reach` (greatest distance from the site to one that
-            toppled, in columns and rows) and the grains `lost`.
+            A structured array with a row for each drop: its `number` from 0 over all calls, its `site` (row * width +
+            column), the `size` (topplings), the `area` (sites that toppled), the `reach` (greatest distance from the
+            site to one that toppled, in columns plus rows) and the grains `lost`.
 
         Raises
         ------
         Fault
-            Plan (15) if `n` is below 0, Full (6) if the start and all drops are over 1,099,511,627,775 grains, or Memory (4),
-            which keeps the blocks before it, as Ctrl-C does.
+            Plan (15) if `n` is negative, Full (6) if the start and all drops exceed 1,099,511,627,775 grains together,
+            or Memory (4), which keeps the blocks before it, like Ctrl-C.
         TypeError
-            If `n` is no integer.
+            If `n` is not an integer.
 
         Examples
         --------
@@ -175,13 +178,13 @@ class Drive:
         return self._drop(count_of(n, "n"), self._draw, progress, draws=True)
 
     def drop_at(self, sites: ArrayLike) -> NDArray[np.void]:
-        """Drops a grain at each of these sites in turn. Random sites are not used up.
+        """Drops a grain at each of these sites in turn. Uses no random sites.
 
         Parameters
         ----------
         sites : array_like of int
-            Site numbers, row * width + column, shape (n,); or one of them. `numpy.ravel_multi_index` makes them from rows and
-            columns.
+            Site numbers, row * width + column, shape (n,), or a single one. `numpy.ravel_multi_index` converts rows and
+            columns to them.
 
         Returns
         -------
@@ -193,7 +196,7 @@ class Drive:
         Fault
             NoSite (25) if a site is outside the grid, Full (6) or Memory (4), as from `drop`.
         TypeError
-            If the sites are no integers, or have more than one dimension.
+            If the sites are not integers, or have more than one dimension.
 
         Examples
         --------
@@ -205,7 +208,7 @@ class Drive:
         return self._drop(at.size, lambda begin, end: at[begin:end], progress=False, draws=False)
 
     def _draw(self, begin: int, end: int) -> NDArray[np.uintp]:
-        """The next sites of the stream, from the place that the drops so far have led to."""
+        """The next sites of the stream, after those used so far."""
         sites = np.zeros(end - begin, np.uintp)
         call("sites", self._state.pile.shape, self._cylinder, self._seed, self._stream, self._state.drawn, sites)
         return sites
@@ -227,7 +230,7 @@ class Drive:
         return self._state.table
 
     def _keep(self, table: NDArray[np.void], begin: int, sites: NDArray[np.uintp], draws: bool) -> None:
-        """Drops a block, and keeps what it did in one step: Ctrl-C finds all of it or nothing."""
+        """Drops a block, and stores its result in one step: Ctrl-C finds all of it or nothing."""
         was = self._state
         pile, odometer, avalanches = _block(was.pile, self._cylinder, sites)
         rows = table[begin : begin + sites.size]
@@ -245,12 +248,12 @@ class Drive:
         )
 
     def save(self, path: str | os.PathLike[str]) -> None:
-        """Writes the run to a file, from which `Drive.load` goes on. Tables are not saved.
+        """Saves the run to a file, for `Drive.load`. Tables are not saved.
 
         Parameters
         ----------
         path : str or path
-            The file; `.npz` is added to a name without it. If writing fails, the file is as it was before.
+            The file; `.npz` is added to a name without it. If writing fails, an existing file is unchanged.
 
         Raises
         ------
@@ -282,7 +285,7 @@ class Drive:
 
     @classmethod
     def load(cls, path: str | os.PathLike[str]) -> Drive:
-        """The run that was saved. It goes on as if it had not been stopped.
+        """Loads a saved run, which continues as if it had never stopped.
 
         Parameters
         ----------
@@ -294,7 +297,7 @@ class Drive:
         OSError
             If the file cannot be read.
         TypeError
-            If it is not what `save` writes.
+            If the file was not written by `save`.
 
         Examples
         --------
@@ -333,7 +336,7 @@ def _npz(path: str | os.PathLike[str]) -> Path:
 
 
 def _blocks(n: int, sites: int) -> Iterator[tuple[int, int]]:
-    """Where each block of `n` drops begins and ends."""
+    """The start and the end of each block of `n` drops."""
     length = min(_MOST_IN_BLOCK, _WORK_IN_BLOCK // sites)
     for begin in range(0, n, length):
         yield begin, min(begin + length, n)

@@ -1,8 +1,8 @@
-"""What a call says if it refuses its input or runs out of memory."""
+"""The exception for invalid input and for running out of memory."""
 
 from __future__ import annotations
 
-# Number: name and meaning, as docs/FORMATS.md lists them. The numbers that are left out cannot reach Python.
+# Number: name and meaning, as in docs/FORMATS.md. The missing numbers cannot reach Python.
 _FAULTS = {
     1: ("Side", "a side is outside 1 to 256"),
     2: ("Length", "an array has the wrong length"),
@@ -22,12 +22,12 @@ _FAULTS = {
 
 
 class Fault(ValueError):
-    """A call refuses its input, or an allocation failed. Nothing has changed.
+    """The input of a call is invalid, or an allocation failed. Nothing has changed.
 
     Attributes
     ----------
     number : int
-        The number of the fault, the same as from C and from the program.
+        The number of the fault, the same as in C and in the program.
     name : str
         Its name, such as ``"NotRecurrent"``.
     sentence : str

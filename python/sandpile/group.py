@@ -1,4 +1,4 @@
-"""The sandpile group: recurrent piles, which are added by settling their sum."""
+"""The sandpile group: recurrent piles, added by settling their sum."""
 
 from __future__ import annotations
 
@@ -13,16 +13,16 @@ from ._library import call
 from .burning import burn
 from .faults import Fault
 
-# The library takes a factor below 2**64. A greater one is taken apart at this bit.
+# The library takes factors below 2**64. Larger ones are split at this bit.
 _BITS = 63
 
 
 class Recurrent:
     """A recurrent pile, as an element of the group of its grid.
 
-    ``a + b``, ``a - b``, ``-a``, ``n * a`` for any integer ``n``, and ``a == b`` are those of the group. An element can be
-    hashed, so elements can be in sets. ``numpy.asarray(a)`` and ``a.pile`` are its heights, and ``a[row, column]`` is one of
-    them. With an array, ``==`` compares site by site, and there is no sum.
+    ``a + b``, ``a - b``, ``-a``, ``n * a`` for any integer ``n``, and ``a == b`` are those of the group. Elements are
+    hashable. ``numpy.asarray(a)`` and ``a.pile`` are the heights, and ``a[row, column]`` is one of them. ``==`` with an
+    array compares site by site; the sum with an array is not defined.
 
     Parameters
     ----------
@@ -34,10 +34,10 @@ class Recurrent:
     Raises
     ------
     Fault
-        Side (1), Narrow (24), TooManyGrains (3), Unstable (7), NotRecurrent (8) or Memory (4). The sum of elements of two
-        different grids is Shapes (9).
+        Side (1), Narrow (24), TooManyGrains (3), Unstable (7), NotRecurrent (8) or Memory (4). Adding
+        elements of different grids raises Shapes (9).
     TypeError
-        If `pile` is not an array of two dimensions of integers that are 0 or more.
+        If `pile` is not a two-dimensional array of non-negative integers.
 
     Examples
     --------
@@ -52,7 +52,7 @@ class Recurrent:
     """
 
     __slots__ = ("_pile", "_cylinder")
-    # So NumPy leaves the operators to this class, and `array + a` does not add the heights site by site.
+    # NumPy then leaves the operators to this class, so `array + a` does not add the heights site by site.
     __array_ufunc__ = None
 
     def __init__(self, pile: ArrayLike, cylinder: bool = False) -> None:
@@ -67,7 +67,7 @@ class Recurrent:
 
     @classmethod
     def _known(cls, heights: Heights, cylinder: bool) -> Recurrent:
-        """The element of a new array that the library has made, and that is known to be recurrent."""
+        """The element of a new array from the library, which is known to be recurrent."""
         element = cls.__new__(cls)
         element._keep(heights, cylinder)
         return element
@@ -88,7 +88,7 @@ class Recurrent:
         return self._pile.shape
 
     def _made(self, name: str, *arguments: Any) -> Recurrent:
-        """The element that an export makes of this one."""
+        """The element that an export of the library makes from this one."""
         heights = self._pile.copy()
         call(name, heights.shape, self._cylinder, heights, *arguments)
         return Recurrent._known(heights, self._cylinder)
@@ -177,12 +177,12 @@ def identity(shape: tuple[int, int], cylinder: bool = False) -> Recurrent:
 
 
 def recurrent(pile: ArrayLike, cylinder: bool = False) -> Recurrent:
-    """The recurrent pile that is equivalent to any pile: they differ by topplings, forward or back.
+    """The recurrent pile equivalent to a pile: they differ by topplings, forward or backward.
 
     Parameters
     ----------
     pile : array_like of int
-        Grains on each site, shape (height, width), sides from 1 to 256, any integer type. It does not change.
+        Grains on each site, shape (height, width), sides from 1 to 256, any integer type. Not modified.
     cylinder : bool
         Whether the first and the last column are neighbours.
 
@@ -191,7 +191,7 @@ def recurrent(pile: ArrayLike, cylinder: bool = False) -> Recurrent:
     Fault
         Side (1), Narrow (24), TooManyGrains (3) or Memory (4).
     TypeError
-        If `pile` is not an array of two dimensions of integers that are 0 or more.
+        If `pile` is not a two-dimensional array of non-negative integers.
 
     Examples
     --------

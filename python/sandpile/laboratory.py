@@ -1,4 +1,4 @@
-"""The laboratory: seeded runs over many threads, by the program `sandpile`."""
+"""The laboratory: seeded runs on many threads, by the program `sandpile`."""
 
 from __future__ import annotations
 
@@ -18,19 +18,19 @@ from .faults import Fault
 _CHECKOUT = Path(__file__).resolve().parents[2] / "crates" / "sandpile" / "out" / "sandpile"
 _USAGE = 23
 
-#: `Run.epochs` has a row of this type for each epoch.
+#: The type of the rows of `Run.epochs`, one for each epoch.
 EPOCH = np.dtype([("epoch", "u8"), ("drops", "u8"), ("topplings", "u8"), ("lost", "u8"), ("grains", "u8")])
 
 
 @dataclass(frozen=True)
 class Run:
-    """What a run of the laboratory leaves.
+    """The result of a run of the laboratory.
 
     Attributes
     ----------
     epochs : numpy.ndarray
-        A structured array with a row for each epoch: its number `epoch` from 0, its `drops`, its `topplings`, the grains
-        `lost` in it, and the `grains` of the pile at its end.
+        A structured array with a row for each epoch: its number `epoch` from 0, its `drops`, its `topplings`, the
+        grains `lost` in it, and the `grains` of the pile at its end.
     pile : numpy.ndarray
         The settled heights at the end; shape (height, width), uint64.
     odometer : numpy.ndarray
@@ -43,7 +43,7 @@ class Run:
 
 
 def _program() -> str:
-    """The program: the one that SANDPILE names, that of the checkout, or the one on the path."""
+    """The program: the one named by SANDPILE, else that of the checkout, else the one on the path."""
     named = os.environ.get("SANDPILE") or (str(_CHECKOUT) if _CHECKOUT.exists() else shutil.which("sandpile"))
     if not named:
         raise FileNotFoundError("there is no program sandpile: put it on the path, or name it in the variable SANDPILE")
@@ -57,7 +57,7 @@ def _text_of(heights: Heights, cylinder: bool) -> str:
 
 
 def _fault_of(message: str) -> Fault:
-    """The fault that the program reports: its line, or the message of its command line."""
+    """The fault that the program reports, in a fault line or in a message about its command line."""
     line = re.search(r"^fault (\d+) (\w+)", message, re.M)
     if line:
         return Fault(int(line[1]), name=line[2])
@@ -65,7 +65,7 @@ def _fault_of(message: str) -> Fault:
 
 
 def _run_of(text: str, shape: tuple[int, ...]) -> Run:
-    """A table of epochs, its total, a pile, and its odometer."""
+    """Parses a table of epochs, its total, a pile, and its odometer."""
     table, _, rest = text.partition("total ")
     epochs = [tuple(map(int, line.split())) for line in table.splitlines()[1:]]
     pile, odometer = (part.split("\n", 2)[2] if at == 0 else part for at, part in enumerate(rest.split("odometer\n")))
@@ -83,37 +83,39 @@ def lab(
     sweeps: int = 0,
     observers: int = 0,
 ) -> Run:
-    """Runs the laboratory: many threads drop grains on one pile at once, in epochs. The pile settles after each.
+    """Runs the laboratory: many threads drop grains on one pile at once, in epochs. The pile settles after
+    each epoch.
 
-    The program `sandpile` does it: the one that the variable SANDPILE names, that of the checkout, or the one on the path.
+    The program `sandpile` does the run: the one named by the variable SANDPILE, else that of the checkout, else the one
+    on the path.
 
     Parameters
     ----------
     pile : array_like of int
-        The start, shape (height, width), sides from 1 to 256, any integer type. It does not change.
+        The start, shape (height, width), sides from 1 to 256, any integer type. Not modified.
     seed : int
         From 0 to 4294967295. Dropper k of epoch t drops at the sites of stream 64 * t + k.
     droppers : int
         Threads that drop grains, from 1 to 64.
     drops : int
-        Grains of each dropper in each epoch, from 0 to 1,000,000.
+        Grains per dropper and epoch, from 0 to 1,000,000.
     epochs : int
         From 1 to 100.
     cylinder : bool
         Whether the first and the last column are neighbours.
     workers, sweeps, observers : int
-        Threads that topple (1 to 16), how often each of them goes over its rows (0 to 1000), and threads that count
-        (0 to 16). They change nothing of what is returned.
+        Threads that topple (1 to 16), how often each of them sweeps its rows (0 to 1000), and threads that count
+        drops (0 to 16). They do not affect the result.
 
     Raises
     ------
     Fault
-        Side (1), Narrow (24), TooManyGrains (3), TooLarge (19) for one height, TooLong (22), Usage (23) if a parameter is
-        outside its limits, or Memory (4).
+        Side (1), Narrow (24), TooManyGrains (3), TooLarge (19) for one height, TooLong (22), Usage (23) if a parameter
+        is outside its limits, or Memory (4).
     TypeError
-        If `pile` is not an array of two dimensions of integers that are 0 or more.
+        If `pile` is not a two-dimensional array of non-negative integers.
     FileNotFoundError
-        If there is no program.
+        If the program is not found.
 
     Examples
     --------

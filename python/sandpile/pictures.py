@@ -1,4 +1,4 @@
-"""Pictures of piles, by matplotlib."""
+"""Pictures of piles, drawn with matplotlib."""
 
 from __future__ import annotations
 
@@ -7,34 +7,34 @@ from typing import Any
 import numpy as np
 from numpy.typing import ArrayLike
 
-# No grain, one, two, three; what is higher is red.
+# For 0, 1, 2 and 3 grains. Higher sites are red.
 _COLOURS = ("#0b1d3a", "#2f6f9f", "#f2c14e", "#fdf6e3")
 _HIGH = "#c8102e"
-# A new figure is about so many pixels wide or high, with as many for each site.
+# The longer side of a new figure is about this many pixels, with the same whole number for each site.
 _PIXELS, _PIXELS_AN_INCH = 512, 100
 
 
 def show(pile: ArrayLike, ax: Any = None) -> Any:
-    """Draws a pile, a colour for each height from 0 to 3, and returns the axes.
+    """Draws a pile with one colour for each height from 0 to 3, and returns the axes.
 
     Parameters
     ----------
     pile : array_like of int or Recurrent
         Heights, shape (height, width). Heights over 3 are red.
     ax : matplotlib.axes.Axes, optional
-        Where to draw; a new figure of about 512 pixels if it is not given.
+        Where to draw; by default a new figure of about 512 pixels.
 
     Returns
     -------
     matplotlib.axes.Axes
-        The axes, so that ``show(pile).figure.savefig("pile.png")`` keeps the picture.
+        The axes; ``show(pile).figure.savefig("pile.png")`` saves the picture.
 
     Raises
     ------
     ImportError
         If matplotlib is not installed.
     TypeError
-        If `pile` does not have two dimensions.
+        If `pile` is not two-dimensional.
 
     Examples
     --------

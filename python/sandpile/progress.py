@@ -1,4 +1,4 @@
-"""How far a long call is, on the standard error."""
+"""The progress of a long call, on standard error."""
 
 from __future__ import annotations
 
@@ -9,7 +9,7 @@ from typing import Any
 
 
 class Bar:
-    """Shows how many of `total` drops are done: by tqdm if it is installed, else as a line that is written over."""
+    """Shows how many of `total` drops are done: with tqdm if it is installed, else on a line that is overwritten."""
 
     def __init__(self, total: int, is_shown: bool) -> None:
         self._total, self._shown_at, self._is_shown = total, 0.0, is_shown
@@ -26,7 +26,7 @@ class Bar:
         return self
 
     def show(self, done: int) -> None:
-        """Shows that so many are done, at most ten times a second."""
+        """Shows that `done` drops are done, at most ten times a second."""
         if self._tqdm is not None:
             self._tqdm.update(done - self._tqdm.n)
         elif self._is_shown and (done == self._total or time.monotonic() - self._shown_at > 0.1):

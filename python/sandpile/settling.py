@@ -1,4 +1,4 @@
-"""Settling: which stable pile a pile becomes, and how often each site topples on the way."""
+"""Settling: the stable pile that a pile becomes, and how often each site topples on the way."""
 
 from __future__ import annotations
 
@@ -14,18 +14,19 @@ from ._library import call
 
 @dataclass(frozen=True)
 class Settled:
-    """What settling leaves.
+    """The result of settling.
 
     Attributes
     ----------
     pile : numpy.ndarray
         The settled heights, each from 0 to 3; shape (height, width), uint64.
     odometer : numpy.ndarray
-        How often each site toppled; shape (height, width), uint64. No way of settling the pile topples a site less often.
+        How often each site toppled; shape (height, width), uint64. No other way of settling the pile topples any site
+        less often.
     lost : int
         Grains that fell over the edge.
     topplings : int
-        Topplings of all sites, the sum of the odometer.
+        The number of topplings, which is the sum of the odometer.
     """
 
     pile: Heights
@@ -35,21 +36,21 @@ class Settled:
 
 
 def settle(pile: ArrayLike, cylinder: bool = False) -> Settled:
-    """Settles a pile: a site with four grains or more gives one to each neighbour, until there is none.
+    """Settles a pile: sites with four or more grains give one to each neighbour, until there is no such site.
 
     Parameters
     ----------
     pile : array_like of int
-        Grains on each site, shape (height, width), sides from 1 to 256, any integer type. It does not change.
+        Grains on each site, shape (height, width), sides from 1 to 256, any integer type. Not modified.
     cylinder : bool
-        Whether the first and the last column are neighbours, so that grains are lost in the north and the south alone.
+        Whether the first and the last column are neighbours, so that grains are lost only in the north and the south.
 
     Raises
     ------
     Fault
         Side (1), Narrow (24), TooManyGrains (3) or Memory (4).
     TypeError
-        If `pile` is not an array of two dimensions of integers that are 0 or more.
+        If `pile` is not a two-dimensional array of non-negative integers.
 
     Examples
     --------

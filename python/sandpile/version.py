@@ -1,3 +1,3 @@
-"""The version, on its own so that it can be read where the library is not built."""
+"""The version, in a file of its own so that it can be read before the library is built."""
 
 VERSION = "1.0.0"

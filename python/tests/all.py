@@ -1,4 +1,4 @@
-"""Runs the tests of this folder, and says at the end how many passed."""
+"""Runs the tests in this folder, and prints at the end how many passed."""
 
 import sys
 import unittest
@@ -9,7 +9,7 @@ sys.path[:0] = [str(HERE), str(HERE.parent)]
 
 
 class Counting(unittest.TextTestResult):
-    """Counts the tests that passed, and says at once which is left out."""
+    """Counts the tests that passed, and prints each one left out as it happens."""
 
     passed = 0
 

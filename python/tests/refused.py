@@ -1,5 +1,5 @@
-"""Run by test_memory.py with refusals/refuse.c preloaded: refuses an allocation of each export, the first, then the second, and
-so on until none is left. Refusing begins and ends with the export, so NumPy and Python keep their memory."""
+"""Run by test_memory.py with refusals/refuse.c preloaded: refuses an allocation of each export, the first, then the
+second, and so on until none is left. Only the export is refused memory, not NumPy or Python."""
 
 import ctypes
 
@@ -7,7 +7,7 @@ import numpy as np
 import sandpile
 from sandpile import _library
 
-# What refuse.c takes as orders.
+# The commands of refuse.c.
 IS_HERE = 1 << 60
 END, BEGIN = IS_HERE + 1, IS_HERE + 2
 
@@ -16,7 +16,7 @@ malloc.argtypes, malloc.restype = [ctypes.c_size_t], ctypes.c_void_p
 
 
 class Refusing:
-    """The library, of whose next call one request is refused."""
+    """The library; one allocation of its next call is refused."""
 
     def __init__(self, library, number):
         self.library, self.number, self.was_refused = library, number, False
@@ -34,7 +34,7 @@ class Refusing:
 
 
 def try_call(name, call, kept):
-    """Refuses each request of a call in turn. `kept` returns what must not change."""
+    """Refuses each allocation of a call in turn. `kept` returns what must not change."""
     library, before, number = _library.library, kept(), 0
     while True:
         number += 1
@@ -60,7 +60,7 @@ run = sandpile.Drive(pile)
 a = sandpile.recurrent(pile)
 try_call("settle", lambda: sandpile.settle(pile), lambda: [pile])
 try_call("high", lambda: sandpile.settle(high), lambda: [high])
-# The first drop that succeeds ends the test, so the run is as it was until then.
+# The first drop that succeeds ends the test, so the run does not change before.
 try_call("drop", lambda: run.drop_at([0, 1, 2]), lambda: [run.pile, run.odometer, run.lost, run.drops])
 try_call("burn", lambda: sandpile.burn(a), lambda: [a.pile])
 try_call("identity", lambda: sandpile.identity((9, 7)), lambda: [])

@@ -1,4 +1,4 @@
-"""The header and the library from C: what it exports, and the example, under valgrind and AddressSanitizer."""
+"""The header and the library in C: the exports, and the example under valgrind and AddressSanitizer."""
 
 import unittest
 

@@ -1,4 +1,4 @@
-"""Many streams on a cluster: the histograms add up to those of one process after another."""
+"""Many streams on a cluster: the histograms add up to the same as in a single process."""
 
 import logging
 import unittest
@@ -12,7 +12,7 @@ BINS = 2 ** np.arange(16)
 
 
 def histogram(stream):
-    """How many avalanches of a replica are in each bin of sizes."""
+    """The number of avalanches of a replica in each size bin."""
     run = sandpile.Drive(np.full((SIDE, SIDE), 3), seed=1, stream=stream)
     return np.histogram(run.drop(DROPS)["size"], BINS)[0]
 

@@ -1,4 +1,4 @@
-"""Runs of drops: in one call or in many, stopped, saved, and side by side in threads."""
+"""Runs of drops: in one call or in many, stopped, saved, and in parallel threads."""
 
 import contextlib
 import io

@@ -1,4 +1,4 @@
-"""The examples of the docstrings, and what is in the module by name."""
+"""The examples in the docstrings, and the public names of the module."""
 
 import doctest
 import importlib

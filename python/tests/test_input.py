@@ -1,4 +1,4 @@
-"""What the module takes as a pile, and what it refuses. Nothing that it is given changes."""
+"""What the module accepts as a pile, and what it rejects. No argument is modified."""
 
 import pickle
 import unittest
@@ -49,7 +49,7 @@ FAULTS = {
 
 class Refused(unittest.TestCase):
     def refuses(self, call, kind, *words, **options):
-        """A call raises this fault or error, in a sentence, and leaves its arrays as they were."""
+        """A call raises this fault or error, with a sentence, and leaves its arrays unchanged."""
         before = [np.array(word, copy=True) for word in words]
         with self.assertRaises(kind if isinstance(kind, type) else sandpile.Fault) as caught:
             call(*words, **options)

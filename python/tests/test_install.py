@@ -1,4 +1,4 @@
-"""What is installed, by pip without a network or by ./install, is found away from the checkout, and so is its library."""
+"""What is installed, by pip without a network or by ./install, works outside the checkout, with its library."""
 
 import os
 import re

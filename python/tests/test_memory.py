@@ -1,4 +1,4 @@
-"""Each allocation of each call is refused in turn: that is fault 4, and nothing has changed."""
+"""Each allocation of each call is refused in turn: the call raises fault 4, and nothing has changed."""
 
 import os
 import subprocess

@@ -1,4 +1,4 @@
-"""What the module says is what the header and the docs say."""
+"""The module agrees with the header and the docs."""
 
 import re
 import unittest

@@ -1,4 +1,4 @@
-"""Pictures: a pixel for each site, or a whole number of them, in the colour of its height."""
+"""Pictures: each site is one pixel or a whole number of them, in the colour of its height."""
 
 import os
 import sys
@@ -14,7 +14,7 @@ os.environ["MPLBACKEND"] = "Agg"
 
 class Show(unittest.TestCase):
     def pixels(self, pile):
-        """The colours of a picture, and how many pixels wide a site is."""
+        """The colours of a picture, and the width of a site in pixels."""
         import matplotlib.pyplot as plt
 
         axes = sandpile.show(pile)

@@ -1,4 +1,4 @@
-"""The module and the program: the same numbers and the same faults, on 500 random inputs."""
+"""The module and the program return the same numbers and faults, on 500 random inputs."""
 
 import random
 import unittest
@@ -13,7 +13,7 @@ LIMIT = 1_099_511_627_775
 
 
 def sides_of(chance):
-    """A shape. Most are small; some are not on a cylinder, and some are no shapes at all."""
+    """A shape. Most are small; some are too narrow for a cylinder, and some are invalid."""
     kind = chance.random()
     if kind < 0.03:
         return chance.choice([(0, 3), (3, 0), (257, 1), (1, 257), (0, 0)])
@@ -22,7 +22,7 @@ def sides_of(chance):
 
 
 def pile_of(chance, shape):
-    """Heights of one of many kinds, from stable ones to those that are over the limit together."""
+    """Heights of one of many kinds, from stable ones to sums over the grain limit."""
     make = np.random.default_rng(chance.getrandbits(32)).integers
     kind = chance.random()
     if kind < 0.35:
@@ -38,18 +38,18 @@ def pile_of(chance, shape):
 
 
 def whole(text):
-    """A text as numbers: words without digits are left out."""
+    """The numbers in a text; words without digits are skipped."""
     return text if isinstance(text, int) else [int(word) for word in text.split() if word.lstrip("-").isdigit()]
 
 
 def listed(pile, *rest):
-    """The numbers of a pile's text, and of what is behind it."""
+    """The numbers in a pile's text, and those after it."""
     height, width = pile.shape
     return [width, height, *pile.ravel().tolist(), *rest]
 
 
 class Input:
-    """A random input of all calls, and what the module says of it."""
+    """A random input for all calls, and the results of the module."""
 
     def __init__(self, seed):
         chance = random.Random(seed)
@@ -95,7 +95,7 @@ class Input:
         return listed((a + sandpile.Recurrent(self.low(self.other), cylinder=self.cylinder)).pile)
 
     def low(self, pile):
-        """A pile of which one in two is recurrent: stable, and with few empty sites."""
+        """A recurrent pile if the sum is odd, otherwise the pile with heights cut to 4."""
         if pile.size and int(pile.sum(dtype=np.float64)) % 2:
             return np.asarray(sandpile.recurrent(np.minimum(pile, 9), cylinder=self.cylinder)) if self.is_grid() else pile
         return np.minimum(pile, 4)
@@ -122,7 +122,7 @@ class Input:
         return ["drops", f"--count={self.count}", f"--seed={self.seed}", f"--stream={self.stream}"]
 
     def pairs(self):
-        """Each call by its name: what the module says, and what the program says."""
+        """Each call by its name, for the module and for the program."""
         stable, sites = np.minimum(self.pile, 3), " ".join(map(str, self.sites))
         yield "settle", self.settle, ["settle"], self.text()
         yield "burn", lambda: self.burn(self.pile), ["burn"], self.text()
@@ -131,7 +131,7 @@ class Input:
         both = [self.text(self.low(pile)) for pile in (self.pile, self.other)]
         yield "inverse", lambda: self.group("inverse"), ["inverse"], both[0]
         yield "multiple", lambda: self.group("multiple"), ["multiple", f"--times={self.times}"], both[0]
-        # With other sides the command line has a fault of its own, and the text of two piles may have another.
+        # For other sides the command line reports its own fault, and so may the text of two piles.
         if all(1 <= side <= 256 for side in self.shape):
             yield "identity", self.identity, ["identity", *self.grid()], ""
             yield "add", lambda: self.group("add"), ["add"], "".join(both)
@@ -141,7 +141,7 @@ class Input:
 
 
 def differences(seed):
-    """The calls on which module and program differ, and how many calls there were."""
+    """The calls on which module and program differ, and the number of calls."""
     calls = list(Input(seed).pairs())
     ours = [fault_or(call) for _, call, _, _ in calls]
     theirs = [whole(program(*words, text=text)) for _, _, words, text in calls]

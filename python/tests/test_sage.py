@@ -1,4 +1,4 @@
-"""What SageMath 9.5 computed, by its own stabilisation and its own group."""
+"""Results that SageMath 9.5 computed with its own stabilisation and group."""
 
 import json
 import unittest

@@ -1,4 +1,4 @@
-"""What several tests use: random piles, the program, and tools that may be missing."""
+"""Shared by several tests: random piles, the program, and tools that may be missing."""
 
 import importlib.util
 import shutil
@@ -21,7 +21,7 @@ def needs(*tools):
 
 
 def needs_module(*names):
-    """Leaves a test out if this Python has not got a module."""
+    """Leaves a test out if this Python lacks a module."""
     missing = [name for name in names if not importlib.util.find_spec(name)]
     return unittest.skipIf(missing, f"Python has no {', '.join(missing)}")
 
@@ -34,13 +34,13 @@ def text_of(pile, cylinder=False):
 
 
 def program(*words, text=""):
-    """What the program writes, or the number of its fault."""
+    """The output of the program, or the number of its fault."""
     ended = subprocess.run([PROGRAM, *map(str, words)], input=text, capture_output=True, text=True, timeout=300)
     return ended.stdout if ended.returncode == 0 else int(ended.stderr.split()[1])
 
 
 def fault_or(call):
-    """What a call of the module returns, or the number of its fault."""
+    """The result of a call of the module, or the number of its fault."""
     import sandpile
 
     try:
@@ -50,7 +50,7 @@ def fault_or(call):
 
 
 def ran(*words, **how):
-    """Runs a command that must succeed, and returns what it wrote."""
+    """Runs a command that must succeed, and returns its output."""
     ended = subprocess.run([str(word) for word in words], stdout=subprocess.PIPE, stderr=subprocess.STDOUT, text=True, **how)
     if ended.returncode:
         raise AssertionError(f"{words} ended with status {ended.returncode}:\n{ended.stdout}")
@@ -65,7 +65,7 @@ def refusing_library(folder):
 
 
 def new_folder(test):
-    """A folder that is there for one test."""
+    """A folder that exists for one test."""
     folder = tempfile.TemporaryDirectory()
     test.addCleanup(folder.cleanup)
     return Path(folder.name)
