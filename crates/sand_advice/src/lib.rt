@@ -1,5 +1,5 @@
 //! What the program says to a person: what a fault means and what to do, what is wrong with a rejected input and where,
-//! and how to write rejected words.
+//! and how to correct rejected words.
 //!
 //! `faults` has the table of faults that `sandpile explain` prints. `advising` examines a rejected input and adds what
 //! the line of its fault leaves out. `misuse` examines the words. `progress` shows how far a long command is.

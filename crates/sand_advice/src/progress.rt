@@ -25,7 +25,7 @@ fn scaled(number: u64, of: u64, by: u64) -> u64 {
     u64::try_from(product / u128::from(by.max(1))).unwrap_or(u64::MAX)
 }
 
-/// The drops made, out of how many, in percent, the seconds so far, and the estimated time left: `drops 3,400,000 of
+/// The drops made and wanted, the percentage, the time so far, and the time left at this rate: `drops 3,400,000 of
 /// 10,000,000   34 %   41 s   1 min 19 s left`. Fails if memory runs out.
 pub fn progress_line(
     alloc: Global,

@@ -19,7 +19,7 @@ abbrev pub IsFound : Grid → (ℕ → ℕ) → Bool → List ℕ → Type 0
 IsFound g s true found = IsRecurrent g s × IsBurningOrder g s found
 IsFound g s false found = IsGreatestForbidden g s found
 
--- the sites that burning found
+-- the sites that burning found, and whether all burn
 abbrev pub sites_in : Burned → List ℕ
 sites_in (Recurrent order) = order.items
 sites_in (Forbidden set) = set.items

@@ -143,7 +143,7 @@ pub record IsRefused (IsFault : DeskFault → Type 0) (held held' : Option (List
   pub found : Finds IsFault fault
   pub unwritten : Keeps held held'
 
--- how work ends that writes a text of this kind or finds a fault of this kind
+-- how work with texts and faults of these kinds ends
 abbrev pub WorkEnds : (List ℕ → Type 0) → (DeskFault → Type 0) → Option (List ℕ) → Option (List ℕ) → DeskFault → Type 0
 WorkEnds IsText IsFault held held' fault = IsBrokenOff IsText held held' fault ⊎ IsRefused IsFault held held' fault
 

@@ -123,8 +123,8 @@ pub fn run_command<T: Threads + Sync, R: Read, W: Write>(
     run_gated_command(rt, alloc, &Open, words, reader, writer)
 }
 
-/// Like `run_command`, with a gate that is called before each drop of `drops --count`, and in `lab` as by
-/// `sand_lab::run`.
+/// Like `run_command`, with a gate that is called before each drop of `drops --count`, and before the turns of `lab` as
+/// in `sand_lab::run`.
 pub fn run_gated_command<T: Threads + Sync, G: Gate, R: Read, W: Write>(
     rt: &T,
     alloc: Global,

@@ -1,4 +1,4 @@
-//! Help: whether the words ask for it, and how the program ends that shows it.
+//! Shows the help that words may ask for instead of a task.
 
 ghost use Rattle.std.specs.Prelude.{◌≢◌, IfErr, OnOk};
 ghost use Rattle.sand_desk.specs.Faults.{status_of};

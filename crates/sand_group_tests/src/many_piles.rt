@@ -92,7 +92,7 @@ impl Numbers {
     }
 }
 
-// The heights that an accepted claim leaves.
+// The heights after a claim, if it is accepted.
 fn left_by(alloc: Global, pile: &Pile, claim: Claim) -> Option<Vec<u64>> {
     certified(alloc, pile, &claim.counts, &claim.turns).ok()?
 }

@@ -111,7 +111,7 @@ fn put(_pile: &SharedPile, passes: &mut Vec<Pass>, place: usize, pass: Pass)
     }
 }
 
-/// A shared pile and its passes, starting with the first pass.
+/// A shared pile and its passes. The first pass is at index 0.
 #[derive(Drop)]
 pub struct PileWithPasses {
     shape: Shape,
