@@ -148,7 +148,7 @@ impl Write for Once {
     }
 }
 
-// It would take more.
+// The writer would take more.
 #[test]
 fn a_writer_that_stopped_is_not_called_again(rt: HostRuntime) -> Result<(), Fail> {
     let text = b"3 1\n0 4 0\n";
