@@ -17,7 +17,7 @@ fn tower(alloc: Global, shape: Shape, grains: u64) -> Result<Pile, PileFault> {
     Pile::new(alloc, shape, heights.as_slice())
 }
 
-// No pile topples more often than half its weight.
+// No pile takes more topplings than half its weight.
 fn topplings_of(alloc: Global, pile: &Pile) -> Result<u64, SettleFault>
     ensures { IfOk result (λ n. 2 * n ≤ weight pile.now.grid (height_of pile.now)) }
 {

@@ -307,7 +307,6 @@ impl PileWithPasses {
         Told::Number(pass.toppled(site))
     }
 
-    /// The number of a receipt.
     pub fn number(&self, pass: usize, place: usize) -> Option<u64> {
         Some(self.passes.get(pass)?.receipts().get(place)?.number)
     }

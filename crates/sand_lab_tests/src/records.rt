@@ -17,7 +17,6 @@ fn after_the_first(alloc: Global, first: &Record) -> Result<Record, Fail> {
     Ok(both)
 }
 
-// Appends one drop to a record.
 fn append_one(alloc: Global, record: &mut Record) -> Result<(), Fail> {
     let next = dropped_on(alloc, record.pile(), 1)?;
     if !are_within_limit(record, &next) {
