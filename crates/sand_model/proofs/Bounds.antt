@@ -61,7 +61,6 @@ at_most_all n f few =
     let ones = sum_below-ones n in
     omega arith
 
--- if each of n terms is at most 1 and one of them is 0, their sum is below n
 pub fewer_than_all : (n : ℕ) (f : ℕ → ℕ) (j : ℕ) → ((i : ℕ) → i < n → f i ≤ 1) → j < n → f j ≡ 0 → sum_below n f < n
 unfolding sum_below
 fewer_than_all zero f j few l none = absurd (omega arith)

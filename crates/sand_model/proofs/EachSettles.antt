@@ -10,7 +10,6 @@ use Rattle.sand_model.proofs.Sandpile.{one_lighter}
 use Rattle.sand_model.proofs.Underway.{underway_start, underway_step, underway_end}
 use Rattle.sand_model.proofs.Lists.{all_or_one}
 
--- a site that may topple, or none
 high_site : (n : ℕ) (t : ℕ → ℕ) → ((i : ℕ) × (i < n) × (4 ≤ t i)) ⊎ ((i : ℕ) → i < n → t i ≤ 3)
 high_site n t =
     ⊎_elim (λ (low : (i : ℕ) → i < n → leb (t i) 3 ≡ true). inr (λ i l. leb-true (t i) 3 (low i l)))

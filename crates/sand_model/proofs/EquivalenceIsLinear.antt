@@ -51,7 +51,6 @@ pub equivalent_trans : (g : Grid) (s t r : ℕ → ℤ) → IsEquivalent g s t �
 equivalent_trans g s t r one two =
     equivalent_same g (λ i. s i +ℤ t i) (λ i. t i +ℤ r i) s r (equivalent_add g s t t r one two) (λ i l. omega (arith, ints))
 
--- k times a pile that is equivalent to all 0 is equivalent to all 0
 pub equivalent_times : (g : Grid) (d : ℕ → ℕ) (k : ℕ) → IsEquivalent g (λ i. pos (d i)) (λ i. pos 0) → IsEquivalent g (λ i. pos (k * d i)) (λ i. pos 0)
 equivalent_times g d zero none =
     equivalent_same g (λ i. pos (d i)) (λ i. pos (d i)) (λ i. pos (0 * d i)) (λ i. pos 0)

@@ -89,7 +89,6 @@ four_places g i j ps e l m = rw e (flow-one_at g i j l m ∙ flow_four g (λ q. 
 
 -- ---- how many neighbours of a site are in a set
 
--- 1 at the sites of a set, and 0 elsewhere
 abbrev pub indicator : (ℕ → Bool) → ℕ → ℕ
 indicator set j = one_if (set j)
 

@@ -15,7 +15,6 @@ unfolding sum_below
 sum_below-first zero f = omega arith
 sum_below-first (suc n) f = let rest = sum_below-first n f in omega arith
 
--- the sum of a list is the sum over its indices
 sum_is_sum_below : (xs : List ℕ) → sum xs ≡ sum_below (length xs) (λ i. get_or xs i 0)
 unfolding sum_below
 sum_is_sum_below [] = refl
@@ -67,7 +66,6 @@ spread_toppled g i t h k ps e l len high after = record {
       omega arith;
 }
 
--- toppling a site 1 time is one toppling
 pub toppled_once : (g : Grid) (i : ℕ) (h k : List ℕ) → IsToppled g (λ j. get_or h j 0) (λ j. 1 * one_at i j) (λ j. get_or k j 0) → IsToppled g (λ j. get_or h j 0) (one_at i) (λ j. get_or k j 0)
 toppled_once g i h k done = record {
   balance = λ j l.

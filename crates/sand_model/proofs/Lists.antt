@@ -14,7 +14,6 @@ pub at_most_one : (b : Bool) → one_if b ≤ 1
 at_most_one true = omega arith
 at_most_one false = omega arith
 
--- all numbers below n pass, or one does not
 pub all_or_one : (n : ℕ) (p : ℕ → Bool) → ((i : ℕ) → i < n → p i ≡ true) ⊎ ((i : ℕ) × (i < n) × (p i ≡ false))
 all_or_one zero p = inl (λ i l. absurd (omega arith))
 all_or_one (suc n) p =
@@ -30,14 +29,13 @@ all_or_one (suc n) p =
 
 -- ---- what a listing says of one number
 
--- a number below n occurs once if it passes, and otherwise not at all
 tally-listing : (n : ℕ) (p : ℕ → Bool) (xs : List ℕ) (i : ℕ) → Lists n p xs → i < n → tally xs i ≡ one_if (p i)
 tally-listing n p xs i list l = let test = lt-ltb i n l in let e = list.each i in e ∙ rw test refl
 
 outside : (n : ℕ) (p : ℕ → Bool) (xs : List ℕ) (i : ℕ) → Lists n p xs → n ≤ i → tally xs i ≡ 0
 outside n p xs i list past = let test = le-ltb i n past in let e = list.each i in e ∙ rw test refl
 
--- conversely, a list with these tallies is a listing
+-- a list with such tallies is a listing
 pub lists_from : (n : ℕ) (p : ℕ → Bool) (xs : List ℕ) → ((i : ℕ) → i < n → tally xs i ≡ one_if (p i)) → ((i : ℕ) → n ≤ i → tally xs i ≡ 0) → Lists n p xs
 lists_from n p xs inside none = record {
   each = λ i.
@@ -65,7 +63,6 @@ passes n p xs i list some =
 
 -- ---- what is in a listing
 
--- an element of a list has a tally of at least 1
 tally_at : (xs : List ℕ) (k : ℕ) → k < length xs → 1 ≤ tally xs (get_or xs k 0)
 tally_at xs k l =
     let le = get_or-le-sum_by (λ j. one_at j (get_or xs k 0)) xs k 0 l in
@@ -80,11 +77,10 @@ lists_below n p xs list =
     (λ (past : n ≤ get_or xs k 0). let none = outside n p xs (get_or xs k 0) list past in let some = tally_at xs k l in absurd (omega arith))
     (cases_lt (get_or xs k 0) n))
 
--- an element of a listing is below n
+-- elements of a listing are below n, pass, and do not occur earlier
 pub read_below : (n : ℕ) (p : ℕ → Bool) (xs : List ℕ) (k x : ℕ) → Lists n p xs → k < length xs → x ≡ get_or xs k x → x < n
 read_below n p xs k x list l read = let below = lists_below n p xs list k x l in omega arith
 
--- and passes
 pub read_passes : (n : ℕ) (p : ℕ → Bool) (xs : List ℕ) (k x : ℕ) → Lists n p xs → k < length xs → x ≡ get_or xs k x → p x ≡ true
 read_passes n p xs k x list l read =
     let at = get_or_read xs k x l read 0 in
@@ -92,7 +88,6 @@ read_passes n p xs k x list l read =
     let some = tally_at xs k l in
     passes n p xs x list (omega arith)
 
--- and does not occur earlier
 pub read_fresh : (n : ℕ) (p : ℕ → Bool) (xs : List ℕ) (k x : ℕ) → Lists n p xs → k < length xs → x ≡ get_or xs k x → tally (take k xs) x ≡ 0
 read_fresh n p xs k x list l read =
     let le = sum_by_more_le (λ j. one_at j (get_or xs k 0)) xs k 0 l in
@@ -100,14 +95,12 @@ read_fresh n p xs k x list l read =
     let few = at_most_once n p xs (get_or xs k 0) list in
     ap (tally (take k xs)) (get_or_read xs k x l read 0) ∙ (omega arith)
 
--- the number at the front is below n, and passes
 pub front_below : (n : ℕ) (p : ℕ → Bool) (xs : List ℕ) (i : ℕ) → Lists n p (i ∷ xs) → i < n
 front_below n p xs i list = All-head (λ j. j < n) i xs (lists_below n p (i ∷ xs) list)
 
 pub front_passes : (n : ℕ) (p : ℕ → Bool) (xs : List ℕ) (i : ℕ) → Lists n p (i ∷ xs) → p i ≡ true
 front_passes n p xs i list = let first = tally-cons i xs i in let one = one_at_same i in passes n p (i ∷ xs) i list (omega arith)
 
--- if a listing is empty, no number passes
 pub none_passes : (n : ℕ) (p : ℕ → Bool) → Lists n p [] → (i : ℕ) → i < n → p i ≡ false
 none_passes n p list i l =
     ⊎_elim (λ (pass : p i ≡ true). let one = listed n p [] i list l pass in absurd (omega arith)) (λ (fail : p i ≡ false). fail) (cases_Bool (p i))
@@ -124,19 +117,17 @@ lists_length n p xs list =
     let few = at_most_all n (λ i. one_if (p i)) (λ i l. at_most_one (p i)) in
     omega arith
 
--- if a number fails, the listing is shorter than n
 pub lists_room : (n : ℕ) (p : ℕ → Bool) (xs : List ℕ) (i : ℕ) → Lists n p xs → i < n → p i ≡ false → length xs < n
 lists_room n p xs i list l fail =
     let all = length-listing n p xs list in
     let few = fewer_than_all n (λ j. one_if (p j)) i (λ j m. at_most_one (p j)) l (ap one_if fail) in
     omega arith
 
--- a listing of length n has all numbers
+-- a listing has all numbers if and only if its length is n
 pub lists_all : (n : ℕ) (p : ℕ → Bool) (xs : List ℕ) → Lists n p xs → length xs ≡ n → (i : ℕ) → i < n → p i ≡ true
 lists_all n p xs list full i l =
     ⊎_elim (λ (pass : p i ≡ true). pass) (λ (fail : p i ≡ false). let room = lists_room n p xs i list l fail in absurd (omega arith)) (cases_Bool (p i))
 
--- and a shorter one lacks a number
 pub lists_leave : (n : ℕ) (p : ℕ → Bool) (xs : List ℕ) → Lists n p xs → length xs ≢ n → (i : ℕ) × (i < n) × (p i ≡ false)
 lists_leave n p xs list short =
     ⊎_elim

@@ -98,13 +98,11 @@ north_south g i j li lj =
     (cases_Bool (ltb 0 (i / g.width))))
     (cases_eq (j + g.width) i))
 
--- the value of u at the place to one side of i
 side : (u : ℕ → ℕ) (near wraps : Bool) (a b : ℕ) → value_at u (cond near (Some a) (cond wraps (Some b) None)) ≡ cond near (u a) (cond wraps (u b) 0)
 side u true wraps a b = refl
 side u false true a b = refl
 side u false false a b = refl
 
--- columns at the ends of a row
 last_in_row : (w i j : ℕ) → 0 < w → i % w ≡ 0 → i + (w - 1) ≡ j → j % w + 1 < w → ⊥
 last_in_row w i j pos first e inside =
     let parts = div-add-mod' i w in
@@ -192,7 +190,6 @@ west_east g i j li lj =
 tally_is : (xs : List ℕ) (i : ℕ) → tally xs i ≡ sum_by (λ k. one_at k i) xs
 tally_is xs i = refl
 
--- j is a neighbour of i as often as i is one of j
 pub neighbours_mutual : (g : Grid) (i j : ℕ) → i < sites g → j < sites g → tally (neighbours g i) j ≡ tally (neighbours g j) i
 unfolding flow
 neighbours_mutual g i j li lj =
@@ -271,6 +268,5 @@ place_below g i (suc (suc zero)) l = if_some (sites g) (east g i) (λ k. east_be
 place_below g i (suc (suc (suc zero))) l = if_some (sites g) (south g i) (λ k. south_below g i k l)
 place_below g i (suc (suc (suc (suc k)))) l = tt
 
--- the same for an entry of the list of places
 pub place_inside : (g : Grid) (i n k : ℕ) (ps : List (Option ℕ)) → ps ≡ places g i → i < sites g → n ≡ sites g → IfSome (get_or ps k None) (λ j. j < n)
 place_inside g i n k ps e l s = rw (s, e) (place_below g i k l)

@@ -11,7 +11,6 @@ use Rattle.sand_model.proofs.Sandpile.{flow_and_lost}
 
 -- ---- an integer in two parts
 
--- the part above 0, and the part below 0
 pub above : ℤ → ℕ
 above (pos n) = n
 above (negsuc n) = 0

@@ -18,13 +18,12 @@ least_action g s u w i k l stable below high =
     let limit = stable.at_most_three i l in
     omega arith
 
--- the flow of w is the flow of a first part u plus the flow of the rest
 flow_rest : (g : Grid) (u w : ℕ → ℕ) → ((j : ℕ) → j < sites g → u j ≤ w j) → (i : ℕ) → i < sites g → flow g w i ≡ flow g u i + flow g (λ j. w j - u j) i
 flow_rest g u w below i l =
     sym (flow_same g (λ j. u j + (w j - u j)) w (λ j m. let le = below j m in omega arith) i l) ∙ flow-add g u (λ j. w j - u j) i
 
--- if u is at most every w that stabilises the start, u plus the odometer of the pile after u is the odometer of the
--- start
+-- u and the odometer of the pile after u add up to the odometer of the start, if u is at most every w that stabilises
+-- it
 pub settles_after : (g : Grid) (s u h v t : ℕ → ℕ) → IsUnderway g s u h → IsSettled g h v t → IsSettled g s (λ i. u i + v i) t
 settles_after g s u h v t first second = record {
   toppled = record {
@@ -215,7 +214,6 @@ weight_down g i l =
     rw test (omega arith))
     (cases_lt (i / g.width + 1) g.height)
 
--- the sites to both sides are in the same row
 weight_in_row : (g : Grid) (near wraps : Bool) (i a b : ℕ) → (near ≡ true → row g a ≡ row g i) → (near ≡ false → row g b ≡ row g i) → value_at (grain_weight g) (cond near (Some a) (cond wraps (Some b) None)) ≤ grain_weight g i
 unfolding grain_weight
 weight_in_row g true wraps i a b here there = rw (here refl) (omega arith)

@@ -8,7 +8,6 @@ use Rattle.sand_model.specs.Sand.{flow, IsStable, IsToppled, Stabilises, IsSettl
 use Rattle.sand_model.proofs.Flow.{flow_le, flow_same, flow-add, flow-scale, count_is_flow}
 use Rattle.sand_model.proofs.Sandpile.{flow_ones}
 
--- a site where p is greatest
 pub greatest : (n : ℕ) (p : ℕ → ℕ) → 0 < n → (k : ℕ) × (k < n) × ((i : ℕ) → i < n → p i ≤ p k)
 greatest zero p l = absurd (omega arith)
 greatest (suc zero) p l = (0, omega arith, λ i m. let e : i ≡ 0 = omega arith in let same = ap p e in omega arith)
@@ -60,7 +59,6 @@ excess g s u w t done stable i l =
     let same = flow_same g (λ j. u j + (w j - u j)) (λ j. w j + (u j - w j)) (λ j m. omega arith) i l in
     omega arith
 
--- u is at most every w that stabilises s
 never_above : (g : Grid) (s u w t : ℕ → ℕ) → IsToppled g s u t → IsTight g t u → Stabilises g s w → (i : ℕ) → i < sites g → u i ≤ w i
 never_above g s u w t done tight stable i l =
     let top = greatest (sites g) (λ j. u j - w j) (omega arith) in

@@ -19,7 +19,6 @@ underway_start g s u none = record {
   bounded = λ w stable i l. let e = none i l in omega arith;
 }
 
--- k more legal topplings of site i
 pub underway_step : (g : Grid) (s u t v r : ℕ → ℕ) (i k : ℕ) → i < sites g → 4 * k ≤ t i → IsUnderway g s u t → ((j : ℕ) → j < sites g → v j ≡ u j + k * one_at i j) → IsToppled g t (λ j. k * one_at i j) r → IsUnderway g s v r
 underway_step g s u t v r i k site high before counts after = record {
   toppled = record {

@@ -47,12 +47,11 @@ column g i = i % g.width
 abbrev pub row : Grid → ℕ → ℕ
 row g i = i / g.width
 
--- the site in column x and row y
 abbrev pub site_at : Grid → ℕ → ℕ → Option ℕ
 site_at g x y = if nat_lt x g.width && nat_lt y g.height then Some (y * g.width + x) else None
 
--- the places around a site, if they are in the grid; no subtraction goes below 0, because there is a row to the north,
--- a site to the west, or the rest of the row between its two ends
+-- the places around a site, if they are in the grid; no subtraction goes below 0: there is a row to the north, a site
+-- to the west, or the rest of the row
 unfoldable pub north : Grid → ℕ → Option ℕ
 north g i = if nat_lt 0 (row g i) then Some (i - g.width) else None
 
@@ -65,11 +64,10 @@ east g i = if nat_lt (column g i + 1) g.width then Some (i + 1) else (if joins g
 unfoldable pub south : Grid → ℕ → Option ℕ
 south g i = if nat_lt (row g i + 1) g.height then Some (i + g.width) else None
 
--- the four places around a site, in the order north, west, east, south
 abbrev pub places : Grid → ℕ → List (Option ℕ)
 places g i = north g i ∷ west g i ∷ east g i ∷ south g i ∷ []
 
--- whether a site is in none of the first row, the last row, the first column and the last column
+-- whether a site is in neither the first nor the last row or column
 abbrev pub is_inner : Grid → ℕ → Bool
 is_inner g i = nat_lt 0 (row g i) && nat_lt (row g i + 1) g.height && nat_lt 0 (column g i) && nat_lt (column g i + 1) g.width
 
@@ -81,7 +79,7 @@ neighbours g i = filter_map (λ p. p) (places g i)
 unfoldable pub missing : Grid → ℕ → ℕ
 missing g i = 4 - length (neighbours g i)
 
--- the number of columns between two sites, the shorter way around on a cylinder; across is below the width
+-- the number of columns between two sites, the shorter way around on a cylinder
 abbrev pub columns_apart : Grid → ℕ → ℕ → ℕ
 columns_apart g i j = let across = abs_diff (column g i) (column g j) in if joins g.edge then min across (g.width - across) else across
 

@@ -3,12 +3,10 @@
 use Rattle.std.specs.Prelude.{ℕ, zero, suc, ℤ, pos, ◌≡◌, ◌+ℤ◌, ◌-ℤ◌, ◌*ℤ◌, ◌<◌, List, [], ◌∷◌}
 use Rattle.sand_model.specs.Grid.{Grid, sites, neighbours}
 
--- the sum of z over a list of sites
 abbrev pub whole_sum_by : (ℕ → ℤ) → List ℕ → ℤ
 whole_sum_by z [] = pos 0
 whole_sum_by z (j ∷ js) = z j +ℤ whole_sum_by z js
 
--- the sum of z over the numbers below n
 unfoldable pub whole_sum_below : ℕ → (ℕ → ℤ) → ℤ
 whole_sum_below zero z = pos 0
 whole_sum_below (suc n) z = whole_sum_below n z +ℤ z n

@@ -2,7 +2,6 @@
 use Rattle.std.specs.Prelude.{ℕ, Bool, ◌≡◌, List, nat_lt, ◌&&◌, if◌then◌else◌}
 use Rattle.sand_model.specs.Sand.{tally}
 
--- 1 if a test passes, and otherwise 0
 abbrev pub one_if : Bool → ℕ
 one_if passes = if passes then 1 else 0
 

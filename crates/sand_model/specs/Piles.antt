@@ -10,7 +10,6 @@ pub record PileView : Type 0 where
   pub grid : Grid
   pub heights : List ℕ
 
--- the height of each site
 abbrev pub height_of : PileView → ℕ → ℕ
 height_of p = slice_index p.heights
 

@@ -38,12 +38,12 @@ pub record IsToppled (g : Grid) (s u t : ℕ → ℕ) : Type 0 where
 pub record Stabilises (g : Grid) (s u : ℕ → ℕ) : Type 0 where
   pub at_most_three : (i : ℕ) → i < sites g → s i + flow g u i ≤ 4 * u i + 3
 
--- toppling each site u times so far turned s into t, and u is at most every w that stabilises s
+-- the topplings u turned s into t, and u is at most every w that stabilises s
 pub record IsUnderway (g : Grid) (s u t : ℕ → ℕ) : Type 0 where
   pub toppled : IsToppled g s u t
   pub bounded : (w : ℕ → ℕ) → Stabilises g s w → (i : ℕ) → i < sites g → u i ≤ w i
 
--- u is the least odometer that stabilises s
+-- u is the least that stabilises s
 pub record IsLeast (g : Grid) (s u : ℕ → ℕ) : Type 0 where
   pub stabilises : Stabilises g s u
   pub least : (w : ℕ → ℕ) → Stabilises g s w → (i : ℕ) → i < sites g → u i ≤ w i

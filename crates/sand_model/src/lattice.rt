@@ -1,7 +1,7 @@
 //! A grid that finds neighbours and distances without a division.
 //!
-//! A `Shape` divides to find the neighbours of a site, and needs no memory. If they are needed at every toppling, a
-//! table of two bytes a site saves the division.
+//! A `Shape` divides to find the neighbours of a site, and needs no memory. A table of two bytes per site saves the
+//! division at every toppling.
 
 ghost use Rattle.std.specs.Prelude.{◌≡◌, ◌<◌, Some, IfOk, IsTrue, map};
 ghost use Rattle.sand_model.specs.Grid.{IsGrid, sites, places, is_inner, missing, distance};
@@ -35,7 +35,6 @@ impl Model for Lattice {
         × AreSiteColumns l.shape l.columns.items × AreSiteRows l.shape l.rows.items };
 }
 
-// The columns and the rows of all sites, by site.
 fn tables_of(alloc: Global, shape: Shape) -> Result<(Vec<u8>, Vec<u8>), AllocError>
     ensures columns { IfOk result (λ t. AreSiteColumns shape t.0.items) }
     ensures rows { IfOk result (λ t. AreSiteRows shape t.1.items) }
@@ -72,7 +71,6 @@ impl Lattice {
         })
     }
 
-    /// The shape of the grid.
     pub fn shape(&self) -> Shape
         ensures value { result ≡ self.now }
         ensures sides { IsGrid self.now }
@@ -90,8 +88,8 @@ impl Lattice {
         self.shape.places(site, usize::from(self.columns[site]))
     }
 
-    /// Whether a site is in none of the first row, the last row, the first column and the last column, on a cylinder
-    /// too. `inner_neighbours` finds the neighbours of such a site without a test.
+    /// Whether a site is in neither the first nor the last row or column, on a cylinder too. `inner_neighbours` finds
+    /// the neighbours of such a site without a test.
     #[inline(always)]
     pub fn is_inner(&self, site: usize) -> bool
         requires { site < sites self.now }

@@ -1,9 +1,9 @@
 //! The laws of toppling, as contracts of functions that do nothing.
 //!
 //! **Least action.** Let `w` stabilise the pile. However legal topplings are ordered, no site topples more often than
-//! in `w`. When a site has toppled as often as in `w`, and its neighbours at most as often, its height is at most what
-//! `w` leaves there. That is at most 3, so the site may not topple again. So legal topplings that end at a stable pile
-//! are the least odometer, and all orders end at the same pile.
+//! in `w`: once it has toppled as often, and its neighbours at most as often, its height is at most what `w` leaves
+//! there, so at most 3. So legal topplings that end at a stable pile are the least odometer, and all orders end at the
+//! same pile.
 //!
 //! **Settling in parts.** Let `u` be at most every `w` that stabilises `s`, and let `v` be the odometer of `s - Lu`.
 //! Then `w - u` stabilises `s - Lu`, so `v` is at most `w - u`. So `u + v` is the odometer of `s`.
@@ -11,7 +11,7 @@
 //! **The weight.** A grain in row `y` weighs `(y + 1) * (height - y)`, which is concave in `y` and 0 just outside the
 //! grid, so each toppling lowers the weight by at least 2. So topplings number at most half the weight, and settling
 //! ends: topple any site that may topple, while there is one. The pile is then stable, and by least action the
-//! topplings are the least that stabilise the start. So each pile has a settled pile.
+//! topplings are the least. So each pile has a settled pile.
 //!
 //! **Nothing to take back.** Let toppling each site `u` times turn `s` into `t`, with no height of `t` above 3, and let
 //! no set of sites that have all toppled be forbidden in `t`. Then `u` is the least that stabilises `s`. For suppose

@@ -38,8 +38,8 @@ impl Model for Pile {
 impl Pile {
     ghost use Rattle.std.specs.Prelude.{IsOkUnless, alloc_error};
 
-    /// Makes a pile with these heights, by site. Returns Length if there is not one height for each site, TooManyGrains
-    /// if the sum of the heights is over the limit, and Memory if an allocation fails.
+    /// Makes a pile with these heights, by site. Returns Length unless there is one height for each site, TooManyGrains
+    /// if their sum is over the limit, and Memory if an allocation fails.
     pub fn new(alloc: Global, shape: Shape, heights: &[u64]) -> Result<Pile, PileFault>
         ensures made { IfOk result (λ p. p ≡ record { grid = shape; heights = heights.now }) }
         ensures length { (result ≡ Err PileFault.Length) ↔ (length heights.now ≢ sites shape) }
@@ -168,14 +168,12 @@ impl Pile {
     }
 }
 
-// Whether each height is at most 3.
 fn are_low(heights: &[u64]) -> bool
     ensures { IsTrue result ↔ All (λ h. h ≤ 3) heights.now }
 {
     heights.iter().all(|height| *height < TOPPLING_HEIGHT)
 }
 
-// Adds a grain at a place, if it is in the grid.
 fn give(heights: &mut [u64], place: Option<usize>)
     requires inside { IfSome place (λ j. j < length heights.old) }
     requires room { sum heights.old + 1 ≤ most_grains }

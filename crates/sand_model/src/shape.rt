@@ -9,7 +9,7 @@ ghost use Rattle.sand_model.specs.declared.shape.Edge.TheVariants.{Open};
 use crate::faults::ShapeFault;
 use std::marker::Model;
 
-/// The greatest width and the greatest height of a shape.
+/// The greatest width and height.
 pub const SIDE_LIMIT: usize = 256;
 
 /// The least width of a cylinder.
@@ -44,7 +44,6 @@ impl Model for Shape {
     ghost inverse = { λ g. record { width = g.width; height = g.height; edge = g.edge } };
 }
 
-// How many of these places are outside the grid.
 #[inline(always)]
 pub(crate) fn outside(places: &[Option<usize>; 4]) -> u8
     ensures { result ≡ count_by is_none places.now }

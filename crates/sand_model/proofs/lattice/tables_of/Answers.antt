@@ -21,7 +21,6 @@ next_place c =
           (omega (arith, next.0, w.column-is, inv.column_is), omega (arith, next.1, w.row-is, inv.row_is)))
     ]
 
--- a list of the values of f below n, and one more
 one_more : (f : ℕ → ℕ) (xs ys : List ℕ) (n x : ℕ) → ys ≡ xs ++ x ∷ [] → length xs ≡ n → x ≡ f n → ((i : ℕ) → i < n → get_or xs i 0 ≡ f i) → (i : ℕ) → i < n + 1 → get_or ys i 0 ≡ f i
 one_more f xs ys n x pushed long is each i below =
     ap (λ (zs : List ℕ). get_or zs i 0) pushed
