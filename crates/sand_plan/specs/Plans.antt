@@ -20,7 +20,6 @@ most_sweeps = 1000
 abbrev pub most_observers : ℕ
 most_observers = 16
 
--- each field is within its limits
 pub record IsPlan (w : Wish) : Type 0 where
   pub some_droppers : 1 ≤ w.droppers
   pub droppers : w.droppers ≤ most_droppers

@@ -34,8 +34,8 @@ pub struct Wish {
     pub epochs: u32,
     /// The number of threads that sweep the rows: from 1 to `MOST_WORKERS`.
     pub workers: u32,
-    /// How often each of them sweeps its rows during the drops: at most `MOST_SWEEPS`. At most `sweeps` rounds of one
-    /// sweep each follow.
+    /// How often each of them sweeps its rows during the drops: at most `MOST_SWEEPS`. Afterwards each sweeps once a
+    /// round, for at most `sweeps` rounds.
     pub sweeps: u32,
     /// The number of threads that read the tally during the drops: at most `MOST_OBSERVERS`.
     pub observers: u32,
