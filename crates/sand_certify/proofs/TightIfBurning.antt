@@ -14,7 +14,6 @@ record IsEarliest (n : ℕ) (set : ℕ → Bool) (turn : ℕ → ℕ) (i : ℕ) 
   member : set i ≡ true
   first : (j : ℕ) → j < n → set j ≡ true → turn i ≤ turn j
 
--- from n to n + 1: the earliest site, or the new one if it is earlier
 earliest_or_new : (n : ℕ) (set : ℕ → Bool) (turn : ℕ → ℕ) (i : ℕ) → IsEarliest n set turn i → (k : ℕ) × IsEarliest (suc n) set turn k
 earliest_or_new n set turn i best =
     ⊎_elim
@@ -56,7 +55,6 @@ earliest_or_new n set turn i best =
     ))
     (cases_Bool (set n))
 
--- below n the set has no site, or one with the earliest turn
 earliest_below : (n : ℕ) (set : ℕ → Bool) (turn : ℕ → ℕ) → ((j : ℕ) → j < n → set j ≡ false) ⊎ ((i : ℕ) × IsEarliest n set turn i)
 earliest_below zero set turn = inl (λ j m. absurd (omega arith))
 earliest_below (suc n) set turn =

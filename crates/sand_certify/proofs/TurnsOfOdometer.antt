@@ -57,7 +57,7 @@ tight_if_settled g s u t done = record {
 
 -- ---- rounds
 
--- the sites that have toppled and are not burnt after n rounds: in a round, a site burns if its height is at least the
+-- the sites that have toppled and are not burnt after n rounds; in a round, a site burns if its height is at least the
 -- number of its unburnt neighbours
 unburnt : Grid → (ℕ → ℕ) → (ℕ → ℕ) → ℕ → ℕ → Bool
 unburnt g t u zero j = ltb 0 (u j)
@@ -99,7 +99,6 @@ has_toppled : (g : Grid) (t u : ℕ → ℕ) (n j : ℕ) → unburnt g t u n j �
 has_toppled g t u zero j e = ltb-true 0 (u j) (sym (toppled_first g t u j) ∙ e)
 has_toppled g t u (suc n) j e = has_toppled g t u n j (before g t u n j e)
 
--- a site that is unburnt after n rounds was unburnt in each
 in_each : (g : Grid) (t u : ℕ → ℕ) (n j : ℕ) → unburnt g t u n j ≡ true → rounds g t u n j ≡ n
 in_each g t u zero j e = no_round g t u j
 in_each g t u (suc n) j e =
@@ -109,7 +108,6 @@ in_each g t u (suc n) j e =
     let more = round_more g t u n j in
     omega arith
 
--- a burnt site stays burnt, and later rounds do not count it
 stays : (g : Grid) (t u : ℕ → ℕ) (k n j : ℕ) → k ≤ n → unburnt g t u k j ≡ false → (unburnt g t u n j ≡ false) × (rounds g t u n j ≡ rounds g t u k j)
 stays g t u k zero j le burnt =
     let e : k ≡ zero = omega arith in
@@ -127,7 +125,6 @@ stays g t u k (suc n) j le burnt =
     (sym (ap (λ m. unburnt g t u m j) e) ∙ burnt, sym (ap (λ m. rounds g t u m j) e)))
     (cases_lt k (suc n))
 
--- a site that more than k of n rounds count is unburnt after k rounds
 counted : (g : Grid) (t u : ℕ → ℕ) (k n j : ℕ) → k ≤ n → k < rounds g t u n j → unburnt g t u k j ≡ true
 counted g t u k n j le many =
     ⊎_elim (λ (yes : unburnt g t u k j ≡ true). yes)

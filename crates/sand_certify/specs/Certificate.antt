@@ -19,7 +19,6 @@ pub record IsShownAt (g : Grid) (s u turn : ℕ → ℕ) (i : ℕ) : Type 0 wher
   pub at_most_three : s i + flow g u i ≤ 4 * u i + 3
   pub burns : 0 < u i → 4 * u i + no_earlier g turn i ≤ s i + flow g u i
 
--- the counts and the turns are right at each site
 pub record IsShownEverywhere (g : Grid) (s u turn : ℕ → ℕ) : Type 0 where
   pub each : (i : ℕ) → i < sites g → IsShownAt g s u turn i
 

@@ -1,9 +1,9 @@
 //! The certifier: whether claimed counts and turns show how often each site of a pile topples.
 //!
-//! For each site it computes the height t = s - Lu that the counts u leave. 64-bit numbers do not overflow, because
-//! each count is below `COUNT_LIMIT`. It checks three things: t is not negative; t is at most 3; and if the site has
-//! toppled, t is at least the number of its neighbours whose turn is not earlier. If all sites pass, the counts are the
-//! least odometer (`laws`). It takes one pass over the grid.
+//! For each site it computes the height t = s - Lu after the counts u; 64-bit numbers suffice, as each count is below
+//! `COUNT_LIMIT`. It checks three things: t is not negative; t is at most 3; and if the site has toppled, t is at least
+//! the number of its neighbours whose turn is not earlier. If all sites pass, the counts are the least odometer
+//! (`laws`). It takes one pass over the grid.
 
 ghost use Rattle.std.specs.Prelude.{◌≡◌, ℕ, ◌+◌, ◌*◌, ◌^◌, ◌<◌, ◌≤◌, ◌↔◌, length, slice_index, nat_le, if◌then◌else◌, IfOk, IfSome, IsTrue, IsSome, MatchOption, All};
 ghost use Rattle.sand_model.specs.Grid.{sites};
@@ -28,7 +28,6 @@ fn value(values: &[u64], place: Option<usize>) -> u64
     }
 }
 
-// The sum of the counts of a site's neighbours.
 #[inline(always)]
 pub(crate) fn inflow(lattice: &Lattice, counts: &[u64], site: usize) -> u64
     requires one_each { length counts.now ≡ sites lattice.now }
@@ -46,7 +45,6 @@ pub(crate) fn inflow(lattice: &Lattice, counts: &[u64], site: usize) -> u64
     up + left + right + down
 }
 
-// 1 if the turn at a place is not earlier than this one, and otherwise 0. In the sink it is 0.
 #[inline(always)]
 fn is_no_earlier(turns: &[u32], turn: u32, place: Option<usize>) -> u64
     requires { IfSome place (λ j. j < length turns.now) }
@@ -58,7 +56,6 @@ fn is_no_earlier(turns: &[u32], turn: u32, place: Option<usize>) -> u64
     }
 }
 
-// The number of neighbours of a site whose turn is not earlier than its own.
 #[inline(always)]
 fn unburnt(lattice: &Lattice, turns: &[u32], site: usize) -> u64
     requires one_each { length turns.now ≡ sites lattice.now }
@@ -111,7 +108,6 @@ pub(crate) fn are_few(counts: &[u64]) -> bool
     counts.iter().all(|count| *count < COUNT_LIMIT)
 }
 
-// The heights that the counts leave at all sites, if every site passes the checks.
 fn heights_left(
     alloc: Global,
     lattice: &Lattice,

@@ -30,7 +30,6 @@ fn height_emptied(lattice: &Lattice, counts: &[u64], site: usize) -> Option<u64>
     Some(taken - given)
 }
 
-// The heights that the counts take to 0 at all sites, if each is from 0 to 3.
 fn heights_emptied(
     alloc: Global,
     lattice: &Lattice,

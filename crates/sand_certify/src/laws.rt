@@ -4,9 +4,9 @@
 //! the result (`sand_model::laws::least_if_tight`).
 //!
 //! **Turns.** Let each site that has toppled have a turn, and let its height be at least the number of its neighbours
-//! whose turn is not earlier. Then no set of sites that have all toppled is forbidden. In such a set take a site with
-//! the earliest turn. The turns of its neighbours in the set are not earlier, so its height is at least their number.
-//! (Dhar 1990: no site of a forbidden set ever burns.)
+//! whose turn is not earlier. Then no set of sites that have all toppled is forbidden: take a site of the set with the
+//! earliest turn. The turns of its neighbours in the set are not earlier, so its height is at least their number. (Dhar
+//! 1990: no site of a forbidden set ever burns.)
 //!
 //! **Each odometer has turns.** No topplings of an odometer can be taken back, so no set of sites that have toppled is
 //! forbidden in the settled pile. Burn these sites round by round: while some are left, at least one of them burns. The
