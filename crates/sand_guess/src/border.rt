@@ -21,7 +21,6 @@ const NOWHERE: u32 = 0xffff_ffff;
 #[derive(Drop)]
 pub(crate) struct Border {
     pub(crate) frame: Frame,
-    /// The number of cells in a row.
     pub(crate) stride: usize,
     /// By cell, the cell of the site that it stands for. That is the cell itself or, in the border of a row that wraps
     /// around, the cell at the row's other end. `NOWHERE` in the rest of the border.
@@ -43,7 +42,7 @@ fn column_of(frame: Frame, x: usize) -> Option<usize> {
     }
 }
 
-// Adds the homes of a row of cells. The rows above and below the grid have none.
+// The rows above and below the grid have no homes.
 fn push_row(home: &mut Vec<u32>, frame: Frame, has_sites: bool) -> Result<(), AllocError> {
     let from = home.len();
     for x in 0..frame.width + 2 {
@@ -77,7 +76,6 @@ impl Border {
         (y + 1) * self.stride + 1
     }
 
-    /// The cell of the site that a cell stands for, usually itself.
     #[inline(always)]
     pub(crate) fn home_of(&self, at: usize) -> usize {
         if at < self.home.len() {
@@ -87,7 +85,7 @@ impl Border {
         }
     }
 
-    /// The cells north, west, east and south of a cell of the grid.
+    /// The cells north, west, east and south of a cell.
     #[inline(always)]
     pub(crate) fn around(&self, at: usize) -> [usize; 4] {
         [

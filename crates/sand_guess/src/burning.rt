@@ -53,7 +53,6 @@ fn count_around(border: &Border, marks: &[u8], first: usize, sums: &mut [u8]) {
     }
 }
 
-// Marks the sites of a row that have toppled, and returns their number.
 fn mark_row(marks: &mut [u8], counts: &[i64], least: i64) -> u32 {
     let mut found = 0u32;
     for x in 0..marks.len().min(counts.len()) {
@@ -92,7 +91,7 @@ fn lower_row(counts: &mut [i64], marks: &[u8]) {
     }
 }
 
-// Appends a cell to the order if it burns, and returns the new number of burnt cells.
+// Appends a cell if it burns, and returns the new number of burnt cells.
 #[inline(always)]
 fn list_if(order: &mut [u32], burnt: usize, at: usize, burns: bool) -> usize {
     if burnt >= order.len() {

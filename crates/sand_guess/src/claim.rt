@@ -16,7 +16,7 @@ const EXCESS: f64 = 0.03;
 // About the number of sweeps that take as long as a guess.
 const SWEEPS_OF_A_GUESS: usize = 7_000;
 
-// More halvings than a side takes.
+// More halvings than any side takes.
 const MOST_HALVINGS: usize = 6;
 
 /// A claim: by site, how often it topples and the turn at which it burns.
@@ -26,7 +26,6 @@ pub struct Claim {
     pub turns: Vec<u32>,
 }
 
-// The pile itself, at full size.
 fn first_level(alloc: Global, pile: &Pile) -> Result<Level, AllocError> {
     let mut start = Vec::with_capacity(alloc, pile.heights().len())?;
     for height in pile.heights() {
@@ -85,7 +84,7 @@ fn repaired(
     Ok(Some((repair, known)))
 }
 
-// The repaired counts of the first level, found from the last level up.
+// The repaired counts of the first level, from the last level up.
 fn repaired_first(alloc: Global, levels: Vec<Level>) -> Result<Option<Repair>, AllocError> {
     let mut levels = levels;
     let mut half = None;
@@ -104,7 +103,6 @@ fn repaired_first(alloc: Global, levels: Vec<Level>) -> Result<Option<Repair>, A
     Ok(None)
 }
 
-// The absolute values of the counts.
 fn sizes_of(alloc: Global, repair: &Repair) -> Result<Vec<u64>, AllocError> {
     let mut sizes = Vec::with_capacity(alloc, repair.counts.len())?;
     for count in &repair.counts {
@@ -131,8 +129,8 @@ pub fn toppled(alloc: Global, pile: &Pile) -> Result<Option<Claim>, AllocError> 
     Ok(Some(claim_of(alloc, &repair)?))
 }
 
-/// A guess of how often each site of a pile topples, with the turns at which sites burn, or None. It is not proved
-/// right: `sand_certify::certified` decides. Fails only if an allocation fails.
+/// A guess of how often each site of a pile topples, with the turns at which sites burn, or None.
+/// `sand_certify::certified` decides whether it is right. Fails only if an allocation fails.
 pub fn guessed(alloc: Global, pile: &Pile) -> Result<Option<Claim>, AllocError> {
     let levels = levels_from(alloc, first_level(alloc, pile)?)?;
     let Some(repair) = repaired_first(alloc, levels)? else {
@@ -142,8 +140,8 @@ pub fn guessed(alloc: Global, pile: &Pile) -> Result<Option<Claim>, AllocError> 
 }
 
 /// A guess of w for which Lw is the identity of the group of recurrent piles, or None. It is found as an odometer is,
-/// from the empty pile, except that counts may go below 0 and each site counts as toppled. It is not proved right: the
-/// caller computes Lw and burns it. Fails only if an allocation fails.
+/// from the empty pile, except that counts may go below 0 and each site counts as toppled. The caller computes Lw and
+/// burns it. Fails only if an allocation fails.
 pub fn guessed_identity(alloc: Global, shape: Shape) -> Result<Option<Vec<u64>>, AllocError> {
     let levels = levels_from(alloc, empty_level(alloc, shape)?)?;
     let Some(repair) = repaired_first(alloc, levels)? else {

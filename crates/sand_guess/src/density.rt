@@ -26,7 +26,6 @@ struct Line {
 }
 
 impl Line {
-    // The index of a cell in the list.
     fn place(self, cell: usize) -> usize {
         self.from.wrapping_add(cell.wrapping_mul(self.step))
     }
@@ -83,7 +82,6 @@ fn blur_line(all: &mut [f64], line: Line, copy: &[f64]) {
     }
 }
 
-// The means along each row, in place.
 fn blur_rows(frame: Frame, all: &mut [f64], copy: &mut Vec<f64>) -> Result<(), AllocError> {
     for y in 0..frame.height {
         let row = Line {
@@ -98,7 +96,6 @@ fn blur_rows(frame: Frame, all: &mut [f64], copy: &mut Vec<f64>) -> Result<(), A
     Ok(())
 }
 
-// The means along each column, in place.
 fn blur_columns(frame: Frame, all: &mut [f64], copy: &mut Vec<f64>) -> Result<(), AllocError> {
     for x in 0..frame.width {
         let column = Line {
@@ -134,7 +131,6 @@ pub(crate) fn density_of(
     Ok(all)
 }
 
-/// The density expected of a pile, and the density found.
 #[derive(Drop)]
 pub(crate) struct Known {
     pub(crate) frame: Frame,

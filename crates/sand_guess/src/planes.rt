@@ -19,16 +19,16 @@ use std::alloc::{AllocError, Global};
 use std::mem;
 use std::simd::prelude::*;
 
-// The number of rows in a word.
+// Rows per word.
 const ROWS: usize = 64;
 
-// The number of words toppled at a time. With four, the numbers of a step do not fit into the registers.
+// Words toppled at a time. With four, the numbers of a step do not fit into the registers.
 const LANES: usize = 2;
 
-// The number of columns in a strip.
+// Columns per strip.
 const STRIP: usize = 32;
 
-// The numbers of planes for the heights, and for the counts of the last sweeps.
+// Planes for the heights, and for the counts of the last sweeps.
 const HEIGHT_PLANES: usize = 4;
 
 const COUNT_PLANES: usize = 4;
@@ -36,15 +36,15 @@ const COUNT_PLANES: usize = 4;
 // The words of a strip: its planes, one after another.
 const BLOCK: usize = (HEIGHT_PLANES + COUNT_PLANES) * STRIP;
 
-// This number of sweeps fills the planes of the counts, which are then added to those of the sums.
+// The sweeps that fill the planes of the counts, which are then added to the sums.
 const SWEEPS_A_COUNT: usize = 15;
 
-// The number of planes for the sums.
+// Planes for the sums.
 const SUM_PLANES: usize = 12;
 
 const SUM_BLOCK: usize = SUM_PLANES * STRIP;
 
-// This number of sweeps fills the planes of the sums, which are then added to the counts by site.
+// The sweeps that fill the planes of the sums, which are then added to the counts by site.
 const SWEEPS_A_SUM: usize = 4095;
 
 // The offset of a height in the planes.
@@ -98,7 +98,7 @@ fn count_up(block: &mut [u64], x: usize, toppled: u64x2)
 }
 
 // Topples a strip, once it has the grains that toppled around it, and returns whether any site toppled. `here` begins
-// one word before the strip. The words north of the first class and south of the last are shifted by one bit.
+// one word before the strip. North of the first class and south of the last, words are shifted by one bit.
 #[inline(always)]
 fn topple_strip(
     block: &mut [u64],
@@ -158,7 +158,6 @@ pub(crate) fn has_room(height: i64) -> bool {
     height.wrapping_add(LEVEL).cast_unsigned() <= MOST
 }
 
-// Sets the bits of a row in the planes of the heights.
 #[inline(always)]
 fn put_row(block: &mut [u64], heights: &[i64], bit: u32) {
     if block.len() < BLOCK {
@@ -173,7 +172,6 @@ fn put_row(block: &mut [u64], heights: &[i64], bit: u32) {
     }
 }
 
-// Adds the counts of a column to the sums.
 #[inline(always)]
 fn add_column(block: &mut [u64], sums: &mut [u64], x: usize)
     requires { x < 32 }
@@ -202,7 +200,6 @@ fn add_counts(block: &mut [u64], sums: &mut [u64]) {
     run_mut(block, HEIGHT_PLANES * STRIP, COUNT_PLANES * STRIP).fill(0);
 }
 
-// The number of a site in the planes of the sums.
 #[inline(always)]
 fn sum_at(sums: &[u64], x: usize, bit: u32) -> u64
     requires { x < 32 }
@@ -217,7 +214,6 @@ fn sum_at(sums: &[u64], x: usize, bit: u32) -> u64
     sum
 }
 
-// Adds the sums of a row to its counts.
 #[inline(always)]
 fn count_row(counts: &mut [i64], sums: &[u64], bit: u32) {
     for x in 0..counts.len().min(STRIP) {
@@ -253,7 +249,6 @@ impl Planes {
         })
     }
 
-    // The index of a strip of a class among the blocks.
     #[inline(always)]
     fn place(&self, class: usize, strip: usize) -> usize {
         class.wrapping_mul(self.strips).wrapping_add(strip)
@@ -300,7 +295,6 @@ impl Planes {
         }
     }
 
-    // Adds what toppled in a row to its counts.
     fn count_row(&self, counts: &mut [i64], y: usize)
         requires { y < 256 }
     {
@@ -333,7 +327,6 @@ impl Planes {
         (north, south)
     }
 
-    // Topples a strip of a class, and returns whether any site toppled.
     #[inline(always)]
     fn topple_strip(&mut self, class: usize, strip: usize) -> bool
         requires class { class < 4 }
@@ -373,8 +366,8 @@ impl Planes {
         }
     }
 
-    // Stores what toppled in a class in place of what toppled there before. The columns beyond the ends are empty, or
-    // those of the other end if rows wrap around.
+    // Stores what toppled in a class for its neighbours. The columns beyond the ends are empty, or those of the other
+    // end if rows wrap around.
     fn keep(&mut self, class: usize) {
         let end = LANES + self.frame.width;
         let row = &mut self.spare;
@@ -388,7 +381,6 @@ impl Planes {
         }
     }
 
-    // Topples the sites of a class, and returns whether any toppled.
     fn sweep_class(&mut self, class: usize) -> bool
         requires { class < 4 }
     {
@@ -400,7 +392,7 @@ impl Planes {
         is_any
     }
 
-    // Topples the sites of all classes once, and returns whether any toppled.
+    // Topples each site at most once, and returns whether any toppled.
     fn sweep(&mut self) -> bool {
         let mut is_any = false;
         for class in 0..self.classes {

@@ -9,7 +9,7 @@ use crate::frame::{run, run_mut};
 use std::alloc::{AllocError, Global};
 use std::simd::prelude::*;
 
-/// The number of columns in a block, and of rows multiplied at a time.
+/// Columns per block, and rows multiplied at a time.
 pub(crate) const BLOCK: usize = 4;
 
 // Four rows times a block.

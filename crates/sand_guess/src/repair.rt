@@ -87,15 +87,16 @@ impl Repair {
         false
     }
 
-    // Topples until no site may topple, and returns whether `sweeps` sweeps were enough. The planes have room for the
-    // heights.
+    // Topples until no site may topple, and returns whether `sweeps` sweeps were enough. The planes must have room for
+    // the heights.
     fn topple(&mut self, level: &Level, sweeps: usize) -> bool {
         let is_stable = self.planes.topple(&mut self.counts, sweeps);
         subtract(level.frame, &level.start, &self.counts, &mut self.left);
         is_stable
     }
 
-    // Takes back topplings until no more can be taken back, and returns whether it got there. The heights are stable.
+    // Takes back topplings until no more can be taken back, and returns whether it got there. The heights must be
+    // stable.
     fn take_back(&mut self, level: &Level) -> bool {
         self.fire
             .take_back(&self.left, &mut self.counts, level.least, MOST_TAKEN_BACK)

@@ -42,7 +42,6 @@ fn add_sides(row: &mut [i64], counts: &[i64], goes_round: bool) {
     }
 }
 
-// The heights s - Lu of a row.
 fn subtract_row(frame: Frame, start: &[i64], counts: &[i64], y: usize, row: &mut [i64])
     requires { y < frame.height }
 {
@@ -57,7 +56,7 @@ fn subtract_row(frame: Frame, start: &[i64], counts: &[i64], y: usize, row: &mut
     add_sides(row, here, frame.goes_round);
 }
 
-/// The heights s - Lu of all rows.
+/// s - Lu for all rows.
 pub(crate) fn subtract(frame: Frame, start: &[i64], counts: &[i64], left: &mut [i64]) {
     for y in 0..frame.height {
         let row = run_mut(left, y * frame.width, frame.width);
@@ -65,7 +64,6 @@ pub(crate) fn subtract(frame: Frame, start: &[i64], counts: &[i64], left: &mut [
     }
 }
 
-// Gives grains to a site, if it is on the grid.
 fn give(left: &mut [i64], at: usize, grains: i64) {
     if at < left.len() {
         left[at] = left[at].wrapping_add(grains);

@@ -1,9 +1,8 @@
 //! A direct solver of Lv = r in floating point.
 //!
 //! A row is split into its even and its odd part (`waves`), and each is solved on half of the columns. A product turns
-//! each row into its modes. Each mode has a line of equations along y, in which each unknown meets only the one above
-//! and the one below: these are eliminated from the first row to the last, and then the unknowns are found from the
-//! last to the first. A product turns modes into rows again.
+//! each row into its modes. Each mode has a tridiagonal system of equations along y: unknowns are eliminated from the
+//! first row to the last, and then found from the last to the first. A product turns modes into rows again.
 
 ghost use Rattle.std.specs.Prelude.{◌≤◌, ◌<◌};
 
@@ -118,7 +117,6 @@ fn split_row(row: &[f64], even: &mut [f64], odd: &mut [f64]) {
     }
 }
 
-// A row from its parts.
 fn join_row(row: &mut [f64], even: &[f64], odd: &[f64]) {
     let width = row.len();
     for x in 0..(width / 2).min(even.len()).min(odd.len()) {

@@ -17,7 +17,6 @@ const PI: f64 = 3.141592653589793;
 // This number of terms after the first gives a sine up to half pi to the last bit or nearly so.
 const TERMS: usize = 12;
 
-// The sine of x, for x from 0 to half pi.
 fn sine(x: f64) -> f64 {
     let square = x * x;
     let mut term = x;
