@@ -22,7 +22,6 @@ half a b p = half_of (bit_at a p) (bit_at b p) (bit_at-lt a p) (bit_at-lt b p) �
 most_of : (x y : ℕ) → max x y + min x y ≡ x + y
 most_of x y = omega arith
 
--- the union and the intersection of two sets
 pub either : (a b p : ℕ) → bit (bit_or a b) p + bit (bit_and a b) p ≡ bit a p + bit b p
 unfolding bit
 either a b p = ap (λ x. x + bit_at (bit_and a b) p) (bit_at_or a b p) ∙ ap (λ x. max (bit_at a p) (bit_at b p) + x) (bit_at_and a b p) ∙ most_of (bit_at a p) (bit_at b p)
@@ -30,7 +29,6 @@ either a b p = ap (λ x. x + bit_at (bit_and a b) p) (bit_at_or a b p) ∙ ap (�
 pub both_le : (a b p : ℕ) → (bit (bit_and a b) p ≤ bit a p) × (bit (bit_and a b) p ≤ bit b p) × (bit a p + bit b p ≤ 1 + bit (bit_and a b) p)
 both_le a b p = let h = half a b p in let e = either a b p in let x = bit_le (bit_xor a b) p in let o = bit_le (bit_or a b) p in let y = bit_le (bit_and a b) p in let m = bit_le a p in let n = bit_le b p in (omega arith, omega arith, omega arith)
 
--- the union of two disjoint sets
 pub apart : (a b p : ℕ) → bit a p + bit b p ≤ 1 → bit (bit_or a b) p ≡ bit a p + bit b p
 apart a b p few = let e = either a b p in let h = half a b p in omega arith
 
@@ -75,7 +73,6 @@ added low high a b c d p =
     let s10 = apart (bit_or f1 f2) f3 p few_123 in
     omega arith
 
--- the union of two disjoint words is their sum
 pub apart_words : (a b : ℕ) → a < 2 ^ 64 → ((p : ℕ) → p < 64 → bit a p + bit b p ≤ 1) → bit_or a b ≡ a + b
 unfolding bit
 apart_words a b fits few =
@@ -122,7 +119,6 @@ or_grows a b free some =
     absurd (omega arith))
     (cases_lt 0 (bit_and (bit_or a b) free))
 
--- a place read by a shift and a mask
 pub read_bit : (a p : ℕ) → bit_and (a / 2 ^ p) 1 ≡ bit a p
 unfolding bit
 read_bit a p = shr_and_one a p

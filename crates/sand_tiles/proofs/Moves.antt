@@ -92,7 +92,6 @@ bit_one_first : bit 1 0 ≡ 1
 unfolding bit
 bit_one_first = refl
 
--- the set of one place
 pub bit_one_place : (k p : ℕ) → p < 64 → bit (1 * 2 ^ k % 2 ^ 64) p ≡ one_at k p
 bit_one_place k p low = ⊎_elim
     (λ (less : p < k). bit_shl_low 1 k p low less ∙ sym (one_at_other k p (λ e. omega arith)))

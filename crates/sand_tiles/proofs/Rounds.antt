@@ -21,7 +21,6 @@ pub record IsVisit (t u : Tile) (free due new front : ℕ) : Type 0 where
   pub modulo : (p : ℕ) → p < 64 → height u p ≡ (height t p + around (done new front) p) % 4
   pub least : (w : ℕ → ℕ) → Stills t free due w → (p : ℕ) → p < 64 → bit new p ≤ w p
 
--- before the first round nothing has toppled
 pub visit_begins : (t : Tile) (free due : ℕ) → IsSpent t free due → IsVisit t t free due due due
 visit_begins t free due spent = record {
   inside = λ p low. omega arith;
@@ -91,7 +90,6 @@ least_more t u w free due new front four p r spent v stills low e j =
     omega arith)
     (cases_eq (bit (bit_and four free) p) 0)
 
--- one more round
 pub visit_goes_on : (t u w : Tile) (free due new front four : ℕ) → IsSpent t free due → IsVisit t u free due new front
     → ((p : ℕ) → p < 64 → height u p + around (bit front) p ≡ height w p + 4 * bit four p)
     → IsVisit t w free due (bit_or new (bit_and four free)) (bit_and four free)
@@ -118,7 +116,6 @@ pub visit_grows : (t u w : Tile) (free due new front four : ℕ) → new < 2 ^ 6
 visit_grows t u w free due new front four fits spent v round =
     apart_words new (bit_and four free) fits (λ p low. let a = apart_from t u w free due new front four p spent v low (round p low) in omega arith)
 
--- the last round
 pub visit_ends : (t u w : Tile) (free due new front : ℕ) → front ≡ 0 → IsVisit t u free due new front
     → w.low ≡ u.low → w.high ≡ u.high → w.wave ≡ bit_or t.wave new → Topples t w free due new
 visit_ends t u w free due new front empty v low high set =
@@ -137,7 +134,6 @@ visit_ends t u w free due new front empty v low high set =
       least = v.least;
     }
 
--- the places with which a visit begins
 due_of : (t : Tile) (free start : ℕ) → IsReady t free start → (p : ℕ) → p < 64
     → (bit free p ≡ 1 → bit (bit_or (bit_and t.due free) start) p ≡ bit t.due p) × (bit free p ≡ 0 → bit (bit_or (bit_and t.due free) start) p ≡ bit start p)
 due_of t free start ready p low =

@@ -8,7 +8,6 @@ use Rattle.sand_tiles.specs.Places.{bit}
 abbrev pub times : Planes → ℕ → ℕ
 times c p = bit c.ones p + 2 * bit c.twos p + 4 * bit c.fours p + 8 * bit c.eights p + 16 * bit c.sixteens p
 
--- how often a place has toppled
 abbrev pub counted : Count → ℕ → ℕ
 counted c p = slice_index c.spilled p + times c.planes p
 

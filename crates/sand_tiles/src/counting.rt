@@ -2,9 +2,9 @@
 //!
 //! The size of a set is the number of ones in a word, and a sum of small numbers over a set is a sum of three sizes
 //! (`sum_over`). How often each of 64 places has toppled is kept in five bit planes, one for each power of 2 below 32.
-//! To count one toppling at each place of a set, half adders add a one-bit number at each place. Up to 31 sets no carry
-//! leaves the last plane. Then the planes are spilled: their counts are added to a list of 64 numbers, and they are
-//! cleared.
+//! To count one toppling at each place of a set, half adders add a one-bit number at each place. After 31 sets the
+//! planes are spilled, before a carry can leave the last one: their counts are added to a list of 64 numbers, and they
+//! are cleared.
 
 ghost use Rattle.std.specs.Prelude.{◌≡◌, ℕ, ◌+◌, ◌*◌, ◌^◌, ◌<◌, ◌≤◌};
 ghost use Rattle.sand_model.specs.Sand.{sum_below};
@@ -41,7 +41,7 @@ pub struct Planes {
     pub sixteens: u64,
 }
 
-// The number of sets that the planes count before they are spilled.
+// The sets that the planes count before they are spilled.
 const SPILL: u64 = 31;
 
 const EMPTY: Planes = Planes {
@@ -63,7 +63,6 @@ pub struct Count {
     pub spilled: [u64; 64],
 }
 
-// Adds 1 at each place of a set.
 #[inline(always)]
 fn add_to(planes: &mut Planes, set: u64)
     requires { (p : ℕ) → p < 64 → times planes.old p ≤ 30 }
