@@ -58,7 +58,6 @@ board_of g all one_each small each =
       );
     }
 
--- one more tile
 pub sides_more : (g : Grid) (xs ys : List Beside) (b : Beside) (n : ℕ) → ys ≡ xs ++ b ∷ [] → length xs ≡ n → IsBeside g n b → ((k : ℕ) → k < n → IsBeside g k (beside_at xs k))
     → (k : ℕ) → k < n + 1 → IsBeside g k (beside_at ys k)
 sides_more g xs ys b n pushed long is each k below =
@@ -71,7 +70,6 @@ sides_more g xs ys b n pushed long is each k below =
     (λ (last : n ≤ k). let e : n ≡ k = omega arith in subst P (sym (get_or_push xs b none k (long ∙ e))) (subst Q e is))
     (cases_lt k n))
 
--- the tile and the place found for a site
 pub found_inside : (g : Grid) (j x y a : ℕ) → j < sites g → x ≡ j % g.width → y ≡ j / g.width → a ≡ across g
     → ((y / 8 + 2) * (a + 2) + (x / 8 + 1) < tiles g) × (y % 8 * 8 + x % 8 < 64)
 unfolding tile_of

@@ -28,7 +28,6 @@ count_set_same cs k m d inside e = ap (count_at (set cs k d)) e ∙ get_or-set_s
 count_set_other : (cs : List Count) (k m : ℕ) (d : Count) → (m ≡ k → ⊥) → count_at (set cs k d) m ≡ count_at cs m
 count_set_other cs k m d ne = get_or-set_other cs k m d nothing ne
 
--- one tile is counted
 pub counted_one : (ts : List Tile) (cs : List Count) (k : ℕ) (t : Tile) (d : Count) → k < length ts → length cs ≡ length ts
     → t.low ≡ (tile_at ts k).low → t.high ≡ (tile_at ts k).high → t.due ≡ (tile_at ts k).due → t.wave ≡ 0 → IsCount d
     → ((p : ℕ) → p < 64 → counted d p ≡ counted (count_at cs k) p + bit (tile_at ts k).wave p)
@@ -93,7 +92,6 @@ counted_more τ σ ρ c d e first second = record {
 
 -- ---- numbers
 
--- a sum in which one term becomes 0
 pub sum_less_one : (n k : ℕ) (f h : ℕ → ℕ) → k < n → h k ≡ 0 → ((i : ℕ) → (i ≡ k → ⊥) → h i ≡ f i) → f k + sum_below n h ≡ sum_below n f
 sum_less_one n k f h inside none others =
     let parts = sum_below_same n f (λ i. h i + f k * one_at k i) (λ i l. ⊎_elim
@@ -177,7 +175,6 @@ marked_more c d e x y z first second = record {
   no_other = λ m p low. let a = first.no_other m p low in let b = second.no_other m p low in let f = first.never_falls m p low in let s = second.never_falls m p low in omega arith;
 }
 
--- one tile is marked
 pub marked_one : (cs : List Count) (k word : ℕ) (d : Count) (x y : ℕ → ℕ) → k < length cs
     → ((p : ℕ) → p < 64 → counted d p ≡ counted (count_at cs k) p + bit word p)
     → ((m : ℕ) → y m ≡ cond (eqb m k) (bit_or (x m) word) (x m))

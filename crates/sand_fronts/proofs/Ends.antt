@@ -14,7 +14,6 @@ use Rattle.sand_model.specs.Underway.{Advances}
 use Rattle.sand_fronts.specs.Waves.{toppled, IsWave, Leaves}
 use Rattle.sand_fronts.proofs.OnTiles.{place_below, on_tiles_le, on_nothing}
 
--- before anything topples
 pub wave_begins : (g : Grid) (site : ℕ) (h : ℕ → ℕ) (τ : ℕ → Tile) → site < sites g
     → ((m p : ℕ) → p < 64 → bit (τ m).wave p ≡ 0)
     → ((j : ℕ) → j < sites g → j ≢ site → (h j ≡ height (τ (tile_of g j)) (place_of g j)) × (bit (τ (tile_of g j)).due (place_of g j) ≡ 0))

@@ -69,7 +69,6 @@ gains_from τ τ' σ a same gains = record {
   modulo = λ m p low. let e = ap (λ x. height x p) (same m) in let g = gains.modulo m p low in omega arith;
 }
 
--- a list with one tile written, as a function
 pub written : (ts : List Tile) (k m : ℕ) (t : Tile) → k < length ts → tile_at (set ts k t) m ≡ cond (eqb m k) t (tile_at ts m)
 written ts k m t inside = ⊎_elim
     (λ (e : m ≡ k). tile_set_same ts k m t inside e ∙ sym (ap (λ b. cond b t (tile_at ts m)) (eq-eqb m k e)))

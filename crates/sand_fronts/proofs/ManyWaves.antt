@@ -34,7 +34,6 @@ heights_now g site more τ j = cond more (heights_before g site τ j) (heights_o
 
 -- ---- what the held site has
 
--- the heights after a wave
 left : Grid → ℕ → (ℕ → Tile) → ℕ → ℕ
 left g site τ j = heights_on g τ j + (flow g (toppled g τ) site - heights_on g τ site) * one_at site j
 
@@ -53,7 +52,7 @@ left_held g site h τ wave four = let l = (left_leaves g site h τ wave four).he
 mul_le : (x y z : ℕ) → x ≤ y → x * z ≤ y * z
 mul_le x y z le = mul-le-mul_right z le
 
--- if no other site has toppled, the held one has not got 4 grains back: the pile would be no lighter
+-- if no other site has toppled, the held one did not get 4 grains back, since the pile is lighter
 alone_rests : (g : Grid) (site : ℕ) (h : ℕ → ℕ) (τ : ℕ → Tile) → IsWave g site h τ → site < sites g → toppled g τ site ≡ 1 → h site ≡ 4
     → ((j : ℕ) → j < sites g → j ≢ site → bit (τ (tile_of g j)).due (place_of g j) ≡ 0)
     → topplings g (toppled g τ) ≤ 1 → flow g (toppled g τ) site ≡ 4 → ⊥
@@ -90,7 +89,6 @@ alone_rests g site h τ wave inside started four none_due few back =
     mul_le (h j) (k j) (grain_weight g j) more) in
     omega arith
 
--- another site that has toppled
 other_toppled : (g : Grid) (site : ℕ) (t : ℕ → ℕ) → site < sites g → t site ≡ 1 → 1 < topplings g t → (i : ℕ) × (i < sites g) × (i ≢ site) × (1 ≤ t i)
 other_toppled g site t inside one many = ⊎_elim
     (λ (all : (i : ℕ) → i < sites g → leb (t i) (1 * one_at site i) ≡ true).
@@ -142,7 +140,6 @@ held_has g site h τ more wave inside started four low none_due test =
     (and_cases (ltb 1 (topplings g t)) (eqb (heights_on g τ site) 0) (sym test ∙ no)))
     (cases_Bool more)
 
--- the counts are read by site
 underway_as : (g : Grid) (s u v t : ℕ → ℕ) → ((j : ℕ) → j < sites g → u j ≡ v j) → IsUnderway g s u t → IsUnderway g s v t
 underway_as g s u v t same before = record {
   toppled = record { balance = λ j l. let a = before.toppled.balance j l in let b = same j l in let c = flow_same g u v same j l in omega arith };
@@ -178,7 +175,6 @@ pub record AreWaves (g : Grid) (site : ℕ) (more : Bool) (τ σ : ℕ → Tile)
   pub counts : (m p : ℕ) → p < 64 → counted (d m) p ≡ counted (c m) p + on_tiles g (grown_on g c d) m p
   pub sound : (m : ℕ) → IsCount (d m)
 
--- before the first wave
 pub waves_begin : (g : Grid) (site : ℕ) (τ : ℕ → Tile) (c : ℕ → Count) → AreAtRest g site τ → ((m : ℕ) → IsCount (c m)) → AreWaves g site true τ τ c c
 waves_begin g site τ c rest sound =
     let none : (j : ℕ) → j < sites g → 0 ≡ grown_on g c c j = λ j l. omega arith in
@@ -209,7 +205,6 @@ wave_counts g site τ σ ρ c d e h counts moved clear j =
     let z = clear m p low in
     omega arith
 
--- one more wave
 pub waves_more : (g : Grid) (site : ℕ) (more : Bool) (τ σ ω ρ : ℕ → Tile) (c d e : ℕ → Count) → site < sites g → AreWaves g site true τ σ c d
     → IsWave g site (heights_before g site σ) ω → toppled g ω site ≡ 1
     → ((j : ℕ) → j < sites g → j ≢ site → bit (ω (tile_of g j)).due (place_of g j) ≡ 0)
@@ -272,14 +267,12 @@ waves_more g site more τ σ ω ρ c d e inside waves wave started none_due adva
       (let a = next.weight_pays in omega arith),
     )
 
--- the number of sites in a wave
 pub wave_size : (g : Grid) (site n : ℕ) (h : ℕ → ℕ) (τ : ℕ → Tile) → IsWave g site h τ → ((j : ℕ) → j < sites g → tile_of g j < n) → in_wave n τ ≡ topplings g (toppled g τ)
 wave_size g site n h τ wave here =
     sum_below_same n (λ k. sum_below 64 (bit (τ k).wave)) (λ k. sum_below 64 (λ p. on_tiles g (toppled g τ) k p))
     (λ k l. sum_below_same 64 (bit (τ k).wave) (λ p. on_tiles g (toppled g τ) k p) (λ p m. wave.inside k p m))
     ∙ sum_on_tiles g (toppled g τ) n here
 
--- the number of grains that a wave loses
 on_product : (g : Grid) (u v : ℕ → ℕ) (k p : ℕ) → on_tiles g u k p * on_tiles g v k p ≡ on_tiles g (λ j. u j * v j) k p
 on_product g u v k p = ⊎_elim
     (λ (yes : is_site g k p ≡ true).
@@ -304,7 +297,6 @@ missing_le : (g : Grid) (j : ℕ) → missing g j ≤ 4
 unfolding missing
 missing_le g j = omega arith
 
--- no toppling loses more than its grains
 pub lost_few : (g : Grid) (u : ℕ → ℕ) → lost g u ≤ 4 * topplings g u
 lost_few g u =
     let le = sum_below_le (sites g) (λ j. missing g j * u j) (λ j. 4 * u j) (λ j l. mul_le (missing g j) 4 (u j) (missing_le g j)) in
@@ -342,7 +334,6 @@ few_counted g site more τ σ c d m p sides waves low few =
     let e = waves.counts m p low in
     omega arith
 
--- after the last wave
 pub waves_end : (g : Grid) (site : ℕ) (τ σ : ℕ → Tile) (c d : ℕ → Count) → AreWaves g site false τ σ c d → IsSettled g (heights_before g site τ) (grown_on g c d) (heights_on g σ)
 waves_end g site τ σ c d waves =
     underway_end g (heights_before g site τ) (grown_on g c d) (heights_on g σ)

@@ -82,7 +82,7 @@ marked_word g c d a b m p low marked none counts =
     omega arith)
     (cases_Bool (is_site g m p))
 
--- so the sets have a place for each site that has toppled
+-- so the sets have as many places as sites have toppled
 pub area_is : (g : Grid) (n : ℕ) (v b : ℕ → ℕ) → ((m p : ℕ) → p < 64 → bit (b m) p ≡ on_tiles g v m p) → ((j : ℕ) → j < sites g → tile_of g j < n) → in_sets n b ≡ sum_below (sites g) v
 area_is g n v b each here =
     sum_below_same n (λ k. sum_below 64 (bit (b k))) (λ k. sum_below 64 (λ p. on_tiles g v k p)) (λ k l. sum_below_same 64 (bit (b k)) (λ p. on_tiles g v k p) (λ p m. each k p m))

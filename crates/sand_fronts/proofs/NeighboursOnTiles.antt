@@ -9,7 +9,6 @@ use Rattle.sand_tiles.specs.Places.{north as inner_north, south as inner_south, 
 use Rattle.sand_fronts.specs.Tiling.{across, pitch, tile_of, place_of, over_north, over_south, over_west, over_east, to_west, to_east, shift_west, shift_east, seam_west, seam_east, tile_flow, IsBlank}
 use Rattle.sand_fronts.specs.Waves.{at_site}
 
--- the same at a row and a column
 abbrev pub cell : Grid → (ℕ → ℕ → ℕ) → ℕ → ℕ → ℕ
 cell g u y x = u ((y / 8 + 2) * pitch g + (x / 8 + 1)) (y % 8 * 8 + x % 8)
 
@@ -123,11 +122,9 @@ value_beside v true wraps a b = refl
 value_beside v false true a b = refl
 value_beside v false false a b = refl
 
--- the column of a tile among those of its row
 tile_column : (g : Grid) (q c : ℕ) → c < pitch g → ((q + 2) * pitch g + c) % pitch g ≡ c
 tile_column g q c less = mod-mul-add (q + 2) (pitch g) c less
 
--- away from the seam
 plain : (t b : Bool) (X : Type 0) (x y : X) → (t && b) ≡ false → cond (t && b) x y ≡ y
 plain t b X x y e = ap (λ s. cond s x y) e
 

@@ -29,7 +29,6 @@ nothing_sound = record { few = omega arith; each = λ p low. let z = bit_none p 
 nothing_counted : (p : ℕ) → counted nothing p ≡ 0
 nothing_counted p = let z = bit_none p in let e = get_or-eq_default {A = ℕ} [] 0 {n = p} (omega arith) in omega arith
 
--- each count is the same one, or empty past the end
 count_is : (P : Count → Type 0) (items : List Count) (n m : ℕ) (x : Count) → items ≡ replicate n x → P x → P nothing → P (count_at items m)
 count_is P items n m x all is none = ⊎_elim
     (λ (less : m < n). subst P (sym (ap (λ (xs : List Count). count_at xs m) all ∙ get_or-replicate {A = Count} n m x nothing less)) is)
@@ -71,7 +70,6 @@ outside_on_tiles g xs τ same clear all m p low =
     let b = on_tiles_le g (missing g) (slice_index xs) m p low (λ j l. let s = same j l in omega arith) in
     omega arith
 
--- one more number
 pub numbers_more : (f : ℕ → ℕ) (xs ys : List ℕ) (y n : ℕ) → ys ≡ xs ++ y ∷ [] → length xs ≡ n → y ≡ f n → ((j : ℕ) → j < n → slice_index xs j ≡ f j)
     → (j : ℕ) → j < n + 1 → slice_index ys j ≡ f j
 numbers_more f xs ys y n pushed long is each j below =

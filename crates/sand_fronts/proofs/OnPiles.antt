@@ -56,7 +56,6 @@ dropped_by_site g site ts us cs ds f settled fall grown =
       fall = fall_same g site (grown_on g (count_at cs) (count_at ds)) (toppled_between (tiled_view g ts cs) (tiled_view g us ds)) f between fall;
     }
 
--- the same, for lists that are known by equations
 pub dropped : (g : Grid) (site : ℕ) (ts old us new : List Tile) (cs before ds after : List Count) (f : Fall) (v : TiledView)
     → tiled_view g old before ≡ v → ts ≡ old → cs ≡ before → new ≡ us → after ≡ ds
     → IsSettled g (λ j. heights_on g (tile_at ts) j + one_at site j) (grown_on g (count_at cs) (count_at ds)) (heights_on g (tile_at us))
@@ -97,7 +96,7 @@ few_now g ts cs before v seen old counts few m p low =
     let same = ap (λ (x : List Count). counted (count_at x m) p) old in
     omega arith
 
--- ---- what is read of a site
+-- ---- reading a site
 
 pub height_read : (g : Grid) (ts : List Tile) (cs : List Count) (v : TiledView) (site k place : ℕ) (t : Tile) → tiled_view g ts cs ≡ v → site < sites v.grid
     → k ≡ tile_of g site → place ≡ place_of g site → t ≡ tile_at ts k → height t place ≡ slice_index v.heights site

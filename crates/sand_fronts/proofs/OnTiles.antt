@@ -90,7 +90,6 @@ on_tiles_blank g v = record {
       no_site g v k (y * 8 + x) (and_right _ _ (and_right _ _ (le-ltb (column_at g k (y * 8 + x)) g.width (omega arith))));
 }
 
--- the same by a site
 by_site : (g : Grid) (u : ℕ → ℕ → ℕ) (j k p : ℕ) → tile_of g j ≡ k → place_of g j ≡ p → u (tile_of g j) (place_of g j) ≡ u k p
 by_site g u j k p a b = ap (λ m. u m (place_of g j)) a ∙ ap (u k) b
 
@@ -126,7 +125,6 @@ on_tiles_is g u k p low none =
     omega arith)
     (cases_Bool (is_site g k p))
 
--- v at a place that is a site
 pub on_site : (g : Grid) (v : ℕ → ℕ) (k p : ℕ) → is_site g k p ≡ true → on_tiles g v k p ≡ v (site_on g k p)
 unfolding on_tiles
 on_site g v k p is = ap (λ b. cond b (v (site_on g k p)) 0) is

@@ -44,7 +44,6 @@ pub record GetsGrain (g : Grid) (site : ℕ) (ts : List Tile) (here grain : ℕ)
   pub receives : Receives (tile_at ts here) t grain
   pub quiet : AreQuiet g (tile_at ts)
 
--- what each site has had
 site_had : (g : Grid) (site : ℕ) (ts : List Tile) (here grain : ℕ) (t : Tile) (j : ℕ) → GetsGrain g site ts here grain t → j < sites g
     → had (tile_at (set ts here t) (tile_of g j)) (place_of g j) ≡ heights_on g (tile_at ts) j + one_at site j
 site_had g site ts here grain t j gets l =

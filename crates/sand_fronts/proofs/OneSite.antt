@@ -18,7 +18,6 @@ use Rattle.sand_fronts.proofs.OnTiles.{there_again, back_again, on_site, off_sit
 use Rattle.sand_fronts.proofs.Waves.{only_same, only_other}
 use Rattle.sand_fronts.proofs.Gained.{tile_set_same, tile_set_other}
 
--- another site is in another tile, or at another place
 pub elsewhere : (g : Grid) (s m p : ℕ) (x : ℕ) → s < sites g → ((tile_of g s ≡ m) → (place_of g s ≡ p) → ⊥) → only (tile_of g s) (λ q. x * one_at (place_of g s) q) m p ≡ 0
 elsewhere g s m p x inside apart = ⊎_elim
     (λ (tile : m ≡ tile_of g s).
@@ -162,7 +161,6 @@ tile_more g h ts n k here t inside tile within one more each m p low =
     omega arith)
     (cases_eq m k)
 
--- there is room for the grains of one more site
 pub tile_room : (g : Grid) (h : ℕ → ℕ) (τ : ℕ → Tile) (n k here p : ℕ) → n < sites g → k ≡ tile_of g n → ((j : ℕ) → j < sites g → h j ≤ 7)
     → ((q : ℕ) → q < 64 → bit here q ≡ one_at (place_of g n) q) → ((m q : ℕ) → q < 64 → had (τ m) q ≡ on_tiles g (up_to h n) m q)
     → p < 64 → had (τ k) p + h n * bit here p ≤ 7
@@ -209,8 +207,6 @@ pub no_grains : (g : Grid) (h : ℕ → ℕ) (ts : List Tile) (n k p : ℕ) → 
 no_grains g h ts n k p all low =
     let z = bit_none p in
     ap (λ xs. had (tile_at xs k) p) all ∙ ap (λ x. had x p) (blank_tiles n k) ∙ omega arith ∙ sym (none_filled g h k p low)
-
--- nothing is in a wave
 
 pub bare_clear : (ts : List Tile) (n k p : ℕ) → ts ≡ replicate n bare → bit (tile_at ts k).wave p ≡ 0
 bare_clear ts n k p all = ap (λ xs. bit (tile_at xs k).wave p) all ∙ ap (λ (x : Tile). bit x.wave p) (blank_tiles n k) ∙ bit_none p

@@ -43,7 +43,6 @@ pub lowest : (n : ℕ) → n ≢ 0 → n < 2 ^ 64 → (trailing_zeros w64 n < 64
 unfolding bit
 lowest n some fits = let l = bit_at-trailing_zeros w64 n (omega arith) fits in (l.0, l.1)
 
--- a place is removed from a set
 pub place_less : (rest place one : ℕ) → place < 64 → bit rest place ≡ 1 → ((p : ℕ) → p < 64 → bit one p ≡ one_at place p)
     → (p : ℕ) → p < 64 → bit (bit_xor rest one) p + one_at place p ≡ bit rest p
 place_less rest place one inside is each p low =
@@ -150,7 +149,6 @@ sets_all g s words k reach before none = record {
 
 -- ---- site by site
 
--- the row and the column of a place that is a site
 spot_on : (g : Grid) (k p : ℕ) → is_site g k p ≡ true → (row g (site_on g k p) ≡ row_at g k p) × (column g (site_on g k p) ≡ column_at g k p)
 unfolding is_site site_on
 spot_on g k p is =

@@ -117,7 +117,6 @@ pub record IsInner (g : Grid) (k : ℕ) : Type 0 where
   pub last : k % pitch g ≤ across g
   pub rows : 2 * pitch g ≤ k
 
--- the column of the tile d tiles to the east, in its row
 column_more : (g : Grid) (k d : ℕ) → k % pitch g + d < pitch g → (k + d) % pitch g ≡ k % pitch g + d
 column_more g k d less = let parts = div-add-mod' k (pitch g) in ap (λ i. i % pitch g) (let e : k + d ≡ k / pitch g * pitch g + (k % pitch g + d) = omega arith in e) ∙ mod-mul-add (k / pitch g) (pitch g) (k % pitch g + d) less
 

@@ -54,7 +54,6 @@ gained g k new b j inside ik beside fits blank =
     let e' = ap (λ i. only i (over_west b.east_shift (bit new)) m p) beside.east ∙ ap (λ i. only (to_east g k) (over_west i (bit new)) m p) beside.east_shift in
     omega arith
 
--- around a place of the tile k, and nothing in another tile
 around_same : (k m new p : ℕ) → p < 64 → m ≡ k → around (only k (bit new) m) p ≡ around (bit new) p
 around_same k m new p low e =
     let a = around_le (only k (bit new) m) (bit new) p low (λ q l. let s = only_same k m (bit new) q e in omega arith) in

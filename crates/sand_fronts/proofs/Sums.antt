@@ -11,7 +11,6 @@ use Rattle.sand_fronts.proofs.OnTiles.{place_below, there_again, back_again, on_
 here : Grid → (ℕ → ℕ) → ℕ → ℕ → ℕ → ℕ
 here g v j k p = v j * one_at (place_of g j) p * one_at (tile_of g j) k
 
--- over the places, then the tiles
 turned : (a b c : ℕ) → a * b * c ≡ a * c * b
 turned a b c = grind arith
 
@@ -24,7 +23,6 @@ one_place g v n j l =
     ∙ sum_below-one_at 64 (place_of g j) (λ p. v j * one_at (tile_of g j) k) (place_below g j))
     ∙ sum_below-one_at n (tile_of g j) (λ k. v j) l
 
--- over the sites
 one_site : (g : Grid) (v : ℕ → ℕ) (k p : ℕ) → p < 64 → sum_below (sites g) (λ j. here g v j k p) ≡ on_tiles g v k p
 unfolding here
 one_site g v k p low =

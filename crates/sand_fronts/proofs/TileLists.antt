@@ -95,7 +95,6 @@ joins_from n a p p' q l m same joins = record {
   waiting = λ turn within all. joins.waiting turn within (lists_same n p p' (drop turn l.tiles) same all);
 }
 
--- the same, if the tile is read again afterwards
 pub joins_read : (ts : List Tile) (free : ℕ → ℕ) (k n : ℕ) (t : Tile) (l m : ListView) → n ≡ length ts → k < length ts
     → (0 < bit_and (tile_at ts k).due (free k) → 0 < bit_and t.due (free k))
     → m ≡ record l { tiles = cond (eqb (bit_and (tile_at ts k).due (free k)) 0 && not (eqb (bit_and (tile_at (set ts k t) k).due (free k)) 0)) (l.tiles ++ k ∷ []) l.tiles }

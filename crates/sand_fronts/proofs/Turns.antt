@@ -51,7 +51,6 @@ due_site g site free τ k open' fits wait =
     let t = there_again g k p low.0 yes.0 in
     (site_on g k p, record { inside = t.0; other = yes.1; here = t.1; due = ap (bit (τ k).due) t.2 ∙ omega arith })
 
--- nothing starts after the first turn
 pub starts_none : (g : Grid) (site k p : ℕ) → p < 64 → bit 0 p ≡ on_tiles g (λ j. 0 * one_at site j) k p
 starts_none g site k p low =
     let z = bit_none p in
@@ -59,7 +58,6 @@ starts_none g site k p low =
     let n = on_nothing g k p in
     omega arith
 
--- the sites that have toppled after a step
 sum_after : (g : Grid) (τ σ : ℕ → Tile) (k new : ℕ) → ((m p : ℕ) → p < 64 → bit (σ m).wave p ≡ bit (τ m).wave p + only k (bit new) m p) → (j : ℕ) → toppled g σ j ≡ toppled g τ j + at_site g (only k (bit new)) j
 sum_after g τ σ k new once j = once (tile_of g j) (place_of g j) (place_below g j)
 
@@ -108,7 +106,6 @@ first_wave g site τ rest inside = wave_begins g site (heights_before g site τ)
     (λ j l ne. let o = one_at_other site j (λ e. ne (sym e)) in (omega arith, rest.none_due j l ne))
     (let o = one_at_same site in omega arith)
 
--- the first turn
 pub turn_first : (g : Grid) (site : ℕ) (free : ℕ → ℕ) (τ σ : ℕ → Tile) (k start new : ℕ) (b : Beside) → AreOpen g site free → AreAtRest g site τ → site < sites g
     → k ≡ tile_of g site → ((p : ℕ) → p < 64 → bit start p ≡ on_tiles g (λ j. 1 * one_at site j) k p) → IsBeside g k b → Steps τ σ (free k) b k start new
     → (IsWave g site (heights_before g site τ) σ) × (toppled g σ site ≡ 1)
@@ -134,7 +131,6 @@ turn_first g site free τ σ k start new b open' rest inside here begins beside 
     let sum = sum_after g τ σ k new spreads.once site in
     (next, omega arith)
 
--- the tile at the front of the list
 pub front_of : (n turn k : ℕ) (p : ℕ → Bool) (list : List ℕ) → Lists n p (drop turn list) → turn < length list → k ≡ get_or list turn 0
     → (k < n) × (p k ≡ true) × Lists n p (k ∷ drop (turn + 1) list)
 front_of n turn k p list all less is =
@@ -143,7 +139,6 @@ front_of n turn k p list all less is =
     let at = subst P whole all in
     (front_below n p (drop (turn + 1) list) k at, front_passes n p (drop (turn + 1) list) k at, at)
 
--- after its removal the others wait
 pub others_wait : (n turn k : ℕ) (τ : ℕ → Tile) (free : ℕ → ℕ) (list : List ℕ) → Lists n (waits τ free) (k ∷ drop (turn + 1) list) → Lists n (waits_but k τ free) (drop (turn + 1) list)
 others_wait n turn k τ free list all =
     lists_pop n (waits τ free) (waits_but k τ free) (drop (turn + 1) list) k all
@@ -187,7 +182,6 @@ at_tile g n j k all board l here =
     let P : ℕ → Type 0 = λ m. AtTile g n m (beside_at all m) in
     subst P here (record { inside = board.here j l; each = board.each j l; north = board.north j l; south = board.south j l; west = board.west j l; east = board.east j l; shifts = board.shifts j l })
 
--- the tile at the front of the list: a due site of it, and what the board says
 pub turn_at : (g : Grid) (site n turn k : ℕ) (τ : ℕ → Tile) (free : ℕ → ℕ) (list : List ℕ) (all : List Beside) → AreOpen g site free → IsBoard g n all
     → free k < 2 ^ 64 → Lists n (waits τ free) (drop turn list) → turn < length list → k ≡ get_or list turn 0
     → (j : ℕ) × IsDueSite g site τ k j × AtTile g n k (beside_at all k)
@@ -220,7 +214,6 @@ none_left g site n τ free all open' board none j inside other =
 
 -- ---- the tiles with sites that have toppled
 
--- the wave of a tile after a step
 wave_after : (τ σ : ℕ → Tile) (free k start new m p : ℕ) (b : Beside) → Steps τ σ free b k start new → p < 64 → (m ≡ k → ⊥) → bit (σ m).wave p ≡ bit (τ m).wave p
 wave_after τ σ free k start new m p b steps low ne =
     steps.gains.wave m p low ∙ ap (λ (t : Tile). bit t.wave p) (ap (λ c. cond c steps.visited (τ m)) (ne_eqb m k ne))
@@ -232,7 +225,6 @@ first_listed g site τ σ free here start new b list rest steps m = ⊎_elim
     (λ (ne : m ≡ here → ⊥). inl (λ p low. wave_after τ σ free here start new m p b steps low ne ∙ rest.clear m p low))
     (cases_eq m here)
 
--- one more turn
 pub turn_listed : (τ σ : ℕ → Tile) (free here k turn new : ℕ) (b : Beside) (before after : List ℕ) → AreListed here before 0 turn τ → Steps τ σ free b k 0 new
     → k ≡ get_or before turn 0 → ((t : ℕ) → t < turn + 1 → get_or after t 0 ≡ get_or before t 0) → AreListed here after 0 (turn + 1) σ
 turn_listed τ σ free here k turn new b before after listed steps is kept m = ⊎_elim

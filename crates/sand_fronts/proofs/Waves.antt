@@ -26,7 +26,6 @@ only_other k m f p ne = ap (λ b. cond b (f p) 0) (ne_eqb m k ne)
 flow_four_at_most : (g : Grid) (u : ℕ → ℕ) → ((j : ℕ) → j < sites g → u j ≤ 1) → (j : ℕ) → j < sites g → flow g u j ≤ 4
 flow_four_at_most g u few j l = let a = flow_le g u (λ m. 1) few j l in let b = flow_ones g j in omega arith
 
--- the neighbours inside the tile are some of the neighbours
 around_some : (g : Grid) (v : ℕ → ℕ) (j : ℕ) → j < sites g → around (on_tiles g v (tile_of g j)) (place_of g j) ≤ flow g v j
 around_some g v j l =
     let all = flow_on_tiles g (on_tiles g v) j (on_tiles_blank g v) l in
@@ -169,7 +168,6 @@ calm g site h free τ k start s w open' wave inside high begins first stable =
           omega arith;
     }
 
--- one step of a wave
 pub wave_step : (g : Grid) (site : ℕ) (h : ℕ → ℕ) (free : ℕ → ℕ) (τ σ : ℕ → Tile) (v : Tile) (k start s new : ℕ) → AreOpen g site free → IsWave g site h τ → site < sites g
     → ((j : ℕ) → j < sites g → j ≢ site → h j ≤ 3) → 4 ≤ h site
     → ((p : ℕ) → p < 64 → bit start p ≡ on_tiles g (λ j. s * one_at site j) k p) → toppled g τ site + s ≤ 1

@@ -12,7 +12,6 @@ use Rattle.sand_fronts.specs.TileLists.{IsClear}
 abbrev pub heights_on : Grid → (ℕ → Tile) → ℕ → ℕ
 heights_on g τ j = height (τ (tile_of g j)) (place_of g j)
 
--- how often each site has toppled
 abbrev pub counted_on : Grid → (ℕ → Count) → ℕ → ℕ
 counted_on g c j = counted (c (tile_of g j)) (place_of g j)
 

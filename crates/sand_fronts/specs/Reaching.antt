@@ -14,7 +14,6 @@ distance_between g s x y = (if joins g.edge then min (abs_diff s.column x) (g.wi
 abbrev pub distance_within : Grid → Spot → Spot → ℕ → ℕ
 distance_within g s corner p = distance_between g s (corner.column + p % 8) (corner.row + p / 8)
 
--- the spot of a site, and of the first place of a tile
 abbrev pub spot_of : Grid → ℕ → Spot
 spot_of g j = record { column = column g j; row = row g j }
 

@@ -13,7 +13,7 @@ use Rattle.sand_fronts.specs.Counting.{count_at}
 use Rattle.sand_fronts.specs.Drops.{heights_on, counted_on, AreQuiet, AreOutside}
 
 -- the state between two drops: tiles, the words of their sites, the neighbours of each tile, a list with enough room,
--- counts, empty sets of marks, and the numbers of places around each site outside the grid
+-- counts, empty sets of marks, and how many places around each site are outside the grid
 pub record IsTiledPile (g : Grid) (ts : List Tile) (free : List ℕ) (beside : List Beside) (list : ListView) (counts : List Count) (marks : List ℕ) (outside : List Tile) : Type 0 where
   pub tiles_each : length ts ≡ tiles g
   pub free_each : length free ≡ tiles g

@@ -18,7 +18,6 @@ down g = (g.height + 7) / 8
 abbrev pub tiles : Grid → ℕ
 tiles g = (down g + 4) * pitch g
 
--- the tile and the place of a site
 unfoldable pub tile_of : Grid → ℕ → ℕ
 tile_of g j = (row g j / 8 + 2) * pitch g + (column g j / 8 + 1)
 

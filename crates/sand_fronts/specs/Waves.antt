@@ -24,7 +24,6 @@ only k f m p = if m == k then f p else 0
 abbrev pub AreOpen : Grid → ℕ → (ℕ → ℕ) → Type 0
 AreOpen g site free = (k p : ℕ) → p < 64 → bit (free k) p ≡ on_tiles g (λ j. 1 - one_at site j) k p
 
--- the words of all sites
 abbrev pub AreAllOpen : Grid → (ℕ → ℕ) → Type 0
 AreAllOpen g free = (k p : ℕ) → p < 64 → bit (free k) p ≡ on_tiles g (λ j. 1) k p
 

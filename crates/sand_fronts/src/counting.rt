@@ -2,8 +2,7 @@
 //!
 //! Each tile in which a site has toppled is the tile of the dropped site or in the list of the wave. It may be listed
 //! several times, but from the second time on its set is empty. So the sites counted so far and those still in the
-//! tiles are together those that were in the tiles before (`AreCounted`: `each`; `size`, `lost`), and in the end the
-//! tiles have none.
+//! tiles are together the sites of the wave (`AreCounted`: `each`; `size`, `lost`), and in the end the tiles have none.
 //!
 //! How many grains a site loses when it topples, 0 to 4, is also kept on tiles: in `outside`, in place of heights.
 

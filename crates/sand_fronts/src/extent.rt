@@ -21,7 +21,7 @@ pub(crate) struct Extent {
     pub(crate) reach: usize,
 }
 
-// The first place of a tile, if it has sites.
+// The first place of a tile with sites.
 #[inline(always)]
 fn corner(shape: Shape, k: usize) -> Spot
     requires { k < 2 ^ 20 }
@@ -44,7 +44,6 @@ fn spot(shape: Shape, site: usize) -> Spot
     Spot { column, row }
 }
 
-// Adds the places of a set in a tile to the extent.
 #[inline(always)]
 fn add_set(shape: Shape, from: Spot, k: usize, set: u64, extent: Extent) -> Extent
     requires tile { k < 2 ^ 20 }

@@ -7,11 +7,11 @@
 //! - **No site topples twice.** h(j) is at most 3 and there are four neighbours, so the left side of the balance is at
 //!   most 7, and a site that has toppled cannot become due again. The dropped site could; it is not free in its own
 //!   wave.
-//! - **Each toppling is legal, and the order does not matter.** Whatever stabilises the heights topples each site in T
-//!   (`IsWave`: `needed`). So the wave is a legal sequence of topplings (`advances`), though none is ever written down.
+//! - **Each toppling is legal, in any order.** Whatever stabilises the heights topples each site in T (`IsWave`:
+//!   `needed`). So the wave is a legal sequence of topplings (`advances`), though none is ever written down.
 //! - **The list.** A tile joins the list when a free site in it becomes due and none was before. Its turn topples all
 //!   that is due there. So each turn topples a new site, and the list never has more tiles than there are sites, plus
-//!   one, plus the four that a turn may add. At the end of the list no free site is due (`none_due`).
+//!   one, plus the four that a turn may add. At its end no free site is due (`none_due`).
 //!
 //! A border of tiles without free sites spares all tests for the edge of the grid: grains that fall into the sink are
 //! added to tiles that nobody reads. On a cylinder the tiles at the two ends of a row are neighbours, and the last

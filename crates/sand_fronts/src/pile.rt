@@ -49,7 +49,6 @@ impl Model for TiledPile {
     ghost invariant = { λ p. IsTiledPile p.shape p.tiles.items p.free.items p.beside.items p.list p.counts.items p.marks p.outside.items × CountsSites p.shape p.counts.items };
 }
 
-// Counts of no topplings. Fails only if an allocation fails.
 fn no_counts(alloc: Global, n: usize) -> Result<Vec<Count>, AllocError>
     ensures one_each { IfOk result (λ counts. length counts.items ≡ n) }
     ensures sound { IfOk result (λ counts. (m : ℕ) → IsCount (count_at counts.items m)) }
@@ -60,7 +59,7 @@ fn no_counts(alloc: Global, n: usize) -> Result<Vec<Count>, AllocError>
     Ok(counts)
 }
 
-// By site, the number of places around it that are outside the grid. Fails only if an allocation fails.
+// By site, the number of places around it that are outside the grid.
 fn outside_by_site(alloc: Global, shape: Shape) -> Result<Vec<u64>, AllocError>
     ensures one_each { IfOk result (λ all. length all.items ≡ sites shape) }
     ensures each { IfOk result (λ all. (j : ℕ) → j < sites shape → slice_index all.items j ≡ missing shape j) }
@@ -72,7 +71,7 @@ fn outside_by_site(alloc: Global, shape: Shape) -> Result<Vec<u64>, AllocError>
     Ok(all)
 }
 
-// The same on tiles. Fails only if an allocation fails.
+// The same on tiles.
 fn all_outside(alloc: Global, shape: Shape) -> Result<Vec<Tile>, AllocError>
     ensures one_each { IfOk result (λ all. length all.items ≡ tiles shape) }
     ensures each { IfOk result (λ all. AreOutside shape (tile_at all.items)) }
@@ -138,7 +137,6 @@ impl TiledPile {
         )
     }
 
-    /// The height of a site.
     pub fn height(&self, site: usize) -> u64
         requires { site < sites self.now.grid }
         ensures { result ≡ slice_index self.now.heights site }

@@ -15,7 +15,6 @@ use sand_model::Shape;
 use sand_tiles::{BARE, Tile, add_grains, set_of};
 use std::alloc::{AllocError, Global};
 
-/// The side of a tile.
 const SIDE: usize = 8;
 
 /// The number of tiles in a row that have sites.
