@@ -25,7 +25,6 @@ abbrev pub stream_sites : ℕ → ℕ → ℕ → ℕ → List ℕ
 stream_sites sites seed stream zero = []
 stream_sites sites seed stream (suc n) = stream_sites sites seed stream n ++ site_at sites seed stream n ∷ []
 
--- the number of the stream of a dropper in an epoch
 abbrev pub stream_of : ℕ → ℕ → ℕ
 stream_of epoch dropper = epoch * 64 + dropper
 
