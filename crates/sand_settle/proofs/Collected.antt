@@ -28,7 +28,6 @@ lost_sum g u v w e =
     sum_below_same (sites g) (λ j. missing g j * w j) (λ j. missing g j * u j + missing g j * v j) (λ j l. let k = ap (λ m. missing g j * m) (e j l) in omega arith)
     ∙ sum_below-add (sites g) (λ j. missing g j * u j) (λ j. missing g j * v j)
 
--- the count k of the site i is read
 pub collects_more : (g : Grid) (site : ℕ) (before now next : ℕ → ℕ) (a b : Avalanche) (i k : ℕ) → Collects g site before now a → i < sites g → 0 < k → next i ≡ 0 → ((j : ℕ) → j < sites g → now j ≡ next j + k * one_at i j) → b.size ≡ a.size + k → b.lost ≡ a.lost + k * missing g i → b.reach ≡ max a.reach (distance g site i) → Collects g site before next b
 collects_more g site before now next a b i k all l some none counts size gone reach =
     let here : now i ≡ k = let e = counts i l in let one = ap (λ m. k * m) (one_at_same i) in omega arith in
@@ -65,7 +64,6 @@ no_topplings g v none = sum_below_same (sites g) v (λ j. 0) none ∙ sum_below-
 pub nothing_lost : (g : Grid) (v : ℕ → ℕ) → ((j : ℕ) → j < sites g → v j ≡ 0) → lost g v ≡ 0
 nothing_lost g v none = sum_below_same (sites g) (λ j. missing g j * v j) (λ j. 0) (λ j l. let e = ap (λ m. missing g j * m) (none j l) in omega arith) ∙ sum_below-zero (sites g)
 
--- every count has been read
 pub collects_all : (g : Grid) (site : ℕ) (before now : ℕ → ℕ) (a : Avalanche) (xs : List ℕ) → Collects g site before now a → ((j : ℕ) → j < sites g → now j ≡ 0) → Lists (sites g) (has_toppled before) xs → a.area ≡ length xs → a.site ≡ site → IsAvalanche g site before a
 collects_all g site before now a xs all none listed area origin = record {
   origin = origin;
@@ -76,7 +74,6 @@ collects_all g site before now a xs all none listed area origin = record {
   all_lost = let e = all.all_lost in let zero' = nothing_lost g now none in omega arith;
 }
 
--- the same counts at each site
 pub avalanche_same : (g : Grid) (site : ℕ) (u v : ℕ → ℕ) (a : Avalanche) → ((j : ℕ) → j < sites g → u j ≡ v j) → IsAvalanche g site u a → IsAvalanche g site v a
 avalanche_same g site u v a same was = record {
   origin = was.origin;
@@ -87,7 +84,6 @@ avalanche_same g site u v a same was = record {
   all_lost = was.all_lost ∙ sum_below_same (sites g) (λ j. missing g j * u j) (λ j. missing g j * v j) (λ j l. ap (λ m. missing g j * m) (same j l));
 }
 
--- if no site topples
 pub avalanche_none : (g : Grid) (site : ℕ) (v : ℕ → ℕ) (a : Avalanche) → ((j : ℕ) → j < sites g → v j ≡ 0) → a ≡ record { site = site; size = 0; area = 0; reach = 0; lost = 0 } → IsAvalanche g site v a
 avalanche_none g site v a none calm = record {
   origin = ap (λ (b : Avalanche). b.site) calm;
@@ -117,7 +113,6 @@ rest_more n u xs turn i each e l all =
     let P : ℕ → Type 0 = λ m. Lists m (has_toppled (λ j. get_or u j 0)) (i ∷ drop (turn + 1) xs) → i < m → Lists m (has_toppled (λ j. get_or (set u i 0) j 0)) (drop (turn + 1) xs) in
     subst P each (λ listed inside. leaves (ltb 0) u (drop (turn + 1) xs) i 0 listed inside refl) (rest_of n u xs turn i e l all) (rest_inside n u xs turn i e l all)
 
--- a count that is cleared
 pub cleared : (i : ℕ) (u : List ℕ) → i < length u → (j : ℕ) → get_or u j 0 ≡ get_or (set u i 0) j 0 + get_or u i 0 * one_at i j
 cleared i u inside j = let all = get_or-written u i 0 j inside in omega arith
 

@@ -77,7 +77,6 @@ driven_view start r t all gone at = after_start start (driven_record r t all gon
 
 -- ---- a drop
 
--- the counts of all sites are small
 pub few_counts : (r : SettledView) (t : TiledView) (number all gone grains : ℕ) → IsDriven r t number all gone grains → (j : ℕ) → j < sites t.grid → slice_index r.odometer j + slice_index t.times j < 2 ^ 60
 few_counts r t number all gone grains driven j l =
     let one = ap sites driven.one_grid in
@@ -88,7 +87,6 @@ few_counts r t number all gone grains driven j l =
     let limit = driven.paid.limit in
     omega arith
 
--- the record, from its parts
 pub record_read : (r : SettledView) (t : TiledView) (all gone : ℕ) (pile : PileView) (counts : List ℕ) → pile.grid ≡ r.pile.grid → pile.heights ≡ t.heights
     → counts ≡ by_site r.pile.grid (λ j. slice_index r.odometer j + slice_index t.times j) → record { pile = pile; odometer = counts; topplings = all; lost = gone } ≡ driven_record r t all gone
 record_read r t all gone pile counts grid heights same = λ i. record { pile = record { grid = grid i; heights = heights i }; odometer = same i; topplings = all; lost = gone }
@@ -144,7 +142,6 @@ driven_avalanche r t u site f number all gone grains a driven fall made =
       all_lost = ap (λ (x : Avalanche). x.lost) made ∙ fell.all_lost ∙ sum_below_same (sites g) (λ j. missing g j * v j) (λ j. missing g j * w j) (λ j l. ap (λ m. missing g j * m) (same j l));
     }
 
--- after a drop the record is right
 pub driven_after : (r : SettledView) (t u : TiledView) (site : ℕ) (f : Fall) (number all gone grains : ℕ) → IsDriven r t number all gone grains → u.grid ≡ t.grid → site < sites r.pile.grid → grains < most_grains
     → TakesGrain (driven_record r t all gone) site (driven_record r u (all + f.size) (gone + f.lost)) → IsDriven r u (number + 1) (all + f.size) (gone + f.lost) (grains + 1)
 driven_after r t u site f number all gone grains driven grid inside room taken =

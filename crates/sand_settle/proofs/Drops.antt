@@ -227,7 +227,6 @@ avalanche_between g k site u old new a same counts done =
     let P : Grid → Type 0 = λ q. IsAvalanche q site (λ j. get_or new j 0 - get_or old j 0) a in
     subst P same (avalanche_same g site (λ j. get_or u j 0) (λ j. get_or new j 0 - get_or old j 0) a (λ j l. let e = counts j in omega arith) done)
 
--- a grain that topples nothing
 pub settled_calm : (g : Grid) (h u : List ℕ) (site : ℕ) → get_or h site 0 < 4 → ((j : ℕ) → j < sites g → j ≢ site → get_or h j 0 ≤ 3) → IsSettled g (λ j. get_or h j 0) (λ j. get_or u j 0 - get_or u j 0) (λ j. get_or h j 0)
 settled_calm g h u site low others =
     settled_already g (λ j. get_or h j 0) (λ j. get_or u j 0 - get_or u j 0)
@@ -236,7 +235,6 @@ settled_calm g h u site low others =
 
 -- ---- a drop in the code
 
--- the height of a site grows by one
 pub raised : (items heights h : List ℕ) (site now : ℕ) → items ≡ heights → site < length heights → now ≡ get_or items site now → h ≡ set items site (now + 1) → h ≡ set heights site (get_or heights site 0 + 1)
 raised items heights h site now same inside is written =
     let P : List ℕ → Type 0 = λ xs. now ≡ get_or xs site now → h ≡ set xs site (now + 1) → h ≡ set heights site (get_or heights site 0 + 1) in

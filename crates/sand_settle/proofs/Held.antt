@@ -84,14 +84,12 @@ wave_few g site h k list v turn inside wave =
     let one = sum_below-one_at (sites g) site (λ j. 1) inside in
     omega arith
 
--- a site is in a part of a list at most as often as in the list
 pub tally_part : (xs : List ℕ) (n j : ℕ) → tally (take n xs) j ≤ tally xs j
 tally_part xs n j =
     let parts = tally-append (take n xs) (drop n xs) j in
     let whole = ap (λ ys. tally ys j) (take-append-drop n xs) in
     omega arith
 
--- the sites that have toppled after one more turn
 pub turn_tally : (list longer : List ℕ) (turn i : ℕ) → i ≡ get_or list turn 0 → turn < length list → take (turn + 1) longer ≡ take (turn + 1) list → (take (turn + 1) longer ≡ take turn list ++ i ∷ []) × ((j : ℕ) → tally (take (turn + 1) longer) j ≡ tally (take turn list) j + one_at i j)
 turn_tally list longer turn i e l kept =
     let longer_is : take (turn + 1) longer ≡ take turn list ++ i ∷ [] = kept ∙ take_more list turn 0 l ∙ ap (λ x. take turn list ++ x ∷ []) (sym e) in
@@ -99,7 +97,6 @@ turn_tally list longer turn i e l kept =
 
 -- ---- the wave begins, goes on, and ends
 
--- the first toppling, that of the held site
 pub wave_begins : (g : Grid) (site : ℕ) (h k list : List ℕ) (v : ℕ → ℕ) → site < sites g → 1 ≤ length list → ((j : ℕ) → j < sites g → j ≢ site → get_or h j 0 ≤ 3) → ((j : ℕ) → v j ≡ one_at site j) → ((j : ℕ) → j < sites g → get_or k j 0 ≡ get_or h j 0 + flow g (one_at site) j) → Lists (sites g) (may_topple (λ j. get_or k j 0)) ((site ∷ []) ++ drop 1 list) → IsWave g site h k list v 1
 wave_begins g site h k list v inside some low counts gives waiting = record {
   within = some;
@@ -211,20 +208,17 @@ turn_toppled g site i k q inside there ne each each' high some high' gives =
 pub lowered_other : (k : List ℕ) (site i : ℕ) → i ≢ site → get_or (lowered k site) i 0 ≡ get_or k i 0
 lowered_other k site i ne = get_or-set_other k site i (get_or k site 0 - 4) 0 ne
 
--- the grains of a wave stay few
 pub held_sum : (g : Grid) (site : ℕ) (h k : List ℕ) (u v : ℕ → ℕ) → site < sites g → length h ≡ sites g → length k ≡ sites g → 4 ≤ get_or k site 0 → Advances g u (λ j. get_or h j 0) v (λ j. get_or (lowered k site) j 0) → sum k ≤ sum h + 4
 held_sum g site h k u v inside each each' high advances =
     let falls = sum_falls g u v h (lowered k site) each (length-set k site (get_or k site 0 - 4) ∙ each') advances in
     let parts = sum_by-set (λ x. x) k site (get_or k site 0 - 4) 0 (omega arith) in
     omega arith
 
--- lowering a number lowers the sum
 pub sum_lower : (k : List ℕ) (i v : ℕ) → i < length k → v ≤ get_or k i 0 → sum (set k i v) ≤ sum k
 sum_lower k i v inside less =
     let parts = sum_by-set (λ x. x) k i v 0 inside in
     omega arith
 
--- the held site waits from the start
 pub first_waits : (g : Grid) (site : ℕ) (h : List ℕ) (list : List ℕ) → list ≡ site ∷ [] → site < sites g → 4 ≤ get_or h site 0 → ((j : ℕ) → j < sites g → j ≢ site → get_or h j 0 ≤ 3) → Lists (sites g) (may_topple (λ j. get_or h j 0)) ((site ∷ []) ++ drop 1 list)
 first_waits g site h list only inside high low =
     rw only

@@ -36,7 +36,6 @@ one_more : (joins : Bool) (list : List ℕ) (i : ℕ) → (length list ≤ lengt
 one_more true list i = let e = length-append list (i ∷ []) in (omega arith, omega arith)
 one_more false list i = (omega arith, omega arith)
 
--- the site i gets grains
 pub joins_one : (h : List ℕ) (l m : ListView) (i v : ℕ) → i < length h → get_or h i 0 ≤ v → m ≡ record l { sites = cond (ltb (get_or h i 0) 4 && leb 4 v) (l.sites ++ i ∷ []) l.sites } → Joins 1 h (set h i v) l m
 joins_one h l m i v inside more is =
     let P : ListView → Type 0 = λ q. Joins 1 h (set h i v) l q in
@@ -50,7 +49,6 @@ joins_one h l m i v inside more is =
       waiting = λ n turn front each within all. rw each (queued_from h front l.sites turn i v within inside more (lists_of n (length h) _ _ each all));
     })
 
--- one site after another
 pub joins_more : (a b : ℕ) (h k q : List ℕ) (l m r : ListView) → length k ≡ length h → Joins a h k l m → Joins b k q m r → Joins (a + b) h q l r
 joins_more a b h k q l m r same first second = record {
   room = second.room ∙ first.room;
@@ -62,11 +60,9 @@ joins_more a b h k q l m r same first second = record {
 
 -- ---- what the neighbours get
 
--- what the four places of a site get
 pub four_places : (g : Grid) (i j : ℕ) (ps : List (Option ℕ)) → ps ≡ places g i → i < sites g → j < sites g → flow g (one_at i) j ≡ value_at (λ m. one_at m j) (get_or ps 0 None) + value_at (λ m. one_at m j) (get_or ps 1 None) + value_at (λ m. one_at m j) (get_or ps 2 None) + value_at (λ m. one_at m j) (get_or ps 3 None)
 four_places g i j ps e l m = rw e (flow-one_at g i j l m ∙ flow_four g (λ q. one_at q j) i)
 
--- four sites as places
 four_of : (xs : List ℕ) → length xs ≡ 4 → (Some (get_or xs 0 0) ∷ Some (get_or xs 1 0) ∷ Some (get_or xs 2 0) ∷ Some (get_or xs 3 0) ∷ []) ≡ map Some xs
 four_of [] e = absurd (omega arith)
 four_of (a ∷ []) e = absurd (omega arith)

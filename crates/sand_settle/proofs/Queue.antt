@@ -13,17 +13,14 @@ others_kept test h i v j ne = ap test (sym (get_or-set_other h i j v 0 ne))
 written : (test : ℕ → Bool) (h : List ℕ) (i v : ℕ) → i < length h → test (get_or (set h i v) i 0) ≡ test v
 written test h i v l = ap test (get_or-set_same h i v 0 l)
 
--- a number that begins to pass
 pub joins : (test : ℕ → Bool) (h xs : List ℕ) (i v : ℕ) → Lists (length h) (λ j. test (get_or h j 0)) xs → i < length h → test (get_or h i 0) ≡ false → test v ≡ true → Lists (length h) (λ j. test (get_or (set h i v) j 0)) (xs ++ i ∷ [])
 joins test h xs i v all l out in' =
     lists_push (length h) (λ j. test (get_or h j 0)) (λ j. test (get_or (set h i v) j 0)) xs i all l out (written test h i v l ∙ in') (λ j m ne. others_kept test h i v j ne)
 
--- a number that no longer passes, with its site at the front
 pub leaves : (test : ℕ → Bool) (h xs : List ℕ) (i v : ℕ) → Lists (length h) (λ j. test (get_or h j 0)) (i ∷ xs) → i < length h → test v ≡ false → Lists (length h) (λ j. test (get_or (set h i v) j 0)) xs
 leaves test h xs i v all l out =
     lists_pop (length h) (λ j. test (get_or h j 0)) (λ j. test (get_or (set h i v) j 0)) xs i all (written test h i v l ∙ out) (λ j m ne. others_kept test h i v j ne)
 
--- a number that passes as before
 pub stays : (test : ℕ → Bool) (h xs : List ℕ) (i v : ℕ) → Lists (length h) (λ j. test (get_or h j 0)) xs → i < length h → test (get_or h i 0) ≡ test v → Lists (length h) (λ j. test (get_or (set h i v) j 0)) xs
 stays test h xs i v all l same =
     lists_same (length h) (λ j. test (get_or h j 0)) (λ j. test (get_or (set h i v) j 0)) xs
@@ -61,11 +58,9 @@ noted u toppled i k inside some all =
     (λ (before : get_or u i 0 ≡ 0 → ⊥). let was : 0 < get_or u i 0 = grind arith in rw (ne_eqb (get_or u i 0) 0 before) (stays (ltb 0) u toppled i (get_or u i 0 + k) all inside (lt-ltb 0 (get_or u i 0) was ∙ sym now)))
     (cases_eq (get_or u i 0) 0)
 
--- there is room for one more, whether it joins or not
 pub queue_room : (n : ℕ) (test : ℕ → Bool) (rest next : List ℕ) → Lists n test (rest ++ next) → length next ≤ n
 queue_room n test rest next all = let whole = lists_length n test (rest ++ next) all in omega (arith, length-append rest next)
 
--- the site i whose turn it is, and those behind it
 pub turn_of : (n : ℕ) (test : ℕ → Bool) (wave next : List ℕ) (turn i : ℕ) → i ≡ get_or wave turn 0 → turn < length wave → Lists n test (drop turn wave ++ next) → Lists n test (i ∷ (drop (turn + 1) wave ++ next))
 turn_of n test wave next turn i e l all =
     let first : drop turn wave ≡ i ∷ drop (turn + 1) wave = rw (e, drop_more wave turn 0) refl in

@@ -14,7 +14,6 @@ use Rattle.sand_model.specs.Piles.{most_grains}
 pub topplings_at : (g : Grid) (i k : ℕ) → i < sites g → topplings g (λ j. k * one_at i j) ≡ k
 topplings_at g i k l = sum_below-one_at (sites g) i (λ j. k) l
 
--- the weight after k topplings of one site
 pub weight_step : (g : Grid) (i k : ℕ) (t r : ℕ → ℕ) → i < sites g → IsToppled g t (λ j. k * one_at i j) r → weight g r + 2 * k ≤ weight g t
 weight_step g i k t r l done =
     let all = weight_after g t (λ j. k * one_at i j) r done in
@@ -37,7 +36,6 @@ topplings_more g v w i k l counts =
     let here = topplings_at g i k l in
     omega arith
 
--- k legal topplings of the site i
 pub advance_turn : (g : Grid) (v r w q : ℕ → ℕ) (i k : ℕ) → i < sites g → 4 * k ≤ r i → ((j : ℕ) → j < sites g → w j ≡ v j + k * one_at i j) → IsToppled g r (λ j. k * one_at i j) q → Advances g v r w q
 advance_turn g v r w q i k l high counts done = record {
   underway = λ s before. underway_step g s v r w q i k l high before counts done;
@@ -48,7 +46,6 @@ advance_turn g v r w q i k l high counts done = record {
 pub turn_counts : (g : Grid) (v w : ℕ → ℕ) (i k : ℕ) → i < sites g → ((j : ℕ) → j < sites g → w j ≡ v j + k * one_at i j) → 0 < k → topplings g v + 1 ≤ topplings g w
 turn_counts g v w i k l counts some = let count = topplings_more g v w i k l counts in omega arith
 
--- counts and grains stay small
 pub counts_small : (g : Grid) (u t v r : ℕ → ℕ) (i : ℕ) → Advances g u t v r → 2 * topplings g u + weight g t < 2 ^ 55 → i < sites g → v i < 2 ^ 54
 counts_small g u t v r i advances few l =
     let part = at_most_sum_below (sites g) v i l in
@@ -62,7 +59,7 @@ sum_falls g u v h k lh lk advances =
     let falls = advances.grains_fall in
     omega arith
 
--- a whole settling begins with few topplings to come
+-- at the start of a settling the topplings to come are few
 pub few_at_first : (g : Grid) (u : ℕ → ℕ) (h : List ℕ) → IsGrid g → length h ≡ sites g → sum h ≤ most_grains → ((i : ℕ) → u i ≡ 0) → 2 * topplings g u + weight g (λ j. get_or h j 0) < 2 ^ 55
 few_at_first g u h sides each limit none =
     let heavy = weight_bound g (λ j. get_or h j 0) sides in
@@ -73,7 +70,6 @@ few_at_first g u h sides each limit none =
 
 -- ---- at the end
 
--- neither this site nor any other may topple
 pub all_stable : (g : Grid) (t : ℕ → ℕ) (site : ℕ) → t site ≤ 3 → ((j : ℕ) → j < sites g → j ≢ site → t j ≤ 3) → (j : ℕ) → j < sites g → t j ≤ 3
 all_stable g t site low others j l =
     ⊎_elim (λ (e : j ≡ site). let same = ap t e in omega arith) (λ (ne : j ≡ site → ⊥). others j l ne) (cases_eq j site)

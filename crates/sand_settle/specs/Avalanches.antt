@@ -7,7 +7,6 @@ use Rattle.sand_model.specs.Lists.{one_if}
 use Rattle.sand_settle.specs.SiteLists.{has_toppled}
 use Rattle.sand_settle.specs.declared.avalanche.Avalanche.{Avalanche}
 
--- the number of sites that topple
 abbrev pub area_of : Grid → (ℕ → ℕ) → ℕ
 area_of g v = sum_below (sites g) (λ j. one_if (has_toppled v j))
 

@@ -11,7 +11,6 @@ pub record SettledView : Type 0 where
   pub topplings : ℕ
   pub lost : ℕ
 
--- how often each site toppled
 abbrev pub odometer_of : SettledView → ℕ → ℕ
 odometer_of r = slice_index r.odometer
 

@@ -18,7 +18,6 @@ has_toppled u j = nat_lt 0 (u j)
 abbrev pub ListsUnstable : ℕ → List ℕ → List ℕ → Type 0
 ListsUnstable n h xs = Lists n (may_topple (slice_index h)) xs
 
--- how much each number of a list has grown
 abbrev pub grown : List ℕ → List ℕ → ℕ → ℕ
 grown u v j = slice_index v j - slice_index u j
 

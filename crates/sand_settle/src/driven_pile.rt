@@ -106,7 +106,7 @@ impl DrivenPile {
     }
 
     /// Drops a grain at a site, and topples until the pile is stable. Returns the number of the drop, from 0 on, and
-    /// its avalanche. Fails only if the start and all drops have as many grains as the limit (Full), and then changes
+    /// its avalanche. Fails only if the start and all drops have reached the grain limit (Full), and then changes
     /// nothing.
     pub fn drop_at(&mut self, site: usize) -> Result<(u64, Avalanche), OneFault>
         requires { site < sites (grid_of_one_pile self.old) }

@@ -2,9 +2,9 @@
 //!
 //! A drop takes the record out and puts the new one in its place (`replace_with`). The list of heights topples in
 //! place, and the grains of the new pile are known without a sum. So the cost of a drop is proportional to the number
-//! of sites that topple in it. The memory of the first drop serves all later ones, so they never run out of memory
-//! (`room_is_kept`). The record is the same as if all grains had been on the start together (`laws::drops_add_up`). No
-//! count overflows, because of the weight: a grain weighs at most 16,512, and a toppling takes 2 (`IsPaid`).
+//! of sites that topple. The memory of the first drop serves all later ones (`room_is_kept`). The record is the same as
+//! if all grains had been on the start together (`laws::drops_add_up`). No count overflows, because of the weight: a
+//! grain weighs at most 16,512, and a toppling takes 2 (`IsPaid`).
 
 ghost use Rattle.std.specs.Prelude.{◌≡◌, ℕ, ◌+◌, ◌^◌, ◌<◌, ◌≤◌, ◌↔◌, List, [], ◌∷◌, ◌++◌, length, sum, IfOk, IfErr, IfSome, IsSome, IsOk, OnOk, OnErr, IsTrue, IsOkUnless, alloc_error};
 ghost use Rattle.sand_model.specs.Grid.{sites};
@@ -27,7 +27,7 @@ use std::marker::Model;
 #[derive(Debug, Drop)]
 pub struct OnePile {
     settled: Settled,
-    // Made at the first drop.
+    // Allocated at the first drop.
     workspace: Option<Workspace>,
     number: u64,
 }
@@ -107,8 +107,8 @@ impl OnePile {
     }
 
     /// Drops a grain at a site, and topples until the pile is stable. Returns the number of the drop, from 0 on, and
-    /// its avalanche. Fails if the start and all drops have as many grains as the limit (Full), otherwise if an
-    /// allocation fails (Memory), and then changes nothing. After the first drop, no drop fails with Memory.
+    /// its avalanche. Fails if the start and all drops have reached the grain limit (Full), otherwise if an allocation
+    /// fails (Memory), and then changes nothing. After the first drop, no drop fails with Memory.
     pub fn drop_at(&mut self, alloc: Global, site: usize) -> Result<(u64, Avalanche), OneFault>
         requires { site < sites (grid_of_one_pile self.old) }
         ensures number { IfOk result (λ r. r.0 ≡ self.old.number) }
@@ -136,7 +136,6 @@ impl OnePile {
         Ok((number, avalanche))
     }
 
-    // Whether one more grain would exceed the limit.
     fn is_full(&self) -> bool
         ensures full { IsTrue result ↔ (self.now.grains ≡ most_grains) }
         ensures limit { self.now.grains ≤ most_grains }
@@ -160,7 +159,6 @@ impl OnePile {
         self.number
     }
 
-    /// The settled pile.
     pub fn pile(&self) -> &Pile
         ensures { result.now ≡ self.now.settled.pile }
     {

@@ -102,7 +102,6 @@ impl Workspace {
     }
 }
 
-// The settled record of a pile, from its settled heights and its odometer.
 fn record_of(pile: &Pile, rest: Rest) -> Settled
     requires { IsSettledRest pile.now rest }
     ensures record { IsRecord pile.now.grid (height_of pile.now) result }

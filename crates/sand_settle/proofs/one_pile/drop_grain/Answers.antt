@@ -7,7 +7,6 @@ use Rattle.sand_settle.proofs.Drops.{Pours, raised, pours, poured_sum, poured_si
 use Rattle.sand_settle.proofs.one_pile.drop_grain.Goals.{After-settle_at-avalanche}
 use Rattle.sand_settle.proofs.one_pile.drop_grain.Goals as goal
 
--- the result of the grain
 poured : (c : After-settle_at-avalanche) → Pours c.args.settled c.args.drop.1 c.settle_at-avalanche.new.heights c.settle_at-avalanche.new.odometer c.settle_at-avalanche.result
 poured c =
     let items = c.into_parts-shape.ensures.heights ∙ ap (λ (r : SettledView). r.pile.heights) c.settled.view_is in

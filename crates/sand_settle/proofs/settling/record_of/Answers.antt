@@ -17,7 +17,6 @@ overflow_sub-lost c =
     let all = sum_left c.args.pile.now.grid c.args.pile.now.heights c.args.rest.heights.items (λ j. get_or c.args.rest.odometer.items j 0) c.grains-before.ensures.pile.one_each c.requires.heights_each c.requires.settled.toppled in
     omega (arith, c.grains-before.ensures.value, c.grains.ensures.value, ap (λ (p : PileView). sum p.heights) c.from_vec-settled.ensures)
 
--- the record made of the parts
 made : (c : After-grains) → IsRecord c.args.pile.now.grid (height_of c.args.pile.now) (record { pile = c.from_vec-settled.result; odometer = c.args.rest.odometer.items; topplings = sum c.args.rest.odometer.items; lost = c.grains-before.result - c.grains.result })
 made c =
     let heights = ap (λ (p : PileView). p.heights) c.from_vec-settled.ensures in
