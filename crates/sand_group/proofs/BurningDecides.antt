@@ -153,7 +153,6 @@ one_less g set i l here =
     let one : sum_below (sites g) (λ j. 1 * one_at i j) ≡ 1 = sum_below-one_at (sites g) i (λ j. 1) l in
     omega arith
 
--- the sites of a set may burn one after another
 order_from : (n : ℕ) (g : Grid) (s : ℕ → ℕ) (set : ℕ → Bool) → IsRecurrent g s → sum_below (sites g) (indicator set) ≤ n → Orders g s set
 order_from zero g s set recurrent few =
     none_in g s set (λ i l. ⊎_elim (λ (here : set i ≡ true). let less = one_less g set i l here in absurd (omega arith)) (λ (out : set i ≡ false). out) (cases_Bool (set i)))
@@ -180,7 +179,6 @@ order_of g s recurrent =
 
 -- ---- a recurrent pile from an order
 
--- the first site of a set in the order has its neighbours in the set after it
 first_has_others : (g : Grid) (set : ℕ → Bool) (i : ℕ) (later : List ℕ) → IsGrid g → i < sites g → set i ≡ true → ((j : ℕ) → j < sites g → set j ≡ true → 1 ≤ tally (i ∷ later) j) → count_by set (neighbours g i) ≤ count_by (is_in later) (neighbours g i)
 unfolding flow
 first_has_others g set i later grid l here among =

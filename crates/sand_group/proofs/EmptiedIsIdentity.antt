@@ -20,7 +20,6 @@ emptied_is_none g s w done = record {
   difference = λ i l. let e = (toppled_is_integers g s w (λ i. 0)).0 done i l in omega (arith, ints);
 }
 
--- heights of at most 3 are within the limit in total
 pub low_within_limit : (g : Grid) (heights : List ℕ) → IsGrid g → length heights ≡ sites g → All (λ h. h ≤ 3) heights → sum heights ≤ most_grains
 low_within_limit g heights grid len low =
     let all = sum_by-le (λ h. h) 3 heights low in

@@ -19,12 +19,10 @@ use Rattle.sand_group.specs.Fire.{may_burn, is_out, FireSpreadsFrom, CountsUnbur
 use Rattle.sand_model.proofs.NeighboursInSets.{count_within}
 use Rattle.sand_group.proofs.SitesInListing.{is_out-none, is_out-some, is_in_listing, is_out_of_listing}
 
--- one more site burns
 pub fire_spreads_push : (g : Grid) (s : ℕ → ℕ) (before xs : List ℕ) (i : ℕ) → FireSpreadsFrom g s before xs → count_by (is_out (before ++ xs)) (neighbours g i) ≤ s i → FireSpreadsFrom g s before (xs ++ i ∷ [])
 fire_spreads_push g s before [] i burnt high = (rw (sym (append-nil before)) high, tt)
 fire_spreads_push g s before (x ∷ xs) i burnt high = (burnt.0, fire_spreads_push g s (before ++ x ∷ []) xs i burnt.1 (rw (append_assoc before (x ∷ []) xs) high))
 
--- no site of a forbidden set burns
 forbidden_unburnt : (g : Grid) (s : ℕ → ℕ) (set : ℕ → Bool) (before xs : List ℕ) → IsForbidden g s set → All (λ i. i < sites g) xs → ((j : ℕ) → set j ≡ true → tally before j ≡ 0) → FireSpreadsFrom g s before xs → (j : ℕ) → set j ≡ true → tally xs j ≡ 0
 forbidden_unburnt g s set before [] bad below none burnt j in' = refl
 forbidden_unburnt g s set before (x ∷ xs) bad below none burnt j in' =
@@ -45,7 +43,6 @@ forbidden_unburnt g s set before (x ∷ xs) bad below none burnt j in' =
     let zero = one_at_other x j (out j in') in
     omega arith
 
--- the order of burning is a burning order
 in_turn : (g : Grid) (s : ℕ → ℕ) (before xs : List ℕ) → All (λ i. i < sites g) xs → ((j : ℕ) → tally before j + tally xs j ≤ 1) → FireSpreadsFrom g s before xs → BurnsInOrder g s xs
 in_turn g s before [] below once burnt = tt
 in_turn g s before (x ∷ xs) below once burnt = (
@@ -105,7 +102,6 @@ pub missing_at_most_four : (g : Grid) (i : ℕ) → missing g i ≤ 4
 unfolding missing
 missing_at_most_four g i = omega arith
 
--- if nothing burns yet, the numbers of unburnt neighbours are those of all neighbours
 pub counts_none : (g : Grid) (unburnt : ℕ → ℕ) → ((i : ℕ) → i < sites g → unburnt i + missing g i ≡ 4) → CountsUnburnt g [] unburnt
 unfolding missing
 counts_none g unburnt full = record {
@@ -116,7 +112,6 @@ counts_none g unburnt full = record {
       omega arith;
 }
 
--- one more number, for the next site
 pub counts_push : (g : Grid) (xs : List ℕ) (n v : ℕ) → length xs ≡ n → ((k : ℕ) → k < n → get_or xs k 0 + missing g k ≡ 4) → v + missing g n ≡ 4 → (k : ℕ) → k < n + 1 → get_or (xs ++ v ∷ []) k 0 + missing g k ≡ 4
 counts_push g xs n v len before here k l =
     ⊎_elim (λ (e : k ≡ n). let read = get_or_push xs v 0 k (omega arith) in let same = ap (missing g) e in omega arith)

@@ -10,7 +10,6 @@ use Rattle.sand_group.specs.Recurrence.{IsRecurrent}
 use Rattle.sand_group.specs.Group.{Represents, IsSum, IsMultiple, IsIdentity}
 use Rattle.sand_group.proofs.OperationsSettle.{class_has_one, represents_itself, represented_once}
 
--- what represents x represents y, if x and y are equal at each site
 represents_same : (g : Grid) (x y : ℕ → ℤ) (c : ℕ → ℕ) → ((i : ℕ) → i < sites g → x i ≡ y i) → Represents g x c → Represents g y c
 represents_same g x y c equal is = record {
   recurrent = is.recurrent;
@@ -40,7 +39,6 @@ multiples_sum g n m c a b e one two sum =
           (equivalent_same g (λ i. whole a i +ℤ whole b i) (λ i. pos (n * c i) +ℤ pos (m * c i)) (λ i. pos (a i + b i)) (λ i. pos ((n + m) * c i)) both (λ i l. omega (arith, ints)));
     }
 
--- the same for any number equal to k + m
 pub sum_is_multiple : (g h : Grid) (n k m : ℕ) (c a b e : ℕ → ℕ) → h ≡ g → n ≡ k + m → IsMultiple g k c a → IsMultiple g m c b → IsSum h a b e → IsMultiple g n c e
 sum_is_multiple g h n k m c a b e same is one two sum = rw is (multiples_sum g k m c a b e one two (rw same at sum))
 

@@ -16,14 +16,12 @@ use Rattle.sand_group.specs.Recurrence.{IsRecurrent}
 use Rattle.sand_group.specs.Group.{IsSettledPile, IsSurplus, IsIdentity, IsEquivalentRecurrent}
 use Rattle.sand_group.proofs.OperationsSettle.{equivalent_is_settled, represents_itself, represented_once}
 
--- heights of at most 12 are within the limit in total
 pub within_limit : (g : Grid) (heights : List ℕ) → IsGrid g → length heights ≡ sites g → All (λ h. h ≤ 12) heights → sum heights ≤ most_grains
 within_limit g heights grid len low =
     let all = sum_by-le (λ h. h) 12 heights low in
     let area = sites_limit g grid in
     omega arith
 
--- the heights of a stable pile, one by one
 pub low_heights : (p : PileView) (heights : List ℕ) → IsPile p → heights ≡ p.heights → IsStable p.grid (height_of p) → All (λ h. h ≤ 3) heights
 low_heights p heights is same stable =
     rw same (All-from_get_or (λ h. h ≤ 3) p.heights 0 (λ i l. let each = is.one_each in stable.low i (omega arith)))

@@ -28,7 +28,7 @@ high_recurrent : (g : Grid) (s u t : ℕ → ℕ) → IsSettled g s u t → ((i 
 high_recurrent g s u t done high =
     settled_recurrent g (λ i. s i - 3) u t (settled_same g s (λ i. 3 + (s i - 3)) u u t t (λ i l. let h = high i l in omega arith) (λ i l. refl) (λ i l. refl) done)
 
--- such a d is at least 3 at each site
+-- d is at least 3 at each site
 surplus_high : (g : Grid) (d : ℕ → ℕ) → IsSurplus g d → (i : ℕ) → i < sites g → 3 ≤ d i
 surplus_high g d is i l =
     let e = is.difference i l in
@@ -40,7 +40,6 @@ surplus_is_none g d is =
     equivalent_same g (whole (λ i. 6)) (whole is.rest) (whole d) (λ i. pos 0) (settled_equivalent g (λ i. 6) is.odometer is.rest is.settled)
     (λ i l. let e = is.difference i l in omega (arith, ints))
 
--- there is such a d
 pub some_surplus : (g : Grid) → (d : ℕ → ℕ) × IsSurplus g d
 some_surplus g =
     let full = settles g (λ i. 6) in (

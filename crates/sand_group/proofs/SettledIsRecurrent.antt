@@ -15,7 +15,6 @@ use Rattle.sand_group.specs.Recurrence.{IsRecurrent}
 use Rattle.sand_model.specs.Forbidden.{IsForbidden}
 use Rattle.sand_model.proofs.NeighboursInSets.{flow_at_most_four, north_of_four}
 
--- the northern neighbour has a smaller number
 north_before : (g : Grid) (i j : ℕ) → i < sites g → north g i ≡ Some j → j < i
 unfolding north
 north_before g i j l e =

@@ -10,7 +10,6 @@ use Rattle.sand_model.proofs.Lists.{listed, unlisted}
 use Rattle.sand_group.specs.Recurrence.{is_in}
 use Rattle.sand_group.specs.Fire.{is_out}
 
--- what has no tally is outside a list, and what has one is in it
 pub is_out-none : (xs : List ℕ) (i : ℕ) → tally xs i ≡ 0 → is_out xs i ≡ true
 is_out-none xs i none = ap not (le-ltb 0 (tally xs i) (omega arith))
 

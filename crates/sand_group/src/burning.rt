@@ -21,7 +21,7 @@ use crate::faults::GroupFault;
 use sand_model::{Lattice, Pile};
 use std::alloc::{AllocError, Global};
 
-/// What the burning test found.
+/// The result of the burning test.
 #[derive(Debug, Drop)]
 pub enum Burned {
     /// A burning order: all sites, each once; the height of each is at least the number of its neighbours that come
@@ -31,7 +31,7 @@ pub enum Burned {
     Forbidden(Vec<usize>),
 }
 
-// For each site, the number of its neighbours. None of them has burnt yet.
+// For each site, the number of its neighbours: none has burnt yet.
 fn neighbour_counts(alloc: Global, lattice: &Lattice) -> Result<Vec<u8>, AllocError>
     ensures one_each { IfOk result (λ v. length v.items ≡ sites lattice.now) }
     ensures counts { IfOk result (λ v. CountsUnburnt lattice.now [] (slice_index v.items)) }

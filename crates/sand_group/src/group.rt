@@ -64,7 +64,6 @@ impl Recurrent {
     {
         match self.pile.copy(alloc) {
             Ok(pile) => Ok(Recurrent { pile }),
-            // A copy fails only if an allocation does.
             Err(_) => Err(GroupFault::Memory(AllocError)),
         }
     }
@@ -77,7 +76,6 @@ impl Recurrent {
     }
 }
 
-// Settles a list of heights.
 pub(crate) fn settled(alloc: Global, shape: Shape, heights: Vec<u64>) -> Result<Pile, GroupFault>
     requires one_each { length heights.items ≡ sites shape }
     requires low { All (λ h. h ≤ 12) heights.items }
@@ -117,7 +115,6 @@ fn six_less(alloc: Global, heights: &[u64]) -> Result<Vec<u64>, AllocError>
     Ok(rests)
 }
 
-// 2 * `twice` - `less`, by site.
 fn twice_less(alloc: Global, twice: &[u64], less: &[u64]) -> Result<Vec<u64>, AllocError>
     requires same_length { length less.now ≡ length twice.now }
     requires high { All (λ h. 3 ≤ h) twice.now }

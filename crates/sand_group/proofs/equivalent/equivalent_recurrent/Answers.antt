@@ -4,7 +4,6 @@ use Rattle.sand_group.specs.Group.{IsEquivalentRecurrent}
 use Rattle.sand_group.proofs.OperationsOnHeights.{equivalent_settles, equivalent_itself, recurrent_of}
 use Rattle.sand_group.proofs.equivalent.equivalent_recurrent.Goals as goal
 
--- the result is the recurrent pile of the class
 found : (c : goal.In_ok-settled) → IsEquivalentRecurrent c.args.pile.now.grid (height_of c.args.pile.now) c.in_ok-settled.field-0
 found c =
     let start = c.in_ok-settle.ensures.record in
@@ -18,7 +17,7 @@ found c =
 pub invariant_of-result : goal.invariant_of-result
 invariant_of-result c = recurrent_of c.args.pile.now.grid (height_of c.args.pile.now) c.in_ok-settled.field-0 (found c)
 
--- the same after the drops at the end of the body
+-- `found`, after the drops at the end of the body
 still_found : (c : goal.After-drop-start-inside-2) → IsEquivalentRecurrent c.args.pile.now.grid (height_of c.args.pile.now) c.in_ok-settled.field-0
 still_found c = found c.before.before.before
 
