@@ -1,5 +1,6 @@
-//! A stable pile on tiles, for dropping grains one by one. It allocates all memory that its drops need, so that no drop
-//! can fail.
+//! A stable pile on tiles, for dropping grains one by one.
+//!
+//! It allocates all memory that its drops need, so that no drop can fail.
 
 ghost use Rattle.std.specs.Prelude.{◌≡◌, ℕ, ◌+◌, ◌-◌, ◌^◌, ◌<◌, ◌≤◌, length, slice_index, IfOk};
 ghost use Rattle.sand_model.specs.Grid.{missing, sites};

@@ -1,5 +1,4 @@
-//! Sandpiles on a rectangular grid with open edges or on a cylinder, the toppling of one site, and the laws of
-//! toppling.
+//! Sandpiles on a grid with open edges or on a cylinder, the toppling of one site, and the laws of toppling.
 //!
 //! The definitions of the subject are in `specs/`: `Grid` (sites and neighbours), `Columns` (a table of the columns and
 //! rows of all sites), `Sand` (topplings, what stabilises, the least odometer), `Forbidden` (forbidden sets),

@@ -1,5 +1,4 @@
-//! The pile of one thread, driven by fronts: like `OnePile`, but its heights and its odometer are on tiles until they
-//! are read.
+//! The pile of one thread, driven by fronts: like `OnePile`, but its heights and odometer are on tiles until read.
 //!
 //! All memory is allocated with the pile, so no drop allocates. A drop topples 64 sites a step (`sand_fronts`). Its
 //! result is the settled record of the start and the drops, by the same definitions (`IsAfter`, `Drops`,

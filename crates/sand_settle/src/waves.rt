@@ -1,8 +1,8 @@
 //! What one drop topples, in waves of topplings.
 //!
-//! Before a drop no site has more than 3 grains, so after it at most the site of the drop has 4. In one wave this site
-//! topples once and is then held, and each other site that reaches 4 topples. If the held site has 4 again, the next
-//! wave follows.
+//! Before a drop no site has more than 3 grains, so after it only the site of the drop may have 4. In one wave this
+//! site topples once and is then held, and each other site that reaches 4 topples. If the held site has 4 again, the
+//! next wave follows.
 //!
 //! - **No site topples twice in a wave.** It had at most 3 grains, gains at most one from each of its 4 neighbours, and
 //!   loses 4 when it topples, so it then has at most 3. The held site could have 4 again; it waits for the next wave.
