@@ -5,7 +5,8 @@ import unittest
 from pathlib import Path
 
 HERE = Path(__file__).resolve().parent
-sys.path[:0] = [str(HERE), str(HERE.parent)]
+sys.path[:0] = [str(HERE), str(HERE.parent), str(HERE.parent.parent / "tools")]
+import common
 
 
 class Counting(unittest.TextTestResult):
@@ -28,9 +29,8 @@ def main(names):
     tests = unittest.TestSuite(loader.discover(str(HERE), pattern) for pattern in patterns)
     result = unittest.TextTestRunner(sys.stdout, verbosity=0, resultclass=Counting).run(tests)
     failed = len(result.failures) + len(result.errors)
-    print(f"python: {result.passed} passed, {failed} failed, {len(result.skipped)} left out")
-    return 1 if failed or not result.passed else 0
+    return common.closing("python", result.passed, failed, len(result.skipped))
 
 
 if __name__ == "__main__":
-    sys.exit(main(sys.argv[1:]))
+    common.start(main)

@@ -1,4 +1,4 @@
-"""Run by test_memory.py with refusals/refuse.c preloaded: refuses an allocation of each export, the first, then the
+"""Run by test_memory.py with tools/refuse.c preloaded: refuses an allocation of each export, the first, then the
 second, and so on until none is left. Only the export is refused memory, not NumPy or Python."""
 
 import ctypes

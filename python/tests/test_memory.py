@@ -6,7 +6,8 @@ import sys
 import unittest
 from pathlib import Path
 
-from tools import needs, new_folder, refusing_library
+from common import refusing_library
+from tools import needs, new_folder
 
 HERE = Path(__file__).resolve().parent
 CALLS = ["settle", "high", "drop", "burn", "identity", "recurrent", "add", "inverse", "multiple"]
@@ -16,9 +17,9 @@ class Memory(unittest.TestCase):
     @needs("cc")
     def test_each_failed_allocation_is_fault_4(self):
         folder = new_folder(self)
-        env = {**os.environ, "LD_PRELOAD": str(refusing_library(folder)), "PYTHONPATH": str(HERE.parent)}
+        env = {**os.environ, **refusing_library(folder), "PYTHONPATH": str(HERE.parent)}
         ended = subprocess.run(
-            [sys.executable, "-B", HERE / "refused.py"], env=env, capture_output=True, text=True, timeout=600
+            [sys.executable, "-B", HERE / "refused.py"], cwd=folder, env=env, capture_output=True, text=True, timeout=600
         )
         self.assertEqual(ended.returncode, 0, ended.stdout + ended.stderr)
         lines = ended.stdout.splitlines()

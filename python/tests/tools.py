@@ -7,11 +7,10 @@ import tempfile
 import unittest
 from pathlib import Path
 
+import common
 import numpy as np
 
-TOP = Path(__file__).resolve().parents[2]
-PROGRAM = TOP / "crates" / "sandpile" / "out" / "sandpile"
-LIBRARY = TOP / "crates" / "sand_c" / "out"
+TOP, PROGRAM, LIBRARY = common.TOP, common.PROGRAM, common.LIBRARY.parent
 
 
 def needs(*tools):
@@ -55,13 +54,6 @@ def ran(*words, **how):
     if ended.returncode:
         raise AssertionError(f"{words} ended with status {ended.returncode}:\n{ended.stdout}")
     return ended.stdout
-
-
-def refusing_library(folder):
-    """The library of refusals/ that makes allocations fail."""
-    made = Path(folder) / "refuse.so"
-    ran("cc", "-O2", "-shared", "-fPIC", "-o", made, TOP / "refusals" / "refuse.c")
-    return made
 
 
 def new_folder(test):

@@ -4,7 +4,7 @@
 //! `faults` has the table of faults that `sandpile explain` prints. `advising` examines a rejected input and adds what
 //! the line of its fault leaves out. `misuse` examines the words. `progress` shows how far a long command is.
 //!
-//! No script reads these texts, so no contract fixes their words: `cases/at-a-terminal` shows them.
+//! No script reads these texts, so no contract fixes their words: `tools/at-a-terminal` shows them.
 #![tactic(auto)]
 
 mod advising;

@@ -24,7 +24,7 @@ pub fn write_version<W: Write>(writer: &mut W) -> Result<(), DeskFault>
     ensures err { IfErr result (λ e. (sent : ℕ) × (e ≡ DeskFault.Write sent) × (sent ≤ length version_text)
         × Appends (W.contents writer.old) (W.contents writer.new) (take sent version_text)) }
 {
-    // `docs/try-examples` compares the logic with that of `rt version`.
+    // `tools/try-examples` compares the logic with that of `rt version`.
     write_text(
         writer,
         b"sandpile 1.0.0, proved with rattle-kit-13f, logic dac8208d650f15bf\n",

@@ -5,7 +5,7 @@
 //! reports out of memory and nothing else, and leaves its arguments unchanged. Repeated on the same arguments, it then
 //! returns values worked out by hand.
 //!
-//! A program cannot refuse its own allocations. `refusals/run`, which the gate calls, loads a library that does; under
+//! A program cannot refuse its own allocations. `tools/refusals`, which the gate calls, loads a library that does; under
 //! plain `rt ci` nothing is refused, and each call is made once. Each trial prints how many allocations were refused.
 #![tactic(auto)]
 

@@ -1,0 +1,192 @@
+"""What several scripts share: where things are, the closing line, the help of the program, and how a script ends."""
+
+from __future__ import annotations
+
+import contextlib
+import os
+import re
+import shutil
+import signal
+import subprocess
+import sys
+from collections.abc import Callable, Iterator
+from pathlib import Path
+from typing import Any, NamedTuple, NoReturn
+
+TOP = Path(__file__).resolve().parent.parent
+PROGRAM = TOP / "crates" / "sandpile" / "out" / "sandpile"
+# `rt ci` leaves two programs. The second one is made by Rattle's own compiler.
+PROGRAMS = (PROGRAM, PROGRAM.with_name("sandpile.by-rattle"))
+LIBRARY = TOP / "crates" / "sand_c" / "out" / "libsandpile.so.1"
+WITH_NUMPY = TOP / "python" / "with-numpy"
+
+
+# How a script runs and ends.
+
+class Told(KeyboardInterrupt):
+    """SIGTERM tells the script to end, as Ctrl-C does."""
+
+
+def end_by_signal(number: int, _: object) -> NoReturn:
+    raise Told(number)
+
+
+def start(main: Callable[[list[str]], int]) -> NoReturn:
+    """Runs a script with the words of its command line. Ctrl-C and SIGTERM end it in good order: what it runs is ended, and its
+    temporary folders are removed. A failed command or call of the system is reported in one line."""
+    name = Path(sys.argv[0]).name
+    signal.signal(signal.SIGTERM, end_by_signal)
+    sys.stdout.reconfigure(line_buffering=True)
+    try:
+        sys.exit(main(sys.argv[1:]))
+    except KeyboardInterrupt as told:
+        sys.exit(128 + (told.args[0] if told.args else signal.SIGINT))
+    except BrokenPipeError:
+        os.dup2(os.open(os.devnull, os.O_WRONLY), sys.stdout.fileno())
+        sys.exit(128 + signal.SIGPIPE)
+    except (OSError, shutil.Error, subprocess.SubprocessError) as error:
+        sys.exit(f"{name}: {reason(error)}")
+
+
+def reason(error: Exception) -> str:
+    """What went wrong, in one line."""
+    if isinstance(error, subprocess.CalledProcessError):
+        ended = f"was ended by signal {-error.returncode}" if error.returncode < 0 else f"ended with status {error.returncode}"
+        return f"`{spelled(error.cmd)}` {ended}"
+    if isinstance(error, subprocess.TimeoutExpired):
+        return f"`{spelled(error.cmd)}` took over {error.timeout:.0f} seconds"
+    if isinstance(error, shutil.Error) and isinstance(error.args[0], list):  # of all files that could not be copied
+        return re.sub(r"^\[Errno \d+\] ", "", str(error.args[0][0][2]))
+    if isinstance(error, OSError) and error.filename is not None:
+        return f"{os.fsdecode(error.filename2 or error.filename)}: {error.strerror}"
+    return " ".join(str(error).split())
+
+
+def spelled(words: Any) -> str:
+    return " ".join(map(str, words))
+
+
+def end(process: subprocess.Popen, grace: float = 10) -> None:
+    """Ends a process that leads a session, and all that it has started there, unless it has ended."""
+    if process.returncode is None:
+        os.killpg(process.pid, signal.SIGTERM)
+        with contextlib.suppress(subprocess.TimeoutExpired):
+            process.wait(grace)
+        with contextlib.suppress(ProcessLookupError):
+            os.killpg(process.pid, signal.SIGKILL)
+
+
+@contextlib.contextmanager
+def script(words: list[Any], **how: Any) -> Iterator[subprocess.Popen]:
+    """Runs a script of this repository at the top. If this script is told to end, that one is, and this one waits for it."""
+    with subprocess.Popen(words, cwd=TOP, **how) as process:
+        try:
+            yield process
+            process.wait()
+        except BaseException as told:
+            if type(told) is KeyboardInterrupt:  # which a terminal sends to both
+                with contextlib.suppress(subprocess.TimeoutExpired):
+                    process.wait(10)
+            process.terminate()
+            process.wait()
+            raise
+
+
+def run(words: list[Any], *, timeout: float | None = None, check: bool = False, **how: Any) -> subprocess.CompletedProcess:
+    """Runs a command as `subprocess.run` does, but in a session of its own. If the wait ends early, by a timeout or because this
+    script is stopped, then all of the session ends."""
+    with subprocess.Popen(words, start_new_session=True, **how) as process:
+        try:
+            output, errors = process.communicate(timeout=timeout)
+        except BaseException:
+            end(process)
+            raise
+    ended = subprocess.CompletedProcess(words, process.returncode, output, errors)
+    if check:
+        ended.check_returncode()
+    return ended
+
+
+def usage(text: str | None, words: list[str]) -> int:
+    """Prints how a script is called, and returns the exit status: 0 if its words asked for that, and 2 for misuse."""
+    is_asked = words in (["-h"], ["--help"])
+    print((text or "").strip(), file=sys.stdout if is_asked else sys.stderr)
+    return 0 if is_asked else 2
+
+
+def closing(name: str, passed: int, failed: int, left_out: int | None = None) -> int:
+    """Prints the closing line, and returns the exit status: 0 if something passed and nothing failed."""
+    print(f"{name}: {passed} passed, {failed} failed" + ("" if left_out is None else f", {left_out} left out"))
+    return 0 if passed and not failed else 1
+
+
+# Crates.
+
+class Crate(NamedTuple):
+    """A crate's line in crates.txt, and the crates and libraries that it uses."""
+
+    line: str
+    uses: list[str]
+
+
+def crates() -> dict[str, Crate]:
+    """The crates of crates.txt, by name."""
+    lines = [line for line in (TOP / "crates.txt").read_text().splitlines() if line and not line.startswith("#")]
+    return {line.partition(":")[0].split()[0]: Crate(line, line.partition(":")[2].split()) for line in lines}
+
+
+# C.
+
+def need(tool: str, why: str) -> None:
+    """Ends the script if a command is not on the path."""
+    if not shutil.which(tool):
+        sys.exit(f"{Path(sys.argv[0]).name}: `{tool}` is not on the PATH, and it {why}")
+
+
+def compiled(source: Path, made: Path, *options: str) -> Path:
+    """Compiles a source in C."""
+    need("cc", f"compiles {source.name} (on Debian: apt-get install gcc libc6-dev)")
+    run(["cc", "-O2", *options, "-o", made, source], check=True)
+    return made
+
+
+def queue(folder: Path) -> Path:
+    """Compiles the plain queue in C that drops and settles as the program does."""
+    return compiled(TOP / "tools" / "bench" / "queue.c", folder / "queue", "-std=c99")
+
+
+def refusing_library(folder: Path) -> dict[str, str]:
+    """Compiles the library that makes allocations fail. Returns what a program that is run in this folder needs in its environment
+    to load it. The loader splits this text at spaces and colons, which the path of the folder may have."""
+    made = compiled(TOP / "tools" / "refuse.c", folder / "refuse.so", "-Wall", "-Wextra", "-Werror", "-shared", "-fPIC")
+    return {"LD_PRELOAD": f"./{made.name}"}
+
+
+# The help of the program.
+
+def said(program: Path, *words: str) -> str:
+    """What the program writes."""
+    return subprocess.run([program, *words], check=True, stdout=subprocess.PIPE, text=True).stdout
+
+
+def version_of(program: Path) -> str:
+    """Name and version, such as `sandpile 1.0.0`."""
+    return said(program, "--version").partition(",")[0]
+
+
+def section_of(text: str, name: str) -> list[str]:
+    """The lines of a section of help, such as `Options:`."""
+    found = re.search(rf"^{name}:\n((?:  .*\n)+)", text, re.M)
+    return found[1].splitlines() if found else []
+
+
+def commands_of(program: Path) -> dict[str, str]:
+    """The commands that help lists, and what each does."""
+    lines = (re.match(r"  (\w+) +(.*)", line) for line in section_of(said(program, "-h"), "Commands"))
+    return {line[1]: line[2] for line in lines if line}
+
+
+def options_of(program: Path, *words: str) -> dict[str, str]:
+    """The options in short help, such as `-h, --help` or `--seed <N>`, and what each does."""
+    lines = (re.match(r" +((?:-\w, )?--[\w-]+(?: <\w+>)?)  +(.*)", line) for line in section_of(said(program, *words, "-h"), "Options"))
+    return {line[1]: line[2].replace(" (see more with '--help')", "") for line in lines if line}
