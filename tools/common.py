@@ -175,8 +175,8 @@ def version_of(program: Path) -> str:
 
 
 def section_of(text: str, name: str) -> list[str]:
-    """The lines of a section of help, such as `Options:`."""
-    found = re.search(rf"^{name}:\n((?:  .*\n)+)", text, re.M)
+    """The lines of a section of help, such as `Options:`. They are indented or empty."""
+    found = re.search(rf"^{name}:\n((?:(?:  .*)?\n)+)", text, re.M)
     return found[1].splitlines() if found else []
 
 
