@@ -2,7 +2,6 @@
 use Rattle.std.proofs.Common.{◌≡◌, ℕ, zero, suc, ◌+◌, ◌-◌, ◌*◌, ◌^◌, ◌<◌, ◌≤◌, List, [], All, length, sum, sym, refl, ap, ◌∙◌, subst, ⊎_elim, arith}
 use Rattle.std.specs.Prelude.{slice_index}
 use Rattle.std.proofs.lemmas.Bool.{cases_eq}
-use Rattle.atomic_table.specs.declared.shared.Seat.{Seat}
 use Rattle.sand_model.specs.Grid.{Grid, sites}
 use Rattle.sand_model.specs.Sand.{IsSettled, IsUnderway, IsToppled, flow, sum_below, grains, tally, topplings as topplings_of, lost as lost_of}
 use Rattle.sand_model.specs.Piles.{PileView, height_of, most_grains}
@@ -12,11 +11,13 @@ use Rattle.sand_model.proofs.Heights.{sum_is_grains}
 use Rattle.sand_model.proofs.Bounds.{topplings_bound}
 use Rattle.sand_model.proofs.Sandpile.{laplacian_sum, settles_after, settled_same}
 use Rattle.sand_settle.specs.Settling.{SettledView, IsRecord, odometer_of}
+use Rattle.sand_shared.specs.declared.bare.BarePass.TheInside.{Inside}
 use Rattle.sand_shared.specs.declared.view.View.{View}
 use Rattle.sand_shared.specs.declared.view.Terms.{Terms}
 use Rattle.sand_shared.specs.OpenPile.{grid_of_terms, dropped, poured, toppled_by}
 use Rattle.sand_shared.specs.Events.{look}
-use Rattle.sand_shared.specs.Passes.{PassView, SharedView, at_rest, IsPass, IsPassOf, IsWhole}
+use Rattle.sand_shared.specs.Bare.{shown, IsBare}
+use Rattle.sand_shared.specs.Passes.{PassView, SharedView, at_rest, IsPassOf, IsWhole}
 use Rattle.sand_shared.specs.Rows.{count_of}
 use Rattle.sand_shared.specs.Record.{Tells}
 use Rattle.sand_shared.specs.Running.{Stands, Happened}
@@ -73,12 +74,12 @@ pub record IsCompletedBy (t : Terms) (p : PassView) (r : SettledView) (a : ℕ) 
   pub all : HasGathered t p
   pub rest : IsRestOf t p r
 
-pub completed_by : {w w' : SharedView} {p p' : PassView} {r : SettledView} {seat : Seat ℕ View} {room a : ℕ} {v : View} → w ≡ w' → p ≡ p' → IsPass seat p room → IsPassOf w' p' → IsWhole w'.terms p' → IsRestOf w'.terms p' r → v ≡ seat.me.0
-    → Stands w.terms a v → IsCompletedBy w.terms p r a v
+pub completed_by : {w w' : SharedView} {p' : PassView} {x : Inside} {r : SettledView} {a : ℕ} {v : View} → w ≡ w' → shown x ≡ p' → IsBare x → IsPassOf w' p' → IsWhole w'.terms p' → IsRestOf w'.terms p' r → v ≡ x.seat.me.0
+    → Stands w.terms a v → IsCompletedBy w.terms (shown x) r a v
 completed_by {r = r} {v = v} pile_is pass_is inv of_pile whole rest kept stands = record {
   stands = stands;
   me = known_is v _ (kept ∙ (λ i. (inv.me i).0));
-  all = gathered pile_is pass_is inv of_pile whole;
+  all = gathered pile_is pass_is inv.pass of_pile whole;
   rest = subst (λ (z : SharedView × PassView). IsRestOf z.0.terms z.1 r) (λ i. (sym pile_is i, sym pass_is i)) rest;
 }
 

@@ -2,17 +2,18 @@
 -- the settled pile of the start and all drops, and the counts are the least odometer.
 use Rattle.std.proofs.Common.{◌≡◌, ℕ, ◌+◌, ◌-◌, ◌*◌, ◌<◌, List, [], All, length, sym, refl, ap, ◌∙◌, subst, arith}
 use Rattle.std.specs.Prelude.{slice_index, nat_lt}
-use Rattle.atomic_table.specs.declared.shared.Seat.{Seat}
 use Rattle.atomic_table.specs.Table.{Me}
 use Rattle.sand_model.specs.Grid.{sites}
 use Rattle.sand_model.specs.Sand.{IsSettled, tally}
 use Rattle.sand_model.specs.Piles.{height_of}
 use Rattle.sand_model.specs.Lists.{one_if}
 use Rattle.sand_model.proofs.Flow.{flow_same}
+use Rattle.sand_shared.specs.declared.bare.BarePass.TheInside.{Inside}
 use Rattle.sand_shared.specs.declared.view.View.{View}
 use Rattle.sand_shared.specs.declared.view.Receipt.{Receipt}
 use Rattle.sand_shared.specs.declared.view.Terms.{Terms}
 use Rattle.sand_shared.specs.OpenPile.{nobody, grid_of_terms, numbered, dropped, toppled_by, toppled, poured, pass_at}
+use Rattle.sand_shared.specs.Bare.{shown, IsBare}
 use Rattle.sand_shared.specs.Passes.{PassView, SharedView, AllBelow, IsPass, IsPassOf, IsWhole, at_rest}
 use Rattle.sand_shared.specs.Events.{looked}
 use Rattle.sand_shared.specs.Rows.{count_of}
@@ -118,7 +119,7 @@ pub record HasGathered (t : Terms) (p : PassView) : Type 0 where
   pub whole : IsWhole t p
   pub below : AllBelow p.seen p.receipts
 
-pub gathered : {w w' : SharedView} {p p' : PassView} {seat : Seat ℕ View} {room : ℕ} → w ≡ w' → p ≡ p' → IsPass seat p room → IsPassOf w' p' → IsWhole w'.terms p' → HasGathered w.terms p
+pub gathered : {w w' : SharedView} {p p' : PassView} → w ≡ w' → p ≡ p' → IsPass p → IsPassOf w' p' → IsWhole w'.terms p' → HasGathered w.terms p
 gathered pile_is pass_is inv of_pile whole = record {
   grid = ap (λ (q : PassView). q.grid) pass_is ∙ of_pile.grid ∙ sym (ap (λ (z : SharedView). grid_of_terms z.terms) pile_is);
   one_each = inv.one_each;
@@ -139,13 +140,13 @@ pub record IsClosedBy (t : Terms) (p : PassView) (counts heights : List ℕ) (a 
   pub same_rows : length counts ≡ length p.counts
   pub calm : IsCalm t (record (at_rest p) { counts = counts })
 
-pub closed_by : {w w' : SharedView} {p p' : PassView} {seat : Seat ℕ View} {room a : ℕ} {v : View} {counts heights : List ℕ} → w ≡ w' → p ≡ p' → IsPass seat p room → IsPassOf w' p' → IsWhole w'.terms p'
-    → IsLast w.terms a v heights → v ≡ record (looked seat.me.0 v.spot v.least) { counts = counts } → length counts ≡ length p.counts → IsCalm w.terms (with_counts seat.me.0 counts)
-    → IsClosedBy w.terms p counts heights a v
+pub closed_by : {w w' : SharedView} {p' : PassView} {x : Inside} {a : ℕ} {v : View} {counts heights : List ℕ} → w ≡ w' → shown x ≡ p' → IsBare x → IsPassOf w' p' → IsWhole w'.terms p'
+    → IsLast w.terms a v heights → v ≡ record (looked x.seat.me.0 v.spot v.least) { counts = counts } → length counts ≡ length x.counts.items → IsCalm w.terms (with_counts x.seat.me.0 counts)
+    → IsClosedBy w.terms (shown x) counts heights a v
 closed_by {w = w} {v = v} {counts = counts} pile_is pass_is inv of_pile whole last swept long calm = record {
   last = last;
   me = swept ∙ (λ i. record (looked (inv.me i).0 v.spot v.least) { counts = counts });
-  all = gathered pile_is pass_is inv of_pile whole;
+  all = gathered pile_is pass_is inv.pass of_pile whole;
   same_rows = long;
   calm = subst (λ (m : Me ℕ View). IsCalm w.terms (with_counts m.0 counts)) inv.me calm;
 }

@@ -20,8 +20,9 @@ pub mod EventsInARow
 pub mod StepsOnWords
 pub mod RowsSplit
 pub mod RowsJoined
+pub mod PassesSplit
 pub mod PassesJoined
-pub mod StillBare
+pub mod SeatOfPass
 pub mod SumOfCounts
 pub mod PassKnowsPile
 pub mod SentToNeighbours

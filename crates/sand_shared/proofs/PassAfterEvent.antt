@@ -3,7 +3,7 @@ use Rattle.std.proofs.Common.{◌≡◌, ℕ, ◌≤◌, length, sym, ap, ◌∙
 use Rattle.sand_shared.specs.declared.view.View.{View}
 use Rattle.sand_shared.specs.declared.view.Terms.{Terms}
 use Rattle.sand_shared.specs.OpenPile.{nobody, pass_at}
-use Rattle.sand_shared.specs.Events.{draw, look, unload, drew, looked, unloaded}
+use Rattle.sand_shared.specs.Events.{draw, count, look, unload, drew, counted, looked, unloaded}
 use Rattle.sand_shared.specs.Running.{Happened}
 use Rattle.sand_shared.proofs.WordsShowPile.{pass_at-with}
 
@@ -12,6 +12,9 @@ module _ (t : Terms) (a i k : ℕ) (v w : View) (n : ℕ) where
   drew_is h =
       let p = h.before.pile in
       sym h.pass_after ∙ pass_at-with p a (drew (pass_at p a) (length p.drawn) i) h.before.there ∙ (λ q. drew (h.before.pass q) (sym h.number q) i)
+
+  pub counted_is : Happened t (count a) v n w → w ≡ counted v n
+  counted_is h = let p = h.before.pile in sym h.pass_after ∙ pass_at-with p a (counted (pass_at p a) (length p.drawn)) h.before.there ∙ (λ q. counted (h.before.pass q) (sym h.number q))
 
   pub looked_is : Happened t (look a i) v n w → w ≡ looked v i n
   looked_is h = let p = h.before.pile in sym h.pass_after ∙ pass_at-with p a (looked (pass_at p a) i (p.height i)) h.before.there ∙ (λ q. looked (h.before.pass q) i (sym h.number q))
@@ -22,6 +25,13 @@ module _ (t : Terms) (a i k : ℕ) (v w : View) (n : ℕ) where
   -- the number drawn is within the quota, and the pass had not seen it
   pub drawn_fresh : Happened t (draw a i) v n w → v.seen ≤ n
   drawn_fresh h =
+      let seen = (h.before.lawful.passes a nobody h.before.there).seen in
+      let same = ap (λ (u : View). u.seen) h.before.pass in
+      let number = h.number in omega arith
+
+  -- the number counted is at least what the pass had seen
+  pub counted_fresh : Happened t (count a) v n w → v.seen ≤ n
+  counted_fresh h =
       let seen = (h.before.lawful.passes a nobody h.before.there).seen in
       let same = ap (λ (u : View). u.seen) h.before.pass in
       let number = h.number in omega arith

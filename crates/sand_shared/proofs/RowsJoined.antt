@@ -4,10 +4,10 @@ use Rattle.std.specs.Prelude.{◌||◌, if◌then◌else◌}
 use Rattle.std.proofs.Math.Nat.{mul-le-mul_right}
 use Rattle.std.proofs.lemmas.Bool.{cases_eq, cases_lt, eq-eqb, ne_eqb}
 use Rattle.std.proofs.lemmas.Bool.Decides.{nat_tests}
-use Rattle.sand_model.specs.Grid.{Grid, IsGrid}
+use Rattle.sand_model.specs.Grid.{Grid}
 use Rattle.sand_shared.specs.declared.rows.Rows.{Rows}
 use Rattle.sand_shared.specs.Events.{follows, joined}
-use Rattle.sand_shared.specs.Passes.{PassView, at_rest, together}
+use Rattle.sand_shared.specs.Passes.{PassView, at_rest, together, IsPass}
 use Rattle.sand_shared.specs.Rows.{count_of, rows_follow, rows_together, AreApart, AreRowsOf}
 use Rattle.sand_shared.proofs.RowSites.{times_plus, rows_end}
 
@@ -54,9 +54,9 @@ rows_after g r s rows more near =
 next_or_none : (r s : Rows) → rows_follow r s ≡ true → (s.first ≡ s.end) ⊎ (s.first ≡ r.end)
 next_or_none r s t = ⊎_elim (λ (e : s.first ≡ s.end). inl e) (λ (ne : s.first ≡ s.end → ⊥). inr (grind (arith, nat_tests))) (cases_eq s.first s.end)
 
-module _ (p q : PassView) (sides : IsGrid p.grid) (same : q.grid ≡ p.grid) (rows : AreRowsOf p.grid p.rows) (rows' : AreRowsOf q.grid q.rows) (each : length p.counts ≡ count_of p.rows * p.grid.width) (each' : length q.counts ≡ count_of q.rows * q.grid.width) where
+module _ (p q : PassView) (one : IsPass p) (other : IsPass q) (same : q.grid ≡ p.grid) where
   others : AreRowsOf p.grid q.rows
-  others = subst (λ (g : Grid). AreRowsOf g q.rows) same rows'
+  others = subst (λ (g : Grid). AreRowsOf g q.rows) same other.rows
 
   widths : q.grid.width ≡ p.grid.width
   widths = ap (λ (g : Grid). g.width) same
@@ -64,10 +64,11 @@ module _ (p q : PassView) (sides : IsGrid p.grid) (same : q.grid ≡ p.grid) (ro
   pub follows_is : follows (at_rest p) (at_rest q) ≡ rows_follow p.rows q.rows
   follows_is =
       let w = p.grid.width in
-      let some = sides.some_width in
-      let end = rows_end p.rows w rows.ordered in
-      let ordered = rows'.ordered in
-      let few : length q.counts ≡ count_of q.rows * w = each' ∙ ap (λ n. count_of q.rows * n) widths in
+      let some = one.grid.some_width in
+      let end = rows_end p.rows w one.rows.ordered in
+      let ordered = other.rows.ordered in
+      let long = one.one_each in
+      let few : length q.counts ≡ count_of q.rows * w = other.one_each ∙ ap (λ n. count_of q.rows * n) widths in
       let base : q.rows.first * q.grid.width ≡ q.rows.first * w = ap (λ n. q.rows.first * n) widths in
       let none = tests_agree (length q.counts) 0 q.rows.first q.rows.end
       (λ e. let z : count_of q.rows ≡ 0 = times_one (count_of q.rows) 0 w some (omega arith) in omega arith)
@@ -91,8 +92,8 @@ module _ (p q : PassView) (sides : IsGrid p.grid) (same : q.grid ≡ p.grid) (ro
 
   module _ (touch : (rows_follow p.rows q.rows || rows_follow q.rows p.rows) ≡ true) where
     both_rows : (b : Bool) → rows_follow p.rows q.rows ≡ b → AreRowsOf p.grid (either_rows p.rows q.rows b)
-    both_rows true e = rows_after p.grid p.rows q.rows rows others (next_or_none p.rows q.rows e)
-    both_rows false e = rows_after p.grid q.rows p.rows others rows (next_or_none q.rows p.rows (rw e at touch))
+    both_rows true e = rows_after p.grid p.rows q.rows one.rows others (next_or_none p.rows q.rows e)
+    both_rows false e = rows_after p.grid q.rows p.rows others one.rows (next_or_none q.rows p.rows (rw e at touch))
 
     pub together_rows : AreRowsOf p.grid (rows_together p.rows q.rows)
     together_rows = both_rows (rows_follow p.rows q.rows) refl
@@ -100,9 +101,10 @@ module _ (p q : PassView) (sides : IsGrid p.grid) (same : q.grid ≡ p.grid) (ro
     both_each : (b : Bool) → length (if b then (p.counts ++ q.counts) else (q.counts ++ p.counts)) ≡ count_of (either_rows p.rows q.rows b) * p.grid.width
     both_each b =
         let w = p.grid.width in
-        let ordered = rows.ordered in
-        let ordered' = rows'.ordered in
-        let few : length q.counts ≡ count_of q.rows * w = each' ∙ ap (λ n. count_of q.rows * n) widths in
+        let ordered = one.rows.ordered in
+        let ordered' = other.rows.ordered in
+        let long = one.one_each in
+        let few : length q.counts ≡ count_of q.rows * w = other.one_each ∙ ap (λ n. count_of q.rows * n) widths in
         let sum = times_plus (count_of p.rows) (count_of q.rows) w in
         elim b as (λ b. length (if b then (p.counts ++ q.counts) else (q.counts ++ p.counts)) ≡ count_of (either_rows p.rows q.rows b) * p.grid.width) [
           | true ↦ length-append p.counts q.counts ∙ (let e = ap (λ n. n * w) {x = (p.rows.end + count_of q.rows) - p.rows.first} {y = count_of p.rows + count_of q.rows} (omega arith) in omega arith)

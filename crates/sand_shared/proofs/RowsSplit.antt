@@ -1,7 +1,7 @@
 -- The rows that a pass keeps and gives away: at which site they begin, and how many sites they have.
 use Rattle.std.proofs.Common.{◌≡◌, ℕ, ◌+◌, ◌-◌, ◌*◌, ◌<◌, ◌≤◌, List, [], true, false, eqb, ltb, take, drop, length, sym, refl, ap, ◌∙◌, subst, ⊎_elim, arith}
 use Rattle.std.proofs.Math.Nat.{mul-le-mul_right}
-use Rattle.std.proofs.lemmas.Bool.{cases_lt, eq-eqb, ne_eqb, lt-ltb, le-ltb}
+use Rattle.std.proofs.lemmas.Bool.{cases_eq, cases_lt, eq-eqb, ne_eqb, lt-ltb, le-ltb}
 use Rattle.std.proofs.lemmas.List.{length-drop, length-take-le}
 use Rattle.sand_model.specs.Grid.{Grid, IsGrid}
 use Rattle.sand_shared.specs.declared.rows.Rows.{Rows}
@@ -54,6 +54,25 @@ sites_between g a b base cs sides ordered inside e long =
       rows = record { ordered = omega arith; inside = omega arith; none = λ _. refl };
     })
     (cases_lt a b)
+
+-- rows have all sites of their pass
+pub whole_sites : (g : Grid) (r : Rows) (cs : List ℕ) → IsGrid g → AreRowsOf g r → length cs ≡ count_of r * g.width → AreSitesOf g r (r.first * g.width) cs
+whole_sites g r cs sides rows long =
+    let w = g.width in
+    let base = r.first * w in
+    let broad = sides.some_width in
+    let same_ends = λ (none : count_of r * w ≡ 0). ⊎_elim
+    (λ (some : r.first < r.end). let wide : 1 * w ≤ count_of r * w = mul-le-mul_right w (omega arith) in absurd (omega arith))
+    (λ (le : r.end ≤ r.first). let ordered = rows.ordered in rows.none (omega arith))
+    (cases_lt r.first r.end) in
+    record {
+      base_is = ⊎_elim
+          (λ (none : length cs ≡ 0). let first = ap (λ n. n * w) (same_ends (omega arith)) in base_none base cs none ∙ omega arith)
+          (λ (some : length cs ≡ 0 → ⊥). base_some base cs (omega arith))
+          (cases_eq (length cs) 0);
+      one_each = long;
+      rows = rows;
+    }
 
 module _ (g : Grid) (r : Rows) (cs : List ℕ) (k : ℕ) (sides : IsGrid g) (rows : AreRowsOf g r) (one_each : length cs ≡ count_of r * g.width) (few : k ≤ count_of r) where
   kept_sites : (length cs - k * g.width ≡ ((r.end - k) - r.first) * g.width) × (k * g.width ≤ length cs)

@@ -3,6 +3,7 @@ pub mod Events
 pub mod Laws
 pub mod Running
 pub mod Passes
+pub mod Bare
 pub mod Sweeps
 pub mod Listed
 pub mod Record

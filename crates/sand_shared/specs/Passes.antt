@@ -1,7 +1,6 @@
 -- What contracts see of a shared pile and of a pass.
 use Rattle.std.specs.Prelude.{ℕ, ◌≡◌, ◌+◌, ◌-◌, ◌*◌, ◌<◌, ◌≤◌, max, if◌then◌else◌, List, [], ◌++◌, All, length}
 use Rattle.atomic_table.specs.Seated.{TableId}
-use Rattle.atomic_table.specs.declared.shared.Seat.{Seat}
 use Rattle.sand_model.specs.Grid.{Grid, IsGrid}
 use Rattle.sand_shared.specs.declared.view.Receipt.{Receipt}
 use Rattle.sand_shared.specs.declared.view.View.{View}
@@ -50,20 +49,18 @@ at_rest p = record {
   least = 0;
 }
 
--- the seat is that of the pass, and its list has room for `room` receipts
-pub record IsPass (seat : Seat ℕ View) (p : PassView) (room : ℕ) : Type 0 where
-  pub me : seat.me ≡ (record (at_rest p) { spot = seat.me.0.spot; least = seat.me.0.least }, [])
-  pub receipts_fit : length p.receipts + p.left ≤ room
+-- what a pass says of itself
+pub record IsPass (p : PassView) : Type 0 where
   pub once : EachOnce p.receipts
   pub below : AllBelow p.seen p.receipts
   pub grid : IsGrid p.grid
   pub rows : AreRowsOf p.grid p.rows
   pub one_each : length p.counts ≡ count_of p.rows * p.grid.width
 
--- the seat is that of a bare pass with `made` receipts
-pub record IsBare (seat : Seat ℕ View) (p : PassView) (made : ℕ) : Type 0 where
-  pub pass : IsPass seat p (length p.receipts + p.left)
-  pub each_made : made ≡ length p.receipts
+-- the list has the receipts of the pass, and has room for those of the drops that it has left
+pub record IsListed (p : PassView) (receipts : List Receipt) (room : ℕ) : Type 0 where
+  pub listed : receipts ≡ p.receipts
+  pub fit : length receipts + p.left ≤ room
 
 -- Splitting and joining
 

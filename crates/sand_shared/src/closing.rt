@@ -14,6 +14,7 @@ ghost use Rattle.sand_shared.specs.Record.{Tells, IsOneThreads};
 ghost use Rattle.sand_shared.specs.Seats.{IsSeatAt, StaysSeated};
 ghost use Rattle.sand_shared.specs.Sweeps.{IsCalm, with_counts};
 
+use crate::bare::BarePass;
 use crate::faults::CloseFault;
 use crate::pass::Pass;
 use crate::record::Record;
@@ -79,7 +80,8 @@ impl SharedPile {
             Ok(room) => room,
             Err(fault) => return Err((fault, self, pass)),
         };
-        Ok(self.topple_out(pass, history, heights))
+        let Pass { bare, receipts } = pass;
+        Ok(self.topple_out(bare, receipts.as_slice(), history, heights))
     }
 
     // A history with an entry for each receipt, if the pass is whole.
@@ -109,14 +111,21 @@ impl SharedPile {
         ensures heights { IfOk result (λ r. (r.1.items ≡ []) × (length pass.now.counts ≤ vec_capacity r.1)) }
     {
         let history = self.blank_history(alloc, pass)?;
-        let heights = Vec::with_capacity(alloc, pass.counts.len())?;
+        let heights = Vec::with_capacity(alloc, pass.bare.counts.len())?;
         Ok((history, heights))
     }
 
     // Sweeps until nothing topples, and writes the record into the given lists.
-    fn topple_out(self, pass: Pass, mut history: Vec<usize>, mut heights: Vec<u64>) -> Record
+    fn topple_out(
+        self,
+        pass: BarePass,
+        receipts: &[Receipt],
+        mut history: Vec<usize>,
+        mut heights: Vec<u64>,
+    ) -> Record
         requires pass { IsPassOf self pass }
         requires whole { IsWhole self.terms pass }
+        requires receipts { receipts.now ≡ pass.receipts }
         requires history { length history.items ≡ length pass.receipts }
         requires heights { (heights.items ≡ []) × (length pass.counts ≤ vec_capacity heights) }
         ensures one_threads { IsOneThreads result }
@@ -128,18 +137,18 @@ impl SharedPile {
         ensures never_fall { (i : ℕ) → slice_index pass.counts i ≤ odometer_of result.settled i }
     {
         let SharedPile { words } = self;
-        let Pass {
+        let BarePass {
             mut seat,
             shape: _,
             left: _,
             seen: _,
-            receipts,
+            made: _,
             rows: _,
             mut counts,
         } = pass;
         words.sweep_out(&mut seat, &mut counts);
         let Terms { start, quota: _ } = words.close(seat, &mut heights);
-        fill(&mut history, receipts.as_slice());
+        fill(&mut history, receipts);
         Record::of_lists(start, history, heights, counts)
     }
 }

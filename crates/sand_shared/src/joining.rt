@@ -4,14 +4,15 @@ ghost use Rattle.std.specs.Prelude.{◌≡◌, ◌++◌, ◌↔◌, if◌then◌
 ghost use Rattle.sand_shared.specs.Passes.{IsPassOf, together};
 ghost use Rattle.sand_shared.specs.Rows.{AreApart};
 
+use crate::bare::BarePass;
 use crate::faults::JoinFault;
 use crate::pass::Pass;
 use crate::shared_pile::SharedPile;
 use std::alloc::{AllocError, Global};
 use std::marker::Brand;
 
-/// Puts the second list after the first, or in front of it if they are not in order.
-pub(crate) fn lay_together(
+// Puts the second list after the first, or in front of it if they are not in order.
+fn lay_together(
     first: &mut Vec<u64>,
     second: &mut Vec<u64>,
     in_order: bool,
@@ -31,12 +32,41 @@ impl SharedPile {
     /// Joins `other`, a pass of the same pile, to `pass`: adds its quota, appends its receipts, takes its rows with
     /// their counts, and keeps the greater `seen`. Returns Apart if the rows do not touch; else Memory if an allocation
     /// fails. Both errors give `other` back.
-    pub fn join(
+    pub fn join(&self, alloc: Global, pass: &mut Pass, other: Pass) -> Result<(), (JoinFault, Pass)>
+        requires pass { IsPassOf self.now pass.old }
+        requires other { IsPassOf self.now other }
+        ensures of_pile { IsPassOf self.now pass.new }
+        ensures joined { OnOk result (pass.new ≡ together pass.old other) }
+        ensures touching { OnOk result (¬ AreApart pass.old.rows other.rows) }
+        ensures apart { IfErr result (λ e. (e.0 ≡ JoinFault.Apart) ↔ AreApart pass.old.rows other.rows) }
+        ensures unchanged { OnErr result (pass.new ≡ pass.old) }
+        ensures back { IfErr result (λ e. e.1 ≡ other) }
+    {
+        if !pass.bare.rows.touch(other.bare.rows) {
+            return Err((JoinFault::Apart, other));
+        }
+        let room = pass.bare.left as usize + other.receipts.len() + other.bare.left as usize;
+        if let Err(error) = pass.receipts.reserve(room) {
+            return Err((JoinFault::Memory(error), other));
+        }
+        let Pass { bare, receipts } = other;
+        if let Err((fault, bare)) = self.join_bare(alloc, &mut pass.bare, bare) {
+            return Err((fault, Pass { bare, receipts }));
+        }
+        pass.receipts
+            .extend_from_slice(receipts.as_slice())
+            .unwrap();
+        Ok(())
+    }
+
+    /// Joins two bare passes of one pile, as `SharedPile::join` does. The receipts of `other` come after those of
+    /// `pass`.
+    pub fn join_bare(
         &self,
         _alloc: Global,
-        pass: &mut Pass,
-        mut other: Pass,
-    ) -> Result<(), (JoinFault, Pass)>
+        pass: &mut BarePass,
+        mut other: BarePass,
+    ) -> Result<(), (JoinFault, BarePass)>
         requires pass { IsPassOf self.now pass.old }
         requires other { IsPassOf self.now other }
         ensures of_pile { IsPassOf self.now pass.new }
@@ -50,29 +80,23 @@ impl SharedPile {
             return Err((JoinFault::Apart, other));
         }
         let in_order = pass.rows.are_followed_by(other.rows);
-        let room = pass.left as usize + other.receipts.len() + other.left as usize;
-        if let Err(error) = pass.receipts.reserve(room) {
-            return Err((JoinFault::Memory(error), other));
-        }
         if let Err(error) = lay_together(&mut pass.counts, &mut other.counts, in_order) {
             return Err((JoinFault::Memory(error), other));
         }
-        let Pass {
+        let BarePass {
             seat,
             shape: _,
             left,
             seen,
-            receipts,
+            made,
             rows,
             counts: _,
         } = other;
         self.words.join(&mut pass.seat, seat);
         self.words.learn::<Brand>(&mut pass.seat);
         pass.left += left;
+        pass.made += made;
         pass.seen = pass.seen.max(seen);
-        pass.receipts
-            .extend_from_slice(receipts.as_slice())
-            .unwrap();
         pass.rows = pass.rows.together(rows);
         Ok(())
     }

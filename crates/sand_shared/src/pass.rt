@@ -1,15 +1,13 @@
 //! Passes: what a thread holds to drop grains on a shared pile and to topple some of its rows.
 
-ghost use Rattle.std.specs.Prelude.{◌≡◌, ℕ, ◌-◌, ◌*◌, ◌≤◌};
+ghost use Rattle.std.specs.Prelude.{◌≡◌, ℕ, ◌+◌, ◌-◌, ◌*◌, ◌≤◌, length, vec_capacity};
 ghost use Rattle.sand_shared.specs.Passes.{EachOnce, AllBelow, at_rest};
 ghost use Rattle.sand_shared.specs.Rows.{HoldsSite};
 ghost use Rattle.sand_shared.specs.OpenPile.{toppled_by};
 ghost use Rattle.sand_model.specs.Grid.{sites};
 
-use crate::rows::Rows;
-use crate::view::{Receipt, View};
-use atomic_table::Seat;
-use sand_model::Shape;
+use crate::bare::BarePass;
+use crate::view::Receipt;
 use std::marker::Model;
 
 /// The right to drop a number of grains on a shared pile and to topple some of its rows.
@@ -22,40 +20,19 @@ use std::marker::Model;
 /// longer be closed.
 #[derive(Drop)]
 pub struct Pass {
-    pub(crate) seat: Seat<u8, View>,
-    pub(crate) shape: Shape,
-    pub(crate) left: u64,
-    pub(crate) seen: u64,
+    pub(crate) bare: BarePass,
     pub(crate) receipts: Vec<Receipt>,
-    pub(crate) rows: Rows,
-    pub(crate) counts: Vec<u64>,
 }
 
 impl Model for Pass {
     ghost use Rattle.std.specs.Prelude.{vec_capacity};
-    ghost use Rattle.sand_shared.specs.Passes.{PassView, IsPass};
+    ghost use Rattle.sand_shared.specs.Passes.{PassView, IsListed};
 
     ghost Value = { PassView };
 
-    ghost view = { λ p. record {
-      table = p.seat.table_id;
-      grid = p.shape;
-      left = p.left;
-      seen = p.seen;
-      receipts = p.receipts.items;
-      rows = p.rows;
-      counts = p.counts.items;
-    } };
+    ghost view = { λ p. p.bare };
 
-    ghost invariant = { λ p. IsPass p.seat (record {
-      table = p.seat.table_id;
-      grid = p.shape;
-      left = p.left;
-      seen = p.seen;
-      receipts = p.receipts.items;
-      rows = p.rows;
-      counts = p.counts.items;
-    }) (vec_capacity p.receipts) };
+    ghost invariant = { λ p. IsListed p.bare p.receipts.items (vec_capacity p.receipts) };
 }
 
 impl Pass {
@@ -63,14 +40,14 @@ impl Pass {
     pub fn left(&self) -> u64
         ensures { result ≡ self.now.left }
     {
-        self.left
+        self.bare.left
     }
 
     /// How many drops it knows have begun.
     pub fn seen(&self) -> u64
         ensures { result ≡ self.now.seen }
     {
-        self.seen
+        self.bare.seen
     }
 
     /// The drops made with it and with passes joined to it.
@@ -79,6 +56,8 @@ impl Pass {
         ensures each_once { EachOnce self.now.receipts }
         ensures seen { AllBelow self.now.seen self.now.receipts }
     {
+        // Tells a proof what a pass says of its receipts.
+        let _ = &self.bare.seat;
         self.receipts.as_slice()
     }
 
@@ -86,7 +65,7 @@ impl Pass {
     pub fn rows(&self) -> (u16, u16)
         ensures { result ≡ (self.now.rows.first, self.now.rows.end) }
     {
-        (self.rows.first, self.rows.end)
+        (self.bare.rows.first, self.bare.rows.end)
     }
 
     /// How often a site of its rows has toppled since the pile was made.
@@ -94,6 +73,17 @@ impl Pass {
         requires { HoldsSite self.now.grid self.now.rows site }
         ensures { result ≡ toppled_by (at_rest self.now) site }
     {
-        self.counts[site - usize::from(self.rows.first) * self.shape.width()]
+        let bare = &self.bare;
+        bare.counts[site - usize::from(bare.rows.first) * bare.shape.width()]
+    }
+
+    /// Separates a pass from the list of its receipts.
+    pub fn into_bare(self) -> (BarePass, Vec<Receipt>)
+        ensures bare { result.0 ≡ self }
+        ensures receipts { result.1.items ≡ self.receipts }
+        ensures room { length self.receipts + self.left ≤ vec_capacity result.1 }
+    {
+        let Pass { bare, receipts } = self;
+        (bare, receipts)
     }
 }

@@ -10,7 +10,7 @@
 //! much is left to topple. `SharedPile::close` sweeps the shared words and allocates only the record: use it if little
 //! is left, or if memory is short.
 
-ghost use Rattle.std.specs.Prelude.{◌≡◌, ℕ, ◌+◌, ◌^◌, ◌<◌, ◌≤◌, ◌↔◌, [], length, sum, slice_index, vec_capacity, IfOk, IfErr, OnOk, IsTrue};
+ghost use Rattle.std.specs.Prelude.{◌≡◌, ℕ, ◌+◌, ◌^◌, ◌<◌, ◌≤◌, ◌↔◌, [], length, sum, slice_index, vec_capacity, IfOk, IfErr, OnOk};
 ghost use Rattle.sand_model.specs.Grid.{sites};
 ghost use Rattle.sand_model.specs.Sand.{IsUnderway};
 ghost use Rattle.sand_model.specs.Piles.{height_of, most_grains};
@@ -101,10 +101,10 @@ impl SharedPile {
             Ok(history) => history,
             Err(fault) => return Err((fault, self, pass)),
         };
-        let (mut bare, receipts) = pass.into_bare();
+        let Pass { mut bare, receipts } = pass;
         let rest = match self.settle_rest(alloc, &mut bare) {
             Ok(rest) => rest,
-            Err(fault) => return Err((fault, self, bare.with_receipts(receipts))),
+            Err(fault) => return Err((fault, self, Pass { bare, receipts })),
         };
         self.write_history(&mut bare, &mut history, receipts.as_slice());
         Ok(self.complete(bare, rest, history))
@@ -120,7 +120,7 @@ impl SharedPile {
         ensures whole { OnOk result (IsWhole self.now.terms pass.old) }
         ensures rest { IfOk result (IsRestOf self.now.terms pass.old) }
     {
-        if !self.is_all(pass) {
+        if !pass.is_whole(self.words.terms()) {
             return Err(CloseFault::Missing);
         }
         let heights = Vec::with_capacity(alloc, pass.counts.len())?;
@@ -129,18 +129,6 @@ impl SharedPile {
             Ok(rest) => Ok(rest),
             Err(SettleFault::Memory(error)) => Err(CloseFault::Memory(error)),
         }
-    }
-
-    // Whether the pass has the whole quota, unspent or as receipts, and all rows.
-    fn is_all(&self, pass: &BarePass) -> bool
-        requires { IsPassOf self.now pass.now }
-        ensures { IsTrue result ↔ IsWhole self.now.terms pass.now }
-    {
-        let terms = self.words.terms();
-        pass.made <= terms.quota
-            && pass.left == terms.quota - pass.made
-            && pass.rows.first == 0
-            && usize::from(pass.rows.end) == terms.start.shape().height()
     }
 
     // The shared pile as it is now, read into the given list by a pass that has everything.

@@ -8,6 +8,7 @@ ghost use Rattle.sand_shared.specs.Passes.{IsPassOf, IsWhole};
 ghost use Rattle.sand_shared.specs.Rows.{no_rows};
 ghost use Rattle.sand_model.specs.Piles.{most_grains};
 
+use crate::bare::BarePass;
 use crate::faults::{DropFault, SharedFault};
 use crate::pass::Pass;
 use crate::record::copy_of;
@@ -61,19 +62,20 @@ impl SharedPile {
         let counts = vec![in alloc; 0u64; shape.sites()]?;
         let start = copy_of(alloc, start)?;
         let (words, seat) = Words::new(alloc, Terms { start, quota })?;
-        let pass = Pass {
+        let rows = Rows {
+            first: 0,
+            end: shape.height() as u16,
+        };
+        let bare = BarePass {
             seat,
             shape,
             left: quota,
             seen: 0,
-            receipts,
-            rows: Rows {
-                first: 0,
-                end: shape.height() as u16,
-            },
+            made: 0,
+            rows,
             counts,
         };
-        Ok((SharedPile { words }, pass))
+        Ok((SharedPile { words }, Pass { bare, receipts }))
     }
 
     /// Drops a grain on a site, and returns the number of the drop in the history. Returns Spent if the pass has no
@@ -92,13 +94,15 @@ impl SharedPile {
           receipts = pass.old.receipts ++ receipt n site ∷ [];
         }) }
     {
-        if pass.left == 0 {
+        let bare = &mut pass.bare;
+        if bare.left == 0 {
             return Err(DropFault::Spent);
         }
-        let number = self.words.draw::<Brand>(&mut pass.seat, site);
-        self.words.place::<Brand>(&mut pass.seat, site, 1);
-        pass.left -= 1;
-        pass.seen = number + 1;
+        let number = self.words.draw::<Brand>(&mut bare.seat, site);
+        self.words.place::<Brand>(&mut bare.seat, site, 1);
+        bare.left -= 1;
+        bare.seen = number + 1;
+        bare.made += 1;
         pass.receipts.push_reserved(Receipt { number, site });
         Ok(number)
     }
@@ -111,8 +115,9 @@ impl SharedPile {
         ensures in_the_quota { result ≤ self.now.terms.quota }
         ensures pass { pass.new ≡ record pass.old { seen = result } }
     {
-        let drops = self.words.count::<Brand>(&mut pass.seat);
-        pass.seen = drops;
+        let bare = &mut pass.bare;
+        let drops = self.words.count::<Brand>(&mut bare.seat);
+        bare.seen = drops;
         drops
     }
 
@@ -121,9 +126,6 @@ impl SharedPile {
         requires { IsPassOf self.now pass.now }
         ensures { IsTrue result ↔ IsWhole self.now.terms pass.now }
     {
-        let terms = self.words.terms();
-        pass.left + pass.receipts.len() as u64 == terms.quota
-            && pass.rows.first == 0
-            && usize::from(pass.rows.end) == terms.start.shape().height()
+        pass.bare.is_whole(self.words.terms())
     }
 }

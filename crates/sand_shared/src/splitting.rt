@@ -1,9 +1,10 @@
 //! Splitting a pass: part of its quota, or its last rows, go to a new pass.
 
-ghost use Rattle.std.specs.Prelude.{◌≡◌, ◌≢◌, ℕ, ◌-◌, ◌<◌, ◌↔◌, [], take, drop, IfOk, OnOk, OnErr};
+ghost use Rattle.std.specs.Prelude.{◌≡◌, ◌≢◌, ℕ, ◌-◌, ◌<◌, ◌≤◌, ◌↔◌, [], take, drop, IfOk, OnOk, OnErr};
 ghost use Rattle.sand_shared.specs.Passes.{IsPassOf, sites_kept};
 ghost use Rattle.sand_shared.specs.Rows.{no_rows, count_of, upper_rows, lower_rows};
 
+use crate::bare::BarePass;
 use crate::faults::SplitFault;
 use crate::pass::Pass;
 use crate::rows::Rows;
@@ -24,22 +25,27 @@ impl SharedPile {
         ensures parent { OnOk result (pass.new ≡ record pass.old { left = pass.old.left - quota }) }
         ensures child { IfOk result (λ c. c ≡ record pass.old { left = quota; receipts = []; rows = no_rows; counts = [] }) }
     {
-        if pass.left < quota {
+        let bare = &mut pass.bare;
+        if bare.left < quota {
             return Err(SplitFault::TooMuch);
         }
         let receipts = Vec::with_capacity(alloc, quota as usize)?;
-        let seen = pass.seen;
-        let kept = pass.counts.len();
-        let seat = self.words.split::<Brand>(&mut pass.seat, quota, kept);
-        pass.left -= quota;
-        Ok(Pass {
+        let seen = bare.seen;
+        let kept = bare.counts.len();
+        let seat = self.words.split::<Brand>(&mut bare.seat, quota, kept);
+        bare.left -= quota;
+        let child = BarePass {
             seat,
-            shape: pass.shape,
+            shape: bare.shape,
             left: quota,
             seen,
-            receipts,
+            made: 0,
             rows: Rows { first: 0, end: 0 },
             counts: Vec::new(alloc),
+        };
+        Ok(Pass {
+            bare: child,
+            receipts,
         })
     }
 
@@ -63,23 +69,28 @@ impl SharedPile {
           counts = drop (sites_kept pass.old k) pass.old.counts;
         }) }
     {
-        if pass.rows.count() < k {
+        let bare = &mut pass.bare;
+        if bare.rows.count() < k {
             return Err(SplitFault::Rows);
         }
-        let kept = pass.counts.len() - usize::from(k) * pass.shape.width();
-        let counts = Vec::from_slice(alloc, pass.counts.as_slice().split_at(kept).1)?;
-        let (upper, lower) = pass.rows.cut(k);
-        let seat = self.words.split::<Brand>(&mut pass.seat, 0, kept);
-        pass.rows = upper;
-        pass.counts.truncate(kept);
-        Ok(Pass {
+        let kept = bare.counts.len() - usize::from(k) * bare.shape.width();
+        let counts = Vec::from_slice(alloc, bare.counts.as_slice().split_at(kept).1)?;
+        let (upper, lower) = bare.rows.cut(k);
+        let seat = self.words.split::<Brand>(&mut bare.seat, 0, kept);
+        bare.rows = upper;
+        bare.counts.truncate(kept);
+        let child = BarePass {
             seat,
-            shape: pass.shape,
+            shape: bare.shape,
             left: 0,
-            seen: pass.seen,
-            receipts: Vec::new(alloc),
+            seen: bare.seen,
+            made: 0,
             rows: lower,
             counts,
+        };
+        Ok(Pass {
+            bare: child,
+            receipts: Vec::new(alloc),
         })
     }
 }

@@ -107,8 +107,9 @@ impl SharedPile {
         ensures few { sum pass.new.counts < 2 ^ 54 }
         ensures whole { IsWhole self.now.terms pass.old → HasAll self.now.terms (at_rest pass.old) }
     {
-        let base = usize::from(pass.rows.first) * pass.shape.width();
+        let bare = &mut pass.bare;
+        let base = usize::from(bare.rows.first) * bare.shape.width();
         self.words
-            .sweep_rows(&mut pass.seat, base, &mut pass.counts)
+            .sweep_rows(&mut bare.seat, base, &mut bare.counts)
     }
 }

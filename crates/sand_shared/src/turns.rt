@@ -98,18 +98,20 @@ impl SharedPile {
         }) }
     {
         let count = drops.len() as u64;
-        if pass.left < count {
+        let bare = &mut pass.bare;
+        if bare.left < count {
             return Err(DropFault::Spent);
         }
         if count == 0 {
-            return Ok(pass.seen);
+            return Ok(bare.seen);
         }
         count_sites(&mut counts.counts, drops);
-        let number = self.words.draw_all::<Brand>(&mut pass.seat, drops);
+        let number = self.words.draw_all::<Brand>(&mut bare.seat, drops);
         self.words
-            .place_all(&mut pass.seat, drops, &mut counts.counts);
-        pass.left -= count;
-        pass.seen = number + count;
+            .place_all(&mut bare.seat, drops, &mut counts.counts);
+        bare.left -= count;
+        bare.seen = number + count;
+        bare.made += count;
         note(&mut pass.receipts, number, drops);
         Ok(number)
     }

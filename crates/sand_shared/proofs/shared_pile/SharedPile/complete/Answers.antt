@@ -10,7 +10,7 @@ use Rattle.sand_shared.proofs.shared_pile.SharedPile.complete.Goals as goal
 
 pub add-requires-clause-small : goal.add-requires-clause-small
 add-requires-clause-small c i l =
-    let b = completed_by c.self.view_is c.pass.view_is c.pass.invariant.pass c.requires.pass c.requires.whole c.requires.rest c.learn.ensures.view c.learn.ensures.stands in
+    let b = completed_by c.self.view_is c.pass.view_is c.pass.invariant c.requires.pass c.requires.whole c.requires.rest c.learn.ensures.view c.learn.ensures.stands in
     let odometers = c.odometers.ensures.value in
     let long = ap (λ (l : List ℕ). length l) odometers ∙ c.requires.rest.odometer_each in
     let same = ap (λ (l : List ℕ). slice_index l i) odometers in
@@ -18,7 +18,7 @@ add-requires-clause-small c i l =
 
 pub of_lists-requires : goal.of_lists-requires
 of_lists-requires c =
-    let b = completed_by c.self.view_is c.pass.view_is c.pass.invariant.pass c.requires.pass c.requires.whole c.requires.rest c.learn.ensures.view c.learn.ensures.stands in
+    let b = completed_by c.self.view_is c.pass.view_is c.pass.invariant c.requires.pass c.requires.whole c.requires.rest c.learn.ensures.view c.learn.ensures.stands in
     let told = subst (λ (q : PassView). Tells q.receipts c.args.history.items) (sym c.pass.view_is) c.requires.tells in
     let long = c.requires.one_each ∙ ap (λ (q : PassView). length q.receipts) (sym c.pass.view_is) in
     let heights = c.into_parts-heights.ensures.heights ∙ ap (λ (q : PileView). q.heights) c.into_pile.ensures in
@@ -28,7 +28,7 @@ of_lists-requires c =
 
 pub returns-clause-all_seen : goal.returns-clause-all_seen
 returns-clause-all_seen c =
-    let b = completed_by c.self.view_is c.pass.view_is c.pass.invariant.pass c.requires.pass c.requires.whole c.requires.rest c.learn.ensures.view c.learn.ensures.stands in
+    let b = completed_by c.self.view_is c.pass.view_is c.pass.invariant c.requires.pass c.requires.whole c.requires.rest c.learn.ensures.view c.learn.ensures.stands in
     let long = c.requires.one_each ∙ ap (λ (q : PassView). length q.receipts) (sym c.pass.view_is) in
     ap (λ (q : PassView). q.seen) (sym c.pass.view_is) ∙ completed_seen b ∙ sym long ∙ ap (λ (l : List ℕ). length l) (sym c.of_lists.ensures.history)
 

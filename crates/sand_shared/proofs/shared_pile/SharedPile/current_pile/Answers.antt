@@ -1,4 +1,4 @@
-use Rattle.std.proofs.Common.{◌≡◌, ℕ, ◌*◌, length, sym, subst}
+use Rattle.std.proofs.Common.{ℕ, sym, subst}
 use Rattle.std.specs.Prelude.{slice_index}
 use Rattle.atomic_table.specs.Table.{Me}
 use Rattle.sand_model.specs.Sand.{IsUnderway}
@@ -6,24 +6,21 @@ use Rattle.sand_model.specs.Piles.{PileView, height_of}
 use Rattle.sand_shared.specs.declared.view.View.{View}
 use Rattle.sand_shared.specs.declared.view.Terms.{Terms}
 use Rattle.sand_shared.specs.OpenPile.{grid_of_terms, toppled_by}
-use Rattle.sand_shared.specs.Passes.{PassView, at_rest}
-use Rattle.sand_shared.specs.Rows.{count_of}
+use Rattle.sand_shared.specs.Passes.{PassView, at_rest, IsPass}
 use Rattle.sand_shared.specs.Sweeps.{laid}
 use Rattle.sand_shared.proofs.CompletedOdometer.{left_underway}
-use Rattle.sand_shared.proofs.StillBare.{still_bare}
+use Rattle.sand_shared.proofs.SeatOfPass.{still_bare}
 use Rattle.sand_shared.proofs.shared_pile.SharedPile.current_pile.Goals as goal
 
 pub invariant_of-pass : goal.invariant_of-pass
-invariant_of-pass c =
-    let p = c.pass.inside in
-    still_bare (record { table = p.seat.table_id; grid = p.shape; left = p.left; seen = p.seen; receipts = p.seat.me.0.receipts; rows = p.rows; counts = p.counts.items }) p.made p.seat c.read.new.seat c.pass.invariant c.read.ensures.view c.read.ensures.seat.bare c.read.new.seat.table_id
+invariant_of-pass c = still_bare c.pass.inside c.read.new.seat c.pass.invariant c.read.ensures.view c.read.ensures.seat.bare
 
 pub returns-clause-underway : goal.returns-clause-underway
 returns-clause-underway c =
-    let inv = c.pass.invariant.pass in
+    let inv = c.pass.invariant in
     let h = slice_index c.read.new.heights.items in
-    let each = subst (λ (v : PassView). length v.counts ≡ count_of v.rows * v.grid.width) c.pass.view_is inv.one_each in
+    let each = subst IsPass c.pass.view_is c.pass.invariant.pass in
     let here = subst (λ (m : Me ℕ View). IsUnderway (grid_of_terms c.self.inside.words.terms) (laid c.self.inside.words.terms m.0) (toppled_by m.0) h) inv.me c.read.ensures.underway in
     let there = subst (λ (z : Terms × PassView). IsUnderway (grid_of_terms z.0) (laid z.0 (at_rest z.1)) (toppled_by (at_rest z.1)) h) (λ i. ((c.self.view_is i).terms, c.pass.view_is i)) here in
     subst (λ (q : PileView). IsUnderway (grid_of_terms c.args.self.now.terms) (laid c.args.self.now.terms (at_rest c.args.pass.now)) (slice_index c.args.pass.now.counts) (height_of q)) (sym c.from_vec.ensures)
-    (left_underway c.args.self.now.terms c.args.pass.now c.requires.pass.grid each c.requires.whole h there)
+    (left_underway c.args.self.now.terms c.args.pass.now c.requires.pass.grid each.one_each c.requires.whole h there)

@@ -1,39 +1,51 @@
-use Rattle.std.proofs.Common.{◌≡◌, ℕ, ◌*◌, length, sym, ap, ◌∙◌, subst, arith}
+use Rattle.std.proofs.Common.{◌≡◌, ℕ, ◌*◌, length, sym, refl, ap, ◌∙◌, subst, arith}
 use Rattle.atomic_table.specs.Table.{Me}
 use Rattle.sand_model.specs.Grid.{sites}
 use Rattle.sand_shared.specs.declared.view.View.{View}
 use Rattle.sand_shared.specs.declared.view.Terms.{Terms}
 use Rattle.sand_shared.specs.OpenPile.{grid_of_terms}
-use Rattle.sand_shared.specs.Passes.{PassView, SharedView, at_rest}
-use Rattle.sand_shared.specs.Rows.{count_of}
+use Rattle.sand_shared.specs.Bare.{shown}
+use Rattle.sand_shared.specs.Events.{looked}
+use Rattle.sand_shared.specs.Passes.{PassView, SharedView, at_rest, IsPass}
 use Rattle.sand_shared.specs.Sweeps.{Swept}
 use Rattle.sand_shared.proofs.RowSites.{rows_inside}
+use Rattle.sand_shared.proofs.SeatOfPass.{seated}
 use Rattle.sand_shared.proofs.SweptSiteBySite.{swept_as}
 use Rattle.sand_shared.proofs.WholeHasAll.{whole_has_all}
 use Rattle.sand_shared.proofs.shared_pile.SharedPile.sweep.Goals as goal
 
 pub sweep_rows-requires-clause-rows : goal.sweep_rows-requires-clause-rows
 sweep_rows-requires-clause-rows c =
-    let p = c.pass.inside in
-    let inv = c.pass.invariant in
+    let p = c.bare.inside in
+    let pass = c.bare.invariant.pass in
     let base : c.from.result * c.width.result ≡ p.rows.first * p.shape.width = λ i. c.from.ensures i * c.width.ensures.value i in
-    let inside = rows_inside p.shape p.rows inv.rows in
-    let same : p.shape ≡ grid_of_terms c.self.inside.words.terms = ap (λ (v : PassView). v.grid) c.pass.view_is ∙ c.requires.grid ∙ sym (ap (λ (w : SharedView). grid_of_terms w.terms) c.self.view_is) in
+    let inside = rows_inside p.shape p.rows pass.rows in
+    let same : p.shape ≡ grid_of_terms c.self.inside.words.terms = ap (λ (v : PassView). v.grid) (c.bare.view_is ∙ c.pass.view_is) ∙ c.requires.grid ∙ sym (ap (λ (w : SharedView). grid_of_terms w.terms) c.self.view_is) in
     let all = ap sites same in
-    let each = inv.one_each in omega arith
+    let each = pass.one_each in omega arith
 
 pub returns-clause-swept : goal.returns-clause-swept
 returns-clause-swept c =
-    let p = c.pass.inside in
-    let inv = c.pass.invariant in
-    let was : PassView = record { table = p.seat.table_id; grid = p.shape; left = p.left; seen = p.seen; receipts = p.receipts.items; rows = p.rows; counts = p.counts.items } in
+    let p = c.bare.inside in
+    let t = c.self.inside.words.terms in
     let n = c.sweep_rows.result in
     let cs = c.sweep_rows.new.counts.items in
-    let here = subst (λ (m : Me ℕ View). Swept c.self.inside.words.terms m.0 cs n) inv.me c.sweep_rows.ensures.swept in
-    subst (λ (z : Terms × PassView). Swept z.0 (at_rest z.1) cs n) (λ i. ((c.self.view_is i).terms, c.pass.view_is i)) (swept_as c.self.inside.words.terms (record (at_rest was) { spot = p.seat.me.0.spot; least = p.seat.me.0.least }) cs n 0 0 here)
+    let is = c.bare.view_is ∙ c.pass.view_is in
+    let here = subst (λ (m : Me ℕ View). Swept t m.0 cs n) c.bare.invariant.me c.sweep_rows.ensures.swept in
+    subst (λ (z : Terms × PassView). Swept z.0 (at_rest z.1) cs n) (λ i. ((c.self.view_is i).terms, is i)) (swept_as t (record (at_rest (shown p)) { spot = p.seat.me.0.spot; least = p.seat.me.0.least }) cs n 0 0 here)
 
 pub returns-clause-whole : goal.returns-clause-whole
 returns-clause-whole c whole =
-    let p = c.pass.inside in
-    let each = subst (λ (v : PassView). length v.counts ≡ count_of v.rows * v.grid.width) c.pass.view_is c.pass.invariant.one_each in
-    whole_has_all c.args.self.now.terms c.args.pass.now c.requires.grid each whole
+    whole_has_all c.args.self.now.terms c.args.pass.now c.requires.grid (subst IsPass (c.bare.view_is ∙ c.pass.view_is) c.bare.invariant.pass).one_each whole
+
+pub invariant_of-bare : goal.invariant_of-bare
+invariant_of-bare c =
+    let inv = c.bare.invariant in
+    let cs = c.sweep_rows.new.counts.items in
+    let v = c.sweep_rows.new.seat.me.0 in
+    let before = ap (λ (m : Me ℕ View). length m.0.counts) inv.me in
+    let after = c.sweep_rows.ensures.swept.same_rows in
+    let each = inv.pass.one_each in
+    seated (record (shown c.bare.inside) { counts = cs }) v.spot v.least
+    record { once = inv.pass.once; below = inv.pass.below; grid = inv.pass.grid; rows = inv.pass.rows; one_each = omega arith }
+    inv.each_made (c.sweep_rows.ensures.view ∙ ap (λ (m : Me ℕ View). record (looked m.0 v.spot v.least) { counts = cs }) inv.me) c.sweep_rows.ensures.seat.bare refl

@@ -10,15 +10,15 @@ use Rattle.sand_shared.proofs.shared_pile.SharedPile.topple_out.Goals as goal
 pub fill-requires-clause-inside : goal.fill-requires-clause-inside
 fill-requires-clause-inside c =
     let b = closed_by c.self.view_is c.pass.view_is c.pass.invariant c.requires.pass c.requires.whole c.close-start.ensures.last c.sweep_out.ensures.view c.sweep_out.ensures.long c.sweep_out.ensures.calm in
-    numbers_inside c.args.history.items c.as_slice.ensures.value b.all.below (closed_seen b) (c.requires.history ∙ ap (λ (q : PassView). length q.receipts) (sym c.pass.view_is))
+    numbers_inside c.args.history.items (c.requires.receipts ∙ ap (λ (q : PassView). q.receipts) (sym c.pass.view_is)) b.all.below (closed_seen b) (c.requires.history ∙ ap (λ (q : PassView). length q.receipts) (sym c.pass.view_is))
 
 pub fill-requires-clause-once : goal.fill-requires-clause-once
-fill-requires-clause-once c = subst EachOnce (sym c.as_slice.ensures.value) c.pass.invariant.once
+fill-requires-clause-once c = subst EachOnce (ap (λ (q : PassView). q.receipts) c.pass.view_is ∙ sym c.requires.receipts) c.pass.invariant.pass.once
 
 pub of_lists-requires : goal.of_lists-requires
 of_lists-requires c =
     let b = closed_by c.self.view_is c.pass.view_is c.pass.invariant c.requires.pass c.requires.whole c.close-start.ensures.last c.sweep_out.ensures.view c.sweep_out.ensures.long c.sweep_out.ensures.calm in
-    let told = subst (λ (l : List Receipt). Tells l c.fill.new.history.items) c.as_slice.ensures.value c.fill.ensures.tells in
+    let told = subst (λ (l : List Receipt). Tells l c.fill.new.history.items) (c.requires.receipts ∙ ap (λ (q : PassView). q.receipts) (sym c.pass.view_is)) c.fill.ensures.tells in
     let long = c.fill.ensures.length ∙ c.requires.history ∙ ap (λ (q : PassView). length q.receipts) (sym c.pass.view_is) in
     let inside = closed_leads b c.fill.new.history.items long told in
     let l = subst (λ (z : Terms). LeadsTo z.start c.fill.new.history.items c.close-start.new.heights.items c.sweep_out.new.counts.items) (sym c.close-start.ensures.terms) inside in
@@ -31,4 +31,4 @@ returns-clause-all_seen c =
     ap (λ (q : PassView). q.seen) (sym c.pass.view_is) ∙ closed_seen b ∙ sym long ∙ ap (λ (l : List ℕ). length l) (sym c.of_lists.ensures.history)
 
 pub returns-clause-each_number_once : goal.returns-clause-each_number_once
-returns-clause-each_number_once c = subst (λ (q : PassView). EachOnce q.receipts) c.pass.view_is c.pass.invariant.once
+returns-clause-each_number_once c = subst (λ (q : PassView). EachOnce q.receipts) c.pass.view_is c.pass.invariant.pass.once
