@@ -1,13 +1,14 @@
 -- What contracts see of the record of a closed pile, and of the last moment of a shared one.
-use Rattle.std.specs.Prelude.{ℕ, ◌≡◌, ◌+◌, ◌<◌, Some, List, All, length, sum, slice_get, slice_index}
+use Rattle.std.specs.Prelude.{ℕ, ◌≡◌, ◌+◌, ◌<◌, ◌≤◌, Some, List, All, length, sum, slice_get, slice_index}
 use Rattle.sand_model.specs.Grid.{sites}
 use Rattle.sand_model.specs.Piles.{PileView}
-use Rattle.sand_settle.specs.Settling.{SettledView}
+use Rattle.sand_settle.specs.Settling.{SettledView, odometer_of}
 use Rattle.sand_settle.specs.Drops.{OneView, IsAfter}
 use Rattle.sand_shared.specs.declared.view.Receipt.{Receipt}
 use Rattle.sand_shared.specs.declared.view.View.{View}
 use Rattle.sand_shared.specs.declared.view.Terms.{Terms}
 use Rattle.sand_shared.specs.OpenPile.{grid_of_terms}
+use Rattle.sand_shared.specs.Passes.{PassView, EachOnce}
 use Rattle.sand_shared.specs.Running.{Stands}
 
 -- the start, the site of each drop by number, and the result
@@ -27,6 +28,20 @@ pub record IsOneThreads (r : RecordView) : Type 0 where
 -- the site of each receipt is at its number
 abbrev pub Tells : List Receipt → List ℕ → Type 0
 Tells receipts history = All (λ r. slice_get history r.number ≡ Some r.site) receipts
+
+-- r is the record of a pile with these terms, closed by a pass that had gathered everything
+pub record IsRecordOf (t : Terms) (p : PassView) (r : RecordView) : Type 0 where
+  -- the result of one thread that drops the history on the start, in order: the settled pile, the grains lost, and the
+  -- least odometer
+  pub one_threads : IsOneThreads r
+  pub start : r.start ≡ t.start
+  -- each drop is there once, at the number that its call returned, after all drops that its pass had seen
+  pub history : Tells p.receipts r.history
+  pub each_drop_once : length r.history ≡ length p.receipts
+  pub each_number_once : EachOnce p.receipts
+  pub all_seen : p.seen ≡ length r.history
+  -- what toppled in place stays toppled
+  pub never_fall : (i : ℕ) → slice_index p.counts i ≤ odometer_of r.settled i
 
 -- the last moment: the pass a has v on a lawful open pile with these heights
 pub record IsLast (t : Terms) (a : ℕ) (v : View) (heights : List ℕ) : Type 0 where

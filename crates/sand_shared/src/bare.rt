@@ -5,7 +5,7 @@
 //!
 //! All that the shared words know of a pass is in its bare part. A `Pass` adds the list to it.
 
-ghost use Rattle.std.specs.Prelude.{◌≡◌, ◌↔◌, IsTrue};
+ghost use Rattle.std.specs.Prelude.{◌↔◌, IsTrue};
 ghost use Rattle.sand_shared.specs.Passes.{IsWhole};
 
 use crate::rows::Rows;

@@ -4,13 +4,12 @@
 //! what toppled. Each height is at most 3, and no site toppled more often than needed: this is the settled pile with
 //! its least odometer.
 
-ghost use Rattle.std.specs.Prelude.{◌≡◌, ℕ, ◌+◌, ◌*◌, ◌^◌, ◌<◌, ◌≤◌, ◌↔◌, true, [], length, sum, slice_index, vec_capacity, IfOk, IfErr, OnOk, All};
+ghost use Rattle.std.specs.Prelude.{◌≡◌, ℕ, ◌<◌, ◌≤◌, ◌↔◌, [], length, slice_index, vec_capacity, IfOk, IfErr, OnOk, All};
 ghost use Rattle.sand_model.specs.Grid.{sites};
-ghost use Rattle.sand_settle.specs.Settling.{odometer_of};
 ghost use Rattle.sand_shared.specs.OpenPile.{grid_of_terms};
 ghost use Rattle.sand_shared.specs.Events.{looked};
 ghost use Rattle.sand_shared.specs.Passes.{IsPassOf, IsWhole, EachOnce};
-ghost use Rattle.sand_shared.specs.Record.{Tells, IsOneThreads};
+ghost use Rattle.sand_shared.specs.Record.{Tells, IsRecordOf};
 ghost use Rattle.sand_shared.specs.Seats.{IsSeatAt, StaysSeated};
 ghost use Rattle.sand_shared.specs.Sweeps.{IsCalm, with_counts};
 
@@ -61,20 +60,7 @@ impl SharedPile {
         ensures whole { OnOk result (IsWhole self.terms pass) }
         ensures pile_back { IfErr result (λ e. e.1 ≡ self) }
         ensures pass_back { IfErr result (λ e. e.2 ≡ pass) }
-
-        // The result of one thread that drops the history on the start, in order: the settled pile, the grains lost,
-        // and the least odometer.
-        ensures one_threads { IfOk result IsOneThreads }
-        ensures start { IfOk result (λ r. r.start ≡ self.terms.start) }
-
-        // Each drop is there once, at the number that its call returned, after all drops that its pass had seen.
-        ensures history { IfOk result (λ r. Tells pass.receipts r.history) }
-        ensures each_drop_once { IfOk result (λ r. length r.history ≡ length pass.receipts) }
-        ensures each_number_once { OnOk result (EachOnce pass.receipts) }
-        ensures all_seen { IfOk result (λ r. pass.seen ≡ length r.history) }
-
-        // What toppled in place stays toppled.
-        ensures never_fall { IfOk result (λ r. (i : ℕ) → slice_index pass.counts i ≤ odometer_of r.settled i) }
+        ensures closed { IfOk result (IsRecordOf self.terms pass) }
     {
         let (history, heights) = match self.room_for_record(alloc, &pass) {
             Ok(room) => room,
@@ -128,13 +114,7 @@ impl SharedPile {
         requires receipts { receipts.now ≡ pass.receipts }
         requires history { length history.items ≡ length pass.receipts }
         requires heights { (heights.items ≡ []) × (length pass.counts ≤ vec_capacity heights) }
-        ensures one_threads { IsOneThreads result }
-        ensures start { result.start ≡ self.terms.start }
-        ensures history { Tells pass.receipts result.history }
-        ensures each_drop_once { length result.history ≡ length pass.receipts }
-        ensures each_number_once { EachOnce pass.receipts }
-        ensures all_seen { pass.seen ≡ length result.history }
-        ensures never_fall { (i : ℕ) → slice_index pass.counts i ≤ odometer_of result.settled i }
+        ensures { IsRecordOf self.terms pass result }
     {
         let SharedPile { words } = self;
         let BarePass {

@@ -1,6 +1,6 @@
 //! Joining two passes of one pile.
 
-ghost use Rattle.std.specs.Prelude.{◌≡◌, ◌++◌, ◌↔◌, if◌then◌else◌, IfOk, IfErr, OnOk, OnErr};
+ghost use Rattle.std.specs.Prelude.{◌≡◌, ◌++◌, ◌↔◌, if◌then◌else◌, IfErr, OnOk, OnErr};
 ghost use Rattle.sand_shared.specs.Passes.{IsPassOf, together};
 ghost use Rattle.sand_shared.specs.Rows.{AreApart};
 

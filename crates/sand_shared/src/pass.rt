@@ -1,10 +1,9 @@
 //! Passes: what a thread holds to drop grains on a shared pile and to topple some of its rows.
 
-ghost use Rattle.std.specs.Prelude.{◌≡◌, ℕ, ◌+◌, ◌-◌, ◌*◌, ◌≤◌, length, vec_capacity};
+ghost use Rattle.std.specs.Prelude.{◌≡◌, ◌+◌, ◌-◌, ◌*◌, ◌≤◌, length, vec_capacity};
 ghost use Rattle.sand_shared.specs.Passes.{EachOnce, AllBelow, at_rest};
 ghost use Rattle.sand_shared.specs.Rows.{HoldsSite};
 ghost use Rattle.sand_shared.specs.OpenPile.{toppled_by};
-ghost use Rattle.sand_model.specs.Grid.{sites};
 
 use crate::bare::BarePass;
 use crate::view::Receipt;

@@ -3,7 +3,7 @@
 ghost use Rattle.std.specs.Prelude.{◌≡◌, ◌+◌, ◌^◌, ◌<◌, ◌≤◌, All, IfOk, IsOkUnless, alloc_error, length, sum, slice_index};
 ghost use Rattle.sand_model.specs.Grid.{sites};
 ghost use Rattle.sand_model.specs.Piles.{height_of, most_grains};
-ghost use Rattle.sand_model.specs.Sand.{IsSettled, tally, weight};
+ghost use Rattle.sand_model.specs.Sand.{IsSettled, tally};
 ghost use Rattle.sand_settle.specs.Settling.{odometer_of};
 ghost use Rattle.sand_shared.specs.Record.{IsOneThreads};
 

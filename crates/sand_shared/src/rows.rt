@@ -1,7 +1,7 @@
 //! The rows of a grid that a pass holds.
 
-ghost use Rattle.std.specs.Prelude.{◌≡◌, ◌≤◌, ◌↔◌, ◌+◌, ◌<◌, ◌^◌, ◌||◌, IsTrue, ℕ};
-ghost use Rattle.sand_shared.specs.Rows.{no_rows, rows_between, count_of, upper_rows, lower_rows, rows_follow, rows_together};
+ghost use Rattle.std.specs.Prelude.{◌≡◌, ◌≤◌, ◌+◌, ◌<◌, ◌^◌, ◌||◌};
+ghost use Rattle.sand_shared.specs.Rows.{rows_between, count_of, upper_rows, lower_rows, rows_follow, rows_together};
 
 /// Rows of a grid, from `first` up to `end`, which is one past the last. Both are 0 if there are none.
 #[derive(Clone, Copy, Debug, PartialEq, Eq)]

@@ -14,11 +14,10 @@ ghost use Rattle.std.specs.Prelude.{◌≡◌, ℕ, ◌+◌, ◌^◌, ◌<◌, �
 ghost use Rattle.sand_model.specs.Grid.{sites};
 ghost use Rattle.sand_model.specs.Sand.{IsUnderway};
 ghost use Rattle.sand_model.specs.Piles.{height_of, most_grains};
-ghost use Rattle.sand_settle.specs.Settling.{odometer_of};
 ghost use Rattle.sand_shared.specs.OpenPile.{grid_of_terms, toppled_by};
 ghost use Rattle.sand_shared.specs.Events.{looked};
-ghost use Rattle.sand_shared.specs.Passes.{IsPassOf, IsWhole, EachOnce, at_rest};
-ghost use Rattle.sand_shared.specs.Record.{Tells, IsOneThreads};
+ghost use Rattle.sand_shared.specs.Passes.{IsPassOf, IsWhole, at_rest};
+ghost use Rattle.sand_shared.specs.Record.{Tells, IsRecordOf};
 ghost use Rattle.sand_shared.specs.Seats.{IsSeatAt, StaysSeated};
 ghost use Rattle.sand_shared.specs.Sweeps.{HasAll, IsRestOf, laid};
 
@@ -82,20 +81,7 @@ impl SharedPile {
         ensures whole { OnOk result (IsWhole self.terms pass) }
         ensures pile_back { IfErr result (λ e. e.1 ≡ self) }
         ensures pass_back { IfErr result (λ e. e.2 ≡ pass) }
-
-        // The result of one thread that drops the history on the start, in order: the settled pile, the grains lost,
-        // and the least odometer.
-        ensures one_threads { IfOk result IsOneThreads }
-        ensures start { IfOk result (λ r. r.start ≡ self.terms.start) }
-
-        // Each drop is there once, at the number that its call returned, after all drops that its pass had seen.
-        ensures history { IfOk result (λ r. Tells pass.receipts r.history) }
-        ensures each_drop_once { IfOk result (λ r. length r.history ≡ length pass.receipts) }
-        ensures each_number_once { OnOk result (EachOnce pass.receipts) }
-        ensures all_seen { IfOk result (λ r. pass.seen ≡ length r.history) }
-
-        // What toppled in place stays toppled.
-        ensures never_fall { IfOk result (λ r. (i : ℕ) → slice_index pass.counts i ≤ odometer_of r.settled i) }
+        ensures closed { IfOk result (IsRecordOf self.terms pass) }
     {
         let mut history = match self.blank_history(alloc, &pass) {
             Ok(history) => history,
@@ -166,12 +152,8 @@ impl SharedPile {
         requires rest { IsRestOf self.terms pass rest }
         requires tells { Tells pass.receipts history.items }
         requires one_each { length history.items ≡ length pass.receipts }
-        ensures one_threads { IsOneThreads result }
-        ensures start { result.start ≡ self.terms.start }
         ensures history { result.history ≡ history.items }
-        ensures each_number_once { EachOnce pass.receipts }
-        ensures all_seen { pass.seen ≡ length result.history }
-        ensures never_fall { (i : ℕ) → slice_index pass.counts i ≤ odometer_of result.settled i }
+        ensures closed { IsRecordOf self.terms pass result }
     {
         let SharedPile { words } = self;
         let BarePass {

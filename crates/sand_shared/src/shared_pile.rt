@@ -1,11 +1,10 @@
 //! The pile that threads share: how it is made, single drops, and the tally.
 
-ghost use Rattle.std.specs.Prelude.{◌≡◌, ℕ, ◌+◌, ◌-◌, ◌<◌, ◌≤◌, ◌↔◌, [], ◌∷◌, ◌++◌, sum, IfOk, IsErr, OnErr, IsTrue};
+ghost use Rattle.std.specs.Prelude.{◌≡◌, ◌+◌, ◌-◌, ◌<◌, ◌≤◌, ◌↔◌, [], ◌∷◌, ◌++◌, sum, IfOk, IsErr, OnErr, IsTrue};
 ghost use Rattle.sand_model.specs.Grid.{sites};
 ghost use Rattle.sand_shared.specs.OpenPile.{grid_of_terms};
 ghost use Rattle.sand_shared.specs.Events.{receipt, zeros};
 ghost use Rattle.sand_shared.specs.Passes.{IsPassOf, IsWhole};
-ghost use Rattle.sand_shared.specs.Rows.{no_rows};
 ghost use Rattle.sand_model.specs.Piles.{most_grains};
 
 use crate::bare::BarePass;

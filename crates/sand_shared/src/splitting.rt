@@ -1,6 +1,6 @@
 //! Splitting a pass: part of its quota, or its last rows, go to a new pass.
 
-ghost use Rattle.std.specs.Prelude.{◌≡◌, ◌≢◌, ℕ, ◌-◌, ◌<◌, ◌≤◌, ◌↔◌, [], take, drop, IfOk, OnOk, OnErr};
+ghost use Rattle.std.specs.Prelude.{◌≡◌, ◌≢◌, ◌-◌, ◌<◌, ◌↔◌, [], take, drop, IfOk, OnOk, OnErr};
 ghost use Rattle.sand_shared.specs.Passes.{IsPassOf, sites_kept};
 ghost use Rattle.sand_shared.specs.Rows.{no_rows, count_of, upper_rows, lower_rows};
 

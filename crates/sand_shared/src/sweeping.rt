@@ -4,8 +4,8 @@
 //! unloaded stays in hand until it is delivered to the neighbours. So no grain vanishes, and no site topples more often
 //! than needed: the grains are on it, so whatever stabilises the pile topples it too.
 
-ghost use Rattle.std.specs.Prelude.{◌≡◌, ℕ, ◌+◌, ◌*◌, ◌^◌, ◌<◌, ◌≤◌, true, [], ◌∷◌, length, sum, IfSome};
-ghost use Rattle.sand_model.specs.Grid.{sites, places};
+ghost use Rattle.std.specs.Prelude.{◌≡◌, ◌+◌, ◌*◌, ◌^◌, ◌<◌, ◌≤◌, true, [], ◌∷◌, length, sum, IfSome};
+ghost use Rattle.sand_model.specs.Grid.{sites};
 ghost use Rattle.sand_shared.specs.OpenPile.{grid_of_terms, holds_site};
 ghost use Rattle.sand_shared.specs.Events.{looked, raised, sent, grains, behind_first, delivered_to};
 ghost use Rattle.sand_shared.specs.Seats.{IsSeatAt, StaysSeated};

@@ -1,6 +1,7 @@
-use Rattle.std.proofs.Common.{ℕ, List, length, sym, ap, ◌∙◌, subst, arith}
+use Rattle.std.proofs.Common.{ℕ, List, length, sym, ap, ◌∙◌, subst, arith, rules}
 use Rattle.std.specs.Prelude.{slice_index}
 use Rattle.sand_model.specs.Piles.{PileView}
+use Rattle.sand_shared.specs.declared.view.Receipt.{Receipt}
 use Rattle.sand_shared.specs.declared.view.Terms.{Terms}
 use Rattle.sand_shared.specs.Passes.{PassView, EachOnce}
 use Rattle.sand_shared.specs.Record.{Tells}
@@ -26,17 +27,21 @@ of_lists-requires c =
     let l = subst (λ (z : Terms). LeadsTo z.start c.args.history.items c.into_parts-heights.result.1.items c.add.new.numbers.items) (sym c.end-start.ensures.terms) inside in
     record { all_sites = l.all_sites; limit = l.limit; one_each = (l.heights_each, l.odometer_each); settled = l.settled }
 
-pub returns-clause-all_seen : goal.returns-clause-all_seen
-returns-clause-all_seen c =
+pub returns-clause-closed : goal.returns-clause-closed
+returns-clause-closed c =
     let b = completed_by c.self.view_is c.pass.view_is c.pass.invariant c.requires.pass c.requires.whole c.requires.rest c.learn.ensures.view c.learn.ensures.stands in
-    let long = c.requires.one_each ∙ ap (λ (q : PassView). length q.receipts) (sym c.pass.view_is) in
-    ap (λ (q : PassView). q.seen) (sym c.pass.view_is) ∙ completed_seen b ∙ sym long ∙ ap (λ (l : List ℕ). length l) (sym c.of_lists.ensures.history)
-
-pub returns-clause-each_number_once : goal.returns-clause-each_number_once
-returns-clause-each_number_once c = subst (λ (q : PassView). EachOnce q.receipts) c.pass.view_is c.pass.invariant.pass.once
-
-pub returns-clause-never_fall : goal.returns-clause-never_fall
-returns-clause-never_fall c i =
-    let counts = ap (λ (q : PassView). slice_index q.counts i) c.pass.view_is in
-    let odometer = ap (λ (l : List ℕ). slice_index l i) c.of_lists.ensures.odometer in
-    let never = c.add.ensures.never_fall i in omega arith
+    let history = c.of_lists.ensures.history in
+    let long = ap (λ (l : List ℕ). length l) history ∙ c.requires.one_each in
+    let receipts = ap (λ (q : PassView). q.receipts) c.pass.view_is in
+    record {
+      one_threads = search rules;
+      start = search rules;
+      history = subst (Tells c.args.pass.receipts) (sym history) c.requires.tells;
+      each_drop_once = long;
+      each_number_once = subst EachOnce receipts c.pass.invariant.pass.once;
+      all_seen = ap (λ (q : PassView). q.seen) (sym c.pass.view_is) ∙ completed_seen b ∙ ap (λ (l : List Receipt). length l) receipts ∙ sym long;
+      never_fall = λ i.
+          let counts = ap (λ (q : PassView). slice_index q.counts i) c.pass.view_is in
+          let odometer = ap (λ (l : List ℕ). slice_index l i) c.of_lists.ensures.odometer in
+          let never = c.add.ensures.never_fall i in omega arith;
+    }

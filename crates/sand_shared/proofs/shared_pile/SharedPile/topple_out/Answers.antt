@@ -1,4 +1,4 @@
-use Rattle.std.proofs.Common.{ℕ, List, length, sym, ap, ◌∙◌, subst}
+use Rattle.std.proofs.Common.{ℕ, List, length, sym, ap, ◌∙◌, subst, rules}
 use Rattle.sand_shared.specs.declared.view.Receipt.{Receipt}
 use Rattle.sand_shared.specs.declared.view.Terms.{Terms}
 use Rattle.sand_shared.specs.Passes.{PassView, EachOnce}
@@ -24,11 +24,18 @@ of_lists-requires c =
     let l = subst (λ (z : Terms). LeadsTo z.start c.fill.new.history.items c.close-start.new.heights.items c.sweep_out.new.counts.items) (sym c.close-start.ensures.terms) inside in
     record { all_sites = l.all_sites; limit = l.limit; one_each = (l.heights_each, l.odometer_each); settled = l.settled }
 
-pub returns-clause-all_seen : goal.returns-clause-all_seen
-returns-clause-all_seen c =
+pub returns : goal.returns
+returns c =
     let b = closed_by c.self.view_is c.pass.view_is c.pass.invariant c.requires.pass c.requires.whole c.close-start.ensures.last c.sweep_out.ensures.view c.sweep_out.ensures.long c.sweep_out.ensures.calm in
-    let long = c.fill.ensures.length ∙ c.requires.history ∙ ap (λ (q : PassView). length q.receipts) (sym c.pass.view_is) in
-    ap (λ (q : PassView). q.seen) (sym c.pass.view_is) ∙ closed_seen b ∙ sym long ∙ ap (λ (l : List ℕ). length l) (sym c.of_lists.ensures.history)
-
-pub returns-clause-each_number_once : goal.returns-clause-each_number_once
-returns-clause-each_number_once c = subst (λ (q : PassView). EachOnce q.receipts) c.pass.view_is c.pass.invariant.pass.once
+    let history = c.of_lists.ensures.history in
+    let long = ap (λ (l : List ℕ). length l) history ∙ c.fill.ensures.length ∙ c.requires.history in
+    let receipts = ap (λ (q : PassView). q.receipts) c.pass.view_is in
+    record {
+      one_threads = search rules;
+      start = search rules;
+      history = subst (λ (z : List Receipt × List ℕ). Tells z.0 z.1) (λ i. (c.requires.receipts i, sym history i)) c.fill.ensures.tells;
+      each_drop_once = long;
+      each_number_once = subst EachOnce receipts c.pass.invariant.pass.once;
+      all_seen = ap (λ (q : PassView). q.seen) (sym c.pass.view_is) ∙ closed_seen b ∙ ap (λ (l : List Receipt). length l) receipts ∙ sym long;
+      never_fall = search rules;
+    }
