@@ -12,7 +12,7 @@ use Rattle.sand_settle.specs.Settling.{odometer_of}
 use Rattle.sand_shared.specs.declared.view.Receipt.{Receipt}
 use Rattle.sand_shared.specs.OpenPile.{grid_of_terms}
 use Rattle.sand_shared.specs.Passes.{SharedView, PassView, EachOnce, AllBelow, IsWhole}
-use Rattle.sand_shared.specs.Record.{RecordView, IsOneThreads}
+use Rattle.sand_shared.specs.Record.{RecordView, IsOneThreads, IsRecordOf}
 use Rattle.sand_lab.specs.declared.crew.Crew.{Crew}
 use Rattle.sand_lab.specs.declared.droppers.Dropper.{Dropper}
 use Rattle.sand_lab.specs.declared.journal.Entry.{Entry}
@@ -24,7 +24,7 @@ use Rattle.sand_lab.specs.Gathering.{parts_of, all_counts, all_swept, readings, 
 use Rattle.sand_lab.specs.Jobs.{Climbs, dropped_at}
 use Rattle.sand_lab.specs.Journals.{Ascends, AreParts, HavePlaces, IsJournal, joined}
 use Rattle.sand_plan.specs.Plans.{IsPlan, quota_of}
-use Rattle.sand_lab.specs.Reports.{AreTallies, AreSwept, IsClosed, IsRecordOf}
+use Rattle.sand_lab.specs.Reports.{AreTallies, AreSwept, IsClosed}
 use Rattle.sand_lab.specs.Streams.{stream_of, stream_sites}
 use Rattle.sand_lab.proofs.JournalSites.{journal_sites}
 use Rattle.sand_lab.proofs.JournalFollowsStreams.{follows_streams, length-parts}
@@ -130,9 +130,10 @@ module _ (s : SharedView) (w : Wish) (t : ℕ) (c : Crew) (p : PassView) (quota 
             (each j (slice_index (all_swept c.workers.items) j) (slice_get-get_or (all_swept c.workers.items) j 0 (omega (arith, lt, long, ap length e))) some);
       }
 
-  pub closed_is : (r : RecordView) (js : List Entry) (tallies : List (List ℕ)) (swept : List ℕ) → EachOnce p.receipts → IsJournal w.drops (joined (parts_of c.droppers.items)) js → IsRecordOf s p r
+  pub closed_is : (r : RecordView) (js : List Entry) (tallies : List (List ℕ)) (swept : List ℕ) → IsJournal w.drops (joined (parts_of c.droppers.items)) js → IsRecordOf s.terms p r
       → tallies ≡ readings c.observers.items → swept ≡ all_swept c.workers.items → IsClosed w s.terms.start t r js tallies swept
-  closed_is r js tallies swept once written closed read found =
+  closed_is r js tallies swept written closed read found =
+      let once = closed.each_number_once in
       let journal = subst (λ (rs : List Receipt). IsJournal w.drops rs js) parts.whole written in
       record {
         one_threads = closed.one_threads;

@@ -5,8 +5,7 @@ use Rattle.std.specs.List.{flat_map}
 use Rattle.sand_model.specs.Grid.{sites}
 use Rattle.sand_model.specs.Piles.{PileView}
 use Rattle.sand_settle.specs.Settling.{odometer_of}
-use Rattle.sand_shared.specs.Passes.{SharedView, PassView}
-use Rattle.sand_shared.specs.Record.{RecordView, IsOneThreads, Tells}
+use Rattle.sand_shared.specs.Record.{RecordView, IsOneThreads}
 use Rattle.sand_lab.specs.declared.journal.Entry.{Entry}
 use Rattle.sand_plan.specs.declared.wish.Wish.{Wish}
 use Rattle.sand_lab.specs.Albums.{PictureView, IsPlace}
@@ -39,14 +38,6 @@ pub record AreSwept (w : Wish) (start : PileView) (r : RecordView) (swept : List
   pub all : length swept ≡ w.workers
   pub few : sum swept ≤ r.settled.topplings
   pub enough : 0 < w.sweeps → (j : ℕ) → j < w.workers → due start (band start.grid.height w.workers j) ≤ slice_index swept j
-
--- the record of a pile that was closed with a pass that has gathered everything
-pub record IsRecordOf (s : SharedView) (p : PassView) (r : RecordView) : Type 0 where
-  pub one_threads : IsOneThreads r
-  pub start : r.start ≡ s.terms.start
-  pub history : Tells p.receipts r.history
-  pub each_drop_once : length r.history ≡ length p.receipts
-  pub never_fall : (i : ℕ) → slice_index p.counts i ≤ odometer_of r.settled i
 
 -- epoch t is closed: the history has the drops of the journal, and there each dropper has the sites of its stream
 pub record IsClosed (w : Wish) (start : PileView) (t : ℕ) (r : RecordView)

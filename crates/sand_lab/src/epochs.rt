@@ -2,6 +2,7 @@
 
 ghost use Rattle.std.specs.Prelude.{◌≡◌, ◌≢◌, ℕ, ◌+◌, ◌*◌, ◌<◌, ◌≤◌, [], length, sum, map, slice_index, vec_len, vec_capacity, IfOk, IfErr};
 ghost use Rattle.sand_shared.specs.Passes.{IsPassOf, IsWhole};
+ghost use Rattle.sand_shared.specs.Record.{IsRecordOf};
 ghost use Rattle.sand_shared.specs.Sweeps.{IsRestOf};
 ghost use Rattle.std.specs.Thread.{IsSync};
 ghost use Rattle.std.specs.declared.option.Option.TheVariants.{Some};
@@ -10,7 +11,7 @@ ghost use Rattle.sand_lab.specs.Crews.{IsCrew, HasBecome, unshared};
 ghost use Rattle.sand_lab.specs.Faults.{IsMemory, IsOfEpoch};
 ghost use Rattle.sand_plan.specs.Plans.{IsPlan, quota_of};
 ghost use Rattle.sand_lab.specs.Journals.{HavePlaces, IsJournal, joined, lists, sites_in};
-ghost use Rattle.sand_lab.specs.Reports.{IsClosed, IsEpoch, IsRecordOf};
+ghost use Rattle.sand_lab.specs.Reports.{IsClosed, IsEpoch};
 ghost use Rattle.sand_model.specs.Piles.{most_grains};
 
 use crate::album::{Album, Note, Picture};
@@ -171,7 +172,7 @@ fn note_and_close<R: Threads + Sync>(
     requires parts { joined (lists parts.items) ≡ all.receipts }
     requires room { (blank.history.items ≡ []) × (vec_len blank.journal ≤ vec_capacity blank.history) }
     ensures journal { IfOk result (λ r. IsJournal drops (joined (lists parts.items)) r.0.items) }
-    ensures closed { IfOk result (λ r. IsRecordOf pile all r.1) }
+    ensures closed { IfOk result (λ r. IsRecordOf pile.terms all r.1) }
     ensures memory { IfErr result IsMemory }
 {
     let Blank {

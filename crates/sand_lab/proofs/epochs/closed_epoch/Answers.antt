@@ -45,11 +45,10 @@ returns-clause-closed g c =
     let quota = ap (λ (t : Terms). t.quota) c.in_ok-pile.ensures.terms ∙ c.quota_of.ensures in
     let start : s.terms.start ≡ c.args.start.now = ap (λ (t : Terms). t.start) c.in_ok-pile.ensures.terms in
     let has = c.sweep_on.ensures w c.args.epoch (c.work_and_make_blank.ensures.crew.worked c.args.epoch c.in_ok-crew.ensures.crew) in
-    let once : EachOnce c.gather.new.first.receipts = subst EachOnce (ap (λ (p : PassView). p.receipts) c.all.view_is) c.all.invariant.pass.once in
     let gathered = c.in_ok-parts.ensures in
     let written = c.in_ok-journal.journal.items in
     let journal = subst (λ (parts : List (List Receipt)). IsJournal w.drops (joined parts) written) gathered.parts c.in_ok-journal.ensures.journal in
     let tallies = map (λ ts. ts.items) c.in_ok-parts.field-0.findings.tallies.items in
     let swept = c.in_ok-parts.field-0.findings.swept.items in
     subst (λ (z : PileView × RecordView). IsClosed w z.0 c.args.epoch z.1 written tallies swept) (λ i. (start i, sym c.in_ok-closed.ensures.first i))
-    (closed_is s w c.args.epoch c.sweep_on.new.self c.gather.new.first quota has gathered.first c.in_ok-journal.closed written tallies swept once journal c.in_ok-journal.ensures.closed gathered.tallies gathered.swept)
+    (closed_is s w c.args.epoch c.sweep_on.new.self c.gather.new.first quota has gathered.first c.in_ok-journal.closed written tallies swept journal c.in_ok-journal.ensures.closed gathered.tallies gathered.swept)
