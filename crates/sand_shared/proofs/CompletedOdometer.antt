@@ -1,5 +1,5 @@
 -- The counts of a whole pass plus the odometer of the settled rest are the least odometer of the start and all drops.
-use Rattle.std.proofs.Common.{◌≡◌, ℕ, zero, suc, ◌+◌, ◌-◌, ◌*◌, ◌^◌, ◌<◌, ◌≤◌, List, [], All, length, sum, sym, refl, ap, ◌∙◌, subst, ⊎_elim, arith}
+use Rattle.std.proofs.Common.{◌≡◌, ℕ, zero, suc, ◌+◌, ◌-◌, ◌*◌, ◌^◌, ◌<◌, ◌≤◌, List, [], ◌∷◌, All, length, sum, sym, refl, ap, ◌∙◌, subst, ⊎_elim, arith}
 use Rattle.std.specs.Prelude.{slice_index}
 use Rattle.std.proofs.lemmas.Bool.{cases_eq}
 use Rattle.sand_model.specs.Grid.{Grid, sites}
@@ -38,7 +38,7 @@ sum_below_above (suc n) f i l = ⊎_elim
     (cases_eq i n)
 
 -- a look by a pass that has everything tells exactly what is left there
-pub looked_exactly : (t : Terms) (a i : ℕ) (v w : View) (n : ℕ) → Happened t (look a i) v n w → v.hand ≡ [] → HasAll t v → n + 4 * toppled_by v i ≡ laid t v i + flow (grid_of_terms t) (toppled_by v) i
+pub looked_exactly : (t : Terms) (a i : ℕ) (v w : View) (n : ℕ) → Happened t a (look a i ∷ []) v n w → v.hand ≡ [] → HasAll t v → n + 4 * toppled_by v i ≡ laid t v i + flow (grid_of_terms t) (toppled_by v) i
 looked_exactly t a i v w n h free all =
     let most = looked_at_most t a i v w n h free in
     let least = looked_at_least t a i v w n h free all in omega arith

@@ -9,7 +9,8 @@ use Rattle.sand_shared.specs.declared.view.Receipt.{Receipt}
 use Rattle.sand_shared.specs.declared.view.Terms.{Terms}
 use Rattle.sand_shared.specs.OpenPile.{OpenPile, nobody, grid_of_terms, pass_at, AreTerms, IsLawful}
 use Rattle.sand_shared.specs.Events.{Event, begin, draw, place, receipt, grains, are_for, drew, drew_all, laid_down, receipts_from, one_for_each, all_draws, all_places, unopened, May, after, AllHappen, after_all}
-use Rattle.sand_shared.specs.Running.{Shows, IsRunning, found, found_first, HappenedInARow, TakesInARow}
+use Rattle.sand_shared.specs.Plays.{Takes}
+use Rattle.sand_shared.specs.Running.{Shows, IsRunning, found, Finds, Happened}
 use Rattle.sand_shared.specs.Passes.{EachOnce, AllBelow}
 use Rattle.sand_shared.proofs.NumbersOnce.{once_more, below_push}
 use Rattle.std.proofs.Math.Nat.{mod-add-div', add-mul-mod_self_right}
@@ -81,7 +82,7 @@ shows_row t word a e (f ∷ es) p s fits one ones terms r may h =
 -- a step is allowed if its events can happen whatever else has happened
 takes_row : (t : Terms) (a word k : ℕ) (e : Event) (es : List Event) (slots : ℕ) (m : Me ℕ View) → word < sites (grid_of_terms t) + 2 → AddsOne t word a e → AllAddOne t word a es → suc (length es) ≡ k
     → ((p : OpenPile) → a < length p.passes → pass_at p a ≡ m.0 → AllHappen t p (e ∷ es))
-    → Allows (IsRunning t) slots a m word (λ n. (n + k) % 2 ^ 64) (TakesInARow t a (e ∷ es) m)
+    → Allows (IsRunning t) slots a m word (λ n. (n + k) % 2 ^ 64) (Takes t a (e ∷ es) m)
 takes_row t a word k e es slots m fits one ones long can s h _ at inside =
     let p = pile_of t s h in
     let r = lawful_now t s h in
@@ -160,7 +161,7 @@ module _ (t : Terms) (a : ℕ) where
 
   -- the step is allowed at any moment
   pub draws_row : (is : List ℕ) (slots : ℕ) (m : Me ℕ View) → 0 < length is → length is ≤ m.0.left → All (λ i. i < sites (grid_of_terms t)) is
-      → Allows (IsRunning t) slots a m 1 (λ n. (n + length is) % 2 ^ 64) (TakesInARow t a (all_draws a is) m)
+      → Allows (IsRunning t) slots a m 1 (λ n. (n + length is) % 2 ^ 64) (Takes t a (all_draws a is) m)
   draws_row [] slots m some_drops left inside = absurd (omega arith)
   draws_row (i ∷ is) slots m some_drops left inside =
       let ones = draws_add_one (i ∷ is) in
@@ -197,7 +198,7 @@ module _ (t : Terms) (a i : ℕ) where
 
   -- the step is allowed at any moment
   pub places_row : (k slots : ℕ) (m : Me ℕ View) → 0 < k → k ≤ count_by (are_for i 1) m.0.hand → i < sites (grid_of_terms t)
-      → Allows (IsRunning t) slots a m (i + 2) (λ n. (n + k) % 2 ^ 64) (TakesInARow t a (all_places a i k) m)
+      → Allows (IsRunning t) slots a m (i + 2) (λ n. (n + k) % 2 ^ 64) (Takes t a (all_places a i k) m)
   places_row zero slots m some_grains in_hand inside = absurd (omega arith)
   places_row (suc k) slots m some_grains in_hand inside =
       let ones = places_add_one inside (suc k) in
@@ -205,20 +206,16 @@ module _ (t : Terms) (a i : ℕ) where
       (λ p there same. all_laid_may p (suc k) there (let enough = ap (λ (v : View). count_by (are_for i 1) v.hand) same in omega arith) inside)
 
   -- the pass is then without these grains
-  pub laid_is : (k : ℕ) (v w : View) (n : ℕ) → HappenedInARow t a (all_places a i k) v n w → w ≡ record v { hand = laid_on i k v.hand }
+  pub laid_is : (k : ℕ) (v w : View) (n : ℕ) → Happened t a (all_places a i k) v n w → w ≡ record v { hand = laid_on i k v.hand }
   laid_is k v w n h = sym h.pass_after ∙ (pass_after_places h.before.pile k h.before.there ∙ ap (λ (u : View). record u { hand = laid_on i k u.hand }) h.before.pass)
 
--- the events chosen at the call are those of the step
-pub happened_picked_row : {t t' : Terms} {b a : ℕ} {ds is : List Event} {v w : View} {n : ℕ} → (t' ≡ t) × (b ≡ a) × (ds ≡ is) → HappenedInARow t' b ds v n w → HappenedInARow t a is v n w
-happened_picked_row {v = v} {w = w} {n = n} same = subst (λ (z : Terms × ℕ × List Event). HappenedInARow z.0 z.1 z.2 v n w) (λ i. (same.0 i, same.1 i, same.2 i))
+found_draws : (p : OpenPile) (a n : ℕ) (is : List ℕ) → 0 < length is → Finds p (all_draws a is) n → n ≡ length p.drawn
+found_draws p a n [] some_drops found = absurd (omega arith)
+found_draws p a n (i ∷ is) some_drops found = found
 
-found_draws : (p : OpenPile) (a : ℕ) (is : List ℕ) → 0 < length is → found_first p (all_draws a is) ≡ length p.drawn
-found_draws p a [] some_drops = absurd (omega arith)
-found_draws p a (i ∷ is) some_drops = refl
-
-module _ (t : Terms) (a : ℕ) (is : List ℕ) (v w : View) (n : ℕ) (some_drops : 0 < length is) (h : HappenedInARow t a (all_draws a is) v n w) where
+module _ (t : Terms) (a : ℕ) (is : List ℕ) (v w : View) (n : ℕ) (some_drops : 0 < length is) (h : Happened t a (all_draws a is) v n w) where
   number_is : n ≡ length h.before.pile.drawn
-  number_is = h.number ∙ found_draws h.before.pile a is some_drops
+  number_is = found_draws h.before.pile a n is some_drops h.number
 
   pub drew_row_is : w ≡ drew_all v n is
   drew_row_is =

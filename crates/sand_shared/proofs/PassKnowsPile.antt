@@ -119,24 +119,24 @@ pub stands_sparing : (t : Terms) (a : ℕ) (v : View) → Stands t a v → HasAl
 stands_sparing t a v s all fits =
     subst (IsSparing t) s.pass (is_sparing t s.pile s.lawful a s.there (subst (HasAll t) (sym s.pass) all) (subst (λ (u : View). u.base + length u.counts ≤ sites (grid_of_terms t)) (sym s.pass) fits))
 
-pub looked_at_most : (t : Terms) (a i : ℕ) (v w : View) (n : ℕ) → Happened t (look a i) v n w → v.hand ≡ [] → LeavesAtMost t v i n
+pub looked_at_most : (t : Terms) (a i : ℕ) (v w : View) (n : ℕ) → Happened t a (look a i ∷ []) v n w → v.hand ≡ [] → LeavesAtMost t v i n
 looked_at_most t a i v w n h free =
     let s = h.before in
-    subst (λ (z : View × ℕ). LeavesAtMost t z.0 i z.1) (λ q. (s.pass q, sym h.number q)) (at_most t s.pile s.lawful a s.there i h.may.inside h.may.own (ap (λ (u : View). u.hand) s.pass ∙ free))
+    subst (λ (z : View × ℕ). LeavesAtMost t z.0 i z.1) (λ q. (s.pass q, sym h.number q)) (at_most t s.pile s.lawful a s.there i h.may.0.inside h.may.0.own (ap (λ (u : View). u.hand) s.pass ∙ free))
 
-pub looked_at_least : (t : Terms) (a i : ℕ) (v w : View) (n : ℕ) → Happened t (look a i) v n w → v.hand ≡ [] → HasAll t v → LeavesAtLeast t v i n
+pub looked_at_least : (t : Terms) (a i : ℕ) (v w : View) (n : ℕ) → Happened t a (look a i ∷ []) v n w → v.hand ≡ [] → HasAll t v → LeavesAtLeast t v i n
 looked_at_least t a i v w n h free all =
     let s = h.before in
-    subst (λ (z : View × ℕ). LeavesAtLeast t z.0 i z.1) (λ q. (s.pass q, sym h.number q)) (at_least t s.pile s.lawful a s.there (subst (HasAll t) (sym s.pass) all) i h.may.inside (ap (λ (u : View). u.hand) s.pass ∙ free))
+    subst (λ (z : View × ℕ). LeavesAtLeast t z.0 i z.1) (λ q. (s.pass q, sym h.number q)) (at_least t s.pile s.lawful a s.there (subst (HasAll t) (sym s.pass) all) i h.may.0.inside (ap (λ (u : View). u.hand) s.pass ∙ free))
 
 -- after an unload the pass still belongs to a lawful pile
-pub stands_unloaded : (t : Terms) (a i k : ℕ) (v w : View) (n : ℕ) → Happened t (unload a i k) v n w → Stands t a w
+pub stands_unloaded : (t : Terms) (a i k : ℕ) (v w : View) (n : ℕ) → Happened t a (unload a i k ∷ []) v n w → Stands t a w
 stands_unloaded t a i k v w n h =
     let s = h.before in
     record {
       terms = s.terms;
       pile = after t s.pile (unload a i k);
-      lawful = event_keeps t s.pile (unload a i k) s.terms s.lawful h.may;
+      lawful = event_keeps t s.pile (unload a i k) s.terms s.lawful h.may.0;
       there = let e = length-set s.pile.passes a (unloaded t (pass_at s.pile a) i k) in let l = s.there in omega arith;
       pass = h.pass_after;
     }

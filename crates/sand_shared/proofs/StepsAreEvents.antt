@@ -13,7 +13,8 @@ use Rattle.sand_shared.specs.declared.view.Terms.{Terms}
 use Rattle.sand_shared.specs.OpenPile.{OpenPile, nobody, grid_of_terms, holds_site, pass_at, AreTerms, IsLawful}
 use Rattle.sand_shared.specs.Events.{Event, begin, draw, count, split, join, look, unload, deliver, are_for, counted, looked, parent, child, joined, follows, first_pass, unopened, May, after, after_all}
 use Rattle.sand_shared.specs.Record.{IsLast}
-use Rattle.sand_shared.specs.Running.{Shows, IsRunning, Happened, actor, found, Takes, Learns}
+use Rattle.sand_shared.specs.Plays.{Takes}
+use Rattle.sand_shared.specs.Running.{Shows, IsRunning, Happened, found}
 use Rattle.sand_shared.proofs.Lawfulness.{always_lawful, after_all-push, happen_push}
 use Rattle.sand_shared.proofs.WordsShowPile.{stepped_to, shows_load, shows_draw, shows_arrived, shows_unload}
 
@@ -54,53 +55,53 @@ module _ (t : Terms) (s : State ℕ View) (h : IsRunning t s) (a : ℕ) (v : Vie
   pass_is = ap (λ (l : List View). get_or l a nobody) (sym h.shown.passes) ∙ some_there s.views a v nobody at
 
 -- a step is allowed if its event can happen whatever else has happened, and the words show the result
-takes : (t : Terms) (e : Event) (slots : ℕ) (m : Me ℕ View) (word : ℕ) (f : ℕ → ℕ)
-    → ((p : OpenPile) → IsLawful t p → actor e < length p.passes → pass_at p (actor e) ≡ m.0 → May t p e)
+takes : (t : Terms) (a : ℕ) (e : Event) (slots : ℕ) (m : Me ℕ View) (word : ℕ) (f : ℕ → ℕ)
+    → ((p : OpenPile) → IsLawful t p → a < length p.passes → pass_at p a ≡ m.0 → May t p e)
     → ((p : OpenPile) (s : State ℕ View) → AreTerms t → IsLawful t p → May t p e → Shows t p s
-    → (slice_index s.words word ≡ found p e) × Shows t (after t p e) (stepped_to s word (f (slice_index s.words word)) (actor e) (pass_at (after t p e) (actor e))))
-    → Allows (IsRunning t) slots (actor e) m word f (Takes t e m)
-takes t e slots m word f can shows s h _ at fits =
+    → (slice_index s.words word ≡ found p e) × Shows t (after t p e) (stepped_to s word (f (slice_index s.words word)) a (pass_at (after t p e) a)))
+    → Allows (IsRunning t) slots a m word f (Takes t a (e ∷ []) m)
+takes t a e slots m word f can shows s h _ at fits =
     let p = pile_of t s h in
     let r = lawful_now t s h in
-    let there = pass_there t s h (actor e) m.0 at in
-    let is = pass_is t s h (actor e) m.0 at in
+    let there = pass_there t s h a m.0 at in
+    let is = pass_is t s h a m.0 at in
     let may = can p r there is in
     let shown = shows p s h.terms r may h.shown in
-    let w = pass_at (after t p e) (actor e) in (
+    let w = pass_at (after t p e) a in (
       w,
       keeps,
       tt,
-      one_more t s (stepped_to s word (f (slice_index s.words word)) (actor e) w) h e may shown.1,
-      (record { before = record { terms = h.terms; pile = p; lawful = r; there = there; pass = is }; may = may; number = shown.0; pass_after = refl }, refl),
+      one_more t s (stepped_to s word (f (slice_index s.words word)) a w) h e may shown.1,
+      (record { before = record { terms = h.terms; pile = p; lawful = r; there = there; pass = is }; may = (may, tt); number = shown.0; pass_after = refl }, refl),
     )
 
 pub draws : (t : Terms) (a i slots : ℕ) (m : Me ℕ View) → 0 < m.0.left → i < sites (grid_of_terms t)
-    → Allows (IsRunning t) slots a m 1 (λ n. (n + 1) % 2 ^ 64) (Takes t (draw a i) m)
-draws t a i slots m some_left inside = takes t (draw a i) slots m 1 (λ n. (n + 1) % 2 ^ 64)
+    → Allows (IsRunning t) slots a m 1 (λ n. (n + 1) % 2 ^ 64) (Takes t a (draw a i ∷ []) m)
+draws t a i slots m some_left inside = takes t a (draw a i) slots m 1 (λ n. (n + 1) % 2 ^ 64)
     (λ p r there is. record { there = there; some_left = subst (λ (v : View). 0 < v.left) (sym is) some_left; inside = inside })
     (λ p s terms r may h. (h.number, shows_draw t p s a i terms r may h))
 
-pub counts : (t : Terms) (a slots : ℕ) (m : Me ℕ View) → Allows (IsRunning t) slots a m 1 (λ n. n) (Takes t (count a) m)
-counts t a slots m = takes t (count a) slots m 1 (λ n. n)
+pub counts : (t : Terms) (a slots : ℕ) (m : Me ℕ View) → Allows (IsRunning t) slots a m 1 (λ n. n) (Takes t a (count a ∷ []) m)
+counts t a slots m = takes t a (count a) slots m 1 (λ n. n)
     (λ p r there is. there)
     (λ p s terms r may h. (h.number, shows_load t p s 1 a (counted (pass_at p a) (length p.drawn)) h may))
 
 pub delivers : (t : Terms) (a i k slots : ℕ) (m : Me ℕ View) → i < sites (grid_of_terms t) → 0 < count_by (are_for i k) m.0.hand
-    → Allows (IsRunning t) slots a m (i + 2) (λ n. (n + k) % 2 ^ 64) (Takes t (deliver a i k) m)
-delivers t a i k slots m inside in_hand = takes t (deliver a i k) slots m (i + 2) (λ n. (n + k) % 2 ^ 64)
+    → Allows (IsRunning t) slots a m (i + 2) (λ n. (n + k) % 2 ^ 64) (Takes t a (deliver a i k ∷ []) m)
+delivers t a i k slots m inside in_hand = takes t a (deliver a i k) slots m (i + 2) (λ n. (n + k) % 2 ^ 64)
     (λ p r there is. record { there = there; in_hand = subst (λ (v : View). 0 < count_by (are_for i k) v.hand) (sym is) in_hand; inside = inside })
     (λ p s terms r may h. (h.heights i inside, shows_arrived t p s a i k terms r may.there may.in_hand may.inside h))
 
 pub looks : (t : Terms) (a i slots : ℕ) (m : Me ℕ View) → i < sites (grid_of_terms t) → holds_site m.0 i ≡ true
-    → Allows (IsRunning t) slots a m (i + 2) (λ n. n) (Takes t (look a i) m)
-looks t a i slots m inside own = takes t (look a i) slots m (i + 2) (λ n. n)
+    → Allows (IsRunning t) slots a m (i + 2) (λ n. n) (Takes t a (look a i ∷ []) m)
+looks t a i slots m inside own = takes t a (look a i) slots m (i + 2) (λ n. n)
     (λ p r there is. record { there = there; inside = inside; own = subst (λ (v : View). holds_site v i ≡ true) (sym is) own })
     (λ p s terms r may h. (h.heights i inside, shows_load t p s (i + 2) a (looked (pass_at p a) i (p.height i)) h may.there))
 
 -- what a pass found at a site is still there, because nobody else takes grains from it
 pub unloads : (t : Terms) (a i k slots : ℕ) (m : Me ℕ View) → i < sites (grid_of_terms t) → holds_site m.0 i ≡ true → m.0.spot ≡ i → 4 * k ≤ m.0.least
-    → Allows (IsRunning t) slots a m (i + 2) (λ n. (n + (2 ^ 64 - 4 * k)) % 2 ^ 64) (Takes t (unload a i k) m)
-unloads t a i k slots m inside own spot enough = takes t (unload a i k) slots m (i + 2) (λ n. (n + (2 ^ 64 - 4 * k)) % 2 ^ 64)
+    → Allows (IsRunning t) slots a m (i + 2) (λ n. (n + (2 ^ 64 - 4 * k)) % 2 ^ 64) (Takes t a (unload a i k ∷ []) m)
+unloads t a i k slots m inside own spot enough = takes t a (unload a i k) slots m (i + 2) (λ n. (n + (2 ^ 64 - 4 * k)) % 2 ^ 64)
     (λ p r there is. let mine : holds_site (pass_at p a) i ≡ true = subst (λ (v : View). holds_site v i ≡ true) (sym is) own in
     let at : (pass_at p a).spot ≡ i = ap (λ (v : View). v.spot) is ∙ spot in
     let least = (r.passes a nobody there).least (subst (λ z. holds_site (pass_at p a) z ≡ true) (sym at) mine) (subst (λ z. z < sites (grid_of_terms t)) (sym at) inside) in
@@ -109,7 +110,7 @@ unloads t a i k slots m inside own spot enough = takes t (unload a i k) slots m 
     (λ p s terms r may h. (h.heights i inside, shows_unload t p s a i k terms r may h))
 
 -- a load of the table's own word, which is no event
-pub learns : (t : Terms) (a slots : ℕ) (m : Me ℕ View) → Allows (IsRunning t) slots a m 0 (λ n. n) (Learns t a m)
+pub learns : (t : Terms) (a slots : ℕ) (m : Me ℕ View) → Allows (IsRunning t) slots a m 0 (λ n. n) (Takes t a [] m)
 learns t a slots m s h _ at fits =
     let there = pass_there t s h a m.0 at in
     let is = pass_is t s h a m.0 at in (
@@ -117,7 +118,7 @@ learns t a slots m s h _ at fits =
       keeps,
       tt,
       subst (λ (z : List ℕ × List View). IsRunning t record { words = z.0; homes = s.homes; views = z.1 }) (λ q. (sym (set-get_or s.words 0 0) q, sym (set_again s.views a m.0 at) q)) h,
-      (record { terms = h.terms; pile = pile_of t s h; lawful = lawful_now t s h; there = there; pass = is }, refl),
+      (record { before = record { terms = h.terms; pile = pile_of t s h; lawful = lawful_now t s h; there = there; pass = is }; may = tt; number = tt; pass_after = is }, refl),
     )
 
 pub splits : (t : Terms) (a q n : ℕ) (v : View) → q ≤ v.left → n ≤ length v.counts → v.hand ≡ [] → Splits (IsRunning t) a v (parent v q n) (child v q n)
@@ -171,9 +172,9 @@ opens t terms = record {
   };
 }
 
--- the terms and the event chosen at the call are those of the step
-pub happened_picked : {t t' : Terms} {e e' : Event} {v w : View} {n : ℕ} → (t' ≡ t) × (e' ≡ e) → Happened t' e' v n w → Happened t e v n w
-happened_picked {v = v} {w = w} {n = n} same = subst (λ (z : Terms × Event). Happened z.0 z.1 v n w) (λ i. (same.0 i, same.1 i))
+-- the terms, the pass and the events chosen at the call are those of the step
+pub happened_picked : {t t' : Terms} {b a : ℕ} {ds es : List Event} {v w : View} {n : ℕ} → (t' ≡ t) × (b ≡ a) × (ds ≡ es) → Happened t' b ds v n w → Happened t a es v n w
+happened_picked {v = v} {w = w} {n = n} same = subst (λ (z : Terms × ℕ × List Event). Happened z.0 z.1 z.2 v n w) (λ i. (same.0 i, same.1 i, same.2 i))
 
 -- the heights read when the table is closed are those of the last open pile
 pub last_is : (t : Terms) (a : ℕ) (v : View) (s : State ℕ View) (h : IsRunning t s) → get_elem? s.views a ≡ some v → (heights : List ℕ) → length heights ≡ sites (grid_of_terms t)

@@ -9,9 +9,9 @@ use Rattle.sand_shared.specs.declared.view.Terms.{Terms}
 use Rattle.sand_shared.specs.OpenPile.{grid_of_terms}
 use Rattle.sand_shared.specs.Events.{Event}
 use Rattle.sand_shared.specs.Passes.{SharedView}
-use Rattle.sand_shared.specs.Running.{IsRunning, Takes, TakesInARow, Learns}
+use Rattle.sand_shared.specs.Plays.{Takes}
+use Rattle.sand_shared.specs.Running.{IsRunning}
 use Rattle.sand_shared.specs.Seats.{AreWords, IsSeatAt, StaysSeated}
-use Rattle.sand_shared.proofs.StepsAreEvents.{learns}
 
 pub stays_on : {first mid last : Seat ℕ View} → StaysSeated first mid → StaysSeated mid last → StaysSeated first last
 stays_on before after = record { table = after.table ∙ before.table; id = after.id ∙ before.id; bare = after.bare }
@@ -27,33 +27,13 @@ module _ {key : Terms} {lattice : Grid} {inside now : SharedView} (words : AreWo
     pub at_table : seat.table_id ≡ inside.table
     at_table = at.table ∙ sym (ap (λ (w : SharedView). w.table) is)
 
-    -- a step that is one event
-    pub asks_event : {t : Terms} {d : Event} (e : Event) (word : ℕ) (f : ℕ → ℕ) → word < sites (grid_of_terms now.terms) + 2 → (t ≡ now.terms) × (d ≡ e)
-        → Allows (IsRunning now.terms) inside.table.slots seat.id seat.me word f (Takes now.terms e seat.me)
-        → (seat.table_id ≡ inside.table) × (word < inside.table.words) × Allows (IsRunning key) inside.table.slots seat.id seat.me word f (Takes t d seat.me)
-    asks_event e word f fits picked may = (
+    -- a step of some events
+    pub asks : {t : Terms} {b : ℕ} {ds : List Event} (es : List Event) (word : ℕ) (f : ℕ → ℕ) → word < sites (grid_of_terms now.terms) + 2 → (t ≡ now.terms) × (b ≡ seat.id) × (ds ≡ es)
+        → Allows (IsRunning now.terms) inside.table.slots seat.id seat.me word f (Takes now.terms seat.id es seat.me)
+        → (seat.table_id ≡ inside.table) × (word < inside.table.words) × Allows (IsRunning key) inside.table.slots seat.id seat.me word f (Takes t b ds seat.me)
+    asks es word f fits picked may = (
       at_table,
       has_word word fits,
-      subst (λ (z : Terms × Terms × Event). Allows (IsRunning z.0) inside.table.slots seat.id seat.me word f (Takes z.1 z.2 seat.me)) (λ i. (sym key_now i, sym picked.0 i, sym picked.1 i)) may,
-    )
-
-    -- a step that is several events in a row
-    pub asks_row : {t : Terms} {b : ℕ} {ds : List Event} (es : List Event) (word : ℕ) (f : ℕ → ℕ) → word < sites (grid_of_terms now.terms) + 2 → (t ≡ now.terms) × (b ≡ seat.id) × (ds ≡ es)
-        → Allows (IsRunning now.terms) inside.table.slots seat.id seat.me word f (TakesInARow now.terms seat.id es seat.me)
-        → (seat.table_id ≡ inside.table) × (word < inside.table.words) × Allows (IsRunning key) inside.table.slots seat.id seat.me word f (TakesInARow t b ds seat.me)
-    asks_row es word f fits picked may = (
-      at_table,
-      has_word word fits,
-      subst (λ (z : Terms × Terms × ℕ × List Event). Allows (IsRunning z.0) inside.table.slots seat.id seat.me word f (TakesInARow z.1 z.2 z.3 seat.me))
+      subst (λ (z : Terms × Terms × ℕ × List Event). Allows (IsRunning z.0) inside.table.slots seat.id seat.me word f (Takes z.1 z.2 z.3 seat.me))
           (λ i. (sym key_now i, sym picked.0 i, sym picked.1 i, sym picked.2 i)) may,
-    )
-
-    -- a load of word 0 that is no event
-    pub asks_nothing : {t : Terms} {a : ℕ} → (t ≡ now.terms) × (a ≡ seat.id)
-        → (seat.table_id ≡ inside.table) × (0 < inside.table.words) × Allows (IsRunning key) inside.table.slots seat.id seat.me 0 (λ n. n) (Learns t a seat.me)
-    asks_nothing picked = (
-      at_table,
-      has_word 0 (omega arith),
-      subst (λ (z : Terms × Terms × ℕ). Allows (IsRunning z.0) inside.table.slots seat.id seat.me 0 (λ n. n) (Learns z.1 z.2 seat.me)) (λ i. (sym key_now i, sym picked.0 i, sym picked.1 i))
-          (learns now.terms seat.id inside.table.slots seat.me),
     )

@@ -1,7 +1,6 @@
 -- The events of an open pile, each with its condition and its effect. A pass is named by its place in the list.
 use Rattle.std.specs.Prelude.{ℕ, Bool, true, ◌≡◌, ◌≢◌, ◌+◌, ◌-◌, ◌*◌, ◌<◌, ◌≤◌, ◌==◌, ◌&&◌, ◌||◌, if◌then◌else◌, max, List, [], ◌∷◌, ◌++◌, map, take, drop, length, slice_index, slice_set, replicate, count_by, Option, Some, None}
 use Rattle.sand_model.specs.Grid.{sites, neighbours}
-use Rattle.sand_model.specs.declared.shape.Edge.TheVariants.{Open}
 use Rattle.sand_model.specs.Piles.{height_of}
 use Rattle.sand_shared.specs.declared.view.Receipt.{Receipt}
 use Rattle.sand_shared.specs.declared.view.Grains.{Grains}
@@ -234,16 +233,3 @@ all_draws a is = map (λ i. draw a i) is
 -- a pass lays k single grains on one site
 abbrev pub all_places : ℕ → ℕ → ℕ → List Event
 all_places a i k = replicate k (place a i)
-
--- the quota and the number of sites that a split gives away
-abbrev pub quota_given : Event → ℕ
-quota_given (split a q n) = q
-quota_given _ = 0
-
-abbrev pub sites_given : Event → ℕ
-sites_given (split a q n) = n
-sites_given _ = 0
-
--- placeholder terms, if nothing is picked
-abbrev pub no_terms : Terms
-no_terms = record { start = record { grid = record { width = 0; height = 0; edge = Open }; heights = [] }; quota = 0 }

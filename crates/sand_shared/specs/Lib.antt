@@ -2,6 +2,7 @@ pub mod OpenPile
 pub mod Events
 pub mod Laws
 pub mod Running
+pub mod Plays
 pub mod Passes
 pub mod Bare
 pub mod Sweeps

@@ -9,11 +9,11 @@ ghost use Rattle.std.specs.Mem.Slots.{slots_items, slots_len, IsFull};
 ghost use Rattle.sand_model.specs.Grid.{sites, places};
 ghost use Rattle.sand_shared.specs.OpenPile.{grid_of_terms, holds_site, AreTerms};
 ghost use Rattle.sand_shared.specs.Events.{draw, all_draws, all_places, count, split, look, unload, deliver, grains, are_for, behind_first, first_pass, parent, child, joined, follows};
-ghost use Rattle.sand_shared.specs.Running.{Happened, HappenedInARow, Stands, actor};
+ghost use Rattle.sand_shared.specs.Running.{Happened, Stands};
 ghost use Rattle.sand_shared.specs.Record.{IsLast};
 ghost use Rattle.sand_shared.specs.Seats.{IsSeatAt, StaysSeated};
 
-use crate::rule::{Cut, Gather, Learn, Picked, PickedRow, Running, Take, TakeRow};
+use crate::rule::{Cut, Gather, Picked, Running, Take};
 use crate::view::{Terms, View};
 use atomic_table::{Closed, Seat, Table};
 use sand_model::{Lattice, TOPPLING_HEIGHT};
@@ -94,49 +94,49 @@ impl Words {
         requires seat { IsSeatAt self.now seat.old }
         requires left { 0 < seat.old.me.0.left }
         requires site { _site < sites (grid_of_terms self.now.terms) }
-        requires picked { (J.terms ≡ self.now.terms) × (J.event ≡ draw seat.old.id _site) }
+        requires picked { (J.terms ≡ self.now.terms) × (J.pass ≡ seat.old.id) × (J.events ≡ draw seat.old.id _site ∷ []) }
         ensures seat { StaysSeated seat.old seat.new }
-        ensures happened { Happened self.now.terms (draw seat.old.id _site) seat.old.me.0 result seat.new.me.0 }
+        ensures happened { Happened self.now.terms seat.old.id (draw seat.old.id _site ∷ []) seat.old.me.0 result seat.new.me.0 }
     {
         self.table.shared.fetch_add::<Take<J>>(seat, 1, 1)
     }
 
     /// Draws consecutive numbers for grains on some sites, in one step. Returns the first.
-    pub(crate) fn draw_all<J: PickedRow>(&self, seat: &mut PassSeat, drops: &[usize]) -> u64
+    pub(crate) fn draw_all<J: Picked>(&self, seat: &mut PassSeat, drops: &[usize]) -> u64
         requires seat { IsSeatAt self.now seat.old }
         requires some { 0 < length drops.now }
         requires left { length drops.now ≤ seat.old.me.0.left }
         requires inside { All (λ i. i < sites (grid_of_terms self.now.terms)) drops.now }
         requires picked { (J.terms ≡ self.now.terms) × (J.pass ≡ seat.old.id) × (J.events ≡ all_draws seat.old.id drops.now) }
         ensures seat { StaysSeated seat.old seat.new }
-        ensures happened { HappenedInARow self.now.terms seat.old.id (all_draws seat.old.id drops.now) seat.old.me.0 result seat.new.me.0 }
+        ensures happened { Happened self.now.terms seat.old.id (all_draws seat.old.id drops.now) seat.old.me.0 result seat.new.me.0 }
     {
         self.table
             .shared
-            .fetch_add::<TakeRow<J>>(seat, 1, drops.len() as u64)
+            .fetch_add::<Take<J>>(seat, 1, drops.len() as u64)
     }
 
     /// Lays `amount` of the grains drawn for a site on it, in one step.
-    pub(crate) fn place<J: PickedRow>(&self, seat: &mut PassSeat, site: usize, amount: u64)
+    pub(crate) fn place<J: Picked>(&self, seat: &mut PassSeat, site: usize, amount: u64)
         requires seat { IsSeatAt self.now seat.old }
         requires some { 0 < amount }
         requires hand { amount ≤ count_by (are_for site 1) seat.old.me.0.hand }
         requires site { site < sites (grid_of_terms self.now.terms) }
         requires picked { (J.terms ≡ self.now.terms) × (J.pass ≡ seat.old.id) × (J.events ≡ all_places seat.old.id site amount) }
         ensures seat { StaysSeated seat.old seat.new }
-        ensures happened { (n : ℕ) × HappenedInARow self.now.terms seat.old.id (all_places seat.old.id site amount) seat.old.me.0 n seat.new.me.0 }
+        ensures happened { (n : ℕ) × Happened self.now.terms seat.old.id (all_places seat.old.id site amount) seat.old.me.0 n seat.new.me.0 }
     {
         self.table
             .shared
-            .fetch_add::<TakeRow<J>>(seat, site + 2, amount);
+            .fetch_add::<Take<J>>(seat, site + 2, amount);
     }
 
     /// Reads how many drops have begun.
     pub(crate) fn count<J: Picked>(&self, seat: &mut PassSeat) -> u64
         requires seat { IsSeatAt self.now seat.old }
-        requires picked { (J.terms ≡ self.now.terms) × (J.event ≡ count seat.old.id) }
+        requires picked { (J.terms ≡ self.now.terms) × (J.pass ≡ seat.old.id) × (J.events ≡ count seat.old.id ∷ []) }
         ensures seat { StaysSeated seat.old seat.new }
-        ensures happened { Happened self.now.terms (count seat.old.id) seat.old.me.0 result seat.new.me.0 }
+        ensures happened { Happened self.now.terms seat.old.id (count seat.old.id ∷ []) seat.old.me.0 result seat.new.me.0 }
     {
         self.table.shared.load::<Take<J>>(seat, 1)
     }
@@ -146,9 +146,9 @@ impl Words {
         requires seat { IsSeatAt self.now seat.old }
         requires own { holds_site seat.old.me.0 site ≡ true }
         requires site { site < sites (grid_of_terms self.now.terms) }
-        requires picked { (J.terms ≡ self.now.terms) × (J.event ≡ look seat.old.id site) }
+        requires picked { (J.terms ≡ self.now.terms) × (J.pass ≡ seat.old.id) × (J.events ≡ look seat.old.id site ∷ []) }
         ensures seat { StaysSeated seat.old seat.new }
-        ensures happened { Happened self.now.terms (look seat.old.id site) seat.old.me.0 result seat.new.me.0 }
+        ensures happened { Happened self.now.terms seat.old.id (look seat.old.id site ∷ []) seat.old.me.0 result seat.new.me.0 }
     {
         self.table.shared.load::<Take<J>>(seat, site + 2)
     }
@@ -160,9 +160,9 @@ impl Words {
         requires there { 4 * times ≤ seat.old.me.0.least }
         requires site { site < sites (grid_of_terms self.now.terms) }
         requires small { 4 * times < 2 ^ 64 }
-        requires picked { (J.terms ≡ self.now.terms) × (J.event ≡ unload seat.old.id site times) }
+        requires picked { (J.terms ≡ self.now.terms) × (J.pass ≡ seat.old.id) × (J.events ≡ unload seat.old.id site times ∷ []) }
         ensures seat { StaysSeated seat.old seat.new }
-        ensures happened { (n : ℕ) × Happened self.now.terms (unload seat.old.id site times) seat.old.me.0 n seat.new.me.0 }
+        ensures happened { (n : ℕ) × Happened self.now.terms seat.old.id (unload seat.old.id site times ∷ []) seat.old.me.0 n seat.new.me.0 }
     {
         self.table
             .shared
@@ -174,9 +174,9 @@ impl Words {
         requires seat { IsSeatAt self.now seat.old }
         requires hand { seat.old.me.0.hand ≡ grains site amount ∷ behind_first seat.old.me.0.hand }
         requires site { site < sites (grid_of_terms self.now.terms) }
-        requires picked { (J.terms ≡ self.now.terms) × (J.event ≡ deliver seat.old.id site amount) }
+        requires picked { (J.terms ≡ self.now.terms) × (J.pass ≡ seat.old.id) × (J.events ≡ deliver seat.old.id site amount ∷ []) }
         ensures seat { StaysSeated seat.old seat.new }
-        ensures happened { (n : ℕ) × Happened self.now.terms (deliver seat.old.id site amount) seat.old.me.0 n seat.new.me.0 }
+        ensures happened { (n : ℕ) × Happened self.now.terms seat.old.id (deliver seat.old.id site amount ∷ []) seat.old.me.0 n seat.new.me.0 }
     {
         self.table
             .shared
@@ -186,12 +186,12 @@ impl Words {
     /// Tells the pass that what it has fits the rule, by a load that is no event.
     pub(crate) fn learn<J: Picked>(&self, seat: &mut PassSeat)
         requires seat { IsSeatAt self.now seat.old }
-        requires picked { (J.terms ≡ self.now.terms) × (actor J.event ≡ seat.old.id) }
+        requires picked { (J.terms ≡ self.now.terms) × (J.pass ≡ seat.old.id) × (J.events ≡ []) }
         ensures seat { StaysSeated seat.old seat.new }
         ensures view { seat.new.me.0 ≡ seat.old.me.0 }
         ensures stands { Stands self.now.terms seat.old.id seat.new.me.0 }
     {
-        self.table.shared.load::<Learn<J>>(seat, 0);
+        self.table.shared.load::<Take<J>>(seat, 0);
     }
 
     /// Moves part of the pass's quota and the last of its sites to a new pass.
@@ -205,7 +205,7 @@ impl Words {
         requires hand { seat.old.me.0.hand ≡ [] }
         requires quota { _quota ≤ seat.old.me.0.left }
         requires sites { _kept ≤ length seat.old.me.0.counts }
-        requires picked { J.event ≡ split seat.old.id _quota (length seat.old.me.0.counts - _kept) }
+        requires picked { J.events ≡ split seat.old.id _quota (length seat.old.me.0.counts - _kept) ∷ [] }
         ensures seat { StaysSeated seat.old seat.new }
         ensures child_seat { IsSeatAt self.now result }
         ensures parent { seat.new.me.0 ≡ parent seat.old.me.0 _quota (length seat.old.me.0.counts - _kept) }

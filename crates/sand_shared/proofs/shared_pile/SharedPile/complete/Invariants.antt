@@ -1,5 +1,5 @@
-use Rattle.sand_shared.specs.Events.{count}
+use Rattle.std.proofs.Common.{[]}
 use Rattle.sand_shared.proofs.shared_pile.SharedPile.complete.Given as goal
 
 abbrev pub ghosts-learn : goal.ghosts-learn
-ghosts-learn a = record { terms = a.self.now.terms; event = count a.seat.now.id }
+ghosts-learn a = record { terms = a.self.now.terms; pass = a.seat.now.id; events = [] }

@@ -1,12 +1,12 @@
-use Rattle.std.proofs.Common.{◌∙◌, arith}
+use Rattle.std.proofs.Common.{[], ◌∷◌, ◌∙◌, arith}
 use Rattle.sand_shared.specs.Events.{count}
 use Rattle.sand_shared.proofs.StepsAreEvents.{counts, happened_picked}
-use Rattle.sand_shared.proofs.StepsOnWords.{asks_event}
+use Rattle.sand_shared.proofs.StepsOnWords.{asks}
 use Rattle.sand_shared.proofs.steps.Words.count.Goals as goal
 
 pub load-requires : goal.load-requires
 load-requires g c =
-    asks_event c.self.invariant c.self.view_is c.requires.seat (count _) 1 (λ n. n) (omega arith) c.requires.picked
+    asks c.self.invariant c.self.view_is c.requires.seat (count _ ∷ []) 1 (λ n. n) (omega arith) c.requires.picked
     (counts _ _ _ _)
 
 pub returns-clause-seat : goal.returns-clause-seat

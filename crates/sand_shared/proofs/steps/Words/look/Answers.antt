@@ -1,14 +1,14 @@
-use Rattle.std.proofs.Common.{◌+◌, ◌∙◌, arith}
+use Rattle.std.proofs.Common.{[], ◌∷◌, ◌+◌, ◌∙◌, arith}
 use Rattle.sand_shared.specs.Events.{look}
 use Rattle.sand_shared.proofs.StepsAreEvents.{looks, happened_picked}
-use Rattle.sand_shared.proofs.StepsOnWords.{asks_event}
+use Rattle.sand_shared.proofs.StepsOnWords.{asks}
 use Rattle.sand_shared.proofs.steps.Words.look.Goals as goal
 
 pub load-requires : goal.load-requires
 load-requires g c =
     let inside = c.requires.site in
     let i = c.args.site in
-    asks_event c.self.invariant c.self.view_is c.requires.seat (look _ i) (i + 2) (λ n. n) (omega arith) c.requires.picked
+    asks c.self.invariant c.self.view_is c.requires.seat (look _ i ∷ []) (i + 2) (λ n. n) (omega arith) c.requires.picked
     (looks _ _ i _ _ inside c.requires.own)
 
 pub returns-clause-seat : goal.returns-clause-seat

@@ -1,7 +1,7 @@
-use Rattle.std.proofs.Common.{◌≡◌, ℕ, ◌+◌, ◌*◌, ◌<◌, ◌≤◌, [], length, get_or, vec_capacity}
+use Rattle.std.proofs.Common.{◌≡◌, ℕ, ◌+◌, ◌*◌, ◌<◌, ◌≤◌, [], length, get_or, vec_capacity, ◌∷◌}
 use Rattle.sand_model.specs.Sand.{flow}
 use Rattle.sand_shared.specs.OpenPile.{grid_of_terms, toppled_by}
-use Rattle.sand_shared.specs.Events.{look, looked, count}
+use Rattle.sand_shared.specs.Events.{look, looked}
 use Rattle.sand_shared.specs.Sweeps.{laid}
 use Rattle.sand_shared.proofs.steps.Words.read.Given as goal
 
@@ -17,7 +17,7 @@ invariant-sites l = record {
 }
 
 abbrev pub ghosts-look : goal.ghosts-look
-ghosts-look a = record { terms = a.self.now.terms; event = look a.seat.now.id a.site }
+ghosts-look a = record { terms = a.self.now.terms; pass = a.seat.now.id; events = look a.seat.now.id a.site ∷ [] }
 
 abbrev pub ghosts-learn : goal.ghosts-learn
-ghosts-learn a = record { terms = a.self.now.terms; event = count a.seat.now.id }
+ghosts-learn a = record { terms = a.self.now.terms; pass = a.seat.now.id; events = [] }

@@ -1,8 +1,9 @@
+use Rattle.std.proofs.Common.{[], ◌∷◌}
 use Rattle.sand_shared.specs.Events.{look, unload}
 use Rattle.sand_shared.proofs.steps.Words.relieve.Given as goal
 
 abbrev pub ghosts-look : goal.ghosts-look
-ghosts-look a = record { terms = a.self.now.terms; event = look a.seat.now.id a.site }
+ghosts-look a = record { terms = a.self.now.terms; pass = a.seat.now.id; events = look a.seat.now.id a.site ∷ [] }
 
 abbrev pub ghosts-unload : goal.ghosts-unload
-ghosts-unload a = record { terms = a.self.now.terms; event = unload a.seat.now.id a.site a.times }
+ghosts-unload a = record { terms = a.self.now.terms; pass = a.seat.now.id; events = unload a.seat.now.id a.site a.times ∷ [] }

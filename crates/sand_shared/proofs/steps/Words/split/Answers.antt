@@ -1,8 +1,9 @@
-use Rattle.std.proofs.Common.{ℕ, ◌-◌, length, arith, sym, ap, ◌∙◌, subst}
+use Rattle.std.proofs.Common.{ℕ, List, ◌-◌, length, arith, sym, ap, ◌∙◌, subst}
 use Rattle.atomic_table.specs.Table.{Me, Splits}
 use Rattle.sand_shared.specs.declared.view.View.{View}
 use Rattle.sand_shared.specs.declared.view.Terms.{Terms}
-use Rattle.sand_shared.specs.Events.{Event, parent, child, quota_given, sites_given}
+use Rattle.sand_shared.specs.Events.{Event, parent, child}
+use Rattle.sand_shared.specs.Plays.{quota_given, sites_given}
 use Rattle.sand_shared.specs.Running.{IsRunning}
 use Rattle.sand_shared.proofs.StepsAreEvents.{splits}
 use Rattle.sand_shared.proofs.StepsOnWords.{key_now, has_word, at_table}
@@ -17,7 +18,7 @@ split_seat-requires g c =
     let n = length v.counts - c.args._kept in (
       at_table words is c.requires.seat,
       has_word words is 0 (omega arith),
-      subst (λ (z : Terms × Event). Splits (IsRunning z.0) a v (parent v (quota_given z.1) (sites_given z.1)) (child v (quota_given z.1) (sites_given z.1)))
+      subst (λ (z : Terms × List Event). Splits (IsRunning z.0) a v (parent v (quota_given z.1) (sites_given z.1)) (child v (quota_given z.1) (sites_given z.1)))
           (λ i. (sym (key_now words is) i, sym c.requires.picked i)) (splits _ a c.args._quota n v c.requires.quota (omega arith) c.requires.hand),
     )
 
@@ -30,9 +31,9 @@ returns-clause-child_seat g c = record { table = c.split_seat.ensures.3 ∙ c.re
 pub returns-clause-parent : goal.returns-clause-parent
 returns-clause-parent g c =
     let v = c.args.seat.now.me.0 in
-    ap (λ (m : Me ℕ View). m.0) c.split_seat.ensures.2 ∙ ap (λ (e : Event). parent v (quota_given e) (sites_given e)) c.requires.picked
+    ap (λ (m : Me ℕ View). m.0) c.split_seat.ensures.2 ∙ ap (λ (es : List Event). parent v (quota_given es) (sites_given es)) c.requires.picked
 
 pub returns-clause-child : goal.returns-clause-child
 returns-clause-child g c =
     let v = c.args.seat.now.me.0 in
-    ap (λ (m : Me ℕ View). m.0) c.split_seat.ensures.4 ∙ ap (λ (e : Event). child v (quota_given e) (sites_given e)) c.requires.picked
+    ap (λ (m : Me ℕ View). m.0) c.split_seat.ensures.4 ∙ ap (λ (es : List Event). child v (quota_given es) (sites_given es)) c.requires.picked

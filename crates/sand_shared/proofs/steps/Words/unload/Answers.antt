@@ -1,7 +1,7 @@
-use Rattle.std.proofs.Common.{◌+◌, ◌-◌, ◌*◌, ◌%◌, ◌^◌, ◌∙◌, arith}
+use Rattle.std.proofs.Common.{[], ◌∷◌, ◌+◌, ◌-◌, ◌*◌, ◌%◌, ◌^◌, ◌∙◌, arith}
 use Rattle.sand_shared.specs.Events.{unload}
 use Rattle.sand_shared.proofs.StepsAreEvents.{unloads, happened_picked}
-use Rattle.sand_shared.proofs.StepsOnWords.{asks_event}
+use Rattle.sand_shared.proofs.StepsOnWords.{asks}
 use Rattle.sand_shared.proofs.steps.Words.unload.Goals as goal
 
 pub fetch_sub-requires : goal.fetch_sub-requires
@@ -9,7 +9,7 @@ fetch_sub-requires g c =
     let inside = c.requires.site in
     let i = c.args.site in
     let k = c.args.times in
-    asks_event c.self.invariant c.self.view_is c.requires.seat (unload _ i k) (i + 2) (λ n. (n + (2 ^ 64 - 4 * k)) % 2 ^ 64) (omega arith) c.requires.picked
+    asks c.self.invariant c.self.view_is c.requires.seat (unload _ i k ∷ []) (i + 2) (λ n. (n + (2 ^ 64 - 4 * k)) % 2 ^ 64) (omega arith) c.requires.picked
     (unloads _ _ i k _ _ inside c.requires.own.0 c.requires.own.1 c.requires.there)
 
 pub returns-clause-seat : goal.returns-clause-seat
