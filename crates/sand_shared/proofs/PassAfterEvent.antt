@@ -3,16 +3,11 @@ use Rattle.std.proofs.Common.{◌≡◌, ℕ, ◌≤◌, [], ◌∷◌, length, 
 use Rattle.sand_shared.specs.declared.view.View.{View}
 use Rattle.sand_shared.specs.declared.view.Terms.{Terms}
 use Rattle.sand_shared.specs.OpenPile.{nobody, pass_at}
-use Rattle.sand_shared.specs.Events.{draw, count, look, unload, drew, counted, looked, unloaded}
+use Rattle.sand_shared.specs.Events.{count, look, unload, counted, looked, unloaded}
 use Rattle.sand_shared.specs.Running.{Happened}
 use Rattle.sand_shared.proofs.WordsShowPile.{pass_at-with}
 
 module _ (t : Terms) (a i k : ℕ) (v w : View) (n : ℕ) where
-  pub drew_is : Happened t a (draw a i ∷ []) v n w → w ≡ drew v n i
-  drew_is h =
-      let p = h.before.pile in
-      sym h.pass_after ∙ pass_at-with p a (drew (pass_at p a) (length p.drawn) i) h.before.there ∙ (λ q. drew (h.before.pass q) (sym h.number q) i)
-
   pub counted_is : Happened t a (count a ∷ []) v n w → w ≡ counted v n
   counted_is h = let p = h.before.pile in sym h.pass_after ∙ pass_at-with p a (counted (pass_at p a) (length p.drawn)) h.before.there ∙ (λ q. counted (h.before.pass q) (sym h.number q))
 
@@ -21,13 +16,6 @@ module _ (t : Terms) (a i k : ℕ) (v w : View) (n : ℕ) where
 
   pub unloaded_is : Happened t a (unload a i k ∷ []) v n w → w ≡ unloaded t v i k
   unloaded_is h = let p = h.before.pile in sym h.pass_after ∙ pass_at-with p a (unloaded t (pass_at p a) i k) h.before.there ∙ (λ q. unloaded t (h.before.pass q) i k)
-
-  -- the number drawn is within the quota, and the pass had not seen it
-  pub drawn_fresh : Happened t a (draw a i ∷ []) v n w → v.seen ≤ n
-  drawn_fresh h =
-      let seen = (h.before.lawful.passes a nobody h.before.there).seen in
-      let same = ap (λ (u : View). u.seen) h.before.pass in
-      let number = h.number in omega arith
 
   -- the number counted is at least what the pass had seen
   pub counted_fresh : Happened t a (count a ∷ []) v n w → v.seen ≤ n

@@ -11,12 +11,12 @@ use Rattle.sand_model.specs.Grid.{sites}
 use Rattle.sand_shared.specs.declared.view.View.{View}
 use Rattle.sand_shared.specs.declared.view.Terms.{Terms}
 use Rattle.sand_shared.specs.OpenPile.{OpenPile, nobody, grid_of_terms, holds_site, pass_at, AreTerms, IsLawful}
-use Rattle.sand_shared.specs.Events.{Event, begin, draw, count, split, join, look, unload, deliver, are_for, counted, looked, parent, child, joined, follows, first_pass, unopened, May, after, after_all}
+use Rattle.sand_shared.specs.Events.{Event, begin, count, split, join, look, unload, deliver, are_for, counted, looked, parent, child, joined, follows, first_pass, unopened, May, after, after_all}
 use Rattle.sand_shared.specs.Record.{IsLast}
 use Rattle.sand_shared.specs.Plays.{Takes}
 use Rattle.sand_shared.specs.Running.{Shows, IsRunning, Happened, found}
 use Rattle.sand_shared.proofs.Lawfulness.{always_lawful, after_all-push, happen_push}
-use Rattle.sand_shared.proofs.WordsShowPile.{stepped_to, shows_load, shows_draw, shows_arrived, shows_unload}
+use Rattle.sand_shared.proofs.WordsShowPile.{stepped_to, shows_load, shows_arrived, shows_unload}
 
 module _ {A : Type 0} where
   pub some_inside : (l : List A) (i : ℕ) (x : A) → get_elem? l i ≡ some x → i < length l
@@ -74,12 +74,6 @@ takes t a e slots m word f can shows s h _ at fits =
       one_more t s (stepped_to s word (f (slice_index s.words word)) a w) h e may shown.1,
       (record { before = record { terms = h.terms; pile = p; lawful = r; there = there; pass = is }; may = (may, tt); number = shown.0; pass_after = refl }, refl),
     )
-
-pub draws : (t : Terms) (a i slots : ℕ) (m : Me ℕ View) → 0 < m.0.left → i < sites (grid_of_terms t)
-    → Allows (IsRunning t) slots a m 1 (λ n. (n + 1) % 2 ^ 64) (Takes t a (draw a i ∷ []) m)
-draws t a i slots m some_left inside = takes t a (draw a i) slots m 1 (λ n. (n + 1) % 2 ^ 64)
-    (λ p r there is. record { there = there; some_left = subst (λ (v : View). 0 < v.left) (sym is) some_left; inside = inside })
-    (λ p s terms r may h. (h.number, shows_draw t p s a i terms r may h))
 
 pub counts : (t : Terms) (a slots : ℕ) (m : Me ℕ View) → Allows (IsRunning t) slots a m 1 (λ n. n) (Takes t a (count a ∷ []) m)
 counts t a slots m = takes t a (count a) slots m 1 (λ n. n)

@@ -97,7 +97,7 @@ impl SharedPile {
         if bare.left == 0 {
             return Err(DropFault::Spent);
         }
-        let number = self.words.draw::<Brand>(&mut bare.seat, site);
+        let number = self.words.draw::<Brand>(&mut bare.seat, &[site]);
         self.words.place::<Brand>(&mut bare.seat, site, 1);
         bare.left -= 1;
         bare.seen = number + 1;

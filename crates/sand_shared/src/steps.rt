@@ -2,13 +2,13 @@
 //! the event, or the events in a row, that the step is. Those of split and join say what the passes have afterwards,
 //! and `learn` is a load that is no event.
 //!
-//! A parameter that only the contract names, such as the site of a draw, begins with an underscore.
+//! A parameter that only the contract names, such as the quota of a split, begins with an underscore.
 
 ghost use Rattle.std.specs.Prelude.{◌≡◌, ℕ, ◌+◌, ◌-◌, ◌*◌, ◌^◌, ◌<◌, ◌≤◌, ◌||◌, true, [], ◌∷◌, All, length, count_by, slice_index, vec_capacity, IfOk};
 ghost use Rattle.std.specs.Mem.Slots.{slots_items, slots_len, IsFull};
 ghost use Rattle.sand_model.specs.Grid.{sites, places};
 ghost use Rattle.sand_shared.specs.OpenPile.{grid_of_terms, holds_site, AreTerms};
-ghost use Rattle.sand_shared.specs.Events.{draw, all_draws, all_places, count, split, look, unload, deliver, grains, are_for, behind_first, first_pass, parent, child, joined, follows};
+ghost use Rattle.sand_shared.specs.Events.{all_draws, all_places, count, split, look, unload, deliver, grains, are_for, behind_first, first_pass, parent, child, joined, follows};
 ghost use Rattle.sand_shared.specs.Running.{Happened, Stands};
 ghost use Rattle.sand_shared.specs.Record.{IsLast};
 ghost use Rattle.sand_shared.specs.Seats.{IsSeatAt, StaysSeated};
@@ -89,20 +89,8 @@ impl Words {
         self.lattice.neighbours(site)
     }
 
-    /// Draws a number for a grain on a site.
-    pub(crate) fn draw<J: Picked>(&self, seat: &mut PassSeat, _site: usize) -> u64
-        requires seat { IsSeatAt self.now seat.old }
-        requires left { 0 < seat.old.me.0.left }
-        requires site { _site < sites (grid_of_terms self.now.terms) }
-        requires picked { (J.terms ≡ self.now.terms) × (J.pass ≡ seat.old.id) × (J.events ≡ draw seat.old.id _site ∷ []) }
-        ensures seat { StaysSeated seat.old seat.new }
-        ensures happened { Happened self.now.terms seat.old.id (draw seat.old.id _site ∷ []) seat.old.me.0 result seat.new.me.0 }
-    {
-        self.table.shared.fetch_add::<Take<J>>(seat, 1, 1)
-    }
-
     /// Draws consecutive numbers for grains on some sites, in one step. Returns the first.
-    pub(crate) fn draw_all<J: Picked>(&self, seat: &mut PassSeat, drops: &[usize]) -> u64
+    pub(crate) fn draw<J: Picked>(&self, seat: &mut PassSeat, drops: &[usize]) -> u64
         requires seat { IsSeatAt self.now seat.old }
         requires some { 0 < length drops.now }
         requires left { length drops.now ≤ seat.old.me.0.left }
@@ -170,17 +158,17 @@ impl Words {
     }
 
     /// Lays the first grains in hand on their site.
-    pub(crate) fn deliver<J: Picked>(&self, seat: &mut PassSeat, site: usize, amount: u64)
+    pub(crate) fn deliver<J: Picked>(&self, seat: &mut PassSeat, site: usize, times: u64)
         requires seat { IsSeatAt self.now seat.old }
-        requires hand { seat.old.me.0.hand ≡ grains site amount ∷ behind_first seat.old.me.0.hand }
+        requires hand { seat.old.me.0.hand ≡ grains site times ∷ behind_first seat.old.me.0.hand }
         requires site { site < sites (grid_of_terms self.now.terms) }
-        requires picked { (J.terms ≡ self.now.terms) × (J.pass ≡ seat.old.id) × (J.events ≡ deliver seat.old.id site amount ∷ []) }
+        requires picked { (J.terms ≡ self.now.terms) × (J.pass ≡ seat.old.id) × (J.events ≡ deliver seat.old.id site times ∷ []) }
         ensures seat { StaysSeated seat.old seat.new }
-        ensures happened { (n : ℕ) × Happened self.now.terms seat.old.id (deliver seat.old.id site amount ∷ []) seat.old.me.0 n seat.new.me.0 }
+        ensures happened { (n : ℕ) × Happened self.now.terms seat.old.id (deliver seat.old.id site times ∷ []) seat.old.me.0 n seat.new.me.0 }
     {
         self.table
             .shared
-            .fetch_add::<Take<J>>(seat, site + 2, amount);
+            .fetch_add::<Take<J>>(seat, site + 2, times);
     }
 
     /// Tells the pass that what it has fits the rule, by a load that is no event.

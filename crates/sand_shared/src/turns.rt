@@ -106,7 +106,7 @@ impl SharedPile {
             return Ok(bare.seen);
         }
         count_sites(&mut counts.counts, drops);
-        let number = self.words.draw_all::<Brand>(&mut bare.seat, drops);
+        let number = self.words.draw::<Brand>(&mut bare.seat, drops);
         self.words
             .place_all(&mut bare.seat, drops, &mut counts.counts);
         bare.left -= count;

@@ -8,35 +8,35 @@ use Rattle.sand_shared.specs.Passes.{PassView, at_rest}
 use Rattle.sand_shared.proofs.EventsInARow.{drew_row_is, row_fresh, row_small, receipts_long, below_row, once_row}
 use Rattle.sand_shared.proofs.SeatOfPass.{seated}
 use Rattle.sand_shared.proofs.shared_pile.SharedPile.drop_all.Goals as goal
-use Rattle.sand_shared.proofs.shared_pile.SharedPile.drop_all.Goals.{After-draw_all-number, After-place_all}
+use Rattle.sand_shared.proofs.shared_pile.SharedPile.drop_all.Goals.{After-draw-number, After-place_all}
 
-many : (c : After-draw_all-number) → 0 < length c.args.drops.now
+many : (c : After-draw-number) → 0 < length c.args.drops.now
 many c = let some_drops = c.if-count-eq0.false in omega arith
 
-fresh : (c : After-draw_all-number) → c.bare.inside.seen ≤ c.draw_all-number.result
+fresh : (c : After-draw-number) → c.bare.inside.seen ≤ c.draw-number.result
 fresh c =
-    let new = row_fresh _ _ c.args.drops.now _ _ _ (many c) c.draw_all-number.ensures.happened in
+    let new = row_fresh _ _ c.args.drops.now _ _ _ (many c) c.draw-number.ensures.happened in
     let seen = ap (λ (m : Me ℕ View). m.0.seen) c.bare.invariant.me in omega arith
 
-small : (c : After-draw_all-number) → c.draw_all-number.result + length c.args.drops.now < 18446744073709551616
+small : (c : After-draw-number) → c.draw-number.result + length c.args.drops.now < 18446744073709551616
 small c =
-    let few = row_small _ _ c.args.drops.now _ _ _ (many c) c.draw_all-number.ensures.happened in
-    let limit = c.draw_all-number.ensures.happened.before.terms.limit in omega arith
+    let few = row_small _ _ c.args.drops.now _ _ _ (many c) c.draw-number.ensures.happened in
+    let limit = c.draw-number.ensures.happened.before.terms.limit in omega arith
 
 -- what the seat has once all grains are laid
-has : (c : After-place_all) → let p = c.bare.inside in let ds = c.args.drops.now in let n = c.draw_all-number.result in
+has : (c : After-place_all) → let p = c.bare.inside in let ds = c.args.drops.now in let n = c.draw-number.result in
     c.place_all.new.seat.me.0 ≡ record (at_rest (record (shown p) { left = p.left - length ds; seen = n + length ds; receipts = p.seat.me.0.receipts ++ receipts_from n ds })) { spot = p.seat.me.0.spot; least = p.seat.me.0.least }
 has c =
     let ds = c.args.drops.now in
-    let n = c.draw_all-number.result in
-    c.place_all.ensures.view ∙ ap (λ (u : View). record u { hand = [] }) (drew_row_is _ _ ds _ _ n (let some_drops = c.if-count-eq0.false in omega arith) c.draw_all-number.ensures.happened)
+    let n = c.draw-number.result in
+    c.place_all.ensures.view ∙ ap (λ (u : View). record u { hand = [] }) (drew_row_is _ _ ds _ _ n (let some_drops = c.if-count-eq0.false in omega arith) c.draw-number.ensures.happened)
     ∙ ap (λ (m : Me ℕ View). record (drew_all m.0 n ds) { hand = [] }) c.bare.invariant.me
 
 pub place_all-requires-clause-hand : goal.place_all-requires-clause-hand
 place_all-requires-clause-hand c =
     let ds = c.args.drops.now in
     let some_drops = c.if-count-eq0.false in
-    ap (λ (v : View). v.hand) (drew_row_is _ _ ds _ _ c.draw_all-number.result (omega arith) c.draw_all-number.ensures.happened) ∙ ap (λ (m : Me ℕ View). m.0.hand ++ one_for_each ds) c.bare.invariant.me
+    ap (λ (v : View). v.hand) (drew_row_is _ _ ds _ _ c.draw-number.result (omega arith) c.draw-number.ensures.happened) ∙ ap (λ (m : Me ℕ View). m.0.hand ++ one_for_each ds) c.bare.invariant.me
 
 pub invariant_of-bare : goal.invariant_of-bare
 invariant_of-bare c =
@@ -44,11 +44,11 @@ invariant_of-bare c =
     let p = c.bare.inside in
     let v = p.seat.me.0 in
     let ds = c.args.drops.now in
-    let n = c.draw_all-number.result in
+    let n = c.draw-number.result in
     let more = length-append v.receipts (receipts_from n ds) in
     let same = receipts_long n ds in
     let made = inv.each_made in
-    let new = fresh (goal.at.invariant_of-bare c).After-draw_all-number in
+    let new = fresh (goal.at.invariant_of-bare c).After-draw-number in
     seated (record (shown p) { left = p.left - length ds; seen = n + length ds; receipts = v.receipts ++ receipts_from n ds }) v.spot v.least
     record {
       once = once_row p.seen n ds v.receipts new inv.pass.below inv.pass.once;
@@ -60,15 +60,15 @@ invariant_of-bare c =
     (omega arith) (has (goal.at.invariant_of-bare c).After-place_all) c.place_all.ensures.seat.bare refl
 
 pub overflow_add-bare : goal.overflow_add-bare
-overflow_add-bare c = let fits = small (goal.at.overflow_add-bare c).After-draw_all-number in omega arith
+overflow_add-bare c = let fits = small (goal.at.overflow_add-bare c).After-draw-number in omega arith
 
 pub note-requires-clause-small : goal.note-requires-clause-small
-note-requires-clause-small c = let fits = small (goal.at.note-requires-clause-small c).After-draw_all-number in omega arith
+note-requires-clause-small c = let fits = small (goal.at.note-requires-clause-small c).After-draw-number in omega arith
 
 pub invariant_of-pass-2 : goal.invariant_of-pass-2
 invariant_of-pass-2 c =
     let ds = c.args.drops.now in
-    let n = c.draw_all-number.result in
+    let n = c.draw-number.result in
     let inv = c.pass.invariant in
     let items = c.note.ensures.items in
     let drawn = ap (λ (v : View). v.receipts) (has (goal.at.invariant_of-pass-2 c).After-place_all) in
@@ -81,12 +81,12 @@ invariant_of-pass-2 c =
 
 pub returns-clause-after_all_seen : goal.returns-clause-after_all_seen
 returns-clause-after_all_seen c =
-    let new = fresh (goal.at.returns-clause-after_all_seen c).After-draw_all-number in
+    let new = fresh (goal.at.returns-clause-after_all_seen c).After-draw-number in
     let same = ap (λ (v : PassView). v.seen) (c.bare.view_is ∙ c.pass.view_is) in omega arith
 
 pub returns-clause-in_the_quota : goal.returns-clause-in_the_quota
 returns-clause-in_the_quota c some_drops =
-    let few = row_small _ _ c.args.drops.now _ _ _ some_drops c.draw_all-number.ensures.happened in
+    let few = row_small _ _ c.args.drops.now _ _ _ some_drops c.draw-number.ensures.happened in
     let same = ap (λ w. w.terms.quota) c.self.view_is in omega arith
 
 pub returns-clause-pass : goal.returns-clause-pass

@@ -7,10 +7,8 @@ use Rattle.sand_shared.specs.Bare.{shown}
 use Rattle.sand_shared.specs.Events.{receipt, grains, are_for, drew}
 use Rattle.sand_shared.specs.Passes.{PassView, at_rest}
 use Rattle.sand_shared.proofs.HandAfterPlacing.{laid_on, last_laid, first_counts}
-use Rattle.sand_shared.proofs.PassAfterEvent.{drew_is, drawn_fresh}
-use Rattle.sand_shared.proofs.EventsInARow.{laid_is}
+use Rattle.sand_shared.proofs.EventsInARow.{drew_row_is, row_fresh, laid_is}
 use Rattle.sand_shared.proofs.NumbersOnce.{once_more, below_push}
-use Rattle.sand_shared.proofs.PassesJoined.{within_limit}
 use Rattle.sand_shared.proofs.SeatOfPass.{seated}
 use Rattle.sand_shared.proofs.shared_pile.SharedPile.drop_at.Goals as goal
 
@@ -18,7 +16,7 @@ pub place-requires-clause-hand : goal.place-requires-clause-hand
 place-requires-clause-hand c =
     let n = c.draw-number.result in
     let i = c.args.site in
-    let hand = ap (λ (v : View). v.hand) (drew_is _ _ i 0 _ _ n c.draw-number.ensures.happened) ∙ ap (λ (m : Me ℕ View). m.0.hand ++ grains i 1 ∷ []) c.bare.invariant.me in
+    let hand = ap (λ (v : View). v.hand) (drew_row_is _ _ (i ∷ []) _ _ n (omega arith) c.draw-number.ensures.happened) ∙ ap (λ (m : Me ℕ View). m.0.hand ++ grains i 1 ∷ []) c.bare.invariant.me in
     subst (λ (l : List Grains). 1 ≤ count_by (are_for i 1) l) (sym hand) (first_counts i 1 (grains i 1 ∷ []) refl)
 
 pub invariant_of-bare : goal.invariant_of-bare
@@ -29,13 +27,13 @@ invariant_of-bare c =
     let n = c.draw-number.result in
     let i = c.args.site in
     let happened = c.draw-number.ensures.happened in
-    let fresh = drawn_fresh _ _ i 0 _ _ n happened in
+    let fresh = row_fresh _ _ (i ∷ []) _ _ n (omega arith) happened in
     let seen = ap (λ (m : Me ℕ View). m.0.seen) inv.me in
     let lay = λ (u : View). record u { hand = laid_on i 1 u.hand } in
     let q : PassView = record (shown p) { left = p.left - 1; seen = n + 1; receipts = v.receipts ++ receipt n i ∷ [] } in
     let laid : c.place.new.seat.me.0 ≡ record (at_rest q) { spot = v.spot; least = v.least } =
     laid_is _ _ i 1 _ _ _ c.place.ensures.happened.1
-    ∙ ap lay (drew_is _ _ i 0 _ _ n happened)
+    ∙ ap lay (drew_row_is _ _ (i ∷ []) _ _ n (omega arith) happened)
     ∙ ap (λ (m : Me ℕ View). lay (drew m.0 n i)) inv.me
     ∙ (λ k. record (at_rest q) { hand = last_laid i k; spot = v.spot; least = v.least }) in
     let more = length-append v.receipts (receipt n i ∷ []) in
@@ -49,8 +47,3 @@ invariant_of-bare c =
       one_each = inv.pass.one_each;
     }
     (omega arith) laid c.place.ensures.seat.bare refl
-
-pub overflow_add-bare-2 : goal.overflow_add-bare-2
-overflow_add-bare-2 c =
-    let few = within_limit _ _ _ c.draw-number.ensures.happened.before in
-    let made = c.bare.invariant.each_made in omega arith

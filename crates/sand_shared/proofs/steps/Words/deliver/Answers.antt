@@ -9,7 +9,7 @@ pub fetch_add-requires : goal.fetch_add-requires
 fetch_add-requires g c =
     let inside = c.requires.site in
     let i = c.args.site in
-    let k = c.args.amount in
+    let k = c.args.times in
     asks c.self.invariant c.self.view_is c.requires.seat (deliver _ i k ∷ []) (i + 2) (λ n. (n + k) % 2 ^ 64) (omega arith) c.requires.picked
     (delivers _ _ i k _ _ inside (first_counts i k _ c.requires.hand))
 
