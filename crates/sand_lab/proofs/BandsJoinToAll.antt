@@ -1,5 +1,5 @@
 -- The bands of the workers, joined in order, are all rows.
-use Rattle.std.proofs.Common.{◌≡◌, ℕ, zero, suc, ◌+◌, ◌*◌, ◌/◌, ◌<◌, ◌≤◌, ⊎_elim, Bool, true, false, max, cond, eqb, List, [], ◌∷◌, ◌++◌, length, Some, refl, ap, ap₂, ◌∙◌, arith, append-nil}
+use Rattle.std.proofs.Common.{◌≡◌, ℕ, zero, suc, ◌+◌, ◌*◌, ◌/◌, ◌<◌, ◌≤◌, ⊎_elim, Bool, true, false, max, cond, eqb, List, [], ◌∷◌, ◌++◌, length, Some, refl, sym, ap, ap₂, ◌∙◌, arith, append-nil}
 use Rattle.std.specs.Prelude.{slice_get, ◌||◌}
 use Rattle.std.proofs.lemmas.Bool.{cases_lt, eq-eqb}
 use Rattle.std.proofs.lemmas.Nat.{le-div}
@@ -7,7 +7,7 @@ use Rattle.std.proofs.Math.Nat.{div-mul-le_self}
 use Rattle.sand_shared.specs.declared.rows.Rows.{Rows}
 use Rattle.sand_shared.specs.declared.view.Receipt.{Receipt}
 use Rattle.sand_shared.specs.Passes.{SharedView, PassView, together}
-use Rattle.sand_shared.specs.Rows.{rows_between, rows_follow, rows_together, count_of}
+use Rattle.sand_shared.specs.Rows.{rows_between, rows_follow, rows_together, count_of, AreApart}
 use Rattle.sand_shared.proofs.RowsSplit.{between_some, between_none}
 use Rattle.sand_lab.specs.Crews.{banded}
 use Rattle.sand_lab.proofs.RowsInBands.{top, count_between}
@@ -42,6 +42,13 @@ band_joined s p q b e le above is =
     let counts : cond (rows_follow p.rows q.rows) (p.counts ++ q.counts) (q.counts ++ p.counts) ≡ p.counts ++ q.counts = rw follow in
     ap₂ (λ (f : (Rows × List ℕ)) (g : (ℕ × List Receipt)). record p { left = g.0; seen = max p.seen q.seen; receipts = g.1; rows = f.0; counts = f.1 })
     (ap₂ (λ (r : Rows) (c : List ℕ). (r, c)) rows counts) (ap₂ (λ (l : ℕ) (r : List Receipt). (l, r)) left receipts)
+
+-- and touches them
+pub band_touches : (s : SharedView) (p q : PassView) (b e : ℕ) → p.rows ≡ top b → q ≡ record (banded s (rows_between b e)) { counts = q.counts } → AreApart p.rows q.rows → ⊥
+band_touches s p q b e above is apart =
+    let follow : rows_follow p.rows q.rows ≡ true = ap₂ rows_follow above (ap (λ (x : PassView). x.rows) is) ∙ follow_band b e in
+    let touch : (rows_follow p.rows q.rows || rows_follow q.rows p.rows) ≡ true = ap (λ (x : Bool). x || rows_follow q.rows p.rows) follow in
+    let no : true ≡ false = sym touch ∙ apart in cc
 
 pub next_at : {A : Type 0} (ys zs : List A) (x : A) → slice_get (ys ++ x ∷ zs) (length ys) ≡ Some x
 next_at [] zs x = refl

@@ -8,17 +8,8 @@ use Rattle.sand_model.specs.Grid.{Grid}
 use Rattle.sand_shared.specs.declared.rows.Rows.{Rows}
 use Rattle.sand_shared.specs.Events.{follows, joined}
 use Rattle.sand_shared.specs.Passes.{PassView, at_rest, together, IsPass}
-use Rattle.sand_shared.specs.Rows.{count_of, rows_follow, rows_together, AreApart, AreRowsOf}
+use Rattle.sand_shared.specs.Rows.{count_of, rows_follow, rows_together, AreRowsOf}
 use Rattle.sand_shared.proofs.RowSites.{times_plus, rows_end}
-
--- rows that touch are not apart
-pub touching_rows : (r q : Rows) → (rows_follow r q || rows_follow q r) ≡ true → AreApart r q → ⊥
-touching_rows r q touch apart =
-    let a = ne_eqb q.first q.end apart.some_second in
-    let b = ne_eqb q.first r.end (λ e. apart.not_after (sym e)) in
-    let c = ne_eqb r.first r.end apart.some_first in
-    let d = ne_eqb r.first q.end (λ e. apart.not_before (sym e)) in
-    let none : (rows_follow r q || rows_follow q r) ≡ false = λ i. (a i || b i) || (c i || d i) in cc
 
 -- the rows of both, in either order
 abbrev pub either_rows : Rows → Rows → Bool → Rows

@@ -1,5 +1,5 @@
 -- The rows of a pass: from the first up to the end, which is one past the last. Both are 0 if there are none.
-use Rattle.std.specs.Prelude.{ℕ, Bool, ◌≡◌, ◌≢◌, ◌+◌, ◌-◌, ◌<◌, ◌≤◌, ◌==◌, ◌||◌, nat_lt, if◌then◌else◌}
+use Rattle.std.specs.Prelude.{ℕ, Bool, false, ◌≡◌, ◌+◌, ◌-◌, ◌<◌, ◌≤◌, ◌==◌, ◌||◌, nat_lt, if◌then◌else◌}
 use Rattle.sand_model.specs.Grid.{Grid, row}
 use Rattle.sand_shared.specs.declared.rows.Rows.{Rows}
 
@@ -27,12 +27,9 @@ rows_follow r q = (q.first == q.end) || (q.first == r.end)
 abbrev pub rows_together : Rows → Rows → Rows
 rows_together r q = if rows_follow r q then record { first = r.first; end = r.end + count_of q } else record { first = q.first; end = q.end + count_of r }
 
--- neither is empty, and neither begins where the other ends
-pub record AreApart (r q : Rows) : Type 0 where
-  pub some_first : r.first ≢ r.end
-  pub some_second : q.first ≢ q.end
-  pub not_after : r.end ≢ q.first
-  pub not_before : q.end ≢ r.first
+-- neither follows the other
+abbrev pub AreApart : Rows → Rows → Type 0
+AreApart r q = (rows_follow r q || rows_follow q r) ≡ false
 
 -- rows of a grid; if there are none, both numbers are 0
 pub record AreRowsOf (g : Grid) (r : Rows) : Type 0 where

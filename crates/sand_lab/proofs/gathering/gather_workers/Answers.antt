@@ -9,7 +9,7 @@ use Rattle.sand_shared.specs.Passes.{PassView, together}
 use Rattle.sand_lab.specs.declared.workers.Worker.{Worker}
 use Rattle.sand_lab.specs.Gathering.{all_counts, HoldsBand}
 use Rattle.sand_lab.proofs.RowsInBands.{top}
-use Rattle.sand_lab.proofs.BandsJoinToAll.{band_joined, next_at, share_grows}
+use Rattle.sand_lab.proofs.BandsJoinToAll.{band_joined, band_touches, next_at, share_grows}
 use Rattle.sand_lab.proofs.gathering.gather_workers.Goals as goal
 
 nothing_left : {A : Type 0} (xs : List A) → length xs ≡ 0 → xs ≡ []
@@ -18,6 +18,22 @@ nothing_left (x ∷ xs) e = absurd (omega (arith, e))
 
 more : (xs : List Worker) (x : Worker) → all_counts (xs ++ x ∷ []) ≡ all_counts xs ++ x.pass.counts
 more xs x = flat_map-append (λ (w : Worker). w.pass.counts) xs (x ∷ []) ∙ ap (λ cs. all_counts xs ++ cs) (append-nil x.pass.counts)
+
+pub take_in-requires-clause-touching : goal.take_in-requires-clause-touching
+take_in-requires-clause-touching c =
+    let i = c.loop-worker.invariant in
+    let s = c.args.pile.now in
+    let xs = c.loop-worker.yielded in
+    let x = c.in-Some.worker in
+    let left = into_iter_items c.next.new.self in
+    let steps : into_iter_items c.loop-worker.worker-iterator ≡ x ∷ left = c.in-Some.ensures.steps.0 in
+    let height = (grid_of_terms s.terms).height in
+    let n = length c.args.workers.items in
+    let j = length xs in
+    let items : xs ++ x ∷ left ≡ c.args.workers.items = rw (← steps) i.items in
+    let at : slice_get c.args.workers.items j ≡ Some x = subst (λ ws. slice_get ws j ≡ Some x) items (next_at xs left x) in
+    let rows : c.loop-worker.first.rows ≡ top (j * height / n) = ap (λ (p : PassView). p.rows) i.first in
+    band_touches s c.loop-worker.first x.pass (j * height / n) ((j + 1) * height / n) rows (c.requires.workers j x at)
 
 pub loop-worker-preserved : goal.loop-worker-preserved
 loop-worker-preserved c =
