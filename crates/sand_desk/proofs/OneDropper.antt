@@ -53,16 +53,7 @@ same_record : (draw : Draw) (album : List ℕ) (w : Wish) → DropsTheDraw draw 
     → IsReport album w start report → last.settled ≡ report.total.settled
 same_record draw album w asks start last report after left =
     let mine : RecordView = record { start = start; history = drawn_on draw start; settled = last.settled } in
-    let one : IsOneThreads mine = record {
-      one = record {
-        start_pile = after.start_pile;
-        all_sites = after.all_sites;
-        limit = after.limit;
-        settled = after.settled;
-        number = refl;
-        grains = refl;
-      };
-    } in
+    let one : IsOneThreads mine = record { start_pile = after.start_pile; all_sites = after.all_sites; limit = after.limit; settled = after.settled } in
     one_threads_once mine report.total one left.total.one_threads (sym left.total.from_start)
     (λ i. sym (run_of_draw draw album w asks start report.records report.sheets (left.all ∙ asks.epochs) left.epochs i) ∙ ap (λ (h : List ℕ). tally h i) (sym left.total.history))
 

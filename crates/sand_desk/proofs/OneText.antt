@@ -4,7 +4,6 @@ use Rattle.std.specs.Prelude.{Result, Ok, Err}
 use Rattle.std.proofs.lemmas.Simd.{map-map}
 use Rattle.sand_model.specs.Piles.{PileView}
 use Rattle.sand_settle.specs.Drops.{OneView}
-use Rattle.sand_shared.specs.Record.{one_of}
 use Rattle.sand_text.specs.declared.fault.TextFault.{TextFault}
 use Rattle.sand_text.specs.declared.runs.Sums.{Sums}
 use Rattle.sand_text.specs.Pictures.{pgm_text_of}
@@ -12,7 +11,7 @@ use Rattle.sand_text.specs.Runs.{lab_text_of}
 use Rattle.sand_text.specs.Texts.{text_of}
 use Rattle.sand_cli.specs.declared.task.Form.{Form}
 use Rattle.sand_cli.specs.declared.task.Form.TheVariants.{Picture, Pile, Text}
-use Rattle.sand_lab.specs.Laws.{AreAlike, OneOutcome}
+use Rattle.sand_lab.specs.Laws.{AreAlike, OneOutcome, one_of}
 use Rattle.sand_lab.specs.Reports.{ReportView, IsReport}
 use Rattle.sand_desk.specs.Laboratory.{sums_of, lab_text_of_report, report_text_of, OneLabText}
 

@@ -62,7 +62,7 @@ le_self n = omega arith
 
 counts_few : (r : RecordView) (cs : List ℕ) → IsOneThreads r → ((i : ℕ) → slice_index cs i ≤ odometer_of r.settled i) → sum cs ≤ r.settled.topplings
 counts_few r cs one below =
-    let all = counts_below r r.settled.odometer one one.one.settled.odometer_each (λ i. le_self (odometer_of r.settled i)) in
+    let all = counts_below r r.settled.odometer one one.settled.odometer_each (λ i. le_self (odometer_of r.settled i)) in
     let few = below_list cs r.settled.odometer below in
     omega (arith, all, few)
 

@@ -16,4 +16,4 @@ pub counts_below : (r : RecordView) (cs : List ℕ) → IsOneThreads r → lengt
 counts_below r cs one long below =
     let counted = sum_is_grains r.start.grid cs long in
     let fewer = sum_below_le (sites r.start.grid) (slice_index cs) (odometer_of r.settled) (λ i l. below i) in
-    let all = one.one.settled.all_topplings in omega arith
+    let all = one.settled.all_topplings in omega arith

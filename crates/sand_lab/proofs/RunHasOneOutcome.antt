@@ -9,11 +9,11 @@ use Rattle.sand_model.specs.Sand.{IsSettled, sum_below, tally, topplings, lost}
 use Rattle.sand_model.proofs.Sandpile.{odometer_unique, settled_unique, settled_same}
 use Rattle.sand_model.proofs.Tallies.{tally-append}
 use Rattle.sand_settle.specs.Settling.{SettledView, IsRecord, odometer_of}
-use Rattle.sand_shared.specs.Record.{RecordView, IsOneThreads, one_of}
+use Rattle.sand_shared.specs.Record.{RecordView, IsOneThreads}
 use Rattle.sand_plan.specs.Plans.{quota_of}
 use Rattle.sand_lab.proofs.OneEpochMore.{epoch_drops, dropped_so_far}
 use Rattle.sand_plan.specs.declared.wish.Wish.{Wish}
-use Rattle.sand_lab.specs.Laws.{AskTheSame, OneOutcome}
+use Rattle.sand_lab.specs.Laws.{AskTheSame, OneOutcome, one_of}
 use Rattle.sand_lab.specs.Reports.{SheetView, IsEpoch, AreEpochs, histories}
 use Rattle.sand_lab.specs.Streams.{stream_of, stream_sites}
 use Rattle.sand_lab.proofs.TallyOfStreams.{tally_of_streams}
@@ -46,8 +46,8 @@ one_threads_once r q one other starts tallies =
     let P : PileView → Type 0 = λ p. IsRecord p.grid (λ i. height_of p i + tally q.history i) q.settled in
     record_once r.start.grid (λ i. height_of r.start i + tally r.history i) (λ i. height_of r.start i + tally q.history i) r.settled q.settled
     (λ i l. ap (λ n. height_of r.start i + n) (tallies i))
-    one.one.settled
-    (subst P (sym starts) other.one.settled)
+    one.settled
+    (subst P (sym starts) other.settled)
 
 -- an epoch's drops on each site are those of its streams
 pub epoch_tally : (album : List ℕ) (w : Wish) (start : PileView) (t : ℕ) (r : RecordView) (s : SheetView) → IsEpoch album w start t r s → (i : ℕ)

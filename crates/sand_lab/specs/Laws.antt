@@ -1,10 +1,15 @@
 -- The law of the laboratory: the piles, odometers, topplings and grains lost of a run are a function of start, seed,
 -- droppers, drops and epochs alone.
-use Rattle.std.specs.Prelude.{ℕ, ◌≡◌, List, map}
+use Rattle.std.specs.Prelude.{ℕ, ◌≡◌, ◌+◌, List, map, length, sum}
 use Rattle.sand_model.specs.Piles.{PileView}
-use Rattle.sand_shared.specs.Record.{one_of}
+use Rattle.sand_settle.specs.Drops.{OneView}
+use Rattle.sand_shared.specs.Record.{RecordView}
 use Rattle.sand_plan.specs.declared.wish.Wish.{Wish}
 use Rattle.sand_lab.specs.Reports.{ReportView, IsReport}
+
+-- the state of one thread's pile after the history of a record
+abbrev pub one_of : RecordView → OneView
+one_of r = record { settled = r.settled; number = length r.history; grains = sum r.start.heights + length r.history }
 
 -- the wishes differ at most in workers, sweeps and observers
 pub record AskTheSame (w v : Wish) : Type 0 where

@@ -1,12 +1,9 @@
 -- Joining two seats gives the seat of the joined pass.
-use Rattle.std.proofs.Common.{◌≡◌, ℕ, ◌+◌, ◌≤◌, true, length, sym, ap, ◌∙◌, subst, arith}
+use Rattle.std.proofs.Common.{◌≡◌, ℕ, true, sym, ap, ◌∙◌, subst}
 use Rattle.std.specs.Prelude.{◌||◌}
-use Rattle.std.proofs.lemmas.List.Sums.{get_or-le-sum_by}
-use Rattle.sand_model.specs.Piles.{most_grains}
 use Rattle.sand_shared.specs.declared.bare.BarePass.TheInside.{Inside}
 use Rattle.sand_shared.specs.declared.view.View.{View}
 use Rattle.sand_shared.specs.declared.view.Terms.{Terms}
-use Rattle.sand_shared.specs.OpenPile.{nobody}
 use Rattle.sand_shared.specs.Bare.{shown, IsBare}
 use Rattle.sand_shared.specs.Events.{joined, follows}
 use Rattle.sand_shared.specs.Passes.{at_rest, together, EachOnce, IsPass}
@@ -14,17 +11,6 @@ use Rattle.sand_shared.specs.Rows.{rows_follow}
 use Rattle.sand_shared.specs.Running.{Stands}
 use Rattle.sand_shared.proofs.NumbersOnce.{below_join, stands_once}
 use Rattle.sand_shared.proofs.RowsJoined.{follows_is, joined_rest, together_rows, together_each}
-
--- what a pass has left and what it has dropped are together within the limit
-pub within_limit : (t : Terms) (a : ℕ) (v : View) → Stands t a v → v.left + length v.receipts ≤ most_grains
-within_limit t a v s =
-    let left = get_or-le-sum_by (λ (u : View). u.left) s.pile.passes a nobody s.there in
-    let made = get_or-le-sum_by (λ (u : View). length u.receipts) s.pile.passes a nobody s.there in
-    let quota = s.lawful.quota in
-    let receipts = s.lawful.receipts in
-    let limit = s.terms.limit in
-    let same_left = ap (λ (u : View). u.left) s.pass in
-    let same_made = ap (λ (u : View). length u.receipts) s.pass in omega arith
 
 module _ (x y : Inside) (inv : IsBare x) (inv' : IsBare y) (same : y.shape ≡ x.shape) where
   pub joined_view : joined x.seat.me.0 y.seat.me.0 ≡ at_rest (together (shown x) (shown y))

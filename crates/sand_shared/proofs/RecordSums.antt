@@ -1,5 +1,5 @@
 -- The sums in a record are right, and small.
-use Rattle.std.proofs.Common.{◌≡◌, ℕ, ◌+◌, ◌-◌, ◌*◌, ◌^◌, ◌<◌, ◌≤◌, List, ◌++◌, All, length, sum, sym, refl, ap, ◌∙◌, subst, ⊎_elim, arith, length-append}
+use Rattle.std.proofs.Common.{◌≡◌, ℕ, ◌+◌, ◌-◌, ◌*◌, ◌^◌, ◌<◌, ◌≤◌, List, ◌++◌, All, length, sum, sym, ap, ◌∙◌, subst, ⊎_elim, arith, length-append}
 use Rattle.std.specs.Prelude.{slice_index}
 use Rattle.std.proofs.Math.ListN.{get_or-eq_default}
 use Rattle.std.proofs.lemmas.Bool.{cases_lt}
@@ -55,38 +55,34 @@ module _ (start : PileView) (history heights odometer : List ℕ) (l : LeadsTo s
       let g = start.grid in
       let left = grains_left in
       record {
-        one = record {
-          start_pile = l.pile;
-          all_sites = l.all_sites;
-          limit = l.limit;
-          settled = record {
-            grid = grid;
-            heights_each = ap (λ (xs : List ℕ). length xs) heights_are ∙ l.heights_each;
-            odometer_each = ap (λ (xs : List ℕ). length xs) odometer_is ∙ l.odometer_each;
-            settled = subst (λ (z : List ℕ × List ℕ). IsSettled g (λ i. height_of start i + tally history i) (slice_index z.0) (slice_index z.1)) (λ i. (sym odometer_is i, sym heights_are i)) l.settled;
-            all_topplings = toppled ∙ sum_is_grains g odometer l.odometer_each ∙ ap (λ (xs : List ℕ). topplings g (slice_index xs)) (sym odometer_is);
-            all_lost = let same = ap (λ (xs : List ℕ). lost g (slice_index xs)) odometer_is in omega arith;
-          };
-          number = refl;
-          grains = refl;
+        start_pile = l.pile;
+        all_sites = l.all_sites;
+        limit = l.limit;
+        settled = record {
+          grid = grid;
+          heights_each = ap (λ (xs : List ℕ). length xs) heights_are ∙ l.heights_each;
+          odometer_each = ap (λ (xs : List ℕ). length xs) odometer_is ∙ l.odometer_each;
+          settled = subst (λ (z : List ℕ × List ℕ). IsSettled g (λ i. height_of start i + tally history i) (slice_index z.0) (slice_index z.1)) (λ i. (sym odometer_is i, sym heights_are i)) l.settled;
+          all_topplings = toppled ∙ sum_is_grains g odometer l.odometer_each ∙ ap (λ (xs : List ℕ). topplings g (slice_index xs)) (sym odometer_is);
+          all_lost = let same = ap (λ (xs : List ℕ). lost g (slice_index xs)) odometer_is in omega arith;
         };
       }
 
 -- how small the numbers of a record are
 pub leads_of : (r : RecordView) → IsOneThreads r → LeadsTo r.start r.history r.settled.pile.heights r.settled.odometer
 leads_of r one = record {
-  pile = one.one.start_pile;
-  all_sites = one.one.all_sites;
-  limit = one.one.limit;
-  heights_each = one.one.settled.heights_each;
-  odometer_each = one.one.settled.odometer_each;
-  settled = one.one.settled.settled;
+  pile = one.start_pile;
+  all_sites = one.all_sites;
+  limit = one.limit;
+  heights_each = one.settled.heights_each;
+  odometer_each = one.settled.odometer_each;
+  settled = one.settled.settled;
 }
 
 pub settled_record : (r : RecordView) → IsOneThreads r → IsSettledRecord r.settled
 settled_record r one =
     let s : ℕ → ℕ = λ i. height_of r.start i + tally r.history i in
-    (s, subst (λ (g : Grid). IsRecord g s r.settled) (sym one.one.settled.grid) one.one.settled)
+    (s, subst (λ (g : Grid). IsRecord g s r.settled) (sym one.settled.grid) one.settled)
 
 pub small_entries : (r : RecordView) → IsOneThreads r → (i : ℕ) → odometer_of r.settled i < 2 ^ 54
 small_entries r one i =
@@ -98,14 +94,14 @@ small_entries r one i =
 pub small_topplings : (r : RecordView) → IsOneThreads r → r.settled.topplings < 2 ^ 54
 small_topplings r one =
     let few = few_topplings r.start r.history r.settled.pile.heights r.settled.odometer (leads_of r one) in
-    let all = one.one.settled.all_topplings in
-    let sums = sum_is_grains r.start.grid r.settled.odometer one.one.settled.odometer_each in omega arith
+    let all = one.settled.all_topplings in
+    let sums = sum_is_grains r.start.grid r.settled.odometer one.settled.odometer_each in omega arith
 
 pub small_lost : (r : RecordView) → IsOneThreads r → r.settled.lost ≤ most_grains
 small_lost r one =
     let left = grains_left r.start r.history r.settled.pile.heights r.settled.odometer (leads_of r one) in
-    let limit = one.one.limit in
-    let all = one.one.settled.all_lost in omega arith
+    let limit = one.limit in
+    let all = one.settled.all_lost in omega arith
 
 times_plus : (a b c : ℕ) → a * (b + c) ≡ a * b + a * c
 times_plus a b c = grind arith
@@ -119,8 +115,8 @@ pub are_added : (r q : RecordView) → IsOneThreads r → IsOneThreads q → q.s
     → length sums ≡ length mine → ((i : ℕ) → i < length theirs → slice_index sums i ≡ slice_index mine i + slice_index theirs i) → AreAdded r q sums
 are_added r q one next joint mine theirs sums mine_is theirs_is long each = record {
   long = long ∙ ap (λ (l : List ℕ). length l) mine_is;
-  each = λ i l. (let here = one.one.settled.odometer_each in
-      let there = next.one.settled.odometer_each ∙ ap (λ (p : PileView). sites p.grid) joint ∙ ap sites one.one.settled.grid in
+  each = λ i l. (let here = one.settled.odometer_each in
+      let there = next.settled.odometer_each ∙ ap (λ (p : PileView). sites p.grid) joint ∙ ap sites one.settled.grid in
       let as_long = ap (λ (l : List ℕ). length l) theirs_is in
       let e = each i (omega arith) in
       let a = ap (λ (l : List ℕ). slice_index l i) mine_is in
@@ -130,15 +126,15 @@ are_added r q one next joint mine theirs sums mine_is theirs_is long each = reco
 -- the second record starts from the pile of the first: settling in two parts is settling at once
 module _ (r q : RecordView) (one : IsOneThreads r) (next : IsOneThreads q) (joint : q.start ≡ r.settled.pile) (limit : sum r.start.heights + (length r.history + length q.history) ≤ most_grains) (sums : List ℕ) (added : AreAdded r q sums) where
   pub same_grid : q.start.grid ≡ r.start.grid
-  same_grid = ap (λ (p : PileView). p.grid) joint ∙ one.one.settled.grid
+  same_grid = ap (λ (p : PileView). p.grid) joint ∙ one.settled.grid
 
   all_each : (i : ℕ) → slice_index sums i ≡ odometer_of r.settled i + odometer_of q.settled i
   all_each i = ⊎_elim (added.each i) past (cases_lt i (length r.settled.odometer))
     where
       past : length r.settled.odometer ≤ i → slice_index sums i ≡ odometer_of r.settled i + odometer_of q.settled i
       past le =
-          let mine = one.one.settled.odometer_each in
-          let theirs = next.one.settled.odometer_each in
+          let mine = one.settled.odometer_each in
+          let theirs = next.settled.odometer_each in
           let grids = ap sites same_grid in
           let long = added.long in
           let a = get_or-eq_default sums 0 {n = i} (omega arith) in
@@ -148,8 +144,8 @@ module _ (r q : RecordView) (one : IsOneThreads r) (next : IsOneThreads q) (join
   both_settled : IsSettled r.start.grid (λ i. height_of r.start i + tally (r.history ++ q.history) i) (slice_index sums) (height_of q.settled.pile)
   both_settled =
       let g = r.start.grid in
-      let later = subst (λ (z : Grid × PileView). IsSettled z.0 (λ i. height_of z.1 i + tally q.history i) (odometer_of q.settled) (height_of q.settled.pile)) (λ i. (same_grid i, joint i)) next.one.settled.settled in
-      let all = settled_in_parts g (λ i. height_of r.start i + tally r.history i) (tally q.history) (odometer_of r.settled) (height_of r.settled.pile) (odometer_of q.settled) (height_of q.settled.pile) one.one.settled.settled later in
+      let later = subst (λ (z : Grid × PileView). IsSettled z.0 (λ i. height_of z.1 i + tally q.history i) (odometer_of q.settled) (height_of q.settled.pile)) (λ i. (same_grid i, joint i)) next.settled.settled in
+      let all = settled_in_parts g (λ i. height_of r.start i + tally r.history i) (tally q.history) (odometer_of r.settled) (height_of r.settled.pile) (odometer_of q.settled) (height_of q.settled.pile) one.settled.settled later in
       let drops : (i : ℕ) → (height_of r.start i + tally r.history i) + tally q.history i ≡ height_of r.start i + tally (r.history ++ q.history) i = λ i. (let e = tally-append r.history q.history i in omega arith) in
       subst (λ (z : (ℕ → ℕ) × (ℕ → ℕ)). IsSettled g z.0 z.1 (height_of q.settled.pile)) (λ k. ((λ i. drops i k), (λ i. sym (all_each i) k))) all
 
@@ -161,29 +157,25 @@ module _ (r q : RecordView) (one : IsOneThreads r) (next : IsOneThreads q) (join
       let sums_are = sum_below_same (sites g) (slice_index sums) (λ i. odometer_of r.settled i + odometer_of q.settled i) (λ i _. all_each i) in
       let outs = sum_below-add (sites g) (λ i. missing g i * odometer_of r.settled i) (λ i. missing g i * odometer_of q.settled i) in
       let outs_are = sum_below_same (sites g) (λ i. missing g i * slice_index sums i) (λ i. missing g i * odometer_of r.settled i + missing g i * odometer_of q.settled i) (λ i _. ap (λ n. missing g i * n) (all_each i) ∙ times_plus (missing g i) (odometer_of r.settled i) (odometer_of q.settled i)) in
-      let tops_later = subst (λ z. q.settled.topplings ≡ topplings z (odometer_of q.settled)) grids next.one.settled.all_topplings in
-      let lost_later = subst (λ z. q.settled.lost ≡ lost z (odometer_of q.settled)) grids next.one.settled.all_lost in
-      let tops_before = one.one.settled.all_topplings in
-      let lost_before = one.one.settled.all_lost in
+      let tops_later = subst (λ z. q.settled.topplings ≡ topplings z (odometer_of q.settled)) grids next.settled.all_topplings in
+      let lost_later = subst (λ z. q.settled.lost ≡ lost z (odometer_of q.settled)) grids next.settled.all_lost in
+      let tops_before = one.settled.all_topplings in
+      let lost_before = one.settled.all_lost in
       record {
-        one = record {
-          start_pile = one.one.start_pile;
-          all_sites = All-append (λ i. i < sites g) r.history q.history one.one.all_sites (subst (λ z. All (λ i. i < sites z) q.history) grids next.one.all_sites);
-          limit = (let e = length-append r.history q.history in omega arith);
-          settled = record {
-            grid = next.one.settled.grid ∙ grids;
-            heights_each = next.one.settled.heights_each ∙ ap sites grids;
-            odometer_each = added.long ∙ one.one.settled.odometer_each;
-            settled = both_settled;
-            all_topplings = omega arith;
-            all_lost = omega arith;
-          };
-          number = refl;
-          grains = refl;
+        start_pile = one.start_pile;
+        all_sites = All-append (λ i. i < sites g) r.history q.history one.all_sites (subst (λ z. All (λ i. i < sites z) q.history) grids next.all_sites);
+        limit = (let e = length-append r.history q.history in omega arith);
+        settled = record {
+          grid = next.settled.grid ∙ grids;
+          heights_each = next.settled.heights_each ∙ ap sites grids;
+          odometer_each = added.long ∙ one.settled.odometer_each;
+          settled = both_settled;
+          all_topplings = omega arith;
+          all_lost = omega arith;
         };
       }
 
   pub joined_topplings : sum sums ≡ r.settled.topplings + q.settled.topplings
   joined_topplings =
-      let all = followed.one.settled.all_topplings in
-      let counts = sum_is_grains r.start.grid sums (added.long ∙ one.one.settled.odometer_each) in omega arith
+      let all = followed.settled.all_topplings in
+      let counts = sum_is_grains r.start.grid sums (added.long ∙ one.settled.odometer_each) in omega arith

@@ -1,9 +1,9 @@
 -- What contracts see of the record of a closed pile, and of the last moment of a shared one.
 use Rattle.std.specs.Prelude.{ℕ, ◌≡◌, ◌+◌, ◌<◌, ◌≤◌, Some, List, All, length, sum, slice_get, slice_index}
 use Rattle.sand_model.specs.Grid.{sites}
-use Rattle.sand_model.specs.Piles.{PileView}
-use Rattle.sand_settle.specs.Settling.{SettledView, odometer_of}
-use Rattle.sand_settle.specs.Drops.{OneView, IsAfter}
+use Rattle.sand_model.specs.Sand.{tally}
+use Rattle.sand_model.specs.Piles.{PileView, IsPile, height_of, most_grains}
+use Rattle.sand_settle.specs.Settling.{SettledView, IsRecord, odometer_of}
 use Rattle.sand_shared.specs.declared.view.Receipt.{Receipt}
 use Rattle.sand_shared.specs.declared.view.View.{View}
 use Rattle.sand_shared.specs.declared.view.Terms.{Terms}
@@ -17,13 +17,13 @@ pub record RecordView : Type 0 where
   pub history : List ℕ
   pub settled : SettledView
 
--- the state of one thread's pile after the history
-abbrev pub one_of : RecordView → OneView
-one_of r = record { settled = r.settled; number = length r.history; grains = sum r.start.heights + length r.history }
-
--- it is the result of one thread that drops the history on the start, in order
+-- it is the result of one thread that drops the history on the start, in order: the settled record of the start with
+-- the drops
 pub record IsOneThreads (r : RecordView) : Type 0 where
-  pub one : IsAfter r.start r.history (one_of r)
+  pub start_pile : IsPile r.start
+  pub all_sites : All (λ i. i < sites r.start.grid) r.history
+  pub limit : sum r.start.heights + length r.history ≤ most_grains
+  pub settled : IsRecord r.start.grid (λ i. height_of r.start i + tally r.history i) r.settled
 
 -- the site of each receipt is at its number
 abbrev pub Tells : List Receipt → List ℕ → Type 0

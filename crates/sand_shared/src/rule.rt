@@ -2,8 +2,8 @@
 //!
 //! The rule is that events have led from the first state to what the words and the views show. It is a predicate on
 //! states: no step leads to words and views to which no events lead. Which events a step is (one, several in a row, or
-//! none) is said by the play of the step (`Take`), and so by the contract of each function in `steps`. That the pile is lawful whenever the rule holds is a law (`laws::lawful_at_every_moment`), proved by
-//! induction over the events.
+//! none) is said by the play of the step (`Take`), and so by the contract of each function in `steps`. That the pile is
+//! lawful whenever the rule holds is a law (`laws::lawful_at_every_moment`), proved by induction over the events.
 
 use crate::view::{Terms, View};
 use atomic_table::{Join, Play, Split, TableRule};
