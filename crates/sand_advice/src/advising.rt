@@ -59,9 +59,9 @@ fn push_full(text: &mut String, refused: &Refused<'_>) -> Result<(), AllocError>
     };
     text.push_str("the pile has ")?;
     push_grouped(text, pile.grains())?;
-    text.push_str(" grains, and with its drops may have ")?;
+    text.push_str(" grains; at most ")?;
     push_grouped(text, GRAIN_LIMIT)?;
-    text.push_str("\n")
+    text.push_str(" are allowed, including the drops\n")
 }
 
 // What was found in the input, if the fault is in the input.
@@ -104,7 +104,7 @@ fn push_usual(
 ) -> Result<(), AllocError> {
     match (fault, command) {
         (DeskFault::Memory, "lab") => text.push_str(
-            "'lab' needs about 40 bytes of memory for each drop, of all epochs together. Use\nfewer drops or epochs.",
+            "'lab' needs about 40 bytes of memory per drop, counting all epochs. Use fewer\ndrops or epochs.",
         ),
         (DeskFault::Memory, "drops") => text.push_str(
             "Use a smaller pile, or fewer sites in the input.",

@@ -25,10 +25,10 @@ pub static FAULTS: [Explained; 16] = [
         number: 1,
         name: "Side",
         place: "",
-        meaning: "The width or the height of a grid is not from 1 to 256.",
+        meaning: "The width or the height of a grid is outside 1 to 256.",
         remedy: "\
-The first two numbers of a pile are its width and its height. If the input
-is a grid without its size, put a line with both before it.",
+The first two numbers of a pile are its width and its height. If they are
+missing, put them on a line before the grid.",
     },
     Explained {
         number: 2,
@@ -36,15 +36,15 @@ is a grid without its size, put a line with both before it.",
         place: "",
         meaning: "The number of heights is not width times height.",
         remedy: "\
-Give each site one height, row by row. Only 'drops' without --count takes
-numbers behind the heights: the sites of its drops.",
+Give one height per site, row by row. Only 'drops' without --count accepts
+numbers after the heights: the sites of the drops.",
     },
     Explained {
         number: 3,
         name: "TooManyGrains",
         place: "",
         meaning: "\
-The pile has more than 1,099,511,627,775 grains, or it would have with all
+The pile has more than 1,099,511,627,775 grains, or would have with all
 drops of 'lab'.",
         remedy: "Use smaller heights, or fewer drops.",
     },
@@ -54,54 +54,52 @@ drops of 'lab'.",
         place: "",
         meaning: "The program ran out of memory.",
         remedy: "\
-Free some, or use a smaller pile. 'lab' needs less with fewer drops, 'drops'
-with fewer sites in its input.",
+Free some memory, or use a smaller pile. 'lab' needs less for fewer drops,
+'drops' for fewer sites in the input.",
     },
     Explained {
         number: 6,
         name: "Full",
         place: "",
-        meaning: "\
-One drop more would bring the grains of the pile and of its drops over
-1,099,511,627,775.",
+        meaning: "The pile and its drops exceed 1,099,511,627,775 grains together.",
         remedy: "Drop fewer grains.",
     },
     Explained {
         number: 7,
         name: "Unstable",
         place: "",
-        meaning: "A site has more than 3 grains, and the command takes only stable piles.",
+        meaning: "A site has more than 3 grains, but the command needs a stable pile.",
         remedy: "\
-Settle the pile first: 'sandpile settle --pile' writes the settled pile
-alone.",
+Settle the pile first: 'sandpile settle --pile' writes only the settled
+pile.",
     },
     Explained {
         number: 8,
         name: "NotRecurrent",
         place: "",
-        meaning: "A pile is not recurrent: some of its sites are a forbidden set.",
+        meaning: "A pile is not recurrent: some of its sites form a forbidden set.",
         remedy: "\
-'sandpile burn' writes these sites. 'sandpile recurrent' writes the
-recurrent pile that is equivalent to the pile.",
+'sandpile burn' lists these sites. 'sandpile recurrent' writes the
+equivalent recurrent pile.",
     },
     Explained {
         number: 9,
         name: "Shapes",
         place: "",
-        meaning: "The two piles differ in width or height, or one alone is a cylinder.",
-        remedy: "Give two piles of one shape.",
+        meaning: "The two piles differ in width or height, or only one is a cylinder.",
+        remedy: "Give two piles of the same shape.",
     },
     Explained {
         number: 18,
         name: "Text",
         place: " at N",
         meaning: "\
-Byte N of the input, counted from 0, is in no text of a pile; or the input
-ends there, before it has a width and a height.",
+Byte N of the input, counted from 0, cannot be part of a pile; or the input
+ends there, without a width and a height.",
         remedy: "\
-Write a pile as numbers with white space between them: its width, its
-height, and the grains of each site, row by row. To pass on the pile of
-'settle', 'drops' or 'lab', let them write it with --pile.",
+Write a pile as numbers separated by white space: its width, its height,
+and the grains on each site, row by row. To pass on the pile of 'settle',
+'drops' or 'lab', run them with --pile.",
     },
     Explained {
         number: 19,
@@ -116,18 +114,14 @@ The number at byte N of the input, counted from 0, is over
         number: 20,
         name: "Read",
         place: "",
-        meaning: "The standard input could not be read.",
-        remedy: "\
-Check the file or the pipe: a folder cannot be read, nor can an input that
-is closed.",
+        meaning: "Standard input could not be read.",
+        remedy: "Check the file or the pipe: a directory or a closed input cannot be read.",
     },
     Explained {
         number: 21,
         name: "Write",
         place: " after N",
-        meaning: "\
-The standard output failed after it had taken the first N bytes of the
-result.",
+        meaning: "Writing to standard output failed after the first N bytes of the result.",
         remedy: "\
 Check the file or the pipe: the disk may be full, or the program that reads
 the pipe may have ended.",
@@ -138,58 +132,56 @@ the pipe may have ended.",
         place: "",
         meaning: "The input has more than 1,048,576 bytes.",
         remedy: "\
-Check that the input is a pile. 'drops --count' draws its sites, so that
-they need not be in the input.",
+Check that the input is a pile. With 'drops --count' the sites are drawn,
+and need not be in the input.",
     },
     Explained {
         number: 23,
         name: "Usage",
         place: "",
         meaning: "\
-The command line was refused. Its own message is written in place of the
-line of a fault, and the status is 2.",
-        remedy: "'sandpile help COMMAND' says what a command takes.",
+The command line is invalid. A message about it replaces the fault line, and
+the status is 2.",
+        remedy: "'sandpile help COMMAND' lists the options of a command.",
     },
     Explained {
         number: 24,
         name: "Narrow",
         place: "",
         meaning: "A cylinder is less than 3 wide.",
-        remedy: "\
-Make it wider, or leave out the letter c after the height, or --cylinder.",
+        remedy: "Make it wider, or omit the letter c after the height, or --cylinder.",
     },
     Explained {
         number: 25,
         name: "NoSite",
         place: " at N",
-        meaning: "\
-The site of drop N, counted from 0, is not in the grid.",
+        meaning: "Drop N, counted from 0, is outside the grid.",
         remedy: "\
-Sites are numbered from 0, row by row, so the last one is width times
-height, less 1.",
+Sites are numbered from 0, row by row; the last one is width times height
+minus 1.",
     },
 ];
 
 /// The help of `sandpile explain`.
 const EXPLAIN_HELP: &str = "\
-Says what a fault means, and what to do about it
+Explains a fault and what to do about it
 
 Usage: sandpile explain [FAULT]
 
 Arguments:
-  [FAULT]  Number or name of a fault, such as 18 or Text; all faults without it
+  [FAULT]  Number or name of a fault, such as 18 or Text [default: all faults]
 
 Options:
   -h, --help  Print help
 
-Output: the line of the fault, what it means, and what to do.
+Output: the fault line, what it means, and what to do.
 
 Example:
 
   $ sandpile explain 24
   fault 24 Narrow
     A cylinder is less than 3 wide.
-    Make it wider, or leave out the letter c after the height, or --cylinder.
+    Make it wider, or omit the letter c after the height, or --cylinder.
 ";
 
 /// The explanation of the fault with this number or name, if a command may report it.

@@ -103,7 +103,7 @@ fn push_reading(text: &mut String, command: &str, file: &str) -> Result<(), Allo
     let file = if is_plain(file) { file } else { "FILE" };
     write!(
         text,
-        "tip: a pile is read from the standard input: sandpile {command} < {file}\n"
+        "tip: piles are read from standard input: sandpile {command} < {file}\n"
     )
 }
 
@@ -116,7 +116,7 @@ fn push_joining(text: &mut String, first: &str, second: &str) -> Result<(), Allo
     };
     write!(
         text,
-        "tip: both piles are read from the standard input: cat {first} {second} | sandpile add\n"
+        "tip: both piles are read from standard input: cat {first} {second} | sandpile add\n"
     )
 }
 
@@ -127,7 +127,7 @@ fn push_tip(text: &mut String, command: &str, words: &[String]) -> Result<(), Al
             let value = if is_plain(value) { value } else { "the value" };
             write!(
                 text,
-                "tip: a whole number is wanted, in digits alone, such as 1000000; {value} is none\n"
+                "tip: {value} is not a whole number; use only digits, such as 1000000\n"
             )
         }
         (Some(Mistake::Stray(first)), Some(Mistake::Stray(second))) if command == "add" => {

@@ -13,7 +13,7 @@ fn push_size_hint(text: &mut String, input: &[u8]) -> Result<(), AllocError> {
     match grid_without_size(input) {
         Some((columns, rows)) => write!(
             text,
-            "If this is a grid of {columns} by {rows} without its size, put a line '{columns} {rows}' before it.\n"
+            "If this is a grid of {columns} by {rows} without its size, put the line '{columns} {rows}' before it.\n"
         ),
         None => text.push_str("The first two numbers of a pile are its width and its height.\n"),
     }
@@ -31,7 +31,7 @@ pub(crate) fn push_side(text: &mut String, refused: &Refused<'_>) -> Result<(), 
     let value = number.value;
     write!(
         text,
-        "the {side} of {name} is {value}, and must be from 1 to {SIDE_LIMIT}\n"
+        "the {side} of {name} is {value}, but must be from 1 to {SIDE_LIMIT}\n"
     )?;
     push_size_hint(text, refused.input)
 }
@@ -45,7 +45,7 @@ pub(crate) fn push_narrow(text: &mut String, refused: &Refused<'_>) -> Result<()
     let width = found.pile.width.value;
     write!(
         text,
-        "{name} is {width} wide, and a cylinder is at least {CYLINDER_WIDTH} wide\n"
+        "{name} is {width} wide, but a cylinder must be at least {CYLINDER_WIDTH} wide\n"
     )
 }
 
@@ -67,11 +67,11 @@ fn push_length_hint(
     if grid_without_size(refused.input).is_some() || count < pile.sites() {
         push_size_hint(text, refused.input)
     } else if is_followed(pile) {
-        text.push_str("The input looks like two piles, which only 'add' takes.\n")
+        text.push_str("The input looks like two piles, but only 'add' reads two.\n")
     } else if refused.command == "drops" {
-        text.push_str("With --count the sites are drawn, and the input is the pile alone.\n")
+        text.push_str("With --count the sites are drawn; the input must be only the pile.\n")
     } else {
-        text.push_str("Only 'drops' takes numbers behind the heights: the sites of its drops.\n")
+        text.push_str("Only 'drops' accepts numbers after the heights: the sites of the drops.\n")
     }
 }
 
@@ -80,18 +80,13 @@ pub(crate) fn push_length(text: &mut String, refused: &Refused<'_>) -> Result<()
         return Ok(());
     };
     let count = found.pile.behind.count();
-    if refused.reads_two() {
-        text.push_str(found.name)?;
-        text.push_str(", ")?;
-    }
+    text.push_str(found.name)?;
+    text.push_str(", ")?;
     push_sides(text, &found.pile)?;
-    if refused.reads_two() {
-        text.push_str(",")?;
-    }
-    text.push_str(" wants ")?;
+    text.push_str(", needs ")?;
     push_heights(text, found.pile.sites())?;
     let verb = if count == 1 { "is" } else { "are" };
-    write!(text, ", and there {verb} {count}\n")?;
+    write!(text, ", but there {verb} {count}\n")?;
     push_length_hint(text, refused, &found.pile, count)
 }
 
@@ -104,12 +99,12 @@ pub(crate) fn push_grains(text: &mut String, refused: &Refused<'_>) -> Result<()
     text.push_str(found.name)?;
     text.push_str(" has ")?;
     push_grouped(text, grains)?;
-    if grains > GRAIN_LIMIT {
-        text.push_str(" grains, and may have ")?;
-    } else {
-        text.push_str(" grains, and with all drops may have ")?;
-    }
+    text.push_str(" grains; at most ")?;
     push_grouped(text, GRAIN_LIMIT)?;
+    text.push_str(" are allowed")?;
+    if grains <= GRAIN_LIMIT {
+        text.push_str(", including all drops")?;
+    }
     text.push_str("\n")
 }
 
@@ -125,7 +120,7 @@ pub(crate) fn push_unstable(text: &mut String, refused: &Refused<'_>) -> Result<
     let value = height.value;
     write!(
         text,
-        "a site of {name} has {value} grains, and may have 3\n"
+        "a site of {name} has {value} grains; at most 3 are allowed\n"
     )
 }
 
@@ -135,7 +130,7 @@ pub(crate) fn push_shapes(text: &mut String, refused: &Refused<'_>) -> Result<()
     };
     text.push_str("the first pile is ")?;
     push_sides(text, &first)?;
-    text.push_str(", and the second is ")?;
+    text.push_str(", but the second is ")?;
     push_sides(text, &second)?;
     text.push_str("\n")
 }
@@ -179,9 +174,9 @@ pub(crate) fn push_no_site(
     let value = site.value;
     write!(
         text,
-        "drop {index}, counted from 0, is at site {value}, and "
+        "drop {index}, counted from 0, is at site {value}, but the grid, "
     )?;
     push_sides(text, &pile)?;
     let last = pile.sites().saturating_sub(1);
-    write!(text, " has the sites 0 to {last}\n")
+    write!(text, ", has only sites 0 to {last}\n")
 }

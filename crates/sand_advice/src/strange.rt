@@ -1,57 +1,54 @@
 //! What a byte that cannot be in the text of a pile may mean.
 
 const SETTLED: &str = "\
-This looks like the text of settle, drops or lab. With --pile they write the
-pile alone, so that it can be passed on.";
+This looks like the output of settle, drops or lab. Use their option --pile to
+write only the pile.";
 
 const TABLE: &str = "\
-This looks like the text of drops or lab. With --pile they write the pile
-alone, so that it can be passed on.";
+This looks like the output of drops or lab. Use their option --pile to write
+only the pile.";
 
 const BURNT: &str = "\
-This looks like the text of burn, which has no pile in it. Pass on the pile that
+This looks like the output of burn, which contains no pile. Use the pile that
 burn read.";
 
-const FAULT: &str = "\
-This looks like the line of a fault: the command before this one failed.";
+const FAULT: &str = "This looks like a fault line: the previous command failed.";
 
 const PICTURE: &str = "\
-This looks like a picture (PGM), and a pile is read as text. From a picture that
---pgm wrote, leave out the first and the third line: sed '1d;3d' FILE";
+This looks like a picture (PGM), but piles are read as text. In a picture that
+--pgm wrote, delete lines 1 and 3: sed '1d;3d' FILE";
 
-const PNG: &str = "This looks like a picture (PNG), and a pile is read as text.";
+const PNG: &str = "This looks like a picture (PNG), but piles are read as text.";
 
 const MARK: &str = "\
-The input begins with a byte-order mark. Save it without one, or leave its first
-3 bytes out: tail -c +4 FILE";
+The input begins with a byte-order mark. Save it without one, or skip the first
+3 bytes: tail -c +4 FILE";
 
 const WIDE: &str = "This looks like UTF-16. Save the input as plain ASCII or UTF-8.";
 
-const COMMA: &str = "\
-Numbers are separated by white space alone: tr ',;' ' ' < FILE";
+const COMMA: &str = "Separate numbers with white space only: tr ',;' ' ' < FILE";
 
-const COMMENT: &str = "A pile has no comments. Leave them out: sed 's/#.*//' FILE";
+const COMMENT: &str = "A pile cannot contain comments. Remove them: sed 's/#.*//' FILE";
 
-const MINUS: &str = "The grains of a site are never fewer than 0.";
+const MINUS: &str = "A site cannot have fewer than 0 grains.";
 
-const SIGN: &str = "A number is written without a sign.";
+const SIGN: &str = "Write numbers without a sign.";
 
-const WHOLE: &str = "The grains of a site are a whole number, written with digits alone.";
+const WHOLE: &str = "Grains are whole numbers, written with digits only.";
 
-const BRACKET: &str = "Write the numbers alone, without brackets: tr -d '[](){}' < FILE";
+const BRACKET: &str = "Write only the numbers, without brackets: tr -d '[](){}' < FILE";
 
-const QUOTE: &str = "Write the numbers alone, without quotes.";
+const QUOTE: &str = "Write only the numbers, without quotes.";
 
 const CYLINDER: &str = "\
-The letter c of a cylinder is after the height, before the first grains, and
-white space is around it.";
+The letter c of a cylinder comes after the height, with white space around it.";
 
-const SPACE: &str = "White space is the space, the tab and the ends of lines.";
+const SPACE: &str = "White space means spaces, tabs and line ends.";
 
 /// How a pile is written.
 pub(crate) const PLAIN: &str = "\
-A pile is written as numbers with white space between them: its width, its
-height, and the grains of each site, row by row.";
+A pile is a list of numbers separated by white space: its width, its height,
+and the grains on each site, row by row.";
 
 /// What the input may contain from its first unexpected byte on, and what to say about it. The first match counts.
 static BEGINNINGS: [(&[u8], &str); 34] = [

@@ -19,38 +19,38 @@ pub(crate) struct Help {
 pub(crate) const SHORT: &str = "\
 \x20 -V, --version  Print the version
 
-'sandpile help COMMAND' says what a command reads and writes, and 'sandpile
-explain' what each fault means and what to do about it.";
+'sandpile help COMMAND' describes the input and output of a command, and
+'sandpile explain' describes each fault.";
 
 pub(crate) const PROGRAM: Help = Help {
-    about: "Settles piles of sand on a grid, and computes in the group of recurrent piles",
+    about: "Settles sandpiles on a grid, and computes in the sandpile group",
     purpose: None,
     details: "\
 \x20 -V, --version
           Print the version
 
-A site that holds 4 grains or more topples: it gives a grain to each neighbour,
-and grains that leave the grid are lost.
+A site with 4 or more grains topples: it gives one grain to each neighbour.
+Grains that leave the grid are lost.
 
-Input: text on standard input. A pile is numbers with white space between them:
-  its width, its height, and the grains of each site, row by row. A letter c
-  after the height makes it a cylinder, whose rows go round.
+Input: text on standard input. A pile is a list of numbers separated by white
+  space: its width, its height, and the grains on each site, row by row. The
+  letter c after the height makes it a cylinder: its rows wrap around.
 
-Output: text on standard output, or with --pgm a picture (plain PGM). Nothing is
-  written before the whole text is there; only 'drops --count' writes while it
-  drops. A pile is written as it is read, so commands can be chained:
-  'identity', 'add', 'inverse', 'multiple' and 'recurrent' write a pile alone,
-  and 'settle', 'drops' and 'lab' do so with --pile.
+Output: text on standard output, or with --pgm a picture (plain PGM). It is
+  written once all of it is ready; only 'drops --count' writes while it runs.
+  Piles are written in the format in which they are read, so commands can be
+  piped together: 'identity', 'add', 'inverse', 'multiple' and 'recurrent' write
+  only a pile; so do 'settle', 'drops' and 'lab' with --pile.
 
-Limits: width and height from 1 to 256, a cylinder at least 3 wide; at most
-  1,099,511,627,775 grains; at most 1,048,576 bytes of input.
+Limits: width and height from 1 to 256, cylinders at least 3 wide; at most
+  1,099,511,627,775 grains (the grain limit); at most 1,048,576 bytes of input.
 
-Faults: one line on standard error, 'fault NUMBER NAME'. There is no output, or
-  the first N bytes if the writer failed. 'sandpile explain' lists all faults;
-  'sandpile explain NUMBER' says what one means and what to do about it. At a
-  terminal the line is followed by what was found in the input.
+Faults: one line on standard error, 'fault NUMBER NAME'. Nothing is written to
+  standard output then, or only the first N bytes if writing failed. 'sandpile
+  explain' lists all faults; 'sandpile explain NUMBER' says what one means and
+  what to do. At a terminal, details about the input follow the line.
 
-Status: 0 if all went well, 1 for a fault, 2 for misuse of the command line.
+Status: 0 on success, 1 for a fault, 2 for an invalid command line.
 
 Example: a pile 3 wide and 1 high, with 4 grains in the middle.
 
@@ -62,19 +62,20 @@ Example: a pile 3 wide and 1 high, with 4 grains in the middle.
   lost 2
   topplings 1
 
-'sandpile help COMMAND' says what a command reads and writes. 'sandpile
---version' writes the version, and the toolchain and the logic of its proofs.",
+'sandpile help COMMAND' describes the input and output of a command. 'sandpile
+--version' prints the version, and the toolchain and logic of the proofs.",
 };
 
 pub(crate) const SETTLE: Help = Help {
-    about: "Settles a pile: topples sites until each holds at most 3 grains",
+    about: "Settles a pile: topples sites until each has at most 3 grains",
     purpose: None,
     details: "\
-Input: a pile ('sandpile --help' says how a pile is written).
+Input: a pile (see 'sandpile --help' for the format).
 
-Output: the settled pile; the line 'odometer', and how often each site toppled;
-  'lost N', the grains that left the grid; 'topplings N', all topplings. With
-  --pile the settled pile alone; with --pgm only a picture of it.
+Output: the settled pile; the line 'odometer', then how often each site toppled;
+  'lost N', the grains that left the grid; 'topplings N', the number of
+  topplings. With --pile, only the settled pile; with --pgm, only a picture of
+  it.
 
 Example:
 
@@ -88,14 +89,14 @@ Example:
 };
 
 pub(crate) const BURN: Help = Help {
-    about: "Tests by burning whether a pile is recurrent",
+    about: "Tests whether a pile is recurrent (burning test)",
     purpose: None,
     details: "\
-Input: a pile ('sandpile --help' says how a pile is written), with at most 3
-  grains on each site.
+Input: a pile (see 'sandpile --help' for the format) with at most 3 grains on
+  each site.
 
 Output: 'recurrent'; or 'forbidden N' and the N sites of the greatest forbidden
-  set, each as its column and its row, both from 0.
+  set, each as its column and row, counted from 0.
 
 Example:
 
@@ -106,15 +107,15 @@ Example:
 };
 
 pub(crate) const IDENTITY: Help = Help {
-    about: "Writes the identity of the group of recurrent piles on a grid",
+    about: "Writes the identity of the sandpile group of a grid",
     purpose: None,
     details: "\
-Input: none is read.
+Input: none.
 
-Output: the recurrent pile that changes no recurrent pile when it is added. With
-  --pgm a picture of it.
+Output: the recurrent pile that leaves every recurrent pile unchanged when added
+  to it. With --pgm, a picture of it.
 
-Limits: width and height from 1 to 256, a cylinder at least 3 wide.
+Limits: width and height from 1 to 256, cylinders at least 3 wide.
 
 Example:
 
@@ -128,19 +129,19 @@ pub(crate) const DROPS: Help = Help {
     about: "Settles a pile, then drops grains on it, one after another",
     purpose: None,
     details: "\
-Input: a pile ('sandpile --help' says how a pile is written), then the site of
-  each drop, by its number: from 0, row by row. With --count the pile alone: the
-  sites are drawn from ChaCha8 stream --stream of the seed, without its first
-  --from sites. Stream 0 is that of the first dropper of 'sandpile lab'.
+Input: a pile (see 'sandpile --help' for the format), then the site number of
+  each drop, counted from 0, row by row. With --count, only the pile: the sites
+  come from ChaCha8 stream --stream of the seed, without its first --from sites.
+  In epoch 0, dropper k of 'sandpile lab' uses stream k.
 
-Output: a table with a line for each drop: its number, from 0 or --from, and
-  its site; of its avalanche the topplings (size), the sites that toppled
-  (area), the greatest distance of one of them from the drop (reach), and the
-  grains that left the grid (lost). Then the pile; 'lost N' and 'topplings N',
-  with those of settling it. With --table the table alone, with --pile the pile
-  alone.
+Output: a table with a line per drop: its number (from 0 or --from), its site,
+  and its avalanche: topplings (size), sites that toppled (area), their greatest
+  distance from the drop (reach), and grains that left the grid (lost). Then the
+  pile, 'lost N' and 'topplings N', both including the first settling. With
+  --table, only the table; with --pile, only the pile.
 
-Limits: at most 4,294,967,295 drops by --count. Drops count as grains.
+Limits: at most 4,294,967,295 drops with --count. Drops count towards the grain
+  limit.
 
 Example:
 
@@ -157,13 +158,13 @@ Example:
 };
 
 pub(crate) const ADD: Help = Help {
-    about: "Adds two recurrent piles: site by site, and then settles",
+    about: "Adds two recurrent piles: adds their heights, then settles",
     purpose: None,
     details: "\
-Input: two recurrent piles of one shape, one after the other ('sandpile --help'
-  says how a pile is written).
+Input: two recurrent piles of the same shape, one after the other (see 'sandpile
+  --help' for the format).
 
-Output: the settled sum, a recurrent pile. With --pgm a picture of it.
+Output: the settled sum, a recurrent pile. With --pgm, a picture of it.
 
 Example:
 
@@ -173,13 +174,13 @@ Example:
 };
 
 pub(crate) const INVERSE: Help = Help {
-    about: "Writes the inverse of a recurrent pile in the group",
+    about: "Writes the inverse of a recurrent pile",
     purpose: None,
     details: "\
-Input: a recurrent pile ('sandpile --help' says how a pile is written).
+Input: a recurrent pile (see 'sandpile --help' for the format).
 
-Output: the recurrent pile whose sum with the input is the identity. With --pgm
-  a picture of it.
+Output: the recurrent pile whose sum with the input is the identity. With
+  --pgm, a picture of it.
 
 Example:
 
@@ -189,15 +190,15 @@ Example:
 };
 
 pub(crate) const MULTIPLE: Help = Help {
-    about: "Writes the N-fold sum of a recurrent pile in the group",
+    about: "Writes the N-fold sum of a recurrent pile",
     purpose: None,
     details: "\
-Input: a recurrent pile ('sandpile --help' says how a pile is written).
+Input: a recurrent pile (see 'sandpile --help' for the format).
 
-Output: the recurrent pile that N copies of the input add up to: the identity if
-  N is 0, the input itself if N is 1. With --pgm a picture of it.
+Output: the sum of N copies of the input: the identity if N is 0, the input
+  itself if N is 1. With --pgm, a picture of it.
 
-Time: at most two additions for each binary digit of N.
+Time: at most two additions per binary digit of N.
 
 Example:
 
@@ -207,14 +208,14 @@ Example:
 };
 
 pub(crate) const RECURRENT: Help = Help {
-    about: "Writes the one recurrent pile that is equivalent to a pile",
+    about: "Writes the unique recurrent pile equivalent to a pile",
     purpose: None,
     details: "\
-Input: a pile ('sandpile --help' says how a pile is written).
+Input: a pile (see 'sandpile --help' for the format).
 
 Output: the recurrent pile that differs from the input by topplings, forward or
-  back. It is the input itself if that is recurrent, and otherwise the settled
-  sum of the settled input and the identity. With --pgm a picture of it.
+  backward: the input itself if it is recurrent, otherwise the settled sum of
+  the settled input and the identity. With --pgm, a picture of it.
 
 Example:
 
@@ -224,42 +225,41 @@ Example:
 };
 
 pub(crate) const LAB: Help = Help {
-    about: "Drops grains on a pile by many threads at once, in epochs",
+    about: "Drops grains on a pile from many threads at once, in epochs",
     purpose: Some(
         "\
-Drops grains on a pile by many threads at once, in epochs
+Drops grains on a pile from many threads at once, in epochs
 
-It is for three things:
-  - to burn a pile in, fast: with --pile it writes the pile alone, on which
-    'drops' then measures avalanches
-  - to follow density and loss: it writes a line for each epoch, with the grains
-    that left the grid and the grains that are on the pile
-  - to show that threads change nothing: with one seed it writes the same pile
-    and the same odometer, whatever the threads do meanwhile",
+It has three uses:
+  - burning in a pile quickly: with --pile it writes only the pile, on which
+    'drops' can then measure avalanches
+  - following density and loss: it writes a line per epoch, with the grains that
+    left the grid and the grains on the pile
+  - showing that threads do not matter: the same seed gives the same pile and
+    odometer, however the threads interleave",
     ),
     details: "\
-Input: a pile ('sandpile --help' says how a pile is written).
+Input: a pile (see 'sandpile --help' for the format).
 
-Output: a table with a line for each epoch: its number, from 0; its drops; its
+Output: a table with a line per epoch: its number, from 0; its drops; its
   topplings; the grains that left the grid (lost); the grains on the pile after
-  it. Then 'total' with the same of all epochs; the pile after the last epoch;
-  the line 'odometer', and how often each site toppled. With --journal then the
-  line 'journal', and for each drop its epoch, its number in the epoch, its
-  dropper and its site. With --pile the pile alone; with --pgm only a picture of
-  it.
+  it. Then 'total', with the same for all epochs; the pile after the last epoch;
+  the line 'odometer', then how often each site toppled. With --journal, also
+  the line 'journal', then the epoch, number in the epoch, dropper and site of
+  each drop. With --pile, only the pile; with --pgm, only a picture of it.
 
-Epochs: in an epoch droppers drop grains on one shared pile, workers topple it
-  and observers count the drops, each in its own thread. Then the pile settles,
-  and the next epoch starts from it.
+Epochs: in an epoch, droppers drop --drops grains each on one shared pile,
+  workers topple it, and observers count the drops, each in a thread of its own.
+  Then the pile settles, and the next epoch starts from it.
 
 Threads: dropper k of epoch t drops at the sites of ChaCha8 stream t*64 + k of
-  the seed. So seed, droppers, drops and epochs decide what is written, except
-  for the order of the journal. --workers, --sweeps and --observers change
-  nothing else, and save no time: they are there to show, and to test, that
-  sand topples and is counted while it falls.
+  the seed. So seed, droppers, drops and epochs determine the output, except for
+  the order of the journal. --workers, --sweeps and --observers affect only that
+  order, and save no time: they demonstrate and test that sand topples and is
+  counted while it falls.
 
-Limits: drops count as grains. At its peak a run takes about 40 bytes of memory
-  for each drop, of all epochs together.
+Limits: drops count towards the grain limit. A run needs up to about 40 bytes of
+  memory per drop, counting all epochs.
 
 Example:
 
@@ -280,12 +280,12 @@ pub(crate) const SEED: &str = "Seed, up to 4294967295";
 
 pub(crate) const DROPPERS: &str = "Droppers, from 1 to 64";
 
-pub(crate) const DROPS_OF_EACH: &str = "Drops of each, up to 1000000";
+pub(crate) const DROPS_OF_EACH: &str = "Drops per dropper, up to 1000000";
 
 pub(crate) const EPOCHS: &str = "Epochs, from 1 to 100";
 
 pub(crate) const WORKERS: &str = "Workers, from 1 to 16";
 
-pub(crate) const SWEEPS: &str = "Sweeps of each, up to 1000";
+pub(crate) const SWEEPS: &str = "Sweeps per worker, up to 1000";
 
 pub(crate) const OBSERVERS: &str = "Observers, up to 16";

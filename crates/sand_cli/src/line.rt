@@ -87,14 +87,14 @@ fn pgm<'a>(alloc: Global) -> Arg<'a>
     ensures rule { rule_of result ≡ flag (codes "pgm") }
     ensures local { result.global ≡ false }
 {
-    flag(alloc, "pgm", "Write a picture (plain PGM), not text")
+    flag(alloc, "pgm", "Write a picture (plain PGM) instead of text")
 }
 
 fn pile<'a>(alloc: Global) -> Arg<'a>
     ensures rule { rule_of result ≡ flag (codes "pile") }
     ensures local { result.global ≡ false }
 {
-    flag(alloc, "pile", "Write the pile alone, as it is read")
+    flag(alloc, "pile", "Write only the pile, in input format")
 }
 
 fn bare_line<'a>(alloc: Global, name: &'a str, help: Help) -> Command<'a>
@@ -145,15 +145,15 @@ fn drops_line<'a>(alloc: Global) -> Result<Command<'a>, AllocError>
     ensures line { IfOk result (λ c. app_of c ≡ drops_line) }
     ensures local { IfOk result (λ c. (out-Command c).has_globals ≡ false) }
 {
-    let count = word(alloc, "count", "Drops at random, up to 4294967295");
+    let count = word(alloc, "count", "Number of random drops, up to 4294967295");
     let seed = word(alloc, "seed", "Seed, up to 4294967295 [default: 0]");
-    let stream = word(alloc, "stream", "Stream of the seed [default: 0]");
+    let stream = word(alloc, "stream", "Stream, up to 4294967295 [default: 0]");
     let from = word(
         alloc,
         "from",
-        "Sites of the stream to leave out [default: 0]",
+        "Sites to skip, up to 4294967295 [default: 0]",
     );
-    let table = flag(alloc, "table", "Write the table alone");
+    let table = flag(alloc, "table", "Write only the table");
     let line = Ok(bare_line(alloc, "drops", help::DROPS));
     let line = with_option(line, count);
     let line = with_option(line, seed);
@@ -167,9 +167,9 @@ fn identity_line<'a>(alloc: Global) -> Result<Command<'a>, AllocError>
     ensures line { IfOk result (λ c. app_of c ≡ identity_line) }
     ensures local { IfOk result (λ c. (out-Command c).has_globals ≡ false) }
 {
-    let width = side(alloc, "width", "Sites in a row, from 1 to 256");
-    let height = side(alloc, "height", "Rows, from 1 to 256");
-    let cylinder = flag(alloc, "cylinder", "Let the rows go round");
+    let width = side(alloc, "width", "Number of columns, from 1 to 256");
+    let height = side(alloc, "height", "Number of rows, from 1 to 256");
+    let cylinder = flag(alloc, "cylinder", "Make the rows wrap around");
     let line = Ok(bare_line(alloc, "identity", help::IDENTITY));
     let line = with_option(line, width);
     let line = with_option(line, height);
@@ -197,7 +197,7 @@ fn lab_line<'a>(alloc: Global) -> Result<Command<'a>, AllocError>
     let workers = setting(alloc, "workers", 1, MOST_WORKERS, "1", help::WORKERS);
     let sweeps = setting(alloc, "sweeps", 0, MOST_SWEEPS, "0", help::SWEEPS);
     let observers = setting(alloc, "observers", 0, MOST_OBSERVERS, "0", help::OBSERVERS);
-    let journal = flag(alloc, "journal", "Write a line for each drop, too");
+    let journal = flag(alloc, "journal", "Also write a line for each drop");
     let line = Ok(bare_line(alloc, "lab", help::LAB));
     let line = with_option(line, seed);
     let line = with_option(line, droppers);

@@ -21,36 +21,36 @@ use thiserror::Error;
 /// Why a command ended without writing all of its text.
 #[derive(Debug, Drop, Error)]
 pub enum DeskFault {
-    #[error("width or height outside 1 to 256")]
+    #[error("width or height is outside 1 to 256")]
     Side,
     #[error("wrong number of heights")]
     Length,
-    #[error("more grains than the limit")]
+    #[error("too many grains")]
     TooManyGrains,
     #[error("out of memory")]
     Memory,
-    #[error("one drop more would exceed the grain limit")]
+    #[error("one more drop would exceed the grain limit")]
     Full,
-    #[error("a height over 3")]
+    #[error("a height is over 3")]
     Unstable,
-    #[error("a forbidden set exists")]
+    #[error("there is a forbidden set")]
     NotRecurrent,
-    #[error("two piles of different shapes")]
+    #[error("the two piles have different shapes")]
     Shapes,
-    #[error("the album's place of an epoch was set before")]
+    #[error("an epoch's place in the album is already set")]
     Taken,
     /// A byte that cannot be in the text of a pile, with its offset; or fewer than two numbers, with the text's length.
-    #[error("not the text of a pile, at byte {0}")]
+    #[error("unexpected byte or end of input, at byte {0}")]
     Text(usize),
     /// A number over the grain limit, with the offset of its first byte.
-    #[error("a number over the limit, at byte {0}")]
+    #[error("the number at byte {0} is over the grain limit")]
     TooLarge(usize),
     #[error("the reader failed")]
     Read,
     /// The writer failed, with the number of bytes it took.
     #[error("the writer failed after {0} bytes")]
     Write(usize),
-    #[error("more input than the limit")]
+    #[error("too much input")]
     TooLong,
     /// The command line was rejected, or it asks for help.
     #[error("{0}")]
@@ -58,10 +58,10 @@ pub enum DeskFault {
     /// The command line combines options that exclude each other.
     #[error("{0}")]
     Clash(Conflict),
-    #[error("a cylinder of width below 3")]
+    #[error("a cylinder is less than 3 wide")]
     Narrow,
     /// A drop at a site outside the grid, with its index among the drops.
-    #[error("no such site, at drop {0}")]
+    #[error("drop {0} is outside the grid")]
     NoSite(usize),
 }
 

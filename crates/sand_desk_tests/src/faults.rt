@@ -32,34 +32,38 @@ fn a_line_that_does_not_fit(rt: HostRuntime) {
 #[test]
 fn what_a_fault_says(rt: HostRuntime) -> Result<(), Fail> {
     for (fault, number, want) in [
-        (DeskFault::Side, 1, "width or height outside 1 to 256"),
+        (DeskFault::Side, 1, "width or height is outside 1 to 256"),
         (DeskFault::Length, 2, "wrong number of heights"),
-        (DeskFault::TooManyGrains, 3, "more grains than the limit"),
+        (DeskFault::TooManyGrains, 3, "too many grains"),
         (DeskFault::Memory, 4, "out of memory"),
         (
             DeskFault::Full,
             6,
-            "one drop more would exceed the grain limit",
+            "one more drop would exceed the grain limit",
         ),
-        (DeskFault::Unstable, 7, "a height over 3"),
-        (DeskFault::NotRecurrent, 8, "a forbidden set exists"),
-        (DeskFault::Shapes, 9, "two piles of different shapes"),
+        (DeskFault::Unstable, 7, "a height is over 3"),
+        (DeskFault::NotRecurrent, 8, "there is a forbidden set"),
+        (DeskFault::Shapes, 9, "the two piles have different shapes"),
         (
             DeskFault::Taken,
             17,
-            "the album's place of an epoch was set before",
+            "an epoch's place in the album is already set",
         ),
-        (DeskFault::Text(7), 18, "not the text of a pile, at byte 7"),
+        (
+            DeskFault::Text(7),
+            18,
+            "unexpected byte or end of input, at byte 7",
+        ),
         (
             DeskFault::TooLarge(7),
             19,
-            "a number over the limit, at byte 7",
+            "the number at byte 7 is over the grain limit",
         ),
         (DeskFault::Read, 20, "the reader failed"),
         (DeskFault::Write(7), 21, "the writer failed after 7 bytes"),
-        (DeskFault::TooLong, 22, "more input than the limit"),
-        (DeskFault::Narrow, 24, "a cylinder of width below 3"),
-        (DeskFault::NoSite(7), 25, "no such site, at drop 7"),
+        (DeskFault::TooLong, 22, "too much input"),
+        (DeskFault::Narrow, 24, "a cylinder is less than 3 wide"),
+        (DeskFault::NoSite(7), 25, "drop 7 is outside the grid"),
     ] {
         assert_eq!(rt; fault.number(), number);
         let sentence = format!(in rt.alloc(); "{fault}")?;

@@ -26,7 +26,7 @@ fn helps<T: Threads + Sync>(
 
 #[test]
 fn a_writer_that_stops_in_help(rt: HostRuntime) -> Result<(), Fail> {
-    let start = b"Settles a pile: topples sites until each holds at most 3 grains\n";
+    let start = b"Settles a pile: topples sites until each has at most 3 grains\n";
     for room in 0..start.len() {
         let mut writer = Sluggish::new(rt.alloc(), room);
         assert_eq!(rt; helps(&rt, rt.alloc(), &mut writer)?, Some(room));

@@ -9,11 +9,11 @@ use thiserror::Error;
 
 #[derive(Debug, Drop, Error)]
 pub enum GroupFault {
-    #[error("a height over 3")]
+    #[error("a height is over 3")]
     Unstable,
-    #[error("a forbidden set exists")]
+    #[error("there is a forbidden set")]
     NotRecurrent,
-    #[error("two piles of different shapes")]
+    #[error("the two piles have different shapes")]
     Shapes,
     #[error(transparent)]
     Memory(AllocError),

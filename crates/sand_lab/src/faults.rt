@@ -10,15 +10,15 @@ use thiserror::Error;
 /// Why a plan, an album or a run was refused.
 #[derive(Debug, Drop, Error)]
 pub enum LabFault {
-    #[error("more grains than the limit, with all drops")]
+    #[error("the pile and all drops exceed the grain limit")]
     TooManyGrains,
     #[error(transparent)]
     Memory(AllocError),
-    #[error("a field of the plan outside its limit")]
+    #[error("a field of the plan is out of range")]
     Plan,
-    #[error("an album that hasn't one place per epoch")]
+    #[error("the album does not have one place per epoch")]
     AlbumSize,
-    #[error("the place of the epoch was set before")]
+    #[error("an epoch's place in the album is already set")]
     Taken,
 }
 

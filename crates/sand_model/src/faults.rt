@@ -6,9 +6,9 @@ use thiserror::Error;
 /// Why a shape was not made.
 #[derive(Clone, Copy, Debug, PartialEq, Eq, Error)]
 pub enum ShapeFault {
-    #[error("width or height outside 1 to 256")]
+    #[error("width or height is outside 1 to 256")]
     Side,
-    #[error("a cylinder of width below 3")]
+    #[error("a cylinder is less than 3 wide")]
     Narrow,
 }
 
@@ -17,7 +17,7 @@ pub enum ShapeFault {
 pub enum PileFault {
     #[error("wrong number of heights")]
     Length,
-    #[error("more grains than the limit")]
+    #[error("too many grains")]
     TooManyGrains,
     #[error(transparent)]
     Memory(AllocError),
@@ -26,7 +26,7 @@ pub enum PileFault {
 /// Why a site did not topple.
 #[derive(Clone, Copy, Debug, PartialEq, Eq, Error)]
 pub enum ToppleFault {
-    #[error("height below 4")]
+    #[error("the site has fewer than 4 grains")]
     TooLow,
 }
 

@@ -16,7 +16,7 @@ pub enum SettleFault {
 /// Why a grain was not dropped.
 #[derive(Debug, Drop, Error)]
 pub enum OneFault {
-    #[error("one drop more would exceed the grain limit")]
+    #[error("one more drop would exceed the grain limit")]
     Full,
     #[error(transparent)]
     Memory(AllocError),

@@ -11,7 +11,7 @@ use thiserror::Error;
 /// Why a shared pile could not be made, or a record copied or continued.
 #[derive(Debug, Drop, Error)]
 pub enum SharedFault {
-    #[error("more grains than the limit, with the quota")]
+    #[error("the pile and its drops exceed the grain limit")]
     TooManyGrains,
     #[error(transparent)]
     Memory(AllocError),
@@ -20,7 +20,7 @@ pub enum SharedFault {
 /// Why a pass could not be split.
 #[derive(Debug, Drop, Error)]
 pub enum SplitFault {
-    #[error("quota over what is left")]
+    #[error("the quota exceeds what is left")]
     TooMuch,
     #[error("more rows than the pass holds")]
     Rows,
@@ -31,7 +31,7 @@ pub enum SplitFault {
 /// Why two passes could not be joined.
 #[derive(Debug, Drop, Error)]
 pub enum JoinFault {
-    #[error("both passes have rows, and they do not touch")]
+    #[error("the rows of the two passes are not adjacent")]
     Apart,
     #[error(transparent)]
     Memory(AllocError),
@@ -47,7 +47,7 @@ pub enum DropFault {
 /// Why a shared pile could not be closed.
 #[derive(Debug, Drop, Error)]
 pub enum CloseFault {
-    #[error("quota, receipts or rows that the pass has not gathered")]
+    #[error("the pass is missing quota, receipts or rows")]
     Missing,
     #[error(transparent)]
     Memory(AllocError),

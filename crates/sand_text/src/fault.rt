@@ -11,22 +11,22 @@ use thiserror::Error;
 /// What is wrong with a text.
 #[derive(Clone, Copy, Debug, PartialEq, Eq, Error)]
 pub enum TextFault {
-    /// A byte that is in no text of a pile, with its offset; or fewer than two numbers, with the length of the text.
-    #[error("not the text of a pile, at byte {0}")]
+    /// A byte that cannot be in the text of a pile, with its offset; or fewer than two numbers, with the length of the text.
+    #[error("unexpected byte or end of input, at byte {0}")]
     Text(usize),
     /// A number over the grain limit, with the offset of its first byte.
-    #[error("a number over the limit, at byte {0}")]
+    #[error("the number at byte {0} is over the grain limit")]
     TooLarge(usize),
-    #[error("width or height outside 1 to 256")]
+    #[error("width or height is outside 1 to 256")]
     Side,
-    #[error("a cylinder of width below 3")]
+    #[error("a cylinder is less than 3 wide")]
     Narrow,
     #[error("wrong number of heights")]
     Length,
-    #[error("more grains than the limit")]
+    #[error("too many grains")]
     TooManyGrains,
     /// A drop on a site outside the grid, with its index among the drops, from 0.
-    #[error("drop {0} is on no site of the grid")]
+    #[error("drop {0} is outside the grid")]
     NoSite(usize),
 }
 
@@ -49,7 +49,7 @@ pub enum StreamFault {
     /// The writer failed after it took this many bytes.
     #[error("the writer failed after {0} bytes")]
     Write(usize),
-    #[error("more input than the limit")]
+    #[error("too much input")]
     TooLong,
 }
 

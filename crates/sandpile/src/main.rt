@@ -32,7 +32,7 @@ fn main(rt: HostRuntime) -> ExitCode {
             return end(&rt, &mut rt.stderr(), &DeskFault::Memory);
         }
         Err(_) => {
-            let _ = rt.eprintln("error: an argument is not text");
+            let _ = rt.eprintln("error: an argument is not valid UTF-8");
             return ExitCode::from(2);
         }
     };
@@ -117,10 +117,10 @@ fn answer<T: Threads + Sync, G: Gate, R: Read, W: Write>(
 fn refuses<R: Eprint>(rt: &R, request: Request<'_>) -> bool {
     let _ = match request {
         Request::NoFault(word) => eprintln!(rt;
-            "error: '{word}' is no fault of a command; 'sandpile explain' lists them"
+            "error: '{word}' is not a fault of a command; 'sandpile explain' lists them all"
         ),
         Request::ManyFaults => eprintln!(rt;
-            "error: 'explain' takes one number or name of a fault"
+            "error: 'explain' takes at most one fault number or name"
         ),
         _ => return false,
     };
