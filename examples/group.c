@@ -1,4 +1,4 @@
-/* The order of a pile in the group of recurrent piles on 3 by 3, which has 100,352 = 2^11 * 7^2 elements. */
+/* The order of a pile in the sandpile group of 3 by 3, which has 100,352 = 2^11 * 7^2 elements. */
 #include "sandpile.h"
 #include <inttypes.h>
 #include <stdio.h>

@@ -42,14 +42,14 @@ static inline const char *sandpile_explain(uint32_t fault) {
     case 0: return "no fault";
     case SANDPILE_SIDE: return "a side is outside 1 to 256";
     case SANDPILE_LENGTH: return "an array has the wrong length";
-    case SANDPILE_TOO_MANY_GRAINS: return "the heights are over 1,099,511,627,775 grains in all";
+    case SANDPILE_TOO_MANY_GRAINS: return "the pile has more than 1,099,511,627,775 grains";
     case SANDPILE_MEMORY: return "an allocation failed";
-    case SANDPILE_FULL: return "the heights and the drops are over 1,099,511,627,775 grains in all";
+    case SANDPILE_FULL: return "the pile and the drops exceed 1,099,511,627,775 grains together";
     case SANDPILE_UNSTABLE: return "a height is over 3";
-    case SANDPILE_NOT_RECURRENT: return "a set of sites is forbidden";
+    case SANDPILE_NOT_RECURRENT: return "there is a forbidden set";
     case SANDPILE_NARROW: return "a cylinder is less than 3 wide";
     case SANDPILE_NO_SITE: return "a drop is outside the grid";
-    default: return "no fault has this number";
+    default: return "unknown fault number";
     }
 }
 
@@ -88,7 +88,7 @@ uint32_t sandpile_sites(size_t width, size_t height, bool cylinder, uint64_t see
 uint32_t sandpile_burn(size_t width, size_t height, bool cylinder, const uint64_t *heights, size_t heights_length,
                        size_t *found, size_t found_length, size_t *count, bool *recurrent);
 
-/* Writes the identity of the group of recurrent piles. SIDE, NARROW, LENGTH, MEMORY. */
+/* Writes the identity of the sandpile group. SIDE, NARROW, LENGTH, MEMORY. */
 uint32_t sandpile_identity(size_t width, size_t height, bool cylinder, uint64_t *heights, size_t heights_length);
 
 /* Replaces a pile with the recurrent pile equivalent to it. SIDE, NARROW, LENGTH, TOO_MANY_GRAINS, MEMORY. */

@@ -1,7 +1,7 @@
 """Abelian sandpiles on grids with open edges and on cylinders, for NumPy arrays.
 
 The results are proved: libsandpile, which computes them, is written in Rattle (Rust with contracts), and each of its
-exports has a contract, from the settled pile with the least odometer to the group of recurrent piles. This module
+exports has a contract, from the settled pile with the least odometer to the sandpile group. This module
 checks the arguments and passes them on; it is tested, not proved.
 
 A pile is an array of shape (height, width) and any integer type; sides are from 1 to 256. Returned arrays are new, of

@@ -18,10 +18,10 @@ _MOST_SIDE = 256
 def _integers(values: ArrayLike, what: str) -> NDArray[Any]:
     """The values as an array, which must have one of NumPy's integer types."""
     if isinstance(values, np.ma.MaskedArray):
-        raise TypeError(f"{what} are a plain array, and this one has a mask")
+        raise TypeError(f"{what} must be a plain array, not a masked one")
     array = np.asarray(values)
     if array.size and array.dtype.kind not in "iu":
-        raise TypeError(f"{what} are integers of at most 64 bits, and this array has the type {array.dtype}")
+        raise TypeError(f"{what} must be integers of at most 64 bits, but this array has type {array.dtype}")
     return array
 
 
@@ -29,11 +29,11 @@ def heights_of(pile: ArrayLike) -> Heights:
     """A new contiguous array of the heights, checked to be a two-dimensional array of non-negative integers."""
     array = _integers(pile, "heights")
     if array.ndim != 2:
-        raise TypeError(f"a pile has the shape (height, width), and this array has {array.ndim} dimensions")
+        raise TypeError(f"a pile must have shape (height, width), but this array has {array.ndim} dimensions")
     check_sides(array.shape)
     if array.dtype.kind == "i" and array.min() < 0:
         row, column = np.argwhere(array < 0)[0]
-        raise TypeError(f"heights are 0 or more, and the one in row {row}, column {column} is {array[row, column]}")
+        raise TypeError(f"heights must be 0 or more, but the one in row {row}, column {column} is {array[row, column]}")
     return np.array(array, dtype=np.uint64, order="C")
 
 
@@ -48,7 +48,7 @@ def shape_of(shape: tuple[int, int]) -> tuple[int, int]:
     try:
         height, width = map(operator.index, shape)
     except (TypeError, ValueError):
-        raise TypeError(f"a shape is two integers, (height, width), and not {shape!r}") from None
+        raise TypeError(f"a shape must be two integers, (height, width), not {shape!r}") from None
     check_sides((height, width))
     return height, width
 
@@ -57,12 +57,14 @@ def sites_of(sites: ArrayLike, count: int) -> NDArray[np.uintp]:
     """A new contiguous array of site numbers, each below `count`."""
     array = _integers(sites, "sites")
     if array.ndim > 1:
-        raise TypeError(f"sites are numbers in a list, row * width + column, and this array has {array.ndim} dimensions")
+        raise TypeError(
+            f"sites must be a list of numbers, row * width + column, but this array has {array.ndim} dimensions"
+        )
     array = np.atleast_1d(array)
     outside = np.flatnonzero((array < 0) | (array >= count))
     if outside.size:
         at = outside[0]
-        raise Fault(25, f"drop {at} is at site {array[at]}, and the grid has the sites 0 to {count - 1}")
+        raise Fault(25, f"drop {at} is at site {array[at]}, but the grid has only sites 0 to {count - 1}")
     return np.array(array, dtype=np.uintp, order="C")
 
 
@@ -71,7 +73,7 @@ def count_of(number: int, what: str, most: int = 2**64 - 1) -> int:
     try:
         value = operator.index(number)
     except TypeError:
-        raise TypeError(f"{what} is an integer, and not {number!r}") from None
+        raise TypeError(f"{what} must be an integer, not {number!r}") from None
     if not 0 <= value <= most:
-        raise Fault(15, f"{what} is {value}, and must be from 0 to {most}")
+        raise Fault(15, f"{what} is {value}, but must be from 0 to {most}")
     return value

@@ -52,8 +52,9 @@ def _load() -> ctypes.CDLL:
     for name, takes in _TAKES.items():
         export = getattr(library, f"sandpile_{name}")
         export.argtypes, export.restype = takes, ctypes.c_uint32
-    if library.sandpile_version() // 10000 != _MAJOR:
-        raise ImportError(f"{place} has version {library.sandpile_version()}, and this module needs {_MAJOR}0000 or later")
+    major = library.sandpile_version() // 10000
+    if major != _MAJOR:
+        raise ImportError(f"{place} has version {major}.x, but this module needs version {_MAJOR}.x")
     return library
 
 

@@ -221,7 +221,7 @@ class Drive:
         try:
             table = np.empty(n, AVALANCHE)
         except MemoryError:
-            raise Fault(4, f"there is no memory for a table of {n} drops") from None
+            raise Fault(4, f"not enough memory for a table of {n} drops") from None
         self._state = replace(self._state, table=table[:0])
         with Bar(n, progress) as bar:
             for begin, end in _blocks(n, self._state.pile.size):
@@ -312,11 +312,11 @@ class Drive:
                 pile, odometer = heights_of(saved["pile"]), heights_of(saved["odometer"])
                 numbers = [int(saved[name]) for name in _NUMBERS]
         except (KeyError, ValueError, EOFError) as error:
-            raise TypeError(f"{path} is no run that was saved: {error}") from None
+            raise TypeError(f"{path} is not a saved run: {error}") from None
         seed, stream, cylinder, grains, lost, drops, drawn = numbers
         run = cls(pile, seed, stream, bool(cylinder))
         if odometer.shape != pile.shape or not np.array_equal(run.pile, pile):
-            raise TypeError(f"{path} is no run that was saved: its pile or odometer is another")
+            raise TypeError(f"{path} is not a saved run: its pile or odometer is invalid")
         run._start_grains = grains
         run._state = _State(pile, odometer, lost, drops, drawn, np.empty(0, AVALANCHE))
         return run

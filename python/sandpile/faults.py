@@ -6,16 +6,16 @@ from __future__ import annotations
 _FAULTS = {
     1: ("Side", "a side is outside 1 to 256"),
     2: ("Length", "an array has the wrong length"),
-    3: ("TooManyGrains", "the heights are over 1,099,511,627,775 grains in all"),
+    3: ("TooManyGrains", "the pile has more than 1,099,511,627,775 grains"),
     4: ("Memory", "an allocation failed"),
-    6: ("Full", "the heights and the drops are over 1,099,511,627,775 grains in all"),
+    6: ("Full", "the pile and the drops exceed 1,099,511,627,775 grains together"),
     7: ("Unstable", "a height is over 3"),
-    8: ("NotRecurrent", "a set of sites is forbidden"),
-    9: ("Shapes", "two piles have different shapes or edges"),
-    15: ("Plan", "a parameter of the run is outside its limits"),
+    8: ("NotRecurrent", "there is a forbidden set"),
+    9: ("Shapes", "the two piles have different shapes or edges"),
+    15: ("Plan", "a parameter of the run is out of range"),
     19: ("TooLarge", "a height is over 1,099,511,627,775"),
-    22: ("TooLong", "the pile takes more than 1,048,576 bytes as text"),
-    23: ("Usage", "the program refuses its options"),
+    22: ("TooLong", "the pile is longer than 1,048,576 bytes as text"),
+    23: ("Usage", "the program rejects its options"),
     24: ("Narrow", "a cylinder is less than 3 wide"),
     25: ("NoSite", "a drop is outside the grid"),
 }
@@ -44,7 +44,7 @@ class Fault(ValueError):
     """
 
     def __init__(self, number: int, sentence: str | None = None, name: str | None = None) -> None:
-        known_name, meaning = _FAULTS.get(number, ("Unknown", "the library reports a fault that this module does not know"))
+        known_name, meaning = _FAULTS.get(number, ("Unknown", "the library reported a fault unknown to this module"))
         self.number = number
         self.name = name or known_name
         self.sentence = sentence or meaning

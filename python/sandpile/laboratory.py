@@ -46,7 +46,7 @@ def _program() -> str:
     """The program: the one named by SANDPILE, else that of the checkout, else the one on the path."""
     named = os.environ.get("SANDPILE") or (str(_CHECKOUT) if _CHECKOUT.exists() else shutil.which("sandpile"))
     if not named:
-        raise FileNotFoundError("there is no program sandpile: put it on the path, or name it in the variable SANDPILE")
+        raise FileNotFoundError("the program sandpile was not found: put it on the path, or name it in SANDPILE")
     return named
 
 

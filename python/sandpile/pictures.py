@@ -45,10 +45,10 @@ def show(pile: ArrayLike, ax: Any = None) -> Any:
         import matplotlib.pyplot as plt
         from matplotlib.colors import BoundaryNorm, ListedColormap
     except ImportError:
-        raise ImportError("show draws by matplotlib, which is not installed") from None
+        raise ImportError("show needs matplotlib, which is not installed") from None
     heights = np.asarray(pile)
     if heights.ndim != 2:
-        raise TypeError(f"a pile has the shape (height, width), and this array has {heights.ndim} dimensions")
+        raise TypeError(f"a pile must have shape (height, width), but this array has {heights.ndim} dimensions")
     if ax is None:
         inches = max(1, _PIXELS // max(*heights.shape, 1)) / _PIXELS_AN_INCH
         figure = plt.figure(figsize=(heights.shape[1] * inches, heights.shape[0] * inches), dpi=_PIXELS_AN_INCH)
