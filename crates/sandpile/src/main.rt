@@ -3,14 +3,16 @@
 //! follows the line, and long commands show their progress there.
 #![tactic(auto)]
 
-ghost use Rattle.std.specs.Prelude.{◌≡◌, ◌≢◌, ◌<◌, IfErr, false, true, length};
+ghost use Rattle.std.specs.Prelude.{◌≡◌, ◌≢◌, ◌<◌, IfErr, length};
 ghost use Rattle.std.specs.Process.{exit_status};
 ghost use Rattle.sand_desk.specs.Faults.{status_of};
 
+mod arguments;
 mod kept;
 mod progress;
 mod request;
 
+use arguments::{is_nothing, words_of};
 use kept::Kept;
 use progress::{Cleared, Progress, work_of};
 use request::{Request, request_of};
@@ -18,15 +20,15 @@ use sand_advice::{advice, tip, write_explain_help, write_explained};
 use sand_desk::{DeskFault, run_gated_command, show_help, status, write_fault, write_version};
 use sand_lab::{Gate, Open};
 use std::alloc::Global;
+use std::io;
 use std::io::{IsTerminal, Read, Write};
 use std::process::ExitCode;
-use std::rt::{Clock, Env};
+use std::rt::Clock;
 use std::thread::Threads;
-use std::{env, io};
 
 fn main(rt: HostRuntime) -> ExitCode {
     let alloc = rt.alloc();
-    let words = match words_of(&rt) {
+    let words = match words_of(&rt, alloc) {
         Ok(words) => words,
         Err(error) if error.kind() == io::ErrorKind::OutOfMemory => {
             return end(&rt, &mut rt.stderr(), &DeskFault::Memory);
@@ -142,40 +144,6 @@ fn advise<R: Eprint>(
     };
     if let Ok(text) = said {
         let _ = eprint!(rt; "{text}");
-    }
-}
-
-fn words_of(rt: &(impl Env + AllocGlobal)) -> io::Result<Vec<String>> {
-    let args = env::args(rt)?;
-    let mut words = Vec::with_capacity(rt.alloc(), args.len())?;
-    for word in args {
-        words.push(word)?;
-    }
-    if asks_for_help(words.as_slice()) {
-        let _ = words.remove(1);
-        words.push(String::from_str(rt.alloc(), "--help")?)?;
-    }
-    Ok(words)
-}
-
-// Whether the words are `help`, alone or with a command. They are then read as `--help`, alone or after the command.
-fn asks_for_help(words: &[String]) -> bool
-    ensures { result ≡ true → 1 < length words.now }
-{
-    match words {
-        [_, word] | [_, word, _] => word.as_str() == "help",
-        _ => false,
-    }
-}
-
-// Whether the program was started without any word. Current kernels then pass one empty word.
-fn is_nothing(words: &[String]) -> bool
-    ensures { result ≡ false → 0 < length words.now }
-{
-    match words {
-        [] => true,
-        [only] => only.is_empty(),
-        _ => false,
     }
 }
 
