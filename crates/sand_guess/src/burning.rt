@@ -4,12 +4,13 @@
 //! sites that do not burn are the greatest forbidden set of sites that have toppled, and each of them can be untoppled
 //! once: heights stay at most 3. If all burn, nothing can be untoppled, and the order is the proof.
 //!
-//! The grid has a border here (`border`). If rows wrap around, a row's border has the marks of its other end.
+//! While sites burn, each has a cell. A row of cells has one more at either end, so a cell's neighbours are found
+//! without a division.
 
 ghost use Rattle.std.specs.Prelude.{◌≤◌, ◌<◌};
 
-use crate::border::{Border, cell_number};
-use crate::frame::{Frame, run, run_mut};
+use crate::frame::{Frame, run_mut};
+use crate::neighbours::add_neighbours;
 use std::alloc::{AllocError, Global};
 
 // The offset of a height in a byte.
@@ -18,19 +19,27 @@ const LEVEL: u8 = 128;
 // A height that does not fit into a byte loses its other bits.
 const BYTE_BITS: u64 = 0xff;
 
-// The marks of cells: burnt or never toppled, and toppled.
-const AWAY: u8 = 0;
+// More bits than the index of a cell has: there are at most 258 * 256 cells.
+const CELL_BITS: usize = 0xff_ffff;
 
-const TOPPLED: u8 = 1;
+// The room of the cell at an open end of a row. Nothing that happens to a cell leads to the room of an end.
+const OUTSIDE: u8 = 16;
 
-/// A fire over a grid with a border.
+// The room of the cells at the ends of a row that wraps around. Each stands for the site at the other end.
+const WEST_END: u8 = 32;
+
+const EAST_END: u8 = 64;
+
+/// A fire over a grid.
 #[derive(Drop)]
 pub(crate) struct Fire {
-    pub(crate) border: Border,
+    frame: Frame,
+    /// By site, 1 if it has toppled and did not burn in the last fire, and otherwise 0.
     marks: Vec<u8>,
     /// By site, its height plus `LEVEL`.
     heights: Vec<u8>,
-    /// By cell, `LEVEL` plus the height less the number of marked neighbours, and 0 where nothing toppled.
+    /// By cell, `LEVEL` plus the height less the number of marked neighbours that do not burn yet. So a cell burns from
+    /// `LEVEL` on. Near 0 where nothing toppled.
     room: Vec<u8>,
     /// For each site of one row, the number of its marked neighbours.
     around: Vec<u8>,
@@ -39,59 +48,74 @@ pub(crate) struct Fire {
     burnt: usize,
 }
 
-fn add_row(sums: &mut [u8], marks: &[u8]) {
-    for x in 0..sums.len().min(marks.len()) {
-        sums[x] = sums[x].wrapping_add(marks[x]);
+fn put_heights(bytes: &mut [u8], heights: &[i64]) {
+    for (byte, height) in bytes.iter_mut().zip(heights) {
+        let raised = height.wrapping_add(i64::from(LEVEL)).cast_unsigned();
+        *byte = (raised & BYTE_BITS) as u8;
     }
 }
 
-// For each cell of the row that begins at `first`, the number of its marked neighbours.
-fn count_around(border: &Border, marks: &[u8], first: usize, sums: &mut [u8]) {
-    sums.fill(0);
-    for beside in &border.around(first) {
-        add_row(sums, run(marks, *beside, border.frame.width));
-    }
-}
-
-fn mark_row(marks: &mut [u8], counts: &[i64], least: i64) -> u32 {
+// Marks the sites with counts above the least, and returns their number.
+fn mark(marks: &mut [u8], counts: &[i64], least: i64) -> u32 {
     let mut found = 0u32;
-    for x in 0..marks.len().min(counts.len()) {
-        let has_toppled = counts[x] > least;
-        marks[x] = u8::from(has_toppled);
+    for (mark, count) in marks.iter_mut().zip(counts) {
+        let has_toppled = *count > least;
+        *mark = u8::from(has_toppled);
         found = found.wrapping_add(u32::from(has_toppled));
     }
     found
 }
 
-fn set_room(room: &mut [u8], heights: &[u8], marks: &[u8], around: &[u8]) {
-    let cells = room.len().min(heights.len());
-    for x in 0..cells.min(marks.len()).min(around.len()) {
-        let is_marked = 0u8.wrapping_sub(marks[x]);
-        room[x] = heights[x].wrapping_sub(around[x]) & is_marked;
+// Marks the ends of the rows of cells.
+fn set_ends(room: &mut [u8], frame: Frame) {
+    let (west, east) = if frame.goes_round {
+        (WEST_END, EAST_END)
+    } else {
+        (OUTSIDE, OUTSIDE)
+    };
+    for row in room.chunks_exact_mut(frame.width + 2) {
+        if let [first, .., last] = row {
+            *first = west;
+            *last = east;
+        }
     }
 }
 
-fn put_heights(bytes: &mut [u8], heights: &[i64]) {
-    for x in 0..bytes.len().min(heights.len()) {
-        let byte = heights[x].wrapping_add(i64::from(LEVEL)).cast_unsigned();
-        bytes[x] = (byte & BYTE_BITS) as u8;
+fn set_room(cells: &mut [u8], heights: &[u8], marks: &[u8], around: &[u8]) {
+    let sites = cells.iter_mut().skip(1).zip(heights);
+    for (((room, height), mark), around) in sites.zip(marks).zip(around) {
+        let is_marked = 0u8.wrapping_sub(*mark);
+        *room = height.wrapping_sub(*around) & is_marked;
     }
 }
 
-fn untopple_row(heights: &mut [u8], marks: &[u8], around: &[u8]) {
-    for x in 0..heights.len().min(marks.len()).min(around.len()) {
-        let back = (marks[x] << 2).wrapping_sub(around[x]);
-        heights[x] = heights[x].wrapping_add(back);
+// Unmarks what burns.
+fn unmark(marks: &mut [u8], cells: &[u8]) {
+    for (mark, room) in marks.iter_mut().zip(cells.iter().skip(1)) {
+        *mark &= u8::from(*room < LEVEL);
     }
 }
 
-fn lower_row(counts: &mut [i64], marks: &[u8]) {
-    for x in 0..counts.len().min(marks.len()) {
-        counts[x] = counts[x].wrapping_sub(i64::from(marks[x]));
+fn lower(counts: &mut [i64], marks: &[u8]) {
+    for (count, mark) in counts.iter_mut().zip(marks) {
+        *count = count.wrapping_sub(i64::from(*mark));
     }
 }
 
-// Appends a cell if it burns, and returns the new number of burnt cells.
+fn untopple(heights: &mut [u8], marks: &[u8], around: &[u8]) {
+    for ((height, mark), around) in heights.iter_mut().zip(marks).zip(around) {
+        let back = (*mark << 2).wrapping_sub(*around);
+        *height = height.wrapping_add(back);
+    }
+}
+
+// The index of a cell in the order. The mask changes nothing; it spares a proof.
+#[inline(always)]
+fn cell_number(at: usize) -> u32 {
+    (at & CELL_BITS) as u32
+}
+
+// Appends a cell to the order if it burns, and returns the new number of burnt cells.
 #[inline(always)]
 fn list_if(order: &mut [u32], burnt: usize, at: usize, burns: bool) -> usize {
     if burnt >= order.len() {
@@ -101,29 +125,23 @@ fn list_if(order: &mut [u32], burnt: usize, at: usize, burns: bool) -> usize {
     burnt.wrapping_add(usize::from(burns))
 }
 
-// Appends the cells of a row that burn from the start, and returns the new number of burnt cells.
-fn kindle_row(row: &[u8], order: &mut [u32], burnt: usize, first: usize) -> usize {
-    let mut burnt = burnt;
-    for (x, room) in row.iter().enumerate() {
-        burnt = list_if(order, burnt, first.wrapping_add(x), *room >= LEVEL);
+// Lists the cells that burn from the start, and returns their number.
+fn kindle(room: &[u8], order: &mut [u32]) -> usize {
+    let mut burnt = 0usize;
+    for (at, room) in room.iter().enumerate() {
+        burnt = list_if(order, burnt, at, *room >= LEVEL);
     }
     burnt
 }
 
-fn push_marks(left: &mut Vec<f64>, marks: &[u8]) -> Result<(), AllocError> {
-    for mark in marks {
-        left.push(f64::from(*mark))?;
-    }
-    Ok(())
-}
-
 // A neighbour of this cell burns. If its site can now burn, the site is listed. An unmarked cell never reaches `LEVEL`.
 #[inline(always)]
-fn warm(border: &Border, room: &mut [u8], order: &mut [u32], burnt: usize, at: usize) -> usize {
-    let home = if border.frame.goes_round {
-        border.home_of(at)
-    } else {
-        at
+fn warm(room: &mut [u8], order: &mut [u32], burnt: usize, at: usize, width: usize) -> usize {
+    let home = match room.get(at).copied() {
+        Some(WEST_END) => at.wrapping_add(width),
+        Some(EAST_END) => at.wrapping_sub(width),
+        Some(OUTSIDE) | None => return burnt,
+        Some(_) => at,
     };
     if home >= room.len() {
         return burnt;
@@ -135,13 +153,13 @@ fn warm(border: &Border, room: &mut [u8], order: &mut [u32], burnt: usize, at: u
 
 impl Fire {
     pub(crate) fn new(alloc: Global, frame: Frame) -> Result<Fire, AllocError> {
-        let border = Border::new(alloc, frame)?;
-        let cells = border.cells();
+        let mut room = vec![in alloc; 0u8; (frame.width + 2) * frame.height]?;
+        set_ends(&mut room, frame);
         Ok(Fire {
-            border,
-            marks: vec![in alloc; AWAY; cells]?,
+            frame,
+            marks: vec![in alloc; 0u8; frame.sites()]?,
             heights: vec![in alloc; LEVEL; frame.sites()]?,
-            room: vec![in alloc; 0u8; cells]?,
+            room,
             around: vec![in alloc; 0u8; frame.width]?,
             // One more than the sites, since a cell is written before it is known whether it burns.
             order: vec![in alloc; 0u32; frame.sites() + 1]?,
@@ -149,100 +167,62 @@ impl Fire {
         })
     }
 
-    // In each row that wraps around, copies the marks of each end into the border at the other end.
-    fn join_ends(&mut self) {
-        if !self.border.frame.goes_round {
-            return;
-        }
-        let width = self.border.frame.width;
-        for y in 0..self.border.frame.height {
-            let first = self.border.first_of(y);
-            let row = run_mut(&mut self.marks, first.wrapping_sub(1), width + 2);
-            if row.len() >= width + 2 {
-                row[0] = row[width];
-                row[width + 1] = row[1];
-            }
-        }
-    }
-
-    // Marks the sites with counts above the least, and returns their number.
-    fn mark(&mut self, counts: &[i64], least: i64) -> u32 {
-        let width = self.border.frame.width;
-        let mut found = 0u32;
-        for y in 0..self.border.frame.height {
-            let first = self.border.first_of(y);
-            let row = run_mut(&mut self.marks, first, width);
-            let here = run(counts, y.wrapping_mul(width), width);
-            found = found.wrapping_add(mark_row(row, here, least));
-        }
-        self.join_ends();
-        found
+    // Counts the marked neighbours of the sites of a row.
+    fn count_around(&mut self, y: usize) {
+        self.around.fill(0);
+        add_neighbours(self.frame, &self.marks, y, &mut self.around);
     }
 
     // Sets `room`: each height less the number of neighbours that have toppled.
     fn find_room(&mut self) {
-        let width = self.border.frame.width;
-        for y in 0..self.border.frame.height {
-            let first = self.border.first_of(y);
-            count_around(&self.border, &self.marks, first, &mut self.around);
+        let frame = self.frame;
+        for y in 0..frame.height {
+            self.count_around(y);
+            let from = y * (frame.width + 2);
             set_room(
-                run_mut(&mut self.room, first, width),
-                run(&self.heights, y.wrapping_mul(width), width),
-                run(&self.marks, first, width),
+                run_mut(&mut self.room, from, frame.width + 2),
+                frame.row(&self.heights, y),
+                frame.row(&self.marks, y),
                 &self.around,
             );
         }
     }
 
-    // Lists the sites that burn from the start.
-    fn kindle(&mut self) {
-        self.burnt = 0;
-        for y in 0..self.border.frame.height {
-            let first = self.border.first_of(y);
-            let row = run(&self.room, first, self.border.frame.width);
-            self.burnt = kindle_row(row, &mut self.order, self.burnt, first);
-        }
-    }
-
-    // Burns until no more sites burn. The others keep their marks.
-    fn burn_out(&mut self) {
-        self.kindle();
-        let mut burnt = self.burnt;
-        for turn in 0..self.border.frame.sites() {
+    // Burns until no more sites burn.
+    fn burn(&mut self) {
+        let width = self.frame.width;
+        let mut burnt = kindle(&self.room, &mut self.order);
+        for turn in 0..self.frame.sites() {
             if turn >= burnt || turn >= self.order.len() {
                 break;
             }
             let at = self.order[turn] as usize;
-            if at < self.marks.len() {
-                self.marks[at] = AWAY;
-            }
-            let Fire {
-                border,
-                room,
-                order,
-                ..
-            } = self;
-            let [north, west, east, south] = border.around(at);
-            burnt = warm(border, room, order, burnt, north);
-            burnt = warm(border, room, order, burnt, west);
-            burnt = warm(border, room, order, burnt, east);
-            burnt = warm(border, room, order, burnt, south);
+            let Fire { room, order, .. } = self;
+            burnt = warm(room, order, burnt, at.wrapping_sub(width + 2), width);
+            burnt = warm(room, order, burnt, at.wrapping_sub(1), width);
+            burnt = warm(room, order, burnt, at.wrapping_add(1), width);
+            burnt = warm(room, order, burnt, at.wrapping_add(width + 2), width);
         }
         self.burnt = burnt;
     }
 
-    // Takes back one toppling at each site that keeps its mark.
+    // Keeps the marks of the sites that did not burn.
+    fn unmark_burnt(&mut self) {
+        let width = self.frame.width;
+        let cells = self.room.chunks_exact(width + 2);
+        for (marks, cells) in self.marks.chunks_exact_mut(width).zip(cells) {
+            unmark(marks, cells);
+        }
+    }
+
+    // Takes back one toppling at each marked site.
     fn untopple(&mut self, counts: &mut [i64]) {
-        self.join_ends();
-        let width = self.border.frame.width;
-        for y in 0..self.border.frame.height {
-            let first = self.border.first_of(y);
-            count_around(&self.border, &self.marks, first, &mut self.around);
-            let marks = run(&self.marks, first, width);
-            let from = y.wrapping_mul(width);
-            lower_row(run_mut(counts, from, width), marks);
-            let heights = run_mut(&mut self.heights, from, width);
-            untopple_row(heights, marks, &self.around);
+        let frame = self.frame;
+        lower(counts, &self.marks);
+        for y in 0..frame.height {
+            self.count_around(y);
+            let heights = frame.row_mut(&mut self.heights, y);
+            untopple(heights, frame.row(&self.marks, y), &self.around);
         }
     }
 
@@ -257,12 +237,13 @@ impl Fire {
     ) -> bool {
         put_heights(&mut self.heights, heights);
         for _ in 0..times {
-            let toppled = self.mark(counts, least);
+            let toppled = mark(&mut self.marks, counts, least);
             self.find_room();
-            self.burn_out();
+            self.burn();
             if toppled as usize <= self.burnt {
                 return true;
             }
+            self.unmark_burnt();
             self.untopple(counts);
         }
         false
@@ -270,23 +251,27 @@ impl Fire {
 
     /// By site, 1 if the last fire did not burn it, and otherwise 0.
     pub(crate) fn unburnt(&self, alloc: Global) -> Result<Vec<f64>, AllocError> {
-        let mut left = Vec::with_capacity(alloc, self.border.frame.sites())?;
-        for y in 0..self.border.frame.height {
-            let first = self.border.first_of(y);
-            push_marks(&mut left, run(&self.marks, first, self.border.frame.width))?;
-        }
-        Ok(left)
+        self.marks
+            .iter()
+            .map(|mark| f64::from(*mark))
+            .collect(alloc)
+    }
+
+    // The site of a cell that is not at an end.
+    fn site_of(&self, cell: u32) -> usize {
+        let cell = cell as usize;
+        let ends_before = 2 * (cell / (self.frame.width + 2)) + 1;
+        cell.saturating_sub(ends_before)
     }
 
     /// By site, the turn at which it burns, from 1 on, or 0 if it does not burn.
     pub(crate) fn turns(&self, alloc: Global) -> Result<Vec<u32>, AllocError> {
-        let mut turns = vec![in alloc; 0u32; self.border.frame.sites()]?;
+        let mut turns = vec![in alloc; 0u32; self.frame.sites()]?;
         let mut turn = 0u32;
-        for at in run(&self.order, 0, self.burnt) {
+        for cell in self.order.iter().take(self.burnt) {
             turn = turn.wrapping_add(1);
-            let site = self.border.site_of(*at as usize);
-            if site < turns.len() {
-                turns[site] = turn;
+            if let Some(place) = turns.get_mut(self.site_of(*cell)) {
+                *place = turn;
             }
         }
         Ok(turns)

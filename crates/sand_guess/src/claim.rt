@@ -1,23 +1,14 @@
 //! The guess, from the smallest of the halved piles up to the pile itself.
 
-ghost use Rattle.std.specs.Prelude.{◌≤◌, ◌<◌};
-
-use crate::density::{Known, density_of, expected_from};
-use crate::frame::{frame_of, signed};
-use crate::levels::{Level, halved};
+use crate::density::{Prediction, expected_from};
+use crate::levels::{Level, MOST_HALVINGS};
 use crate::repair::Repair;
 use crate::solver::Solver;
 use sand_model::{Pile, Shape};
 use std::alloc::{AllocError, Global};
 
-// The mean excess of grains per site in a guess: toppling them off is cheaper than taking topplings back.
-const EXCESS: f64 = 0.03;
-
 // About the number of sweeps that take as long as a guess.
 const SWEEPS_OF_A_GUESS: usize = 7_000;
-
-// More halvings than any side takes.
-const MOST_HALVINGS: usize = 6;
 
 /// A claim: by site, how often it topples and the turn at which it burns.
 #[derive(Debug, Drop)]
@@ -26,89 +17,41 @@ pub struct Claim {
     pub turns: Vec<u32>,
 }
 
-fn first_level(alloc: Global, pile: &Pile) -> Result<Level, AllocError> {
-    let mut start = Vec::with_capacity(alloc, pile.heights().len())?;
-    for height in pile.heights() {
-        start.push(signed(*height))?;
-    }
-    Ok(Level {
-        frame: frame_of(pile.shape()),
-        start,
-        least: 0,
-    })
-}
-
-// The empty pile, from which topplings may be taken back.
-fn empty_level(alloc: Global, shape: Shape) -> Result<Level, AllocError> {
-    let frame = frame_of(shape);
-    Ok(Level {
-        frame,
-        start: vec![in alloc; 0i64; frame.sites()]?,
-        least: i64::MIN,
-    })
-}
-
-// The piles from the given one down to the smallest.
-fn levels_from(alloc: Global, first: Level) -> Result<Vec<Level>, AllocError> {
-    let mut levels = Vec::new(alloc);
-    let mut level = first;
-    for _ in 0..MOST_HALVINGS {
-        let Some(half) = halved(alloc, &level)? else {
-            break;
-        };
-        levels.push(level)?;
-        level = half;
-    }
-    levels.push(level)?;
-    Ok(levels)
-}
-
-// The repaired counts of a level, from what is known of the level of half its size.
-fn repaired(
-    alloc: Global,
-    level: &Level,
-    half: &Option<Known>,
-) -> Result<Option<(Repair, Known)>, AllocError> {
-    let expected = expected_from(alloc, level.frame, half)?;
+// The repaired counts of a level of this expected density.
+fn repaired(alloc: Global, level: &Level, expected: &[f64]) -> Result<Option<Repair>, AllocError> {
     let solver = Solver::new(alloc, level.frame)?;
     let mut repair = Repair::new(alloc, level.frame)?;
-    let is_near = repair.begin(alloc, level, &solver, &expected, EXCESS)?;
+    let is_near = repair.begin(alloc, level, &solver, expected)?;
     if !is_near || !repair.finish(alloc, level, &solver)? {
         return Ok(None);
     }
-    let known = Known {
-        frame: level.frame,
-        expected,
-        found: density_of(alloc, level.frame, &repair.left)?,
-    };
-    Ok(Some((repair, known)))
+    Ok(Some(repair))
 }
 
-// The repaired counts of the first level, from the last level up.
-fn repaired_first(alloc: Global, levels: Vec<Level>) -> Result<Option<Repair>, AllocError> {
-    let mut levels = levels;
+// The repaired counts of the first level, found from the last level up.
+fn repaired_first(alloc: Global, mut levels: Vec<Level>) -> Result<Option<Repair>, AllocError> {
     let mut half = None;
     for _ in 0..MOST_HALVINGS + 1 {
         let Some(level) = levels.pop() else {
             break;
         };
-        let Some((repair, known)) = repaired(alloc, &level, &half)? else {
+        let expected = expected_from(alloc, level.frame, &half)?;
+        let Some(repair) = repaired(alloc, &level, &expected)? else {
             break;
         };
         if levels.is_empty() {
             return Ok(Some(repair));
         }
-        half = Some(known);
+        let prediction = Prediction::new(alloc, level.frame, &repair.left, &expected)?;
+        half = Some(prediction);
     }
     Ok(None)
 }
 
+// The absolute values of the counts.
 fn sizes_of(alloc: Global, repair: &Repair) -> Result<Vec<u64>, AllocError> {
-    let mut sizes = Vec::with_capacity(alloc, repair.counts.len())?;
-    for count in &repair.counts {
-        sizes.push(count.unsigned_abs())?;
-    }
-    Ok(sizes)
+    let counts = repair.counts.iter();
+    counts.map(|count| count.unsigned_abs()).collect(alloc)
 }
 
 fn claim_of(alloc: Global, repair: &Repair) -> Result<Claim, AllocError> {
@@ -121,7 +64,7 @@ fn claim_of(alloc: Global, repair: &Repair) -> Result<Claim, AllocError> {
 /// How often each site of a pile topples, found by sweeps over all sites, with the turns at which sites burn. Returns
 /// None if that takes longer than a guess. Like a guess, it is not proved right. Fails only if an allocation fails.
 pub fn toppled(alloc: Global, pile: &Pile) -> Result<Option<Claim>, AllocError> {
-    let level = first_level(alloc, pile)?;
+    let level = Level::of_pile(alloc, pile)?;
     let mut repair = Repair::new(alloc, level.frame)?;
     if !repair.sweep(&level, SWEEPS_OF_A_GUESS) {
         return Ok(None);
@@ -129,10 +72,10 @@ pub fn toppled(alloc: Global, pile: &Pile) -> Result<Option<Claim>, AllocError> 
     Ok(Some(claim_of(alloc, &repair)?))
 }
 
-/// A guess of how often each site of a pile topples, with the turns at which sites burn, or None.
-/// `sand_certify::certified` decides whether it is right. Fails only if an allocation fails.
+/// A guess of how often each site of a pile topples, with the turns at which sites burn, or None. It is not proved
+/// right: `sand_certify::certified` decides. Fails only if an allocation fails.
 pub fn guessed(alloc: Global, pile: &Pile) -> Result<Option<Claim>, AllocError> {
-    let levels = levels_from(alloc, first_level(alloc, pile)?)?;
+    let levels = Level::of_pile(alloc, pile)?.with_halves(alloc)?;
     let Some(repair) = repaired_first(alloc, levels)? else {
         return Ok(None);
     };
@@ -140,10 +83,10 @@ pub fn guessed(alloc: Global, pile: &Pile) -> Result<Option<Claim>, AllocError> 
 }
 
 /// A guess of w for which Lw is the identity of the group of recurrent piles, or None. It is found as an odometer is,
-/// from the empty pile, except that counts may go below 0 and each site counts as toppled. The caller computes Lw and
-/// burns it. Fails only if an allocation fails.
+/// from the empty pile, except that counts may go below 0 and each site counts as toppled. It is not proved right: the
+/// caller computes Lw and burns it. Fails only if an allocation fails.
 pub fn guessed_identity(alloc: Global, shape: Shape) -> Result<Option<Vec<u64>>, AllocError> {
-    let levels = levels_from(alloc, empty_level(alloc, shape)?)?;
+    let levels = Level::empty(alloc, shape)?.with_halves(alloc)?;
     let Some(repair) = repaired_first(alloc, levels)? else {
         return Ok(None);
     };

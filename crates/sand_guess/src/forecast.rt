@@ -10,7 +10,7 @@
 
 ghost use Rattle.std.specs.Prelude.{◌≤◌, ◌<◌};
 
-use crate::frame::{frame_of, run, signed};
+use crate::frame::{frame_of, signed};
 use sand_model::Pile;
 
 // The number of topplings per site for which the queue takes longer than a guess.
@@ -45,11 +45,7 @@ const MOST_OF_FLAT: u64 = 100;
 
 /// Whether no site has many grains, so that sweeps over all sites can begin at once or soon.
 pub fn is_flat(pile: &Pile) -> bool {
-    let mut highest = 0u64;
-    for height in pile.heights() {
-        highest = highest.max(*height);
-    }
-    highest <= MOST_OF_FLAT
+    pile.heights().iter().all(|height| *height <= MOST_OF_FLAT)
 }
 
 /// Whether a pile is found to be high. Nothing is proved of the result.
@@ -67,7 +63,7 @@ pub fn is_high(pile: &Pile) -> bool {
     }
     let mut topplings = 0i64;
     for y in 0..frame.height {
-        let row = run(pile.heights(), y.wrapping_mul(frame.width), frame.width);
+        let row = frame.row(pile.heights(), y);
         let above = row_above(row, frame.goes_round).wrapping_div_euclid(divisor);
         topplings = topplings.wrapping_add(above.wrapping_mul(arch(frame.height, y)));
     }

@@ -16,7 +16,8 @@ pub(crate) struct Frame {
     pub(crate) width: usize,
     pub(crate) height: usize,
     pub(crate) goes_round: bool,
-    ghost some: { 0 < width },
+    ghost some_columns: { 0 < width },
+    ghost some_rows: { 0 < height },
     ghost narrow: { width ≤ 256 },
     ghost short: { height ≤ 256 },
 }
@@ -27,6 +28,18 @@ impl Frame {
         ensures few { result ≤ 65536 }
     {
         self.width * self.height
+    }
+
+    /// Row y of a list by site, or an empty row outside the grid.
+    #[inline(always)]
+    pub(crate) fn row<T>(self, list: &[T], y: usize) -> &[T] {
+        run(list, y.wrapping_mul(self.width), self.width)
+    }
+
+    /// The same, mutable.
+    #[inline(always)]
+    pub(crate) fn row_mut<T>(self, list: &mut [T], y: usize) -> &mut [T] {
+        run_mut(list, y.wrapping_mul(self.width), self.width)
     }
 }
 

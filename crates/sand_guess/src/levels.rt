@@ -2,11 +2,15 @@
 
 ghost use Rattle.std.specs.Prelude.{◌≤◌, ◌<◌};
 
-use crate::frame::{Frame, run};
+use crate::frame::{Frame, frame_of, signed};
+use sand_model::{Pile, Shape};
 use std::alloc::{AllocError, Global};
 
 /// A side of at most this length is not halved.
 const LEAST_SIDE: usize = 24;
+
+/// More halvings than a side takes.
+pub(crate) const MOST_HALVINGS: usize = 6;
 
 /// A pile at one of the sizes.
 #[derive(Drop)]
@@ -26,63 +30,100 @@ fn share_of(side: usize) -> usize
     if side > LEAST_SIDE { 2 } else { 1 }
 }
 
-fn sum_of(heights: &[i64]) -> i64 {
-    let mut sum = 0i64;
-    for height in heights {
-        sum = sum.wrapping_add(*height);
+// The sum of two neighbouring heights, or twice a height that has no neighbour.
+fn sum_of_ends(heights: &[i64]) -> i64 {
+    match (heights.first(), heights.last()) {
+        (Some(first), Some(last)) => first.wrapping_add(*last),
+        _ => 0,
     }
-    sum
 }
 
-// The mean height of the cells that become one cell, in quarters. At the end of an odd side they are fewer.
-fn quarters_at(level: &Level, across: usize, down: usize, x: usize, y: usize) -> i64
-    requires column { x ≤ 256 }
-    requires row { y ≤ 256 }
-    requires across { across ≤ 2 }
-    requires down { down ≤ 2 }
+// Adds the row that two rows become: of each cell the mean height of four cells, or of fewer at the end of an odd side,
+// counted twice. The remainder of a division goes to the next cell, so that no grain is lost.
+fn push_row(
+    start: &mut Vec<i64>,
+    rows: (&[i64], &[i64]),
+    across: usize,
+    carry: i64,
+) -> Result<i64, AllocError>
+    requires { 1 ≤ across }
 {
-    let columns = across.min(level.frame.width.saturating_sub(across * x));
-    let rows = down.min(level.frame.height.saturating_sub(down * y));
-    let mut sum = 0i64;
-    for row in down * y..down * y + rows {
-        let from = row * level.frame.width + across * x;
-        sum = sum.wrapping_add(sum_of(run(&level.start, from, columns)));
+    let (north, south) = rows;
+    let mut carry = carry;
+    for (north, south) in north.chunks(across).zip(south.chunks(across)) {
+        let sum = sum_of_ends(north).wrapping_add(sum_of_ends(south));
+        let sum = sum.wrapping_add(carry);
+        start.push(sum >> 2)?;
+        carry = sum & 3;
     }
-    match rows * columns {
-        1 => sum.wrapping_mul(4),
-        2 => sum.wrapping_mul(2),
-        _ => sum,
-    }
+    Ok(carry)
 }
 
-/// The pile at half the size, or None if neither side is halved.
-pub(crate) fn halved(alloc: Global, level: &Level) -> Result<Option<Level>, AllocError> {
-    let frame = level.frame;
-    let across = share_of(frame.width);
-    let down = share_of(frame.height);
-    if across == 1 && down == 1 {
-        return Ok(None);
+impl Level {
+    /// The pile itself, at full size.
+    pub(crate) fn of_pile(alloc: Global, pile: &Pile) -> Result<Level, AllocError> {
+        let heights = pile.heights().iter();
+        Ok(Level {
+            frame: frame_of(pile.shape()),
+            start: heights.map(|height| signed(*height)).collect(alloc)?,
+            least: 0,
+        })
     }
-    let width = (frame.width + (across - 1)) / across;
-    let height = (frame.height + (down - 1)) / down;
-    let mut start = Vec::new(alloc);
-    let mut carry = 0i64;
-    for y in 0..height {
-        for x in 0..width {
-            // The remainder of a division goes to the next cell, so that no grain is lost.
-            let sum = quarters_at(level, across, down, x, y).wrapping_add(carry);
-            start.push(sum >> 2)?;
-            carry = sum & 3;
+
+    /// The empty pile, from which topplings may be taken back.
+    pub(crate) fn empty(alloc: Global, shape: Shape) -> Result<Level, AllocError> {
+        let frame = frame_of(shape);
+        Ok(Level {
+            frame,
+            start: vec![in alloc; 0i64; frame.sites()]?,
+            least: i64::MIN,
+        })
+    }
+
+    // The pile at half the size, or None if neither side is halved.
+    fn halved(&self, alloc: Global) -> Result<Option<Level>, AllocError> {
+        let frame = self.frame;
+        let across = share_of(frame.width);
+        let down = share_of(frame.height);
+        if across == 1 && down == 1 {
+            return Ok(None);
         }
+        let width = (frame.width + (across - 1)) / across;
+        let height = (frame.height + (down - 1)) / down;
+        let mut start = Vec::new(alloc);
+        let mut carry = 0i64;
+        for y in 0..height {
+            let first = y.wrapping_mul(down);
+            let north = frame.row(&self.start, first);
+            let south = frame.row(&self.start, first.wrapping_add(down - 1));
+            let south = if south.is_empty() { north } else { south };
+            carry = push_row(&mut start, (north, south), across, carry)?;
+        }
+        let goes_round = frame.goes_round;
+        let frame = Frame {
+            width,
+            height,
+            goes_round,
+        };
+        Ok(Some(Level {
+            frame,
+            start,
+            least: self.least,
+        }))
     }
-    let frame = Frame {
-        width,
-        height,
-        goes_round: frame.goes_round,
-    };
-    Ok(Some(Level {
-        frame,
-        start,
-        least: level.least,
-    }))
+
+    /// The piles from this one down to the smallest.
+    pub(crate) fn with_halves(self, alloc: Global) -> Result<Vec<Level>, AllocError> {
+        let mut levels = Vec::new(alloc);
+        let mut level = self;
+        for _ in 0..MOST_HALVINGS {
+            let Some(half) = level.halved(alloc)? else {
+                break;
+            };
+            levels.push(level)?;
+            level = half;
+        }
+        levels.push(level)?;
+        Ok(levels)
+    }
 }

@@ -1,7 +1,8 @@
 //! Guesses how often each site of a pile topples: fast and, so far as anyone has seen, right.
 //!
-//! Each function is proved to be safe and to return, and nothing more. A wrong guess costs time and never changes a
-//! result, since a guess is used only if it is certified (`sand_certify`). Otherwise sand topples.
+//! Nothing here is proved right: each function is proved to be safe and to return, and that is all. A wrong guess costs
+//! time and never changes a result, since a guess is used only if it is certified (`sand_certify`). Otherwise sand
+//! topples.
 //!
 //! The method is that of Friedrich and Levine 2010, "Fast simulation of large-scale growth models". If the settled
 //! heights t were known, the counts u would solve Lu = s - t. Averaged over some sites, t has nearly the density of a
@@ -9,27 +10,27 @@
 //!
 //! 1. `levels`: halve the pile again and again, until it is small. The smallest is guessed from a constant density.
 //! 2. `solver`: solve Lu = s - density in floating point, directly: modes along x, elimination along y.
-//! 3. `repair`: correct the rounded counts, in integers: topple unstable sites (in bit `planes`), and take back
-//!    needless topplings (`burning`).
+//! 3. `repair`: correct the rounded counts, by toppling unstable sites (by bit `planes`) and taking back needless
+//!    topplings (`burning`). Here all numbers are exact.
 //! 4. `density`: local means of the resulting heights predict the density for the pile of twice the size.
 //!
 //! The identity of the group of recurrent piles is guessed in the same way, from the empty pile (`claim`). `forecast`
 //! finds, without a solve, whether a pile is so high that a guess is faster than toppling.
 #![tactic(auto)]
 
-mod border;
 mod burning;
 mod claim;
 mod density;
 mod forecast;
 mod frame;
 mod levels;
+mod modes;
+mod neighbours;
 mod planes;
 mod product;
 mod repair;
 mod residual;
 mod solver;
-mod waves;
 
 pub use claim::{Claim, guessed, guessed_identity, toppled};
 pub use forecast::{is_flat, is_high};

@@ -19,16 +19,16 @@ use std::alloc::{AllocError, Global};
 use std::mem;
 use std::simd::prelude::*;
 
-// Rows per word.
+// The number of rows in a word.
 const ROWS: usize = 64;
 
-// Words toppled at a time. With four, the numbers of a step do not fit into the registers.
+// The number of words toppled at a time. With four, the numbers of a step do not fit into the registers.
 const LANES: usize = 2;
 
-// Columns per strip.
+// The number of columns in a strip.
 const STRIP: usize = 32;
 
-// Planes for the heights, and for the counts of the last sweeps.
+// The numbers of planes for the heights, and for the counts of the last sweeps.
 const HEIGHT_PLANES: usize = 4;
 
 const COUNT_PLANES: usize = 4;
@@ -36,15 +36,15 @@ const COUNT_PLANES: usize = 4;
 // The words of a strip: its planes, one after another.
 const BLOCK: usize = (HEIGHT_PLANES + COUNT_PLANES) * STRIP;
 
-// The sweeps that fill the planes of the counts, which are then added to the sums.
+// This number of sweeps fills the planes of the counts, which are then added to those of the sums.
 const SWEEPS_A_COUNT: usize = 15;
 
-// Planes for the sums.
+// The number of planes for the sums.
 const SUM_PLANES: usize = 12;
 
 const SUM_BLOCK: usize = SUM_PLANES * STRIP;
 
-// The sweeps that fill the planes of the sums, which are then added to the counts by site.
+// This number of sweeps fills the planes of the sums, which are then added to the counts by site.
 const SWEEPS_A_SUM: usize = 4095;
 
 // The offset of a height in the planes.
@@ -58,9 +58,6 @@ const MOST: u64 = 11;
 pub(crate) struct Planes {
     frame: Frame,
     classes: usize,
-    strips: usize,
-    /// By class, the bits that are rows of the grid.
-    inside: Vec<u64>,
     /// The planes of heights and counts, class by class and strip by strip.
     blocks: Vec<u64>,
     /// The planes of the sums, in the same order.
@@ -70,7 +67,6 @@ pub(crate) struct Planes {
     spare: Vec<u64>,
     ghost some: { 0 < classes },
     ghost few: { classes ≤ 4 },
-    ghost narrow: { strips ≤ 8 },
 }
 
 // For each bit position the sum of four bits, as ones, twos and fours.
@@ -98,7 +94,7 @@ fn count_up(block: &mut [u64], x: usize, toppled: u64x2)
 }
 
 // Topples a strip, once it has the grains that toppled around it, and returns whether any site toppled. `here` begins
-// one word before the strip. North of the first class and south of the last, words are shifted by one bit.
+// one word before the strip. The words north of the first class and south of the last are shifted by one bit.
 #[inline(always)]
 fn topple_strip(
     block: &mut [u64],
@@ -158,8 +154,9 @@ pub(crate) fn has_room(height: i64) -> bool {
     height.wrapping_add(LEVEL).cast_unsigned() <= MOST
 }
 
+// Sets the bits of a row's part in a strip, in the planes of the heights.
 #[inline(always)]
-fn put_row(block: &mut [u64], heights: &[i64], bit: u32) {
+fn put_strip(block: &mut [u64], heights: &[i64], bit: u32) {
     if block.len() < BLOCK {
         return;
     }
@@ -172,6 +169,13 @@ fn put_row(block: &mut [u64], heights: &[i64], bit: u32) {
     }
 }
 
+fn put_row(blocks: &mut [u64], heights: &[i64], bit: u32) {
+    for (block, heights) in blocks.chunks_exact_mut(BLOCK).zip(heights.chunks(STRIP)) {
+        put_strip(block, heights, bit);
+    }
+}
+
+// Adds the counts of a column to the sums.
 #[inline(always)]
 fn add_column(block: &mut [u64], sums: &mut [u64], x: usize)
     requires { x < 32 }
@@ -200,6 +204,7 @@ fn add_counts(block: &mut [u64], sums: &mut [u64]) {
     run_mut(block, HEIGHT_PLANES * STRIP, COUNT_PLANES * STRIP).fill(0);
 }
 
+// The number of a site in the planes of the sums.
 #[inline(always)]
 fn sum_at(sums: &[u64], x: usize, bit: u32) -> u64
     requires { x < 32 }
@@ -214,11 +219,27 @@ fn sum_at(sums: &[u64], x: usize, bit: u32) -> u64
     sum
 }
 
+// Adds the sums of a row's part in a strip to its counts.
 #[inline(always)]
-fn count_row(counts: &mut [i64], sums: &[u64], bit: u32) {
+fn count_strip(counts: &mut [i64], sums: &[u64], bit: u32) {
     for x in 0..counts.len().min(STRIP) {
         counts[x] = counts[x].wrapping_add(sum_at(sums, x, bit).cast_signed());
     }
+}
+
+fn count_row(counts: &mut [i64], sums: &[u64], bit: u32) {
+    for (counts, sums) in counts.chunks_mut(STRIP).zip(sums.chunks_exact(SUM_BLOCK)) {
+        count_strip(counts, sums, bit);
+    }
+}
+
+// The words of a class.
+#[inline(always)]
+fn of_class(words: &mut [u64], class: usize, classes: usize) -> &mut [u64]
+    requires { 0 < classes }
+{
+    let size = words.len() / classes;
+    run_mut(words, class.wrapping_mul(size), size)
 }
 
 impl Planes {
@@ -226,13 +247,6 @@ impl Planes {
         let classes = ((frame.height + (ROWS - 1)) / ROWS).max(1);
         let strips = (frame.width + (STRIP - 1)) / STRIP;
         let words = strips * STRIP + 2 * LANES;
-        let mut inside = vec![in alloc; 0u64; classes]?;
-        for y in 0..frame.height {
-            let class = y % classes;
-            if class < inside.len() {
-                inside[class] |= 1u64.wrapping_shl((y / classes) as u32);
-            }
-        }
         let mut toppled = Vec::new(alloc);
         for _ in 0..classes {
             toppled.push(vec![in alloc; 0u64; words]?)?;
@@ -240,40 +254,11 @@ impl Planes {
         Ok(Planes {
             frame,
             classes,
-            strips,
-            inside,
             blocks: vec![in alloc; 0u64; classes * strips * BLOCK]?,
             sums: vec![in alloc; 0u64; classes * strips * SUM_BLOCK]?,
             toppled,
             spare: vec![in alloc; 0u64; words]?,
         })
-    }
-
-    #[inline(always)]
-    fn place(&self, class: usize, strip: usize) -> usize {
-        class.wrapping_mul(self.strips).wrapping_add(strip)
-    }
-
-    // The sites of a row in a strip: the first, and their number.
-    #[inline(always)]
-    fn sites_of(&self, y: usize, strip: usize) -> (usize, usize)
-        requires { strip < 8 }
-    {
-        let x = strip * STRIP;
-        let first = y.wrapping_mul(self.frame.width).wrapping_add(x);
-        (first, self.frame.width.saturating_sub(x).min(STRIP))
-    }
-
-    fn put_row(&mut self, heights: &[i64], y: usize)
-        requires { y < 256 }
-    {
-        let bit = (y / self.classes) as u32;
-        for strip in 0..self.strips {
-            let (first, count) = self.sites_of(y, strip);
-            let from = self.place(y % self.classes, strip).wrapping_mul(BLOCK);
-            let block = run_mut(&mut self.blocks, from, BLOCK);
-            put_row(block, run(heights, first, count), bit);
-        }
     }
 
     /// Loads heights. The planes have room for all of them.
@@ -283,27 +268,19 @@ impl Planes {
             row.fill(0);
         }
         for y in 0..self.frame.height {
-            self.put_row(heights, y);
+            let blocks = of_class(&mut self.blocks, y % self.classes, self.classes);
+            put_row(
+                blocks,
+                self.frame.row(heights, y),
+                (y / self.classes) as u32,
+            );
         }
     }
 
     fn add_counts(&mut self) {
-        for place in 0..self.classes * self.strips {
-            let block = run_mut(&mut self.blocks, place.wrapping_mul(BLOCK), BLOCK);
-            let from = place.wrapping_mul(SUM_BLOCK);
-            add_counts(block, run_mut(&mut self.sums, from, SUM_BLOCK));
-        }
-    }
-
-    fn count_row(&self, counts: &mut [i64], y: usize)
-        requires { y < 256 }
-    {
-        let bit = (y / self.classes) as u32;
-        for strip in 0..self.strips {
-            let (first, count) = self.sites_of(y, strip);
-            let from = self.place(y % self.classes, strip).wrapping_mul(SUM_BLOCK);
-            let sums = run(&self.sums, from, SUM_BLOCK);
-            count_row(run_mut(counts, first, count), sums, bit);
+        let sums = self.sums.chunks_exact_mut(SUM_BLOCK);
+        for (block, sums) in self.blocks.chunks_exact_mut(BLOCK).zip(sums) {
+            add_counts(block, sums);
         }
     }
 
@@ -311,9 +288,22 @@ impl Planes {
     fn count(&mut self, counts: &mut [i64]) {
         self.add_counts();
         for y in 0..self.frame.height {
-            self.count_row(counts, y);
+            let sums = of_class(&mut self.sums, y % self.classes, self.classes);
+            count_row(
+                self.frame.row_mut(counts, y),
+                sums,
+                (y / self.classes) as u32,
+            );
         }
         self.sums.fill(0);
+    }
+
+    // The bits of a class that are rows of the grid: as many as the class has rows.
+    fn inside(&self, class: usize) -> u64
+        requires { class < 4 }
+    {
+        let rows = (self.frame.height + (self.classes - 1)).saturating_sub(class) / self.classes;
+        u64::MAX.wrapping_shr(64u32.wrapping_sub(rows as u32))
     }
 
     // The classes of the rows north and south of those of a class.
@@ -327,47 +317,8 @@ impl Planes {
         (north, south)
     }
 
-    #[inline(always)]
-    fn topple_strip(&mut self, class: usize, strip: usize) -> bool
-        requires class { class < 4 }
-        requires strip { strip < 8 }
-    {
-        let (north, south) = self.beside(class);
-        let is_first = class == 0;
-        let is_last = south == 0;
-        let x = LANES + strip * STRIP;
-        let from = self.place(class, strip).wrapping_mul(BLOCK);
-        let inside = self.inside.get(class).copied().unwrap_or(0);
-        let Planes {
-            blocks,
-            toppled,
-            spare,
-            ..
-        } = self;
-        let (Some(north), Some(here), Some(south)) = (
-            toppled.get(north),
-            toppled.get(class),
-            toppled.get(south),
-        ) else {
-            return false;
-        };
-        let around = [
-            run(north, x, STRIP),
-            run(here, x - 1, STRIP + 2),
-            run(south, x, STRIP),
-        ];
-        let block = run_mut(blocks, from, BLOCK);
-        let out = run_mut(spare, x, STRIP);
-        match (is_first, is_last) {
-            (true, true) => topple_strip(block, around, out, inside, true, true),
-            (true, false) => topple_strip(block, around, out, inside, true, false),
-            (false, true) => topple_strip(block, around, out, inside, false, true),
-            (false, false) => topple_strip(block, around, out, inside, false, false),
-        }
-    }
-
-    // Stores what toppled in a class for its neighbours. The columns beyond the ends are empty, or those of the other
-    // end if rows wrap around.
+    // Stores what toppled in a class in place of what toppled there before. The columns beyond the ends are empty, or
+    // those of the other end if rows wrap around.
     fn keep(&mut self, class: usize) {
         let end = LANES + self.frame.width;
         let row = &mut self.spare;
@@ -381,18 +332,42 @@ impl Planes {
         }
     }
 
+    // Topples the sites of a class, and returns whether any toppled.
     fn sweep_class(&mut self, class: usize) -> bool
         requires { class < 4 }
     {
+        let (north, south) = self.beside(class);
+        let ends = (class == 0, south == 0);
+        let inside = self.inside(class);
+        let (Some(north), Some(here), Some(south)) = (
+            self.toppled.get(north),
+            self.toppled.get(class),
+            self.toppled.get(south),
+        ) else {
+            return false;
+        };
         let mut is_any = false;
-        for strip in 0..self.strips {
-            is_any |= self.topple_strip(class, strip);
+        let mut x = LANES;
+        for block in of_class(&mut self.blocks, class, self.classes).chunks_exact_mut(BLOCK) {
+            let around = [
+                run(north, x, STRIP),
+                run(here, x.wrapping_sub(1), STRIP + 2),
+                run(south, x, STRIP),
+            ];
+            let out = run_mut(&mut self.spare, x, STRIP);
+            is_any |= match ends {
+                (true, true) => topple_strip(block, around, out, inside, true, true),
+                (true, false) => topple_strip(block, around, out, inside, true, false),
+                (false, true) => topple_strip(block, around, out, inside, false, true),
+                (false, false) => topple_strip(block, around, out, inside, false, false),
+            };
+            x = x.wrapping_add(STRIP);
         }
         self.keep(class);
         is_any
     }
 
-    // Topples each site at most once, and returns whether any toppled.
+    // Topples the sites of all classes once, and returns whether any toppled.
     fn sweep(&mut self) -> bool {
         let mut is_any = false;
         for class in 0..self.classes {

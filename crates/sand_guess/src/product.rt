@@ -9,7 +9,7 @@ use crate::frame::{run, run_mut};
 use std::alloc::{AllocError, Global};
 use std::simd::prelude::*;
 
-/// Columns per block, and rows multiplied at a time.
+/// The number of columns in a block, and of rows multiplied at a time.
 pub(crate) const BLOCK: usize = 4;
 
 // Four rows times a block.
@@ -45,37 +45,33 @@ fn store(out: &mut [f64], at: usize, lanes: f64x4) {
 }
 
 // All rows times the block that begins at `column`.
-fn times_block(source: &[f64], columns: usize, block: &[f64], column: usize, out: &mut [f64]) {
-    let mut from = 0usize;
-    for _ in 0..source.len() / BLOCK {
-        let second = from.wrapping_add(columns);
-        let third = second.wrapping_add(columns);
-        let fourth = third.wrapping_add(columns);
-        if run(source, fourth, columns).len() < columns {
-            break;
-        }
+fn times_block(source: &[f64], columns: usize, block: &[f64], column: usize, out: &mut [f64])
+    requires some { 0 < columns }
+    requires few { columns ≤ 512 }
+{
+    let fours = source.chunks_exact(BLOCK * columns);
+    for (four, out) in fours.zip(out.chunks_exact_mut(BLOCK * columns)) {
         let rows = [
-            run(source, from, columns),
-            run(source, second, columns),
-            run(source, third, columns),
-            run(source, fourth, columns),
+            run(four, 0, columns),
+            run(four, columns, columns),
+            run(four, 2 * columns, columns),
+            run(four, 3 * columns, columns),
         ];
         let [a, b, c, d] = four_rows(rows, block);
-        store(out, from.wrapping_add(column), a);
-        store(out, second.wrapping_add(column), b);
-        store(out, third.wrapping_add(column), c);
-        store(out, fourth.wrapping_add(column), d);
-        from = fourth.wrapping_add(columns);
+        store(out, column, a);
+        store(out, column.wrapping_add(columns), b);
+        store(out, column.wrapping_add(2 * columns), c);
+        store(out, column.wrapping_add(3 * columns), d);
     }
 }
 
 /// The rows of `source` times a matrix in blocks, both with `columns` columns.
-pub(crate) fn multiply(source: &[f64], columns: usize, blocks: &[f64], out: &mut [f64]) {
-    let size = columns.wrapping_mul(BLOCK);
-    let mut from = 0usize;
-    for block in 0..columns / BLOCK {
-        times_block(source, columns, run(blocks, from, size), BLOCK * block, out);
-        from = from.wrapping_add(size);
+pub(crate) fn multiply(source: &[f64], columns: usize, blocks: &[f64], out: &mut [f64])
+    requires some { 0 < columns }
+    requires few { columns ≤ 512 }
+{
+    for (number, block) in blocks.chunks_exact(BLOCK * columns).enumerate() {
+        times_block(source, columns, block, number.wrapping_mul(BLOCK), out);
     }
 }
 

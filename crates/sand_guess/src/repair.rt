@@ -11,6 +11,9 @@ use crate::solver::Solver;
 use std::alloc::{AllocError, Global};
 use std::num::{nearest_i64_to_f64, saturating_f64_to_i64};
 
+// The mean excess of grains per site in a guess: toppling them off is cheaper than taking topplings back.
+const EXCESS: f64 = 0.03;
+
 // The most solves for the residual before a guess is given up. The first is nearly always enough.
 const SOLVES: usize = 3;
 
@@ -43,26 +46,18 @@ pub(crate) struct Repair {
 
 // Adds each number times `factor`, rounded, and keeps counts at `least` or above.
 fn add_rounded(counts: &mut [i64], least: i64, numbers: &[f64], factor: f64) {
-    for at in 0..counts.len().min(numbers.len()) {
-        let twice = saturating_f64_to_i64(2.0 * factor * numbers[at]);
-        counts[at] = counts[at]
-            .wrapping_add(twice.wrapping_add(1) >> 1)
-            .max(least);
+    for (count, number) in counts.iter_mut().zip(numbers) {
+        let twice = saturating_f64_to_i64(2.0 * factor * *number);
+        let rounded = twice.wrapping_add(1) >> 1;
+        *count = count.wrapping_add(rounded).max(least);
     }
 }
 
 // Each height less the expected one and the excess.
-fn rest_of(
-    alloc: Global,
-    left: &[i64],
-    expected: &[f64],
-    excess: f64,
-) -> Result<Vec<f64>, AllocError> {
-    let mut rest = Vec::new(alloc);
-    for at in 0..left.len().min(expected.len()) {
-        rest.push(nearest_i64_to_f64(left[at]) - expected[at] - excess)?;
-    }
-    Ok(rest)
+fn rest_of(alloc: Global, left: &[i64], expected: &[f64]) -> Result<Vec<f64>, AllocError> {
+    let both = left.iter().zip(expected);
+    both.map(|(height, expected)| nearest_i64_to_f64(*height) - *expected - EXCESS)
+        .collect(alloc)
 }
 
 impl Repair {
@@ -77,7 +72,7 @@ impl Repair {
 
     // Computes the heights again, evens them out until the planes have room for them, and returns whether they do.
     fn even_out(&mut self, level: &Level) -> bool {
-        subtract(level.frame, &level.start, &self.counts, &mut self.left);
+        subtract(level, &self.counts, &mut self.left);
         for _ in 0..EVENINGS {
             if !smooth(level, &mut self.counts, &mut self.left) {
                 self.planes.put(&self.left);
@@ -87,16 +82,15 @@ impl Repair {
         false
     }
 
-    // Topples until no site may topple, and returns whether `sweeps` sweeps were enough. The planes must have room for
-    // the heights.
+    // Topples until no site may topple, and returns whether `sweeps` sweeps were enough. The planes have room for the
+    // heights.
     fn topple(&mut self, level: &Level, sweeps: usize) -> bool {
         let is_stable = self.planes.topple(&mut self.counts, sweeps);
-        subtract(level.frame, &level.start, &self.counts, &mut self.left);
+        subtract(level, &self.counts, &mut self.left);
         is_stable
     }
 
-    // Takes back topplings until no more can be taken back, and returns whether it got there. The heights must be
-    // stable.
+    // Takes back topplings until no more can be taken back, and returns whether it got there. The heights are stable.
     fn take_back(&mut self, level: &Level) -> bool {
         self.fire
             .take_back(&self.left, &mut self.counts, level.least, MOST_TAKEN_BACK)
@@ -114,11 +108,10 @@ impl Repair {
         level: &Level,
         solver: &Solver,
         expected: &[f64],
-        excess: f64,
     ) -> Result<bool, AllocError> {
         for _ in 0..SOLVES {
-            subtract(level.frame, &level.start, &self.counts, &mut self.left);
-            let mut rest = rest_of(alloc, &self.left, expected, excess)?;
+            subtract(level, &self.counts, &mut self.left);
+            let mut rest = rest_of(alloc, &self.left, expected)?;
             solver.solve(alloc, &mut rest)?;
             add_rounded(&mut self.counts, level.least, &rest, 1.0);
             if self.even_out(level) {
@@ -142,7 +135,7 @@ impl Repair {
                 return Ok(false);
             }
             if self.take_back(level) {
-                subtract(level.frame, &level.start, &self.counts, &mut self.left);
+                subtract(level, &self.counts, &mut self.left);
                 return Ok(true);
             }
             let mut lower = self.fire.unburnt(alloc)?;

@@ -2,71 +2,34 @@
 //!
 //! The solve is in floating point, but the residual is always computed exactly, from the start. So however large the
 //! counts are, a rounding error shows in the residual and is solved for again.
-//!
-//! Counts are listed by site, without a border: a row is added as a whole to the one above or below, and shifted by a
-//! cell to its sides, which the compiler does for many cells at once.
 
 ghost use Rattle.std.specs.Prelude.{◌≤◌, ◌<◌};
 
-use crate::frame::{Frame, run, run_mut};
+use crate::frame::Frame;
 use crate::levels::Level;
+use crate::neighbours::add_neighbours;
 use crate::planes::has_room;
 
 // The start less four grains per toppling.
 fn begin_row(row: &mut [i64], start: &[i64], counts: &[i64]) {
-    let cells = row.len().min(start.len()).min(counts.len());
-    for x in 0..cells {
-        row[x] = start[x].wrapping_sub(counts[x].wrapping_mul(4));
+    for ((left, height), count) in row.iter_mut().zip(start).zip(counts) {
+        *left = height.wrapping_sub(count.wrapping_mul(4));
     }
 }
 
-fn add_row(row: &mut [i64], counts: &[i64]) {
-    let cells = row.len().min(counts.len());
-    for x in 0..cells {
-        row[x] = row[x].wrapping_add(counts[x]);
+/// The heights s - Lu of all rows.
+pub(crate) fn subtract(level: &Level, counts: &[i64], left: &mut [i64]) {
+    let frame = level.frame;
+    for (y, row) in left.chunks_exact_mut(frame.width).enumerate() {
+        begin_row(row, frame.row(&level.start, y), frame.row(counts, y));
+        add_neighbours(frame, counts, y, row);
     }
 }
 
-// Adds the counts west and east, and across the seam if there is one.
-fn add_sides(row: &mut [i64], counts: &[i64], goes_round: bool) {
-    let cells = row.len().min(counts.len());
-    if cells == 0 {
-        return;
-    }
-    let last = cells - 1;
-    add_row(&mut row[1..], &counts[..last]);
-    add_row(&mut row[..last], &counts[1..]);
-    if goes_round {
-        row[0] = row[0].wrapping_add(counts[last]);
-        row[last] = row[last].wrapping_add(counts[0]);
-    }
-}
-
-fn subtract_row(frame: Frame, start: &[i64], counts: &[i64], y: usize, row: &mut [i64])
-    requires { y < frame.height }
-{
-    let width = frame.width;
-    let from = y * width;
-    let here = run(counts, from, width);
-    begin_row(row, run(start, from, width), here);
-    if y > 0 {
-        add_row(row, run(counts, from.wrapping_sub(width), width));
-    }
-    add_row(row, run(counts, from + width, width));
-    add_sides(row, here, frame.goes_round);
-}
-
-/// s - Lu for all rows.
-pub(crate) fn subtract(frame: Frame, start: &[i64], counts: &[i64], left: &mut [i64]) {
-    for y in 0..frame.height {
-        let row = run_mut(left, y * frame.width, frame.width);
-        subtract_row(frame, start, counts, y, row);
-    }
-}
-
+// Gives grains to a site, if it is on the grid.
 fn give(left: &mut [i64], at: usize, grains: i64) {
-    if at < left.len() {
-        left[at] = left[at].wrapping_add(grains);
+    if let Some(height) = left.get_mut(at) {
+        *height = height.wrapping_add(grains);
     }
 }
 
@@ -122,13 +85,12 @@ fn have_room(heights: &[i64]) -> bool {
 /// Evens out heights that the planes have no room for, once over the grid and once back, and returns whether there were
 /// any.
 pub(crate) fn smooth(level: &Level, counts: &mut [i64], left: &mut [i64]) -> bool {
-    let width = level.frame.width;
     let rows = level.frame.height;
     let mut is_even = true;
     for turn in 0..2 * rows {
         let is_back = turn >= rows;
         let y = if is_back { 2 * rows - 1 - turn } else { turn };
-        if !have_room(run(left, y.wrapping_mul(width), width)) {
+        if !have_room(level.frame.row(left, y)) {
             is_even = false;
             even_out_row(level, counts, left, y, is_back);
         }

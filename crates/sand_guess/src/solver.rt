@@ -1,205 +1,197 @@
 //! A direct solver of Lv = r in floating point.
 //!
-//! A row is split into its even and its odd part (`waves`), and each is solved on half of the columns. A product turns
-//! each row into its modes. Each mode has a tridiagonal system of equations along y: unknowns are eliminated from the
-//! first row to the last, and then found from the last to the first. A product turns modes into rows again.
+//! A row is split into its even and its odd part (`modes`), and each is solved on half of the columns. A product turns
+//! each row into its modes. Each mode has a line of equations along y, in which each unknown meets only the one above
+//! and the one below: these are eliminated from the first row to the last, and then the unknowns are found from the
+//! last to the first. A product turns modes into rows again.
 
 ghost use Rattle.std.specs.Prelude.{◌≤◌, ◌<◌};
 
-use crate::frame::{Frame, run, run_mut};
+use crate::frame::{Frame, run_mut};
+use crate::modes::{Modes, modes_of};
 use crate::product::{BLOCK, in_blocks, multiply};
-use crate::waves::{Waves, waves_of};
 use std::alloc::{AllocError, Global};
 
 /// The solver of Lv = r for one parity of r, on the first half of the columns.
 #[derive(Drop)]
 struct Part {
-    to_waves: Vec<f64>,
-    from_waves: Vec<f64>,
-    own: Vec<f64>,
+    /// Half the width, rounded up to whole blocks: the length of a row.
+    columns: usize,
+    to_modes: Vec<f64>,
+    from_modes: Vec<f64>,
+    diagonal: Vec<f64>,
+    ghost some: { 0 < columns },
+    ghost few: { columns ≤ 512 },
 }
 
 /// The solver of Lv = r on a frame.
 #[derive(Drop)]
 pub(crate) struct Solver {
     frame: Frame,
-    /// Half the width, rounded up to whole blocks: the length of a part's rows.
-    columns: usize,
-    /// The height, rounded up to whole blocks.
-    rows: usize,
     even: Part,
     odd: Part,
-    ghost few_columns: { columns ≤ 512 },
-    ghost few_rows: { rows ≤ 512 },
 }
 
+// A number of rows or columns, rounded up to whole blocks.
 fn rounded_up(count: usize) -> usize
     requires { count ≤ 256 }
-    ensures { result ≤ 512 }
+    ensures enough { count ≤ result }
+    ensures few { result ≤ 512 }
 {
     (count + (BLOCK - 1)) / BLOCK * BLOCK
 }
 
-// The first row of unknowns. `shares` are the factors of the next row.
-fn eliminate_first(own: &[f64], shares: &mut [f64], row: &mut [f64]) {
-    let cells = own.len().min(shares.len()).min(row.len());
-    for k in 0..cells {
-        shares[k] = 1.0 / own[k];
-        row[k] *= shares[k];
-    }
-}
-
-fn eliminate(own: &[f64], before: (&[f64], &[f64]), shares: &mut [f64], row: &mut [f64]) {
+// Eliminates the unknowns of the row before from a row. `shares` are the factors of a row's unknowns.
+fn eliminate(diagonal: &[f64], before: (&[f64], &[f64]), shares: &mut [f64], row: &mut [f64]) {
     let (shares_before, row_before) = before;
-    let cells = own
-        .len()
-        .min(shares.len())
-        .min(row.len())
-        .min(shares_before.len())
-        .min(row_before.len());
-    for k in 0..cells {
-        let share = 1.0 / (own[k] - shares_before[k]);
-        shares[k] = share;
-        row[k] = (row[k] + row_before[k]) * share;
+    for (share, own) in shares.iter_mut().zip(diagonal) {
+        *share = *own;
+    }
+    for (share, before) in shares.iter_mut().zip(shares_before) {
+        *share -= *before;
+    }
+    for (number, before) in row.iter_mut().zip(row_before) {
+        *number += *before;
+    }
+    for (number, share) in row.iter_mut().zip(shares) {
+        *share = 1.0 / *share;
+        *number *= *share;
     }
 }
 
 fn substitute(shares: &[f64], row: &mut [f64], after: &[f64]) {
-    let cells = shares.len().min(row.len()).min(after.len());
-    for k in 0..cells {
-        row[k] += shares[k] * after[k];
+    for ((number, share), after) in row.iter_mut().zip(shares).zip(after) {
+        *number += *share * *after;
     }
 }
 
-fn eliminate_all(own: &[f64], shares: &mut [f64], all: &mut [f64], rows: usize) {
-    let columns = own.len();
-    eliminate_first(own, shares, all);
-    let mut from = columns;
-    for _ in 1..rows {
-        if from > all.len() || from > shares.len() || columns > from {
-            break;
-        }
-        let (shares_before, shares_here) = shares.split_at_mut(from);
-        let (all_before, all_here) = all.split_at_mut(from);
-        let before = (
-            run(shares_before, from - columns, columns),
-            run(all_before, from - columns, columns),
-        );
-        eliminate(own, before, shares_here, all_here);
-        from = from.wrapping_add(columns);
+// Eliminates from the first row to the last. Before the first there is an empty row.
+fn eliminate_all(diagonal: &[f64], columns: usize, shares: &mut [f64], all: &mut [f64])
+    requires { 0 < columns }
+{
+    let shares = shares.chunks_exact_mut(columns);
+    let rows = shares.zip(all.chunks_exact_mut(columns));
+    let mut before: (&[f64], &[f64]) = (&[], &[]);
+    for (shares, row) in rows {
+        eliminate(diagonal, before, shares, row);
+        before = (shares, row);
     }
 }
 
-// Finds the unknowns from the last row but one to the first.
-fn substitute_all(columns: usize, shares: &[f64], all: &mut [f64], rows: usize) {
-    let mut from = columns.wrapping_mul(rows.saturating_sub(1));
-    for _ in 1..rows {
-        if from > all.len() || columns > from {
-            break;
-        }
-        let (all_here, after) = all.split_at_mut(from);
-        from -= columns;
-        substitute(run(shares, from, columns), &mut all_here[from..], after);
+// Finds the unknowns from the last row to the first. After the last there is nothing.
+fn substitute_all(columns: usize, shares: &[f64], all: &mut [f64])
+    requires { 0 < columns }
+{
+    let mut from = all.len();
+    for shares in shares.chunks_exact(columns).rev() {
+        let end = from.min(all.len());
+        let (before, after) = all.split_at_mut(end);
+        from = end.saturating_sub(columns);
+        substitute(shares, &mut before[from..], after);
     }
 }
 
 // The even and the odd part of a row, on its first half. A column in the middle is its own mirror image, and counts
 // once.
 fn split_row(row: &[f64], even: &mut [f64], odd: &mut [f64]) {
-    let width = row.len();
-    for x in 0..(width / 2).min(even.len()).min(odd.len()) {
-        let (here, there) = (row[x], row[width - 1 - x]);
-        even[x] = here + there;
-        odd[x] = here - there;
+    let half = row.len() / 2;
+    let pairs = row.iter().zip(row.iter().rev()).take(half);
+    for ((even, odd), (here, there)) in even.iter_mut().zip(odd).zip(pairs) {
+        *even = *here + *there;
+        *odd = *here - *there;
     }
-    if width % 2 == 1 && width / 2 < even.len() {
-        even[width / 2] = row[width / 2];
+    if row.len() % 2 == 1 && half < even.len() {
+        even[half] = row[half];
     }
 }
 
+// A row from its parts.
 fn join_row(row: &mut [f64], even: &[f64], odd: &[f64]) {
-    let width = row.len();
-    for x in 0..(width / 2).min(even.len()).min(odd.len()) {
-        row[x] = even[x] + odd[x];
-        row[width - 1 - x] = even[x] - odd[x];
+    let half = row.len() / 2;
+    for (place, (even, odd)) in row.iter_mut().take(half).zip(even.iter().zip(odd)) {
+        *place = *even + *odd;
     }
-    if width % 2 == 1 && width / 2 < even.len() {
-        row[width / 2] = even[width / 2];
+    for (place, (even, odd)) in row.iter_mut().rev().take(half).zip(even.iter().zip(odd)) {
+        *place = *even - *odd;
+    }
+    if row.len() % 2 == 1 && half < even.len() {
+        row[half] = even[half];
     }
 }
 
 impl Part {
-    fn new(alloc: Global, waves: Waves, half: usize, columns: usize) -> Result<Part, AllocError>
-        requires { columns ≤ 512 }
+    fn new(alloc: Global, modes: Modes, half: usize) -> Result<Part, AllocError>
+        requires some { 0 < half }
+        requires few { half ≤ 256 }
     {
-        let Waves { values, mut own } = waves;
-        for _ in own.len()..columns {
-            own.push(4.0)?;
+        let columns = rounded_up(half);
+        let Modes {
+            values,
+            mut diagonal,
+        } = modes;
+        for _ in diagonal.len()..columns {
+            diagonal.push(4.0)?;
         }
         Ok(Part {
-            to_waves: in_blocks(alloc, &values, half, columns, true)?,
-            from_waves: in_blocks(alloc, &values, half, columns, false)?,
-            own,
+            columns,
+            to_modes: in_blocks(alloc, &values, half, columns, true)?,
+            from_modes: in_blocks(alloc, &values, half, columns, false)?,
+            diagonal,
         })
     }
 
-    // Turns r into v. `waves` is as long as `all`.
-    fn solve(&self, all: &mut [f64], waves: &mut [f64], rows: usize) {
-        let columns = self.own.len();
-        multiply(all, columns, &self.to_waves, waves);
-        eliminate_all(&self.own, all, waves, rows);
-        substitute_all(columns, all, waves, rows);
-        multiply(waves, columns, &self.from_waves, all);
+    // Turns r into v. `modes` is as long as `all`.
+    fn solve(&self, all: &mut [f64], modes: &mut [f64], rows: usize)
+        requires { rows ≤ 256 }
+    {
+        multiply(all, self.columns, &self.to_modes, modes);
+        let size = rows * self.columns;
+        let (shares, unknowns) = (run_mut(all, 0, size), run_mut(modes, 0, size));
+        eliminate_all(&self.diagonal, self.columns, shares, unknowns);
+        substitute_all(self.columns, shares, unknowns);
+        multiply(modes, self.columns, &self.from_modes, all);
     }
 }
 
 impl Solver {
     pub(crate) fn new(alloc: Global, frame: Frame) -> Result<Solver, AllocError> {
         let half = (frame.width + 1) / 2;
-        let columns = rounded_up(half);
-        let (even, odd) = waves_of(alloc, frame)?;
+        let (even, odd) = modes_of(alloc, frame)?;
         Ok(Solver {
             frame,
-            columns,
-            rows: rounded_up(frame.height),
-            even: Part::new(alloc, even, half, columns)?,
-            odd: Part::new(alloc, odd, half, columns)?,
+            even: Part::new(alloc, even, half)?,
+            odd: Part::new(alloc, odd, half)?,
         })
     }
 
     fn split(&self, numbers: &[f64], even: &mut [f64], odd: &mut [f64]) {
-        let (width, columns) = (self.frame.width, self.columns);
-        for y in 0..self.frame.height {
-            let from = y.wrapping_mul(columns);
-            split_row(
-                run(numbers, y.wrapping_mul(width), width),
-                run_mut(even, from, columns),
-                run_mut(odd, from, columns),
-            );
+        let even = even.chunks_exact_mut(self.even.columns);
+        let odd = odd.chunks_exact_mut(self.odd.columns);
+        let rows = numbers.chunks_exact(self.frame.width);
+        for (row, (even, odd)) in rows.zip(even.zip(odd)) {
+            split_row(row, even, odd);
         }
     }
 
     fn join(&self, numbers: &mut [f64], even: &[f64], odd: &[f64]) {
-        let (width, columns) = (self.frame.width, self.columns);
-        for y in 0..self.frame.height {
-            let from = y.wrapping_mul(columns);
-            join_row(
-                run_mut(numbers, y.wrapping_mul(width), width),
-                run(even, from, columns),
-                run(odd, from, columns),
-            );
+        let even = even.chunks_exact(self.even.columns);
+        let odd = odd.chunks_exact(self.odd.columns);
+        let rows = numbers.chunks_exact_mut(self.frame.width);
+        for (row, (even, odd)) in rows.zip(even.zip(odd)) {
+            join_row(row, even, odd);
         }
     }
 
     /// Turns r into v.
     pub(crate) fn solve(&self, alloc: Global, numbers: &mut [f64]) -> Result<(), AllocError> {
-        let size = self.rows * self.columns;
+        let rows = self.frame.height;
+        let size = rounded_up(rows) * self.even.columns;
         let mut even = vec![in alloc; 0.0; size]?;
         let mut odd = vec![in alloc; 0.0; size]?;
-        let mut waves = vec![in alloc; 0.0; size]?;
+        let mut modes = vec![in alloc; 0.0; size]?;
         self.split(numbers, &mut even, &mut odd);
-        self.even.solve(&mut even, &mut waves, self.frame.height);
-        self.odd.solve(&mut odd, &mut waves, self.frame.height);
+        self.even.solve(&mut even, &mut modes, rows);
+        self.odd.solve(&mut odd, &mut modes, rows);
         self.join(numbers, &even, &odd);
         Ok(())
     }
