@@ -11,9 +11,9 @@ use Rattle.sand_cli.specs.declared.task.Task.{Task}
 use Rattle.sand_desk.specs.declared.faults.DeskFault.{DeskFault}
 use Rattle.sand_desk.specs.declared.faults.DeskFault.TheVariants as desk
 use Rattle.sand_desk.specs.Faults.{of_stream}
-use Rattle.sand_desk.specs.Commands.{reads_input, asks_for_input, IsTextOf, IsFaultOf, Finds, Takes, IsRead, IsFaulty, IsStarved, IsBrokenOff, IsRefused, WorkEnds, EndsBy, HelpsIfAsked, TellsWords}
+use Rattle.sand_desk.specs.Commands.{Call, reads_input, asks_for_input, IsTextOf, IsFaultOf, Finds, Takes, IsRead, IsFaulty, IsStarved, IsBrokenOff, IsRefused, WorkEnds, EndsBy, HelpsIfAsked, TellsWords}
 
-keeps : (held : Option (List ℕ)) → Keeps held held
+pub keeps : (held : Option (List ℕ)) → Keeps held held
 keeps None = tt
 keeps (Some bytes) = refl
 
@@ -40,45 +40,45 @@ unread true left left' input all e = absurd (true≢false e)
 unread false left left' input all e = all.0
 
 -- memory ran out while the input was read
-starved_reading : (asked : Option Task) (left left' held : Option (List ℕ)) (task : Task) → asked ≡ Some task → reads_input task ≡ true → IsFurtherByAtMost left left' most_bytes → IsStarved asked left left' held held
-starved_reading asked left left' held task e reads further =
-    let asks : asks_for_input asked ≡ true = ap asks_for_input e ∙ reads in
+starved_reading : (call : Call) (task : Task) → call.asked ≡ Some task → reads_input task ≡ true → IsFurtherByAtMost call.left call.left_after most_bytes → Keeps call.held call.held_after → IsStarved call
+starved_reading call task e reads further kept =
+    let asks : asks_for_input call.asked ≡ true = ap asks_for_input e ∙ reads in
     record {
       further = further;
       unread = λ none. absurd (true≢false (sym asks ∙ none));
-      unwritten = keeps held;
+      unwritten = kept;
     }
 
 -- memory ran out after the input was read
-starved_working : (asked : Option Task) (left left' held held' : Option (List ℕ)) (task : Task) (input : List ℕ) → IsRead asked left left' task input → Keeps held held' → IsStarved asked left left' held held'
-starved_working asked left left' held held' task input read kept = record {
-  further = taken (reads_input task) left left' input read.all read.within;
-  unread = λ none. unread (reads_input task) left left' input read.all (sym (ap asks_for_input read.is_asked) ∙ none);
+starved_working : (call : Call) (task : Task) (input : List ℕ) → IsRead call task input → Keeps call.held call.held_after → IsStarved call
+starved_working call task input read kept = record {
+  further = taken (reads_input task) call.left call.left_after input read.all read.within;
+  unread = λ none. unread (reads_input task) call.left call.left_after input read.all (sym (ap asks_for_input read.is_asked) ∙ none);
   unwritten = kept;
 }
 
-pub reading_ends : (asked : Option Task) (left left' held : Option (List ℕ)) (task : Task) (f : StreamFault) → asked ≡ Some task → reads_input task ≡ true → IsOfReading f
-    → (f ≡ stream.TooLong → IsFurther left left' (most_bytes + 1)) → ((f ≡ stream.TooLong → ⊥) → IsFurtherByAtMost left left' most_bytes)
-    → EndsBy asked left left' held held (of_stream f)
-reading_ends asked left left' held task stream.Memory e reads kind flooded stopped = starved_reading asked left left' held task e reads (stopped (λ q. cc))
-reading_ends asked left left' held task stream.Read e reads kind flooded stopped = record {
+pub reading_ends : (call : Call) (task : Task) (f : StreamFault) → call.asked ≡ Some task → reads_input task ≡ true → IsOfReading f
+    → (f ≡ stream.TooLong → IsFurther call.left call.left_after (most_bytes + 1)) → ((f ≡ stream.TooLong → ⊥) → IsFurtherByAtMost call.left call.left_after most_bytes)
+    → Keeps call.held call.held_after → EndsBy call (of_stream f)
+reading_ends call task stream.Memory e reads kind flooded stopped kept = starved_reading call task e reads (stopped (λ q. cc)) kept
+reading_ends call task stream.Read e reads kind flooded stopped kept = record {
   task = task;
   is_asked = e;
   reads = reads;
   further = stopped (λ q. cc);
-  unwritten = keeps held;
+  unwritten = kept;
 }
-reading_ends asked left left' held task stream.TooLong e reads kind flooded stopped = record {
+reading_ends call task stream.TooLong e reads kind flooded stopped kept = record {
   task = task;
   is_asked = e;
   reads = reads;
   further = flooded refl;
-  unwritten = keeps held;
+  unwritten = kept;
 }
-reading_ends asked left left' held task (stream.Write sent) e reads kind flooded stopped = absurd kind
+reading_ends call task (stream.Write sent) e reads kind flooded stopped kept = absurd kind
 
-faulty : (asked : Option Task) (left left' held held' : Option (List ℕ)) (task : Task) (input : List ℕ) (fault : DeskFault) → IsRead asked left left' task input → IsFaultOf task input fault → Keeps held held' → IsFaulty asked left left' held held' fault
-faulty asked left left' held held' task input fault read found kept = record {
+faulty : (call : Call) (task : Task) (input : List ℕ) (fault : DeskFault) → IsRead call task input → IsFaultOf task input fault → Keeps call.held call.held_after → IsFaulty call fault
+faulty call task input fault read found kept = record {
   task = task;
   input = input;
   read = read;
@@ -87,30 +87,30 @@ faulty asked left left' held held' task input fault read found kept = record {
 }
 
 -- the task found a fault in its input, or memory ran out, and nothing was written
-refused : (asked : Option Task) (left left' held held' : Option (List ℕ)) (task : Task) (input : List ℕ) (fault : DeskFault) → IsRead asked left left' task input → Finds (IsFaultOf task input) fault → Keeps held held' → EndsBy asked left left' held held' fault
-refused asked left left' held held' task input desk.Memory read found kept = starved_working asked left left' held held' task input read kept
-refused asked left left' held held' task input (desk.Usage error) read found kept = absurd found
-refused asked left left' held held' task input (desk.Clash conflict) read found kept = absurd found
-refused asked left left' held held' task input desk.Read read found kept = absurd found
-refused asked left left' held held' task input desk.TooLong read found kept = absurd found
-refused asked left left' held held' task input (desk.Write sent) read found kept = absurd found
-refused asked left left' held held' task input desk.Side read found kept = faulty asked left left' held held' task input desk.Side read found kept
-refused asked left left' held held' task input desk.Length read found kept = faulty asked left left' held held' task input desk.Length read found kept
-refused asked left left' held held' task input desk.TooManyGrains read found kept = faulty asked left left' held held' task input desk.TooManyGrains read found kept
-refused asked left left' held held' task input (desk.Text place) read found kept = faulty asked left left' held held' task input (desk.Text place) read found kept
-refused asked left left' held held' task input (desk.TooLarge place) read found kept = faulty asked left left' held held' task input (desk.TooLarge place) read found kept
-refused asked left left' held held' task input desk.Narrow read found kept = faulty asked left left' held held' task input desk.Narrow read found kept
-refused asked left left' held held' task input desk.Full read found kept = faulty asked left left' held held' task input desk.Full read found kept
-refused asked left left' held held' task input desk.Unstable read found kept = faulty asked left left' held held' task input desk.Unstable read found kept
-refused asked left left' held held' task input desk.NotRecurrent read found kept = faulty asked left left' held held' task input desk.NotRecurrent read found kept
-refused asked left left' held held' task input desk.Shapes read found kept = faulty asked left left' held held' task input desk.Shapes read found kept
-refused asked left left' held held' task input desk.Taken read found kept = faulty asked left left' held held' task input desk.Taken read found kept
-refused asked left left' held held' task input (desk.NoSite index) read found kept = faulty asked left left' held held' task input (desk.NoSite index) read found kept
+refused : (call : Call) (task : Task) (input : List ℕ) (fault : DeskFault) → IsRead call task input → Finds (IsFaultOf task input) fault → Keeps call.held call.held_after → EndsBy call fault
+refused call task input desk.Memory read found kept = starved_working call task input read kept
+refused call task input (desk.Usage error) read found kept = absurd found
+refused call task input (desk.Clash conflict) read found kept = absurd found
+refused call task input desk.Read read found kept = absurd found
+refused call task input desk.TooLong read found kept = absurd found
+refused call task input (desk.Write sent) read found kept = absurd found
+refused call task input desk.Side read found kept = faulty call task input desk.Side read found kept
+refused call task input desk.Length read found kept = faulty call task input desk.Length read found kept
+refused call task input desk.TooManyGrains read found kept = faulty call task input desk.TooManyGrains read found kept
+refused call task input (desk.Text place) read found kept = faulty call task input (desk.Text place) read found kept
+refused call task input (desk.TooLarge place) read found kept = faulty call task input (desk.TooLarge place) read found kept
+refused call task input desk.Narrow read found kept = faulty call task input desk.Narrow read found kept
+refused call task input desk.Full read found kept = faulty call task input desk.Full read found kept
+refused call task input desk.Unstable read found kept = faulty call task input desk.Unstable read found kept
+refused call task input desk.NotRecurrent read found kept = faulty call task input desk.NotRecurrent read found kept
+refused call task input desk.Shapes read found kept = faulty call task input desk.Shapes read found kept
+refused call task input desk.Taken read found kept = faulty call task input desk.Taken read found kept
+refused call task input (desk.NoSite index) read found kept = faulty call task input (desk.NoSite index) read found kept
 
 -- the writer failed
-cut_short : (asked : Option Task) (left left' held held' : Option (List ℕ)) (task : Task) (input : List ℕ) (fault : DeskFault) → IsRead asked left left' task input → IsBrokenOff (IsTextOf task input) held held' fault → EndsBy asked left left' held held' fault
-cut_short asked left left' held held' task input fault read broken =
-    let ends : EndsBy asked left left' held held' (desk.Write broken.sent) = record {
+cut_short : (call : Call) (task : Task) (input : List ℕ) (fault : DeskFault) → IsRead call task input → IsBrokenOff (IsTextOf task input) call.held call.held_after fault → EndsBy call fault
+cut_short call task input fault read broken =
+    let ends : EndsBy call (desk.Write broken.sent) = record {
       task = task;
       input = input;
       text = broken.text;
@@ -119,14 +119,13 @@ cut_short asked left left' held held' task input fault read broken =
       within = broken.within;
       written = broken.written;
     } in
-    subst (EndsBy asked left left' held held') (sym broken.told) ends
+    subst (EndsBy call) (sym broken.told) ends
 
-pub work_ends : (asked : Option Task) (left left' held held' : Option (List ℕ)) (task : Task) (input : List ℕ) (fault : DeskFault) → IsRead asked left left' task input → WorkEnds (IsTextOf task input) (IsFaultOf task input) held held' fault
-    → EndsBy asked left left' held held' fault
-work_ends asked left left' held held' task input fault read ends =
+pub work_ends : (call : Call) (task : Task) (input : List ℕ) (fault : DeskFault) → IsRead call task input → WorkEnds (IsTextOf task input) (IsFaultOf task input) call.held call.held_after fault → EndsBy call fault
+work_ends call task input fault read ends =
     ⊎_elim
-    (λ (broken : IsBrokenOff (IsTextOf task input) held held' fault). cut_short asked left left' held held' task input fault read broken)
-    (λ (no : IsRefused (IsFaultOf task input) held held' fault). refused asked left left' held held' task input fault read no.found no.unwritten)
+    (λ (broken : IsBrokenOff (IsTextOf task input) call.held call.held_after fault). cut_short call task input fault read broken)
+    (λ (no : IsRefused (IsFaultOf task input) call.held call.held_after fault). refused call task input fault read no.found no.unwritten)
     ends
 
 -- a fault of the work was found before anything was written

@@ -9,7 +9,7 @@ use Rattle.sand_text.specs.Reading.{pile_of, two_of}
 use Rattle.clap.specs.Words.{IsAmong, Text, kind_of}
 use Rattle.clap.specs.declared.error.kind.ErrorKind.TheVariants.{DisplayHelp}
 use Rattle.sand_plan.specs.declared.wish.Wish.{Wish}
-use Rattle.sand_cli.specs.Asked.{AskForHelp, conflict_among, faults}
+use Rattle.sand_cli.specs.Asked.{AskForHelp, asked, conflict_among, faults}
 use Rattle.sand_cli.specs.declared.task.Draw.{Draw}
 use Rattle.sand_cli.specs.declared.task.Task.{Task}
 use Rattle.sand_cli.specs.declared.task.Task.TheVariants as task
@@ -152,67 +152,85 @@ abbrev pub Takes : Bool → Option (List ℕ) → Option (List ℕ) → List ℕ
 Takes true left left' input = GivesAll left left' input
 Takes false left left' input = Keeps left left' × (input ≡ [])
 
+-- a call of the program: the task that its words ask for, and before and after it, what the reader still has and what
+-- the writer holds
+pub record Call : Type 0 where
+  pub asked : Option Task
+  pub left : Option (List ℕ)
+  pub left_after : Option (List ℕ)
+  pub held : Option (List ℕ)
+  pub held_after : Option (List ℕ)
+
+abbrev pub call_of : List Text → Option (List ℕ) → Option (List ℕ) → Option (List ℕ) → Option (List ℕ) → Call
+call_of words left left_after held held_after = record {
+  asked = asked words;
+  left = left;
+  left_after = left_after;
+  held = held;
+  held_after = held_after;
+}
+
 -- a task was asked for, and its input was read, within the limit
-pub record IsRead (asked : Option Task) (left left' : Option (List ℕ)) (task : Task) (input : List ℕ) : Type 0 where
-  pub is_asked : asked ≡ Some task
-  pub all : Takes (reads_input task) left left' input
+pub record IsRead (call : Call) (task : Task) (input : List ℕ) : Type 0 where
+  pub is_asked : call.asked ≡ Some task
+  pub all : Takes (reads_input task) call.left call.left_after input
   pub within : length input ≤ most_bytes
 
 -- success: the writer took the text of the task for the whole input
-pub record IsDone (asked : Option Task) (left left' held held' : Option (List ℕ)) : Type 0 where
+pub record IsDone (call : Call) : Type 0 where
   pub task : Task
   pub input : List ℕ
   pub text : List ℕ
-  pub read : IsRead asked left left' task input
+  pub read : IsRead call task input
   pub answer : IsTextOf task input text
-  pub written : Appends held held' text
+  pub written : Appends call.held call.held_after text
 
 -- the writer failed after it took `sent` bytes of the text of the task for the whole input
-pub record IsCutShort (asked : Option Task) (left left' held held' : Option (List ℕ)) (sent : ℕ) : Type 0 where
+pub record IsCutShort (call : Call) (sent : ℕ) : Type 0 where
   pub task : Task
   pub input : List ℕ
   pub text : List ℕ
-  pub read : IsRead asked left left' task input
+  pub read : IsRead call task input
   pub answer : IsTextOf task input text
   pub within : sent ≤ length text
-  pub written : Appends held held' (take sent text)
+  pub written : Appends call.held call.held_after (take sent text)
 
 -- the whole input has a fault, and nothing was written
-pub record IsFaulty (asked : Option Task) (left left' held held' : Option (List ℕ)) (fault : DeskFault) : Type 0 where
+pub record IsFaulty (call : Call) (fault : DeskFault) : Type 0 where
   pub task : Task
   pub input : List ℕ
-  pub read : IsRead asked left left' task input
+  pub read : IsRead call task input
   pub found : IsFaultOf task input fault
-  pub unwritten : Keeps held held'
+  pub unwritten : Keeps call.held call.held_after
 
 -- reading failed after some bytes within the limit, and nothing was written
-pub record IsStopped (asked : Option Task) (left left' held held' : Option (List ℕ)) : Type 0 where
+pub record IsStopped (call : Call) : Type 0 where
   pub task : Task
-  pub is_asked : asked ≡ Some task
+  pub is_asked : call.asked ≡ Some task
   pub reads : reads_input task ≡ true
-  pub further : IsFurtherByAtMost left left' most_bytes
-  pub unwritten : Keeps held held'
+  pub further : IsFurtherByAtMost call.left call.left_after most_bytes
+  pub unwritten : Keeps call.held call.held_after
 
 -- the reader had more than the limit, and nothing was written
-pub record IsFlooded (asked : Option Task) (left left' held held' : Option (List ℕ)) : Type 0 where
+pub record IsFlooded (call : Call) : Type 0 where
   pub task : Task
-  pub is_asked : asked ≡ Some task
+  pub is_asked : call.asked ≡ Some task
   pub reads : reads_input task ≡ true
-  pub further : IsFurther left left' (most_bytes + 1)
-  pub unwritten : Keeps held held'
+  pub further : IsFurther call.left call.left_after (most_bytes + 1)
+  pub unwritten : Keeps call.held call.held_after
 
 -- the words name no task, and nothing was read or written
-pub record IsMisuse (asked : Option Task) (left left' held held' : Option (List ℕ)) : Type 0 where
-  pub unasked : asked ≡ None
-  pub unread : Keeps left left'
-  pub unwritten : Keeps held held'
+pub record IsMisuse (call : Call) : Type 0 where
+  pub unasked : call.asked ≡ None
+  pub unread : Keeps call.left call.left_after
+  pub unwritten : Keeps call.held call.held_after
 
 -- memory ran out, and nothing was written; the reader gave some bytes within the limit, or none if no input was asked
 -- for
-pub record IsStarved (asked : Option Task) (left left' held held' : Option (List ℕ)) : Type 0 where
-  pub further : IsFurtherByAtMost left left' most_bytes
-  pub unread : asks_for_input asked ≡ false → Keeps left left'
-  pub unwritten : Keeps held held'
+pub record IsStarved (call : Call) : Type 0 where
+  pub further : IsFurtherByAtMost call.left call.left_after most_bytes
+  pub unread : asks_for_input call.asked ≡ false → Keeps call.left call.left_after
+  pub unwritten : Keeps call.held call.held_after
 
 -- a fault of the words shows help if and only if the words ask for help and nothing else
 abbrev pub HelpsIfAsked : List Text → DeskFault → Type 0
@@ -228,11 +246,11 @@ TellsWords words (desk.Clash conflict) = conflict_among words ≡ Some conflict
 TellsWords words fault = ⊤
 
 -- how a command ends with each fault; memory may run out anywhere before the text is written
-abbrev pub EndsBy : Option Task → Option (List ℕ) → Option (List ℕ) → Option (List ℕ) → Option (List ℕ) → DeskFault → Type 0
-EndsBy asked left left' held held' (desk.Usage error) = IsMisuse asked left left' held held'
-EndsBy asked left left' held held' (desk.Clash conflict) = IsMisuse asked left left' held held'
-EndsBy asked left left' held held' desk.Read = IsStopped asked left left' held held'
-EndsBy asked left left' held held' desk.TooLong = IsFlooded asked left left' held held'
-EndsBy asked left left' held held' desk.Memory = IsStarved asked left left' held held'
-EndsBy asked left left' held held' (desk.Write sent) = IsCutShort asked left left' held held' sent
-EndsBy asked left left' held held' fault = IsFaulty asked left left' held held' fault
+abbrev pub EndsBy : Call → DeskFault → Type 0
+EndsBy call (desk.Usage error) = IsMisuse call
+EndsBy call (desk.Clash conflict) = IsMisuse call
+EndsBy call desk.Read = IsStopped call
+EndsBy call desk.TooLong = IsFlooded call
+EndsBy call desk.Memory = IsStarved call
+EndsBy call (desk.Write sent) = IsCutShort call sent
+EndsBy call fault = IsFaulty call fault

@@ -4,8 +4,8 @@
 
 ghost use Rattle.std.specs.Prelude.{◌≡◌, ◌≢◌, ◌+◌, ◌≤◌, ◌<◌, true, length, map, string_bytes, IfOk, IfErr, OnOk, IsErrOf};
 ghost use Rattle.sand_text.specs.Flow.{IsFurther, IsFurtherByAtMost, IsOfReading, most_bytes};
-ghost use Rattle.sand_cli.specs.Asked.{IsWithin, asked};
-ghost use Rattle.sand_desk.specs.Commands.{IsTextOf, IsFaultOf, IsWritten, Finds, IsDone, EndsBy, HelpsIfAsked, Takes, TellsWords, WorkEnds, reads_input, writes_whole};
+ghost use Rattle.sand_cli.specs.Asked.{IsWithin};
+ghost use Rattle.sand_desk.specs.Commands.{IsTextOf, IsFaultOf, IsWritten, Finds, IsDone, EndsBy, HelpsIfAsked, Takes, TellsWords, WorkEnds, call_of, reads_input, writes_whole};
 
 use crate::drawn::drawn_drops;
 use crate::dropping::listed_drops;
@@ -113,10 +113,10 @@ pub fn run_command<T: Threads + Sync, R: Read, W: Write>(
     writer: &mut W,
 ) -> Result<(), DeskFault>
     requires { 0 < length words.now }
-    ensures done { OnOk result (IsDone (asked (map string_bytes words.now))
-        (R.remaining reader.old) (R.remaining reader.new) (W.contents writer.old) (W.contents writer.new)) }
-    ensures fault { IfErr result (EndsBy (asked (map string_bytes words.now))
-        (R.remaining reader.old) (R.remaining reader.new) (W.contents writer.old) (W.contents writer.new)) }
+    ensures done { OnOk result (IsDone (call_of (map string_bytes words.now)
+        (R.remaining reader.old) (R.remaining reader.new) (W.contents writer.old) (W.contents writer.new))) }
+    ensures fault { IfErr result (EndsBy (call_of (map string_bytes words.now)
+        (R.remaining reader.old) (R.remaining reader.new) (W.contents writer.old) (W.contents writer.new))) }
     ensures help { IfErr result (HelpsIfAsked (map string_bytes words.now)) }
     ensures told { IfErr result (TellsWords (map string_bytes words.now)) }
 {
@@ -134,10 +134,10 @@ pub fn run_gated_command<T: Threads + Sync, G: Gate, R: Read, W: Write>(
     writer: &mut W,
 ) -> Result<(), DeskFault>
     requires { 0 < length words.now }
-    ensures done { OnOk result (IsDone (asked (map string_bytes words.now))
-        (R.remaining reader.old) (R.remaining reader.new) (W.contents writer.old) (W.contents writer.new)) }
-    ensures fault { IfErr result (EndsBy (asked (map string_bytes words.now))
-        (R.remaining reader.old) (R.remaining reader.new) (W.contents writer.old) (W.contents writer.new)) }
+    ensures done { OnOk result (IsDone (call_of (map string_bytes words.now)
+        (R.remaining reader.old) (R.remaining reader.new) (W.contents writer.old) (W.contents writer.new))) }
+    ensures fault { IfErr result (EndsBy (call_of (map string_bytes words.now)
+        (R.remaining reader.old) (R.remaining reader.new) (W.contents writer.old) (W.contents writer.new))) }
     ensures help { IfErr result (HelpsIfAsked (map string_bytes words.now)) }
     ensures told { IfErr result (TellsWords (map string_bytes words.now)) }
 {
