@@ -17,7 +17,7 @@ use Rattle.sand_desk.specs.declared.faults.DeskFault.{DeskFault}
 use Rattle.sand_desk.specs.declared.faults.DeskFault.TheVariants as desk
 use Rattle.sand_desk.specs.Dropping.{IsDropsText, IsOverfull, drops_for}
 use Rattle.sand_desk.specs.Faults.{of_shape, of_text}
-use Rattle.sand_desk.specs.Group.{edge_of, IsBurnText, IsIdentityText, IsSumText, IsInverseText, IsMultipleText, IsRecurrentText, IsUnstable, IsUnfitPile, IsUnfitPair, IsMismatch}
+use Rattle.sand_desk.specs.Group.{edge_of, IsBurnText, IsIdentityText, IsSumText, IsInverseText, IsMultipleText, IsRecurrentText, IsUnfitPile, IsUnfitPair, IsMismatch}
 use Rattle.sand_desk.specs.Laboratory.{IsLabText, IsOvergrown, IsRunnable}
 use Rattle.sand_desk.specs.Settling.{IsSettleText}
 use Rattle.sand_model.specs.Piles.{most_grains}
@@ -66,7 +66,7 @@ IsDropsFault drawn input fault = IsUnreadable (drops_for drawn input) fault
 
 -- the burning test needs a stable pile
 abbrev pub IsBurnFault : List ℕ → DeskFault → Type 0
-IsBurnFault input desk.Unstable = IsUnstable input
+IsBurnFault input desk.Unstable = IsUnfitPile input desk.Unstable
 IsBurnFault input fault = IsUnreadable (pile_of input) fault
 
 -- the shape is invalid

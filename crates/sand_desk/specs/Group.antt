@@ -83,12 +83,6 @@ IsUnfit pile desk.Unstable = ¬ IsStable pile.grid (height_of pile)
 IsUnfit pile desk.NotRecurrent = IsStable pile.grid (height_of pile) × ¬ IsRecurrent pile.grid (height_of pile)
 IsUnfit pile fault = ⊥
 
--- the pile in the input is not stable
-pub record IsUnstable (input : List ℕ) : Type 0 where
-  pub pile : PileView
-  pub read : pile_of input ≡ Ok pile
-  pub high : ¬ IsStable pile.grid (height_of pile)
-
 -- the pile in the input is not recurrent
 pub record IsUnfitPile (input : List ℕ) (fault : DeskFault) : Type 0 where
   pub pile : PileView
