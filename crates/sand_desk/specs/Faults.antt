@@ -67,24 +67,11 @@ name_of (NoSite index) = codes "NoSite"
 
 -- the place in the input, or the number of bytes written
 abbrev pub place_of : DeskFault → List ℕ
-place_of Side = []
-place_of Length = []
-place_of TooManyGrains = []
-place_of Memory = []
-place_of Full = []
-place_of Unstable = []
-place_of NotRecurrent = []
-place_of Shapes = []
-place_of Taken = []
 place_of (Text place) = codes " at " ++ decimal place
 place_of (TooLarge place) = codes " at " ++ decimal place
-place_of Read = []
-place_of (Write sent) = codes " after " ++ decimal sent
-place_of TooLong = []
-place_of (Usage error) = []
-place_of (Clash conflict) = []
-place_of Narrow = []
 place_of (NoSite index) = codes " at " ++ decimal index
+place_of (Write sent) = codes " after " ++ decimal sent
+place_of fault = []
 
 abbrev pub fault_line : DeskFault → List ℕ
 fault_line fault = codes "fault " ++ decimal (number_of fault) ++ codes " " ++ name_of fault ++ place_of fault ++ codes "\n"
@@ -96,24 +83,9 @@ usage_status kind.DisplayVersion = 0
 usage_status _ = 2
 
 abbrev pub status_of : DeskFault → ℕ
-status_of Side = 1
-status_of Length = 1
-status_of TooManyGrains = 1
-status_of Memory = 1
-status_of Full = 1
-status_of Unstable = 1
-status_of NotRecurrent = 1
-status_of Shapes = 1
-status_of Taken = 1
-status_of (Text place) = 1
-status_of (TooLarge place) = 1
-status_of Read = 1
-status_of (Write sent) = 1
-status_of TooLong = 1
 status_of (Usage error) = usage_status (kind_of error)
 status_of (Clash conflict) = 2
-status_of Narrow = 1
-status_of (NoSite index) = 1
+status_of fault = 1
 
 abbrev pub of_text : TextFault → DeskFault
 of_text (text.Text place) = Text place
