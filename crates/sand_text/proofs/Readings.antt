@@ -12,7 +12,7 @@ use Rattle.sand_text.specs.declared.survey.Survey.{Survey}
 use Rattle.sand_text.specs.declared.tokens.Token.{Token}
 use Rattle.sand_text.specs.Tokens.{tokens, first_strange, first_large, edge_behind, numbers}
 use Rattle.sand_text.specs.Reading.{front_of, pile_of, drops_of, pile_at, plain_tokens, sites_among, heights_on, behind_heights, ◌>>=◌}
-use Rattle.sand_text.specs.Surveys.{IsUnderway, IsShaped, IsStrangeAt, sites_of, noted, pile_among}
+use Rattle.sand_text.specs.Surveys.{IsSurvey, IsShaped, IsStrangeAt, sites_of, noted, pile_among}
 use Rattle.sand_text.proofs.Shapes.{count_at_end}
 
 -- ---- the tokens
@@ -22,21 +22,21 @@ or_none None = refl
 or_none (Some at) = refl
 
 -- no token is strange
-none_strange : (ws : List Token) (s : Survey) → IsUnderway ws [] s → first_strange (2 ∷ []) 0 ws ≡ None
+none_strange : (ws : List Token) (s : Survey) → IsSurvey ws [] s → first_strange (2 ∷ []) 0 ws ≡ None
 unfolding first_strange
-none_strange ws s h = sym (h.plain [] (λ k d lt. absurd (omega arith)))
+none_strange ws s h = sym (h.letters.plain [] (λ k d lt. absurd (omega arith)))
 
-pub large_is : (ws : List Token) (s : Survey) → IsUnderway ws [] s → first_large ws ≡ s.large
+pub large_is : (ws : List Token) (s : Survey) → IsSurvey ws [] s → first_large ws ≡ s.large
 unfolding first_large
 large_is ws s h = sym h.large ∙ or_none s.large
 
 pub strange_text : (text : List ℕ) (s : Survey) (e : TextFault) → IsStrangeAt (tokens text) s e → plain_tokens (2 ∷ []) text ≡ Err e
 strange_text text s e h = let first = h.strange [] (λ k d lt. absurd (omega arith)) in rw (first, h.is) refl
 
-pub large_text : (text : List ℕ) (s : Survey) (at : ℕ) → IsUnderway (tokens text) [] s → s.large ≡ Some at → plain_tokens (2 ∷ []) text ≡ Err (TooLarge at)
+pub large_text : (text : List ℕ) (s : Survey) (at : ℕ) → IsSurvey (tokens text) [] s → s.large ≡ Some at → plain_tokens (2 ∷ []) text ≡ Err (TooLarge at)
 large_text text s at h e = rw (none_strange (tokens text) s h, large_is (tokens text) s h, e) refl
 
-pub plain_text : (text : List ℕ) (s : Survey) → IsUnderway (tokens text) [] s → s.large ≡ None → plain_tokens (2 ∷ []) text ≡ Ok (tokens text)
+pub plain_text : (text : List ℕ) (s : Survey) → IsSurvey (tokens text) [] s → s.large ≡ None → plain_tokens (2 ∷ []) text ≡ Ok (tokens text)
 plain_text text s h e = rw (none_strange (tokens text) s h, large_is (tokens text) s h, e) refl
 
 -- ---- the pile at the front
@@ -82,20 +82,20 @@ unfolding drops_of
 with_drops text s g plain h = rw (front_is false text (Ok (pile_among g (numbers (tokens text)))) plain h.read) refl
 
 -- the first drop outside the grid
-no_site_is : (ws : List Token) (s : Survey) (g : Grid) → IsUnderway ws [] s → sites_of s ≡ sites g → s.no_site ≡ position (nat_le (sites g)) (drop (sites g) (drop 2 (numbers ws)))
+no_site_is : (ws : List Token) (s : Survey) (g : Grid) → IsSurvey ws [] s → sites_of s ≡ sites g → s.no_site ≡ position (nat_le (sites g)) (drop (sites g) (drop 2 (numbers ws)))
 no_site_is ws s g h room =
     let all : noted s.count ws ≡ drop 2 (numbers ws) = take_all (s.count - 2) (drop 2 (numbers ws)) (omega (arith, count_at_end ws s h, length-drop 2 (numbers ws))) in
     rw (room, all) at h.no_site
 
-pub no_such_site : (text : List ℕ) (s : Survey) (g : Grid) (index : ℕ) → plain_tokens (2 ∷ []) text ≡ Ok (tokens text) → IsUnderway (tokens text) [] s → IsShaped false (length text) (tokens text) s g → s.no_site ≡ Some index → drops_of text ≡ Err (NoSite index)
+pub no_such_site : (text : List ℕ) (s : Survey) (g : Grid) (index : ℕ) → plain_tokens (2 ∷ []) text ≡ Ok (tokens text) → IsSurvey (tokens text) [] s → IsShaped false (length text) (tokens text) s g → s.no_site ≡ Some index → drops_of text ≡ Err (NoSite index)
 no_such_site text s g index plain h shaped is =
     let first = sym (no_site_is (tokens text) s g h shaped.room) ∙ is in
     with_drops text s g plain shaped ∙ rw first refl
 
-pub good_drops : (text : List ℕ) (s : Survey) (g : Grid) → plain_tokens (2 ∷ []) text ≡ Ok (tokens text) → IsUnderway (tokens text) [] s → IsShaped false (length text) (tokens text) s g → s.no_site ≡ None → drops_of text ≡ Ok (record { grid = g; heights = heights_on g text }, behind_heights g text)
+pub good_drops : (text : List ℕ) (s : Survey) (g : Grid) → plain_tokens (2 ∷ []) text ≡ Ok (tokens text) → IsSurvey (tokens text) [] s → IsShaped false (length text) (tokens text) s g → s.no_site ≡ None → drops_of text ≡ Ok (record { grid = g; heights = heights_on g text }, behind_heights g text)
 good_drops text s g plain h shaped is =
     let first = sym (no_site_is (tokens text) s g h shaped.room) ∙ is in
     with_drops text s g plain shaped ∙ rw first refl
 
-pub drop_count : (end : ℕ) (ws : List Token) (s : Survey) (g : Grid) → IsUnderway ws [] s → IsShaped false end ws s g → length (drop (sites g) (drop 2 (numbers ws))) ≡ s.count - 2 - sites g
+pub drop_count : (end : ℕ) (ws : List Token) (s : Survey) (g : Grid) → IsSurvey ws [] s → IsShaped false end ws s g → length (drop (sites g) (drop 2 (numbers ws))) ≡ s.count - 2 - sites g
 drop_count end ws s g h shaped = omega (arith, count_at_end ws s h, length-drop 2 (numbers ws), length-drop (sites g) (drop 2 (numbers ws)))

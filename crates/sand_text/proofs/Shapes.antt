@@ -16,7 +16,7 @@ use Rattle.sand_text.specs.declared.tokens.Token.{Token}
 use Rattle.sand_text.specs.declared.tokens.Token.TheVariants.{Number, Letter, Strange}
 use Rattle.sand_text.specs.Tokens.{edge_behind, numbers}
 use Rattle.sand_text.specs.Reading.{pile_at, filled, is_count, of_shape}
-use Rattle.sand_text.specs.Surveys.{IsUnderway, IsFull, IsEnd, IsShaped, edge_or, sites_of, noted}
+use Rattle.sand_text.specs.Surveys.{IsSurvey, IsFull, IsEnd, IsShaped, edge_or, sites_of, noted}
 use Rattle.sand_model.specs.Piles.{most_grains}
 
 -- ---- the end of a survey
@@ -41,20 +41,20 @@ full_count s full =
     let some : 1 * 1 ≤ s.width * s.height = mul-le-mul width height in
     omega (arith, full.count)
 
-pub all_taken : (ws rest : List Token) (s : Survey) → IsUnderway ws rest s → rest ≡ [] → length (numbers ws) ≡ s.count
-all_taken ws rest s h none = omega (arith, h.within, length-drop s.count (numbers ws), ap length h.left, ap (λ l. length (numbers l)) none)
+pub all_taken : (ws rest : List Token) (s : Survey) → IsSurvey ws rest s → rest ≡ [] → length (numbers ws) ≡ s.count
+all_taken ws rest s h none = omega (arith, h.counted.within, length-drop s.count (numbers ws), ap length h.counted.left, ap (λ l. length (numbers l)) none)
 
-pub count_at_end : (ws : List Token) (s : Survey) → IsUnderway ws [] s → length (numbers ws) ≡ s.count
+pub count_at_end : (ws : List Token) (s : Survey) → IsSurvey ws [] s → length (numbers ws) ≡ s.count
 count_at_end ws s h = all_taken ws [] s h refl
 
-edge_at_end : (ws rest : List Token) (s : Survey) → IsUnderway ws rest s → rest ≡ [] → s.edge ≡ edge_behind 2 0 ws
+edge_at_end : (ws rest : List Token) (s : Survey) → IsSurvey ws rest s → rest ≡ [] → s.edge ≡ edge_behind 2 0 ws
 unfolding edge_behind
-edge_at_end ws rest s h none = sym (or_open s.edge) ∙ (rw none at h.edge)
+edge_at_end ws rest s h none = sym (or_open s.edge) ∙ (rw none at h.letters.edge)
 
-edge_when_full : (ws rest : List Token) (s : Survey) → IsUnderway ws rest s → IsFull s → s.edge ≡ edge_behind 2 0 ws
+edge_when_full : (ws rest : List Token) (s : Survey) → IsSurvey ws rest s → IsFull s → s.edge ≡ edge_behind 2 0 ws
 edge_when_full ws rest s h full =
     let none = no_later_letter 2 s.count rest (omega (arith, full_count s full)) in
-    sym (or_open s.edge) ∙ (rw none at h.edge)
+    sym (or_open s.edge) ∙ (rw none at h.letters.edge)
 
 -- a survey ends with the text, or with a full pile that is not the last
 by_end : (last : Bool) (rest : List Token) (s : Survey) → IsEnd last rest s → (rest ≡ []) ⊎ ((last ≡ false) × IsFull s)
@@ -62,7 +62,7 @@ by_end true rest s none = inl none
 by_end false rest s (inl none) = inl none
 by_end false rest s (inr full) = inr (refl, full)
 
-edge_found : (last : Bool) (ws rest : List Token) (s : Survey) → IsUnderway ws rest s → IsEnd last rest s → s.edge ≡ edge_behind 2 0 ws
+edge_found : (last : Bool) (ws rest : List Token) (s : Survey) → IsSurvey ws rest s → IsEnd last rest s → s.edge ≡ edge_behind 2 0 ws
 edge_found last ws rest s h end = elim (by_end last rest s end) [
   | inl none ↦ edge_at_end ws rest s h none
   | inr full ↦ edge_when_full ws rest s h full.1
@@ -75,7 +75,7 @@ few e last end [] lt = refl
 few e last end (w ∷ []) lt = refl
 few e last end (w ∷ h ∷ ns) lt = absurd (omega arith)
 
-pub too_few : (last : Bool) (end : ℕ) (ws rest : List Token) (s : Survey) → IsUnderway ws rest s → IsEnd last rest s → s.count < 2 → pile_at (edge_behind 2 0 ws) last end (numbers ws) ≡ Err (Text end)
+pub too_few : (last : Bool) (end : ℕ) (ws rest : List Token) (s : Survey) → IsSurvey ws rest s → IsEnd last rest s → s.count < 2 → pile_at (edge_behind 2 0 ws) last end (numbers ws) ≡ Err (Text end)
 too_few last end ws rest s h ends lt = elim (by_end last rest s ends) [
   | inl none ↦ few (edge_behind 2 0 ws) last end (numbers ws) (omega (arith, all_taken ws rest s h none))
   | inr full ↦ absurd (omega (arith, full_count s full.1))
@@ -87,14 +87,14 @@ many e last end (w ∷ []) lt = absurd (omega arith)
 many e last end (w ∷ h ∷ ns) lt = refl
 
 -- the sides, and the numbers after them
-sized : (last : Bool) (end : ℕ) (ws rest : List Token) (s : Survey) (grid : Result Grid ShapeFault) → IsUnderway ws rest s → IsEnd last rest s → 2 ≤ s.count → grid ≡ grid_with_edge s.width s.height s.edge
+sized : (last : Bool) (end : ℕ) (ws rest : List Token) (s : Survey) (grid : Result Grid ShapeFault) → IsSurvey ws rest s → IsEnd last rest s → 2 ≤ s.count → grid ≡ grid_with_edge s.width s.height s.edge
     → pile_at (edge_behind 2 0 ws) last end (numbers ws) ≡ filled last grid (drop 2 (numbers ws))
 sized last end ws rest s grid h ends le is =
     let ns = numbers ws in
-    let sides : grid ≡ grid_with_edge (get_or ns 0 0) (get_or ns 1 0) s.edge = is ∙ (ap (λ w. grid_with_edge w s.height s.edge) (h.width (omega arith)) ∙ ap (λ x. grid_with_edge (get_or ns 0 0) x s.edge) (h.height (omega arith))) in
-    rw (sym (edge_found last ws rest s h ends)) (many s.edge last end ns (omega (arith, h.within)) ∙ ap (λ g. filled last g (drop 2 ns)) (sym sides))
+    let sides : grid ≡ grid_with_edge (get_or ns 0 0) (get_or ns 1 0) s.edge = is ∙ (ap (λ w. grid_with_edge w s.height s.edge) (h.counted.width (omega arith)) ∙ ap (λ x. grid_with_edge (get_or ns 0 0) x s.edge) (h.counted.height (omega arith))) in
+    rw (sym (edge_found last ws rest s h ends)) (many s.edge last end ns (omega (arith, h.counted.within)) ∙ ap (λ g. filled last g (drop 2 ns)) (sym sides))
 
-pub no_shape : (last : Bool) (end : ℕ) (ws rest : List Token) (s : Survey) (fault : ShapeFault) → IsUnderway ws rest s → IsEnd last rest s → 2 ≤ s.count → Err fault ≡ grid_with_edge s.width s.height s.edge
+pub no_shape : (last : Bool) (end : ℕ) (ws rest : List Token) (s : Survey) (fault : ShapeFault) → IsSurvey ws rest s → IsEnd last rest s → 2 ≤ s.count → Err fault ≡ grid_with_edge s.width s.height s.edge
     → pile_at (edge_behind 2 0 ws) last end (numbers ws) ≡ Err (of_shape fault)
 no_shape last end ws rest s fault h ends le is = sized last end ws rest s (Err fault) h ends le is
 
@@ -128,7 +128,7 @@ fitting s g is =
 -- ---- the number of heights
 
 -- the surveyed count is right if and only if the count of all numbers is
-same_count : (last : Bool) (ws rest : List Token) (s : Survey) (g : Grid) → IsUnderway ws rest s → IsEnd last rest s → Ok g ≡ grid_with_edge s.width s.height s.edge → is_count last (length (drop 2 (numbers ws))) (sites g) ≡ is_count last (s.count - 2) (sites g)
+same_count : (last : Bool) (ws rest : List Token) (s : Survey) (g : Grid) → IsSurvey ws rest s → IsEnd last rest s → Ok g ≡ grid_with_edge s.width s.height s.edge → is_count last (length (drop 2 (numbers ws))) (sites g) ≡ is_count last (s.count - 2) (sites g)
 same_count last ws rest s g h ends is = elim (by_end last rest s ends) [
   | inl none ↦
       let all : length (drop 2 (numbers ws)) ≡ s.count - 2 = omega (arith, all_taken ws rest s h none, length-drop 2 (numbers ws)) in
@@ -136,7 +136,7 @@ same_count last ws rest s g h ends is = elim (by_end last rest s ends) [
   | inr full ↦
       let same = (fitting s g is).0 in
       let here : leb (sites g) (s.count - 2) ≡ true = grind (arith, nat_tests, full.1.count) in
-      let there : leb (sites g) (length (drop 2 (numbers ws))) ≡ true = grind (arith, nat_tests, full.1.count, h.within, length-drop 2 (numbers ws)) in
+      let there : leb (sites g) (length (drop 2 (numbers ws))) ≡ true = grind (arith, nat_tests, full.1.count, h.counted.within, length-drop 2 (numbers ws)) in
       rw (full.0, here, there) refl
 ]
 
@@ -144,25 +144,25 @@ some_heights : (last : Bool) (count wanted : ℕ) → is_count last count wanted
 some_heights true count wanted e = grind (arith, nat_tests)
 some_heights false count wanted e = grind (arith, nat_tests)
 
-pub wrong_count : (last : Bool) (end : ℕ) (ws rest : List Token) (s : Survey) (g : Grid) → IsUnderway ws rest s → IsEnd last rest s → 2 ≤ s.count → Ok g ≡ grid_with_edge s.width s.height s.edge → is_count last (s.count - 2) (sites g) ≡ false
+pub wrong_count : (last : Bool) (end : ℕ) (ws rest : List Token) (s : Survey) (g : Grid) → IsSurvey ws rest s → IsEnd last rest s → 2 ≤ s.count → Ok g ≡ grid_with_edge s.width s.height s.edge → is_count last (s.count - 2) (sites g) ≡ false
     → pile_at (edge_behind 2 0 ws) last end (numbers ws) ≡ Err Length
 wrong_count last end ws rest s g h ends le is wrong = sized last end ws rest s (Ok g) h ends le is ∙ rw (same_count last ws rest s g h ends is, wrong) refl
 
 -- ---- the number of grains
 
-counted : (ws rest : List Token) (s : Survey) (g : Grid) → IsUnderway ws rest s → sites_of s ≡ sites g → sites g ≤ s.count - 2 → s.grains ≡ min (sum (take (sites g) (drop 2 (numbers ws)))) (most_grains + 1)
+counted : (ws rest : List Token) (s : Survey) (g : Grid) → IsSurvey ws rest s → sites_of s ≡ sites g → sites g ≤ s.count - 2 → s.grains ≡ min (sum (take (sites g) (drop 2 (numbers ws)))) (most_grains + 1)
 counted ws rest s g h room some =
     let front : take (sites g) (noted s.count ws) ≡ take (sites g) (drop 2 (numbers ws)) = take-take (sites g) (s.count - 2) (drop 2 (numbers ws)) some in
     rw (room, front) at h.grains
 
-pub too_many : (last : Bool) (end : ℕ) (ws rest : List Token) (s : Survey) (g : Grid) → IsUnderway ws rest s → IsEnd last rest s → 2 ≤ s.count → Ok g ≡ grid_with_edge s.width s.height s.edge → is_count last (s.count - 2) (sites g) ≡ true → most_grains < s.grains
+pub too_many : (last : Bool) (end : ℕ) (ws rest : List Token) (s : Survey) (g : Grid) → IsSurvey ws rest s → IsEnd last rest s → 2 ≤ s.count → Ok g ≡ grid_with_edge s.width s.height s.edge → is_count last (s.count - 2) (sites g) ≡ true → most_grains < s.grains
     → pile_at (edge_behind 2 0 ws) last end (numbers ws) ≡ Err TooManyGrains
 too_many last end ws rest s g h ends le is right more =
     let grains = counted ws rest s g h (fitting s g is).1 (some_heights last (s.count - 2) (sites g) right) in
     let over : ltb most_grains (sum (take (sites g) (drop 2 (numbers ws)))) ≡ true = grind (arith, nat_tests) in
     sized last end ws rest s (Ok g) h ends le is ∙ rw (same_count last ws rest s g h ends is, right, over) refl
 
-pub shaped : (last : Bool) (end : ℕ) (ws rest : List Token) (s : Survey) (g : Grid) → IsUnderway ws rest s → IsEnd last rest s → 2 ≤ s.count → Ok g ≡ grid_with_edge s.width s.height s.edge → is_count last (s.count - 2) (sites g) ≡ true → s.grains ≤ most_grains
+pub shaped : (last : Bool) (end : ℕ) (ws rest : List Token) (s : Survey) (g : Grid) → IsSurvey ws rest s → IsEnd last rest s → 2 ≤ s.count → Ok g ≡ grid_with_edge s.width s.height s.edge → is_count last (s.count - 2) (sites g) ≡ true → s.grains ≤ most_grains
     → IsShaped last end ws s g
 shaped last end ws rest s g h ends le is right within =
     let some = some_heights last (s.count - 2) (sites g) right in
@@ -174,7 +174,7 @@ shaped last end ws rest s g h ends le is right within =
       height = (in_range s g is).1;
       area = (fitting s g is).0;
       room = (fitting s g is).1;
-      enough = omega (arith, h.within);
+      enough = omega (arith, h.counted.within);
       grains = omega arith;
       limit = within;
     }

@@ -15,7 +15,7 @@ use Rattle.sand_text.specs.declared.tokens.Token.{Token}
 use Rattle.sand_text.specs.declared.tokens.Token.TheVariants.{Number, Letter, Strange}
 use Rattle.sand_text.specs.Bytes.{capped}
 use Rattle.sand_text.specs.Tokens.{first_strange, first_large, edge_behind, numbers}
-use Rattle.sand_text.specs.Surveys.{IsUnderway, IsStrangeAt, still_spared, sites_of, grains_with, if_no_site, noted}
+use Rattle.sand_text.specs.Surveys.{AgreeOnLetters, HasCounted, IsSurvey, IsStrangeAt, still_spared, sites_of, grains_with, if_no_site, noted}
 use Rattle.sand_text.proofs.Taking.{next_of}
 use Rattle.sand_text.proofs.Noting.{sum_push, no_site_push, noted-next, length-noted, noted-none}
 use Rattle.sand_model.specs.Piles.{most_grains}
@@ -57,7 +57,7 @@ behind_next ws s t value high lt here count same so_far grains no_site =
     (rw (next, same) (grains ∙ sums), rw (next, same) (no_site ∙ sites))
 
 -- a number, either a side or after the sides
-noted_step : (ws rest : List Token) (s t : Survey) (start value : ℕ) → IsUnderway ws (Number start value ∷ rest) s
+noted_step : (ws rest : List Token) (s t : Survey) (start value : ℕ) → IsSurvey ws (Number start value ∷ rest) s
     → t.count ≡ s.count + 1
     → t.width ≡ (if s.count == 0 then value else s.width)
     → t.height ≡ (if s.count == 1 then value else s.height)
@@ -72,7 +72,7 @@ noted_step ws rest s t start value h count width height grains no_site = elim (c
       let test : ltb s.count 2 ≡ false = grind (arith, nat_tests) in
       let not_first : eqb s.count 0 ≡ false = grind (arith, nat_tests) in
       let not_second : eqb s.count 1 ≡ false = grind (arith, nat_tests) in
-      let next = next_of (numbers ws) (numbers rest) s.count value h.left in
+      let next = next_of (numbers ws) (numbers rest) s.count value h.counted.left in
       behind_next ws s t value high next.0 next.1 count (same_sites s t (rw not_first at width) (rw not_second at height)) (h.grains, h.no_site) (rw test at grains) (rw test at no_site)
 ]
 
@@ -80,7 +80,7 @@ noted_step ws rest s t start value h count width height grains no_site = elim (c
 sooner : (n m : ℕ) (more : List ℕ) → n ≤ m → All (λ k. m < k) more → All (λ k. n < k) more
 sooner n m more le later = λ k d lt. omega (arith, later k d lt)
 
-pub note_step : (ws rest : List Token) (s t : Survey) (start value : ℕ) → IsUnderway ws (Number start value ∷ rest) s
+pub note_step : (ws rest : List Token) (s t : Survey) (start value : ℕ) → IsSurvey ws (Number start value ∷ rest) s
     → t.count ≡ s.count + 1
     → t.width ≡ (if s.count == 0 then value else s.width)
     → t.height ≡ (if s.count == 1 then value else s.height)
@@ -88,27 +88,33 @@ pub note_step : (ws rest : List Token) (s t : Survey) (start value : ℕ) → Is
     → t.grains ≡ (if nat_lt s.count 2 then s.grains else grains_with s (s.count - 2) value)
     → t.no_site ≡ (if nat_lt s.count 2 then s.no_site else option_or s.no_site (if_no_site s (s.count - 2) value))
     → t.large ≡ option_or s.large (if nat_lt most_grains value then Some start else None)
-    → IsUnderway ws rest t
+    → IsSurvey ws rest t
 unfolding first_strange first_large edge_behind
 note_step ws rest s t start value h count width height edge grains no_site large =
-    let next = next_of (numbers ws) (numbers rest) s.count value h.left in
+    let next = next_of (numbers ws) (numbers rest) s.count value h.counted.left in
     let behind = noted_step ws rest s t start value h count width height grains no_site in
-    record {
-      plain = λ more later. rw (edge, count) (h.plain more (sooner s.count t.count more (omega arith) later));
-      bare = λ is_open. rw count (h.bare (sym edge ∙ is_open));
-      edge = rw (edge, count) h.edge;
-      later_edge = λ k lt. rw count (h.later_edge k (omega arith));
-      large = rw large (large_next s.large (nat_lt most_grains value) start (first_large rest) ∙ h.large);
+    let letters : AgreeOnLetters ws rest t = record {
+      plain = λ more later. rw (edge, count) (h.letters.plain more (sooner s.count t.count more (omega arith) later));
+      bare = λ is_open. rw count (h.letters.bare (sym edge ∙ is_open));
+      edge = rw (edge, count) h.letters.edge;
+      later_edge = λ k lt. rw count (h.letters.later_edge k (omega arith));
+    } in
+    let counted : HasCounted ws rest t = record {
       within = omega (arith, next.0);
       left = rw count next.2;
       width = λ _. elim (cases_eq s.count 0) [
         | inl e ↦ let test : eqb s.count 0 ≡ true = grind (arith, nat_tests) in rw test at width ∙ (sym next.1 ∙ ap (λ n. get_or (numbers ws) n 0) e)
-        | inr ne ↦ let test : eqb s.count 0 ≡ false = grind (arith, nat_tests) in rw test at width ∙ h.width (omega arith)
+        | inr ne ↦ let test : eqb s.count 0 ≡ false = grind (arith, nat_tests) in rw test at width ∙ h.counted.width (omega arith)
       ];
       height = λ some. elim (cases_eq s.count 1) [
         | inl e ↦ let test : eqb s.count 1 ≡ true = grind (arith, nat_tests) in rw test at height ∙ (sym next.1 ∙ ap (λ n. get_or (numbers ws) n 0) e)
-        | inr ne ↦ let test : eqb s.count 1 ≡ false = grind (arith, nat_tests) in rw test at height ∙ h.height (omega arith)
+        | inr ne ↦ let test : eqb s.count 1 ≡ false = grind (arith, nat_tests) in rw test at height ∙ h.counted.height (omega arith)
       ];
+    } in
+    record {
+      letters = letters;
+      counted = counted;
+      large = rw large (large_next s.large (nat_lt most_grains value) start (first_large rest) ∙ h.large);
       grains = behind.0;
       no_site = behind.1;
     }
@@ -126,22 +132,21 @@ kept n (k ∷ more) later =
     rw (test, rest) refl
 
 -- an allowed letter
-pub spare_step : (ws rest : List Token) (s t : Survey) (at : ℕ) → IsUnderway ws (Letter at ∷ rest) s → s.count ≡ 2 → s.edge ≡ Open → t ≡ record s { edge = Cylinder } → IsUnderway ws rest t
+pub spare_step : (ws rest : List Token) (s t : Survey) (at : ℕ) → IsSurvey ws (Letter at ∷ rest) s → s.count ≡ 2 → s.edge ≡ Open → t ≡ record s { edge = Cylinder } → IsSurvey ws rest t
 unfolding first_strange first_large edge_behind
 spare_step ws rest s t at h two is_open is = rw is (record {
-  plain = λ more later.
-      let spared = rw (is_open, two) at (h.plain more later) in
-      rw two (rw (kept s.count more later) at spared);
-  bare = λ closed. absurd (cc);
-  edge = rw (is_open, two) at h.edge;
-  later_edge = λ k lt.
-      let test : eqb k 2 ≡ false = grind (arith, nat_tests) in
-      rw two (rw (two, test) at (h.later_edge k lt));
+  letters = record {
+    plain = λ more later.
+        let spared = rw (is_open, two) at (h.letters.plain more later) in
+        rw two (rw (kept s.count more later) at spared);
+    bare = λ closed. absurd (cc);
+    edge = rw (is_open, two) at h.letters.edge;
+    later_edge = λ k lt.
+        let test : eqb k 2 ≡ false = grind (arith, nat_tests) in
+        rw two (rw (two, test) at (h.letters.later_edge k lt));
+  };
+  counted = record { within = h.counted.within; left = h.counted.left; width = h.counted.width; height = h.counted.height };
   large = h.large;
-  within = h.within;
-  left = h.left;
-  width = h.width;
-  height = h.height;
   grains = h.grains;
   no_site = h.no_site;
 })
@@ -155,26 +160,26 @@ letter_first Open n at rest more not_spared later =
 letter_first Cylinder n at rest more not_spared later = rw (list_any_none (λ k. k == n) more (others n more later)) refl
 
 -- a letter that is not allowed
-pub strange_letter : (ws rest : List Token) (s : Survey) (at : ℕ) → IsUnderway ws (Letter at ∷ rest) s → ((s.count ≡ 2) × (s.edge ≡ Open) → ⊥) → IsStrangeAt ws s (Text at)
+pub strange_letter : (ws rest : List Token) (s : Survey) (at : ℕ) → IsSurvey ws (Letter at ∷ rest) s → ((s.count ≡ 2) × (s.edge ≡ Open) → ⊥) → IsStrangeAt ws s (Text at)
 unfolding first_strange
 strange_letter ws rest s at h not_spared = record {
   at = at;
   is = refl;
-  strange = λ more later. sym (h.plain more later) ∙ letter_first s.edge s.count at rest more not_spared later;
-  bare = λ is_open. sym (h.bare is_open);
+  strange = λ more later. sym (h.letters.plain more later) ∙ letter_first s.edge s.count at rest more not_spared later;
+  bare = λ is_open. sym (h.letters.bare is_open);
 }
 
-pub strange_token : (ws rest : List Token) (s : Survey) (at : ℕ) → IsUnderway ws (Strange at ∷ rest) s → IsStrangeAt ws s (Text at)
+pub strange_token : (ws rest : List Token) (s : Survey) (at : ℕ) → IsSurvey ws (Strange at ∷ rest) s → IsStrangeAt ws s (Text at)
 unfolding first_strange
 strange_token ws rest s at h = record {
   at = at;
   is = refl;
-  strange = λ more later. sym (h.plain more later);
-  bare = λ is_open. sym (h.bare is_open);
+  strange = λ more later. sym (h.letters.plain more later);
+  bare = λ is_open. sym (h.letters.bare is_open);
 }
 
-pub at_token : (ws rest : List Token) (s : Survey) (w v : Token) → w ≡ v → IsUnderway ws (w ∷ rest) s → IsUnderway ws (v ∷ rest) s
-at_token ws rest s w v e h = let P : Token → Type 0 = λ x. IsUnderway ws (x ∷ rest) s in subst P e h
+pub at_token : (ws rest : List Token) (s : Survey) (w v : Token) → w ≡ v → IsSurvey ws (w ∷ rest) s → IsSurvey ws (v ∷ rest) s
+at_token ws rest s w v e h = let P : Token → Type 0 = λ x. IsSurvey ws (x ∷ rest) s in subst P e h
 
-pub at_tokens : (ws left rest : List Token) (s : Survey) → left ≡ rest → IsUnderway ws left s → IsUnderway ws rest s
-at_tokens ws left rest s e h = let P : List Token → Type 0 = λ l. IsUnderway ws l s in subst P e h
+pub at_tokens : (ws left rest : List Token) (s : Survey) → left ≡ rest → IsSurvey ws left s → IsSurvey ws rest s
+at_tokens ws left rest s e h = let P : List Token → Type 0 = λ l. IsSurvey ws l s in subst P e h

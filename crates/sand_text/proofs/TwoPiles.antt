@@ -18,7 +18,7 @@ use Rattle.sand_text.specs.declared.tokens.Token.TheVariants.{Number, Letter, St
 use Rattle.sand_text.specs.Bytes.{has_large}
 use Rattle.sand_text.specs.Tokens.{tokens, first_strange, first_large, edge_behind, numbers}
 use Rattle.sand_text.specs.Reading.{plain_tokens, pile_at, second_letter, second_spared, two_letters, two_of, heights_on, behind_heights, heights_behind}
-use Rattle.sand_text.specs.Surveys.{IsUnderway, IsFull, IsFront, IsFirstStrange, IsShaped, still_spared, pile_among}
+use Rattle.sand_text.specs.Surveys.{IsSurvey, IsFull, IsFront, IsFirstStrange, IsShaped, still_spared, pile_among}
 use Rattle.sand_text.proofs.Shapes.{full_count, all_taken}
 use Rattle.sand_text.proofs.Readings.{large_is, one_each}
 use Rattle.sand_text.proofs.TwoWalks.{later_letter}
@@ -100,17 +100,17 @@ letter_of_full (w ∷ h ∷ ns) s le width height full =
 full_handed : (over : Bool) (ws rest : List Token) (s : Survey) → IsFront ws rest s → IsFull s → first_strange (2 ∷ second_letter over (numbers ws)) 0 ws ≡ first_strange (if over then [] else 2 ∷ []) 0 rest
 full_handed true ws rest s h full =
     let many = full_count s full in
-    sym (h.underway.plain [] (later_letter true ws rest s h.underway h.within)) ∙ (still_later s.edge [] s.count rest (omega arith) ∙ none_spared s.count 0 rest)
+    sym (h.underway.letters.plain [] (later_letter true ws rest s h.underway h.within)) ∙ (still_later s.edge [] s.count rest (omega arith) ∙ none_spared s.count 0 rest)
 full_handed false ws rest s h full =
     let many = full_count s full in
-    let letter = letter_of_full (numbers ws) s (omega (arith, h.underway.within)) (h.underway.width (omega arith)) (h.underway.height (omega arith)) full in
+    let letter = letter_of_full (numbers ws) s (omega (arith, h.underway.counted.within)) (h.underway.counted.width (omega arith)) (h.underway.counted.height (omega arith)) full in
     let later = rw letter at (later_letter false ws rest s h.underway h.within) in
-    rw letter (sym (h.underway.plain ((2 + s.count) ∷ []) later) ∙ (still_later s.edge ((2 + s.count) ∷ []) s.count rest (omega arith) ∙ sym (from_zero 2 s.count rest)))
+    rw letter (sym (h.underway.letters.plain ((2 + s.count) ∷ []) later) ∙ (still_later s.edge ((2 + s.count) ∷ []) s.count rest (omega arith) ∙ sym (from_zero 2 s.count rest)))
 
 at_once : (over : Bool) (ws rest : List Token) (s : Survey) → IsFront ws rest s → rest ≡ [] → first_strange (2 ∷ second_letter over (numbers ws)) 0 ws ≡ first_strange (if over then [] else 2 ∷ []) 0 rest
 unfolding first_strange
 at_once over ws rest s h none =
-    let plain = h.underway.plain (second_letter over (numbers ws)) (later_letter over ws rest s h.underway h.within) in
+    let plain = h.underway.letters.plain (second_letter over (numbers ws)) (later_letter over ws rest s h.underway h.within) in
     rw none (sym (rw none at plain))
 
 handed : (over : Bool) (ws rest : List Token) (s : Survey) → IsFront ws rest s → first_strange (2 ∷ second_letter over (numbers ws)) 0 ws ≡ first_strange (if over then [] else 2 ∷ []) 0 rest
@@ -126,13 +126,13 @@ pub strange_second : (text : List ℕ) (rest : List Token) (s : Survey) (e : Tex
 strange_second text rest s e h (at, is, first) = rw (handed (has_large text) (tokens text) rest s h ∙ first, is) refl
 
 -- the first number over the limit in either pile
-large_of_two : (ws rest : List Token) (first second : Survey) → IsFront ws rest first → IsUnderway rest [] second → first_large ws ≡ option_or first.large second.large
+large_of_two : (ws rest : List Token) (first second : Survey) → IsFront ws rest first → IsSurvey rest [] second → first_large ws ≡ option_or first.large second.large
 large_of_two ws rest first second h g = sym h.underway.large ∙ ap (option_or first.large) (large_is rest second g)
 
-pub large_in_two : (text : List ℕ) (rest : List Token) (first second : Survey) (at : ℕ) → IsFront (tokens text) rest first → IsUnderway rest [] second → first_strange (second_spared text) 0 rest ≡ None → option_or first.large second.large ≡ Some at → plain_tokens (two_letters text) text ≡ Err (TooLarge at)
+pub large_in_two : (text : List ℕ) (rest : List Token) (first second : Survey) (at : ℕ) → IsFront (tokens text) rest first → IsSurvey rest [] second → first_strange (second_spared text) 0 rest ≡ None → option_or first.large second.large ≡ Some at → plain_tokens (two_letters text) text ≡ Err (TooLarge at)
 large_in_two text rest first second at h g plain is = rw (handed (has_large text) (tokens text) rest first h ∙ plain, large_of_two (tokens text) rest first second h g ∙ is) refl
 
-pub plain_two : (text : List ℕ) (rest : List Token) (first second : Survey) → IsFront (tokens text) rest first → IsUnderway rest [] second → first_strange (second_spared text) 0 rest ≡ None → option_or first.large second.large ≡ None → plain_tokens (two_letters text) text ≡ Ok (tokens text)
+pub plain_two : (text : List ℕ) (rest : List Token) (first second : Survey) → IsFront (tokens text) rest first → IsSurvey rest [] second → first_strange (second_spared text) 0 rest ≡ None → option_or first.large second.large ≡ None → plain_tokens (two_letters text) text ≡ Ok (tokens text)
 plain_two text rest first second h g plain is = rw (handed (has_large text) (tokens text) rest first h ∙ plain, large_of_two (tokens text) rest first second h g ∙ is) refl
 
 pub front_tokens : (ws vs rest : List Token) (s : Survey) → ws ≡ vs → IsFront ws rest s → IsFront vs rest s
@@ -153,13 +153,13 @@ counted end ws rest s g h shaped = elim h.end [
 behind_first : (end : ℕ) (ws rest : List Token) (s : Survey) (g : Grid) → IsFront ws rest s → IsShaped false end ws s g → drop (sites g) (drop 2 (numbers ws)) ≡ numbers rest
 behind_first end ws rest s g h shaped =
     let place = counted end ws rest s g h shaped in
-    drop-drop (sites g) 2 (numbers ws) ∙ (ap (λ n. drop n (numbers ws)) (sym place) ∙ h.underway.left)
+    drop-drop (sites g) 2 (numbers ws) ∙ (ap (λ n. drop n (numbers ws)) (sym place) ∙ h.underway.counted.left)
 
 second_edge : (end : ℕ) (ws rest : List Token) (s : Survey) (g : Grid) → IsFront ws rest s → IsShaped false end ws s g → edge_behind (sites g + 4) 0 ws ≡ edge_behind 2 0 rest
 second_edge end ws rest s g h shaped =
     let place = counted end ws rest s g h shaped in
     let there : sites g + 4 ≡ 2 + s.count = omega arith in
-    ap (λ k. edge_behind k 0 ws) there ∙ (sym (h.underway.later_edge (2 + s.count) (omega arith)) ∙ sym (edge_from_zero 2 s.count rest))
+    ap (λ k. edge_behind k 0 ws) there ∙ (sym (h.underway.letters.later_edge (2 + s.count) (omega arith)) ∙ sym (edge_from_zero 2 s.count rest))
 
 -- ---- both piles
 

@@ -40,18 +40,26 @@ if_no_site s place value = if nat_lt place (sites_of s) then None else (if nat_l
 abbrev pub noted : ℕ → List Token → List ℕ
 noted count ws = take (count - 2) (drop 2 (numbers ws))
 
--- the survey of the tokens of ws before `rest`, none of them strange; letters are allowed after the second number and
--- after further counts of numbers
-pub record IsUnderway (ws rest : List Token) (s : Survey) : Type 0 where
+-- the tokens in `rest` say of strange bytes and of letters what all tokens of ws say; letters are allowed after the second
+-- number and after further counts of numbers
+pub record AgreeOnLetters (ws rest : List Token) (s : Survey) : Type 0 where
   pub plain : (more : List ℕ) → All (λ k. s.count < k) more → first_strange (still_spared s.edge more) s.count rest ≡ first_strange (2 ∷ more) 0 ws
   pub bare : s.edge ≡ Open → first_strange [] s.count rest ≡ first_strange [] 0 ws
   pub edge : edge_or s.edge (edge_behind 2 s.count rest) ≡ edge_behind 2 0 ws
   pub later_edge : (k : ℕ) → s.count < k → edge_behind k s.count rest ≡ edge_behind k 0 ws
-  pub large : option_or s.large (first_large rest) ≡ first_large ws
+
+-- the survey has counted the numbers before `rest`, and has the first two
+pub record HasCounted (ws rest : List Token) (s : Survey) : Type 0 where
   pub within : s.count ≤ length (numbers ws)
   pub left : drop s.count (numbers ws) ≡ numbers rest
   pub width : 0 < s.count → s.width ≡ slice_index (numbers ws) 0
   pub height : 1 < s.count → s.height ≡ slice_index (numbers ws) 1
+
+-- the survey of the tokens of ws before `rest`, none of them strange
+pub record IsSurvey (ws rest : List Token) (s : Survey) : Type 0 where
+  pub letters : AgreeOnLetters ws rest s
+  pub counted : HasCounted ws rest s
+  pub large : option_or s.large (first_large rest) ≡ first_large ws
   pub grains : s.grains ≡ capped (sum (take (sites_of s) (noted s.count ws)))
   pub no_site : s.no_site ≡ position (nat_le (sites_of s)) (drop (sites_of s) (noted s.count ws))
 
@@ -101,7 +109,7 @@ IsWithinPile s = 1 < s.count → IsTrue (is_side s.width) → IsTrue (is_side s.
 
 -- the survey of the first pile of a text alone
 pub record IsFront (ws rest : List Token) (s : Survey) : Type 0 where
-  pub underway : IsUnderway ws rest s
+  pub underway : IsSurvey ws rest s
   pub end : IsEnd false rest s
   pub within : IsWithinPile s
 

@@ -6,7 +6,7 @@ ghost use Rattle.std.specs.Prelude.{◌≡◌, ℕ, ◌+◌, ◌-◌, ◌^◌, L
 ghost use Rattle.std.specs.Option.{option_or};
 ghost use Rattle.sand_text.specs.Tokens.{tokens, edge_behind, numbers};
 ghost use Rattle.sand_text.specs.Reading.{is_count, pile_at, plain_tokens};
-ghost use Rattle.sand_text.specs.Surveys.{IsUnderway, IsStrangeAt, IsFull, IsEnd, IsShaped, edge_with, sites_of, grains_with, if_no_site};
+ghost use Rattle.sand_text.specs.Surveys.{IsSurvey, IsStrangeAt, IsFull, IsEnd, IsShaped, edge_with, sites_of, grains_with, if_no_site};
 ghost use Rattle.sand_model.specs.Piles.{most_grains};
 
 use crate::fault::TextFault;
@@ -45,7 +45,7 @@ fn is_count(last: bool, count: usize, wanted: usize) -> bool
 
 impl Survey {
     pub(crate) fn new() -> Survey
-        ensures underway { (ws : List Token) → IsUnderway ws ws result }
+        ensures underway { (ws : List Token) → IsSurvey ws ws result }
         ensures empty { (result.count ≡ 0) × (result.edge ≡ Edge.Open) }
     {
         Survey {
@@ -119,8 +119,8 @@ impl Survey {
     /// Takes a token. Returns Text if it is strange.
     pub(crate) fn take(&mut self, token: Token) -> Result<(), TextFault>
         requires { self.old.count < 2 ^ 63 }
-        ensures taken { OnOk result ((ws rest : List Token) → IsUnderway ws (token ∷ rest) self.old → IsUnderway ws rest self.new) }
-        ensures strange { IfErr result (λ e. (ws rest : List Token) → IsUnderway ws (token ∷ rest) self.old → IsStrangeAt ws self.old e) }
+        ensures taken { OnOk result ((ws rest : List Token) → IsSurvey ws (token ∷ rest) self.old → IsSurvey ws rest self.new) }
+        ensures strange { IfErr result (λ e. (ws rest : List Token) → IsSurvey ws (token ∷ rest) self.old → IsStrangeAt ws self.old e) }
         ensures edge { OnOk result (self.new.edge ≡ edge_with self.old.edge token) }
         ensures count { OnOk result (self.new.count ≤ self.old.count + 1) }
     {
@@ -151,8 +151,8 @@ impl Survey {
     /// number over the limit: fewer than two numbers (Text), Side, Narrow, Length, TooManyGrains. If the pile is not
     /// the last in its text, more numbers may follow than it has sites.
     pub(crate) fn shape(&self, last: bool, end: usize) -> Result<Shape, TextFault>
-        ensures ok { IfOk result (λ g. (ws rest : List Token) → IsUnderway ws rest self.now → IsEnd last rest self.now → IsShaped last end ws self.now g) }
-        ensures err { IfErr result (λ e. (ws rest : List Token) → IsUnderway ws rest self.now → IsEnd last rest self.now
+        ensures ok { IfOk result (λ g. (ws rest : List Token) → IsSurvey ws rest self.now → IsEnd last rest self.now → IsShaped last end ws self.now g) }
+        ensures err { IfErr result (λ e. (ws rest : List Token) → IsSurvey ws rest self.now → IsEnd last rest self.now
             → pile_at (edge_behind 2 0 ws) last end (numbers ws) ≡ Err e) }
     {
         if self.count < 2 {
@@ -171,7 +171,7 @@ impl Survey {
 
 // The survey of all tokens of a text, or Text at the first strange byte.
 fn survey_of(text: &[u8]) -> Result<Survey, TextFault>
-    ensures ok { IfOk result (IsUnderway (tokens text.now) []) }
+    ensures ok { IfOk result (IsSurvey (tokens text.now) []) }
     ensures err { IfErr result (λ e. plain_tokens (2 ∷ []) text.now ≡ Err e) }
 {
     let mut survey = Survey::new();
@@ -183,7 +183,7 @@ fn survey_of(text: &[u8]) -> Result<Survey, TextFault>
 
 /// The survey of a whole text; else Text at the first strange byte, else TooLarge at the first number over the limit.
 pub(crate) fn plain_survey(text: &[u8]) -> Result<Survey, TextFault>
-    ensures ok { IfOk result (IsUnderway (tokens text.now) []) }
+    ensures ok { IfOk result (IsSurvey (tokens text.now) []) }
     ensures plain { IfOk result (λ s. plain_tokens (2 ∷ []) text.now ≡ Ok (tokens text.now)) }
     ensures err { IfErr result (λ e. plain_tokens (2 ∷ []) text.now ≡ Err e) }
 {

@@ -11,7 +11,7 @@ ghost use Rattle.sand_text.specs.Tokens.{tokens, first_strange, numbers};
 ghost use Rattle.sand_text.specs.Left.{tokens_left};
 ghost use Rattle.sand_text.specs.Bytes.{has_large};
 ghost use Rattle.sand_text.specs.Reading.{ReadsAs, plain_tokens, second_letter, second_spared, two_letters, two_of, heights_on, behind_heights, heights_behind};
-ghost use Rattle.sand_text.specs.Surveys.{IsUnderway, IsFront, IsFirstStrange, barred_at};
+ghost use Rattle.sand_text.specs.Surveys.{IsSurvey, IsFront, IsFirstStrange, barred_at};
 ghost use Rattle.sand_model.specs.Piles.{most_grains};
 
 use crate::bytes::has_large;
@@ -49,7 +49,7 @@ fn barred_at(token: Token, text: &[u8]) -> Option<usize>
 
 // The survey of the second pile, which has all these tokens.
 fn second_survey(tokens: Tokens<'_>, text: &[u8]) -> Result<Survey, TextFault>
-    ensures ok { IfOk result (IsUnderway (tokens_left tokens.entry) []) }
+    ensures ok { IfOk result (IsSurvey (tokens_left tokens.entry) []) }
     ensures plain { IfOk result (λ s. first_strange (second_spared text.now) 0 (tokens_left tokens.entry) ≡ None) }
     ensures err { IfErr result (IsFirstStrange (second_spared text.now) (tokens_left tokens.entry)) }
 {
@@ -66,7 +66,7 @@ fn second_survey(tokens: Tokens<'_>, text: &[u8]) -> Result<Survey, TextFault>
 // The surveys of the two piles of a text; else Text at the first strange byte, else TooLarge at the first number over
 // the limit.
 fn two_surveys(text: &[u8]) -> Result<(Survey, Survey), TextFault>
-    ensures piles { IfOk result (λ (first, second). (rest : List Token) × IsFront (tokens text.now) rest first × IsUnderway rest [] second) }
+    ensures piles { IfOk result (λ (first, second). (rest : List Token) × IsFront (tokens text.now) rest first × IsSurvey rest [] second) }
     ensures plain { IfOk result (λ _. plain_tokens (two_letters text.now) text.now ≡ Ok (tokens text.now)) }
     ensures err { IfErr result (λ e. plain_tokens (two_letters text.now) text.now ≡ Err e) }
 {

@@ -11,7 +11,7 @@ pub loop-token-init : goal.loop-token-init
 loop-token-init c = at_tokens _ _ _ _ (sym (ap tokens_left c.into_iter-token-iterator.ensures.into_iter_gives ∙ c.new-token-items.ensures)) (c.new-survey.ensures.underway (tokens c.args.text.now))
 
 pub take-requires : goal.take-requires
-take-requires c = omega (arith, c.loop-token.invariant.within, few_numbers 0 c.args.text.now)
+take-requires c = omega (arith, c.loop-token.invariant.counted.within, few_numbers 0 c.args.text.now)
 
 pub loop-token-preserved : goal.loop-token-preserved
 loop-token-preserved c = c.in_ok-take.ensures.taken (tokens c.args.text.now) (tokens_left c.next.new.self) (at_tokens _ _ _ _ c.in-Some.ensures.steps c.loop-token.invariant)

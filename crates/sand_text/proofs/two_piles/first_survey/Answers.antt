@@ -17,7 +17,7 @@ pile-init c = record {
 }
 
 pub take-requires : goal.take-requires
-take-requires c = omega (arith, c.pile.invariant.underway.within, few_numbers c.args.tokens.now.at c.args.tokens.now.rest.now, c.args.tokens.now.room)
+take-requires c = omega (arith, c.pile.invariant.underway.counted.within, few_numbers c.args.tokens.now.at c.args.tokens.now.rest.now, c.args.tokens.now.room)
 
 pub pile-preserved : goal.pile-preserved
 pile-preserved c =

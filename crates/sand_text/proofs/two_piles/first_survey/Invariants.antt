@@ -1,11 +1,11 @@
 use Rattle.std.proofs.Common.{length}
 use Rattle.sand_text.specs.Left.{tokens_left}
-use Rattle.sand_text.specs.Surveys.{IsUnderway, IsWithinPile}
+use Rattle.sand_text.specs.Surveys.{IsSurvey, IsWithinPile}
 use Rattle.sand_text.proofs.two_piles.first_survey.Given as goal
 
 abbrev pub invariant-pile : goal.invariant-pile
 invariant-pile l = record {
-  underway : IsUnderway (tokens_left l.fn.tokens) (tokens_left l.tokens) l.survey;
+  underway : IsSurvey (tokens_left l.fn.tokens) (tokens_left l.tokens) l.survey;
   within : IsWithinPile l.survey;
 }
 

@@ -20,7 +20,7 @@ returns-in-Some-barred_at-clause-err c =
     barred c.args.text.now ws _ c.loop-token.survey c.in-Some.token c.in-Some-barred_at.at here c.loop-token.invariant.barred (sym c.barred_at.ensures ∙ c.in-Some-barred_at.is)
 
 pub take-requires : goal.take-requires
-take-requires c = omega (arith, c.loop-token.invariant.underway.within, few_numbers c.args.tokens.at c.args.tokens.rest.now, c.args.tokens.room)
+take-requires c = omega (arith, c.loop-token.invariant.underway.counted.within, few_numbers c.args.tokens.at c.args.tokens.rest.now, c.args.tokens.room)
 
 pub loop-token-preserved : goal.loop-token-preserved
 loop-token-preserved c =
