@@ -60,7 +60,7 @@ pub enum DeskFault {
     Clash(Conflict),
     #[error("a cylinder is less than 3 wide")]
     Narrow,
-    /// A drop at a site outside the grid, with its index among the drops.
+    /// A drop at a site outside the grid, with its index among the drops, from 0.
     #[error("drop {0} is outside the grid")]
     NoSite(usize),
 }

@@ -25,7 +25,7 @@ pub enum TextFault {
     Length,
     #[error("too many grains")]
     TooManyGrains,
-    /// A drop on a site outside the grid, with its index among the drops, from 0.
+    /// A drop at a site outside the grid, with its index among the drops, from 0.
     #[error("drop {0} is outside the grid")]
     NoSite(usize),
 }
