@@ -3,9 +3,9 @@
 use crate::outline::{Defect, Outline, grid_without_size};
 use crate::pushing::{push_grouped, push_heights, push_place, push_sides};
 use crate::refused::Refused;
+use sand_desk::read_two;
 use sand_group::{Burned, burn};
 use sand_model::{CYLINDER_WIDTH, GRAIN_LIMIT, SIDE_LIMIT};
-use sand_text::read_two;
 use std::alloc::{AllocError, Global};
 
 // What to do about a size that does not fit.

@@ -15,11 +15,12 @@ ghost use Rattle.sand_desk.specs.Dropping.{IsDropsText, drawn_sites};
 ghost use Rattle.sand_desk.specs.Streaming.{AreAdded, BreaksInRows, end_in, head_in, pile_and_sums, row_in};
 
 use crate::faults::DeskFault;
+use crate::texts::read_pile;
 use sand_cli::{Draw, Part};
 use sand_lab::{Gate, Role, SiteReader};
 use sand_model::GRAIN_LIMIT;
 use sand_settle::{Avalanche, DrivenPile, Settled};
-use sand_text::{Blocks, StreamFault, read_pile, table_head};
+use sand_text::{Blocks, StreamFault, table_head};
 use std::alloc::Global;
 use std::io::Write;
 

@@ -1,6 +1,6 @@
 //! The command `drops` at the sites listed after the pile in the input.
 
-ghost use Rattle.std.specs.Prelude.{◌≡◌, ◌+◌, ◌<◌, [], ◌∷◌, ◌++◌, false, length, vec_len, vec_capacity, if◌then◌else◌, All, None, IfOk, IfErr, OnOk};
+ghost use Rattle.std.specs.Prelude.{◌≡◌, ◌+◌, ◌<◌, [], ◌∷◌, ◌++◌, false, length, vec_len, vec_capacity, if◌then◌else◌, All, None, IfOk, IfErr, OnOk, IsOkUnless};
 ghost use Rattle.sand_model.specs.Grid.{sites};
 ghost use Rattle.sand_model.specs.Piles.{PileView};
 ghost use Rattle.sand_settle.specs.Drops.{grid_of_one_pile, IsAfter};
@@ -8,9 +8,10 @@ ghost use Rattle.sand_desk.specs.Commands.{IsDropFault, IsDropsFault, Finds};
 ghost use Rattle.sand_desk.specs.Dropping.{AreNoted, IsDropsText, drops_in, drops_text_of, is_pile};
 
 use crate::faults::DeskFault;
+use crate::texts::{pile_text, read_drops, table_text};
 use sand_cli::Part;
 use sand_settle::{Avalanche, DrivenPile, Settled};
-use sand_text::{pile_text, push_sum, read_drops, table_text};
+use sand_text::push_sum;
 use std::alloc::{AllocError, Global};
 
 // A list with room for a row per drop, or for none if only the pile is wanted.
@@ -66,8 +67,9 @@ fn drops_text(
     alloc: Global,
     rows: &[(u64, Avalanche)],
     last: &Settled,
-) -> Result<Vec<u8>, AllocError>
-    ensures { IfOk result (λ text. text.items ≡ drops_text_of rows.now last.now) }
+) -> Result<Vec<u8>, DeskFault>
+    ensures text { IfOk result (λ text. text.items ≡ drops_text_of rows.now last.now) }
+    ensures memory { IsOkUnless result DeskFault.Memory }
 {
     let mut text = table_text(alloc, rows)?;
     let heights = pile_text(alloc, last.pile())?;
@@ -82,8 +84,9 @@ fn part_text(
     rows: &[(u64, Avalanche)],
     last: &Settled,
     part: Part,
-) -> Result<Vec<u8>, AllocError>
-    ensures { IfOk result (λ text. text.items ≡ drops_in part rows.now last.now) }
+) -> Result<Vec<u8>, DeskFault>
+    ensures text { IfOk result (λ text. text.items ≡ drops_in part rows.now last.now) }
+    ensures memory { IsOkUnless result DeskFault.Memory }
 {
     match part {
         Part::All => drops_text(alloc, rows, last),
@@ -110,5 +113,5 @@ pub(crate) fn listed_drops(alloc: Global, input: &[u8], part: Part) -> Result<Ve
     let mut pile = DrivenPile::new(alloc, &start)?;
     let rows = drop_all(alloc, &mut pile, drops.as_slice(), is_pile(part))?;
     let last = pile.finish();
-    Ok(part_text(alloc, rows.as_slice(), &last, part)?)
+    part_text(alloc, rows.as_slice(), &last, part)
 }

@@ -1,6 +1,6 @@
 //! The commands of the group of recurrent piles: `burn`, `identity`, `add`, `inverse`, `multiple` and `recurrent`.
 
-ghost use Rattle.std.specs.Prelude.{◌≡◌, IfOk, IfErr};
+ghost use Rattle.std.specs.Prelude.{◌≡◌, IfOk, IfErr, IsOkUnless};
 ghost use Rattle.sand_model.specs.Piles.{height_of};
 ghost use Rattle.sand_model.specs.Sand.{IsStable};
 ghost use Rattle.sand_text.specs.Reading.{pile_of};
@@ -9,15 +9,16 @@ ghost use Rattle.sand_desk.specs.Group.{IsBurnText, IsIdentityText, IsSumText, I
 ghost use Rattle.sand_desk.specs.Settling.{pile_or_picture};
 
 use crate::faults::DeskFault;
+use crate::texts::{burn_text, pgm_text, pile_text, read_pile, read_two};
 use sand_group::{Recurrent, add, burn, equivalent_recurrent, identity, inverse, multiple};
 use sand_model::{Edge, Pile, Shape};
-use sand_text::{burn_text, pgm_text, pile_text, read_pile, read_two};
-use std::alloc::{AllocError, Global};
+use std::alloc::Global;
 
 // A stable pile, as text or as a picture.
-fn pile_or_picture(alloc: Global, pile: &Pile, pgm: bool) -> Result<Vec<u8>, AllocError>
+fn pile_or_picture(alloc: Global, pile: &Pile, pgm: bool) -> Result<Vec<u8>, DeskFault>
     requires { IsStable pile.now.grid (height_of pile.now) }
-    ensures { IfOk result (λ text. text.items ≡ pile_or_picture pgm pile.now) }
+    ensures text { IfOk result (λ text. text.items ≡ pile_or_picture pgm pile.now) }
+    ensures memory { IsOkUnless result DeskFault.Memory }
 {
     if pgm {
         pgm_text(alloc, pile)
@@ -33,7 +34,7 @@ pub(crate) fn burn_input(alloc: Global, input: &[u8]) -> Result<Vec<u8>, DeskFau
 {
     let pile = read_pile(alloc, input)?;
     let burned = burn(alloc, &pile)?;
-    Ok(burn_text(alloc, pile.shape(), &burned)?)
+    burn_text(alloc, pile.shape(), &burned)
 }
 
 fn edge_of(cylinder: bool) -> Edge
@@ -55,7 +56,7 @@ pub(crate) fn identity_text(
 {
     let shape = Shape::with_edge(width, height, edge_of(cylinder))?;
     let neutral = identity(alloc, shape)?;
-    Ok(pile_or_picture(alloc, neutral.pile(), pgm)?)
+    pile_or_picture(alloc, neutral.pile(), pgm)
 }
 
 /// The sum of the two piles in the input, as text or as a picture. Fails if the first pile is not recurrent, then if
@@ -68,7 +69,7 @@ pub(crate) fn sum_input(alloc: Global, input: &[u8], pgm: bool) -> Result<Vec<u8
     let first = Recurrent::from_pile(alloc, &first)?;
     let second = Recurrent::from_pile(alloc, &second)?;
     let sum = add(alloc, &first, &second)?;
-    Ok(pile_or_picture(alloc, sum.pile(), pgm)?)
+    pile_or_picture(alloc, sum.pile(), pgm)
 }
 
 /// The inverse of the pile in the input, as text or as a picture. Fails if that pile is not recurrent (`Unstable`,
@@ -80,7 +81,7 @@ pub(crate) fn inverse_input(alloc: Global, input: &[u8], pgm: bool) -> Result<Ve
     let pile = read_pile(alloc, input)?;
     let recurrent = Recurrent::from_pile(alloc, &pile)?;
     let inverse = inverse(alloc, &recurrent)?;
-    Ok(pile_or_picture(alloc, inverse.pile(), pgm)?)
+    pile_or_picture(alloc, inverse.pile(), pgm)
 }
 
 /// The sum of `times` copies of the pile in the input, as text or as a picture. Fails if that pile is not recurrent
@@ -97,7 +98,7 @@ pub(crate) fn multiple_input(
     let pile = read_pile(alloc, input)?;
     let recurrent = Recurrent::from_pile(alloc, &pile)?;
     let sum = multiple(alloc, &recurrent, times)?;
-    Ok(pile_or_picture(alloc, sum.pile(), pgm)?)
+    pile_or_picture(alloc, sum.pile(), pgm)
 }
 
 /// The recurrent pile equivalent to the pile in the input, as text or as a picture. Every pile has one, so only the
@@ -108,5 +109,5 @@ pub(crate) fn recurrent_input(alloc: Global, input: &[u8], pgm: bool) -> Result<
 {
     let pile = read_pile(alloc, input)?;
     let recurrent = equivalent_recurrent(alloc, &pile)?;
-    Ok(pile_or_picture(alloc, recurrent.pile(), pgm)?)
+    pile_or_picture(alloc, recurrent.pile(), pgm)
 }

@@ -1,6 +1,6 @@
 //! The command `lab`, and the texts of a report.
 
-ghost use Rattle.std.specs.Prelude.{ℕ, ◌≡◌, ◌+◌, ◌++◌, List, map, sum, IfOk, IfErr, OnOk};
+ghost use Rattle.std.specs.Prelude.{ℕ, ◌≡◌, ◌+◌, ◌++◌, List, map, sum, IfOk, IfErr, OnOk, IsOkUnless};
 ghost use Rattle.sand_shared.specs.Record.{IsOneThreads};
 ghost use Rattle.sand_text.specs.Runs.{journal_lines};
 ghost use Rattle.sand_cli.specs.Asked.{IsRun};
@@ -11,12 +11,13 @@ ghost use Rattle.sand_desk.specs.Commands.{IsLabFault, IsRunFault, Finds};
 ghost use Rattle.sand_desk.specs.Laboratory.{IsLabText, dropper_and_site, journal_text_of_report, lab_text_of_report, report_text_of, sums_of};
 
 use crate::faults::DeskFault;
+use crate::texts::{pgm_text, pile_text, read_pile};
 use sand_cli::Form;
 use sand_lab::{Album, Entry, Gate, LabFault, Plan, Report, run};
 use sand_model::Pile;
 use sand_plan::Wish;
 use sand_shared::Record;
-use sand_text::{Sums, pgm_text, pile_text, push_journal_head, push_journal_line, read_pile};
+use sand_text::{Sums, push_journal_head, push_journal_line};
 use std::alloc::{AllocError, Global};
 use std::thread::Threads;
 
@@ -42,18 +43,19 @@ fn sums_of_all(alloc: Global, records: &[Record]) -> Result<Vec<Sums>, AllocErro
 }
 
 /// The text of a report: the sums of each epoch and of all epochs, the last pile, and how often each site toppled.
-pub fn lab_text(alloc: Global, report: &Report) -> Result<Vec<u8>, AllocError>
-    ensures { IfOk result (λ text. text.items ≡ lab_text_of_report report.now) }
+pub fn lab_text(alloc: Global, report: &Report) -> Result<Vec<u8>, DeskFault>
+    ensures text { IfOk result (λ text. text.items ≡ lab_text_of_report report.now) }
+    ensures memory { IsOkUnless result DeskFault.Memory }
 {
     let total = report.total();
     let epochs = sums_of_all(alloc, report.records())?;
-    sand_text::lab_text(
+    Ok(sand_text::lab_text(
         alloc,
         epochs.as_slice(),
         sums_of(total),
         total.pile(),
         total.odometers(),
-    )
+    )?)
 }
 
 // Appends a line for each drop of an epoch, by number.
@@ -78,8 +80,9 @@ fn push_journals(text: &mut Vec<u8>, report: &Report) -> Result<(), AllocError>
 }
 
 /// The journal of a report: a line for each drop, by epoch and by number within it.
-pub fn journal_text(alloc: Global, report: &Report) -> Result<Vec<u8>, AllocError>
-    ensures { IfOk result (λ text. text.items ≡ journal_text_of_report report.now) }
+pub fn journal_text(alloc: Global, report: &Report) -> Result<Vec<u8>, DeskFault>
+    ensures text { IfOk result (λ text. text.items ≡ journal_text_of_report report.now) }
+    ensures memory { IsOkUnless result DeskFault.Memory }
 {
     let mut text = Vec::new(alloc);
     push_journals(&mut text, report)?;
@@ -123,8 +126,9 @@ fn report_on<T: Threads + Sync, G: Gate>(
 }
 
 // The text of a report, with its journal if wanted.
-fn whole_text(alloc: Global, report: &Report, journal: bool) -> Result<Vec<u8>, AllocError>
-    ensures { IfOk result (λ text. text.items ≡ report_text_of journal forms.Text report.now) }
+fn whole_text(alloc: Global, report: &Report, journal: bool) -> Result<Vec<u8>, DeskFault>
+    ensures text { IfOk result (λ text. text.items ≡ report_text_of journal forms.Text report.now) }
+    ensures memory { IsOkUnless result DeskFault.Memory }
 {
     let mut text = lab_text(alloc, report)?;
     if journal {
@@ -139,9 +143,10 @@ fn report_text(
     report: &Report,
     journal: bool,
     form: Form,
-) -> Result<Vec<u8>, AllocError>
+) -> Result<Vec<u8>, DeskFault>
     requires { IsOneThreads report.now.total }
-    ensures { IfOk result (λ text. text.items ≡ report_text_of journal form report.now) }
+    ensures text { IfOk result (λ text. text.items ≡ report_text_of journal form report.now) }
+    ensures memory { IsOkUnless result DeskFault.Memory }
 {
     match form {
         Form::Text => whole_text(alloc, report, journal),
@@ -167,5 +172,5 @@ pub(crate) fn lab_input<T: Threads + Sync, G: Gate>(
 {
     let start = read_pile(alloc, input)?;
     let report = report_on(rt, alloc, gate, &start, wish)?;
-    Ok(report_text(alloc, &report, journal, form)?)
+    report_text(alloc, &report, journal, form)
 }

@@ -1,8 +1,8 @@
 //! The program's commands: from words and bytes to bytes.
 //!
-//! `commands` gets the task from `sand_cli`, reads the input, does the task and writes its text, with the parsers and
-//! writers of `sand_text`. `faults` has the one fault type for all of this, `helping` shows help, and `version` writes
-//! the version.
+//! `commands` gets the task from `sand_cli`, reads the input, does the task and writes its text. `texts` wraps the
+//! parsers and writers of `sand_text`, `faults` has the one fault type for all of this, `helping` shows help, and
+//! `version` writes the version.
 #![tactic(auto)]
 
 mod commands;
@@ -14,10 +14,14 @@ mod helping;
 mod laboratory;
 pub mod laws;
 mod settling;
+mod texts;
 mod version;
 
 pub use commands::{run_command, run_gated_command};
 pub use faults::{DeskFault, status, write_fault};
 pub use helping::show_help;
 pub use laboratory::{journal_text, lab_text};
+pub use texts::{
+    burn_text, pgm_text, pile_text, read_drops, read_pile, read_two, settle_text, table_text,
+};
 pub use version::{asks_for_version, write_version};

@@ -1,14 +1,16 @@
 //! The command `settle`.
 
-ghost use Rattle.std.specs.Prelude.{IfOk, IfErr};
+ghost use Rattle.std.specs.Prelude.{◌≡◌, IfOk, IfErr, IsOkUnless};
+ghost use Rattle.sand_model.specs.Piles.{height_of};
+ghost use Rattle.sand_model.specs.Sand.{IsStable};
 ghost use Rattle.sand_text.specs.Reading.{pile_of};
 ghost use Rattle.sand_desk.specs.Commands.{IsUnreadable, Finds};
 ghost use Rattle.sand_desk.specs.Settling.{IsSettleText};
 
 use crate::faults::DeskFault;
+use crate::texts::{pgm_text, pile_text, read_pile, settle_text};
 use sand_cli::Form;
 use sand_settle::settle;
-use sand_text::{pgm_text, pile_text, read_pile, settle_text};
 use std::alloc::Global;
 
 /// The settled record of the pile in the input as text, or only its pile, as text or as a picture.
@@ -19,8 +21,8 @@ pub(crate) fn settle_input(alloc: Global, input: &[u8], form: Form) -> Result<Ve
     let pile = read_pile(alloc, input)?;
     let settled = settle(alloc, &pile)?;
     match form {
-        Form::Text => Ok(settle_text(alloc, &settled)?),
-        Form::Pile => Ok(pile_text(alloc, settled.pile())?),
-        Form::Picture => Ok(pgm_text(alloc, settled.pile())?),
+        Form::Text => settle_text(alloc, &settled),
+        Form::Pile => pile_text(alloc, settled.pile()),
+        Form::Picture => pgm_text(alloc, settled.pile()),
     }
 }

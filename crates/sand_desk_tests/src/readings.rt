@@ -1,7 +1,6 @@
 //! Texts that the parsers accept or reject, and the fault line of each rejection.
 
-use sand_desk::{DeskFault, status, write_fault};
-use sand_text::{ReadFault, read_drops, read_pile, read_two};
+use sand_desk::{DeskFault, read_drops, read_pile, read_two, status, write_fault};
 use std::alloc::Global;
 use std::test::Fail;
 
@@ -16,11 +15,10 @@ fn line_of(alloc: Global, fault: &DeskFault) -> Option<Vec<u8>> {
 }
 
 // Whether parsing failed with the fault of this line.
-fn is_refused<T: Drop>(alloc: Global, read: Result<T, ReadFault>, line: &str) -> bool {
+fn is_refused<T: Drop>(alloc: Global, read: Result<T, DeskFault>, line: &str) -> bool {
     match read {
         Ok(_) => false,
-        Err(fault) => line_of(alloc, &DeskFault::from(fault)).is_some_and(|told| told.as_slice()
-            == line.as_bytes()),
+        Err(fault) => line_of(alloc, &fault).is_some_and(|told| told.as_slice() == line.as_bytes()),
     }
 }
 

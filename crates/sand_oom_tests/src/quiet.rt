@@ -12,7 +12,7 @@ use crate::memory::{refuse, was_refused};
 use crate::piles::full;
 use crate::settling::{is_after_the_drop, is_settled};
 use sand_desk::laws::{drops_of_one_dropper, one_lab_text, one_number};
-use sand_desk::{DeskFault, status, write_fault};
+use sand_desk::{DeskFault, read_pile, status, write_fault};
 use sand_group::laws::{
     burning_decides, equivalents_add_up, is_group, one_in_each_class, recurrent_from_full,
     settling_is_adding,
@@ -33,7 +33,6 @@ use sand_testing::piles::{one_site, open_pile};
 use sand_testing::records::is_record;
 use sand_testing::runs::{QUIET, run_into};
 use sand_testing::shared::closed;
-use sand_text::read_pile;
 use std::alloc::{AllocError, Global};
 use std::test::Fail;
 

@@ -7,7 +7,7 @@ ghost use Rattle.sand_lab.specs.Albums.{IsPlace};
 
 use crate::memory::{refuse, was_refused};
 use crate::trying::{
-    MEMORY, MOST_REQUESTS, Spares, Tried, came_to, each_number, each_refused, tell_refused, text_is,
+    MEMORY, MOST_REQUESTS, Spares, Tried, came_to, each_number, each_refused, tell_refused,
 };
 use sand_desk::{journal_text, lab_text};
 use sand_lab::{Album, LabFault, Note, Open, Report, Wish, sites_of};
@@ -312,6 +312,10 @@ fn report_of<R: Threads + Sync>(rt: &R, alloc: Global) -> Result<Report, Fail> {
     Ok(report)
 }
 
+fn is_lab_text(text: &[u8]) -> bool {
+    text == b"epoch drops topplings lost grains\n0 2 0 0 2\ntotal 2 0 0 2\n1 1\n2\nodometer\n0\n".as_slice()
+}
+
 #[test]
 fn lab_text_reports_out_of_memory(rt: HostRuntime) -> Result<(), Fail> {
     let report = report_of(&rt, rt.alloc())?;
@@ -319,10 +323,7 @@ fn lab_text_reports_out_of_memory(rt: HostRuntime) -> Result<(), Fail> {
         &rt,
         rt.alloc(),
         "lab_text",
-        |alloc: Global| text_is(
-            lab_text(alloc, &report),
-            b"epoch drops topplings lost grains\n0 2 0 0 2\ntotal 2 0 0 2\n1 1\n2\nodometer\n0\n",
-        ),
+        |alloc: Global| came_to!(lab_text(alloc, &report), text => is_lab_text(text.as_slice())),
     )
 }
 
@@ -333,6 +334,6 @@ fn journal_text_reports_out_of_memory(rt: HostRuntime) -> Result<(), Fail> {
         &rt,
         rt.alloc(),
         "journal_text",
-        |alloc: Global| text_is(journal_text(alloc, &report), b"journal\n0 0 0 0\n0 1 0 0\n"),
+        |alloc: Global| came_to!(journal_text(alloc, &report), text => text.as_slice() == b"journal\n0 0 0 0\n0 1 0 0\n".as_slice()),
     )
 }

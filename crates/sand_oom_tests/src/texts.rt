@@ -1,14 +1,14 @@
 //! Texts that are read, and texts that are written.
 
 use crate::piles::full;
-use crate::trying::{came_to, each_refused, text_is};
+use crate::trying::{came_to, each_refused};
+use sand_desk::{
+    burn_text, pgm_text, pile_text, read_drops, read_pile, read_two, settle_text, table_text,
+};
 use sand_group::burn;
 use sand_model::Pile;
 use sand_settle::{Avalanche, settle};
 use sand_testing::piles::open_pile;
-use sand_text::{
-    burn_text, pgm_text, pile_text, read_drops, read_pile, read_two, settle_text, table_text,
-};
 use std::alloc::Global;
 use std::test::Fail;
 
@@ -45,7 +45,7 @@ fn read_drops_reports_out_of_memory(rt: HostRuntime) -> Result<(), Fail> {
 fn pile_text_reports_out_of_memory(rt: HostRuntime) -> Result<(), Fail> {
     let pile = full(rt.alloc())?;
     each_refused(&rt, rt.alloc(), "pile_text", |alloc: Global| {
-        text_is(pile_text(alloc, &pile), b"3 3\n3 3 3\n3 3 3\n3 3 3\n")
+        came_to!(pile_text(alloc, &pile), text => text.as_slice() == b"3 3\n3 3 3\n3 3 3\n3 3 3\n".as_slice())
     })
 }
 
@@ -54,10 +54,7 @@ fn settle_text_reports_out_of_memory(rt: HostRuntime) -> Result<(), Fail> {
     let start = open_pile(rt.alloc(), 3, 1, &[0, 4, 0])?;
     let settled = settle(rt.alloc(), &start)?;
     each_refused(&rt, rt.alloc(), "settle_text", |alloc: Global| {
-        text_is(
-            settle_text(alloc, &settled),
-            b"3 1\n1 0 1\nodometer\n0 1 0\nlost 2\ntopplings 1\n",
-        )
+        came_to!(settle_text(alloc, &settled), text => text.as_slice() == b"3 1\n1 0 1\nodometer\n0 1 0\nlost 2\ntopplings 1\n".as_slice())
     })
 }
 
@@ -66,7 +63,7 @@ fn pgm_text_reports_out_of_memory(rt: HostRuntime) -> Result<(), Fail> {
     let pile = full(rt.alloc())?;
     assert!(rt; pile.is_stable());
     each_refused(&rt, rt.alloc(), "pgm_text", |alloc: Global| {
-        text_is(pgm_text(alloc, &pile), b"P2\n3 3\n3\n3 3 3\n3 3 3\n3 3 3\n")
+        came_to!(pgm_text(alloc, &pile), text => text.as_slice() == b"P2\n3 3\n3\n3 3 3\n3 3 3\n3 3 3\n".as_slice())
     })
 }
 
@@ -75,10 +72,7 @@ fn burn_text_reports_out_of_memory(rt: HostRuntime) -> Result<(), Fail> {
     let pile = open_pile(rt.alloc(), 3, 1, &[0, 0, 3])?;
     let burned = burn(rt.alloc(), &pile)?;
     each_refused(&rt, rt.alloc(), "burn_text", |alloc: Global| {
-        text_is(
-            burn_text(alloc, pile.shape(), &burned),
-            b"forbidden 2\n0 0\n1 0\n",
-        )
+        came_to!(burn_text(alloc, pile.shape(), &burned), text => text.as_slice() == b"forbidden 2\n0 0\n1 0\n".as_slice())
     })
 }
 
@@ -93,9 +87,6 @@ fn table_text_reports_out_of_memory(rt: HostRuntime) -> Result<(), Fail> {
     };
     let rows = [(0, avalanche)];
     each_refused(&rt, rt.alloc(), "table_text", |alloc: Global| {
-        text_is(
-            table_text(alloc, rows.as_slice()),
-            b"number site size area reach lost\n0 4 10 9 2 12\n",
-        )
+        came_to!(table_text(alloc, rows.as_slice()), text => text.as_slice() == b"number site size area reach lost\n0 4 10 9 2 12\n".as_slice())
     })
 }

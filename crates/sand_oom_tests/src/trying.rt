@@ -1,7 +1,7 @@
 //! The trial of a call: each of its allocations refused in turn.
 
 use crate::memory::{can_refuse, refuse, was_refused};
-use std::alloc::{AllocError, Global};
+use std::alloc::Global;
 use std::process::Abort;
 use std::test::Fail;
 
@@ -22,14 +22,6 @@ macro_rules! came_to {
 }
 
 pub(crate) use came_to;
-
-/// The outcome of a call for a text: whether it is this one, or the number of the fault out of memory.
-pub fn text_is(text: Result<Vec<u8>, AllocError>, wanted: &[u8]) -> Result<bool, u32> {
-    match text {
-        Ok(text) => Ok(text.as_slice() == wanted),
-        Err(_) => Err(MEMORY),
-    }
-}
 
 /// One try of a call, with an allocation refused.
 #[derive(Clone, Copy)]

@@ -1,4 +1,5 @@
 use Rattle.std.proofs.Common.{◌∙◌, ◌<◌, ℕ, All, sym, subst}
+use Rattle.std.proofs.lemmas.Result.{IfOk-weaker}
 use Rattle.sand_model.specs.Grid.{Grid, sites}
 use Rattle.sand_desk.specs.Dropping.{AreNoted, AreRows}
 use Rattle.sand_desk.proofs.DropSites.{drops_inside}
@@ -15,7 +16,8 @@ pub returns-clause-text : goal.returns-clause-text
 returns-clause-text c =
     let noted : AreNoted c.is_pile.result c.in_ok-pile.pile c.in_ok-start.drops.items c.in_ok-rows.rows.items c.drop_all.new.pile = rw c.as_slice.ensures.value at c.in_ok-rows.ensures.rows in
     let P : ℕ → Type 0 = λ n. AreRows n c.in_ok-pile.pile c.in_ok-start.drops.items noted.0 c.drop_all.new.pile in
-    record {
+    IfOk-weaker c.part_text.result _ _
+    (λ text written. record {
       pile = c.in_ok-start.start;
       sites = c.in_ok-start.drops.items;
       first = c.in_ok-pile.pile;
@@ -25,5 +27,6 @@ returns-clause-text c =
       start = c.in_ok-pile.ensures.settled;
       dropped = subst P c.in_ok-pile.ensures.settled.number noted.1;
       end = rw c.as_slice.ensures.value at (c.in_ok-rows.ensures.after c.in_ok-start.start c.in_ok-pile.ensures.settled);
-      written = (rw (c.as_slice-2.ensures.value, c.finish-last.ensures) at c.in_ok-part_text.ensures) ∙ noted_text c.args.part c.in_ok-rows.rows.items noted.0 c.drop_all.new.pile.settled (rw c.is_pile.ensures at noted.2);
-    }
+      written = (rw (c.as_slice-2.ensures.value, c.finish-last.ensures) at written) ∙ noted_text c.args.part c.in_ok-rows.rows.items noted.0 c.drop_all.new.pile.settled (rw c.is_pile.ensures at noted.2);
+    })
+    c.part_text.ensures.text

@@ -1,5 +1,5 @@
 use Rattle.std.proofs.Common.{sym, ◌∙◌, ap}
-use Rattle.std.proofs.lemmas.Result.{err_from_is_err_and}
+use Rattle.std.proofs.lemmas.Result.{err_from_is_err_and, IfOk-weaker}
 use Rattle.sand_model.specs.Grid.{Grid, sites}
 use Rattle.sand_model.specs.Piles.{PileView}
 use Rattle.sand_desk.proofs.Unfit.{first_refused, second_refused}
@@ -30,7 +30,8 @@ returns-in_err-second-clause-fault c =
 
 pub returns-clause-text : goal.returns-clause-text
 returns-clause-text c =
-    record {
+    IfOk-weaker c.pile_or_picture.result _ _
+    (λ text written. record {
       first = c.in_ok-first.first;
       second = c.in_ok-first.second;
       read = c.in_ok-first.ensures;
@@ -42,6 +43,7 @@ returns-clause-text c =
         grid = c.in_ok-sum.ensures.settled.grid ∙ ap grid c.in_ok-first-2.ensures.made;
         one_each = c.in_ok-sum.ensures.settled.one_each ∙ ap (λ (p : PileView). sites p.grid) c.in_ok-first-2.ensures.made;
         wanted = rw (c.in_ok-first-2.ensures.made, c.in_ok-second.ensures.made) at c.in_ok-sum.ensures.sum;
-        written = rw c.pile.ensures.value at c.in_ok-pile_or_picture.ensures;
+        written = rw c.pile.ensures.value at written;
       };
-    }
+    })
+    c.pile_or_picture.ensures.text
