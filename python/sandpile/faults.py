@@ -22,7 +22,8 @@ _FAULTS = {
 
 
 class Fault(ValueError):
-    """The input of a call is invalid, or an allocation failed. Nothing has changed.
+    """The input of a call is invalid, or an allocation failed. Nothing has changed, except that `Drive.drop` and
+    `Drive.drop_at` keep the blocks of drops before a failed allocation.
 
     Attributes
     ----------
