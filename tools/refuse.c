@@ -1,9 +1,9 @@
-// Refuses requests for memory. Loaded before the C library, it answers the program's requests in its stead.
+// Refuses requests for memory. Loaded before the C library, it handles the program's requests in its place.
 //
-// Two ways to say which request is refused:
-// - REFUSE_AT=N in the environment: the N-th request of the whole program, and no other. Where REFUSED_TO names a file,
-//   that file is made as the request is refused.
-// - By the program itself, at any time: it asks for more than any machine has, and by how much says what it wants.
+// There are two ways to say which request is refused:
+// - REFUSE_AT=N in the environment: the N-th request of the whole program, and no other. If REFUSED_TO names a file, that
+//   file is created when the request is refused.
+// - By the program itself, at any time: it requests more memory than any machine has, and the amount is the order.
 //   crates/sand_oom_tests/src/memory.rt is the other end of this.
 #define _GNU_SOURCE
 #include <errno.h>
@@ -19,8 +19,8 @@ extern void *__libc_calloc(size_t, size_t);
 extern void *__libc_realloc(void *, size_t);
 extern void *__libc_memalign(size_t, size_t);
 
-// What a program asks for to say something: whether this library is here; that refusing ends, and whether a request was
-// refused since it began; and, by each greater number, that it begins.
+// The amounts that are orders: to say whether this library is here; to stop refusing, and say whether a request was
+// refused since it began; and, for each greater amount, to begin.
 static const size_t IS_HERE = (size_t)1 << 60;
 static const size_t END = IS_HERE + 1;
 static const size_t BEGIN = IS_HERE + 2;
