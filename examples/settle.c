@@ -1,4 +1,4 @@
-/* Settles a tower of 150,000 grains on 256 by 256, and drops four more where it stood. */
+/* Settles a tower of 150,000 grains on 256 by 256, and drops four more grains on the same site. */
 #include "sandpile.h"
 #include <inttypes.h>
 #include <stdio.h>
