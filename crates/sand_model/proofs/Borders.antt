@@ -24,16 +24,30 @@ nothing_south g i inside last =
     (λ (bottom : g.height ≤ i / g.width + 1). rw (le-ltb (i / g.width + 1) g.height bottom) refl)
     (cases_lt (i / g.width + 1) g.height)
 
-rows_told : (g : Grid) (i : ℕ) → i < sites g → (leb g.width i ≡ ltb 0 (row g i)) × (ltb (i + g.width) (sites g) ≡ ltb (row g i + 1) g.height)
+rows_told : (g : Grid) (i : ℕ) → i < sites g
+    → (leb g.width i ≡ ltb 0 (row g i)) × (ltb (i + g.width) (sites g) ≡ ltb (row g i + 1) g.height)
 rows_told g i inside =
     let pos = some_width g.width g.height i inside in
     let above = row_above g.width i pos in
     let below = row_below g.width g.height i pos in (
-      (⊎_elim (λ (less : i < g.width). rw (lt-leb g.width i less, le-ltb 0 (i / g.width) (⊎_elim (λ (up : 0 < i / g.width). let far = above.0 up in absurd (omega arith)) (λ (le : i / g.width ≤ 0). le) (cases_lt 0 (i / g.width)))) refl)
+      (⊎_elim (λ (less : i < g.width). rw (
+        lt-leb g.width i less,
+        le-ltb 0 (i / g.width) (⊎_elim
+            (λ (up : 0 < i / g.width). let far = above.0 up in absurd (omega arith))
+            (λ (le : i / g.width ≤ 0). le)
+            (cases_lt 0 (i / g.width))),
+      ) refl)
           (λ (le : g.width ≤ i). rw (le-leb g.width i le, lt-ltb 0 (i / g.width) (above.1 le)) refl)
           (cases_lt i g.width)),
-      (⊎_elim (λ (down : i / g.width + 1 < g.height). rw (lt-ltb (i / g.width + 1) g.height down, lt-ltb (i + g.width) (sites g) (below.0 down)) refl)
-          (λ (last : g.height ≤ i / g.width + 1). rw (le-ltb (i / g.width + 1) g.height last, le-ltb (i + g.width) (sites g) (⊎_elim (λ (near : i + g.width < sites g). let down = below.1 near in absurd (omega arith)) (λ (le : sites g ≤ i + g.width). le) (cases_lt (i + g.width) (sites g)))) refl)
+      (⊎_elim (λ (down : i / g.width + 1 < g.height).
+          rw (lt-ltb (i / g.width + 1) g.height down, lt-ltb (i + g.width) (sites g) (below.0 down)) refl)
+          (λ (last : g.height ≤ i / g.width + 1). rw (
+            le-ltb (i / g.width + 1) g.height last,
+            le-ltb (i + g.width) (sites g) (⊎_elim
+                (λ (near : i + g.width < sites g). let down = below.1 near in absurd (omega arith))
+                (λ (le : sites g ≤ i + g.width). le)
+                (cases_lt (i + g.width) (sites g))),
+          ) refl)
           (cases_lt (i / g.width + 1) g.height)),
     )
 
@@ -42,10 +56,12 @@ and_joined true true c d = refl
 and_joined true false c d = refl
 and_joined false b c d = refl
 
-pub inner_told : (g : Grid) (i w end x : ℕ) → i < sites g → w ≡ g.width → end ≡ sites g → x ≡ column g i → (((leb w i && ltb (i + w) end) && ltb 0 x) && ltb (x + 1) w) ≡ is_inner g i
+pub inner_told : (g : Grid) (i w end x : ℕ) → i < sites g → w ≡ g.width → end ≡ sites g → x ≡ column g i
+    → (((leb w i && ltb (i + w) end) && ltb 0 x) && ltb (x + 1) w) ≡ is_inner g i
 inner_told g i w end x inside width all at_column =
     let told = rows_told g i inside in
-    rw (width, all, at_column, told.0, told.1) (and_joined (ltb 0 (row g i)) (ltb (row g i + 1) g.height) (ltb 0 (column g i)) (ltb (column g i + 1) g.width))
+    rw (width, all, at_column, told.0, told.1)
+    (and_joined (ltb 0 (row g i)) (ltb (row g i + 1) g.height) (ltb 0 (column g i)) (ltb (column g i + 1) g.width))
 
 -- ---- the next site, after the end of a row and elsewhere
 

@@ -22,7 +22,12 @@ product_bound : (a b : ℕ) → a + b ≤ 257 → a * b ≤ 16512
 product_bound a b small =
     ⊎_elim
     (λ (less : a < b). let e : b ≡ a + (b - a) = omega arith in rw e (product_ordered a (b - a) (omega arith)))
-    (λ (more : b ≤ a). let e : a ≡ b + (a - b) = omega arith in let least = product_ordered b (a - b) (omega arith) in let turned = ap (λ m. m * b) e in let other = ap (λ m. b * m) e in omega arith)
+    (λ (more : b ≤ a).
+    let e : a ≡ b + (a - b) = omega arith in
+    let least = product_ordered b (a - b) (omega arith) in
+    let turned = ap (λ m. m * b) e in
+    let other = ap (λ m. b * m) e in
+    omega arith)
     (cases_lt a b)
 
 grain_weight_bound : (g : Grid) (i : ℕ) → IsGrid g → i < sites g → grain_weight g i ≤ 16512
@@ -41,7 +46,8 @@ weight_bound g s sides =
     omega arith
 
 -- topplings number at most half the weight, legal or not, if no height ends below 0
-pub topplings_bound : (g : Grid) (s u t : ℕ → ℕ) → IsGrid g → grains g s ≤ most_grains → IsToppled g s u t → topplings g u < 2 ^ 54
+pub topplings_bound : (g : Grid) (s u t : ℕ → ℕ) → IsGrid g → grains g s ≤ most_grains → IsToppled g s u t
+    → topplings g u < 2 ^ 54
 topplings_bound g s u t sides few done =
     let falls = weight_after g s u t done in
     let start = weight_bound g s sides in

@@ -8,7 +8,8 @@ use Rattle.sand_model.specs.Lists.{one_if}
 use Rattle.sand_model.proofs.SumsBelow.{sum_below_same, sum_below-add, sum_below-scale, sum_below-zero, sum_below_swap, sum_below-one_at, one_at_comm}
 use Rattle.sand_model.proofs.Neighbours.{flow_four, neighbours_mutual, neighbours_below}
 
-sum_by_below_le : (n : ℕ) (u v : ℕ → ℕ) → ((j : ℕ) → j < n → u j ≤ v j) → (xs : List ℕ) → All (λ j. j < n) xs → sum_by u xs ≤ sum_by v xs
+sum_by_below_le : (n : ℕ) (u v : ℕ → ℕ) → ((j : ℕ) → j < n → u j ≤ v j) → (xs : List ℕ) → All (λ j. j < n) xs
+    → sum_by u xs ≤ sum_by v xs
 sum_by_below_le n u v le [] below = omega arith
 sum_by_below_le n u v le (x ∷ xs) below =
     let rest = sum_by_below_le n u v le xs (All-tail (λ j. j < n) x xs below) in
@@ -28,7 +29,8 @@ sum_by-scale c u (x ∷ xs) =
     rw (sum_by-cons (λ j. c * u j) x xs, sum_by-cons u x xs) (omega arith)
 
 -- a sum over a list of sites, as a sum over all sites
-pub sum_by_spread : (n : ℕ) (u : ℕ → ℕ) (xs : List ℕ) → All (λ j. j < n) xs → sum_by u xs ≡ sum_below n (λ j. u j * tally xs j)
+pub sum_by_spread : (n : ℕ) (u : ℕ → ℕ) (xs : List ℕ) → All (λ j. j < n) xs
+    → sum_by u xs ≡ sum_below n (λ j. u j * tally xs j)
 sum_by_spread n u [] below = sym (sum_below_same n (λ j. u j * 0) (λ j. 0) (λ j l. omega arith) ∙ sum_below-zero n)
 sum_by_spread n u (x ∷ xs) below =
     let rest = sum_by_spread n u xs (All-tail (λ j. j < n) x xs below) in
@@ -39,11 +41,13 @@ sum_by_spread n u (x ∷ xs) below =
     (λ j l. let c = sum_by-cons (λ k. one_at k j) x xs in rw c (omega arith)) in
     sum_by-cons u x xs ∙ (omega arith)
 
-pub flow_le : (g : Grid) (u v : ℕ → ℕ) → ((j : ℕ) → j < sites g → u j ≤ v j) → (i : ℕ) → i < sites g → flow g u i ≤ flow g v i
+pub flow_le : (g : Grid) (u v : ℕ → ℕ) → ((j : ℕ) → j < sites g → u j ≤ v j) → (i : ℕ) → i < sites g
+    → flow g u i ≤ flow g v i
 unfolding flow
 flow_le g u v le i l = sum_by_below_le (sites g) u v le (neighbours g i) (neighbours_below g i l)
 
-pub flow_same : (g : Grid) (u v : ℕ → ℕ) → ((j : ℕ) → j < sites g → u j ≡ v j) → (i : ℕ) → i < sites g → flow g u i ≡ flow g v i
+pub flow_same : (g : Grid) (u v : ℕ → ℕ) → ((j : ℕ) → j < sites g → u j ≡ v j) → (i : ℕ) → i < sites g
+    → flow g u i ≡ flow g v i
 flow_same g u v same i l =
     let up = flow_le g u v (λ j m. let e = same j m in omega arith) i l in
     let down = flow_le g v u (λ j m. let e = same j m in omega arith) i l in
@@ -57,17 +61,22 @@ pub flow-scale : (g : Grid) (c : ℕ) (u : ℕ → ℕ) (i : ℕ) → flow g (λ
 unfolding flow
 flow-scale g c u i = sum_by-scale c u (neighbours g i)
 
-flow_spread : (g : Grid) (u : ℕ → ℕ) (i : ℕ) → i < sites g → flow g u i ≡ sum_below (sites g) (λ j. u j * tally (neighbours g i) j)
+flow_spread : (g : Grid) (u : ℕ → ℕ) (i : ℕ) → i < sites g
+    → flow g u i ≡ sum_below (sites g) (λ j. u j * tally (neighbours g i) j)
 unfolding flow
 flow_spread g u i l = sum_by_spread (sites g) u (neighbours g i) (neighbours_below g i l)
 
 -- flow is self-adjoint: f * flow u and u * flow f have the same sum
-pub flow_self_adjoint : (g : Grid) (f u : ℕ → ℕ) → sum_below (sites g) (λ i. f i * flow g u i) ≡ sum_below (sites g) (λ i. u i * flow g f i)
+pub flow_self_adjoint : (g : Grid) (f u : ℕ → ℕ)
+    → sum_below (sites g) (λ i. f i * flow g u i) ≡ sum_below (sites g) (λ i. u i * flow g f i)
 flow_self_adjoint g f u =
-    sum_below_same (sites g) (λ i. f i * flow g u i) (λ i. sum_below (sites g) (λ j. f i * (u j * tally (neighbours g i) j)))
-    (λ i l. ap (λ k. f i * k) (flow_spread g u i l) ∙ sym (sum_below-scale (sites g) (f i) (λ j. u j * tally (neighbours g i) j)))
+    sum_below_same (sites g) (λ i. f i * flow g u i)
+    (λ i. sum_below (sites g) (λ j. f i * (u j * tally (neighbours g i) j)))
+    (λ i l. ap (λ k. f i * k) (flow_spread g u i l)
+    ∙ sym (sum_below-scale (sites g) (f i) (λ j. u j * tally (neighbours g i) j)))
     ∙ sum_below_swap (sites g) (sites g) (λ i j. f i * (u j * tally (neighbours g i) j))
-    ∙ sum_below_same (sites g) (λ j. sum_below (sites g) (λ i. f i * (u j * tally (neighbours g i) j))) (λ j. u j * flow g f j)
+    ∙ sum_below_same (sites g)
+    (λ j. sum_below (sites g) (λ i. f i * (u j * tally (neighbours g i) j))) (λ j. u j * flow g f j)
     (λ j m.
     sum_below_same (sites g) (λ i. f i * (u j * tally (neighbours g i) j)) (λ i. u j * (f i * tally (neighbours g j) i))
     (λ i l. let both = neighbours_mutual g i j l m in rw both (omega arith))
@@ -84,7 +93,10 @@ flow-one_at g i j li lj =
     flow_same g (one_at i) (λ k. one_at k i) (λ k m. one_at_comm i k) j lj ∙ flow_mutual g j i lj li
 
 -- the same, place by place
-pub four_places : (g : Grid) (i j : ℕ) (ps : List (Option ℕ)) → ps ≡ places g i → i < sites g → j < sites g → flow g (one_at i) j ≡ value_at (λ m. one_at m j) (get_or ps 0 None) + value_at (λ m. one_at m j) (get_or ps 1 None) + value_at (λ m. one_at m j) (get_or ps 2 None) + value_at (λ m. one_at m j) (get_or ps 3 None)
+pub four_places : (g : Grid) (i j : ℕ) (ps : List (Option ℕ)) → ps ≡ places g i → i < sites g → j < sites g
+    → flow g (one_at i) j ≡ value_at (λ m. one_at m j) (get_or ps 0 None)
+    + value_at (λ m. one_at m j) (get_or ps 1 None) + value_at (λ m. one_at m j) (get_or ps 2 None)
+    + value_at (λ m. one_at m j) (get_or ps 3 None)
 four_places g i j ps e l m = rw e (flow-one_at g i j l m ∙ flow_four g (λ q. one_at q j) i)
 
 -- ---- how many neighbours of a site are in a set

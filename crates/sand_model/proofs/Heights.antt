@@ -19,13 +19,15 @@ sum_is_sum_below : (xs : List ℕ) → sum xs ≡ sum_below (length xs) (λ i. g
 unfolding sum_below
 sum_is_sum_below [] = refl
 sum_is_sum_below (x ∷ xs) =
-    sum_by-cons (λ y. y) x xs ∙ ap (λ k. x + k) (sum_is_sum_below xs) ∙ sym (sum_below-first (length xs) (λ i. get_or (x ∷ xs) i 0))
+    sum_by-cons (λ y. y) x xs ∙ ap (λ k. x + k) (sum_is_sum_below xs)
+    ∙ sym (sum_below-first (length xs) (λ i. get_or (x ∷ xs) i 0))
 
 pub sum_is_grains : (g : Grid) (xs : List ℕ) → length xs ≡ sites g → sum xs ≡ grains g (λ i. get_or xs i 0)
 sum_is_grains g xs e = sum_is_sum_below xs ∙ ap (λ n. sum_below n (λ i. get_or xs i 0)) e
 
 -- each entry after one of them is written
-pub get_or-written : (u : List ℕ) (i v j : ℕ) → i < length u → get_or (set u i v) j 0 + get_or u i 0 * one_at i j ≡ get_or u j 0 + v * one_at i j
+pub get_or-written : (u : List ℕ) (i v j : ℕ) → i < length u
+    → get_or (set u i v) j 0 + get_or u i 0 * one_at i j ≡ get_or u j 0 + v * one_at i j
 get_or-written u i v j inside =
     ⊎_elim
     (λ (same : i ≡ j).
@@ -44,17 +46,24 @@ get_or-written u i v j inside =
     (cases_eq i j)
 
 -- each entry after k is added to one of them
-pub counted : (i k : ℕ) (u v : List ℕ) → i < length u → v ≡ set u i (get_or u i 0 + k) → (j : ℕ) → get_or v j 0 ≡ get_or u j 0 + k * one_at i j
+pub counted : (i k : ℕ) (u v : List ℕ) → i < length u → v ≡ set u i (get_or u i 0 + k) → (j : ℕ)
+    → get_or v j 0 ≡ get_or u j 0 + k * one_at i j
 counted i k u v inside e j = let all = get_or-written u i (get_or u i 0 + k) j inside in rw e (omega arith)
 
 pub lost_at : (g : Grid) (i t : ℕ) → i < sites g → lost g (λ j. t * one_at i j) ≡ t * missing g i
 lost_at g i t l =
-    sum_below_same (sites g) (λ j. missing g j * (t * one_at i j)) (λ j. t * (missing g j * one_at i j)) (λ j m. omega arith)
+    sum_below_same (sites g) (λ j. missing g j * (t * one_at i j))
+    (λ j. t * (missing g j * one_at i j)) (λ j m. omega arith)
     ∙ sum_below-scale (sites g) t (λ j. missing g j * one_at i j)
     ∙ ap (λ k. t * k) (sum_below-one_at (sites g) i (missing g) l)
 
 -- a site that gave t grains to each of its places toppled t times
-pub spread_toppled : (g : Grid) (i t : ℕ) (h k : List ℕ) (ps : List (Option ℕ)) → ps ≡ places g i → i < sites g → length h ≡ sites g → 4 * t ≤ get_or h i 0 → ((j : ℕ) → get_or k j 0 ≡ get_or (set h i (get_or h i 0 - 4 * t)) j 0 + t * value_at (λ m. one_at m j) (get_or ps 0 None) + t * value_at (λ m. one_at m j) (get_or ps 1 None) + t * value_at (λ m. one_at m j) (get_or ps 2 None) + t * value_at (λ m. one_at m j) (get_or ps 3 None)) → IsToppled g (λ j. get_or h j 0) (λ j. t * one_at i j) (λ j. get_or k j 0)
+pub spread_toppled : (g : Grid) (i t : ℕ) (h k : List ℕ) (ps : List (Option ℕ))
+    → ps ≡ places g i → i < sites g → length h ≡ sites g → 4 * t ≤ get_or h i 0
+    → ((j : ℕ) → get_or k j 0 ≡ get_or (set h i (get_or h i 0 - 4 * t)) j 0
+    + t * value_at (λ m. one_at m j) (get_or ps 0 None) + t * value_at (λ m. one_at m j) (get_or ps 1 None)
+    + t * value_at (λ m. one_at m j) (get_or ps 2 None) + t * value_at (λ m. one_at m j) (get_or ps 3 None))
+    → IsToppled g (λ j. get_or h j 0) (λ j. t * one_at i j) (λ j. get_or k j 0)
 spread_toppled g i t h k ps e l len high after = record {
   balance = λ j m.
       let scaled = flow-scale g t (one_at i) j in
@@ -66,7 +75,9 @@ spread_toppled g i t h k ps e l len high after = record {
       omega arith;
 }
 
-pub toppled_once : (g : Grid) (i : ℕ) (h k : List ℕ) → IsToppled g (λ j. get_or h j 0) (λ j. 1 * one_at i j) (λ j. get_or k j 0) → IsToppled g (λ j. get_or h j 0) (one_at i) (λ j. get_or k j 0)
+pub toppled_once : (g : Grid) (i : ℕ) (h k : List ℕ)
+    → IsToppled g (λ j. get_or h j 0) (λ j. 1 * one_at i j) (λ j. get_or k j 0)
+    → IsToppled g (λ j. get_or h j 0) (one_at i) (λ j. get_or k j 0)
 toppled_once g i h k done = record {
   balance = λ j l.
       let e = done.balance j l in
@@ -74,14 +85,19 @@ toppled_once g i h k done = record {
       omega arith;
 }
 
-pub sum_left : (g : Grid) (h k : List ℕ) (v : ℕ → ℕ) → length h ≡ sites g → length k ≡ sites g → IsToppled g (λ j. get_or h j 0) v (λ j. get_or k j 0) → sum h ≡ sum k + lost g v
+pub sum_left : (g : Grid) (h k : List ℕ) (v : ℕ → ℕ) → length h ≡ sites g
+    → length k ≡ sites g → IsToppled g (λ j. get_or h j 0) v (λ j. get_or k j 0)
+    → sum h ≡ sum k + lost g v
 sum_left g h k v before after done =
     let all = laplacian_sum g (λ j. get_or h j 0) v (λ j. get_or k j 0) done in
     let first = sum_is_grains g h before in
     let last = sum_is_grains g k after in
     omega arith
 
-pub spread_sum : (g : Grid) (i : ℕ) (h k : List ℕ) → i < sites g → length h ≡ sites g → length k ≡ sites g → IsToppled g (λ j. get_or h j 0) (one_at i) (λ j. get_or k j 0) → sum k + missing g i ≡ sum h
+pub spread_sum : (g : Grid) (i : ℕ) (h k : List ℕ)
+    → i < sites g → length h ≡ sites g → length k ≡ sites g
+    → IsToppled g (λ j. get_or h j 0) (one_at i) (λ j. get_or k j 0)
+    → sum k + missing g i ≡ sum h
 spread_sum g i h k l lh lk done =
     let left = sum_left g h k (one_at i) lh lk done in
     let out = sum_below-one_at (sites g) i (missing g) l in

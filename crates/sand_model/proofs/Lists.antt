@@ -21,7 +21,10 @@ all_or_one (suc n) p =
     (λ (all : (i : ℕ) → i < n → p i ≡ true).
     ⊎_elim
     (λ (pass : p n ≡ true).
-    inl (λ i l. ⊎_elim (λ (less : i < n). all i less) (λ (last : n ≤ i). let e : i ≡ n = omega arith in ap p e ∙ pass) (cases_lt i n)))
+    inl (λ i l. ⊎_elim
+    (λ (less : i < n). all i less)
+    (λ (last : n ≤ i). let e : i ≡ n = omega arith in ap p e ∙ pass)
+    (cases_lt i n)))
     (λ (fail : p n ≡ false). inr (n, omega arith, fail))
     (cases_Bool (p n)))
     (λ (one : (i : ℕ) × (i < n) × (p i ≡ false)). inr (one.0, (let l = one.1 in omega arith), one.2))
@@ -36,7 +39,9 @@ outside : (n : ℕ) (p : ℕ → Bool) (xs : List ℕ) (i : ℕ) → Lists n p x
 outside n p xs i list past = let test = le-ltb i n past in let e = list.each i in e ∙ rw test refl
 
 -- a list with such tallies is a listing
-pub lists_from : (n : ℕ) (p : ℕ → Bool) (xs : List ℕ) → ((i : ℕ) → i < n → tally xs i ≡ one_if (p i)) → ((i : ℕ) → n ≤ i → tally xs i ≡ 0) → Lists n p xs
+pub lists_from : (n : ℕ) (p : ℕ → Bool) (xs : List ℕ)
+    → ((i : ℕ) → i < n → tally xs i ≡ one_if (p i))
+    → ((i : ℕ) → n ≤ i → tally xs i ≡ 0) → Lists n p xs
 lists_from n p xs inside none = record {
   each = λ i.
       ⊎_elim (λ (less : i < n). let test = lt-ltb i n less in inside i less ∙ rw test refl)
@@ -59,7 +64,10 @@ at_most_once n p xs i list = let e = list.each i in let few = at_most_one (ltb i
 
 passes : (n : ℕ) (p : ℕ → Bool) (xs : List ℕ) (i : ℕ) → Lists n p xs → 1 ≤ tally xs i → p i ≡ true
 passes n p xs i list some =
-    ⊎_elim (λ (pass : p i ≡ true). pass) (λ (fail : p i ≡ false). let none = unlisted n p xs i list fail in absurd (omega arith)) (cases_Bool (p i))
+    ⊎_elim
+    (λ (pass : p i ≡ true). pass)
+    (λ (fail : p i ≡ false). let none = unlisted n p xs i list fail in absurd (omega arith))
+    (cases_Bool (p i))
 
 -- ---- what is in a listing
 
@@ -74,21 +82,25 @@ lists_below n p xs list =
     All-from_get_or (λ i. i < n) xs 0
     (λ k l.
     ⊎_elim (λ (less : get_or xs k 0 < n). less)
-    (λ (past : n ≤ get_or xs k 0). let none = outside n p xs (get_or xs k 0) list past in let some = tally_at xs k l in absurd (omega arith))
+    (λ (past : n ≤ get_or xs k 0).
+    let none = outside n p xs (get_or xs k 0) list past in let some = tally_at xs k l in absurd (omega arith))
     (cases_lt (get_or xs k 0) n))
 
 -- elements of a listing are below n, pass, and do not occur earlier
-pub read_below : (n : ℕ) (p : ℕ → Bool) (xs : List ℕ) (k x : ℕ) → Lists n p xs → k < length xs → x ≡ get_or xs k x → x < n
+pub read_below : (n : ℕ) (p : ℕ → Bool) (xs : List ℕ) (k x : ℕ) → Lists n p xs → k < length xs → x ≡ get_or xs k x
+    → x < n
 read_below n p xs k x list l read = let below = lists_below n p xs list k x l in omega arith
 
-pub read_passes : (n : ℕ) (p : ℕ → Bool) (xs : List ℕ) (k x : ℕ) → Lists n p xs → k < length xs → x ≡ get_or xs k x → p x ≡ true
+pub read_passes : (n : ℕ) (p : ℕ → Bool) (xs : List ℕ) (k x : ℕ) → Lists n p xs → k < length xs → x ≡ get_or xs k x
+    → p x ≡ true
 read_passes n p xs k x list l read =
     let at = get_or_read xs k x l read 0 in
     let same = ap (tally xs) at in
     let some = tally_at xs k l in
     passes n p xs x list (omega arith)
 
-pub read_fresh : (n : ℕ) (p : ℕ → Bool) (xs : List ℕ) (k x : ℕ) → Lists n p xs → k < length xs → x ≡ get_or xs k x → tally (take k xs) x ≡ 0
+pub read_fresh : (n : ℕ) (p : ℕ → Bool) (xs : List ℕ) (k x : ℕ) → Lists n p xs → k < length xs → x ≡ get_or xs k x
+    → tally (take k xs) x ≡ 0
 read_fresh n p xs k x list l read =
     let le = sum_by_more_le (λ j. one_at j (get_or xs k 0)) xs k 0 l in
     let one = one_at_same (get_or xs k 0) in
@@ -99,17 +111,24 @@ pub front_below : (n : ℕ) (p : ℕ → Bool) (xs : List ℕ) (i : ℕ) → Lis
 front_below n p xs i list = All-head (λ j. j < n) i xs (lists_below n p (i ∷ xs) list)
 
 pub front_passes : (n : ℕ) (p : ℕ → Bool) (xs : List ℕ) (i : ℕ) → Lists n p (i ∷ xs) → p i ≡ true
-front_passes n p xs i list = let first = tally-cons i xs i in let one = one_at_same i in passes n p (i ∷ xs) i list (omega arith)
+front_passes n p xs i list =
+    let first = tally-cons i xs i in
+    let one = one_at_same i in
+    passes n p (i ∷ xs) i list (omega arith)
 
 pub none_passes : (n : ℕ) (p : ℕ → Bool) → Lists n p [] → (i : ℕ) → i < n → p i ≡ false
 none_passes n p list i l =
-    ⊎_elim (λ (pass : p i ≡ true). let one = listed n p [] i list l pass in absurd (omega arith)) (λ (fail : p i ≡ false). fail) (cases_Bool (p i))
+    ⊎_elim
+    (λ (pass : p i ≡ true). let one = listed n p [] i list l pass in absurd (omega arith))
+    (λ (fail : p i ≡ false). fail)
+    (cases_Bool (p i))
 
 -- ---- how long a listing is
 
 pub length-listing : (n : ℕ) (p : ℕ → Bool) (xs : List ℕ) → Lists n p xs → length xs ≡ sum_below n (λ i. one_if (p i))
 length-listing n p xs list =
-    sym (sum_below-tally n xs (lists_below n p xs list)) ∙ sum_below_same n (tally xs) (λ i. one_if (p i)) (λ i l. tally-listing n p xs i list l)
+    sym (sum_below-tally n xs (lists_below n p xs list))
+    ∙ sum_below_same n (tally xs) (λ i. one_if (p i)) (λ i l. tally-listing n p xs i list l)
 
 pub lists_length : (n : ℕ) (p : ℕ → Bool) (xs : List ℕ) → Lists n p xs → length xs ≤ n
 lists_length n p xs list =
@@ -126,13 +145,18 @@ lists_room n p xs i list l fail =
 -- a listing has all numbers if and only if its length is n
 pub lists_all : (n : ℕ) (p : ℕ → Bool) (xs : List ℕ) → Lists n p xs → length xs ≡ n → (i : ℕ) → i < n → p i ≡ true
 lists_all n p xs list full i l =
-    ⊎_elim (λ (pass : p i ≡ true). pass) (λ (fail : p i ≡ false). let room = lists_room n p xs i list l fail in absurd (omega arith)) (cases_Bool (p i))
+    ⊎_elim
+    (λ (pass : p i ≡ true). pass)
+    (λ (fail : p i ≡ false). let room = lists_room n p xs i list l fail in absurd (omega arith))
+    (cases_Bool (p i))
 
-pub lists_leave : (n : ℕ) (p : ℕ → Bool) (xs : List ℕ) → Lists n p xs → length xs ≢ n → (i : ℕ) × (i < n) × (p i ≡ false)
+pub lists_leave : (n : ℕ) (p : ℕ → Bool) (xs : List ℕ) → Lists n p xs → length xs ≢ n
+    → (i : ℕ) × (i < n) × (p i ≡ false)
 lists_leave n p xs list short =
     ⊎_elim
     (λ (all : (i : ℕ) → i < n → p i ≡ true).
-    absurd (short (length-listing n p xs list ∙ sum_below_same n (λ i. one_if (p i)) (λ i. 1) (λ i l. ap one_if (all i l)) ∙ sum_below-ones n)))
+    absurd (short (length-listing n p xs list
+    ∙ sum_below_same n (λ i. one_if (p i)) (λ i. 1) (λ i l. ap one_if (all i l)) ∙ sum_below-ones n)))
     (λ (one : (i : ℕ) × (i < n) × (p i ≡ false)). one)
     (all_or_one n p)
 
@@ -140,10 +164,13 @@ lists_leave n p xs list short =
 
 pub lists_same : (n : ℕ) (p q : ℕ → Bool) (xs : List ℕ) → ((j : ℕ) → j < n → p j ≡ q j) → Lists n p xs → Lists n q xs
 lists_same n p q xs same list =
-    lists_from n q xs (λ j l. tally-listing n p xs j list l ∙ ap one_if (same j l)) (λ j past. outside n p xs j list past)
+    lists_from n q xs (λ j l. tally-listing n p xs j list l ∙ ap one_if (same j l))
+    (λ j past. outside n p xs j list past)
 
 -- a number that begins to pass is appended
-pub lists_push : (n : ℕ) (p q : ℕ → Bool) (xs : List ℕ) (i : ℕ) → Lists n p xs → i < n → p i ≡ false → q i ≡ true → ((j : ℕ) → j < n → j ≢ i → p j ≡ q j) → Lists n q (xs ++ i ∷ [])
+pub lists_push : (n : ℕ) (p q : ℕ → Bool) (xs : List ℕ) (i : ℕ) → Lists n p xs
+    → i < n → p i ≡ false → q i ≡ true → ((j : ℕ) → j < n → j ≢ i → p j ≡ q j)
+    → Lists n q (xs ++ i ∷ [])
 lists_push n p q xs i list l fail pass others =
     lists_from n q (xs ++ i ∷ [])
     (λ j m.
@@ -160,10 +187,15 @@ lists_push n p q xs i list l fail pass others =
     let same = ap one_if (others j m ne) in
     omega arith)
     (cases_eq j i))
-    (λ j past. let push = tally-push xs i j in let none = one_at_other i j (λ e. omega arith) in let was = outside n p xs j list past in omega arith)
+    (λ j past.
+    let push = tally-push xs i j in
+    let none = one_at_other i j (λ e. omega arith) in
+    let was = outside n p xs j list past in
+    omega arith)
 
 -- the number at the front is dropped when it no longer passes
-pub lists_pop : (n : ℕ) (p q : ℕ → Bool) (xs : List ℕ) (i : ℕ) → Lists n p (i ∷ xs) → q i ≡ false → ((j : ℕ) → j < n → j ≢ i → p j ≡ q j) → Lists n q xs
+pub lists_pop : (n : ℕ) (p q : ℕ → Bool) (xs : List ℕ) (i : ℕ) → Lists n p (i ∷ xs)
+    → q i ≡ false → ((j : ℕ) → j < n → j ≢ i → p j ≡ q j) → Lists n q xs
 lists_pop n p q xs i list fail others =
     lists_from n q xs
     (λ j m.
@@ -193,7 +225,8 @@ lists_more_yes n p xs list pass =
     (λ i l.
     let push = tally-push xs n i in
     ⊎_elim
-    (λ (less : i < n). let none = one_at_other n i (λ e. omega arith) in let was = tally-listing n p xs i list less in omega arith)
+    (λ (less : i < n).
+    let none = one_at_other n i (λ e. omega arith) in let was = tally-listing n p xs i list less in omega arith)
     (λ (last : n ≤ i).
     let e : i ≡ n = omega arith in
     let one : one_at n i ≡ 1 = rw e (one_at_same n) in
@@ -201,7 +234,11 @@ lists_more_yes n p xs list pass =
     let now = ap one_if (ap p e ∙ pass) in
     omega arith)
     (cases_lt i n))
-    (λ i past. let push = tally-push xs n i in let none = one_at_other n i (λ e. omega arith) in let was = outside n p xs i list (omega arith) in omega arith)
+    (λ i past.
+    let push = tally-push xs n i in
+    let none = one_at_other n i (λ e. omega arith) in
+    let was = outside n p xs i list (omega arith) in
+    omega arith)
 
 pub lists_more_no : (n : ℕ) (p : ℕ → Bool) (xs : List ℕ) → Lists n p xs → p n ≡ false → Lists (n + 1) p xs
 lists_more_no n p xs list fail =
@@ -214,7 +251,10 @@ lists_more_no n p xs list fail =
 
 pub lists_more : (n : ℕ) (p : ℕ → Bool) (xs : List ℕ) → Lists n p xs → Lists (n + 1) p (cond (p n) (xs ++ n ∷ []) xs)
 lists_more n p xs list =
-    ⊎_elim (λ (pass : p n ≡ true). rw pass (lists_more_yes n p xs list pass)) (λ (fail : p n ≡ false). rw fail (lists_more_no n p xs list fail)) (cases_Bool (p n))
+    ⊎_elim
+    (λ (pass : p n ≡ true). rw pass (lists_more_yes n p xs list pass))
+    (λ (fail : p n ≡ false). rw fail (lists_more_no n p xs list fail))
+    (cases_Bool (p n))
 
 pub lists_of : (n m : ℕ) (p : ℕ → Bool) (xs : List ℕ) → n ≡ m → Lists n p xs → Lists m p xs
 lists_of n m p xs e list = let P : ℕ → Type 0 = λ k. Lists k p xs in subst P e list

@@ -8,11 +8,13 @@ use Rattle.std.proofs.lemmas.List.Elements.{All-cons, All-nil}
 use Rattle.sand_model.specs.Grid.{Grid, joins, sites, north, west, east, south, places, neighbours, missing}
 use Rattle.sand_model.specs.Sand.{flow, tally, one_at, value_at}
 
-sum_by-some : (u : ℕ → ℕ) (p : Option ℕ) (ps : List (Option ℕ)) → sum_by u (filter_map (λ q. q) (p ∷ ps)) ≡ value_at u p + sum_by u (filter_map (λ q. q) ps)
+sum_by-some : (u : ℕ → ℕ) (p : Option ℕ) (ps : List (Option ℕ))
+    → sum_by u (filter_map (λ q. q) (p ∷ ps)) ≡ value_at u p + sum_by u (filter_map (λ q. q) ps)
 sum_by-some u None ps = omega arith
 sum_by-some u (Some i) ps = sum_by-cons u i (filter_map (λ q. q) ps)
 
-pub flow_four : (g : Grid) (u : ℕ → ℕ) (i : ℕ) → flow g u i ≡ value_at u (north g i) + value_at u (west g i) + value_at u (east g i) + value_at u (south g i)
+pub flow_four : (g : Grid) (u : ℕ → ℕ) (i : ℕ)
+    → flow g u i ≡ value_at u (north g i) + value_at u (west g i) + value_at u (east g i) + value_at u (south g i)
 unfolding flow neighbours
 flow_four g u i =
     let a = sum_by-some u (north g i) (west g i ∷ east g i ∷ south g i ∷ []) in
@@ -22,7 +24,10 @@ flow_four g u i =
     omega arith
 
 -- how often j is a neighbour of i, place by place
-pub tally_places : (g : Grid) (i j : ℕ) (ps : List (Option ℕ)) → ps ≡ places g i → tally (neighbours g i) j ≡ value_at (λ k. one_at k j) (get_or ps 0 None) + value_at (λ k. one_at k j) (get_or ps 1 None) + value_at (λ k. one_at k j) (get_or ps 2 None) + value_at (λ k. one_at k j) (get_or ps 3 None)
+pub tally_places : (g : Grid) (i j : ℕ) (ps : List (Option ℕ)) → ps ≡ places g i
+    → tally (neighbours g i) j
+    ≡ value_at (λ k. one_at k j) (get_or ps 0 None) + value_at (λ k. one_at k j) (get_or ps 1 None)
+    + value_at (λ k. one_at k j) (get_or ps 2 None) + value_at (λ k. one_at k j) (get_or ps 3 None)
 unfolding flow
 tally_places g i j ps e = rw e (flow_four g (λ k. one_at k j) i)
 
@@ -36,8 +41,12 @@ cond_same false n = refl
 
 somes_and_nones : (ps : List (Option ℕ)) → length (filter_map (λ q. q) ps) + count_by is_none ps ≡ length ps
 somes_and_nones [] = refl
-somes_and_nones (None ∷ ps) = let below = somes_and_nones ps in rw (sum_by-cons (λ p. cond (is_none p) 1 0) None ps) (omega arith)
-somes_and_nones (Some i ∷ ps) = let below = somes_and_nones ps in rw (sum_by-cons (λ p. cond (is_none p) 1 0) (Some i) ps) (omega arith)
+somes_and_nones (None ∷ ps) =
+    let below = somes_and_nones ps in
+    rw (sum_by-cons (λ p. cond (is_none p) 1 0) None ps) (omega arith)
+somes_and_nones (Some i ∷ ps) =
+    let below = somes_and_nones ps in
+    rw (sum_by-cons (λ p. cond (is_none p) 1 0) (Some i) ps) (omega arith)
 
 pub neighbours_at_most_four : (g : Grid) (i : ℕ) → length (neighbours g i) ≤ 4
 unfolding neighbours
@@ -53,14 +62,20 @@ some_width (suc w) h i l = omega arith
 
 pub row_above : (w i : ℕ) → 0 < w → (0 < i / w → w ≤ i) × (w ≤ i → 0 < i / w)
 row_above w i pos = (
-  (λ up. ⊎_elim (λ (less : i < w). let none : i / w < 1 = div_below i w 1 pos (omega arith) in absurd (omega arith)) (λ (le : w ≤ i). le) (cases_lt i w)),
+  (λ up. ⊎_elim
+      (λ (less : i < w). let none : i / w < 1 = div_below i w 1 pos (omega arith) in absurd (omega arith))
+      (λ (le : w ≤ i). le)
+      (cases_lt i w)),
   (λ le. le-div 1 i w pos (omega arith)),
 )
 
 pub row_below : (w h j : ℕ) → 0 < w → (j / w + 1 < h → j + w < w * h) × (j + w < w * h → j / w + 1 < h)
 row_below w zero j pos = ((λ l. absurd (omega arith)), (λ l. absurd (omega arith)))
 row_below w (suc m) j pos = (
-  (λ l. ⊎_elim (λ (less : j < m * w). omega arith) (λ (le : m * w ≤ j). let far : m ≤ j / w = le-div m j w pos le in absurd (omega arith)) (cases_lt j (m * w))),
+  (λ l. ⊎_elim
+      (λ (less : j < m * w). omega arith)
+      (λ (le : m * w ≤ j). let far : m ≤ j / w = le-div m j w pos le in absurd (omega arith))
+      (cases_lt j (m * w))),
   (λ l. let near : j / w < m = div_below j w m pos (omega arith) in omega arith),
 )
 
@@ -73,7 +88,8 @@ next_column w i pos =
     )
 
 -- j is north of i if and only if i is south of j
-north_south : (g : Grid) (i j : ℕ) → i < sites g → j < sites g → value_at (λ k. one_at k j) (north g i) ≡ value_at (λ k. one_at k i) (south g j)
+north_south : (g : Grid) (i j : ℕ) → i < sites g → j < sites g
+    → value_at (λ k. one_at k j) (north g i) ≡ value_at (λ k. one_at k i) (south g j)
 unfolding north south
 north_south g i j li lj =
     let pos : 0 < g.width = some_width g.width g.height i li in
@@ -98,7 +114,8 @@ north_south g i j li lj =
     (cases_Bool (ltb 0 (i / g.width))))
     (cases_eq (j + g.width) i))
 
-side : (u : ℕ → ℕ) (near wraps : Bool) (a b : ℕ) → value_at u (cond near (Some a) (cond wraps (Some b) None)) ≡ cond near (u a) (cond wraps (u b) 0)
+side : (u : ℕ → ℕ) (near wraps : Bool) (a b : ℕ)
+    → value_at u (cond near (Some a) (cond wraps (Some b) None)) ≡ cond near (u a) (cond wraps (u b) 0)
 side u true wraps a b = refl
 side u false true a b = refl
 side u false false a b = refl
@@ -125,7 +142,9 @@ before_last w i j pos some e last =
     omega arith
 
 -- i is just west of j, or at the other end of its row, if and only if j is just east of i
-sides_meet : (w : ℕ) (wraps : Bool) (i j : ℕ) → 0 < w → cond (ltb 0 (i % w)) (one_at (i - 1) j) (cond wraps (one_at (i + (w - 1)) j) 0) ≡ cond (ltb (j % w + 1) w) (one_at (j + 1) i) (cond wraps (one_at (j - (w - 1)) i) 0)
+sides_meet : (w : ℕ) (wraps : Bool) (i j : ℕ) → 0 < w
+    → cond (ltb 0 (i % w)) (one_at (i - 1) j) (cond wraps (one_at (i + (w - 1)) j) 0)
+    ≡ cond (ltb (j % w + 1) w) (one_at (j + 1) i) (cond wraps (one_at (j - (w - 1)) i) 0)
 sides_meet w wraps i j pos =
     let next = next_column w j pos in
     let parts-i = div-add-mod' i w in
@@ -152,7 +171,8 @@ sides_meet w wraps i j pos =
     rw (west, east, there, back))
     (λ (first : i % w ≤ 0).
     let west : ltb 0 (i % w) ≡ false = le-ltb 0 (i % w) first in
-    let far : eqb (i + (w - 1)) j ≡ false = ne_eqb (i + (w - 1)) j (λ e. last_in_row w i j pos (omega arith) e inside) in
+    let far : eqb (i + (w - 1)) j ≡ false =
+    ne_eqb (i + (w - 1)) j (λ e. last_in_row w i j pos (omega arith) e inside) in
     rw (west, east, far, back) (cond_same wraps 0))
     (cases_lt 0 (i % w)))
     (cases_eq (j + 1) i))
@@ -180,7 +200,8 @@ sides_meet w wraps i j pos =
     (cases_lt 0 (i % w)))
     (cases_lt (j % w + 1) w)
 
-west_east : (g : Grid) (i j : ℕ) → i < sites g → j < sites g → value_at (λ k. one_at k j) (west g i) ≡ value_at (λ k. one_at k i) (east g j)
+west_east : (g : Grid) (i j : ℕ) → i < sites g → j < sites g
+    → value_at (λ k. one_at k j) (west g i) ≡ value_at (λ k. one_at k i) (east g j)
 unfolding west east
 west_east g i j li lj =
     side (λ k. one_at k j) (ltb 0 (i % g.width)) (joins g.edge) (i - 1) (i + (g.width - 1))
@@ -190,7 +211,8 @@ west_east g i j li lj =
 tally_is : (xs : List ℕ) (i : ℕ) → tally xs i ≡ sum_by (λ k. one_at k i) xs
 tally_is xs i = refl
 
-pub neighbours_mutual : (g : Grid) (i j : ℕ) → i < sites g → j < sites g → tally (neighbours g i) j ≡ tally (neighbours g j) i
+pub neighbours_mutual : (g : Grid) (i j : ℕ) → i < sites g → j < sites g
+    → tally (neighbours g i) j ≡ tally (neighbours g j) i
 unfolding flow
 neighbours_mutual g i j li lj =
     let a = flow_four g (λ k. one_at k j) i in
@@ -201,7 +223,9 @@ neighbours_mutual g i j li lj =
     let ew = west_east g j i lj li in
     tally_is (neighbours g i) j ∙ (omega arith) ∙ sym (tally_is (neighbours g j) i)
 
-somes_below : (n : ℕ) (p : Option ℕ) (ps : List (Option ℕ)) → ((k : ℕ) → p ≡ Some k → k < n) → All (λ k. k < n) (filter_map (λ q. q) ps) → All (λ k. k < n) (filter_map (λ q. q) (p ∷ ps))
+somes_below : (n : ℕ) (p : Option ℕ) (ps : List (Option ℕ))
+    → ((k : ℕ) → p ≡ Some k → k < n) → All (λ k. k < n) (filter_map (λ q. q) ps)
+    → All (λ k. k < n) (filter_map (λ q. q) (p ∷ ps))
 somes_below n None ps here rest = rest
 somes_below n (Some k) ps here rest = All-cons (λ j. j < n) k (filter_map (λ q. q) ps) (here k refl) rest
 
@@ -213,7 +237,8 @@ north_below : (g : Grid) (i k : ℕ) → i < sites g → north g i ≡ Some k �
 unfolding north
 north_below g i k l e = let at = some_from _ (i - g.width) k e in omega arith
 
-side_from : (near wraps : Bool) (a b k : ℕ) → cond near (Some a) (cond wraps (Some b) None) ≡ Some k → ((near ≡ true) × (a ≡ k)) ⊎ ((near ≡ false) × (b ≡ k))
+side_from : (near wraps : Bool) (a b k : ℕ) → cond near (Some a) (cond wraps (Some b) None) ≡ Some k
+    → ((near ≡ true) × (a ≡ k)) ⊎ ((near ≡ false) × (b ≡ k))
 side_from true wraps a b k e = inl (refl, cc)
 side_from false true a b k e = inr (refl, cc)
 side_from false false a b k e = absurd cc
@@ -237,7 +262,8 @@ east_below : (g : Grid) (i k : ℕ) → i < sites g → east g i ≡ Some k → 
 unfolding east
 east_below g i k l e =
     let parts = div-add-mod' i g.width in
-    ⊎_elim (λ (at : (ltb (i % g.width + 1) g.width ≡ true) × (i + 1 ≡ k)). let next = in_row g.width g.height i (i % g.width + 1) l (ltb-true _ _ at.0) in omega arith)
+    ⊎_elim (λ (at : (ltb (i % g.width + 1) g.width ≡ true) × (i + 1 ≡ k)).
+    let next = in_row g.width g.height i (i % g.width + 1) l (ltb-true _ _ at.0) in omega arith)
     (λ (at : (ltb (i % g.width + 1) g.width ≡ false) × (i - (g.width - 1) ≡ k)). omega arith)
     (side_from (ltb (i % g.width + 1) g.width) (joins g.edge) (i + 1) (i - (g.width - 1)) k e)
 
@@ -268,5 +294,6 @@ place_below g i (suc (suc zero)) l = if_some (sites g) (east g i) (λ k. east_be
 place_below g i (suc (suc (suc zero))) l = if_some (sites g) (south g i) (λ k. south_below g i k l)
 place_below g i (suc (suc (suc (suc k)))) l = tt
 
-pub place_inside : (g : Grid) (i n k : ℕ) (ps : List (Option ℕ)) → ps ≡ places g i → i < sites g → n ≡ sites g → IfSome (get_or ps k None) (λ j. j < n)
+pub place_inside : (g : Grid) (i n k : ℕ) (ps : List (Option ℕ)) → ps ≡ places g i → i < sites g → n ≡ sites g
+    → IfSome (get_or ps k None) (λ j. j < n)
 place_inside g i n k ps e l s = rw (s, e) (place_below g i k l)

@@ -9,7 +9,9 @@ use Rattle.sand_model.proofs.Neighbours.{flow_four}
 use Rattle.sand_model.proofs.Lists.{at_most_one}
 
 -- a subset contains no more of a site's neighbours
-pub count_within : (g : Grid) (set other : ℕ → Bool) (i : ℕ) → i < sites g → ((j : ℕ) → j < sites g → set j ≡ true → other j ≡ true) → count_by set (neighbours g i) ≤ count_by other (neighbours g i)
+pub count_within : (g : Grid) (set other : ℕ → Bool) (i : ℕ) → i < sites g
+    → ((j : ℕ) → j < sites g → set j ≡ true → other j ≡ true)
+    → count_by set (neighbours g i) ≤ count_by other (neighbours g i)
 unfolding flow
 count_within g set other i l within =
     flow_le g (indicator set) (indicator other)
@@ -35,12 +37,14 @@ one_in_set : (b : Bool) → 1 ≤ one_if b → b ≡ true
 one_in_set true l = refl
 one_in_set false l = absurd (omega arith)
 
-north_in_set : (set : ℕ → Bool) (p : Option ℕ) → 1 ≤ value_at (indicator set) p → (j : ℕ) × (p ≡ Some j) × (set j ≡ true)
+north_in_set : (set : ℕ → Bool) (p : Option ℕ) → 1 ≤ value_at (indicator set) p
+    → (j : ℕ) × (p ≡ Some j) × (set j ≡ true)
 north_in_set set None l = absurd (omega arith)
 north_in_set set (Some j) l = (j, refl, one_in_set (set j) l)
 
 -- a site with four neighbours in a set has a northern neighbour in it
-pub north_of_four : (g : Grid) (set : ℕ → Bool) (i : ℕ) → 4 ≤ flow g (indicator set) i → (j : ℕ) × (north g i ≡ Some j) × (set j ≡ true)
+pub north_of_four : (g : Grid) (set : ℕ → Bool) (i : ℕ) → 4 ≤ flow g (indicator set) i
+    → (j : ℕ) × (north g i ≡ Some j) × (set j ≡ true)
 north_of_four g set i l =
     let four = flow_four g (indicator set) i in
     let n = place_at_most_one set (north g i) in

@@ -24,7 +24,8 @@ unfolding above below
 parts (pos n) = omega (arith, ints)
 parts (negsuc n) = omega (arith, ints)
 
-whole_sum_by_parts : (z : ℕ → ℤ) (js : List ℕ) → whole_sum_by z js ≡ pos (sum_by (λ j. above (z j)) js) -ℤ pos (sum_by (λ j. below (z j)) js)
+whole_sum_by_parts : (z : ℕ → ℤ) (js : List ℕ)
+    → whole_sum_by z js ≡ pos (sum_by (λ j. above (z j)) js) -ℤ pos (sum_by (λ j. below (z j)) js)
 whole_sum_by_parts z [] = omega (arith, ints)
 whole_sum_by_parts z (j ∷ js) =
     let rest = whole_sum_by_parts z js in
@@ -35,13 +36,17 @@ whole_sum_by_parts z (j ∷ js) =
 
 whole_sum_by_naturals : (u : ℕ → ℕ) (js : List ℕ) → whole_sum_by (whole u) js ≡ pos (sum_by u js)
 whole_sum_by_naturals u [] = refl
-whole_sum_by_naturals u (j ∷ js) = let rest = whole_sum_by_naturals u js in rw (sum_by-cons u j js) (omega (arith, ints))
+whole_sum_by_naturals u (j ∷ js) =
+    let rest = whole_sum_by_naturals u js in
+    rw (sum_by-cons u j js) (omega (arith, ints))
 
 laplacian-whole : (g : Grid) (u : ℕ → ℕ) (i : ℕ) → laplacian g (whole u) i ≡ pos (4 * u i) -ℤ pos (flow g u i)
 unfolding laplacian flow
 laplacian-whole g u i = let all = whole_sum_by_naturals u (neighbours g i) in omega (arith, ints)
 
-pub laplacian-parts : (g : Grid) (z : ℕ → ℤ) (i : ℕ) → laplacian g z i ≡ (pos (4 * above (z i)) +ℤ pos (flow g (λ j. below (z j)) i)) -ℤ (pos (4 * below (z i)) +ℤ pos (flow g (λ j. above (z j)) i))
+pub laplacian-parts : (g : Grid) (z : ℕ → ℤ) (i : ℕ)
+    → laplacian g z i ≡ (pos (4 * above (z i)) +ℤ pos (flow g (λ j. below (z j)) i))
+    -ℤ (pos (4 * below (z i)) +ℤ pos (flow g (λ j. above (z j)) i))
 unfolding laplacian flow
 laplacian-parts g z i =
     let here = parts (z i) in
@@ -49,13 +54,16 @@ laplacian-parts g z i =
     omega (arith, ints)
 
 -- t = s - Lu
-toppled_over_integers : (g : Grid) (s u t : ℕ → ℕ) → IsToppled g s u t → (i : ℕ) → i < sites g → pos (t i) ≡ pos (s i) -ℤ laplacian g (whole u) i
+toppled_over_integers : (g : Grid) (s u t : ℕ → ℕ) → IsToppled g s u t → (i : ℕ) → i < sites g
+    → pos (t i) ≡ pos (s i) -ℤ laplacian g (whole u) i
 toppled_over_integers g s u t done i l =
     let is = laplacian-whole g u i in
     let e = done.balance i l in
     omega (arith, ints)
 
-toppled_from_integers : (g : Grid) (s u t : ℕ → ℕ) → ((i : ℕ) → i < sites g → pos (t i) ≡ pos (s i) -ℤ laplacian g (whole u) i) → IsToppled g s u t
+toppled_from_integers : (g : Grid) (s u t : ℕ → ℕ)
+    → ((i : ℕ) → i < sites g → pos (t i) ≡ pos (s i) -ℤ laplacian g (whole u) i)
+    → IsToppled g s u t
 toppled_from_integers g s u t done = record {
   balance = λ i l.
       let is = laplacian-whole g u i in
@@ -63,17 +71,21 @@ toppled_from_integers g s u t done = record {
       omega (arith, ints);
 }
 
-pub toppled_is_integers : (g : Grid) (s u t : ℕ → ℕ) → IsToppled g s u t ↔ ((i : ℕ) → i < sites g → pos (t i) ≡ pos (s i) -ℤ laplacian g (whole u) i)
+pub toppled_is_integers : (g : Grid) (s u t : ℕ → ℕ)
+    → IsToppled g s u t ↔ ((i : ℕ) → i < sites g → pos (t i) ≡ pos (s i) -ℤ laplacian g (whole u) i)
 toppled_is_integers g s u t = (toppled_over_integers g s u t, toppled_from_integers g s u t)
 
 -- s - Lu ≤ 3
-stabilises_over_integers : (g : Grid) (s u : ℕ → ℕ) → Stabilises g s u → (i : ℕ) → i < sites g → (pos (s i) -ℤ laplacian g (whole u) i) ≤ℤ pos 3
+stabilises_over_integers : (g : Grid) (s u : ℕ → ℕ) → Stabilises g s u → (i : ℕ) → i < sites g
+    → (pos (s i) -ℤ laplacian g (whole u) i) ≤ℤ pos 3
 stabilises_over_integers g s u done i l =
     let is = laplacian-whole g u i in
     let e = done.at_most_three i l in
     omega (arith, ints)
 
-stabilises_from_integers : (g : Grid) (s u : ℕ → ℕ) → ((i : ℕ) → i < sites g → (pos (s i) -ℤ laplacian g (whole u) i) ≤ℤ pos 3) → Stabilises g s u
+stabilises_from_integers : (g : Grid) (s u : ℕ → ℕ)
+    → ((i : ℕ) → i < sites g → (pos (s i) -ℤ laplacian g (whole u) i) ≤ℤ pos 3)
+    → Stabilises g s u
 stabilises_from_integers g s u low = record {
   at_most_three = λ i l.
       let is = laplacian-whole g u i in
@@ -81,7 +93,8 @@ stabilises_from_integers g s u low = record {
       omega (arith, ints);
 }
 
-pub stabilises_is_integers : (g : Grid) (s u : ℕ → ℕ) → Stabilises g s u ↔ ((i : ℕ) → i < sites g → (pos (s i) -ℤ laplacian g (whole u) i) ≤ℤ pos 3)
+pub stabilises_is_integers : (g : Grid) (s u : ℕ → ℕ)
+    → Stabilises g s u ↔ ((i : ℕ) → i < sites g → (pos (s i) -ℤ laplacian g (whole u) i) ≤ℤ pos 3)
 stabilises_is_integers g s u = (stabilises_over_integers g s u, stabilises_from_integers g s u)
 
 pub settled_equivalent : (g : Grid) (s u t : ℕ → ℕ) → IsSettled g s u t → IsEquivalent g (whole s) (whole t)
@@ -92,7 +105,8 @@ settled_equivalent g s u t done = record {
 
 -- ---- the sum over all sites
 
-whole_sum_below_parts : (n : ℕ) (p q : ℕ → ℕ) (z : ℕ → ℤ) → ((i : ℕ) → i < n → z i ≡ pos (p i) -ℤ pos (q i)) → whole_sum_below n z ≡ pos (sum_below n p) -ℤ pos (sum_below n q)
+whole_sum_below_parts : (n : ℕ) (p q : ℕ → ℕ) (z : ℕ → ℤ) → ((i : ℕ) → i < n → z i ≡ pos (p i) -ℤ pos (q i))
+    → whole_sum_below n z ≡ pos (sum_below n p) -ℤ pos (sum_below n q)
 unfolding whole_sum_below sum_below
 whole_sum_below_parts zero p q z e = omega (arith, ints)
 whole_sum_below_parts (suc n) p q z e =
@@ -100,7 +114,8 @@ whole_sum_below_parts (suc n) p q z e =
     let last = e n (omega arith) in
     omega (arith, ints)
 
-whole_sum_below_split : (n : ℕ) (s z : ℕ → ℤ) → whole_sum_below n s ≡ whole_sum_below n (λ i. s i -ℤ z i) +ℤ whole_sum_below n z
+whole_sum_below_split : (n : ℕ) (s z : ℕ → ℤ)
+    → whole_sum_below n s ≡ whole_sum_below n (λ i. s i -ℤ z i) +ℤ whole_sum_below n z
 unfolding whole_sum_below
 whole_sum_below_split zero s z = omega (arith, ints)
 whole_sum_below_split (suc n) s z = let below = whole_sum_below_split n s z in omega (arith, ints)
@@ -111,12 +126,15 @@ product-parts m (pos n) = omega (arith, ints)
 product-parts m (negsuc n) = omega (arith, ints)
 
 -- the Laplacian of any u sums to the grains that u loses
-whole_sum_below-laplacian : (g : Grid) (u : ℕ → ℤ) → whole_sum_below (sites g) (laplacian g u) ≡ whole_sum_below (sites g) (λ i. pos (missing g i) *ℤ u i)
+whole_sum_below-laplacian : (g : Grid) (u : ℕ → ℤ)
+    → whole_sum_below (sites g) (laplacian g u) ≡ whole_sum_below (sites g) (λ i. pos (missing g i) *ℤ u i)
 whole_sum_below-laplacian g u =
     let a : ℕ → ℕ = λ i. above (u i) in
     let b : ℕ → ℕ = λ i. below (u i) in
-    let of_laplacian = whole_sum_below_parts (sites g) (λ i. 4 * a i + flow g b i) (λ i. 4 * b i + flow g a i) (laplacian g u) (λ i l. let e = laplacian-parts g u i in omega (arith, ints)) in
-    let of_lost = whole_sum_below_parts (sites g) (λ i. missing g i * a i) (λ i. missing g i * b i) (λ i. pos (missing g i) *ℤ u i) (λ i l. product-parts (missing g i) (u i)) in
+    let of_laplacian = whole_sum_below_parts (sites g) (λ i. 4 * a i + flow g b i) (λ i. 4 * b i + flow g a i)
+    (laplacian g u) (λ i l. let e = laplacian-parts g u i in omega (arith, ints)) in
+    let of_lost = whole_sum_below_parts (sites g) (λ i. missing g i * a i) (λ i. missing g i * b i)
+    (λ i. pos (missing g i) *ℤ u i) (λ i l. product-parts (missing g i) (u i)) in
     let four_a = sum_below-scale (sites g) 4 a in
     let four_b = sum_below-scale (sites g) 4 b in
     let sum_a = sum_below-add (sites g) (λ i. 4 * a i) (flow g b) in
@@ -125,7 +143,9 @@ whole_sum_below-laplacian g u =
     let lost_b = flow_and_lost g b in
     omega (arith, ints)
 
-pub laplacian_sum_over_integers : (g : Grid) (s u : ℕ → ℤ) → whole_sum_below (sites g) s ≡ whole_sum_below (sites g) (λ i. s i -ℤ laplacian g u i) +ℤ whole_sum_below (sites g) (λ i. pos (missing g i) *ℤ u i)
+pub laplacian_sum_over_integers : (g : Grid) (s u : ℕ → ℤ)
+    → whole_sum_below (sites g) s ≡ whole_sum_below (sites g) (λ i. s i -ℤ laplacian g u i)
+    +ℤ whole_sum_below (sites g) (λ i. pos (missing g i) *ℤ u i)
 laplacian_sum_over_integers g s u =
     let split = whole_sum_below_split (sites g) s (laplacian g u) in
     let all = whole_sum_below-laplacian g u in

@@ -33,7 +33,11 @@ greatest (suc (suc n)) p l =
     (cases_lt (p before.0) (p (suc n)))
 
 -- if sites toppled p times too often or q times too rarely, the sites of the greatest p are forbidden
-pub top_is_forbidden : (g : Grid) (t p q : ℕ → ℕ) (k : ℕ) → ((i : ℕ) → i < sites g → t i + 4 * p i + flow g q i ≤ 3 + 4 * q i + flow g p i) → ((i : ℕ) → 0 < p i → q i ≡ 0) → k < sites g → ((i : ℕ) → i < sites g → p i ≤ p k) → 0 < p k → IsForbidden g t (λ i. eqb (p i) (p k))
+pub top_is_forbidden : (g : Grid) (t p q : ℕ → ℕ) (k : ℕ)
+    → ((i : ℕ) → i < sites g → t i + 4 * p i + flow g q i ≤ 3 + 4 * q i + flow g p i)
+    → ((i : ℕ) → 0 < p i → q i ≡ 0) → k < sites g
+    → ((i : ℕ) → i < sites g → p i ≤ p k) → 0 < p k
+    → IsForbidden g t (λ i. eqb (p i) (p k))
 top_is_forbidden g t p q k balance apart inside top some = record {
   some = (k, inside, eq-eqb (p k) (p k) refl);
   low = λ i l in'.
@@ -41,7 +45,14 @@ top_is_forbidden g t p q k balance apart inside top some = record {
       let none = apart i (omega arith) in
       let e = balance i l in
       let most = flow_le g p (λ j. (p k - 1) * 1 + cond (eqb (p j) (p k)) 1 0)
-      (λ j m. let le = top j m in ⊎_elim (λ (same : p j ≡ p k). let test = eq-eqb (p j) (p k) same in rw test (omega arith)) (λ (ne : p j ≡ p k → ⊥). let test = ne_eqb (p j) (p k) ne in rw test (let strict : p j < p k = grind arith in omega arith)) (cases_eq (p j) (p k))) i l in
+      (λ j m.
+      let le = top j m in
+      ⊎_elim
+      (λ (same : p j ≡ p k). let test = eq-eqb (p j) (p k) same in rw test (omega arith))
+      (λ (ne : p j ≡ p k → ⊥).
+      let test = ne_eqb (p j) (p k) ne in rw test (let strict : p j < p k = grind arith in omega arith))
+      (cases_eq (p j) (p k)))
+      i l in
       let split = flow-add g (λ j. (p k - 1) * 1) (λ j. cond (eqb (p j) (p k)) 1 0) i in
       let scaled = flow-scale g (p k - 1) (λ j. 1) i in
       let four = flow_ones g i in
@@ -50,7 +61,8 @@ top_is_forbidden g t p q k balance apart inside top some = record {
       rw (count_is_flow g (λ j. eqb (p j) (p k)) i) (omega arith);
 }
 
-excess : (g : Grid) (s u w t : ℕ → ℕ) → IsToppled g s u t → Stabilises g s w → (i : ℕ) → i < sites g → t i + 4 * (u i - w i) + flow g (λ j. w j - u j) i ≤ 3 + 4 * (w i - u i) + flow g (λ j. u j - w j) i
+excess : (g : Grid) (s u w t : ℕ → ℕ) → IsToppled g s u t → Stabilises g s w → (i : ℕ) → i < sites g
+    → t i + 4 * (u i - w i) + flow g (λ j. w j - u j) i ≤ 3 + 4 * (w i - u i) + flow g (λ j. u j - w j) i
 excess g s u w t done stable i l =
     let one = done.balance i l in
     let two = stable.at_most_three i l in
@@ -59,14 +71,16 @@ excess g s u w t done stable i l =
     let same = flow_same g (λ j. u j + (w j - u j)) (λ j. w j + (u j - w j)) (λ j m. omega arith) i l in
     omega arith
 
-never_above : (g : Grid) (s u w t : ℕ → ℕ) → IsToppled g s u t → IsTight g t u → Stabilises g s w → (i : ℕ) → i < sites g → u i ≤ w i
+never_above : (g : Grid) (s u w t : ℕ → ℕ) → IsToppled g s u t
+    → IsTight g t u → Stabilises g s w → (i : ℕ) → i < sites g → u i ≤ w i
 never_above g s u w t done tight stable i l =
     let top = greatest (sites g) (λ j. u j - w j) (omega arith) in
     let le = top.2 i l in
     ⊎_elim
     (λ (some : 0 < u top.0 - w top.0).
     absurd (tight.none (λ j. eqb (u j - w j) (u top.0 - w top.0))
-    (top_is_forbidden g t (λ j. u j - w j) (λ j. w j - u j) top.0 (excess g s u w t done stable) (λ j m. omega arith) top.1 top.2 some)
+    (top_is_forbidden g t (λ j. u j - w j) (λ j. w j - u j) top.0
+    (excess g s u w t done stable) (λ j m. omega arith) top.1 top.2 some)
     (λ j m in'. let at : u j - w j ≡ u top.0 - w top.0 = eqb-true (u j - w j) (u top.0 - w top.0) in' in omega arith)))
     (λ (none : u top.0 - w top.0 ≤ 0). omega arith)
     (cases_lt 0 (u top.0 - w top.0))

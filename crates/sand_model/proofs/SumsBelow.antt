@@ -39,7 +39,8 @@ unfolding sum_below
 sum_below-ones zero = refl
 sum_below-ones (suc n) = let below = sum_below-ones n in omega arith
 
-pub sum_below_swap : (n m : ℕ) (f : ℕ → ℕ → ℕ) → sum_below n (λ i. sum_below m (λ j. f i j)) ≡ sum_below m (λ j. sum_below n (λ i. f i j))
+pub sum_below_swap : (n m : ℕ) (f : ℕ → ℕ → ℕ)
+    → sum_below n (λ i. sum_below m (λ j. f i j)) ≡ sum_below m (λ j. sum_below n (λ i. f i j))
 unfolding sum_below
 sum_below_swap zero m f = sym (sum_below-zero m)
 sum_below_swap (suc n) m f =

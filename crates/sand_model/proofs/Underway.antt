@@ -19,7 +19,10 @@ underway_start g s u none = record {
   bounded = λ w stable i l. let e = none i l in omega arith;
 }
 
-pub underway_step : (g : Grid) (s u t v r : ℕ → ℕ) (i k : ℕ) → i < sites g → 4 * k ≤ t i → IsUnderway g s u t → ((j : ℕ) → j < sites g → v j ≡ u j + k * one_at i j) → IsToppled g t (λ j. k * one_at i j) r → IsUnderway g s v r
+pub underway_step : (g : Grid) (s u t v r : ℕ → ℕ) (i k : ℕ)
+    → i < sites g → 4 * k ≤ t i → IsUnderway g s u t
+    → ((j : ℕ) → j < sites g → v j ≡ u j + k * one_at i j)
+    → IsToppled g t (λ j. k * one_at i j) r → IsUnderway g s v r
 underway_step g s u t v r i k site high before counts after = record {
   toppled = record {
     balance = λ j l.
@@ -49,11 +52,13 @@ underway_step g s u t v r i k site high before counts after = record {
       (cases_eq i j);
 }
 
-pub underway_end : (g : Grid) (s u t : ℕ → ℕ) → IsUnderway g s u t → ((i : ℕ) → i < sites g → t i ≤ 3) → IsSettled g s u t
+pub underway_end : (g : Grid) (s u t : ℕ → ℕ) → IsUnderway g s u t → ((i : ℕ) → i < sites g → t i ≤ 3)
+    → IsSettled g s u t
 underway_end g s u t done stable = record {
   toppled = done.toppled;
   odometer = record {
-    stabilises = record { at_most_three = λ i l. let e = done.toppled.balance i l in let low = stable i l in omega arith };
+    stabilises =
+        record { at_most_three = λ i l. let e = done.toppled.balance i l in let low = stable i l in omega arith };
     least = done.bounded;
   };
 }

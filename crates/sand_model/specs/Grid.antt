@@ -59,7 +59,8 @@ unfoldable pub west : Grid → ℕ → Option ℕ
 west g i = if nat_lt 0 (column g i) then Some (i - 1) else (if joins g.edge then Some (i + (g.width - 1)) else None)
 
 unfoldable pub east : Grid → ℕ → Option ℕ
-east g i = if nat_lt (column g i + 1) g.width then Some (i + 1) else (if joins g.edge then Some (i - (g.width - 1)) else None)
+east g i =
+    if nat_lt (column g i + 1) g.width then Some (i + 1) else (if joins g.edge then Some (i - (g.width - 1)) else None)
 
 unfoldable pub south : Grid → ℕ → Option ℕ
 south g i = if nat_lt (row g i + 1) g.height then Some (i + g.width) else None
@@ -69,7 +70,8 @@ places g i = north g i ∷ west g i ∷ east g i ∷ south g i ∷ []
 
 -- whether a site is in neither the first nor the last row or column
 abbrev pub is_inner : Grid → ℕ → Bool
-is_inner g i = nat_lt 0 (row g i) && nat_lt (row g i + 1) g.height && nat_lt 0 (column g i) && nat_lt (column g i + 1) g.width
+is_inner g i =
+    nat_lt 0 (row g i) && nat_lt (row g i + 1) g.height && nat_lt 0 (column g i) && nat_lt (column g i + 1) g.width
 
 -- the neighbours of a site: those of its places that are in the grid
 unfoldable pub neighbours : Grid → ℕ → List ℕ
@@ -81,7 +83,9 @@ missing g i = 4 - length (neighbours g i)
 
 -- the number of columns between two sites, the shorter way around on a cylinder
 abbrev pub columns_apart : Grid → ℕ → ℕ → ℕ
-columns_apart g i j = let across = abs_diff (column g i) (column g j) in if joins g.edge then min across (g.width - across) else across
+columns_apart g i j =
+    let across = abs_diff (column g i) (column g j) in
+    if joins g.edge then min across (g.width - across) else across
 
 -- |dx| + |dy| between two sites
 unfoldable pub distance : Grid → ℕ → ℕ → ℕ

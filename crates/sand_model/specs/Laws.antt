@@ -31,7 +31,8 @@ LaplacianSum = (g : Grid) (s u t : ℕ → ℕ) → IsToppled g s u t → grains
 -- the same over the integers, for every u, legal or not
 abbrev pub LaplacianSumOverIntegers : Type 0
 LaplacianSumOverIntegers = (g : Grid) (s u : ℕ → ℤ) → whole_sum_below (sites g) s
-    ≡ whole_sum_below (sites g) (λ i. s i -ℤ laplacian g u i) +ℤ whole_sum_below (sites g) (λ i. pos (missing g i) *ℤ u i)
+    ≡ whole_sum_below (sites g) (λ i. s i -ℤ laplacian g u i)
+    +ℤ whole_sum_below (sites g) (λ i. pos (missing g i) *ℤ u i)
 
 -- each pile has a settled pile and a least odometer
 abbrev pub EachSettles : Type 0
@@ -45,11 +46,13 @@ Abelian = (g : Grid) (a b u t v r : ℕ → ℕ) → IsSettled g a u t → IsSet
 -- the same after topplings that need not settle anything: if u is at most every w that stabilises s, and s - Lu is a
 -- pile h, then the odometer of s is u plus the odometer of h (least action; Fey, Levine and Peres 2010)
 abbrev pub SettlesAfter : Type 0
-SettlesAfter = (g : Grid) (s u h v t : ℕ → ℕ) → IsUnderway g s u h → IsSettled g h v t → IsSettled g s (λ i. u i + v i) t
+SettlesAfter =
+    (g : Grid) (s u h v t : ℕ → ℕ) → IsUnderway g s u h → IsSettled g h v t → IsSettled g s (λ i. u i + v i) t
 
 -- a pile has one odometer and one settled pile
 abbrev pub SettledOnce : Type 0
-SettledOnce = (g : Grid) (s u v t r : ℕ → ℕ) → IsSettled g s u t → IsSettled g s v r → (i : ℕ) → i < sites g → (u i ≡ v i) × (t i ≡ r i)
+SettledOnce = (g : Grid) (s u v t r : ℕ → ℕ) → IsSettled g s u t → IsSettled g s v r → (i : ℕ) → i < sites g
+    → (u i ≡ v i) × (t i ≡ r i)
 
 -- topplings settle the pile if they leave at most 3 at each site, and no forbidden set of sites that have all toppled
 abbrev pub LeastIfTight : Type 0

@@ -32,7 +32,8 @@ impl Model for Pile {
 
     ghost view = { λ p. record { grid = p.shape; heights = p.heights.items } };
 
-    ghost invariant = { λ p. IsPile (record { grid = p.shape; heights = p.heights.items }) × (p.grains ≡ sum p.heights.items) };
+    ghost invariant = { λ p.
+        IsPile (record { grid = p.shape; heights = p.heights.items }) × (p.grains ≡ sum p.heights.items) };
 }
 
 impl Pile {

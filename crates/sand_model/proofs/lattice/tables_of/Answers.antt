@@ -7,21 +7,27 @@ use Rattle.sand_model.proofs.Borders.{next_row, same_row}
 use Rattle.sand_model.proofs.lattice.tables_of.Goals as goal
 use Rattle.sand_model.proofs.lattice.tables_of.Goals.{then-column-width, else-column-width}
 
-next_place : (c : goal.Joined-column-width) → (c.if-column-width.column ≡ column c.args.shape (c.loop.counter + 1)) × (c.if-column-width.row ≡ row c.args.shape (c.loop.counter + 1))
+next_place : (c : goal.Joined-column-width)
+    → (c.if-column-width.column ≡ column c.args.shape (c.loop.counter + 1))
+    × (c.if-column-width.row ≡ row c.args.shape (c.loop.counter + 1))
 next_place c =
     let inv = c.loop.invariant in
     let width = c.width-width.ensures.value in
     let below = mod_below c.loop.counter c.args.shape.width c.width-width.ensures.sides.some_width in
     elim c.if-column-width.branch [
       | then-column-width w ↦
-          (let next = next_row c.args.shape.width c.loop.counter (omega (arith, inv.column_is, width, w.if-column-width.true)) in
+          (let next =
+          next_row c.args.shape.width c.loop.counter (omega (arith, inv.column_is, width, w.if-column-width.true)) in
           (omega (arith, next.0, w.column-is), omega (arith, next.1, w.row-is, inv.row_is)))
       | else-column-width w ↦
-          (let next = same_row c.args.shape.width c.loop.counter (grind (arith, below, inv.column_is, width, w.if-column-width.false)) in
+          (let next = same_row c.args.shape.width c.loop.counter
+          (grind (arith, below, inv.column_is, width, w.if-column-width.false)) in
           (omega (arith, next.0, w.column-is, inv.column_is), omega (arith, next.1, w.row-is, inv.row_is)))
     ]
 
-one_more : (f : ℕ → ℕ) (xs ys : List ℕ) (n x : ℕ) → ys ≡ xs ++ x ∷ [] → length xs ≡ n → x ≡ f n → ((i : ℕ) → i < n → get_or xs i 0 ≡ f i) → (i : ℕ) → i < n + 1 → get_or ys i 0 ≡ f i
+one_more : (f : ℕ → ℕ) (xs ys : List ℕ) (n x : ℕ) → ys ≡ xs ++ x ∷ []
+    → length xs ≡ n → x ≡ f n → ((i : ℕ) → i < n → get_or xs i 0 ≡ f i)
+    → (i : ℕ) → i < n + 1 → get_or ys i 0 ≡ f i
 one_more f xs ys n x pushed long is each i below =
     ap (λ (zs : List ℕ). get_or zs i 0) pushed
     ∙ ⊎_elim
@@ -40,6 +46,8 @@ loop-preserved c =
       rows_made = search rules;
       columns_room = search rules;
       rows_room = search rules;
-      each_column = one_more (column c.args.shape) c.loop.columns.items _ c.loop.counter c.loop.column c.push_reserved.ensures.items (search rules) inv.column_is inv.each_column;
-      each_row = one_more (row c.args.shape) c.loop.rows.items _ c.loop.counter c.loop.row c.push_reserved-in-loop.ensures.items (search rules) inv.row_is inv.each_row;
+      each_column = one_more (column c.args.shape) c.loop.columns.items _ c.loop.counter
+          c.loop.column c.push_reserved.ensures.items (search rules) inv.column_is inv.each_column;
+      each_row = one_more (row c.args.shape) c.loop.rows.items _ c.loop.counter c.loop.row
+          c.push_reserved-in-loop.ensures.items (search rules) inv.row_is inv.each_row;
     }

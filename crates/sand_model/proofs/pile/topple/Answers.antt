@@ -7,7 +7,8 @@ overflow_sub-pile c = omega (arith, c.pile.invariant.1, c.spread.ensures.total, 
 
 pub invariant_of-pile : goal.invariant_of-pile
 invariant_of-pile c =
-    let back = take_at c.spread.new.heights (drop (length c.spread.new.heights) c.pile.inside.heights.items) c.pile.inside.heights.len (omega (arith, c.deref_mut.ensures.len)) in
+    let back = take_at c.spread.new.heights (drop (length c.spread.new.heights) c.pile.inside.heights.items)
+    c.pile.inside.heights.len (omega (arith, c.deref_mut.ensures.len)) in
     rw back (
       record {
         grid = c.pile.invariant.0.grid;
