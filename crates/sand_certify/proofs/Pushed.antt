@@ -8,5 +8,8 @@ pub pushed : (P : ℕ → ℕ → Type 0) (xs : List ℕ) (x n : ℕ) {ys : List
 pushed P xs x n {ys} same long each new i l = go (eq-or-lt_of_le (omega (arith, l)))
   where
     go : (i ≡ n) ⊎ (i < n) → P i (get_or ys i 0)
-    go (inl e) = subst (λ j. P j (get_or ys j 0)) (sym e) (subst (P n) (sym (ap (λ (zs : List ℕ). get_or zs n 0) same ∙ get_or_push xs x 0 n long)) new)
-    go (inr before) = subst (P i) (sym (ap (λ (zs : List ℕ). get_or zs i 0) same ∙ get_or_append_left xs (x ∷ []) 0 i (omega (arith, long, before)))) (each i before)
+    go (inl e) = subst (λ j. P j (get_or ys j 0)) (sym e)
+        (subst (P n) (sym (ap (λ (zs : List ℕ). get_or zs n 0) same ∙ get_or_push xs x 0 n long)) new)
+    go (inr before) = subst (P i) (sym (ap (λ (zs : List ℕ). get_or zs i 0) same
+        ∙ get_or_append_left xs (x ∷ []) 0 i (omega (arith, long, before))))
+        (each i before)

@@ -14,7 +14,8 @@ record IsEarliest (n : ℕ) (set : ℕ → Bool) (turn : ℕ → ℕ) (i : ℕ) 
   member : set i ≡ true
   first : (j : ℕ) → j < n → set j ≡ true → turn i ≤ turn j
 
-earliest_or_new : (n : ℕ) (set : ℕ → Bool) (turn : ℕ → ℕ) (i : ℕ) → IsEarliest n set turn i → (k : ℕ) × IsEarliest (suc n) set turn k
+earliest_or_new : (n : ℕ) (set : ℕ → Bool) (turn : ℕ → ℕ) (i : ℕ) → IsEarliest n set turn i
+    → (k : ℕ) × IsEarliest (suc n) set turn k
 earliest_or_new n set turn i best =
     ⊎_elim
     (λ (yes : set n ≡ true).
@@ -55,7 +56,8 @@ earliest_or_new n set turn i best =
     ))
     (cases_Bool (set n))
 
-earliest_below : (n : ℕ) (set : ℕ → Bool) (turn : ℕ → ℕ) → ((j : ℕ) → j < n → set j ≡ false) ⊎ ((i : ℕ) × IsEarliest n set turn i)
+earliest_below : (n : ℕ) (set : ℕ → Bool) (turn : ℕ → ℕ)
+    → ((j : ℕ) → j < n → set j ≡ false) ⊎ ((i : ℕ) × IsEarliest n set turn i)
 earliest_below zero set turn = inl (λ j m. absurd (omega arith))
 earliest_below (suc n) set turn =
     ⊎_elim
@@ -88,9 +90,11 @@ earliest n set turn k l member =
     (earliest_below n set turn)
 
 -- the neighbours in a set are among those that burn no earlier than its earliest site
-set_is_no_earlier : (g : Grid) (set : ℕ → Bool) (turn : ℕ → ℕ) (i : ℕ) → IsEarliest (sites g) set turn i → count_by set (neighbours g i) ≤ no_earlier g turn i
+set_is_no_earlier : (g : Grid) (set : ℕ → Bool) (turn : ℕ → ℕ) (i : ℕ) → IsEarliest (sites g) set turn i
+    → count_by set (neighbours g i) ≤ no_earlier g turn i
 set_is_no_earlier g set turn i best =
-    count_within g set (λ j. leb (turn i) (turn j)) i best.inside (λ j m member. le-leb (turn i) (turn j) (best.first j m member))
+    count_within g set (λ j. leb (turn i) (turn j)) i best.inside
+    (λ j m member. le-leb (turn i) (turn j) (best.first j m member))
 
 pub tight_if_burning : (g : Grid) (t u turn : ℕ → ℕ) → ToppledSitesBurn g t u turn → IsTight g t u
 tight_if_burning g t u turn burning = record {
@@ -105,13 +109,16 @@ tight_if_burning g t u turn burning = record {
       omega arith;
 }
 
-pub settled_if_left : (g : Grid) (s u t turn : ℕ → ℕ) → IsShownEverywhere g s u turn → IsToppled g s u t → IsSettled g s u t
+pub settled_if_left : (g : Grid) (s u t turn : ℕ → ℕ) → IsShownEverywhere g s u turn → IsToppled g s u t
+    → IsSettled g s u t
 settled_if_left g s u t turn shown done =
     settled_if_tight g s u t done
     (record { low = λ i l. let e = done.balance i l in let three = (shown.each i l).at_most_three in omega arith })
     (tight_if_burning g t u turn
     (record { each = λ i l some. let e = done.balance i l in let high = (shown.each i l).burns some in omega arith }))
 
-pub settled_if_shown : (g : Grid) (s t : ℕ → ℕ) (counts turns : List ℕ) → IsCertificate g s counts turns → IsToppled g s (λ j. get_or counts j 0) t → IsSettled g s (λ j. get_or counts j 0) t
+pub settled_if_shown : (g : Grid) (s t : ℕ → ℕ) (counts turns : List ℕ)
+    → IsCertificate g s counts turns → IsToppled g s (λ j. get_or counts j 0) t
+    → IsSettled g s (λ j. get_or counts j 0) t
 settled_if_shown g s t counts turns certificate done =
     settled_if_left g s (λ j. get_or counts j 0) t (λ j. get_or turns j 0) certificate.shown done

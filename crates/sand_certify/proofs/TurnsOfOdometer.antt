@@ -23,11 +23,14 @@ less_at : (n : ℕ) (b : Bool) → (b ≡ true → 0 < n) → n - one_if b + one
 less_at n true some = let l = some refl in omega arith
 less_at n false some = omega arith
 
-stabilises_without : (g : Grid) (s u t : ℕ → ℕ) (set : ℕ → Bool) → IsSettled g s u t → IsForbidden g t set → ((i : ℕ) → i < sites g → set i ≡ true → 0 < u i) → Stabilises g s (λ j. u j - one_if (set j))
+stabilises_without : (g : Grid) (s u t : ℕ → ℕ) (set : ℕ → Bool) → IsSettled g s u t
+    → IsForbidden g t set → ((i : ℕ) → i < sites g → set i ≡ true → 0 < u i)
+    → Stabilises g s (λ j. u j - one_if (set j))
 stabilises_without g s u t set done forbidden toppled = record {
   at_most_three = λ i l.
       let parts = flow-add g (λ j. u j - one_if (set j)) (indicator set) i in
-      let whole = flow_same g (λ j. u j - one_if (set j) + one_if (set j)) u (λ j m. less_at (u j) (set j) (toppled j m)) i l in
+      let whole =
+      flow_same g (λ j. u j - one_if (set j) + one_if (set j)) u (λ j m. less_at (u j) (set j) (toppled j m)) i l in
       let count = count_is_flow g set i in
       let e = done.toppled.balance i l in
       ⊎_elim
@@ -49,7 +52,8 @@ tight_if_settled g s u t done = record {
       let i = forbidden.some.0 in
       let inside = forbidden.some.1 in
       let member = forbidden.some.2 in
-      let least = done.odometer.least (λ j. u j - one_if (set j)) (stabilises_without g s u t set done forbidden toppled) forbidden.some.0 inside in
+      let least = done.odometer.least (λ j. u j - one_if (set j))
+      (stabilises_without g s u t set done forbidden toppled) forbidden.some.0 inside in
       let some = toppled forbidden.some.0 inside member in
       let one = ap one_if member in
       omega arith;
@@ -68,7 +72,8 @@ rounds : Grid → (ℕ → ℕ) → (ℕ → ℕ) → ℕ → ℕ → ℕ
 rounds g t u zero j = 0
 rounds g t u (suc n) j = rounds g t u n j + one_if (unburnt g t u n j)
 
-burnt_more : (g : Grid) (t u : ℕ → ℕ) (n j : ℕ) → unburnt g t u (suc n) j ≡ (unburnt g t u n j && ltb (t j) (count_by (unburnt g t u n) (neighbours g j)))
+burnt_more : (g : Grid) (t u : ℕ → ℕ) (n j : ℕ)
+    → unburnt g t u (suc n) j ≡ (unburnt g t u n j && ltb (t j) (count_by (unburnt g t u n) (neighbours g j)))
 unfolding unburnt
 burnt_more g t u n j = refl
 
@@ -93,7 +98,8 @@ at_most g t u (suc n) j =
     omega arith
 
 before : (g : Grid) (t u : ℕ → ℕ) (n j : ℕ) → unburnt g t u (suc n) j ≡ true → unburnt g t u n j ≡ true
-before g t u n j e = (and_parts (unburnt g t u n j) (ltb (t j) (count_by (unburnt g t u n) (neighbours g j))) (sym (burnt_more g t u n j) ∙ e)).0
+before g t u n j e = (and_parts (unburnt g t u n j)
+    (ltb (t j) (count_by (unburnt g t u n) (neighbours g j))) (sym (burnt_more g t u n j) ∙ e)).0
 
 has_toppled : (g : Grid) (t u : ℕ → ℕ) (n j : ℕ) → unburnt g t u n j ≡ true → 0 < u j
 has_toppled g t u zero j e = ltb-true 0 (u j) (sym (toppled_first g t u j) ∙ e)
@@ -108,7 +114,8 @@ in_each g t u (suc n) j e =
     let more = round_more g t u n j in
     omega arith
 
-stays : (g : Grid) (t u : ℕ → ℕ) (k n j : ℕ) → k ≤ n → unburnt g t u k j ≡ false → (unburnt g t u n j ≡ false) × (rounds g t u n j ≡ rounds g t u k j)
+stays : (g : Grid) (t u : ℕ → ℕ) (k n j : ℕ) → k ≤ n → unburnt g t u k j ≡ false
+    → (unburnt g t u n j ≡ false) × (rounds g t u n j ≡ rounds g t u k j)
 stays g t u k zero j le burnt =
     let e : k ≡ zero = omega arith in
     (sym (ap (λ m. unburnt g t u m j) e) ∙ burnt, sym (ap (λ m. rounds g t u m j) e))
@@ -128,7 +135,8 @@ stays g t u k (suc n) j le burnt =
 counted : (g : Grid) (t u : ℕ → ℕ) (k n j : ℕ) → k ≤ n → k < rounds g t u n j → unburnt g t u k j ≡ true
 counted g t u k n j le many =
     ⊎_elim (λ (yes : unburnt g t u k j ≡ true). yes)
-    (λ (no : unburnt g t u k j ≡ false). let same = (stays g t u k n j le no).1 in let most = at_most g t u k j in absurd (omega arith))
+    (λ (no : unburnt g t u k j ≡ false).
+    let same = (stays g t u k n j le no).1 in let most = at_most g t u k j in absurd (omega arith))
     (cases_Bool (unburnt g t u k j))
 
 -- the round in which a site burns
@@ -139,17 +147,22 @@ record BurnsAfter (g : Grid) (t u : ℕ → ℕ) (n j : ℕ) : Type 0 where
   high : count_by (unburnt g t u round) (neighbours g j) ≤ t j
   turn : rounds g t u n j ≡ suc round
 
-burns_now : (g : Grid) (t u : ℕ → ℕ) (n j : ℕ) → unburnt g t u n j ≡ true → unburnt g t u (suc n) j ≡ false → BurnsAfter g t u (suc n) j
+burns_now : (g : Grid) (t u : ℕ → ℕ) (n j : ℕ) → unburnt g t u n j ≡ true → unburnt g t u (suc n) j ≡ false
+    → BurnsAfter g t u (suc n) j
 burns_now g t u n j was is = record {
   round = n;
   within = omega arith;
   then = was;
-  high = ltb-false (t j) (count_by (unburnt g t u n) (neighbours g j)) (sym (ap (λ b. b && ltb (t j) (count_by (unburnt g t u n) (neighbours g j))) was) ∙ sym (burnt_more g t u n j) ∙ is);
+  high = ltb-false (t j) (count_by (unburnt g t u n) (neighbours g j))
+      (sym (ap (λ b. b && ltb (t j) (count_by (unburnt g t u n) (neighbours g j))) was)
+      ∙ sym (burnt_more g t u n j) ∙ is);
   turn = let all = in_each g t u n j was in let one = ap one_if was in let more = round_more g t u n j in omega arith;
 }
 
 burns : (g : Grid) (t u : ℕ → ℕ) (n j : ℕ) → 0 < u j → unburnt g t u n j ≡ false → BurnsAfter g t u n j
-burns g t u zero j some burnt = let yes = toppled_first g t u j ∙ lt-ltb 0 (u j) some in absurd (true_not_false (sym yes ∙ burnt))
+burns g t u zero j some burnt =
+    let yes = toppled_first g t u j ∙ lt-ltb 0 (u j) some in
+    absurd (true_not_false (sym yes ∙ burnt))
 burns g t u (suc n) j some burnt =
     ⊎_elim (λ (yes : unburnt g t u n j ≡ true). burns_now g t u n j yes burnt)
     (λ (no : unburnt g t u n j ≡ false).
@@ -190,31 +203,44 @@ one_if_le true b e = let yes = ap one_if (e refl) in omega arith
 one_if_le false b e = omega arith
 
 falls : (g : Grid) (t u : ℕ → ℕ) (n : ℕ) → left g t u (suc n) ≤ left g t u n
-falls g t u n = sum_below_le (sites g) (λ j. one_if (unburnt g t u (suc n) j)) (λ j. one_if (unburnt g t u n j)) (λ j l. one_if_le (unburnt g t u (suc n) j) (unburnt g t u n j) (before g t u n j))
+falls g t u n = sum_below_le (sites g) (λ j. one_if (unburnt g t u (suc n) j)) (λ j. one_if (unburnt g t u n j))
+    (λ j l. one_if_le (unburnt g t u (suc n) j) (unburnt g t u n j) (before g t u n j))
 
-none_left : (g : Grid) (t u : ℕ → ℕ) (n : ℕ) → ((j : ℕ) → j < sites g → not (unburnt g t u n j) ≡ true) → left g t u n ≡ 0
-none_left g t u n none = sum_below_same (sites g) (λ j. one_if (unburnt g t u n j)) (λ j. 0) (λ j l. ⊎_elim (λ (yes : unburnt g t u n j ≡ true). let no = none j l in absurd (cc)) (λ (no : unburnt g t u n j ≡ false). ap one_if no) (cases_Bool (unburnt g t u n j))) ∙ sum_below-zero (sites g)
+none_left : (g : Grid) (t u : ℕ → ℕ) (n : ℕ) → ((j : ℕ) → j < sites g → not (unburnt g t u n j) ≡ true)
+    → left g t u n ≡ 0
+none_left g t u n none = sum_below_same (sites g) (λ j. one_if (unburnt g t u n j)) (λ j. 0)
+    (λ j l. ⊎_elim
+    (λ (yes : unburnt g t u n j ≡ true). let no = none j l in absurd (cc))
+    (λ (no : unburnt g t u n j ≡ false). ap one_if no)
+    (cases_Bool (unburnt g t u n j)))
+    ∙ sum_below-zero (sites g)
 
 unburnt_at : (b : Bool) → not b ≡ false → b ≡ true
 unburnt_at true e = refl
 unburnt_at false e = cc
 
 -- if no site burns in a round, none is left: the sites left would be a forbidden set
-all_or_none : (g : Grid) (t u : ℕ → ℕ) (n : ℕ) → IsTight g t u → ((j : ℕ) → j < sites g → unburnt g t u n j ≡ true → unburnt g t u (suc n) j ≡ true) → left g t u n ≡ 0
+all_or_none : (g : Grid) (t u : ℕ → ℕ) (n : ℕ) → IsTight g t u
+    → ((j : ℕ) → j < sites g → unburnt g t u n j ≡ true → unburnt g t u (suc n) j ≡ true)
+    → left g t u n ≡ 0
 all_or_none g t u n tight stay =
     ⊎_elim (λ (none : (j : ℕ) → j < sites g → not (unburnt g t u n j) ≡ true). none_left g t u n none)
     (λ (one : (i : ℕ) × (i < sites g) × (not (unburnt g t u n i) ≡ false)).
     absurd (tight.none (unburnt g t u n)
     (record {
       some = (one.0, one.1, unburnt_at (unburnt g t u n one.0) one.2);
-      low = λ j l member. ltb-true (t j) (count_by (unburnt g t u n) (neighbours g j)) (and_parts (unburnt g t u n j) (ltb (t j) (count_by (unburnt g t u n) (neighbours g j))) (sym (burnt_more g t u n j) ∙ stay j l member)).1;
+      low = λ j l member. ltb-true (t j) (count_by (unburnt g t u n) (neighbours g j)) (and_parts (unburnt g t u n j)
+          (ltb (t j) (count_by (unburnt g t u n) (neighbours g j))) (sym (burnt_more g t u n j) ∙ stay j l member)).1;
     })
     (λ j l member. has_toppled g t u n j member)))
     (all_or_one (sites g) (λ j. not (unburnt g t u n j)))
 
-one_burns : (g : Grid) (t u : ℕ → ℕ) (n i : ℕ) → i < sites g → unburnt g t u n i ≡ true → unburnt g t u (suc n) i ≡ false → left g t u (suc n) + 1 ≤ left g t u n
+one_burns : (g : Grid) (t u : ℕ → ℕ) (n i : ℕ) → i < sites g
+    → unburnt g t u n i ≡ true → unburnt g t u (suc n) i ≡ false
+    → left g t u (suc n) + 1 ≤ left g t u n
 one_burns g t u n i l was is =
-    let le = sum_below_le (sites g) (λ j. one_if (unburnt g t u (suc n) j) + 1 * one_at i j) (λ j. one_if (unburnt g t u n j))
+    let le =
+    sum_below_le (sites g) (λ j. one_if (unburnt g t u (suc n) j) + 1 * one_at i j) (λ j. one_if (unburnt g t u n j))
     (λ j m.
     ⊎_elim (λ (same : i ≡ j).
     let now = ap (λ k. one_if (unburnt g t u (suc n) k)) (sym same) ∙ ap one_if is in
@@ -230,7 +256,8 @@ one_burns g t u n i l was is =
     let one = sum_below-one_at (sites g) i (λ j. 1) l in
     omega arith
 
-shrinks : (g : Grid) (t u : ℕ → ℕ) (n : ℕ) → IsTight g t u → (left g t u n ≡ 0) ⊎ (left g t u (suc n) + 1 ≤ left g t u n)
+shrinks : (g : Grid) (t u : ℕ → ℕ) (n : ℕ) → IsTight g t u
+    → (left g t u n ≡ 0) ⊎ (left g t u (suc n) + 1 ≤ left g t u n)
 shrinks g t u n tight =
     ⊎_elim (λ (stay : (j : ℕ) → j < sites g → (not (unburnt g t u n j) || unburnt g t u (suc n) j) ≡ true).
     inl (all_or_none g t u n tight (λ j l yes. let either = stay j l in rw yes at either)))
@@ -241,7 +268,8 @@ shrinks g t u n tight =
 
 few_left : (g : Grid) (t u : ℕ → ℕ) (n : ℕ) → IsTight g t u → (left g t u n ≡ 0) ⊎ (left g t u n + n ≤ sites g)
 few_left g t u zero tight =
-    let le = sum_below_le (sites g) (λ j. one_if (unburnt g t u zero j)) (λ j. 1) (λ j l. at_most_one (unburnt g t u zero j)) in
+    let le =
+    sum_below_le (sites g) (λ j. one_if (unburnt g t u zero j)) (λ j. 1) (λ j l. at_most_one (unburnt g t u zero j)) in
     let ones = sum_below-ones (sites g) in
     inr (omega arith)
 few_left g t u (suc n) tight =
@@ -255,7 +283,10 @@ few_left g t u (suc n) tight =
 
 all_burn : (g : Grid) (t u : ℕ → ℕ) → IsTight g t u → (j : ℕ) → j < sites g → unburnt g t u (sites g) j ≡ false
 all_burn g t u tight j l =
-    let none : left g t u (sites g) ≡ 0 = ⊎_elim (λ (e : left g t u (sites g) ≡ 0). e) (λ (few : left g t u (sites g) + sites g ≤ sites g). omega arith) (few_left g t u (sites g) tight) in
+    let none : left g t u (sites g) ≡ 0 = ⊎_elim
+    (λ (e : left g t u (sites g) ≡ 0). e)
+    (λ (few : left g t u (sites g) + sites g ≤ sites g). omega arith)
+    (few_left g t u (sites g) tight) in
     let one = term_le (sites g) (λ i. one_if (unburnt g t u (sites g) i)) j l in
     ⊎_elim (λ (yes : unburnt g t u (sites g) j ≡ true). let e = ap one_if yes in absurd (omega (arith, e)))
     (λ (no : unburnt g t u (sites g) j ≡ false). no)
@@ -264,7 +295,8 @@ all_burn g t u tight j l =
 -- ---- the turns
 
 -- a site burns at its turn: neighbours with turns not earlier are unburnt in its round
-burns_at_turn : (g : Grid) (t u : ℕ → ℕ) (i : ℕ) → i < sites g → BurnsAfter g t u (sites g) i → no_earlier g (rounds g t u (sites g)) i ≤ t i
+burns_at_turn : (g : Grid) (t u : ℕ → ℕ) (i : ℕ) → i < sites g → BurnsAfter g t u (sites g) i
+    → no_earlier g (rounds g t u (sites g)) i ≤ t i
 burns_at_turn g t u i l b =
     let high = b.high in
     let le = count_within g (λ j. leb (rounds g t u (sites g) i) (rounds g t u (sites g) j)) (unburnt g t u b.round) i l
@@ -274,7 +306,8 @@ burns_at_turn g t u i l b =
     counted g t u b.round (sites g) j (let w = b.within in omega arith) (omega arith)) in
     omega arith
 
-pub each_odometer_is_shown : (g : Grid) (s u t : ℕ → ℕ) → IsSettled g s u t → (turn : ℕ → ℕ) × ((i : ℕ) → turn i ≤ sites g) × IsShownEverywhere g s u turn
+pub each_odometer_is_shown : (g : Grid) (s u t : ℕ → ℕ) → IsSettled g s u t
+    → (turn : ℕ → ℕ) × ((i : ℕ) → turn i ≤ sites g) × IsShownEverywhere g s u turn
 each_odometer_is_shown g s u t done =
     let tight = tight_if_settled g s u t done in (
       rounds g t u (sites g),
@@ -286,7 +319,9 @@ each_odometer_is_shown g s u t done =
             record {
               not_negative = omega arith;
               at_most_three = omega arith;
-              burns = λ some. let turn = burns_at_turn g t u i l (burns g t u (sites g) i some (all_burn g t u tight i l)) in omega arith;
+              burns = λ some.
+                  let turn = burns_at_turn g t u i l (burns g t u (sites g) i some (all_burn g t u tight i l)) in
+                  omega arith;
             };
       },
     )

@@ -88,7 +88,8 @@ fn height_left(
     requires low { slice_index start.now site ≤ most_grains }
     ensures { MatchOption result
         (¬ IsShownAt lattice.now (slice_index start.now) (slice_index counts.now) (slice_index turns.now) site)
-        (λ height. IsLeftAt lattice.now (slice_index start.now) (slice_index counts.now) (slice_index turns.now) site height) }
+        (λ height.
+        IsLeftAt lattice.now (slice_index start.now) (slice_index counts.now) (slice_index turns.now) site height) }
 {
     let before = start[site] + inflow(lattice, counts, site);
     let taken = 4 * counts[site];
@@ -146,7 +147,8 @@ pub fn certified(
     counts: &[u64],
     turns: &[u32],
 ) -> Result<Option<Vec<u64>>, AllocError>
-    ensures exactly { IfOk result (λ o. IsSome o ↔ IsCertificate pile.now.grid (height_of pile.now) counts.now turns.now) }
+    ensures exactly { IfOk result
+        (λ o. IsSome o ↔ IsCertificate pile.now.grid (height_of pile.now) counts.now turns.now) }
     ensures one_each { IfOk result (λ o. IfSome o (λ heights. length heights.items ≡ sites pile.now.grid)) }
     ensures settled { IfOk result (λ o. IfSome o (λ heights.
         IsSettled pile.now.grid (height_of pile.now) (slice_index counts.now) (slice_index heights.items))) }

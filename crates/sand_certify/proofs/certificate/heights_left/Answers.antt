@@ -9,24 +9,32 @@ pub loop-site-preserved : goal.loop-site-preserved
 loop-site-preserved c = record {
   made = c.push_reserved.ensures.len ∙ ap (λ (n : ℕ). n + 1) c.loop-site.invariant.made;
   room = c.push_reserved.ensures.capacity ∙ c.loop-site.invariant.room;
-  left = pushed (IsLeftAt c.args.lattice.now (λ j. get_or c.args.start.now j 0) (λ j. get_or c.args.counts.now j 0) (λ j. get_or c.args.turns.now j 0)) c.loop-site.heights.items c.in-Some.height c.loop-site.site
-      c.push_reserved.ensures.items (omega (arith, c.loop-site.invariant.made)) c.loop-site.invariant.left c.in-Some.ensures;
+  left = pushed (IsLeftAt c.args.lattice.now (λ j. get_or c.args.start.now j 0)
+      (λ j. get_or c.args.counts.now j 0) (λ j. get_or c.args.turns.now j 0))
+      c.loop-site.heights.items c.in-Some.height c.loop-site.site
+      c.push_reserved.ensures.items (omega (arith, c.loop-site.invariant.made))
+      c.loop-site.invariant.left c.in-Some.ensures;
 }
 
 pub returns-in_default-clause-exactly : goal.returns-in_default-clause-exactly
 returns-in_default-clause-exactly c =
-    let inside : c.loop-site.site < sites c.args.lattice.now = omega (arith, c.loop-site-test.true, c.sites-sites.ensures.value, ap sites c.shape.ensures.value) in
+    let inside : c.loop-site.site < sites c.args.lattice.now =
+    omega (arith, c.loop-site-test.true, c.sites-sites.ensures.value, ap sites c.shape.ensures.value) in
     ((λ e. absurd (true≢false (sym e))), (λ shown. absurd (c.in_default.ensures (shown.each c.loop-site.site inside))))
 
 pub returns-clause-exactly : goal.returns-clause-exactly
 returns-clause-exactly c =
-    let all : sites c.args.lattice.now ≤ c.loop-site.site = omega (arith, c.loop-site-test.false, c.sites-sites.ensures.value, ap sites c.shape.ensures.value) in
+    let all : sites c.args.lattice.now ≤ c.loop-site.site =
+    omega (arith, c.loop-site-test.false, c.sites-sites.ensures.value, ap sites c.shape.ensures.value) in
     ((λ e. record { each = λ i l. (c.loop-site.invariant.left i (omega (arith, all, l))).shown }), (λ shown. refl))
 
 pub returns-clause-settled : goal.returns-clause-settled
 returns-clause-settled c =
-    let left : (i : ℕ) → i < sites c.args.lattice.now → IsLeftAt c.args.lattice.now (λ j. get_or c.args.start.now j 0) (λ j. get_or c.args.counts.now j 0) (λ j. get_or c.args.turns.now j 0) i (get_or c.loop-site.heights.items i 0) =
+    let left : (i : ℕ) → i < sites c.args.lattice.now
+    → IsLeftAt c.args.lattice.now (λ j. get_or c.args.start.now j 0) (λ j. get_or c.args.counts.now j 0)
+    (λ j. get_or c.args.turns.now j 0) i (get_or c.loop-site.heights.items i 0) =
     λ i l. c.loop-site.invariant.left i (omega (arith, c.sites-sites.ensures.value, ap sites c.shape.ensures.value)) in
-    settled_if_left c.args.lattice.now (λ j. get_or c.args.start.now j 0) (λ j. get_or c.args.counts.now j 0) (λ j. get_or c.loop-site.heights.items j 0) (λ j. get_or c.args.turns.now j 0)
+    settled_if_left c.args.lattice.now (λ j. get_or c.args.start.now j 0) (λ j. get_or c.args.counts.now j 0)
+    (λ j. get_or c.loop-site.heights.items j 0) (λ j. get_or c.args.turns.now j 0)
     (record { each = λ i l. (left i l).shown })
     (record { balance = λ i l. (left i l).balance })

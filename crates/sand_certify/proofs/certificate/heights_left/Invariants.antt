@@ -7,5 +7,7 @@ abbrev pub invariant-loop-site : goal.invariant-loop-site
 invariant-loop-site l = record {
   made : vec_len l.heights ≡ l.site;
   room : vec_capacity l.heights ≡ sites l.lattice;
-  left : (i : ℕ) → i < l.site → IsLeftAt l.lattice (λ j. get_or l.start j 0) (λ j. get_or l.counts j 0) (λ j. get_or l.turns j 0) i (get_or l.heights.items i 0);
+  left : (i : ℕ) → i < l.site
+      → IsLeftAt l.lattice (λ j. get_or l.start j 0) (λ j. get_or l.counts j 0)
+      (λ j. get_or l.turns j 0) i (get_or l.heights.items i 0);
 }

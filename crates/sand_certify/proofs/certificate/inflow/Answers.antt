@@ -3,16 +3,20 @@ use Rattle.sand_model.proofs.Neighbours.{place_inside, flow_four}
 use Rattle.sand_certify.proofs.certificate.inflow.Goals as goal
 
 pub value-up-requires : goal.value-up-requires
-value-up-requires c = place_inside c.args.lattice.now c.args.site _ 0 _ c.neighbours.ensures.places c.requires.site c.requires.one_each
+value-up-requires c =
+    place_inside c.args.lattice.now c.args.site _ 0 _ c.neighbours.ensures.places c.requires.site c.requires.one_each
 
 pub value-left-requires : goal.value-left-requires
-value-left-requires c = place_inside c.args.lattice.now c.args.site _ 1 _ c.neighbours.ensures.places c.requires.site c.requires.one_each
+value-left-requires c =
+    place_inside c.args.lattice.now c.args.site _ 1 _ c.neighbours.ensures.places c.requires.site c.requires.one_each
 
 pub value-right-requires : goal.value-right-requires
-value-right-requires c = place_inside c.args.lattice.now c.args.site _ 2 _ c.neighbours.ensures.places c.requires.site c.requires.one_each
+value-right-requires c =
+    place_inside c.args.lattice.now c.args.site _ 2 _ c.neighbours.ensures.places c.requires.site c.requires.one_each
 
 pub value-down-requires : goal.value-down-requires
-value-down-requires c = place_inside c.args.lattice.now c.args.site _ 3 _ c.neighbours.ensures.places c.requires.site c.requires.one_each
+value-down-requires c =
+    place_inside c.args.lattice.now c.args.site _ 3 _ c.neighbours.ensures.places c.requires.site c.requires.one_each
 
 pub returns-clause-value : goal.returns-clause-value
 returns-clause-value c =

@@ -4,16 +4,20 @@ use Rattle.sand_model.proofs.Flow.{count_is_flow, indicator}
 use Rattle.sand_certify.proofs.certificate.unburnt.Goals as goal
 
 pub is_no_earlier-up-requires : goal.is_no_earlier-up-requires
-is_no_earlier-up-requires c = place_inside c.args.lattice.now c.args.site _ 0 _ c.neighbours.ensures.places c.requires.site c.requires.one_each
+is_no_earlier-up-requires c =
+    place_inside c.args.lattice.now c.args.site _ 0 _ c.neighbours.ensures.places c.requires.site c.requires.one_each
 
 pub is_no_earlier-left-requires : goal.is_no_earlier-left-requires
-is_no_earlier-left-requires c = place_inside c.args.lattice.now c.args.site _ 1 _ c.neighbours.ensures.places c.requires.site c.requires.one_each
+is_no_earlier-left-requires c =
+    place_inside c.args.lattice.now c.args.site _ 1 _ c.neighbours.ensures.places c.requires.site c.requires.one_each
 
 pub is_no_earlier-right-requires : goal.is_no_earlier-right-requires
-is_no_earlier-right-requires c = place_inside c.args.lattice.now c.args.site _ 2 _ c.neighbours.ensures.places c.requires.site c.requires.one_each
+is_no_earlier-right-requires c =
+    place_inside c.args.lattice.now c.args.site _ 2 _ c.neighbours.ensures.places c.requires.site c.requires.one_each
 
 pub is_no_earlier-down-requires : goal.is_no_earlier-down-requires
-is_no_earlier-down-requires c = place_inside c.args.lattice.now c.args.site _ 3 _ c.neighbours.ensures.places c.requires.site c.requires.one_each
+is_no_earlier-down-requires c =
+    place_inside c.args.lattice.now c.args.site _ 3 _ c.neighbours.ensures.places c.requires.site c.requires.one_each
 
 pub returns : goal.returns
 returns c =

@@ -7,7 +7,8 @@ use Rattle.sand_certify.specs.Emptying.{IsLow}
 use Rattle.sand_certify.proofs.emptying.emptied.Goals as goal
 
 pub heights_emptied-requires-clause-one_each : goal.heights_emptied-requires-clause-one_each
-heights_emptied-requires-clause-one_each c = c.if-counts-sites.false ∙ c.sites.ensures.value ∙ ap sites (sym c.in_ok-lattice.ensures)
+heights_emptied-requires-clause-one_each c =
+    c.if-counts-sites.false ∙ c.sites.ensures.value ∙ ap sites (sym c.in_ok-lattice.ensures)
 
 pub returns-clause-exactly : goal.returns-clause-exactly
 returns-clause-exactly c =
@@ -24,12 +25,14 @@ returns-clause-exactly c =
 
 pub returns-clause-one_each : goal.returns-clause-one_each
 returns-clause-one_each c =
-    subst (λ (g : Grid). IfOk c.heights_emptied.result (λ o. IfSome o (λ heights. length heights.items ≡ sites g))) c.in_ok-lattice.ensures c.heights_emptied.ensures.one_each
+    subst (λ (g : Grid). IfOk c.heights_emptied.result (λ o. IfSome o (λ heights. length heights.items ≡ sites g)))
+    c.in_ok-lattice.ensures c.heights_emptied.ensures.one_each
 
 pub returns-clause-low : goal.returns-clause-low
 returns-clause-low c = c.heights_emptied.ensures.low
 
 pub returns-clause-emptied : goal.returns-clause-emptied
 returns-clause-emptied c =
-    subst (λ (g : Grid). IfOk c.heights_emptied.result (λ o. IfSome o (λ heights. IsToppled g (λ j. get_or heights.items j 0) (λ j. get_or c.args.counts.now j 0) (λ _. 0))))
+    subst (λ (g : Grid). IfOk c.heights_emptied.result (λ o.
+    IfSome o (λ heights. IsToppled g (λ j. get_or heights.items j 0) (λ j. get_or c.args.counts.now j 0) (λ _. 0))))
     c.in_ok-lattice.ensures c.heights_emptied.ensures.emptied
