@@ -35,25 +35,31 @@ east_reads p low = ⊎_elim
     (λ (other : p % 8 ≡ 7 → ⊥). inr (p + 1, omega arith, λ f. ap (λ t. cond t 0 (f (p + 1))) (ne_eqb (p % 8) 7 other)))
     (cases_eq (p % 8) 7)
 
-reads_sum : (side : (ℕ → ℕ) → ℕ → ℕ) (p : ℕ) (f g h : ℕ → ℕ) → Reads side p → ((q : ℕ) → q < 64 → f q + g q ≡ h q) → side f p + side g p ≡ side h p
+reads_sum : (side : (ℕ → ℕ) → ℕ → ℕ) (p : ℕ) (f g h : ℕ → ℕ) → Reads side p → ((q : ℕ) → q < 64 → f q + g q ≡ h q)
+    → side f p + side g p ≡ side h p
 reads_sum side p f g h reads sums = ⊎_elim
     (λ (none : (k : ℕ → ℕ) → side k p ≡ 0). let a = none f in let b = none g in let c = none h in omega arith)
-    (λ (one : (q : ℕ) × (q < 64) × ((k : ℕ → ℕ) → side k p ≡ k q)). let a = one.2 f in let b = one.2 g in let c = one.2 h in let s = sums one.0 one.1 in omega arith)
+    (λ (one : (q : ℕ) × (q < 64) × ((k : ℕ → ℕ) → side k p ≡ k q)).
+    let a = one.2 f in let b = one.2 g in let c = one.2 h in let s = sums one.0 one.1 in omega arith)
     reads
 
-reads_le : (side : (ℕ → ℕ) → ℕ → ℕ) (p : ℕ) (f g : ℕ → ℕ) → Reads side p → ((q : ℕ) → q < 64 → f q ≤ g q) → side f p ≤ side g p
+reads_le : (side : (ℕ → ℕ) → ℕ → ℕ) (p : ℕ) (f g : ℕ → ℕ) → Reads side p → ((q : ℕ) → q < 64 → f q ≤ g q)
+    → side f p ≤ side g p
 reads_le side p f g reads less = ⊎_elim
     (λ (none : (k : ℕ → ℕ) → side k p ≡ 0). let a = none f in omega arith)
-    (λ (one : (q : ℕ) × (q < 64) × ((k : ℕ → ℕ) → side k p ≡ k q)). let a = one.2 f in let b = one.2 g in let s = less one.0 one.1 in omega arith)
+    (λ (one : (q : ℕ) × (q < 64) × ((k : ℕ → ℕ) → side k p ≡ k q)).
+    let a = one.2 f in let b = one.2 g in let s = less one.0 one.1 in omega arith)
     reads
 
 reads_few : (side : (ℕ → ℕ) → ℕ → ℕ) (p : ℕ) (f : ℕ → ℕ) → Reads side p → ((q : ℕ) → q < 64 → f q ≤ 1) → side f p ≤ 1
 reads_few side p f reads few = ⊎_elim
     (λ (none : (k : ℕ → ℕ) → side k p ≡ 0). let a = none f in omega arith)
-    (λ (one : (q : ℕ) × (q < 64) × ((k : ℕ → ℕ) → side k p ≡ k q)). let a = one.2 f in let s = few one.0 one.1 in omega arith)
+    (λ (one : (q : ℕ) × (q < 64) × ((k : ℕ → ℕ) → side k p ≡ k q)).
+    let a = one.2 f in let s = few one.0 one.1 in omega arith)
     reads
 
-pub around_sum : (f g h : ℕ → ℕ) (p : ℕ) → p < 64 → ((q : ℕ) → q < 64 → f q + g q ≡ h q) → around f p + around g p ≡ around h p
+pub around_sum : (f g h : ℕ → ℕ) (p : ℕ) → p < 64 → ((q : ℕ) → q < 64 → f q + g q ≡ h q)
+    → around f p + around g p ≡ around h p
 around_sum f g h p low sums =
     let n = reads_sum north p f g h (north_reads p low) sums in
     let s = reads_sum south p f g h (south_reads p low) sums in

@@ -17,17 +17,29 @@ half_of x y a b = omega arith
 -- two sets added at each place: sum and carry
 pub half : (a b p : ℕ) → bit a p + bit b p ≡ bit (bit_xor a b) p + 2 * bit (bit_and a b) p
 unfolding bit
-half a b p = half_of (bit_at a p) (bit_at b p) (bit_at-lt a p) (bit_at-lt b p) ∙ sym (ap (λ x. x + 2 * bit_at (bit_and a b) p) (bit_at_xor a b p) ∙ ap (λ x. (bit_at a p + bit_at b p) % 2 + 2 * x) (bit_at_and a b p))
+half a b p = half_of (bit_at a p) (bit_at b p) (bit_at-lt a p) (bit_at-lt b p)
+    ∙ sym (ap (λ x. x + 2 * bit_at (bit_and a b) p) (bit_at_xor a b p)
+    ∙ ap (λ x. (bit_at a p + bit_at b p) % 2 + 2 * x) (bit_at_and a b p))
 
 most_of : (x y : ℕ) → max x y + min x y ≡ x + y
 most_of x y = omega arith
 
 pub either : (a b p : ℕ) → bit (bit_or a b) p + bit (bit_and a b) p ≡ bit a p + bit b p
 unfolding bit
-either a b p = ap (λ x. x + bit_at (bit_and a b) p) (bit_at_or a b p) ∙ ap (λ x. max (bit_at a p) (bit_at b p) + x) (bit_at_and a b p) ∙ most_of (bit_at a p) (bit_at b p)
+either a b p = ap (λ x. x + bit_at (bit_and a b) p) (bit_at_or a b p)
+    ∙ ap (λ x. max (bit_at a p) (bit_at b p) + x) (bit_at_and a b p) ∙ most_of (bit_at a p) (bit_at b p)
 
-pub both_le : (a b p : ℕ) → (bit (bit_and a b) p ≤ bit a p) × (bit (bit_and a b) p ≤ bit b p) × (bit a p + bit b p ≤ 1 + bit (bit_and a b) p)
-both_le a b p = let h = half a b p in let e = either a b p in let x = bit_le (bit_xor a b) p in let o = bit_le (bit_or a b) p in let y = bit_le (bit_and a b) p in let m = bit_le a p in let n = bit_le b p in (omega arith, omega arith, omega arith)
+pub both_le : (a b p : ℕ)
+    → (bit (bit_and a b) p ≤ bit a p) × (bit (bit_and a b) p ≤ bit b p) × (bit a p + bit b p ≤ 1 + bit (bit_and a b) p)
+both_le a b p =
+    let h = half a b p in
+    let e = either a b p in
+    let x = bit_le (bit_xor a b) p in
+    let o = bit_le (bit_or a b) p in
+    let y = bit_le (bit_and a b) p in
+    let m = bit_le a p in
+    let n = bit_le b p in
+    (omega arith, omega arith, omega arith)
 
 pub apart : (a b p : ℕ) → bit a p + bit b p ≤ 1 → bit (bit_or a b) p ≡ bit a p + bit b p
 apart a b p few = let e = either a b p in let h = half a b p in omega arith
@@ -36,8 +48,11 @@ apart a b p few = let e = either a b p in let h = half a b p in omega arith
 pub added : (low high a b c d p : ℕ) →
     bit low p + 2 * bit high p + (bit a p + bit b p + bit c p + bit d p)
     ≡ bit (bit_xor (bit_xor (bit_xor a b) low) (bit_xor c d)) p
-    + 2 * bit (bit_xor (bit_xor (bit_xor high (bit_and a b)) (bit_and c d)) (bit_or (bit_and (bit_xor a b) low) (bit_and (bit_xor (bit_xor a b) low) (bit_xor c d)))) p
-    + 4 * bit (bit_or (bit_or (bit_and high (bit_and a b)) (bit_and (bit_xor high (bit_and a b)) (bit_and c d))) (bit_and (bit_xor (bit_xor high (bit_and a b)) (bit_and c d)) (bit_or (bit_and (bit_xor a b) low) (bit_and (bit_xor (bit_xor a b) low) (bit_xor c d))))) p
+    + 2 * bit (bit_xor (bit_xor (bit_xor high (bit_and a b)) (bit_and c d))
+    (bit_or (bit_and (bit_xor a b) low) (bit_and (bit_xor (bit_xor a b) low) (bit_xor c d)))) p
+    + 4 * bit (bit_or (bit_or (bit_and high (bit_and a b)) (bit_and (bit_xor high (bit_and a b)) (bit_and c d)))
+    (bit_and (bit_xor (bit_xor high (bit_and a b)) (bit_and c d))
+    (bit_or (bit_and (bit_xor a b) low) (bit_and (bit_xor (bit_xor a b) low) (bit_xor c d))))) p
 added low high a b c d p =
     let one_ab = bit_xor a b in
     let two_ab = bit_and a b in
@@ -55,7 +70,12 @@ added low high a b c d p =
     let s2 = half c d p in
     let s3 = half one_ab low p in
     let s4 = half x one_cd p in
-    let few : bit first p + bit second p ≤ 1 = let m = bit_le x p in let n = bit_le first p in let k = (both_le x one_cd p).0 in let j = bit_le one_ab p in omega arith in
+    let few : bit first p + bit second p ≤ 1 =
+    let m = bit_le x p in
+    let n = bit_le first p in
+    let k = (both_le x one_cd p).0 in
+    let j = bit_le one_ab p in
+    omega arith in
     let s5 = apart first second p few in
     let s6 = half high two_ab p in
     let s7 = half y two_cd p in
@@ -77,7 +97,13 @@ pub apart_words : (a b : ℕ) → a < 2 ^ 64 → ((p : ℕ) → p < 64 → bit a
 unfolding bit
 apart_words a b fits few =
     let le = and_le_l a b in
-    or_disjoint a b (same_from_bits_below 64 (bit_and a b) 0 (omega arith) (omega arith) (λ p low. let h = half a b p in let f = few p low in let x = bit_at-lt (bit_xor a b) p in let z = bit_at-zero p in omega arith))
+    or_disjoint a b (same_from_bits_below 64 (bit_and a b) 0 (omega arith) (omega arith)
+    (λ p low.
+    let h = half a b p in
+    let f = few p low in
+    let x = bit_at-lt (bit_xor a b) p in
+    let z = bit_at-zero p in
+    omega arith))
 
 pub bit_none : (p : ℕ) → bit 0 p ≡ 0
 unfolding bit
@@ -85,8 +111,12 @@ bit_none p = bit_at-zero p
 
 -- a set added to two planes, and the places that become due
 pub received : (low high due gain p : ℕ) →
-    (bit (bit_xor low gain) p + 2 * bit (bit_xor high (bit_and low gain)) p ≡ (bit low p + 2 * bit high p + bit gain p) % 4)
-    × (bit low p + 2 * bit high p + bit gain p + 4 * bit due p ≤ 7 → bit (bit_xor low gain) p + 2 * bit (bit_xor high (bit_and low gain)) p + 4 * bit (bit_or due (bit_and high (bit_and low gain))) p ≡ bit low p + 2 * bit high p + bit gain p + 4 * bit due p)
+    (bit (bit_xor low gain) p + 2 * bit (bit_xor high (bit_and low gain)) p
+    ≡ (bit low p + 2 * bit high p + bit gain p) % 4)
+    × (bit low p + 2 * bit high p + bit gain p + 4 * bit due p ≤ 7
+    → bit (bit_xor low gain) p + 2 * bit (bit_xor high (bit_and low gain)) p
+    + 4 * bit (bit_or due (bit_and high (bit_and low gain))) p
+    ≡ bit low p + 2 * bit high p + bit gain p + 4 * bit due p)
 received low high due gain p =
     let carry = bit_and low gain in
     let four = bit_and high carry in

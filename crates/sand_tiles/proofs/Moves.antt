@@ -52,7 +52,10 @@ nought : (x m r : ℕ) → eqb x 0 ≡ eqb m r → m ≡ r → x ≡ 0
 nought x m r e same = eqb-true x 0 (e ∙ eq-eqb m r same)
 
 some : (x m r : ℕ) → eqb x 0 ≡ eqb m r → x ≤ 1 → (m ≡ r → ⊥) → x ≡ 1
-some x m r e few other = ⊎_elim (λ (z : x ≡ 0). absurd (other (eqb-true m r (sym e ∙ eq-eqb x 0 z)))) (λ (nz : x ≡ 0 → ⊥). omega arith) (cases_eq x 0)
+some x m r e few other = ⊎_elim
+    (λ (z : x ≡ 0). absurd (other (eqb-true m r (sym e ∙ eq-eqb x 0 z))))
+    (λ (nz : x ≡ 0 → ⊥). omega arith)
+    (cases_eq x 0)
 
 pub north_of : (a p : ℕ) → p < 64 → bit (a * 256 % 18446744073709551616) p ≡ north (bit a) p
 unfolding north
@@ -65,23 +68,30 @@ pub south_of : (a p : ℕ) → a < 2 ^ 64 → p < 64 → bit (a / 256) p ≡ sou
 unfolding south
 south_of a p fits low = ⊎_elim
     (λ (less : p < 56). bit_shr a 8 p ∙ sym (ap (λ t. cond t (bit a (p + 8)) 0) (lt-ltb p 56 less)))
-    (λ (more : 56 ≤ p). bit_shr a 8 p ∙ bit_above a (p + 8) fits (omega arith) ∙ sym (ap (λ t. cond t (bit a (p + 8)) 0) (le-ltb p 56 more)))
+    (λ (more : 56 ≤ p). bit_shr a 8 p ∙ bit_above a (p + 8) fits (omega arith)
+    ∙ sym (ap (λ t. cond t (bit a (p + 8)) 0) (le-ltb p 56 more)))
     (cases_lt p 56)
 
 pub west_of : (a p : ℕ) → p < 64 → bit (bit_and (a * 2 % 18446744073709551616) 18374403900871474942) p ≡ west (bit a) p
 unfolding west bit
 west_of a p low = ⊎_elim
-    (λ (first : p % 8 ≡ 0). masked_out (a * 2 % 2 ^ 64) 18374403900871474942 p (nought _ (p % 8) 0 (not_first p low) first) ∙ sym (ap (λ t. cond t 0 (bit a (p - 1))) (eq-eqb (p % 8) 0 first)))
+    (λ (first : p % 8 ≡ 0).
+    masked_out (a * 2 % 2 ^ 64) 18374403900871474942 p (nought _ (p % 8) 0 (not_first p low) first)
+    ∙ sym (ap (λ t. cond t 0 (bit a (p - 1))) (eq-eqb (p % 8) 0 first)))
     (λ (other : p % 8 ≡ 0 → ⊥).
     let more : 1 ≤ p = omega arith in
-    masked_in (a * 2 % 2 ^ 64) 18374403900871474942 p (some _ (p % 8) 0 (not_first p low) (bit_le _ p) other) ∙ bit_shl a 1 p low more ∙ sym (ap (λ t. cond t 0 (bit a (p - 1))) (ne_eqb (p % 8) 0 other)))
+    masked_in (a * 2 % 2 ^ 64) 18374403900871474942 p (some _ (p % 8) 0 (not_first p low) (bit_le _ p) other)
+    ∙ bit_shl a 1 p low more ∙ sym (ap (λ t. cond t 0 (bit a (p - 1))) (ne_eqb (p % 8) 0 other)))
     (cases_eq (p % 8) 0)
 
 pub east_of : (a p : ℕ) → p < 64 → bit (bit_and (a / 2) 9187201950435737471) p ≡ east (bit a) p
 unfolding east bit
 east_of a p low = ⊎_elim
-    (λ (last : p % 8 ≡ 7). masked_out (a / 2) 9187201950435737471 p (nought _ (p % 8) 7 (not_last p low) last) ∙ sym (ap (λ t. cond t 0 (bit a (p + 1))) (eq-eqb (p % 8) 7 last)))
-    (λ (other : p % 8 ≡ 7 → ⊥). masked_in (a / 2) 9187201950435737471 p (some _ (p % 8) 7 (not_last p low) (bit_le _ p) other) ∙ bit_shr a 1 p ∙ sym (ap (λ t. cond t 0 (bit a (p + 1))) (ne_eqb (p % 8) 7 other)))
+    (λ (last : p % 8 ≡ 7). masked_out (a / 2) 9187201950435737471 p (nought _ (p % 8) 7 (not_last p low) last)
+    ∙ sym (ap (λ t. cond t 0 (bit a (p + 1))) (eq-eqb (p % 8) 7 last)))
+    (λ (other : p % 8 ≡ 7 → ⊥).
+    masked_in (a / 2) 9187201950435737471 p (some _ (p % 8) 7 (not_last p low) (bit_le _ p) other)
+    ∙ bit_shr a 1 p ∙ sym (ap (λ t. cond t 0 (bit a (p + 1))) (ne_eqb (p % 8) 7 other)))
     (cases_eq (p % 8) 7)
 
 bit_one : (p : ℕ) → 1 ≤ p → bit 1 p ≡ 0
@@ -96,7 +106,8 @@ pub bit_one_place : (k p : ℕ) → p < 64 → bit (1 * 2 ^ k % 2 ^ 64) p ≡ on
 bit_one_place k p low = ⊎_elim
     (λ (less : p < k). bit_shl_low 1 k p low less ∙ sym (one_at_other k p (λ e. omega arith)))
     (λ (more : k ≤ p). bit_shl 1 k p low more ∙ ⊎_elim
-    (λ (e : k ≡ p). ap (bit 1) (let z : p - k ≡ 0 = omega arith in z) ∙ bit_one_first ∙ sym (ap (λ x. one_at x p) e ∙ one_at_same p))
+    (λ (e : k ≡ p).
+    ap (bit 1) (let z : p - k ≡ 0 = omega arith in z) ∙ bit_one_first ∙ sym (ap (λ x. one_at x p) e ∙ one_at_same p))
     (λ (ne : k ≡ p → ⊥). bit_one (p - k) (omega arith) ∙ sym (one_at_other k p ne))
     (cases_eq k p))
     (cases_lt p k)

@@ -17,7 +17,9 @@ unfolding ones
 ones_zero = refl
 
 ones_of_digit : (d : ℕ) → d < 2 → ones d ≡ d
-ones_of_digit d small = let z : ones (d / 2) ≡ 0 = ap ones (let e : d / 2 ≡ 0 = omega arith in e) ∙ ones_zero in ones_step d ∙ omega arith
+ones_of_digit d small =
+    let z : ones (d / 2) ≡ 0 = ap ones (let e : d / 2 ≡ 0 = omega arith in
+    e) ∙ ones_zero in ones_step d ∙ omega arith
 
 ones_below : (n k : ℕ) → ones (n % 2 ^ k) ≡ sum_below k (bit n)
 unfolding sum_below bit
@@ -26,7 +28,10 @@ ones_below n (suc k) =
     let one : suc k ≡ 1 + k = omega arith in
     let below : n % 2 ^ k < 2 ^ k = omega (arith, pow_pos k) in
     ap (λ j. ones (n % 2 ^ j)) one ∙ ap ones (mod-pow-add n 1 k) ∙ ones_cat k (n / 2 ^ k % 2) (n % 2 ^ k) below
-    ∙ ap (λ x. x + ones (n % 2 ^ k)) (ones_of_digit (n / 2 ^ k % 2) (bit_at-lt n k)) ∙ ap (λ x. n / 2 ^ k % 2 + x) (ones_below n k) ∙ (let e : bit_at n k + sum_below k (λ p. bit_at n p) ≡ sum_below k (λ p. bit_at n p) + bit_at n k = omega arith in e)
+    ∙ ap (λ x. x + ones (n % 2 ^ k)) (ones_of_digit (n / 2 ^ k % 2) (bit_at-lt n k))
+    ∙ ap (λ x. n / 2 ^ k % 2 + x) (ones_below n k)
+    ∙ (let e : bit_at n k + sum_below k (λ p. bit_at n p) ≡ sum_below k (λ p. bit_at n p) + bit_at n k =
+    omega arith in e)
 
 pub count_ones_of : (set : ℕ) → set < 2 ^ 64 → count_ones set ≡ sum_below 64 (bit set)
 count_ones_of set fits = ap ones (let e : set ≡ set % 2 ^ 64 = omega arith in e) ∙ ones_below set 64
@@ -50,7 +55,8 @@ spread_out : (s l h d : ℕ) → s * l + 2 * (s * h) + 4 * (s * d) ≡ (l + 2 * 
 spread_out s l h d = grind arith
 
 pub ones_of_sum : (low high due set : ℕ)
-    → sum_below 64 (bit (bit_and set low)) + 2 * sum_below 64 (bit (bit_and set high)) + 4 * sum_below 64 (bit (bit_and set due))
+    → sum_below 64 (bit (bit_and set low)) + 2 * sum_below 64 (bit (bit_and set high))
+    + 4 * sum_below 64 (bit (bit_and set due))
     ≡ sum_below 64 (λ p. (bit low p + 2 * bit high p + 4 * bit due p) * bit set p)
 ones_of_sum low high due set =
     let x = bit_and set low in
@@ -60,7 +66,8 @@ ones_of_sum low high due set =
     let fours = sum_below-scale 64 4 (bit z) in
     let two = sum_below-add 64 (bit x) (λ p. 2 * bit y p) in
     let three = sum_below-add 64 (λ p. bit x p + 2 * bit y p) (λ p. 4 * bit z p) in
-    let same = sum_below_same 64 (λ p. bit x p + 2 * bit y p + 4 * bit z p) (λ p. (bit low p + 2 * bit high p + 4 * bit due p) * bit set p)
+    let same = sum_below_same 64 (λ p. bit x p + 2 * bit y p + 4 * bit z p)
+    (λ p. (bit low p + 2 * bit high p + 4 * bit due p) * bit set p)
     (λ p below.
     let a = both_is set low p in let b = both_is set high p in let c = both_is set due p in
     let e = spread_out (bit set p) (bit low p) (bit high p) (bit due p) in

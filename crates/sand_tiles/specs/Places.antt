@@ -42,7 +42,8 @@ unused free due set q = max (bit free q) (bit due q) - bit set q
 -- of the tile toppled
 pub record IsSpent (t : Tile) (free due : ℕ) : Type 0 where
   pub fresh : (p : ℕ) → p < 64 → bit t.wave p + bit due p ≤ 1
-  pub low : (p : ℕ) → p < 64 → bit free p ≡ 1 → 1 ≤ bit t.wave p + bit due p → height t p + around (unused free due t.wave) p ≤ 3
+  pub low : (p : ℕ) → p < 64 → bit free p ≡ 1 → 1 ≤ bit t.wave p + bit due p
+      → height t p + around (unused free due t.wave) p ≤ 3
 
 -- w topples each due place, and leaves at most 3 at each free place
 pub record Stills (t : Tile) (free due : ℕ) (w : ℕ → ℕ) : Type 0 where
@@ -53,7 +54,8 @@ pub record Stills (t : Tile) (free due : ℕ) (w : ℕ → ℕ) : Type 0 where
 pub record Topples (t u : Tile) (free due new : ℕ) : Type 0 where
   pub due_in : (p : ℕ) → p < 64 → bit due p ≤ bit new p
   pub once : (p : ℕ) → p < 64 → bit u.wave p ≡ bit t.wave p + bit new p
-  pub at_open : (p : ℕ) → p < 64 → bit free p ≡ 1 → height t p + around (bit new) p + 4 * bit due p ≡ height u p + 4 * bit new p
+  pub at_open : (p : ℕ) → p < 64 → bit free p ≡ 1
+      → height t p + around (bit new) p + 4 * bit due p ≡ height u p + 4 * bit new p
   pub at_held : (p : ℕ) → p < 64 → bit free p ≡ 0 → bit new p ≡ bit due p
   pub modulo : (p : ℕ) → p < 64 → height u p ≡ (height t p + around (bit new) p) % 4
   pub least : (w : ℕ → ℕ) → Stills t free due w → (p : ℕ) → p < 64 → bit new p ≤ w p
@@ -62,7 +64,8 @@ pub record Topples (t u : Tile) (free due new : ℕ) : Type 0 where
 pub record Receives (t u : Tile) (gain : ℕ) : Type 0 where
   pub wave : u.wave ≡ t.wave
   pub due_grows : (free : ℕ) → 0 < bit_and t.due free → 0 < bit_and u.due free
-  pub each : (p : ℕ) → p < 64 → height t p + 4 * (bit t.wave p + bit t.due p) + bit gain p ≤ 7 → height u p + 4 * (bit u.wave p + bit u.due p) ≡ height t p + 4 * (bit t.wave p + bit t.due p) + bit gain p
+  pub each : (p : ℕ) → p < 64 → height t p + 4 * (bit t.wave p + bit t.due p) + bit gain p ≤ 7
+      → height u p + 4 * (bit u.wave p + bit u.due p) ≡ height t p + 4 * (bit t.wave p + bit t.due p) + bit gain p
   pub modulo : (p : ℕ) → p < 64 → height u p ≡ (height t p + bit gain p) % 4
 
 -- the grains that a place has had since the wave began: its height, 4 if it has toppled, and 4 if it is due

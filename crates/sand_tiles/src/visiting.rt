@@ -26,7 +26,8 @@ const NOT_LAST: u64 = 0x7f7f_7f7f_7f7f_7f7f;
 // Gives a grain to each neighbour, inside the tile, of each place of the front. Returns the places that lose 4.
 #[inline(always)]
 fn topple_front(tile: &mut Tile, front: u64) -> u64
-    ensures heights { (p : ℕ) → p < 64 → height tile.old p + around (bit front) p ≡ height tile.new p + 4 * bit result p }
+    ensures heights { (p : ℕ) → p < 64
+        → height tile.old p + around (bit front) p ≡ height tile.new p + 4 * bit result p }
     ensures kept { (tile.new.due ≡ tile.old.due) × (tile.new.wave ≡ tile.old.wave) }
 {
     let (south, north) = (front << 8, front >> 8);

@@ -6,4 +6,6 @@ pub returns-clause-value : goal.returns-clause-value
 returns-clause-value c = omega (arith, c.from.ensures, count_ones_of c.args.set (omega arith))
 
 pub returns-clause-limit : goal.returns-clause-limit
-returns-clause-limit c = let few = few_ones c.args.set in omega (arith, c.from.ensures, count_ones_of c.args.set (omega arith))
+returns-clause-limit c =
+    let few = few_ones c.args.set in
+    omega (arith, c.from.ensures, count_ones_of c.args.set (omega arith))

@@ -32,7 +32,8 @@ loop-place-preserved c =
           omega (arith, c.number_at.ensures))
           (λ (ne : p ≡ i → ⊥). get_or-set_other before i p v 0 ne ∙ c.loop-place.invariant.moved p (omega arith))
           (cases_eq p i);
-      waiting = λ p more. get_or-set_other before i p v 0 (λ e. omega arith) ∙ c.loop-place.invariant.waiting p (omega arith);
+      waiting = λ p more.
+          get_or-set_other before i p v 0 (λ e. omega arith) ∙ c.loop-place.invariant.waiting p (omega arith);
     }
 
 pub returns-clause-kept : goal.returns-clause-kept

@@ -11,5 +11,6 @@ returns-clause-heights c p low =
     let s = south_of f p (omega arith) low in
     let w = west_of f p low in
     let e = east_of f p low in
-    let all = added c.args.tile.now.low c.args.tile.now.high (f * 256 % 2 ^ 64) (f / 256) (bit_and (f * 2 % 2 ^ 64) 18374403900871474942) (bit_and (f / 2) 9187201950435737471) p in
+    let all = added c.args.tile.now.low c.args.tile.now.high (f * 256 % 2 ^ 64) (f / 256)
+    (bit_and (f * 2 % 2 ^ 64) 18374403900871474942) (bit_and (f / 2) 9187201950435737471) p in
     omega arith

@@ -5,4 +5,5 @@ pub topple_due-requires : goal.topple_due-requires
 topple_due-requires c = ready_spent c.args.tile.now c.args.free c.args.start c.requires
 
 pub returns : goal.returns
-returns c = visit_whole c.args.tile.now _ c.args.free c.args.start _ c.requires c.topple_due.ensures.topples c.topple_due.ensures.kept
+returns c = visit_whole c.args.tile.now _ c.args.free c.args.start _
+    c.requires c.topple_due.ensures.topples c.topple_due.ensures.kept
