@@ -40,7 +40,9 @@ east_shift_below : (g : Grid) (k : ℕ) → shift_east g k < 8
 unfolding shift_east
 east_shift_below g k = either_below (seam_east g k) ((g.width - 1) % 8) 7 8 (omega arith) (omega arith)
 
-pub board_of : (g : Grid) (all : List Beside) → length all ≡ tiles g → tiles g ≤ 65536 → ((k : ℕ) → k < tiles g → IsBeside g k (beside_at all k)) → IsBoard g (tiles g) all
+pub board_of : (g : Grid) (all : List Beside) → length all ≡ tiles g
+    → tiles g ≤ 65536 → ((k : ℕ) → k < tiles g → IsBeside g k (beside_at all k))
+    → IsBoard g (tiles g) all
 board_of g all one_each small each =
     let here : (j : ℕ) → j < sites g → tile_of g j < tiles g = λ j l. let r = row_after g j l in omega arith in
     record {
@@ -50,15 +52,23 @@ board_of g all one_each small each =
       each = λ j l. each (tile_of g j) (here j l);
       north = λ j l. let e = (each (tile_of g j) (here j l)).north in let h = here j l in omega arith;
       south = λ j l. let e = (each (tile_of g j) (here j l)).south in let r = row_after g j l in omega arith;
-      west = λ j l. let e = (each (tile_of g j) (here j l)).west in let w = west_below g (tile_of g j) (tiles g) (row_after g j l) in omega arith;
-      east = λ j l. let e = (each (tile_of g j) (here j l)).east in let w = east_below g (tile_of g j) (tiles g) (row_after g j l) in omega arith;
+      west = λ j l.
+          let e = (each (tile_of g j) (here j l)).west in
+          let w = west_below g (tile_of g j) (tiles g) (row_after g j l) in
+          omega arith;
+      east = λ j l.
+          let e = (each (tile_of g j) (here j l)).east in
+          let w = east_below g (tile_of g j) (tiles g) (row_after g j l) in
+          omega arith;
       shifts = λ j l. (
         let e = (each (tile_of g j) (here j l)).west_shift in let s = west_shift_below g (tile_of g j) in omega arith,
         let e = (each (tile_of g j) (here j l)).east_shift in let s = east_shift_below g (tile_of g j) in omega arith,
       );
     }
 
-pub sides_more : (g : Grid) (xs ys : List Beside) (b : Beside) (n : ℕ) → ys ≡ xs ++ b ∷ [] → length xs ≡ n → IsBeside g n b → ((k : ℕ) → k < n → IsBeside g k (beside_at xs k))
+pub sides_more : (g : Grid) (xs ys : List Beside) (b : Beside) (n : ℕ)
+    → ys ≡ xs ++ b ∷ [] → length xs ≡ n → IsBeside g n b
+    → ((k : ℕ) → k < n → IsBeside g k (beside_at xs k))
     → (k : ℕ) → k < n + 1 → IsBeside g k (beside_at ys k)
 sides_more g xs ys b n pushed long is each k below =
     let none : Beside = record { north = 0; south = 0; west = 0; east = 0; west_shift = 0; east_shift = 0 } in
@@ -75,6 +85,7 @@ pub found_inside : (g : Grid) (j x y a : ℕ) → j < sites g → x ≡ j % g.wi
 unfolding tile_of
 found_inside g j x y a inside ex ey ea =
     let r = row_after g j inside in
-    let m : (y / 8 + 2) * (a + 2) ≡ (j / g.width / 8 + 2) * pitch g = ap (λ t. (t / 8 + 2) * (a + 2)) ey ∙ ap (λ t. (j / g.width / 8 + 2) * (t + 2)) ea in
+    let m : (y / 8 + 2) * (a + 2) ≡ (j / g.width / 8 + 2) * pitch g =
+    ap (λ t. (t / 8 + 2) * (a + 2)) ey ∙ ap (λ t. (j / g.width / 8 + 2) * (t + 2)) ea in
     let n : x / 8 ≡ j % g.width / 8 = ap (λ t. t / 8) ex in
     (omega arith, omega arith)

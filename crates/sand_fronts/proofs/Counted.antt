@@ -28,7 +28,8 @@ count_set_same cs k m d inside e = ap (count_at (set cs k d)) e ∙ get_or-set_s
 count_set_other : (cs : List Count) (k m : ℕ) (d : Count) → (m ≡ k → ⊥) → count_at (set cs k d) m ≡ count_at cs m
 count_set_other cs k m d ne = get_or-set_other cs k m d nothing ne
 
-pub counted_one : (ts : List Tile) (cs : List Count) (k : ℕ) (t : Tile) (d : Count) → k < length ts → length cs ≡ length ts
+pub counted_one : (ts : List Tile) (cs : List Count) (k : ℕ) (t : Tile) (d : Count)
+    → k < length ts → length cs ≡ length ts
     → t.low ≡ (tile_at ts k).low → t.high ≡ (tile_at ts k).high → t.due ≡ (tile_at ts k).due → t.wave ≡ 0 → IsCount d
     → ((p : ℕ) → p < 64 → counted d p ≡ counted (count_at cs k) p + bit (tile_at ts k).wave p)
     → AreCounted (tile_at ts) (tile_at (set ts k t)) (count_at cs) (count_at (set cs k d))
@@ -36,15 +37,18 @@ counted_one ts cs k t d inside each low high due empty sound counts =
     let clear : IsClear t = λ p l. ap (λ x. bit x p) empty ∙ bit_none p in
     record {
       low = λ m. ⊎_elim
-          (λ (e : m ≡ k). ap (λ (x : Tile). x.low) (tile_set_same ts k m t inside e) ∙ low ∙ sym (ap (λ i. (tile_at ts i).low) e))
+          (λ (e : m ≡ k).
+          ap (λ (x : Tile). x.low) (tile_set_same ts k m t inside e) ∙ low ∙ sym (ap (λ i. (tile_at ts i).low) e))
           (λ (ne : m ≡ k → ⊥). ap (λ (x : Tile). x.low) (tile_set_other ts k m t ne))
           (cases_eq m k);
       high = λ m. ⊎_elim
-          (λ (e : m ≡ k). ap (λ (x : Tile). x.high) (tile_set_same ts k m t inside e) ∙ high ∙ sym (ap (λ i. (tile_at ts i).high) e))
+          (λ (e : m ≡ k).
+          ap (λ (x : Tile). x.high) (tile_set_same ts k m t inside e) ∙ high ∙ sym (ap (λ i. (tile_at ts i).high) e))
           (λ (ne : m ≡ k → ⊥). ap (λ (x : Tile). x.high) (tile_set_other ts k m t ne))
           (cases_eq m k);
       due = λ m. ⊎_elim
-          (λ (e : m ≡ k). ap (λ (x : Tile). x.due) (tile_set_same ts k m t inside e) ∙ due ∙ sym (ap (λ i. (tile_at ts i).due) e))
+          (λ (e : m ≡ k).
+          ap (λ (x : Tile). x.due) (tile_set_same ts k m t inside e) ∙ due ∙ sym (ap (λ i. (tile_at ts i).due) e))
           (λ (ne : m ≡ k → ⊥). ap (λ (x : Tile). x.due) (tile_set_other ts k m t ne))
           (cases_eq m k);
       each = λ m p l. ⊎_elim
@@ -92,31 +96,39 @@ counted_more τ σ ρ c d e first second = record {
 
 -- ---- numbers
 
-pub sum_less_one : (n k : ℕ) (f h : ℕ → ℕ) → k < n → h k ≡ 0 → ((i : ℕ) → (i ≡ k → ⊥) → h i ≡ f i) → f k + sum_below n h ≡ sum_below n f
+pub sum_less_one : (n k : ℕ) (f h : ℕ → ℕ) → k < n → h k ≡ 0 → ((i : ℕ) → (i ≡ k → ⊥) → h i ≡ f i)
+    → f k + sum_below n h ≡ sum_below n f
 sum_less_one n k f h inside none others =
     let parts = sum_below_same n f (λ i. h i + f k * one_at k i) (λ i l. ⊎_elim
-    (λ (e : i ≡ k). let o = ap (λ x. f k * x) (ap (one_at k) e ∙ one_at_same k) in let a = ap f e in let b = ap h e in omega arith)
-    (λ (ne : i ≡ k → ⊥). let o = ap (λ x. f k * x) (one_at_other k i (λ e. ne (sym e))) in let a = others i ne in omega arith)
+    (λ (e : i ≡ k).
+    let o = ap (λ x. f k * x) (ap (one_at k) e ∙ one_at_same k) in let a = ap f e in let b = ap h e in omega arith)
+    (λ (ne : i ≡ k → ⊥).
+    let o = ap (λ x. f k * x) (one_at_other k i (λ e. ne (sym e))) in let a = others i ne in omega arith)
     (cases_eq i k)) in
     let both = sum_below-add n h (λ i. f k * one_at k i) in
     let one = sum_below-one_at n k (λ i. f k) inside in
     omega arith
 
 -- a tile leaves the wave, and F of its set leaves the sum
-pub wave_less : (F : ℕ → ℕ → ℕ) (τ σ : ℕ → Tile) (k n : ℕ) → k < n → F k 0 ≡ 0 → (σ k).wave ≡ 0 → ((m : ℕ) → m ≢ k → (σ m).wave ≡ (τ m).wave)
+pub wave_less : (F : ℕ → ℕ → ℕ) (τ σ : ℕ → Tile) (k n : ℕ) → k < n → F k 0 ≡ 0
+    → (σ k).wave ≡ 0 → ((m : ℕ) → m ≢ k → (σ m).wave ≡ (τ m).wave)
     → F k (τ k).wave + sum_below n (λ m. F m (σ m).wave) ≡ sum_below n (λ m. F m (τ m).wave)
 wave_less F τ σ k n less none empty others =
-    sum_less_one n k (λ m. F m (τ m).wave) (λ m. F m (σ m).wave) less (ap (F k) empty ∙ none) (λ m ne. ap (F m) (others m ne))
+    sum_less_one n k (λ m. F m (τ m).wave) (λ m. F m (σ m).wave)
+    less (ap (F k) empty ∙ none) (λ m ne. ap (F m) (others m ne))
 
 pub none_of_none : sum_below 64 (bit 0) ≡ 0
 none_of_none = sum_below_same 64 (bit 0) (λ p. 0) (λ p l. bit_none p) ∙ sum_below-zero 64
 
 pub none_over_none : (w : ℕ → ℕ) → sum_below 64 (λ p. w p * bit 0 p) ≡ 0
-none_over_none w = sum_below_same 64 (λ p. w p * bit 0 p) (λ p. 0) (λ p l. let e = ap (λ x. w p * x) (bit_none p) in omega arith) ∙ sum_below-zero 64
+none_over_none w =
+    sum_below_same 64 (λ p. w p * bit 0 p) (λ p. 0) (λ p l. let e = ap (λ x. w p * x) (bit_none p) in omega arith)
+    ∙ sum_below-zero 64
 
 pub few_in_wave : (n : ℕ) (τ : ℕ → Tile) → in_wave n τ ≤ 64 * n
 few_in_wave n τ =
-    let le = sum_below_le n (λ k. sum_below 64 (bit (τ k).wave)) (λ k. 64 * 1) (λ k l. at_most_all 64 (bit (τ k).wave) (λ p m. bit_le (τ k).wave p)) in
+    let le = sum_below_le n (λ k. sum_below 64 (bit (τ k).wave)) (λ k. 64 * 1)
+    (λ k l. at_most_all 64 (bit (τ k).wave) (λ p m. bit_le (τ k).wave p)) in
     let scaled = sum_below-scale n 64 (λ k. 1) in
     let ones = sum_below-ones n in
     omega arith
@@ -136,19 +148,27 @@ few_over_wave n ν τ =
     let seven = sum_below-scale 64 7 (λ p. 1) in
     let all = sum_below-ones 64 in
     let le = sum_below_le n (λ k. sum_below 64 (λ p. number (ν k) p * bit (τ k).wave p)) (λ k. 448 * 1)
-    (λ k l. let one = sum_below_le 64 (λ p. number (ν k) p * bit (τ k).wave p) (λ p. 7 * 1) (λ p m. number_le (ν k) (τ k).wave p) in omega arith) in
+    (λ k l.
+    let one =
+    sum_below_le 64 (λ p. number (ν k) p * bit (τ k).wave p) (λ p. 7 * 1) (λ p m. number_le (ν k) (τ k).wave p) in
+    omega arith) in
     let scaled = sum_below-scale n 448 (λ k. 1) in
     let ones = sum_below-ones n in
     omega arith
 
 pub none_in_wave : (n : ℕ) (τ : ℕ → Tile) → ((m : ℕ) → IsClear (τ m)) → in_wave n τ ≡ 0
 none_in_wave n τ clear =
-    sum_below_same n (λ k. sum_below 64 (bit (τ k).wave)) (λ k. 0) (λ k l. sum_below_same 64 (bit (τ k).wave) (λ p. 0) (λ p m. clear k p m) ∙ sum_below-zero 64) ∙ sum_below-zero n
+    sum_below_same n (λ k. sum_below 64 (bit (τ k).wave)) (λ k. 0)
+    (λ k l. sum_below_same 64 (bit (τ k).wave) (λ p. 0) (λ p m. clear k p m) ∙ sum_below-zero 64)
+    ∙ sum_below-zero n
 
 pub none_over_wave : (n : ℕ) (ν τ : ℕ → Tile) → ((m : ℕ) → IsClear (τ m)) → over_wave n ν τ ≡ 0
 none_over_wave n ν τ clear =
     sum_below_same n (λ k. sum_below 64 (λ p. number (ν k) p * bit (τ k).wave p)) (λ k. 0)
-    (λ k l. sum_below_same 64 (λ p. number (ν k) p * bit (τ k).wave p) (λ p. 0) (λ p m. let e = ap (λ x. number (ν k) p * x) (clear k p m) in omega arith) ∙ sum_below-zero 64) ∙ sum_below-zero n
+    (λ k l. sum_below_same 64 (λ p. number (ν k) p * bit (τ k).wave p) (λ p. 0)
+    (λ p m. let e = ap (λ x. number (ν k) p * x) (clear k p m) in omega arith)
+    ∙ sum_below-zero 64)
+    ∙ sum_below-zero n
 
 -- ---- what is marked
 
@@ -172,7 +192,12 @@ marked_more c d e x y z first second = record {
       let few = bit_le (z m) p in
       omega arith)
       (cases_lt (counted (d m) p) (counted (e m) p));
-  no_other = λ m p low. let a = first.no_other m p low in let b = second.no_other m p low in let f = first.never_falls m p low in let s = second.never_falls m p low in omega arith;
+  no_other = λ m p low.
+      let a = first.no_other m p low in
+      let b = second.no_other m p low in
+      let f = first.never_falls m p low in
+      let s = second.never_falls m p low in
+      omega arith;
 }
 
 pub marked_one : (cs : List Count) (k word : ℕ) (d : Count) (x y : ℕ → ℕ) → k < length cs
@@ -180,11 +205,21 @@ pub marked_one : (cs : List Count) (k word : ℕ) (d : Count) (x y : ℕ → ℕ
     → ((m : ℕ) → y m ≡ cond (eqb m k) (bit_or (x m) word) (x m))
     → AreMarked (count_at cs) (count_at (set cs k d)) x y
 marked_one cs k word d x y inside counts marks =
-    let same : (m p : ℕ) → p < 64 → m ≡ k → (counted (count_at (set cs k d) m) p ≡ counted (count_at cs m) p + bit word p) × (bit (y m) p + bit (bit_and (x m) word) p ≡ bit (x m) p + bit word p) = λ m p low e. (
-      let a = ap (λ (z : Count). counted z p) (count_set_same cs k m d inside e) in let b = ap (λ i. counted (count_at cs i) p) e in let f = counts p low in omega arith,
-      let a = ap (λ i. bit i p) (marks m ∙ ap (λ b. cond b (bit_or (x m) word) (x m)) (eq-eqb m k e)) in let f = either (x m) word p in omega arith,
+    let same : (m p : ℕ) → p < 64 → m ≡ k
+    → (counted (count_at (set cs k d) m) p ≡ counted (count_at cs m) p + bit word p)
+    × (bit (y m) p + bit (bit_and (x m) word) p ≡ bit (x m) p + bit word p) =
+    λ m p low e. (
+      let a = ap (λ (z : Count). counted z p) (count_set_same cs k m d inside e) in
+          let b = ap (λ i. counted (count_at cs i) p) e in
+          let f = counts p low in
+          omega arith,
+      let a = ap (λ i. bit i p) (marks m ∙ ap (λ b. cond b (bit_or (x m) word) (x m)) (eq-eqb m k e)) in
+          let f = either (x m) word p in
+          omega arith,
     ) in
-    let other : (m p : ℕ) → (m ≡ k → ⊥) → (counted (count_at (set cs k d) m) p ≡ counted (count_at cs m) p) × (bit (y m) p ≡ bit (x m) p) = λ m p ne. (
+    let other : (m p : ℕ) → (m ≡ k → ⊥)
+    → (counted (count_at (set cs k d) m) p ≡ counted (count_at cs m) p) × (bit (y m) p ≡ bit (x m) p) =
+    λ m p ne. (
       ap (λ (z : Count). counted z p) (count_set_other cs k m d ne),
       ap (λ i. bit i p) (marks m ∙ ap (λ b. cond b (bit_or (x m) word) (x m)) (ne_eqb m k ne)),
     ) in
@@ -198,7 +233,13 @@ marked_one cs k word d x y inside counts marks =
           (λ (ne : m ≡ k → ⊥). let s = (other m p ne).1 in omega arith)
           (cases_eq m k);
       new = λ m p low grown. ⊎_elim
-          (λ (e : m ≡ k). let s = (same m p low e).0 in let t = (same m p low e).1 in let b = (both_le (x m) word p).0 in let f = bit_le word p in let g = bit_le (y m) p in omega arith)
+          (λ (e : m ≡ k).
+          let s = (same m p low e).0 in
+          let t = (same m p low e).1 in
+          let b = (both_le (x m) word p).0 in
+          let f = bit_le word p in
+          let g = bit_le (y m) p in
+          omega arith)
           (λ (ne : m ≡ k → ⊥). let s = (other m p ne).0 in absurd (omega arith))
           (cases_eq m k);
       no_other = λ m p low. ⊎_elim
@@ -210,7 +251,8 @@ marked_one cs k word d x y inside counts marks =
 -- ---- turn by turn
 
 -- the tiles still in the wave are in the rest of the list
-pub rest_listed : (τ σ : ℕ → Tile) (c d : ℕ → Count) (here k : ℕ) (list : List ℕ) (turn end : ℕ) → AreListed here list turn end τ → AreCounted τ σ c d → IsClear (σ here)
+pub rest_listed : (τ σ : ℕ → Tile) (c d : ℕ → Count) (here k : ℕ) (list : List ℕ) (turn end : ℕ)
+    → AreListed here list turn end τ → AreCounted τ σ c d → IsClear (σ here)
     → IsClear (σ k) → k ≡ get_or list turn 0 → AreListed here list (turn + 1) end σ
 rest_listed τ σ c d here k list turn end listed counts first clear is m = ⊎_elim
     (λ (was : IsClear (τ m)). inl (counts.clear m was))
@@ -225,16 +267,21 @@ rest_listed τ σ c d here k list turn end listed counts first clear is m = ⊎_
     some)
     (listed m)
 
-pub none_listed : (τ : ℕ → Tile) (here : ℕ) (list : List ℕ) (turn end : ℕ) → AreListed here list turn end τ → end ≤ turn → IsClear (τ here) → (m : ℕ) → IsClear (τ m)
+pub none_listed : (τ : ℕ → Tile) (here : ℕ) (list : List ℕ) (turn end : ℕ)
+    → AreListed here list turn end τ → end ≤ turn → IsClear (τ here) → (m : ℕ)
+    → IsClear (τ m)
 none_listed τ here list turn end listed last first m = ⊎_elim
     (λ (was : IsClear (τ m)). was)
     (λ (some : (m ≡ here) ⊎ ((t : ℕ) × (turn ≤ t) × (t < end) × (get_or list t 0 ≡ m))). ⊎_elim
     (λ (e : m ≡ here). λ p l. ap (λ i. bit (τ i).wave p) e ∙ first p l)
-    (λ (at : (t : ℕ) × (turn ≤ t) × (t < end) × (get_or list t 0 ≡ m)). let a = at.1 in let b = at.2 in absurd (omega arith))
+    (λ (at : (t : ℕ) × (turn ≤ t) × (t < end) × (get_or list t 0 ≡ m)).
+    let a = at.1 in let b = at.2 in absurd (omega arith))
     some)
     (listed m)
 
-pub still_listed : (τ σ : ℕ → Tile) (c d : ℕ → Count) (here : ℕ) (list : List ℕ) (turn end : ℕ) → AreListed here list turn end τ → AreCounted τ σ c d → AreListed here list turn end σ
+pub still_listed : (τ σ : ℕ → Tile) (c d : ℕ → Count) (here : ℕ) (list : List ℕ) (turn end : ℕ)
+    → AreListed here list turn end τ → AreCounted τ σ c d
+    → AreListed here list turn end σ
 still_listed τ σ c d here list turn end listed counts m = ⊎_elim
     (λ (was : IsClear (τ m)). inl (counts.clear m was))
     (λ (some : (m ≡ here) ⊎ ((t : ℕ) × (turn ≤ t) × (t < end) × (get_or list t 0 ≡ m))). inr some)

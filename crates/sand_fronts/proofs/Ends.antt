@@ -16,7 +16,8 @@ use Rattle.sand_fronts.proofs.OnTiles.{place_below, on_tiles_le, on_nothing}
 
 pub wave_begins : (g : Grid) (site : ℕ) (h : ℕ → ℕ) (τ : ℕ → Tile) → site < sites g
     → ((m p : ℕ) → p < 64 → bit (τ m).wave p ≡ 0)
-    → ((j : ℕ) → j < sites g → j ≢ site → (h j ≡ height (τ (tile_of g j)) (place_of g j)) × (bit (τ (tile_of g j)).due (place_of g j) ≡ 0))
+    → ((j : ℕ) → j < sites g → j ≢ site
+    → (h j ≡ height (τ (tile_of g j)) (place_of g j)) × (bit (τ (tile_of g j)).due (place_of g j) ≡ 0))
     → h site ≡ height (τ (tile_of g site)) (place_of g site) + 4
     → IsWave g site h τ
 wave_begins g site h τ inside clear heights held =
@@ -32,7 +33,13 @@ wave_begins g site h τ inside clear heights held =
           let zero' = on_tiles_le g (λ j. 0) (λ j. 0) m p low (λ j l. omega arith) in
           let twice = on_nothing g m p in
           omega arith;
-      at_open = λ j l ne. let e = heights j l ne in let e0 = e.0 in let e1 = e.1 in let f = no_flow j l in let z = none j in omega arith;
+      at_open = λ j l ne.
+          let e = heights j l ne in
+          let e0 = e.0 in
+          let e1 = e.1 in
+          let f = no_flow j l in
+          let z = none j in
+          omega arith;
       at_held =
           let f = no_flow site inside in
           let l = bit_le (τ (tile_of g site)).low (place_of g site) in
@@ -54,8 +61,10 @@ one_at_le' v i j some = ⊎_elim
     (cases_eq j i)
 
 -- the height of each site in the end
-pub wave_balance : (g : Grid) (site : ℕ) (h : ℕ → ℕ) (τ : ℕ → Tile) (k : ℕ → ℕ) → IsWave g site h τ → toppled g τ site ≡ 1
-    → ((j : ℕ) → j < sites g → j ≢ site → bit (τ (tile_of g j)).due (place_of g j) ≡ 0) → Leaves g site h τ k → (j : ℕ) → j < sites g
+pub wave_balance : (g : Grid) (site : ℕ) (h : ℕ → ℕ) (τ : ℕ → Tile) (k : ℕ → ℕ)
+    → IsWave g site h τ → toppled g τ site ≡ 1
+    → ((j : ℕ) → j < sites g → j ≢ site → bit (τ (tile_of g j)).due (place_of g j) ≡ 0)
+    → Leaves g site h τ k → (j : ℕ) → j < sites g
     → k j + 4 * toppled g τ j ≡ h j + flow g (toppled g τ) j
 wave_balance g site h τ k wave started done leaves j l = ⊎_elim
     (λ (e : j ≡ site).
@@ -70,7 +79,8 @@ wave_balance g site h τ k wave started done leaves j l = ⊎_elim
     (cases_eq j site)
 
 -- the wave was a legal sequence of topplings
-pub wave_advances : (g : Grid) (site : ℕ) (h : ℕ → ℕ) (τ : ℕ → Tile) (k u v : ℕ → ℕ) → IsWave g site h τ → toppled g τ site ≡ 1
+pub wave_advances : (g : Grid) (site : ℕ) (h : ℕ → ℕ) (τ : ℕ → Tile) (k u v : ℕ → ℕ)
+    → IsWave g site h τ → toppled g τ site ≡ 1
     → ((j : ℕ) → j < sites g → j ≢ site → bit (τ (tile_of g j)).due (place_of g j) ≡ 0) → Leaves g site h τ k
     → ((j : ℕ) → j < sites g → v j ≡ u j + toppled g τ j) → Advances g u h v k
 wave_advances g site h τ k u v wave started done leaves sums =
@@ -79,10 +89,18 @@ wave_advances g site h τ k u v wave started done leaves sums =
     let toppled' : IsToppled g h t k = record { balance = balance } in
     let all = sum_below_same (sites g) v (λ j. u j + t j) sums in
     let both = sum_below-add (sites g) u t in
-    let flows : (j : ℕ) → j < sites g → flow g v j ≡ flow g u j + flow g t j = λ j l. flow_same g v (λ i. u i + t i) sums j l ∙ flow-add g u t j in
+    let flows : (j : ℕ) → j < sites g → flow g v j ≡ flow g u j + flow g t j =
+    λ j l. flow_same g v (λ i. u i + t i) sums j l ∙ flow-add g u t j in
     record {
       underway = λ s before. record {
-        toppled = record { balance = λ j l. let a = before.toppled.balance j l in let b = balance j l in let c = sums j l in let d = flows j l in omega arith };
+        toppled = record {
+          balance = λ j l.
+              let a = before.toppled.balance j l in
+              let b = balance j l in
+              let c = sums j l in
+              let d = flows j l in
+              omega arith;
+        };
         bounded = λ w stable j l.
             let below = before.bounded w stable in
             let rest : Stabilises g h (λ i. w i - u i) = record {
@@ -104,7 +122,8 @@ wave_advances g site h τ k u v wave started done leaves sums =
     }
 
 -- if the held site is 0 in the planes and others have toppled, it has 4 again
-pub four_again : (g : Grid) (site : ℕ) (h : ℕ → ℕ) (τ : ℕ → Tile) (k : ℕ → ℕ) (i : ℕ) → IsWave g site h τ → site < sites g → toppled g τ site ≡ 1 → h site ≡ 4
+pub four_again : (g : Grid) (site : ℕ) (h : ℕ → ℕ) (τ : ℕ → Tile) (k : ℕ → ℕ) (i : ℕ)
+    → IsWave g site h τ → site < sites g → toppled g τ site ≡ 1 → h site ≡ 4
     → ((j : ℕ) → j < sites g → j ≢ site → h j ≤ 3)
     → ((j : ℕ) → j < sites g → j ≢ site → bit (τ (tile_of g j)).due (place_of g j) ≡ 0) → Leaves g site h τ k
     → height (τ (tile_of g site)) (place_of g site) ≡ 0 → i < sites g → i ≢ site → 1 ≤ toppled g τ i → k site ≡ 4

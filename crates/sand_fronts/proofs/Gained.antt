@@ -18,10 +18,12 @@ tile_set_same ts k m t inside e = ap (tile_at (set ts k t)) e ∙ get_or-set_sam
 pub tile_set_other : (ts : List Tile) (k m : ℕ) (t : Tile) → (m ≡ k → ⊥) → tile_at (set ts k t) m ≡ tile_at ts m
 tile_set_other ts k m t ne = get_or-set_other ts k m t blank ne
 
-pub gains_one : (ts : List Tile) (k : ℕ) (t : Tile) (gain : ℕ) → k < length ts → Receives (tile_at ts k) t gain → Gains (tile_at ts) (tile_at (set ts k t)) (only k (bit gain))
+pub gains_one : (ts : List Tile) (k : ℕ) (t : Tile) (gain : ℕ) → k < length ts → Receives (tile_at ts k) t gain
+    → Gains (tile_at ts) (tile_at (set ts k t)) (only k (bit gain))
 gains_one ts k t gain inside receives = record {
   wave = λ m p low. ⊎_elim
-      (λ (e : m ≡ k). ap (λ x. bit x.wave p) (tile_set_same ts k m t inside e) ∙ ap (λ x. bit x p) receives.wave ∙ sym (ap (λ x. bit (tile_at ts x).wave p) e))
+      (λ (e : m ≡ k). ap (λ x. bit x.wave p) (tile_set_same ts k m t inside e)
+      ∙ ap (λ x. bit x p) receives.wave ∙ sym (ap (λ x. bit (tile_at ts x).wave p) e))
       (λ (ne : m ≡ k → ⊥). ap (λ x. bit x.wave p) (tile_set_other ts k m t ne))
       (cases_eq m k);
   each = λ m p low few. ⊎_elim
@@ -31,7 +33,8 @@ gains_one ts k t gain inside receives = record {
       let c = only_same k m (bit gain) p e in
       let r = receives.each p low (omega arith) in
       omega arith)
-      (λ (ne : m ≡ k → ⊥). let a = ap (λ x. had x p) (tile_set_other ts k m t ne) in let c = only_other k m (bit gain) p ne in omega arith)
+      (λ (ne : m ≡ k → ⊥).
+      let a = ap (λ x. had x p) (tile_set_other ts k m t ne) in let c = only_other k m (bit gain) p ne in omega arith)
       (cases_eq m k);
   modulo = λ m p low. ⊎_elim
       (λ (e : m ≡ k).
@@ -49,11 +52,17 @@ gains_one ts k t gain inside receives = record {
       (cases_eq m k);
 }
 
-pub gains_more : (τ σ ρ : ℕ → Tile) (a b c : ℕ → ℕ → ℕ) → Gains τ σ a → Gains σ ρ b → ((m p : ℕ) → p < 64 → a m p + b m p ≡ c m p) → Gains τ ρ c
+pub gains_more : (τ σ ρ : ℕ → Tile) (a b c : ℕ → ℕ → ℕ) → Gains τ σ a
+    → Gains σ ρ b → ((m p : ℕ) → p < 64 → a m p + b m p ≡ c m p) → Gains τ ρ c
 gains_more τ σ ρ a b c first second sums = record {
   wave = λ m p low. second.wave m p low ∙ first.wave m p low;
-  each = λ m p low few. let s = sums m p low in let one = first.each m p low (omega arith) in let two = second.each m p low (omega arith) in omega arith;
-  modulo = λ m p low. let s = sums m p low in let one = first.modulo m p low in let two = second.modulo m p low in omega arith;
+  each = λ m p low few.
+      let s = sums m p low in
+      let one = first.each m p low (omega arith) in
+      let two = second.each m p low (omega arith) in
+      omega arith;
+  modulo = λ m p low.
+      let s = sums m p low in let one = first.modulo m p low in let two = second.modulo m p low in omega arith;
 }
 
 pub only_as : (k m p : ℕ) (f h : ℕ → ℕ) → f p ≡ h p → only k f m p ≡ only k h m p
@@ -69,7 +78,8 @@ gains_from τ τ' σ a same gains = record {
   modulo = λ m p low. let e = ap (λ x. height x p) (same m) in let g = gains.modulo m p low in omega arith;
 }
 
-pub written : (ts : List Tile) (k m : ℕ) (t : Tile) → k < length ts → tile_at (set ts k t) m ≡ cond (eqb m k) t (tile_at ts m)
+pub written : (ts : List Tile) (k m : ℕ) (t : Tile) → k < length ts
+    → tile_at (set ts k t) m ≡ cond (eqb m k) t (tile_at ts m)
 written ts k m t inside = ⊎_elim
     (λ (e : m ≡ k). tile_set_same ts k m t inside e ∙ sym (ap (λ b. cond b t (tile_at ts m)) (eq-eqb m k e)))
     (λ (ne : m ≡ k → ⊥). tile_set_other ts k m t ne ∙ sym (ap (λ b. cond b t (tile_at ts m)) (ne_eqb m k ne)))

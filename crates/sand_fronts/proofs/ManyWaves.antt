@@ -37,7 +37,8 @@ heights_now g site more τ j = cond more (heights_before g site τ j) (heights_o
 left : Grid → ℕ → (ℕ → Tile) → ℕ → ℕ
 left g site τ j = heights_on g τ j + (flow g (toppled g τ) site - heights_on g τ site) * one_at site j
 
-left_leaves : (g : Grid) (site : ℕ) (h : ℕ → ℕ) (τ : ℕ → Tile) → IsWave g site h τ → h site ≡ 4 → Leaves g site h τ (left g site τ)
+left_leaves : (g : Grid) (site : ℕ) (h : ℕ → ℕ) (τ : ℕ → Tile) → IsWave g site h τ → h site ≡ 4
+    → Leaves g site h τ (left g site τ)
 unfolding left
 left_leaves g site h τ wave four =
     let x = flow g (toppled g τ) site - heights_on g τ site in
@@ -46,14 +47,16 @@ left_leaves g site h τ wave four =
       held = let o = ap (λ y. x * y) (one_at_same site) in let at = wave.at_held in omega arith;
     }
 
-left_held : (g : Grid) (site : ℕ) (h : ℕ → ℕ) (τ : ℕ → Tile) → IsWave g site h τ → h site ≡ 4 → left g site τ site ≡ flow g (toppled g τ) site
+left_held : (g : Grid) (site : ℕ) (h : ℕ → ℕ) (τ : ℕ → Tile) → IsWave g site h τ → h site ≡ 4
+    → left g site τ site ≡ flow g (toppled g τ) site
 left_held g site h τ wave four = let l = (left_leaves g site h τ wave four).held in omega arith
 
 mul_le : (x y z : ℕ) → x ≤ y → x * z ≤ y * z
 mul_le x y z le = mul-le-mul_right z le
 
 -- if no other site has toppled, the held one did not get 4 grains back, since the pile is lighter
-alone_rests : (g : Grid) (site : ℕ) (h : ℕ → ℕ) (τ : ℕ → Tile) → IsWave g site h τ → site < sites g → toppled g τ site ≡ 1 → h site ≡ 4
+alone_rests : (g : Grid) (site : ℕ) (h : ℕ → ℕ) (τ : ℕ → Tile)
+    → IsWave g site h τ → site < sites g → toppled g τ site ≡ 1 → h site ≡ 4
     → ((j : ℕ) → j < sites g → j ≢ site → bit (τ (tile_of g j)).due (place_of g j) ≡ 0)
     → topplings g (toppled g τ) ≤ 1 → flow g (toppled g τ) site ≡ 4 → ⊥
 alone_rests g site h τ wave inside started four none_due few back =
@@ -89,7 +92,8 @@ alone_rests g site h τ wave inside started four none_due few back =
     mul_le (h j) (k j) (grain_weight g j) more) in
     omega arith
 
-other_toppled : (g : Grid) (site : ℕ) (t : ℕ → ℕ) → site < sites g → t site ≡ 1 → 1 < topplings g t → (i : ℕ) × (i < sites g) × (i ≢ site) × (1 ≤ t i)
+other_toppled : (g : Grid) (site : ℕ) (t : ℕ → ℕ) → site < sites g → t site ≡ 1 → 1 < topplings g t
+    → (i : ℕ) × (i < sites g) × (i ≢ site) × (1 ≤ t i)
 other_toppled g site t inside one many = ⊎_elim
     (λ (all : (i : ℕ) → i < sites g → leb (t i) (1 * one_at site i) ≡ true).
     let le = sum_below_le (sites g) t (λ i. 1 * one_at site i) (λ i l. leb-true (t i) (1 * one_at site i) (all i l)) in
@@ -102,7 +106,8 @@ other_toppled g site t inside one many = ⊎_elim
     (all_or_one (sites g) (λ i. leb (t i) (1 * one_at site i)))
 
 -- whether the held site has 4 again
-pub held_has : (g : Grid) (site : ℕ) (h : ℕ → ℕ) (τ : ℕ → Tile) (more : Bool) → IsWave g site h τ → site < sites g → toppled g τ site ≡ 1 → h site ≡ 4
+pub held_has : (g : Grid) (site : ℕ) (h : ℕ → ℕ) (τ : ℕ → Tile) (more : Bool)
+    → IsWave g site h τ → site < sites g → toppled g τ site ≡ 1 → h site ≡ 4
     → ((j : ℕ) → j < sites g → j ≢ site → h j ≤ 3)
     → ((j : ℕ) → j < sites g → j ≢ site → bit (τ (tile_of g j)).due (place_of g j) ≡ 0)
     → more ≡ (ltb 1 (topplings g (toppled g τ)) && eqb (heights_on g τ site) 0)
@@ -119,7 +124,8 @@ held_has g site h τ more wave inside started four low none_due test =
     let many = ltb-true 1 (topplings g t) parts.0 in
     let empty = eqb-true (heights_on g τ site) 0 parts.1 in
     let i = other_toppled g site t inside started many in
-    let again = four_again g site h τ (left g site τ) i.0 wave inside started four low none_due (left_leaves g site h τ wave four) empty i.1 i.2 i.3 in
+    let again = four_again g site h τ (left g site τ) i.0 wave inside started
+    four low none_due (left_leaves g site h τ wave four) empty i.1 i.2 i.3 in
     let held = left_held g site h τ wave four in
     ap (λ b. cond b (heights_before g site τ site) (heights_on g τ site)) yes ∙ omega arith)
     (λ (no : more ≡ false).
@@ -140,15 +146,20 @@ held_has g site h τ more wave inside started four low none_due test =
     (and_cases (ltb 1 (topplings g t)) (eqb (heights_on g τ site) 0) (sym test ∙ no)))
     (cases_Bool more)
 
-underway_as : (g : Grid) (s u v t : ℕ → ℕ) → ((j : ℕ) → j < sites g → u j ≡ v j) → IsUnderway g s u t → IsUnderway g s v t
+underway_as : (g : Grid) (s u v t : ℕ → ℕ) → ((j : ℕ) → j < sites g → u j ≡ v j) → IsUnderway g s u t
+    → IsUnderway g s v t
 underway_as g s u v t same before = record {
-  toppled = record { balance = λ j l. let a = before.toppled.balance j l in let b = same j l in let c = flow_same g u v same j l in omega arith };
+  toppled = record {
+    balance = λ j l.
+        let a = before.toppled.balance j l in let b = same j l in let c = flow_same g u v same j l in omega arith;
+  };
   bounded = λ w stable j l. let a = before.bounded w stable j l in let b = same j l in omega arith;
 }
 
 -- ---- what has been counted
 
-pub on_sum : (g : Grid) (u t v : ℕ → ℕ) (m p : ℕ) → p < 64 → ((j : ℕ) → j < sites g → v j ≡ u j + t j) → on_tiles g v m p ≡ on_tiles g u m p + on_tiles g t m p
+pub on_sum : (g : Grid) (u t v : ℕ → ℕ) (m p : ℕ) → p < 64 → ((j : ℕ) → j < sites g → v j ≡ u j + t j)
+    → on_tiles g v m p ≡ on_tiles g u m p + on_tiles g t m p
 on_sum g u t v m p low sums = ⊎_elim
     (λ (yes : is_site g m p ≡ true).
     let there = there_again g m p low yes in
@@ -160,9 +171,14 @@ on_sum g u t v m p low sums = ⊎_elim
     omega arith)
     (cases_Bool (is_site g m p))
 
-pub on_below : (g : Grid) (v : ℕ → ℕ) (m p most : ℕ) → p < 64 → ((j : ℕ) → j < sites g → v j ≤ most) → on_tiles g v m p ≤ most
+pub on_below : (g : Grid) (v : ℕ → ℕ) (m p most : ℕ) → p < 64 → ((j : ℕ) → j < sites g → v j ≤ most)
+    → on_tiles g v m p ≤ most
 on_below g v m p most low few = ⊎_elim
-    (λ (yes : is_site g m p ≡ true). let there = there_again g m p low yes in let a = on_site g v m p yes in let f = few (site_on g m p) there.0 in omega arith)
+    (λ (yes : is_site g m p ≡ true).
+    let there = there_again g m p low yes in
+    let a = on_site g v m p yes in
+    let f = few (site_on g m p) there.0 in
+    omega arith)
     (λ (no : is_site g m p ≡ false). let a = off_site g v m p no in omega arith)
     (cases_Bool (is_site g m p))
 
@@ -175,7 +191,8 @@ pub record AreWaves (g : Grid) (site : ℕ) (more : Bool) (τ σ : ℕ → Tile)
   pub counts : (m p : ℕ) → p < 64 → counted (d m) p ≡ counted (c m) p + on_tiles g (grown_on g c d) m p
   pub sound : (m : ℕ) → IsCount (d m)
 
-pub waves_begin : (g : Grid) (site : ℕ) (τ : ℕ → Tile) (c : ℕ → Count) → AreAtRest g site τ → ((m : ℕ) → IsCount (c m)) → AreWaves g site true τ τ c c
+pub waves_begin : (g : Grid) (site : ℕ) (τ : ℕ → Tile) (c : ℕ → Count) → AreAtRest g site τ → ((m : ℕ) → IsCount (c m))
+    → AreWaves g site true τ τ c c
 waves_begin g site τ c rest sound =
     let none : (j : ℕ) → j < sites g → 0 ≡ grown_on g c c j = λ j l. omega arith in
     record {
@@ -205,13 +222,17 @@ wave_counts g site τ σ ρ c d e h counts moved clear j =
     let z = clear m p low in
     omega arith
 
-pub waves_more : (g : Grid) (site : ℕ) (more : Bool) (τ σ ω ρ : ℕ → Tile) (c d e : ℕ → Count) → site < sites g → AreWaves g site true τ σ c d
+pub waves_more : (g : Grid) (site : ℕ) (more : Bool) (τ σ ω ρ : ℕ → Tile) (c d e : ℕ → Count)
+    → site < sites g → AreWaves g site true τ σ c d
     → IsWave g site (heights_before g site σ) ω → toppled g ω site ≡ 1
     → ((j : ℕ) → j < sites g → j ≢ site → bit (ω (tile_of g j)).due (place_of g j) ≡ 0)
-    → ((k u v : ℕ → ℕ) → Leaves g site (heights_before g site σ) ω k → ((j : ℕ) → j < sites g → v j ≡ u j + toppled g ω j) → Advances g u (heights_before g site σ) v k)
+    → ((k u v : ℕ → ℕ) → Leaves g site (heights_before g site σ) ω k
+    → ((j : ℕ) → j < sites g → v j ≡ u j + toppled g ω j)
+    → Advances g u (heights_before g site σ) v k)
     → AreCounted ω ρ d e → ((m : ℕ) → IsClear (ρ m))
     → more ≡ (ltb 1 (topplings g (toppled g ω)) && eqb (heights_on g ρ site) 0)
-    → (AreWaves g site more τ ρ c e) × (topplings g (grown_on g c e) ≡ topplings g (grown_on g c d) + topplings g (toppled g ω))
+    → (AreWaves g site more τ ρ c e)
+    × (topplings g (grown_on g c e) ≡ topplings g (grown_on g c d) + topplings g (toppled g ω))
     × (weight g (heights_now g site more ρ) < weight g (heights_now g site true σ))
 waves_more g site more τ σ ω ρ c d e inside waves wave started none_due advances counts clear test =
     let t = toppled g ω in
@@ -223,10 +244,12 @@ waves_more g site more τ σ ω ρ c d e inside waves wave started none_due adva
     omega arith in
     let four : h site ≡ 4 = let o = one_at_same site in let z = waves.empty refl in omega arith in
     let low : (j : ℕ) → j < sites g → j ≢ site → h j ≤ 3 = first_low g site σ in
-    let test' : more ≡ (ltb 1 (topplings g t) && eqb (heights_on g ω site) 0) = test ∙ ap (λ x. ltb 1 (topplings g t) && eqb x 0) (same site) in
+    let test' : more ≡ (ltb 1 (topplings g t) && eqb (heights_on g ω site) 0) =
+    test ∙ ap (λ x. ltb 1 (topplings g t) && eqb x 0) (same site) in
     let has = held_has g site h ω more wave inside started four low none_due test' in
     let now : (j : ℕ) → j ≢ site → k j ≡ heights_on g ω j = λ j ne. ⊎_elim
-    (λ (yes : more ≡ true). ap (λ b. cond b (heights_before g site ρ j) (heights_on g ρ j)) yes ∙ (let o = one_at_other site j (λ x. ne (sym x)) in let s = same j in omega arith))
+    (λ (yes : more ≡ true). ap (λ b. cond b (heights_before g site ρ j) (heights_on g ρ j)) yes
+    ∙ (let o = one_at_other site j (λ x. ne (sym x)) in let s = same j in omega arith))
     (λ (no : more ≡ false). ap (λ b. cond b (heights_before g site ρ j) (heights_on g ρ j)) no ∙ same j)
     (cases_Bool more) in
     let held : k site ≡ flow g t site = ⊎_elim
@@ -240,7 +263,8 @@ waves_more g site more τ σ ω ρ c d e inside waves wave started none_due adva
     let s = same site in omega arith)
     (cases_Bool more) in
     let leaves : Leaves g site h ω k = record { others = λ j l ne. now j ne; held = omega arith } in
-    let sums : (j : ℕ) → j < sites g → grown_on g c e j ≡ grown_on g c d j + t j = λ j l. wave_counts g site τ ω ρ c d e h waves.counts counts.each clear j in
+    let sums : (j : ℕ) → j < sites g → grown_on g c e j ≡ grown_on g c d j + t j =
+    λ j l. wave_counts g site τ ω ρ c d e h waves.counts counts.each clear j in
     let next = advances k (grown_on g c d) (grown_on g c e) leaves sums in
     let all = sum_below_same (sites g) (grown_on g c e) (λ j. grown_on g c d j + t j) sums in
     let both = sum_below-add (sites g) (grown_on g c d) t in
@@ -248,7 +272,9 @@ waves_more g site more τ σ ω ρ c d e inside waves wave started none_due adva
       record {
         clear = clear;
         none_due = λ j l ne. ap (λ x. bit x (place_of g j)) (counts.due (tile_of g j)) ∙ none_due j l ne;
-        empty = λ is. let parts = and_parts (ltb 1 (topplings g t)) (eqb (heights_on g ρ site) 0) (sym test ∙ is) in eqb-true (heights_on g ρ site) 0 parts.1;
+        empty = λ is.
+            let parts = and_parts (ltb 1 (topplings g t)) (eqb (heights_on g ρ site) 0) (sym test ∙ is) in
+            eqb-true (heights_on g ρ site) 0 parts.1;
         advances = record {
           underway = λ s before. next.underway s (waves.advances.underway s before);
           weight_pays = let a = next.weight_pays in let b = waves.advances.weight_pays in omega arith;
@@ -267,7 +293,9 @@ waves_more g site more τ σ ω ρ c d e inside waves wave started none_due adva
       (let a = next.weight_pays in omega arith),
     )
 
-pub wave_size : (g : Grid) (site n : ℕ) (h : ℕ → ℕ) (τ : ℕ → Tile) → IsWave g site h τ → ((j : ℕ) → j < sites g → tile_of g j < n) → in_wave n τ ≡ topplings g (toppled g τ)
+pub wave_size : (g : Grid) (site n : ℕ) (h : ℕ → ℕ) (τ : ℕ → Tile)
+    → IsWave g site h τ → ((j : ℕ) → j < sites g → tile_of g j < n)
+    → in_wave n τ ≡ topplings g (toppled g τ)
 wave_size g site n h τ wave here =
     sum_below_same n (λ k. sum_below 64 (bit (τ k).wave)) (λ k. sum_below 64 (λ p. on_tiles g (toppled g τ) k p))
     (λ k l. sum_below_same 64 (bit (τ k).wave) (λ p. on_tiles g (toppled g τ) k p) (λ p m. wave.inside k p m))
@@ -276,21 +304,29 @@ wave_size g site n h τ wave here =
 on_product : (g : Grid) (u v : ℕ → ℕ) (k p : ℕ) → on_tiles g u k p * on_tiles g v k p ≡ on_tiles g (λ j. u j * v j) k p
 on_product g u v k p = ⊎_elim
     (λ (yes : is_site g k p ≡ true).
-    ap (λ x. x * on_tiles g v k p) (on_site g u k p yes) ∙ ap (λ x. u (site_on g k p) * x) (on_site g v k p yes) ∙ sym (on_site g (λ j. u j * v j) k p yes))
+    ap (λ x. x * on_tiles g v k p) (on_site g u k p yes)
+    ∙ ap (λ x. u (site_on g k p) * x) (on_site g v k p yes) ∙ sym (on_site g (λ j. u j * v j) k p yes))
     (λ (no : is_site g k p ≡ false).
     ap (λ x. x * on_tiles g v k p) (off_site g u k p no) ∙ sym (off_site g (λ j. u j * v j) k p no ∙ omega arith))
     (cases_Bool (is_site g k p))
 
-pub wave_lost : (g : Grid) (site n : ℕ) (h : ℕ → ℕ) (ν τ : ℕ → Tile) → AreOutside g ν → IsWave g site h τ → ((j : ℕ) → j < sites g → tile_of g j < n) → over_wave n ν τ ≡ lost g (toppled g τ)
+pub wave_lost : (g : Grid) (site n : ℕ) (h : ℕ → ℕ) (ν τ : ℕ → Tile)
+    → AreOutside g ν → IsWave g site h τ → ((j : ℕ) → j < sites g → tile_of g j < n)
+    → over_wave n ν τ ≡ lost g (toppled g τ)
 wave_lost g site n h ν τ outside wave here =
-    sum_below_same n (λ k. sum_below 64 (λ p. number (ν k) p * bit (τ k).wave p)) (λ k. sum_below 64 (λ p. on_tiles g (λ j. missing g j * toppled g τ j) k p))
-    (λ k l. sum_below_same 64 (λ p. number (ν k) p * bit (τ k).wave p) (λ p. on_tiles g (λ j. missing g j * toppled g τ j) k p)
-    (λ p m. ap (λ x. x * bit (τ k).wave p) (outside k p m) ∙ ap (λ x. on_tiles g (missing g) k p * x) (wave.inside k p m) ∙ on_product g (missing g) (toppled g τ) k p))
+    sum_below_same n
+    (λ k. sum_below 64 (λ p. number (ν k) p * bit (τ k).wave p))
+    (λ k. sum_below 64 (λ p. on_tiles g (λ j. missing g j * toppled g τ j) k p))
+    (λ k l.
+    sum_below_same 64 (λ p. number (ν k) p * bit (τ k).wave p) (λ p. on_tiles g (λ j. missing g j * toppled g τ j) k p)
+    (λ p m. ap (λ x. x * bit (τ k).wave p) (outside k p m)
+    ∙ ap (λ x. on_tiles g (missing g) k p * x) (wave.inside k p m) ∙ on_product g (missing g) (toppled g τ) k p))
     ∙ sum_on_tiles g (λ j. missing g j * toppled g τ j) n here
 
 pub lost_more : (g : Grid) (u v w : ℕ → ℕ) → ((j : ℕ) → j < sites g → w j ≡ u j + v j) → lost g w ≡ lost g u + lost g v
 lost_more g u v w e =
-    sum_below_same (sites g) (λ j. missing g j * w j) (λ j. missing g j * u j + missing g j * v j) (λ j l. let k = ap (λ m. missing g j * m) (e j l) in omega arith)
+    sum_below_same (sites g) (λ j. missing g j * w j) (λ j. missing g j * u j + missing g j * v j)
+    (λ j l. let k = ap (λ m. missing g j * m) (e j l) in omega arith)
     ∙ sum_below-add (sites g) (λ j. missing g j * u j) (λ j. missing g j * v j)
 
 missing_le : (g : Grid) (j : ℕ) → missing g j ≤ 4
@@ -299,18 +335,22 @@ missing_le g j = omega arith
 
 pub lost_few : (g : Grid) (u : ℕ → ℕ) → lost g u ≤ 4 * topplings g u
 lost_few g u =
-    let le = sum_below_le (sites g) (λ j. missing g j * u j) (λ j. 4 * u j) (λ j l. mul_le (missing g j) 4 (u j) (missing_le g j)) in
+    let le = sum_below_le (sites g) (λ j. missing g j * u j) (λ j. 4 * u j)
+    (λ j l. mul_le (missing g j) 4 (u j) (missing_le g j)) in
     let scaled = sum_below-scale (sites g) 4 u in
     omega arith
 
 pub none_lost : (g : Grid) (c : ℕ → Count) → 0 ≡ lost g (grown_on g c c)
 none_lost g c =
-    let same = sum_below_same (sites g) (λ j. missing g j * grown_on g c c j) (λ j. 0) (λ j l. let e = ap (λ x. missing g j * x) (let z : grown_on g c c j ≡ 0 = omega arith in z) in omega arith) in
+    let same = sum_below_same (sites g) (λ j. missing g j * grown_on g c c j) (λ j. 0)
+    (λ j l. let e = ap (λ x. missing g j * x) (let z : grown_on g c c j ≡ 0 = omega arith in z) in omega arith) in
     let none = sum_below-zero (sites g) in
     omega arith
 
 -- a drop on a stable pile topples fewer than 2 ^ 32 times
-pub few_topplings_yet : (g : Grid) (site : ℕ) (more : Bool) (τ σ : ℕ → Tile) (c d : ℕ → Count) → IsGrid g → AreWaves g site more τ σ c d → topplings g (grown_on g c d) < 2 ^ 32
+pub few_topplings_yet : (g : Grid) (site : ℕ) (more : Bool) (τ σ : ℕ → Tile) (c d : ℕ → Count)
+    → IsGrid g → AreWaves g site more τ σ c d
+    → topplings g (grown_on g c d) < 2 ^ 32
 few_topplings_yet g site more τ σ c d sides waves =
     let h = heights_before g site τ in
     let each = sum_below_le (sites g) h (λ j. 7 * 1) (λ j l.
@@ -326,23 +366,32 @@ few_topplings_yet g site more τ σ c d sides waves =
     let pays = waves.advances.weight_pays in
     omega arith
 
-pub few_counted : (g : Grid) (site : ℕ) (more : Bool) (τ σ : ℕ → Tile) (c d : ℕ → Count) (m p : ℕ) → IsGrid g → AreWaves g site more τ σ c d → p < 64
+pub few_counted : (g : Grid) (site : ℕ) (more : Bool) (τ σ : ℕ → Tile) (c d : ℕ → Count) (m p : ℕ)
+    → IsGrid g → AreWaves g site more τ σ c d → p < 64
     → counted (c m) p < 2 ^ 60 → counted (d m) p < 2 ^ 61
 few_counted g site more τ σ c d m p sides waves low few =
     let all = few_topplings_yet g site more τ σ c d sides waves in
-    let here = on_below g (grown_on g c d) m p (2 ^ 32) low (λ j l. let part = at_most_sum_below (sites g) (grown_on g c d) j l in omega arith) in
+    let here = on_below g (grown_on g c d) m p (2 ^ 32) low
+    (λ j l. let part = at_most_sum_below (sites g) (grown_on g c d) j l in omega arith) in
     let e = waves.counts m p low in
     omega arith
 
-pub waves_end : (g : Grid) (site : ℕ) (τ σ : ℕ → Tile) (c d : ℕ → Count) → AreWaves g site false τ σ c d → IsSettled g (heights_before g site τ) (grown_on g c d) (heights_on g σ)
+pub waves_end : (g : Grid) (site : ℕ) (τ σ : ℕ → Tile) (c d : ℕ → Count) → AreWaves g site false τ σ c d
+    → IsSettled g (heights_before g site τ) (grown_on g c d) (heights_on g σ)
 waves_end g site τ σ c d waves =
     underway_end g (heights_before g site τ) (grown_on g c d) (heights_on g σ)
-    (waves.advances.underway (heights_before g site τ) (underway_start g (heights_before g site τ) (λ j. 0) (λ j l. refl)))
-    (λ j l. let a = bit_le (σ (tile_of g j)).low (place_of g j) in let b = bit_le (σ (tile_of g j)).high (place_of g j) in omega arith)
+    (waves.advances.underway (heights_before g site τ)
+    (underway_start g (heights_before g site τ) (λ j. 0) (λ j l. refl)))
+    (λ j l.
+    let a = bit_le (σ (tile_of g j)).low (place_of g j) in
+    let b = bit_le (σ (tile_of g j)).high (place_of g j) in
+    omega arith)
 
 -- between two waves the tiles are at rest
-pub at_rest : (g : Grid) (site : ℕ) (more : Bool) (τ σ : ℕ → Tile) (c d : ℕ → Count) → AreWaves g site more τ σ c d → more ≡ true → AreAtRest g site σ
-at_rest g site more τ σ c d waves is = record { clear = λ m p l. waves.clear m p l; none_due = waves.none_due; empty = waves.empty is }
+pub at_rest : (g : Grid) (site : ℕ) (more : Bool) (τ σ : ℕ → Tile) (c d : ℕ → Count)
+    → AreWaves g site more τ σ c d → more ≡ true → AreAtRest g site σ
+at_rest g site more τ σ c d waves is =
+    record { clear = λ m p l. waves.clear m p l; none_due = waves.none_due; empty = waves.empty is }
 
 pub none_grown : (g : Grid) (c : ℕ → Count) → 0 ≡ topplings g (grown_on g c c)
 none_grown g c =
@@ -350,11 +399,14 @@ none_grown g c =
     let none = sum_below-zero (sites g) in
     omega arith
 
-pub none_counted : (g : Grid) (c : ℕ → Count) (m p : ℕ) → p < 64 → counted (c m) p ≡ counted (c m) p + on_tiles g (grown_on g c c) m p
+pub none_counted : (g : Grid) (c : ℕ → Count) (m p : ℕ) → p < 64
+    → counted (c m) p ≡ counted (c m) p + on_tiles g (grown_on g c c) m p
 none_counted g c m p low = let b = on_below g (grown_on g c c) m p 0 low (λ j l. omega arith) in omega arith
 
 -- clearing what is due in a tile changes no height
-heights_kept : (g : Grid) (ts : List Tile) (here : ℕ) (t : Tile) (j : ℕ) → here < length ts → t.low ≡ (tile_at ts here).low → t.high ≡ (tile_at ts here).high
+heights_kept : (g : Grid) (ts : List Tile) (here : ℕ) (t : Tile) (j : ℕ)
+    → here < length ts → t.low ≡ (tile_at ts here).low
+    → t.high ≡ (tile_at ts here).high
     → heights_on g (tile_at ts) j ≡ heights_on g (tile_at (set ts here t)) j
 heights_kept g ts here t j inside low high = ⊎_elim
     (λ (e : tile_of g j ≡ here).
@@ -363,23 +415,36 @@ heights_kept g ts here t j inside low high = ⊎_elim
     let b = ap (λ x. bit x (place_of g j)) high in
     let f = ap (λ m. height (tile_at ts m) (place_of g j)) e in
     omega arith)
-    (λ (ne : tile_of g j ≡ here → ⊥). sym (ap (λ (x : Tile). height x (place_of g j)) (tile_set_other ts here (tile_of g j) t ne)))
+    (λ (ne : tile_of g j ≡ here → ⊥).
+    sym (ap (λ (x : Tile). height x (place_of g j)) (tile_set_other ts here (tile_of g j) t ne)))
     (cases_eq (tile_of g j) here)
 
-pub settled_kept : (g : Grid) (s u : ℕ → ℕ) (ts : List Tile) (here : ℕ) (t : Tile) → here < length ts → t.low ≡ (tile_at ts here).low → t.high ≡ (tile_at ts here).high
+pub settled_kept : (g : Grid) (s u : ℕ → ℕ) (ts : List Tile) (here : ℕ) (t : Tile)
+    → here < length ts → t.low ≡ (tile_at ts here).low
+    → t.high ≡ (tile_at ts here).high
     → IsSettled g s u (heights_on g (tile_at ts)) → IsSettled g s u (heights_on g (tile_at (set ts here t)))
 settled_kept g s u ts here t inside low high done =
-    settled_same g s s u u (heights_on g (tile_at ts)) (heights_on g (tile_at (set ts here t))) (λ i l. refl) (λ i l. refl) (λ i l. heights_kept g ts here t i inside low high) done
+    settled_same g s s u u (heights_on g (tile_at ts)) (heights_on g (tile_at (set ts here t)))
+    (λ i l. refl) (λ i l. refl) (λ i l. heights_kept g ts here t i inside low high) done
 
-pub quiet_at_last : (g : Grid) (site : ℕ) (ts : List Tile) (here : ℕ) (t : Tile) → here < length ts → here ≡ tile_of g site → t.wave ≡ (tile_at ts here).wave → t.due ≡ 0
-    → ((m : ℕ) → IsClear (tile_at ts m)) → ((j : ℕ) → j < sites g → j ≢ site → bit (tile_at ts (tile_of g j)).due (place_of g j) ≡ 0) → AreQuiet g (tile_at (set ts here t))
+pub quiet_at_last : (g : Grid) (site : ℕ) (ts : List Tile) (here : ℕ) (t : Tile)
+    → here < length ts → here ≡ tile_of g site
+    → t.wave ≡ (tile_at ts here).wave → t.due ≡ 0
+    → ((m : ℕ) → IsClear (tile_at ts m))
+    → ((j : ℕ) → j < sites g → j ≢ site → bit (tile_at ts (tile_of g j)).due (place_of g j) ≡ 0)
+    → AreQuiet g (tile_at (set ts here t))
 quiet_at_last g site ts here t inside is wave due clear none_due = record {
   clear = λ m p low. ⊎_elim
-      (λ (e : m ≡ here). ap (λ (x : Tile). bit x.wave p) (tile_set_same ts here m t inside e) ∙ ap (λ x. bit x p) wave ∙ clear here p low)
+      (λ (e : m ≡ here).
+      ap (λ (x : Tile). bit x.wave p) (tile_set_same ts here m t inside e) ∙ ap (λ x. bit x p) wave ∙ clear here p low)
       (λ (ne : m ≡ here → ⊥). ap (λ (x : Tile). bit x.wave p) (tile_set_other ts here m t ne) ∙ clear m p low)
       (cases_eq m here);
   none_due = λ j l. ⊎_elim
-      (λ (e : tile_of g j ≡ here). ap (λ (x : Tile). bit x.due (place_of g j)) (tile_set_same ts here (tile_of g j) t inside e) ∙ ap (λ x. bit x (place_of g j)) due ∙ bit_none (place_of g j))
-      (λ (ne : tile_of g j ≡ here → ⊥). ap (λ (x : Tile). bit x.due (place_of g j)) (tile_set_other ts here (tile_of g j) t ne) ∙ none_due j l (λ e. ne (ap (tile_of g) e ∙ sym is)))
+      (λ (e : tile_of g j ≡ here).
+      ap (λ (x : Tile). bit x.due (place_of g j)) (tile_set_same ts here (tile_of g j) t inside e)
+      ∙ ap (λ x. bit x (place_of g j)) due ∙ bit_none (place_of g j))
+      (λ (ne : tile_of g j ≡ here → ⊥).
+      ap (λ (x : Tile). bit x.due (place_of g j)) (tile_set_other ts here (tile_of g j) t ne)
+      ∙ none_due j l (λ e. ne (ap (tile_of g) e ∙ sym is)))
       (cases_eq (tile_of g j) here);
 }

@@ -21,13 +21,16 @@ use Rattle.sand_fronts.proofs.Counted.{sum_less_one, none_of_none}
 
 pub few_in_sets : (n : ℕ) (x : ℕ → ℕ) → in_sets n x ≤ 64 * n
 few_in_sets n x =
-    let le = sum_below_le n (λ k. sum_below 64 (bit (x k))) (λ k. 64 * 1) (λ k l. at_most_all 64 (bit (x k)) (λ p m. bit_le (x k) p)) in
+    let le = sum_below_le n (λ k. sum_below 64 (bit (x k))) (λ k. 64 * 1)
+    (λ k l. at_most_all 64 (bit (x k)) (λ p m. bit_le (x k) p)) in
     let scaled = sum_below-scale n 64 (λ k. 1) in
     let ones = sum_below-ones n in
     omega arith
 
 pub none_in_sets : (n : ℕ) (x : ℕ → ℕ) → ((m : ℕ) → x m ≡ 0) → in_sets n x ≡ 0
-none_in_sets n x none = sum_below_same n (λ k. sum_below 64 (bit (x k))) (λ k. 0) (λ k l. ap (λ w. sum_below 64 (bit w)) (none k) ∙ none_of_none) ∙ sum_below-zero n
+none_in_sets n x none = sum_below_same n (λ k. sum_below 64 (bit (x k)))
+    (λ k. 0) (λ k l. ap (λ w. sum_below 64 (bit w)) (none k) ∙ none_of_none)
+    ∙ sum_below-zero n
 
 pub set_taken : (x y : ℕ → ℕ) (k m : ℕ) → ((i : ℕ) → y i ≡ cond (eqb i k) 0 (x i)) → m ≡ k → y m ≡ 0
 set_taken x y k m each e = each m ∙ ap (λ b. cond b 0 (x m)) (eq-eqb m k e)
@@ -41,13 +44,15 @@ set_none x y k m each none = ⊎_elim
     (λ (ne : m ≡ k → ⊥). set_left x y k m each ne ∙ none)
     (cases_eq m k)
 
-pub set_less : (n : ℕ) (x y : ℕ → ℕ) (k : ℕ) → ((i : ℕ) → y i ≡ cond (eqb i k) 0 (x i)) → k < n → sum_below 64 (bit (x k)) + in_sets n y ≡ in_sets n x
+pub set_less : (n : ℕ) (x y : ℕ → ℕ) (k : ℕ) → ((i : ℕ) → y i ≡ cond (eqb i k) 0 (x i)) → k < n
+    → sum_below 64 (bit (x k)) + in_sets n y ≡ in_sets n x
 set_less n x y k each less =
     sum_less_one n k (λ m. sum_below 64 (bit (x m))) (λ m. sum_below 64 (bit (y m))) less
     (ap (λ w. sum_below 64 (bit w)) (set_taken x y k k each refl) ∙ none_of_none)
     (λ m ne. ap (λ w. sum_below 64 (bit w)) (set_left x y k m each ne))
 
-pub all_taken : (x : ℕ → ℕ) (k end : ℕ) → ((m : ℕ) → m < k → x m ≡ 0) → ((m : ℕ) → end ≤ m → x m ≡ 0) → end ≤ k → (m : ℕ) → x m ≡ 0
+pub all_taken : (x : ℕ → ℕ) (k end : ℕ) → ((m : ℕ) → m < k → x m ≡ 0)
+    → ((m : ℕ) → end ≤ m → x m ≡ 0) → end ≤ k → (m : ℕ) → x m ≡ 0
 all_taken x k end taken beyond done m = ⊎_elim
     (λ (before : m < k). taken m before)
     (λ (after : k ≤ m). beyond m (omega arith))
@@ -56,7 +61,8 @@ all_taken x k end taken beyond done m = ⊎_elim
 -- ---- what the sets are
 
 -- a place is marked if and only if it is a site that has toppled
-pub marked_word : (g : Grid) (c d : ℕ → Count) (a b : ℕ → ℕ) (m p : ℕ) → p < 64 → AreMarked c d a b → ((k : ℕ) → a k ≡ 0)
+pub marked_word : (g : Grid) (c d : ℕ → Count) (a b : ℕ → ℕ) (m p : ℕ)
+    → p < 64 → AreMarked c d a b → ((k : ℕ) → a k ≡ 0)
     → ((k q : ℕ) → q < 64 → counted (d k) q ≡ counted (c k) q + on_tiles g (grown_on g c d) k q)
     → bit (b m) p ≡ on_tiles g (λ j. one_if (ltb 0 (grown_on g c d j))) m p
 marked_word g c d a b m p low marked none counts =
@@ -83,13 +89,18 @@ marked_word g c d a b m p low marked none counts =
     (cases_Bool (is_site g m p))
 
 -- so the sets have as many places as sites have toppled
-pub area_is : (g : Grid) (n : ℕ) (v b : ℕ → ℕ) → ((m p : ℕ) → p < 64 → bit (b m) p ≡ on_tiles g v m p) → ((j : ℕ) → j < sites g → tile_of g j < n) → in_sets n b ≡ sum_below (sites g) v
+pub area_is : (g : Grid) (n : ℕ) (v b : ℕ → ℕ)
+    → ((m p : ℕ) → p < 64 → bit (b m) p ≡ on_tiles g v m p)
+    → ((j : ℕ) → j < sites g → tile_of g j < n)
+    → in_sets n b ≡ sum_below (sites g) v
 area_is g n v b each here =
-    sum_below_same n (λ k. sum_below 64 (bit (b k))) (λ k. sum_below 64 (λ p. on_tiles g v k p)) (λ k l. sum_below_same 64 (bit (b k)) (λ p. on_tiles g v k p) (λ p m. each k p m))
+    sum_below_same n (λ k. sum_below 64 (bit (b k))) (λ k. sum_below 64 (λ p. on_tiles g v k p))
+    (λ k l. sum_below_same 64 (bit (b k)) (λ p. on_tiles g v k p) (λ p m. each k p m))
     ∙ sum_on_tiles g v n here
 
 pub none_in_area : (g : Grid) (c : ℕ → Count) → 0 ≡ sum_below (sites g) (λ j. one_if (ltb 0 (grown_on g c c j)))
 none_in_area g c =
-    let same = sum_below_same (sites g) (λ j. one_if (ltb 0 (grown_on g c c j))) (λ j. 0) (λ j l. ap one_if (le-ltb 0 (grown_on g c c j) (omega arith))) in
+    let same = sum_below_same (sites g) (λ j. one_if (ltb 0 (grown_on g c c j)))
+    (λ j. 0) (λ j l. ap one_if (le-ltb 0 (grown_on g c c j) (omega arith))) in
     let none = sum_below-zero (sites g) in
     omega arith

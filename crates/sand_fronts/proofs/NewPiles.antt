@@ -29,26 +29,39 @@ nothing_sound = record { few = omega arith; each = λ p low. let z = bit_none p 
 nothing_counted : (p : ℕ) → counted nothing p ≡ 0
 nothing_counted p = let z = bit_none p in let e = get_or-eq_default {A = ℕ} [] 0 {n = p} (omega arith) in omega arith
 
-count_is : (P : Count → Type 0) (items : List Count) (n m : ℕ) (x : Count) → items ≡ replicate n x → P x → P nothing → P (count_at items m)
+count_is : (P : Count → Type 0) (items : List Count) (n m : ℕ) (x : Count) → items ≡ replicate n x → P x → P nothing
+    → P (count_at items m)
 count_is P items n m x all is none = ⊎_elim
-    (λ (less : m < n). subst P (sym (ap (λ (xs : List Count). count_at xs m) all ∙ get_or-replicate {A = Count} n m x nothing less)) is)
-    (λ (more : n ≤ m). subst P (sym (ap (λ (xs : List Count). count_at xs m) all ∙ get_or-eq_default {A = Count} (replicate n x) nothing {n = m} (let e = length-replicate {A = Count} n x in omega arith))) none)
+    (λ (less : m < n).
+    subst P (sym (ap (λ (xs : List Count). count_at xs m) all ∙ get_or-replicate {A = Count} n m x nothing less)) is)
+    (λ (more : n ≤ m). subst P (sym (ap (λ (xs : List Count). count_at xs m) all ∙ get_or-eq_default {A = Count}
+    (replicate n x) nothing {n = m} (let e = length-replicate {A = Count} n x in omega arith))) none)
     (cases_lt m n)
 
-pub counts_sound : (items : List Count) (n m : ℕ) (x : Count) → items ≡ replicate n x → IsCount x → IsCount (count_at items m)
+pub counts_sound : (items : List Count) (n m : ℕ) (x : Count) → items ≡ replicate n x → IsCount x
+    → IsCount (count_at items m)
 counts_sound items n m x all sound = count_is IsCount items n m x all sound nothing_sound
 
-pub counts_none : (items : List Count) (n m p : ℕ) (x : Count) → items ≡ replicate n x → counted x p ≡ 0 → counted (count_at items m) p ≡ 0
+pub counts_none : (items : List Count) (n m p : ℕ) (x : Count) → items ≡ replicate n x → counted x p ≡ 0
+    → counted (count_at items m) p ≡ 0
 counts_none items n m p x all none = count_is (λ c. counted c p ≡ 0) items n m x all none (nothing_counted p)
 
 -- tiles where each site has had just its height are at rest
-pub new_quiet : (g : Grid) (h : ℕ → ℕ) (τ : ℕ → Tile) → ((j : ℕ) → j < sites g → h j ≤ 3) → ((m p : ℕ) → p < 64 → had (τ m) p ≡ on_tiles g h m p) → AreQuiet g τ
+pub new_quiet : (g : Grid) (h : ℕ → ℕ) (τ : ℕ → Tile)
+    → ((j : ℕ) → j < sites g → h j ≤ 3)
+    → ((m p : ℕ) → p < 64 → had (τ m) p ≡ on_tiles g h m p) → AreQuiet g τ
 new_quiet g h τ low all = record {
   clear = λ m p l. let e = all m p l in let f = on_below g h m p 3 l low in omega arith;
-  none_due = λ j l. let e = all (tile_of g j) (place_of g j) (place_below g j) in let f = on_below g h (tile_of g j) (place_of g j) 3 (place_below g j) low in omega arith;
+  none_due = λ j l.
+      let e = all (tile_of g j) (place_of g j) (place_below g j) in
+      let f = on_below g h (tile_of g j) (place_of g j) 3 (place_below g j) low in
+      omega arith;
 }
 
-pub new_heights : (g : Grid) (h : ℕ → ℕ) (τ : ℕ → Tile) (j : ℕ) → ((j : ℕ) → j < sites g → h j ≤ 3) → ((m p : ℕ) → p < 64 → had (τ m) p ≡ on_tiles g h m p) → j < sites g → heights_on g τ j ≡ h j
+pub new_heights : (g : Grid) (h : ℕ → ℕ) (τ : ℕ → Tile) (j : ℕ)
+    → ((j : ℕ) → j < sites g → h j ≤ 3)
+    → ((m p : ℕ) → p < 64 → had (τ m) p ≡ on_tiles g h m p) → j < sites g
+    → heights_on g τ j ≡ h j
 new_heights g h τ j low all l =
     let e = all (tile_of g j) (place_of g j) (place_below g j) in
     let at = at_on g h j l in
@@ -61,7 +74,9 @@ pub few_outside : (g : Grid) (xs : List ℕ) (j : ℕ) → slice_index xs j ≡ 
 unfolding missing
 few_outside g xs j is = omega arith
 
-pub outside_on_tiles : (g : Grid) (xs : List ℕ) (τ : ℕ → Tile) → ((j : ℕ) → j < sites g → slice_index xs j ≡ missing g j) → ((m : ℕ) → IsClear (τ m))
+pub outside_on_tiles : (g : Grid) (xs : List ℕ) (τ : ℕ → Tile)
+    → ((j : ℕ) → j < sites g → slice_index xs j ≡ missing g j)
+    → ((m : ℕ) → IsClear (τ m))
     → ((m p : ℕ) → p < 64 → had (τ m) p ≡ on_tiles g (slice_index xs) m p) → AreOutside g τ
 outside_on_tiles g xs τ same clear all m p low =
     let none = clear m p low in
@@ -70,7 +85,8 @@ outside_on_tiles g xs τ same clear all m p low =
     let b = on_tiles_le g (missing g) (slice_index xs) m p low (λ j l. let s = same j l in omega arith) in
     omega arith
 
-pub numbers_more : (f : ℕ → ℕ) (xs ys : List ℕ) (y n : ℕ) → ys ≡ xs ++ y ∷ [] → length xs ≡ n → y ≡ f n → ((j : ℕ) → j < n → slice_index xs j ≡ f j)
+pub numbers_more : (f : ℕ → ℕ) (xs ys : List ℕ) (y n : ℕ) → ys ≡ xs ++ y ∷ []
+    → length xs ≡ n → y ≡ f n → ((j : ℕ) → j < n → slice_index xs j ≡ f j)
     → (j : ℕ) → j < n + 1 → slice_index ys j ≡ f j
 numbers_more f xs ys y n pushed long is each j below =
     ap (λ zs. slice_index zs j) pushed
@@ -81,25 +97,32 @@ numbers_more f xs ys y n pushed long is each j below =
 
 -- ---- counts of no topplings, and of one more drop
 
-pub counts_no_site : (g : Grid) (c : ℕ → Count) → ((m p : ℕ) → p < 64 → counted (c m) p ≡ 0) → (m p : ℕ) → p < 64 → counted (c m) p ≡ on_tiles g (counted_on g c) m p
+pub counts_no_site : (g : Grid) (c : ℕ → Count) → ((m p : ℕ) → p < 64 → counted (c m) p ≡ 0) → (m p : ℕ) → p < 64
+    → counted (c m) p ≡ on_tiles g (counted_on g c) m p
 counts_no_site g c none m p low =
     let z = none m p low in
-    let b = on_below g (counted_on g c) m p 0 low (λ j l. let e = none (tile_of g j) (place_of g j) (place_below g j) in omega arith) in
+    let b = on_below g (counted_on g c) m p 0 low
+    (λ j l. let e = none (tile_of g j) (place_of g j) (place_below g j) in omega arith) in
     omega arith
 
-pub counts_sites : (g : Grid) (c d : ℕ → Count) → ((m p : ℕ) → p < 64 → counted (c m) p ≡ on_tiles g (counted_on g c) m p)
+pub counts_sites : (g : Grid) (c d : ℕ → Count)
+    → ((m p : ℕ) → p < 64 → counted (c m) p ≡ on_tiles g (counted_on g c) m p)
     → ((m p : ℕ) → p < 64 → counted (d m) p ≡ counted (c m) p + on_tiles g (grown_on g c d) m p)
     → (m p : ℕ) → p < 64 → counted (d m) p ≡ on_tiles g (counted_on g d) m p
 counts_sites g c d before grown m p low =
     let a = before m p low in
     let b = grown m p low in
-    let s = on_sum g (counted_on g c) (grown_on g c d) (counted_on g d) m p low (λ j l. let e = grown (tile_of g j) (place_of g j) (place_below g j) in omega arith) in
+    let s = on_sum g (counted_on g c) (grown_on g c d) (counted_on g d) m p low
+    (λ j l. let e = grown (tile_of g j) (place_of g j) (place_below g j) in omega arith) in
     omega arith
 
-pub count_rises : (g : Grid) (c d : ℕ → Count) → ((m p : ℕ) → p < 64 → counted (d m) p ≡ counted (c m) p + on_tiles g (grown_on g c d) m p) → (j : ℕ) → counted_on g c j ≤ counted_on g d j
+pub count_rises : (g : Grid) (c d : ℕ → Count)
+    → ((m p : ℕ) → p < 64 → counted (d m) p ≡ counted (c m) p + on_tiles g (grown_on g c d) m p)
+    → (j : ℕ) → counted_on g c j ≤ counted_on g d j
 count_rises g c d grown j = let e = grown (tile_of g j) (place_of g j) (place_below g j) in omega arith
 
-pub few_at_sites : (g : Grid) (c : ℕ → Count) (most : ℕ) → ((m p : ℕ) → p < 64 → counted (c m) p ≡ on_tiles g (counted_on g c) m p)
+pub few_at_sites : (g : Grid) (c : ℕ → Count) (most : ℕ)
+    → ((m p : ℕ) → p < 64 → counted (c m) p ≡ on_tiles g (counted_on g c) m p)
     → ((j : ℕ) → j < sites g → counted_on g c j ≤ most) → (m p : ℕ) → p < 64 → counted (c m) p ≤ most
 few_at_sites g c most counts few m p low =
     let e = counts m p low in
@@ -120,15 +143,21 @@ pub by_site_past : (g : Grid) (f : ℕ → ℕ) (j : ℕ) → sites g ≤ j → 
 by_site_past g f j past = get_or-eq_default (by_site g f) 0 {n = j} (let e = by_site_long g f in omega arith)
 
 pub by_site_view : (g : Grid) (ts : List Tile) (cs : List Count) → IsTiledView (tiled_view g ts cs)
-by_site_view g ts cs = record { heights_each = by_site_long g (heights_on g (tile_at ts)); times_each = by_site_long g (counted_on g (count_at cs)) }
+by_site_view g ts cs = record {
+  heights_each = by_site_long g (heights_on g (tile_at ts));
+  times_each = by_site_long g (counted_on g (count_at cs));
+}
 
-pub by_site_le : (g : Grid) (u v : ℕ → ℕ) (j : ℕ) → (j < sites g → u j ≤ v j) → slice_index (by_site g u) j ≤ slice_index (by_site g v) j
+pub by_site_le : (g : Grid) (u v : ℕ → ℕ) (j : ℕ) → (j < sites g → u j ≤ v j)
+    → slice_index (by_site g u) j ≤ slice_index (by_site g v) j
 by_site_le g u v j le = ⊎_elim
-    (λ (less : j < sites g). let a = by_site_at g u j less in let b = by_site_at g v j less in let c = le less in omega arith)
+    (λ (less : j < sites g).
+    let a = by_site_at g u j less in let b = by_site_at g v j less in let c = le less in omega arith)
     (λ (past : sites g ≤ j). let a = by_site_past g u j past in omega arith)
     (cases_lt j (sites g))
 
-pub by_site_none : (g : Grid) (f : ℕ → ℕ) → ((j : ℕ) → j < sites g → f j ≡ 0) → (j : ℕ) → slice_index (by_site g f) j ≡ 0
+pub by_site_none : (g : Grid) (f : ℕ → ℕ) → ((j : ℕ) → j < sites g → f j ≡ 0) → (j : ℕ)
+    → slice_index (by_site g f) j ≡ 0
 by_site_none g f none j = ⊎_elim
     (λ (less : j < sites g). by_site_at g f j less ∙ none j less)
     (λ (past : sites g ≤ j). by_site_past g f j past)

@@ -15,7 +15,8 @@ unfolding place_of
 place_below g j = omega arith
 
 -- from a site to its tile and place, and back
-pub back_again : (g : Grid) (j : ℕ) → j < sites g → (is_site g (tile_of g j) (place_of g j) ≡ true) × (site_on g (tile_of g j) (place_of g j) ≡ j)
+pub back_again : (g : Grid) (j : ℕ) → j < sites g
+    → (is_site g (tile_of g j) (place_of g j) ≡ true) × (site_on g (tile_of g j) (place_of g j) ≡ j)
 unfolding tile_of place_of is_site site_on
 back_again g j inside =
     let w = g.width in
@@ -32,7 +33,8 @@ back_again g j inside =
     let row_is : row_at g k p ≡ y = omega arith in
     let column_is : column_at g k p ≡ x = omega arith in
     let high : y < g.height = row_in w g.height j pos inside in (
-      and_from _ _ (and_from _ _ (le-leb 2 (k / pitch g) (omega arith)) (le-leb 1 (k % pitch g) (omega arith))) (and_from _ _ (lt-ltb (row_at g k p) g.height (omega arith)) (lt-ltb (column_at g k p) w (omega arith))),
+      and_from _ _ (and_from _ _ (le-leb 2 (k / pitch g) (omega arith)) (le-leb 1 (k % pitch g) (omega arith)))
+          (and_from _ _ (lt-ltb (row_at g k p) g.height (omega arith)) (lt-ltb (column_at g k p) w (omega arith))),
       ap (λ t. t * w + column_at g k p) row_is ∙ omega arith,
     )
 
@@ -56,7 +58,8 @@ there_again g k p low is =
     let r8 : r / 8 + 2 ≡ k / pitch g = omega arith in
     let c8 : c / 8 + 1 ≡ k % pitch g = omega arith in (
       mul-add-lt r w c g.height high wide,
-      ap (λ t. (t / 8 + 2) * pitch g + ((r * w + c) % w / 8 + 1)) rd ∙ ap (λ t. (r / 8 + 2) * pitch g + (t / 8 + 1)) cd ∙ ap (λ t. t * pitch g + (c / 8 + 1)) r8 ∙ omega arith,
+      ap (λ t. (t / 8 + 2) * pitch g + ((r * w + c) % w / 8 + 1)) rd
+          ∙ ap (λ t. (r / 8 + 2) * pitch g + (t / 8 + 1)) cd ∙ ap (λ t. t * pitch g + (c / 8 + 1)) r8 ∙ omega arith,
       ap (λ t. t % 8 * 8 + (r * w + c) % w % 8) rd ∙ ap (λ t. r % 8 * 8 + t % 8) cd ∙ omega arith,
     )
 
@@ -74,7 +77,8 @@ pub on_tiles_blank : (g : Grid) (v : ℕ → ℕ) → IsBlank g (on_tiles g v)
 unfolding is_site
 on_tiles_blank g v = record {
   above = λ c p less. let d : (1 * pitch g + c) / pitch g ≡ 1 = div-mul-add 1 (pitch g) c less in
-      no_site g v (1 * pitch g + c) p (and_left _ _ (and_left _ _ (lt-leb 2 ((1 * pitch g + c) / pitch g) (omega arith))));
+      no_site g v (1 * pitch g + c) p
+      (and_left _ _ (and_left _ _ (lt-leb 2 ((1 * pitch g + c) / pitch g) (omega arith))));
   below = λ q c y x less ly lx out.
       let k = (q + 2) * pitch g + c in
       let d : k / pitch g ≡ q + 2 = div-mul-add (q + 2) (pitch g) c less in
@@ -87,14 +91,17 @@ on_tiles_blank g v = record {
   beyond = λ q c y x less ly lx out.
       let k = (q + 2) * pitch g + (c + 1) in
       let m : k % pitch g ≡ c + 1 = mod-mul-add (q + 2) (pitch g) (c + 1) less in
-      no_site g v k (y * 8 + x) (and_right _ _ (and_right _ _ (le-ltb (column_at g k (y * 8 + x)) g.width (omega arith))));
+      no_site g v k (y * 8 + x)
+      (and_right _ _ (and_right _ _ (le-ltb (column_at g k (y * 8 + x)) g.width (omega arith))));
 }
 
-by_site : (g : Grid) (u : ℕ → ℕ → ℕ) (j k p : ℕ) → tile_of g j ≡ k → place_of g j ≡ p → u (tile_of g j) (place_of g j) ≡ u k p
+by_site : (g : Grid) (u : ℕ → ℕ → ℕ) (j k p : ℕ) → tile_of g j ≡ k → place_of g j ≡ p
+    → u (tile_of g j) (place_of g j) ≡ u k p
 by_site g u j k p a b = ap (λ m. u m (place_of g j)) a ∙ ap (u k) b
 
 -- a bound at each site holds at each place
-pub on_tiles_le : (g : Grid) (v w : ℕ → ℕ) (k p : ℕ) → p < 64 → ((j : ℕ) → j < sites g → v j ≤ w j) → on_tiles g v k p ≤ on_tiles g w k p
+pub on_tiles_le : (g : Grid) (v w : ℕ → ℕ) (k p : ℕ) → p < 64 → ((j : ℕ) → j < sites g → v j ≤ w j)
+    → on_tiles g v k p ≤ on_tiles g w k p
 unfolding on_tiles
 on_tiles_le g v w k p low le =
     ⊎_elim
@@ -110,7 +117,8 @@ on_tiles_le g v w k p low le =
     (cases_Bool (is_site g k p))
 
 -- numbers that are 0 at each place that is no site do not change when read by site and back
-pub on_tiles_is : (g : Grid) (u : ℕ → ℕ → ℕ) (k p : ℕ) → p < 64 → (is_site g k p ≡ false → u k p ≡ 0) → u k p ≡ on_tiles g (at_site g u) k p
+pub on_tiles_is : (g : Grid) (u : ℕ → ℕ → ℕ) (k p : ℕ) → p < 64 → (is_site g k p ≡ false → u k p ≡ 0)
+    → u k p ≡ on_tiles g (at_site g u) k p
 unfolding on_tiles
 on_tiles_is g u k p low none =
     ⊎_elim
@@ -134,4 +142,7 @@ off_site g v k p e = no_site g v k p e
 
 pub on_nothing : (g : Grid) (k p : ℕ) → on_tiles g (λ j. 0) k p ≡ 0
 unfolding on_tiles
-on_nothing g k p = ⊎_elim (λ (is : is_site g k p ≡ true). ap (λ b. cond b 0 0) is) (λ (no : is_site g k p ≡ false). ap (λ b. cond b 0 0) no) (cases_Bool (is_site g k p))
+on_nothing g k p = ⊎_elim
+    (λ (is : is_site g k p ≡ true). ap (λ b. cond b 0 0) is)
+    (λ (no : is_site g k p ≡ false). ap (λ b. cond b 0 0) no)
+    (cases_Bool (is_site g k p))

@@ -27,11 +27,14 @@ at_most_one_at : (k j : ℕ) → one_at k j ≤ 1
 at_most_one_at k j = at_most_one (eqb k j)
 
 -- sites of one tile are equal if their places are
-same_site : (g : Grid) (i j : ℕ) → i < sites g → j < sites g → tile_of g j ≡ tile_of g i → one_at (place_of g i) (place_of g j) ≡ one_at i j
+same_site : (g : Grid) (i j : ℕ) → i < sites g → j < sites g → tile_of g j ≡ tile_of g i
+    → one_at (place_of g i) (place_of g j) ≡ one_at i j
 same_site g i j li lj tile = ⊎_elim
-    (λ (e : i ≡ j). ap (one_at (place_of g i)) (ap (place_of g) (sym e)) ∙ one_at_same (place_of g i) ∙ sym (ap (one_at i) (sym e) ∙ one_at_same i))
+    (λ (e : i ≡ j). ap (one_at (place_of g i)) (ap (place_of g) (sym e))
+    ∙ one_at_same (place_of g i) ∙ sym (ap (one_at i) (sym e) ∙ one_at_same i))
     (λ (ne : i ≡ j → ⊥).
-    one_at_other (place_of g i) (place_of g j) (λ place. ne (sym (back_again g i li).1 ∙ ap (λ k. site_on g k (place_of g i)) (sym tile) ∙ ap (site_on g (tile_of g j)) place ∙ (back_again g j lj).1))
+    one_at_other (place_of g i) (place_of g j) (λ place. ne (sym (back_again g i li).1
+    ∙ ap (λ k. site_on g k (place_of g i)) (sym tile) ∙ ap (site_on g (tile_of g j)) place ∙ (back_again g j lj).1))
     ∙ sym (one_at_other i j ne))
     (cases_eq i j)
 
@@ -44,7 +47,8 @@ pub record GetsGrain (g : Grid) (site : ℕ) (ts : List Tile) (here grain : ℕ)
   pub receives : Receives (tile_at ts here) t grain
   pub quiet : AreQuiet g (tile_at ts)
 
-site_had : (g : Grid) (site : ℕ) (ts : List Tile) (here grain : ℕ) (t : Tile) (j : ℕ) → GetsGrain g site ts here grain t → j < sites g
+site_had : (g : Grid) (site : ℕ) (ts : List Tile) (here grain : ℕ) (t : Tile) (j : ℕ)
+    → GetsGrain g site ts here grain t → j < sites g
     → had (tile_at (set ts here t) (tile_of g j)) (place_of g j) ≡ heights_on g (tile_at ts) j + one_at site j
 site_had g site ts here grain t j gets l =
     let p = place_of g j in
@@ -68,15 +72,20 @@ site_had g site ts here grain t j gets l =
     omega arith)
     (cases_eq (tile_of g j) here)
 
-still_clear : (g : Grid) (site : ℕ) (ts : List Tile) (here grain : ℕ) (t : Tile) → GetsGrain g site ts here grain t → (m : ℕ) → IsClear (tile_at (set ts here t) m)
+still_clear : (g : Grid) (site : ℕ) (ts : List Tile) (here grain : ℕ) (t : Tile)
+    → GetsGrain g site ts here grain t → (m : ℕ)
+    → IsClear (tile_at (set ts here t) m)
 still_clear g site ts here grain t gets m p low = ⊎_elim
-    (λ (e : m ≡ here). ap (λ (x : Tile). bit x.wave p) (tile_set_same ts here m t gets.inside e) ∙ ap (λ x. bit x p) gets.receives.wave ∙ gets.quiet.clear here p low)
+    (λ (e : m ≡ here). ap (λ (x : Tile). bit x.wave p) (tile_set_same ts here m t gets.inside e)
+    ∙ ap (λ x. bit x p) gets.receives.wave ∙ gets.quiet.clear here p low)
     (λ (ne : m ≡ here → ⊥). ap (λ (x : Tile). bit x.wave p) (tile_set_other ts here m t ne) ∙ gets.quiet.clear m p low)
     (cases_eq m here)
 
 -- no other site is due
-others_rest : (g : Grid) (site : ℕ) (ts : List Tile) (here grain : ℕ) (t : Tile) (j : ℕ) → GetsGrain g site ts here grain t → j < sites g → j ≢ site
-    → (bit (tile_at (set ts here t) (tile_of g j)).due (place_of g j) ≡ 0) × (heights_on g (tile_at (set ts here t)) j ≡ heights_on g (tile_at ts) j + one_at site j)
+others_rest : (g : Grid) (site : ℕ) (ts : List Tile) (here grain : ℕ) (t : Tile) (j : ℕ)
+    → GetsGrain g site ts here grain t → j < sites g → j ≢ site
+    → (bit (tile_at (set ts here t) (tile_of g j)).due (place_of g j) ≡ 0)
+    × (heights_on g (tile_at (set ts here t)) j ≡ heights_on g (tile_at ts) j + one_at site j)
 others_rest g site ts here grain t j gets l ne =
     let h = site_had g site ts here grain t j gets l in
     let c = still_clear g site ts here grain t gets (tile_of g j) (place_of g j) (place_below g j) in
@@ -87,9 +96,11 @@ others_rest g site ts here grain t j gets l ne =
 
 -- ---- if the site is not due, the pile is settled
 
-pub calm_rest : (g : Grid) (site : ℕ) (ts : List Tile) (here grain : ℕ) (t : Tile) (j : ℕ) → GetsGrain g site ts here grain t
+pub calm_rest : (g : Grid) (site : ℕ) (ts : List Tile) (here grain : ℕ) (t : Tile) (j : ℕ)
+    → GetsGrain g site ts here grain t
     → bit (tile_at (set ts here t) (tile_of g site)).due (place_of g site) ≡ 0 → j < sites g
-    → (bit (tile_at (set ts here t) (tile_of g j)).due (place_of g j) ≡ 0) × (heights_on g (tile_at (set ts here t)) j ≡ heights_on g (tile_at ts) j + one_at site j)
+    → (bit (tile_at (set ts here t) (tile_of g j)).due (place_of g j) ≡ 0)
+    × (heights_on g (tile_at (set ts here t)) j ≡ heights_on g (tile_at ts) j + one_at site j)
 calm_rest g site ts here grain t j gets calm l = ⊎_elim
     (λ (e : j ≡ site).
     let due = ap (λ i. bit (tile_at (set ts here t) (tile_of g i)).due (place_of g i)) e ∙ calm in
@@ -106,13 +117,17 @@ calm_quiet g site ts here grain t gets calm = record {
   none_due = λ j l. (calm_rest g site ts here grain t j gets calm l).0;
 }
 
-pub calm_settled : (g : Grid) (site : ℕ) (ts : List Tile) (here grain : ℕ) (t : Tile) (c : ℕ → Count) → GetsGrain g site ts here grain t
+pub calm_settled : (g : Grid) (site : ℕ) (ts : List Tile) (here grain : ℕ) (t : Tile) (c : ℕ → Count)
+    → GetsGrain g site ts here grain t
     → bit (tile_at (set ts here t) (tile_of g site)).due (place_of g site) ≡ 0
-    → IsSettled g (λ j. heights_on g (tile_at ts) j + one_at site j) (grown_on g c c) (heights_on g (tile_at (set ts here t)))
+    → IsSettled g (λ j. heights_on g (tile_at ts) j + one_at site j)
+    (grown_on g c c) (heights_on g (tile_at (set ts here t)))
 calm_settled g site ts here grain t c gets calm =
     let s : ℕ → ℕ = λ j. heights_on g (tile_at ts) j + one_at site j in
-    let same : (j : ℕ) → j < sites g → s j ≡ heights_on g (tile_at (set ts here t)) j = λ j l. sym (calm_rest g site ts here grain t j gets calm l).1 in
-    settled_same g s s (grown_on g c c) (grown_on g c c) s (heights_on g (tile_at (set ts here t))) (λ i l. refl) (λ i l. refl) same
+    let same : (j : ℕ) → j < sites g → s j ≡ heights_on g (tile_at (set ts here t)) j =
+    λ j l. sym (calm_rest g site ts here grain t j gets calm l).1 in
+    settled_same g s s (grown_on g c c) (grown_on g c c) s
+    (heights_on g (tile_at (set ts here t))) (λ i l. refl) (λ i l. refl) same
     (underway_end g s (grown_on g c c) s (underway_start g s (grown_on g c c) (λ i l. omega arith))
     (λ j l.
     let e = same j l in
@@ -123,7 +138,8 @@ calm_settled g site ts here grain t c gets calm =
 -- ---- if the site is due, it has 4
 
 pub due_rest : (g : Grid) (site : ℕ) (ts : List Tile) (here grain : ℕ) (t : Tile) → GetsGrain g site ts here grain t
-    → bit (tile_at (set ts here t) (tile_of g site)).due (place_of g site) ≡ 1 → AreAtRest g site (tile_at (set ts here t))
+    → bit (tile_at (set ts here t) (tile_of g site)).due (place_of g site) ≡ 1
+    → AreAtRest g site (tile_at (set ts here t))
 due_rest g site ts here grain t gets due = record {
   clear = λ m p low. still_clear g site ts here grain t gets m p low;
   none_due = λ j l ne. (others_rest g site ts here grain t j gets l ne).0;
@@ -135,7 +151,8 @@ due_rest g site ts here grain t gets due = record {
       omega arith;
 }
 
-pub due_heights : (g : Grid) (site : ℕ) (ts : List Tile) (here grain : ℕ) (t : Tile) (j : ℕ) → GetsGrain g site ts here grain t
+pub due_heights : (g : Grid) (site : ℕ) (ts : List Tile) (here grain : ℕ) (t : Tile) (j : ℕ)
+    → GetsGrain g site ts here grain t
     → bit (tile_at (set ts here t) (tile_of g site)).due (place_of g site) ≡ 1 → j < sites g
     → heights_before g site (tile_at (set ts here t)) j ≡ heights_on g (tile_at ts) j + one_at site j
 due_heights g site ts here grain t j gets due l = ⊎_elim
@@ -147,20 +164,28 @@ due_heights g site ts here grain t j gets due l = ⊎_elim
     let a = bit_le (tile_at ts (tile_of g j)).low (place_of g j) in
     let b = bit_le (tile_at ts (tile_of g j)).high (place_of g j) in
     omega arith)
-    (λ (ne : j ≡ site → ⊥). let r = (others_rest g site ts here grain t j gets l ne).1 in let z = one_at_other site j (λ e. ne (sym e)) in omega arith)
+    (λ (ne : j ≡ site → ⊥).
+    let r = (others_rest g site ts here grain t j gets l ne).1 in
+    let z = one_at_other site j (λ e. ne (sym e)) in
+    omega arith)
     (cases_eq j site)
 
 -- ---- the word of the site's tile, without the site and with it
 
-pub taken_out : (g : Grid) (site here grain : ℕ) (free : List ℕ) → site < sites g → here ≡ tile_of g site → here < length free → ((p : ℕ) → p < 64 → bit grain p ≡ one_at (place_of g site) p)
-    → AreAllOpen g (slice_index free) → AreOpen g site (slice_index (set free here (bit_xor (get_or free here 0) grain)))
+pub taken_out : (g : Grid) (site here grain : ℕ) (free : List ℕ)
+    → site < sites g → here ≡ tile_of g site → here < length free
+    → ((p : ℕ) → p < 64 → bit grain p ≡ one_at (place_of g site) p)
+    → AreAllOpen g (slice_index free)
+    → AreOpen g site (slice_index (set free here (bit_xor (get_or free here 0) grain)))
 taken_out g site here grain free inside is within one all k p low =
-    let put = put_site g (λ j. 1 - one_at site j) (λ j. 1) site 1 k p low inside (λ j l. let f = at_most_one_at site j in omega arith) in
+    let put = put_site g (λ j. 1 - one_at site j) (λ j. 1) site 1 k p
+    low inside (λ j l. let f = at_most_one_at site j in omega arith) in
     let a = all k p low in
     let few = bit_le (get_or free k 0) p in
     ⊎_elim
     (λ (e : k ≡ here).
-    let now = ap (λ x. bit x p) (ap (λ i. get_or (set free here (bit_xor (get_or free here 0) grain)) i 0) e ∙ get_or-set_same free here (bit_xor (get_or free here 0) grain) 0 within) in
+    let now = ap (λ x. bit x p) (ap (λ i. get_or (set free here (bit_xor (get_or free here 0) grain)) i 0) e
+    ∙ get_or-set_same free here (bit_xor (get_or free here 0) grain) 0 within) in
     let was = ap (λ i. bit (get_or free i 0) p) e in
     let h = half (get_or free here 0) grain p in
     let b = both_le (get_or free here 0) grain p in
@@ -174,19 +199,26 @@ taken_out g site here grain free inside is within one all k p low =
     omega arith)
     (cases_eq k here)
 
-pub put_back : (g : Grid) (here x : ℕ) (free : List ℕ) → here < length free → AreAllOpen g (slice_index free) → AreAllOpen g (slice_index (set (set free here x) here (get_or free here 0)))
+pub put_back : (g : Grid) (here x : ℕ) (free : List ℕ) → here < length free → AreAllOpen g (slice_index free)
+    → AreAllOpen g (slice_index (set (set free here x) here (get_or free here 0)))
 put_back g here x free within all k p low = ⊎_elim
     (λ (e : k ≡ here).
-    ap (λ y. bit y p) (ap (λ i. get_or (set (set free here x) here (get_or free here 0)) i 0) e ∙ get_or-set_same (set free here x) here (get_or free here 0) 0 (let long = length-set free here x in omega arith))
+    ap (λ y. bit y p) (ap (λ i. get_or (set (set free here x) here (get_or free here 0)) i 0) e
+    ∙ get_or-set_same (set free here x) here (get_or free here 0) 0 (let long = length-set free here x in omega arith))
     ∙ sym (ap (λ i. bit (get_or free i 0) p) e) ∙ all k p low)
     (λ (ne : k ≡ here → ⊥).
-    ap (λ y. bit y p) (get_or-set_other (set free here x) here k (get_or free here 0) 0 ne ∙ get_or-set_other free here k x 0 ne) ∙ all k p low)
+    ap (λ y. bit y p) (get_or-set_other (set free here x) here k (get_or free here 0) 0 ne
+    ∙ get_or-set_other free here k x 0 ne)
+    ∙ all k p low)
     (cases_eq k here)
 
 -- ---- what the code knows
 
-pub gets_grain : (g : Grid) (site : ℕ) (ts : List Tile) (here place grain : ℕ) (t : Tile) → site < sites g → here ≡ tile_of g site → place ≡ place_of g site → length ts ≡ tiles g → here < tiles g
-    → ((p : ℕ) → p < 64 → bit grain p ≡ one_at place p) → Receives (tile_at ts here) t grain → AreQuiet g (tile_at ts) → GetsGrain g site ts here grain t
+pub gets_grain : (g : Grid) (site : ℕ) (ts : List Tile) (here place grain : ℕ) (t : Tile)
+    → site < sites g → here ≡ tile_of g site
+    → place ≡ place_of g site → length ts ≡ tiles g → here < tiles g
+    → ((p : ℕ) → p < 64 → bit grain p ≡ one_at place p) → Receives (tile_at ts here) t grain → AreQuiet g (tile_at ts)
+    → GetsGrain g site ts here grain t
 gets_grain g site ts here place grain t inside is at each within one receives quiet = record {
   site_inside = inside;
   is = is;
@@ -196,14 +228,20 @@ gets_grain g site ts here place grain t inside is at each within one receives qu
   quiet = quiet;
 }
 
-read_due : (g : Grid) (site : ℕ) (τ : ℕ → Tile) (here place : ℕ) → here ≡ tile_of g site → place ≡ place_of g site → bit (τ (tile_of g site)).due (place_of g site) ≡ bit (τ here).due place
+read_due : (g : Grid) (site : ℕ) (τ : ℕ → Tile) (here place : ℕ) → here ≡ tile_of g site → place ≡ place_of g site
+    → bit (τ (tile_of g site)).due (place_of g site) ≡ bit (τ here).due place
 read_due g site τ here place is at = sym (ap (λ m. bit (τ m).due place) is ∙ ap (bit (τ (tile_of g site)).due) at)
 
-pub is_due_there : (g : Grid) (site : ℕ) (τ : ℕ → Tile) (here place : ℕ) (due : Bool) → here ≡ tile_of g site → place ≡ place_of g site → due ≡ eqb (bit (τ here).due place) 1 → due ≡ true
+pub is_due_there : (g : Grid) (site : ℕ) (τ : ℕ → Tile) (here place : ℕ) (due : Bool)
+    → here ≡ tile_of g site → place ≡ place_of g site
+    → due ≡ eqb (bit (τ here).due place) 1 → due ≡ true
     → bit (τ (tile_of g site)).due (place_of g site) ≡ 1
-is_due_there g site τ here place due is at read so = read_due g site τ here place is at ∙ eqb-true (bit (τ here).due place) 1 (sym read ∙ so)
+is_due_there g site τ here place due is at read so =
+    read_due g site τ here place is at ∙ eqb-true (bit (τ here).due place) 1 (sym read ∙ so)
 
-pub is_not_due_there : (g : Grid) (site : ℕ) (τ : ℕ → Tile) (here place : ℕ) (due : Bool) → here ≡ tile_of g site → place ≡ place_of g site → due ≡ eqb (bit (τ here).due place) 1 → due ≡ false
+pub is_not_due_there : (g : Grid) (site : ℕ) (τ : ℕ → Tile) (here place : ℕ) (due : Bool)
+    → here ≡ tile_of g site → place ≡ place_of g site
+    → due ≡ eqb (bit (τ here).due place) 1 → due ≡ false
     → bit (τ (tile_of g site)).due (place_of g site) ≡ 0
 is_not_due_there g site τ here place due is at read so =
     let same = read_due g site τ here place is at in

@@ -18,7 +18,8 @@ use Rattle.sand_fronts.proofs.OnTiles.{there_again, back_again, on_site, off_sit
 use Rattle.sand_fronts.proofs.Waves.{only_same, only_other}
 use Rattle.sand_fronts.proofs.Gained.{tile_set_same, tile_set_other}
 
-pub elsewhere : (g : Grid) (s m p : ℕ) (x : ℕ) → s < sites g → ((tile_of g s ≡ m) → (place_of g s ≡ p) → ⊥) → only (tile_of g s) (λ q. x * one_at (place_of g s) q) m p ≡ 0
+pub elsewhere : (g : Grid) (s m p : ℕ) (x : ℕ) → s < sites g → ((tile_of g s ≡ m) → (place_of g s ≡ p) → ⊥)
+    → only (tile_of g s) (λ q. x * one_at (place_of g s) q) m p ≡ 0
 elsewhere g s m p x inside apart = ⊎_elim
     (λ (tile : m ≡ tile_of g s).
     only_same (tile_of g s) m (λ q. x * one_at (place_of g s) q) p tile
@@ -26,7 +27,8 @@ elsewhere g s m p x inside apart = ⊎_elim
     (λ (other : m ≡ tile_of g s → ⊥). only_other (tile_of g s) m (λ q. x * one_at (place_of g s) q) p other)
     (cases_eq m (tile_of g s))
 
-pub put_site : (g : Grid) (f h : ℕ → ℕ) (s x m p : ℕ) → p < 64 → s < sites g → ((j : ℕ) → j < sites g → h j ≡ f j + x * one_at s j)
+pub put_site : (g : Grid) (f h : ℕ → ℕ) (s x m p : ℕ) → p < 64
+    → s < sites g → ((j : ℕ) → j < sites g → h j ≡ f j + x * one_at s j)
     → on_tiles g h m p ≡ on_tiles g f m p + only (tile_of g s) (λ q. x * one_at (place_of g s) q) m p
 put_site g f h s x m p low inside more = ⊎_elim
     (λ (yes : is_site g m p ≡ true).
@@ -46,13 +48,17 @@ put_site g f h s x m p low inside more = ⊎_elim
     omega arith)
     (λ (ne : s ≡ j → ⊥).
     let z : x * one_at s j ≡ 0 = ap (λ y. x * y) (one_at_other s j ne) ∙ omega arith in
-    let none = elsewhere g s m p x inside (λ tile place. ne (sym ((back_again g s inside).1) ∙ ap (λ i. site_on g i (place_of g s)) tile ∙ ap (site_on g m) place)) in
+    let none = elsewhere g s m p x inside
+    (λ tile place.
+    ne (sym ((back_again g s inside).1) ∙ ap (λ i. site_on g i (place_of g s)) tile ∙ ap (site_on g m) place)) in
     omega arith)
     (cases_eq s j))
     (λ (no : is_site g m p ≡ false).
     let a = off_site g h m p no in
     let b = off_site g f m p no in
-    let none = elsewhere g s m p x inside (λ tile place. false≢true (sym no ∙ sym (ap (λ i. is_site g i (place_of g s)) tile ∙ ap (is_site g m) place) ∙ (back_again g s inside).0)) in
+    let none = elsewhere g s m p x inside
+    (λ tile place. false≢true (sym no
+    ∙ sym (ap (λ i. is_site g i (place_of g s)) tile ∙ ap (is_site g m) place) ∙ (back_again g s inside).0)) in
     omega arith)
     (cases_Bool (is_site g m p))
 
@@ -84,24 +90,30 @@ next_site h n j = ⊎_elim
     (cases_lt j n)
 
 pub fill_site : (g : Grid) (h : ℕ → ℕ) (n m p : ℕ) → p < 64 → n < sites g
-    → on_tiles g (up_to h (n + 1)) m p ≡ on_tiles g (up_to h n) m p + only (tile_of g n) (λ q. h n * one_at (place_of g n) q) m p
-fill_site g h n m p low inside = put_site g (up_to h n) (up_to h (n + 1)) n (h n) m p low inside (λ j l. next_site h n j)
+    → on_tiles g (up_to h (n + 1)) m p
+    ≡ on_tiles g (up_to h n) m p + only (tile_of g n) (λ q. h n * one_at (place_of g n) q) m p
+fill_site g h n m p low inside =
+    put_site g (up_to h n) (up_to h (n + 1)) n (h n) m p low inside (λ j l. next_site h n j)
 
 pub none_filled : (g : Grid) (h : ℕ → ℕ) (m p : ℕ) → p < 64 → on_tiles g (up_to h 0) m p ≡ 0
 none_filled g h m p low =
-    let le = on_tiles_le g (up_to h 0) (λ j. 0) m p low (λ j l. let e = ap (λ b. one_if b * h j) (le-ltb j 0 (omega arith)) in omega arith) in
+    let le = on_tiles_le g (up_to h 0) (λ j. 0) m p low
+    (λ j l. let e = ap (λ b. one_if b * h j) (le-ltb j 0 (omega arith)) in omega arith) in
     let n = on_nothing g m p in
     omega arith
 
-pub all_filled : (g : Grid) (h : ℕ → ℕ) (n m p : ℕ) → n ≡ sites g → p < 64 → on_tiles g (up_to h n) m p ≡ on_tiles g h m p
+pub all_filled : (g : Grid) (h : ℕ → ℕ) (n m p : ℕ) → n ≡ sites g → p < 64
+    → on_tiles g (up_to h n) m p ≡ on_tiles g h m p
 all_filled g h n m p all low =
-    let same : (j : ℕ) → j < sites g → up_to h n j ≡ h j = λ j l. ap (λ b. one_if b * h j) (lt-ltb j n (omega arith)) ∙ omega arith in
+    let same : (j : ℕ) → j < sites g → up_to h n j ≡ h j =
+    λ j l. ap (λ b. one_if b * h j) (lt-ltb j n (omega arith)) ∙ omega arith in
     let a = on_tiles_le g (up_to h n) h m p low (λ j l. let e = same j l in omega arith) in
     let b = on_tiles_le g h (up_to h n) m p low (λ j l. let e = same j l in omega arith) in
     omega arith
 
 -- no number so far is above the common limit
-pub few_filled : (g : Grid) (h : ℕ → ℕ) (n m p most : ℕ) → p < 64 → ((j : ℕ) → j < sites g → h j ≤ most) → on_tiles g (up_to h n) m p ≤ most
+pub few_filled : (g : Grid) (h : ℕ → ℕ) (n m p most : ℕ) → p < 64 → ((j : ℕ) → j < sites g → h j ≤ most)
+    → on_tiles g (up_to h n) m p ≤ most
 few_filled g h n m p most low few = ⊎_elim
     (λ (yes : is_site g m p ≡ true).
     let t = there_again g m p low yes in
@@ -116,7 +128,8 @@ few_filled g h n m p most low few = ⊎_elim
 
 -- ---- a list of words, and of tiles, with one more site
 
-pub word_more : (g : Grid) (words : List ℕ) (n k here x : ℕ) → n < sites g → k ≡ tile_of g n → k < length words → x ≡ get_or words k 0
+pub word_more : (g : Grid) (words : List ℕ) (n k here x : ℕ) → n < sites g
+    → k ≡ tile_of g n → k < length words → x ≡ get_or words k 0
     → ((p : ℕ) → p < 64 → bit here p ≡ one_at (place_of g n) p)
     → ((m p : ℕ) → p < 64 → bit (get_or words m 0) p ≡ on_tiles g (up_to (λ j. 1) n) m p)
     → (m p : ℕ) → p < 64 → bit (get_or (set words k (bit_or x here)) m 0) p ≡ on_tiles g (up_to (λ j. 1) (n + 1)) m p
@@ -131,7 +144,8 @@ word_more g words n k here x inside tile within read one each m p low =
     let c = ap (λ i. bit (get_or words i 0) p) e in
     let r = ap (λ w. bit w p) read in
     let both = apart x here p (omega arith) in
-    let w = ap (λ x. bit x p) (ap (λ i. get_or (set words k (bit_or x here)) i 0) e ∙ get_or-set_same words k (bit_or x here) 0 within) in
+    let w = ap (λ x. bit x p) (ap (λ i. get_or (set words k (bit_or x here)) i 0) e
+    ∙ get_or-set_same words k (bit_or x here) 0 within) in
     omega arith)
     (λ (ne : m ≡ k → ⊥).
     let a = only_other (tile_of g n) m (λ q. 1 * one_at (place_of g n) q) p (λ e. ne (e ∙ sym tile)) in
@@ -139,7 +153,8 @@ word_more g words n k here x inside tile within read one each m p low =
     omega arith)
     (cases_eq m k)
 
-pub tile_more : (g : Grid) (h : ℕ → ℕ) (ts : List Tile) (n k here : ℕ) (t : Tile) → n < sites g → k ≡ tile_of g n → k < length ts
+pub tile_more : (g : Grid) (h : ℕ → ℕ) (ts : List Tile) (n k here : ℕ) (t : Tile)
+    → n < sites g → k ≡ tile_of g n → k < length ts
     → ((p : ℕ) → p < 64 → bit here p ≡ one_at (place_of g n) p)
     → ((p : ℕ) → p < 64 → had t p ≡ had (tile_at ts k) p + h n * bit here p)
     → ((m p : ℕ) → p < 64 → had (tile_at ts m) p ≡ on_tiles g (up_to h n) m p)
@@ -161,8 +176,10 @@ tile_more g h ts n k here t inside tile within one more each m p low =
     omega arith)
     (cases_eq m k)
 
-pub tile_room : (g : Grid) (h : ℕ → ℕ) (τ : ℕ → Tile) (n k here p : ℕ) → n < sites g → k ≡ tile_of g n → ((j : ℕ) → j < sites g → h j ≤ 7)
-    → ((q : ℕ) → q < 64 → bit here q ≡ one_at (place_of g n) q) → ((m q : ℕ) → q < 64 → had (τ m) q ≡ on_tiles g (up_to h n) m q)
+pub tile_room : (g : Grid) (h : ℕ → ℕ) (τ : ℕ → Tile) (n k here p : ℕ)
+    → n < sites g → k ≡ tile_of g n → ((j : ℕ) → j < sites g → h j ≤ 7)
+    → ((q : ℕ) → q < 64 → bit here q ≡ one_at (place_of g n) q)
+    → ((m q : ℕ) → q < 64 → had (τ m) q ≡ on_tiles g (up_to h n) m q)
     → p < 64 → had (τ k) p + h n * bit here p ≤ 7
 tile_room g h τ n k here p inside tile few one each low =
     let a = each k p low in
@@ -173,7 +190,8 @@ tile_room g h τ n k here p inside tile few one each low =
     omega arith
 
 -- the set of a site's place, read by site
-pub start_of : (g : Grid) (s here : ℕ) (set' : ℕ) → s < sites g → here ≡ tile_of g s → ((p : ℕ) → p < 64 → bit set' p ≡ one_at (place_of g s) p)
+pub start_of : (g : Grid) (s here : ℕ) (set' : ℕ) → s < sites g → here ≡ tile_of g s
+    → ((p : ℕ) → p < 64 → bit set' p ≡ one_at (place_of g s) p)
     → (p : ℕ) → p < 64 → bit set' p ≡ on_tiles g (λ j. 1 * one_at s j) here p
 start_of g s here set' inside tile one p low =
     let put = put_site g (λ j. 0) (λ j. 1 * one_at s j) s 1 here p low inside (λ j l. omega arith) in
@@ -187,7 +205,8 @@ start_of g s here set' inside tile one p low =
 blank_words : (n k : ℕ) → ◌≡◌ {A = ℕ} (get_or (replicate n 0) k 0) 0
 blank_words n k = ⊎_elim
     (λ (less : k < n). get_or-replicate {A = ℕ} n k 0 0 less)
-    (λ (more : n ≤ k). get_or-eq_default {A = ℕ} (replicate n 0) 0 (let e = length-replicate {A = ℕ} n 0 in omega arith))
+    (λ (more : n ≤ k).
+    get_or-eq_default {A = ℕ} (replicate n 0) 0 (let e = length-replicate {A = ℕ} n 0 in omega arith))
     (cases_lt k n)
 
 abbrev bare : Tile
@@ -196,23 +215,32 @@ bare = record { low = 0; high = 0; due = 0; wave = 0 }
 blank_tiles : (n k : ℕ) → tile_at (replicate n bare) k ≡ bare
 blank_tiles n k = ⊎_elim
     (λ (less : k < n). get_or-replicate {A = Tile} n k bare bare less)
-    (λ (more : n ≤ k). get_or-eq_default {A = Tile} (replicate n bare) bare (let e = length-replicate {A = Tile} n bare in omega arith))
+    (λ (more : n ≤ k).
+    get_or-eq_default {A = Tile} (replicate n bare) bare (let e = length-replicate {A = Tile} n bare in omega arith))
     (cases_lt k n)
 
-pub no_words : (g : Grid) (h : ℕ → ℕ) (words : List ℕ) (n k p : ℕ) → words ≡ replicate n 0 → p < 64 → bit (get_or words k 0) p ≡ on_tiles g (up_to h 0) k p
+pub no_words : (g : Grid) (h : ℕ → ℕ) (words : List ℕ) (n k p : ℕ) → words ≡ replicate n 0 → p < 64
+    → bit (get_or words k 0) p ≡ on_tiles g (up_to h 0) k p
 no_words g h words n k p all low =
-    ap (λ xs. bit (get_or xs k 0) p) all ∙ ap (λ x. bit x p) (blank_words n k) ∙ bit_none p ∙ sym (none_filled g h k p low)
+    ap (λ xs. bit (get_or xs k 0) p) all ∙ ap (λ x. bit x p) (blank_words n k)
+    ∙ bit_none p ∙ sym (none_filled g h k p low)
 
-pub no_grains : (g : Grid) (h : ℕ → ℕ) (ts : List Tile) (n k p : ℕ) → ts ≡ replicate n bare → p < 64 → had (tile_at ts k) p ≡ on_tiles g (up_to h 0) k p
+pub no_grains : (g : Grid) (h : ℕ → ℕ) (ts : List Tile) (n k p : ℕ) → ts ≡ replicate n bare → p < 64
+    → had (tile_at ts k) p ≡ on_tiles g (up_to h 0) k p
 no_grains g h ts n k p all low =
     let z = bit_none p in
-    ap (λ xs. had (tile_at xs k) p) all ∙ ap (λ x. had x p) (blank_tiles n k) ∙ omega arith ∙ sym (none_filled g h k p low)
+    ap (λ xs. had (tile_at xs k) p) all ∙ ap (λ x. had x p) (blank_tiles n k)
+    ∙ omega arith ∙ sym (none_filled g h k p low)
 
 pub bare_clear : (ts : List Tile) (n k p : ℕ) → ts ≡ replicate n bare → bit (tile_at ts k).wave p ≡ 0
-bare_clear ts n k p all = ap (λ xs. bit (tile_at xs k).wave p) all ∙ ap (λ (x : Tile). bit x.wave p) (blank_tiles n k) ∙ bit_none p
+bare_clear ts n k p all =
+    ap (λ xs. bit (tile_at xs k).wave p) all ∙ ap (λ (x : Tile). bit x.wave p) (blank_tiles n k) ∙ bit_none p
 
-pub tile_clear : (ts : List Tile) (k : ℕ) (t : Tile) → k < length ts → t.wave ≡ (tile_at ts k).wave → ((m : ℕ) → IsClear (tile_at ts m)) → (m : ℕ) → IsClear (tile_at (set ts k t) m)
+pub tile_clear : (ts : List Tile) (k : ℕ) (t : Tile) → k < length ts
+    → t.wave ≡ (tile_at ts k).wave → ((m : ℕ) → IsClear (tile_at ts m)) → (m : ℕ)
+    → IsClear (tile_at (set ts k t) m)
 tile_clear ts k t inside same clear m p low = ⊎_elim
-    (λ (e : m ≡ k). ap (λ (x : Tile). bit x.wave p) (tile_set_same ts k m t inside e) ∙ ap (λ x. bit x p) same ∙ clear k p low)
+    (λ (e : m ≡ k).
+    ap (λ (x : Tile). bit x.wave p) (tile_set_same ts k m t inside e) ∙ ap (λ x. bit x p) same ∙ clear k p low)
     (λ (ne : m ≡ k → ⊥). ap (λ (x : Tile). bit x.wave p) (tile_set_other ts k m t ne) ∙ clear m p low)
     (cases_eq m k)

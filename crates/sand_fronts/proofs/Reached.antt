@@ -24,12 +24,14 @@ use Rattle.sand_fronts.proofs.OnTiles.{place_below, back_again, there_again, at_
 columns_within : (x l c : ℕ) → c ≤ 7 → abs_diff x (l + c) ≤ max (abs_diff x l) (abs_diff x (l + 7))
 columns_within x l c few = omega arith
 
-shorter_within : (round : Bool) (a most w : ℕ) → a ≤ most → cond round (min a (w - a)) a ≤ cond round (min most (w / 2)) most
+shorter_within : (round : Bool) (a most w : ℕ) → a ≤ most
+    → cond round (min a (w - a)) a ≤ cond round (min most (w / 2)) most
 shorter_within true a most w le = omega arith
 shorter_within false a most w le = le
 
 pub within_farthest : (g : Grid) (s corner : Spot) (p across near down : ℕ) → p < 64
-    → across ≡ max (abs_diff s.column corner.column) (abs_diff s.column (corner.column + 7)) → down ≡ max (abs_diff s.row corner.row) (abs_diff s.row (corner.row + 7))
+    → across ≡ max (abs_diff s.column corner.column) (abs_diff s.column (corner.column + 7))
+    → down ≡ max (abs_diff s.row corner.row) (abs_diff s.row (corner.row + 7))
     → near ≡ cond (joins g.edge) (min across (g.width / 2)) across → distance_within g s corner p ≤ near + down
 within_farthest g s corner p across near down low wide tall is =
     let a = columns_within s.column corner.column (p % 8) (omega arith) in
@@ -43,7 +45,8 @@ pub lowest : (n : ℕ) → n ≢ 0 → n < 2 ^ 64 → (trailing_zeros w64 n < 64
 unfolding bit
 lowest n some fits = let l = bit_at-trailing_zeros w64 n (omega arith) fits in (l.0, l.1)
 
-pub place_less : (rest place one : ℕ) → place < 64 → bit rest place ≡ 1 → ((p : ℕ) → p < 64 → bit one p ≡ one_at place p)
+pub place_less : (rest place one : ℕ) → place < 64 → bit rest place ≡ 1
+    → ((p : ℕ) → p < 64 → bit one p ≡ one_at place p)
     → (p : ℕ) → p < 64 → bit (bit_xor rest one) p + one_at place p ≡ bit rest p
 place_less rest place one inside is each p low =
     let h = half rest one p in
@@ -51,13 +54,16 @@ place_less rest place one inside is each p low =
     let b0 = b.0 in let b1 = b.1 in let b2 = b.2 in
     let e = each p low in
     ⊎_elim
-    (λ (same : place ≡ p). let o = ap (one_at place) (sym same) ∙ one_at_same place in let r = ap (bit rest) same in omega arith)
+    (λ (same : place ≡ p).
+    let o = ap (one_at place) (sym same) ∙ one_at_same place in let r = ap (bit rest) same in omega arith)
     (λ (ne : place ≡ p → ⊥). let o = one_at_other place p ne in omega arith)
     (cases_eq place p)
 
-pub fewer_left : (rest next place : ℕ) → place < 64 → ((p : ℕ) → p < 64 → bit next p + one_at place p ≡ bit rest p) → sum_below 64 (bit next) < sum_below 64 (bit rest)
+pub fewer_left : (rest next place : ℕ) → place < 64 → ((p : ℕ) → p < 64 → bit next p + one_at place p ≡ bit rest p)
+    → sum_below 64 (bit next) < sum_below 64 (bit rest)
 fewer_left rest next place inside each =
-    let same = sum_below_same 64 (λ p. bit next p + 1 * one_at place p) (bit rest) (λ p low. let e = each p low in omega arith) in
+    let same =
+    sum_below_same 64 (λ p. bit next p + 1 * one_at place p) (bit rest) (λ p low. let e = each p low in omega arith) in
     let both = sum_below-add 64 (bit next) (λ p. 1 * one_at place p) in
     let one = sum_below-one_at 64 place (λ p. 1) inside in
     omega arith
@@ -77,22 +83,32 @@ reads_begin g s corner set reach = record {
   reached = λ more. absurd (omega arith);
 }
 
-pub reads_more : (g : Grid) (s corner : Spot) (set rest next reach far place d now : ℕ) → Reads g s corner set rest reach far → place < 64 → bit rest place ≡ 1
-    → ((p : ℕ) → p < 64 → bit next p + one_at place p ≡ bit rest p) → d ≡ distance_within g s corner place → now ≡ max far d → Reads g s corner set next reach now
+pub reads_more : (g : Grid) (s corner : Spot) (set rest next reach far place d now : ℕ)
+    → Reads g s corner set rest reach far → place < 64 → bit rest place ≡ 1
+    → ((p : ℕ) → p < 64 → bit next p + one_at place p ≡ bit rest p)
+    → d ≡ distance_within g s corner place → now ≡ max far d
+    → Reads g s corner set next reach now
 reads_more g s corner set rest next reach far place d now before inside is each there most = record {
   within_set = λ p low. let a = before.within_set p low in let e = each p low in omega arith;
   grows = let a = before.grows in omega arith;
   done = λ p low has none. ⊎_elim
       (λ (same : place ≡ p). let e = ap (distance_within g s corner) same in omega arith)
-      (λ (ne : place ≡ p → ⊥). let e = each p low in let o = one_at_other place p ne in let a = before.done p low has (omega arith) in omega arith)
+      (λ (ne : place ≡ p → ⊥).
+      let e = each p low in
+      let o = one_at_other place p ne in
+      let a = before.done p low has (omega arith) in
+      omega arith)
       (cases_eq place p);
   reached = λ more. ⊎_elim
-      (λ (farther : far < d). (place, inside, let a = before.within_set place inside in let b = bit_le set place in omega arith, omega arith))
+      (λ (farther : far < d).
+      (place, inside, let a = before.within_set place inside in let b = bit_le set place in omega arith, omega arith))
       (λ (not : d ≤ far). let old = before.reached (omega arith) in (old.0, old.1, old.2, let e = old.3 in omega arith))
       (cases_lt far d);
 }
 
-pub reads_all : (g : Grid) (s corner : Spot) (set rest reach far : ℕ) → Reads g s corner set rest reach far → ((p : ℕ) → bit rest p ≡ 0) → IsReachedFrom g s corner set reach far
+pub reads_all : (g : Grid) (s corner : Spot) (set rest reach far : ℕ)
+    → Reads g s corner set rest reach far → ((p : ℕ) → bit rest p ≡ 0)
+    → IsReachedFrom g s corner set reach far
 reads_all g s corner set rest reach far before none = record {
   grows = before.grows;
   within = λ p low is. before.done p low is (none p);
@@ -111,18 +127,22 @@ nothing_reached g s corner set reach none = record {
 -- the sets before the tile k have been read
 pub record SetsRead (g : Grid) (s : Spot) (words : ℕ → ℕ) (k reach : ℕ) : Type 0 where
   pub within : (m p : ℕ) → m < k → p < 64 → bit (words m) p ≡ 1 → distance_within g s (corner_of g m) p ≤ reach
-  pub reached : 0 < reach → (m : ℕ) × (p : ℕ) × (p < 64) × (bit (words m) p ≡ 1) × (distance_within g s (corner_of g m) p ≡ reach)
+  pub reached : 0 < reach
+      → (m : ℕ) × (p : ℕ) × (p < 64) × (bit (words m) p ≡ 1) × (distance_within g s (corner_of g m) p ≡ reach)
 
 not_in_none : (words : ℕ → ℕ) (m p : ℕ) → words m ≡ 0 → bit (words m) p ≡ 1 → ⊥
 not_in_none words m p none is = let z = ap (λ w. bit w p) none ∙ bit_none p in omega arith
 
-pub sets_begin : (g : Grid) (s : Spot) (words : ℕ → ℕ) (first : ℕ) → ((m : ℕ) → m < first → words m ≡ 0) → SetsRead g s words first 0
+pub sets_begin : (g : Grid) (s : Spot) (words : ℕ → ℕ) (first : ℕ) → ((m : ℕ) → m < first → words m ≡ 0)
+    → SetsRead g s words first 0
 sets_begin g s words first none = record {
   within = λ m p before low is. absurd (not_in_none words m p (none m before) is);
   reached = λ some. absurd (omega arith);
 }
 
-pub sets_more : (g : Grid) (s : Spot) (words : ℕ → ℕ) (k set reach far : ℕ) → SetsRead g s words k reach → IsReachedFrom g s (corner_of g k) set reach far → set ≡ words k → SetsRead g s words (k + 1) far
+pub sets_more : (g : Grid) (s : Spot) (words : ℕ → ℕ) (k set reach far : ℕ)
+    → SetsRead g s words k reach → IsReachedFrom g s (corner_of g k) set reach far
+    → set ≡ words k → SetsRead g s words (k + 1) far
 sets_more g s words k set reach far before one is = record {
   within = λ m p below low has. ⊎_elim
       (λ (earlier : m < k). let a = before.within m p earlier low has in let b = one.grows in omega arith)
@@ -133,12 +153,18 @@ sets_more g s words k set reach far before one is = record {
       let a = one.within p low w in omega arith)
       (cases_lt m k);
   reached = λ some. ⊎_elim
-      (λ (farther : reach < far). let now = one.reached farther in (k, now.0, now.1, ap (λ x. bit x now.0) (sym is) ∙ now.2, now.3))
-      (λ (not : far ≤ reach). let g' = one.grows in let old = before.reached (omega arith) in (old.0, old.1, old.2, old.3, let e = old.4 in omega arith))
+      (λ (farther : reach < far).
+      let now = one.reached farther in (k, now.0, now.1, ap (λ x. bit x now.0) (sym is) ∙ now.2, now.3))
+      (λ (not : far ≤ reach).
+      let g' = one.grows in
+      let old = before.reached (omega arith) in
+      (old.0, old.1, old.2, old.3, let e = old.4 in omega arith))
       (cases_lt reach far);
 }
 
-pub sets_all : (g : Grid) (s : Spot) (words : ℕ → ℕ) (k reach : ℕ) → SetsRead g s words k reach → ((m : ℕ) → k ≤ m → words m ≡ 0) → IsReachedIn g s words reach
+pub sets_all : (g : Grid) (s : Spot) (words : ℕ → ℕ) (k reach : ℕ)
+    → SetsRead g s words k reach → ((m : ℕ) → k ≤ m → words m ≡ 0)
+    → IsReachedIn g s words reach
 sets_all g s words k reach before none = record {
   within = λ m p low is. ⊎_elim
       (λ (earlier : m < k). before.within m p earlier low is)
@@ -149,22 +175,30 @@ sets_all g s words k reach before none = record {
 
 -- ---- site by site
 
-spot_on : (g : Grid) (k p : ℕ) → is_site g k p ≡ true → (row g (site_on g k p) ≡ row_at g k p) × (column g (site_on g k p) ≡ column_at g k p)
+spot_on : (g : Grid) (k p : ℕ) → is_site g k p ≡ true
+    → (row g (site_on g k p) ≡ row_at g k p) × (column g (site_on g k p) ≡ column_at g k p)
 unfolding is_site site_on
 spot_on g k p is =
     let back = and_parts _ _ (and_parts _ _ is).1 in
-    let wide = ltb-true (column_at g k p) g.width back.1 in
-    (div-mul-add (row_at g k p) g.width (column_at g k p) wide, mod-mul-add (row_at g k p) g.width (column_at g k p) wide)
+    let wide = ltb-true (column_at g k p) g.width back.1 in (
+      div-mul-add (row_at g k p) g.width (column_at g k p) wide,
+      mod-mul-add (row_at g k p) g.width (column_at g k p) wide,
+    )
 
-distance_on : (g : Grid) (site k p : ℕ) → is_site g k p ≡ true → distance g site (site_on g k p) ≡ distance_within g (spot_of g site) (corner_of g k) p
+distance_on : (g : Grid) (site k p : ℕ) → is_site g k p ≡ true
+    → distance g site (site_on g k p) ≡ distance_within g (spot_of g site) (corner_of g k) p
 unfolding distance
 distance_on g site k p is =
     let spot = spot_on g k p is in
     let x = column g site in
-    ap (λ c. cond (joins g.edge) (min (abs_diff x c) (g.width - abs_diff x c)) (abs_diff x c) + abs_diff (row g site) (row g (site_on g k p))) spot.1
-    ∙ ap (λ r. cond (joins g.edge) (min (abs_diff x (column_at g k p)) (g.width - abs_diff x (column_at g k p))) (abs_diff x (column_at g k p)) + abs_diff (row g site) r) spot.0
+    ap (λ c. cond (joins g.edge) (min (abs_diff x c) (g.width - abs_diff x c)) (abs_diff x c)
+    + abs_diff (row g site) (row g (site_on g k p))) spot.1
+    ∙ ap (λ r. cond (joins g.edge) (min (abs_diff x (column_at g k p)) (g.width - abs_diff x (column_at g k p)))
+    (abs_diff x (column_at g k p))
+    + abs_diff (row g site) r) spot.0
 
-pub reach_is : (g : Grid) (site : ℕ) (v words : ℕ → ℕ) (reach : ℕ) → ((m p : ℕ) → p < 64 → bit (words m) p ≡ on_tiles g (λ j. one_if (ltb 0 (v j))) m p)
+pub reach_is : (g : Grid) (site : ℕ) (v words : ℕ → ℕ) (reach : ℕ)
+    → ((m p : ℕ) → p < 64 → bit (words m) p ≡ on_tiles g (λ j. one_if (ltb 0 (v j))) m p)
     → IsReachedIn g (spot_of g site) words reach → IsReach g site v reach
 reach_is g site v words reach each in_sets = record {
   within = λ j l some.

@@ -27,17 +27,22 @@ inner g j inside =
     let col = mod-mul-add (j / w / 8 + 2) (pitch g) (j % w / 8 + 1) (omega arith) in
     record { first = omega arith; last = omega arith; rows = omega arith }
 
-blank_from : (g : Grid) (u : ℕ → ℕ → ℕ) (v : ℕ → ℕ) → ((m p : ℕ) → p < 64 → u m p ≡ on_tiles g v m p) → ((m p : ℕ) → 64 ≤ p → u m p ≡ 0) → IsBlank g u
+blank_from : (g : Grid) (u : ℕ → ℕ → ℕ) (v : ℕ → ℕ)
+    → ((m p : ℕ) → p < 64 → u m p ≡ on_tiles g v m p)
+    → ((m p : ℕ) → 64 ≤ p → u m p ≡ 0) → IsBlank g u
 blank_from g u v same high = let b = on_tiles_blank g v in record {
-  above = λ c p less. ⊎_elim (λ (low : p < 64). same _ p low ∙ b.above c p less) (λ (h : 64 ≤ p). high _ p h) (cases_lt p 64);
+  above = λ c p less.
+      ⊎_elim (λ (low : p < 64). same _ p low ∙ b.above c p less) (λ (h : 64 ≤ p). high _ p h) (cases_lt p 64);
   below = λ q c y x less ly lx out. same _ _ (omega arith) ∙ b.below q c y x less ly lx out;
   before = λ q p. ⊎_elim (λ (low : p < 64). same _ p low ∙ b.before q p) (λ (h : 64 ≤ p). high _ p h) (cases_lt p 64);
   beyond = λ q c y x less ly lx out. same _ _ (omega arith) ∙ b.beyond q c y x less ly lx out;
 }
 
 -- the grains of the set `new` that a site gains: inside the tile k, and over its rim
-gained : (g : Grid) (k new : ℕ) (b : Beside) (j : ℕ) → j < sites g → IsInner g k → IsBeside g k b → new < 2 ^ 64 → IsBlank g (only k (bit new))
-    → flow g (at_site g (only k (bit new))) j ≡ around (only k (bit new) (tile_of g j)) (place_of g j) + over_rim b new (tile_of g j) (place_of g j)
+gained : (g : Grid) (k new : ℕ) (b : Beside) (j : ℕ) → j < sites g → IsInner g k
+    → IsBeside g k b → new < 2 ^ 64 → IsBlank g (only k (bit new))
+    → flow g (at_site g (only k (bit new))) j
+    ≡ around (only k (bit new) (tile_of g j)) (place_of g j) + over_rim b new (tile_of g j) (place_of g j)
 gained g k new b j inside ik beside fits blank =
     let m = tile_of g j in
     let p = place_of g j in
@@ -50,19 +55,25 @@ gained g k new b j inside ik beside fits blank =
     let w = west_rim g (bit new) k m p im ik in
     let n' = ap (λ i. only i (over_south (bit new)) m p) beside.north in
     let s' = ap (λ i. only i (over_north (bit new)) m p) beside.south in
-    let w' = ap (λ i. only i (over_east b.west_shift (bit new)) m p) beside.west ∙ ap (λ i. only (to_west g k) (over_east i (bit new)) m p) beside.west_shift in
-    let e' = ap (λ i. only i (over_west b.east_shift (bit new)) m p) beside.east ∙ ap (λ i. only (to_east g k) (over_west i (bit new)) m p) beside.east_shift in
+    let w' = ap (λ i. only i (over_east b.west_shift (bit new)) m p) beside.west
+    ∙ ap (λ i. only (to_west g k) (over_east i (bit new)) m p) beside.west_shift in
+    let e' = ap (λ i. only i (over_west b.east_shift (bit new)) m p) beside.east
+    ∙ ap (λ i. only (to_east g k) (over_west i (bit new)) m p) beside.east_shift in
     omega arith
 
 around_same : (k m new p : ℕ) → p < 64 → m ≡ k → around (only k (bit new) m) p ≡ around (bit new) p
 around_same k m new p low e =
-    let a = around_le (only k (bit new) m) (bit new) p low (λ q l. let s = only_same k m (bit new) q e in omega arith) in
-    let b = around_le (bit new) (only k (bit new) m) p low (λ q l. let s = only_same k m (bit new) q e in omega arith) in
+    let a =
+    around_le (only k (bit new) m) (bit new) p low (λ q l. let s = only_same k m (bit new) q e in omega arith) in
+    let b =
+    around_le (bit new) (only k (bit new) m) p low (λ q l. let s = only_same k m (bit new) q e in omega arith) in
     omega arith
 
 -- a step topples the set `new` of tile k and gives its grains to all neighbours
-pub spreads_from : (g : Grid) (site : ℕ) (free : ℕ → ℕ) (τ σ : ℕ → Tile) (k start s new : ℕ) (b : Beside) → AreOpen g site free → site < sites g → IsInner g k → IsBeside g k b
-    → ((p : ℕ) → p < 64 → bit start p ≡ on_tiles g (λ j. s * one_at site j) k p) → Steps τ σ (free k) b k start new → Spreads g site k new τ σ
+pub spreads_from : (g : Grid) (site : ℕ) (free : ℕ → ℕ) (τ σ : ℕ → Tile) (k start s new : ℕ) (b : Beside)
+    → AreOpen g site free → site < sites g → IsInner g k → IsBeside g k b
+    → ((p : ℕ) → p < 64 → bit start p ≡ on_tiles g (λ j. s * one_at site j) k p) → Steps τ σ (free k) b k start new
+    → Spreads g site k new τ σ
 spreads_from g site free τ σ k start s new b open' inside ik beside begins steps =
     let v = steps.visited in
     let visits = steps.visits in
@@ -70,8 +81,12 @@ spreads_from g site free τ σ k start s new b open' inside ik beside begins ste
     let mid : ℕ → Tile = λ m. cond (eqb m k) v (τ m) in
     let here : (m : ℕ) → m ≡ k → mid m ≡ v = λ m e. ap (λ c. cond c v (τ m)) (eq-eqb m k e) in
     let there : (m : ℕ) → (m ≡ k → ⊥) → mid m ≡ τ m = λ m ne. ap (λ c. cond c v (τ m)) (ne_eqb m k ne) in
-    let high : (m p : ℕ) → 64 ≤ p → only k (bit new) m p ≡ 0 = λ m p h. ⊎_elim (λ (e : m ≡ k). only_same k m (bit new) p e ∙ bit_above new p steps.fits h) (λ (ne : m ≡ k → ⊥). only_other k m (bit new) p ne) (cases_eq m k) in
-    let blank = blank_from g (only k (bit new)) (at_site g (only k (bit new))) (λ m p l. newly g site free τ v k start s new m p open' begins visits l) high in
+    let high : (m p : ℕ) → 64 ≤ p → only k (bit new) m p ≡ 0 = λ m p h. ⊎_elim
+    (λ (e : m ≡ k). only_same k m (bit new) p e ∙ bit_above new p steps.fits h)
+    (λ (ne : m ≡ k → ⊥). only_other k m (bit new) p ne)
+    (cases_eq m k) in
+    let blank = blank_from g (only k (bit new)) (at_site g (only k (bit new)))
+    (λ m p l. newly g site free τ v k start s new m p open' begins visits l) high in
     record {
       once = λ m p l.
           let a = gains.wave m p l in
@@ -82,14 +97,19 @@ spreads_from g site free τ σ k start s new b open' inside ik beside begins ste
           let t = ap (λ i. bit (τ i).wave p) e in
           let n = only_same k m (bit new) p e in
           omega arith)
-          (λ (ne : m ≡ k → ⊥). let h = ap (λ x. bit x.wave p) (there m ne) in let n = only_other k m (bit new) p ne in omega arith)
+          (λ (ne : m ≡ k → ⊥).
+          let h = ap (λ x. bit x.wave p) (there m ne) in let n = only_other k m (bit new) p ne in omega arith)
           (cases_eq m k);
       at_open = λ j l ne few.
           let m = tile_of g j in
           let p = place_of g j in
           let low = place_below g j in
           let all = gained g k new b j l ik beside steps.fits blank in
-          let free1 : bit (free m) p ≡ 1 = let o = open' m p low in let a = at_on g (λ i. 1 - one_at site i) j l in let z = one_at_other site j (λ e. ne (sym e)) in omega arith in
+          let free1 : bit (free m) p ≡ 1 =
+          let o = open' m p low in
+          let a = at_on g (λ i. 1 - one_at site i) j l in
+          let z = one_at_other site j (λ e. ne (sym e)) in
+          omega arith in
           ⊎_elim
           (λ (e : m ≡ k).
           let h = ap (λ x. had x p) (here m e) in

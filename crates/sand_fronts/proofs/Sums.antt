@@ -14,11 +14,15 @@ here g v j k p = v j * one_at (place_of g j) p * one_at (tile_of g j) k
 turned : (a b c : ℕ) → a * b * c ≡ a * c * b
 turned a b c = grind arith
 
-one_place : (g : Grid) (v : ℕ → ℕ) (n j : ℕ) → tile_of g j < n → sum_below n (λ k. sum_below 64 (λ p. here g v j k p)) ≡ v j
+one_place : (g : Grid) (v : ℕ → ℕ) (n j : ℕ) → tile_of g j < n
+    → sum_below n (λ k. sum_below 64 (λ p. here g v j k p)) ≡ v j
 unfolding here
 one_place g v n j l =
-    sum_below_same n (λ k. sum_below 64 (λ p. v j * one_at (place_of g j) p * one_at (tile_of g j) k)) (λ k. v j * one_at (tile_of g j) k)
-    (λ k m. sum_below_same 64 (λ p. v j * one_at (place_of g j) p * one_at (tile_of g j) k) (λ p. v j * one_at (tile_of g j) k * one_at (place_of g j) p)
+    sum_below_same n (λ k. sum_below 64 (λ p. v j * one_at (place_of g j) p * one_at (tile_of g j) k))
+    (λ k. v j * one_at (tile_of g j) k)
+    (λ k m. sum_below_same 64
+    (λ p. v j * one_at (place_of g j) p * one_at (tile_of g j) k)
+    (λ p. v j * one_at (tile_of g j) k * one_at (place_of g j) p)
     (λ p x. turned (v j) (one_at (place_of g j) p) (one_at (tile_of g j) k))
     ∙ sum_below-one_at 64 (place_of g j) (λ p. v j * one_at (tile_of g j) k) (place_below g j))
     ∙ sum_below-one_at n (tile_of g j) (λ k. v j) l
@@ -42,9 +46,11 @@ one_site g v k p low =
     ⊎_elim
     (λ (tile : tile_of g j ≡ k).
     let b = back_again g j l in
-    let apart : place_of g j ≡ p → ⊥ = λ place. ne (sym (ap (λ i. site_on g i p) tile) ∙ sym (ap (site_on g (tile_of g j)) place) ∙ b.1) in
+    let apart : place_of g j ≡ p → ⊥ =
+    λ place. ne (sym (ap (λ i. site_on g i p) tile) ∙ sym (ap (site_on g (tile_of g j)) place) ∙ b.1) in
     ap (λ x. v j * x * one_at (tile_of g j) k) (one_at_other (place_of g j) p apart) ∙ omega arith)
-    (λ (tile : tile_of g j ≡ k → ⊥). ap (λ x. v j * one_at (place_of g j) p * x) (one_at_other (tile_of g j) k tile) ∙ omega arith)
+    (λ (tile : tile_of g j ≡ k → ⊥).
+    ap (λ x. v j * one_at (place_of g j) p * x) (one_at_other (tile_of g j) k tile) ∙ omega arith)
     (cases_eq (tile_of g j) k))
     (cases_eq s j))
     ∙ sum_below-one_at (sites g) s v t.0 ∙ sym (on_site g v k p yes))
@@ -53,16 +59,23 @@ one_site g v k p low =
     (λ j l. ⊎_elim
     (λ (tile : tile_of g j ≡ k).
     let b = back_again g j l in
-    let apart : place_of g j ≡ p → ⊥ = λ place. false≢true (sym no ∙ sym (ap (λ i. is_site g i p) tile) ∙ sym (ap (is_site g (tile_of g j)) place) ∙ b.0) in
+    let apart : place_of g j ≡ p → ⊥ = λ place.
+    false≢true (sym no ∙ sym (ap (λ i. is_site g i p) tile) ∙ sym (ap (is_site g (tile_of g j)) place) ∙ b.0) in
     ap (λ x. v j * x * one_at (tile_of g j) k) (one_at_other (place_of g j) p apart) ∙ omega arith)
-    (λ (tile : tile_of g j ≡ k → ⊥). ap (λ x. v j * one_at (place_of g j) p * x) (one_at_other (tile_of g j) k tile) ∙ omega arith)
+    (λ (tile : tile_of g j ≡ k → ⊥).
+    ap (λ x. v j * one_at (place_of g j) p * x) (one_at_other (tile_of g j) k tile) ∙ omega arith)
     (cases_eq (tile_of g j) k))
     ∙ sum_below-zero (sites g) ∙ sym (off_site g v k p no))
     (cases_Bool (is_site g k p))
 
-pub sum_on_tiles : (g : Grid) (v : ℕ → ℕ) (n : ℕ) → ((j : ℕ) → j < sites g → tile_of g j < n) → sum_below n (λ k. sum_below 64 (λ p. on_tiles g v k p)) ≡ sum_below (sites g) v
+pub sum_on_tiles : (g : Grid) (v : ℕ → ℕ) (n : ℕ) → ((j : ℕ) → j < sites g → tile_of g j < n)
+    → sum_below n (λ k. sum_below 64 (λ p. on_tiles g v k p)) ≡ sum_below (sites g) v
 sum_on_tiles g v n inside =
-    sum_below_same n (λ k. sum_below 64 (λ p. on_tiles g v k p)) (λ k. sum_below (sites g) (λ j. sum_below 64 (λ p. here g v j k p)))
-    (λ k l. sum_below_same 64 (λ p. on_tiles g v k p) (λ p. sum_below (sites g) (λ j. here g v j k p)) (λ p m. sym (one_site g v k p m)) ∙ sum_below_swap 64 (sites g) (λ p j. here g v j k p))
+    sum_below_same n (λ k. sum_below 64 (λ p. on_tiles g v k p))
+    (λ k. sum_below (sites g) (λ j. sum_below 64 (λ p. here g v j k p)))
+    (λ k l. sum_below_same 64 (λ p. on_tiles g v k p)
+    (λ p. sum_below (sites g) (λ j. here g v j k p)) (λ p m. sym (one_site g v k p m))
+    ∙ sum_below_swap 64 (sites g) (λ p j. here g v j k p))
     ∙ sum_below_swap n (sites g) (λ k j. sum_below 64 (λ p. here g v j k p))
-    ∙ sum_below_same (sites g) (λ j. sum_below n (λ k. sum_below 64 (λ p. here g v j k p))) v (λ j l. one_place g v n j (inside j l))
+    ∙ sum_below_same (sites g) (λ j. sum_below n (λ k. sum_below 64 (λ p. here g v j k p)))
+    v (λ j l. one_place g v n j (inside j l))

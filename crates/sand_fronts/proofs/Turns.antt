@@ -35,7 +35,9 @@ pub record IsDueSite (g : Grid) (site : ℕ) (τ : ℕ → Tile) (k j : ℕ) : T
   pub here : tile_of g j ≡ k
   pub due : bit (τ k).due (place_of g j) ≡ 1
 
-pub due_site : (g : Grid) (site : ℕ) (free : ℕ → ℕ) (τ : ℕ → Tile) (k : ℕ) → AreOpen g site free → free k < 2 ^ 64 → waits τ free k ≡ true → (j : ℕ) × IsDueSite g site τ k j
+pub due_site : (g : Grid) (site : ℕ) (free : ℕ → ℕ) (τ : ℕ → Tile) (k : ℕ)
+    → AreOpen g site free → free k < 2 ^ 64 → waits τ free k ≡ true
+    → (j : ℕ) × IsDueSite g site τ k j
 due_site g site free τ k open' fits wait =
     let a = bit_and (τ k).due (free k) in
     let le = and_le_r (τ k).due (free k) in
@@ -58,19 +60,25 @@ starts_none g site k p low =
     let n = on_nothing g k p in
     omega arith
 
-sum_after : (g : Grid) (τ σ : ℕ → Tile) (k new : ℕ) → ((m p : ℕ) → p < 64 → bit (σ m).wave p ≡ bit (τ m).wave p + only k (bit new) m p) → (j : ℕ) → toppled g σ j ≡ toppled g τ j + at_site g (only k (bit new)) j
+sum_after : (g : Grid) (τ σ : ℕ → Tile) (k new : ℕ)
+    → ((m p : ℕ) → p < 64 → bit (σ m).wave p ≡ bit (τ m).wave p + only k (bit new) m p)
+    → (j : ℕ) → toppled g σ j ≡ toppled g τ j + at_site g (only k (bit new)) j
 sum_after g τ σ k new once j = once (tile_of g j) (place_of g j) (place_below g j)
 
 -- one more turn: the wave goes on, and at least one more site has toppled
-pub turn_more : (g : Grid) (site : ℕ) (h : ℕ → ℕ) (free : ℕ → ℕ) (τ σ : ℕ → Tile) (k new j : ℕ) (b : Beside) → AreOpen g site free → IsWave g site h τ → site < sites g
-    → ((i : ℕ) → i < sites g → i ≢ site → h i ≤ 3) → 4 ≤ h site → toppled g τ site ≡ 1 → IsDueSite g site τ k j → IsBeside g k b → Steps τ σ (free k) b k 0 new
+pub turn_more : (g : Grid) (site : ℕ) (h : ℕ → ℕ) (free : ℕ → ℕ) (τ σ : ℕ → Tile) (k new j : ℕ) (b : Beside)
+    → AreOpen g site free → IsWave g site h τ → site < sites g
+    → ((i : ℕ) → i < sites g → i ≢ site → h i ≤ 3) → 4 ≤ h site
+    → toppled g τ site ≡ 1 → IsDueSite g site τ k j
+    → IsBeside g k b → Steps τ σ (free k) b k 0 new
     → (IsWave g site h σ) × (toppled g σ site ≡ 1) × (topplings g (toppled g τ) + 1 ≤ topplings g (toppled g σ))
 turn_more g site h free τ σ k new j b open' wave inside low high started due beside steps =
     let i = inner g j due.inside in
     let ik : IsInner g k = let P : ℕ → Type 0 = λ m. IsInner g m in subst P due.here i in
     let begins = starts_none g site k in
     let spreads = spreads_from g site free τ σ k 0 0 new b open' inside ik beside begins steps in
-    let next = wave_step g site h free τ σ steps.visited k 0 0 new open' wave inside low high begins (omega arith) steps.visits spreads in
+    let next = wave_step g site h free τ σ steps.visited k 0 0 new open'
+    wave inside low high begins (omega arith) steps.visits spreads in
     let sums = sum_after g τ σ k new spreads.once in
     let n : ℕ → ℕ = at_site g (only k (bit new)) in
     let p = place_of g j in
@@ -101,13 +109,17 @@ first_low g site τ j l ne =
     let b = bit_le (τ (tile_of g j)).high (place_of g j) in
     omega arith
 
-pub first_wave : (g : Grid) (site : ℕ) (τ : ℕ → Tile) → AreAtRest g site τ → site < sites g → IsWave g site (heights_before g site τ) τ
+pub first_wave : (g : Grid) (site : ℕ) (τ : ℕ → Tile) → AreAtRest g site τ → site < sites g
+    → IsWave g site (heights_before g site τ) τ
 first_wave g site τ rest inside = wave_begins g site (heights_before g site τ) τ inside rest.clear
     (λ j l ne. let o = one_at_other site j (λ e. ne (sym e)) in (omega arith, rest.none_due j l ne))
     (let o = one_at_same site in omega arith)
 
-pub turn_first : (g : Grid) (site : ℕ) (free : ℕ → ℕ) (τ σ : ℕ → Tile) (k start new : ℕ) (b : Beside) → AreOpen g site free → AreAtRest g site τ → site < sites g
-    → k ≡ tile_of g site → ((p : ℕ) → p < 64 → bit start p ≡ on_tiles g (λ j. 1 * one_at site j) k p) → IsBeside g k b → Steps τ σ (free k) b k start new
+pub turn_first : (g : Grid) (site : ℕ) (free : ℕ → ℕ) (τ σ : ℕ → Tile) (k start new : ℕ) (b : Beside)
+    → AreOpen g site free → AreAtRest g site τ → site < sites g
+    → k ≡ tile_of g site
+    → ((p : ℕ) → p < 64 → bit start p ≡ on_tiles g (λ j. 1 * one_at site j) k p)
+    → IsBeside g k b → Steps τ σ (free k) b k start new
     → (IsWave g site (heights_before g site τ) σ) × (toppled g σ site ≡ 1)
 turn_first g site free τ σ k start new b open' rest inside here begins beside steps =
     let h = heights_before g site τ in
@@ -118,7 +130,8 @@ turn_first g site free τ σ k start new b open' rest inside here begins beside 
     let i = inner g site inside in
     let ik : IsInner g k = let P : ℕ → Type 0 = λ m. IsInner g m in subst P (sym here) i in
     let spreads = spreads_from g site free τ σ k start 1 new b open' inside ik beside begins steps in
-    let next = wave_step g site h free τ σ steps.visited k start 1 new open' wave inside low high begins (omega arith) steps.visits spreads in
+    let next = wave_step g site h free τ σ steps.visited k start 1 new
+    open' wave inside low high begins (omega arith) steps.visits spreads in
     let p = place_of g site in
     let lp = place_below g site in
     let o = open' k p lp in
@@ -131,7 +144,8 @@ turn_first g site free τ σ k start new b open' rest inside here begins beside 
     let sum = sum_after g τ σ k new spreads.once site in
     (next, omega arith)
 
-pub front_of : (n turn k : ℕ) (p : ℕ → Bool) (list : List ℕ) → Lists n p (drop turn list) → turn < length list → k ≡ get_or list turn 0
+pub front_of : (n turn k : ℕ) (p : ℕ → Bool) (list : List ℕ)
+    → Lists n p (drop turn list) → turn < length list → k ≡ get_or list turn 0
     → (k < n) × (p k ≡ true) × Lists n p (k ∷ drop (turn + 1) list)
 front_of n turn k p list all less is =
     let P : List ℕ → Type 0 = λ xs. Lists n p xs in
@@ -139,13 +153,17 @@ front_of n turn k p list all less is =
     let at = subst P whole all in
     (front_below n p (drop (turn + 1) list) k at, front_passes n p (drop (turn + 1) list) k at, at)
 
-pub others_wait : (n turn k : ℕ) (τ : ℕ → Tile) (free : ℕ → ℕ) (list : List ℕ) → Lists n (waits τ free) (k ∷ drop (turn + 1) list) → Lists n (waits_but k τ free) (drop (turn + 1) list)
+pub others_wait : (n turn k : ℕ) (τ : ℕ → Tile) (free : ℕ → ℕ) (list : List ℕ)
+    → Lists n (waits τ free) (k ∷ drop (turn + 1) list)
+    → Lists n (waits_but k τ free) (drop (turn + 1) list)
 others_wait n turn k τ free list all =
     lists_pop n (waits τ free) (waits_but k τ free) (drop (turn + 1) list) k all
     (ap (λ b. not b && waits τ free k) (eq-eqb k k refl))
     (λ j l ne. sym (ap (λ b. not b && waits τ free j) (ne_eqb j k ne)))
 
-quiet_at : (g : Grid) (site : ℕ) (τ : ℕ → Tile) (free : ℕ → ℕ) (j : ℕ) → AreOpen g site free → AreAtRest g site τ → free j < 2 ^ 64 → waits τ free j ≡ false
+quiet_at : (g : Grid) (site : ℕ) (τ : ℕ → Tile) (free : ℕ → ℕ) (j : ℕ)
+    → AreOpen g site free → AreAtRest g site τ → free j < 2 ^ 64
+    → waits τ free j ≡ false
 quiet_at g site τ free j open' rest fits =
     ⊎_elim
     (λ (is : waits τ free j ≡ true).
@@ -163,9 +181,13 @@ and_none true b e = e
 and_none false b e = refl
 
 -- before the first turn no tile waits
-pub none_wait : (g : Grid) (site n k : ℕ) (τ : ℕ → Tile) (free : ℕ → ℕ) → AreOpen g site free → AreAtRest g site τ → ((m : ℕ) → free m < 2 ^ 64) → Lists n (waits_but k τ free) []
+pub none_wait : (g : Grid) (site n k : ℕ) (τ : ℕ → Tile) (free : ℕ → ℕ)
+    → AreOpen g site free → AreAtRest g site τ → ((m : ℕ) → free m < 2 ^ 64)
+    → Lists n (waits_but k τ free) []
 none_wait g site n k τ free open' rest fits =
-    lists_same n (λ j. false) (waits_but k τ free) [] (λ j l. sym (and_none (not (eqb j k)) (waits τ free j) (quiet_at g site τ free j open' rest (fits j)))) (lists_from n (λ j. false) [] (λ j l. refl) (λ j l. refl))
+    lists_same n (λ j. false) (waits_but k τ free) []
+    (λ j l. sym (and_none (not (eqb j k)) (waits τ free j) (quiet_at g site τ free j open' rest (fits j))))
+    (lists_from n (λ j. false) [] (λ j l. refl) (λ j l. refl))
 
 -- what the board says of tile k, the tile of site j
 pub record AtTile (g : Grid) (n k : ℕ) (b : Beside) : Type 0 where
@@ -177,12 +199,22 @@ pub record AtTile (g : Grid) (n k : ℕ) (b : Beside) : Type 0 where
   pub east : b.east < n
   pub shifts : (b.west_shift ≤ 7) × (b.east_shift ≤ 7)
 
-pub at_tile : (g : Grid) (n j k : ℕ) (all : List Beside) → IsBoard g n all → j < sites g → tile_of g j ≡ k → AtTile g n k (beside_at all k)
+pub at_tile : (g : Grid) (n j k : ℕ) (all : List Beside) → IsBoard g n all → j < sites g → tile_of g j ≡ k
+    → AtTile g n k (beside_at all k)
 at_tile g n j k all board l here =
     let P : ℕ → Type 0 = λ m. AtTile g n m (beside_at all m) in
-    subst P here (record { inside = board.here j l; each = board.each j l; north = board.north j l; south = board.south j l; west = board.west j l; east = board.east j l; shifts = board.shifts j l })
+    subst P here (record {
+      inside = board.here j l;
+      each = board.each j l;
+      north = board.north j l;
+      south = board.south j l;
+      west = board.west j l;
+      east = board.east j l;
+      shifts = board.shifts j l;
+    })
 
-pub turn_at : (g : Grid) (site n turn k : ℕ) (τ : ℕ → Tile) (free : ℕ → ℕ) (list : List ℕ) (all : List Beside) → AreOpen g site free → IsBoard g n all
+pub turn_at : (g : Grid) (site n turn k : ℕ) (τ : ℕ → Tile) (free : ℕ → ℕ) (list : List ℕ) (all : List Beside)
+    → AreOpen g site free → IsBoard g n all
     → free k < 2 ^ 64 → Lists n (waits τ free) (drop turn list) → turn < length list → k ≡ get_or list turn 0
     → (j : ℕ) × IsDueSite g site τ k j × AtTile g n k (beside_at all k)
 turn_at g site n turn k τ free list all open' board fits waiting less is =
@@ -197,14 +229,16 @@ pub few_topplings : (g : Grid) (τ : ℕ → Tile) → topplings g (toppled g τ
 few_topplings g τ = at_most_all (sites g) (toppled g τ) (λ j l. bit_le _ _)
 
 -- if no tile waits, no free site is due
-pub none_left : (g : Grid) (site n : ℕ) (τ : ℕ → Tile) (free : ℕ → ℕ) (all : List Beside) → AreOpen g site free → IsBoard g n all → Lists n (waits τ free) []
+pub none_left : (g : Grid) (site n : ℕ) (τ : ℕ → Tile) (free : ℕ → ℕ) (all : List Beside)
+    → AreOpen g site free → IsBoard g n all → Lists n (waits τ free) []
     → (j : ℕ) → j < sites g → j ≢ site → bit (τ (tile_of g j)).due (place_of g j) ≡ 0
 none_left g site n τ free all open' board none j inside other =
     let k = tile_of g j in
     let p = place_of g j in
     let low = place_below g j in
     let quiet = ltb-false 0 (bit_and (τ k).due (free k)) (none_passes n (waits τ free) none k (board.here j inside)) in
-    let zero' : bit (bit_and (τ k).due (free k)) p ≡ 0 = ap (λ x. bit x p) (let e : bit_and (τ k).due (free k) ≡ 0 = omega arith in e) ∙ bit_none p in
+    let zero' : bit (bit_and (τ k).due (free k)) p ≡ 0 =
+    ap (λ x. bit x p) (let e : bit_and (τ k).due (free k) ≡ 0 = omega arith in e) ∙ bit_none p in
     let both = both_le (τ k).due (free k) p in
     let b2 = both.2 in
     let o = open' k p low in
@@ -214,31 +248,40 @@ none_left g site n τ free all open' board none j inside other =
 
 -- ---- the tiles with sites that have toppled
 
-wave_after : (τ σ : ℕ → Tile) (free k start new m p : ℕ) (b : Beside) → Steps τ σ free b k start new → p < 64 → (m ≡ k → ⊥) → bit (σ m).wave p ≡ bit (τ m).wave p
+wave_after : (τ σ : ℕ → Tile) (free k start new m p : ℕ) (b : Beside)
+    → Steps τ σ free b k start new → p < 64 → (m ≡ k → ⊥)
+    → bit (σ m).wave p ≡ bit (τ m).wave p
 wave_after τ σ free k start new m p b steps low ne =
     steps.gains.wave m p low ∙ ap (λ (t : Tile). bit t.wave p) (ap (λ c. cond c steps.visited (τ m)) (ne_eqb m k ne))
 
 -- before the first turn: only the tile of the dropped site
-pub first_listed : (g : Grid) (site : ℕ) (τ σ : ℕ → Tile) (free here start new : ℕ) (b : Beside) (list : List ℕ) → AreAtRest g site τ → Steps τ σ free b here start new → AreListed here list 0 0 σ
+pub first_listed : (g : Grid) (site : ℕ) (τ σ : ℕ → Tile) (free here start new : ℕ) (b : Beside) (list : List ℕ)
+    → AreAtRest g site τ → Steps τ σ free b here start new
+    → AreListed here list 0 0 σ
 first_listed g site τ σ free here start new b list rest steps m = ⊎_elim
     (λ (e : m ≡ here). inr (inl e))
     (λ (ne : m ≡ here → ⊥). inl (λ p low. wave_after τ σ free here start new m p b steps low ne ∙ rest.clear m p low))
     (cases_eq m here)
 
-pub turn_listed : (τ σ : ℕ → Tile) (free here k turn new : ℕ) (b : Beside) (before after : List ℕ) → AreListed here before 0 turn τ → Steps τ σ free b k 0 new
-    → k ≡ get_or before turn 0 → ((t : ℕ) → t < turn + 1 → get_or after t 0 ≡ get_or before t 0) → AreListed here after 0 (turn + 1) σ
+pub turn_listed : (τ σ : ℕ → Tile) (free here k turn new : ℕ) (b : Beside) (before after : List ℕ)
+    → AreListed here before 0 turn τ → Steps τ σ free b k 0 new
+    → k ≡ get_or before turn 0 → ((t : ℕ) → t < turn + 1 → get_or after t 0 ≡ get_or before t 0)
+    → AreListed here after 0 (turn + 1) σ
 turn_listed τ σ free here k turn new b before after listed steps is kept m = ⊎_elim
     (λ (e : m ≡ k). inr (inr (turn, omega arith, omega arith, kept turn (omega arith) ∙ sym is ∙ sym e)))
     (λ (ne : m ≡ k → ⊥). ⊎_elim
     (λ (clear : IsClear (τ m)). inl (λ p low. wave_after τ σ free k 0 new m p b steps low ne ∙ clear p low))
     (λ (some : (m ≡ here) ⊎ ((t : ℕ) × (0 ≤ t) × (t < turn) × (get_or before t 0 ≡ m))). inr (⊎_elim
     (λ (e : m ≡ here). inl e)
-    (λ (at : (t : ℕ) × (0 ≤ t) × (t < turn) × (get_or before t 0 ≡ m)). inr (at.0, omega arith, omega (arith, at.2), kept at.0 (omega (arith, at.2)) ∙ at.3))
+    (λ (at : (t : ℕ) × (0 ≤ t) × (t < turn) × (get_or before t 0 ≡ m)).
+    inr (at.0, omega arith, omega (arith, at.2), kept at.0 (omega (arith, at.2)) ∙ at.3))
     some))
     (listed m))
     (cases_eq m k)
 
-pub turn_on_board : (n n' k turn : ℕ) (before after : List ℕ) → n' ≡ n → ((t : ℕ) → t < turn → get_or before t 0 < n) → k < n → k ≡ get_or before turn 0
+pub turn_on_board : (n n' k turn : ℕ) (before after : List ℕ)
+    → n' ≡ n → ((t : ℕ) → t < turn → get_or before t 0 < n)
+    → k < n → k ≡ get_or before turn 0
     → ((t : ℕ) → t < turn + 1 → get_or after t 0 ≡ get_or before t 0) → (t : ℕ) → t < turn + 1 → get_or after t 0 < n'
 turn_on_board n n' k turn before after same below inside is kept t less = ⊎_elim
     (λ (e : t ≡ turn). let a = kept t less in let b = ap (λ i. get_or before i 0) e in omega arith)

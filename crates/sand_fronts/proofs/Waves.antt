@@ -26,7 +26,8 @@ only_other k m f p ne = ap (λ b. cond b (f p) 0) (ne_eqb m k ne)
 flow_four_at_most : (g : Grid) (u : ℕ → ℕ) → ((j : ℕ) → j < sites g → u j ≤ 1) → (j : ℕ) → j < sites g → flow g u j ≤ 4
 flow_four_at_most g u few j l = let a = flow_le g u (λ m. 1) few j l in let b = flow_ones g j in omega arith
 
-around_some : (g : Grid) (v : ℕ → ℕ) (j : ℕ) → j < sites g → around (on_tiles g v (tile_of g j)) (place_of g j) ≤ flow g v j
+around_some : (g : Grid) (v : ℕ → ℕ) (j : ℕ) → j < sites g
+    → around (on_tiles g v (tile_of g j)) (place_of g j) ≤ flow g v j
 around_some g v j l =
     let all = flow_on_tiles g (on_tiles g v) j (on_tiles_blank g v) l in
     let same = flow_same g (at_site g (on_tiles g v)) v (λ i m. at_on g v i m) j l in
@@ -48,12 +49,14 @@ set_is : (g : Grid) (τ : ℕ → Tile) (j : ℕ) → toppled g τ j ≤ 1
 set_is g τ j = bit_le _ _
 
 -- a tile is ready for a visit
-pub wave_ready : (g : Grid) (site : ℕ) (h : ℕ → ℕ) (free : ℕ → ℕ) (τ : ℕ → Tile) (k start s : ℕ) → AreOpen g site free → IsWave g site h τ → site < sites g
+pub wave_ready : (g : Grid) (site : ℕ) (h : ℕ → ℕ) (free : ℕ → ℕ) (τ : ℕ → Tile) (k start s : ℕ)
+    → AreOpen g site free → IsWave g site h τ → site < sites g
     → ((j : ℕ) → j < sites g → j ≢ site → h j ≤ 3)
     → ((p : ℕ) → p < 64 → bit start p ≡ on_tiles g (λ j. s * one_at site j) k p) → toppled g τ site + s ≤ 1
     → IsReady (τ k) (free k) start
 wave_ready g site h free τ k start s open' wave inside low begins first =
-    let unused_le : (q : ℕ) → q < 64 → unused (free k) start (τ k).wave q ≤ on_tiles g (λ j. 1 - toppled g τ j) k q = λ q l.
+    let unused_le : (q : ℕ) → q < 64 → unused (free k) start (τ k).wave q ≤ on_tiles g (λ j. 1 - toppled g τ j) k q =
+    λ q l.
     let o = open' k q l in let b = begins q l in let i = wave.inside k q l in
     ⊎_elim
     (λ (yes : is_site g k q ≡ true).
@@ -79,9 +82,11 @@ wave_ready g site h free τ k start s open' wave inside low begins first =
           let back = ap (λ m. had (τ m) (place_of g j)) t.1 ∙ ap (had (τ k)) t.2 in
           let a = around_le (unused (free k) start (τ k).wave) (on_tiles g (λ i. 1 - toppled g τ i) k) p l unused_le in
           let b = around_some g (λ i. 1 - toppled g τ i) j t.0 in
-          let b' = ap (λ m. around (on_tiles g (λ i. 1 - toppled g τ i) m) (place_of g j)) t.1 ∙ ap (around (on_tiles g (λ i. 1 - toppled g τ i) k)) t.2 in
+          let b' = ap (λ m. around (on_tiles g (λ i. 1 - toppled g τ i) m) (place_of g j)) t.1
+          ∙ ap (around (on_tiles g (λ i. 1 - toppled g τ i) k)) t.2 in
           let both = flow-add g (toppled g τ) (λ i. 1 - toppled g τ i) j in
-          let four = flow_four_at_most g (λ i. toppled g τ i + (1 - toppled g τ i)) (λ i m. let z = set_is g τ i in omega arith) j t.0 in
+          let four = flow_four_at_most g (λ i. toppled g τ i + (1 - toppled g τ i))
+          (λ i m. let z = set_is g τ i in omega arith) j t.0 in
           let h3 = low j t.0 yes.1 in
           omega arith;
       held = λ p l is.
@@ -100,7 +105,8 @@ wave_ready g site h free τ k start s open' wave inside low begins first =
           let two = ap (toppled g τ) e in
           let s1 : s ≡ 1 = let m = ap (λ x. s * x) one in omega arith in
           (omega arith, omega arith))
-          (λ (ne : j ≡ site → ⊥). let z = ap (λ x. s * x) (one_at_other site j (λ e. ne (sym e))) in absurd (omega arith))
+          (λ (ne : j ≡ site → ⊥).
+          let z = ap (λ x. s * x) (one_at_other site j (λ e. ne (sym e))) in absurd (omega arith))
           (cases_eq j site))
           (λ (no : is_site g k p ≡ false). let b1 = off_site g (λ j. s * one_at site j) k p no in absurd (omega arith))
           (cases_Bool (is_site g k p));
@@ -108,7 +114,8 @@ wave_ready g site h free τ k start s open' wave inside low begins first =
 
 -- only sites topple in a visit
 pub newly : (g : Grid) (site : ℕ) (free : ℕ → ℕ) (τ : ℕ → Tile) (v : Tile) (k start s new m p : ℕ) → AreOpen g site free
-    → ((q : ℕ) → q < 64 → bit start q ≡ on_tiles g (λ j. s * one_at site j) k q) → Visits (τ k) v (free k) start new → p < 64
+    → ((q : ℕ) → q < 64 → bit start q ≡ on_tiles g (λ j. s * one_at site j) k q)
+    → Visits (τ k) v (free k) start new → p < 64
     → only k (bit new) m p ≡ on_tiles g (at_site g (only k (bit new))) m p
 newly g site free τ v k start s new m p open' begins visits low =
     on_tiles_is g (only k (bit new)) m p low (λ no.
@@ -126,8 +133,10 @@ newly g site free τ v k start s new m p open' begins visits low =
     (cases_eq m k))
 
 -- whatever stabilises the pile leaves no 4 in this tile
-calm : (g : Grid) (site : ℕ) (h : ℕ → ℕ) (free : ℕ → ℕ) (τ : ℕ → Tile) (k start s : ℕ) (w : ℕ → ℕ) → AreOpen g site free → IsWave g site h τ → site < sites g → 4 ≤ h site
-    → ((p : ℕ) → p < 64 → bit start p ≡ on_tiles g (λ j. s * one_at site j) k p) → toppled g τ site + s ≤ 1 → Stabilises g h w
+calm : (g : Grid) (site : ℕ) (h : ℕ → ℕ) (free : ℕ → ℕ) (τ : ℕ → Tile) (k start s : ℕ) (w : ℕ → ℕ)
+    → AreOpen g site free → IsWave g site h τ → site < sites g → 4 ≤ h site
+    → ((p : ℕ) → p < 64 → bit start p ≡ on_tiles g (λ j. s * one_at site j) k p)
+    → toppled g τ site + s ≤ 1 → Stabilises g h w
     → Calms (τ k) (free k) start (on_tiles g (λ j. w j - toppled g τ j) k)
 calm g site h free τ k start s w open' wave inside high begins first stable =
     let below = wave.needed w stable in
@@ -143,7 +152,8 @@ calm g site h free τ k start s w open' wave inside high begins first stable =
           let w' = ap w e in
           let le' = below site inside in
           ⊎_elim
-          (λ (z : toppled g τ site ≡ 0). let more = least_action g h (toppled g τ) w site 1 inside stable below (omega arith) in omega arith)
+          (λ (z : toppled g τ site ≡ 0).
+          let more = least_action g h (toppled g τ) w site 1 inside stable below (omega arith) in omega arith)
           (λ (nz : toppled g τ site ≡ 0 → ⊥). omega arith)
           (cases_eq (toppled g τ site) 0))
           (λ (ne : site ≡ j → ⊥). let m = ap (λ x. s * x) (one_at_other site j ne) in omega arith)
@@ -168,13 +178,15 @@ calm g site h free τ k start s w open' wave inside high begins first stable =
           omega arith;
     }
 
-pub wave_step : (g : Grid) (site : ℕ) (h : ℕ → ℕ) (free : ℕ → ℕ) (τ σ : ℕ → Tile) (v : Tile) (k start s new : ℕ) → AreOpen g site free → IsWave g site h τ → site < sites g
+pub wave_step : (g : Grid) (site : ℕ) (h : ℕ → ℕ) (free : ℕ → ℕ) (τ σ : ℕ → Tile) (v : Tile) (k start s new : ℕ)
+    → AreOpen g site free → IsWave g site h τ → site < sites g
     → ((j : ℕ) → j < sites g → j ≢ site → h j ≤ 3) → 4 ≤ h site
     → ((p : ℕ) → p < 64 → bit start p ≡ on_tiles g (λ j. s * one_at site j) k p) → toppled g τ site + s ≤ 1
     → Visits (τ k) v (free k) start new → Spreads g site k new τ σ → IsWave g site h σ
 wave_step g site h free τ σ v k start s new open' wave inside low high begins first visits spreads =
     let n : ℕ → ℕ = at_site g (only k (bit new)) in
-    let sum : (j : ℕ) → toppled g σ j ≡ toppled g τ j + n j = λ j. spreads.once (tile_of g j) (place_of g j) (place_below g j) in
+    let sum : (j : ℕ) → toppled g σ j ≡ toppled g τ j + n j =
+    λ j. spreads.once (tile_of g j) (place_of g j) (place_below g j) in
     let flows : (j : ℕ) → j < sites g → flow g (toppled g σ) j ≡ flow g (toppled g τ) j + flow g n j =
     λ j l. flow_same g (toppled g σ) (λ i. toppled g τ i + n i) (λ i m. sum i) j l ∙ flow-add g (toppled g τ) n j in
     record {
@@ -212,8 +224,10 @@ wave_step g site h free τ σ v k start s new open' wave inside low high begins 
           let p = place_of g j in
           let same = only_same k (tile_of g j) (bit new) p here in
           let least = visits.least (on_tiles g (λ i. w i - toppled g τ i) k) c p (place_below g j) in
-          let value = sym (ap (λ m. on_tiles g (λ i. w i - toppled g τ i) m p) here) ∙ at_on g (λ i. w i - toppled g τ i) j l in
+          let value =
+          sym (ap (λ m. on_tiles g (λ i. w i - toppled g τ i) m p) here) ∙ at_on g (λ i. w i - toppled g τ i) j l in
           omega arith)
-          (λ (there : tile_of g j ≡ k → ⊥). let other = only_other k (tile_of g j) (bit new) (place_of g j) there in omega arith)
+          (λ (there : tile_of g j ≡ k → ⊥).
+          let other = only_other k (tile_of g j) (bit new) (place_of g j) there in omega arith)
           (cases_eq (tile_of g j) k);
     }

@@ -9,7 +9,8 @@ use Rattle.sand_fronts.specs.TileLists.{IsClear}
 
 -- the count of a tile by its number, and an empty one past the end
 abbrev pub count_at : List Count → ℕ → Count
-count_at counts k = slice_index_or counts k (record { planes = record { ones = 0; twos = 0; fours = 0; eights = 0; sixteens = 0 }; sets = 0; spilled = [] })
+count_at counts k = slice_index_or counts k
+    (record { planes = record { ones = 0; twos = 0; fours = 0; eights = 0; sixteens = 0 }; sets = 0; spilled = [] })
 
 -- the number of places of n tiles that have toppled in this wave
 abbrev pub in_wave : ℕ → (ℕ → Tile) → ℕ

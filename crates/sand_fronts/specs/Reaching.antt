@@ -8,7 +8,9 @@ use Rattle.sand_fronts.specs.declared.reach.Spot.{Spot}
 
 -- the distance from a spot to a column and a row; on a cylinder, the shorter way around
 abbrev pub distance_between : Grid → Spot → ℕ → ℕ → ℕ
-distance_between g s x y = (if joins g.edge then min (abs_diff s.column x) (g.width - abs_diff s.column x) else abs_diff s.column x) + abs_diff s.row y
+distance_between g s x y =
+    (if joins g.edge then min (abs_diff s.column x) (g.width - abs_diff s.column x) else abs_diff s.column x)
+    + abs_diff s.row y
 
 -- the same for a place of a tile
 abbrev pub distance_within : Grid → Spot → Spot → ℕ → ℕ
@@ -29,7 +31,8 @@ pub record IsReachedFrom (g : Grid) (s corner : Spot) (set reach far : ℕ) : Ty
 -- reach is the greatest distance of a place of any set, or 0 if there is none
 pub record IsReachedIn (g : Grid) (s : Spot) (words : ℕ → ℕ) (reach : ℕ) : Type 0 where
   pub within : (m p : ℕ) → p < 64 → bit (words m) p ≡ 1 → distance_within g s (corner_of g m) p ≤ reach
-  pub reached : 0 < reach → (m : ℕ) × (p : ℕ) × (p < 64) × (bit (words m) p ≡ 1) × (distance_within g s (corner_of g m) p ≡ reach)
+  pub reached : 0 < reach
+      → (m : ℕ) × (p : ℕ) × (p < 64) × (bit (words m) p ≡ 1) × (distance_within g s (corner_of g m) p ≡ reach)
 
 -- each site j toppled v j times, and reach is the greatest distance from a site to one that toppled, or 0 if none did
 pub record IsReach (g : Grid) (site : ℕ) (v : ℕ → ℕ) (reach : ℕ) : Type 0 where

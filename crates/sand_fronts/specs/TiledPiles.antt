@@ -14,7 +14,8 @@ use Rattle.sand_fronts.specs.Drops.{heights_on, counted_on, AreQuiet, AreOutside
 
 -- the state between two drops: tiles, the words of their sites, the neighbours of each tile, a list with enough room,
 -- counts, empty sets of marks, and how many places around each site are outside the grid
-pub record IsTiledPile (g : Grid) (ts : List Tile) (free : List ℕ) (beside : List Beside) (list : ListView) (counts : List Count) (marks : List ℕ) (outside : List Tile) : Type 0 where
+pub record IsTiledPile (g : Grid) (ts : List Tile) (free : List ℕ) (beside : List Beside)
+    (list : ListView) (counts : List Count) (marks : List ℕ) (outside : List Tile) : Type 0 where
   pub tiles_each : length ts ≡ tiles g
   pub free_each : length free ≡ tiles g
   pub counts_each : length counts ≡ tiles g
@@ -39,7 +40,11 @@ unfoldable pub by_site : Grid → (ℕ → ℕ) → List ℕ
 by_site g f = map f (range_with_len 0 (sites g))
 
 abbrev pub tiled_view : Grid → List Tile → List Count → TiledView
-tiled_view g ts counts = record { grid = g; heights = by_site g (heights_on g (tile_at ts)); times = by_site g (counted_on g (count_at counts)) }
+tiled_view g ts counts = record {
+  grid = g;
+  heights = by_site g (heights_on g (tile_at ts));
+  times = by_site g (counted_on g (count_at counts));
+}
 
 pub record IsTiledView (v : TiledView) : Type 0 where
   pub heights_each : length v.heights ≡ sites v.grid
@@ -51,4 +56,5 @@ toppled_between v w j = slice_index w.times j - slice_index v.times j
 
 -- nothing is counted at a place that is no site
 abbrev pub CountsSites : Grid → List Count → Type 0
-CountsSites g counts = (m p : ℕ) → p < 64 → counted (count_at counts m) p ≡ on_tiles g (counted_on g (count_at counts)) m p
+CountsSites g counts =
+    (m p : ℕ) → p < 64 → counted (count_at counts m) p ≡ on_tiles g (counted_on g (count_at counts)) m p

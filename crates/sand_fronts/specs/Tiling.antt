@@ -65,9 +65,11 @@ tile_flow g u k p = around (u k) p + over_north (u (k - pitch g)) p + over_south
 -- u is 0 at each place that is no site: in the border rows, in the border columns, and past the last row and column
 pub record IsBlank (g : Grid) (u : ℕ → ℕ → ℕ) : Type 0 where
   pub above : (c p : ℕ) → c < pitch g → u (1 * pitch g + c) p ≡ 0
-  pub below : (q c y x : ℕ) → c < pitch g → y < 8 → x < 8 → g.height ≤ q * 8 + y → u ((q + 2) * pitch g + c) (y * 8 + x) ≡ 0
+  pub below : (q c y x : ℕ) → c < pitch g → y < 8 → x < 8 → g.height ≤ q * 8 + y
+      → u ((q + 2) * pitch g + c) (y * 8 + x) ≡ 0
   pub before : (q p : ℕ) → u ((q + 2) * pitch g) p ≡ 0
-  pub beyond : (q c y x : ℕ) → c + 1 < pitch g → y < 8 → x < 8 → g.width ≤ c * 8 + x → u ((q + 2) * pitch g + (c + 1)) (y * 8 + x) ≡ 0
+  pub beyond : (q c y x : ℕ) → c + 1 < pitch g → y < 8 → x < 8 → g.width ≤ c * 8 + x
+      → u ((q + 2) * pitch g + (c + 1)) (y * 8 + x) ≡ 0
 
 -- the row and column of a place, whether it is a site, and which
 abbrev pub row_at : Grid → ℕ → ℕ → ℕ
@@ -77,7 +79,8 @@ abbrev pub column_at : Grid → ℕ → ℕ → ℕ
 column_at g k p = (k % pitch g - 1) * 8 + p % 8
 
 unfoldable pub is_site : Grid → ℕ → ℕ → Bool
-is_site g k p = (nat_le 2 (k / pitch g) && nat_le 1 (k % pitch g)) && (nat_lt (row_at g k p) g.height && nat_lt (column_at g k p) g.width)
+is_site g k p = (nat_le 2 (k / pitch g) && nat_le 1 (k % pitch g))
+    && (nat_lt (row_at g k p) g.height && nat_lt (column_at g k p) g.width)
 
 unfoldable pub site_on : Grid → ℕ → ℕ → ℕ
 site_on g k p = row_at g k p * g.width + column_at g k p

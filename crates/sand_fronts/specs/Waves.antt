@@ -37,9 +37,12 @@ pub record IsWave (g : Grid) (site : ℕ) (h : ℕ → ℕ) (τ : ℕ → Tile) 
 -- the places of the set `new` of tile k topple, and their grains reach all neighbours
 pub record Spreads (g : Grid) (site k new : ℕ) (τ σ : ℕ → Tile) : Type 0 where
   pub once : (m p : ℕ) → p < 64 → bit (σ m).wave p ≡ bit (τ m).wave p + only k (bit new) m p
-  pub at_open : (j : ℕ) → j < sites g → j ≢ site → had (τ (tile_of g j)) (place_of g j) + flow g (at_site g (only k (bit new))) j ≤ 7
-      → had (σ (tile_of g j)) (place_of g j) ≡ had (τ (tile_of g j)) (place_of g j) + flow g (at_site g (only k (bit new))) j
-  pub at_held : height (σ (tile_of g site)) (place_of g site) ≡ (height (τ (tile_of g site)) (place_of g site) + flow g (at_site g (only k (bit new))) site) % 4
+  pub at_open : (j : ℕ) → j < sites g → j ≢ site
+      → had (τ (tile_of g j)) (place_of g j) + flow g (at_site g (only k (bit new))) j ≤ 7
+      → had (σ (tile_of g j)) (place_of g j)
+      ≡ had (τ (tile_of g j)) (place_of g j) + flow g (at_site g (only k (bit new))) j
+  pub at_held : height (σ (tile_of g site)) (place_of g site)
+      ≡ (height (τ (tile_of g site)) (place_of g site) + flow g (at_site g (only k (bit new))) site) % 4
 
 -- a tile by its number, and an empty one past the end
 abbrev pub tile_at : List Tile → ℕ → Tile
@@ -78,7 +81,8 @@ pub record Leaves (g : Grid) (site : ℕ) (h : ℕ → ℕ) (τ : ℕ → Tile) 
   pub held : k site + 4 ≡ h site + flow g (toppled g τ) site
 
 abbrev pub beside_at : List Beside → ℕ → Beside
-beside_at all k = slice_index_or all k (record { north = 0; south = 0; west = 0; east = 0; west_shift = 0; east_shift = 0 })
+beside_at all k =
+    slice_index_or all k (record { north = 0; south = 0; west = 0; east = 0; west_shift = 0; east_shift = 0 })
 
 -- n tiles, and for the tile of each site its four neighbours
 pub record IsBoard (g : Grid) (n : ℕ) (all : List Beside) : Type 0 where
@@ -90,7 +94,8 @@ pub record IsBoard (g : Grid) (n : ℕ) (all : List Beside) : Type 0 where
   pub south : (j : ℕ) → j < sites g → (beside_at all (tile_of g j)).south < n
   pub west : (j : ℕ) → j < sites g → (beside_at all (tile_of g j)).west < n
   pub east : (j : ℕ) → j < sites g → (beside_at all (tile_of g j)).east < n
-  pub shifts : (j : ℕ) → j < sites g → ((beside_at all (tile_of g j)).west_shift ≤ 7) × ((beside_at all (tile_of g j)).east_shift ≤ 7)
+  pub shifts : (j : ℕ) → j < sites g
+      → ((beside_at all (tile_of g j)).west_shift ≤ 7) × ((beside_at all (tile_of g j)).east_shift ≤ 7)
 
 -- the heights at the start of a wave: the dropped site has 4 more than in the planes
 abbrev pub heights_before : Grid → ℕ → (ℕ → Tile) → ℕ → ℕ

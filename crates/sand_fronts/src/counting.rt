@@ -34,7 +34,8 @@ fn count_tile(tiles: &mut [Tile], counts: &mut [Count], marks: &mut Marks, k: us
     requires sound { IsCount (count_at counts.old k) }
     requires few { (p : ℕ) → p < 64 → counted (count_at counts.old k) p < 2 ^ 62 }
     ensures counted { AreCounted (tile_at tiles.old) (tile_at tiles.new) (count_at counts.old) (count_at counts.new) }
-    ensures marked { AreMarked (count_at counts.old) (count_at counts.new) (slice_index marks.old) (slice_index marks.new) }
+    ensures marked { AreMarked (count_at counts.old) (count_at counts.new)
+        (slice_index marks.old) (slice_index marks.new) }
     ensures marks_each { length marks.new ≡ length marks.old }
     ensures set { result ≡ (tile_at tiles.old k).wave }
     ensures empty { (tile_at tiles.new k).wave ≡ 0 }
@@ -61,16 +62,21 @@ fn add_tile(
     total: Total,
 ) -> Total
     requires tile { k < length tiles.old }
-    requires one_each { (length counts.old ≡ length tiles.old) × (length marks.old ≡ length tiles.old) × (length outside.now ≡ length tiles.old) }
+    requires one_each { (length counts.old ≡ length tiles.old)
+        × (length marks.old ≡ length tiles.old) × (length outside.now ≡ length tiles.old) }
     requires sound { IsCount (count_at counts.old k) }
     requires few { (p : ℕ) → p < 64 → counted (count_at counts.old k) p < 2 ^ 62 }
     requires small { (total.size < 2 ^ 40) × (total.lost < 2 ^ 40) }
     ensures counted { AreCounted (tile_at tiles.old) (tile_at tiles.new) (count_at counts.old) (count_at counts.new) }
-    ensures marked { AreMarked (count_at counts.old) (count_at counts.new) (slice_index marks.old) (slice_index marks.new) }
+    ensures marked { AreMarked (count_at counts.old) (count_at counts.new)
+        (slice_index marks.old) (slice_index marks.new) }
     ensures marks_each { length marks.new ≡ length marks.old }
     ensures clear { IsClear (tile_at tiles.new k) }
-    ensures size { (n : ℕ) → k < n → result.size + in_wave n (tile_at tiles.new) ≡ total.size + in_wave n (tile_at tiles.old) }
-    ensures lost { (n : ℕ) → k < n → result.lost + over_wave n (tile_at outside.now) (tile_at tiles.new) ≡ total.lost + over_wave n (tile_at outside.now) (tile_at tiles.old) }
+    ensures size { (n : ℕ) → k < n
+        → result.size + in_wave n (tile_at tiles.new) ≡ total.size + in_wave n (tile_at tiles.old) }
+    ensures lost { (n : ℕ) → k < n
+        → result.lost + over_wave n (tile_at outside.now) (tile_at tiles.new)
+        ≡ total.lost + over_wave n (tile_at outside.now) (tile_at tiles.old) }
 {
     let set = count_tile(tiles, counts, marks, k);
     Total {
@@ -89,14 +95,16 @@ pub(crate) fn count_wave(
     here: usize,
 ) -> Total
     requires here { here < length tiles.old }
-    requires one_each { (length counts.old ≡ length tiles.old) × (length marks.old ≡ length tiles.old) × (length outside.now ≡ length tiles.old) }
+    requires one_each { (length counts.old ≡ length tiles.old)
+        × (length marks.old ≡ length tiles.old) × (length outside.now ≡ length tiles.old) }
     requires small { length tiles.old ≤ 65536 }
     requires sound { (m : ℕ) → IsCount (count_at counts.old m) }
     requires few { (m p : ℕ) → p < 64 → with_wave (tile_at tiles.old) (count_at counts.old) m p < 2 ^ 62 }
     requires listed { AreListed here list.now.tiles 0 (length list.now.tiles) (tile_at tiles.old) }
     requires on_board { (t : ℕ) → t < length list.now.tiles → slice_index list.now.tiles t < length tiles.old }
     ensures counted { AreCounted (tile_at tiles.old) (tile_at tiles.new) (count_at counts.old) (count_at counts.new) }
-    ensures marked { AreMarked (count_at counts.old) (count_at counts.new) (slice_index marks.old) (slice_index marks.new) }
+    ensures marked { AreMarked (count_at counts.old) (count_at counts.new)
+        (slice_index marks.old) (slice_index marks.new) }
     ensures marks_each { length marks.new ≡ length marks.old }
     ensures clear { (m : ℕ) → IsClear (tile_at tiles.new m) }
     ensures size { result.size ≡ in_wave (length tiles.old) (tile_at tiles.old) }

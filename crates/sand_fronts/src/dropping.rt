@@ -48,7 +48,8 @@ pub fn topple_all(
 ) -> Total
     requires site { site < sites shape }
     requires here { (here ≡ tile_of shape site) × (place ≡ place_of shape site) }
-    requires one_each { (length free.now ≡ length tiles.old) × (length counts.old ≡ length tiles.old) × (length marks.old ≡ length tiles.old) × (length outside.now ≡ length tiles.old) }
+    requires one_each { (length free.now ≡ length tiles.old) × (length counts.old ≡ length tiles.old)
+        × (length marks.old ≡ length tiles.old) × (length outside.now ≡ length tiles.old) }
     requires outside { AreOutside shape (tile_at outside.now) }
     requires board { IsBoard shape (length tiles.old) beside.now }
     requires all_open { AreOpen shape site (slice_index free.now) }
@@ -56,11 +57,15 @@ pub fn topple_all(
     requires room { sites shape + length tiles.old + 4 ≤ list.old.room }
     requires sound { (m : ℕ) → IsCount (count_at counts.old m) }
     requires few { (m p : ℕ) → p < 64 → counted (count_at counts.old m) p < 2 ^ 60 }
-    ensures settled { IsSettled shape (heights_before shape site (tile_at tiles.old)) (grown_on shape (count_at counts.old) (count_at counts.new)) (heights_on shape (tile_at tiles.new)) }
+    ensures settled { IsSettled shape (heights_before shape site (tile_at tiles.old))
+        (grown_on shape (count_at counts.old) (count_at counts.new)) (heights_on shape (tile_at tiles.new)) }
     ensures size { result.size ≡ topplings shape (grown_on shape (count_at counts.old) (count_at counts.new)) }
     ensures lost { result.lost ≡ lost shape (grown_on shape (count_at counts.old) (count_at counts.new)) }
-    ensures counted { (m p : ℕ) → p < 64 → counted (count_at counts.new m) p ≡ counted (count_at counts.old m) p + on_tiles shape (grown_on shape (count_at counts.old) (count_at counts.new)) m p }
-    ensures marked { AreMarked (count_at counts.old) (count_at counts.new) (slice_index marks.old) (slice_index marks.new) }
+    ensures counted { (m p : ℕ) → p < 64
+        → counted (count_at counts.new m) p ≡ counted (count_at counts.old m) p
+        + on_tiles shape (grown_on shape (count_at counts.old) (count_at counts.new)) m p }
+    ensures marked { AreMarked (count_at counts.old) (count_at counts.new)
+        (slice_index marks.old) (slice_index marks.new) }
     ensures marks_each { length marks.new ≡ length marks.old }
     ensures quiet { AreQuiet shape (tile_at tiles.new) }
     ensures sound { (m : ℕ) → IsCount (count_at counts.new m) }

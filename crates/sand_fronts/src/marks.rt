@@ -47,7 +47,8 @@ impl Marks {
     pub fn mark(&mut self, k: usize, set: u64)
         requires { k < length self.old }
         ensures one_each { length self.new ≡ length self.old }
-        ensures each { (m : ℕ) → slice_index self.new m ≡ (if m == k then bit_or (slice_index self.old m) set else slice_index self.old m) }
+        ensures each { (m : ℕ) → slice_index self.new m
+            ≡ (if m == k then bit_or (slice_index self.old m) set else slice_index self.old m) }
     {
         self.words[k] |= set;
         self.first = self.first.min(k);

@@ -42,7 +42,9 @@ fn gain_at(tiles: &mut [Tile], free: &[u64], list: &mut TileList, k: usize, gain
     requires one_each { length free.now ≡ length tiles.old }
     requires room { length list.old.tiles < list.old.room }
     ensures gains { Gains (tile_at tiles.old) (tile_at tiles.new) (only k (bit gain)) }
-    ensures joins { (n : ℕ) → n ≡ length tiles.old → Joins n 1 (waits (tile_at tiles.old) (slice_index free.now)) (waits (tile_at tiles.new) (slice_index free.now)) list.old list.new }
+    ensures joins { (n : ℕ) → n ≡ length tiles.old
+        → Joins n 1 (waits (tile_at tiles.old) (slice_index free.now))
+        (waits (tile_at tiles.new) (slice_index free.now)) list.old list.new }
 {
     let places = free[k];
     let before = tiles[k].due & places;
@@ -63,7 +65,9 @@ fn hand_over(tiles: &mut [Tile], free: &[u64], list: &mut TileList, beside: &Bes
     requires one_each { length free.now ≡ length tiles.old }
     requires room { length list.old.tiles + 4 ≤ list.old.room }
     ensures gains { Gains (tile_at tiles.old) (tile_at tiles.new) (over_rim beside.now new) }
-    ensures joins { (n : ℕ) → n ≡ length tiles.old → Joins n 4 (waits (tile_at tiles.old) (slice_index free.now)) (waits (tile_at tiles.new) (slice_index free.now)) list.old list.new }
+    ensures joins { (n : ℕ) → n ≡ length tiles.old
+        → Joins n 4 (waits (tile_at tiles.old) (slice_index free.now))
+        (waits (tile_at tiles.new) (slice_index free.now)) list.old list.new }
 {
     gain_at(tiles, free, list, beside.north, new << 56);
     gain_at(tiles, free, list, beside.south, new >> 56);
@@ -104,7 +108,9 @@ fn topple_tile(
     requires shifts { (beside.now.west_shift ≤ 7) × (beside.now.east_shift ≤ 7) }
     requires small { length tiles.old ≤ 65536 }
     ensures steps { Steps (tile_at tiles.old) (tile_at tiles.new) (slice_index free.now k) beside.now k start result }
-    ensures joins { (n : ℕ) → n ≡ length tiles.old → Joins n 4 (waits_but k (tile_at tiles.old) (slice_index free.now)) (waits (tile_at tiles.new) (slice_index free.now)) list.old list.new }
+    ensures joins { (n : ℕ) → n ≡ length tiles.old
+        → Joins n 4 (waits_but k (tile_at tiles.old) (slice_index free.now))
+        (waits (tile_at tiles.new) (slice_index free.now)) list.old list.new }
 {
     let places = free[k];
     let new = visit(&mut tiles[k], places, start);
@@ -135,10 +141,13 @@ pub fn topple_wave(
     ensures on_board { (t : ℕ) → t < length list.new.tiles → slice_index list.new.tiles t < length tiles.new }
     ensures room { list.new.room ≡ list.old.room }
     ensures wave { IsWave shape site (heights_before shape site (tile_at tiles.old)) (tile_at tiles.new) }
-    ensures advances { (k u v : ℕ → ℕ) → Leaves shape site (heights_before shape site (tile_at tiles.old)) (tile_at tiles.new) k
-        → ((j : ℕ) → j < sites shape → v j ≡ u j + toppled shape (tile_at tiles.new) j) → Advances shape u (heights_before shape site (tile_at tiles.old)) v k }
+    ensures advances { (k u v : ℕ → ℕ)
+        → Leaves shape site (heights_before shape site (tile_at tiles.old)) (tile_at tiles.new) k
+        → ((j : ℕ) → j < sites shape → v j ≡ u j + toppled shape (tile_at tiles.new) j)
+        → Advances shape u (heights_before shape site (tile_at tiles.old)) v k }
     ensures started { toppled shape (tile_at tiles.new) site ≡ 1 }
-    ensures none_due { (j : ℕ) → j < sites shape → j ≢ site → bit (tile_at tiles.new (tile_of shape j)).due (place_of shape j) ≡ 0 }
+    ensures none_due { (j : ℕ) → j < sites shape → j ≢ site
+        → bit (tile_at tiles.new (tile_of shape j)).due (place_of shape j) ≡ 0 }
 {
     list.clear();
     let first = beside[here];

@@ -47,7 +47,9 @@ impl Model for TiledPile {
 
     ghost view = { λ p. tiled_view p.shape p.tiles.items p.counts.items };
 
-    ghost invariant = { λ p. IsTiledPile p.shape p.tiles.items p.free.items p.beside.items p.list p.counts.items p.marks p.outside.items × CountsSites p.shape p.counts.items };
+    ghost invariant = { λ p.
+        IsTiledPile p.shape p.tiles.items p.free.items p.beside.items p.list p.counts.items p.marks p.outside.items
+        × CountsSites p.shape p.counts.items };
 }
 
 fn no_counts(alloc: Global, n: usize) -> Result<Vec<Count>, AllocError>
@@ -89,7 +91,8 @@ impl TiledPile {
         requires low { (j : ℕ) → j < sites shape → slice_index heights.now j ≤ 3 }
         ensures grid { IfOk result (λ p. p.grid ≡ shape) }
         ensures by_site { IfOk result (λ p. IsTiledView p) }
-        ensures heights { IfOk result (λ p. (j : ℕ) → j < sites shape → slice_index p.heights j ≡ slice_index heights.now j) }
+        ensures heights { IfOk result
+            (λ p. (j : ℕ) → j < sites shape → slice_index p.heights j ≡ slice_index heights.now j) }
         ensures none { IfOk result (λ p. (j : ℕ) → slice_index p.times j ≡ 0) }
     {
         let n = tiles(shape);
@@ -120,7 +123,8 @@ impl TiledPile {
         ensures grid { self.new.grid ≡ self.old.grid }
         ensures by_site { IsTiledView self.new }
         ensures never_falls { (j : ℕ) → slice_index self.old.times j ≤ slice_index self.new.times j }
-        ensures settled { IsSettled self.old.grid (λ j. slice_index self.old.heights j + one_at site j) (toppled_between self.old self.new) (slice_index self.new.heights) }
+        ensures settled { IsSettled self.old.grid (λ j. slice_index self.old.heights j + one_at site j)
+            (toppled_between self.old self.new) (slice_index self.new.heights) }
         ensures fall { IsFall self.old.grid site (toppled_between self.old self.new) result }
     {
         let TiledPile {

@@ -60,7 +60,8 @@ impl TileList {
     pub fn push_if(&mut self, tile: usize, test: bool)
         requires room { length self.old.tiles < self.old.room }
         requires small { tile < 2 ^ 32 }
-        ensures { self.new ≡ record self.old { tiles = (if test then self.old.tiles ++ tile ∷ [] else self.old.tiles) } }
+        ensures { self.new
+            ≡ record self.old { tiles = (if test then self.old.tiles ++ tile ∷ [] else self.old.tiles) } }
     {
         self.slots[self.len] = tile as u32;
         self.len += usize::from(test);

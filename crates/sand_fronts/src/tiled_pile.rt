@@ -62,9 +62,12 @@ pub fn drop_grain(
     requires pile { IsTiledPile shape tiles.old free.old beside.now list.old counts.old marks.old outside.now }
     requires few { (m p : ℕ) → p < 64 → counted (count_at counts.old m) p < 2 ^ 60 }
     ensures pile { IsTiledPile shape tiles.new free.new beside.now list.new counts.new marks.new outside.now }
-    ensures settled { IsSettled shape (λ j. heights_on shape (tile_at tiles.old) j + one_at site j) (grown_on shape (count_at counts.old) (count_at counts.new)) (heights_on shape (tile_at tiles.new)) }
+    ensures settled { IsSettled shape (λ j. heights_on shape (tile_at tiles.old) j + one_at site j)
+        (grown_on shape (count_at counts.old) (count_at counts.new)) (heights_on shape (tile_at tiles.new)) }
     ensures fall { IsFall shape site (grown_on shape (count_at counts.old) (count_at counts.new)) result }
-    ensures counted { (m p : ℕ) → p < 64 → counted (count_at counts.new m) p ≡ counted (count_at counts.old m) p + on_tiles shape (grown_on shape (count_at counts.old) (count_at counts.new)) m p }
+    ensures counted { (m p : ℕ) → p < 64
+        → counted (count_at counts.new m) p ≡ counted (count_at counts.old m) p
+        + on_tiles shape (grown_on shape (count_at counts.old) (count_at counts.new)) m p }
 {
     let (here, place) = find(shape, site);
     let grain = set_of(place);

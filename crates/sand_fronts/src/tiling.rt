@@ -73,7 +73,8 @@ pub(crate) fn tiles_with(
     requires low { (j : ℕ) → j < sites shape → slice_index heights.now j ≤ 7 }
     ensures one_each { IfOk result (λ all. length all.items ≡ tiles shape) }
     ensures clear { IfOk result (λ all. (m : ℕ) → IsClear (tile_at all.items m)) }
-    ensures heights { IfOk result (λ all. (k p : ℕ) → p < 64 → had (tile_at all.items k) p ≡ on_tiles shape (slice_index heights.now) k p) }
+    ensures heights { IfOk result
+        (λ all. (k p : ℕ) → p < 64 → had (tile_at all.items k) p ≡ on_tiles shape (slice_index heights.now) k p) }
 {
     let mut all = vec![in alloc; BARE; tiles(shape)]?;
     for site in 0..heights.len() {

@@ -11,13 +11,16 @@ returns-clause-clear c p low = ap (λ x. bit x p) c.count_tile-set.ensures.empty
 
 pub returns-clause-size : goal.returns-clause-size
 returns-clause-size c n less =
-    let all = wave_less (λ m x. sum_below 64 (bit x)) (tile_at c.args.tiles.now) (tile_at c.count_tile-set.new.tiles) c.args.k n less none_of_none c.count_tile-set.ensures.empty c.count_tile-set.ensures.others in
+    let all = wave_less (λ m x. sum_below 64 (bit x)) (tile_at c.args.tiles.now) (tile_at c.count_tile-set.new.tiles)
+    c.args.k n less none_of_none c.count_tile-set.ensures.empty c.count_tile-set.ensures.others in
     let set = ap (λ x. sum_below 64 (bit x)) c.count_tile-set.ensures.set in
     omega (arith, c.size.ensures.value)
 
 pub returns-clause-lost : goal.returns-clause-lost
 returns-clause-lost c n less =
     let w : ℕ → ℕ → ℕ = λ m p. number (tile_at c.args.outside.now m) p in
-    let all = wave_less (λ m x. sum_below 64 (λ p. w m p * bit x p)) (tile_at c.args.tiles.now) (tile_at c.count_tile-set.new.tiles) c.args.k n less (none_over_none (w c.args.k)) c.count_tile-set.ensures.empty c.count_tile-set.ensures.others in
+    let all = wave_less (λ m x. sum_below 64 (λ p. w m p * bit x p)) (tile_at c.args.tiles.now)
+    (tile_at c.count_tile-set.new.tiles) c.args.k n less (none_over_none (w c.args.k))
+    c.count_tile-set.ensures.empty c.count_tile-set.ensures.others in
     let set = ap (λ x. sum_below 64 (λ p. w c.args.k p * bit x p)) c.count_tile-set.ensures.set in
     omega (arith, c.sum_over.ensures.value)

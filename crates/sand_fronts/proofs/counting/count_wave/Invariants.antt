@@ -15,6 +15,8 @@ invariant-loop-turn l = record {
   marked : AreMarked (count_at l.fn.counts) (count_at l.counts) (slice_index l.fn.marks) (slice_index l.marks);
   listed : AreListed l.here l.list.tiles l.turn (length l.list.tiles) (tile_at l.tiles);
   first : IsClear (tile_at l.tiles l.here);
-  so_far : l.total.size + in_wave (length l.fn.tiles) (tile_at l.tiles) ≡ in_wave (length l.fn.tiles) (tile_at l.fn.tiles);
-  lost : l.total.lost + over_wave (length l.fn.tiles) (tile_at l.outside) (tile_at l.tiles) ≡ over_wave (length l.fn.tiles) (tile_at l.outside) (tile_at l.fn.tiles);
+  so_far : l.total.size + in_wave (length l.fn.tiles) (tile_at l.tiles)
+      ≡ in_wave (length l.fn.tiles) (tile_at l.fn.tiles);
+  lost : l.total.lost + over_wave (length l.fn.tiles) (tile_at l.outside) (tile_at l.tiles)
+      ≡ over_wave (length l.fn.tiles) (tile_at l.outside) (tile_at l.fn.tiles);
 }

@@ -15,7 +15,8 @@ invariant-waves l = record {
   list_room : l.list.room ≡ l.fn.list.room;
   marks_each : length l.marks ≡ length l.fn.tiles;
   marked : AreMarked (count_at l.fn.counts) (count_at l.counts) (slice_index l.fn.marks) (slice_index l.marks);
-  passed : AreWaves l.fn.shape l.site l.more (tile_at l.fn.tiles) (tile_at l.tiles) (count_at l.fn.counts) (count_at l.counts);
+  passed : AreWaves l.fn.shape l.site l.more (tile_at l.fn.tiles)
+      (tile_at l.tiles) (count_at l.fn.counts) (count_at l.counts);
   size_is : l.total.size ≡ topplings l.fn.shape (grown_on l.fn.shape (count_at l.fn.counts) (count_at l.counts));
   lost_is : l.total.lost ≡ lost l.fn.shape (grown_on l.fn.shape (count_at l.fn.counts) (count_at l.counts));
 }

@@ -14,4 +14,5 @@ returns-then-set-eq0-clause-area c =
     omega arith
 
 pub returns-then-set-eq0-clause-reach : goal.returns-then-set-eq0-clause-reach
-returns-then-set-eq0-clause-reach c = nothing_reached c.args.shape c.args.from (corner_of c.args.shape c.args.k) c.args.set c.args.extent.reach (omega (arith, c.if-set-eq0.true))
+returns-then-set-eq0-clause-reach c = nothing_reached c.args.shape c.args.from
+    (corner_of c.args.shape c.args.k) c.args.set c.args.extent.reach (omega (arith, c.if-set-eq0.true))

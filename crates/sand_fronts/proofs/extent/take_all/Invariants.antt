@@ -12,5 +12,6 @@ invariant-loop-k l = record {
   beyond : (m : ℕ) → l.end ≤ m → slice_index l.marks m ≡ 0;
   rest : (m : ℕ) → l.k ≤ m → slice_index l.marks m ≡ slice_index l.fn.marks m;
   read : SetsRead l.fn.shape (spot_of l.fn.shape l.site) (slice_index l.fn.marks) l.k l.extent.reach;
-  so_far : l.extent.area + in_sets (length l.fn.marks) (slice_index l.marks) ≡ in_sets (length l.fn.marks) (slice_index l.fn.marks);
+  so_far : l.extent.area + in_sets (length l.fn.marks) (slice_index l.marks)
+      ≡ in_sets (length l.fn.marks) (slice_index l.fn.marks);
 }

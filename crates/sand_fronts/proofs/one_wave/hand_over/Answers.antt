@@ -18,16 +18,26 @@ returns-clause-gains c =
     gains_more _ _ _ (λ m p. n m p + s m p + w m p) _ _
     (gains_more _ _ _ (λ m p. n m p + s m p) _ _
     (gains_more _ _ _ _ _ _ c.gain_at.ensures.gains c.gain_at-2.ensures.gains
-    (λ m p low. let x = only_as b.north m p (bit (new * 2 ^ 56 % 2 ^ 64)) (over_south (bit new)) (to_north new p low) in let y = only_as b.south m p (bit (new / 2 ^ 56)) (over_north (bit new)) (to_south new p (omega arith) low) in omega arith))
+    (λ m p low.
+    let x = only_as b.north m p (bit (new * 2 ^ 56 % 2 ^ 64)) (over_south (bit new)) (to_north new p low) in
+    let y = only_as b.south m p (bit (new / 2 ^ 56)) (over_north (bit new)) (to_south new p (omega arith) low) in
+    omega arith))
     c.gain_at-3.ensures.gains
-    (λ m p low. let x = only_as b.west m p (bit (bit_and new 72340172838076673 * 2 ^ b.west_shift % 2 ^ 64)) (over_east b.west_shift (bit new)) (to_the_west new b.west_shift p c.requires.shifts.0 low) in omega arith))
+    (λ m p low.
+    let x = only_as b.west m p (bit (bit_and new 72340172838076673 * 2 ^ b.west_shift % 2 ^ 64))
+    (over_east b.west_shift (bit new)) (to_the_west new b.west_shift p c.requires.shifts.0 low) in
+    omega arith))
     c.gain_at-4.ensures.gains
-    (λ m p low. let x = only_as b.east m p (bit (bit_and (new / 2 ^ b.east_shift) 72340172838076673)) (over_west b.east_shift (bit new)) (to_the_east new b.east_shift p c.requires.shifts.1 low) in omega arith)
+    (λ m p low.
+    let x = only_as b.east m p (bit (bit_and (new / 2 ^ b.east_shift) 72340172838076673))
+    (over_west b.east_shift (bit new)) (to_the_east new b.east_shift p c.requires.shifts.1 low) in
+    omega arith)
 
 pub returns-clause-joins : goal.returns-clause-joins
 returns-clause-joins c n each =
     joins_more n 3 1 _ _ _ _ _ _
     (joins_more n 2 1 _ _ _ _ _ _
-    (joins_more n 1 1 _ _ _ _ _ _ (c.gain_at.ensures.joins n each) (c.gain_at-2.ensures.joins n (omega (arith, c.gain_at.auto.tiles))))
+    (joins_more n 1 1 _ _ _ _ _ _ (c.gain_at.ensures.joins n each)
+    (c.gain_at-2.ensures.joins n (omega (arith, c.gain_at.auto.tiles))))
     (c.gain_at-3.ensures.joins n (omega (arith, c.gain_at.auto.tiles, c.gain_at-2.auto.tiles))))
     (c.gain_at-4.ensures.joins n (omega (arith, c.gain_at.auto.tiles, c.gain_at-2.auto.tiles, c.gain_at-3.auto.tiles)))

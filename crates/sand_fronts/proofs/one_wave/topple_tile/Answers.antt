@@ -14,11 +14,15 @@ returns-clause-steps c = record {
   visited = c.visit-new.new.tile;
   visits = c.visit-new.ensures;
   fits = omega arith;
-  gains = gains_from _ (λ m. cond (eqb m c.args.k) c.visit-new.new.tile (tile_at c.args.tiles.now m)) _ _ (λ m. written c.args.tiles.now c.args.k m c.visit-new.new.tile c.requires.tile) c.hand_over.ensures.gains;
+  gains = gains_from _
+      (λ m. cond (eqb m c.args.k) c.visit-new.new.tile (tile_at c.args.tiles.now m)) _ _
+      (λ m. written c.args.tiles.now c.args.k m c.visit-new.new.tile c.requires.tile) c.hand_over.ensures.gains;
 }
 
 pub returns-clause-joins : goal.returns-clause-joins
 returns-clause-joins c n each =
-    joins_from n 4 _ (waits (tile_at (set c.args.tiles.now c.args.k c.visit-new.new.tile)) (slice_index c.args.free.now)) _ _ _
-    (λ j l. visited_waits c.args.tiles.now (slice_index c.args.free.now) c.args.k j c.visit-new.new.tile c.requires.tile c.visit-new.ensures.none_due)
+    joins_from n 4 _
+    (waits (tile_at (set c.args.tiles.now c.args.k c.visit-new.new.tile)) (slice_index c.args.free.now)) _ _ _
+    (λ j l. visited_waits c.args.tiles.now (slice_index c.args.free.now) c.args.k
+    j c.visit-new.new.tile c.requires.tile c.visit-new.ensures.none_due)
     (c.hand_over.ensures.joins n (omega (arith, length-set {A = Tile})))

@@ -13,21 +13,34 @@ use Rattle.sand_fronts.proofs.one_wave.topple_wave.Goals as goal
 
 pub topple_tile-requires-clause-ready : goal.topple_tile-requires-clause-ready
 topple_tile-requires-clause-ready c =
-    wave_ready c.args.shape c.args.site (heights_before c.args.shape c.args.site (tile_at c.args.tiles.now)) (slice_index c.args.free.now) (tile_at c.args.tiles.now) c.args.here c.args.start 1 c.requires.all_open
-    (first_wave c.args.shape c.args.site (tile_at c.args.tiles.now) c.requires.rest c.requires.site) c.requires.site (first_low c.args.shape c.args.site (tile_at c.args.tiles.now)) c.requires.start (let z = clear_site c.args.shape c.args.site (tile_at c.args.tiles.now) c.requires.rest in omega arith)
+    wave_ready c.args.shape c.args.site (heights_before c.args.shape c.args.site (tile_at c.args.tiles.now))
+    (slice_index c.args.free.now) (tile_at c.args.tiles.now) c.args.here c.args.start 1 c.requires.all_open
+    (first_wave c.args.shape c.args.site (tile_at c.args.tiles.now) c.requires.rest c.requires.site)
+    c.requires.site (first_low c.args.shape c.args.site (tile_at c.args.tiles.now)) c.requires.start
+    (let z = clear_site c.args.shape c.args.site (tile_at c.args.tiles.now) c.requires.rest in omega arith)
 
 pub turns-init : goal.turns-init
 turns-init c =
-    let b = at_tile c.args.shape (length c.args.tiles.now) c.args.site c.args.here c.args.beside.now c.requires.board c.requires.site (sym c.requires.here) in
-    let first = turn_first c.args.shape c.args.site (slice_index c.args.free.now) (tile_at c.args.tiles.now) (tile_at c.topple_tile.new.tiles) c.args.here c.args.start c.topple_tile.result (beside_at c.args.beside.now c.args.here) c.requires.all_open c.requires.rest c.requires.site c.requires.here c.requires.start b.each c.topple_tile.ensures.steps in
+    let b = at_tile c.args.shape (length c.args.tiles.now) c.args.site c.args.here
+    c.args.beside.now c.requires.board c.requires.site (sym c.requires.here) in
+    let first = turn_first c.args.shape c.args.site (slice_index c.args.free.now)
+    (tile_at c.args.tiles.now) (tile_at c.topple_tile.new.tiles) c.args.here c.args.start
+    c.topple_tile.result (beside_at c.args.beside.now c.args.here) c.requires.all_open c.requires.rest
+    c.requires.site c.requires.here c.requires.start b.each c.topple_tile.ensures.steps in
     let joins = c.topple_tile.ensures.joins (length c.args.tiles.now) refl in
     let empty : c.clear.new.self.tiles ≡ [] = ap (λ (l : ListView). l.tiles) c.clear.ensures in
     record {
       wave = first.0;
       started = first.1;
-      waiting = joins.waiting 0 (omega arith) (let P : List ℕ → Type 0 = λ xs. Lists (length c.args.tiles.now) (waits_but c.args.here (tile_at c.args.tiles.now) (slice_index c.args.free.now)) xs in
-          subst P (sym empty) (none_wait c.args.shape c.args.site (length c.args.tiles.now) c.args.here (tile_at c.args.tiles.now) (slice_index c.args.free.now) c.requires.all_open c.requires.rest (λ m. omega (arith, c.type_inv.free m))));
-      listed = first_listed c.args.shape c.args.site (tile_at c.args.tiles.now) (tile_at c.topple_tile.new.tiles) (slice_index c.args.free.now c.args.here) c.args.here c.args.start c.topple_tile.result (beside_at c.args.beside.now c.args.here) c.topple_tile.new.list.tiles c.requires.rest c.topple_tile.ensures.steps;
+      waiting = joins.waiting 0 (omega arith) (let P : List ℕ → Type 0 = λ xs. Lists (length c.args.tiles.now)
+          (waits_but c.args.here (tile_at c.args.tiles.now) (slice_index c.args.free.now)) xs in
+          subst P (sym empty) (none_wait c.args.shape c.args.site (length c.args.tiles.now)
+          c.args.here (tile_at c.args.tiles.now) (slice_index c.args.free.now)
+          c.requires.all_open c.requires.rest (λ m. omega (arith, c.type_inv.free m))));
+      listed = first_listed c.args.shape c.args.site (tile_at c.args.tiles.now)
+          (tile_at c.topple_tile.new.tiles) (slice_index c.args.free.now c.args.here) c.args.here
+          c.args.start c.topple_tile.result (beside_at c.args.beside.now c.args.here)
+          c.topple_tile.new.list.tiles c.requires.rest c.topple_tile.ensures.steps;
       on_board = λ t less. absurd (omega arith);
       within = omega arith;
       count = omega arith;
@@ -38,7 +51,9 @@ turns-init c =
 pub offset_bounds-beside-k : goal.offset_bounds-beside-k
 offset_bounds-beside-k c =
     let turn : c.turns.turn < length c.turns.list.tiles = omega (arith, c.turns-test.true, c.len.ensures.value) in
-    let t = turn_at c.args.shape c.args.site (length c.args.tiles.now) c.turns.turn c.tile-k.result (tile_at c.turns.tiles) (slice_index c.args.free.now) c.turns.list.tiles c.args.beside.now c.requires.all_open c.requires.board (omega (arith, c.type_inv.free c.tile-k.result)) c.turns.invariant.waiting turn c.tile-k.ensures in
+    let t = turn_at c.args.shape c.args.site (length c.args.tiles.now) c.turns.turn c.tile-k.result
+    (tile_at c.turns.tiles) (slice_index c.args.free.now) c.turns.list.tiles c.args.beside.now c.requires.all_open
+    c.requires.board (omega (arith, c.type_inv.free c.tile-k.result)) c.turns.invariant.waiting turn c.tile-k.ensures in
     let i = t.2.inside in
     let s = c.requires.board.small in
     omega arith
@@ -46,60 +61,84 @@ offset_bounds-beside-k c =
 pub bounds-beside-k : goal.bounds-beside-k
 bounds-beside-k c =
     let turn : c.turns.turn < length c.turns.list.tiles = omega (arith, c.turns-test.true, c.len.ensures.value) in
-    let t = turn_at c.args.shape c.args.site (length c.args.tiles.now) c.turns.turn c.tile-k.result (tile_at c.turns.tiles) (slice_index c.args.free.now) c.turns.list.tiles c.args.beside.now c.requires.all_open c.requires.board (omega (arith, c.type_inv.free c.tile-k.result)) c.turns.invariant.waiting turn c.tile-k.ensures in
+    let t = turn_at c.args.shape c.args.site (length c.args.tiles.now) c.turns.turn c.tile-k.result
+    (tile_at c.turns.tiles) (slice_index c.args.free.now) c.turns.list.tiles c.args.beside.now c.requires.all_open
+    c.requires.board (omega (arith, c.type_inv.free c.tile-k.result)) c.turns.invariant.waiting turn c.tile-k.ensures in
     let i = t.2.inside in
     omega (arith, c.requires.board.one_each)
 
 pub topple_tile-requires-in-turns-clause-tile : goal.topple_tile-requires-in-turns-clause-tile
 topple_tile-requires-in-turns-clause-tile c =
     let turn : c.turns.turn < length c.turns.list.tiles = omega (arith, c.turns-test.true, c.len.ensures.value) in
-    let t = turn_at c.args.shape c.args.site (length c.args.tiles.now) c.turns.turn c.tile-k.result (tile_at c.turns.tiles) (slice_index c.args.free.now) c.turns.list.tiles c.args.beside.now c.requires.all_open c.requires.board (omega (arith, c.type_inv.free c.tile-k.result)) c.turns.invariant.waiting turn c.tile-k.ensures in
+    let t = turn_at c.args.shape c.args.site (length c.args.tiles.now) c.turns.turn c.tile-k.result
+    (tile_at c.turns.tiles) (slice_index c.args.free.now) c.turns.list.tiles c.args.beside.now c.requires.all_open
+    c.requires.board (omega (arith, c.type_inv.free c.tile-k.result)) c.turns.invariant.waiting turn c.tile-k.ensures in
     let i = t.2.inside in
     omega (arith, c.turns.invariant.one_each)
 
 pub topple_tile-requires-in-turns-clause-room : goal.topple_tile-requires-in-turns-clause-room
 topple_tile-requires-in-turns-clause-room c =
     let few = few_topplings c.args.shape (tile_at c.turns.tiles) in
-    let long = lists_length (length c.args.tiles.now) (waits (tile_at c.turns.tiles) (slice_index c.args.free.now)) (drop c.turns.turn c.turns.list.tiles) c.turns.invariant.waiting in
-    omega (arith, length-drop c.turns.turn c.turns.list.tiles, c.turns.invariant.count, c.turns.invariant.list_room, c.turns.invariant.within, c.requires.room)
+    let long = lists_length (length c.args.tiles.now) (waits (tile_at c.turns.tiles) (slice_index c.args.free.now))
+    (drop c.turns.turn c.turns.list.tiles) c.turns.invariant.waiting in
+    omega (
+      arith,
+      length-drop c.turns.turn c.turns.list.tiles,
+      c.turns.invariant.count,
+      c.turns.invariant.list_room,
+      c.turns.invariant.within,
+      c.requires.room,
+    )
 
 pub topple_tile-requires-in-turns-clause-ready : goal.topple_tile-requires-in-turns-clause-ready
 topple_tile-requires-in-turns-clause-ready c =
-    wave_ready c.args.shape c.args.site (heights_before c.args.shape c.args.site (tile_at c.args.tiles.now)) (slice_index c.args.free.now) (tile_at c.turns.tiles) c.tile-k.result 0 0 c.requires.all_open
-    c.turns.invariant.wave c.requires.site (first_low c.args.shape c.args.site (tile_at c.args.tiles.now)) (starts_none c.args.shape c.args.site c.tile-k.result) (omega (arith, c.turns.invariant.started))
+    wave_ready c.args.shape c.args.site (heights_before c.args.shape c.args.site (tile_at c.args.tiles.now))
+    (slice_index c.args.free.now) (tile_at c.turns.tiles) c.tile-k.result 0 0 c.requires.all_open
+    c.turns.invariant.wave c.requires.site (first_low c.args.shape c.args.site (tile_at c.args.tiles.now))
+    (starts_none c.args.shape c.args.site c.tile-k.result) (omega (arith, c.turns.invariant.started))
 
 pub topple_tile-requires-in-turns-clause-north : goal.topple_tile-requires-in-turns-clause-north
 topple_tile-requires-in-turns-clause-north c =
     let turn : c.turns.turn < length c.turns.list.tiles = omega (arith, c.turns-test.true, c.len.ensures.value) in
-    let t = turn_at c.args.shape c.args.site (length c.args.tiles.now) c.turns.turn c.tile-k.result (tile_at c.turns.tiles) (slice_index c.args.free.now) c.turns.list.tiles c.args.beside.now c.requires.all_open c.requires.board (omega (arith, c.type_inv.free c.tile-k.result)) c.turns.invariant.waiting turn c.tile-k.ensures in
+    let t = turn_at c.args.shape c.args.site (length c.args.tiles.now) c.turns.turn c.tile-k.result
+    (tile_at c.turns.tiles) (slice_index c.args.free.now) c.turns.list.tiles c.args.beside.now c.requires.all_open
+    c.requires.board (omega (arith, c.type_inv.free c.tile-k.result)) c.turns.invariant.waiting turn c.tile-k.ensures in
     let i = t.2.north in
     omega (arith, c.turns.invariant.one_each)
 
 pub topple_tile-requires-in-turns-clause-south : goal.topple_tile-requires-in-turns-clause-south
 topple_tile-requires-in-turns-clause-south c =
     let turn : c.turns.turn < length c.turns.list.tiles = omega (arith, c.turns-test.true, c.len.ensures.value) in
-    let t = turn_at c.args.shape c.args.site (length c.args.tiles.now) c.turns.turn c.tile-k.result (tile_at c.turns.tiles) (slice_index c.args.free.now) c.turns.list.tiles c.args.beside.now c.requires.all_open c.requires.board (omega (arith, c.type_inv.free c.tile-k.result)) c.turns.invariant.waiting turn c.tile-k.ensures in
+    let t = turn_at c.args.shape c.args.site (length c.args.tiles.now) c.turns.turn c.tile-k.result
+    (tile_at c.turns.tiles) (slice_index c.args.free.now) c.turns.list.tiles c.args.beside.now c.requires.all_open
+    c.requires.board (omega (arith, c.type_inv.free c.tile-k.result)) c.turns.invariant.waiting turn c.tile-k.ensures in
     let i = t.2.south in
     omega (arith, c.turns.invariant.one_each)
 
 pub topple_tile-requires-in-turns-clause-west : goal.topple_tile-requires-in-turns-clause-west
 topple_tile-requires-in-turns-clause-west c =
     let turn : c.turns.turn < length c.turns.list.tiles = omega (arith, c.turns-test.true, c.len.ensures.value) in
-    let t = turn_at c.args.shape c.args.site (length c.args.tiles.now) c.turns.turn c.tile-k.result (tile_at c.turns.tiles) (slice_index c.args.free.now) c.turns.list.tiles c.args.beside.now c.requires.all_open c.requires.board (omega (arith, c.type_inv.free c.tile-k.result)) c.turns.invariant.waiting turn c.tile-k.ensures in
+    let t = turn_at c.args.shape c.args.site (length c.args.tiles.now) c.turns.turn c.tile-k.result
+    (tile_at c.turns.tiles) (slice_index c.args.free.now) c.turns.list.tiles c.args.beside.now c.requires.all_open
+    c.requires.board (omega (arith, c.type_inv.free c.tile-k.result)) c.turns.invariant.waiting turn c.tile-k.ensures in
     let i = t.2.west in
     omega (arith, c.turns.invariant.one_each)
 
 pub topple_tile-requires-in-turns-clause-east : goal.topple_tile-requires-in-turns-clause-east
 topple_tile-requires-in-turns-clause-east c =
     let turn : c.turns.turn < length c.turns.list.tiles = omega (arith, c.turns-test.true, c.len.ensures.value) in
-    let t = turn_at c.args.shape c.args.site (length c.args.tiles.now) c.turns.turn c.tile-k.result (tile_at c.turns.tiles) (slice_index c.args.free.now) c.turns.list.tiles c.args.beside.now c.requires.all_open c.requires.board (omega (arith, c.type_inv.free c.tile-k.result)) c.turns.invariant.waiting turn c.tile-k.ensures in
+    let t = turn_at c.args.shape c.args.site (length c.args.tiles.now) c.turns.turn c.tile-k.result
+    (tile_at c.turns.tiles) (slice_index c.args.free.now) c.turns.list.tiles c.args.beside.now c.requires.all_open
+    c.requires.board (omega (arith, c.type_inv.free c.tile-k.result)) c.turns.invariant.waiting turn c.tile-k.ensures in
     let i = t.2.east in
     omega (arith, c.turns.invariant.one_each)
 
 pub topple_tile-requires-in-turns-clause-shifts : goal.topple_tile-requires-in-turns-clause-shifts
 topple_tile-requires-in-turns-clause-shifts c =
     let turn : c.turns.turn < length c.turns.list.tiles = omega (arith, c.turns-test.true, c.len.ensures.value) in
-    let t = turn_at c.args.shape c.args.site (length c.args.tiles.now) c.turns.turn c.tile-k.result (tile_at c.turns.tiles) (slice_index c.args.free.now) c.turns.list.tiles c.args.beside.now c.requires.all_open c.requires.board (omega (arith, c.type_inv.free c.tile-k.result)) c.turns.invariant.waiting turn c.tile-k.ensures in
+    let t = turn_at c.args.shape c.args.site (length c.args.tiles.now) c.turns.turn c.tile-k.result
+    (tile_at c.turns.tiles) (slice_index c.args.free.now) c.turns.list.tiles c.args.beside.now c.requires.all_open
+    c.requires.board (omega (arith, c.type_inv.free c.tile-k.result)) c.turns.invariant.waiting turn c.tile-k.ensures in
     t.2.shifts
 
 pub turns-smaller : goal.turns-smaller
@@ -111,21 +150,36 @@ turns-smaller c =
 pub turns-preserved : goal.turns-preserved
 turns-preserved c =
     let turn : c.turns.turn < length c.turns.list.tiles = omega (arith, c.turns-test.true, c.len.ensures.value) in
-    let t = turn_at c.args.shape c.args.site (length c.args.tiles.now) c.turns.turn c.tile-k.result (tile_at c.turns.tiles) (slice_index c.args.free.now) c.turns.list.tiles c.args.beside.now c.requires.all_open c.requires.board (omega (arith, c.type_inv.free c.tile-k.result)) c.turns.invariant.waiting turn c.tile-k.ensures in
+    let t = turn_at c.args.shape c.args.site (length c.args.tiles.now) c.turns.turn c.tile-k.result
+    (tile_at c.turns.tiles) (slice_index c.args.free.now) c.turns.list.tiles c.args.beside.now c.requires.all_open
+    c.requires.board (omega (arith, c.type_inv.free c.tile-k.result)) c.turns.invariant.waiting turn c.tile-k.ensures in
     let h = heights_before c.args.shape c.args.site (tile_at c.args.tiles.now) in
-    let more = turn_more c.args.shape c.args.site h (slice_index c.args.free.now) (tile_at c.turns.tiles) (tile_at c.topple_tile-in-turns.new.tiles) c.tile-k.result c.topple_tile-in-turns.result t.0 (beside_at c.args.beside.now c.tile-k.result) c.requires.all_open c.turns.invariant.wave c.requires.site (first_low c.args.shape c.args.site (tile_at c.args.tiles.now)) (let o = one_at_same c.args.site in omega arith) c.turns.invariant.started t.1 t.2.each c.topple_tile-in-turns.ensures.steps in
-    let f = front_of (length c.args.tiles.now) c.turns.turn c.tile-k.result (waits (tile_at c.turns.tiles) (slice_index c.args.free.now)) c.turns.list.tiles c.turns.invariant.waiting turn c.tile-k.ensures in
+    let more = turn_more c.args.shape c.args.site h (slice_index c.args.free.now) (tile_at c.turns.tiles)
+    (tile_at c.topple_tile-in-turns.new.tiles) c.tile-k.result c.topple_tile-in-turns.result t.0
+    (beside_at c.args.beside.now c.tile-k.result) c.requires.all_open c.turns.invariant.wave c.requires.site
+    (first_low c.args.shape c.args.site (tile_at c.args.tiles.now)) (let o = one_at_same c.args.site in omega arith)
+    c.turns.invariant.started t.1 t.2.each c.topple_tile-in-turns.ensures.steps in
+    let f = front_of (length c.args.tiles.now) c.turns.turn c.tile-k.result
+    (waits (tile_at c.turns.tiles) (slice_index c.args.free.now))
+    c.turns.list.tiles c.turns.invariant.waiting turn c.tile-k.ensures in
     let joins = c.topple_tile-in-turns.ensures.joins (length c.args.tiles.now) (sym c.turns.invariant.one_each) in
     let longer = joins.longer in
     let least = more.2 in
     record {
       wave = more.0;
       started = more.1;
-      waiting = joins.waiting (c.turns.turn + 1) (omega arith) (others_wait (length c.args.tiles.now) c.turns.turn c.tile-k.result (tile_at c.turns.tiles) (slice_index c.args.free.now) c.turns.list.tiles f.2);
-      listed = turn_listed (tile_at c.turns.tiles) (tile_at c.topple_tile-in-turns.new.tiles) (slice_index c.args.free.now c.tile-k.result) c.args.here c.tile-k.result c.turns.turn c.topple_tile-in-turns.result (beside_at c.args.beside.now c.tile-k.result)
-          c.turns.list.tiles c.topple_tile-in-turns.new.list.tiles c.turns.invariant.listed c.topple_tile-in-turns.ensures.steps c.tile-k.ensures (λ i less. joins.kept i (omega arith));
-      on_board = turn_on_board (length c.turns.tiles) (length c.topple_tile-in-turns.new.tiles) c.tile-k.result c.turns.turn c.turns.list.tiles c.topple_tile-in-turns.new.list.tiles c.topple_tile-in-turns.auto.tiles c.turns.invariant.on_board
-          (let i = t.2.inside in omega (arith, c.turns.invariant.one_each)) c.tile-k.ensures (λ i less. joins.kept i (omega arith));
+      waiting = joins.waiting (c.turns.turn + 1) (omega arith) (others_wait (length c.args.tiles.now) c.turns.turn
+          c.tile-k.result (tile_at c.turns.tiles) (slice_index c.args.free.now) c.turns.list.tiles f.2);
+      listed = turn_listed (tile_at c.turns.tiles) (tile_at c.topple_tile-in-turns.new.tiles)
+          (slice_index c.args.free.now c.tile-k.result) c.args.here c.tile-k.result c.turns.turn
+          c.topple_tile-in-turns.result (beside_at c.args.beside.now c.tile-k.result)
+          c.turns.list.tiles c.topple_tile-in-turns.new.list.tiles c.turns.invariant.listed
+          c.topple_tile-in-turns.ensures.steps c.tile-k.ensures (λ i less. joins.kept i (omega arith));
+      on_board = turn_on_board (length c.turns.tiles) (length c.topple_tile-in-turns.new.tiles)
+          c.tile-k.result c.turns.turn c.turns.list.tiles c.topple_tile-in-turns.new.list.tiles
+          c.topple_tile-in-turns.auto.tiles c.turns.invariant.on_board
+          (let i = t.2.inside in omega (arith, c.turns.invariant.one_each))
+          c.tile-k.ensures (λ i less. joins.kept i (omega arith));
       within = omega arith;
       count = omega (arith, c.turns.invariant.count);
       list_room = joins.room ∙ c.turns.invariant.list_room;
@@ -134,12 +188,14 @@ turns-preserved c =
 
 pub returns-clause-listed : goal.returns-clause-listed
 returns-clause-listed c m =
-    let last : length c.turns.list.tiles ≡ c.turns.turn = omega (arith, c.turns-test.false, c.len.ensures.value, c.turns.invariant.within) in
+    let last : length c.turns.list.tiles ≡ c.turns.turn =
+    omega (arith, c.turns-test.false, c.len.ensures.value, c.turns.invariant.within) in
     let P : ℕ → Type 0 = λ n. AreListed c.args.here c.turns.list.tiles 0 n (tile_at c.turns.tiles) in
     subst P (sym last) c.turns.invariant.listed m
 
 pub returns-clause-on_board : goal.returns-clause-on_board
-returns-clause-on_board c t less = c.turns.invariant.on_board t (omega (arith, c.turns-test.false, c.len.ensures.value, c.turns.invariant.within))
+returns-clause-on_board c t less =
+    c.turns.invariant.on_board t (omega (arith, c.turns-test.false, c.len.ensures.value, c.turns.invariant.within))
 
 pub returns-clause-wave : goal.returns-clause-wave
 returns-clause-wave c = c.turns.invariant.wave
@@ -149,11 +205,15 @@ returns-clause-started c = c.turns.invariant.started
 
 pub returns-clause-none_due : goal.returns-clause-none_due
 returns-clause-none_due c j inside other =
-    let none : drop c.turns.turn c.turns.list.tiles ≡ [] = drop_all c.turns.turn c.turns.list.tiles (omega (arith, c.turns-test.false, c.len.ensures.value)) in
-    let P : List ℕ → Type 0 = λ xs. Lists (length c.args.tiles.now) (waits (tile_at c.turns.tiles) (slice_index c.args.free.now)) xs in
-    none_left c.args.shape c.args.site (length c.args.tiles.now) (tile_at c.turns.tiles) (slice_index c.args.free.now) c.args.beside.now c.requires.all_open c.requires.board (subst P none c.turns.invariant.waiting) j inside other
+    let none : drop c.turns.turn c.turns.list.tiles ≡ [] =
+    drop_all c.turns.turn c.turns.list.tiles (omega (arith, c.turns-test.false, c.len.ensures.value)) in
+    let P : List ℕ → Type 0 =
+    λ xs. Lists (length c.args.tiles.now) (waits (tile_at c.turns.tiles) (slice_index c.args.free.now)) xs in
+    none_left c.args.shape c.args.site (length c.args.tiles.now) (tile_at c.turns.tiles) (slice_index c.args.free.now)
+    c.args.beside.now c.requires.all_open c.requires.board (subst P none c.turns.invariant.waiting) j inside other
 
 pub returns-clause-advances : goal.returns-clause-advances
 returns-clause-advances c k u v leaves sums =
-    wave_advances c.args.shape c.args.site (heights_before c.args.shape c.args.site (tile_at c.args.tiles.now)) (tile_at c.turns.tiles) k u v c.turns.invariant.wave c.turns.invariant.started
+    wave_advances c.args.shape c.args.site (heights_before c.args.shape c.args.site (tile_at c.args.tiles.now))
+    (tile_at c.turns.tiles) k u v c.turns.invariant.wave c.turns.invariant.started
     (λ j inside other. returns-clause-none_due c j inside other) leaves sums

@@ -7,5 +7,6 @@ pub loop-site-preserved : goal.loop-site-preserved
 loop-site-preserved c = record {
   made = search rules;
   room = search rules;
-  so_far = numbers_more (missing c.args.shape) c.loop-site.all.items _ c.from.result c.loop-site.site c.push_reserved.ensures.items (search rules) (search rules) c.loop-site.invariant.so_far;
+  so_far = numbers_more (missing c.args.shape) c.loop-site.all.items _ c.from.result c.loop-site.site
+      c.push_reserved.ensures.items (search rules) (search rules) c.loop-site.invariant.so_far;
 }

@@ -6,11 +6,13 @@ pub loop-k-preserved : goal.loop-k-preserved
 loop-k-preserved c = record {
   made = search rules;
   room = search rules;
-  each = sides_more c.args.shape c.loop-k.all.items _ c.sides_of.result c.loop-k.k c.push_reserved.ensures.items (search rules) c.sides_of.ensures c.loop-k.invariant.each;
+  each = sides_more c.args.shape c.loop-k.all.items _ c.sides_of.result c.loop-k.k
+      c.push_reserved.ensures.items (search rules) c.sides_of.ensures c.loop-k.invariant.each;
 }
 
 pub returns-clause-board : goal.returns-clause-board
 returns-clause-board c =
     let long : length c.loop-k.all.items ≡ c.tiles-n.result = search rules in
-    board_of c.args.shape c.loop-k.all.items (omega (arith, c.tiles-n.ensures.value)) (omega (arith, c.tiles-n.ensures.value, c.tiles-n.ensures.limit))
+    board_of c.args.shape c.loop-k.all.items (omega (arith, c.tiles-n.ensures.value))
+    (omega (arith, c.tiles-n.ensures.value, c.tiles-n.ensures.limit))
     (λ k l. c.loop-k.invariant.each k (omega (arith, c.tiles-n.ensures.value, c.loop-k-test.false)))

@@ -10,5 +10,6 @@ abbrev pub invariant-loop-site : goal.invariant-loop-site
 invariant-loop-site l = record {
   one_each : length l.all.items ≡ tiles l.fn.shape;
   clear : (m : ℕ) → IsClear (tile_at l.all.items m);
-  so_far : (k p : ℕ) → p < 64 → had (tile_at l.all.items k) p ≡ on_tiles l.fn.shape (up_to (λ j. get_or l.fn.heights j 0) l.site) k p;
+  so_far : (k p : ℕ) → p < 64
+      → had (tile_at l.all.items k) p ≡ on_tiles l.fn.shape (up_to (λ j. get_or l.fn.heights j 0) l.site) k p;
 }

@@ -18,9 +18,12 @@ invariant_of-result c = (
     outside_each = c.in_ok-outside.ensures.one_each;
     board = c.in_ok-beside.ensures.board;
     all_open = c.in_ok-free.ensures.all;
-    quiet = new_quiet c.args.shape (λ j. get_or c.args.heights.now j 0) (tile_at c.in_ok-tiles.tiles.items) c.requires.low c.in_ok-tiles.ensures.heights;
+    quiet = new_quiet c.args.shape (λ j. get_or c.args.heights.now j 0)
+        (tile_at c.in_ok-tiles.tiles.items) c.requires.low c.in_ok-tiles.ensures.heights;
     sound = c.in_ok-counts.ensures.sound;
-    room = let r = ap (λ (l : ListView). l.room) c.in_ok-list.ensures in omega (arith, c.tiles-n.ensures.value, c.sites.ensures.value);
+    room =
+        let r = ap (λ (l : ListView). l.room) c.in_ok-list.ensures in
+        omega (arith, c.tiles-n.ensures.value, c.sites.ensures.value);
     unmarked = c.in_ok-marks.ensures.none;
     are_outside = c.in_ok-outside.ensures.each;
   },
@@ -32,10 +35,12 @@ returns-clause-by_site c = by_site_view c.args.shape c.in_ok-tiles.tiles.items c
 
 pub returns-clause-none : goal.returns-clause-none
 returns-clause-none c j =
-    let none = by_site_none c.args.shape (counted_on c.args.shape (count_at c.in_ok-counts.counts.items)) (λ i l. c.in_ok-counts.ensures.none (tile_of c.args.shape i) (place_of c.args.shape i) (place_below c.args.shape i)) j in
+    let none = by_site_none c.args.shape (counted_on c.args.shape (count_at c.in_ok-counts.counts.items)) (λ i l.
+    c.in_ok-counts.ensures.none (tile_of c.args.shape i) (place_of c.args.shape i) (place_below c.args.shape i)) j in
     none
 
 pub returns-clause-heights : goal.returns-clause-heights
 returns-clause-heights c j l =
     by_site_at c.args.shape (heights_on c.args.shape (tile_at c.in_ok-tiles.tiles.items)) j l
-    ∙ new_heights c.args.shape (λ i. get_or c.args.heights.now i 0) (tile_at c.in_ok-tiles.tiles.items) j c.requires.low c.in_ok-tiles.ensures.heights l
+    ∙ new_heights c.args.shape (λ i. get_or c.args.heights.now i 0)
+    (tile_at c.in_ok-tiles.tiles.items) j c.requires.low c.in_ok-tiles.ensures.heights l
