@@ -37,7 +37,8 @@ pub record IsAtStart (start : PileView) (r : SettledView) (t : TiledView) (all g
   pub all_topplings : all ≡ r.topplings
   pub all_lost : gone ≡ r.lost
 
-start_record : (start : PileView) (r : SettledView) (t : TiledView) (all gone : ℕ) → IsAtStart start r t all gone → IsRecord start.grid (height_of start) (driven_record r t all gone)
+start_record : (start : PileView) (r : SettledView) (t : TiledView) (all gone : ℕ) → IsAtStart start r t all gone
+    → IsRecord start.grid (height_of start) (driven_record r t all gone)
 start_record start r t all gone at =
     let g = start.grid in
     let done = at.record_of in
@@ -50,13 +51,18 @@ start_record start r t all gone at =
       grid = done.grid;
       heights_each = at.by_site.heights_each ∙ ap sites at.one_grid ∙ same_sites;
       odometer_each = by_site_long r.pile.grid times ∙ same_sites;
-      settled = settled_same g (height_of start) (height_of start) (λ j. get_or r.odometer j 0) (λ j. get_or q.odometer j 0) (λ j. get_or r.pile.heights j 0) (λ j. get_or q.pile.heights j 0)
+      settled = settled_same g (height_of start) (height_of start) (λ j. get_or r.odometer j 0)
+          (λ j. get_or q.odometer j 0) (λ j. get_or r.pile.heights j 0) (λ j. get_or q.pile.heights j 0)
           (λ j l. refl) counts (λ j l. sym (at.heights j (omega arith))) done.settled;
-      all_topplings = at.all_topplings ∙ done.all_topplings ∙ sum_below_same (sites g) (λ j. get_or r.odometer j 0) (λ j. get_or q.odometer j 0) counts;
-      all_lost = at.all_lost ∙ done.all_lost ∙ sum_below_same (sites g) (λ j. missing g j * get_or r.odometer j 0) (λ j. missing g j * get_or q.odometer j 0) (λ j l. ap (λ m. missing g j * m) (counts j l));
+      all_topplings = at.all_topplings ∙ done.all_topplings
+          ∙ sum_below_same (sites g) (λ j. get_or r.odometer j 0) (λ j. get_or q.odometer j 0) counts;
+      all_lost = at.all_lost ∙ done.all_lost ∙ sum_below_same (sites g) (λ j. missing g j * get_or r.odometer j 0)
+          (λ j. missing g j * get_or q.odometer j 0) (λ j l. ap (λ m. missing g j * m) (counts j l));
     }
 
-pub driven_start : (start : PileView) (r : SettledView) (t : TiledView) (all gone grains : ℕ) → IsAtStart start r t all gone → grains ≡ sum r.pile.heights + gone → IsDriven r t 0 all gone grains
+pub driven_start : (start : PileView) (r : SettledView) (t : TiledView) (all gone grains : ℕ)
+    → IsAtStart start r t all gone → grains ≡ sum r.pile.heights + gone
+    → IsDriven r t 0 all gone grains
 driven_start start r t all gone grains at whole =
     let q = driven_record r t all gone in
     let done = start_record start r t all gone at in
@@ -72,29 +78,39 @@ driven_start start r t all gone grains at whole =
       few = omega arith;
     }
 
-pub driven_view : (start : PileView) (r : SettledView) (t : TiledView) (all gone : ℕ) → IsAtStart start r t all gone → IsAfter start [] (one_view (driven_record r t all gone) 0)
-driven_view start r t all gone at = after_start start (driven_record r t all gone) at.pile (start_record start r t all gone at)
+pub driven_view : (start : PileView) (r : SettledView) (t : TiledView) (all gone : ℕ) → IsAtStart start r t all gone
+    → IsAfter start [] (one_view (driven_record r t all gone) 0)
+driven_view start r t all gone at =
+    after_start start (driven_record r t all gone) at.pile (start_record start r t all gone at)
 
 -- ---- a drop
 
-pub few_counts : (r : SettledView) (t : TiledView) (number all gone grains : ℕ) → IsDriven r t number all gone grains → (j : ℕ) → j < sites t.grid → slice_index r.odometer j + slice_index t.times j < 2 ^ 60
+pub few_counts : (r : SettledView) (t : TiledView) (number all gone grains : ℕ)
+    → IsDriven r t number all gone grains → (j : ℕ) → j < sites t.grid
+    → slice_index r.odometer j + slice_index t.times j < 2 ^ 60
 few_counts r t number all gone grains driven j l =
     let one = ap sites driven.one_grid in
     let at = by_site_at r.pile.grid (λ i. slice_index r.odometer i + slice_index t.times i) j (omega arith) in
-    let part = at_most_sum_below (sites r.pile.grid) (λ i. get_or (driven_record r t all gone).odometer i 0) j (omega arith) in
+    let part =
+    at_most_sum_below (sites r.pile.grid) (λ i. get_or (driven_record r t all gone).odometer i 0) j (omega arith) in
     let sums = driven.paid.all_topplings in
     let pays = driven.paid.paid in
     let limit = driven.paid.limit in
     omega arith
 
-pub record_read : (r : SettledView) (t : TiledView) (all gone : ℕ) (pile : PileView) (counts : List ℕ) → pile.grid ≡ r.pile.grid → pile.heights ≡ t.heights
-    → counts ≡ by_site r.pile.grid (λ j. slice_index r.odometer j + slice_index t.times j) → record { pile = pile; odometer = counts; topplings = all; lost = gone } ≡ driven_record r t all gone
-record_read r t all gone pile counts grid heights same = λ i. record { pile = record { grid = grid i; heights = heights i }; odometer = same i; topplings = all; lost = gone }
+pub record_read : (r : SettledView) (t : TiledView) (all gone : ℕ) (pile : PileView) (counts : List ℕ)
+    → pile.grid ≡ r.pile.grid → pile.heights ≡ t.heights
+    → counts ≡ by_site r.pile.grid (λ j. slice_index r.odometer j + slice_index t.times j)
+    → record { pile = pile; odometer = counts; topplings = all; lost = gone } ≡ driven_record r t all gone
+record_read r t all gone pile counts grid heights same = λ i.
+    record { pile = record { grid = grid i; heights = heights i }; odometer = same i; topplings = all; lost = gone }
 
 -- a drop on the tiles is a drop on the record
-pub driven_takes : (r : SettledView) (t u : TiledView) (site : ℕ) (f : Fall) (number all gone grains : ℕ) → IsDriven r t number all gone grains → u.grid ≡ t.grid → IsTiledView u
+pub driven_takes : (r : SettledView) (t u : TiledView) (site : ℕ) (f : Fall) (number all gone grains : ℕ)
+    → IsDriven r t number all gone grains → u.grid ≡ t.grid → IsTiledView u
     → ((j : ℕ) → slice_index t.times j ≤ slice_index u.times j)
-    → IsSettled t.grid (λ j. slice_index t.heights j + one_at site j) (toppled_between t u) (slice_index u.heights) → IsFall t.grid site (toppled_between t u) f
+    → IsSettled t.grid (λ j. slice_index t.heights j + one_at site j) (toppled_between t u) (slice_index u.heights)
+    → IsFall t.grid site (toppled_between t u) f
     → TakesGrain (driven_record r t all gone) site (driven_record r u (all + f.size) (gone + f.lost))
 driven_takes r t u site f number all gone grains driven grid by_site rises settled fall =
     let g = r.pile.grid in
@@ -102,8 +118,10 @@ driven_takes r t u site f number all gone grains driven grid by_site rises settl
     let after : ℕ → ℕ = λ i. slice_index r.odometer i + slice_index u.times i in
     let p = driven_record r t all gone in
     let q = driven_record r u (all + f.size) (gone + f.lost) in
-    let between : (j : ℕ) → j < sites g → toppled_between t u j ≡ topplings_between p q j = λ j l. let a = by_site_at g before j l in let b = by_site_at g after j l in omega arith in
-    let P : Grid → Type 0 = λ h. IsSettled h (λ j. slice_index t.heights j + one_at site j) (toppled_between t u) (slice_index u.heights) in
+    let between : (j : ℕ) → j < sites g → toppled_between t u j ≡ topplings_between p q j =
+    λ j l. let a = by_site_at g before j l in let b = by_site_at g after j l in omega arith in
+    let P : Grid → Type 0 =
+    λ h. IsSettled h (λ j. slice_index t.heights j + one_at site j) (toppled_between t u) (slice_index u.heights) in
     let Q : Grid → Type 0 = λ h. IsFall h site (toppled_between t u) f in
     let fell = subst Q driven.one_grid fall in
     record {
@@ -111,39 +129,57 @@ driven_takes r t u site f number all gone grains driven grid by_site rises settl
       heights_each = by_site.heights_each ∙ ap sites grid ∙ ap sites driven.one_grid;
       odometer_each = by_site_long g after;
       never_falls = λ j. ⊎_elim
-          (λ (less : j < sites g). let a = by_site_at g before j less in let b = by_site_at g after j less in let le = rises j in omega arith)
+          (λ (less : j < sites g).
+          let a = by_site_at g before j less in let b = by_site_at g after j less in let le = rises j in omega arith)
           (λ (past : sites g ≤ j). let a = by_site_past g before j past in omega arith)
           (cases_lt j (sites g));
-      settled = settled_same g (λ j. slice_index t.heights j + one_at site j) (λ j. slice_index t.heights j + one_at site j) (toppled_between t u) (topplings_between p q) (slice_index u.heights) (slice_index u.heights)
+      settled =
+          settled_same g (λ j. slice_index t.heights j + one_at site j) (λ j. slice_index t.heights j + one_at site j)
+          (toppled_between t u) (topplings_between p q) (slice_index u.heights) (slice_index u.heights)
           (λ j l. refl) between (λ j l. refl) (subst P driven.one_grid settled);
-      more_topplings = ap (λ m. all + m) (fell.size ∙ sum_below_same (sites g) (toppled_between t u) (topplings_between p q) between);
-      more_lost = ap (λ m. gone + m) (fell.all_lost ∙ sum_below_same (sites g) (λ j. missing g j * toppled_between t u j) (λ j. missing g j * topplings_between p q j) (λ j l. ap (λ m. missing g j * m) (between j l)));
+      more_topplings = ap (λ m. all + m)
+          (fell.size ∙ sum_below_same (sites g) (toppled_between t u) (topplings_between p q) between);
+      more_lost =
+          ap (λ m. gone + m) (fell.all_lost ∙ sum_below_same (sites g) (λ j. missing g j * toppled_between t u j)
+          (λ j. missing g j * topplings_between p q j) (λ j l. ap (λ m. missing g j * m) (between j l)));
     }
 
-pub driven_avalanche : (r : SettledView) (t u : TiledView) (site : ℕ) (f : Fall) (number all gone grains : ℕ) (a : Avalanche) → IsDriven r t number all gone grains
-    → IsFall t.grid site (toppled_between t u) f → a ≡ record { site = site; size = f.size; area = f.area; reach = f.reach; lost = f.lost }
-    → IsAvalanche r.pile.grid site (topplings_between (driven_record r t all gone) (driven_record r u (all + f.size) (gone + f.lost))) a
+pub driven_avalanche : (r : SettledView) (t u : TiledView) (site : ℕ)
+    (f : Fall) (number all gone grains : ℕ) (a : Avalanche)
+    → IsDriven r t number all gone grains
+    → IsFall t.grid site (toppled_between t u) f
+    → a ≡ record { site = site; size = f.size; area = f.area; reach = f.reach; lost = f.lost }
+    → IsAvalanche r.pile.grid site
+    (topplings_between (driven_record r t all gone) (driven_record r u (all + f.size) (gone + f.lost))) a
 driven_avalanche r t u site f number all gone grains a driven fall made =
     let g = r.pile.grid in
     let v = toppled_between t u in
     let before : ℕ → ℕ = λ i. slice_index r.odometer i + slice_index t.times i in
     let after : ℕ → ℕ = λ i. slice_index r.odometer i + slice_index u.times i in
     let w = topplings_between (driven_record r t all gone) (driven_record r u (all + f.size) (gone + f.lost)) in
-    let same : (j : ℕ) → j < sites g → v j ≡ w j = λ j l. let a' = by_site_at g before j l in let b = by_site_at g after j l in omega arith in
+    let same : (j : ℕ) → j < sites g → v j ≡ w j =
+    λ j l. let a' = by_site_at g before j l in let b = by_site_at g after j l in omega arith in
     let Q : Grid → Type 0 = λ h. IsFall h site v f in
     let fell = subst Q driven.one_grid fall in
     let reach = ap (λ (x : Avalanche). x.reach) made in
     record {
       origin = ap (λ (x : Avalanche). x.site) made;
       size = ap (λ (x : Avalanche). x.size) made ∙ fell.size ∙ sum_below_same (sites g) v w same;
-      area = ap (λ (x : Avalanche). x.area) made ∙ fell.area ∙ sum_below_same (sites g) (λ j. one_if (ltb 0 (v j))) (λ j. one_if (ltb 0 (w j))) (λ j l. ap (λ m. one_if (ltb 0 m)) (same j l));
+      area = ap (λ (x : Avalanche). x.area) made ∙ fell.area ∙ sum_below_same (sites g)
+          (λ j. one_if (ltb 0 (v j))) (λ j. one_if (ltb 0 (w j))) (λ j l. ap (λ m. one_if (ltb 0 m)) (same j l));
       within = λ j l some. let le = fell.reach.within j l (let e = same j l in omega arith) in omega arith;
-      reached = λ far. let one = fell.reach.reached (omega arith) in (one.0, one.1, let e = same one.0 one.1 in let some = one.2 in omega arith, one.3 ∙ sym reach);
-      all_lost = ap (λ (x : Avalanche). x.lost) made ∙ fell.all_lost ∙ sum_below_same (sites g) (λ j. missing g j * v j) (λ j. missing g j * w j) (λ j l. ap (λ m. missing g j * m) (same j l));
+      reached = λ far.
+          let one = fell.reach.reached (omega arith) in
+          (one.0, one.1, let e = same one.0 one.1 in let some = one.2 in omega arith, one.3 ∙ sym reach);
+      all_lost = ap (λ (x : Avalanche). x.lost) made ∙ fell.all_lost ∙ sum_below_same (sites g)
+          (λ j. missing g j * v j) (λ j. missing g j * w j) (λ j l. ap (λ m. missing g j * m) (same j l));
     }
 
-pub driven_after : (r : SettledView) (t u : TiledView) (site : ℕ) (f : Fall) (number all gone grains : ℕ) → IsDriven r t number all gone grains → u.grid ≡ t.grid → site < sites r.pile.grid → grains < most_grains
-    → TakesGrain (driven_record r t all gone) site (driven_record r u (all + f.size) (gone + f.lost)) → IsDriven r u (number + 1) (all + f.size) (gone + f.lost) (grains + 1)
+pub driven_after : (r : SettledView) (t u : TiledView) (site : ℕ) (f : Fall) (number all gone grains : ℕ)
+    → IsDriven r t number all gone grains → u.grid ≡ t.grid
+    → site < sites r.pile.grid → grains < most_grains
+    → TakesGrain (driven_record r t all gone) site (driven_record r u (all + f.size) (gone + f.lost))
+    → IsDriven r u (number + 1) (all + f.size) (gone + f.lost) (grains + 1)
 driven_after r t u site f number all gone grains driven grid inside room taken =
     let p = driven_record r t all gone in
     let q = driven_record r u (all + f.size) (gone + f.lost) in
@@ -156,7 +192,8 @@ driven_after r t u site f number all gone grains driven grid inside room taken =
       few = let few = driven.few in omega arith;
     }
 
-apart_below : (round : Bool) (across around limit : ℕ) → across < limit → (if round then min across around else across) < limit
+apart_below : (round : Bool) (across around limit : ℕ) → across < limit
+    → (if round then min across around else across) < limit
 apart_below true across around limit l = omega arith
 apart_below false across around limit l = l
 
@@ -170,18 +207,24 @@ near g i j sides inside there =
     let b = mod_below j g.width (omega arith) in
     let c = div_below i g.width g.height (omega arith) (omega arith) in
     let d = div_below j g.width g.height (omega arith) (omega arith) in
-    let across = apart_below (joins g.edge) (abs_diff (column g i) (column g j)) (g.width - abs_diff (column g i) (column g j)) 256 (omega arith) in
+    let across = apart_below (joins g.edge) (abs_diff (column g i) (column g j))
+    (g.width - abs_diff (column g i) (column g j)) 256 (omega arith) in
     omega arith
 
 -- the numbers of an avalanche fit into 32 bits
-pub small_fall : (g : Grid) (site : ℕ) (v : ℕ → ℕ) (f : Fall) → IsGrid g → site < sites g → IsFall g site v f → (f.area < 2 ^ 32) × (f.reach < 2 ^ 32)
+pub small_fall : (g : Grid) (site : ℕ) (v : ℕ → ℕ) (f : Fall) → IsGrid g → site < sites g → IsFall g site v f
+    → (f.area < 2 ^ 32) × (f.reach < 2 ^ 32)
 small_fall g site v f sides inside fall =
     let most = at_most_all (sites g) (λ j. one_if (ltb 0 (v j))) (λ j l. at_most_one (ltb 0 (v j))) in
     let all = sites_limit g sides in
     let area = fall.area in (
       omega arith,
       ⊎_elim
-          (λ (far : 0 < f.reach). let one = fall.reach.reached far in let n = near g site one.0 sides inside one.1 in let e = one.3 in omega arith)
+          (λ (far : 0 < f.reach).
+          let one = fall.reach.reached far in
+          let n = near g site one.0 sides inside one.1 in
+          let e = one.3 in
+          omega arith)
           (λ (none : f.reach ≤ 0). omega arith)
           (cases_lt 0 f.reach),
     )

@@ -8,24 +8,39 @@ use Rattle.sand_model.proofs.Heights.{sum_is_grains, sum_left}
 use Rattle.sand_model.proofs.Bounds.{topplings_bound}
 use Rattle.sand_settle.specs.Settling.{SettledView, IsRecord}
 
-pub sum_bound : (start : PileView) (u h : List ℕ) → IsPile start → length u ≡ sites start.grid → IsSettled start.grid (λ j. get_or start.heights j 0) (λ j. get_or u j 0) (λ j. get_or h j 0) → sum u < 2 ^ 54
+pub sum_bound : (start : PileView) (u h : List ℕ)
+    → IsPile start → length u ≡ sites start.grid
+    → IsSettled start.grid (λ j. get_or start.heights j 0) (λ j. get_or u j 0) (λ j. get_or h j 0)
+    → sum u < 2 ^ 54
 sum_bound start u h pile counts done =
-    let all = topplings_bound start.grid (λ j. get_or start.heights j 0) (λ j. get_or u j 0) (λ j. get_or h j 0) pile.grid (let e = sum_is_grains start.grid start.heights pile.one_each in let limit = pile.limit in omega arith) done.toppled in
+    let all = topplings_bound start.grid (λ j. get_or start.heights j 0) (λ j. get_or u j 0) (λ j. get_or h j 0)
+    pile.grid (let e = sum_is_grains start.grid start.heights pile.one_each in let limit = pile.limit in omega arith)
+    done.toppled in
     let sum_is = sum_is_grains start.grid u counts in
     omega arith
 
-pub half_weight : (start : PileView) (u h : List ℕ) → length u ≡ sites start.grid → IsSettled start.grid (λ j. get_or start.heights j 0) (λ j. get_or u j 0) (λ j. get_or h j 0) → 2 * sum u ≤ weight start.grid (λ j. get_or start.heights j 0)
+pub half_weight : (start : PileView) (u h : List ℕ) → length u ≡ sites start.grid
+    → IsSettled start.grid (λ j. get_or start.heights j 0) (λ j. get_or u j 0) (λ j. get_or h j 0)
+    → 2 * sum u ≤ weight start.grid (λ j. get_or start.heights j 0)
 half_weight start u h counts done =
-    let all = weight_after start.grid (λ j. get_or start.heights j 0) (λ j. get_or u j 0) (λ j. get_or h j 0) done.toppled in
+    let all =
+    weight_after start.grid (λ j. get_or start.heights j 0) (λ j. get_or u j 0) (λ j. get_or h j 0) done.toppled in
     let sum_is = sum_is_grains start.grid u counts in
     omega arith
 
-pub record_is : (start : PileView) (r : SettledView) → IsPile start → r.pile.grid ≡ start.grid → length r.pile.heights ≡ sites start.grid → length r.odometer ≡ sites start.grid → IsSettled start.grid (λ j. get_or start.heights j 0) (λ j. get_or r.odometer j 0) (λ j. get_or r.pile.heights j 0) → r.topplings ≡ sum r.odometer → r.lost ≡ sum start.heights - sum r.pile.heights → IsRecord start.grid (λ j. get_or start.heights j 0) r
+pub record_is : (start : PileView) (r : SettledView) → IsPile start
+    → r.pile.grid ≡ start.grid → length r.pile.heights ≡ sites start.grid
+    → length r.odometer ≡ sites start.grid
+    → IsSettled start.grid (λ j. get_or start.heights j 0) (λ j. get_or r.odometer j 0) (λ j. get_or r.pile.heights j 0)
+    → r.topplings ≡ sum r.odometer → r.lost ≡ sum start.heights - sum r.pile.heights
+    → IsRecord start.grid (λ j. get_or start.heights j 0) r
 record_is start r pile same heights counts done all gone = record {
   grid = same;
   heights_each = heights;
   odometer_each = counts;
   settled = done;
   all_topplings = all ∙ sum_is_grains start.grid r.odometer counts;
-  all_lost = let left = sum_left start.grid start.heights r.pile.heights (λ j. get_or r.odometer j 0) pile.one_each heights done.toppled in omega arith;
+  all_lost = let left = sum_left start.grid start.heights r.pile.heights
+      (λ j. get_or r.odometer j 0) pile.one_each heights done.toppled in
+      omega arith;
 }

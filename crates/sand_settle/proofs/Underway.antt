@@ -14,7 +14,8 @@ use Rattle.sand_model.specs.Piles.{most_grains}
 pub topplings_at : (g : Grid) (i k : ℕ) → i < sites g → topplings g (λ j. k * one_at i j) ≡ k
 topplings_at g i k l = sum_below-one_at (sites g) i (λ j. k) l
 
-pub weight_step : (g : Grid) (i k : ℕ) (t r : ℕ → ℕ) → i < sites g → IsToppled g t (λ j. k * one_at i j) r → weight g r + 2 * k ≤ weight g t
+pub weight_step : (g : Grid) (i k : ℕ) (t r : ℕ → ℕ) → i < sites g → IsToppled g t (λ j. k * one_at i j) r
+    → weight g r + 2 * k ≤ weight g t
 weight_step g i k t r l done =
     let all = weight_after g t (λ j. k * one_at i j) r done in
     let count = topplings_at g i k l in
@@ -29,30 +30,42 @@ advance_more g u t v r w q first second = record {
   grains_fall = let one = first.grains_fall in let two = second.grains_fall in omega arith;
 }
 
-pub topplings_more : (g : Grid) (v w : ℕ → ℕ) (i k : ℕ) → i < sites g → ((j : ℕ) → j < sites g → w j ≡ v j + k * one_at i j) → topplings g w ≡ topplings g v + k
+pub topplings_more : (g : Grid) (v w : ℕ → ℕ) (i k : ℕ) → i < sites g
+    → ((j : ℕ) → j < sites g → w j ≡ v j + k * one_at i j)
+    → topplings g w ≡ topplings g v + k
 topplings_more g v w i k l counts =
     let same = sum_below_same (sites g) w (λ j. v j + k * one_at i j) counts in
     let both = sum_below-add (sites g) v (λ j. k * one_at i j) in
     let here = topplings_at g i k l in
     omega arith
 
-pub advance_turn : (g : Grid) (v r w q : ℕ → ℕ) (i k : ℕ) → i < sites g → 4 * k ≤ r i → ((j : ℕ) → j < sites g → w j ≡ v j + k * one_at i j) → IsToppled g r (λ j. k * one_at i j) q → Advances g v r w q
+pub advance_turn : (g : Grid) (v r w q : ℕ → ℕ) (i k : ℕ) → i < sites g
+    → 4 * k ≤ r i → ((j : ℕ) → j < sites g → w j ≡ v j + k * one_at i j)
+    → IsToppled g r (λ j. k * one_at i j) q → Advances g v r w q
 advance_turn g v r w q i k l high counts done = record {
   underway = λ s before. underway_step g s v r w q i k l high before counts done;
-  weight_pays = let count = topplings_more g v w i k l counts in let falls = weight_step g i k r q l done in omega arith;
+  weight_pays =
+      let count = topplings_more g v w i k l counts in
+      let falls = weight_step g i k r q l done in
+      omega arith;
   grains_fall = let all = laplacian_sum g r (λ j. k * one_at i j) q done in omega arith;
 }
 
-pub turn_counts : (g : Grid) (v w : ℕ → ℕ) (i k : ℕ) → i < sites g → ((j : ℕ) → j < sites g → w j ≡ v j + k * one_at i j) → 0 < k → topplings g v + 1 ≤ topplings g w
+pub turn_counts : (g : Grid) (v w : ℕ → ℕ) (i k : ℕ) → i < sites g
+    → ((j : ℕ) → j < sites g → w j ≡ v j + k * one_at i j) → 0 < k
+    → topplings g v + 1 ≤ topplings g w
 turn_counts g v w i k l counts some = let count = topplings_more g v w i k l counts in omega arith
 
-pub counts_small : (g : Grid) (u t v r : ℕ → ℕ) (i : ℕ) → Advances g u t v r → 2 * topplings g u + weight g t < 2 ^ 55 → i < sites g → v i < 2 ^ 54
+pub counts_small : (g : Grid) (u t v r : ℕ → ℕ) (i : ℕ) → Advances g u t v r
+    → 2 * topplings g u + weight g t < 2 ^ 55 → i < sites g → v i < 2 ^ 54
 counts_small g u t v r i advances few l =
     let part = at_most_sum_below (sites g) v i l in
     let pays = advances.weight_pays in
     omega arith
 
-pub sum_falls : (g : Grid) (u v : ℕ → ℕ) (h k : List ℕ) → length h ≡ sites g → length k ≡ sites g → Advances g u (λ j. get_or h j 0) v (λ j. get_or k j 0) → sum k ≤ sum h
+pub sum_falls : (g : Grid) (u v : ℕ → ℕ) (h k : List ℕ) → length h ≡ sites g
+    → length k ≡ sites g → Advances g u (λ j. get_or h j 0) v (λ j. get_or k j 0)
+    → sum k ≤ sum h
 sum_falls g u v h k lh lk advances =
     let before = sum_is_grains g h lh in
     let after = sum_is_grains g k lk in
@@ -60,7 +73,9 @@ sum_falls g u v h k lh lk advances =
     omega arith
 
 -- at the start of a settling the topplings to come are few
-pub few_at_first : (g : Grid) (u : ℕ → ℕ) (h : List ℕ) → IsGrid g → length h ≡ sites g → sum h ≤ most_grains → ((i : ℕ) → u i ≡ 0) → 2 * topplings g u + weight g (λ j. get_or h j 0) < 2 ^ 55
+pub few_at_first : (g : Grid) (u : ℕ → ℕ) (h : List ℕ) → IsGrid g
+    → length h ≡ sites g → sum h ≤ most_grains → ((i : ℕ) → u i ≡ 0)
+    → 2 * topplings g u + weight g (λ j. get_or h j 0) < 2 ^ 55
 few_at_first g u h sides each limit none =
     let heavy = weight_bound g (λ j. get_or h j 0) sides in
     let grains_are = sum_is_grains g h each in
@@ -70,10 +85,13 @@ few_at_first g u h sides each limit none =
 
 -- ---- at the end
 
-pub all_stable : (g : Grid) (t : ℕ → ℕ) (site : ℕ) → t site ≤ 3 → ((j : ℕ) → j < sites g → j ≢ site → t j ≤ 3) → (j : ℕ) → j < sites g → t j ≤ 3
+pub all_stable : (g : Grid) (t : ℕ → ℕ) (site : ℕ) → t site ≤ 3
+    → ((j : ℕ) → j < sites g → j ≢ site → t j ≤ 3) → (j : ℕ) → j < sites g → t j ≤ 3
 all_stable g t site low others j l =
     ⊎_elim (λ (e : j ≡ site). let same = ap t e in omega arith) (λ (ne : j ≡ site → ⊥). others j l ne) (cases_eq j site)
 
 -- counts that began at 0 are the odometer
-pub settled_at_last : (g : Grid) (s u v t : ℕ → ℕ) → ((j : ℕ) → u j ≡ 0) → Advances g u s v t → ((j : ℕ) → j < sites g → t j ≤ 3) → IsSettled g s v t
-settled_at_last g s u v t none all low = underway_end g s v t (all.underway s (underway_start g s u (λ j l. none j))) low
+pub settled_at_last : (g : Grid) (s u v t : ℕ → ℕ) → ((j : ℕ) → u j ≡ 0)
+    → Advances g u s v t → ((j : ℕ) → j < sites g → t j ≤ 3) → IsSettled g s v t
+settled_at_last g s u v t none all low =
+    underway_end g s v t (all.underway s (underway_start g s u (λ j l. none j))) low

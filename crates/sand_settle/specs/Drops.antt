@@ -34,7 +34,8 @@ pub record TakesGrain (r : SettledView) (site : ℕ) (q : SettledView) : Type 0 
   pub heights_each : length q.pile.heights ≡ sites r.pile.grid
   pub odometer_each : length q.odometer ≡ sites r.pile.grid
   pub never_falls : (j : ℕ) → odometer_of r j ≤ odometer_of q j
-  pub settled : IsSettled r.pile.grid (λ j. height_of r.pile j + one_at site j) (topplings_between r q) (height_of q.pile)
+  pub settled : IsSettled r.pile.grid (λ j. height_of r.pile j + one_at site j)
+      (topplings_between r q) (height_of q.pile)
   pub more_topplings : q.topplings ≡ r.topplings + topplings r.pile.grid (topplings_between r q)
   pub more_lost : q.lost ≡ r.lost + lost r.pile.grid (topplings_between r q)
 

@@ -5,4 +5,5 @@ use Rattle.sand_settle.specs.Drops.{OneView, IsAfter, DropsAll}
 
 -- after any list of drops, one by one, the record is the settled record of the start and the tally of the list
 abbrev pub DropsAddUp : Type 0
-DropsAddUp = (start : PileView) (history : List ℕ) (v w : OneView) → IsAfter start [] v → DropsAll v history w → IsAfter start history w
+DropsAddUp = (start : PileView) (history : List ℕ) (v w : OneView) → IsAfter start [] v → DropsAll v history w
+    → IsAfter start history w

@@ -6,8 +6,10 @@ use Rattle.sand_model.specs.Underway.{Advances}
 
 -- the heights h become k when each site topples as often as it is in the list, whatever toppled before
 abbrev pub TopplesListed : Grid → List ℕ → List ℕ → List ℕ → Type 0
-TopplesListed g list h k = (u v : ℕ → ℕ) → ((j : ℕ) → j < sites g → v j ≡ u j + tally list j) → Advances g u (slice_index h) v (slice_index k)
+TopplesListed g list h k =
+    (u v : ℕ → ℕ) → ((j : ℕ) → j < sites g → v j ≡ u j + tally list j) → Advances g u (slice_index h) v (slice_index k)
 
 -- the heights h become k when each neighbour of the site gets `times` grains
 abbrev pub NeighboursGain : Grid → ℕ → ℕ → List ℕ → List ℕ → Type 0
-NeighboursGain g site times h k = (j : ℕ) → j < sites g → slice_index k j ≡ slice_index h j + times * flow g (one_at site) j
+NeighboursGain g site times h k =
+    (j : ℕ) → j < sites g → slice_index k j ≡ slice_index h j + times * flow g (one_at site) j

@@ -60,7 +60,8 @@ pub(crate) fn collect(
 ) -> Avalanche
     requires site { site < sites lattice.now }
     requires one_each { (length counts.old ≡ sites lattice.now) × (length odometer.old ≡ sites lattice.now) }
-    requires few { (topplings lattice.now (slice_index counts.old) < 2 ^ 54) × (topplings lattice.now (slice_index odometer.old) < 2 ^ 54) }
+    requires few { (topplings lattice.now (slice_index counts.old) < 2 ^ 54)
+        × (topplings lattice.now (slice_index odometer.old) < 2 ^ 54) }
     requires lost { lost lattice.now (slice_index counts.old) < 2 ^ 54 }
     requires noted { Lists (sites lattice.now) (has_toppled (slice_index counts.old)) toppled.now.sites }
     ensures avalanche { IsAvalanche lattice.now site (slice_index counts.old) result }

@@ -47,7 +47,8 @@ impl Model for DrivenPile {
 
 fn avalanche_of(site: usize, fall: Fall) -> Avalanche
     requires small { (fall.area < 2 ^ 32) × (fall.reach < 2 ^ 32) }
-    ensures { result ≡ record { site = site; size = fall.size; area = fall.area; reach = fall.reach; lost = fall.lost } }
+    ensures { result
+        ≡ record { site = site; size = fall.size; area = fall.area; reach = fall.reach; lost = fall.lost } }
 {
     Avalanche {
         site,
@@ -71,8 +72,10 @@ fn read_heights(fronts: &TiledPile, heights: &mut [u64])
 // Adds the topplings on the tiles to an odometer.
 fn add_times(fronts: &TiledPile, odometer: &mut [u64])
     requires one_each { length odometer.old ≡ sites fronts.now.grid }
-    requires few { (j : ℕ) → j < sites fronts.now.grid → slice_index odometer.old j + slice_index fronts.now.times j < 2 ^ 63 }
-    ensures { odometer.new ≡ by_site fronts.now.grid (λ j. slice_index odometer.old j + slice_index fronts.now.times j) }
+    requires few { (j : ℕ) → j < sites fronts.now.grid
+        → slice_index odometer.old j + slice_index fronts.now.times j < 2 ^ 63 }
+    ensures { odometer.new ≡ by_site fronts.now.grid
+        (λ j. slice_index odometer.old j + slice_index fronts.now.times j) }
 {
     for (site, count) in odometer.iter_mut().enumerate() {
         *count += fronts.times(site);
@@ -110,11 +113,13 @@ impl DrivenPile {
     pub fn drop_at(&mut self, site: usize) -> Result<(u64, Avalanche), OneFault>
         requires { site < sites (grid_of_one_pile self.old) }
         ensures number { IfOk result (λ r. r.0 ≡ self.old.number) }
-        ensures avalanche { IfOk result (λ r. IsAvalanche (grid_of_one_pile self.old) site (topplings_between self.old.settled self.new.settled) r.1) }
+        ensures avalanche { IfOk result (λ r.
+            IsAvalanche (grid_of_one_pile self.old) site (topplings_between self.old.settled self.new.settled) r.1) }
 
         // From the record before, and from any start and drops that lead to it.
         ensures drops { OnOk result (Drops self.old site self.new) }
-        ensures after { OnOk result ((start : PileView) (history : List ℕ) → IsAfter start history self.old → IsAfter start (history ++ site ∷ []) self.new) }
+        ensures after { OnOk result ((start : PileView) (history : List ℕ) → IsAfter start history self.old
+            → IsAfter start (history ++ site ∷ []) self.new) }
 
         ensures full { (result ≡ Err OneFault.Full) ↔ (self.old.grains ≡ most_grains) }
         ensures err { OnErr result (self.new ≡ self.old) }

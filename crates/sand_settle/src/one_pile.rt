@@ -112,11 +112,13 @@ impl OnePile {
     pub fn drop_at(&mut self, alloc: Global, site: usize) -> Result<(u64, Avalanche), OneFault>
         requires { site < sites (grid_of_one_pile self.old) }
         ensures number { IfOk result (λ r. r.0 ≡ self.old.number) }
-        ensures avalanche { IfOk result (λ r. IsAvalanche (grid_of_one_pile self.old) site (topplings_between self.old.settled self.new.settled) r.1) }
+        ensures avalanche { IfOk result (λ r.
+            IsAvalanche (grid_of_one_pile self.old) site (topplings_between self.old.settled self.new.settled) r.1) }
 
         // From the record before, and from any start and drops that lead to it.
         ensures drops { OnOk result (Drops self.old site self.new) }
-        ensures after { OnOk result ((start : PileView) (history : List ℕ) → IsAfter start history self.old → IsAfter start (history ++ site ∷ []) self.new) }
+        ensures after { OnOk result ((start : PileView) (history : List ℕ) → IsAfter start history self.old
+            → IsAfter start (history ++ site ∷ []) self.new) }
 
         ensures full { (result ≡ Err OneFault.Full) ↔ (self.old.grains ≡ most_grains) }
         ensures err { OnErr result (self.new ≡ self.old) }

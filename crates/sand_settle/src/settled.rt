@@ -27,7 +27,8 @@ impl Model for Settled {
 
     ghost view = { λ r. record { pile = r.pile; odometer = r.odometer.items; topplings = r.topplings; lost = r.lost } };
 
-    ghost invariant = { λ r. IsSettledRecord (record { pile = r.pile; odometer = r.odometer.items; topplings = r.topplings; lost = r.lost }) };
+    ghost invariant = { λ r. IsSettledRecord
+        (record { pile = r.pile; odometer = r.odometer.items; topplings = r.topplings; lost = r.lost }) };
 }
 
 fn sum_of(counts: &[u64]) -> u64
@@ -41,9 +42,11 @@ impl Settled {
     /// The record of a settled pile, its odometer and the number of grains lost, which must be those of some heights.
     /// Copies nothing.
     pub fn of_parts(pile: Pile, odometer: Vec<u64>, lost: u64) -> Settled
-        requires settled { IsSettledRecord (record { pile = pile; odometer = odometer.items; topplings = sum odometer.items; lost = lost }) }
+        requires settled { IsSettledRecord
+            (record { pile = pile; odometer = odometer.items; topplings = sum odometer.items; lost = lost }) }
         requires small { sum odometer.items < 2 ^ 64 }
-        ensures { result ≡ record { pile = pile; odometer = odometer.items; topplings = sum odometer.items; lost = lost } }
+        ensures { result
+            ≡ record { pile = pile; odometer = odometer.items; topplings = sum odometer.items; lost = lost } }
     {
         let topplings = sum_of(&odometer);
         Settled {

@@ -39,11 +39,14 @@ fn topple_wave(
 )
     requires one_each { (length heights.old ≡ sites lattice.now) × (length counts.old ≡ sites lattice.now) }
     requires limit { sum heights.old ≤ most_grains }
-    requires few { 2 * topplings lattice.now (slice_index counts.old) + weight lattice.now (slice_index heights.old) < 2 ^ 55 }
+    requires few { 2 * topplings lattice.now (slice_index counts.old) + weight lattice.now (slice_index heights.old)
+        < 2 ^ 55 }
     requires waiting { ListsUnstable (sites lattice.now) heights.old wave.now.sites }
     requires room { sites lattice.now + 4 ≤ next.old.room }
-    ensures advances { Advances lattice.now (slice_index counts.old) (slice_index heights.old) (slice_index counts.new) (slice_index heights.new) }
-    ensures each_topples { topplings lattice.now (slice_index counts.old) + length wave.now.sites ≤ topplings lattice.now (slice_index counts.new) }
+    ensures advances { Advances lattice.now (slice_index counts.old)
+        (slice_index heights.old) (slice_index counts.new) (slice_index heights.new) }
+    ensures each_topples { topplings lattice.now (slice_index counts.old) + length wave.now.sites
+        ≤ topplings lattice.now (slice_index counts.new) }
     ensures waiting { ListsUnstable (sites lattice.now) heights.new next.new.sites }
     ensures room { next.new.room ≡ next.old.room }
 {
@@ -76,7 +79,8 @@ impl Workspace {
     pub(crate) fn settle(self, heights: &mut [u64], turns: u64) -> Option<Vec<u64>>
         requires one_each { length heights.old ≡ sites self }
         requires limit { sum heights.old ≤ most_grains }
-        ensures settled { IfSome result (λ u. IsSettled self (slice_index heights.old) (slice_index u.items) (slice_index heights.new)) }
+        ensures settled { IfSome result
+            (λ u. IsSettled self (slice_index heights.old) (slice_index u.items) (slice_index heights.new)) }
         ensures odometer_each { IfSome result (λ u. length u.items ≡ sites self) }
         ensures ends { 2 ^ 54 ≤ turns → IsSome result }
     {

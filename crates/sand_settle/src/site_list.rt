@@ -60,7 +60,8 @@ impl SiteList {
     pub(crate) fn push_if(&mut self, site: usize, test: bool)
         requires room { length self.old.sites < self.old.room }
         requires small { site < 2 ^ 32 }
-        ensures { self.new ≡ record self.old { sites = (if test then self.old.sites ++ site ∷ [] else self.old.sites) } }
+        ensures { self.new
+            ≡ record self.old { sites = (if test then self.old.sites ++ site ∷ [] else self.old.sites) } }
     {
         self.slots[self.len] = site as u32;
         self.len += usize::from(test);

@@ -25,7 +25,8 @@ fn deliver(heights: &mut [u64], list: &mut SiteList, place: Option<usize>, times
     requires limit { sum heights.old + times < 2 ^ 63 }
     requires small { length heights.old ≤ 65536 }
     requires room { length list.old.sites < list.old.room }
-    ensures each { (j : ℕ) → slice_index heights.new j ≡ slice_index heights.old j + times * value_at (λ k. one_at k j) place }
+    ensures each { (j : ℕ)
+        → slice_index heights.new j ≡ slice_index heights.old j + times * value_at (λ k. one_at k j) place }
     ensures total { sum heights.new ≤ sum heights.old + times }
     ensures joins { Joins 1 heights.old heights.new list.old list.new }
 {
@@ -45,7 +46,8 @@ fn deliver_four(heights: &mut [u64], list: &mut SiteList, around: [Option<usize>
     requires limit { sum heights.old + 4 * times < 2 ^ 63 }
     requires small { length heights.old ≤ 65536 }
     requires room { length list.old.sites + 4 ≤ list.old.room }
-    ensures each { (g : Grid) (site : ℕ) → around ≡ places g site → site < sites g → NeighboursGain g site times heights.old heights.new }
+    ensures each { (g : Grid) (site : ℕ) → around ≡ places g site → site < sites g
+        → NeighboursGain g site times heights.old heights.new }
     ensures joins { Joins 4 heights.old heights.new list.old list.new }
 {
     let [north, west, east, south] = around;

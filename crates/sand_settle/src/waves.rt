@@ -98,7 +98,8 @@ impl Workspace {
         requires others_low { (j : ℕ) → j < sites self.old → j ≢ site → slice_index heights.old j ≤ 3 }
         requires few { topplings self.old (slice_index odometer.old) < 2 ^ 54 }
         ensures room { self.new ≡ self.old }
-        ensures settled { IsSettled self.old (slice_index heights.old) (grown odometer.old odometer.new) (slice_index heights.new) }
+        ensures settled { IsSettled self.old (slice_index heights.old)
+            (grown odometer.old odometer.new) (slice_index heights.new) }
         ensures avalanche { IsAvalanche self.old site (grown odometer.old odometer.new) result }
         ensures never_falls { (j : ℕ) → slice_index odometer.old j ≤ slice_index odometer.new j }
     {

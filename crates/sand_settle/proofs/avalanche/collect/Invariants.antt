@@ -10,6 +10,7 @@ invariant-loop-turn l = record {
   origin : l.avalanche.site ≡ l.site;
   area : l.avalanche.area ≡ length l.toppled.sites;
   collected : Collects l.lattice l.site (λ j. get_or l.initial.counts j 0) (λ j. get_or l.counts j 0) l.avalanche;
-  moved : (j : ℕ) → get_or l.odometer j 0 + get_or l.counts j 0 ≡ get_or l.initial.odometer j 0 + get_or l.initial.counts j 0;
+  moved : (j : ℕ)
+      → get_or l.odometer j 0 + get_or l.counts j 0 ≡ get_or l.initial.odometer j 0 + get_or l.initial.counts j 0;
   noted : Lists (sites l.lattice) (has_toppled (λ j. get_or l.counts j 0)) (drop l.turn l.toppled.sites);
 }

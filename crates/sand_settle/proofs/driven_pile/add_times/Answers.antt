@@ -11,5 +11,6 @@ returns c =
     ext_get_or 0 c.loop-site.odometer (by_site c.args.fronts.now.grid sum) long
     (λ j l.
     let added = c.loop-site.invariant.added j (omega (arith, l, c.loop-site.auto.odometer, c.loop-site-test.false)) in
-    let at = by_site_at c.args.fronts.now.grid sum j (omega (arith, l, c.loop-site.auto.odometer, c.requires.one_each)) in
+    let at =
+    by_site_at c.args.fronts.now.grid sum j (omega (arith, l, c.loop-site.auto.odometer, c.requires.one_each)) in
     omega arith)

@@ -10,13 +10,15 @@ push_if-requires-clause-room c =
 
 pub loop-site-init : goal.loop-site-init
 loop-site-init c = record {
-  listed = rw (ap (λ (l : ListView). l.sites) c.clear.ensures) (lists_none (may_topple (λ j. get_or c.args.heights.now j 0)));
+  listed = rw (ap (λ (l : ListView). l.sites) c.clear.ensures)
+      (lists_none (may_topple (λ j. get_or c.args.heights.now j 0)));
   room = ap (λ (l : ListView). l.room) c.clear.ensures;
 }
 
 pub loop-site-preserved : goal.loop-site-preserved
 loop-site-preserved c = record {
-  listed = rw (ap (λ (l : ListView). l.sites) c.push_if.ensures) (lists_more c.loop-site.site (may_topple (λ j. get_or c.args.heights.now j 0)) c.loop-site.wave.sites c.loop-site.invariant.listed);
+  listed = rw (ap (λ (l : ListView). l.sites) c.push_if.ensures) (lists_more c.loop-site.site
+      (may_topple (λ j. get_or c.args.heights.now j 0)) c.loop-site.wave.sites c.loop-site.invariant.listed);
   room = ap (λ (l : ListView). l.room) c.push_if.ensures ∙ c.loop-site.invariant.room;
 }
 

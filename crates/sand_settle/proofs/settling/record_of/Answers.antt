@@ -9,42 +9,72 @@ use Rattle.sand_settle.proofs.settling.record_of.Goals as goal
 
 pub from_vec-settled-requires-clause-limit : goal.from_vec-settled-requires-clause-limit
 from_vec-settled-requires-clause-limit c =
-    let all = sum_left c.args.pile.now.grid c.args.pile.now.heights c.args.rest.heights.items (λ j. get_or c.args.rest.odometer.items j 0) c.grains-before.ensures.pile.one_each c.requires.heights_each c.requires.settled.toppled in
+    let all = sum_left c.args.pile.now.grid c.args.pile.now.heights
+    c.args.rest.heights.items (λ j. get_or c.args.rest.odometer.items j 0)
+    c.grains-before.ensures.pile.one_each c.requires.heights_each c.requires.settled.toppled in
     omega (arith, c.grains-before.ensures.pile.limit)
 
 pub overflow_sub-lost : goal.overflow_sub-lost
 overflow_sub-lost c =
-    let all = sum_left c.args.pile.now.grid c.args.pile.now.heights c.args.rest.heights.items (λ j. get_or c.args.rest.odometer.items j 0) c.grains-before.ensures.pile.one_each c.requires.heights_each c.requires.settled.toppled in
-    omega (arith, c.grains-before.ensures.value, c.grains.ensures.value, ap (λ (p : PileView). sum p.heights) c.from_vec-settled.ensures)
+    let all = sum_left c.args.pile.now.grid c.args.pile.now.heights
+    c.args.rest.heights.items (λ j. get_or c.args.rest.odometer.items j 0)
+    c.grains-before.ensures.pile.one_each c.requires.heights_each c.requires.settled.toppled in
+    omega (
+      arith,
+      c.grains-before.ensures.value,
+      c.grains.ensures.value,
+      ap (λ (p : PileView). sum p.heights) c.from_vec-settled.ensures,
+    )
 
-made : (c : After-grains) → IsRecord c.args.pile.now.grid (height_of c.args.pile.now) (record { pile = c.from_vec-settled.result; odometer = c.args.rest.odometer.items; topplings = sum c.args.rest.odometer.items; lost = c.grains-before.result - c.grains.result })
+made : (c : After-grains)
+    → IsRecord c.args.pile.now.grid (height_of c.args.pile.now) (record {
+      pile = c.from_vec-settled.result;
+      odometer = c.args.rest.odometer.items;
+      topplings = sum c.args.rest.odometer.items;
+      lost = c.grains-before.result - c.grains.result;
+    })
 made c =
     let heights = ap (λ (p : PileView). p.heights) c.from_vec-settled.ensures in
-    record_is c.args.pile.now (record { pile = c.from_vec-settled.result; odometer = c.args.rest.odometer.items; topplings = sum c.args.rest.odometer.items; lost = c.grains-before.result - c.grains.result })
+    record_is c.args.pile.now (record {
+      pile = c.from_vec-settled.result;
+      odometer = c.args.rest.odometer.items;
+      topplings = sum c.args.rest.odometer.items;
+      lost = c.grains-before.result - c.grains.result;
+    })
     c.grains-before.ensures.pile (ap (λ (p : PileView). p.grid) c.from_vec-settled.ensures ∙ c.shape.ensures.value)
     (ap length heights ∙ c.requires.heights_each) c.requires.odometer_each (rw heights c.requires.settled)
     refl (omega (arith, c.grains-before.ensures.value, c.grains.ensures.value))
 
 pub of_parts-requires-clause-settled : goal.of_parts-requires-clause-settled
 of_parts-requires-clause-settled c =
-    let P : Grid → Type 0 = λ g. IsRecord g (height_of c.args.pile.now) (record { pile = c.from_vec-settled.result; odometer = c.args.rest.odometer.items; topplings = sum c.args.rest.odometer.items; lost = c.grains-before.result - c.grains.result }) in
+    let P : Grid → Type 0 = λ g. IsRecord g (height_of c.args.pile.now) (record {
+      pile = c.from_vec-settled.result;
+      odometer = c.args.rest.odometer.items;
+      topplings = sum c.args.rest.odometer.items;
+      lost = c.grains-before.result - c.grains.result;
+    }) in
     let here = made (goal.at.of_parts-requires-clause-settled c).After-grains in
     (height_of c.args.pile.now, subst P (sym here.grid) here)
 
 pub of_parts-requires-clause-small : goal.of_parts-requires-clause-small
 of_parts-requires-clause-small c =
-    let bound = sum_bound c.args.pile.now c.args.rest.odometer.items c.args.rest.heights.items c.grains-before.ensures.pile c.requires.odometer_each c.requires.settled in omega arith
+    let bound = sum_bound c.args.pile.now c.args.rest.odometer.items c.args.rest.heights.items
+    c.grains-before.ensures.pile c.requires.odometer_each c.requires.settled in
+    omega arith
 
 pub returns-clause-record : goal.returns-clause-record
 returns-clause-record c =
-    subst (λ (r : SettledView). IsRecord c.args.pile.now.grid (height_of c.args.pile.now) r) (sym c.of_parts.ensures) (made (goal.at.returns-clause-record c).After-grains)
+    subst (λ (r : SettledView). IsRecord c.args.pile.now.grid (height_of c.args.pile.now) r)
+    (sym c.of_parts.ensures) (made (goal.at.returns-clause-record c).After-grains)
 
 pub returns-clause-half : goal.returns-clause-half
 returns-clause-half c =
-    let half = half_weight c.args.pile.now c.args.rest.odometer.items c.args.rest.heights.items c.requires.odometer_each c.requires.settled in
+    let half = half_weight c.args.pile.now c.args.rest.odometer.items
+    c.args.rest.heights.items c.requires.odometer_each c.requires.settled in
     omega (arith, ap (λ (r : SettledView). r.topplings) c.of_parts.ensures)
 
 pub returns-clause-bound : goal.returns-clause-bound
 returns-clause-bound c =
-    let bound = sum_bound c.args.pile.now c.args.rest.odometer.items c.args.rest.heights.items c.grains-before.ensures.pile c.requires.odometer_each c.requires.settled in
+    let bound = sum_bound c.args.pile.now c.args.rest.odometer.items c.args.rest.heights.items
+    c.grains-before.ensures.pile c.requires.odometer_each c.requires.settled in
     omega (arith, ap (λ (r : SettledView). r.topplings) c.of_parts.ensures)

@@ -10,8 +10,10 @@ abbrev pub invariant-loop-turn : goal.invariant-loop-turn
 invariant-loop-turn l = record {
   heights_each : length l.heights ≡ sites l.lattice;
   counts_each : length l.counts ≡ sites l.lattice;
-  advances : Advances l.lattice (λ j. get_or l.initial.counts j 0) (λ j. get_or l.initial.heights j 0) (λ j. get_or l.counts j 0) (λ j. get_or l.heights j 0);
-  each_topples : topplings l.lattice (λ j. get_or l.initial.counts j 0) + l.turn ≤ topplings l.lattice (λ j. get_or l.counts j 0);
+  advances : Advances l.lattice (λ j. get_or l.initial.counts j 0)
+      (λ j. get_or l.initial.heights j 0) (λ j. get_or l.counts j 0) (λ j. get_or l.heights j 0);
+  each_topples : topplings l.lattice (λ j. get_or l.initial.counts j 0) + l.turn
+      ≤ topplings l.lattice (λ j. get_or l.counts j 0);
   waiting : Lists (sites l.lattice) (may_topple (λ j. get_or l.heights j 0)) (drop l.turn l.wave.sites ++ l.next.sites);
   room : l.next.room ≡ l.fn.next.room;
 }

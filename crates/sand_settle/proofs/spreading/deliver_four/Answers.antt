@@ -12,15 +12,25 @@ pub deliver-requires-3-clause-inside : goal.deliver-requires-3-clause-inside
 deliver-requires-3-clause-inside c = rw (c.deliver-2.auto.heights, c.deliver.auto.heights) (c.requires.inside 2)
 
 pub deliver-requires-4-clause-inside : goal.deliver-requires-4-clause-inside
-deliver-requires-4-clause-inside c = rw (c.deliver-3.auto.heights, c.deliver-2.auto.heights, c.deliver.auto.heights) (c.requires.inside 3)
+deliver-requires-4-clause-inside c =
+    rw (c.deliver-3.auto.heights, c.deliver-2.auto.heights, c.deliver.auto.heights) (c.requires.inside 3)
 
 pub returns-clause-each : goal.returns-clause-each
 returns-clause-each c g site e inside j l =
     let around = ap (λ m. c.args.times * m) (four_places g site j c.args.around e inside l) in
-    omega (arith, c.deliver.ensures.each j, c.deliver-2.ensures.each j, c.deliver-3.ensures.each j, c.deliver-4.ensures.each j)
+    omega (
+      arith,
+      c.deliver.ensures.each j,
+      c.deliver-2.ensures.each j,
+      c.deliver-3.ensures.each j,
+      c.deliver-4.ensures.each j,
+    )
 
 pub returns-clause-joins : goal.returns-clause-joins
 returns-clause-joins c =
-    let two = joins_more 1 1 c.args.heights.now _ _ c.args.list.now _ _ c.deliver.auto.heights c.deliver.ensures.joins c.deliver-2.ensures.joins in
-    let three = joins_more 2 1 c.args.heights.now _ _ c.args.list.now _ _ (c.deliver-2.auto.heights ∙ c.deliver.auto.heights) two c.deliver-3.ensures.joins in
-    joins_more 3 1 c.args.heights.now _ _ c.args.list.now _ _ (c.deliver-3.auto.heights ∙ c.deliver-2.auto.heights ∙ c.deliver.auto.heights) three c.deliver-4.ensures.joins
+    let two = joins_more 1 1 c.args.heights.now _ _ c.args.list.now _ _
+    c.deliver.auto.heights c.deliver.ensures.joins c.deliver-2.ensures.joins in
+    let three = joins_more 2 1 c.args.heights.now _ _ c.args.list.now _ _
+    (c.deliver-2.auto.heights ∙ c.deliver.auto.heights) two c.deliver-3.ensures.joins in
+    joins_more 3 1 c.args.heights.now _ _ c.args.list.now _ _
+    (c.deliver-3.auto.heights ∙ c.deliver-2.auto.heights ∙ c.deliver.auto.heights) three c.deliver-4.ensures.joins

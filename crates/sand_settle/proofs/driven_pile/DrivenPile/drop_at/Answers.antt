@@ -17,23 +17,38 @@ inside c = let same = ap (λ (v : OneView). sites (grid_of_one_pile v)) c.self.v
 room : (c : After-drop_at-fall) → c.self.inside.grains < most_grains
 room c = omega (arith, c.if-self-eq-GRAIN_LIMIT.false, c.self.invariant.all_grains, c.self.invariant.paid.limit)
 
-taken : (c : After-drop_at-fall) → TakesGrain (driven_record c.self.inside.start c.self.inside.fronts c.self.inside.topplings c.self.inside.lost) c.args.site
-    (driven_record c.self.inside.start c.drop_at-fall.new.self (c.self.inside.topplings + c.drop_at-fall.result.size) (c.self.inside.lost + c.drop_at-fall.result.lost))
-taken c = driven_takes c.self.inside.start c.self.inside.fronts c.drop_at-fall.new.self c.args.site c.drop_at-fall.result c.self.inside.number c.self.inside.topplings c.self.inside.lost c.self.inside.grains
-    c.self.invariant c.drop_at-fall.ensures.grid c.drop_at-fall.ensures.by_site c.drop_at-fall.ensures.never_falls c.drop_at-fall.ensures.settled c.drop_at-fall.ensures.fall
+taken : (c : After-drop_at-fall)
+    → TakesGrain (driven_record c.self.inside.start c.self.inside.fronts
+    c.self.inside.topplings c.self.inside.lost) c.args.site
+    (driven_record c.self.inside.start c.drop_at-fall.new.self
+    (c.self.inside.topplings + c.drop_at-fall.result.size) (c.self.inside.lost + c.drop_at-fall.result.lost))
+taken c = driven_takes c.self.inside.start c.self.inside.fronts c.drop_at-fall.new.self c.args.site
+    c.drop_at-fall.result c.self.inside.number c.self.inside.topplings c.self.inside.lost c.self.inside.grains
+    c.self.invariant c.drop_at-fall.ensures.grid c.drop_at-fall.ensures.by_site
+    c.drop_at-fall.ensures.never_falls c.drop_at-fall.ensures.settled c.drop_at-fall.ensures.fall
 
-driven : (c : After-drop_at-fall) → IsDriven c.self.inside.start c.drop_at-fall.new.self (c.self.inside.number + 1) (c.self.inside.topplings + c.drop_at-fall.result.size)
+driven : (c : After-drop_at-fall)
+    → IsDriven c.self.inside.start c.drop_at-fall.new.self (c.self.inside.number + 1)
+    (c.self.inside.topplings + c.drop_at-fall.result.size)
     (c.self.inside.lost + c.drop_at-fall.result.lost) (c.self.inside.grains + 1)
-driven c = driven_after c.self.inside.start c.self.inside.fronts c.drop_at-fall.new.self c.args.site c.drop_at-fall.result c.self.inside.number c.self.inside.topplings c.self.inside.lost c.self.inside.grains
+driven c = driven_after c.self.inside.start c.self.inside.fronts c.drop_at-fall.new.self c.args.site
+    c.drop_at-fall.result c.self.inside.number c.self.inside.topplings c.self.inside.lost c.self.inside.grains
     c.self.invariant c.drop_at-fall.ensures.grid (inside c) (room c) (taken c)
 
 pub drop_at-fall-requires-clause-few : goal.drop_at-fall-requires-clause-few
 drop_at-fall-requires-clause-few c = λ j l.
-    let few = few_counts c.self.inside.start c.self.inside.fronts c.self.inside.number c.self.inside.topplings c.self.inside.lost c.self.inside.grains c.self.invariant j l in
+    let few = few_counts c.self.inside.start c.self.inside.fronts c.self.inside.number
+    c.self.inside.topplings c.self.inside.lost c.self.inside.grains c.self.invariant j l in
     omega arith
 
 pub overflow_add-self : goal.overflow_add-self
-overflow_add-self c = omega (arith, c.if-self-eq-GRAIN_LIMIT.false, c.self.invariant.all_grains, c.self.invariant.paid.limit, c.self.invariant.few)
+overflow_add-self c = omega (
+  arith,
+  c.if-self-eq-GRAIN_LIMIT.false,
+  c.self.invariant.all_grains,
+  c.self.invariant.paid.limit,
+  c.self.invariant.few,
+)
 
 pub overflow_add-self-2 : goal.overflow_add-self-2
 overflow_add-self-2 c =
@@ -50,8 +65,11 @@ overflow_add-self-4 c = omega (arith, room (goal.at.overflow_add-self-4 c).After
 
 pub avalanche_of-requires : goal.avalanche_of-requires
 avalanche_of-requires c =
-    let small = small_fall c.self.inside.start.pile.grid c.args.site _ c.drop_at-fall.result c.self.invariant.paid.sides (inside (goal.at.avalanche_of-requires c).After-drop_at-fall)
-    (subst (λ (g : Grid). IsFall g c.args.site (toppled_between c.self.inside.fronts c.drop_at-fall.new.self) c.drop_at-fall.result) c.self.invariant.one_grid c.drop_at-fall.ensures.fall) in
+    let small = small_fall c.self.inside.start.pile.grid c.args.site _ c.drop_at-fall.result
+    c.self.invariant.paid.sides (inside (goal.at.avalanche_of-requires c).After-drop_at-fall)
+    (subst (λ (g : Grid).
+    IsFall g c.args.site (toppled_between c.self.inside.fronts c.drop_at-fall.new.self) c.drop_at-fall.result)
+    c.self.invariant.one_grid c.drop_at-fall.ensures.fall) in
     record { small = small }
 
 pub invariant_of-self : goal.invariant_of-self
@@ -60,9 +78,12 @@ invariant_of-self c = driven (goal.at.invariant_of-self c).After-drop_at-fall
 pub returns-clause-avalanche : goal.returns-clause-avalanche
 returns-clause-avalanche c =
     subst (λ (v : OneView). IsAvalanche (grid_of_one_pile v) c.args.site
-    (topplings_between v.settled (driven_record c.self.inside.start c.drop_at-fall.new.self (c.self.inside.topplings + c.drop_at-fall.result.size) (c.self.inside.lost + c.drop_at-fall.result.lost))) c.avalanche_of.result)
+    (topplings_between v.settled (driven_record c.self.inside.start c.drop_at-fall.new.self
+    (c.self.inside.topplings + c.drop_at-fall.result.size) (c.self.inside.lost + c.drop_at-fall.result.lost)))
+    c.avalanche_of.result)
     c.self.view_is
-    (driven_avalanche c.self.inside.start c.self.inside.fronts c.drop_at-fall.new.self c.args.site c.drop_at-fall.result c.self.inside.number c.self.inside.topplings c.self.inside.lost c.self.inside.grains c.avalanche_of.result
+    (driven_avalanche c.self.inside.start c.self.inside.fronts c.drop_at-fall.new.self c.args.site c.drop_at-fall.result
+    c.self.inside.number c.self.inside.topplings c.self.inside.lost c.self.inside.grains c.avalanche_of.result
     c.self.invariant c.drop_at-fall.ensures.fall c.avalanche_of.ensures)
 
 pub returns-clause-drops : goal.returns-clause-drops
@@ -70,8 +91,11 @@ returns-clause-drops c =
     let at = (goal.at.returns-clause-drops c).After-drop_at-fall in
     let same = c.self.invariant.all_grains in
     let few = room at in
-    drops_from c.self.inside.number c.args.site (driven_record c.self.inside.start c.self.inside.fronts c.self.inside.topplings c.self.inside.lost) _ c.args.self.now
+    drops_from c.self.inside.number c.args.site
+    (driven_record c.self.inside.start c.self.inside.fronts c.self.inside.topplings c.self.inside.lost)
+    _ c.args.self.now
     c.self.invariant.paid c.self.view_is (inside at) (omega arith) (taken at)
 
 pub returns-clause-after : goal.returns-clause-after
-returns-clause-after c start history after = after_drop start history c.args.site c.args.self.now _ (returns-clause-drops c) after
+returns-clause-after c start history after =
+    after_drop start history c.args.site c.args.self.now _ (returns-clause-drops c) after

@@ -9,18 +9,30 @@ use Rattle.sand_settle.proofs.driven_pile.DrivenPile.finish.Goals as goal
 
 pub add_times-requires-clause-few : goal.add_times-requires-clause-few
 add_times-requires-clause-few c = λ j l.
-    let few = few_counts c.self.inside.start c.self.inside.fronts c.self.inside.number c.self.inside.topplings c.self.inside.lost c.self.inside.grains c.self.invariant j l in
-    let same = ap (λ (xs : List ℕ). slice_index xs j) (c.deref_mut-2.ensures.value ∙ ap (λ (r : SettledView). r.odometer) c.start.view_is) in
+    let few = few_counts c.self.inside.start c.self.inside.fronts c.self.inside.number
+    c.self.inside.topplings c.self.inside.lost c.self.inside.grains c.self.invariant j l in
+    let same = ap (λ (xs : List ℕ). slice_index xs j)
+    (c.deref_mut-2.ensures.value ∙ ap (λ (r : SettledView). r.odometer) c.start.view_is) in
     omega arith
 
 pub invariant_of-result : goal.invariant_of-result
 invariant_of-result c =
-    let heights = take_at c.read_heights.new.heights (drop (length c.read_heights.new.heights) c.into_parts-shape.result.1.items) c.into_parts-shape.result.1.len (omega (arith, c.read_heights.auto.heights, c.deref_mut.ensures.len)) in
-    let odometer = take_at c.add_times.new.odometer (drop (length c.add_times.new.odometer) c.start.inside.odometer.items) c.start.inside.odometer.len (omega (arith, c.add_times.auto.odometer, c.deref_mut-2.ensures.len)) in
-    let counts : c.deref_mut-2.result.now ≡ c.self.inside.start.odometer = c.deref_mut-2.ensures.value ∙ ap (λ (r : SettledView). r.odometer) c.start.view_is in
-    let all = record_read c.self.inside.start c.self.inside.fronts c.self.inside.topplings c.self.inside.lost c.from_counted.result _
-    (ap (λ (p : PileView). p.grid) c.from_counted.ensures ∙ c.into_parts-shape.ensures.shape ∙ ap (λ (r : SettledView). r.pile.grid) c.start.view_is)
+    let heights =
+    take_at c.read_heights.new.heights (drop (length c.read_heights.new.heights) c.into_parts-shape.result.1.items)
+    c.into_parts-shape.result.1.len (omega (arith, c.read_heights.auto.heights, c.deref_mut.ensures.len)) in
+    let odometer =
+    take_at c.add_times.new.odometer (drop (length c.add_times.new.odometer) c.start.inside.odometer.items)
+    c.start.inside.odometer.len (omega (arith, c.add_times.auto.odometer, c.deref_mut-2.ensures.len)) in
+    let counts : c.deref_mut-2.result.now ≡ c.self.inside.start.odometer =
+    c.deref_mut-2.ensures.value ∙ ap (λ (r : SettledView). r.odometer) c.start.view_is in
+    let all = record_read c.self.inside.start c.self.inside.fronts
+    c.self.inside.topplings c.self.inside.lost c.from_counted.result _
+    (ap (λ (p : PileView). p.grid) c.from_counted.ensures ∙ c.into_parts-shape.ensures.shape
+    ∙ ap (λ (r : SettledView). r.pile.grid) c.start.view_is)
     (ap (λ (p : PileView). p.heights) c.from_counted.ensures ∙ heights ∙ c.read_heights.ensures)
-    (odometer ∙ c.add_times.ensures ∙ ap (λ (xs : List ℕ). by_site c.self.inside.fronts.grid (λ j. slice_index xs j + slice_index c.self.inside.fronts.times j)) counts
-    ∙ ap (λ (g : Grid). by_site g (λ j. slice_index c.self.inside.start.odometer j + slice_index c.self.inside.fronts.times j)) c.self.invariant.one_grid) in
+    (odometer ∙ c.add_times.ensures ∙ ap (λ (xs : List ℕ).
+    by_site c.self.inside.fronts.grid (λ j. slice_index xs j + slice_index c.self.inside.fronts.times j)) counts
+    ∙ ap (λ (g : Grid).
+    by_site g (λ j. slice_index c.self.inside.start.odometer j + slice_index c.self.inside.fronts.times j))
+    c.self.invariant.one_grid) in
     subst IsSettledRecord (sym all) c.self.invariant.settled

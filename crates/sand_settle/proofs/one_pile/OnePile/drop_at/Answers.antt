@@ -10,16 +10,22 @@ pub invariant_of-self-2 : goal.invariant_of-self-2
 invariant_of-self-2 c =
     let inside = ap (λ (v : OneView). sites (grid_of_one_pile v)) c.self.view_is in
     let grains = ap (λ (v : OneView). v.grains) c.self.view_is in
-    let room : c.args.self.now.grains < most_grains = grind (arith, common_steps, c.is_full.ensures.full, c.is_full.ensures.limit) in
+    let room : c.args.self.now.grains < most_grains =
+    grind (arith, common_steps, c.is_full.ensures.full, c.is_full.ensures.limit) in
     let dropped = c.replace_with-workspace.ensures in
-    kept_after c.self.inside.workspace c.self.inside.number c.args.site c.self.inside.settled c.replace_with-workspace.new.dest c.replace_with-workspace.result.0 c.self.invariant (omega (arith, c.requires)) (omega arith) dropped.1.0 dropped.0
+    kept_after c.self.inside.workspace c.self.inside.number c.args.site c.self.inside.settled
+    c.replace_with-workspace.new.dest c.replace_with-workspace.result.0
+    c.self.invariant (omega (arith, c.requires)) (omega arith) dropped.1.0 dropped.0
 
 pub returns-clause-drops : goal.returns-clause-drops
 returns-clause-drops c =
     let inside = ap (λ (v : OneView). sites (grid_of_one_pile v)) c.self.view_is in
     let grains = ap (λ (v : OneView). v.grains) c.self.view_is in
-    let room : c.args.self.now.grains < most_grains = grind (arith, common_steps, c.is_full.ensures.full, c.is_full.ensures.limit) in
-    drops_from c.self.inside.number c.args.site c.self.inside.settled c.replace_with-workspace.new.dest c.args.self.now c.self.invariant.paid c.self.view_is (omega (arith, c.requires)) (omega arith) c.replace_with-workspace.ensures.1.0
+    let room : c.args.self.now.grains < most_grains =
+    grind (arith, common_steps, c.is_full.ensures.full, c.is_full.ensures.limit) in
+    drops_from c.self.inside.number c.args.site c.self.inside.settled c.replace_with-workspace.new.dest c.args.self.now
+    c.self.invariant.paid c.self.view_is (omega (arith, c.requires)) (omega arith) c.replace_with-workspace.ensures.1.0
 
 pub returns-clause-after : goal.returns-clause-after
-returns-clause-after c start history after = after_drop start history c.args.site c.args.self.now _ (returns-clause-drops c) after
+returns-clause-after c start history after =
+    after_drop start history c.args.site c.args.self.now _ (returns-clause-drops c) after

@@ -11,4 +11,5 @@ invariant_of-result c = record {
 }
 
 pub returns-clause-settled : goal.returns-clause-settled
-returns-clause-settled c = after_start c.args.start.now c.in_ok-settled.settled c.grains.ensures.pile c.in_ok-settled.ensures.record
+returns-clause-settled c =
+    after_start c.args.start.now c.in_ok-settled.settled c.grains.ensures.pile c.in_ok-settled.ensures.record

@@ -13,7 +13,8 @@ use Rattle.sand_settle.proofs.workspace.Workspace.settle_at.Goals as goal
 pub returns-then-heights-site-lt-TOPPLING_HEIGHT-clause-settled :
     goal.returns-then-heights-site-lt-TOPPLING_HEIGHT-clause-settled
 returns-then-heights-site-lt-TOPPLING_HEIGHT-clause-settled c =
-    settled_calm c.args.self.now c.args.heights.now c.args.odometer.now c.args.site c.if-heights-site-lt-TOPPLING_HEIGHT.true c.requires.others_low
+    settled_calm c.args.self.now c.args.heights.now c.args.odometer.now
+    c.args.site c.if-heights-site-lt-TOPPLING_HEIGHT.true c.requires.others_low
 
 pub returns-then-heights-site-lt-TOPPLING_HEIGHT-clause-avalanche :
     goal.returns-then-heights-site-lt-TOPPLING_HEIGHT-clause-avalanche
@@ -22,22 +23,31 @@ returns-then-heights-site-lt-TOPPLING_HEIGHT-clause-avalanche c =
 
 pub topple_once-requires-clause-limit : goal.topple_once-requires-clause-limit
 topple_once-requires-clause-limit c =
-    let falls = sum_falls c.self.inside.lattice _ _ c.args.heights.now c.waves.heights (c.requires.one_each.0 ∙ sym (ap sites c.self.view_is)) c.waves.invariant.heights_each c.waves.invariant.advances in
+    let falls = sum_falls c.self.inside.lattice _ _ c.args.heights.now c.waves.heights
+    (c.requires.one_each.0 ∙ sym (ap sites c.self.view_is)) c.waves.invariant.heights_each c.waves.invariant.advances in
     omega (arith, c.requires.limit)
 
 pub count_each-requires-clause-fits : goal.count_each-requires-clause-fits
 count_each-requires-clause-fits c j l =
-    let first = few_at_first c.self.inside.lattice (λ i. get_or c.as_mut_slice-counts.result.now i 0) c.args.heights.now c.self.invariant.sides (c.requires.one_each.0 ∙ sym (ap sites c.self.view_is)) c.requires.limit (λ i. ap (λ u. get_or u i 0) c.as_mut_slice-counts.ensures.value ∙ c.self.invariant.uncounted i) in
-    let more = c.topple_once.ensures.advances (λ i. get_or c.waves.counts i 0) (λ i. get_or c.waves.counts i 0 + tally c.topple_once.new.list.sites i) (λ i m. refl) in
+    let first = few_at_first c.self.inside.lattice (λ i. get_or c.as_mut_slice-counts.result.now i 0)
+    c.args.heights.now c.self.invariant.sides (c.requires.one_each.0 ∙ sym (ap sites c.self.view_is)) c.requires.limit
+    (λ i. ap (λ u. get_or u i 0) c.as_mut_slice-counts.ensures.value ∙ c.self.invariant.uncounted i) in
+    let more = c.topple_once.ensures.advances (λ i. get_or c.waves.counts i 0)
+    (λ i. get_or c.waves.counts i 0 + tally c.topple_once.new.list.sites i) (λ i m. refl) in
     let all = advance_more c.self.inside.lattice _ _ _ _ _ _ c.waves.invariant.advances more in
-    let small = counts_small c.self.inside.lattice _ _ (λ i. get_or c.waves.counts i 0 + tally c.topple_once.new.list.sites i) _ j all first (omega (arith, c.waves.invariant.counts_each)) in
+    let small =
+    counts_small c.self.inside.lattice _ _ (λ i. get_or c.waves.counts i 0 + tally c.topple_once.new.list.sites i)
+    _ j all first (omega (arith, c.waves.invariant.counts_each)) in
     omega arith
 
 pub waves-smaller : goal.waves-smaller
 waves-smaller c =
-    let more = c.topple_once.ensures.advances (λ i. get_or c.waves.counts i 0) (λ i. get_or c.waves.counts i 0 + tally c.topple_once.new.list.sites i) (λ i m. refl) in
-    let parts = sum_below-add (sites c.self.inside.lattice) (λ i. get_or c.waves.counts i 0) (tally c.topple_once.new.list.sites) in
-    let long = sum_below-tally (sites c.self.inside.lattice) c.topple_once.new.list.sites c.topple_once.ensures.inside in
+    let more = c.topple_once.ensures.advances (λ i. get_or c.waves.counts i 0)
+    (λ i. get_or c.waves.counts i 0 + tally c.topple_once.new.list.sites i) (λ i m. refl) in
+    let parts =
+    sum_below-add (sites c.self.inside.lattice) (λ i. get_or c.waves.counts i 0) (tally c.topple_once.new.list.sites) in
+    let long =
+    sum_below-tally (sites c.self.inside.lattice) c.topple_once.new.list.sites c.topple_once.ensures.inside in
     omega (arith, more.weight_pays, c.topple_once.ensures.some)
 
 pub waves-preserved : goal.waves-preserved
@@ -45,9 +55,11 @@ waves-preserved c = record {
   heights_each = omega (arith, c.waves.invariant.heights_each, c.topple_once.auto.heights);
   counts_each = omega (arith, c.waves.invariant.counts_each, c.count_each.auto.counts);
   advances = advance_more c.self.inside.lattice _ _ _ _ _ _ c.waves.invariant.advances
-      (c.topple_once.ensures.advances (λ j. get_or c.waves.counts j 0) (λ j. get_or c.count_each.new.counts j 0) (λ j l. c.count_each.ensures.counted j));
+      (c.topple_once.ensures.advances (λ j. get_or c.waves.counts j 0)
+      (λ j. get_or c.count_each.new.counts j 0) (λ j l. c.count_each.ensures.counted j));
   others_low = c.topple_once.ensures.others_low;
-  noted = lists_of _ _ (has_toppled (λ j. get_or c.count_each.new.counts j 0)) _ c.waves.invariant.counts_each c.count_each.ensures.noted;
+  noted = lists_of _ _ (has_toppled (λ j. get_or c.count_each.new.counts j 0))
+      _ c.waves.invariant.counts_each c.count_each.ensures.noted;
   wave_room = c.topple_once.ensures.room ∙ c.waves.invariant.wave_room;
   spare_room = c.count_each.ensures.room ∙ c.waves.invariant.spare_room;
 }
@@ -55,20 +67,42 @@ waves-preserved c = record {
 -- ---- after the last wave
 pub collect-requires-clause-few : goal.collect-requires-clause-few
 collect-requires-clause-few c =
-    let settled = settled_at_last c.self.inside.lattice (λ j. get_or c.args.heights.now j 0) (λ j. get_or c.as_mut_slice-counts.result.now j 0) (λ j. get_or c.waves.counts j 0) (λ j. get_or c.waves.heights j 0) (λ j. ap (λ u. get_or u j 0) c.as_mut_slice-counts.ensures.value ∙ c.self.invariant.uncounted j) c.waves.invariant.advances (all_stable c.self.inside.lattice (λ j. get_or c.waves.heights j 0) c.args.site (omega arith) c.waves.invariant.others_low) in
-    let small = small_settling c.self.inside.lattice c.args.heights.now c.waves.counts (λ j. get_or c.waves.heights j 0) c.self.invariant.sides (c.requires.one_each.0 ∙ sym (ap sites c.self.view_is)) c.requires.limit settled in
-    (small.0, (let same = ap (λ (g : Grid). topplings g (λ j. get_or c.args.odometer.now j 0)) c.self.view_is in omega (arith, c.requires.few)))
+    let settled = settled_at_last c.self.inside.lattice
+    (λ j. get_or c.args.heights.now j 0) (λ j. get_or c.as_mut_slice-counts.result.now j 0)
+    (λ j. get_or c.waves.counts j 0) (λ j. get_or c.waves.heights j 0)
+    (λ j. ap (λ u. get_or u j 0) c.as_mut_slice-counts.ensures.value ∙ c.self.invariant.uncounted j)
+    c.waves.invariant.advances (all_stable c.self.inside.lattice
+    (λ j. get_or c.waves.heights j 0) c.args.site (omega arith) c.waves.invariant.others_low) in
+    let small = small_settling c.self.inside.lattice c.args.heights.now c.waves.counts (λ j. get_or c.waves.heights j 0)
+    c.self.invariant.sides (c.requires.one_each.0 ∙ sym (ap sites c.self.view_is)) c.requires.limit settled in (
+      small.0,
+      (let same = ap (λ (g : Grid). topplings g (λ j. get_or c.args.odometer.now j 0)) c.self.view_is in
+          omega (arith, c.requires.few)),
+    )
 
 pub collect-requires-clause-lost : goal.collect-requires-clause-lost
 collect-requires-clause-lost c =
-    let settled = settled_at_last c.self.inside.lattice (λ j. get_or c.args.heights.now j 0) (λ j. get_or c.as_mut_slice-counts.result.now j 0) (λ j. get_or c.waves.counts j 0) (λ j. get_or c.waves.heights j 0) (λ j. ap (λ u. get_or u j 0) c.as_mut_slice-counts.ensures.value ∙ c.self.invariant.uncounted j) c.waves.invariant.advances (all_stable c.self.inside.lattice (λ j. get_or c.waves.heights j 0) c.args.site (omega arith) c.waves.invariant.others_low) in
-    let small = small_settling c.self.inside.lattice c.args.heights.now c.waves.counts (λ j. get_or c.waves.heights j 0) c.self.invariant.sides (c.requires.one_each.0 ∙ sym (ap sites c.self.view_is)) c.requires.limit settled in
+    let settled = settled_at_last c.self.inside.lattice
+    (λ j. get_or c.args.heights.now j 0) (λ j. get_or c.as_mut_slice-counts.result.now j 0)
+    (λ j. get_or c.waves.counts j 0) (λ j. get_or c.waves.heights j 0)
+    (λ j. ap (λ u. get_or u j 0) c.as_mut_slice-counts.ensures.value ∙ c.self.invariant.uncounted j)
+    c.waves.invariant.advances (all_stable c.self.inside.lattice
+    (λ j. get_or c.waves.heights j 0) c.args.site (omega arith) c.waves.invariant.others_low) in
+    let small = small_settling c.self.inside.lattice c.args.heights.now c.waves.counts (λ j. get_or c.waves.heights j 0)
+    c.self.invariant.sides (c.requires.one_each.0 ∙ sym (ap sites c.self.view_is)) c.requires.limit settled in
     small.1
 
 pub returns-clause-settled : goal.returns-clause-settled
 returns-clause-settled c =
-    let settled = settled_at_last c.self.inside.lattice (λ j. get_or c.args.heights.now j 0) (λ j. get_or c.as_mut_slice-counts.result.now j 0) (λ j. get_or c.waves.counts j 0) (λ j. get_or c.waves.heights j 0) (λ j. ap (λ u. get_or u j 0) c.as_mut_slice-counts.ensures.value ∙ c.self.invariant.uncounted j) c.waves.invariant.advances (all_stable c.self.inside.lattice (λ j. get_or c.waves.heights j 0) c.args.site (omega arith) c.waves.invariant.others_low) in
-    settled_between c.self.inside.lattice c.args.self.now c.args.heights.now c.waves.counts c.args.odometer.now _ _ c.self.view_is c.collect.ensures.odometer settled
+    let settled = settled_at_last c.self.inside.lattice
+    (λ j. get_or c.args.heights.now j 0) (λ j. get_or c.as_mut_slice-counts.result.now j 0)
+    (λ j. get_or c.waves.counts j 0) (λ j. get_or c.waves.heights j 0)
+    (λ j. ap (λ u. get_or u j 0) c.as_mut_slice-counts.ensures.value ∙ c.self.invariant.uncounted j)
+    c.waves.invariant.advances (all_stable c.self.inside.lattice
+    (λ j. get_or c.waves.heights j 0) c.args.site (omega arith) c.waves.invariant.others_low) in
+    settled_between c.self.inside.lattice c.args.self.now c.args.heights.now c.waves.counts
+    c.args.odometer.now _ _ c.self.view_is c.collect.ensures.odometer settled
 
 pub returns-clause-avalanche : goal.returns-clause-avalanche
-returns-clause-avalanche c = avalanche_between c.self.inside.lattice c.args.self.now c.args.site c.waves.counts c.args.odometer.now _ _ c.self.view_is c.collect.ensures.odometer c.collect.ensures.avalanche
+returns-clause-avalanche c = avalanche_between c.self.inside.lattice c.args.self.now c.args.site c.waves.counts
+    c.args.odometer.now _ _ c.self.view_is c.collect.ensures.odometer c.collect.ensures.avalanche

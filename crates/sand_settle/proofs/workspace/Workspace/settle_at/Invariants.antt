@@ -10,7 +10,8 @@ abbrev pub invariant-waves : goal.invariant-waves
 invariant-waves l = record {
   heights_each : length l.heights ≡ sites l.lattice;
   counts_each : length l.counts ≡ sites l.lattice;
-  advances : Advances l.lattice (λ j. get_or l.initial.counts j 0) (λ j. get_or l.initial.heights j 0) (λ j. get_or l.counts j 0) (λ j. get_or l.heights j 0);
+  advances : Advances l.lattice (λ j. get_or l.initial.counts j 0)
+      (λ j. get_or l.initial.heights j 0) (λ j. get_or l.counts j 0) (λ j. get_or l.heights j 0);
   others_low : (j : ℕ) → j < sites l.lattice → j ≢ l.site → get_or l.heights j 0 ≤ 3;
   noted : Lists (sites l.lattice) (has_toppled (λ j. get_or l.counts j 0)) l.toppled.sites;
   wave_room : l.wave.room ≡ l.initial.wave.room;
