@@ -20,11 +20,13 @@ use Rattle.sand_model.proofs.NeighboursInSets.{count_within}
 
 -- ---- no site is its own neighbour
 
-place_elsewhere : (near : Bool) (i a : ℕ) → (near ≡ true → i ≡ a → ⊥) → value_at (one_at i) (cond near (Some a) None) ≡ 0
+place_elsewhere : (near : Bool) (i a : ℕ) → (near ≡ true → i ≡ a → ⊥)
+    → value_at (one_at i) (cond near (Some a) None) ≡ 0
 place_elsewhere true i a ne = one_at_other i a (ne refl)
 place_elsewhere false i a ne = refl
 
-side_elsewhere : (near wraps : Bool) (i a b : ℕ) → (near ≡ true → i ≡ a → ⊥) → (near ≡ false → wraps ≡ true → i ≡ b → ⊥) → value_at (one_at i) (cond near (Some a) (cond wraps (Some b) None)) ≡ 0
+side_elsewhere : (near wraps : Bool) (i a b : ℕ) → (near ≡ true → i ≡ a → ⊥) → (near ≡ false → wraps ≡ true → i ≡ b → ⊥)
+    → value_at (one_at i) (cond near (Some a) (cond wraps (Some b) None)) ≡ 0
 side_elsewhere true wraps i a b near far = one_at_other i a (near refl)
 side_elsewhere false true i a b near far = one_at_other i b (far refl refl)
 side_elsewhere false false i a b near far = refl
@@ -34,7 +36,11 @@ unfolding north
 not_north g i l =
     let width = some_width g.width g.height i l in
     place_elsewhere (ltb 0 (i / g.width)) i (i - g.width)
-    (λ up e. let zero : i ≡ 0 = omega arith in let row : i / g.width < 1 = div_below i g.width 1 width (omega arith) in let some = ltb-true 0 (i / g.width) up in omega arith)
+    (λ up e.
+    let zero : i ≡ 0 = omega arith in
+    let row : i / g.width < 1 = div_below i g.width 1 width (omega arith) in
+    let some = ltb-true 0 (i / g.width) up in
+    omega arith)
 
 not_south : (g : Grid) (i : ℕ) → i < sites g → value_at (one_at i) (south g i) ≡ 0
 unfolding south
@@ -107,7 +113,8 @@ none_in g s set none = record {
   in_turn = tt;
 }
 
-one_first : (g : Grid) (s : ℕ → ℕ) (set : ℕ → Bool) (i : ℕ) → i < sites g → may_go g s set i ≡ true → Orders g s (without set i) → Orders g s set
+one_first : (g : Grid) (s : ℕ → ℕ) (set : ℕ → Bool) (i : ℕ) → i < sites g
+    → may_go g s set i ≡ true → Orders g s (without set i) → Orders g s set
 one_first g s set i l goes rest =
     let both = and_parts (set i) (leb (count_by set (neighbours g i)) (s i)) goes in
     record {
@@ -124,14 +131,16 @@ one_first g s set i l goes rest =
             (λ j m here.
             let some = ltb-true 0 (tally rest.order j) here in
             let e = rest.each j m in
-            without_within set i j (true_from_ne_false (without set i j) (λ (out : without set i j ≡ false). let zero : indicator (without set i) j ≡ 0 = rw out refl in absurd (omega arith)))) in
+            without_within set i j (true_from_ne_false (without set i j) (λ (out : without set i j ≡ false).
+            let zero : indicator (without set i) j ≡ 0 = rw out refl in absurd (omega arith)))) in
             omega arith),
         rest.in_turn,
       );
     }
 
 -- a non-empty set that is not forbidden has a site that may burn first
-some_goes : (g : Grid) (s : ℕ → ℕ) (set : ℕ → Bool) → IsRecurrent g s → (i : ℕ) → i < sites g → set i ≡ true → (k : ℕ) × (k < sites g) × (may_go g s set k ≡ true)
+some_goes : (g : Grid) (s : ℕ → ℕ) (set : ℕ → Bool) → IsRecurrent g s → (i : ℕ) → i < sites g → set i ≡ true
+    → (k : ℕ) × (k < sites g) × (may_go g s set k ≡ true)
 some_goes g s set recurrent i l here =
     ⊎_elim
     (λ (stuck : (k : ℕ) → k < sites g → not (may_go g s set k) ≡ true).
@@ -140,22 +149,33 @@ some_goes g s set recurrent i l here =
     (record {
       some = (i, l, here);
       low = λ k m also.
-          ⊎_elim (λ (out : set k ≡ false). absurd cc) (λ (wait : leb (count_by set (neighbours g k)) (s k) ≡ false). leb-false (count_by set (neighbours g k)) (s k) wait)
+          ⊎_elim
+          (λ (out : set k ≡ false). absurd cc)
+          (λ (wait : leb (count_by set (neighbours g k)) (s k) ≡ false).
+          leb-false (count_by set (neighbours g k)) (s k) wait)
           (and_cases (set k) (leb (count_by set (neighbours g k)) (s k)) (not-true (may_go g s set k) (stuck k m)));
     })))
-    (λ (one : (k : ℕ) × (k < sites g) × (not (may_go g s set k) ≡ false)). (one.0, one.1, not-false (may_go g s set one.0) one.2))
+    (λ (one : (k : ℕ) × (k < sites g) × (not (may_go g s set k) ≡ false)).
+    (one.0, one.1, not-false (may_go g s set one.0) one.2))
     (all_or_one (sites g) (λ k. not (may_go g s set k)))
 
-one_less : (g : Grid) (set : ℕ → Bool) (i : ℕ) → i < sites g → set i ≡ true → sum_below (sites g) (indicator set) ≡ sum_below (sites g) (indicator (without set i)) + 1
+one_less : (g : Grid) (set : ℕ → Bool) (i : ℕ) → i < sites g → set i ≡ true
+    → sum_below (sites g) (indicator set) ≡ sum_below (sites g) (indicator (without set i)) + 1
 one_less g set i l here =
-    let split = sum_below_same (sites g) (indicator set) (λ j. indicator (without set i) j + 1 * one_at i j) (λ j m. let e = without_one set i j here in omega arith) in
+    let split = sum_below_same (sites g) (indicator set)
+    (λ j. indicator (without set i) j + 1 * one_at i j)
+    (λ j m. let e = without_one set i j here in omega arith) in
     let both = sum_below-add (sites g) (indicator (without set i)) (λ j. 1 * one_at i j) in
     let one : sum_below (sites g) (λ j. 1 * one_at i j) ≡ 1 = sum_below-one_at (sites g) i (λ j. 1) l in
     omega arith
 
-order_from : (n : ℕ) (g : Grid) (s : ℕ → ℕ) (set : ℕ → Bool) → IsRecurrent g s → sum_below (sites g) (indicator set) ≤ n → Orders g s set
+order_from : (n : ℕ) (g : Grid) (s : ℕ → ℕ) (set : ℕ → Bool) → IsRecurrent g s → sum_below (sites g) (indicator set) ≤ n
+    → Orders g s set
 order_from zero g s set recurrent few =
-    none_in g s set (λ i l. ⊎_elim (λ (here : set i ≡ true). let less = one_less g set i l here in absurd (omega arith)) (λ (out : set i ≡ false). out) (cases_Bool (set i)))
+    none_in g s set (λ i l. ⊎_elim
+    (λ (here : set i ≡ true). let less = one_less g set i l here in absurd (omega arith))
+    (λ (out : set i ≡ false). out)
+    (cases_Bool (set i)))
 order_from (suc n) g s set recurrent few =
     ⊎_elim
     (λ (none : (i : ℕ) → i < sites g → not (set i) ≡ true). none_in g s set (λ i l. not-true (set i) (none i l)))
@@ -179,7 +199,10 @@ order_of g s recurrent =
 
 -- ---- a recurrent pile from an order
 
-first_has_others : (g : Grid) (set : ℕ → Bool) (i : ℕ) (later : List ℕ) → IsGrid g → i < sites g → set i ≡ true → ((j : ℕ) → j < sites g → set j ≡ true → 1 ≤ tally (i ∷ later) j) → count_by set (neighbours g i) ≤ count_by (is_in later) (neighbours g i)
+first_has_others : (g : Grid) (set : ℕ → Bool) (i : ℕ) (later : List ℕ)
+    → IsGrid g → i < sites g → set i ≡ true
+    → ((j : ℕ) → j < sites g → set j ≡ true → 1 ≤ tally (i ∷ later) j)
+    → count_by set (neighbours g i) ≤ count_by (is_in later) (neighbours g i)
 unfolding flow
 first_has_others g set i later grid l here among =
     let fewer = count_within g (without set i) (is_in later) i l
@@ -190,13 +213,18 @@ first_has_others g set i later grid l here among =
     let also : indicator (without set i) j ≡ 1 = rw others refl in
     let all = at_most_one (set j) in
     lt-ltb 0 (tally later j) (omega arith)) in
-    let split = flow_same g (indicator set) (λ j. indicator (without set i) j + one_at i j) (λ j m. without_one set i j here) i l in
+    let split =
+    flow_same g (indicator set) (λ j. indicator (without set i) j + one_at i j) (λ j m. without_one set i j here) i l in
     let both = flow-add g (indicator (without set i)) (one_at i) i in
     let none = not_own g i grid l in
     omega arith
 
-no_forbidden : (g : Grid) (s : ℕ → ℕ) (set : ℕ → Bool) (order : List ℕ) → IsGrid g → IsForbidden g s set → All (λ i. i < sites g) order → BurnsInOrder g s order → ((j : ℕ) → j < sites g → set j ≡ true → 1 ≤ tally order j) → ⊥
-no_forbidden g s set [] grid bad below turn among = let none = among bad.some.0 bad.some.1 bad.some.2 in absurd (omega arith)
+no_forbidden : (g : Grid) (s : ℕ → ℕ) (set : ℕ → Bool) (order : List ℕ) → IsGrid g
+    → IsForbidden g s set → All (λ i. i < sites g) order → BurnsInOrder g s order
+    → ((j : ℕ) → j < sites g → set j ≡ true → 1 ≤ tally order j) → ⊥
+no_forbidden g s set [] grid bad below turn among =
+    let none = among bad.some.0 bad.some.1 bad.some.2 in
+    absurd (omega arith)
 no_forbidden g s set (i ∷ later) grid bad below turn among =
     let site = All-head (λ j. j < sites g) i later below in
     ⊎_elim
@@ -214,11 +242,13 @@ no_forbidden g s set (i ∷ later) grid bad below turn among =
     omega arith))
     (cases_Bool (set i))
 
-pub burning_decides : (g : Grid) (s : ℕ → ℕ) → IsGrid g → IsStable g s → IsRecurrent g s ↔ ((order : List ℕ) × IsBurningOrder g s order)
+pub burning_decides : (g : Grid) (s : ℕ → ℕ) → IsGrid g → IsStable g s
+    → IsRecurrent g s ↔ ((order : List ℕ) × IsBurningOrder g s order)
 burning_decides g s grid stable = (
   order_of g s,
   λ some. record {
     stable = stable;
-    none = λ set bad. no_forbidden g s set some.0 grid bad some.1.only_sites some.1.in_turn (λ j m here. let one = some.1.each_once j m in omega arith);
+    none = λ set bad. no_forbidden g s set some.0 grid bad some.1.only_sites
+        some.1.in_turn (λ j m here. let one = some.1.each_once j m in omega arith);
   },
 )

@@ -20,18 +20,21 @@ emptied_is_none g s w done = record {
   difference = λ i l. let e = (toppled_is_integers g s w (λ i. 0)).0 done i l in omega (arith, ints);
 }
 
-pub low_within_limit : (g : Grid) (heights : List ℕ) → IsGrid g → length heights ≡ sites g → All (λ h. h ≤ 3) heights → sum heights ≤ most_grains
+pub low_within_limit : (g : Grid) (heights : List ℕ) → IsGrid g → length heights ≡ sites g → All (λ h. h ≤ 3) heights
+    → sum heights ≤ most_grains
 low_within_limit g heights grid len low =
     let all = sum_by-le (λ h. h) 3 heights low in
     let area = sites_limit g grid in
     omega arith
 
 -- the identity, however it was found, is the settled pile of some d
-pub identity_settles : (g : Grid) (p : PileView) → p.grid ≡ g → length p.heights ≡ sites g → IsIdentity g (height_of p) → (d : ℕ → ℕ) × IsSurplus g d × IsSettledPile g d p
+pub identity_settles : (g : Grid) (p : PileView) → p.grid ≡ g → length p.heights ≡ sites g → IsIdentity g (height_of p)
+    → (d : ℕ → ℕ) × IsSurplus g d × IsSettledPile g d p
 identity_settles g p grid each identity =
     let d = some_surplus g in
     let done = settles g d.0 in
-    let same = represented_once g (λ i. pos 0) done.1 (height_of p) (identity_is_settled g d.0 done.0 done.1 d.1 done.2) identity in (
+    let same = represented_once g (λ i. pos 0) done.1 (height_of p)
+    (identity_is_settled g d.0 done.0 done.1 d.1 done.2) identity in (
       d.0,
       d.1,
       record {

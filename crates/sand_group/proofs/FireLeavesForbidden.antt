@@ -19,11 +19,18 @@ use Rattle.sand_group.specs.Fire.{may_burn, is_out, FireSpreadsFrom, CountsUnbur
 use Rattle.sand_model.proofs.NeighboursInSets.{count_within}
 use Rattle.sand_group.proofs.SitesInListing.{is_out-none, is_out-some, is_in_listing, is_out_of_listing}
 
-pub fire_spreads_push : (g : Grid) (s : ℕ → ℕ) (before xs : List ℕ) (i : ℕ) → FireSpreadsFrom g s before xs → count_by (is_out (before ++ xs)) (neighbours g i) ≤ s i → FireSpreadsFrom g s before (xs ++ i ∷ [])
+pub fire_spreads_push : (g : Grid) (s : ℕ → ℕ) (before xs : List ℕ) (i : ℕ)
+    → FireSpreadsFrom g s before xs
+    → count_by (is_out (before ++ xs)) (neighbours g i) ≤ s i
+    → FireSpreadsFrom g s before (xs ++ i ∷ [])
 fire_spreads_push g s before [] i burnt high = (rw (sym (append-nil before)) high, tt)
-fire_spreads_push g s before (x ∷ xs) i burnt high = (burnt.0, fire_spreads_push g s (before ++ x ∷ []) xs i burnt.1 (rw (append_assoc before (x ∷ []) xs) high))
+fire_spreads_push g s before (x ∷ xs) i burnt high =
+    (burnt.0, fire_spreads_push g s (before ++ x ∷ []) xs i burnt.1 (rw (append_assoc before (x ∷ []) xs) high))
 
-forbidden_unburnt : (g : Grid) (s : ℕ → ℕ) (set : ℕ → Bool) (before xs : List ℕ) → IsForbidden g s set → All (λ i. i < sites g) xs → ((j : ℕ) → set j ≡ true → tally before j ≡ 0) → FireSpreadsFrom g s before xs → (j : ℕ) → set j ≡ true → tally xs j ≡ 0
+forbidden_unburnt : (g : Grid) (s : ℕ → ℕ) (set : ℕ → Bool) (before xs : List ℕ)
+    → IsForbidden g s set → All (λ i. i < sites g) xs
+    → ((j : ℕ) → set j ≡ true → tally before j ≡ 0)
+    → FireSpreadsFrom g s before xs → (j : ℕ) → set j ≡ true → tally xs j ≡ 0
 forbidden_unburnt g s set before [] bad below none burnt j in' = refl
 forbidden_unburnt g s set before (x ∷ xs) bad below none burnt j in' =
     let site = All-head (λ i. i < sites g) x xs below in
@@ -38,27 +45,37 @@ forbidden_unburnt g s set before (x ∷ xs) bad below none burnt j in' =
     let zero = one_at_other x k (out k here) in
     let was = none k here in
     omega arith) in
-    let rest = forbidden_unburnt g s set (before ++ x ∷ []) xs bad (All-tail (λ i. i < sites g) x xs below) after burnt.1 j in' in
+    let rest =
+    forbidden_unburnt g s set (before ++ x ∷ []) xs bad (All-tail (λ i. i < sites g) x xs below) after burnt.1 j in' in
     let cons = tally-cons x xs j in
     let zero = one_at_other x j (out j in') in
     omega arith
 
-in_turn : (g : Grid) (s : ℕ → ℕ) (before xs : List ℕ) → All (λ i. i < sites g) xs → ((j : ℕ) → tally before j + tally xs j ≤ 1) → FireSpreadsFrom g s before xs → BurnsInOrder g s xs
+in_turn : (g : Grid) (s : ℕ → ℕ) (before xs : List ℕ) → All (λ i. i < sites g) xs
+    → ((j : ℕ) → tally before j + tally xs j ≤ 1) → FireSpreadsFrom g s before xs
+    → BurnsInOrder g s xs
 in_turn g s before [] below once burnt = tt
 in_turn g s before (x ∷ xs) below once burnt = (
   (let site = All-head (λ i. i < sites g) x xs below in
       let fewer = count_within g (is_in xs) (is_out before) x site
-      (λ m l yes. let some = ltb-true 0 (tally xs m) yes in let cons = tally-cons x xs m in let few = once m in is_out-none before m (omega arith)) in
+      (λ m l yes.
+      let some = ltb-true 0 (tally xs m) yes in
+      let cons = tally-cons x xs m in
+      let few = once m in
+      is_out-none before m (omega arith)) in
       let high = burnt.0 in
       omega arith),
   in_turn g s (before ++ x ∷ []) xs (All-tail (λ i. i < sites g) x xs below)
-      (λ j. let push = tally-push before x j in let cons = tally-cons x xs j in let few = once j in omega arith) burnt.1,
+      (λ j.
+      let push = tally-push before x j in let cons = tally-cons x xs j in let few = once j in omega arith) burnt.1,
 )
 
 -- ---- the numbers of unburnt neighbours
 
 -- a site that burns is subtracted from its neighbours' numbers
-split_out : (g : Grid) (burnt : List ℕ) (i j : ℕ) → j < sites g → tally burnt i ≡ 0 → count_by (is_out burnt) (neighbours g j) ≡ count_by (is_out (burnt ++ i ∷ [])) (neighbours g j) + tally (neighbours g j) i
+split_out : (g : Grid) (burnt : List ℕ) (i j : ℕ) → j < sites g → tally burnt i ≡ 0
+    → count_by (is_out burnt) (neighbours g j)
+    ≡ count_by (is_out (burnt ++ i ∷ [])) (neighbours g j) + tally (neighbours g j) i
 unfolding flow
 split_out g burnt i j l fresh =
     flow_same g (indicator (is_out burnt)) (λ k. indicator (is_out (burnt ++ i ∷ [])) k + one_at k i)
@@ -79,14 +96,19 @@ split_out g burnt i j l fresh =
     (cases_eq k i)) j l
     ∙ flow-add g (indicator (is_out (burnt ++ i ∷ []))) (λ k. one_at k i) j
 
-pub enough_left : (g : Grid) (burnt : List ℕ) (unburnt : ℕ → ℕ) (i j : ℕ) → CountsUnburnt g burnt unburnt → i < sites g → j < sites g → tally burnt i ≡ 0 → tally (neighbours g i) j ≤ unburnt j
+pub enough_left : (g : Grid) (burnt : List ℕ) (unburnt : ℕ → ℕ) (i j : ℕ)
+    → CountsUnburnt g burnt unburnt → i < sites g → j < sites g → tally burnt i ≡ 0
+    → tally (neighbours g i) j ≤ unburnt j
 enough_left g burnt unburnt i j counts li lj fresh =
     let split = split_out g burnt i j lj fresh in
     let both = neighbours_mutual g i j li lj in
     let e = counts.each j lj in
     omega arith
 
-pub counts_more : (g : Grid) (burnt : List ℕ) (before after : ℕ → ℕ) (i : ℕ) → CountsUnburnt g burnt before → i < sites g → tally burnt i ≡ 0 → ((j : ℕ) → after j + tally (neighbours g i) j ≡ before j) → CountsUnburnt g (burnt ++ i ∷ []) after
+pub counts_more : (g : Grid) (burnt : List ℕ) (before after : ℕ → ℕ) (i : ℕ)
+    → CountsUnburnt g burnt before → i < sites g → tally burnt i ≡ 0
+    → ((j : ℕ) → after j + tally (neighbours g i) j ≡ before j)
+    → CountsUnburnt g (burnt ++ i ∷ []) after
 counts_more g burnt before after i counts l fresh fewer = record {
   each = λ j m.
       let split = split_out g burnt i j m fresh in
@@ -102,7 +124,8 @@ pub missing_at_most_four : (g : Grid) (i : ℕ) → missing g i ≤ 4
 unfolding missing
 missing_at_most_four g i = omega arith
 
-pub counts_none : (g : Grid) (unburnt : ℕ → ℕ) → ((i : ℕ) → i < sites g → unburnt i + missing g i ≡ 4) → CountsUnburnt g [] unburnt
+pub counts_none : (g : Grid) (unburnt : ℕ → ℕ) → ((i : ℕ) → i < sites g → unburnt i + missing g i ≡ 4)
+    → CountsUnburnt g [] unburnt
 unfolding missing
 counts_none g unburnt full = record {
   each = λ i l.
@@ -112,22 +135,33 @@ counts_none g unburnt full = record {
       omega arith;
 }
 
-pub counts_push : (g : Grid) (xs : List ℕ) (n v : ℕ) → length xs ≡ n → ((k : ℕ) → k < n → get_or xs k 0 + missing g k ≡ 4) → v + missing g n ≡ 4 → (k : ℕ) → k < n + 1 → get_or (xs ++ v ∷ []) k 0 + missing g k ≡ 4
+pub counts_push : (g : Grid) (xs : List ℕ) (n v : ℕ) → length xs ≡ n
+    → ((k : ℕ) → k < n → get_or xs k 0 + missing g k ≡ 4) → v + missing g n ≡ 4
+    → (k : ℕ) → k < n + 1 → get_or (xs ++ v ∷ []) k 0 + missing g k ≡ 4
 counts_push g xs n v len before here k l =
     ⊎_elim (λ (e : k ≡ n). let read = get_or_push xs v 0 k (omega arith) in let same = ap (missing g) e in omega arith)
-    (λ (ne : k ≡ n → ⊥). let less : k < n = grind arith in let read = get_or_append_left xs (v ∷ []) 0 k (omega arith) in let was = before k less in omega arith)
+    (λ (ne : k ≡ n → ⊥).
+    let less : k < n = grind arith in
+    let read = get_or_append_left xs (v ∷ []) 0 k (omega arith) in
+    let was = before k less in
+    omega arith)
     (cases_eq k n)
 
 -- ---- a place around a site that burns
 
-pub some_left : (n : ℕ) (u : ℕ → ℕ) (p : Option ℕ) → IfSome p (λ j. j < n) → ((j : ℕ) → j < n → value_at (λ k. one_at k j) p ≤ u j) → IfSome p (λ j. 0 < u j)
+pub some_left : (n : ℕ) (u : ℕ → ℕ) (p : Option ℕ) → IfSome p (λ j. j < n)
+    → ((j : ℕ) → j < n → value_at (λ k. one_at k j) p ≤ u j)
+    → IfSome p (λ j. 0 < u j)
 some_left n u None inside le = tt
 some_left n u (Some i) inside le = let one = one_at_same i in let here = le i inside in omega arith
 
 -- the site at the head of the fire is counted as burnt next
-pub head_taken : (before after : List ℕ) (n k x : ℕ) → k < n → n ≡ length before → x ≡ get_or before k x → take n after ≡ before → take (k + 1) after ≡ take k before ++ x ∷ []
+pub head_taken : (before after : List ℕ) (n k x : ℕ) → k < n
+    → n ≡ length before → x ≡ get_or before k x → take n after ≡ before
+    → take (k + 1) after ≡ take k before ++ x ∷ []
 head_taken before after n k x l len read kept =
-    sym (take-take (k + 1) n after (omega arith)) ∙ ap (take (k + 1)) kept ∙ take_more before k x (omega arith) ∙ ap (λ y. take k before ++ y ∷ []) (sym read)
+    sym (take-take (k + 1) n after (omega arith)) ∙ ap (take (k + 1)) kept
+    ∙ take_more before k x (omega arith) ∙ ap (λ y. take k before ++ y ∷ []) (sym read)
 
 pub kept_longer : (before after : List ℕ) (n : ℕ) → n ≡ length before → take n after ≡ before → n ≤ length after
 kept_longer before after n len kept =
@@ -138,28 +172,41 @@ kept_longer before after n len kept =
 -- ---- the end of a fire
 
 -- a fire that reaches all sites burns them in a burning order, and the pile is recurrent
-pub burned_recurrent : (g : Grid) (s unburnt : ℕ → ℕ) (burnt : List ℕ) → IsStable g s → Lists (sites g) (may_burn s unburnt) burnt → FireSpreadsFrom g s [] burnt → length burnt ≡ sites g → IsRecurrent g s × IsBurningOrder g s burnt
+pub burned_recurrent : (g : Grid) (s unburnt : ℕ → ℕ) (burnt : List ℕ)
+    → IsStable g s → Lists (sites g) (may_burn s unburnt) burnt
+    → FireSpreadsFrom g s [] burnt → length burnt ≡ sites g
+    → IsRecurrent g s × IsBurningOrder g s burnt
 burned_recurrent g s unburnt burnt stable list order full = (
   record {
     stable = stable;
     none = λ set bad.
         let i = bad.some.0 in
-        let all = listed (sites g) (may_burn s unburnt) burnt i list bad.some.1 (lists_all (sites g) (may_burn s unburnt) burnt list full i bad.some.1) in
-        let none = forbidden_unburnt g s set [] burnt bad (lists_below (sites g) (may_burn s unburnt) burnt list) (λ j here. refl) order i bad.some.2 in
+        let all = listed (sites g) (may_burn s unburnt) burnt i list bad.some.1
+        (lists_all (sites g) (may_burn s unburnt) burnt list full i bad.some.1) in
+        let none = forbidden_unburnt g s set [] burnt bad
+        (lists_below (sites g) (may_burn s unburnt) burnt list) (λ j here. refl) order i bad.some.2 in
         absurd (omega arith);
   },
   record {
     only_sites = lists_below (sites g) (may_burn s unburnt) burnt list;
-    each_once = λ i l. listed (sites g) (may_burn s unburnt) burnt i list l (lists_all (sites g) (may_burn s unburnt) burnt list full i l);
-    in_turn = in_turn g s [] burnt (lists_below (sites g) (may_burn s unburnt) burnt list) (λ j. let few = at_most_once (sites g) (may_burn s unburnt) burnt j list in omega arith) order;
+    each_once = λ i l. listed (sites g) (may_burn s unburnt) burnt i list
+        l (lists_all (sites g) (may_burn s unburnt) burnt list full i l);
+    in_turn = in_turn g s [] burnt (lists_below (sites g) (may_burn s unburnt) burnt list)
+        (λ j. let few = at_most_once (sites g) (may_burn s unburnt) burnt j list in omega arith) order;
   },
 )
 
 -- the sites that a fire does not reach are the greatest forbidden set
-pub burned_forbidden : (g : Grid) (s unburnt : ℕ → ℕ) (burnt left : List ℕ) → CountsUnburnt g burnt unburnt → Lists (sites g) (may_burn s unburnt) burnt → FireSpreadsFrom g s [] burnt → (length burnt ≡ sites g → ⊥) → Lists (sites g) (λ i. not (may_burn s unburnt i)) left → IsStrictlyIncreasing left → IsGreatestForbidden g s left
+pub burned_forbidden : (g : Grid) (s unburnt : ℕ → ℕ) (burnt left : List ℕ)
+    → CountsUnburnt g burnt unburnt → Lists (sites g) (may_burn s unburnt) burnt
+    → FireSpreadsFrom g s [] burnt → (length burnt ≡ sites g → ⊥)
+    → Lists (sites g) (λ i. not (may_burn s unburnt i)) left
+    → IsStrictlyIncreasing left → IsGreatestForbidden g s left
 burned_forbidden g s unburnt burnt left counts list order short rest rises =
-    let member : (i : ℕ) → i < sites g → is_in left i ≡ not (may_burn s unburnt i) = λ i l. is_in_listing (sites g) (λ j. not (may_burn s unburnt j)) left i rest l in
-    let out : (i : ℕ) → i < sites g → is_out burnt i ≡ not (may_burn s unburnt i) = λ i l. is_out_of_listing (sites g) (may_burn s unburnt) burnt i list l in
+    let member : (i : ℕ) → i < sites g → is_in left i ≡ not (may_burn s unburnt i) =
+    λ i l. is_in_listing (sites g) (λ j. not (may_burn s unburnt j)) left i rest l in
+    let out : (i : ℕ) → i < sites g → is_out burnt i ≡ not (may_burn s unburnt i) =
+    λ i l. is_out_of_listing (sites g) (may_burn s unburnt) burnt i list l in
     let one = lists_leave (sites g) (may_burn s unburnt) burnt list short in
     record {
       only_sites = lists_below (sites g) (λ i. not (may_burn s unburnt i)) left rest;
@@ -169,10 +216,12 @@ burned_forbidden g s unburnt burnt left counts list order short rest rises =
         low = λ i l here.
             let wait = leb-false (unburnt i) (s i) (not-true (may_burn s unburnt i) (sym (member i l) ∙ here)) in
             let e = counts.each i l in
-            let fewer = count_within g (is_out burnt) (is_in left) i l (λ j m free. member j m ∙ sym (out j m) ∙ free) in
+            let fewer =
+            count_within g (is_out burnt) (is_in left) i l (λ j m free. member j m ∙ sym (out j m) ∙ free) in
             omega arith;
       };
       greatest = λ other bad i l here.
-          let none = forbidden_unburnt g s other [] burnt bad (lists_below (sites g) (may_burn s unburnt) burnt list) (λ j in'. refl) order i here in
+          let none = forbidden_unburnt g s other [] burnt bad
+          (lists_below (sites g) (may_burn s unburnt) burnt list) (λ j in'. refl) order i here in
           member i l ∙ sym (out i l) ∙ is_out-none burnt i none;
     }

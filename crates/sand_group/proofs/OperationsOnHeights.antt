@@ -16,27 +16,32 @@ use Rattle.sand_group.specs.Recurrence.{IsRecurrent}
 use Rattle.sand_group.specs.Group.{IsSettledPile, IsSurplus, IsIdentity, IsEquivalentRecurrent}
 use Rattle.sand_group.proofs.OperationsSettle.{equivalent_is_settled, represents_itself, represented_once}
 
-pub within_limit : (g : Grid) (heights : List ℕ) → IsGrid g → length heights ≡ sites g → All (λ h. h ≤ 12) heights → sum heights ≤ most_grains
+pub within_limit : (g : Grid) (heights : List ℕ) → IsGrid g → length heights ≡ sites g → All (λ h. h ≤ 12) heights
+    → sum heights ≤ most_grains
 within_limit g heights grid len low =
     let all = sum_by-le (λ h. h) 12 heights low in
     let area = sites_limit g grid in
     omega arith
 
-pub low_heights : (p : PileView) (heights : List ℕ) → IsPile p → heights ≡ p.heights → IsStable p.grid (height_of p) → All (λ h. h ≤ 3) heights
+pub low_heights : (p : PileView) (heights : List ℕ) → IsPile p → heights ≡ p.heights → IsStable p.grid (height_of p)
+    → All (λ h. h ≤ 3) heights
 low_heights p heights is same stable =
     rw same (All-from_get_or (λ h. h ≤ 3) p.heights 0 (λ i l. let each = is.one_each in stable.low i (omega arith)))
 
 -- ---- settled piles
 
-pile_settles : (g h : Grid) (s r : ℕ → ℕ) (p : PileView) → IsSettledPile g s p → h ≡ g → ((i : ℕ) → i < sites g → r i ≡ s i) → IsSettledPile h r p
+pile_settles : (g h : Grid) (s r : ℕ → ℕ) (p : PileView) → IsSettledPile g s p
+    → h ≡ g → ((i : ℕ) → i < sites g → r i ≡ s i) → IsSettledPile h r p
 pile_settles g h s r p done same equal = rw same (record {
   grid = done.grid;
   one_each = done.one_each;
   odometer = done.odometer;
-  settled = settled_same g s r done.odometer done.odometer (height_of p) (height_of p) (λ i l. sym (equal i l)) (λ i l. refl) (λ i l. refl) done.settled;
+  settled = settled_same g s r done.odometer done.odometer (height_of p) (height_of p)
+      (λ i l. sym (equal i l)) (λ i l. refl) (λ i l. refl) done.settled;
 })
 
-pub recurrent_there : (g : Grid) (s : ℕ → ℕ) (p : PileView) → IsSettledPile g s p → IsRecurrent g (height_of p) → IsRecurrent p.grid (height_of p)
+pub recurrent_there : (g : Grid) (s : ℕ → ℕ) (p : PileView) → IsSettledPile g s p → IsRecurrent g (height_of p)
+    → IsRecurrent p.grid (height_of p)
 recurrent_there g s p done recurrent = rw done.grid recurrent
 
 -- ---- the sum
@@ -47,46 +52,75 @@ low_at heights i low =
     (λ (past : length heights ≤ i). let none = get_or_past heights i 0 past in omega arith)
     (cases_lt i (length heights))
 
-pub sums_low : (a b v : List ℕ) → length v ≡ length a → All (λ h. h ≤ 3) a → All (λ h. h ≤ 3) b → ((i : ℕ) → i < length a → get_or v i 0 ≡ get_or a i 0 + get_or b i 0) → All (λ h. h ≤ 12) v
+pub sums_low : (a b v : List ℕ) → length v ≡ length a
+    → All (λ h. h ≤ 3) a → All (λ h. h ≤ 3) b
+    → ((i : ℕ) → i < length a → get_or v i 0 ≡ get_or a i 0 + get_or b i 0)
+    → All (λ h. h ≤ 12) v
 sums_low a b v same low_a low_b sums =
     All-from_get_or (λ h. h ≤ 12) v 0
     (λ i l. let e = sums i (omega arith) in let p = low_at a i low_a in let q = low_at b i low_b in omega arith)
 
-pub sum_settles : (g : Grid) (a b p : PileView) (ha hb v : List ℕ) → g ≡ a.grid → IsPile a → ha ≡ a.heights → hb ≡ b.heights → ((i : ℕ) → i < length ha → get_or v i 0 ≡ get_or ha i 0 + get_or hb i 0) → IsSettledPile g (λ i. get_or v i 0) p → IsSettledPile a.grid (λ i. height_of a i + height_of b i) p
+pub sum_settles : (g : Grid) (a b p : PileView) (ha hb v : List ℕ)
+    → g ≡ a.grid → IsPile a → ha ≡ a.heights → hb ≡ b.heights
+    → ((i : ℕ) → i < length ha → get_or v i 0 ≡ get_or ha i 0 + get_or hb i 0)
+    → IsSettledPile g (λ i. get_or v i 0) p
+    → IsSettledPile a.grid (λ i. height_of a i + height_of b i) p
 sum_settles g a b p ha hb v grid is same_a same_b sums done =
     let each : length ha ≡ sites g = ap length same_a ∙ is.one_each ∙ sym (ap sites grid) in
     pile_settles g a.grid (λ i. get_or v i 0) (λ i. height_of a i + height_of b i) p done (sym grid)
-    (λ i l. let e = sums i (omega arith) in let p = ap (λ (xs : List ℕ). get_or xs i 0) same_a in let q = ap (λ (xs : List ℕ). get_or xs i 0) same_b in omega arith)
+    (λ i l.
+    let e = sums i (omega arith) in
+    let p = ap (λ (xs : List ℕ). get_or xs i 0) same_a in
+    let q = ap (λ (xs : List ℕ). get_or xs i 0) same_b in
+    omega arith)
 
 -- ---- the recurrent pile of a class
 
-pub equivalent_settles : (g : Grid) (p e t c : PileView) (u : ℕ → ℕ) (he ht v : List ℕ) → g ≡ p.grid → IsSettled p.grid (height_of p) u (height_of t) → e.grid ≡ g → IsPile e → IsIdentity g (height_of e) → he ≡ e.heights → ht ≡ t.heights → ((i : ℕ) → i < length he → get_or v i 0 ≡ get_or he i 0 + get_or ht i 0) → IsSettledPile g (λ i. get_or v i 0) c → IsEquivalentRecurrent p.grid (height_of p) c
+pub equivalent_settles : (g : Grid) (p e t c : PileView) (u : ℕ → ℕ) (he ht v : List ℕ)
+    → g ≡ p.grid → IsSettled p.grid (height_of p) u (height_of t) → e.grid ≡ g
+    → IsPile e → IsIdentity g (height_of e) → he ≡ e.heights → ht ≡ t.heights
+    → ((i : ℕ) → i < length he → get_or v i 0 ≡ get_or he i 0 + get_or ht i 0)
+    → IsSettledPile g (λ i. get_or v i 0) c
+    → IsEquivalentRecurrent p.grid (height_of p) c
 equivalent_settles g p e t c u he ht v grid start there is identity same_e same_t sums done =
     let both = sum_settles g e t c he ht v (sym there) is same_e same_t sums done in
-    let here = pile_settles e.grid p.grid (λ i. height_of e i + height_of t i) (λ i. height_of e i + height_of t i) c both (sym (there ∙ grid)) (λ i l. refl) in
+    let here = pile_settles e.grid p.grid (λ i. height_of e i + height_of t i)
+    (λ i. height_of e i + height_of t i) c both (sym (there ∙ grid)) (λ i l. refl) in
     record {
       grid = here.grid;
       one_each = here.one_each;
-      represents = equivalent_is_settled p.grid (height_of p) u (height_of t) (height_of e) here.odometer (height_of c) start (rw (← grid) identity) here.settled;
+      represents = equivalent_is_settled p.grid (height_of p) u (height_of t) (height_of e)
+          here.odometer (height_of c) start (rw (← grid) identity) here.settled;
     }
 
-pub recurrent_of : (g : Grid) (s : ℕ → ℕ) (c : PileView) → IsEquivalentRecurrent g s c → IsRecurrent c.grid (height_of c)
+pub recurrent_of : (g : Grid) (s : ℕ → ℕ) (c : PileView) → IsEquivalentRecurrent g s c
+    → IsRecurrent c.grid (height_of c)
 recurrent_of g s c done = rw done.grid done.represents.recurrent
 
-pub equivalent_itself : (p c : PileView) → IsPile p → IsRecurrent p.grid (height_of p) → IsEquivalentRecurrent p.grid (height_of p) c → c ≡ p
+pub equivalent_itself : (p c : PileView)
+    → IsPile p → IsRecurrent p.grid (height_of p)
+    → IsEquivalentRecurrent p.grid (height_of p) c → c ≡ p
 equivalent_itself p c is recurrent done =
     let heights : c.heights ≡ p.heights =
     ext_get_or 0 c.heights p.heights (done.one_each ∙ sym is.one_each)
-    (λ i l. let each = done.one_each in represented_once p.grid (whole (height_of p)) (height_of c) (height_of p) done.represents (represents_itself p.grid (height_of p) recurrent) i (omega arith)) in
-    ap (λ (h : List ℕ). record { grid = c.grid; heights = h }) heights ∙ ap (λ (g : Grid). record { grid = g; heights = p.heights }) done.grid
+    (λ i l.
+    let each = done.one_each in
+    represented_once p.grid (whole (height_of p)) (height_of c) (height_of p)
+    done.represents (represents_itself p.grid (height_of p) recurrent) i (omega arith)) in
+    ap (λ (h : List ℕ). record { grid = c.grid; heights = h }) heights
+    ∙ ap (λ (g : Grid). record { grid = g; heights = p.heights }) done.grid
 
 -- ---- d, and the settled pile of 2d - c
 
-pub surplus_is : (g : Grid) (twice v h : List ℕ) (p : PileView) → twice ≡ replicate (sites g) 6 → IsSettledPile g (λ i. get_or twice i 0) p → h ≡ p.heights → ((i : ℕ) → i < length h → get_or v i 0 + get_or h i 0 ≡ 6) → IsSurplus g (λ i. get_or v i 0)
+pub surplus_is : (g : Grid) (twice v h : List ℕ) (p : PileView)
+    → twice ≡ replicate (sites g) 6 → IsSettledPile g (λ i. get_or twice i 0) p
+    → h ≡ p.heights → ((i : ℕ) → i < length h → get_or v i 0 + get_or h i 0 ≡ 6)
+    → IsSurplus g (λ i. get_or v i 0)
 surplus_is g twice v h p full done same rests = record {
   odometer = done.odometer;
   rest = height_of p;
-  settled = settled_same g (λ i. get_or twice i 0) (λ i. 6) done.odometer done.odometer (height_of p) (height_of p) (λ i l. rw full (get_or-replicate (sites g) i 6 0 l)) (λ i l. refl) (λ i l. refl) done.settled;
+  settled = settled_same g (λ i. get_or twice i 0) (λ i. 6) done.odometer done.odometer (height_of p) (height_of p)
+      (λ i l. rw full (get_or-replicate (sites g) i 6 0 l)) (λ i l. refl) (λ i l. refl) done.settled;
   difference = λ i l.
       let each : length h ≡ sites g = ap length same ∙ done.one_each in
       let e = rests i (omega arith) in
@@ -97,15 +131,26 @@ surplus_is g twice v h p full done same rests = record {
 pub surplus_there : (g h : Grid) (d : ℕ → ℕ) → g ≡ h → IsSurplus g d → IsSurplus h d
 surplus_there g h d e is = rw (← e) is
 
-pub difference_settles : (g : Grid) (c p : PileView) (hc hd d v : List ℕ) → g ≡ c.grid → IsPile c → hc ≡ c.heights → hd ≡ d → ((i : ℕ) → i < length hc → get_or v i 0 ≡ 2 * get_or hd i 0 - get_or hc i 0) → IsSettledPile g (λ i. get_or v i 0) p → IsSettledPile c.grid (λ i. 2 * get_or d i 0 - height_of c i) p
+pub difference_settles : (g : Grid) (c p : PileView) (hc hd d v : List ℕ)
+    → g ≡ c.grid → IsPile c → hc ≡ c.heights → hd ≡ d
+    → ((i : ℕ) → i < length hc → get_or v i 0 ≡ 2 * get_or hd i 0 - get_or hc i 0)
+    → IsSettledPile g (λ i. get_or v i 0) p
+    → IsSettledPile c.grid (λ i. 2 * get_or d i 0 - height_of c i) p
 difference_settles g c p hc hd d v grid is same same_d differences done =
     let each : length hc ≡ sites g = ap length same ∙ is.one_each ∙ sym (ap sites grid) in
     pile_settles g c.grid (λ i. get_or v i 0) (λ i. 2 * get_or d i 0 - height_of c i) p done (sym grid)
-    (λ i l. let e = differences i (omega arith) in let here = ap (λ (xs : List ℕ). get_or xs i 0) same in let from = ap (λ (xs : List ℕ). get_or xs i 0) same_d in omega arith)
+    (λ i l.
+    let e = differences i (omega arith) in
+    let here = ap (λ (xs : List ℕ). get_or xs i 0) same in
+    let from = ap (λ (xs : List ℕ). get_or xs i 0) same_d in
+    omega arith)
 
 -- ---- one more grain
 
-pub grain_settles : (g : Grid) (c p : PileView) (h : List ℕ) (site x : ℕ) → g ≡ c.grid → IsPile c → h ≡ c.heights → site < sites c.grid → x ≡ get_or h site x → IsSettledPile g (λ i. get_or (set h site (x + 1)) i 0) p → IsSettledPile c.grid (λ i. height_of c i + one_at site i) p
+pub grain_settles : (g : Grid) (c p : PileView) (h : List ℕ) (site x : ℕ)
+    → g ≡ c.grid → IsPile c → h ≡ c.heights → site < sites c.grid
+    → x ≡ get_or h site x → IsSettledPile g (λ i. get_or (set h site (x + 1)) i 0) p
+    → IsSettledPile c.grid (λ i. height_of c i + one_at site i) p
 grain_settles g c p h site x grid is same inside read done =
     let each : length h ≡ sites c.grid = ap length same ∙ is.one_each in
     let start = get_or_read h site x (omega arith) read 0 in

@@ -18,15 +18,20 @@ use Rattle.sand_group.proofs.RecurrentIsUnique.{recurrent_unique}
 use Rattle.sand_model.proofs.EquivalenceIsLinear.{equivalent_sym, equivalent_add, equivalent_same, equivalent_times, equivalent_trans}
 
 -- s settles, so it is enough that P is true of each pile that s settles to
-pub settles_to : (g : Grid) (s : ℕ → ℕ) (P : (ℕ → ℕ) → Type 0) → ((u t : ℕ → ℕ) → IsSettled g s u t → P t) → SettlesTo g s P
-settles_to g s P each = let done = settles g s in record { odometer = done.0; rest = done.1; settled = done.2; each = each }
+pub settles_to : (g : Grid) (s : ℕ → ℕ) (P : (ℕ → ℕ) → Type 0) → ((u t : ℕ → ℕ) → IsSettled g s u t → P t)
+    → SettlesTo g s P
+settles_to g s P each =
+    let done = settles g s in
+    record { odometer = done.0; rest = done.1; settled = done.2; each = each }
 
 -- ---- recurrent piles
 
 -- heights of at least 3 settle to a recurrent pile
 high_recurrent : (g : Grid) (s u t : ℕ → ℕ) → IsSettled g s u t → ((i : ℕ) → i < sites g → 3 ≤ s i) → IsRecurrent g t
 high_recurrent g s u t done high =
-    settled_recurrent g (λ i. s i - 3) u t (settled_same g s (λ i. 3 + (s i - 3)) u u t t (λ i l. let h = high i l in omega arith) (λ i l. refl) (λ i l. refl) done)
+    settled_recurrent g (λ i. s i - 3) u t
+    (settled_same g s (λ i. 3 + (s i - 3)) u u t t
+    (λ i l. let h = high i l in omega arith) (λ i l. refl) (λ i l. refl) done)
 
 -- d is at least 3 at each site
 surplus_high : (g : Grid) (d : ℕ → ℕ) → IsSurplus g d → (i : ℕ) → i < sites g → 3 ≤ d i
@@ -37,7 +42,8 @@ surplus_high g d is i l =
 
 surplus_is_none : (g : Grid) (d : ℕ → ℕ) → IsSurplus g d → IsEquivalent g (whole d) (λ i. pos 0)
 surplus_is_none g d is =
-    equivalent_same g (whole (λ i. 6)) (whole is.rest) (whole d) (λ i. pos 0) (settled_equivalent g (λ i. 6) is.odometer is.rest is.settled)
+    equivalent_same g (whole (λ i. 6)) (whole is.rest) (whole d) (λ i. pos 0)
+    (settled_equivalent g (λ i. 6) is.odometer is.rest is.settled)
     (λ i l. let e = is.difference i l in omega (arith, ints))
 
 pub some_surplus : (g : Grid) → (d : ℕ → ℕ) × IsSurplus g d
@@ -53,7 +59,8 @@ some_surplus g =
     )
 
 -- a recurrent pile is the settled pile of some heights of at least 3
-pub recurrent_from_full : (g : Grid) (c : ℕ → ℕ) → IsRecurrent g c → (a : ℕ → ℕ) × (u : ℕ → ℕ) × IsSettled g (λ i. 3 + a i) u c
+pub recurrent_from_full : (g : Grid) (c : ℕ → ℕ) → IsRecurrent g c
+    → (a : ℕ → ℕ) × (u : ℕ → ℕ) × IsSettled g (λ i. 3 + a i) u c
 recurrent_from_full g c recurrent =
     let d = some_surplus g in
     let done = settles g (λ i. 3 + (c i + (d.0 i - 3))) in
@@ -61,10 +68,15 @@ recurrent_from_full g c recurrent =
     let none = surplus_is_none g d.0 d.1 in
     let back = settled_equivalent g (λ i. 3 + (c i + (d.0 i - 3))) done.0 done.1 done.2 in
     let start : IsEquivalent g (whole c) (whole (λ i. 3 + (c i + (d.0 i - 3)))) =
-    equivalent_same g (λ i. pos 0) (whole d.0) (whole c) (whole (λ i. 3 + (c i + (d.0 i - 3)))) (equivalent_sym g (whole d.0) (λ i. pos 0) none)
+    equivalent_same g (λ i. pos 0) (whole d.0) (whole c)
+    (whole (λ i. 3 + (c i + (d.0 i - 3)))) (equivalent_sym g (whole d.0) (λ i. pos 0) none)
     (λ i l. let high = surplus_high g d.0 d.1 i l in omega (arith, ints)) in
-    let class = equivalent_trans g (whole c) (whole (λ i. 3 + (c i + (d.0 i - 3)))) (whole done.1) start back in
-    (λ i. c i + (d.0 i - 3), done.0, settled_same g (λ i. 3 + (c i + (d.0 i - 3))) (λ i. 3 + (c i + (d.0 i - 3))) done.0 done.0 done.1 c (λ i l. refl) (λ i l. refl) (λ i l. sym (recurrent_unique g c done.1 recurrent again class i l)) done.2)
+    let class = equivalent_trans g (whole c) (whole (λ i. 3 + (c i + (d.0 i - 3)))) (whole done.1) start back in (
+      λ i. c i + (d.0 i - 3),
+      done.0,
+      settled_same g (λ i. 3 + (c i + (d.0 i - 3))) (λ i. 3 + (c i + (d.0 i - 3))) done.0 done.0 done.1 c
+          (λ i l. refl) (λ i l. refl) (λ i l. sym (recurrent_unique g c done.1 recurrent again class i l)) done.2,
+    )
 
 pub recurrent_plus : (g : Grid) (a b u r : ℕ → ℕ) → IsRecurrent g a → IsSettled g (λ i. a i + b i) u r → IsRecurrent g r
 recurrent_plus g a b u r recurrent done =
@@ -83,19 +95,23 @@ sum_is_settled g a b u r recurrent done = record {
 pub identity_is_settled : (g : Grid) (d u e : ℕ → ℕ) → IsSurplus g d → IsSettled g d u e → IsIdentity g e
 identity_is_settled g d u e is done = record {
   recurrent = high_recurrent g d u e done (surplus_high g d is);
-  equivalent = equivalent_trans g (whole e) (whole d) (λ i. pos 0) (equivalent_sym g (whole d) (whole e) (settled_equivalent g d u e done)) (surplus_is_none g d is);
+  equivalent = equivalent_trans g (whole e) (whole d) (λ i. pos 0)
+      (equivalent_sym g (whole d) (whole e) (settled_equivalent g d u e done)) (surplus_is_none g d is);
 }
 
-pub inverse_is_settled : (g : Grid) (c d u r : ℕ → ℕ) → IsRecurrent g c → IsSurplus g d → IsSettled g (λ i. 2 * d i - c i) u r → IsInverse g c r
+pub inverse_is_settled : (g : Grid) (c d u r : ℕ → ℕ) → IsRecurrent g c
+    → IsSurplus g d → IsSettled g (λ i. 2 * d i - c i) u r → IsInverse g c r
 inverse_is_settled g c d u r recurrent is done =
     let none = surplus_is_none g d is in
     let twice = equivalent_add g (whole d) (λ i. pos 0) (whole d) (λ i. pos 0) none none in
     record {
-      recurrent = high_recurrent g (λ i. 2 * d i - c i) u r done (λ i l. let high = surplus_high g d is i l in let low = recurrent.stable.low i l in omega arith);
+      recurrent = high_recurrent g (λ i. 2 * d i - c i) u r done
+          (λ i l. let high = surplus_high g d is i l in let low = recurrent.stable.low i l in omega arith);
       equivalent =
           equivalent_trans g (whole r) (whole (λ i. 2 * d i - c i)) (λ i. pos 0 -ℤ pos (c i))
           (equivalent_sym g (whole (λ i. 2 * d i - c i)) (whole r) (settled_equivalent g (λ i. 2 * d i - c i) u r done))
-          (equivalent_same g (λ i. pos (d i) +ℤ pos (d i)) (λ i. pos 0 +ℤ pos 0) (whole (λ i. 2 * d i - c i)) (λ i. pos 0 -ℤ pos (c i)) twice
+          (equivalent_same g (λ i. pos (d i) +ℤ pos (d i)) (λ i. pos 0 +ℤ pos 0)
+          (whole (λ i. 2 * d i - c i)) (λ i. pos 0 -ℤ pos (c i)) twice
           (λ i l. let high = surplus_high g d is i l in let low = recurrent.stable.low i l in omega (arith, ints)));
     }
 
@@ -119,19 +135,23 @@ class_has_one g x =
       done.1,
       record {
         recurrent = high_recurrent g s done.0 done.1 done.2 (λ i l. let high = enough i l in omega arith);
-        equivalent = equivalent_trans g (whole done.1) (whole s) x (equivalent_sym g (whole s) (whole done.1) (settled_equivalent g s done.0 done.1 done.2)) start;
+        equivalent = equivalent_trans g (whole done.1) (whole s) x
+            (equivalent_sym g (whole s) (whole done.1) (settled_equivalent g s done.0 done.1 done.2)) start;
       },
     )
 
 -- ---- the recurrent pile of a class
 
-pub equivalent_is_settled : (g : Grid) (s u t e v r : ℕ → ℕ) → IsSettled g s u t → IsIdentity g e → IsSettled g (λ i. e i + t i) v r → Represents g (whole s) r
+pub equivalent_is_settled : (g : Grid) (s u t e v r : ℕ → ℕ) → IsSettled g s u t
+    → IsIdentity g e → IsSettled g (λ i. e i + t i) v r → Represents g (whole s) r
 equivalent_is_settled g s u t e v r done identity again = record {
   recurrent = recurrent_plus g e t v r identity.recurrent again;
   equivalent =
-      equivalent_trans g (whole r) (λ i. pos (e i + t i)) (whole s) ((sum_is_settled g e t v r identity.recurrent again).equivalent)
+      equivalent_trans g (whole r) (λ i. pos (e i + t i)) (whole s)
+      ((sum_is_settled g e t v r identity.recurrent again).equivalent)
       (equivalent_same g (λ i. whole e i +ℤ whole t i) (λ i. pos 0 +ℤ whole s i) (λ i. pos (e i + t i)) (whole s)
-      (equivalent_add g (whole e) (λ i. pos 0) (whole t) (whole s) identity.equivalent (equivalent_sym g (whole s) (whole t) (settled_equivalent g s u t done)))
+      (equivalent_add g (whole e) (λ i. pos 0) (whole t) (whole s) identity.equivalent
+      (equivalent_sym g (whole s) (whole t) (settled_equivalent g s u t done)))
       (λ i l. omega (arith, ints)));
 }
 
@@ -139,35 +159,52 @@ pub represents_itself : (g : Grid) (c : ℕ → ℕ) → IsRecurrent g c → Rep
 represents_itself g c recurrent =
     let done = settles g c in
     let there = settled_equivalent g c done.0 done.1 done.2 in
-    record { recurrent = recurrent; equivalent = equivalent_trans g (whole c) (whole done.1) (whole c) there (equivalent_sym g (whole c) (whole done.1) there) }
+    record {
+      recurrent = recurrent;
+      equivalent =
+          equivalent_trans g (whole c) (whole done.1) (whole c) there (equivalent_sym g (whole c) (whole done.1) there);
+    }
 
-pub equivalents_add_up : (g : Grid) (a b c d e : ℕ → ℕ) → Represents g (whole a) c → Represents g (whole b) d → Represents g (whole (λ i. a i + b i)) e → IsSum g c d e
+pub equivalents_add_up : (g : Grid) (a b c d e : ℕ → ℕ) → Represents g (whole a) c
+    → Represents g (whole b) d → Represents g (whole (λ i. a i + b i)) e
+    → IsSum g c d e
 equivalents_add_up g a b c d e one two both =
     let sum = equivalent_add g (whole c) (whole a) (whole d) (whole b) one.equivalent two.equivalent in
     record {
       recurrent = both.recurrent;
       equivalent =
           equivalent_trans g (whole e) (whole (λ i. a i + b i)) (λ i. pos (c i + d i)) both.equivalent
-          (equivalent_same g (λ i. whole a i +ℤ whole b i) (λ i. whole c i +ℤ whole d i) (whole (λ i. a i + b i)) (λ i. pos (c i + d i))
-          (equivalent_sym g (λ i. whole c i +ℤ whole d i) (λ i. whole a i +ℤ whole b i) sum) (λ i l. omega (arith, ints)));
+          (equivalent_same g (λ i. whole a i +ℤ whole b i)
+          (λ i. whole c i +ℤ whole d i) (whole (λ i. a i + b i)) (λ i. pos (c i + d i))
+          (equivalent_sym g (λ i. whole c i +ℤ whole d i) (λ i. whole a i +ℤ whole b i) sum)
+          (λ i l. omega (arith, ints)));
     }
 
 -- ---- the laws of the group
 
-pub represented_once : (g : Grid) (x : ℕ → ℤ) (c d : ℕ → ℕ) → Represents g x c → Represents g x d → (i : ℕ) → i < sites g → c i ≡ d i
+pub represented_once : (g : Grid) (x : ℕ → ℤ) (c d : ℕ → ℕ)
+    → Represents g x c → Represents g x d → (i : ℕ) → i < sites g → c i ≡ d i
 represented_once g x c d one two =
-    recurrent_unique g c d one.recurrent two.recurrent (equivalent_trans g (whole c) x (whole d) one.equivalent (equivalent_sym g (whole d) x two.equivalent))
+    recurrent_unique g c d one.recurrent two.recurrent
+    (equivalent_trans g (whole c) x (whole d) one.equivalent (equivalent_sym g (whole d) x two.equivalent))
 
-pub identity_neutral : (g : Grid) (c e u r : ℕ → ℕ) → IsRecurrent g c → IsIdentity g e → IsSettled g (λ i. c i + e i) u r → (i : ℕ) → i < sites g → r i ≡ c i
+pub identity_neutral : (g : Grid) (c e u r : ℕ → ℕ) → IsRecurrent g c
+    → IsIdentity g e → IsSettled g (λ i. c i + e i) u r → (i : ℕ) → i < sites g
+    → r i ≡ c i
 identity_neutral g c e u r recurrent identity done =
     let class = (sum_is_settled g c e u r recurrent done).equivalent in
-    let none : IsEquivalent g (λ i. pos (c i + e i)) (whole c) = equivalent_same g (whole e) (λ i. pos 0) (λ i. pos (c i + e i)) (whole c) identity.equivalent (λ i l. omega (arith, ints)) in
-    recurrent_unique g r c (recurrent_plus g c e u r recurrent done) recurrent (equivalent_trans g (whole r) (λ i. pos (c i + e i)) (whole c) class none)
+    let none : IsEquivalent g (λ i. pos (c i + e i)) (whole c) = equivalent_same g (whole e)
+    (λ i. pos 0) (λ i. pos (c i + e i)) (whole c) identity.equivalent (λ i l. omega (arith, ints)) in
+    recurrent_unique g r c (recurrent_plus g c e u r recurrent done) recurrent
+    (equivalent_trans g (whole r) (λ i. pos (c i + e i)) (whole c) class none)
 
-pub inverse_cancels : (g : Grid) (c v u r : ℕ → ℕ) → IsRecurrent g c → IsInverse g c v → IsSettled g (λ i. c i + v i) u r → IsIdentity g r
+pub inverse_cancels : (g : Grid) (c v u r : ℕ → ℕ) → IsRecurrent g c
+    → IsInverse g c v → IsSettled g (λ i. c i + v i) u r → IsIdentity g r
 inverse_cancels g c v u r recurrent inverse done = record {
   recurrent = recurrent_plus g c v u r recurrent done;
   equivalent =
-      equivalent_trans g (whole r) (λ i. pos (c i + v i)) (λ i. pos 0) ((sum_is_settled g c v u r recurrent done).equivalent)
-      (equivalent_same g (whole v) (λ i. pos 0 -ℤ pos (c i)) (λ i. pos (c i + v i)) (λ i. pos 0) inverse.equivalent (λ i l. omega (arith, ints)));
+      equivalent_trans g (whole r) (λ i. pos (c i + v i)) (λ i. pos 0)
+      ((sum_is_settled g c v u r recurrent done).equivalent)
+      (equivalent_same g (whole v) (λ i. pos 0 -ℤ pos (c i)) (λ i. pos (c i + v i))
+      (λ i. pos 0) inverse.equivalent (λ i l. omega (arith, ints)));
 }

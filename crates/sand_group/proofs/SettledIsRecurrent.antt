@@ -31,7 +31,9 @@ north_flow g u i j e =
     omega arith
 
 -- each of the first k sites that is in a forbidden set has toppled
-all_toppled : (g : Grid) (a u t : ℕ → ℕ) (set : ℕ → Bool) → IsToppled g (λ i. 3 + a i) u t → IsForbidden g t set → (k i : ℕ) → i < k → i < sites g → set i ≡ true → u i ≡ 0 → ⊥
+all_toppled : (g : Grid) (a u t : ℕ → ℕ) (set : ℕ → Bool)
+    → IsToppled g (λ i. 3 + a i) u t → IsForbidden g t set
+    → (k i : ℕ) → i < k → i < sites g → set i ≡ true → u i ≡ 0 → ⊥
 all_toppled g a u t set done bad zero i l m in' none = absurd (omega arith)
 all_toppled g a u t set done bad (suc k) i l m in' none =
     let e = done.balance i m in
@@ -44,7 +46,8 @@ all_toppled g a u t set done bad (suc k) i l m in' none =
     all_toppled g a u t set done bad k up.0 (omega arith) (omega arith) up.2 (omega arith)
 
 -- toppling each site of the set once less still stabilises
-less_stabilises : (g : Grid) (a u t : ℕ → ℕ) (set : ℕ → Bool) → IsSettled g (λ i. 3 + a i) u t → IsForbidden g t set → Stabilises g (λ i. 3 + a i) (λ i. u i - indicator set i)
+less_stabilises : (g : Grid) (a u t : ℕ → ℕ) (set : ℕ → Bool) → IsSettled g (λ i. 3 + a i) u t → IsForbidden g t set
+    → Stabilises g (λ i. 3 + a i) (λ i. u i - indicator set i)
 less_stabilises g a u t set done bad = record {
   at_most_three = λ i l.
       let e = done.toppled.balance i l in
@@ -53,7 +56,11 @@ less_stabilises g a u t set done bad = record {
       let all = flow_same g (λ j. (u j - indicator set j) + indicator set j) u
       (λ j m.
       ⊎_elim
-      (λ (in' : set j ≡ true). ⊎_elim (λ (some : 0 < u j). rw in' (omega arith)) (λ (none : u j ≤ 0). absurd (all_toppled g a u t set done.toppled bad (suc j) j (omega arith) m in' (omega arith))) (cases_lt 0 (u j)))
+      (λ (in' : set j ≡ true). ⊎_elim
+      (λ (some : 0 < u j). rw in' (omega arith))
+      (λ (none : u j ≤ 0).
+      absurd (all_toppled g a u t set done.toppled bad (suc j) j (omega arith) m in' (omega arith)))
+      (cases_lt 0 (u j)))
       (λ (out : set j ≡ false). rw out (omega arith))
       (cases_Bool (set j))) i l in
       let split = flow-add g (λ j. u j - indicator set j) (indicator set) i in

@@ -18,7 +18,8 @@ is_out-some xs i some = ap not (lt-ltb 0 (tally xs i) (omega arith))
 
 pub is_in_listing : (n : ℕ) (p : ℕ → Bool) (xs : List ℕ) (i : ℕ) → Lists n p xs → i < n → is_in xs i ≡ p i
 is_in_listing n p xs i list l =
-    ⊎_elim (λ (pass : p i ≡ true). let one = listed n p xs i list l pass in lt-ltb 0 (tally xs i) (omega arith) ∙ sym pass)
+    ⊎_elim (λ (pass : p i ≡ true).
+    let one = listed n p xs i list l pass in lt-ltb 0 (tally xs i) (omega arith) ∙ sym pass)
     (λ (fail : p i ≡ false). let none = unlisted n p xs i list fail in le-ltb 0 (tally xs i) (omega arith) ∙ sym fail)
     (cases_Bool (p i))
 
@@ -26,12 +27,14 @@ pub is_out_of_listing : (n : ℕ) (p : ℕ → Bool) (xs : List ℕ) (i : ℕ) �
 is_out_of_listing n p xs i list l = ap not (is_in_listing n p xs i list l)
 
 -- an ascending list stays ascending after a push of a greater number
-pub increasing_push : (n : ℕ) (xs : List ℕ) → IsStrictlyIncreasing xs → All (λ i. i < n) xs → IsStrictlyIncreasing (xs ++ n ∷ [])
+pub increasing_push : (n : ℕ) (xs : List ℕ) → IsStrictlyIncreasing xs → All (λ i. i < n) xs
+    → IsStrictlyIncreasing (xs ++ n ∷ [])
 increasing_push n xs rises below k l =
     let push = length_push xs n in
     let first = get_or_append_left xs (n ∷ []) 0 k (omega arith) in
     ⊎_elim
-    (λ (before : k + 1 < length xs). let next = get_or_append_left xs (n ∷ []) 0 (k + 1) before in let up = rises k before in omega arith)
+    (λ (before : k + 1 < length xs).
+    let next = get_or_append_left xs (n ∷ []) 0 (k + 1) before in let up = rises k before in omega arith)
     (λ (last : length xs ≤ k + 1).
     let next = get_or_push xs n 0 (k + 1) (omega arith) in
     let low = All-get_or (λ i. i < n) xs k 0 (omega arith) below in

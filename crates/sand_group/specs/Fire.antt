@@ -22,7 +22,8 @@ is_out xs i = not (is_in xs i)
 -- each height is at least the number of the site's neighbours that did not burn before it
 abbrev pub FireSpreadsFrom : Grid → (ℕ → ℕ) → List ℕ → List ℕ → Type 0
 FireSpreadsFrom g s before [] = Unit {0}
-FireSpreadsFrom g s before (i ∷ later) = (count_by (is_out before) (neighbours g i) ≤ s i) × FireSpreadsFrom g s (before ++ i ∷ []) later
+FireSpreadsFrom g s before (i ∷ later) =
+    (count_by (is_out before) (neighbours g i) ≤ s i) × FireSpreadsFrom g s (before ++ i ∷ []) later
 
 -- for each site, the number of its neighbours outside the list
 pub record CountsUnburnt (g : Grid) (burnt : List ℕ) (unburnt : ℕ → ℕ) : Type 0 where

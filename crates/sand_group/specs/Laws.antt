@@ -8,11 +8,13 @@ use Rattle.sand_group.specs.Group.{SettlesTo, IsSurplus, Represents, IsSum, IsMu
 
 -- the burning test: a stable pile is recurrent if and only if all its sites burn in some order
 abbrev pub BurningDecides : Type 0
-BurningDecides = (g : Grid) (s : ℕ → ℕ) → IsGrid g → IsStable g s → IsRecurrent g s ↔ ((order : List ℕ) × IsBurningOrder g s order)
+BurningDecides =
+    (g : Grid) (s : ℕ → ℕ) → IsGrid g → IsStable g s → IsRecurrent g s ↔ ((order : List ℕ) × IsBurningOrder g s order)
 
 -- the recurrent piles are those that settle from at least 3 grains at each site
 abbrev pub RecurrentFromFull : Type 0
-RecurrentFromFull = (g : Grid) (c : ℕ → ℕ) → IsRecurrent g c ↔ ((a : ℕ → ℕ) × (u : ℕ → ℕ) × IsSettled g (λ i. 3 + a i) u c)
+RecurrentFromFull =
+    (g : Grid) (c : ℕ → ℕ) → IsRecurrent g c ↔ ((a : ℕ → ℕ) × (u : ℕ → ℕ) × IsSettled g (λ i. 3 + a i) u c)
 
 -- a recurrent pile with more grains settles to a recurrent pile
 abbrev pub StaysRecurrent : Type 0
@@ -46,7 +48,8 @@ IdentityIsSettled = (g : Grid) (d : ℕ → ℕ) → IsSurplus g d → SettlesTo
 
 -- 2d - c settles to the inverse of c; d is at least 3 and c at most 3, so 2d - c is at least 3 at each site
 abbrev pub InverseIsSettled : Type 0
-InverseIsSettled = (g : Grid) (c d : ℕ → ℕ) → IsRecurrent g c → IsSurplus g d → SettlesTo g (λ i. 2 * d i - c i) (IsInverse g c)
+InverseIsSettled =
+    (g : Grid) (c d : ℕ → ℕ) → IsRecurrent g c → IsSurplus g d → SettlesTo g (λ i. 2 * d i - c i) (IsInverse g c)
 
 -- c plus the identity settles to c
 abbrev pub IdentityIsNeutral : Type 0
@@ -55,11 +58,13 @@ IdentityIsNeutral = (g : Grid) (c e : ℕ → ℕ) → IsRecurrent g c → IsIde
 
 -- c plus its inverse settles to the identity
 abbrev pub InverseCancels : Type 0
-InverseCancels = (g : Grid) (c v : ℕ → ℕ) → IsRecurrent g c → IsInverse g c v → SettlesTo g (λ i. c i + v i) (IsIdentity g)
+InverseCancels =
+    (g : Grid) (c v : ℕ → ℕ) → IsRecurrent g c → IsInverse g c v → SettlesTo g (λ i. c i + v i) (IsIdentity g)
 
 -- the settled pile of s plus the identity settles to the recurrent pile equivalent to s
 abbrev pub EquivalentIsSettled : Type 0
-EquivalentIsSettled = (g : Grid) (s e : ℕ → ℕ) → IsIdentity g e → SettlesTo g s (λ t. SettlesTo g (λ i. e i + t i) (Represents g (whole s)))
+EquivalentIsSettled = (g : Grid) (s e : ℕ → ℕ) → IsIdentity g e
+    → SettlesTo g s (λ t. SettlesTo g (λ i. e i + t i) (Represents g (whole s)))
 
 -- a recurrent pile represents itself
 abbrev pub RepresentsItself : Type 0

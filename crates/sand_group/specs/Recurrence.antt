@@ -30,4 +30,5 @@ pub record IsGreatestForbidden (g : Grid) (s : ℕ → ℕ) (set : List ℕ) : T
   pub only_sites : All (λ i. i < sites g) set
   pub ascending : IsStrictlyIncreasing set
   pub forbidden : IsForbidden g s (is_in set)
-  pub greatest : (other : ℕ → Bool) → IsForbidden g s other → (i : ℕ) → i < sites g → IsTrue (other i) → IsTrue (is_in set i)
+  pub greatest : (other : ℕ → Bool) → IsForbidden g s other → (i : ℕ) → i < sites g → IsTrue (other i)
+      → IsTrue (is_in set i)

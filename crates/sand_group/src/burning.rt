@@ -98,7 +98,8 @@ fn spread_fire(
     requires site { site < sites lattice.now }
     requires heights_each { length heights.now ≡ sites lattice.now }
     requires one_each { length unburnt.old.items ≡ sites lattice.now }
-    requires unburnt { (j : ℕ) → j < sites lattice.now → tally (neighbours lattice.now site) j ≤ slice_index unburnt.old.items j }
+    requires unburnt { (j : ℕ) → j < sites lattice.now
+        → tally (neighbours lattice.now site) j ≤ slice_index unburnt.old.items j }
     requires all { ListsBurning (sites lattice.now) heights.now unburnt.old.items burnt.old.items }
     requires room { sites lattice.now ≤ vec_capacity burnt.old }
     ensures one_each { length unburnt.new.items ≡ sites lattice.now }

@@ -43,7 +43,8 @@ impl Recurrent {
         ensures made { IfOk result (λ c. c ≡ pile.now) }
         ensures recurrent { OnOk result (IsRecurrent pile.now.grid (height_of pile.now)) }
         ensures unstable { (result ≡ Err GroupFault.Unstable) ↔ ¬ IsStable pile.now.grid (height_of pile.now) }
-        ensures not_recurrent { result ≡ Err GroupFault.NotRecurrent → ¬ IsRecurrent pile.now.grid (height_of pile.now) }
+        ensures not_recurrent { result ≡ Err GroupFault.NotRecurrent
+            → ¬ IsRecurrent pile.now.grid (height_of pile.now) }
         ensures faults { IsStable pile.now.grid (height_of pile.now)
             → IfErr result (λ e. (e ≡ GroupFault.NotRecurrent) ⊎ (e ≡ GroupFault.Memory alloc_error)) }
     {

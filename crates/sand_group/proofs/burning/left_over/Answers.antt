@@ -11,15 +11,18 @@ loop-site-preserved c =
     let p : ℕ → Bool = λ i. not (may_burn (slice_index c.args.heights.now) (slice_index c.args.unburnt.now) i) in
     elim c.if-heights-site.branch [
       | then-heights-site+in_ok-push w ↦
-          let waits : p c.loop-site.site ≡ true = ap not (lt-leb (slice_index c.args.unburnt.now c.loop-site.site) (slice_index c.args.heights.now c.loop-site.site) (omega (arith, w.if-heights-site.true, c.from.ensures))) in
+          let waits : p c.loop-site.site ≡ true = ap not (lt-leb (slice_index c.args.unburnt.now c.loop-site.site)
+          (slice_index c.args.heights.now c.loop-site.site) (omega (arith, w.if-heights-site.true, c.from.ensures))) in
           rw (w.left-is, w.in_ok-push.ensures.items) (
           record {
             all = lists_more_yes c.loop-site.site p _ c.loop-site.invariant.all waits;
-            ascending = increasing_push c.loop-site.site _ c.loop-site.invariant.ascending (lists_below c.loop-site.site p _ c.loop-site.invariant.all);
+            ascending = increasing_push c.loop-site.site _ c.loop-site.invariant.ascending
+                (lists_below c.loop-site.site p _ c.loop-site.invariant.all);
           }
           )
       | else-heights-site w ↦
-          let burns : p c.loop-site.site ≡ false = ap not (le-leb (slice_index c.args.unburnt.now c.loop-site.site) (slice_index c.args.heights.now c.loop-site.site) (omega (arith, w.if-heights-site.false, c.from.ensures))) in
+          let burns : p c.loop-site.site ≡ false = ap not (le-leb (slice_index c.args.unburnt.now c.loop-site.site)
+          (slice_index c.args.heights.now c.loop-site.site) (omega (arith, w.if-heights-site.false, c.from.ensures))) in
           rw w.left-is (
           record {
             all = lists_more_no c.loop-site.site p _ c.loop-site.invariant.all burns;

@@ -15,7 +15,8 @@ returns-then-n-eq0-2-clause-multiple t c =
     let half : ℕ = c.args.n / 2 in
     let both : c.args.n ≡ half + half = omega (arith, c.if-n-eq0-2.true) in
     let a = height_of c.in_ok-half.half in
-    sum_is_multiple c.args.c.now.grid c.in_ok-half.half.grid c.args.n half half (height_of c.args.c.now) a a (height_of c.in_ok-twice.twice)
+    sum_is_multiple c.args.c.now.grid c.in_ok-half.half.grid c.args.n half
+    half (height_of c.args.c.now) a a (height_of c.in_ok-twice.twice)
     c.in_ok-half.ensures.grid both c.in_ok-half.ensures.multiple c.in_ok-half.ensures.multiple c.in_ok-twice.ensures.sum
 
 pub returns-clause-multiple : goal.returns-clause-multiple
@@ -26,8 +27,11 @@ returns-clause-multiple t c =
     let s = height_of c.args.c.now in
     let a = height_of c.in_ok-half.half in
     let b = height_of c.in_ok-twice.twice in
-    let even = sum_is_multiple c.args.c.now.grid c.in_ok-half.half.grid twice half half s a a b c.in_ok-half.ensures.grid refl c.in_ok-half.ensures.multiple c.in_ok-half.ensures.multiple c.in_ok-twice.ensures.sum in
+    let even =
+    sum_is_multiple c.args.c.now.grid c.in_ok-half.half.grid twice half half s a a b c.in_ok-half.ensures.grid
+    refl c.in_ok-half.ensures.multiple c.in_ok-half.ensures.multiple c.in_ok-twice.ensures.sum in
     IfOk-weaker c.add-else-n-eq0-2.result _ _
     (λ m sum. sum_is_multiple c.args.c.now.grid c.in_ok-twice.twice.grid c.args.n twice 1 s b s (height_of m)
-    (c.in_ok-twice.ensures.settled.grid ∙ c.in_ok-half.ensures.grid) odd even (one_is_itself c.args.c.now.grid s c.pile.ensures.recurrent) sum)
+    (c.in_ok-twice.ensures.settled.grid ∙ c.in_ok-half.ensures.grid) odd
+    even (one_is_itself c.args.c.now.grid s c.pile.ensures.recurrent) sum)
     c.add-else-n-eq0-2.ensures.sum

@@ -9,17 +9,30 @@ use Rattle.sand_group.proofs.group.act.Goals as goal
 pub invariant_of-result : goal.invariant_of-result
 invariant_of-result c =
     let inside : c.args.site < sites c.c.inside.pile.grid = rw c.c.view_is c.requires in
-    let done = grain_settles c.shape-shape.result c.c.inside.pile c.in_ok-settled.field-0 c.in_ok-heights.heights.items c.args.site c.index_mut.result.now c.shape-shape.ensures.value c.shape-shape.ensures.pile (c.in_ok-heights.ensures.items ∙ c.heights.ensures.value) inside c.index_mut.ensures.value c.in_ok-settled.ensures.settled in
-    recurrent_there c.c.inside.pile.grid _ c.in_ok-settled.field-0 done (recurrent_plus c.c.inside.pile.grid (height_of c.c.inside.pile) (one_at c.args.site) done.odometer (height_of c.in_ok-settled.field-0) c.c.invariant done.settled)
+    let done = grain_settles c.shape-shape.result c.c.inside.pile c.in_ok-settled.field-0
+    c.in_ok-heights.heights.items c.args.site c.index_mut.result.now c.shape-shape.ensures.value
+    c.shape-shape.ensures.pile (c.in_ok-heights.ensures.items ∙ c.heights.ensures.value)
+    inside c.index_mut.ensures.value c.in_ok-settled.ensures.settled in
+    recurrent_there c.c.inside.pile.grid _ c.in_ok-settled.field-0 done
+    (recurrent_plus c.c.inside.pile.grid (height_of c.c.inside.pile) (one_at c.args.site)
+    done.odometer (height_of c.in_ok-settled.field-0) c.c.invariant done.settled)
 
 pub returns-clause-settled : goal.returns-clause-settled
 returns-clause-settled c =
     let inside : c.args.site < sites c.c.inside.pile.grid = rw c.c.view_is c.requires in
     rw (← c.c.view_is)
-    (grain_settles c.shape-shape.result c.c.inside.pile c.in_ok-settled.field-0 c.in_ok-heights.heights.items c.args.site c.index_mut.result.now c.shape-shape.ensures.value c.shape-shape.ensures.pile (c.in_ok-heights.ensures.items ∙ c.heights.ensures.value) inside c.index_mut.ensures.value c.in_ok-settled.ensures.settled)
+    (grain_settles c.shape-shape.result c.c.inside.pile c.in_ok-settled.field-0
+    c.in_ok-heights.heights.items c.args.site c.index_mut.result.now c.shape-shape.ensures.value
+    c.shape-shape.ensures.pile (c.in_ok-heights.ensures.items ∙ c.heights.ensures.value)
+    inside c.index_mut.ensures.value c.in_ok-settled.ensures.settled)
 
 pub returns-clause-recurrent : goal.returns-clause-recurrent
 returns-clause-recurrent c =
     let inside : c.args.site < sites c.c.inside.pile.grid = rw c.c.view_is c.requires in
-    let done = grain_settles c.shape-shape.result c.c.inside.pile c.in_ok-settled.field-0 c.in_ok-heights.heights.items c.args.site c.index_mut.result.now c.shape-shape.ensures.value c.shape-shape.ensures.pile (c.in_ok-heights.ensures.items ∙ c.heights.ensures.value) inside c.index_mut.ensures.value c.in_ok-settled.ensures.settled in
-    recurrent_there c.c.inside.pile.grid _ c.in_ok-settled.field-0 done (recurrent_plus c.c.inside.pile.grid (height_of c.c.inside.pile) (one_at c.args.site) done.odometer (height_of c.in_ok-settled.field-0) c.c.invariant done.settled)
+    let done = grain_settles c.shape-shape.result c.c.inside.pile c.in_ok-settled.field-0
+    c.in_ok-heights.heights.items c.args.site c.index_mut.result.now c.shape-shape.ensures.value
+    c.shape-shape.ensures.pile (c.in_ok-heights.ensures.items ∙ c.heights.ensures.value)
+    inside c.index_mut.ensures.value c.in_ok-settled.ensures.settled in
+    recurrent_there c.c.inside.pile.grid _ c.in_ok-settled.field-0 done
+    (recurrent_plus c.c.inside.pile.grid (height_of c.c.inside.pile) (one_at c.args.site)
+    done.odometer (height_of c.in_ok-settled.field-0) c.c.invariant done.settled)

@@ -7,7 +7,8 @@ use Rattle.sand_group.proofs.laws.equivalents_add_up.Goals as goal
 pub returns-clause-settled : goal.returns-clause-settled
 returns-clause-settled c g s e identity =
     settles_to g s (λ t. SettlesTo g (λ i. e i + t i) (Represents g (whole s)))
-    (λ u t done. settles_to g (λ i. e i + t i) (Represents g (whole s)) (λ v r again. equivalent_is_settled g s u t e v r done identity again))
+    (λ u t done. settles_to g (λ i. e i + t i) (Represents g (whole s))
+    (λ v r again. equivalent_is_settled g s u t e v r done identity again))
 
 pub returns-clause-itself : goal.returns-clause-itself
 returns-clause-itself c = represents_itself

@@ -6,7 +6,9 @@ use Rattle.sand_group.proofs.laws.is_group.Goals as goal
 
 pub returns-clause-neutral : goal.returns-clause-neutral
 returns-clause-neutral c g d e recurrent identity =
-    settles_to g (λ i. d i + e i) (λ t. (i : ℕ) → i < sites g → t i ≡ d i) (λ u t. identity_neutral g d e u t recurrent identity)
+    settles_to g (λ i. d i + e i) (λ t. (i : ℕ) → i < sites g → t i ≡ d i)
+    (λ u t. identity_neutral g d e u t recurrent identity)
 
 pub returns-clause-inverse : goal.returns-clause-inverse
-returns-clause-inverse c g d v recurrent inverse = settles_to g (λ i. d i + v i) (IsIdentity g) (λ u t. inverse_cancels g d v u t recurrent inverse)
+returns-clause-inverse c g d v recurrent inverse =
+    settles_to g (λ i. d i + v i) (IsIdentity g) (λ u t. inverse_cancels g d v u t recurrent inverse)

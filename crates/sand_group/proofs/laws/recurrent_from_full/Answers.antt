@@ -8,4 +8,5 @@ pub returns-clause-exactly : goal.returns-clause-exactly
 returns-clause-exactly c g s = (recurrent_from_full g s, λ full. settled_recurrent g full.0 full.1 s full.2)
 
 pub returns-clause-stays : goal.returns-clause-stays
-returns-clause-stays c g a b recurrent = settles_to g (λ i. a i + b i) (IsRecurrent g) (λ u t. recurrent_plus g a b u t recurrent)
+returns-clause-stays c g a b recurrent =
+    settles_to g (λ i. a i + b i) (IsRecurrent g) (λ u t. recurrent_plus g a b u t recurrent)

@@ -13,4 +13,5 @@ pub returns-clause-identity : goal.returns-clause-identity
 returns-clause-identity c g d surplus = settles_to g d (IsIdentity g) (λ u t. identity_is_settled g d u t surplus)
 
 pub returns-clause-inverse : goal.returns-clause-inverse
-returns-clause-inverse c g a d recurrent surplus = settles_to g (λ i. 2 * d i - a i) (IsInverse g a) (λ u t. inverse_is_settled g a d u t recurrent surplus)
+returns-clause-inverse c g a d recurrent surplus =
+    settles_to g (λ i. 2 * d i - a i) (IsInverse g a) (λ u t. inverse_is_settled g a d u t recurrent surplus)

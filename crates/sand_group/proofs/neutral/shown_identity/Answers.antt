@@ -16,5 +16,6 @@ returns-in-Ok-Recurrent-clause-identity c =
     let grid = ap (λ (p : PileView). p.grid) c.from_vec-pile.ensures in
     record {
       recurrent = rw grid at burned.0;
-      equivalent = rw c.from_vec-pile.ensures (emptied_is_none c.args.shape (λ i. get_or c.in-Some-2.heights.items i 0) (λ i. get_or c.in-Some.counts.items i 0) emptied);
+      equivalent = rw c.from_vec-pile.ensures (emptied_is_none c.args.shape
+          (λ i. get_or c.in-Some-2.heights.items i 0) (λ i. get_or c.in-Some.counts.items i 0) emptied);
     }
