@@ -6,7 +6,8 @@ use Rattle.sand_c.specs.declared.faults.Fault.TheVariants.{Side, Length, TooMany
 use Rattle.sand_c.specs.Arguments.{Fails, Answers}
 use Rattle.sand_c.specs.Faults.{number_of}
 
-refused : {A : Type 0} (fault : Fault) (n : ℕ) (meaning : Result A Fault) → n ≡ number_of fault → Fails fault meaning → Answers n meaning
+refused : {A : Type 0} (fault : Fault) (n : ℕ) (meaning : Result A Fault) → n ≡ number_of fault → Fails fault meaning
+    → Answers n meaning
 refused Side n meaning is fails = rw fails is
 refused Length n meaning is fails = rw fails is
 refused TooManyGrains n meaning is fails = rw fails is
@@ -19,7 +20,8 @@ refused Shapes n meaning is fails = rw fails is
 refused Narrow n meaning is fails = rw fails is
 refused NoSite n meaning is fails = rw fails is
 
-pub answered : {U A : Type 0} (outcome : Result U Fault) (n : ℕ) (meaning : Result A Fault) → (IsOk outcome ↔ (n ≡ 0)) → IfErr outcome (λ e. n ≡ number_of e)
+pub answered : {U A : Type 0} (outcome : Result U Fault) (n : ℕ) (meaning : Result A Fault)
+    → (IsOk outcome ↔ (n ≡ 0)) → IfErr outcome (λ e. n ≡ number_of e)
     → OnOk outcome (IsOk meaning) → IfErr outcome (λ e. Fails e meaning) → Answers n meaning
 answered (Ok u) n (Ok x) ok is meant fails = inl (ok.0 refl)
 answered (Ok u) n (Err e) ok is meant fails = absurd (cc)

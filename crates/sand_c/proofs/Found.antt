@@ -14,15 +14,23 @@ use Rattle.sand_group.specs.Recurrence.{IsBurningOrder, IsGreatestForbidden}
 ones : (n : ℕ) (f : ℕ → ℕ) → ((i : ℕ) → i < n → f i ≡ 1) → sum_below n f ≡ n
 unfolding sum_below
 ones zero f each = refl
-ones (suc n) f each = let below = ones n f (λ i lt. each i (omega arith)) in let last = each n (omega arith) in omega arith
+ones (suc n) f each =
+    let below = ones n f (λ i lt. each i (omega arith)) in
+    let last = each n (omega arith) in
+    omega arith
 
 rises : (xs : List ℕ) → IsStrictlyIncreasing xs → (k : ℕ) → k < length xs → k ≤ slice_index xs k
 rises xs up zero lt = omega arith
-rises xs up (suc k) lt = let before = rises xs up k (omega arith) in let step = up k (omega arith) in let one : suc k ≡ k + 1 = omega arith in rw one (omega arith)
+rises xs up (suc k) lt =
+    let before = rises xs up k (omega arith) in
+    let step = up k (omega arith) in
+    let one : suc k ≡ k + 1 = omega arith in
+    rw one (omega arith)
 
 -- a burning order has as many sites as the grid
 order_fits : (g : Grid) (s : ℕ → ℕ) (order : List ℕ) → IsBurningOrder g s order → length order ≡ sites g
-order_fits g s order is = sym (sum_below-tally (sites g) order is.only_sites) ∙ ones (sites g) (tally order) is.each_once
+order_fits g s order is =
+    sym (sum_below-tally (sites g) order is.only_sites) ∙ ones (sites g) (tally order) is.each_once
 
 -- a forbidden set has at most as many
 set_fits : (g : Grid) (s : ℕ → ℕ) (set : List ℕ) → IsGreatestForbidden g s set → length set ≤ sites g
@@ -39,6 +47,7 @@ pub fits : (g : Grid) (s : ℕ → ℕ) (burned : Burned) → IsBurned g s burne
 fits g s (Recurrent order) is = let all = order_fits g s order.items is.1 in omega arith
 fits g s (Forbidden set) is = set_fits g s set.items is
 
-pub found : (g : Grid) (s : ℕ → ℕ) (burned : Burned) → IsBurned g s burned → IsFound g s (burns_out burned) (sites_in burned)
+pub found : (g : Grid) (s : ℕ → ℕ) (burned : Burned) → IsBurned g s burned
+    → IsFound g s (burns_out burned) (sites_in burned)
 found g s (Recurrent order) is = is
 found g s (Forbidden set) is = is

@@ -4,7 +4,9 @@ use Rattle.sand_settle.specs.Drops.{OneView, grid_of_one_pile, topplings_between
 use Rattle.sand_c.specs.declared.avalanche.SandpileAvalanche.{SandpileAvalanche}
 use Rattle.sand_c.specs.Dropping.{AreAvalanches, IsLike}
 
-pub rows_push : (v u w : OneView) (sites : List ℕ) (rows : List SandpileAvalanche) (site : ℕ) (a : SandpileAvalanche) → AreAvalanches v sites rows u → Drops u site w → IsLike a (grid_of_one_pile u) site (topplings_between u.settled w.settled)
+pub rows_push : (v u w : OneView) (sites : List ℕ) (rows : List SandpileAvalanche) (site : ℕ) (a : SandpileAvalanche)
+    → AreAvalanches v sites rows u → Drops u site w
+    → IsLike a (grid_of_one_pile u) site (topplings_between u.settled w.settled)
     → AreAvalanches v (sites ++ site ∷ []) (rows ++ a ∷ []) w
 rows_push v u w [] rows site a (none, same) drop is =
     let P : OneView → Type 0 = λ x. AreAvalanches x (site ∷ []) (rows ++ a ∷ []) w in

@@ -6,4 +6,5 @@ use Rattle.std.proofs.lemmas.Bool.{ltb-true}
 use Rattle.sand_c.specs.Dropping.{are_sites}
 
 pub all_sites : (n : ℕ) (drops : List ℕ) → are_sites n drops ≡ true → All (λ site. site < n) drops
-all_sites n drops all = λ k d lt. ltb-true (get_or drops k d) n (AllPass-from_list_all (λ site. nat_lt site n) drops all k d lt)
+all_sites n drops all = λ k d lt.
+    ltb-true (get_or drops k d) n (AllPass-from_list_all (λ site. nat_lt site n) drops all k d lt)

@@ -28,13 +28,19 @@ pub record IsRefused {A : Type 0} (pile : PileView) (answer : Result A GroupFaul
   pub not_recurrent : answer ≡ Err group.NotRecurrent → IsRecurrent pile.grid (height_of pile) → ⊥
   pub others : IsStable pile.grid (height_of pile) → (fault ≡ group.NotRecurrent) ⊎ (fault ≡ group.Memory alloc_error)
 
-not_unstable : {A : Type 0} (pile : PileView) (answer : Result A GroupFault) (fault : GroupFault) → IsRefused pile answer fault → (fault ≡ group.Unstable → ⊥) → IsStable pile.grid (height_of pile)
-not_unstable pile answer fault h other = stable pile.grid (height_of pile) (λ high. let is = h.is in let high_is = h.unstable.1 high in other (cc))
+not_unstable : {A : Type 0} (pile : PileView) (answer : Result A GroupFault) (fault : GroupFault)
+    → IsRefused pile answer fault → (fault ≡ group.Unstable → ⊥)
+    → IsStable pile.grid (height_of pile)
+not_unstable pile answer fault h other =
+    stable pile.grid (height_of pile) (λ high. let is = h.is in let high_is = h.unstable.1 high in other (cc))
 
 -- so it is unfit, or memory ran out
-pub unfit : {A : Type 0} (pile : PileView) (answer : Result A GroupFault) (fault : GroupFault) → IsRefused pile answer fault → (of_group fault ≡ c.Memory) ⊎ IsUnfit pile (of_group fault)
+pub unfit : {A : Type 0} (pile : PileView) (answer : Result A GroupFault) (fault : GroupFault)
+    → IsRefused pile answer fault
+    → (of_group fault ≡ c.Memory) ⊎ IsUnfit pile (of_group fault)
 unfit pile answer group.Unstable h = inr (h.unstable.0 h.is)
-unfit pile answer group.NotRecurrent h = inr (not_unstable pile answer group.NotRecurrent h (λ e. cc), h.not_recurrent h.is)
+unfit pile answer group.NotRecurrent h =
+    inr (not_unstable pile answer group.NotRecurrent h (λ e. cc), h.not_recurrent h.is)
 unfit pile answer group.Shapes h = elim (h.others (not_unstable pile answer group.Shapes h (λ e. cc))) [
   | inl e ↦ absurd (cc)
   | inr e ↦ absurd (cc)
@@ -42,5 +48,7 @@ unfit pile answer group.Shapes h = elim (h.others (not_unstable pile answer grou
 unfit pile answer (group.Memory error) h = inl refl
 
 -- a pile that can be burned is stable
-pub burnt : {A : Type 0} (g : Grid) (s : ℕ → ℕ) (answer : Result A GroupFault) (found : A) → answer ≡ Ok found → ((answer ≡ Err group.Unstable) ↔ (IsStable g s → ⊥)) → IsStable g s
+pub burnt : {A : Type 0} (g : Grid) (s : ℕ → ℕ) (answer : Result A GroupFault) (found : A)
+    → answer ≡ Ok found → ((answer ≡ Err group.Unstable) ↔ (IsStable g s → ⊥))
+    → IsStable g s
 burnt g s answer found is unstable = stable g s (λ high. let refused = unstable.1 high in cc)

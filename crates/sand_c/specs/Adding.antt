@@ -16,7 +16,8 @@ two_on g heights others = pile_on g heights >>= λ p. pile_on g others >>= λ q.
 -- the piles in the arguments
 abbrev pub adding_of : ℕ → ℕ → Bool → List ℕ → List ℕ → Result (PileView × PileView) Fault
 adding_of width height cylinder heights others =
-    grid_of width height cylinder >>= λ g. has_length (sites g) (length heights) >>= λ _. has_length (sites g) (length others) >>= λ _. two_on g heights others
+    grid_of width height cylinder >>= λ g.
+    has_length (sites g) (length heights) >>= λ _. has_length (sites g) (length others) >>= λ _. two_on g heights others
 
 -- a sum fails: its arguments have a fault, or memory runs out, or the first pile is not recurrent, or the second is not
 abbrev pub AddFails : Fault → Result (PileView × PileView) Fault → Type 0
@@ -31,4 +32,5 @@ pub record IsAdding (meaning : Result (PileView × PileView) Fault) (after : Lis
   pub first_recurrent : IsRecurrent first.grid (height_of first)
   pub second_recurrent : IsRecurrent second.grid (height_of second)
   pub one_each : length after ≡ sites first.grid
-  pub sum : IsSum first.grid (height_of first) (height_of second) (height_of (record { grid = first.grid; heights = after }))
+  pub sum : IsSum first.grid (height_of first) (height_of second)
+      (height_of (record { grid = first.grid; heights = after }))

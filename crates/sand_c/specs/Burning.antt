@@ -12,7 +12,8 @@ use Rattle.sand_c.specs.Arguments.{grid_of, has_length, pile_on, ◌>>=◌}
 
 abbrev pub burning_of : ℕ → ℕ → Bool → List ℕ → List ℕ → Result PileView Fault
 burning_of width height cylinder heights found =
-    grid_of width height cylinder >>= λ g. has_length (sites g) (length heights) >>= λ _. has_length (sites g) (length found) >>= λ _. pile_on g heights
+    grid_of width height cylinder >>= λ g.
+    has_length (sites g) (length heights) >>= λ _. has_length (sites g) (length found) >>= λ _. pile_on g heights
 
 -- these sites are a burning order of a recurrent pile, or the greatest forbidden set of any other
 abbrev pub IsFound : Grid → (ℕ → ℕ) → Bool → List ℕ → Type 0

@@ -32,22 +32,26 @@ drops_on g heights drops = pile_on g heights >>= with_drops drops
 
 abbrev pub dropping_of : ℕ → ℕ → Bool → List ℕ → List ℕ → List ℕ → List SandpileAvalanche → Result PileView Fault
 dropping_of width height cylinder heights odometer drops avalanches =
-    grid_of width height cylinder >>= λ g. has_length (sites g) (length heights) >>= λ _. has_length (sites g) (length odometer) >>= λ _. has_length (length drops) (length avalanches)
+    grid_of width height cylinder >>= λ g. has_length (sites g) (length heights)
+    >>= λ _. has_length (sites g) (length odometer) >>= λ _. has_length (length drops) (length avalanches)
     >>= λ _. drops_on g heights drops
 
 -- the library's avalanche with the same numbers
 abbrev pub IsLike : SandpileAvalanche → Grid → ℕ → (ℕ → ℕ) → Type 0
-IsLike a g site v = IsAvalanche g site v (record { site = a.site; size = a.size; area = a.area; reach = a.reach; lost = a.lost })
+IsLike a g site v =
+    IsAvalanche g site v (record { site = a.site; size = a.size; area = a.area; reach = a.reach; lost = a.lost })
 
 -- the drops at these sites lead from v to w, and these are their avalanches
 abbrev pub AreAvalanches : OneView → List ℕ → List SandpileAvalanche → OneView → Type 0
 AreAvalanches v [] rows w = (rows ≡ []) × (v ≡ w)
-AreAvalanches v (site ∷ drops) rows w = (u : OneView) × (avalanche : SandpileAvalanche) × (others : List SandpileAvalanche)
+AreAvalanches v (site ∷ drops) rows w =
+    (u : OneView) × (avalanche : SandpileAvalanche) × (others : List SandpileAvalanche)
     × Drops v site u × IsLike avalanche (grid_of_one_pile v) site (topplings_between v.settled u.settled)
     × (rows ≡ avalanche ∷ others) × AreAvalanches u drops others w
 
 -- the arguments are a pile; it settled, and the drops led from there to what was written
-pub record IsDropping (meaning : Result PileView Fault) (drops after odometer : List ℕ) (avalanches : List SandpileAvalanche) : Type 0 where
+pub record IsDropping (meaning : Result PileView Fault) (drops after odometer : List ℕ)
+    (avalanches : List SandpileAvalanche) : Type 0 where
   pub start : PileView
   pub meant : meaning ≡ Ok start
   pub first : OneView

@@ -8,7 +8,8 @@ use Rattle.sand_c.specs.declared.faults.Fault.{Fault}
 use Rattle.sand_c.specs.Arguments.{grid_of, has_length, pile_on, ◌>>=◌}
 
 abbrev pub identity_of : ℕ → ℕ → Bool → List ℕ → Result Grid Fault
-identity_of width height cylinder heights = grid_of width height cylinder >>= λ g. has_length (sites g) (length heights) >>= λ _. Ok g
+identity_of width height cylinder heights =
+    grid_of width height cylinder >>= λ g. has_length (sites g) (length heights) >>= λ _. Ok g
 
 -- the arguments are a grid, and what was written is its identity
 pub record IsIdentityOf (meaning : Result Grid Fault) (after : List ℕ) : Type 0 where
@@ -25,4 +26,5 @@ pub record IsRecurrentOf (meaning : Result PileView Fault) (after : List ℕ) : 
   pub start : PileView
   pub meant : meaning ≡ Ok start
   pub one_each : length after ≡ sites start.grid
-  pub represents : Represents start.grid (whole (height_of start)) (height_of (record { grid = start.grid; heights = after }))
+  pub represents : Represents start.grid (whole (height_of start))
+      (height_of (record { grid = start.grid; heights = after }))

@@ -14,4 +14,9 @@ settling_of width height cylinder heights odometer =
 pub record IsSettling (meaning : Result PileView Fault) (after odometer : List ℕ) (lost topplings : ℕ) : Type 0 where
   pub start : PileView
   pub meant : meaning ≡ Ok start
-  pub settled : IsRecord start.grid (height_of start) (record { pile = record { grid = start.grid; heights = after }; odometer = odometer; topplings = topplings; lost = lost })
+  pub settled : IsRecord start.grid (height_of start) (record {
+    pile = record { grid = start.grid; heights = after };
+    odometer = odometer;
+    topplings = topplings;
+    lost = lost;
+  })

@@ -9,7 +9,8 @@ use Rattle.sand_c.specs.declared.faults.Fault.TheVariants.{Memory, Unstable, Not
 use Rattle.sand_c.specs.Arguments.{grid_of, has_length, pile_on, ◌>>=◌}
 
 abbrev pub element_of : ℕ → ℕ → Bool → List ℕ → Result PileView Fault
-element_of width height cylinder heights = grid_of width height cylinder >>= λ g. has_length (sites g) (length heights) >>= λ _. pile_on g heights
+element_of width height cylinder heights =
+    grid_of width height cylinder >>= λ g. has_length (sites g) (length heights) >>= λ _. pile_on g heights
 
 -- why a pile is not recurrent: a height is over 3; or none is, and a set is forbidden
 abbrev pub IsUnfit : PileView → Fault → Type 0

@@ -53,7 +53,8 @@ fn burn_into(
     count: &mut usize,
     recurrent: &mut bool,
 ) -> Result<(), Fault>
-    ensures burned { OnOk result (IsBurning (burning_of width height cylinder heights.now found.old) found.new count.new recurrent.new) }
+    ensures burned { OnOk result
+        (IsBurning (burning_of width height cylinder heights.now found.old) found.new count.new recurrent.new) }
     ensures fault { IfErr result (λ e. BurnFails e (burning_of width height cylinder heights.now found.old)) }
     ensures found { OnErr result (found.new ≡ found.old) }
     ensures count { OnErr result (count.new ≡ count.old) }
@@ -90,7 +91,8 @@ pub extern "C" fn sandpile_burn(
     count: &mut usize,
     recurrent: &mut bool,
 ) -> u32
-    ensures burned { result ≡ 0 → IsBurning (burning_of width height cylinder heights.now found.old) found.new count.new recurrent.new }
+    ensures burned { result ≡ 0
+        → IsBurning (burning_of width height cylinder heights.now found.old) found.new count.new recurrent.new }
     ensures answer { IsAnswer result (λ e. BurnFails e (burning_of width height cylinder heights.now found.old)) }
     ensures found { result ≢ 0 → found.new ≡ found.old }
     ensures count { result ≢ 0 → count.new ≡ count.old }

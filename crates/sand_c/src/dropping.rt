@@ -48,7 +48,8 @@ fn are_sites(drops: &[usize], sites: usize) -> bool
 // Whether the heights are within the limit, every drop is at a site, and there is room for all drops.
 fn suit(shape: Shape, heights: &[u64], drops: &[usize]) -> Result<(), Fault>
     requires { length heights.now ≡ sites shape }
-    ensures ok { OnOk result (drops_on shape heights.now drops.now ≡ Ok (record { grid = shape; heights = heights.now })) }
+    ensures ok { OnOk result (drops_on shape heights.now drops.now
+        ≡ Ok (record { grid = shape; heights = heights.now })) }
     ensures err { IfErr result (λ e. drops_on shape heights.now drops.now ≡ Err e) }
     ensures known { IfErr result (λ e. e ≢ Fault.Memory) }
     ensures limit { OnOk result (sum heights.now ≤ most_grains) }
@@ -78,8 +79,10 @@ fn start_of(
     drops: &[usize],
     avalanches: &[SandpileAvalanche],
 ) -> Result<Pile, Fault>
-    ensures meant { IfOk result (λ p. dropping_of width height cylinder heights.now odometer.now drops.now avalanches.now ≡ Ok p) }
-    ensures fault { IfErr result (λ e. Fails e (dropping_of width height cylinder heights.now odometer.now drops.now avalanches.now)) }
+    ensures meant { IfOk result
+        (λ p. dropping_of width height cylinder heights.now odometer.now drops.now avalanches.now ≡ Ok p) }
+    ensures fault { IfErr result
+        (λ e. Fails e (dropping_of width height cylinder heights.now odometer.now drops.now avalanches.now)) }
     ensures all { IfOk result (λ p. All (λ site. site < sites p.grid) drops.now) }
     ensures room { IfOk result (λ p. sum p.heights + length drops.now ≤ most_grains) }
     ensures odometer { IfOk result (λ p. length odometer.now ≡ sites p.grid) }
@@ -111,9 +114,13 @@ fn drop_into(
     drops: &[usize],
     avalanches: &mut [SandpileAvalanche],
 ) -> Result<(), Fault>
-    ensures dropped { OnOk result (IsDropping (dropping_of width height cylinder heights.old odometer.old drops.now avalanches.old) drops.now heights.new odometer.new avalanches.new) }
-    ensures fault { IfErr result (λ e. Fails e (dropping_of width height cylinder heights.old odometer.old drops.now avalanches.old)) }
-    ensures meant { OnOk result (IsOk (dropping_of width height cylinder heights.old odometer.old drops.now avalanches.old)) }
+    ensures dropped { OnOk result
+        (IsDropping (dropping_of width height cylinder heights.old odometer.old drops.now avalanches.old)
+        drops.now heights.new odometer.new avalanches.new) }
+    ensures fault { IfErr result
+        (λ e. Fails e (dropping_of width height cylinder heights.old odometer.old drops.now avalanches.old)) }
+    ensures meant { OnOk result
+        (IsOk (dropping_of width height cylinder heights.old odometer.old drops.now avalanches.old)) }
     ensures heights { OnErr result (heights.new ≡ heights.old) }
     ensures odometer { OnErr result (odometer.new ≡ odometer.old) }
     ensures avalanches { OnErr result (avalanches.new ≡ avalanches.old) }
@@ -145,8 +152,11 @@ pub extern "C" fn sandpile_drop(
     drops: &[usize],
     avalanches: &mut [SandpileAvalanche],
 ) -> u32
-    ensures dropped { result ≡ 0 → IsDropping (dropping_of width height cylinder heights.old odometer.old drops.now avalanches.old) drops.now heights.new odometer.new avalanches.new }
-    ensures answer { Answers result (dropping_of width height cylinder heights.old odometer.old drops.now avalanches.old) }
+    ensures dropped { result ≡ 0
+        → IsDropping (dropping_of width height cylinder heights.old odometer.old drops.now avalanches.old)
+        drops.now heights.new odometer.new avalanches.new }
+    ensures answer { Answers result
+        (dropping_of width height cylinder heights.old odometer.old drops.now avalanches.old) }
     ensures heights { result ≢ 0 → heights.new ≡ heights.old }
     ensures odometer { result ≢ 0 → odometer.new ≡ odometer.old }
     ensures avalanches { result ≢ 0 → avalanches.new ≡ avalanches.old }

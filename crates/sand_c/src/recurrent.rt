@@ -18,7 +18,8 @@ pub(crate) fn recurrent_on(alloc: Global, shape: Shape, heights: &[u64]) -> Resu
     requires one_each { length heights.now ≡ sites shape }
     requires limit { sum heights.now ≤ most_grains }
     ensures made { IfOk result (λ c. c ≡ record { grid = shape; heights = heights.now }) }
-    ensures unfit { IfErr result (λ e. (e ≡ Fault.Memory) ⊎ IsUnfit (record { grid = shape; heights = heights.now }) e) }
+    ensures unfit { IfErr result
+        (λ e. (e ≡ Fault.Memory) ⊎ IsUnfit (record { grid = shape; heights = heights.now }) e) }
 {
     let Ok(pile) = Pile::new(alloc, shape, heights) else {
         return Err(Fault::Memory);

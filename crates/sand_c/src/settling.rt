@@ -20,7 +20,8 @@ fn settle_into(
     topplings: &mut u64,
 ) -> Result<(), Fault>
     ensures meant { OnOk result (IsOk (settling_of width height cylinder heights.old odometer.old)) }
-    ensures settled { OnOk result (IsSettling (settling_of width height cylinder heights.old odometer.old) heights.new odometer.new lost.new topplings.new) }
+    ensures settled { OnOk result (IsSettling (settling_of width height cylinder heights.old odometer.old)
+        heights.new odometer.new lost.new topplings.new) }
     ensures fault { IfErr result (λ e. Fails e (settling_of width height cylinder heights.old odometer.old)) }
     ensures heights { OnErr result (heights.new ≡ heights.old) }
     ensures odometer { OnErr result (odometer.new ≡ odometer.old) }
@@ -55,7 +56,9 @@ pub extern "C" fn sandpile_settle(
     lost: &mut u64,
     topplings: &mut u64,
 ) -> u32
-    ensures settled { result ≡ 0 → IsSettling (settling_of width height cylinder heights.old odometer.old) heights.new odometer.new lost.new topplings.new }
+    ensures settled { result ≡ 0
+        → IsSettling (settling_of width height cylinder heights.old odometer.old)
+        heights.new odometer.new lost.new topplings.new }
     ensures answer { Answers result (settling_of width height cylinder heights.old odometer.old) }
     ensures heights { result ≢ 0 → heights.new ≡ heights.old }
     ensures odometer { result ≢ 0 → odometer.new ≡ odometer.old }

@@ -12,7 +12,8 @@ returns-clause-burned c =
     record {
       pile = pile;
       meant = search rules;
-      stable = burnt pile.grid (height_of pile) c.burn.result c.in_ok-burned.burned c.in_ok-burned.was c.burn.ensures.unstable;
+      stable = burnt pile.grid (height_of pile) c.burn.result
+          c.in_ok-burned.burned c.in_ok-burned.was c.burn.ensures.unstable;
       few = omega (arith, c.write_burned-written.ensures.count, all);
       found = rw (c.write_burned-written.ensures.front, c.write_burned-written.ensures.all) is;
     }
