@@ -42,13 +42,15 @@ gap_space s at x xs e more =
 gap : (s : ℕ → Bool) (at : ℕ) (bs : List ℕ) → skips s at bs
 unfolding tokens_from
 gap s at [] = refl
-gap s at (x ∷ xs) = elim (s x) as (λ v. s x ≡ v → skips s at (x ∷ xs)) [ true ↦ λ e. gap_space s at x xs e (gap s (at + 1) xs) | false ↦ gap_token s at x xs ] refl
+gap s at (x ∷ xs) = elim (s x) as (λ v. s x ≡ v → skips s at (x ∷ xs))
+    [ true ↦ λ e. gap_space s at x xs e (gap s (at + 1) xs) | false ↦ gap_token s at x xs ] refl
 
 not_empty : (n : ℕ) → 0 < n → eqb n 0 ≡ false
 not_empty n some = grind (arith, common_steps)
 
 -- a first part of known length
-pub one_part : (at k : ℕ) (part : List ℕ) (more : List (List ℕ)) → length part ≡ k → 0 < k → tokens_from at (part ∷ more) ≡ (token_of at part ∷ tokens_from (at + k + 1) more)
+pub one_part : (at k : ℕ) (part : List ℕ) (more : List (List ℕ)) → length part ≡ k → 0 < k
+    → tokens_from at (part ∷ more) ≡ (token_of at part ∷ tokens_from (at + k + 1) more)
 unfolding tokens_from
 one_part at k part more len some = rw (len, not_empty k some) refl
 
@@ -56,16 +58,21 @@ cut_first : (at x : ℕ) (xs : List ℕ) → is_space x ≡ true → tokens_at a
 unfolding tokens_from
 cut_first at x xs e = rw e refl
 
-next_cut : (at k : ℕ) (bs : List ℕ) → k < length bs → is_space (get_or bs k 0) ≡ true → tokens_at (at + 1) (drop (k + 1) bs) ≡ tokens_at at (drop k bs)
-next_cut at k bs lt e = sym (ap (λ (r : List ℕ). tokens_at at r) (drop-cons bs k 0 lt) ∙ cut_first at (get_or bs k 0) (drop (suc k) bs) e ∙ ap (λ (n : ℕ). tokens_at (at + 1) (drop n bs)) (sym (add-one k)))
+next_cut : (at k : ℕ) (bs : List ℕ) → k < length bs → is_space (get_or bs k 0) ≡ true
+    → tokens_at (at + 1) (drop (k + 1) bs) ≡ tokens_at at (drop k bs)
+next_cut at k bs lt e =
+    sym (ap (λ (r : List ℕ). tokens_at at r) (drop-cons bs k 0 lt) ∙ cut_first at (get_or bs k 0) (drop (suc k) bs) e
+    ∙ ap (λ (n : ℕ). tokens_at (at + 1) (drop n bs)) (sym (add-one k)))
 
 abbrev Begins : ℕ → List ℕ → Type 0
-Begins at bs = tokens_at at bs ≡ (token_of at (take (token_len bs) bs) ∷ tokens_at (at + token_len bs) (drop (token_len bs) bs))
+Begins at bs =
+    tokens_at at bs ≡ (token_of at (take (token_len bs) bs) ∷ tokens_at (at + token_len bs) (drop (token_len bs) bs))
 
 to_end : (at : ℕ) (bs : List ℕ) → 0 < token_len bs → token_len bs ≡ length bs → Begins at bs
 unfolding tokens_from
 to_end at bs some all =
-    let whole = slice_split_none is_space bs (λ k d lt. let below : k < token_len bs = omega arith in fails_before_first is_space bs k d below) in
+    let whole = slice_split_none is_space bs
+    (λ k d lt. let below : k < token_len bs = omega arith in fails_before_first is_space bs k d below) in
     let rest : drop (token_len bs) bs ≡ [] = drop_all (token_len bs) bs (omega arith) in
     let taken : take (token_len bs) bs ≡ bs = take_all (token_len bs) bs (omega arith) in
     ap (tokens_from at) whole ∙ (one_part at (token_len bs) bs [] (sym all) some ∙ rw (taken, rest) refl)
@@ -73,12 +80,16 @@ to_end at bs some all =
 to_cut : (at : ℕ) (bs : List ℕ) → 0 < token_len bs → token_len bs < length bs → Begins at bs
 to_cut at bs some lt =
     let first = slice_split_first is_space bs 0 lt in
-    ap (tokens_from at) first ∙ (one_part at (token_len bs) (take (token_len bs) bs) _ (length-prefix_len (λ b. not (is_space b)) bs) some ∙ ap (λ more. token_of at (take (token_len bs) bs) ∷ more) (next_cut (at + token_len bs) (token_len bs) bs lt (passes_at_first is_space bs 0 lt)))
+    ap (tokens_from at) first ∙ (one_part at (token_len bs)
+    (take (token_len bs) bs) _ (length-prefix_len (λ b. not (is_space b)) bs) some
+    ∙ ap (λ more. token_of at (take (token_len bs) bs) ∷ more)
+    (next_cut (at + token_len bs) (token_len bs) bs lt (passes_at_first is_space bs 0 lt)))
 
 front : (at : ℕ) (bs : List ℕ) → 0 < token_len bs → Begins at bs
 front at bs some =
     let within : token_len bs ≤ length bs = prefix_len-le-length (λ b. not (is_space b)) bs in
-    elim (cases_lt (token_len bs) (length bs)) [ inl lt ↦ to_cut at bs some lt | inr ge ↦ to_end at bs some (omega arith) ]
+    elim (cases_lt (token_len bs) (length bs))
+    [ inl lt ↦ to_cut at bs some lt | inr ge ↦ to_end at bs some (omega arith) ]
 
 empty : (t : List ℕ) → length t ≡ 0 → t ≡ []
 empty [] e = refl
@@ -89,7 +100,8 @@ pub none_left : (at k : ℕ) (bs : List ℕ) → k ≡ gap_len is_space bs → l
 unfolding tokens_from
 none_left at k bs e none =
     let places : drop k bs ≡ drop (gap_len is_space bs) bs = ap (λ n. drop n bs) e in
-    gap is_space at bs ∙ ap (λ (t : List ℕ). tokens_at (at + gap_len is_space bs) t) (sym places ∙ empty (drop k bs) none)
+    gap is_space at bs ∙ ap (λ (t : List ℕ). tokens_at (at + gap_len is_space bs) t)
+    (sym places ∙ empty (drop k bs) none)
 
 some_first : (t : List ℕ) → is_space (get_or t 0 0) ≡ false → 0 < length t → 0 < token_len t
 some_first [] e some = absurd (omega arith)
@@ -99,11 +111,15 @@ pub begins : (k : ℕ) (bs t : List ℕ) → k ≡ gap_len is_space bs → t ≡
 begins k bs t ke te some =
     let lt : k < length bs = omega (arith, length-drop k bs, ap length te) in
     let first : get_or t 0 0 ≡ get_or bs k 0 = ap (λ (l : List ℕ). get_or l 0 0) (te ∙ drop-cons bs k 0 lt) in
-    let no_space = not-true (is_space (get_or bs k 0)) (rw (← ke) at (passes_at_first {X = ℕ} (λ b. not (is_space b)) bs 0 (rw (← ke) lt))) in
+    let no_space = not-true (is_space (get_or bs k 0))
+    (rw (← ke) at (passes_at_first {X = ℕ} (λ b. not (is_space b)) bs 0 (rw (← ke) lt))) in
     some_first t (ap is_space first ∙ no_space) some
 
 -- t is the text from the first token on, w the token, and r what follows it
-pub token_left : (at k len : ℕ) (bs t w r : List ℕ) → k ≡ gap_len is_space bs → t ≡ drop k bs → len ≡ token_len t → 0 < length t → w ≡ take len t → r ≡ drop len t → tokens_at at bs ≡ (token_of (at + k) w ∷ tokens_at (at + k + len) r)
+pub token_left : (at k len : ℕ) (bs t w r : List ℕ)
+    → k ≡ gap_len is_space bs → t ≡ drop k bs → len ≡ token_len t
+    → 0 < length t → w ≡ take len t → r ≡ drop len t
+    → tokens_at at bs ≡ (token_of (at + k) w ∷ tokens_at (at + k + len) r)
 token_left at k len bs t w r ke te le some we re =
     let moved : tokens_at at bs ≡ tokens_at (at + k) t = rw (te, ke) (gap is_space at bs) in
     let first = front (at + k) t (begins k bs t ke te some) in

@@ -12,7 +12,9 @@ use Rattle.sand_text.specs.Blocks.{BreaksIn, GrowsBy, Waiting}
 pub stays : (held : Option (List ℕ)) (b : Waiting) → GrowsBy held held b b []
 stays held b = record { gone = []; all = append-nil b.bytes; count = omega arith; written = Appends-nil held }
 
-pub grows_on : (held mid held' : Option (List ℕ)) (b c d : Waiting) (p q : List ℕ) → GrowsBy held mid b c p → GrowsBy mid held' c d q → GrowsBy held held' b d (p ++ q)
+pub grows_on : (held mid held' : Option (List ℕ)) (b c d : Waiting) (p q : List ℕ)
+    → GrowsBy held mid b c p → GrowsBy mid held' c d q
+    → GrowsBy held held' b d (p ++ q)
 grows_on held mid held' b c d p q first next = record {
   gone = first.gone ++ next.gone;
   all =
@@ -23,35 +25,48 @@ grows_on held mid held' b c d p q first next = record {
 }
 
 -- one part, then a failure in another
-pub breaks_on : (held mid held' : Option (List ℕ)) (b c : Waiting) (p q : List ℕ) (fault : StreamFault) → GrowsBy held mid b c p → BreaksIn mid held' c q fault → BreaksIn held held' b (p ++ q) fault
+pub breaks_on : (held mid held' : Option (List ℕ)) (b c : Waiting) (p q : List ℕ) (fault : StreamFault)
+    → GrowsBy held mid b c p → BreaksIn mid held' c q fault
+    → BreaksIn held held' b (p ++ q) fault
 breaks_on held mid held' b c p q fault first broken =
-    let whole : b.bytes ++ (p ++ q) ≡ first.gone ++ (c.bytes ++ q) = sym (append_assoc b.bytes p q) ∙ ap (λ t. t ++ q) first.all ∙ append_assoc first.gone c.bytes q in
-    let long : length (b.bytes ++ (p ++ q)) ≡ length first.gone + length (c.bytes ++ q) = ap length whole ∙ length-append first.gone (c.bytes ++ q) in
-    let front : take (length first.gone + broken.taken) (b.bytes ++ (p ++ q)) ≡ first.gone ++ take broken.taken (c.bytes ++ q) =
+    let whole : b.bytes ++ (p ++ q) ≡ first.gone ++ (c.bytes ++ q) =
+    sym (append_assoc b.bytes p q) ∙ ap (λ t. t ++ q) first.all ∙ append_assoc first.gone c.bytes q in
+    let long : length (b.bytes ++ (p ++ q)) ≡ length first.gone + length (c.bytes ++ q) =
+    ap length whole ∙ length-append first.gone (c.bytes ++ q) in
+    let front : take (length first.gone + broken.taken) (b.bytes ++ (p ++ q))
+    ≡ first.gone ++ take broken.taken (c.bytes ++ q) =
     ap (take (length first.gone + broken.taken)) whole ∙ take-append-add first.gone (c.bytes ++ q) broken.taken in
     let count : c.sent + broken.taken ≡ b.sent + (length first.gone + broken.taken) = omega (arith, first.count) in
     record {
       taken = length first.gone + broken.taken;
       told = broken.told ∙ ap Write count;
       within = omega (arith, long, broken.within);
-      written = subst (Appends held held') (sym front) (Appends-trans held mid held' first.gone (take broken.taken (c.bytes ++ q)) first.written broken.written);
+      written = subst (Appends held held') (sym front)
+          (Appends-trans held mid held' first.gone (take broken.taken (c.bytes ++ q)) first.written broken.written);
     }
 
 -- a failure in a part is a failure whatever follows
-pub breaks_before : (held held' : Option (List ℕ)) (b : Waiting) (p q : List ℕ) (fault : StreamFault) → BreaksIn held held' b p fault → BreaksIn held held' b (p ++ q) fault
+pub breaks_before : (held held' : Option (List ℕ)) (b : Waiting) (p q : List ℕ) (fault : StreamFault)
+    → BreaksIn held held' b p fault → BreaksIn held held' b (p ++ q) fault
 breaks_before held held' b p q fault broken =
     let whole : b.bytes ++ (p ++ q) ≡ (b.bytes ++ p) ++ q = sym (append_assoc b.bytes p q) in
-    let long : length (b.bytes ++ (p ++ q)) ≡ length (b.bytes ++ p) + length q = ap length whole ∙ length-append (b.bytes ++ p) q in
+    let long : length (b.bytes ++ (p ++ q)) ≡ length (b.bytes ++ p) + length q =
+    ap length whole ∙ length-append (b.bytes ++ p) q in
     record {
       taken = broken.taken;
       told = broken.told;
       within = omega (arith, long, broken.within);
-      written = subst (Appends held held') (sym (ap (take broken.taken) whole ∙ take-append-le broken.taken (b.bytes ++ p) q broken.within)) broken.written;
+      written = subst (Appends held held')
+          (sym (ap (take broken.taken) whole ∙ take-append-le broken.taken (b.bytes ++ p) q broken.within))
+          broken.written;
     }
 
 -- one part, then a failure in another, whatever follows
-pub breaks_within : (held mid held' : Option (List ℕ)) (b c : Waiting) (p q rest whole : List ℕ) (fault : StreamFault) → p ++ (q ++ rest) ≡ whole → GrowsBy held mid b c p → BreaksIn mid held' c q fault
+pub breaks_within : (held mid held' : Option (List ℕ)) (b c : Waiting) (p q rest whole : List ℕ) (fault : StreamFault)
+    → p ++ (q ++ rest) ≡ whole → GrowsBy held mid b c p
+    → BreaksIn mid held' c q fault
     → BreaksIn held held' b whole fault
 breaks_within held mid held' b c p q rest whole fault all first broken =
-    let broken : BreaksIn held held' b ((p ++ q) ++ rest) fault = breaks_before held held' b (p ++ q) rest fault (breaks_on held mid held' b c p q fault first broken) in
+    let broken : BreaksIn held held' b ((p ++ q) ++ rest) fault =
+    breaks_before held held' b (p ++ q) rest fault (breaks_on held mid held' b c p q fault first broken) in
     subst (λ t. BreaksIn held held' b t fault) (append_assoc p q rest ∙ all) broken

@@ -34,12 +34,18 @@ grows : (v : ℕ) (run : List ℕ) → v ≤ digits_value_after 10 v run
 grows v [] = omega arith
 grows v (b ∷ run) = let more = grows (v * 10 + digit_value b) run in omega (arith, more)
 
-digit_on : (v b : ℕ) (runs : List (List ℕ)) → v * 10 + digit_value b ≤ most_grains → large_on v (onto_first b runs) ≡ large_on (v * 10 + digit_value b) runs
-digit_on v b [] le = let test : ltb most_grains (v * 10 + digit_value b) ≡ false = grind (arith, nat_tests) in rw test refl
+digit_on : (v b : ℕ) (runs : List (List ℕ)) → v * 10 + digit_value b ≤ most_grains
+    → large_on v (onto_first b runs) ≡ large_on (v * 10 + digit_value b) runs
+digit_on v b [] le =
+    let test : ltb most_grains (v * 10 + digit_value b) ≡ false = grind (arith, nat_tests) in
+    rw test refl
 digit_on v b (run ∷ more) le = refl
 
-digit_over : (v b : ℕ) (runs : List (List ℕ)) → most_grains < v * 10 + digit_value b → large_on v (onto_first b runs) ≡ true
-digit_over v b [] lt = let test : ltb most_grains (v * 10 + digit_value b) ≡ true = grind (arith, nat_tests) in rw test refl
+digit_over : (v b : ℕ) (runs : List (List ℕ)) → most_grains < v * 10 + digit_value b
+    → large_on v (onto_first b runs) ≡ true
+digit_over v b [] lt =
+    let test : ltb most_grains (v * 10 + digit_value b) ≡ true = grind (arith, nat_tests) in
+    rw test refl
 digit_over v b (run ∷ more) lt =
     let up = grows (v * 10 + digit_value b) run in
     let test : ltb most_grains (digits_value_after 10 (v * 10 + digit_value b) run) ≡ true = grind (arith, nat_tests) in
@@ -49,7 +55,9 @@ break_on : (v : ℕ) (runs : List (List ℕ)) → v ≤ most_grains → large_on
 break_on v runs le = let test : ltb most_grains v ≡ false = grind (arith, nat_tests) in rw test (sym (from_none runs))
 
 -- one more byte changes the runs by whether it is a digit
-by_byte : (d : Bool) (v w b : ℕ) (rest : List ℕ) → is_digit b ≡ d → v ≤ most_grains → w ≡ (if d then capped (v * 10 + digit_value b) else 0) → w ≤ most_grains → large_on w (slice_split is_other rest) ≡ large_on v (slice_split is_other (b ∷ rest))
+by_byte : (d : Bool) (v w b : ℕ) (rest : List ℕ) → is_digit b ≡ d → v ≤ most_grains
+    → w ≡ (if d then capped (v * 10 + digit_value b) else 0) → w ≤ most_grains
+    → large_on w (slice_split is_other rest) ≡ large_on v (slice_split is_other (b ∷ rest))
 by_byte true v w b rest is le value small =
     let exact : w ≡ v * 10 + digit_value b = omega arith in
     let cut = slice_split-cons_no is_other b rest (ap not is) in
@@ -58,7 +66,9 @@ by_byte false v w b rest is le value small =
     let cut = slice_split-cons_yes is_other b rest (ap not is) in
     rw (cut, value) (sym (break_on v (slice_split is_other rest) le))
 
-over_byte : (d : Bool) (v w b : ℕ) (rest : List ℕ) → is_digit b ≡ d → w ≡ (if d then capped (v * 10 + digit_value b) else 0) → most_grains < w → large_on v (slice_split is_other (b ∷ rest)) ≡ true
+over_byte : (d : Bool) (v w b : ℕ) (rest : List ℕ) → is_digit b ≡ d
+    → w ≡ (if d then capped (v * 10 + digit_value b) else 0) → most_grains < w
+    → large_on v (slice_split is_other (b ∷ rest)) ≡ true
 over_byte true v w b rest is value lt =
     let cut = slice_split-cons_no is_other b rest (ap not is) in
     rw cut (digit_over v b (slice_split is_other rest) (omega arith))
@@ -69,11 +79,17 @@ first_byte text k lt =
     let one : k + 1 ≡ suc k = omega arith in
     drop-cons text k 0 lt ∙ ap (λ n. get_or text k 0 ∷ drop n text) (sym one)
 
-pub one_byte : (text : List ℕ) (k v w : ℕ) → k < length text → v ≤ most_grains → w ≡ (if is_digit (get_or text k 0) then capped (v * 10 + digit_value (get_or text k 0)) else 0) → w ≤ most_grains → large_from w (k + 1) text ≡ large_from v k text
-one_byte text k v w lt le value small = rw (first_byte text k lt) (by_byte (is_digit (get_or text k 0)) v w (get_or text k 0) (drop (k + 1) text) refl le value small)
+pub one_byte : (text : List ℕ) (k v w : ℕ) → k < length text → v ≤ most_grains
+    → w ≡ (if is_digit (get_or text k 0) then capped (v * 10 + digit_value (get_or text k 0)) else 0)
+    → w ≤ most_grains → large_from w (k + 1) text ≡ large_from v k text
+one_byte text k v w lt le value small = rw (first_byte text k lt)
+    (by_byte (is_digit (get_or text k 0)) v w (get_or text k 0) (drop (k + 1) text) refl le value small)
 
-pub found_large : (text : List ℕ) (k v w : ℕ) → k < length text → w ≡ (if is_digit (get_or text k 0) then capped (v * 10 + digit_value (get_or text k 0)) else 0) → most_grains < w → large_from v k text ≡ true
-found_large text k v w lt value more = rw (first_byte text k lt) (over_byte (is_digit (get_or text k 0)) v w (get_or text k 0) (drop (k + 1) text) refl value more)
+pub found_large : (text : List ℕ) (k v w : ℕ) → k < length text
+    → w ≡ (if is_digit (get_or text k 0) then capped (v * 10 + digit_value (get_or text k 0)) else 0)
+    → most_grains < w → large_from v k text ≡ true
+found_large text k v w lt value more = rw (first_byte text k lt)
+    (over_byte (is_digit (get_or text k 0)) v w (get_or text k 0) (drop (k + 1) text) refl value more)
 
 pub none_large : (text : List ℕ) (k v : ℕ) → length text ≤ k → v ≤ most_grains → large_from v k text ≡ false
 none_large text k v le small =

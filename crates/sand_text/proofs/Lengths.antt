@@ -11,10 +11,12 @@ use Rattle.sand_text.specs.Tokens.{tokens_from, tokens_at, numbers}
 abbrev count_tokens : ℕ → List (List ℕ) → ℕ
 count_tokens at parts = length (tokens_from at parts)
 
-part_counts : (at : ℕ) (part : List ℕ) (more : List (List ℕ)) → 0 < length part → count_tokens at (part ∷ more) ≡ suc (count_tokens (at + length part + 1) more)
+part_counts : (at : ℕ) (part : List ℕ) (more : List (List ℕ)) → 0 < length part
+    → count_tokens at (part ∷ more) ≡ suc (count_tokens (at + length part + 1) more)
 part_counts at part more some = ap length (one_part at (length part) part more refl some)
 
-empty_counts : (at : ℕ) (part : List ℕ) (more : List (List ℕ)) → length part ≡ 0 → count_tokens at (part ∷ more) ≡ count_tokens (at + 1) more
+empty_counts : (at : ℕ) (part : List ℕ) (more : List (List ℕ)) → length part ≡ 0
+    → count_tokens at (part ∷ more) ≡ count_tokens (at + 1) more
 unfolding tokens_from
 empty_counts at part more none = let test : eqb (length part) 0 ≡ true = eq-eqb (length part) 0 none in rw test refl
 
@@ -23,8 +25,10 @@ same_count : (a b : ℕ) (parts : List (List ℕ)) → count_tokens a parts ≡ 
 unfolding tokens_from
 same_count a b [] = refl
 same_count a b (part ∷ more) = elim (cases_lt 0 (length part)) [
-  | inl some ↦ part_counts a part more some ∙ (ap suc (same_count (a + length part + 1) (b + length part + 1) more) ∙ sym (part_counts b part more some))
-  | inr none ↦ empty_counts a part more (omega arith) ∙ (same_count (a + 1) (b + 1) more ∙ sym (empty_counts b part more (omega arith)))
+  | inl some ↦ part_counts a part more some
+      ∙ (ap suc (same_count (a + length part + 1) (b + length part + 1) more) ∙ sym (part_counts b part more some))
+  | inr none ↦ empty_counts a part more (omega arith)
+      ∙ (same_count (a + 1) (b + 1) more ∙ sym (empty_counts b part more (omega arith)))
 ]
 
 -- one more byte makes at most one more token
@@ -35,17 +39,20 @@ one_byte at x (part ∷ more) =
     let longer = part_counts at (x ∷ part) more (omega arith) in
     let moved = same_count (at + length (x ∷ part) + 1) (at + 1) more in
     elim (cases_lt 0 (length part)) [
-      | inl some ↦ let here = part_counts at part more some in let there = same_count (at + length part + 1) (at + 1) more in omega arith
+      | inl some ↦ let here = part_counts at part more some in
+          let there = same_count (at + length part + 1) (at + 1) more in
+          omega arith
       | inr none ↦ let here = empty_counts at part more (omega arith) in omega arith
     ]
 
 by_cut : (s : ℕ → Bool) (at : ℕ) (bs : List ℕ) → count_tokens at (slice_split s bs) ≤ length bs
 unfolding tokens_from
 by_cut s at [] = omega arith
-by_cut s at (x ∷ xs) = elim (s x) as (λ v. count_tokens at (cond v ([] ∷ slice_split s xs) (onto_first x (slice_split s xs))) ≤ suc (length xs)) [
-  | true ↦ let h = by_cut s (at + 1) xs in omega arith
-  | false ↦ let h = by_cut s at xs in let more = one_byte at x (slice_split s xs) in omega arith
-]
+by_cut s at (x ∷ xs) = elim (s x) as
+    (λ v. count_tokens at (cond v ([] ∷ slice_split s xs) (onto_first x (slice_split s xs))) ≤ suc (length xs)) [
+      | true ↦ let h = by_cut s (at + 1) xs in omega arith
+      | false ↦ let h = by_cut s at xs in let more = one_byte at x (slice_split s xs) in omega arith
+    ]
 
 tokens-le-bytes : (at : ℕ) (bs : List ℕ) → length (tokens_at at bs) ≤ length bs
 tokens-le-bytes at bs = by_cut is_space at bs

@@ -13,12 +13,14 @@ use Rattle.sand_text.specs.Bytes.{capped}
 use Rattle.sand_text.specs.Tokens.{numbers}
 use Rattle.sand_text.specs.Surveys.{noted}
 
-pub sum_push : (room value g : ℕ) (ns : List ℕ) → g ≡ capped (sum (take room ns)) → (if nat_lt (length ns) room then capped (g + value) else g) ≡ capped (sum (take room (ns ++ value ∷ [])))
+pub sum_push : (room value g : ℕ) (ns : List ℕ) → g ≡ capped (sum (take room ns))
+    → (if nat_lt (length ns) room then capped (g + value) else g) ≡ capped (sum (take room (ns ++ value ∷ [])))
 sum_push room value g ns h = elim (cases_lt (length ns) room) [
   | inl low ↦
       let test : ltb (length ns) room ≡ true = grind (arith, nat_tests) in
       let before : take room ns ≡ ns = take_all room ns (omega arith) in
-      let after : take room (ns ++ value ∷ []) ≡ ns ++ value ∷ [] = take_all room (ns ++ value ∷ []) (omega (arith, length_push ns value)) in
+      let after : take room (ns ++ value ∷ []) ≡ ns ++ value ∷ [] =
+      take_all room (ns ++ value ∷ []) (omega (arith, length_push ns value)) in
       let total = sum_by_push (λ x. x) ns value in
       let so_far = rw before at h in
       rw (test, after) (omega arith)
@@ -28,7 +30,8 @@ sum_push room value g ns h = elim (cases_lt (length ns) room) [
 ]
 
 -- the first index that passes a test, if none before the last does
-found_last : (b : Bool) (count next more : ℕ) → next ≡ count + cond b 0 1 → more ≡ count + 1 → cond (nat_lt next more) (Some next) None ≡ (if b then Some count else None)
+found_last : (b : Bool) (count next more : ℕ) → next ≡ count + cond b 0 1 → more ≡ count + 1
+    → cond (nat_lt next more) (Some next) None ≡ (if b then Some count else None)
 found_last true count next more is len =
     let here : next ≡ count = omega arith in
     let test : ltb next more ≡ true = grind (arith, nat_tests) in
@@ -38,7 +41,10 @@ found_last false count next more is len =
     rw test refl
 
 -- the first index that passes a test
-found_push : (b : Bool) (first count next more : ℕ) → first ≤ count → next ≡ cond (eqb first count) (count + cond b 0 1) first → more ≡ count + 1 → cond (nat_lt next more) (Some next) None ≡ option_or (cond (nat_lt first count) (Some first) None) (if b then Some count else None)
+found_push : (b : Bool) (first count next more : ℕ) → first ≤ count
+    → next ≡ cond (eqb first count) (count + cond b 0 1) first → more ≡ count + 1
+    → cond (nat_lt next more) (Some next) None
+    ≡ option_or (cond (nat_lt first count) (Some first) None) (if b then Some count else None)
 found_push b first count next more le is len = elim (cases_lt first count) [
   | inl lt ↦
       let other : eqb first count ≡ false = grind (arith, nat_tests) in
@@ -52,16 +58,22 @@ found_push b first count next more le is len = elim (cases_lt first count) [
       rw none (found_last b count next more (rw all at is) len)
 ]
 
-position_push : (p : ℕ → Bool) (ns : List ℕ) (y : ℕ) → position p (ns ++ y ∷ []) ≡ option_or (position p ns) (if p y then Some (length ns) else None)
-position_push p ns y = found_push (p y) (position_or_len p ns) (length ns) (position_or_len p (ns ++ y ∷ [])) (length (ns ++ y ∷ [])) (prefix_len-le-length (λ x. not (p x)) ns) (position_or_len_push p ns y) (length_push ns y)
+position_push : (p : ℕ → Bool) (ns : List ℕ) (y : ℕ)
+    → position p (ns ++ y ∷ []) ≡ option_or (position p ns) (if p y then Some (length ns) else None)
+position_push p ns y = found_push (p y) (position_or_len p ns) (length ns) (position_or_len p (ns ++ y ∷ []))
+    (length (ns ++ y ∷ [])) (prefix_len-le-length (λ x. not (p x)) ns) (position_or_len_push p ns y) (length_push ns y)
 
 -- the first drop outside the grid
-pub no_site_push : (room value : ℕ) (a : Option ℕ) (ns : List ℕ) → a ≡ position (nat_le room) (drop room ns) → option_or a (if nat_lt (length ns) room then None else (if nat_le room value then Some (length ns - room) else None)) ≡ position (nat_le room) (drop room (ns ++ value ∷ []))
+pub no_site_push : (room value : ℕ) (a : Option ℕ) (ns : List ℕ)
+    → a ≡ position (nat_le room) (drop room ns) → option_or a
+    (if nat_lt (length ns) room then None else (if nat_le room value then Some (length ns - room) else None))
+    ≡ position (nat_le room) (drop room (ns ++ value ∷ []))
 no_site_push room value a ns h = elim (cases_lt (length ns) room) [
   | inl low ↦
       let test : ltb (length ns) room ≡ true = grind (arith, nat_tests) in
       let before : drop room ns ≡ [] = drop_all room ns (omega arith) in
-      let after : drop room (ns ++ value ∷ []) ≡ [] = drop_all room (ns ++ value ∷ []) (omega (arith, length_push ns value)) in
+      let after : drop room (ns ++ value ∷ []) ≡ [] =
+      drop_all room (ns ++ value ∷ []) (omega (arith, length_push ns value)) in
       let none = rw before at h in
       rw (test, after, none) refl
   | inr high ↦
@@ -70,11 +82,13 @@ no_site_push room value a ns h = elim (cases_lt (length ns) room) [
       rw (test, cut, h, ← length-drop room ns) (sym (position_push (nat_le room) (drop room ns) value))
 ]
 
-pub noted-next : (ws : List Token) (k v : ℕ) → 2 ≤ k → k < length (numbers ws) → get_or (numbers ws) k 0 ≡ v → noted (k + 1) ws ≡ noted k ws ++ v ∷ []
+pub noted-next : (ws : List Token) (k v : ℕ) → 2 ≤ k → k < length (numbers ws) → get_or (numbers ws) k 0 ≡ v
+    → noted (k + 1) ws ≡ noted k ws ++ v ∷ []
 noted-next ws k v le lt is =
     let ns = numbers ws in
     let place : k + 1 - 2 ≡ k - 2 + 1 = omega arith in
-    let there : get_or (drop 2 ns) (k - 2) 0 ≡ v = get_or-drop 2 ns (k - 2) 0 ∙ (ap (λ n. get_or ns n 0) (omega arith) ∙ is) in
+    let there : get_or (drop 2 ns) (k - 2) 0 ≡ v =
+    get_or-drop 2 ns (k - 2) 0 ∙ (ap (λ n. get_or ns n 0) (omega arith) ∙ is) in
     let more = take_more (drop 2 ns) (k - 2) 0 (omega (arith, length-drop 2 ns)) in
     ap (λ n. take n (drop 2 ns)) place ∙ (more ∙ ap (λ n. take (k - 2) (drop 2 ns) ++ n ∷ []) there)
 
@@ -85,5 +99,7 @@ pub noted-none : (ws : List Token) (k : ℕ) → k ≤ 2 → noted k ws ≡ []
 noted-none ws k le = let e : k - 2 ≡ 0 = omega arith in rw e refl
 
 -- one more drop, taken from those left
-pub one_drop : (heights drops more left all : List ℕ) (site : ℕ) → (heights ++ drops) ++ (site ∷ left) ≡ all → more ≡ drops ++ site ∷ [] → (heights ++ more) ++ left ≡ all
+pub one_drop : (heights drops more left all : List ℕ) (site : ℕ)
+    → (heights ++ drops) ++ (site ∷ left) ≡ all → more ≡ drops ++ site ∷ []
+    → (heights ++ more) ++ left ≡ all
 one_drop heights drops more left all site so_far is = rw is (simp append_assoc (simp append_assoc at so_far))

@@ -4,7 +4,8 @@ use Rattle.std.proofs.lemmas.List.{take_all, take_more, length-take}
 use Rattle.sand_text.specs.Runs.{lines_from}
 
 -- the line of one more item follows the lines of a list
-pub lines_from-more : {A : Type 0} (line : ℕ → A → List ℕ) (n : ℕ) (xs : List A) (x : A) → lines_from line n (xs ++ x ∷ []) ≡ lines_from line n xs ++ line (n + length xs) x
+pub lines_from-more : {A : Type 0} (line : ℕ → A → List ℕ) (n : ℕ) (xs : List A) (x : A)
+    → lines_from line n (xs ++ x ∷ []) ≡ lines_from line n xs ++ line (n + length xs) x
 unfolding lines_from
 lines_from-more line n [] x =
     let here : n + 0 ≡ n = omega arith in
@@ -14,29 +15,40 @@ lines_from-more line n (y ∷ ys) x =
     ap (λ t. line n y ++ t) (lines_from-more line (n + 1) ys x ∙ ap (λ k. lines_from line (n + 1) ys ++ line k x) here)
     ∙ sym (append_assoc (line n y) (lines_from line (n + 1) ys) (line (n + length (y ∷ ys)) x))
 
-pub lines_from-map : {A B : Type 0} (f : A → B) (line : ℕ → B → List ℕ) (n : ℕ) (xs : List A) → lines_from line n (map f xs) ≡ lines_from (λ k x. line k (f x)) n xs
+pub lines_from-map : {A B : Type 0} (f : A → B) (line : ℕ → B → List ℕ) (n : ℕ) (xs : List A)
+    → lines_from line n (map f xs) ≡ lines_from (λ k x. line k (f x)) n xs
 unfolding lines_from
 lines_from-map f line n [] = refl
 lines_from-map f line n (x ∷ xs) = ap (λ t. line n (f x) ++ t) (lines_from-map f line (n + 1) xs)
 
-pub no_line : {A : Type 0} (line : ℕ → A → List ℕ) (xs : List A) (start : List ℕ) → start ≡ start ++ lines_from line 0 (take 0 xs)
+pub no_line : {A : Type 0} (line : ℕ → A → List ℕ) (xs : List A) (start : List ℕ)
+    → start ≡ start ++ lines_from line 0 (take 0 xs)
 unfolding lines_from
 no_line line xs start = sym (append-nil start)
 
-lines_from-take : {A : Type 0} (line : ℕ → A → List ℕ) (xs : List A) (k : ℕ) (d : A) → k < length xs → lines_from line 0 (take (k + 1) xs) ≡ lines_from line 0 (take k xs) ++ line k (get_or xs k d)
+lines_from-take : {A : Type 0} (line : ℕ → A → List ℕ) (xs : List A) (k : ℕ) (d : A) → k < length xs
+    → lines_from line 0 (take (k + 1) xs) ≡ lines_from line 0 (take k xs) ++ line k (get_or xs k d)
 lines_from-take line xs k d lt =
     let before : 0 + length (take k xs) ≡ k = omega (arith, length-take k xs) in
     rw (take_more xs k d lt, lines_from-more line 0 (take k xs) (get_or xs k d), before) refl
 
 -- a text after the line of item k is written
-pub one_line_more : {A : Type 0} (line : ℕ → A → List ℕ) (xs : List A) (k : ℕ) (d : A) (start text more : List ℕ) → k < length xs → more ≡ text ++ line k (get_or xs k d) → text ≡ start ++ lines_from line 0 (take k xs) → more ≡ start ++ lines_from line 0 (take (k + 1) xs)
+pub one_line_more : {A : Type 0} (line : ℕ → A → List ℕ) (xs : List A) (k : ℕ) (d : A) (start text more : List ℕ)
+    → k < length xs → more ≡ text ++ line k (get_or xs k d)
+    → text ≡ start ++ lines_from line 0 (take k xs)
+    → more ≡ start ++ lines_from line 0 (take (k + 1) xs)
 one_line_more line xs k d start text more lt grown so_far =
     let next = lines_from-take line xs k d lt in
     rw (grown, so_far, next) (append_assoc start (lines_from line 0 (take k xs)) (line k (get_or xs k d)))
 
-pub all_lines : {A : Type 0} (line : ℕ → A → List ℕ) (xs : List A) (k : ℕ) (start text : List ℕ) → length xs ≤ k → text ≡ start ++ lines_from line 0 (take k xs) → text ≡ start ++ lines_from line 0 xs
+pub all_lines : {A : Type 0} (line : ℕ → A → List ℕ) (xs : List A) (k : ℕ) (start text : List ℕ)
+    → length xs ≤ k → text ≡ start ++ lines_from line 0 (take k xs)
+    → text ≡ start ++ lines_from line 0 xs
 all_lines line xs k start text le so_far = so_far ∙ ap (λ ys. start ++ lines_from line 0 ys) (take_all k xs le)
 
 -- every line of the mapped items is written
-pub all_lines_of : {A B : Type 0} (f : A → B) (line : ℕ → B → List ℕ) (xs : List A) (k : ℕ) (start text : List ℕ) → length xs ≤ k → text ≡ start ++ lines_from (λ n x. line n (f x)) 0 (take k xs) → text ≡ start ++ lines_from line 0 (map f xs)
-all_lines_of f line xs k start text le so_far = all_lines (λ n x. line n (f x)) xs k start text le so_far ∙ ap (λ t. start ++ t) (sym (lines_from-map f line 0 xs))
+pub all_lines_of : {A B : Type 0} (f : A → B) (line : ℕ → B → List ℕ) (xs : List A) (k : ℕ) (start text : List ℕ)
+    → length xs ≤ k → text ≡ start ++ lines_from (λ n x. line n (f x)) 0 (take k xs)
+    → text ≡ start ++ lines_from line 0 (map f xs)
+all_lines_of f line xs k start text le so_far =
+    all_lines (λ n x. line n (f x)) xs k start text le so_far ∙ ap (λ t. start ++ t) (sym (lines_from-map f line 0 xs))

@@ -45,7 +45,9 @@ IsLines-one line plain short = record {
 IsLines-append : (a b : List ℕ) → IsLines a → IsLines b → IsLines (a ++ b)
 IsLines-append a b first second = record {
   lines = first.lines ++ second.lines;
-  cut = λ rest. ap cut_lines (append_assoc a b rest) ∙ (first.cut (b ++ rest) ∙ (ap (λ ls. first.lines ++ ls) (second.cut rest) ∙ sym (append_assoc first.lines second.lines (cut_lines rest))));
+  cut = λ rest. ap cut_lines (append_assoc a b rest) ∙ (first.cut (b ++ rest)
+      ∙ (ap (λ ls. first.lines ++ ls) (second.cut rest)
+      ∙ sym (append_assoc first.lines second.lines (cut_lines rest))));
   short = All-append IsShort first.lines second.lines first.short second.short;
 }
 
@@ -86,7 +88,8 @@ row_line n (m ∷ ns) low =
       record {
         text = rw (digit, spaced) (ap (λ t. (48 + n) ∷ 32 ∷ t) behind);
         len = omega arith;
-        plain = All-cons IsPlain (48 + n) (32 ∷ more.0) (digit_plain n here) (All-cons IsPlain 32 more.0 refl more.1.plain);
+        plain =
+            All-cons IsPlain (48 + n) (32 ∷ more.0) (digit_plain n here) (All-cons IsPlain 32 more.0 refl more.1.plain);
       },
     )
 
@@ -95,19 +98,26 @@ row_lines [] some most low = absurd (omega arith)
 row_lines (n ∷ ns) some most low =
     let row = row_line n ns low in
     let len : length row.0 + 1 ≡ 2 * length (n ∷ ns) = row.1.len in
-    IsLines-same (row_text (n ∷ ns)) (row.0 ++ 10 ∷ []) row.1.text (IsLines-one row.0 row.1.plain (omega arith, omega arith))
+    IsLines-same (row_text (n ∷ ns)) (row.0 ++ 10 ∷ []) row.1.text
+    (IsLines-one row.0 row.1.plain (omega arith, omega arith))
 
 -- the chunks of a list of stable heights, if each chunk makes short lines
-all_lines : (f : List ℕ → List ℕ) (size fuel : ℕ) (ns : List ℕ) → 0 < size → ((chunk : List ℕ) → 0 < length chunk → length chunk ≤ size → AreLow chunk → IsLines (f chunk)) → length ns ≤ fuel → AreLow ns → IsLines (flat_map f (chunks ns size))
-all_lines f size zero ns some each le low = IsLines-same (flat_map f (chunks ns size)) [] (chunks-end f size ns (omega arith)) IsLines-nil
+all_lines : (f : List ℕ → List ℕ) (size fuel : ℕ) (ns : List ℕ) → 0 < size
+    → ((chunk : List ℕ) → 0 < length chunk → length chunk ≤ size → AreLow chunk → IsLines (f chunk))
+    → length ns ≤ fuel → AreLow ns → IsLines (flat_map f (chunks ns size))
+all_lines f size zero ns some each le low =
+    IsLines-same (flat_map f (chunks ns size)) [] (chunks-end f size ns (omega arith)) IsLines-nil
 all_lines f size (suc fuel) ns some each le low = elim (cases_lt 0 (length ns)) [
   | inl left ↦
       let front = take size ns in
       let back = drop size ns in
-      let first = each front (omega (arith, length-take size ns)) (omega (arith, length-take size ns)) (All-take (λ n. n ≤ 3) size ns low) in
-      let others = all_lines f size fuel back some each (omega (arith, length-drop size ns)) (All-drop (λ n. n ≤ 3) size ns low) in
+      let first = each front (omega (arith, length-take size ns))
+      (omega (arith, length-take size ns)) (All-take (λ n. n ≤ 3) size ns low) in
+      let others =
+      all_lines f size fuel back some each (omega (arith, length-drop size ns)) (All-drop (λ n. n ≤ 3) size ns low) in
       let both = IsLines-append (f front) (flat_map f (chunks back size)) first others in
-      IsLines-same (flat_map f (chunks ns size)) (f front ++ flat_map f (chunks back size)) (chunks-next f size ns some left) both
+      IsLines-same (flat_map f (chunks ns size))
+      (f front ++ flat_map f (chunks back size)) (chunks-next f size ns some left) both
   | inr nothing ↦ IsLines-same (flat_map f (chunks ns size)) [] (chunks-end f size ns (omega arith)) IsLines-nil
 ]
 
@@ -120,18 +130,23 @@ in_digits : (b : ℕ) → IsInRange 48 57 b → IsPlain b
 in_digits b h = grind (arith, nat_tests, h.0, h.1)
 
 number_plain : (n : ℕ) → n < 2 ^ 64 → All IsPlain (decimal n)
-number_plain n small = λ k d lt. in_digits (get_or (decimal n) k d) (rw (get_or_default (decimal n) k 0 d lt) at (digit_at (decimal n) k (decimal_is_IsNumeral n small).0.1 lt))
+number_plain n small = λ k d lt. in_digits (get_or (decimal n) k d)
+    (rw (get_or_default (decimal n) k 0 d lt) at (digit_at (decimal n) k (decimal_is_IsNumeral n small).0.1 lt))
 
 sides_line : (w h : ℕ) → w ≤ 256 → h ≤ 256 → IsLines ((decimal w ++ 32 ∷ decimal h) ++ 10 ∷ [])
 sides_line w h wide high =
     let width_len : length (decimal w) ≤ 3 = length-decimal-le 3 w (omega arith) (omega arith) (omega arith) in
     let height_len : length (decimal h) ≤ 3 = length-decimal-le 3 h (omega arith) (omega arith) (omega arith) in
-    let len : length (decimal w ++ 32 ∷ decimal h) ≡ length (decimal w) + (length (decimal h) + 1) = omega (arith, length-append (decimal w) (32 ∷ decimal h)) in
+    let len : length (decimal w ++ 32 ∷ decimal h) ≡ length (decimal w) + (length (decimal h) + 1) =
+    omega (arith, length-append (decimal w) (32 ∷ decimal h)) in
     let height_plain = All-cons IsPlain 32 (decimal h) refl (number_plain h (omega arith)) in
-    IsLines-one (decimal w ++ 32 ∷ decimal h) (All-append IsPlain (decimal w) (32 ∷ decimal h) (number_plain w (omega arith)) height_plain) (omega arith, omega arith)
+    IsLines-one (decimal w ++ 32 ∷ decimal h)
+    (All-append IsPlain (decimal w) (32 ∷ decimal h) (number_plain w (omega arith)) height_plain)
+    (omega arith, omega arith)
 
 magic_line : IsLines (80 ∷ 50 ∷ 10 ∷ [])
-magic_line = IsLines-one (80 ∷ 50 ∷ []) (All-cons IsPlain 80 (50 ∷ []) refl (All-cons IsPlain 50 [] refl (All-nil IsPlain))) (omega arith, omega arith)
+magic_line = IsLines-one (80 ∷ 50 ∷ [])
+    (All-cons IsPlain 80 (50 ∷ []) refl (All-cons IsPlain 50 [] refl (All-nil IsPlain))) (omega arith, omega arith)
 
 greatest_line : IsLines (51 ∷ 10 ∷ [])
 greatest_line = IsLines-one (51 ∷ []) (All-cons IsPlain 51 [] refl (All-nil IsPlain)) (omega arith, omega arith)
@@ -139,7 +154,8 @@ greatest_line = IsLines-one (51 ∷ []) (All-cons IsPlain 51 [] refl (All-nil Is
 -- ---- the whole picture
 
 heights_low : (p : PileView) → IsPile p → IsStable p.grid (height_of p) → AreLow p.heights
-heights_low p pile stable = λ k d lt. rw (get_or_default p.heights k d 0 lt) (stable.low k (omega (arith, pile.one_each)))
+heights_low p pile stable = λ k d lt.
+    rw (get_or_default p.heights k d 0 lt) (stable.low k (omega (arith, pile.one_each)))
 
 picture_lines : (p : PileView) → IsPile p → IsStable p.grid (height_of p) → IsLines (pgm_text_of p)
 picture_lines p pile stable =
@@ -147,11 +163,14 @@ picture_lines p pile stable =
     let sides : List ℕ = (decimal p.grid.width ++ 32 ∷ decimal p.grid.height) ++ 10 ∷ [] in
     let greatest : List ℕ = 51 ∷ 10 ∷ [] in
     let values : List ℕ = values_text p.grid p.heights in
-    let rows : IsLines values = all_lines lines_text p.grid.width (length p.heights) p.heights pile.grid.some_width (λ row some most low. grid_row_lines row low) (omega arith) (heights_low p pile stable) in
+    let rows : IsLines values = all_lines lines_text p.grid.width (length p.heights) p.heights pile.grid.some_width
+    (λ row some most low. grid_row_lines row low) (omega arith) (heights_low p pile stable) in
     let behind_sides = IsLines-append greatest values greatest_line rows in
-    let behind_magic = IsLines-append sides (greatest ++ values) (sides_line p.grid.width p.grid.height pile.grid.width_limit pile.grid.height_limit) behind_sides in
+    let behind_magic = IsLines-append sides (greatest ++ values)
+    (sides_line p.grid.width p.grid.height pile.grid.width_limit pile.grid.height_limit) behind_sides in
     let whole : pgm_text_of p ≡ magic ++ (sides ++ (greatest ++ values)) = simp append_assoc in
-    IsLines-same (pgm_text_of p) (magic ++ (sides ++ (greatest ++ values))) whole (IsLines-append magic (sides ++ (greatest ++ values)) magic_line behind_magic)
+    IsLines-same (pgm_text_of p) (magic ++ (sides ++ (greatest ++ values))) whole
+    (IsLines-append magic (sides ++ (greatest ++ values)) magic_line behind_magic)
 
 pub no_long_line : NoLongLine
 no_long_line p pile stable =

@@ -5,7 +5,8 @@ use Rattle.std.proofs.lemmas.Bool.Decides.{nat_tests}
 use Rattle.std.proofs.lemmas.List.{drop_all}
 use Rattle.sand_text.specs.Texts.{row_text, rows_text}
 
-pub row_text-next : (ns : List ℕ) (i : ℕ) → i < length ns → row_text (drop i ns) ≡ decimal (get_or ns i 0) ++ (if i + 1 == length ns then 10 else 32) ∷ row_text (drop (i + 1) ns)
+pub row_text-next : (ns : List ℕ) (i : ℕ) → i < length ns → row_text (drop i ns)
+    ≡ decimal (get_or ns i 0) ++ (if i + 1 == length ns then 10 else 32) ∷ row_text (drop (i + 1) ns)
 unfolding row_text
 row_text-next ns i lt =
     let len : length (drop (suc i) ns) ≡ length ns - suc i = length-drop (suc i) ns in
@@ -16,7 +17,8 @@ pub row_text-end : (ns : List ℕ) (i : ℕ) → length ns ≤ i → row_text (d
 unfolding row_text
 row_text-end ns i le = rw (drop_all i ns le) refl
 
-pub rows_text-next : (n k w : ℕ) (ns : List ℕ) → n ≡ k + 1 → rows_text n w ns ≡ row_text (take w ns) ++ rows_text k w (drop w ns)
+pub rows_text-next : (n k w : ℕ) (ns : List ℕ) → n ≡ k + 1
+    → rows_text n w ns ≡ row_text (take w ns) ++ rows_text k w (drop w ns)
 unfolding rows_text
 rows_text-next n k w ns e =
     let e : n ≡ suc k = omega arith in

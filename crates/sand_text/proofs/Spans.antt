@@ -10,35 +10,48 @@ use Rattle.std.specs.Char.{digit_value}
 use Rattle.sand_text.specs.Bytes.{is_digit, is_other, is_space, digits_len, token_len, capped}
 
 -- a token ends at the first white space
-pub token_ends : (bs : List ℕ) (i : ℕ) → i ≤ length bs → ((k : ℕ) → k < i → is_space (get_or bs k 0) ≡ false) → (i < length bs → is_space (get_or bs i 0) ≡ true) → i ≡ token_len bs
+pub token_ends : (bs : List ℕ) (i : ℕ) → i ≤ length bs
+    → ((k : ℕ) → k < i → is_space (get_or bs k 0) ≡ false)
+    → (i < length bs → is_space (get_or bs i 0) ≡ true) → i ≡ token_len bs
 token_ends bs i le before here = sym (position_or_len_is is_space bs i 0 le before here)
 
-pushed : (bs : List ℕ) (i : ℕ) → i < length bs → digits_len (take (i + 1) bs) ≡ cond (eqb (digits_len (take i bs)) i) (i + cond (is_other (get_or bs i 0)) 0 1) (digits_len (take i bs))
+pushed : (bs : List ℕ) (i : ℕ) → i < length bs
+    → digits_len (take (i + 1) bs)
+    ≡ cond (eqb (digits_len (take i bs)) i) (i + cond (is_other (get_or bs i 0)) 0 1) (digits_len (take i bs))
 pushed bs i lt =
     let len : length (take i bs) ≡ i = length-take i bs ∙ omega arith in
     ap digits_len (take_more bs i 0 lt) ∙ (position_or_len_push is_other (take i bs) (get_or bs i 0) ∙ rw len refl)
 
 -- the byte continues the digits at the front
-pub more_digits : (bs : List ℕ) (i d : ℕ) → i < length bs → d ≡ digits_len (take i bs) → d ≡ i → is_digit (get_or bs i 0) ≡ true → d + 1 ≡ digits_len (take (i + 1) bs)
+pub more_digits : (bs : List ℕ) (i d : ℕ) → i < length bs
+    → d ≡ digits_len (take i bs) → d ≡ i → is_digit (get_or bs i 0) ≡ true
+    → d + 1 ≡ digits_len (take (i + 1) bs)
 more_digits bs i d lt e here digit =
     let same : eqb (digits_len (take i bs)) i ≡ true = eq-eqb (digits_len (take i bs)) i (sym e ∙ here) in
     let next = rw (same, digit) at (pushed bs i lt) in
     omega arith
 
 -- the byte is not a digit, or the digits at the front have already ended
-pub no_more_digits : (bs : List ℕ) (i d : ℕ) → i < length bs → d ≡ digits_len (take i bs) → is_digit (get_or bs i 0) ≡ false → d ≡ digits_len (take (i + 1) bs)
+pub no_more_digits : (bs : List ℕ) (i d : ℕ) → i < length bs
+    → d ≡ digits_len (take i bs) → is_digit (get_or bs i 0) ≡ false
+    → d ≡ digits_len (take (i + 1) bs)
 no_more_digits bs i d lt e other =
     let next = rw other at (pushed bs i lt) in
     grind (arith, nat_tests)
 
-pub digits_ended : (bs : List ℕ) (i d : ℕ) → i < length bs → d ≡ digits_len (take i bs) → d ≢ i → d ≡ digits_len (take (i + 1) bs)
+pub digits_ended : (bs : List ℕ) (i d : ℕ) → i < length bs → d ≡ digits_len (take i bs) → d ≢ i
+    → d ≡ digits_len (take (i + 1) bs)
 digits_ended bs i d lt e behind =
     let next = pushed bs i lt in
     grind (arith, nat_tests)
 
 -- the value of one more digit
-pub more_value : (bs : List ℕ) (i d value more : ℕ) → i < length bs → d ≡ i → value ≡ capped (digits_value 10 (take d bs)) → more ≡ capped (value * 10 + digit_value (get_or bs i 0)) → more ≡ capped (digits_value 10 (take (d + 1) bs))
+pub more_value : (bs : List ℕ) (i d value more : ℕ) → i < length bs
+    → d ≡ i → value ≡ capped (digits_value 10 (take d bs))
+    → more ≡ capped (value * 10 + digit_value (get_or bs i 0))
+    → more ≡ capped (digits_value 10 (take (d + 1) bs))
 more_value bs i d value more lt here so_far grown =
-    let place : digit_value (get_or bs d 0) ≡ digit_value (get_or bs i 0) = ap (λ k. digit_value (get_or bs k 0)) here in
+    let place : digit_value (get_or bs d 0) ≡ digit_value (get_or bs i 0) =
+    ap (λ k. digit_value (get_or bs k 0)) here in
     let next = digits_value_more 10 bs d (omega arith) in
     omega arith

@@ -18,7 +18,8 @@ gave (Some all) (Some rest) bytes h =
     (omega (arith, length-append bytes rest, ap length h), ap Some (sym left))
 
 -- two steps with n bytes together
-pub further : (a b c : Option (List ℕ)) (xs ys : List ℕ) (n : ℕ) → Consumes a b xs → Consumes b c ys → length xs + length ys ≡ n → IsFurther a c n
+pub further : (a b c : Option (List ℕ)) (xs ys : List ℕ) (n : ℕ) → Consumes a b xs
+    → Consumes b c ys → length xs + length ys ≡ n → IsFurther a c n
 further a b c xs ys n p q e =
     let both : length (xs ++ ys) ≡ n = length-append xs ys ∙ e in
     let P : ℕ → Type 0 = λ m. IsFurther a c m in
@@ -28,7 +29,8 @@ further a b c xs ys n p q e =
 pub further_kept : (a b c : Option (List ℕ)) (xs : List ℕ) → Consumes a b xs → Keeps b c → IsFurther a c (length xs)
 further_kept a b c xs p q = gave a c xs (Consumes-kept a b c xs p q)
 
-pub all_given : (a b c : Option (List ℕ)) (xs ys : List ℕ) → Consumes a b xs → Consumes b c ys → length ys ≡ 0 → IsAtEnd c → GivesAll a c xs
+pub all_given : (a b c : Option (List ℕ)) (xs ys : List ℕ) → Consumes a b xs
+    → Consumes b c ys → length ys ≡ 0 → IsAtEnd c → GivesAll a c xs
 all_given None b c xs ys p q none end = tt
 all_given (Some all) None c xs ys p q none end = absurd p
 all_given (Some all) (Some rest) None xs ys p q none end = absurd q

@@ -20,7 +20,8 @@ use Rattle.sand_text.proofs.Taking.{next_of}
 use Rattle.sand_text.proofs.Noting.{sum_push, no_site_push, noted-next, length-noted, noted-none}
 use Rattle.sand_model.specs.Piles.{most_grains}
 
-large_next : (a : Option ℕ) (b : Bool) (start : ℕ) (later : Option ℕ) → option_or (option_or a (if b then Some start else None)) later ≡ option_or a (if b then Some start else later)
+large_next : (a : Option ℕ) (b : Bool) (start : ℕ) (later : Option ℕ)
+    → option_or (option_or a (if b then Some start else None)) later ≡ option_or a (if b then Some start else later)
 large_next None true start later = refl
 large_next None false start later = refl
 large_next (Some at) true start later = refl
@@ -38,19 +39,29 @@ drop-nil n = drop_all n [] (omega arith)
 
 -- what a survey says of the numbers after the sides
 abbrev IsBehind : List Token → Survey → Type 0
-IsBehind ws s = (s.grains ≡ capped (sum (take (sites_of s) (noted s.count ws)))) × (s.no_site ≡ position (nat_le (sites_of s)) (drop (sites_of s) (noted s.count ws)))
+IsBehind ws s = (s.grains ≡ capped (sum (take (sites_of s) (noted s.count ws))))
+    × (s.no_site ≡ position (nat_le (sites_of s)) (drop (sites_of s) (noted s.count ws)))
 
 -- one more side, and no number after the sides
-side_next : (ws : List Token) (s t : Survey) → s.count < 2 → t.count ≡ s.count + 1 → IsBehind ws s → t.grains ≡ s.grains → t.no_site ≡ s.no_site → IsBehind ws t
+side_next : (ws : List Token) (s t : Survey) → s.count < 2 → t.count ≡ s.count + 1
+    → IsBehind ws s → t.grains ≡ s.grains → t.no_site ≡ s.no_site → IsBehind ws t
 side_next ws s t low count so_far grains no_site =
     let before : noted s.count ws ≡ [] = noted-none ws s.count (omega arith) in
-    let after : noted t.count ws ≡ [] = noted-none ws t.count (omega arith) in
-    (grains ∙ (rw (before, take-nil (sites_of s)) at so_far.0 ∙ rw (after, take-nil (sites_of t)) refl), no_site ∙ (rw (before, drop-nil (sites_of s)) at so_far.1 ∙ rw (after, drop-nil (sites_of t)) refl))
+    let after : noted t.count ws ≡ [] = noted-none ws t.count (omega arith) in (
+      grains ∙ (rw (before, take-nil (sites_of s)) at so_far.0 ∙ rw (after, take-nil (sites_of t)) refl),
+      no_site ∙ (rw (before, drop-nil (sites_of s)) at so_far.1 ∙ rw (after, drop-nil (sites_of t)) refl),
+    )
 
 -- one more number after the sides
-behind_next : (ws : List Token) (s t : Survey) (value : ℕ) → 2 ≤ s.count → s.count < length (numbers ws) → get_or (numbers ws) s.count 0 ≡ value → t.count ≡ s.count + 1 → sites_of t ≡ sites_of s → IsBehind ws s → t.grains ≡ grains_with s (s.count - 2) value → t.no_site ≡ option_or s.no_site (if_no_site s (s.count - 2) value) → IsBehind ws t
+behind_next : (ws : List Token) (s t : Survey) (value : ℕ) → 2 ≤ s.count
+    → s.count < length (numbers ws) → get_or (numbers ws) s.count 0 ≡ value
+    → t.count ≡ s.count + 1 → sites_of t ≡ sites_of s
+    → IsBehind ws s → t.grains ≡ grains_with s (s.count - 2) value
+    → t.no_site ≡ option_or s.no_site (if_no_site s (s.count - 2) value)
+    → IsBehind ws t
 behind_next ws s t value high lt here count same so_far grains no_site =
-    let next : noted t.count ws ≡ noted s.count ws ++ value ∷ [] = ap (λ n. noted n ws) count ∙ noted-next ws s.count value high lt here in
+    let next : noted t.count ws ≡ noted s.count ws ++ value ∷ [] =
+    ap (λ n. noted n ws) count ∙ noted-next ws s.count value high lt here in
     let len = length-noted ws s.count (omega arith) in
     let sums = rw len at (sum_push (sites_of s) value s.grains (noted s.count ws) so_far.0) in
     let sites = rw len at (no_site_push (sites_of s) value s.no_site (noted s.count ws) so_far.1) in
@@ -73,7 +84,9 @@ noted_step ws rest s t start value h count width height grains no_site = elim (c
       let not_first : eqb s.count 0 ≡ false = grind (arith, nat_tests) in
       let not_second : eqb s.count 1 ≡ false = grind (arith, nat_tests) in
       let next = next_of (numbers ws) (numbers rest) s.count value h.counted.left in
-      behind_next ws s t value high next.0 next.1 count (same_sites s t (rw not_first at width) (rw not_second at height)) (h.grains, h.no_site) (rw test at grains) (rw test at no_site)
+      behind_next ws s t value high next.0 next.1 count
+      (same_sites s t (rw not_first at width) (rw not_second at height))
+      (h.grains, h.no_site) (rw test at grains) (rw test at no_site)
 ]
 
 -- counts greater than m are greater than n
@@ -103,12 +116,17 @@ note_step ws rest s t start value h count width height edge grains no_site large
       within = omega (arith, next.0);
       left = rw count next.2;
       width = λ _. elim (cases_eq s.count 0) [
-        | inl e ↦ let test : eqb s.count 0 ≡ true = grind (arith, nat_tests) in rw test at width ∙ (sym next.1 ∙ ap (λ n. get_or (numbers ws) n 0) e)
-        | inr ne ↦ let test : eqb s.count 0 ≡ false = grind (arith, nat_tests) in rw test at width ∙ h.counted.width (omega arith)
+        | inl e ↦ let test : eqb s.count 0 ≡ true = grind (arith, nat_tests) in
+            rw test at width ∙ (sym next.1 ∙ ap (λ n. get_or (numbers ws) n 0) e)
+        | inr ne ↦
+            let test : eqb s.count 0 ≡ false = grind (arith, nat_tests) in
+            rw test at width ∙ h.counted.width (omega arith)
       ];
       height = λ some. elim (cases_eq s.count 1) [
-        | inl e ↦ let test : eqb s.count 1 ≡ true = grind (arith, nat_tests) in rw test at height ∙ (sym next.1 ∙ ap (λ n. get_or (numbers ws) n 0) e)
-        | inr ne ↦ let test : eqb s.count 1 ≡ false = grind (arith, nat_tests) in rw test at height ∙ h.counted.height (omega arith)
+        | inl e ↦ let test : eqb s.count 1 ≡ true = grind (arith, nat_tests) in
+            rw test at height ∙ (sym next.1 ∙ ap (λ n. get_or (numbers ws) n 0) e)
+        | inr ne ↦ let test : eqb s.count 1 ≡ false = grind (arith, nat_tests) in
+            rw test at height ∙ h.counted.height (omega arith)
       ];
     } in
     record {
@@ -132,7 +150,9 @@ kept n (k ∷ more) later =
     rw (test, rest) refl
 
 -- an allowed letter
-pub spare_step : (ws rest : List Token) (s t : Survey) (at : ℕ) → IsSurvey ws (Letter at ∷ rest) s → s.count ≡ 2 → s.edge ≡ Open → t ≡ record s { edge = Cylinder } → IsSurvey ws rest t
+pub spare_step : (ws rest : List Token) (s t : Survey) (at : ℕ)
+    → IsSurvey ws (Letter at ∷ rest) s → s.count ≡ 2 → s.edge ≡ Open
+    → t ≡ record s { edge = Cylinder } → IsSurvey ws rest t
 unfolding first_strange first_large edge_behind
 spare_step ws rest s t at h two is_open is = rw is (record {
   letters = record {
@@ -145,13 +165,16 @@ spare_step ws rest s t at h two is_open is = rw is (record {
         let test : eqb k 2 ≡ false = grind (arith, nat_tests) in
         rw two (rw (two, test) at (h.letters.later_edge k lt));
   };
-  counted = record { within = h.counted.within; left = h.counted.left; width = h.counted.width; height = h.counted.height };
+  counted =
+      record { within = h.counted.within; left = h.counted.left; width = h.counted.width; height = h.counted.height };
   large = h.large;
   grains = h.grains;
   no_site = h.no_site;
 })
 
-letter_first : (e : Edge) (n at : ℕ) (rest : List Token) (more : List ℕ) → ((n ≡ 2) × (e ≡ Open) → ⊥) → All (λ k. n < k) more → first_strange (still_spared e more) n (Letter at ∷ rest) ≡ Some at
+letter_first : (e : Edge) (n at : ℕ) (rest : List Token) (more : List ℕ)
+    → ((n ≡ 2) × (e ≡ Open) → ⊥) → All (λ k. n < k) more
+    → first_strange (still_spared e more) n (Letter at ∷ rest) ≡ Some at
 unfolding first_strange
 letter_first Open n at rest more not_spared later =
     let other : n ≢ 2 = λ two. not_spared (two, refl) in
@@ -160,7 +183,9 @@ letter_first Open n at rest more not_spared later =
 letter_first Cylinder n at rest more not_spared later = rw (list_any_none (λ k. k == n) more (others n more later)) refl
 
 -- a letter that is not allowed
-pub strange_letter : (ws rest : List Token) (s : Survey) (at : ℕ) → IsSurvey ws (Letter at ∷ rest) s → ((s.count ≡ 2) × (s.edge ≡ Open) → ⊥) → IsStrangeAt ws s (Text at)
+pub strange_letter : (ws rest : List Token) (s : Survey) (at : ℕ)
+    → IsSurvey ws (Letter at ∷ rest) s → ((s.count ≡ 2) × (s.edge ≡ Open) → ⊥)
+    → IsStrangeAt ws s (Text at)
 unfolding first_strange
 strange_letter ws rest s at h not_spared = record {
   at = at;
@@ -169,7 +194,8 @@ strange_letter ws rest s at h not_spared = record {
   bare = λ is_open. sym (h.letters.bare is_open);
 }
 
-pub strange_token : (ws rest : List Token) (s : Survey) (at : ℕ) → IsSurvey ws (Strange at ∷ rest) s → IsStrangeAt ws s (Text at)
+pub strange_token : (ws rest : List Token) (s : Survey) (at : ℕ) → IsSurvey ws (Strange at ∷ rest) s
+    → IsStrangeAt ws s (Text at)
 unfolding first_strange
 strange_token ws rest s at h = record {
   at = at;
@@ -178,7 +204,8 @@ strange_token ws rest s at h = record {
   bare = λ is_open. sym (h.letters.bare is_open);
 }
 
-pub at_token : (ws rest : List Token) (s : Survey) (w v : Token) → w ≡ v → IsSurvey ws (w ∷ rest) s → IsSurvey ws (v ∷ rest) s
+pub at_token : (ws rest : List Token) (s : Survey) (w v : Token) → w ≡ v → IsSurvey ws (w ∷ rest) s
+    → IsSurvey ws (v ∷ rest) s
 at_token ws rest s w v e h = let P : Token → Type 0 = λ x. IsSurvey ws (x ∷ rest) s in subst P e h
 
 pub at_tokens : (ws left rest : List Token) (s : Survey) → left ≡ rest → IsSurvey ws left s → IsSurvey ws rest s

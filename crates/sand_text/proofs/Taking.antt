@@ -2,7 +2,8 @@
 use Rattle.std.proofs.Common.{◌≡◌, ◌<◌, ℕ, suc, ◌+◌, List, [], ◌∷◌, ◌++◌, take, drop, length, get_or, ◌∙◌, ap, arith, sym, length-drop, drop-cons}
 use Rattle.std.proofs.lemmas.List.{take_more}
 
-pub next_of : (ns rest : List ℕ) (k v : ℕ) → drop k ns ≡ v ∷ rest → (k < length ns) × (get_or ns k 0 ≡ v) × (drop (k + 1) ns ≡ rest)
+pub next_of : (ns rest : List ℕ) (k v : ℕ) → drop k ns ≡ v ∷ rest
+    → (k < length ns) × (get_or ns k 0 ≡ v) × (drop (k + 1) ns ≡ rest)
 next_of ns rest k v e =
     let lt : k < length ns = omega (arith, length-drop k ns, ap length e) in
     let first = drop-cons ns k 0 lt in
@@ -10,7 +11,9 @@ next_of ns rest k v e =
     let places : drop (k + 1) ns ≡ drop (suc k) ns = ap (λ n. drop n ns) one in
     (lt, cc, cc)
 
-pub one_more : (ns rest taken more : List ℕ) (k v : ℕ) → drop k ns ≡ v ∷ rest → taken ≡ take k ns → more ≡ taken ++ v ∷ [] → more ≡ take (k + 1) ns
+pub one_more : (ns rest taken more : List ℕ) (k v : ℕ) → drop k ns ≡ v ∷ rest
+    → taken ≡ take k ns → more ≡ taken ++ v ∷ [] → more ≡ take (k + 1) ns
 one_more ns rest taken more k v e so_far grown =
     let next = next_of ns rest k v e in
-    grown ∙ (ap (λ l. l ++ v ∷ []) so_far ∙ (ap (λ x. take k ns ++ x ∷ []) (sym next.1) ∙ sym (take_more ns k 0 next.0)))
+    grown ∙ (ap (λ l. l ++ v ∷ []) so_far
+    ∙ (ap (λ x. take k ns ++ x ∷ []) (sym next.1) ∙ sym (take_more ns k 0 next.0)))

@@ -33,7 +33,9 @@ none_spared n m (Number at value ∷ ws) = none_spared (n + 1) (m + 1) ws
 none_spared n m (Letter at ∷ ws) = refl
 none_spared n m (Strange at ∷ ws) = refl
 
-one_letter : (b c : Bool) (k i j d at : ℕ) (ws : List Token) → b ≡ c → (if b || false then first_strange (if not b then k ∷ [] else []) i ws else Some at) ≡ (if c || false then first_strange (if not c then (k + d) ∷ [] else []) j ws else Some at)
+one_letter : (b c : Bool) (k i j d at : ℕ) (ws : List Token) → b ≡ c
+    → (if b || false then first_strange (if not b then k ∷ [] else []) i ws else Some at)
+    ≡ (if c || false then first_strange (if not c then (k + d) ∷ [] else []) j ws else Some at)
 one_letter true true k i j d at ws same = none_spared i j ws
 one_letter true false k i j d at ws same = absurd (cc)
 one_letter false true k i j d at ws same = absurd (cc)
@@ -46,7 +48,8 @@ shifted k i d [] = refl
 shifted k i d (Number at value ∷ ws) =
     let next : i + 1 + d ≡ i + d + 1 = omega arith in
     shifted k (i + 1) d ws ∙ ap (λ n. first_strange ((k + d) ∷ []) n ws) next
-shifted k i d (Letter at ∷ ws) = one_letter (eqb k i) (eqb (k + d) (i + d)) k i (i + d) d at ws (grind (arith, nat_tests))
+shifted k i d (Letter at ∷ ws) =
+    one_letter (eqb k i) (eqb (k + d) (i + d)) k i (i + d) d at ws (grind (arith, nat_tests))
 shifted k i d (Strange at ∷ ws) = refl
 
 edge_shifted : (k i d : ℕ) (ws : List Token) → edge_behind k i ws ≡ edge_behind (k + d) (i + d) ws
@@ -61,33 +64,42 @@ edge_shifted k i d (Letter at ∷ ws) =
 edge_shifted k i d (Strange at ∷ ws) = edge_shifted k i d ws
 
 from_zero : (k n : ℕ) (ws : List Token) → first_strange (k ∷ []) 0 ws ≡ first_strange ((k + n) ∷ []) n ws
-from_zero k n ws = let same : 0 + n ≡ n = omega arith in shifted k 0 n ws ∙ ap (λ m. first_strange ((k + n) ∷ []) m ws) same
+from_zero k n ws =
+    let same : 0 + n ≡ n = omega arith in
+    shifted k 0 n ws ∙ ap (λ m. first_strange ((k + n) ∷ []) m ws) same
 
 edge_from_zero : (k n : ℕ) (ws : List Token) → edge_behind k 0 ws ≡ edge_behind (k + n) n ws
-edge_from_zero k n ws = let same : 0 + n ≡ n = omega arith in edge_shifted k 0 n ws ∙ ap (λ m. edge_behind (k + n) m ws) same
+edge_from_zero k n ws =
+    let same : 0 + n ≡ n = omega arith in
+    edge_shifted k 0 n ws ∙ ap (λ m. edge_behind (k + n) m ws) same
 
 by_letter : (b : Bool) (x y z : Option ℕ) → x ≡ y → (if b then x else z) ≡ (if b then y else z)
 by_letter true x y z same = same
 by_letter false x y z same = refl
 
 -- after more than two numbers the first letter is no longer allowed
-spared_later : (more : List ℕ) (n : ℕ) (ws : List Token) → 2 < n → first_strange (2 ∷ more) n ws ≡ first_strange more n ws
+spared_later : (more : List ℕ) (n : ℕ) (ws : List Token) → 2 < n
+    → first_strange (2 ∷ more) n ws ≡ first_strange more n ws
 unfolding first_strange
 spared_later more n [] lt = refl
 spared_later more n (Number at value ∷ ws) lt = spared_later more (n + 1) ws (omega arith)
 spared_later more n (Letter at ∷ ws) lt =
     let test : eqb 2 n ≡ false = grind (arith, nat_tests) in
-    rw test (by_letter (list_any (λ k. k == n) more) _ _ (Some at) (spared_later (filter (λ k. not (k == n)) more) n ws lt))
+    rw test (by_letter (list_any (λ k. k == n) more) _ _ (Some at)
+    (spared_later (filter (λ k. not (k == n)) more) n ws lt))
 spared_later more n (Strange at ∷ ws) lt = refl
 
-still_later : (e : Edge) (more : List ℕ) (n : ℕ) (ws : List Token) → 2 < n → first_strange (still_spared e more) n ws ≡ first_strange more n ws
+still_later : (e : Edge) (more : List ℕ) (n : ℕ) (ws : List Token) → 2 < n
+    → first_strange (still_spared e more) n ws ≡ first_strange more n ws
 still_later Open more n ws lt = spared_later more n ws lt
 still_later Cylinder more n ws lt = refl
 
 -- ---- from the first pile to the second
 
 -- the second letter follows the first pile and two more numbers
-letter_of_full : (ns : List ℕ) (s : Survey) → 2 ≤ length ns → s.width ≡ slice_index ns 0 → s.height ≡ slice_index ns 1 → IsFull s → second_letter false ns ≡ (2 + s.count) ∷ []
+letter_of_full : (ns : List ℕ) (s : Survey) → 2 ≤ length ns
+    → s.width ≡ slice_index ns 0 → s.height ≡ slice_index ns 1 → IsFull s
+    → second_letter false ns ≡ (2 + s.count) ∷ []
 letter_of_full [] s le width height full = absurd (omega arith)
 letter_of_full (w ∷ []) s le width height full = absurd (omega arith)
 letter_of_full (w ∷ h ∷ ns) s le width height full =
@@ -97,43 +109,68 @@ letter_of_full (w ∷ h ∷ ns) s le width height full =
     let place : w * h + 4 ≡ 2 + s.count = omega (arith, full.count) in
     rw (is_width, is_height, place) refl
 
-full_handed : (over : Bool) (ws rest : List Token) (s : Survey) → IsFront ws rest s → IsFull s → first_strange (2 ∷ second_letter over (numbers ws)) 0 ws ≡ first_strange (if over then [] else 2 ∷ []) 0 rest
+full_handed : (over : Bool) (ws rest : List Token) (s : Survey) → IsFront ws rest s → IsFull s
+    → first_strange (2 ∷ second_letter over (numbers ws)) 0 ws ≡ first_strange (if over then [] else 2 ∷ []) 0 rest
 full_handed true ws rest s h full =
     let many = full_count s full in
-    sym (h.underway.letters.plain [] (later_letter true ws rest s h.underway h.within)) ∙ (still_later s.edge [] s.count rest (omega arith) ∙ none_spared s.count 0 rest)
+    sym (h.underway.letters.plain [] (later_letter true ws rest s h.underway h.within))
+    ∙ (still_later s.edge [] s.count rest (omega arith) ∙ none_spared s.count 0 rest)
 full_handed false ws rest s h full =
     let many = full_count s full in
-    let letter = letter_of_full (numbers ws) s (omega (arith, h.underway.counted.within)) (h.underway.counted.width (omega arith)) (h.underway.counted.height (omega arith)) full in
+    let letter = letter_of_full (numbers ws) s (omega (arith, h.underway.counted.within))
+    (h.underway.counted.width (omega arith)) (h.underway.counted.height (omega arith)) full in
     let later = rw letter at (later_letter false ws rest s h.underway h.within) in
-    rw letter (sym (h.underway.letters.plain ((2 + s.count) ∷ []) later) ∙ (still_later s.edge ((2 + s.count) ∷ []) s.count rest (omega arith) ∙ sym (from_zero 2 s.count rest)))
+    rw letter (sym (h.underway.letters.plain ((2 + s.count) ∷ []) later)
+    ∙ (still_later s.edge ((2 + s.count) ∷ []) s.count rest (omega arith) ∙ sym (from_zero 2 s.count rest)))
 
-at_once : (over : Bool) (ws rest : List Token) (s : Survey) → IsFront ws rest s → rest ≡ [] → first_strange (2 ∷ second_letter over (numbers ws)) 0 ws ≡ first_strange (if over then [] else 2 ∷ []) 0 rest
+at_once : (over : Bool) (ws rest : List Token) (s : Survey) → IsFront ws rest s → rest ≡ []
+    → first_strange (2 ∷ second_letter over (numbers ws)) 0 ws ≡ first_strange (if over then [] else 2 ∷ []) 0 rest
 unfolding first_strange
 at_once over ws rest s h none =
-    let plain = h.underway.letters.plain (second_letter over (numbers ws)) (later_letter over ws rest s h.underway h.within) in
+    let plain =
+    h.underway.letters.plain (second_letter over (numbers ws)) (later_letter over ws rest s h.underway h.within) in
     rw none (sym (rw none at plain))
 
-handed : (over : Bool) (ws rest : List Token) (s : Survey) → IsFront ws rest s → first_strange (2 ∷ second_letter over (numbers ws)) 0 ws ≡ first_strange (if over then [] else 2 ∷ []) 0 rest
+handed : (over : Bool) (ws rest : List Token) (s : Survey) → IsFront ws rest s
+    → first_strange (2 ∷ second_letter over (numbers ws)) 0 ws ≡ first_strange (if over then [] else 2 ∷ []) 0 rest
 handed over ws rest s h = elim h.end [
   | inl none ↦ at_once over ws rest s h none
   | inr full ↦ full_handed over ws rest s h full
 ]
 
-pub strange_first : (text : List ℕ) (e : TextFault) → IsFirstStrange (two_letters text) (tokens text) e → plain_tokens (two_letters text) text ≡ Err e
+pub strange_first : (text : List ℕ) (e : TextFault) → IsFirstStrange (two_letters text) (tokens text) e
+    → plain_tokens (two_letters text) text ≡ Err e
 strange_first text e (at, is, first) = rw (first, is) refl
 
-pub strange_second : (text : List ℕ) (rest : List Token) (s : Survey) (e : TextFault) → IsFront (tokens text) rest s → IsFirstStrange (second_spared text) rest e → plain_tokens (two_letters text) text ≡ Err e
+pub strange_second : (text : List ℕ) (rest : List Token) (s : Survey) (e : TextFault)
+    → IsFront (tokens text) rest s → IsFirstStrange (second_spared text) rest e
+    → plain_tokens (two_letters text) text ≡ Err e
 strange_second text rest s e h (at, is, first) = rw (handed (has_large text) (tokens text) rest s h ∙ first, is) refl
 
 -- the first number over the limit in either pile
-large_of_two : (ws rest : List Token) (first second : Survey) → IsFront ws rest first → IsSurvey rest [] second → first_large ws ≡ option_or first.large second.large
+large_of_two : (ws rest : List Token) (first second : Survey) → IsFront ws rest first → IsSurvey rest [] second
+    → first_large ws ≡ option_or first.large second.large
 large_of_two ws rest first second h g = sym h.underway.large ∙ ap (option_or first.large) (large_is rest second g)
 
-pub large_in_two : (text : List ℕ) (rest : List Token) (first second : Survey) (at : ℕ) → IsFront (tokens text) rest first → IsSurvey rest [] second → first_strange (second_spared text) 0 rest ≡ None → option_or first.large second.large ≡ Some at → plain_tokens (two_letters text) text ≡ Err (TooLarge at)
-large_in_two text rest first second at h g plain is = rw (handed (has_large text) (tokens text) rest first h ∙ plain, large_of_two (tokens text) rest first second h g ∙ is) refl
+pub large_in_two : (text : List ℕ) (rest : List Token) (first second : Survey) (at : ℕ)
+    → IsFront (tokens text) rest first → IsSurvey rest [] second
+    → first_strange (second_spared text) 0 rest ≡ None
+    → option_or first.large second.large ≡ Some at
+    → plain_tokens (two_letters text) text ≡ Err (TooLarge at)
+large_in_two text rest first second at h g plain is = rw (
+  handed (has_large text) (tokens text) rest first h ∙ plain,
+  large_of_two (tokens text) rest first second h g ∙ is,
+) refl
 
-pub plain_two : (text : List ℕ) (rest : List Token) (first second : Survey) → IsFront (tokens text) rest first → IsSurvey rest [] second → first_strange (second_spared text) 0 rest ≡ None → option_or first.large second.large ≡ None → plain_tokens (two_letters text) text ≡ Ok (tokens text)
-plain_two text rest first second h g plain is = rw (handed (has_large text) (tokens text) rest first h ∙ plain, large_of_two (tokens text) rest first second h g ∙ is) refl
+pub plain_two : (text : List ℕ) (rest : List Token) (first second : Survey)
+    → IsFront (tokens text) rest first → IsSurvey rest [] second
+    → first_strange (second_spared text) 0 rest ≡ None
+    → option_or first.large second.large ≡ None
+    → plain_tokens (two_letters text) text ≡ Ok (tokens text)
+plain_two text rest first second h g plain is = rw (
+  handed (has_large text) (tokens text) rest first h ∙ plain,
+  large_of_two (tokens text) rest first second h g ∙ is,
+) refl
 
 pub front_tokens : (ws vs rest : List Token) (s : Survey) → ws ≡ vs → IsFront ws rest s → IsFront vs rest s
 front_tokens ws vs rest s e h = let P : List Token → Type 0 = λ l. IsFront l rest s in subst P e h
@@ -141,7 +178,8 @@ front_tokens ws vs rest s e h = let P : List Token → Type 0 = λ l. IsFront l 
 -- ---- the second pile
 
 -- the first survey ends at the pile's last height
-counted : (end : ℕ) (ws rest : List Token) (s : Survey) (g : Grid) → IsFront ws rest s → IsShaped false end ws s g → s.count ≡ 2 + sites g
+counted : (end : ℕ) (ws rest : List Token) (s : Survey) (g : Grid) → IsFront ws rest s → IsShaped false end ws s g
+    → s.count ≡ 2 + sites g
 counted end ws rest s g h shaped = elim h.end [
   | inl none ↦
       let all = all_taken ws rest s h.underway none in
@@ -150,16 +188,19 @@ counted end ws rest s g h shaped = elim h.end [
   | inr full ↦ omega (arith, full.count, shaped.area)
 ]
 
-behind_first : (end : ℕ) (ws rest : List Token) (s : Survey) (g : Grid) → IsFront ws rest s → IsShaped false end ws s g → drop (sites g) (drop 2 (numbers ws)) ≡ numbers rest
+behind_first : (end : ℕ) (ws rest : List Token) (s : Survey) (g : Grid) → IsFront ws rest s → IsShaped false end ws s g
+    → drop (sites g) (drop 2 (numbers ws)) ≡ numbers rest
 behind_first end ws rest s g h shaped =
     let place = counted end ws rest s g h shaped in
     drop-drop (sites g) 2 (numbers ws) ∙ (ap (λ n. drop n (numbers ws)) (sym place) ∙ h.underway.counted.left)
 
-second_edge : (end : ℕ) (ws rest : List Token) (s : Survey) (g : Grid) → IsFront ws rest s → IsShaped false end ws s g → edge_behind (sites g + 4) 0 ws ≡ edge_behind 2 0 rest
+second_edge : (end : ℕ) (ws rest : List Token) (s : Survey) (g : Grid) → IsFront ws rest s → IsShaped false end ws s g
+    → edge_behind (sites g + 4) 0 ws ≡ edge_behind 2 0 rest
 second_edge end ws rest s g h shaped =
     let place = counted end ws rest s g h shaped in
     let there : sites g + 4 ≡ 2 + s.count = omega arith in
-    ap (λ k. edge_behind k 0 ws) there ∙ (sym (h.underway.letters.later_edge (2 + s.count) (omega arith)) ∙ sym (edge_from_zero 2 s.count rest))
+    ap (λ k. edge_behind k 0 ws) there
+    ∙ (sym (h.underway.letters.later_edge (2 + s.count) (omega arith)) ∙ sym (edge_from_zero 2 s.count rest))
 
 -- ---- both piles
 
@@ -167,28 +208,51 @@ pub faulty_two : (text : List ℕ) (e : TextFault) → plain_tokens (two_letters
 unfolding two_of
 faulty_two text e is = rw is refl
 
-pub misshapen_first : (text : List ℕ) (e : TextFault) → plain_tokens (two_letters text) text ≡ Ok (tokens text) → pile_at (edge_behind 2 0 (tokens text)) false (length text) (numbers (tokens text)) ≡ Err e → two_of text ≡ Err e
+pub misshapen_first : (text : List ℕ) (e : TextFault)
+    → plain_tokens (two_letters text) text ≡ Ok (tokens text)
+    → pile_at (edge_behind 2 0 (tokens text)) false (length text) (numbers (tokens text)) ≡ Err e
+    → two_of text ≡ Err e
 unfolding two_of
 misshapen_first text e plain is = rw (plain, is) refl
 
 -- the second pile, if the first has no fault
-second_of : (text : List ℕ) (rest : List Token) (s : Survey) (g : Grid) (second : Result (PileView × List ℕ) TextFault) → IsFront (tokens text) rest s → IsShaped false (length text) (tokens text) s g → pile_at (edge_behind 2 0 rest) true (length text) (numbers rest) ≡ second
+second_of : (text : List ℕ) (rest : List Token) (s : Survey) (g : Grid) (second : Result (PileView × List ℕ) TextFault)
+    → IsFront (tokens text) rest s → IsShaped false (length text) (tokens text) s g
+    → pile_at (edge_behind 2 0 rest) true (length text) (numbers rest) ≡ second
     → pile_at (edge_behind (sites g + 4) 0 (tokens text)) true (length text) (behind_heights g text) ≡ second
-second_of text rest s g second h shaped is = rw (second_edge (length text) (tokens text) rest s g h shaped, behind_first (length text) (tokens text) rest s g h shaped) is
+second_of text rest s g second h shaped is = rw (
+  second_edge (length text) (tokens text) rest s g h shaped,
+  behind_first (length text) (tokens text) rest s g h shaped,
+) is
 
-pub misshapen_second : (text : List ℕ) (rest : List Token) (s : Survey) (g : Grid) (e : TextFault) → plain_tokens (two_letters text) text ≡ Ok (tokens text) → IsFront (tokens text) rest s → IsShaped false (length text) (tokens text) s g → pile_at (edge_behind 2 0 rest) true (length text) (numbers rest) ≡ Err e → two_of text ≡ Err e
+pub misshapen_second : (text : List ℕ) (rest : List Token) (s : Survey) (g : Grid) (e : TextFault)
+    → plain_tokens (two_letters text) text ≡ Ok (tokens text)
+    → IsFront (tokens text) rest s → IsShaped false (length text) (tokens text) s g
+    → pile_at (edge_behind 2 0 rest) true (length text) (numbers rest) ≡ Err e
+    → two_of text ≡ Err e
 unfolding two_of
-misshapen_second text rest s g e plain h shaped is = rw (plain, shaped.read, second_of text rest s g (Err e) h shaped is) refl
+misshapen_second text rest s g e plain h shaped is =
+    rw (plain, shaped.read, second_of text rest s g (Err e) h shaped is) refl
 
-pub good_two : (text : List ℕ) (rest : List Token) (first second : Survey) (g k : Grid) → plain_tokens (two_letters text) text ≡ Ok (tokens text) → IsFront (tokens text) rest first → IsShaped false (length text) (tokens text) first g → IsShaped true (length text) rest second k
-    → two_of text ≡ Ok (record { grid = g; heights = heights_on g text }, record { grid = k; heights = heights_behind g k text })
+pub good_two : (text : List ℕ) (rest : List Token) (first second : Survey) (g k : Grid)
+    → plain_tokens (two_letters text) text ≡ Ok (tokens text)
+    → IsFront (tokens text) rest first
+    → IsShaped false (length text) (tokens text) first g
+    → IsShaped true (length text) rest second k
+    → two_of text
+    ≡ Ok (record { grid = g; heights = heights_on g text }, record { grid = k; heights = heights_behind g k text })
 unfolding two_of
 good_two text rest first second g k plain h shaped next =
     let there = second_of text rest first g (Ok (pile_among k (numbers rest))) h shaped next.read in
     rw (plain, shaped.read, there, sym (behind_first (length text) (tokens text) rest first g h shaped)) refl
 
 -- what is known of the second pile, in terms of the text
-pub second_facts : (text : List ℕ) (rest : List Token) (first second : Survey) (g k : Grid) → IsFront (tokens text) rest first → IsShaped false (length text) (tokens text) first g → IsShaped true (length text) rest second k
-    → (2 + sites k ≤ length (behind_heights g text)) × (length (heights_behind g k text) ≡ sites k) × (second.grains ≡ sum (heights_behind g k text))
+pub second_facts : (text : List ℕ) (rest : List Token) (first second : Survey) (g k : Grid)
+    → IsFront (tokens text) rest first
+    → IsShaped false (length text) (tokens text) first g
+    → IsShaped true (length text) rest second k
+    → (2 + sites k ≤ length (behind_heights g text)) × (length (heights_behind g k text) ≡ sites k)
+    × (second.grains ≡ sum (heights_behind g k text))
 second_facts text rest first second g k h shaped next =
-    rw (behind_first (length text) (tokens text) rest first g h shaped) (next.enough, one_each true (length text) rest second k next, next.grains)
+    rw (behind_first (length text) (tokens text) rest first g h shaped)
+    (next.enough, one_each true (length text) rest second k next, next.grains)

@@ -12,7 +12,8 @@ place_text g i = decimal (column g i) ++ codes " " ++ decimal (row g i) ++ codes
 -- the line `recurrent`; or the number of sites in the forbidden set, and a line for each
 abbrev pub burn_text_of : Grid → Burned → List ℕ
 burn_text_of g (Recurrent order) = codes "recurrent\n"
-burn_text_of g (Forbidden set) = codes "forbidden " ++ decimal (length set.items) ++ codes "\n" ++ flat_map (place_text g) set.items
+burn_text_of g (Forbidden set) =
+    codes "forbidden " ++ decimal (length set.items) ++ codes "\n" ++ flat_map (place_text g) set.items
 
 -- the sites of the result are sites of the grid
 abbrev pub AreSitesOf : Grid → Burned → Type 0

@@ -25,7 +25,9 @@ unless_at (Some at) fault read = Err (fault at)
 
 -- the tokens of a text without a strange byte or a number over the limit; letters are allowed after `spared` numbers
 abbrev pub plain_tokens : List ℕ → List ℕ → Result (List Token) TextFault
-plain_tokens spared text = let ws = tokens text in unless_at (first_strange spared 0 ws) Text (unless_at (first_large ws) TooLarge (Ok ws))
+plain_tokens spared text =
+    let ws = tokens text in
+    unless_at (first_strange spared 0 ws) Text (unless_at (first_large ws) TooLarge (Ok ws))
 
 abbrev pub of_shape : ShapeFault → TextFault
 of_shape shape_faults.Side = Side
@@ -39,7 +41,9 @@ is_count last count wanted = if last then count == wanted else nat_le wanted cou
 abbrev pub filled : Bool → Result Grid ShapeFault → List ℕ → Result (PileView × List ℕ) TextFault
 filled last (Err fault) ns = Err (of_shape fault)
 filled last (Ok g) ns = if is_count last (length ns) (sites g)
-    then (if nat_lt most_grains (sum (take (sites g) ns)) then Err TooManyGrains else Ok (record { grid = g; heights = take (sites g) ns }, drop (sites g) ns))
+    then (if nat_lt most_grains (sum (take (sites g) ns))
+    then Err TooManyGrains
+    else Ok (record { grid = g; heights = take (sites g) ns }, drop (sites g) ns))
     else Err Length
 
 -- the pile with this edge at the front of the numbers, and the numbers after it; `end` is the length of the text

@@ -34,16 +34,18 @@ grains_with s place value = if nat_lt place (sites_of s) then capped (s.grains +
 
 -- the index of this number among the drops, if it is a drop outside the grid
 abbrev pub if_no_site : Survey → ℕ → ℕ → Option ℕ
-if_no_site s place value = if nat_lt place (sites_of s) then None else (if nat_le (sites_of s) value then Some (place - sites_of s) else None)
+if_no_site s place value =
+    if nat_lt place (sites_of s) then None else (if nat_le (sites_of s) value then Some (place - sites_of s) else None)
 
 -- the numbers after the sides, among the first `count`
 abbrev pub noted : ℕ → List Token → List ℕ
 noted count ws = take (count - 2) (drop 2 (numbers ws))
 
--- the tokens in `rest` say of strange bytes and of letters what all tokens of ws say; letters are allowed after the second
--- number and after further counts of numbers
+-- the tokens in `rest` say of strange bytes and of letters what all tokens of ws say; letters are allowed after the
+-- second number and after further counts of numbers
 pub record AgreeOnLetters (ws rest : List Token) (s : Survey) : Type 0 where
-  pub plain : (more : List ℕ) → All (λ k. s.count < k) more → first_strange (still_spared s.edge more) s.count rest ≡ first_strange (2 ∷ more) 0 ws
+  pub plain : (more : List ℕ) → All (λ k. s.count < k) more
+      → first_strange (still_spared s.edge more) s.count rest ≡ first_strange (2 ∷ more) 0 ws
   pub bare : s.edge ≡ Open → first_strange [] s.count rest ≡ first_strange [] 0 ws
   pub edge : edge_or s.edge (edge_behind 2 s.count rest) ≡ edge_behind 2 0 ws
   pub later_edge : (k : ℕ) → s.count < k → edge_behind k s.count rest ≡ edge_behind k 0 ws

@@ -20,7 +20,8 @@ token_of at token = if digits_len token == length token
 -- the tokens among parts separated by white space, the first part starting at this place
 unfoldable pub tokens_from : ℕ → List (List ℕ) → List Token
 tokens_from at [] = []
-tokens_from at (part ∷ more) = if length part == 0 then tokens_from (at + 1) more else (token_of at part ∷ tokens_from (at + length part + 1) more)
+tokens_from at (part ∷ more) =
+    if length part == 0 then tokens_from (at + 1) more else (token_of at part ∷ tokens_from (at + length part + 1) more)
 
 -- the tokens of a text that starts at this place
 abbrev pub tokens_at : ℕ → List ℕ → List Token
@@ -33,7 +34,8 @@ tokens text = tokens_at 0 text
 unfoldable pub first_strange : List ℕ → ℕ → List Token → Option ℕ
 first_strange spared n [] = None
 first_strange spared n (Number at value ∷ more) = first_strange spared (n + 1) more
-first_strange spared n (Letter at ∷ more) = if list_any (λ k. k == n) spared then first_strange (filter (λ k. not (k == n)) spared) n more else Some at
+first_strange spared n (Letter at ∷ more) =
+    if list_any (λ k. k == n) spared then first_strange (filter (λ k. not (k == n)) spared) n more else Some at
 first_strange spared n (Strange at ∷ more) = Some at
 
 -- the place of the first number over the limit

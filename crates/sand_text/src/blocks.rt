@@ -102,9 +102,11 @@ impl Blocks {
     // Adds a line of numbers, separated by spaces.
     fn push_row<W: Write>(&mut self, writer: &mut W, numbers: &[u64]) -> Result<(), StreamFault>
         requires { length numbers.now ≤ 256 }
-        ensures ok { OnOk result (GrowsBy (W.contents writer.old) (W.contents writer.new) self.old self.new (row_text numbers.now)) }
+        ensures ok { OnOk result (GrowsBy (W.contents writer.old)
+            (W.contents writer.new) self.old self.new (row_text numbers.now)) }
         ensures few { OnOk result (length self.new.bytes < 70912) }
-        ensures err { IfErr result (BreaksIn (W.contents writer.old) (W.contents writer.new) self.old (row_text numbers.now)) }
+        ensures err { IfErr result
+            (BreaksIn (W.contents writer.old) (W.contents writer.new) self.old (row_text numbers.now)) }
     {
         self.make_room(writer)?;
         let Ok(()) = rows::push_row(&mut self.waiting, numbers) else {
@@ -120,9 +122,11 @@ impl Blocks {
         number: u64,
         avalanche: Avalanche,
     ) -> Result<(), StreamFault>
-        ensures ok { OnOk result (GrowsBy (W.contents writer.old) (W.contents writer.new) self.old self.new (entry_text (number, avalanche))) }
+        ensures ok { OnOk result (GrowsBy (W.contents writer.old) (W.contents writer.new)
+            self.old self.new (entry_text (number, avalanche))) }
         ensures few { OnOk result (length self.new.bytes < 70912) }
-        ensures err { IfErr result (BreaksIn (W.contents writer.old) (W.contents writer.new) self.old (entry_text (number, avalanche))) }
+        ensures err { IfErr result
+            (BreaksIn (W.contents writer.old) (W.contents writer.new) self.old (entry_text (number, avalanche))) }
     {
         self.push_row(writer, &fields_of(number, avalanche))
     }
@@ -135,8 +139,10 @@ impl Blocks {
         numbers: &[u64],
     ) -> Result<(), StreamFault>
         requires { length numbers.now ≡ sites shape }
-        ensures ok { OnOk result (GrowsBy (W.contents writer.old) (W.contents writer.new) self.old self.new (sites_text shape numbers.now)) }
-        ensures err { IfErr result (BreaksIn (W.contents writer.old) (W.contents writer.new) self.old (sites_text shape numbers.now)) }
+        ensures ok { OnOk result (GrowsBy (W.contents writer.old)
+            (W.contents writer.new) self.old self.new (sites_text shape numbers.now)) }
+        ensures err { IfErr result
+            (BreaksIn (W.contents writer.old) (W.contents writer.new) self.old (sites_text shape numbers.now)) }
     {
         let mut rest = numbers;
         'rows: for _ in 0..shape.height() {
@@ -148,8 +154,10 @@ impl Blocks {
     }
 
     fn push_shape<W: Write>(&mut self, writer: &mut W, shape: Shape) -> Result<(), StreamFault>
-        ensures ok { OnOk result (GrowsBy (W.contents writer.old) (W.contents writer.new) self.old self.new (shape_text shape)) }
-        ensures err { IfErr result (BreaksIn (W.contents writer.old) (W.contents writer.new) self.old (shape_text shape)) }
+        ensures ok { OnOk result (GrowsBy (W.contents writer.old)
+            (W.contents writer.new) self.old self.new (shape_text shape)) }
+        ensures err { IfErr result
+            (BreaksIn (W.contents writer.old) (W.contents writer.new) self.old (shape_text shape)) }
     {
         self.make_room(writer)?;
         let Ok(()) = piles::push_shape(&mut self.waiting, shape) else {
@@ -160,8 +168,10 @@ impl Blocks {
 
     /// Adds the text of a pile.
     pub fn push_pile<W: Write>(&mut self, writer: &mut W, pile: &Pile) -> Result<(), StreamFault>
-        ensures ok { OnOk result (GrowsBy (W.contents writer.old) (W.contents writer.new) self.old self.new (text_of pile.now)) }
-        ensures err { IfErr result (BreaksIn (W.contents writer.old) (W.contents writer.new) self.old (text_of pile.now)) }
+        ensures ok { OnOk result (GrowsBy (W.contents writer.old)
+            (W.contents writer.new) self.old self.new (text_of pile.now)) }
+        ensures err { IfErr result
+            (BreaksIn (W.contents writer.old) (W.contents writer.new) self.old (text_of pile.now)) }
     {
         self.push_shape(writer, pile.shape())?;
         self.push_sites(writer, pile.shape(), pile.heights())
@@ -175,8 +185,10 @@ impl Blocks {
         sum: u64,
     ) -> Result<(), StreamFault>
         requires { length name.now ≤ 5000 }
-        ensures ok { OnOk result (GrowsBy (W.contents writer.old) (W.contents writer.new) self.old self.new (sum_line name.now sum)) }
-        ensures err { IfErr result (BreaksIn (W.contents writer.old) (W.contents writer.new) self.old (sum_line name.now sum)) }
+        ensures ok { OnOk result (GrowsBy (W.contents writer.old)
+            (W.contents writer.new) self.old self.new (sum_line name.now sum)) }
+        ensures err { IfErr result
+            (BreaksIn (W.contents writer.old) (W.contents writer.new) self.old (sum_line name.now sum)) }
     {
         self.make_room(writer)?;
         let Ok(()) = rows::push_sum(&mut self.waiting, name, sum) else {

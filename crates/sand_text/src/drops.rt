@@ -14,7 +14,8 @@ use std::alloc::Global;
 
 // The shape and the grains of the pile, and the number of drops after it, if the text has no fault.
 fn shape_of(text: &[u8]) -> Result<(Shape, u64, usize), TextFault>
-    ensures drops { IfOk result (λ (g, _, _). drops_of text.now ≡ Ok (record { grid = g; heights = heights_on g text.now }, behind_heights g text.now)) }
+    ensures drops { IfOk result (λ (g, _, _).
+        drops_of text.now ≡ Ok (record { grid = g; heights = heights_on g text.now }, behind_heights g text.now)) }
     ensures enough { IfOk result (λ (g, _, _). 2 + sites g ≤ length (numbers (tokens text.now))) }
     ensures one_each { IfOk result (λ (g, _, _). length (heights_on g text.now) ≡ sites g) }
     ensures grains { IfOk result (λ (g, grains, _). (grains ≡ sum (heights_on g text.now)) × (grains ≤ most_grains)) }

@@ -11,7 +11,8 @@ use thiserror::Error;
 /// What is wrong with a text.
 #[derive(Clone, Copy, Debug, PartialEq, Eq, Error)]
 pub enum TextFault {
-    /// A byte that cannot be in the text of a pile, with its offset; or fewer than two numbers, with the length of the text.
+    /// A byte that cannot be in the text of a pile, with its offset; or fewer than two numbers, with the length of the
+    /// text.
     #[error("unexpected byte or end of input, at byte {0}")]
     Text(usize),
     /// A number over the grain limit, with the offset of its first byte.

@@ -23,8 +23,10 @@ pub fn read_all<R: Read>(alloc: Global, reader: &mut R) -> Result<Vec<u8>, Strea
     ensures within { IfOk result (λ text. length text.items ≤ most_bytes) }
 
     // How far the reader was read before a fault.
-    ensures too_long { IsErrOf result StreamFault.TooLong → IsFurther (R.remaining reader.old) (R.remaining reader.new) (most_bytes + 1) }
-    ensures failed { IfErr result (λ e. e ≢ StreamFault.TooLong → IsFurtherByAtMost (R.remaining reader.old) (R.remaining reader.new) most_bytes) }
+    ensures too_long { IsErrOf result StreamFault.TooLong
+        → IsFurther (R.remaining reader.old) (R.remaining reader.new) (most_bytes + 1) }
+    ensures failed { IfErr result (λ e.
+        e ≢ StreamFault.TooLong → IsFurtherByAtMost (R.remaining reader.old) (R.remaining reader.new) most_bytes) }
     ensures fault { IfErr result IsOfReading }
 {
     let mut text = Vec::new(alloc);

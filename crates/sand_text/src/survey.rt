@@ -87,11 +87,13 @@ impl Survey {
         ensures width { self.new.width ≡ (if self.old.count == 0 then value else self.old.width) }
         ensures height { self.new.height ≡ (if self.old.count == 1 then value else self.old.height) }
         ensures edge { self.new.edge ≡ self.old.edge }
-        ensures grains { self.new.grains ≡ (if nat_lt self.old.count 2 then self.old.grains else grains_with self.old (self.old.count - 2) value) }
+        ensures grains { self.new.grains
+            ≡ (if nat_lt self.old.count 2 then self.old.grains else grains_with self.old (self.old.count - 2) value) }
         ensures no_site { self.new.no_site ≡ (if nat_lt self.old.count 2
             then self.old.no_site
             else option_or self.old.no_site (if_no_site self.old (self.old.count - 2) value)) }
-        ensures large { self.new.large ≡ option_or self.old.large (if nat_lt most_grains value then Some start else None) }
+        ensures large { self.new.large
+            ≡ option_or self.old.large (if nat_lt most_grains value then Some start else None) }
     {
         match self.count {
             0 => self.width = value,
@@ -119,8 +121,10 @@ impl Survey {
     /// Takes a token. Returns Text if it is strange.
     pub(crate) fn take(&mut self, token: Token) -> Result<(), TextFault>
         requires { self.old.count < 2 ^ 63 }
-        ensures taken { OnOk result ((ws rest : List Token) → IsSurvey ws (token ∷ rest) self.old → IsSurvey ws rest self.new) }
-        ensures strange { IfErr result (λ e. (ws rest : List Token) → IsSurvey ws (token ∷ rest) self.old → IsStrangeAt ws self.old e) }
+        ensures taken { OnOk result
+            ((ws rest : List Token) → IsSurvey ws (token ∷ rest) self.old → IsSurvey ws rest self.new) }
+        ensures strange { IfErr result
+            (λ e. (ws rest : List Token) → IsSurvey ws (token ∷ rest) self.old → IsStrangeAt ws self.old e) }
         ensures edge { OnOk result (self.new.edge ≡ edge_with self.old.edge token) }
         ensures count { OnOk result (self.new.count ≤ self.old.count + 1) }
     {
@@ -151,7 +155,8 @@ impl Survey {
     /// number over the limit: fewer than two numbers (Text), Side, Narrow, Length, TooManyGrains. If the pile is not
     /// the last in its text, more numbers may follow than it has sites.
     pub(crate) fn shape(&self, last: bool, end: usize) -> Result<Shape, TextFault>
-        ensures ok { IfOk result (λ g. (ws rest : List Token) → IsSurvey ws rest self.now → IsEnd last rest self.now → IsShaped last end ws self.now g) }
+        ensures ok { IfOk result (λ g. (ws rest : List Token) → IsSurvey ws rest self.now → IsEnd last rest self.now
+            → IsShaped last end ws self.now g) }
         ensures err { IfErr result (λ e. (ws rest : List Token) → IsSurvey ws rest self.now → IsEnd last rest self.now
             → pile_at (edge_behind 2 0 ws) last end (numbers ws) ≡ Err e) }
     {

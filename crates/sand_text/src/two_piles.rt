@@ -25,7 +25,8 @@ use std::alloc::Global;
 // The survey of the first pile. The tokens after the pile are left.
 fn first_survey(tokens: &mut Tokens<'_>) -> Result<Survey, TextFault>
     ensures ok { IfOk result (IsFront (tokens_left tokens.old) (tokens_left tokens.new)) }
-    ensures err { IfErr result (λ e. (over : Bool) → IsFirstStrange (2 ∷ second_letter over (numbers (tokens_left tokens.old))) (tokens_left tokens.old) e) }
+    ensures err { IfErr result (λ e. (over : Bool)
+        → IsFirstStrange (2 ∷ second_letter over (numbers (tokens_left tokens.old))) (tokens_left tokens.old) e) }
 {
     let mut survey = Survey::new();
     'pile: while !survey.is_full() {
@@ -66,7 +67,8 @@ fn second_survey(tokens: Tokens<'_>, text: &[u8]) -> Result<Survey, TextFault>
 // The surveys of the two piles of a text; else Text at the first strange byte, else TooLarge at the first number over
 // the limit.
 fn two_surveys(text: &[u8]) -> Result<(Survey, Survey), TextFault>
-    ensures piles { IfOk result (λ (first, second). (rest : List Token) × IsFront (tokens text.now) rest first × IsSurvey rest [] second) }
+    ensures piles { IfOk result
+        (λ (first, second). (rest : List Token) × IsFront (tokens text.now) rest first × IsSurvey rest [] second) }
     ensures plain { IfOk result (λ _. plain_tokens (two_letters text.now) text.now ≡ Ok (tokens text.now)) }
     ensures err { IfErr result (λ e. plain_tokens (two_letters text.now) text.now ≡ Err e) }
 {
@@ -85,9 +87,12 @@ fn shapes_of(text: &[u8]) -> Result<((Shape, u64), (Shape, u64)), TextFault>
       record { grid = g; heights = heights_on g text.now },
       record { grid = h; heights = heights_behind g h text.now },
     )) }
-    ensures enough { IfOk result (λ ((g, _), (h, _)). (2 + sites g ≤ length (numbers (tokens text.now))) × (2 + sites h ≤ length (behind_heights g text.now))) }
-    ensures one_each { IfOk result (λ ((g, _), (h, _)). (length (heights_on g text.now) ≡ sites g) × (length (heights_behind g h text.now) ≡ sites h)) }
-    ensures grains { IfOk result (λ ((g, n), (h, m)). (n ≡ sum (heights_on g text.now)) × (m ≡ sum (heights_behind g h text.now))) }
+    ensures enough { IfOk result (λ ((g, _), (h, _)).
+        (2 + sites g ≤ length (numbers (tokens text.now))) × (2 + sites h ≤ length (behind_heights g text.now))) }
+    ensures one_each { IfOk result (λ ((g, _), (h, _)).
+        (length (heights_on g text.now) ≡ sites g) × (length (heights_behind g h text.now) ≡ sites h)) }
+    ensures grains { IfOk result
+        (λ ((g, n), (h, m)). (n ≡ sum (heights_on g text.now)) × (m ≡ sum (heights_behind g h text.now))) }
     ensures limit { IfOk result (λ ((_, n), (_, m)). (n ≤ most_grains) × (m ≤ most_grains)) }
     ensures err { IfErr result (λ e. two_of text.now ≡ Err e) }
 {

@@ -10,12 +10,18 @@ loop-byte-init c = record {
 
 pub loop-byte-preserved : goal.loop-byte-preserved
 loop-byte-preserved c = record {
-  so_far = one_byte c.args.text.now c.loop-byte.byte-index c.loop-byte.value c.run_value-value.result c.loop-byte-test.true c.loop-byte.invariant.small c.run_value-value.ensures c.if-value-gt-GRAIN_LIMIT.false ∙ c.loop-byte.invariant.so_far;
+  so_far = one_byte c.args.text.now c.loop-byte.byte-index c.loop-byte.value c.run_value-value.result
+      c.loop-byte-test.true c.loop-byte.invariant.small c.run_value-value.ensures c.if-value-gt-GRAIN_LIMIT.false
+      ∙ c.loop-byte.invariant.so_far;
   small = c.if-value-gt-GRAIN_LIMIT.false;
 }
 
 pub returns-then-value-gt-GRAIN_LIMIT : goal.returns-then-value-gt-GRAIN_LIMIT
-returns-then-value-gt-GRAIN_LIMIT c = sym (found_large c.args.text.now c.loop-byte.byte-index c.loop-byte.value c.run_value-value.result c.loop-byte-test.true c.run_value-value.ensures c.if-value-gt-GRAIN_LIMIT.true) ∙ c.loop-byte.invariant.so_far
+returns-then-value-gt-GRAIN_LIMIT c = sym (found_large c.args.text.now c.loop-byte.byte-index c.loop-byte.value
+    c.run_value-value.result c.loop-byte-test.true c.run_value-value.ensures c.if-value-gt-GRAIN_LIMIT.true)
+    ∙ c.loop-byte.invariant.so_far
 
 pub returns : goal.returns
-returns c = sym (none_large c.args.text.now c.loop-byte.byte-index c.loop-byte.value (omega arith) c.loop-byte.invariant.small) ∙ c.loop-byte.invariant.so_far
+returns c =
+    sym (none_large c.args.text.now c.loop-byte.byte-index c.loop-byte.value (omega arith) c.loop-byte.invariant.small)
+    ∙ c.loop-byte.invariant.so_far

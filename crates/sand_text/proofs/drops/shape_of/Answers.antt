@@ -24,20 +24,28 @@ overflow_sub-result c =
 pub overflow_sub-result-in-None : goal.overflow_sub-result-in-None
 overflow_sub-result-in-None c =
     let shaped = c.in_ok-shape.ensures.ok (tokens c.args.text.now) _ c.in_ok-survey.ensures.ok (inl refl) in
-    omega (arith, shaped.enough, c.sites.ensures.value, count_at_end (tokens c.args.text.now) c.in_ok-survey.survey c.in_ok-survey.ensures.ok)
+    omega (
+      arith,
+      shaped.enough,
+      c.sites.ensures.value,
+      count_at_end (tokens c.args.text.now) c.in_ok-survey.survey c.in_ok-survey.ensures.ok,
+    )
 
 pub returns-in-Some-clause-err : goal.returns-in-Some-clause-err
 returns-in-Some-clause-err c =
     let shaped = c.in_ok-shape.ensures.ok (tokens c.args.text.now) _ c.in_ok-survey.ensures.ok (inl refl) in
-    no_such_site c.args.text.now c.in_ok-survey.survey c.in_ok-shape.shape c.in-Some.index c.in_ok-survey.ensures.plain c.in_ok-survey.ensures.ok shaped c.in-Some.is
+    no_such_site c.args.text.now c.in_ok-survey.survey c.in_ok-shape.shape c.in-Some.index
+    c.in_ok-survey.ensures.plain c.in_ok-survey.ensures.ok shaped c.in-Some.is
 
 pub returns-in-None-clause-drops : goal.returns-in-None-clause-drops
 returns-in-None-clause-drops c =
     let shaped = c.in_ok-shape.ensures.ok (tokens c.args.text.now) _ c.in_ok-survey.ensures.ok (inl refl) in
-    good_drops c.args.text.now c.in_ok-survey.survey c.in_ok-shape.shape c.in_ok-survey.ensures.plain c.in_ok-survey.ensures.ok shaped c.in-None.is
+    good_drops c.args.text.now c.in_ok-survey.survey c.in_ok-shape.shape
+    c.in_ok-survey.ensures.plain c.in_ok-survey.ensures.ok shaped c.in-None.is
 
 pub returns-in-None-clause-enough : goal.returns-in-None-clause-enough
-returns-in-None-clause-enough c = (c.in_ok-shape.ensures.ok (tokens c.args.text.now) _ c.in_ok-survey.ensures.ok (inl refl)).enough
+returns-in-None-clause-enough c =
+    (c.in_ok-shape.ensures.ok (tokens c.args.text.now) _ c.in_ok-survey.ensures.ok (inl refl)).enough
 
 pub returns-in-None-clause-one_each : goal.returns-in-None-clause-one_each
 returns-in-None-clause-one_each c =
@@ -52,4 +60,5 @@ returns-in-None-clause-grains c =
 pub returns-in-None-clause-count : goal.returns-in-None-clause-count
 returns-in-None-clause-count c =
     let shaped = c.in_ok-shape.ensures.ok (tokens c.args.text.now) _ c.in_ok-survey.ensures.ok (inl refl) in
-    drop_count _ (tokens c.args.text.now) c.in_ok-survey.survey c.in_ok-shape.shape c.in_ok-survey.ensures.ok shaped ∙ ap (λ n. c.in_ok-survey.survey.count - 2 - n) (sym c.sites.ensures.value)
+    drop_count _ (tokens c.args.text.now) c.in_ok-survey.survey c.in_ok-shape.shape c.in_ok-survey.ensures.ok shaped
+    ∙ ap (λ n. c.in_ok-survey.survey.count - 2 - n) (sym c.sites.ensures.value)

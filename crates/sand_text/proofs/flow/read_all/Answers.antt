@@ -7,8 +7,19 @@ pub returns-then-count-len-clause-too_long : goal.returns-then-count-len-clause-
 returns-then-count-len-clause-too_long g c = λ _.
     let bytes = take c.in-Ok.count c.read.new.buf in
     let bound = c.in-Ok.ensures.bound in
-    further (g.R.Read.remaining c.args.reader.now) (g.R.Read.remaining c.reading.reader) (g.R.Read.remaining c.read.new.self) c.reading.text.items bytes 1048577 c.reading.invariant.given c.in-Ok.ensures.bytes.0
-    (omega (arith, bound.0, bound.1, length-take c.min-room.result c.reading.chunk, c.read.auto.buf, c.reading.text.ok.0, c.len-in-reading.ensures, length-take c.in-Ok.count c.read.new.buf))
+    further (g.R.Read.remaining c.args.reader.now) (g.R.Read.remaining c.reading.reader)
+    (g.R.Read.remaining c.read.new.self) c.reading.text.items bytes
+    1048577 c.reading.invariant.given c.in-Ok.ensures.bytes.0
+    (omega (
+      arith,
+      bound.0,
+      bound.1,
+      length-take c.min-room.result c.reading.chunk,
+      c.read.auto.buf,
+      c.reading.text.ok.0,
+      c.len-in-reading.ensures,
+      length-take c.in-Ok.count c.read.new.buf,
+    ))
 
 pub returns-in_err-extend_from_slice-clause-failed :
     goal.returns-in_err-extend_from_slice-clause-failed
@@ -18,6 +29,8 @@ returns-in_err-extend_from_slice-clause-failed g c = any_fault c.from_residual.r
     let bound = c.in-Ok.ensures.bound in (
       n,
       omega arith,
-      further (g.R.Read.remaining c.args.reader.now) (g.R.Read.remaining c.reading.reader) (g.R.Read.remaining c.read.new.self) c.reading.text.items bytes n c.reading.invariant.given c.in-Ok.ensures.bytes.0
+      further (g.R.Read.remaining c.args.reader.now) (g.R.Read.remaining c.reading.reader)
+          (g.R.Read.remaining c.read.new.self) c.reading.text.items
+          bytes n c.reading.invariant.given c.in-Ok.ensures.bytes.0
           (omega (arith, bound.0, bound.1, length-take c.in-Ok.count c.read.new.buf)),
     ))

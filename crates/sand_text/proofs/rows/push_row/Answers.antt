@@ -7,10 +7,24 @@ loop-place-preserved c =
     let next = row_text-next c.args.numbers.now c.loop-place.place (omega arith) in
     let grown = rw next at c.loop-place.invariant.written in
     record {
-      written = rw (c.in_ok-push.ensures.items, c.in_ok-push_number.ensures.written, c.separator.ensures, append_assoc, append_assoc) grown;
-      few = omega (arith, c.loop-place.invariant.few, c.in_ok-push_number.ensures.few, c.in_ok-push.ensures.upper_bound);
-      capacity = omega (arith, c.loop-place.invariant.capacity, c.in_ok-push_number.ensures.capacity, c.in_ok-push.ensures.capacity);
+      written = rw (
+        c.in_ok-push.ensures.items,
+        c.in_ok-push_number.ensures.written,
+        c.separator.ensures,
+        append_assoc,
+        append_assoc,
+      ) grown;
+      few =
+          omega (arith, c.loop-place.invariant.few, c.in_ok-push_number.ensures.few, c.in_ok-push.ensures.upper_bound);
+      capacity = omega (
+        arith,
+        c.loop-place.invariant.capacity,
+        c.in_ok-push_number.ensures.capacity,
+        c.in_ok-push.ensures.capacity,
+      );
     }
 
 pub returns-clause-written : goal.returns-clause-written
-returns-clause-written c = let none = row_text-end c.args.numbers.now c.loop-place.place (omega arith) in sym (append-nil _) ∙ rw none at c.loop-place.invariant.written
+returns-clause-written c =
+    let none = row_text-end c.args.numbers.now c.loop-place.place (omega arith) in
+    sym (append-nil _) ∙ rw none at c.loop-place.invariant.written

@@ -7,7 +7,8 @@ pub loop-epoch-init : goal.loop-epoch-init
 loop-epoch-init c = no_line epoch_line c.args.epochs.now _
 
 pub loop-epoch-preserved : goal.loop-epoch-preserved
-loop-epoch-preserved c = one_line_more epoch_line c.args.epochs.now c.loop-epoch.epoch _ _ _ _ (omega arith) c.in_ok-push_epoch.ensures c.loop-epoch.invariant
+loop-epoch-preserved c = one_line_more epoch_line c.args.epochs.now c.loop-epoch.epoch
+    _ _ _ _ (omega arith) c.in_ok-push_epoch.ensures c.loop-epoch.invariant
 
 pub returns : goal.returns
 returns c = all_lines epoch_line c.args.epochs.now c.loop-epoch.epoch _ _ (omega arith) c.loop-epoch.invariant

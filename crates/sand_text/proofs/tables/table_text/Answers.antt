@@ -3,7 +3,10 @@ use Rattle.sand_text.proofs.TableSteps.{one_line, entries_text-end}
 use Rattle.sand_text.proofs.tables.table_text.Goals as goal
 
 pub loop-number-preserved : goal.loop-number-preserved
-loop-number-preserved c = one_line c.args.rows.now c.loop-number.number-index _ c.loop-number.text.items _ _ (omega arith) c.in_ok-push_entry.ensures c.loop-number.invariant
+loop-number-preserved c = one_line c.args.rows.now c.loop-number.number-index _
+    c.loop-number.text.items _ _ (omega arith) c.in_ok-push_entry.ensures c.loop-number.invariant
 
 pub returns : goal.returns
-returns c = let none = entries_text-end c.args.rows.now c.loop-number.number-index (omega arith) in sym (append-nil _) ∙ rw none at c.loop-number.invariant
+returns c =
+    let none = entries_text-end c.args.rows.now c.loop-number.number-index (omega arith) in
+    sym (append-nil _) ∙ rw none at c.loop-number.invariant

@@ -17,7 +17,12 @@ pile-init c = record {
 }
 
 pub take-requires : goal.take-requires
-take-requires c = omega (arith, c.pile.invariant.underway.counted.within, few_numbers c.args.tokens.now.at c.args.tokens.now.rest.now, c.args.tokens.now.room)
+take-requires c = omega (
+  arith,
+  c.pile.invariant.underway.counted.within,
+  few_numbers c.args.tokens.now.at c.args.tokens.now.rest.now,
+  c.args.tokens.now.room,
+)
 
 pub pile-preserved : goal.pile-preserved
 pile-preserved c =
@@ -26,7 +31,9 @@ pile-preserved c =
     let next = c.in_ok-take.ensures.taken ws (tokens_left c.next.new.self) here in
     record {
       underway = next;
-      within = one_further ws _ (tokens_left c.next.new.self) c.pile.survey c.take.new.self here next c.pile.invariant.within (λ full. not_both c.is_full.result c.pile-test.true (c.is_full.ensures.1 full)) c.in_ok-take.ensures.count;
+      within =
+          one_further ws _ (tokens_left c.next.new.self) c.pile.survey c.take.new.self here next c.pile.invariant.within
+          (λ full. not_both c.is_full.result c.pile-test.true (c.is_full.ensures.1 full)) c.in_ok-take.ensures.count;
     }
 
 pub returns-in_err-take-clause-err : goal.returns-in_err-take-clause-err
@@ -35,4 +42,5 @@ returns-in_err-take-clause-err c =
     let ws = tokens_left c.args.tokens.now in
     let here = at_tokens ws _ _ c.pile.survey c.in-Some.ensures.steps c.pile.invariant.underway in
     let strange = c.in_err-take.ensures.strange ws (tokens_left c.next.new.self) here in
-    rw (p.1, p.2) (λ over. strange_in_first over ws _ c.pile.survey c.in_err-take.field-0.0 here c.pile.invariant.within strange)
+    rw (p.1, p.2) (λ over.
+    strange_in_first over ws _ c.pile.survey c.in_err-take.field-0.0 here c.pile.invariant.within strange)

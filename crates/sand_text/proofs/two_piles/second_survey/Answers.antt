@@ -9,7 +9,8 @@ use Rattle.sand_text.proofs.two_piles.second_survey.Goals as goal
 
 pub loop-token-init : goal.loop-token-init
 loop-token-init c = record {
-  underway = at_tokens _ _ _ _ (sym (ap tokens_left c.into_iter-token-iterator.ensures.into_iter_gives)) (c.new-survey.ensures.underway (tokens_left c.args.tokens));
+  underway = at_tokens _ _ _ _ (sym (ap tokens_left c.into_iter-token-iterator.ensures.into_iter_gives))
+      (c.new-survey.ensures.underway (tokens_left c.args.tokens));
   barred = λ over. c.new-survey.ensures.empty.1;
 }
 
@@ -17,10 +18,16 @@ pub returns-in-Some-barred_at-clause-err : goal.returns-in-Some-barred_at-clause
 returns-in-Some-barred_at-clause-err c =
     let ws = tokens_left c.args.tokens in
     let here = at_tokens ws _ _ c.loop-token.survey c.in-Some.ensures.steps c.loop-token.invariant.underway in
-    barred c.args.text.now ws _ c.loop-token.survey c.in-Some.token c.in-Some-barred_at.at here c.loop-token.invariant.barred (sym c.barred_at.ensures ∙ c.in-Some-barred_at.is)
+    barred c.args.text.now ws _ c.loop-token.survey c.in-Some.token c.in-Some-barred_at.at
+    here c.loop-token.invariant.barred (sym c.barred_at.ensures ∙ c.in-Some-barred_at.is)
 
 pub take-requires : goal.take-requires
-take-requires c = omega (arith, c.loop-token.invariant.underway.counted.within, few_numbers c.args.tokens.at c.args.tokens.rest.now, c.args.tokens.room)
+take-requires c = omega (
+  arith,
+  c.loop-token.invariant.underway.counted.within,
+  few_numbers c.args.tokens.at c.args.tokens.rest.now,
+  c.args.tokens.room,
+)
 
 pub loop-token-preserved : goal.loop-token-preserved
 loop-token-preserved c =
@@ -28,7 +35,9 @@ loop-token-preserved c =
     let here = at_tokens ws _ _ c.loop-token.survey c.in-Some.ensures.steps c.loop-token.invariant.underway in
     record {
       underway = c.in_ok-take.ensures.taken ws (tokens_left c.next.new.self) here;
-      barred = λ over. still_open (has_large c.args.text.now) c.in-Some.token c.loop-token.survey.edge c.take.new.self.edge (sym c.barred_at.ensures ∙ c.in_default.is) over (c.loop-token.invariant.barred over) c.in_ok-take.ensures.edge;
+      barred = λ over. still_open (has_large c.args.text.now) c.in-Some.token
+          c.loop-token.survey.edge c.take.new.self.edge (sym c.barred_at.ensures ∙ c.in_default.is)
+          over (c.loop-token.invariant.barred over) c.in_ok-take.ensures.edge;
     }
 
 pub returns-in_err-take-clause-err : goal.returns-in_err-take-clause-err
@@ -37,7 +46,9 @@ returns-in_err-take-clause-err c =
     let ws = tokens_left c.args.tokens in
     let here = at_tokens ws _ _ c.loop-token.survey c.in-Some.ensures.steps c.loop-token.invariant.underway in
     let strange = c.in_err-take.ensures.strange ws (tokens_left c.next.new.self) here in
-    rw (p.1, p.2) (strange_in_second c.args.text.now ws c.loop-token.survey c.in_err-take.field-0.0 c.loop-token.invariant.barred strange)
+    rw (p.1, p.2) (strange_in_second c.args.text.now ws c.loop-token.survey
+    c.in_err-take.field-0.0 c.loop-token.invariant.barred strange)
 
 pub returns-clause-plain : goal.returns-clause-plain
-returns-clause-plain c = plain_second c.args.text.now (tokens_left c.args.tokens) c.loop-token.survey (at_tokens _ _ _ _ c.in-None.ensures.steps.0 c.loop-token.invariant.underway) c.loop-token.invariant.barred
+returns-clause-plain c = plain_second c.args.text.now (tokens_left c.args.tokens) c.loop-token.survey
+    (at_tokens _ _ _ _ c.in-None.ensures.steps.0 c.loop-token.invariant.underway) c.loop-token.invariant.barred

@@ -15,14 +15,17 @@ pub returns-in_err-second-clause-err : goal.returns-in_err-second-clause-err
 returns-in_err-second-clause-err c =
     let p = err_from_is_err_and c.from_residual-in_err-second.result c.from_residual-in_err-second.ensures.1 in
     let front = front_tokens _ _ _ c.in_ok-first.first c.new-tokens.ensures c.in_ok-first.ensures.ok in
-    rw (p.1, p.2) (strange_second c.args.text.now (tokens_left c.first_survey.new.tokens) c.in_ok-first.first c.in_err-second.field-0.0 front c.in_err-second.ensures.err)
+    rw (p.1, p.2) (strange_second c.args.text.now (tokens_left c.first_survey.new.tokens)
+    c.in_ok-first.first c.in_err-second.field-0.0 front c.in_err-second.ensures.err)
 
 pub returns-in-Some-clause-err : goal.returns-in-Some-clause-err
 returns-in-Some-clause-err c =
     let front = front_tokens _ _ _ c.in_ok-first.first c.new-tokens.ensures c.in_ok-first.ensures.ok in
-    large_in_two c.args.text.now (tokens_left c.first_survey.new.tokens) c.in_ok-first.first c.in_ok-second.second c.in-Some.at front c.in_ok-second.ensures.ok c.in_ok-second.ensures.plain (sym c.or.ensures ∙ c.in-Some.is)
+    large_in_two c.args.text.now (tokens_left c.first_survey.new.tokens) c.in_ok-first.first c.in_ok-second.second
+    c.in-Some.at front c.in_ok-second.ensures.ok c.in_ok-second.ensures.plain (sym c.or.ensures ∙ c.in-Some.is)
 
 pub returns-in-None-clause-plain : goal.returns-in-None-clause-plain
 returns-in-None-clause-plain c =
     let front = front_tokens _ _ _ c.in_ok-first.first c.new-tokens.ensures c.in_ok-first.ensures.ok in
-    plain_two c.args.text.now (tokens_left c.first_survey.new.tokens) c.in_ok-first.first c.in_ok-second.second front c.in_ok-second.ensures.ok c.in_ok-second.ensures.plain (sym c.or.ensures ∙ c.in-None.is)
+    plain_two c.args.text.now (tokens_left c.first_survey.new.tokens) c.in_ok-first.first c.in_ok-second.second
+    front c.in_ok-second.ensures.ok c.in_ok-second.ensures.plain (sym c.or.ensures ∙ c.in-None.is)

@@ -7,14 +7,19 @@ pub returns-in_err-push_shape-clause-err : goal.returns-in_err-push_shape-clause
 returns-in_err-push_shape-clause-err g c =
     let p = err_from_is_err_and c.from_residual.result c.from_residual.ensures.1 in
     let broken = rw c.shape.ensures.value at c.in_err-push_shape.ensures.err in
-    rw (p.1, p.2) (breaks_before _ _ _ (shape_text c.args.pile.now.grid) (sites_text c.args.pile.now.grid c.args.pile.now.heights) _ broken)
+    rw (p.1, p.2) (breaks_before _ _ _ (shape_text c.args.pile.now.grid)
+    (sites_text c.args.pile.now.grid c.args.pile.now.heights) _ broken)
 
 pub returns-clause-ok : goal.returns-clause-ok
 returns-clause-ok g c =
     let first = rw c.shape.ensures.value at c.in_ok-push_shape.ensures.ok in
-    IfOk-weaker c.push_sites.result _ _ (λ _ more. grows_on _ _ _ _ _ _ _ _ first (rw (c.shape-2.ensures.value, c.heights.ensures.value) at more)) c.push_sites.ensures.ok
+    IfOk-weaker c.push_sites.result _ _
+    (λ _ more. grows_on _ _ _ _ _ _ _ _ first (rw (c.shape-2.ensures.value, c.heights.ensures.value) at more))
+    c.push_sites.ensures.ok
 
 pub returns-clause-err : goal.returns-clause-err
 returns-clause-err g c =
     let first = rw c.shape.ensures.value at c.in_ok-push_shape.ensures.ok in
-    IfErr-weaker c.push_sites.result _ _ (λ fault more. breaks_on _ _ _ _ _ _ _ fault first (rw (c.shape-2.ensures.value, c.heights.ensures.value) at more)) c.push_sites.ensures.err
+    IfErr-weaker c.push_sites.result _ _
+    (λ fault more. breaks_on _ _ _ _ _ _ _ fault first (rw (c.shape-2.ensures.value, c.heights.ensures.value) at more))
+    c.push_sites.ensures.err

@@ -10,21 +10,25 @@ not_both b e h = cc
 
 pub returns-in-Number-clause-taken : goal.returns-in-Number-clause-taken
 returns-in-Number-clause-taken c = λ ws rest h.
-    let here = at_token ws rest c.args.self.now c.args.token (Number c.in-Number.start c.in-Number.value) c.in-Number.is h in
+    let here =
+    at_token ws rest c.args.self.now c.args.token (Number c.in-Number.start c.in-Number.value) c.in-Number.is h in
     let note = c.note.ensures in
-    note_step ws rest c.args.self.now c.note.new.self c.in-Number.start c.in-Number.value here note.count note.width note.height note.edge note.grains note.no_site note.large
+    note_step ws rest c.args.self.now c.note.new.self c.in-Number.start c.in-Number.value
+    here note.count note.width note.height note.edge note.grains note.no_site note.large
 
 pub returns-else-not-spare-clause-taken : goal.returns-else-not-spare-clause-taken
 returns-else-not-spare-clause-taken c = λ ws rest h.
     let here = at_token ws rest c.args.self.now c.args.token (Letter c.in-Letter.at) c.in-Letter.is h in
     let spared = c.spare.ensures.spared.0 c.if-not-spare.false in
-    let edge : c.spare.new.self ≡ record c.args.self.now { edge = Cylinder } = rw c.if-not-spare.false at c.spare.ensures.edge in
+    let edge : c.spare.new.self ≡ record c.args.self.now { edge = Cylinder } =
+    rw c.if-not-spare.false at c.spare.ensures.edge in
     spare_step ws rest c.args.self.now c.spare.new.self c.in-Letter.at here spared.0 spared.1 edge
 
 pub returns-then-not-spare-clause-strange : goal.returns-then-not-spare-clause-strange
 returns-then-not-spare-clause-strange c = λ ws rest h.
     let here = at_token ws rest c.args.self.now c.args.token (Letter c.in-Letter.at) c.in-Letter.is h in
-    strange_letter ws rest c.args.self.now c.in-Letter.at here (λ both. not_both c.spare.result c.if-not-spare.true (c.spare.ensures.spared.1 both))
+    strange_letter ws rest c.args.self.now c.in-Letter.at here
+    (λ both. not_both c.spare.result c.if-not-spare.true (c.spare.ensures.spared.1 both))
 
 pub returns-in-Strange-clause-strange : goal.returns-in-Strange-clause-strange
 returns-in-Strange-clause-strange c = λ ws rest h.
