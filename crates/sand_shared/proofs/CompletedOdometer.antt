@@ -11,7 +11,7 @@ use Rattle.sand_model.proofs.Heights.{sum_is_grains}
 use Rattle.sand_model.proofs.Bounds.{topplings_bound}
 use Rattle.sand_model.proofs.Sandpile.{laplacian_sum, settles_after, settled_same}
 use Rattle.sand_settle.specs.Settling.{SettledView, IsRecord, odometer_of}
-use Rattle.sand_shared.specs.declared.bare.BarePass.TheInside.{Inside}
+use Rattle.sand_shared.specs.declared.bare_pass.BarePass.TheInside.{Inside}
 use Rattle.sand_shared.specs.declared.view.View.{View}
 use Rattle.sand_shared.specs.declared.view.Terms.{Terms}
 use Rattle.sand_shared.specs.OpenPile.{grid_of_terms, dropped, poured, toppled_by}

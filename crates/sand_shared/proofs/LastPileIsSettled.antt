@@ -8,7 +8,7 @@ use Rattle.sand_model.specs.Sand.{IsSettled, tally}
 use Rattle.sand_model.specs.Piles.{height_of}
 use Rattle.sand_model.specs.Lists.{one_if}
 use Rattle.sand_model.proofs.Flow.{flow_same}
-use Rattle.sand_shared.specs.declared.bare.BarePass.TheInside.{Inside}
+use Rattle.sand_shared.specs.declared.bare_pass.BarePass.TheInside.{Inside}
 use Rattle.sand_shared.specs.declared.view.View.{View}
 use Rattle.sand_shared.specs.declared.view.Receipt.{Receipt}
 use Rattle.sand_shared.specs.declared.view.Terms.{Terms}

@@ -1,7 +1,7 @@
 -- Joining two seats gives the seat of the joined pass.
 use Rattle.std.proofs.Common.{◌≡◌, ℕ, true, sym, ap, ◌∙◌, subst}
 use Rattle.std.specs.Prelude.{◌||◌}
-use Rattle.sand_shared.specs.declared.bare.BarePass.TheInside.{Inside}
+use Rattle.sand_shared.specs.declared.bare_pass.BarePass.TheInside.{Inside}
 use Rattle.sand_shared.specs.declared.view.View.{View}
 use Rattle.sand_shared.specs.declared.view.Terms.{Terms}
 use Rattle.sand_shared.specs.Bare.{shown, IsBare}

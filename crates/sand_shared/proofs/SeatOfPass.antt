@@ -1,7 +1,7 @@
 -- A seat that has what a pass has is the seat of that pass.
 use Rattle.std.proofs.Common.{◌≡◌, ℕ, List, [], length, sym, refl, ap, ◌∙◌, subst}
 use Rattle.atomic_table.specs.declared.shared.Seat.{Seat}
-use Rattle.sand_shared.specs.declared.bare.BarePass.TheInside.{Inside}
+use Rattle.sand_shared.specs.declared.bare_pass.BarePass.TheInside.{Inside}
 use Rattle.sand_shared.specs.declared.view.View.{View}
 use Rattle.sand_shared.specs.declared.view.Receipt.{Receipt}
 use Rattle.sand_shared.specs.Bare.{shown, IsBare}

@@ -1,6 +1,6 @@
 -- A bare pass: its seat, and what contracts see of it.
 use Rattle.std.specs.Prelude.{◌≡◌, [], length}
-use Rattle.sand_shared.specs.declared.bare.BarePass.TheInside.{Inside}
+use Rattle.sand_shared.specs.declared.bare_pass.BarePass.TheInside.{Inside}
 use Rattle.sand_shared.specs.Passes.{PassView, at_rest, IsPass}
 
 -- its receipts are those of its seat

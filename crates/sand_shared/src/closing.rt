@@ -13,7 +13,7 @@ ghost use Rattle.sand_shared.specs.Record.{Tells, IsRecordOf};
 ghost use Rattle.sand_shared.specs.Seats.{IsSeatAt, StaysSeated};
 ghost use Rattle.sand_shared.specs.Sweeps.{IsCalm, with_counts};
 
-use crate::bare::BarePass;
+use crate::bare_pass::BarePass;
 use crate::faults::CloseFault;
 use crate::pass::Pass;
 use crate::record::Record;
@@ -71,7 +71,7 @@ impl SharedPile {
     }
 
     // A history with an entry for each receipt, if the pass is whole.
-    pub(crate) fn blank_history(&self, alloc: Global, pass: &Pass) -> Result<Vec<usize>, CloseFault>
+    pub(crate) fn room_for_history(&self, alloc: Global, pass: &Pass) -> Result<Vec<usize>, CloseFault>
         requires { IsPassOf self.now pass.now }
         ensures missing { IfErr result (λ e. (e ≡ CloseFault.Missing) ↔ ¬ IsWhole self.now.terms pass.now) }
         ensures whole { OnOk result (IsWhole self.now.terms pass.now) }
@@ -96,7 +96,7 @@ impl SharedPile {
         ensures history { IfOk result (λ r. length r.0.items ≡ length pass.now.receipts) }
         ensures heights { IfOk result (λ r. (r.1.items ≡ []) × (length pass.now.counts ≤ vec_capacity r.1)) }
     {
-        let history = self.blank_history(alloc, pass)?;
+        let history = self.room_for_history(alloc, pass)?;
         let heights = Vec::with_capacity(alloc, pass.bare.counts.len())?;
         Ok((history, heights))
     }

@@ -11,7 +11,7 @@ ghost use Rattle.sand_model.specs.Piles.{most_grains};
 
 use crate::faults::SharedFault;
 use crate::record::{Record, copy_of};
-use crate::settling::add;
+use crate::completing::add;
 use sand_settle::Settled;
 use std::alloc::Global;
 

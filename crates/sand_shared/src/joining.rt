@@ -4,7 +4,7 @@ ghost use Rattle.std.specs.Prelude.{◌≡◌, ◌++◌, ◌↔◌, if◌then◌
 ghost use Rattle.sand_shared.specs.Passes.{IsPassOf, together};
 ghost use Rattle.sand_shared.specs.Rows.{AreApart};
 
-use crate::bare::BarePass;
+use crate::bare_pass::BarePass;
 use crate::faults::JoinFault;
 use crate::pass::Pass;
 use crate::shared_pile::SharedPile;

@@ -5,8 +5,10 @@
 //! led to what it shows).
 #![tactic(auto)]
 
-mod bare;
+mod bare_pass;
 mod closing;
+mod completing;
+mod dropping_lists;
 mod faults;
 mod following;
 mod history;
@@ -16,16 +18,14 @@ mod pass;
 mod record;
 mod rows;
 mod rule;
-mod settling;
 mod shared_pile;
 mod site_counts;
 mod splitting;
 mod steps;
 mod sweeping;
-mod turns;
 mod view;
 
-pub use bare::BarePass;
+pub use bare_pass::BarePass;
 pub use faults::{CloseFault, DropFault, JoinFault, SharedFault, SplitFault};
 pub use pass::Pass;
 pub use record::Record;

@@ -1,11 +1,14 @@
 //! Passes: what a thread holds to drop grains on a shared pile and to topple some of its rows.
+//!
+//! A pass is a bare pass and the list of its receipts. All that the shared words know of it is in its bare part; the
+//! list is for its owner, with room for the receipts of the drops that it has left.
 
 ghost use Rattle.std.specs.Prelude.{◌≡◌, ◌+◌, ◌-◌, ◌*◌, ◌≤◌, length, vec_capacity};
 ghost use Rattle.sand_shared.specs.Passes.{EachOnce, AllBelow, at_rest};
 ghost use Rattle.sand_shared.specs.Rows.{HoldsSite};
 ghost use Rattle.sand_shared.specs.OpenPile.{toppled_by};
 
-use crate::bare::BarePass;
+use crate::bare_pass::BarePass;
 use crate::view::Receipt;
 use std::marker::Model;
 
@@ -76,7 +79,7 @@ impl Pass {
         bare.counts[site - usize::from(bare.rows.first) * bare.shape.width()]
     }
 
-    /// Separates a pass from the list of its receipts.
+    /// Separates a pass from the list of its receipts, for good: no call puts them together again.
     pub fn into_bare(self) -> (BarePass, Vec<Receipt>)
         ensures bare { result.0 ≡ self }
         ensures receipts { result.1.items ≡ self.receipts }

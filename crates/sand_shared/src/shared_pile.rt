@@ -7,7 +7,7 @@ ghost use Rattle.sand_shared.specs.Events.{receipt, zeros};
 ghost use Rattle.sand_shared.specs.Passes.{IsPassOf, IsWhole};
 ghost use Rattle.sand_model.specs.Piles.{most_grains};
 
-use crate::bare::BarePass;
+use crate::bare_pass::BarePass;
 use crate::faults::{DropFault, SharedFault};
 use crate::pass::Pass;
 use crate::record::copy_of;

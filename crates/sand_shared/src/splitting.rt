@@ -4,7 +4,7 @@ ghost use Rattle.std.specs.Prelude.{◌≡◌, ◌≢◌, ◌-◌, ◌<◌, ◌�
 ghost use Rattle.sand_shared.specs.Passes.{IsPassOf, sites_kept};
 ghost use Rattle.sand_shared.specs.Rows.{no_rows, count_of, upper_rows, lower_rows};
 
-use crate::bare::BarePass;
+use crate::bare_pass::BarePass;
 use crate::faults::SplitFault;
 use crate::pass::Pass;
 use crate::rows::Rows;

@@ -1,6 +1,6 @@
-//! The table of words under its rule: each function here takes one step on it. The contracts from draw to deliver name
-//! the event, or the events in a row, that the step is. Those of split and join say what the passes have afterwards,
-//! and `learn` is a load that is no event.
+//! The words that threads share, and the steps on them. The contracts from draw to deliver name the event, or the
+//! events in a row, that a step is. Those of split and join say what the passes have afterwards, and `learn` is a load
+//! that is no event.
 //!
 //! A parameter that only the contract names, such as the quota of a split, begins with an underscore.
 

@@ -1,4 +1,5 @@
-//! Settling a shared pile with a pass that has gathered everything: its heights are read, and one thread settles them.
+//! Completing a shared pile with a whole pass: one thread settles in plain memory what is left to topple, and the
+//! record is made from that and from what toppled in place.
 //!
 //! No site has toppled in place more often than needed, so the odometer is what toppled in place plus the odometer of
 //! the rest (`sand_model::laws::settles_after`). All memory is allocated before the shared words are closed.
@@ -21,7 +22,7 @@ ghost use Rattle.sand_shared.specs.Record.{Tells, IsRecordOf};
 ghost use Rattle.sand_shared.specs.Seats.{IsSeatAt, StaysSeated};
 ghost use Rattle.sand_shared.specs.Sweeps.{HasAll, IsRestOf, laid};
 
-use crate::bare::BarePass;
+use crate::bare_pass::BarePass;
 use crate::closing::fill;
 use crate::faults::CloseFault;
 use crate::pass::Pass;
@@ -83,7 +84,7 @@ impl SharedPile {
         ensures pass_back { IfErr result (λ e. e.2 ≡ pass) }
         ensures closed { IfOk result (IsRecordOf self.terms pass) }
     {
-        let mut history = match self.blank_history(alloc, &pass) {
+        let mut history = match self.room_for_history(alloc, &pass) {
             Ok(history) => history,
             Err(fault) => return Err((fault, self, pass)),
         };

@@ -1,6 +1,6 @@
 use Rattle.std.proofs.Common.{◌≡◌, ℕ, ◌<◌, take, length, get_or}
 use Rattle.sand_model.specs.Sand.{tally}
-use Rattle.sand_shared.proofs.turns.count_sites.Given as goal
+use Rattle.sand_shared.proofs.dropping_lists.count_sites.Given as goal
 
 abbrev pub invariant-drops : goal.invariant-drops
 invariant-drops l = record {

@@ -1,9 +1,11 @@
-//! Bare passes: passes without the list of their receipts, which the owner keeps.
+//! Bare passes: passes without the list of their receipts, which the owner keeps. A `Pass` is a bare pass and its list.
 //!
 //! A receipt takes sixteen bytes, so joining many passes copies much. Bare passes are joined without their lists, which
 //! other threads can read meanwhile. The rule of the pile still keeps track of their receipts.
 //!
-//! All that the shared words know of a pass is in its bare part. A `Pass` adds the list to it.
+//! A caller can make a pass bare, and not the other way round. To be a `Pass` again it would need all of its list, in
+//! order and with room for the drops that it has left. No call asks for that: `SharedPile::complete` takes a bare pass
+//! and the history written from the lists.
 
 ghost use Rattle.std.specs.Prelude.{◌↔◌, IsTrue};
 ghost use Rattle.sand_shared.specs.Passes.{IsWhole};

@@ -2,8 +2,8 @@ use Rattle.std.proofs.Common.{◌≡◌, ℕ, ◌+◌, ◌<◌, length, get_or, 
 use Rattle.std.specs.Prelude.{slice_index}
 use Rattle.sand_model.specs.Sand.{tally}
 use Rattle.sand_shared.proofs.DropsBySite.{read_count, counted_more, tally_small}
-use Rattle.sand_shared.proofs.turns.count_sites.Goals as goal
-use Rattle.sand_shared.proofs.turns.count_sites.Goals.{After-index_mut}
+use Rattle.sand_shared.proofs.dropping_lists.count_sites.Goals as goal
+use Rattle.sand_shared.proofs.dropping_lists.count_sites.Goals.{After-index_mut}
 
 -- a read at an entry of the list finds the count so far
 read : (c : After-index_mut) → c.index_mut.result.now ≡ slice_index c.drops.counts.items (get_or c.args.drops.now c.drops.site-index 0)

@@ -3,7 +3,7 @@ use Rattle.std.proofs.lemmas.List.{drop_all, append-nil}
 use Rattle.sand_shared.specs.declared.view.Receipt.{Receipt}
 use Rattle.sand_shared.specs.Events.{receipt, receipts_from}
 use Rattle.sand_shared.proofs.EventsInARow.{from_here, note_more}
-use Rattle.sand_shared.proofs.turns.note.Goals as goal
+use Rattle.sand_shared.proofs.dropping_lists.note.Goals as goal
 
 pub drops-init : goal.drops-init
 drops-init c = record { next = omega arith; capacity = refl; long = omega arith; rest = refl }

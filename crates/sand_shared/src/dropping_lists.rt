@@ -1,4 +1,4 @@
-//! Drops in a row: a pass draws numbers for a whole list of grains in one step, and then lays the grains of each site
+//! Dropping a list of grains: a pass draws numbers for all of them in one step, and then lays the grains of each site
 //! in one step.
 //!
 //! So threads rarely contend for a word: they write the number word once a list, and a site's word once for all its

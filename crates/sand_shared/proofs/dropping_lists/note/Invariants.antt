@@ -1,6 +1,6 @@
 use Rattle.std.proofs.Common.{◌≡◌, ◌+◌, ◌++◌, drop, length, vec_capacity}
 use Rattle.sand_shared.specs.Events.{receipts_from}
-use Rattle.sand_shared.proofs.turns.note.Given as goal
+use Rattle.sand_shared.proofs.dropping_lists.note.Given as goal
 
 abbrev pub invariant-drops : goal.invariant-drops
 invariant-drops l = record {
