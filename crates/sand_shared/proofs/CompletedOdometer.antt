@@ -21,7 +21,8 @@ use Rattle.sand_shared.specs.Passes.{PassView, SharedView, at_rest, IsPassOf, Is
 use Rattle.sand_shared.specs.Rows.{count_of}
 use Rattle.sand_shared.specs.Record.{Tells}
 use Rattle.sand_shared.specs.Running.{Stands, Happened}
-use Rattle.sand_shared.specs.Sweeps.{HasAll, IsRestOf, laid}
+use Rattle.sand_shared.specs.Seats.{HasAll}
+use Rattle.sand_shared.specs.Sweeps.{IsRestOf, laid}
 use Rattle.sand_shared.proofs.GrainsAtSite.{toppled_from}
 use Rattle.sand_shared.proofs.LastPileIsSettled.{HasGathered, gathered, has_all, drawn_is, seen_is}
 use Rattle.sand_shared.proofs.PassAfterEvent.{known_is}

@@ -19,7 +19,8 @@ use Rattle.sand_shared.specs.Events.{looked}
 use Rattle.sand_shared.specs.Rows.{count_of}
 use Rattle.sand_shared.specs.Record.{Tells, IsLast}
 use Rattle.sand_shared.specs.Running.{Stands}
-use Rattle.sand_shared.specs.Sweeps.{HasAll, IsCalm, with_counts}
+use Rattle.sand_shared.specs.Seats.{HasAll}
+use Rattle.sand_shared.specs.Sweeps.{IsCalm, with_counts}
 use Rattle.sand_shared.proofs.SumsOverPasses.{sum_by_only}
 use Rattle.sand_shared.proofs.GrainsAtSite.{toppled_from}
 use Rattle.sand_shared.proofs.PassKnowsPile.{no_receipts, its_drops, its_topplings, nothing_held}

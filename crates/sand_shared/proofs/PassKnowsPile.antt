@@ -18,7 +18,8 @@ use Rattle.sand_shared.specs.declared.view.Terms.{Terms}
 use Rattle.sand_shared.specs.OpenPile.{OpenPile, nobody, grid_of_terms, dropped, held, holds_site, toppled_by, toppled, poured, present, pass_at, AreTerms, IsLawful}
 use Rattle.sand_shared.specs.Events.{look, unload, unloaded, after}
 use Rattle.sand_shared.specs.Running.{Stands, Happened}
-use Rattle.sand_shared.specs.Sweeps.{laid, LeavesAtMost, LeavesAtLeast, HasAll, IsSparing}
+use Rattle.sand_shared.specs.Seats.{HasAll}
+use Rattle.sand_shared.specs.Sweeps.{laid, LeavesAtMost, LeavesAtLeast, IsSparing}
 use Rattle.sand_shared.proofs.SumsOverPasses.{sum_by_two, sum_by_only, sum_by_none, sum_by_plus, sum_by_beside, sum_by_swap}
 use Rattle.sand_shared.proofs.Balance.{flow_none}
 use Rattle.sand_shared.proofs.OneHolder.{toppled_outside, others_without, own_toppled}

@@ -30,10 +30,9 @@ module _ (t : Terms) (v : View) (cs : List ℕ) (k times : ℕ) (inside : k < le
       let new : get_or (set cs k (get_or cs k 0 + times)) k 0 ≡ get_or cs k 0 + times = get_or-set_same cs k (get_or cs k 0 + times) 0 inside in
       let rise : get_or (set cs k (get_or cs k 0 + times)) k 0 - get_or v.counts k 0 ≡ times = omega arith in
       let came : take k (set cs k (get_or cs k 0 + times)) ++ drop k v.counts ≡ cs =
-      ap (λ l. l ++ drop k v.counts) (take-set-le k cs k (get_or cs k 0 + times) (omega arith)) ∙ same_behind cs v.counts k long rest in (
-        subst (λ (z : List ℕ × ℕ). LeavesAtLeast t (with_counts v z.0) (v.base + k) (4 * z.1)) (λ i. (sym came i, sym rise i)) least,
-        subst (λ (z : List ℕ × ℕ). LeavesAtMost t (with_counts v z.0) (v.base + k) (4 * z.1 + 3)) (λ i. (sym came i, sym rise i)) most,
-      )
+      ap (λ l. l ++ drop k v.counts) (take-set-le k cs k (get_or cs k 0 + times) (omega arith)) ∙ same_behind cs v.counts k long rest in
+      let found = subst (λ (z : List ℕ × ℕ). LeavesAtLeast t (with_counts v z.0) (v.base + k) (4 * z.1)) (λ i. (sym came i, sym rise i)) least in
+      let few = subst (λ (z : List ℕ × ℕ). LeavesAtMost t (with_counts v z.0) (v.base + k) (4 * z.1 + 3)) (λ i. (sym came i, sym rise i)) most in (found, few)
 
   -- toppling there does not change what it found at the sites before
   before : (j : ℕ) → j < k → TopplesInTurn t v cs j → TopplesInTurn t v after j

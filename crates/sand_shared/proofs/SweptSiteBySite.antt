@@ -11,10 +11,14 @@ use Rattle.sand_shared.specs.declared.view.View.{View}
 use Rattle.sand_shared.specs.declared.view.Terms.{Terms}
 use Rattle.sand_shared.specs.OpenPile.{grid_of_terms, toppled_by}
 use Rattle.sand_shared.specs.Events.{looked, raised}
-use Rattle.sand_shared.specs.Sweeps.{LeavesAtMost, LeavesAtLeast, IsCalm, HasAll, IsSparing, with_counts, Swept}
+use Rattle.sand_shared.specs.Passes.{PassView, at_rest}
+use Rattle.sand_shared.specs.Rows.{count_of}
+use Rattle.sand_shared.specs.Seats.{HasAll}
+use Rattle.sand_shared.specs.Sweeps.{LeavesAtMost, LeavesAtLeast, IsCalm, IsSparing, with_counts, SweptRows, SweptAll, Swept}
 use Rattle.sand_shared.proofs.GrainsAtSite.{place_inside, toppled_from, toppled_before}
 use Rattle.sand_shared.proofs.RowPartsAddUp.{none_toppled}
 use Rattle.sand_shared.proofs.SitesInTurn.{AllInTurn, one_in_turn}
+use Rattle.sand_shared.proofs.WholeHasAll.{swept_has_all}
 use Rattle.std.proofs.lemmas.Bool.{cases_lt}
 
 -- the first k sites of a pass have been swept
@@ -140,24 +144,30 @@ calm_back t v cs topplings all s none i inside =
     subst (λ z. LeavesAtMost t v z 3) {x = v.base + (i - v.base)} {y = i} (omega arith)
     (subst (λ n. LeavesAtMost t v (v.base + (i - v.base)) n) {x = 4 * (get_or cs (i - v.base) 0 - get_or v.counts (i - v.base) 0) + 3} {y = 3} (omega arith) low)
 
-pub sweeps_end : (t : Terms) (v : View) (cs : List ℕ) (topplings : ℕ) → Sweeps t v cs (length v.counts) topplings → Swept t v cs topplings
-sweeps_end t v cs topplings s =
+pub sweeps_end : (t : Terms) (v : View) (cs : List ℕ) (topplings : ℕ) → Sweeps t v cs (length v.counts) topplings
+    → SweptRows t v cs topplings
+sweeps_end t v cs topplings s = record {
+  same_rows = s.same_rows;
+  risen = s.risen;
+  idle = s.idle;
+  never_fall = s.never_fall;
+  enough = s.enough;
+}
+
+pub sweeps_all : (t : Terms) (v : View) (cs : List ℕ) (topplings : ℕ) → Sweeps t v cs (length v.counts) topplings
+    → HasAll t v → SweptAll t v cs topplings
+sweeps_all t v cs topplings s all =
     let long = s.same_rows in
     record {
-      same_rows = s.same_rows;
-      risen = s.risen;
-      idle = s.idle;
-      never_fall = s.never_fall;
-      enough = s.enough;
-      in_turn = λ all j l. s.in_turn all j l;
-      calm = λ all. (calm_back t v cs topplings all s, s.calm all);
-      sparing = λ all. ⊎_elim
+      calm = (calm_back t v cs topplings all s, s.calm all);
+      sparing = ⊎_elim
           (λ (none : length v.counts ≡ 0). record {
             needed = λ w stab i inside. (let z = none_toppled (with_counts v cs) i (omega arith) in omega arith);
             weighed = (let z = no_sum cs (omega arith) in omega arith);
           })
           (λ (some : length v.counts ≡ 0 → ⊥). s.sparing (omega arith) all)
           (cases_eq (length v.counts) 0);
+      in_turn = λ j l. s.in_turn all j l;
     }
 
 pub sweeps_few : (t : Terms) (v : View) (cs : List ℕ) (topplings : ℕ) → Sweeps t v cs (length v.counts) topplings → sum cs < 2 ^ 54
@@ -166,21 +176,36 @@ sweeps_few t v cs topplings s = let long = s.same_rows in ⊎_elim
     (λ (some : length v.counts ≡ 0 → ⊥). s.few (omega arith))
     (cases_eq (length v.counts) 0)
 
--- a sweep does not depend on what the pass knows of heights
-pub swept_as : (t : Terms) (v : View) (cs : List ℕ) (topplings spot least : ℕ) → Swept t v cs topplings → Swept t (record v { spot = spot; least = least }) cs topplings
-swept_as t v cs topplings spot least s = record {
-  same_rows = s.same_rows;
-  risen = s.risen;
-  idle = s.idle;
-  never_fall = s.never_fall;
-  enough = s.enough;
-  in_turn = λ all j l. s.in_turn (record { quota = all.quota; all_sites = all.all_sites }) j l;
-  calm = λ all. s.calm (record { quota = all.quota; all_sites = all.all_sites });
-  sparing = λ all. (let q = s.sparing (record { quota = all.quota; all_sites = all.all_sites }) in record { needed = q.needed; weighed = q.weighed });
-}
+-- what a seat has swept, its pass has swept: a sweep does not depend on what the seat knows of heights
+module _ (t : Terms) (p : PassView) (cs : List ℕ) (topplings spot least : ℕ) where
+  abbrev seat : View
+  seat = record (at_rest p) { spot = spot; least = least }
+
+  rows_swept : SweptRows t seat cs topplings → SweptRows t (at_rest p) cs topplings
+  rows_swept s = record {
+    same_rows = s.same_rows;
+    risen = s.risen;
+    idle = s.idle;
+    never_fall = s.never_fall;
+    enough = s.enough;
+  }
+
+  all_swept : SweptAll t seat cs topplings → SweptAll t (at_rest p) cs topplings
+  all_swept s = record {
+    calm = s.calm;
+    sparing = record { needed = s.sparing.needed; weighed = s.sparing.weighed };
+    in_turn = λ j l. s.in_turn j l;
+  }
+
+  pub pass_swept : p.grid ≡ grid_of_terms t → length p.counts ≡ count_of p.rows * p.grid.width
+      → SweptRows t seat cs topplings → (HasAll t seat → SweptAll t seat cs topplings) → Swept t p cs topplings
+  pass_swept same each rows all = record {
+    rows = rows_swept rows;
+    whole = λ whole. all_swept (all (swept_has_all t p same each whole p.counts spot least refl));
+  }
 
 -- if a sweep over all sites topples nothing, nothing was left anywhere
-pub calm_at_rest : (t : Terms) (v me : View) (cs new : List ℕ) (topplings : ℕ) → v.base ≡ 0 → length cs ≡ sites (grid_of_terms t) → me ≡ record (looked v me.spot me.least) { counts = cs } → Swept t me new topplings → topplings ≡ 0 → IsCalm t (with_counts v new)
+pub calm_at_rest : (t : Terms) (v me : View) (cs new : List ℕ) (topplings : ℕ) → v.base ≡ 0 → length cs ≡ sites (grid_of_terms t) → me ≡ record (looked v me.spot me.least) { counts = cs } → SweptRows t me new topplings → topplings ≡ 0 → IsCalm t (with_counts v new)
 calm_at_rest t v me cs new topplings base long is s none i inside =
     let counts : me.counts ≡ cs = ap (λ (u : View). u.counts) is in
     let kept : new ≡ cs = s.idle none ∙ counts in

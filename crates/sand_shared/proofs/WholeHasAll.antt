@@ -8,7 +8,7 @@ use Rattle.sand_shared.specs.declared.view.Terms.{Terms}
 use Rattle.sand_shared.specs.OpenPile.{grid_of_terms, holds_site}
 use Rattle.sand_shared.specs.Passes.{PassView, at_rest, IsWhole}
 use Rattle.sand_shared.specs.Rows.{count_of}
-use Rattle.sand_shared.specs.Sweeps.{HasAll}
+use Rattle.sand_shared.specs.Seats.{HasAll}
 
 swap : (a b : ℕ) → a * b ≡ b * a
 swap a b = grind arith

@@ -7,7 +7,8 @@ use Rattle.sand_shared.specs.declared.view.Terms.{Terms}
 use Rattle.sand_shared.specs.OpenPile.{OpenPile, grid_of_terms, present, AreTerms, IsLawful}
 use Rattle.sand_shared.specs.Events.{Event, begin, unopened, AllHappen, after_all}
 use Rattle.sand_shared.specs.Running.{Shows}
-use Rattle.sand_shared.specs.Sweeps.{HasAll, Swept}
+use Rattle.sand_shared.specs.Passes.{PassView, IsWhole}
+use Rattle.sand_shared.specs.Sweeps.{Swept}
 
 -- the open pile is lawful after its begin and any list of events that can happen
 abbrev pub AlwaysLawful : Type 0
@@ -32,7 +33,7 @@ FewGrains = (t : Terms) (p : OpenPile) → AreTerms t → IsLawful t p → (i : 
 abbrev pub FewDraws : Type 0
 FewDraws = (t : Terms) (p : OpenPile) → IsLawful t p → length p.drawn ≤ t.quota
 
--- any two sweeps of a pass that has everything leave the same counts and return the same
+-- any two sweeps of a whole pass leave the same counts and return the same
 abbrev pub OneSweep : Type 0
-OneSweep = (t : Terms) (v : View) (counts others : List ℕ) (topplings other : ℕ) → HasAll t v → Swept t v counts topplings → Swept t v others other
-    → (counts ≡ others) × (topplings ≡ other)
+OneSweep = (t : Terms) (p : PassView) (counts others : List ℕ) (topplings other : ℕ) → IsWhole t p
+    → Swept t p counts topplings → Swept t p others other → (counts ≡ others) × (topplings ≡ other)

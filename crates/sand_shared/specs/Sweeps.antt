@@ -1,14 +1,14 @@
 -- What a sweep promises the pass that sweeps, whatever other threads do meanwhile.
 -- Here k = start + own receipts - L(own counts), with the toppling matrix L (Dhar 1990), written without subtraction.
-use Rattle.std.specs.Prelude.{ℕ, true, ◌≡◌, ◌+◌, ◌-◌, ◌*◌, ◌<◌, ◌≤◌, ◌↔◌, List, ◌++◌, length, sum, take, drop, slice_index}
+use Rattle.std.specs.Prelude.{ℕ, ◌≡◌, ◌+◌, ◌-◌, ◌*◌, ◌<◌, ◌≤◌, ◌↔◌, List, ◌++◌, length, sum, take, drop, slice_index}
 use Rattle.sand_model.specs.Grid.{sites}
 use Rattle.sand_model.specs.Sand.{flow, IsSettled, Stabilises, weight, topplings as topplings_of, lost as lost_of}
 use Rattle.sand_model.specs.Piles.{height_of}
 use Rattle.sand_settle.specs.Settling.{SettledView, odometer_of}
 use Rattle.sand_shared.specs.declared.view.View.{View}
 use Rattle.sand_shared.specs.declared.view.Terms.{Terms}
-use Rattle.sand_shared.specs.OpenPile.{grid_of_terms, dropped, holds_site, toppled_by}
-use Rattle.sand_shared.specs.Passes.{PassView, at_rest}
+use Rattle.sand_shared.specs.OpenPile.{grid_of_terms, dropped, toppled_by}
+use Rattle.sand_shared.specs.Passes.{PassView, at_rest, IsWhole}
 
 -- the start and the pass's own receipts
 abbrev pub laid : Terms → View → ℕ → ℕ
@@ -25,11 +25,6 @@ LeavesAtLeast t v i n = n + 4 * toppled_by v i ≤ laid t v i + flow (grid_of_te
 -- nothing is left to topple: k is at most 3 everywhere
 abbrev pub IsCalm : Terms → View → Type 0
 IsCalm t v = (i : ℕ) → i < sites (grid_of_terms t) → LeavesAtMost t v i 3
-
--- the whole quota and all sites
-pub record HasAll (t : Terms) (v : View) : Type 0 where
-  pub quota : t.quota ≤ v.left + length v.receipts
-  pub all_sites : (i : ℕ) → i < sites (grid_of_terms t) → holds_site v i ≡ true
 
 -- no site has toppled more often than the start and the receipts require, and the total is bounded by their weight
 pub record IsSparing (t : Terms) (v : View) : Type 0 where
@@ -49,18 +44,26 @@ TopplesInTurn t v counts j = let times = slice_index counts j - slice_index v.co
     LeavesAtLeast t (coming_to v counts j) (v.base + j) (4 * times) × LeavesAtMost t (coming_to v counts j) (v.base + j) (4 * times + 3)
 
 -- a sweep over the rows of v that leaves these counts and returns these topplings
-pub record Swept (t : Terms) (v : View) (counts : List ℕ) (topplings : ℕ) : Type 0 where
+pub record SweptRows (t : Terms) (v : View) (counts : List ℕ) (topplings : ℕ) : Type 0 where
   pub same_rows : length counts ≡ length v.counts
   pub risen : sum counts ≡ sum v.counts + topplings
   pub idle : topplings ≡ 0 → counts ≡ v.counts
   pub never_fall : (j : ℕ) → slice_index v.counts j ≤ slice_index counts j
   -- each site toppled at least k div 4 times
   pub enough : (j : ℕ) → j < length v.counts → LeavesAtMost t v (v.base + j) (4 * (slice_index counts j - slice_index v.counts j) + 3)
-  -- a pass that has everything topples nothing if and only if nothing was left to topple
-  pub calm : HasAll t v → (topplings ≡ 0) ↔ IsCalm t v
-  pub sparing : HasAll t v → IsSparing t (with_counts v counts)
-  -- such a pass visits each site once, in turn, and topples it as often as its grains then allow
-  pub in_turn : HasAll t v → (j : ℕ) → j < length v.counts → TopplesInTurn t v counts j
+
+-- such a sweep over all sites, if no other pass can drop or topple
+pub record SweptAll (t : Terms) (v : View) (counts : List ℕ) (topplings : ℕ) : Type 0 where
+  -- nothing toppled if and only if nothing was left to topple
+  pub calm : (topplings ≡ 0) ↔ IsCalm t v
+  pub sparing : IsSparing t (with_counts v counts)
+  -- each site was visited once, in turn, and toppled as often as its grains then allowed
+  pub in_turn : (j : ℕ) → j < length v.counts → TopplesInTurn t v counts j
+
+-- a sweep of the pass p that leaves these counts and returns these topplings
+pub record Swept (t : Terms) (p : PassView) (counts : List ℕ) (topplings : ℕ) : Type 0 where
+  pub rows : SweptRows t (at_rest p) counts topplings
+  pub whole : IsWhole t p → SweptAll t (at_rest p) counts topplings
 
 -- r settles what a whole pass has left to topple: its counts and r's odometer add up to the least odometer of the start
 -- and its receipts

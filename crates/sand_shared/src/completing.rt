@@ -19,8 +19,8 @@ ghost use Rattle.sand_shared.specs.OpenPile.{grid_of_terms, toppled_by};
 ghost use Rattle.sand_shared.specs.Events.{looked};
 ghost use Rattle.sand_shared.specs.Passes.{IsPassOf, IsWhole, at_rest};
 ghost use Rattle.sand_shared.specs.Record.{Tells, IsRecordOf};
-ghost use Rattle.sand_shared.specs.Seats.{IsSeatAt, StaysSeated};
-ghost use Rattle.sand_shared.specs.Sweeps.{HasAll, IsRestOf, laid};
+ghost use Rattle.sand_shared.specs.Seats.{HasAll, IsSeatAt, StaysSeated};
+ghost use Rattle.sand_shared.specs.Sweeps.{IsRestOf, laid};
 
 use crate::bare_pass::BarePass;
 use crate::closing::fill;
@@ -36,7 +36,7 @@ use std::alloc::Global;
 use std::marker::Brand;
 
 impl Words {
-    // Reads the heights of all sites into a list with room for them, for a pass that has everything.
+    // Reads the heights of all sites into a list with room for them, for the seat of a whole pass.
     fn read(&self, seat: &mut PassSeat, heights: &mut Vec<u64>)
         requires seat { IsSeatAt self.now seat.old }
         requires hand { seat.old.me.0.hand ≡ [] }
@@ -118,7 +118,7 @@ impl SharedPile {
         }
     }
 
-    // The shared pile as it is now, read into the given list by a pass that has everything.
+    // The shared pile as it is now, read into the given list by a whole pass.
     fn current_pile(&self, pass: &mut BarePass, mut heights: Vec<u64>) -> Pile
         requires pass { IsPassOf self.now pass.old }
         requires whole { IsWhole self.now.terms pass.old }
@@ -131,7 +131,7 @@ impl SharedPile {
         Pile::from_vec(pass.shape, heights)
     }
 
-    // Writes each receipt's site at its number, for a pass that has everything.
+    // Writes each receipt's site at its number, for a whole pass.
     fn write_history(&self, pass: &mut BarePass, history: &mut Vec<usize>, receipts: &[Receipt])
         requires pass { IsPassOf self.now pass.old }
         requires whole { IsWhole self.now.terms pass.old }

@@ -23,7 +23,7 @@ pub fn words_are_small()
     ensures draws { FewDraws }
 {}
 
-/// Any two sweeps of a pass that has everything topple each site equally often: what the pass has determines its sweep.
+/// Any two sweeps of a whole pass topple each site equally often: what the pass has determines its sweep.
 pub fn one_sweep()
     ensures { OneSweep }
 {}

@@ -8,9 +8,9 @@ ghost use Rattle.std.specs.Prelude.{◌≡◌, ◌+◌, ◌*◌, ◌^◌, ◌<�
 ghost use Rattle.sand_model.specs.Grid.{sites};
 ghost use Rattle.sand_shared.specs.OpenPile.{grid_of_terms, holds_site};
 ghost use Rattle.sand_shared.specs.Events.{looked, raised, sent, grains, behind_first, delivered_to};
-ghost use Rattle.sand_shared.specs.Seats.{IsSeatAt, StaysSeated};
-ghost use Rattle.sand_shared.specs.Sweeps.{LeavesAtMost, LeavesAtLeast, HasAll, IsSparing, Swept};
-ghost use Rattle.sand_shared.specs.Passes.{IsPassOf, IsWhole, at_rest};
+ghost use Rattle.sand_shared.specs.Seats.{HasAll, IsSeatAt, StaysSeated};
+ghost use Rattle.sand_shared.specs.Sweeps.{LeavesAtMost, LeavesAtLeast, IsSparing, SweptRows, SweptAll, Swept};
+ghost use Rattle.sand_shared.specs.Passes.{IsPassOf};
 
 use crate::pass::Pass;
 use crate::shared_pile::SharedPile;
@@ -78,7 +78,8 @@ impl Words {
         requires rows { base + length counts.old.items ≤ sites (grid_of_terms self.now.terms) }
         ensures seat { StaysSeated seat.old seat.new }
         ensures view { seat.new.me.0 ≡ record (looked seat.old.me.0 seat.new.me.0.spot seat.new.me.0.least) { counts = counts.new.items } }
-        ensures swept { Swept self.now.terms seat.old.me.0 counts.new.items result }
+        ensures swept { SweptRows self.now.terms seat.old.me.0 counts.new.items result }
+        ensures all { HasAll self.now.terms seat.old.me.0 → SweptAll self.now.terms seat.old.me.0 counts.new.items result }
         ensures few { sum counts.new.items < 2 ^ 54 }
     {
         self.tell_limits();
@@ -97,15 +98,15 @@ impl Words {
 
 impl SharedPile {
     /// Visits each site of the pass's rows once, in order of number, and topples it as often as the grains found there
-    /// allow. Returns the number of topplings, 0 for a pass without rows. If the pass has everything, the contract
-    /// determines how often each site topples (`in_turn` of `Swept`); otherwise it gives a lower bound (`enough`).
+    /// allow. Returns the number of topplings, 0 for a pass without rows. If the pass is whole, the contract determines
+    /// how often each site topples (`in_turn` of `SweptAll`); otherwise it gives a lower bound (`enough` of
+    /// `SweptRows`).
     pub fn sweep(&self, pass: &mut Pass) -> u64
         requires { IsPassOf self.now pass.old }
         ensures of_pile { IsPassOf self.now pass.new }
         ensures pass { pass.new ≡ record pass.old { counts = pass.new.counts } }
-        ensures swept { Swept self.now.terms (at_rest pass.old) pass.new.counts result }
+        ensures swept { Swept self.now.terms pass.old pass.new.counts result }
         ensures few { sum pass.new.counts < 2 ^ 54 }
-        ensures whole { IsWhole self.now.terms pass.old → HasAll self.now.terms (at_rest pass.old) }
     {
         let bare = &mut pass.bare;
         let base = usize::from(bare.rows.first) * bare.shape.width();

@@ -6,13 +6,16 @@ use Rattle.sand_shared.specs.declared.view.Terms.{Terms}
 use Rattle.sand_shared.specs.OpenPile.{grid_of_terms}
 use Rattle.sand_shared.specs.Bare.{shown}
 use Rattle.sand_shared.specs.Events.{looked}
-use Rattle.sand_shared.specs.Passes.{PassView, SharedView, at_rest, IsPass}
-use Rattle.sand_shared.specs.Sweeps.{Swept}
+use Rattle.sand_shared.specs.Passes.{PassView, SharedView}
+use Rattle.sand_shared.specs.Seats.{HasAll}
+use Rattle.sand_shared.specs.Sweeps.{SweptRows, SweptAll, Swept}
 use Rattle.sand_shared.proofs.RowSites.{rows_inside}
 use Rattle.sand_shared.proofs.SeatOfPass.{seated}
-use Rattle.sand_shared.proofs.SweptSiteBySite.{swept_as}
-use Rattle.sand_shared.proofs.WholeHasAll.{whole_has_all}
+use Rattle.sand_shared.proofs.SweptSiteBySite.{pass_swept}
 use Rattle.sand_shared.proofs.shared_pile.SharedPile.sweep.Goals as goal
+
+same_grid : {w w' : SharedView} {p p' : PassView} → w ≡ w' → p ≡ p' → p'.grid ≡ grid_of_terms w'.terms → p.grid ≡ grid_of_terms w.terms
+same_grid pile_is pass_is same = ap (λ (q : PassView). q.grid) pass_is ∙ same ∙ sym (ap (λ (w : SharedView). grid_of_terms w.terms) pile_is)
 
 pub sweep_rows-requires-clause-rows : goal.sweep_rows-requires-clause-rows
 sweep_rows-requires-clause-rows c =
@@ -20,8 +23,7 @@ sweep_rows-requires-clause-rows c =
     let pass = c.bare.invariant.pass in
     let base : c.from.result * c.width.result ≡ p.rows.first * p.shape.width = λ i. c.from.ensures i * c.width.ensures.value i in
     let inside = rows_inside p.shape p.rows pass.rows in
-    let same : p.shape ≡ grid_of_terms c.self.inside.words.terms = ap (λ (v : PassView). v.grid) (c.bare.view_is ∙ c.pass.view_is) ∙ c.requires.grid ∙ sym (ap (λ (w : SharedView). grid_of_terms w.terms) c.self.view_is) in
-    let all = ap sites same in
+    let all = ap sites (same_grid c.self.view_is (c.bare.view_is ∙ c.pass.view_is) c.requires.grid) in
     let each = pass.one_each in omega arith
 
 pub returns-clause-swept : goal.returns-clause-swept
@@ -31,12 +33,11 @@ returns-clause-swept c =
     let n = c.sweep_rows.result in
     let cs = c.sweep_rows.new.counts.items in
     let is = c.bare.view_is ∙ c.pass.view_is in
-    let here = subst (λ (m : Me ℕ View). Swept t m.0 cs n) c.bare.invariant.me c.sweep_rows.ensures.swept in
-    subst (λ (z : Terms × PassView). Swept z.0 (at_rest z.1) cs n) (λ i. ((c.self.view_is i).terms, is i)) (swept_as t (record (at_rest (shown p)) { spot = p.seat.me.0.spot; least = p.seat.me.0.least }) cs n 0 0 here)
-
-pub returns-clause-whole : goal.returns-clause-whole
-returns-clause-whole c whole =
-    whole_has_all c.args.self.now.terms c.args.pass.now c.requires.grid (subst IsPass (c.bare.view_is ∙ c.pass.view_is) c.bare.invariant.pass).one_each whole
+    let rows = subst (λ (m : Me ℕ View). SweptRows t m.0 cs n) c.bare.invariant.me c.sweep_rows.ensures.swept in
+    let all = subst (λ (m : Me ℕ View). HasAll t m.0 → SweptAll t m.0 cs n) c.bare.invariant.me c.sweep_rows.ensures.all in
+    let here = pass_swept t (shown p) cs n p.seat.me.0.spot p.seat.me.0.least (same_grid c.self.view_is is c.requires.grid)
+        c.bare.invariant.pass.one_each rows all in
+    subst (λ (z : Terms × PassView). Swept z.0 z.1 cs n) (λ i. ((c.self.view_is i).terms, is i)) here
 
 pub invariant_of-bare : goal.invariant_of-bare
 invariant_of-bare c =

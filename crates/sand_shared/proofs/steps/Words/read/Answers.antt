@@ -10,7 +10,8 @@ use Rattle.sand_shared.specs.declared.view.Terms.{Terms}
 use Rattle.sand_shared.specs.OpenPile.{grid_of_terms, toppled_by}
 use Rattle.sand_shared.specs.Events.{looked}
 use Rattle.sand_shared.specs.Running.{Stands}
-use Rattle.sand_shared.specs.Sweeps.{HasAll, laid}
+use Rattle.sand_shared.specs.Seats.{HasAll}
+use Rattle.sand_shared.specs.Sweeps.{laid}
 use Rattle.sand_shared.proofs.PassAfterEvent.{looked_is}
 use Rattle.sand_shared.proofs.CompletedOdometer.{looked_exactly, left_few, is_underway}
 use Rattle.sand_shared.proofs.steps.Words.read.Goals as goal

@@ -5,7 +5,8 @@ use Rattle.sand_shared.specs.declared.view.View.{View}
 use Rattle.sand_shared.specs.declared.view.Terms.{Terms}
 use Rattle.sand_shared.specs.OpenPile.{grid_of_terms}
 use Rattle.sand_shared.specs.Events.{looked, unloaded, raised}
-use Rattle.sand_shared.specs.Sweeps.{HasAll, IsSparing}
+use Rattle.sand_shared.specs.Seats.{HasAll}
+use Rattle.sand_shared.specs.Sweeps.{IsSparing}
 use Rattle.sand_shared.proofs.GrainsAtSite.{holds-unloaded}
 use Rattle.sand_shared.proofs.PassAfterEvent.{looked_is, unloaded_is}
 use Rattle.sand_shared.proofs.PassKnowsPile.{stands_few, stands_sparing, looked_at_most, looked_at_least, stands_unloaded}

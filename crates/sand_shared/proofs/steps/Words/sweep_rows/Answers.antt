@@ -5,7 +5,7 @@ use Rattle.sand_shared.specs.OpenPile.{grid_of_terms}
 use Rattle.sand_shared.specs.Events.{looked}
 use Rattle.sand_shared.proofs.RowSites.{sites_few}
 use Rattle.sand_shared.proofs.StepsOnWords.{stays_on}
-use Rattle.sand_shared.proofs.SweptSiteBySite.{Sweeps, next_view, next_swept, kept_view, kept_swept, sweeps_end, sweeps_few}
+use Rattle.sand_shared.proofs.SweptSiteBySite.{Sweeps, next_view, next_swept, kept_view, kept_swept, sweeps_end, sweeps_all, sweeps_few}
 use Rattle.sand_shared.proofs.steps.Words.sweep_rows.Goals as goal
 use Rattle.sand_shared.proofs.steps.Words.sweep_rows.Goals.{After-relieve-times, After-sites}
 
@@ -80,6 +80,9 @@ swept_all c =
 
 pub returns-clause-swept : goal.returns-clause-swept
 returns-clause-swept c = sweeps_end c.args.self.now.terms c.args.seat.now.me.0 c.sites.counts.items c.sites.topplings (swept_all c)
+
+pub returns-clause-all : goal.returns-clause-all
+returns-clause-all c = sweeps_all c.args.self.now.terms c.args.seat.now.me.0 c.sites.counts.items c.sites.topplings (swept_all c)
 
 pub returns-clause-few : goal.returns-clause-few
 returns-clause-few c = sweeps_few c.args.self.now.terms c.args.seat.now.me.0 c.sites.counts.items c.sites.topplings (swept_all c)
