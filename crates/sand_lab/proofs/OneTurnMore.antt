@@ -8,7 +8,7 @@ use Rattle.std.proofs.lemmas.List.Elements.{All-push, All-nil, All-cons, All-app
 use Rattle.std.proofs.lemmas.List.Quantifiers.{all_pairs_push}
 use Rattle.sand_shared.specs.Events.{receipt, receipts_from}
 use Rattle.sand_shared.specs.Passes.{PassView, AllBelow, at_rest}
-use Rattle.sand_shared.specs.Sweeps.{LeavesAtMost, Swept}
+use Rattle.sand_shared.specs.Sweeps.{LeavesAtMost, SweptRows}
 use Rattle.sand_lab.specs.Journals.{Ascends}
 use Rattle.sand_lab.specs.Jobs.{Climbs, dropped_at}
 
@@ -61,8 +61,8 @@ abbrev pub EnoughSince : Terms → PassView → List ℕ → Type 0
 EnoughSince t p counts = (j : ℕ) → j < length p.counts → LeavesAtMost t (at_rest p) ((at_rest p).base + j) (4 * (slice_index counts j - slice_index p.counts j) + 3)
 
 -- the first sweep does enough, and later ones undo nothing
-pub enough_after : (t : Terms) (p q : PassView) (counts : List ℕ) (topplings turn : ℕ) → (turn ≡ 0 → q ≡ p) → (0 < turn → EnoughSince t p q.counts) → Swept t (at_rest q) counts topplings → EnoughSince t p counts
-enough_after t p q counts topplings zero begun before swept j lt = (subst (λ (x : PassView). Swept t (at_rest x) counts topplings) (begun refl) swept).enough j lt
+pub enough_after : (t : Terms) (p q : PassView) (counts : List ℕ) (topplings turn : ℕ) → (turn ≡ 0 → q ≡ p) → (0 < turn → EnoughSince t p q.counts) → SweptRows t (at_rest q) counts topplings → EnoughSince t p counts
+enough_after t p q counts topplings zero begun before swept j lt = (subst (λ (x : PassView). SweptRows t (at_rest x) counts topplings) (begun refl) swept).enough j lt
 enough_after t p q counts topplings (suc n) begun before swept j lt =
     let was = before (omega arith) j lt in
     let up = swept.never_fall j in

@@ -5,7 +5,7 @@ use Rattle.sand_lab.proofs.workers.WorkerWork.take_turns.Goals as goal
 pub loop-turn-preserved : goal.loop-turn-preserved
 loop-turn-preserved g c =
     let i = c.loop-turn.invariant in
-    let swept = c.sweep-self.ensures.swept in
+    let swept = c.sweep-self.ensures.swept.rows in
     record {
       begun = λ e. absurd (omega (arith, e));
       who = search rules;
