@@ -5,7 +5,9 @@ use Rattle.sand_model.specs.Sand.{flow, IsToppled, Stabilises}
 use Rattle.sand_model.proofs.Flow.{flow_same, flow-scale}
 
 -- poured and present grow by the same amount at each site
-pub balance_kept : (g : Grid) (s u r s' u' r' : ℕ → ℕ) → ((i : ℕ) → u' i ≡ u i) → ((i : ℕ) → i < sites g → r' i + s i ≡ r i + s' i) → IsToppled g s u r → IsToppled g s' u' r'
+pub balance_kept : (g : Grid) (s u r s' u' r' : ℕ → ℕ) → ((i : ℕ) → u' i ≡ u i)
+    → ((i : ℕ) → i < sites g → r' i + s i ≡ r i + s' i) → IsToppled g s u r
+    → IsToppled g s' u' r'
 balance_kept g s u r s' u' r' still even b = record {
   balance = λ i l.
       let before = b.balance i l in
@@ -15,8 +17,10 @@ balance_kept g s u r s' u' r' still even b = record {
 }
 
 -- what stabilises more grains stabilises fewer
-pub stabilises_fewer : (g : Grid) (s s' w : ℕ → ℕ) → ((i : ℕ) → i < sites g → s i ≤ s' i) → Stabilises g s' w → Stabilises g s w
-stabilises_fewer g s s' w fewer stab = record { at_most_three = λ i l. let a = stab.at_most_three i l in let b = fewer i l in omega arith }
+pub stabilises_fewer : (g : Grid) (s s' w : ℕ → ℕ) → ((i : ℕ) → i < sites g → s i ≤ s' i) → Stabilises g s' w
+    → Stabilises g s w
+stabilises_fewer g s s' w fewer stab =
+    record { at_most_three = λ i l. let a = stab.at_most_three i l in let b = fewer i l in omega arith }
 
 -- if no site has toppled, nothing flows
 pub flow_none : (g : Grid) (u : ℕ → ℕ) (i : ℕ) → i < sites g → ((j : ℕ) → j < sites g → u j ≡ 0) → flow g u i ≡ 0

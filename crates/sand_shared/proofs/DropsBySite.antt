@@ -19,18 +19,28 @@ use Rattle.sand_shared.proofs.GrainsAtSite.{amount_here, amount_else, held-cons}
 use Rattle.sand_shared.proofs.HandAfterPlacing.{laid_on, held-laid, all_laid}
 
 -- an entry of the list finds the count of its site
-pub read_count : (n k c : ℕ) (counts drops : List ℕ) → length counts ≡ n → All (λ i. i < n) drops → k < length drops → c ≡ get_or counts (get_or drops k 0) c → c ≡ slice_index counts (get_or drops k 0)
-read_count n k c counts drops long inside below read = let here = inside k 0 below in get_or_read counts (get_or drops k 0) c (omega arith) read 0
+pub read_count : (n k c : ℕ) (counts drops : List ℕ)
+    → length counts ≡ n → All (λ i. i < n) drops
+    → k < length drops → c ≡ get_or counts (get_or drops k 0) c
+    → c ≡ slice_index counts (get_or drops k 0)
+read_count n k c counts drops long inside below read =
+    let here = inside k 0 below in
+    get_or_read counts (get_or drops k 0) c (omega arith) read 0
 
 -- one more entry is counted
-pub counted_more : (n k : ℕ) (counts drops : List ℕ) → k < length drops → get_or drops k 0 < length counts → ((i : ℕ) → i < n → slice_index counts i ≡ tally (take k drops) i)
-    → (i : ℕ) → i < n → slice_index (set counts (get_or drops k 0) (slice_index counts (get_or drops k 0) + 1)) i ≡ tally (take (k + 1) drops) i
+pub counted_more : (n k : ℕ) (counts drops : List ℕ)
+    → k < length drops → get_or drops k 0 < length counts
+    → ((i : ℕ) → i < n → slice_index counts i ≡ tally (take k drops) i)
+    → (i : ℕ) → i < n
+    → slice_index (set counts (get_or drops k 0) (slice_index counts (get_or drops k 0) + 1)) i
+    ≡ tally (take (k + 1) drops) i
 counted_more n k counts drops inside there counted i l =
     let x = get_or drops k 0 in
     let c = slice_index counts x in
     let here = counted i l in
     let next : tally (take (k + 1) drops) i ≡ tally (take k drops) i + one_at x i =
-    ap (λ m. tally (take m drops) i) {x = k + 1} {y = suc k} (omega arith) ∙ (ap (λ xs. tally xs i) (take-suc drops k 0 inside) ∙ tally-push (take k drops) x i) in
+    ap (λ m. tally (take m drops) i) {x = k + 1} {y = suc k} (omega arith)
+    ∙ (ap (λ xs. tally xs i) (take-suc drops k 0 inside) ∙ tally-push (take k drops) x i) in
     ⊎_elim
     (λ (e : x ≡ i).
     let one = one_if_same x i e in
@@ -42,7 +52,9 @@ counted_more n k counts drops inside there counted i l =
     (cases_eq x i)
 
 pub tally_small : (k : ℕ) (drops : List ℕ) (i : ℕ) → k < length drops → tally (take k drops) i ≤ k
-tally_small k drops i inside = let few = count_by-le-length (λ j. eqb j i) (take k drops) in omega (arith, length-take k drops)
+tally_small k drops i inside =
+    let few = count_by-le-length (λ j. eqb j i) (take k drops) in
+    omega (arith, length-take k drops)
 
 -- The grains in hand are single, and the counts say how many of them are for each site that is still to come.
 pub record Waits (n : ℕ) (counts : List ℕ) (hand : List Grains) (coming : List ℕ) : Type 0 where
@@ -52,16 +64,19 @@ pub record Waits (n : ℕ) (counts : List ℕ) (hand : List Grains) (coming : Li
   pub come : (i : ℕ) → i < n → 0 < slice_index counts i → 0 < tally coming i
 
 module _ (n : ℕ) where
-  all_single : (is : List ℕ) → All (λ i. i < n) is → All (λ (g : Grains). (g.site < n) × (g.amount ≡ 1)) (one_for_each is)
+  all_single : (is : List ℕ) → All (λ i. i < n) is
+      → All (λ (g : Grains). (g.site < n) × (g.amount ≡ 1)) (one_for_each is)
   all_single [] inside = All-nil (λ (g : Grains). (g.site < n) × (g.amount ≡ 1))
   all_single (i ∷ is) inside =
-      All-cons (λ (g : Grains). (g.site < n) × (g.amount ≡ 1)) (grains i 1) (one_for_each is) (inside 0 0 (omega arith), refl) (all_single is (λ k d l. inside (suc k) d (omega arith)))
+      All-cons (λ (g : Grains). (g.site < n) × (g.amount ≡ 1)) (grains i 1) (one_for_each is)
+      (inside 0 0 (omega arith), refl) (all_single is (λ k d l. inside (suc k) d (omega arith)))
 
   held-one_for_each : (is : List ℕ) (j : ℕ) → held (one_for_each is) j ≡ tally is j
   held-one_for_each is j = sum_by-map (λ (g : Grains). amount_at g.site g.amount j) (λ i. grains i 1) is
 
   -- single grains for a site are as many as their entries
-  pub count_is : (i : ℕ) (hand : List Grains) → All (λ g. (g.site < n) × (g.amount ≡ 1)) hand → count_by (are_for i 1) hand ≡ held hand i
+  pub count_is : (i : ℕ) (hand : List Grains) → All (λ g. (g.site < n) × (g.amount ≡ 1)) hand
+      → count_by (are_for i 1) hand ≡ held hand i
   count_is i [] single = refl
   count_is i (g ∷ gs) single =
       let all = held-cons g gs i in
@@ -72,7 +87,10 @@ module _ (n : ℕ) where
       here : g.amount ≡ 1 → one_if (are_for i 1 g) ≡ amount_at g.site g.amount i
       here e = grind (arith, nat_tests)
 
-  pub waits_all : (counts drops : List ℕ) → length counts ≡ n → All (λ i. i < n) drops → ((i : ℕ) → i < n → slice_index counts i ≡ tally drops i) → Waits n counts (one_for_each drops) drops
+  pub waits_all : (counts drops : List ℕ)
+      → length counts ≡ n → All (λ i. i < n) drops
+      → ((i : ℕ) → i < n → slice_index counts i ≡ tally drops i)
+      → Waits n counts (one_for_each drops) drops
   waits_all counts drops long inside counted = record {
     long = long;
     single = all_single drops inside;
@@ -85,16 +103,20 @@ module _ (n : ℕ) where
     come_else i ne some_there = let all = tally-cons x coming i in let none = one_if_other x i ne in omega arith
 
     -- the grains of this site were laid earlier
-    pub waits_past : (counts : List ℕ) (hand : List Grains) → slice_index counts x ≡ 0 → Waits n counts hand (x ∷ coming) → Waits n counts hand coming
+    pub waits_past : (counts : List ℕ) (hand : List Grains)
+        → slice_index counts x ≡ 0 → Waits n counts hand (x ∷ coming)
+        → Waits n counts hand coming
     waits_past counts hand none w = record {
       long = w.long;
       single = w.single;
       counted = w.counted;
-      come = λ i l some_there. come_else i (λ e. let same = ap (slice_index counts) e in absurd (omega arith)) (w.come i l some_there);
+      come = λ i l some_there.
+          come_else i (λ e. let same = ap (slice_index counts) e in absurd (omega arith)) (w.come i l some_there);
     }
 
     -- they are laid now
-    pub waits_laid : (counts : List ℕ) (hand : List Grains) → x < n → Waits n counts hand (x ∷ coming) → Waits n (set counts x 0) (laid_on x (slice_index counts x) hand) coming
+    pub waits_laid : (counts : List ℕ) (hand : List Grains) → x < n → Waits n counts hand (x ∷ coming)
+        → Waits n (set counts x 0) (laid_on x (slice_index counts x) hand) coming
     waits_laid counts hand inside w =
         let c = slice_index counts x in
         let long = w.long in
@@ -107,8 +129,18 @@ module _ (n : ℕ) where
           long = length-set counts x 0 ∙ w.long;
           single = all_laid x (λ g. (g.site < n) × (g.amount ≡ 1)) c hand w.single;
           counted = λ i l. ⊎_elim
-              (λ (e : x ≡ i). let a = amount_here x c i e in let b = ap (slice_index (set counts x 0)) e in let d = ap (held hand) e in let g = gone i in omega arith)
-              (λ (ne : x ≡ i → ⊥). let a = amount_else x c i ne in let b = old i ne in let d = w.counted i l in let g = gone i in omega arith)
+              (λ (e : x ≡ i).
+              let a = amount_here x c i e in
+              let b = ap (slice_index (set counts x 0)) e in
+              let d = ap (held hand) e in
+              let g = gone i in
+              omega arith)
+              (λ (ne : x ≡ i → ⊥).
+              let a = amount_else x c i ne in
+              let b = old i ne in
+              let d = w.counted i l in
+              let g = gone i in
+              omega arith)
               (cases_eq x i);
           come = λ i l some_there. ⊎_elim
               (λ (e : x ≡ i). let b = ap (slice_index (set counts x 0)) e in absurd (omega arith))
@@ -116,7 +148,8 @@ module _ (n : ℕ) where
               (cases_eq x i);
         }
 
-  none_counted : (counts : List ℕ) (hand : List Grains) → Waits n counts hand [] → (i : ℕ) → i < n → slice_index counts i ≡ 0
+  none_counted : (counts : List ℕ) (hand : List Grains) → Waits n counts hand [] → (i : ℕ) → i < n
+      → slice_index counts i ≡ 0
   none_counted counts hand w i l = ⊎_elim
       (λ (z : slice_index counts i ≡ 0). z)
       (λ (nz : slice_index counts i ≡ 0 → ⊥). let c = w.come i l (omega arith) in absurd (omega arith))
@@ -135,4 +168,5 @@ module _ (n : ℕ) where
   pub counts_zero : (counts : List ℕ) (hand : List Grains) → Waits n counts hand [] → counts ≡ zeros n
   counts_zero counts hand w =
       let long = w.long in
-      ext_get_or 0 counts (zeros n) (w.long ∙ sym (length-replicate n 0)) (λ i l. none_counted counts hand w i (omega arith) ∙ sym (get_or-replicate n i 0 0 (omega arith)))
+      ext_get_or 0 counts (zeros n) (w.long ∙ sym (length-replicate n 0))
+      (λ i l. none_counted counts hand w i (omega arith) ∙ sym (get_or-replicate n i 0 0 (omega arith)))

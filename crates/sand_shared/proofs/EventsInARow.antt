@@ -22,16 +22,21 @@ use Rattle.sand_shared.proofs.StepsAreEvents.{pile_of, lawful_now, pass_there, p
 
 -- Lists of events
 
-pub after_all-append : (t : Terms) (p : OpenPile) (es fs : List Event) → after_all t p (es ++ fs) ≡ after_all t (after_all t p es) fs
+pub after_all-append : (t : Terms) (p : OpenPile) (es fs : List Event)
+    → after_all t p (es ++ fs) ≡ after_all t (after_all t p es) fs
 after_all-append t p [] fs = refl
 after_all-append t p (x ∷ xs) fs = after_all-append t (after t p x) xs fs
 
-pub happen_append : (t : Terms) (p : OpenPile) (es fs : List Event) → AllHappen t p es → AllHappen t (after_all t p es) fs → AllHappen t p (es ++ fs)
+pub happen_append : (t : Terms) (p : OpenPile) (es fs : List Event)
+    → AllHappen t p es → AllHappen t (after_all t p es) fs
+    → AllHappen t p (es ++ fs)
 happen_append t p [] fs happen more = more
 happen_append t p (x ∷ xs) fs happen more = (happen.0, happen_append t (after t p x) xs fs happen.1 more)
 
 -- the rule holds after further events
-many_more : (t : Terms) (s s' : State ℕ View) (h : IsRunning t s) (es : List Event) → AllHappen t (pile_of t s h) es → Shows t (after_all t (pile_of t s h) es) s' → IsRunning t s'
+many_more : (t : Terms) (s s' : State ℕ View) (h : IsRunning t s) (es : List Event)
+    → AllHappen t (pile_of t s h) es → Shows t (after_all t (pile_of t s h) es) s'
+    → IsRunning t s'
 many_more t s s' h es may shown =
     let p = after t (unopened t) begin in
     record {
@@ -46,7 +51,8 @@ many_more t s s' h es may shown =
 -- an event of the pass a that adds 1 to a word, whatever else has happened
 abbrev AddsOne : Terms → ℕ → ℕ → Event → Type 0
 AddsOne t word a e = (p : OpenPile) (s : State ℕ View) → AreTerms t → IsLawful t p → May t p e → Shows t p s
-    → (slice_index s.words word ≡ found p e) × Shows t (after t p e) (stepped_to s word ((slice_index s.words word + 1) % 2 ^ 64) a (pass_at (after t p e) a))
+    → (slice_index s.words word ≡ found p e)
+    × Shows t (after t p e) (stepped_to s word ((slice_index s.words word + 1) % 2 ^ 64) a (pass_at (after t p e) a))
 
 abbrev AllAddOne : Terms → ℕ → ℕ → List Event → Type 0
 AllAddOne t word a [] = Unit {0}
@@ -55,15 +61,21 @@ AllAddOne t word a (e ∷ es) = AddsOne t word a e × AllAddOne t word a es
 mod_plus : (n k m : ℕ) → (n % m + k) % m ≡ (n + k) % m
 mod_plus n k m =
     let parts = mod-add-div' n m in
-    sym (add-mul-mod_self_right (n % m + k) (n / m) m) ∙ ap (λ z. z % m) {x = n % m + k + n / m * m} {y = n + k} (omega arith)
+    sym (add-mul-mod_self_right (n % m + k) (n / m) m)
+    ∙ ap (λ z. z % m) {x = n % m + k + n / m * m} {y = n + k} (omega arith)
 
-stepped_twice : (s : State ℕ View) (word x y a : ℕ) (v w : View) → stepped_to (stepped_to s word x a v) word y a w ≡ stepped_to s word y a w
-stepped_twice s word x y a v w = λ q. record { words = set-set s.words word x y q; homes = s.homes; views = set-set s.views a v w q }
+stepped_twice : (s : State ℕ View) (word x y a : ℕ) (v w : View)
+    → stepped_to (stepped_to s word x a v) word y a w ≡ stepped_to s word y a w
+stepped_twice s word x y a v w = λ q.
+    record { words = set-set s.words word x y q; homes = s.homes; views = set-set s.views a v w q }
 
 -- n such events add n
-shows_row : (t : Terms) (word a : ℕ) (e : Event) (es : List Event) (p : OpenPile) (s : State ℕ View) → word < sites (grid_of_terms t) + 2 → AddsOne t word a e → AllAddOne t word a es
+shows_row : (t : Terms) (word a : ℕ) (e : Event) (es : List Event) (p : OpenPile) (s : State ℕ View)
+    → word < sites (grid_of_terms t) + 2
+    → AddsOne t word a e → AllAddOne t word a es
     → AreTerms t → IsLawful t p → AllHappen t p (e ∷ es) → Shows t p s
-    → Shows t (after_all t p (e ∷ es)) (stepped_to s word ((slice_index s.words word + suc (length es)) % 2 ^ 64) a (pass_at (after_all t p (e ∷ es)) a))
+    → Shows t (after_all t p (e ∷ es))
+    (stepped_to s word ((slice_index s.words word + suc (length es)) % 2 ^ 64) a (pass_at (after_all t p (e ∷ es)) a))
 shows_row t word a e [] p s fits one ones terms r may h = (one p s terms r may.0 h).1
 shows_row t word a e (f ∷ es) p s fits one ones terms r may h =
     let n = slice_index s.words word in
@@ -72,15 +84,20 @@ shows_row t word a e (f ∷ es) p s fits one ones terms r may h =
     let q = after t p e in
     let v = pass_at q a in
     let s' = stepped_to s word x a v in
-    let rest = shows_row t word a f es q s' fits ones.0 ones.1 terms (event_keeps t p e terms r may.0) may.1 (one p s terms r may.0 h).1 in
+    let rest = shows_row t word a f es q s' fits ones.0 ones.1 terms
+    (event_keeps t p e terms r may.0) may.1 (one p s terms r may.0 h).1 in
     let now : slice_index s'.words word ≡ x = get_or-set_same s.words word x 0 (omega arith) in
     let sum : (slice_index s'.words word + suc (length es)) % 2 ^ 64 ≡ (n + suc (suc (length es))) % 2 ^ 64 =
-    ap (λ z. (z + suc (length es)) % 2 ^ 64) now ∙ (mod_plus (n + 1) (suc (length es)) (2 ^ 64) ∙ ap (λ z. z % 2 ^ 64) {x = n + 1 + suc (length es)} {y = n + suc (suc (length es))} (omega arith)) in
+    ap (λ z. (z + suc (length es)) % 2 ^ 64) now ∙ (mod_plus (n + 1) (suc (length es)) (2 ^ 64)
+    ∙ ap (λ z. z % 2 ^ 64) {x = n + 1 + suc (length es)} {y = n + suc (suc (length es))} (omega arith)) in
     let w = pass_at (after_all t q (f ∷ es)) a in
-    subst (Shows t (after_all t q (f ∷ es))) (ap (λ z. stepped_to s' word z a w) sum ∙ stepped_twice s word x ((n + suc (suc (length es))) % 2 ^ 64) a v w) rest
+    subst (Shows t (after_all t q (f ∷ es)))
+    (ap (λ z. stepped_to s' word z a w) sum ∙ stepped_twice s word x ((n + suc (suc (length es))) % 2 ^ 64) a v w) rest
 
 -- a step is allowed if its events can happen whatever else has happened
-takes_row : (t : Terms) (a word k : ℕ) (e : Event) (es : List Event) (slots : ℕ) (m : Me ℕ View) → word < sites (grid_of_terms t) + 2 → AddsOne t word a e → AllAddOne t word a es → suc (length es) ≡ k
+takes_row : (t : Terms) (a word k : ℕ) (e : Event) (es : List Event) (slots : ℕ) (m : Me ℕ View)
+    → word < sites (grid_of_terms t) + 2 → AddsOne t word a e
+    → AllAddOne t word a es → suc (length es) ≡ k
     → ((p : OpenPile) → a < length p.passes → pass_at p a ≡ m.0 → AllHappen t p (e ∷ es))
     → Allows (IsRunning t) slots a m word (λ n. (n + k) % 2 ^ 64) (Takes t a (e ∷ es) m)
 takes_row t a word k e es slots m fits one ones long can s h _ at inside =
@@ -95,8 +112,17 @@ takes_row t a word k e es slots m fits one ones long can s h _ at inside =
       keeps,
       tt,
       many_more t s (stepped_to s word ((n + k) % 2 ^ 64) a w) h (e ∷ es) may
-          (subst (λ z. Shows t (after_all t p (e ∷ es)) (stepped_to s word ((n + z) % 2 ^ 64) a w)) long (shows_row t word a e es p s fits one ones h.terms r may h.shown)),
-      (record { before = record { terms = h.terms; pile = p; lawful = r; there = there; pass = is }; may = may; number = (one p s h.terms r may.0 h.shown).0; pass_after = refl }, refl),
+          (subst (λ z. Shows t (after_all t p (e ∷ es)) (stepped_to s word ((n + z) % 2 ^ 64) a w))
+          long (shows_row t word a e es p s fits one ones h.terms r may h.shown)),
+      (
+        record {
+          before = record { terms = h.terms; pile = p; lawful = r; there = there; pass = is };
+          may = may;
+          number = (one p s h.terms r may.0 h.shown).0;
+          pass_after = refl;
+        },
+        refl,
+      ),
     )
 
 -- Draws in a row
@@ -118,9 +144,13 @@ drew_none v n e =
 module _ (t : Terms) (a : ℕ) where
   drawn_long : (p : OpenPile) (is : List ℕ) → length (after_all t p (all_draws a is)).drawn ≡ length p.drawn + length is
   drawn_long p [] = omega arith
-  drawn_long p (i ∷ is) = let e = drawn_long (after t p (draw a i)) is in let b = length-append p.drawn (i ∷ []) in omega arith
+  drawn_long p (i ∷ is) =
+      let e = drawn_long (after t p (draw a i)) is in
+      let b = length-append p.drawn (i ∷ []) in
+      omega arith
 
-  pass_after_draw : (p : OpenPile) (i : ℕ) → a < length p.passes → pass_at (after t p (draw a i)) a ≡ drew (pass_at p a) (length p.drawn) i
+  pass_after_draw : (p : OpenPile) (i : ℕ) → a < length p.passes
+      → pass_at (after t p (draw a i)) a ≡ drew (pass_at p a) (length p.drawn) i
   pass_after_draw p i there = pass_at-with p a (drew (pass_at p a) (length p.drawn) i) there
 
   still_there : (p : OpenPile) (i : ℕ) → a < length p.passes → a < length (after t p (draw a i)).passes
@@ -128,31 +158,38 @@ module _ (t : Terms) (a : ℕ) where
 
   -- after its first draw a pass has seen all draws, as the induction requires
   pass_after_first : (p : OpenPile) (i : ℕ) (is : List ℕ) → a < length p.passes
-      → ((q : OpenPile) → a < length q.passes → (pass_at q a).seen ≡ length q.drawn → pass_at (after_all t q (all_draws a is)) a ≡ drew_all (pass_at q a) (length q.drawn) is)
+      → ((q : OpenPile) → a < length q.passes → (pass_at q a).seen ≡ length q.drawn
+      → pass_at (after_all t q (all_draws a is)) a ≡ drew_all (pass_at q a) (length q.drawn) is)
       → pass_at (after_all t p (all_draws a (i ∷ is))) a ≡ drew_all (pass_at p a) (length p.drawn) (i ∷ is)
   pass_after_first p i is there rest =
       let q = after t p (draw a i) in
       let here = pass_after_draw p i there in
       let long = length-append p.drawn (i ∷ []) in
       let known = ap (λ (v : View). v.seen) here in
-      rest q (still_there p i there) (omega arith) ∙ ((λ k. drew_all (here k) (long k) is) ∙ drew_more (pass_at p a) (length p.drawn) i is)
+      rest q (still_there p i there) (omega arith)
+      ∙ ((λ k. drew_all (here k) (long k) is) ∙ drew_more (pass_at p a) (length p.drawn) i is)
 
-  pass_after_all : (p : OpenPile) (is : List ℕ) → a < length p.passes → (pass_at p a).seen ≡ length p.drawn → pass_at (after_all t p (all_draws a is)) a ≡ drew_all (pass_at p a) (length p.drawn) is
+  pass_after_all : (p : OpenPile) (is : List ℕ) → a < length p.passes → (pass_at p a).seen ≡ length p.drawn
+      → pass_at (after_all t p (all_draws a is)) a ≡ drew_all (pass_at p a) (length p.drawn) is
   pass_after_all p [] there seen = sym (drew_none (pass_at p a) (length p.drawn) seen)
   pass_after_all p (i ∷ is) there seen = pass_after_first p i is there (λ q. pass_after_all q is)
 
   -- whatever the pass had seen
-  pass_after_some : (p : OpenPile) (is : List ℕ) → a < length p.passes → 0 < length is → pass_at (after_all t p (all_draws a is)) a ≡ drew_all (pass_at p a) (length p.drawn) is
+  pass_after_some : (p : OpenPile) (is : List ℕ) → a < length p.passes → 0 < length is
+      → pass_at (after_all t p (all_draws a is)) a ≡ drew_all (pass_at p a) (length p.drawn) is
   pass_after_some p [] there many = absurd (omega arith)
   pass_after_some p (i ∷ is) there many = pass_after_first p i is there (λ q. pass_after_all q is)
 
   -- they can happen if the pass has enough quota left
-  all_may : (p : OpenPile) (is : List ℕ) → a < length p.passes → length is ≤ (pass_at p a).left → All (λ i. i < sites (grid_of_terms t)) is → AllHappen t p (all_draws a is)
+  all_may : (p : OpenPile) (is : List ℕ) → a < length p.passes
+      → length is ≤ (pass_at p a).left → All (λ i. i < sites (grid_of_terms t)) is
+      → AllHappen t p (all_draws a is)
   all_may p [] there left inside = tt
   all_may p (i ∷ is) there left inside =
       let here = ap (λ (v : View). v.left) (pass_after_draw p i there) in (
         record { there = there; some_left = omega arith; inside = inside 0 0 (omega arith) },
-        all_may (after t p (draw a i)) is (still_there p i there) (omega arith) (λ k d l. inside (suc k) d (omega arith)),
+        all_may (after t p (draw a i)) is (still_there p i there)
+            (omega arith) (λ k d l. inside (suc k) d (omega arith)),
       )
 
   draws_add_one : (is : List ℕ) → AllAddOne t 1 a (all_draws a is)
@@ -160,30 +197,37 @@ module _ (t : Terms) (a : ℕ) where
   draws_add_one (i ∷ is) = (λ p s terms r may h. (h.number, shows_draw t p s a i terms r may h), draws_add_one is)
 
   -- the step is allowed at any moment
-  pub draws_row : (is : List ℕ) (slots : ℕ) (m : Me ℕ View) → 0 < length is → length is ≤ m.0.left → All (λ i. i < sites (grid_of_terms t)) is
+  pub draws_row : (is : List ℕ) (slots : ℕ) (m : Me ℕ View) → 0 < length is
+      → length is ≤ m.0.left → All (λ i. i < sites (grid_of_terms t)) is
       → Allows (IsRunning t) slots a m 1 (λ n. (n + length is) % 2 ^ 64) (Takes t a (all_draws a is) m)
   draws_row [] slots m some_drops left inside = absurd (omega arith)
   draws_row (i ∷ is) slots m some_drops left inside =
       let ones = draws_add_one (i ∷ is) in
-      takes_row t a 1 (suc (length is)) (draw a i) (all_draws a is) slots m (omega arith) ones.0 ones.1 (ap suc (length-map is (λ j. draw a j)))
+      takes_row t a 1 (suc (length is)) (draw a i) (all_draws a is) slots m
+      (omega arith) ones.0 ones.1 (ap suc (length-map is (λ j. draw a j)))
       (λ p there same. all_may p (i ∷ is) there (let enough = ap (λ (v : View). v.left) same in omega arith) inside)
 
 -- Places in a row
 
 module _ (t : Terms) (a i : ℕ) where
-  pass_after_place : (p : OpenPile) → a < length p.passes → pass_at (after t p (place a i)) a ≡ laid_down (pass_at p a) i 1
+  pass_after_place : (p : OpenPile) → a < length p.passes
+      → pass_at (after t p (place a i)) a ≡ laid_down (pass_at p a) i 1
   pass_after_place p there = pass_at-with p a (laid_down (pass_at p a) i 1) there
 
   there_still : (p : OpenPile) → a < length p.passes → a < length (after t p (place a i)).passes
   there_still p there = let e = length-set p.passes a (laid_down (pass_at p a) i 1) in omega arith
 
-  pass_after_places : (p : OpenPile) (k : ℕ) → a < length p.passes → pass_at (after_all t p (all_places a i k)) a ≡ record (pass_at p a) { hand = laid_on i k (pass_at p a).hand }
+  pass_after_places : (p : OpenPile) (k : ℕ) → a < length p.passes
+      → pass_at (after_all t p (all_places a i k)) a ≡ record (pass_at p a) { hand = laid_on i k (pass_at p a).hand }
   pass_after_places p zero there = refl
   pass_after_places p (suc k) there =
-      pass_after_places (after t p (place a i)) k (there_still p there) ∙ ap (λ (v : View). record v { hand = laid_on i k v.hand }) (pass_after_place p there)
+      pass_after_places (after t p (place a i)) k (there_still p there)
+      ∙ ap (λ (v : View). record v { hand = laid_on i k v.hand }) (pass_after_place p there)
 
   -- they can happen if the hand has k single grains for the site
-  all_laid_may : (p : OpenPile) (k : ℕ) → a < length p.passes → k ≤ count_by (are_for i 1) (pass_at p a).hand → i < sites (grid_of_terms t) → AllHappen t p (all_places a i k)
+  all_laid_may : (p : OpenPile) (k : ℕ) → a < length p.passes
+      → k ≤ count_by (are_for i 1) (pass_at p a).hand → i < sites (grid_of_terms t)
+      → AllHappen t p (all_places a i k)
   all_laid_may p zero there enough inside = tt
   all_laid_may p (suc k) there enough inside =
       let less = count-without i 1 (pass_at p a).hand (omega arith) in
@@ -194,33 +238,43 @@ module _ (t : Terms) (a i : ℕ) where
 
   places_add_one : i < sites (grid_of_terms t) → (k : ℕ) → AllAddOne t (i + 2) a (all_places a i k)
   places_add_one inside zero = tt
-  places_add_one inside (suc k) = (λ p s terms r may h. (h.heights i inside, shows_arrived t p s a i 1 terms r may.there may.in_hand inside h), places_add_one inside k)
+  places_add_one inside (suc k) = (
+    λ p s terms r may h. (h.heights i inside, shows_arrived t p s a i 1 terms r may.there may.in_hand inside h),
+    places_add_one inside k,
+  )
 
   -- the step is allowed at any moment
-  pub places_row : (k slots : ℕ) (m : Me ℕ View) → 0 < k → k ≤ count_by (are_for i 1) m.0.hand → i < sites (grid_of_terms t)
+  pub places_row : (k slots : ℕ) (m : Me ℕ View) → 0 < k
+      → k ≤ count_by (are_for i 1) m.0.hand → i < sites (grid_of_terms t)
       → Allows (IsRunning t) slots a m (i + 2) (λ n. (n + k) % 2 ^ 64) (Takes t a (all_places a i k) m)
   places_row zero slots m some_grains in_hand inside = absurd (omega arith)
   places_row (suc k) slots m some_grains in_hand inside =
       let ones = places_add_one inside (suc k) in
-      takes_row t a (i + 2) (suc k) (place a i) (all_places a i k) slots m (omega arith) ones.0 ones.1 (ap suc (length-replicate k (place a i)))
-      (λ p there same. all_laid_may p (suc k) there (let enough = ap (λ (v : View). count_by (are_for i 1) v.hand) same in omega arith) inside)
+      takes_row t a (i + 2) (suc k) (place a i) (all_places a i k) slots m
+      (omega arith) ones.0 ones.1 (ap suc (length-replicate k (place a i)))
+      (λ p there same. all_laid_may p (suc k) there
+      (let enough = ap (λ (v : View). count_by (are_for i 1) v.hand) same in omega arith) inside)
 
   -- the pass is then without these grains
-  pub laid_is : (k : ℕ) (v w : View) (n : ℕ) → Happened t a (all_places a i k) v n w → w ≡ record v { hand = laid_on i k v.hand }
-  laid_is k v w n h = sym h.pass_after ∙ (pass_after_places h.before.pile k h.before.there ∙ ap (λ (u : View). record u { hand = laid_on i k u.hand }) h.before.pass)
+  pub laid_is : (k : ℕ) (v w : View) (n : ℕ) → Happened t a (all_places a i k) v n w
+      → w ≡ record v { hand = laid_on i k v.hand }
+  laid_is k v w n h = sym h.pass_after ∙ (pass_after_places h.before.pile k h.before.there
+      ∙ ap (λ (u : View). record u { hand = laid_on i k u.hand }) h.before.pass)
 
 found_draws : (p : OpenPile) (a n : ℕ) (is : List ℕ) → 0 < length is → Finds p (all_draws a is) n → n ≡ length p.drawn
 found_draws p a n [] some_drops found = absurd (omega arith)
 found_draws p a n (i ∷ is) some_drops found = found
 
-module _ (t : Terms) (a : ℕ) (is : List ℕ) (v w : View) (n : ℕ) (some_drops : 0 < length is) (h : Happened t a (all_draws a is) v n w) where
+module _ (t : Terms) (a : ℕ) (is : List ℕ) (v w : View) (n : ℕ)
+    (some_drops : 0 < length is) (h : Happened t a (all_draws a is) v n w) where
   number_is : n ≡ length h.before.pile.drawn
   number_is = found_draws h.before.pile a n is some_drops h.number
 
   pub drew_row_is : w ≡ drew_all v n is
   drew_row_is =
       let p = h.before.pile in
-      sym h.pass_after ∙ (pass_after_some t a p is h.before.there some_drops ∙ (λ q. drew_all (h.before.pass q) (sym number_is q) is))
+      sym h.pass_after ∙ (pass_after_some t a p is h.before.there some_drops
+      ∙ (λ q. drew_all (h.before.pass q) (sym number_is q) is))
 
   pub row_fresh : v.seen ≤ n
   row_fresh =
@@ -231,7 +285,8 @@ module _ (t : Terms) (a : ℕ) (is : List ℕ) (v w : View) (n : ℕ) (some_drop
   pub row_small : n + length is ≤ t.quota
   row_small =
       let p = h.before.pile in
-      let few = few_drawn t (after_all t p (all_draws a is)) (all_keep t p (all_draws a is) h.before.terms h.before.lawful h.may) in
+      let few = few_drawn t (after_all t p (all_draws a is))
+      (all_keep t p (all_draws a is) h.before.terms h.before.lawful h.may) in
       let long = drawn_long t a p is in
       let number = number_is in omega arith
 
@@ -241,21 +296,28 @@ pub receipts_long : (n : ℕ) (is : List ℕ) → length (receipts_from n is) �
 receipts_long n [] = refl
 receipts_long n (i ∷ is) = let e = receipts_long (n + 1) is in omega arith
 
-pub below_row : (m n : ℕ) (is : List ℕ) (rs : List Receipt) → m ≤ n → AllBelow m rs → AllBelow (n + length is) (rs ++ receipts_from n is)
-below_row m n [] rs le below = subst (AllBelow (n + 0)) (sym (append-nil rs)) (λ k d l. let b = below k d l in omega arith)
+pub below_row : (m n : ℕ) (is : List ℕ) (rs : List Receipt) → m ≤ n → AllBelow m rs
+    → AllBelow (n + length is) (rs ++ receipts_from n is)
+below_row m n [] rs le below =
+    subst (AllBelow (n + 0)) (sym (append-nil rs)) (λ k d l. let b = below k d l in omega arith)
 below_row m n (i ∷ is) rs le below =
     let rest = below_row (n + 1) (n + 1) is (rs ++ receipt n i ∷ []) (omega arith) (below_push m n i rs le below) in
     let e : n + 1 + length is ≡ n + suc (length is) = omega arith in
-    subst (λ (z : ℕ × List Receipt). AllBelow z.0 z.1) (λ q. (e q, append_assoc rs (receipt n i ∷ []) (receipts_from (n + 1) is) q)) rest
+    subst (λ (z : ℕ × List Receipt). AllBelow z.0 z.1)
+    (λ q. (e q, append_assoc rs (receipt n i ∷ []) (receipts_from (n + 1) is) q)) rest
 
-pub once_row : (m n : ℕ) (is : List ℕ) (rs : List Receipt) → m ≤ n → AllBelow m rs → EachOnce rs → EachOnce (rs ++ receipts_from n is)
+pub once_row : (m n : ℕ) (is : List ℕ) (rs : List Receipt) → m ≤ n → AllBelow m rs → EachOnce rs
+    → EachOnce (rs ++ receipts_from n is)
 once_row m n [] rs le below once = subst EachOnce (sym (append-nil rs)) once
 once_row m n (i ∷ is) rs le below once =
     subst EachOnce (append_assoc rs (receipt n i ∷ []) (receipts_from (n + 1) is))
-    (once_row (n + 1) (n + 1) is (rs ++ receipt n i ∷ []) (omega arith) (below_push m n i rs le below) (once_more m n i rs le below once))
+    (once_row (n + 1) (n + 1) is (rs ++ receipt n i ∷ []) (omega arith)
+    (below_push m n i rs le below) (once_more m n i rs le below once))
 
-pub note_more : (rs : List Receipt) (n i : ℕ) (is : List ℕ) → (rs ++ receipt n i ∷ []) ++ receipts_from (n + 1) is ≡ rs ++ receipts_from n (i ∷ is)
+pub note_more : (rs : List Receipt) (n i : ℕ) (is : List ℕ)
+    → (rs ++ receipt n i ∷ []) ++ receipts_from (n + 1) is ≡ rs ++ receipts_from n (i ∷ is)
 note_more rs n i is = append_assoc rs (receipt n i ∷ []) (receipts_from (n + 1) is)
 
 pub from_here : (is : List ℕ) (k : ℕ) → k < length is → drop k is ≡ get_or is k 0 ∷ drop (k + 1) is
-from_here is k inside = drop-cons is k 0 inside ∙ ap (λ n. get_or is k 0 ∷ drop n is) {x = suc k} {y = k + 1} (omega arith)
+from_here is k inside =
+    drop-cons is k 0 inside ∙ ap (λ n. get_or is k 0 ∷ drop n is) {x = suc k} {y = k + 1} (omega arith)

@@ -23,12 +23,21 @@ amount_else i k j ne = rw (ne_eqb i j ne)
 
 amount_is : (i k j : ℕ) → amount_at i k j ≡ k * one_at i j
 amount_is i k j = ⊎_elim
-    (λ (e : i ≡ j). let a = amount_here i k j e in let b : one_at i j ≡ 1 = rw (eq-eqb i j e) in let c = ap (λ z. k * z) b in omega arith)
-    (λ (ne : i ≡ j → ⊥). let a = amount_else i k j ne in let b : one_at i j ≡ 0 = rw (ne_eqb i j ne) in let c = ap (λ z. k * z) b in omega arith)
+    (λ (e : i ≡ j).
+    let a = amount_here i k j e in
+    let b : one_at i j ≡ 1 = rw (eq-eqb i j e) in
+    let c = ap (λ z. k * z) b in
+    omega arith)
+    (λ (ne : i ≡ j → ⊥).
+    let a = amount_else i k j ne in
+    let b : one_at i j ≡ 0 = rw (ne_eqb i j ne) in
+    let c = ap (λ z. k * z) b in
+    omega arith)
     (cases_eq i j)
 
 -- k topplings at i bring to j what they send to the neighbours of i for j
-pub flow-amount : (g : Grid) (i k j : ℕ) → i < sites g → j < sites g → flow g (amount_at i k) j ≡ flow g (λ m. amount_at m k j) i
+pub flow-amount : (g : Grid) (i k j : ℕ) → i < sites g → j < sites g
+    → flow g (amount_at i k) j ≡ flow g (λ m. amount_at m k j) i
 flow-amount g i k j li lj =
     flow_same g (amount_at i k) (λ m. k * one_at i m) (λ m _. amount_is i k m) j lj
     ∙ flow-scale g k (one_at i) j
@@ -44,7 +53,8 @@ held-append xs ys j = sum_by-append (λ (g : Grains). amount_at g.site g.amount 
 
 pub held-sent : (t : Terms) (i k j : ℕ) → held (sent t i k) j ≡ flow (grid_of_terms t) (λ m. amount_at m k j) i
 unfolding flow
-held-sent t i k j = sum_by-map (λ (g : Grains). amount_at g.site g.amount j) (λ m. grains m k) (neighbours (grid_of_terms t) i)
+held-sent t i k j =
+    sum_by-map (λ (g : Grains). amount_at g.site g.amount j) (λ m. grains m k) (neighbours (grid_of_terms t) i)
 
 -- a site of a pass has an index among its counts
 pub place_inside : (v : View) (i : ℕ) → holds_site v i ≡ true → (v.base ≤ i) × (i - v.base < length v.counts)
@@ -57,7 +67,8 @@ pub toppled_before : (v : View) (i : ℕ) → i < v.base → toppled_by v i ≡ 
 toppled_before v i lt = let t : leb v.base i ≡ false = grind (arith, nat_tests) in rw t
 
 -- a site has toppled k more times if a pass has toppled it k more times
-pub toppled-unloaded : (t : Terms) (v : View) (i k j : ℕ) → holds_site v i ≡ true → toppled_by (unloaded t v i k) j ≡ toppled_by v j + amount_at i k j
+pub toppled-unloaded : (t : Terms) (v : View) (i k j : ℕ) → holds_site v i ≡ true
+    → toppled_by (unloaded t v i k) j ≡ toppled_by v j + amount_at i k j
 toppled-unloaded t v i k j own =
     let at = place_inside v i own in
     let n = slice_index v.counts (i - v.base) in
@@ -72,7 +83,8 @@ toppled-unloaded t v i k j own =
     (λ (ne : i ≡ j → ⊥).
     let d = amount_else i k j ne in
     ⊎_elim
-    (λ (below : j < v.base). let a = toppled_before (unloaded t v i k) j below in let b = toppled_before v j below in omega arith)
+    (λ (below : j < v.base).
+    let a = toppled_before (unloaded t v i k) j below in let b = toppled_before v j below in omega arith)
     (λ (past : v.base ≤ j).
     let a = toppled_from (unloaded t v i k) j past in
     let b = toppled_from v j past in
@@ -81,4 +93,5 @@ toppled-unloaded t v i k j own =
     (cases_eq i j)
 
 pub holds-unloaded : (t : Terms) (v : View) (i k j : ℕ) → holds_site (unloaded t v i k) j ≡ holds_site v j
-holds-unloaded t v i k j = ap (λ n. leb v.base j && ltb j (v.base + n)) (length-set v.counts (i - v.base) (slice_index v.counts (i - v.base) + k))
+holds-unloaded t v i k j = ap (λ n. leb v.base j && ltb j (v.base + n))
+    (length-set v.counts (i - v.base) (slice_index v.counts (i - v.base) + k))

@@ -12,7 +12,8 @@ use Rattle.sand_shared.specs.Events.{grains, behind_first, are_for, without}
 use Rattle.sand_shared.proofs.GrainsAtSite.{amount_here, amount_else, held-cons}
 
 module _ (i k : ℕ) where
-  count-cons : (g : Grains) (gs : List Grains) → count_by (are_for i k) (g ∷ gs) ≡ one_if (are_for i k g) + count_by (are_for i k) gs
+  count-cons : (g : Grains) (gs : List Grains)
+      → count_by (are_for i k) (g ∷ gs) ≡ one_if (are_for i k g) + count_by (are_for i k) gs
   count-cons g gs = sum_by-cons (λ (x : Grains). one_if (are_for i k x)) g gs
 
   without-here : (g : Grains) (gs : List Grains) → are_for i k g ≡ true → without i k (g ∷ gs) ≡ gs
@@ -28,14 +29,17 @@ module _ (i k : ℕ) where
   same_amount g e = grind (arith, nat_tests)
 
   -- the laid grains were in hand for their site
-  pub held-without : (hand : List Grains) (j : ℕ) → 0 < count_by (are_for i k) hand → held hand j ≡ amount_at i k j + held (without i k hand) j
+  pub held-without : (hand : List Grains) (j : ℕ) → 0 < count_by (are_for i k) hand
+      → held hand j ≡ amount_at i k j + held (without i k hand) j
   held-without [] j some_there = absurd (omega arith)
   held-without (g ∷ gs) j some_there =
       let all = held-cons g gs j in
       ⊎_elim
       (λ (e : are_for i k g ≡ true).
       let left = ap (λ l. held l j) (without-here g gs e) in
-      let same : amount_at g.site g.amount j ≡ amount_at i k j = λ q. amount_at (same_site g e q) (same_amount g e q) j in omega arith)
+      let same : amount_at g.site g.amount j ≡ amount_at i k j =
+      λ q. amount_at (same_site g e q) (same_amount g e q) j in
+      omega arith)
       (λ (e : are_for i k g ≡ false).
       let count = count-cons g gs in
       let none = ap one_if e in
@@ -44,7 +48,8 @@ module _ (i k : ℕ) where
       (cases_Bool (are_for i k g))
 
   -- there is one entry less
-  pub count-without : (hand : List Grains) → 0 < count_by (are_for i k) hand → count_by (are_for i k) (without i k hand) + 1 ≡ count_by (are_for i k) hand
+  pub count-without : (hand : List Grains) → 0 < count_by (are_for i k) hand
+      → count_by (are_for i k) (without i k hand) + 1 ≡ count_by (are_for i k) hand
   count-without [] some_there = absurd (omega arith)
   count-without (g ∷ gs) some_there =
       let count = count-cons g gs in
@@ -64,7 +69,8 @@ module _ (i k : ℕ) where
       let tail : All P gs = λ m d l. all (suc m) d (omega arith) in
       ⊎_elim
       (λ (e : are_for i k g ≡ true). rw (without-here g gs e) tail)
-      (λ (e : are_for i k g ≡ false). rw (without-else g gs e) (All-cons P g (without i k gs) (all 0 g (omega arith)) (all_without P gs tail)))
+      (λ (e : are_for i k g ≡ false).
+      rw (without-else g gs e) (All-cons P g (without i k gs) (all 0 g (omega arith)) (all_without P gs tail)))
       (cases_Bool (are_for i k g))
 
   are_first : are_for i k (grains i k) ≡ true
@@ -83,14 +89,17 @@ laid_on i (suc c) hand = laid_on i c (without i 1 hand)
 module _ (i : ℕ) where
   more_at : (c j : ℕ) → amount_at i (suc c) j ≡ amount_at i 1 j + amount_at i c j
   more_at c j = ⊎_elim
-      (λ (e : i ≡ j). let a = amount_here i (suc c) j e in let b = amount_here i 1 j e in let d = amount_here i c j e in omega arith)
-      (λ (ne : i ≡ j → ⊥). let a = amount_else i (suc c) j ne in let b = amount_else i 1 j ne in let d = amount_else i c j ne in omega arith)
+      (λ (e : i ≡ j).
+      let a = amount_here i (suc c) j e in let b = amount_here i 1 j e in let d = amount_here i c j e in omega arith)
+      (λ (ne : i ≡ j → ⊥).
+      let a = amount_else i (suc c) j ne in let b = amount_else i 1 j ne in let d = amount_else i c j ne in omega arith)
       (cases_eq i j)
 
   none_at : (j : ℕ) → amount_at i 0 j ≡ 0
   none_at j = ⊎_elim (λ (e : i ≡ j). amount_here i 0 j e) (λ (ne : i ≡ j → ⊥). amount_else i 0 j ne) (cases_eq i j)
 
-  pub held-laid : (c : ℕ) (hand : List Grains) (j : ℕ) → c ≤ count_by (are_for i 1) hand → held hand j ≡ amount_at i c j + held (laid_on i c hand) j
+  pub held-laid : (c : ℕ) (hand : List Grains) (j : ℕ) → c ≤ count_by (are_for i 1) hand
+      → held hand j ≡ amount_at i c j + held (laid_on i c hand) j
   held-laid zero hand j enough = let z = none_at j in omega arith
   held-laid (suc c) hand j enough =
       let one = held-without i 1 hand j (omega arith) in

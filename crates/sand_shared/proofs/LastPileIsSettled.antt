@@ -36,17 +36,20 @@ module _ (t : Terms) (a : ℕ) (v : View) (s : Stands t a v) (all : HasAll t v) 
   numbers n =
       let p = s.pile in
       ap (λ (u : View). numbered u.receipts n) (sym s.pass)
-      ∙ sym (sum_by_only (λ (u : View). numbered u.receipts n) p.passes a nobody s.there (λ b lb ne. ap (λ rs. numbered rs n) (no_receipts t p s.lawful a s.there has_all b lb ne)))
+      ∙ sym (sum_by_only (λ (u : View). numbered u.receipts n) p.passes a nobody s.there
+      (λ b lb ne. ap (λ rs. numbered rs n) (no_receipts t p s.lawful a s.there has_all b lb ne)))
       ∙ s.lawful.numbers n
 
   every : length v.receipts ≡ length s.pile.drawn
   every =
       let p = s.pile in
       ap (λ (u : View). length u.receipts) (sym s.pass)
-      ∙ sym (sum_by_only (λ (u : View). length u.receipts) p.passes a nobody s.there (λ b lb ne. ap (λ rs. length rs) (no_receipts t p s.lawful a s.there has_all b lb ne)))
+      ∙ sym (sum_by_only (λ (u : View). length u.receipts) p.passes a nobody s.there
+      (λ b lb ne. ap (λ rs. length rs) (no_receipts t p s.lawful a s.there has_all b lb ne)))
       ∙ s.lawful.receipts
 
-  pub drawn_is : (history : List ℕ) → length history ≡ length v.receipts → Tells v.receipts history → history ≡ s.pile.drawn
+  pub drawn_is : (history : List ℕ) → length history ≡ length v.receipts → Tells v.receipts history
+      → history ≡ s.pile.drawn
   drawn_is history long told =
       history_is v.receipts s.pile.drawn numbers history (long ∙ every) told
       (subst (λ (u : View). Tells u.receipts s.pile.drawn) s.pass (s.lawful.passes a nobody s.there).receipts)
@@ -72,14 +75,18 @@ module _ (t : Terms) (a : ℕ) (v : View) (heights : List ℕ) (last : IsLast t 
           let g = grid_of_terms t in
           let s = last.stands in
           let p = s.pile in
-          let own = λ (i : ℕ) (l : i < sites g). its_topplings t p s.lawful a s.there (has_all t a v last.stands all) i l ∙ ap (λ (u : View). toppled_by u i) s.pass in
+          let own =
+          λ (i : ℕ) (l : i < sites g). its_topplings t p s.lawful a s.there (has_all t a v last.stands all) i l
+          ∙ ap (λ (u : View). toppled_by u i) s.pass in
           record {
             toppled = record {
               balance = λ i l.
                   let b = s.lawful.balance.balance i l in
-                  let none = nothing_held t p s.lawful a s.there (has_all t a v last.stands all) (ap (λ (u : View). u.hand) s.pass ∙ free) i l in
+                  let none = nothing_held t p s.lawful a s.there (has_all t a v last.stands all)
+                  (ap (λ (u : View). u.hand) s.pass ∙ free) i l in
                   let here = toppled_is t a v last.stands all base i l in
-                  let around = flow_same g (toppled p) (slice_index v.counts) (toppled_is t a v last.stands all base) i l in
+                  let around =
+                  flow_same g (toppled p) (slice_index v.counts) (toppled_is t a v last.stands all base) i l in
                   let height = last.each_height i l in omega arith;
             };
             odometer = record {
@@ -90,14 +97,19 @@ module _ (t : Terms) (a : ℕ) (v : View) (heights : List ℕ) (last : IsLast t 
                     let same = ap (λ (u : View). dropped u.receipts i) s.pass in
                     let here = toppled_is t a v last.stands all base i l in
                     let mine = own i l in
-                    let around = flow_same g (toppled p) (slice_index v.counts) (toppled_is t a v last.stands all base) i l in
+                    let around =
+                    flow_same g (toppled p) (slice_index v.counts) (toppled_is t a v last.stands all base) i l in
                     let around' = flow_same g (toppled p) (toppled_by v) own i l in omega arith;
               };
-              least = λ w stab i l. (let n = s.lawful.needed w stab i l in let here = toppled_is t a v last.stands all base i l in omega arith);
+              least = λ w stab i l. (let n = s.lawful.needed w stab i l in
+                  let here = toppled_is t a v last.stands all base i l in
+                  omega arith);
             };
           }
 
-      pub leads : (history : List ℕ) → length v.counts ≡ sites (grid_of_terms t) → length history ≡ length v.receipts → Tells v.receipts history → LeadsTo t.start history heights v.counts
+      pub leads : (history : List ℕ) → length v.counts ≡ sites (grid_of_terms t)
+          → length history ≡ length v.receipts → Tells v.receipts history
+          → LeadsTo t.start history heights v.counts
       leads history each long told =
           let s = last.stands in
           let drawn = drawn_is t a v last.stands all history long told in
@@ -110,7 +122,9 @@ module _ (t : Terms) (a : ℕ) (v : View) (heights : List ℕ) (last : IsLast t 
             limit = omega arith;
             heights_each = last.one_each;
             odometer_each = each;
-            settled = subst (λ (l : List ℕ). IsSettled (grid_of_terms t) (λ i. height_of t.start i + tally l i) (slice_index v.counts) (slice_index heights)) (sym drawn) settles;
+            settled = subst (λ (l : List ℕ). IsSettled (grid_of_terms t)
+                (λ i. height_of t.start i + tally l i) (slice_index v.counts) (slice_index heights))
+                (sym drawn) settles;
           }
 
 -- a pass that has gathered everything, by its own fields
@@ -120,16 +134,20 @@ pub record HasGathered (t : Terms) (p : PassView) : Type 0 where
   pub whole : IsWhole t p
   pub below : AllBelow p.seen p.receipts
 
-pub gathered : {w w' : SharedView} {p p' : PassView} → w ≡ w' → p ≡ p' → IsPass p → IsPassOf w' p' → IsWhole w'.terms p' → HasGathered w.terms p
+pub gathered : {w w' : SharedView} {p p' : PassView} → w ≡ w' → p ≡ p' → IsPass p → IsPassOf w' p' → IsWhole w'.terms p'
+    → HasGathered w.terms p
 gathered pile_is pass_is inv of_pile whole = record {
-  grid = ap (λ (q : PassView). q.grid) pass_is ∙ of_pile.grid ∙ sym (ap (λ (z : SharedView). grid_of_terms z.terms) pile_is);
+  grid = ap (λ (q : PassView). q.grid) pass_is ∙ of_pile.grid
+      ∙ sym (ap (λ (z : SharedView). grid_of_terms z.terms) pile_is);
   one_each = inv.one_each;
   whole = subst (λ (z : SharedView × PassView). IsWhole z.0.terms z.1) (λ i. (sym pile_is i, sym pass_is i)) whole;
   below = inv.below;
 }
 
 -- the history has an entry for each receipt
-pub numbers_inside : {receipts listed : List Receipt} {seen : ℕ} (history : List ℕ) → listed ≡ receipts → AllBelow seen receipts → seen ≡ length receipts → length history ≡ length receipts → All (λ r. r.number < length history) listed
+pub numbers_inside : {receipts listed : List Receipt} {seen : ℕ} (history : List ℕ)
+    → listed ≡ receipts → AllBelow seen receipts → seen ≡ length receipts
+    → length history ≡ length receipts → All (λ r. r.number < length history) listed
 numbers_inside history same below seen long =
     subst (All (λ (r : Receipt). r.number < length history)) (sym same) (λ k d l. let b = below k d l in omega arith)
 
@@ -141,8 +159,12 @@ pub record IsClosedBy (t : Terms) (p : PassView) (counts heights : List ℕ) (a 
   pub same_rows : length counts ≡ length p.counts
   pub calm : IsCalm t (record (at_rest p) { counts = counts })
 
-pub closed_by : {w w' : SharedView} {p' : PassView} {x : Inside} {a : ℕ} {v : View} {counts heights : List ℕ} → w ≡ w' → shown x ≡ p' → IsBare x → IsPassOf w' p' → IsWhole w'.terms p'
-    → IsLast w.terms a v heights → v ≡ record (looked x.seat.me.0 v.spot v.least) { counts = counts } → length counts ≡ length x.counts.items → IsCalm w.terms (with_counts x.seat.me.0 counts)
+pub closed_by : {w w' : SharedView} {p' : PassView} {x : Inside} {a : ℕ} {v : View} {counts heights : List ℕ}
+    → w ≡ w' → shown x ≡ p' → IsBare x → IsPassOf w' p' → IsWhole w'.terms p'
+    → IsLast w.terms a v heights
+    → v ≡ record (looked x.seat.me.0 v.spot v.least) { counts = counts }
+    → length counts ≡ length x.counts.items
+    → IsCalm w.terms (with_counts x.seat.me.0 counts)
     → IsClosedBy w.terms (shown x) counts heights a v
 closed_by {w = w} {v = v} {counts = counts} pile_is pass_is inv of_pile whole last swept long calm = record {
   last = last;
@@ -152,7 +174,8 @@ closed_by {w = w} {v = v} {counts = counts} pile_is pass_is inv of_pile whole la
   calm = subst (λ (m : Me ℕ View). IsCalm w.terms (with_counts m.0 counts)) inv.me calm;
 }
 
-module _ {t : Terms} {p : PassView} {counts heights : List ℕ} {a : ℕ} {v : View} (b : IsClosedBy t p counts heights a v) where
+module _ {t : Terms} {p : PassView} {counts heights : List ℕ}
+    {a : ℕ} {v : View} (b : IsClosedBy t p counts heights a v) where
   swept : View
   swept = record (at_rest p) { counts = counts; spot = v.spot; least = v.least }
 
@@ -168,7 +191,9 @@ module _ {t : Terms} {p : PassView} {counts heights : List ℕ} {a : ℕ} {v : V
   unfolding swept
   closed_seen = seen_is t a swept last_swept.stands all_swept b.all.below
 
-  pub closed_leads : (history : List ℕ) → length history ≡ length p.receipts → Tells p.receipts history → LeadsTo t.start history heights counts
+  pub closed_leads : (history : List ℕ) → length history ≡ length p.receipts → Tells p.receipts history
+      → LeadsTo t.start history heights counts
   unfolding swept
   closed_leads history long told =
-      leads t a swept heights last_swept all_swept (whole_base t p b.all.grid b.all.one_each b.all.whole) refl b.calm history (b.same_rows ∙ whole_counts t p b.all.grid b.all.one_each b.all.whole) long told
+      leads t a swept heights last_swept all_swept (whole_base t p b.all.grid b.all.one_each b.all.whole)
+      refl b.calm history (b.same_rows ∙ whole_counts t p b.all.grid b.all.one_each b.all.whole) long told

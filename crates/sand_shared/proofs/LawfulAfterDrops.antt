@@ -46,15 +46,24 @@ module _ (t : Terms) (p : OpenPile) (a i : ℕ) (r : IsLawful t p) (may : May t 
       let Q : Receipt → Type 0 = λ q. slice_get (p.drawn ++ i ∷ []) q.number ≡ Some q.site in
       record {
         seen = omega (arith, length-append p.drawn (i ∷ []));
-        receipts = All-append Q v.receipts (receipt n i ∷ []) (λ k d l. get_longer p.drawn i _ _ (f.receipts k d l)) (All-cons Q (receipt n i) [] (get_last p.drawn i) (All-nil Q));
-        hand = λ j l. (let h = f.hand j l in let b = held-append v.hand (grains i 1 ∷ []) j in let c = dropped-push v.receipts n i j in omega arith);
+        receipts = All-append Q v.receipts (receipt n i ∷ []) (λ k d l. get_longer p.drawn i _ _ (f.receipts k d l))
+            (All-cons Q (receipt n i) [] (get_last p.drawn i) (All-nil Q));
+        hand = λ j l. (let h = f.hand j l in
+            let b = held-append v.hand (grains i 1 ∷ []) j in
+            let c = dropped-push v.receipts n i j in
+            omega arith);
         least = f.least;
       }
 
   other_pass : (u : View) → IsLawfulPass t p u → IsLawfulPass t (after t p (draw a i)) u
   other_pass u f =
       let seen = f.seen in
-      record { seen = omega (arith, length-append p.drawn (i ∷ [])); receipts = λ k d l. get_longer p.drawn i _ _ (f.receipts k d l); hand = f.hand; least = f.least }
+      record {
+        seen = omega (arith, length-append p.drawn (i ∷ []));
+        receipts = λ k d l. get_longer p.drawn i _ _ (f.receipts k d l);
+        hand = f.hand;
+        least = f.least;
+      }
 
   pub draw_keeps : IsLawful t (after t p (draw a i))
   draw_keeps =
@@ -69,21 +78,41 @@ module _ (t : Terms) (p : OpenPile) (a i : ℕ) (r : IsLawful t p) (may : May t 
       let longer = length-append p.drawn (i ∷ []) in
       let some_left = may.some_left in
       record {
-        balance = balance_kept (grid_of_terms t) (poured t p) (toppled p) (present p) (poured t q) (toppled q) (present q) still
-            (λ j l. let c = changed (λ u. held u.hand j) in let h = held-append v.hand (grains i 1 ∷ []) j in let d = tally-push p.drawn i j in omega arith) r.balance;
+        balance = balance_kept (grid_of_terms t) (poured t p) (toppled p)
+            (present p) (poured t q) (toppled q) (present q) still
+            (λ j l.
+            let c = changed (λ u. held u.hand j) in
+            let h = held-append v.hand (grains i 1 ∷ []) j in
+            let d = tally-push p.drawn i j in
+            omega arith) r.balance;
         needed = λ x stab j l. (let e = still j in
-            let m = r.needed x (stabilises_fewer (grid_of_terms t) (poured t p) (poured t q) x (λ k _. let d = tally-push p.drawn i k in omega arith) stab) j l in omega arith);
-        numbers = λ x. (let c = changed (λ u. numbered u.receipts x) in let b = numbered-push v.receipts n i x in let o = r.numbers x in let m = once_more x n in
+            let m = r.needed x (stabilises_fewer (grid_of_terms t) (poured t p)
+            (poured t q) x (λ k _. let d = tally-push p.drawn i k in omega arith) stab)
+            j l in
+            omega arith);
+        numbers = λ x. (let c = changed (λ u. numbered u.receipts x) in
+            let b = numbered-push v.receipts n i x in
+            let o = r.numbers x in
+            let m = once_more x n in
             let e = ap (λ k. one_if (ltb x k)) longer in omega arith);
-        receipts = (let c = changed (λ u. length u.receipts) in let o = r.receipts in let b = length-append v.receipts (receipt n i ∷ []) in omega arith);
-        receipts_by_site = λ j. (let c = changed (λ u. dropped u.receipts j) in let b = dropped-push v.receipts n i j in let o = r.receipts_by_site j in let d = tally-push p.drawn i j in omega arith);
-        all_sites = All-append (λ j. j < sites (grid_of_terms t)) p.drawn (i ∷ []) r.all_sites (All-cons (λ j. j < sites (grid_of_terms t)) i [] may.inside (All-nil (λ j. j < sites (grid_of_terms t))));
+        receipts = (let c = changed (λ u. length u.receipts) in
+            let o = r.receipts in
+            let b = length-append v.receipts (receipt n i ∷ []) in
+            omega arith);
+        receipts_by_site = λ j. (let c = changed (λ u. dropped u.receipts j) in
+            let b = dropped-push v.receipts n i j in
+            let o = r.receipts_by_site j in
+            let d = tally-push p.drawn i j in
+            omega arith);
+        all_sites = All-append (λ j. j < sites (grid_of_terms t)) p.drawn (i ∷ []) r.all_sites
+            (All-cons (λ j. j < sites (grid_of_terms t)) i [] may.inside (All-nil (λ j. j < sites (grid_of_terms t))));
         quota = (let c = changed (λ u. u.left) in let o = r.quota in omega arith);
         holders = λ j l. kept (λ u. one_if (holds_site u j)) refl ∙ r.holders j l;
         passes = all_after (IsLawfulPass t p) (IsLawfulPass t q) p.passes a w drawn_pass other_pass r.passes;
       }
 
-module _ (t : Terms) (p : OpenPile) (a i k : ℕ) (r : IsLawful t p) (there : a < length p.passes) (in_hand : 0 < count_by (are_for i k) (pass_at p a).hand) where
+module _ (t : Terms) (p : OpenPile) (a i k : ℕ) (r : IsLawful t p) (there : a < length p.passes)
+    (in_hand : 0 < count_by (are_for i k) (pass_at p a).hand) where
   taken : (j : ℕ) → held (pass_at p a).hand j ≡ amount_at i k j + held (without i k (pass_at p a).hand) j
   taken j = held-without i k (pass_at p a).hand j in_hand
 
@@ -91,12 +120,25 @@ module _ (t : Terms) (p : OpenPile) (a i k : ℕ) (r : IsLawful t p) (there : a 
   arrived_keeps =
       let v = pass_at p a in
       let mine = r.passes a nobody there in
-      still_lawful t p a v.seen v.spot v.least (without i k v.hand) (λ j. p.height j + amount_at i k j) r there (λ j. let h = taken j in omega arith)
-      record { seen = mine.seen; receipts = mine.receipts; hand = λ j l. (let h = taken j in let o = mine.hand j l in omega arith); least = λ own l. (let o = mine.least own l in omega arith) }
-      (λ u f. record { seen = f.seen; receipts = f.receipts; hand = f.hand; least = λ own l. (let o = f.least own l in omega arith) })
+      still_lawful t p a v.seen v.spot v.least (without i k v.hand)
+      (λ j. p.height j + amount_at i k j) r there (λ j. let h = taken j in omega arith)
+      record {
+        seen = mine.seen;
+        receipts = mine.receipts;
+        hand = λ j l. (let h = taken j in let o = mine.hand j l in omega arith);
+        least = λ own l. (let o = mine.least own l in omega arith);
+      }
+      (λ u f. record {
+        seen = f.seen;
+        receipts = f.receipts;
+        hand = f.hand;
+        least = λ own l. (let o = f.least own l in omega arith);
+      })
 
-pub place_keeps : (t : Terms) (p : OpenPile) (a i : ℕ) → IsLawful t p → May t p (place a i) → IsLawful t (after t p (place a i))
+pub place_keeps : (t : Terms) (p : OpenPile) (a i : ℕ) → IsLawful t p → May t p (place a i)
+    → IsLawful t (after t p (place a i))
 place_keeps t p a i r may = arrived_keeps t p a i 1 r may.there may.in_hand
 
-pub deliver_keeps : (t : Terms) (p : OpenPile) (a i k : ℕ) → IsLawful t p → May t p (deliver a i k) → IsLawful t (after t p (deliver a i k))
+pub deliver_keeps : (t : Terms) (p : OpenPile) (a i k : ℕ) → IsLawful t p → May t p (deliver a i k)
+    → IsLawful t (after t p (deliver a i k))
 deliver_keeps t p a i k r may = arrived_keeps t p a i k r may.there may.in_hand

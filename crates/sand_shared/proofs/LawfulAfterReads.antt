@@ -12,9 +12,13 @@ use Rattle.sand_shared.proofs.SumsOverPasses.{sum_by_kept, all_after}
 use Rattle.sand_shared.proofs.Balance.{balance_kept}
 
 -- a pass that neither drops nor topples: each site has as many grains, on it and in hand, as before
-pub still_lawful : (t : Terms) (p : OpenPile) (a seen spot least : ℕ) (hand : List Grains) (height : ℕ → ℕ) → IsLawful t p → a < length p.passes
-    → let w = record (pass_at p a) { seen = seen; hand = hand; spot = spot; least = least } in let q = record (with_pass p a w) { height = height } in
-    ((i : ℕ) → held hand i + height i ≡ held (pass_at p a).hand i + p.height i) → IsLawfulPass t q w → ((u : View) → IsLawfulPass t p u → IsLawfulPass t q u) → IsLawful t q
+pub still_lawful : (t : Terms) (p : OpenPile) (a seen spot least : ℕ) (hand : List Grains) (height : ℕ → ℕ)
+    → IsLawful t p → a < length p.passes
+    → let w = record (pass_at p a) { seen = seen; hand = hand; spot = spot; least = least } in
+    let q = record (with_pass p a w) { height = height } in
+    ((i : ℕ) → held hand i + height i ≡ held (pass_at p a).hand i + p.height i)
+    → IsLawfulPass t q w → ((u : View) → IsLawfulPass t p u → IsLawfulPass t q u)
+    → IsLawful t q
 still_lawful t p a seen spot least hand height r there same mine others =
     let v = pass_at p a in
     let w = record v { seen = seen; hand = hand; spot = spot; least = least } in
@@ -22,8 +26,12 @@ still_lawful t p a seen spot least hand height r there same mine others =
     let kept = λ (f : View → ℕ) (e : f w ≡ f v). sum_by_kept f p.passes a w nobody there e in
     let still = λ (i : ℕ). kept (λ u. toppled_by u i) refl in
     record {
-      balance = balance_kept (grid_of_terms t) (poured t p) (toppled p) (present p) (poured t q) (toppled q) (present q) still
-          (λ i l. let c = sum_by-set (λ (u : View). held u.hand i) p.passes a w nobody there in let e = same i in omega arith) r.balance;
+      balance =
+          balance_kept (grid_of_terms t) (poured t p) (toppled p) (present p) (poured t q) (toppled q) (present q) still
+          (λ i l.
+          let c = sum_by-set (λ (u : View). held u.hand i) p.passes a w nobody there in
+          let e = same i in
+          omega arith) r.balance;
       needed = λ x stab i l. (let e = still i in let n = r.needed x stab i l in omega arith);
       numbers = λ n. kept (λ u. numbered u.receipts n) refl ∙ r.numbers n;
       receipts = kept (λ u. length u.receipts) refl ∙ r.receipts;
@@ -43,8 +51,14 @@ learns t p a seen spot least r there le found =
     record { seen = le; receipts = mine.receipts; hand = mine.hand; least = found }
     (λ u f. record { seen = f.seen; receipts = f.receipts; hand = f.hand; least = f.least })
 
-pub count_keeps : (t : Terms) (p : OpenPile) (a : ℕ) → IsLawful t p → May t p (count a) → IsLawful t (after t p (count a))
-count_keeps t p a r may = let v = pass_at p a in learns t p a (length p.drawn) v.spot v.least r may (omega arith) (r.passes a nobody may).least
+pub count_keeps : (t : Terms) (p : OpenPile) (a : ℕ) → IsLawful t p → May t p (count a)
+    → IsLawful t (after t p (count a))
+count_keeps t p a r may =
+    let v = pass_at p a in
+    learns t p a (length p.drawn) v.spot v.least r may (omega arith) (r.passes a nobody may).least
 
-pub look_keeps : (t : Terms) (p : OpenPile) (a i : ℕ) → IsLawful t p → May t p (look a i) → IsLawful t (after t p (look a i))
-look_keeps t p a i r may = let v = pass_at p a in learns t p a v.seen i (p.height i) r may.there (r.passes a nobody may.there).seen (λ _ _. omega arith)
+pub look_keeps : (t : Terms) (p : OpenPile) (a i : ℕ) → IsLawful t p → May t p (look a i)
+    → IsLawful t (after t p (look a i))
+look_keeps t p a i r may =
+    let v = pass_at p a in
+    learns t p a v.seen i (p.height i) r may.there (r.passes a nobody may.there).seen (λ _ _. omega arith)

@@ -22,7 +22,8 @@ pub record SharesOut (v w x y : View) : Type 0 where
   pub drops : (i : ℕ) → dropped x.receipts i + dropped y.receipts i ≡ dropped v.receipts i + dropped w.receipts i
   pub hands : (i : ℕ) → held x.hand i + held y.hand i ≡ held v.hand i + held w.hand i
   pub toppled : (i : ℕ) → toppled_by x i + toppled_by y i ≡ toppled_by v i + toppled_by w i
-  pub sites_held : (i : ℕ) → one_if (holds_site x i) + one_if (holds_site y i) ≡ one_if (holds_site v i) + one_if (holds_site w i)
+  pub sites_held : (i : ℕ)
+      → one_if (holds_site x i) + one_if (holds_site y i) ≡ one_if (holds_site v i) + one_if (holds_site w i)
 
 -- a pass with nothing adds nothing
 none_held : (i : ℕ) → one_if (holds_site nobody i) ≡ 0
@@ -36,7 +37,8 @@ regrouped t p views v w x y r a stays each =
     let q = record p { passes = views } in
     let still = λ (i : ℕ). stays (λ u. toppled_by u i) (a.toppled i) (none_toppled nobody i refl) in
     record {
-      balance = balance_kept (grid_of_terms t) (poured t p) (toppled p) (present p) (poured t q) (toppled q) (present q) still (λ i l. let h = stays (λ u. held u.hand i) (a.hands i) refl in omega arith) r.balance;
+      balance = balance_kept (grid_of_terms t) (poured t p) (toppled p) (present p) (poured t q) (toppled q)
+          (present q) still (λ i l. let h = stays (λ u. held u.hand i) (a.hands i) refl in omega arith) r.balance;
       needed = λ z stab i l. (let e = still i in let n = r.needed z stab i l in omega arith);
       numbers = λ n. stays (λ u. numbered u.receipts n) (a.numbers n) refl ∙ r.numbers n;
       receipts = stays (λ u. length u.receipts) a.receipts refl ∙ r.receipts;
@@ -47,11 +49,13 @@ regrouped t p views v w x y r a stays each =
       passes = each;
     }
 
-same_pile : (t : Terms) (p : OpenPile) (views : List View) (u : View) → IsLawfulPass t p u → IsLawfulPass t (record p { passes = views }) u
+same_pile : (t : Terms) (p : OpenPile) (views : List View) (u : View) → IsLawfulPass t p u
+    → IsLawfulPass t (record p { passes = views }) u
 same_pile t p views u f = record { seen = f.seen; receipts = f.receipts; hand = f.hand; least = f.least }
 
 -- a pass with nothing in hand, no receipts and no look
-bare_pass : (t : Terms) (p : OpenPile) (u : View) → u.seen ≤ length p.drawn → u.receipts ≡ [] → u.hand ≡ [] → u.least ≡ 0 → IsLawfulPass t p u
+bare_pass : (t : Terms) (p : OpenPile) (u : View) → u.seen ≤ length p.drawn
+    → u.receipts ≡ [] → u.hand ≡ [] → u.least ≡ 0 → IsLawfulPass t p u
 bare_pass t p u seen none free unknown =
     let P : Receipt → Type 0 = λ q. slice_get p.drawn q.number ≡ Some q.site in
     record {
@@ -73,8 +77,11 @@ module _ (t : Terms) (p : OpenPile) (a q n : ℕ) (r : IsLawful t p) (may : May 
         numbers = λ x. omega arith;
         drops = λ i. omega arith;
         hands = λ i. omega arith;
-        toppled = λ i. (let b = parts_toppled (parent v q n) (child v q n) v parts i in let z = none_toppled nobody i refl in omega arith);
-        sites_held = λ i. (let b = parts_hold (parent v q n) (child v q n) v parts i in let z = none_held i in omega arith);
+        toppled = λ i. (let b = parts_toppled (parent v q n) (child v q n) v parts i in
+            let z = none_toppled nobody i refl in
+            omega arith);
+        sites_held = λ i.
+            (let b = parts_hold (parent v q n) (child v q n) v parts i in let z = none_held i in omega arith);
       }
 
   pub split_keeps : IsLawful t (after t p (split a q n))
@@ -85,10 +92,18 @@ module _ (t : Terms) (p : OpenPile) (a q n : ℕ) (r : IsLawful t p) (may : May 
       let views = set p.passes a x ++ y ∷ [] in
       let P = IsLawfulPass t (record p { passes = views }) in
       let f = r.passes a nobody may.there in
-      let mine : P x = record { seen = f.seen; receipts = f.receipts; hand = λ i l. (let e : held v.hand i ≡ 0 = ap (λ hand. held hand i) may.free in omega arith); least = λ own l. omega arith } in
+      let mine : P x = record {
+        seen = f.seen;
+        receipts = f.receipts;
+        hand = λ i l. (let e : held v.hand i ≡ 0 = ap (λ hand. held hand i) may.free in omega arith);
+        least = λ own l. omega arith;
+      } in
       regrouped t p views v nobody x y r split_shares
-      (λ f even zero. let c = sum_by-set f p.passes a x nobody may.there in let d = sum_by_push f (set p.passes a x) y in omega arith)
-      (All-append P (set p.passes a x) (y ∷ []) (All-set P p.passes a x mine (λ k d l. same_pile t p views _ (r.passes k d l))) (All-cons P y [] (bare_pass t (record p { passes = views }) y f.seen refl refl refl) (All-nil P)))
+      (λ f even zero.
+      let c = sum_by-set f p.passes a x nobody may.there in let d = sum_by_push f (set p.passes a x) y in omega arith)
+      (All-append P (set p.passes a x) (y ∷ [])
+      (All-set P p.passes a x mine (λ k d l. same_pile t p views _ (r.passes k d l)))
+      (All-cons P y [] (bare_pass t (record p { passes = views }) y f.seen refl refl refl) (All-nil P)))
 
 module _ (t : Terms) (p : OpenPile) (a b : ℕ) (r : IsLawful t p) (may : May t p (join a b)) where
   join_shares : SharesOut (pass_at p a) (pass_at p b) (joined (pass_at p a) (pass_at p b)) nobody
@@ -98,10 +113,15 @@ module _ (t : Terms) (p : OpenPile) (a b : ℕ) (r : IsLawful t p) (may : May t 
       record {
         left = omega arith;
         receipts = (let c = length-append v.receipts w.receipts in omega arith);
-        numbers = λ n. (let c = sum_by-append (λ (z : Receipt). one_if (eqb z.number n)) v.receipts w.receipts in omega arith);
-        drops = λ i. (let c = sum_by-append (λ (z : Receipt). one_if (eqb z.site i)) v.receipts w.receipts in omega arith);
-        hands = λ i. (let c : held v.hand i ≡ 0 = ap (λ hand. held hand i) may.free in let d : held w.hand i ≡ 0 = ap (λ hand. held hand i) may.other_free in omega arith);
-        toppled = λ i. (let c = (joined_rows v w i may.touch).toppled in let z = none_toppled nobody i refl in omega arith);
+        numbers = λ n.
+            (let c = sum_by-append (λ (z : Receipt). one_if (eqb z.number n)) v.receipts w.receipts in omega arith);
+        drops = λ i.
+            (let c = sum_by-append (λ (z : Receipt). one_if (eqb z.site i)) v.receipts w.receipts in omega arith);
+        hands = λ i. (let c : held v.hand i ≡ 0 = ap (λ hand. held hand i) may.free in
+            let d : held w.hand i ≡ 0 = ap (λ hand. held hand i) may.other_free in
+            omega arith);
+        toppled = λ i.
+            (let c = (joined_rows v w i may.touch).toppled in let z = none_toppled nobody i refl in omega arith);
         sites_held = λ i. (let c = (joined_rows v w i may.touch).held in let z = none_held i in omega arith);
       }
 
@@ -115,7 +135,8 @@ module _ (t : Terms) (p : OpenPile) (a b : ℕ) (r : IsLawful t p) (may : May t 
       let seen' = g.seen in
       record {
         seen = omega arith;
-        receipts = All-append (λ (z : Receipt). slice_get p.drawn z.number ≡ Some z.site) v.receipts w.receipts f.receipts g.receipts;
+        receipts = All-append (λ (z : Receipt). slice_get p.drawn z.number ≡ Some z.site)
+            v.receipts w.receipts f.receipts g.receipts;
         hand = λ i l. omega arith;
         least = λ own l. omega arith;
       }
@@ -131,6 +152,10 @@ module _ (t : Terms) (p : OpenPile) (a b : ℕ) (r : IsLawful t p) (may : May t 
       let still : get_or halfway b nobody ≡ w = get_or-set_other p.passes a b x nobody may.apart in
       let long = length-set p.passes a x in
       regrouped t p views v w x nobody r join_shares
-      (λ f even zero. let c = sum_by-set f p.passes a x nobody may.there in let d = sum_by-set f halfway b nobody nobody (let l = may.other_there in omega arith) in let e = ap f still in omega arith)
+      (λ f even zero.
+      let c = sum_by-set f p.passes a x nobody may.there in
+      let d = sum_by-set f halfway b nobody nobody (let l = may.other_there in omega arith) in
+      let e = ap f still in
+      omega arith)
       (All-set P halfway b nobody (bare_pass t (record p { passes = views }) nobody (omega arith) refl refl refl)
       (All-set P p.passes a x (joined_pass views) (λ k d l. same_pile t p views _ (r.passes k d l))))

@@ -21,7 +21,12 @@ module _ (t : Terms) (p : OpenPile) (a i k : ℕ) (r : IsLawful t p) (may : May 
   -- what the site loses
   height_given : (j : ℕ) → (p.height j - amount_at i (4 * k) j) + 4 * amount_at i k j ≡ p.height j
   height_given j = ⊎_elim
-      (λ (e : i ≡ j). let b = amount_here i k j e in let c = amount_here i (4 * k) j e in let h = ap p.height e in let high = may.high in omega arith)
+      (λ (e : i ≡ j).
+      let b = amount_here i k j e in
+      let c = amount_here i (4 * k) j e in
+      let h = ap p.height e in
+      let high = may.high in
+      omega arith)
       (λ (ne : i ≡ j → ⊥). let b = amount_else i k j ne in let c = amount_else i (4 * k) j ne in omega arith)
       (cases_eq i j)
 
@@ -32,10 +37,14 @@ module _ (t : Terms) (p : OpenPile) (a i k : ℕ) (r : IsLawful t p) (may : May 
       let e = toppled-unloaded t (pass_at p a) i k j may.own in omega arith
 
   -- what the hand gets for j
-  more_held : (j : ℕ) → j < sites (grid_of_terms t) → held (unloaded t (pass_at p a) i k).hand j ≡ held (pass_at p a).hand j + flow (grid_of_terms t) (amount_at i k) j
-  more_held j l = held-append (pass_at p a).hand (sent t i k) j ∙ ap (λ n. held (pass_at p a).hand j + n) (held-sent t i k j ∙ sym (flow-amount (grid_of_terms t) i k j may.inside l))
+  more_held : (j : ℕ) → j < sites (grid_of_terms t)
+      → held (unloaded t (pass_at p a) i k).hand j
+      ≡ held (pass_at p a).hand j + flow (grid_of_terms t) (amount_at i k) j
+  more_held j l = held-append (pass_at p a).hand (sent t i k) j ∙ ap (λ n. held (pass_at p a).hand j + n)
+      (held-sent t i k j ∙ sym (flow-amount (grid_of_terms t) i k j may.inside l))
 
-  unload_balance : IsToppled (grid_of_terms t) (poured t (after t p (unload a i k))) (toppled (after t p (unload a i k))) (present (after t p (unload a i k)))
+  unload_balance : IsToppled (grid_of_terms t) (poured t (after t p (unload a i k)))
+      (toppled (after t p (unload a i k))) (present (after t p (unload a i k)))
   unload_balance = record {
     balance = λ j l.
         let g = grid_of_terms t in
@@ -49,7 +58,8 @@ module _ (t : Terms) (p : OpenPile) (a i k : ℕ) (r : IsLawful t p) (may : May 
         let f = flow-add g (toppled p) (amount_at i k) j in omega arith;
   }
 
-  unload_needed : (w : ℕ → ℕ) → Stabilises (grid_of_terms t) (poured t p) w → (j : ℕ) → j < sites (grid_of_terms t) → toppled (after t p (unload a i k)) j ≤ w j
+  unload_needed : (w : ℕ → ℕ) → Stabilises (grid_of_terms t) (poured t p) w → (j : ℕ) → j < sites (grid_of_terms t)
+      → toppled (after t p (unload a i k)) j ≤ w j
   unload_needed w stab j l =
       let u = more_toppled j in
       let bound = r.needed w stab j l in
@@ -58,7 +68,8 @@ module _ (t : Terms) (p : OpenPile) (a i k : ℕ) (r : IsLawful t p) (may : May 
       let c = amount_here i k j e in
       let b = r.balance.balance i may.inside in
       let high = may.high in
-      let step = least_action (grid_of_terms t) (poured t p) (toppled p) w i k may.inside stab (r.needed w stab) (omega arith) in
+      let step =
+      least_action (grid_of_terms t) (poured t p) (toppled p) w i k may.inside stab (r.needed w stab) (omega arith) in
       let x = ap (toppled p) e in
       let y = ap w e in omega arith)
       (λ (ne : i ≡ j → ⊥). let c = amount_else i k j ne in omega arith)
@@ -74,7 +85,8 @@ module _ (t : Terms) (p : OpenPile) (a i k : ℕ) (r : IsLawful t p) (may : May 
         receipts = f.receipts;
         hand = λ j l. (let h = f.hand j l in
             let d = more_held j l in
-            let e = flow_same g (toppled_by (unloaded t v i k)) (λ m. toppled_by v m + amount_at i k m) (λ m _. toppled-unloaded t v i k m may.own) j l in
+            let e = flow_same g (toppled_by (unloaded t v i k))
+            (λ m. toppled_by v m + amount_at i k m) (λ m _. toppled-unloaded t v i k m may.own) j l in
             let b = flow-add g (toppled_by v) (amount_at i k) j in omega arith);
         least = λ own l. omega arith;
       }
@@ -89,20 +101,24 @@ module _ (t : Terms) (p : OpenPile) (a i k : ℕ) (r : IsLawful t p) (may : May 
         receipts = f.receipts;
         hand = f.hand;
         least = λ own l. (let o = f.least own l in
-            let apart : i ≢ u.spot = λ e. clash (ap (holds_site u) e ∙ own) (others_without t p r a i may.there may.inside may.own b lb ne) in
+            let apart : i ≢ u.spot =
+            λ e. clash (ap (holds_site u) e ∙ own) (others_without t p r a i may.there may.inside may.own b lb ne) in
             let c = amount_else i (4 * k) u.spot apart in omega arith);
       }
     where
       clash : {b : Bool} → b ≡ true → b ≡ false → ⊥
       clash x y = cc
 
-  unloaded_passes : (b : ℕ) → b < length p.passes → IsLawfulPass t (after t p (unload a i k)) (get_or (set p.passes a (unloaded t (pass_at p a) i k)) b nobody)
+  unloaded_passes : (b : ℕ) → b < length p.passes
+      → IsLawfulPass t (after t p (unload a i k)) (get_or (set p.passes a (unloaded t (pass_at p a) i k)) b nobody)
   unloaded_passes b lb =
       let q = after t p (unload a i k) in
       let w = unloaded t (pass_at p a) i k in
       ⊎_elim
-      (λ (e : b ≡ a). subst (λ z. IsLawfulPass t q (get_or (set p.passes a w) z nobody)) (sym e) (subst (IsLawfulPass t q) (sym (get_or-set_same p.passes a w nobody may.there)) unloaded_pass))
-      (λ (ne : b ≡ a → ⊥). subst (IsLawfulPass t q) (sym (get_or-set_other p.passes a b w nobody ne)) (other_pass b lb ne))
+      (λ (e : b ≡ a). subst (λ z. IsLawfulPass t q (get_or (set p.passes a w) z nobody)) (sym e)
+      (subst (IsLawfulPass t q) (sym (get_or-set_same p.passes a w nobody may.there)) unloaded_pass))
+      (λ (ne : b ≡ a → ⊥).
+      subst (IsLawfulPass t q) (sym (get_or-set_other p.passes a b w nobody ne)) (other_pass b lb ne))
       (cases_eq b a)
 
   pub unload_keeps : IsLawful t (after t p (unload a i k))
@@ -120,5 +136,6 @@ module _ (t : Terms) (p : OpenPile) (a i k : ℕ) (r : IsLawful t p) (may : May 
         all_sites = r.all_sites;
         quota = (let e = kept (λ u. u.left) refl in let o = r.quota in omega arith);
         holders = λ j l. kept (λ u. one_if (holds_site u j)) (ap one_if (holds-unloaded t v i k j)) ∙ r.holders j l;
-        passes = all_at (IsLawfulPass t q) q.passes nobody (λ b lb. unloaded_passes b (let e = length-set p.passes a w in omega arith));
+        passes = all_at (IsLawfulPass t q) q.passes nobody
+            (λ b lb. unloaded_passes b (let e = length-set p.passes a w in omega arith));
       }

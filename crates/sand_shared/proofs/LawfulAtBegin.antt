@@ -29,12 +29,16 @@ some_sites g sides =
 
 module _ (t : Terms) where
   none_yet : (i : ℕ) → toppled (after t (unopened t) begin) i ≡ 0
-  none_yet i = let a = toppled_from (first_pass t) i (omega arith) in let b = get-zeros (sites (grid_of_terms t)) (i - 0) in omega arith
+  none_yet i =
+      let a = toppled_from (first_pass t) i (omega arith) in
+      let b = get-zeros (sites (grid_of_terms t)) (i - 0) in
+      omega arith
 
   all_held : (i : ℕ) → i < sites (grid_of_terms t) → one_if (holds_site (first_pass t) i) ≡ 1
   all_held i l = let long = length-zeros (sites (grid_of_terms t)) in held long
     where
-      held : length (zeros (sites (grid_of_terms t))) ≡ sites (grid_of_terms t) → one_if (holds_site (first_pass t) i) ≡ 1
+      held : length (zeros (sites (grid_of_terms t))) ≡ sites (grid_of_terms t)
+          → one_if (holds_site (first_pass t) i) ≡ 1
       held long = grind (arith, nat_tests)
 
   first_lawful : IsLawfulPass t (after t (unopened t) begin) (first_pass t)
@@ -47,7 +51,11 @@ module _ (t : Terms) where
 
   pub begun : IsLawful t (after t (unopened t) begin)
   begun = record {
-    balance = record { balance = λ i l. (let a = none_yet i in let b = flow_none (grid_of_terms t) (toppled (after t (unopened t) begin)) i l (λ j _. none_yet j) in omega arith) };
+    balance = record {
+      balance = λ i l. (let a = none_yet i in
+          let b = flow_none (grid_of_terms t) (toppled (after t (unopened t) begin)) i l (λ j _. none_yet j) in
+          omega arith);
+    };
     needed = λ w stab i l. (let a = none_yet i in omega arith);
     numbers = λ n. grind (arith, nat_tests);
     receipts = refl;
@@ -55,5 +63,6 @@ module _ (t : Terms) where
     all_sites = All-nil (λ i. i < sites (grid_of_terms t));
     quota = omega arith;
     holders = λ i l. (let a = all_held i l in omega arith);
-    passes = All-cons (IsLawfulPass t (after t (unopened t) begin)) (first_pass t) [] first_lawful (All-nil (IsLawfulPass t (after t (unopened t) begin)));
+    passes = All-cons (IsLawfulPass t (after t (unopened t) begin)) (first_pass t)
+        [] first_lawful (All-nil (IsLawfulPass t (after t (unopened t) begin)));
   }

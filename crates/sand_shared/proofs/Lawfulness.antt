@@ -25,7 +25,8 @@ no_second_begin t p terms r none =
     let one = r.holders 0 (some_sites (grid_of_terms t) terms.pile.grid) in
     let zero_passes = ap (λ (l : List View). sum_by (λ v. one_if (holds_site v 0)) l) none in absurd (omega arith)
 
-pub event_keeps : (t : Terms) (p : OpenPile) (e : Event) → AreTerms t → IsLawful t p → May t p e → IsLawful t (after t p e)
+pub event_keeps : (t : Terms) (p : OpenPile) (e : Event) → AreTerms t → IsLawful t p → May t p e
+    → IsLawful t (after t p e)
 event_keeps t p begin terms r may = no_second_begin t p terms r may
 event_keeps t p (draw a i) terms r may = draw_keeps t p a i r may
 event_keeps t p (place a i) terms r may = place_keeps t p a i r may
@@ -36,23 +37,28 @@ event_keeps t p (look a i) terms r may = look_keeps t p a i r may
 event_keeps t p (unload a i k) terms r may = unload_keeps t p a i k r may
 event_keeps t p (deliver a i k) terms r may = deliver_keeps t p a i k r may
 
-pub all_keep : (t : Terms) (p : OpenPile) (events : List Event) → AreTerms t → IsLawful t p → AllHappen t p events → IsLawful t (after_all t p events)
+pub all_keep : (t : Terms) (p : OpenPile) (events : List Event) → AreTerms t → IsLawful t p → AllHappen t p events
+    → IsLawful t (after_all t p events)
 all_keep t p [] terms r happen = r
 all_keep t p (e ∷ es) terms r happen = all_keep t (after t p e) es terms (event_keeps t p e terms r happen.0) happen.1
 
-pub always_lawful : (t : Terms) (events : List Event) → AreTerms t → AllHappen t (unopened t) (begin ∷ events) → IsLawful t (after_all t (unopened t) (begin ∷ events))
+pub always_lawful : (t : Terms) (events : List Event) → AreTerms t → AllHappen t (unopened t) (begin ∷ events)
+    → IsLawful t (after_all t (unopened t) (begin ∷ events))
 always_lawful t events terms happen = all_keep t (after t (unopened t) begin) events terms (begun t) happen.1
 
-pub after_all-push : (t : Terms) (p : OpenPile) (es : List Event) (e : Event) → after_all t p (es ++ e ∷ []) ≡ after t (after_all t p es) e
+pub after_all-push : (t : Terms) (p : OpenPile) (es : List Event) (e : Event)
+    → after_all t p (es ++ e ∷ []) ≡ after t (after_all t p es) e
 after_all-push t p [] e = refl
 after_all-push t p (x ∷ xs) e = after_all-push t (after t p x) xs e
 
-pub happen_push : (t : Terms) (p : OpenPile) (es : List Event) (e : Event) → AllHappen t p es → May t (after_all t p es) e → AllHappen t p (es ++ e ∷ [])
+pub happen_push : (t : Terms) (p : OpenPile) (es : List Event) (e : Event)
+    → AllHappen t p es → May t (after_all t p es) e → AllHappen t p (es ++ e ∷ [])
 happen_push t p [] e happen may = (may, tt)
 happen_push t p (x ∷ xs) e happen may = (happen.0, happen_push t (after t p x) xs e happen.1 may)
 
 -- the grains on a site and in hand for it are at most the start and the quota together
-pub few_present : (t : Terms) (p : OpenPile) → AreTerms t → IsLawful t p → (i : ℕ) → i < sites (grid_of_terms t) → present p i ≤ sum t.start.heights + t.quota
+pub few_present : (t : Terms) (p : OpenPile) → AreTerms t → IsLawful t p → (i : ℕ) → i < sites (grid_of_terms t)
+    → present p i ≤ sum t.start.heights + t.quota
 few_present t p terms r i inside =
     let g = grid_of_terms t in
     let one = at_most_sum_below (sites g) (present p) i inside in

@@ -27,9 +27,11 @@ one_if_other a b ne = rw (ne_eqb a b ne)
 -- a number that was not yet seen is on no receipt
 numbered_none : (m n : ℕ) (rs : List Receipt) → AllBelow m rs → m ≤ n → numbered rs n ≡ 0
 numbered_none m n rs below le = sum_by_none (λ (r : Receipt). one_if (eqb r.number n)) rs (receipt 0 0)
-    (λ k l. let b = below k (receipt 0 0) l in one_if_other (get_or rs k (receipt 0 0)).number n (λ e. absurd (omega arith)))
+    (λ k l.
+    let b = below k (receipt 0 0) l in one_if_other (get_or rs k (receipt 0 0)).number n (λ e. absurd (omega arith)))
 
-pub once_more : (m n i : ℕ) (rs : List Receipt) → m ≤ n → AllBelow m rs → EachOnce rs → EachOnce (rs ++ receipt n i ∷ [])
+pub once_more : (m n i : ℕ) (rs : List Receipt) → m ≤ n → AllBelow m rs → EachOnce rs
+    → EachOnce (rs ++ receipt n i ∷ [])
 once_more m n i rs le below once x =
     let push = sum_by_push (λ (r : Receipt). one_if (eqb r.number x)) rs (receipt n i) in
     let before = once x in
@@ -44,10 +46,12 @@ all_below_more m n rs le below = λ k d l. let b = below k d l in omega arith
 pub below_push : (m n i : ℕ) (rs : List Receipt) → m ≤ n → AllBelow m rs → AllBelow (n + 1) (rs ++ receipt n i ∷ [])
 below_push m n i rs le below =
     let P : Receipt → Type 0 = λ r. r.number < n + 1 in
-    All-append P rs (receipt n i ∷ []) (all_below_more m (n + 1) rs (omega arith) below) (All-cons P (receipt n i) [] (omega arith) (All-nil P))
+    All-append P rs (receipt n i ∷ []) (all_below_more m (n + 1) rs (omega arith) below)
+    (All-cons P (receipt n i) [] (omega arith) (All-nil P))
 
 pub below_join : (m n : ℕ) (rs qs : List Receipt) → AllBelow m rs → AllBelow n qs → AllBelow (max m n) (rs ++ qs)
-below_join m n rs qs below below' = All-append (λ (r : Receipt). r.number < max m n) rs qs (all_below_more m (max m n) rs (omega arith) below) (all_below_more n (max m n) qs (omega arith) below')
+below_join m n rs qs below below' = All-append (λ (r : Receipt). r.number < max m n) rs qs
+    (all_below_more m (max m n) rs (omega arith) below) (all_below_more n (max m n) qs (omega arith) below')
 
 -- on a lawful pile no number is on two receipts
 pub stands_once : (t : Terms) (a : ℕ) (v : View) → Stands t a v → EachOnce v.receipts

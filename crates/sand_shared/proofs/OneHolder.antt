@@ -21,7 +21,8 @@ toppled_outside v i out = ⊎_elim
     behind : v.base ≤ i → length v.counts ≤ i - v.base
     behind past = grind (arith, nat_tests)
 
-module _ (t : Terms) (p : OpenPile) (r : IsLawful t p) (a i : ℕ) (there : a < length p.passes) (inside : i < sites (grid_of_terms t)) (own : holds_site (pass_at p a) i ≡ true) where
+module _ (t : Terms) (p : OpenPile) (r : IsLawful t p) (a i : ℕ) (there : a < length p.passes)
+    (inside : i < sites (grid_of_terms t)) (own : holds_site (pass_at p a) i ≡ true) where
   -- no other pass holds the site
   pub others_without : (b : ℕ) → b < length p.passes → b ≢ a → holds_site (pass_at p b) i ≡ false
   others_without b lb ne = ⊎_elim
@@ -34,4 +35,5 @@ module _ (t : Terms) (p : OpenPile) (r : IsLawful t p) (a i : ℕ) (there : a < 
 
   -- so the site's topplings are the holder's
   pub own_toppled : toppled p i ≡ toppled_by (pass_at p a) i
-  own_toppled = sum_by_only (λ (u : View). toppled_by u i) p.passes a nobody there (λ b lb ne. toppled_outside (pass_at p b) i (others_without b lb ne))
+  own_toppled = sum_by_only (λ (u : View). toppled_by u i) p.passes a nobody
+      there (λ b lb ne. toppled_outside (pass_at p b) i (others_without b lb ne))

@@ -16,16 +16,19 @@ module _ (x y : Inside) (inv : IsBare x) (inv' : IsBare y) (same : y.shape ≡ x
   pub joined_view : joined x.seat.me.0 y.seat.me.0 ≡ at_rest (together (shown x) (shown y))
   joined_view =
       (λ i. joined (inv.me i).0 (inv'.me i).0)
-      ∙ joined_rest (shown x) (shown y) inv.pass inv'.pass same x.seat.me.0.spot x.seat.me.0.least y.seat.me.0.spot y.seat.me.0.least
+      ∙ joined_rest (shown x) (shown y) inv.pass inv'.pass same
+      x.seat.me.0.spot x.seat.me.0.least y.seat.me.0.spot y.seat.me.0.least
 
   module _ (touch : (rows_follow x.rows y.rows || rows_follow y.rows x.rows) ≡ true) where
     pub seats_touch : (follows x.seat.me.0 y.seat.me.0 || follows y.seat.me.0 x.seat.me.0) ≡ true
     seats_touch =
         let there = follows_is (shown x) (shown y) inv.pass inv'.pass same in
         let back = follows_is (shown y) (shown x) inv'.pass inv.pass (sym same) in
-        (λ i. follows (inv.me i).0 (inv'.me i).0 || follows (inv'.me i).0 (inv.me i).0) ∙ (λ i. there i || back i) ∙ touch
+        (λ i. follows (inv.me i).0 (inv'.me i).0 || follows (inv'.me i).0 (inv.me i).0)
+        ∙ (λ i. there i || back i) ∙ touch
 
-    pub joined_pass : (t : Terms) (a : ℕ) (v : View) → v ≡ joined x.seat.me.0 y.seat.me.0 → Stands t a v → IsPass (together (shown x) (shown y))
+    pub joined_pass : (t : Terms) (a : ℕ) (v : View) → v ≡ joined x.seat.me.0 y.seat.me.0 → Stands t a v
+        → IsPass (together (shown x) (shown y))
     joined_pass t a v made stands =
         let p = shown x in
         let q = shown y in

@@ -13,31 +13,42 @@ use Rattle.sand_shared.specs.Rows.{count_of, upper_rows, lower_rows}
 use Rattle.sand_shared.proofs.RowsSplit.{AreSitesOf, whole_sites, upper_sites, lower_sites, parent_rest, child_rest}
 
 -- a pass that keeps its rows
-pub rows_kept : (x : Inside) (inv : IsBare x) (q : ℕ) → parent x.seat.me.0 q (length x.seat.me.0.counts - length x.counts.items) ≡ record (at_rest (record (shown x) { left = x.left - q })) { spot = x.seat.me.0.spot }
+pub rows_kept : (x : Inside) (inv : IsBare x) (q : ℕ)
+    → parent x.seat.me.0 q (length x.seat.me.0.counts - length x.counts.items)
+    ≡ record (at_rest (record (shown x) { left = x.left - q })) { spot = x.seat.me.0.spot }
 rows_kept x inv q =
     let cs = x.counts.items in
     let base = x.rows.first * x.shape.width in
     let all = take-length cs in
     let here = whole_sites x.shape x.rows cs inv.pass.grid inv.pass.rows inv.pass.one_each in
     ap (λ (m : Me ℕ View). parent m.0 q (length m.0.counts - length cs)) inv.me
-    ∙ parent_rest (shown x) q x.seat.me.0.spot x.seat.me.0.least (length cs) x.rows cs (omega arith) (x.left - q) refl all (subst (AreSitesOf x.shape x.rows base) (sym all) here)
+    ∙ parent_rest (shown x) q x.seat.me.0.spot x.seat.me.0.least (length cs) x.rows cs
+    (omega arith) (x.left - q) refl all (subst (AreSitesOf x.shape x.rows base) (sym all) here)
 
 module _ (x : Inside) (k : ℕ) where
   abbrev pub upper : PassView
   upper = record (shown x) { rows = upper_rows x.rows k; counts = take (sites_kept (shown x) k) x.counts.items }
 
   abbrev pub lower : PassView
-  lower = record (shown x) { left = 0; receipts = []; rows = lower_rows x.rows k; counts = drop (sites_kept (shown x) k) x.counts.items }
+  lower = record (shown
+      x) { left = 0; receipts = []; rows = lower_rows x.rows k; counts = drop (sites_kept (shown x) k) x.counts.items }
 
   module _ (inv : IsBare x) (few : k ≤ count_of x.rows) where
     sites_above : AreSitesOf x.shape (upper_rows x.rows k) (x.rows.first * x.shape.width) upper.counts
     sites_above = upper_sites x.shape x.rows x.counts.items k inv.pass.grid inv.pass.rows inv.pass.one_each few
 
-    sites_below : AreSitesOf x.shape (lower_rows x.rows k) (x.rows.first * x.shape.width + sites_kept (shown x) k) lower.counts
+    sites_below : AreSitesOf x.shape (lower_rows x.rows k)
+        (x.rows.first * x.shape.width + sites_kept (shown x) k) lower.counts
     sites_below = lower_sites x.shape x.rows x.counts.items k inv.pass.grid inv.pass.rows inv.pass.one_each few
 
     pub upper_pass : IsPass upper
-    upper_pass = record { once = inv.pass.once; below = inv.pass.below; grid = inv.pass.grid; rows = sites_above.rows; one_each = sites_above.one_each }
+    upper_pass = record {
+      once = inv.pass.once;
+      below = inv.pass.below;
+      grid = inv.pass.grid;
+      rows = sites_above.rows;
+      one_each = sites_above.one_each;
+    }
 
     pub lower_pass : IsPass lower
     lower_pass = record {
@@ -48,14 +59,17 @@ module _ (x : Inside) (k : ℕ) where
       one_each = sites_below.one_each;
     }
 
-    pub upper_has : parent x.seat.me.0 0 (length x.seat.me.0.counts - sites_kept (shown x) k) ≡ record (at_rest upper) { spot = x.seat.me.0.spot }
+    pub upper_has : parent x.seat.me.0 0 (length x.seat.me.0.counts - sites_kept (shown x) k)
+        ≡ record (at_rest upper) { spot = x.seat.me.0.spot }
     upper_has =
         let kept = sites_kept (shown x) k in
         ap (λ (m : Me ℕ View). parent m.0 0 (length m.0.counts - kept)) inv.me
-        ∙ parent_rest (shown x) 0 x.seat.me.0.spot x.seat.me.0.least kept (upper_rows x.rows k) upper.counts (omega arith) x.left (omega arith) refl sites_above
+        ∙ parent_rest (shown x) 0 x.seat.me.0.spot x.seat.me.0.least kept
+        (upper_rows x.rows k) upper.counts (omega arith) x.left (omega arith) refl sites_above
 
     pub lower_has : child x.seat.me.0 0 (length x.seat.me.0.counts - sites_kept (shown x) k) ≡ at_rest lower
     lower_has =
         let kept = sites_kept (shown x) k in
         ap (λ (m : Me ℕ View). child m.0 0 (length m.0.counts - kept)) inv.me
-        ∙ child_rest (shown x) 0 x.seat.me.0.spot x.seat.me.0.least kept (lower_rows x.rows k) lower.counts (omega arith) refl sites_below
+        ∙ child_rest (shown x) 0 x.seat.me.0.spot x.seat.me.0.least kept
+        (lower_rows x.rows k) lower.counts (omega arith) refl sites_below

@@ -26,7 +26,8 @@ get_set_else (y ∷ ys) (suc i) zero x n = refl
 get_set_else (y ∷ ys) (suc i) (suc j) x n = get_set_else ys i j x (λ e. n (ap suc e))
 
 -- two receipts have different numbers
-apart : (rs : List Receipt) (i j : ℕ) (d : Receipt) → EachOnce rs → i < length rs → j < length rs → j ≢ i → (get_or rs j d).number ≢ (get_or rs i d).number
+apart : (rs : List Receipt) (i j : ℕ) (d : Receipt) → EachOnce rs → i < length rs → j < length rs → j ≢ i
+    → (get_or rs j d).number ≢ (get_or rs i d).number
 apart rs i j d once li lj ne e =
     let n = (get_or rs i d).number in
     let two = sum_by_two (λ (r : Receipt). one_if (eqb r.number n)) rs i j d li lj ne in
@@ -34,21 +35,31 @@ apart rs i j d once li lj ne e =
     let a = one_if_same n n refl in
     let b = one_if_same (get_or rs j d).number n e in omega arith
 
-pub told_more : (rs : List Receipt) (j : ℕ) (d : Receipt) (history : List ℕ) → j < length rs → EachOnce rs → (get_or rs j d).number < length history
+pub told_more : (rs : List Receipt) (j : ℕ) (d : Receipt) (history : List ℕ)
+    → j < length rs → EachOnce rs → (get_or rs j d).number < length history
     → ((k : ℕ) → k < j → slice_get history (get_or rs k d).number ≡ Some (get_or rs k d).site)
-    → (k : ℕ) → k < j + 1 → slice_get (set history (get_or rs j d).number (get_or rs j d).site) (get_or rs k d).number ≡ Some (get_or rs k d).site
+    → (k : ℕ) → k < j + 1
+    → slice_get (set history (get_or rs j d).number (get_or rs j d).site) (get_or rs k d).number
+    ≡ Some (get_or rs k d).site
 told_more rs j d history there once inside before k up =
     let q = get_or rs j d in ⊎_elim
-    (λ (e : k ≡ j). ap (λ z. slice_get (set history q.number q.site) (get_or rs z d).number) e ∙ get_set_here history q.number q.site inside ∙ ap (λ z. Some (get_or rs z d).site) (sym e))
-    (λ (ne : k ≡ j → ⊥). get_set_else history q.number (get_or rs k d).number q.site (apart rs j k d once there (omega arith) ne) ∙ before k (omega arith))
+    (λ (e : k ≡ j). ap (λ z. slice_get (set history q.number q.site) (get_or rs z d).number) e
+    ∙ get_set_here history q.number q.site inside ∙ ap (λ z. Some (get_or rs z d).site) (sym e))
+    (λ (ne : k ≡ j → ⊥).
+    get_set_else history q.number (get_or rs k d).number q.site (apart rs j k d once there (omega arith) ne)
+    ∙ before k (omega arith))
     (cases_eq k j)
 
-found : (rs : List Receipt) (n : ℕ) (d : Receipt) → 0 < numbered rs n → (k : ℕ) × (k < length rs) × ((get_or rs k d).number ≡ n)
+found : (rs : List Receipt) (n : ℕ) (d : Receipt) → 0 < numbered rs n
+    → (k : ℕ) × (k < length rs) × ((get_or rs k d).number ≡ n)
 found [] n d some = absurd (omega arith)
 found (r ∷ rs) n d some =
     let parts = sum_by-cons (λ (q : Receipt). one_if (eqb q.number n)) r rs in ⊎_elim
     (λ (e : r.number ≡ n). (0, omega arith, e))
-    (λ (ne : r.number ≡ n → ⊥). let z = one_if_other r.number n ne in let f = found rs n d (omega arith) in (suc f.0, (let l = f.1 in omega arith), f.2))
+    (λ (ne : r.number ≡ n → ⊥).
+    let z = one_if_other r.number n ne in
+    let f = found rs n d (omega arith) in
+    (suc f.0, (let l = f.1 in omega arith), f.2))
     (cases_eq r.number n)
 
 one_below : (n m : ℕ) → n < m → one_if (nat_lt n m) ≡ 1
@@ -64,8 +75,10 @@ same_lists (x ∷ xs) (y ∷ ys) e each =
     let t : xs ≡ ys = same_lists xs ys (omega arith) (λ i l. each (suc i) (omega arith)) in λ k. h k ∷ t k
 
 -- two lists that agree with the receipts are equal
-module _ (rs : List Receipt) (drawn : List ℕ) (numbers : (n : ℕ) → numbered rs n ≡ one_if (nat_lt n (length drawn))) where
-  pub history_is : (history : List ℕ) → length history ≡ length drawn → Tells rs history → Tells rs drawn → history ≡ drawn
+module _ (rs : List Receipt) (drawn : List ℕ)
+    (numbers : (n : ℕ) → numbered rs n ≡ one_if (nat_lt n (length drawn))) where
+  pub history_is : (history : List ℕ) → length history ≡ length drawn → Tells rs history → Tells rs drawn
+      → history ≡ drawn
   history_is history long told true_of = same_lists history drawn long (λ n inside.
       let d = receipt 0 0 in
       let here = numbers n in

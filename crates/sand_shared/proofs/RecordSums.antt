@@ -23,7 +23,8 @@ pub record LeadsTo (start : PileView) (history heights odometer : List ℕ) : Ty
   pub limit : sum start.heights + length history ≤ most_grains
   pub heights_each : length heights ≡ sites start.grid
   pub odometer_each : length odometer ≡ sites start.grid
-  pub settled : IsSettled start.grid (λ i. height_of start i + tally history i) (slice_index odometer) (slice_index heights)
+  pub settled : IsSettled start.grid (λ i. height_of start i + tally history i)
+      (slice_index odometer) (slice_index heights)
 
 module _ (start : PileView) (history heights odometer : List ℕ) (l : LeadsTo start history heights odometer) where
   grains_in : grains start.grid (λ i. height_of start i + tally history i) ≡ sum start.heights + length history
@@ -38,7 +39,8 @@ module _ (start : PileView) (history heights odometer : List ℕ) (l : LeadsTo s
       let g = start.grid in
       let all = grains_in in
       let limit = l.limit in
-      let bound = topplings_bound g (λ i. height_of start i + tally history i) (slice_index odometer) (slice_index heights) l.pile.grid (omega arith) l.settled.toppled in
+      let bound = topplings_bound g (λ i. height_of start i + tally history i)
+      (slice_index odometer) (slice_index heights) l.pile.grid (omega arith) l.settled.toppled in
       let counts = sum_is_grains g odometer l.odometer_each in omega arith
 
   -- each grain is on the pile or lost
@@ -46,10 +48,14 @@ module _ (start : PileView) (history heights odometer : List ℕ) (l : LeadsTo s
   grains_left =
       let g = start.grid in
       let all = grains_in in
-      let out = laplacian_sum g (λ i. height_of start i + tally history i) (slice_index odometer) (slice_index heights) l.settled.toppled in
+      let out = laplacian_sum g (λ i. height_of start i + tally history i)
+      (slice_index odometer) (slice_index heights) l.settled.toppled in
       let after = sum_is_grains g heights l.heights_each in omega arith
 
-  pub one_threads : (r : SettledView) → r.pile.grid ≡ start.grid → r.pile.heights ≡ heights → r.odometer ≡ odometer → r.topplings ≡ sum odometer → r.lost ≡ (sum start.heights + length history) - sum heights
+  pub one_threads : (r : SettledView)
+      → r.pile.grid ≡ start.grid → r.pile.heights ≡ heights
+      → r.odometer ≡ odometer → r.topplings ≡ sum odometer
+      → r.lost ≡ (sum start.heights + length history) - sum heights
       → IsOneThreads record { start = start; history = history; settled = r }
   one_threads r grid heights_are odometer_is toppled gone =
       let g = start.grid in
@@ -62,8 +68,11 @@ module _ (start : PileView) (history heights odometer : List ℕ) (l : LeadsTo s
           grid = grid;
           heights_each = ap (λ (xs : List ℕ). length xs) heights_are ∙ l.heights_each;
           odometer_each = ap (λ (xs : List ℕ). length xs) odometer_is ∙ l.odometer_each;
-          settled = subst (λ (z : List ℕ × List ℕ). IsSettled g (λ i. height_of start i + tally history i) (slice_index z.0) (slice_index z.1)) (λ i. (sym odometer_is i, sym heights_are i)) l.settled;
-          all_topplings = toppled ∙ sum_is_grains g odometer l.odometer_each ∙ ap (λ (xs : List ℕ). topplings g (slice_index xs)) (sym odometer_is);
+          settled = subst (λ (z : List ℕ × List ℕ).
+              IsSettled g (λ i. height_of start i + tally history i) (slice_index z.0) (slice_index z.1))
+              (λ i. (sym odometer_is i, sym heights_are i)) l.settled;
+          all_topplings = toppled ∙ sum_is_grains g odometer l.odometer_each
+              ∙ ap (λ (xs : List ℕ). topplings g (slice_index xs)) (sym odometer_is);
           all_lost = let same = ap (λ (xs : List ℕ). lost g (slice_index xs)) odometer_is in omega arith;
         };
       }
@@ -87,8 +96,10 @@ settled_record r one =
 pub small_entries : (r : RecordView) → IsOneThreads r → (i : ℕ) → odometer_of r.settled i < 2 ^ 54
 small_entries r one i =
     let few = few_topplings r.start r.history r.settled.pile.heights r.settled.odometer (leads_of r one) in ⊎_elim
-    (λ (inside : i < length r.settled.odometer). let le = get_or-le-sum_by (λ (x : ℕ). x) r.settled.odometer i 0 inside in omega arith)
-    (λ (past : length r.settled.odometer ≤ i). let e = get_or-eq_default r.settled.odometer 0 {n = i} past in omega arith)
+    (λ (inside : i < length r.settled.odometer).
+    let le = get_or-le-sum_by (λ (x : ℕ). x) r.settled.odometer i 0 inside in omega arith)
+    (λ (past : length r.settled.odometer ≤ i).
+    let e = get_or-eq_default r.settled.odometer 0 {n = i} past in omega arith)
     (cases_lt i (length r.settled.odometer))
 
 pub small_topplings : (r : RecordView) → IsOneThreads r → r.settled.topplings < 2 ^ 54
@@ -109,10 +120,15 @@ times_plus a b c = grind arith
 -- the odometers of two records, added site by site
 pub record AreAdded (r q : RecordView) (sums : List ℕ) : Type 0 where
   pub long : length sums ≡ length r.settled.odometer
-  pub each : (i : ℕ) → i < length r.settled.odometer → slice_index sums i ≡ odometer_of r.settled i + odometer_of q.settled i
+  pub each : (i : ℕ) → i < length r.settled.odometer
+      → slice_index sums i ≡ odometer_of r.settled i + odometer_of q.settled i
 
-pub are_added : (r q : RecordView) → IsOneThreads r → IsOneThreads q → q.start ≡ r.settled.pile → (mine theirs sums : List ℕ) → mine ≡ r.settled.odometer → theirs ≡ q.settled.odometer
-    → length sums ≡ length mine → ((i : ℕ) → i < length theirs → slice_index sums i ≡ slice_index mine i + slice_index theirs i) → AreAdded r q sums
+pub are_added : (r q : RecordView) → IsOneThreads r → IsOneThreads q
+    → q.start ≡ r.settled.pile → (mine theirs sums : List ℕ)
+    → mine ≡ r.settled.odometer → theirs ≡ q.settled.odometer
+    → length sums ≡ length mine
+    → ((i : ℕ) → i < length theirs → slice_index sums i ≡ slice_index mine i + slice_index theirs i)
+    → AreAdded r q sums
 are_added r q one next joint mine theirs sums mine_is theirs_is long each = record {
   long = long ∙ ap (λ (l : List ℕ). length l) mine_is;
   each = λ i l. (let here = one.settled.odometer_each in
@@ -124,7 +140,9 @@ are_added r q one next joint mine theirs sums mine_is theirs_is long each = reco
 }
 
 -- the second record starts from the pile of the first: settling in two parts is settling at once
-module _ (r q : RecordView) (one : IsOneThreads r) (next : IsOneThreads q) (joint : q.start ≡ r.settled.pile) (limit : sum r.start.heights + (length r.history + length q.history) ≤ most_grains) (sums : List ℕ) (added : AreAdded r q sums) where
+module _ (r q : RecordView) (one : IsOneThreads r) (next : IsOneThreads q) (joint : q.start ≡ r.settled.pile)
+    (limit : sum r.start.heights + (length r.history + length q.history) ≤ most_grains)
+    (sums : List ℕ) (added : AreAdded r q sums) where
   pub same_grid : q.start.grid ≡ r.start.grid
   same_grid = ap (λ (p : PileView). p.grid) joint ∙ one.settled.grid
 
@@ -141,29 +159,56 @@ module _ (r q : RecordView) (one : IsOneThreads r) (next : IsOneThreads q) (join
           let b = get_or-eq_default r.settled.odometer 0 {n = i} le in
           let c = get_or-eq_default q.settled.odometer 0 {n = i} (omega arith) in omega arith
 
-  both_settled : IsSettled r.start.grid (λ i. height_of r.start i + tally (r.history ++ q.history) i) (slice_index sums) (height_of q.settled.pile)
+  both_settled : IsSettled r.start.grid (λ i. height_of r.start i + tally (r.history ++ q.history) i)
+      (slice_index sums) (height_of q.settled.pile)
   both_settled =
       let g = r.start.grid in
-      let later = subst (λ (z : Grid × PileView). IsSettled z.0 (λ i. height_of z.1 i + tally q.history i) (odometer_of q.settled) (height_of q.settled.pile)) (λ i. (same_grid i, joint i)) next.settled.settled in
-      let all = settled_in_parts g (λ i. height_of r.start i + tally r.history i) (tally q.history) (odometer_of r.settled) (height_of r.settled.pile) (odometer_of q.settled) (height_of q.settled.pile) one.settled.settled later in
-      let drops : (i : ℕ) → (height_of r.start i + tally r.history i) + tally q.history i ≡ height_of r.start i + tally (r.history ++ q.history) i = λ i. (let e = tally-append r.history q.history i in omega arith) in
-      subst (λ (z : (ℕ → ℕ) × (ℕ → ℕ)). IsSettled g z.0 z.1 (height_of q.settled.pile)) (λ k. ((λ i. drops i k), (λ i. sym (all_each i) k))) all
+      let later = subst (λ (z : Grid × PileView).
+      IsSettled z.0 (λ i. height_of z.1 i + tally q.history i) (odometer_of q.settled) (height_of q.settled.pile))
+      (λ i. (same_grid i, joint i)) next.settled.settled in
+      let all =
+      settled_in_parts g (λ i. height_of r.start i + tally r.history i) (tally q.history) (odometer_of r.settled)
+      (height_of r.settled.pile) (odometer_of q.settled) (height_of q.settled.pile) one.settled.settled later in
+      let drops : (i : ℕ)
+      → (height_of r.start i + tally r.history i) + tally q.history i
+      ≡ height_of r.start i + tally (r.history ++ q.history) i =
+      λ i. (let e = tally-append r.history q.history i in omega arith) in
+      subst
+      (λ (z : (ℕ → ℕ) × (ℕ → ℕ)). IsSettled g z.0 z.1 (height_of q.settled.pile))
+      (λ k. ((λ i. drops i k), (λ i. sym (all_each i) k))) all
 
-  pub followed : IsOneThreads record { start = r.start; history = r.history ++ q.history; settled = record { pile = q.settled.pile; odometer = sums; topplings = r.settled.topplings + q.settled.topplings; lost = r.settled.lost + q.settled.lost } }
+  pub followed : IsOneThreads record {
+    start = r.start;
+    history = r.history ++ q.history;
+    settled = record {
+      pile = q.settled.pile;
+      odometer = sums;
+      topplings = r.settled.topplings + q.settled.topplings;
+      lost = r.settled.lost + q.settled.lost;
+    };
+  }
   followed =
       let g = r.start.grid in
       let grids = same_grid in
       let tops = sum_below-add (sites g) (odometer_of r.settled) (odometer_of q.settled) in
-      let sums_are = sum_below_same (sites g) (slice_index sums) (λ i. odometer_of r.settled i + odometer_of q.settled i) (λ i _. all_each i) in
-      let outs = sum_below-add (sites g) (λ i. missing g i * odometer_of r.settled i) (λ i. missing g i * odometer_of q.settled i) in
-      let outs_are = sum_below_same (sites g) (λ i. missing g i * slice_index sums i) (λ i. missing g i * odometer_of r.settled i + missing g i * odometer_of q.settled i) (λ i _. ap (λ n. missing g i * n) (all_each i) ∙ times_plus (missing g i) (odometer_of r.settled i) (odometer_of q.settled i)) in
-      let tops_later = subst (λ z. q.settled.topplings ≡ topplings z (odometer_of q.settled)) grids next.settled.all_topplings in
+      let sums_are = sum_below_same (sites g) (slice_index sums)
+      (λ i. odometer_of r.settled i + odometer_of q.settled i) (λ i _. all_each i) in
+      let outs = sum_below-add (sites g) (λ i. missing g i * odometer_of r.settled i)
+      (λ i. missing g i * odometer_of q.settled i) in
+      let outs_are = sum_below_same (sites g)
+      (λ i. missing g i * slice_index sums i)
+      (λ i. missing g i * odometer_of r.settled i + missing g i * odometer_of q.settled i)
+      (λ i _. ap (λ n. missing g i * n) (all_each i)
+      ∙ times_plus (missing g i) (odometer_of r.settled i) (odometer_of q.settled i)) in
+      let tops_later =
+      subst (λ z. q.settled.topplings ≡ topplings z (odometer_of q.settled)) grids next.settled.all_topplings in
       let lost_later = subst (λ z. q.settled.lost ≡ lost z (odometer_of q.settled)) grids next.settled.all_lost in
       let tops_before = one.settled.all_topplings in
       let lost_before = one.settled.all_lost in
       record {
         start_pile = one.start_pile;
-        all_sites = All-append (λ i. i < sites g) r.history q.history one.all_sites (subst (λ z. All (λ i. i < sites z) q.history) grids next.all_sites);
+        all_sites = All-append (λ i. i < sites g) r.history q.history one.all_sites
+            (subst (λ z. All (λ i. i < sites z) q.history) grids next.all_sites);
         limit = (let e = length-append r.history q.history in omega arith);
         settled = record {
           grid = next.settled.grid ∙ grids;

@@ -24,12 +24,15 @@ none_toppled v i e = toppled_outside v i (none_held v i e)
 
 toppled_past : (v : View) (b i : ℕ) → BeginsAt v b → b ≤ i → toppled_by v i ≡ slice_index v.counts (i - b)
 toppled_past v b i begins le = ⊎_elim
-    (λ (none : length v.counts ≡ 0). none_toppled v i none ∙ sym (get_or-eq_default v.counts 0 {n = i - b} (omega arith)))
+    (λ (none : length v.counts ≡ 0).
+    none_toppled v i none ∙ sym (get_or-eq_default v.counts 0 {n = i - b} (omega arith)))
     (λ (e : v.base ≡ b). toppled_from v i (omega arith) ∙ ap (λ z. slice_index v.counts (i - z)) e)
     begins
 
 toppled_not_yet : (v : View) (b i : ℕ) → BeginsAt v b → i < b → toppled_by v i ≡ 0
-toppled_not_yet v b i begins lt = ⊎_elim (λ (none : length v.counts ≡ 0). none_toppled v i none) (λ (e : v.base ≡ b). toppled_before v i (omega arith)) begins
+toppled_not_yet v b i begins lt = ⊎_elim
+    (λ (none : length v.counts ≡ 0). none_toppled v i none)
+    (λ (e : v.base ≡ b). toppled_before v i (omega arith)) begins
 
 held_in : (v : View) (b i : ℕ) → BeginsAt v b → holds_site v i ≡ (leb b i && ltb i (b + length v.counts))
 held_in v b i begins = ⊎_elim
@@ -40,7 +43,9 @@ held_in v b i begins = ⊎_elim
     empty : length v.counts ≡ 0 → (leb b i && ltb i (b + length v.counts)) ≡ false
     empty e = grind (arith, nat_tests)
 
-held_together : (b m n i : ℕ) → one_if (leb b i && ltb i (b + m)) + one_if (leb (b + m) i && ltb i ((b + m) + n)) ≡ one_if (leb b i && ltb i (b + (m + n)))
+held_together : (b m n i : ℕ)
+    → one_if (leb b i && ltb i (b + m)) + one_if (leb (b + m) i && ltb i ((b + m) + n))
+    ≡ one_if (leb b i && ltb i (b + (m + n)))
 held_together b m n i = grind (arith, nat_tests)
 
 -- x has the first rows of z, and y the rest
@@ -85,7 +90,8 @@ module _ (x y z : View) (parts : AreParts x y z) (i : ℕ) where
 begins_based : (v : View) (b : ℕ) → v.base ≡ base_of b v.counts → BeginsAt v b
 begins_based v b e = ⊎_elim
     (λ (none : length v.counts ≡ 0). inl none)
-    (λ (some : length v.counts ≡ 0 → ⊥). inr (e ∙ (let f : eqb (length v.counts) 0 ≡ false = ne_eqb (length v.counts) 0 some in rw f)))
+    (λ (some : length v.counts ≡ 0 → ⊥).
+    inr (e ∙ (let f : eqb (length v.counts) 0 ≡ false = ne_eqb (length v.counts) 0 some in rw f)))
     (cases_eq (length v.counts) 0)
 
 -- what a pass keeps and what it gives away are the parts of what it had
@@ -96,7 +102,8 @@ cut_parts v q n fits =
     let rest = length-drop kept v.counts in
     record {
       first = begins_based (parent v q n) v.base refl;
-      second = subst (BeginsAt (child v q n)) (ap (λ k. v.base + k) (sym long)) (begins_based (child v q n) (v.base + kept) refl);
+      second = subst (BeginsAt (child v q n)) (ap (λ k. v.base + k) (sym long))
+          (begins_based (child v q n) (v.base + kept) refl);
       long = omega arith;
       low = λ k l. get_or-take kept v.counts k 0 (omega arith);
       high = λ k. get_or-drop kept v.counts k 0 ∙ ap (λ m. get_or v.counts (m + k) 0) (sym long);
@@ -113,7 +120,8 @@ append_parts v w z next base counts =
           (cases_eq (length w.counts) 0);
       long = sym (ap length counts ∙ length-append v.counts w.counts);
       low = λ k l. sym (get_or_append_left v.counts w.counts 0 k l) ∙ ap (λ (l : List ℕ). get_or l k 0) (sym counts);
-      high = λ k. sym (get_or-append-add v.counts w.counts k 0) ∙ ap (λ (l : List ℕ). get_or l (length v.counts + k) 0) (sym counts);
+      high = λ k. sym (get_or-append-add v.counts w.counts k 0)
+          ∙ ap (λ (l : List ℕ). get_or l (length v.counts + k) 0) (sym counts);
     }
   where
     behind : (length w.counts ≡ 0 → ⊥) → w.base ≡ v.base + length v.counts

@@ -13,7 +13,9 @@ use Rattle.sand_shared.proofs.RowSites.{times_plus, rows_end}
 
 -- the rows of both, in either order
 abbrev pub either_rows : Rows → Rows → Bool → Rows
-either_rows r q b = if b then record { first = r.first; end = r.end + count_of q } else record { first = q.first; end = q.end + count_of r }
+either_rows r q b = if b
+    then record { first = r.first; end = r.end + count_of q }
+    else record { first = q.first; end = q.end + count_of r }
 
 tests_agree : (a b c d : ℕ) → (a ≡ b → c ≡ d) → (c ≡ d → a ≡ b) → eqb a b ≡ eqb c d
 tests_agree a b c d there back = ⊎_elim
@@ -23,14 +25,17 @@ tests_agree a b c d there back = ⊎_elim
 
 times_one : (a b w : ℕ) → 1 ≤ w → a * w ≡ b * w → a ≡ b
 times_one a b w some e = ⊎_elim
-    (λ (less : a < b). let m : (a + 1) * w ≤ b * w = mul-le-mul_right w (omega arith) in let s = times_plus a 1 w in absurd (omega arith))
+    (λ (less : a < b).
+    let m : (a + 1) * w ≤ b * w = mul-le-mul_right w (omega arith) in let s = times_plus a 1 w in absurd (omega arith))
     (λ (more : b ≤ a). ⊎_elim
-    (λ (less : b < a). let m : (b + 1) * w ≤ a * w = mul-le-mul_right w (omega arith) in let s = times_plus b 1 w in absurd (omega arith))
+    (λ (less : b < a).
+    let m : (b + 1) * w ≤ a * w = mul-le-mul_right w (omega arith) in let s = times_plus b 1 w in absurd (omega arith))
     (λ (le : a ≤ b). omega arith) (cases_lt b a))
     (cases_lt a b)
 
 -- adjacent rows together are rows of the grid
-rows_after : (g : Grid) (r s : Rows) → AreRowsOf g r → AreRowsOf g s → (s.first ≡ s.end) ⊎ (s.first ≡ r.end) → AreRowsOf g record { first = r.first; end = r.end + count_of s }
+rows_after : (g : Grid) (r s : Rows) → AreRowsOf g r → AreRowsOf g s → (s.first ≡ s.end) ⊎ (s.first ≡ r.end)
+    → AreRowsOf g record { first = r.first; end = r.end + count_of s }
 rows_after g r s rows more near =
     let ordered = rows.ordered in
     let ordered' = more.ordered in
@@ -43,7 +48,10 @@ rows_after g r s rows more near =
     }
 
 next_or_none : (r s : Rows) → rows_follow r s ≡ true → (s.first ≡ s.end) ⊎ (s.first ≡ r.end)
-next_or_none r s t = ⊎_elim (λ (e : s.first ≡ s.end). inl e) (λ (ne : s.first ≡ s.end → ⊥). inr (grind (arith, nat_tests))) (cases_eq s.first s.end)
+next_or_none r s t = ⊎_elim
+    (λ (e : s.first ≡ s.end). inl e)
+    (λ (ne : s.first ≡ s.end → ⊥). inr (grind (arith, nat_tests)))
+    (cases_eq s.first s.end)
 
 module _ (p q : PassView) (one : IsPass p) (other : IsPass q) (same : q.grid ≡ p.grid) where
   others : AreRowsOf p.grid q.rows
@@ -70,14 +78,36 @@ module _ (p q : PassView) (one : IsPass p) (other : IsPass q) (same : q.grid ≡
       λ i. none i || next i
 
   -- joined by the rule, they have what both have
-  pub joined_rest : (s l s' l' : ℕ) → joined (record (at_rest p) { spot = s; least = l }) (record (at_rest q) { spot = s'; least = l' }) ≡ at_rest (together p q)
+  pub joined_rest : (s l s' l' : ℕ)
+      → joined (record (at_rest p) { spot = s; least = l }) (record (at_rest q) { spot = s'; least = l' })
+      ≡ at_rest (together p q)
   joined_rest s l s' l' =
       let x = at_rest p in
       let y = at_rest q in
-      (λ i. record { left = p.left + q.left; seen = max p.seen q.seen; receipts = p.receipts ++ q.receipts; hand = []; base = if follows_is i then x.base else (q.rows.first * widths i); counts = if follows_is i then p.counts ++ q.counts else q.counts ++ p.counts; spot = 0; least = 0 })
-      ∙ (λ i. record { left = p.left + q.left; seen = max p.seen q.seen; receipts = p.receipts ++ q.receipts; hand = []; base = first_is (rows_follow p.rows q.rows) i; counts = if rows_follow p.rows q.rows then p.counts ++ q.counts else q.counts ++ p.counts; spot = 0; least = 0 })
+      (λ i. record {
+        left = p.left + q.left;
+        seen = max p.seen q.seen;
+        receipts = p.receipts ++ q.receipts;
+        hand = [];
+        base = if follows_is i then x.base else (q.rows.first * widths i);
+        counts = if follows_is i then p.counts ++ q.counts else q.counts ++ p.counts;
+        spot = 0;
+        least = 0;
+      })
+      ∙ (λ i. record {
+        left = p.left + q.left;
+        seen = max p.seen q.seen;
+        receipts = p.receipts ++ q.receipts;
+        hand = [];
+        base = first_is (rows_follow p.rows q.rows) i;
+        counts = if rows_follow p.rows q.rows then p.counts ++ q.counts else q.counts ++ p.counts;
+        spot = 0;
+        least = 0;
+      })
     where
-      first_is : (b : Bool) → (if b then (p.rows.first * p.grid.width) else (q.rows.first * p.grid.width)) ≡ (either_rows p.rows q.rows b).first * p.grid.width
+      first_is : (b : Bool)
+          → (if b then (p.rows.first * p.grid.width) else (q.rows.first * p.grid.width))
+          ≡ (either_rows p.rows q.rows b).first * p.grid.width
       first_is true = refl
       first_is false = refl
 
@@ -89,7 +119,9 @@ module _ (p q : PassView) (one : IsPass p) (other : IsPass q) (same : q.grid ≡
     pub together_rows : AreRowsOf p.grid (rows_together p.rows q.rows)
     together_rows = both_rows (rows_follow p.rows q.rows) refl
 
-    both_each : (b : Bool) → length (if b then (p.counts ++ q.counts) else (q.counts ++ p.counts)) ≡ count_of (either_rows p.rows q.rows b) * p.grid.width
+    both_each : (b : Bool)
+        → length (if b then (p.counts ++ q.counts) else (q.counts ++ p.counts))
+        ≡ count_of (either_rows p.rows q.rows b) * p.grid.width
     both_each b =
         let w = p.grid.width in
         let ordered = one.rows.ordered in
@@ -97,9 +129,16 @@ module _ (p q : PassView) (one : IsPass p) (other : IsPass q) (same : q.grid ≡
         let long = one.one_each in
         let few : length q.counts ≡ count_of q.rows * w = other.one_each ∙ ap (λ n. count_of q.rows * n) widths in
         let sum = times_plus (count_of p.rows) (count_of q.rows) w in
-        elim b as (λ b. length (if b then (p.counts ++ q.counts) else (q.counts ++ p.counts)) ≡ count_of (either_rows p.rows q.rows b) * p.grid.width) [
-          | true ↦ length-append p.counts q.counts ∙ (let e = ap (λ n. n * w) {x = (p.rows.end + count_of q.rows) - p.rows.first} {y = count_of p.rows + count_of q.rows} (omega arith) in omega arith)
-          | false ↦ length-append q.counts p.counts ∙ (let e = ap (λ n. n * w) {x = (q.rows.end + count_of p.rows) - q.rows.first} {y = count_of p.rows + count_of q.rows} (omega arith) in omega arith)
+        elim b as (λ b. length (if b then (p.counts ++ q.counts) else (q.counts ++ p.counts))
+        ≡ count_of (either_rows p.rows q.rows b) * p.grid.width) [
+          | true ↦ length-append p.counts q.counts ∙ (let e = ap (λ n. n * w)
+              {x = (p.rows.end + count_of q.rows) - p.rows.first}
+              {y = count_of p.rows + count_of q.rows} (omega arith) in
+              omega arith)
+          | false ↦ length-append q.counts p.counts ∙ (let e = ap (λ n. n * w)
+              {x = (q.rows.end + count_of p.rows) - q.rows.first}
+              {y = count_of p.rows + count_of q.rows} (omega arith) in
+              omega arith)
         ]
 
     pub together_each : length (together p q).counts ≡ count_of (together p q).rows * p.grid.width

@@ -31,7 +31,9 @@ pub record AreSitesOf (g : Grid) (r : Rows) (base : ℕ) (cs : List ℕ) : Type 
   pub rows : AreRowsOf g r
 
 -- the rows from a up to b have the sites from a * width on
-pub sites_between : (g : Grid) (a b base : ℕ) (cs : List ℕ) → IsGrid g → a ≤ b → b ≤ g.height → base ≡ a * g.width → length cs ≡ (b - a) * g.width → AreSitesOf g (rows_between a b) base cs
+pub sites_between : (g : Grid) (a b base : ℕ) (cs : List ℕ) → IsGrid g → a ≤ b
+    → b ≤ g.height → base ≡ a * g.width → length cs ≡ (b - a) * g.width
+    → AreSitesOf g (rows_between a b) base cs
 sites_between g a b base cs sides ordered inside e long =
     let w = g.width in
     let P : Rows → Type 0 = λ r. AreSitesOf g r base cs in
@@ -56,39 +58,47 @@ sites_between g a b base cs sides ordered inside e long =
     (cases_lt a b)
 
 -- rows have all sites of their pass
-pub whole_sites : (g : Grid) (r : Rows) (cs : List ℕ) → IsGrid g → AreRowsOf g r → length cs ≡ count_of r * g.width → AreSitesOf g r (r.first * g.width) cs
+pub whole_sites : (g : Grid) (r : Rows) (cs : List ℕ) → IsGrid g → AreRowsOf g r → length cs ≡ count_of r * g.width
+    → AreSitesOf g r (r.first * g.width) cs
 whole_sites g r cs sides rows long =
     let w = g.width in
     let base = r.first * w in
     let broad = sides.some_width in
     let same_ends = λ (none : count_of r * w ≡ 0). ⊎_elim
-    (λ (some : r.first < r.end). let wide : 1 * w ≤ count_of r * w = mul-le-mul_right w (omega arith) in absurd (omega arith))
+    (λ (some : r.first < r.end).
+    let wide : 1 * w ≤ count_of r * w = mul-le-mul_right w (omega arith) in absurd (omega arith))
     (λ (le : r.end ≤ r.first). let ordered = rows.ordered in rows.none (omega arith))
     (cases_lt r.first r.end) in
     record {
       base_is = ⊎_elim
-          (λ (none : length cs ≡ 0). let first = ap (λ n. n * w) (same_ends (omega arith)) in base_none base cs none ∙ omega arith)
+          (λ (none : length cs ≡ 0).
+          let first = ap (λ n. n * w) (same_ends (omega arith)) in base_none base cs none ∙ omega arith)
           (λ (some : length cs ≡ 0 → ⊥). base_some base cs (omega arith))
           (cases_eq (length cs) 0);
       one_each = long;
       rows = rows;
     }
 
-module _ (g : Grid) (r : Rows) (cs : List ℕ) (k : ℕ) (sides : IsGrid g) (rows : AreRowsOf g r) (one_each : length cs ≡ count_of r * g.width) (few : k ≤ count_of r) where
+module _ (g : Grid) (r : Rows) (cs : List ℕ) (k : ℕ) (sides : IsGrid g) (rows : AreRowsOf g r)
+    (one_each : length cs ≡ count_of r * g.width) (few : k ≤ count_of r) where
   kept_sites : (length cs - k * g.width ≡ ((r.end - k) - r.first) * g.width) × (k * g.width ≤ length cs)
   kept_sites =
       let w = g.width in
       let ordered = rows.ordered in
-      let split = ap (λ n. n * w) {x = count_of r} {y = ((r.end - k) - r.first) + k} (omega arith) ∙ times_plus ((r.end - k) - r.first) k w in (omega arith, omega arith)
+      let split = ap (λ n. n * w) {x = count_of r} {y = ((r.end - k) - r.first) + k} (omega arith)
+      ∙ times_plus ((r.end - k) - r.first) k w in
+      (omega arith, omega arith)
 
   pub upper_sites : AreSitesOf g (upper_rows r k) (r.first * g.width) (take (length cs - k * g.width) cs)
   upper_sites =
       let kept = kept_sites in
       let ordered = rows.ordered in
       let inside = rows.inside in
-      sites_between g r.first (r.end - k) (r.first * g.width) (take (length cs - k * g.width) cs) sides (omega arith) (omega arith) refl (length-take-le (length cs - k * g.width) cs (omega arith) ∙ kept.0)
+      sites_between g r.first (r.end - k) (r.first * g.width) (take (length cs - k * g.width) cs) sides
+      (omega arith) (omega arith) refl (length-take-le (length cs - k * g.width) cs (omega arith) ∙ kept.0)
 
-  pub lower_sites : AreSitesOf g (lower_rows r k) (r.first * g.width + (length cs - k * g.width)) (drop (length cs - k * g.width) cs)
+  pub lower_sites : AreSitesOf g (lower_rows r k)
+      (r.first * g.width + (length cs - k * g.width)) (drop (length cs - k * g.width) cs)
   lower_sites =
       let w = g.width in
       let kept = kept_sites in
@@ -97,22 +107,37 @@ module _ (g : Grid) (r : Rows) (cs : List ℕ) (k : ℕ) (sides : IsGrid g) (row
       let base = times_plus r.first ((r.end - k) - r.first) w in
       let base' = ap (λ n. n * w) {x = r.first + ((r.end - k) - r.first)} {y = r.end - k} (omega arith) in
       let count = ap (λ n. n * w) {x = r.end - (r.end - k)} {y = k} (omega arith) in
-      sites_between g (r.end - k) r.end (r.first * w + (length cs - k * w)) (drop (length cs - k * w) cs) sides (omega arith) inside (omega arith) (length-drop (length cs - k * w) cs ∙ omega arith)
+      sites_between g (r.end - k) r.end (r.first * w + (length cs - k * w)) (drop (length cs - k * w) cs)
+      sides (omega arith) inside (omega arith) (length-drop (length cs - k * w) cs ∙ omega arith)
 
 -- the rule's parts of a pass are what the two passes have between calls
 module _ (p : PassView) (q spot least kept : ℕ) (r : Rows) (cs : List ℕ) (fits : kept ≤ length p.counts) where
-  pub parent_rest : (left : ℕ) → p.left - q ≡ left → take kept p.counts ≡ cs → AreSitesOf p.grid r (p.rows.first * p.grid.width) (take kept p.counts)
-      → parent (record (at_rest p) { spot = spot; least = least }) q (length p.counts - kept) ≡ record (at_rest (record p { left = left; rows = r; counts = cs })) { spot = spot }
+  pub parent_rest : (left : ℕ) → p.left - q ≡ left → take kept p.counts ≡ cs
+      → AreSitesOf p.grid r (p.rows.first * p.grid.width) (take kept p.counts)
+      → parent (record (at_rest p) { spot = spot; least = least }) q (length p.counts - kept)
+      ≡ record (at_rest (record p { left = left; rows = r; counts = cs })) { spot = spot }
   parent_rest left less counts here =
       let v : View = record (at_rest p) { spot = spot; least = least } in
       let all : length p.counts - (length p.counts - kept) ≡ kept = omega arith in
-      (λ i. record v { left = less i; base = base_of v.base (take (all i) p.counts); counts = take (all i) p.counts; least = 0 })
+      (λ i. record v {
+        left = less i;
+        base = base_of v.base (take (all i) p.counts);
+        counts = take (all i) p.counts;
+        least = 0;
+      })
       ∙ (λ i. record v { left = left; base = here.base_is i; counts = counts i; least = 0 })
 
-  pub child_rest : drop kept p.counts ≡ cs → AreSitesOf p.grid r (p.rows.first * p.grid.width + kept) (drop kept p.counts)
-      → child (record (at_rest p) { spot = spot; least = least }) q (length p.counts - kept) ≡ at_rest (record p { left = q; receipts = []; rows = r; counts = cs })
+  pub child_rest : drop kept p.counts ≡ cs
+      → AreSitesOf p.grid r (p.rows.first * p.grid.width + kept) (drop kept p.counts)
+      → child (record (at_rest p) { spot = spot; least = least }) q (length p.counts - kept)
+      ≡ at_rest (record p { left = q; receipts = []; rows = r; counts = cs })
   child_rest counts here =
       let all : length p.counts - (length p.counts - kept) ≡ kept = omega arith in
       let start = p.rows.first * p.grid.width in
-      (λ i. record nobody { left = q; seen = p.seen; base = base_of (start + all i) (drop (all i) p.counts); counts = drop (all i) p.counts })
+      (λ i. record nobody {
+        left = q;
+        seen = p.seen;
+        base = base_of (start + all i) (drop (all i) p.counts);
+        counts = drop (all i) p.counts;
+      })
       ∙ (λ i. record nobody { left = q; seen = p.seen; base = here.base_is i; counts = counts i })

@@ -9,20 +9,32 @@ use Rattle.sand_shared.specs.Events.{looked}
 use Rattle.sand_shared.specs.Passes.{PassView, at_rest, EachOnce, AllBelow, IsPass}
 use Rattle.sand_shared.proofs.PassAfterEvent.{known_is}
 
-pub seated : {x : Inside} (q : PassView) (spot least : ℕ) → IsPass q → x.made ≡ length q.receipts → x.seat.me.0 ≡ record (at_rest q) { spot = spot; least = least } → x.seat.me.1 ≡ []
+pub seated : {x : Inside} (q : PassView) (spot least : ℕ)
+    → IsPass q → x.made ≡ length q.receipts
+    → x.seat.me.0 ≡ record (at_rest q) { spot = spot; least = least }
+    → x.seat.me.1 ≡ []
     → shown x ≡ record q { table = x.seat.table_id; receipts = x.seat.me.0.receipts } → IsBare x
 seated {x = x} q spot least pass made has free is =
     let v = x.seat.me.0 in
     let same : q.receipts ≡ v.receipts = sym (ap (λ (u : View). u.receipts) has) in
-    let here = has ∙ (λ i. record (at_rest (record q { receipts = same i })) { spot = spot; least = least }) ∙ ap (λ (p : PassView). record (at_rest p) { spot = spot; least = least }) (sym is) in
+    let here = has ∙ (λ i. record (at_rest (record q { receipts = same i })) { spot = spot; least = least })
+    ∙ ap (λ (p : PassView). record (at_rest p) { spot = spot; least = least }) (sym is) in
     record {
       me = λ i. (known_is v (record (at_rest (shown x)) { spot = spot; least = least }) here i, free i);
       each_made = made ∙ ap (λ (rs : List Receipt). length rs) same;
-      pass = subst IsPass (sym is) record { once = subst EachOnce same pass.once; below = subst (AllBelow q.seen) same pass.below; grid = pass.grid; rows = pass.rows; one_each = pass.one_each };
+      pass = subst IsPass (sym is) record {
+        once = subst EachOnce same pass.once;
+        below = subst (AllBelow q.seen) same pass.below;
+        grid = pass.grid;
+        rows = pass.rows;
+        one_each = pass.one_each;
+      };
     }
 
 -- a look or a load tells at most a height
-pub still_bare : (x : Inside) (seat : Seat ℕ View) → IsBare x → seat.me.0 ≡ looked x.seat.me.0 seat.me.0.spot seat.me.0.least → seat.me.1 ≡ [] → IsBare (record x { seat = seat })
+pub still_bare : (x : Inside) (seat : Seat ℕ View) → IsBare x
+    → seat.me.0 ≡ looked x.seat.me.0 seat.me.0.spot seat.me.0.least → seat.me.1 ≡ []
+    → IsBare (record x { seat = seat })
 still_bare x seat inv is free =
     let v = seat.me.0 in
     seated (shown x) v.spot v.least inv.pass inv.each_made (is ∙ (λ i. looked (inv.me i).0 v.spot v.least)) free refl

@@ -12,11 +12,13 @@ use Rattle.sand_shared.specs.Events.{grains, sent, behind_first, delivered_to}
 abbrev pub sends : ℕ → List (Option ℕ) → List Grains
 sends k ps = map (λ j. grains j k) (filter_map (λ p. p) ps)
 
-pub first_sent : (k : ℕ) (p : Option ℕ) (ps : List (Option ℕ)) (hand : List Grains) → hand ≡ sends k (p ∷ ps) → IfSome p (λ j. hand ≡ grains j k ∷ behind_first hand)
+pub first_sent : (k : ℕ) (p : Option ℕ) (ps : List (Option ℕ)) (hand : List Grains) → hand ≡ sends k (p ∷ ps)
+    → IfSome p (λ j. hand ≡ grains j k ∷ behind_first hand)
 first_sent k None ps hand e = tt
 first_sent k (Some j) ps hand e = e ∙ (λ i. grains j k ∷ behind_first (sym e i))
 
-pub rest_sent : (k : ℕ) (p : Option ℕ) (ps : List (Option ℕ)) (v w : View) → v ≡ record w { hand = sends k (p ∷ ps) } → delivered_to p v ≡ record w { hand = sends k ps }
+pub rest_sent : (k : ℕ) (p : Option ℕ) (ps : List (Option ℕ)) (v w : View) → v ≡ record w { hand = sends k (p ∷ ps) }
+    → delivered_to p v ≡ record w { hand = sends k ps }
 rest_sent k None ps v w e = e
 rest_sent k (Some j) ps v w e = λ q. record (e q) { hand = behind_first (e q).hand }
 
@@ -25,14 +27,17 @@ unfolding neighbours
 sent_is t i k = refl
 
 -- four deliveries, one for each place around the site, empty the hand
-module _ (t : Terms) (i k : ℕ) (ps : List (Option ℕ)) (around : ps ≡ places (grid_of_terms t) i) (v : View) (hand : v.hand ≡ sent t i k) where
+module _ (t : Terms) (i k : ℕ) (ps : List (Option ℕ))
+    (around : ps ≡ places (grid_of_terms t) i) (v : View) (hand : v.hand ≡ sent t i k) where
   place : ℕ → Option ℕ
   place n = get_or ps n None
 
   begun : v ≡ record v { hand = sends k (place 0 ∷ place 1 ∷ place 2 ∷ place 3 ∷ []) }
   unfolding place
   begun =
-      let read = sent_is t i k ∙ ap (λ (l : List (Option ℕ)). sends k (get_or l 0 None ∷ get_or l 1 None ∷ get_or l 2 None ∷ get_or l 3 None ∷ [])) (sym around) in
+      let read = sent_is t i k ∙ ap
+      (λ (l : List (Option ℕ)). sends k (get_or l 0 None ∷ get_or l 1 None ∷ get_or l 2 None ∷ get_or l 3 None ∷ []))
+      (sym around) in
       λ q. record v { hand = (hand ∙ read) q }
 
   pub north_first : IfSome (get_or ps 0 None) (λ j. v.hand ≡ grains j k ∷ behind_first v.hand)

@@ -6,33 +6,44 @@ use Rattle.sand_shared.specs.declared.view.View.{View}
 use Rattle.sand_shared.specs.declared.view.Terms.{Terms}
 use Rattle.sand_shared.specs.Sweeps.{LeavesAtMost, LeavesAtLeast, with_counts, TopplesInTurn}
 
-same_behind : (xs ys : List ℕ) (k : ℕ) → length xs ≡ length ys → ((j : ℕ) → k ≤ j → get_or xs j 0 ≡ get_or ys j 0) → take k xs ++ drop k ys ≡ xs
+same_behind : (xs ys : List ℕ) (k : ℕ) → length xs ≡ length ys → ((j : ℕ) → k ≤ j → get_or xs j 0 ≡ get_or ys j 0)
+    → take k xs ++ drop k ys ≡ xs
 same_behind [] [] zero long same = refl
 same_behind [] [] (suc k) long same = refl
 same_behind [] (y ∷ ys) k long same = absurd (omega arith)
 same_behind (x ∷ xs) [] k long same = absurd (omega arith)
-same_behind (x ∷ xs) (y ∷ ys) zero long same = λ i. sym (same zero (omega arith)) i ∷ same_behind xs ys zero (omega arith) (λ j le. same (suc j) (omega arith)) i
-same_behind (x ∷ xs) (y ∷ ys) (suc k) long same = ap (λ l. x ∷ l) (same_behind xs ys k (omega arith) (λ j le. same (suc j) (omega arith)))
+same_behind (x ∷ xs) (y ∷ ys) zero long same = λ i.
+    sym (same zero (omega arith)) i ∷ same_behind xs ys zero (omega arith) (λ j le. same (suc j) (omega arith)) i
+same_behind (x ∷ xs) (y ∷ ys) (suc k) long same =
+    ap (λ l. x ∷ l) (same_behind xs ys k (omega arith) (λ j le. same (suc j) (omega arith)))
 
 -- the first k sites have toppled in turn
 abbrev pub AllInTurn : Terms → View → List ℕ → ℕ → Type 0
 AllInTurn t v cs k = (j : ℕ) → j < k → TopplesInTurn t v cs j
 
-module _ (t : Terms) (v : View) (cs : List ℕ) (k times : ℕ) (inside : k < length cs) (long : length cs ≡ length v.counts) (rest : (j : ℕ) → k ≤ j → get_or cs j 0 ≡ get_or v.counts j 0) where
+module _ (t : Terms) (v : View) (cs : List ℕ) (k times : ℕ) (inside : k < length cs)
+    (long : length cs ≡ length v.counts) (rest : (j : ℕ) → k ≤ j → get_or cs j 0 ≡ get_or v.counts j 0) where
   after : List ℕ
   after = set cs k (get_or cs k 0 + times)
 
   -- the sweep comes to the k-th site with its current counts
-  here : LeavesAtLeast t (with_counts v cs) (v.base + k) (4 * times) → LeavesAtMost t (with_counts v cs) (v.base + k) (4 * times + 3) → TopplesInTurn t v after k
+  here : LeavesAtLeast t (with_counts v cs) (v.base + k) (4 * times)
+      → LeavesAtMost t (with_counts v cs) (v.base + k) (4 * times + 3)
+      → TopplesInTurn t v after k
   unfolding after
   here least most =
       let was = rest k (omega arith) in
-      let new : get_or (set cs k (get_or cs k 0 + times)) k 0 ≡ get_or cs k 0 + times = get_or-set_same cs k (get_or cs k 0 + times) 0 inside in
+      let new : get_or (set cs k (get_or cs k 0 + times)) k 0 ≡ get_or cs k 0 + times =
+      get_or-set_same cs k (get_or cs k 0 + times) 0 inside in
       let rise : get_or (set cs k (get_or cs k 0 + times)) k 0 - get_or v.counts k 0 ≡ times = omega arith in
       let came : take k (set cs k (get_or cs k 0 + times)) ++ drop k v.counts ≡ cs =
-      ap (λ l. l ++ drop k v.counts) (take-set-le k cs k (get_or cs k 0 + times) (omega arith)) ∙ same_behind cs v.counts k long rest in
-      let found = subst (λ (z : List ℕ × ℕ). LeavesAtLeast t (with_counts v z.0) (v.base + k) (4 * z.1)) (λ i. (sym came i, sym rise i)) least in
-      let few = subst (λ (z : List ℕ × ℕ). LeavesAtMost t (with_counts v z.0) (v.base + k) (4 * z.1 + 3)) (λ i. (sym came i, sym rise i)) most in (found, few)
+      ap (λ l. l ++ drop k v.counts) (take-set-le k cs k (get_or cs k 0 + times) (omega arith))
+      ∙ same_behind cs v.counts k long rest in
+      let found = subst (λ (z : List ℕ × ℕ). LeavesAtLeast t (with_counts v z.0) (v.base + k) (4 * z.1))
+      (λ i. (sym came i, sym rise i)) least in
+      let few = subst (λ (z : List ℕ × ℕ). LeavesAtMost t (with_counts v z.0) (v.base + k) (4 * z.1 + 3))
+      (λ i. (sym came i, sym rise i)) most in
+      (found, few)
 
   -- toppling there does not change what it found at the sites before
   before : (j : ℕ) → j < k → TopplesInTurn t v cs j → TopplesInTurn t v after j
@@ -41,9 +52,15 @@ module _ (t : Terms) (v : View) (cs : List ℕ) (k times : ℕ) (inside : k < le
       let x = get_or cs k 0 + times in
       let same : get_or (set cs k x) j 0 ≡ get_or cs j 0 = get_or-set_other cs k j x 0 (λ e. absurd (omega arith)) in
       let came : take j (set cs k x) ≡ take j cs = take-set-le j cs k x (omega arith) in
-      subst (λ (z : List ℕ × ℕ). LeavesAtLeast t (with_counts v (z.0 ++ drop j v.counts)) (v.base + j) (4 * (z.1 - get_or v.counts j 0)) × LeavesAtMost t (with_counts v (z.0 ++ drop j v.counts)) (v.base + j) (4 * (z.1 - get_or v.counts j 0) + 3)) (λ i. (sym came i, sym same i)) did
+      subst (λ (z : List ℕ × ℕ).
+      LeavesAtLeast t (with_counts v (z.0 ++ drop j v.counts)) (v.base + j) (4 * (z.1 - get_or v.counts j 0))
+      × LeavesAtMost t (with_counts v (z.0 ++ drop j v.counts)) (v.base + j) (4 * (z.1 - get_or v.counts j 0) + 3))
+      (λ i. (sym came i, sym same i)) did
 
-  pub one_in_turn : AllInTurn t v cs k → LeavesAtLeast t (with_counts v cs) (v.base + k) (4 * times) → LeavesAtMost t (with_counts v cs) (v.base + k) (4 * times + 3) → AllInTurn t v (set cs k (get_or cs k 0 + times)) (k + 1)
+  pub one_in_turn : AllInTurn t v cs k
+      → LeavesAtLeast t (with_counts v cs) (v.base + k) (4 * times)
+      → LeavesAtMost t (with_counts v cs) (v.base + k) (4 * times + 3)
+      → AllInTurn t v (set cs k (get_or cs k 0 + times)) (k + 1)
   unfolding after
   one_in_turn all least most j l = ⊎_elim
       (λ (e : j ≡ k). subst (TopplesInTurn t v (set cs k (get_or cs k 0 + times))) (sym e) (here least most))

@@ -23,7 +23,8 @@ counts_below v (suc n) =
     let here = toppled_from v n past in
     let next = ap (λ k. sum (take k v.counts)) {x = (n - v.base) + 1} {y = suc n - v.base} (omega arith) in
     ⊎_elim
-    (λ (inside : n - v.base < length v.counts). let more = sum_by_more (λ (x : ℕ). x) v.counts (n - v.base) 0 inside in omega arith)
+    (λ (inside : n - v.base < length v.counts).
+    let more = sum_by_more (λ (x : ℕ). x) v.counts (n - v.base) 0 inside in omega arith)
     (λ (behind : length v.counts ≤ n - v.base).
     let a = ap sum (take_all (n - v.base) v.counts behind) in
     let b = ap sum (take_all ((n - v.base) + 1) v.counts (omega arith)) in

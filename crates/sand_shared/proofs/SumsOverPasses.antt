@@ -5,7 +5,8 @@ use Rattle.std.proofs.lemmas.List.{get_or-set_same, get_or-set_other, length-set
 use Rattle.std.proofs.lemmas.List.Sums.{sum_by-cons, sum_by-set, get_or-le-sum_by}
 
 module _ {A : Type 0} where
-  pub sum_by_le : (f g : A → ℕ) (l : List A) (d : A) → ((j : ℕ) → j < length l → f (get_or l j d) ≤ g (get_or l j d)) → sum_by f l ≤ sum_by g l
+  pub sum_by_le : (f g : A → ℕ) (l : List A) (d : A) → ((j : ℕ) → j < length l → f (get_or l j d) ≤ g (get_or l j d))
+      → sum_by f l ≤ sum_by g l
   sum_by_le f g [] d le = omega arith
   sum_by_le f g (x ∷ xs) d le =
       let here = le 0 (omega arith) in
@@ -42,21 +43,31 @@ module _ {A : Type 0} where
       let c = sum_by-cons (λ y. f y + g y) x xs in omega arith
 
   -- an entry is replaced by one with the same f
-  pub sum_by_kept : (f : A → ℕ) (l : List A) (i : ℕ) (w d : A) → i < length l → f w ≡ f (get_or l i d) → sum_by f (set l i w) ≡ sum_by f l
+  pub sum_by_kept : (f : A → ℕ) (l : List A) (i : ℕ) (w d : A) → i < length l → f w ≡ f (get_or l i d)
+      → sum_by f (set l i w) ≡ sum_by f l
   sum_by_kept f l i w d inside same = let t = sum_by-set f l i w d inside in omega arith
 
   -- two different entries have at most the total
-  pub sum_by_two : (f : A → ℕ) (l : List A) (i j : ℕ) (d : A) → i < length l → j < length l → j ≢ i → f (get_or l i d) + f (get_or l j d) ≤ sum_by f l
+  pub sum_by_two : (f : A → ℕ) (l : List A) (i j : ℕ) (d : A) → i < length l → j < length l → j ≢ i
+      → f (get_or l i d) + f (get_or l j d) ≤ sum_by f l
   sum_by_two f [] i j d li lj ne = absurd (omega arith)
   sum_by_two f (x ∷ xs) zero zero d li lj ne = absurd (ne refl)
-  sum_by_two f (x ∷ xs) zero (suc j) d li lj ne = let a = sum_by-cons f x xs in let b = get_or-le-sum_by f xs j d (omega arith) in omega arith
-  sum_by_two f (x ∷ xs) (suc i) zero d li lj ne = let a = sum_by-cons f x xs in let b = get_or-le-sum_by f xs i d (omega arith) in omega arith
+  sum_by_two f (x ∷ xs) zero (suc j) d li lj ne =
+      let a = sum_by-cons f x xs in
+      let b = get_or-le-sum_by f xs j d (omega arith) in
+      omega arith
+  sum_by_two f (x ∷ xs) (suc i) zero d li lj ne =
+      let a = sum_by-cons f x xs in
+      let b = get_or-le-sum_by f xs i d (omega arith) in
+      omega arith
   sum_by_two f (x ∷ xs) (suc i) (suc j) d li lj ne =
       let a = sum_by-cons f x xs in
       let b = sum_by_two f xs i j d (omega arith) (omega arith) (λ e. ne (ap suc e)) in omega arith
 
   -- if all others have none, one entry has the total
-  pub sum_by_only : (f : A → ℕ) (l : List A) (i : ℕ) (d : A) → i < length l → ((j : ℕ) → j < length l → j ≢ i → f (get_or l j d) ≡ 0) → sum_by f l ≡ f (get_or l i d)
+  pub sum_by_only : (f : A → ℕ) (l : List A) (i : ℕ) (d : A) → i < length l
+      → ((j : ℕ) → j < length l → j ≢ i → f (get_or l j d) ≡ 0)
+      → sum_by f l ≡ f (get_or l i d)
   sum_by_only f [] i d inside none = absurd (omega arith)
   sum_by_only f (x ∷ xs) zero d inside none =
       let a = sum_by-cons f x xs in
@@ -64,10 +75,14 @@ module _ {A : Type 0} where
   sum_by_only f (x ∷ xs) (suc i) d inside none =
       let a = sum_by-cons f x xs in
       let here = none 0 (omega arith) (λ e. omega arith) in
-      let rest = sum_by_only f xs i d (omega arith) (λ j l ne. none (suc j) (omega arith) (λ e. ne (omega arith))) in omega arith
+      let rest = sum_by_only f xs i d (omega arith) (λ j l ne. none (suc j) (omega arith) (λ e. ne (omega arith))) in
+      omega arith
 
   -- if an entry has no f, the total of f plus its g is at most the total of g
-  pub sum_by_beside : (f g : A → ℕ) (l : List A) (i : ℕ) (d : A) → i < length l → f (get_or l i d) ≡ 0 → ((j : ℕ) → j < length l → f (get_or l j d) ≤ g (get_or l j d)) → sum_by f l + g (get_or l i d) ≤ sum_by g l
+  pub sum_by_beside : (f g : A → ℕ) (l : List A) (i : ℕ) (d : A)
+      → i < length l → f (get_or l i d) ≡ 0
+      → ((j : ℕ) → j < length l → f (get_or l j d) ≤ g (get_or l j d))
+      → sum_by f l + g (get_or l i d) ≤ sum_by g l
   sum_by_beside f g [] i d inside zero_here le = absurd (omega arith)
   sum_by_beside f g (x ∷ xs) zero d inside zero_here le =
       let a = sum_by-cons f x xs in
@@ -79,10 +94,13 @@ module _ {A : Type 0} where
       let here = le 0 (omega arith) in
       let rest = sum_by_beside f g xs i d (omega arith) zero_here (λ j l. le (suc j) (omega arith)) in omega arith
 
-  pub all_after : (P Q : A → Type 0) (l : List A) (i : ℕ) (w : A) → Q w → ((x : A) → P x → Q x) → All P l → All Q (set l i w)
+  pub all_after : (P Q : A → Type 0) (l : List A) (i : ℕ) (w : A) → Q w → ((x : A) → P x → Q x) → All P l
+      → All Q (set l i w)
   all_after P Q l i w new others was = λ k d inside. let long = length-set l i w in ⊎_elim
-      (λ (e : k ≡ i). subst (λ z. Q (get_or (set l i w) z d)) (sym e) (subst Q (sym (get_or-set_same l i w d (omega arith))) new))
-      (λ (ne : k ≡ i → ⊥). subst Q (sym (get_or-set_other l i k w d ne)) (others (get_or l k d) (was k d (omega arith))))
+      (λ (e : k ≡ i).
+      subst (λ z. Q (get_or (set l i w) z d)) (sym e) (subst Q (sym (get_or-set_same l i w d (omega arith))) new))
+      (λ (ne : k ≡ i → ⊥).
+      subst Q (sym (get_or-set_other l i k w d ne)) (others (get_or l k d) (was k d (omega arith))))
       (cases_eq k i)
 
 pub all_at : {A : Type 0} (P : A → Type 0) (l : List A) (d : A) → ((k : ℕ) → k < length l → P (get_or l k d)) → All P l
@@ -100,7 +118,8 @@ sum_by-map f h (x ∷ xs) =
     let a = sum_by-cons f (h x) (map h xs) in
     let b = sum_by-cons (λ y. f (h y)) x xs in omega arith
 
-pub sum_by_swap : {A B : Type 0} (f : A → B → ℕ) (l : List A) (m : List B) → sum_by (λ x. sum_by (f x) m) l ≡ sum_by (λ y. sum_by (λ x. f x y) l) m
+pub sum_by_swap : {A B : Type 0} (f : A → B → ℕ) (l : List A) (m : List B)
+    → sum_by (λ x. sum_by (f x) m) l ≡ sum_by (λ y. sum_by (λ x. f x y) l) m
 sum_by_swap f [] m = sym (zeros m)
   where
     zeros : {B : Type 0} (m : List B) → sum_by (λ y. 0) m ≡ 0
@@ -110,4 +129,6 @@ sum_by_swap f (x ∷ xs) m =
     let rest = sum_by_swap f xs m in
     let a = sum_by-cons (λ z. sum_by (f z) m) x xs in
     let b = sum_by_plus (f x) (λ y. sum_by (λ z. f z y) xs) m in
-    let c = sum_by_same (λ y. sum_by (λ z. f z y) (x ∷ xs)) (λ y. f x y + sum_by (λ z. f z y) xs) m (λ y. sum_by-cons (λ z. f z y) x xs) in omega arith
+    let c = sum_by_same (λ y. sum_by (λ z. f z y) (x ∷ xs))
+    (λ y. f x y + sum_by (λ z. f z y) xs) m (λ y. sum_by-cons (λ z. f z y) x xs) in
+    omega arith

@@ -13,14 +13,16 @@ use Rattle.sand_shared.specs.Seats.{HasAll}
 swap : (a b : ℕ) → a * b ≡ b * a
 swap a b = grind arith
 
-module _ (t : Terms) (p : PassView) (same : p.grid ≡ grid_of_terms t) (each : length p.counts ≡ count_of p.rows * p.grid.width) (whole : IsWhole t p) where
+module _ (t : Terms) (p : PassView) (same : p.grid ≡ grid_of_terms t)
+    (each : length p.counts ≡ count_of p.rows * p.grid.width) (whole : IsWhole t p) where
   pub whole_base : (at_rest p).base ≡ 0
   whole_base = ap (λ (r : Rows). r.first * p.grid.width) whole.rows ∙ omega arith
 
   pub whole_counts : length p.counts ≡ sites (grid_of_terms t)
   whole_counts =
       let g = grid_of_terms t in
-      each ∙ (λ i. count_of (whole.rows i) * (same i).width) ∙ (ap (λ n. n * g.width) {x = g.height - 0} {y = g.height} (omega arith) ∙ swap g.height g.width)
+      each ∙ (λ i. count_of (whole.rows i) * (same i).width)
+      ∙ (ap (λ n. n * g.width) {x = g.height - 0} {y = g.height} (omega arith) ∙ swap g.height g.width)
 
   pub whole_has_all : HasAll t (at_rest p)
   whole_has_all =
@@ -29,11 +31,13 @@ module _ (t : Terms) (p : PassView) (same : p.grid ≡ grid_of_terms t) (each : 
       let quota = whole.quota in
       record { quota = omega arith; all_sites = λ i l. held base all i l }
     where
-      held : (at_rest p).base ≡ 0 → length p.counts ≡ sites (grid_of_terms t) → (i : ℕ) → i < sites (grid_of_terms t) → holds_site (at_rest p) i ≡ true
+      held : (at_rest p).base ≡ 0 → length p.counts ≡ sites (grid_of_terms t) → (i : ℕ) → i < sites (grid_of_terms t)
+          → holds_site (at_rest p) i ≡ true
       held base all i l = grind (arith, nat_tests)
 
   -- it still does after a sweep
-  pub swept_has_all : (counts : List ℕ) (spot least : ℕ) → length counts ≡ length p.counts → HasAll t (record (at_rest p) { counts = counts; spot = spot; least = least })
+  pub swept_has_all : (counts : List ℕ) (spot least : ℕ) → length counts ≡ length p.counts
+      → HasAll t (record (at_rest p) { counts = counts; spot = spot; least = least })
   swept_has_all counts spot least long =
       let all = whole_has_all in
       let base = (at_rest p).base in

@@ -25,11 +25,13 @@ pub pass_at-with : (p : OpenPile) (a : ℕ) (w : View) → a < length p.passes �
 pass_at-with p a w there = get_or-set_same p.passes a w nobody there
 
 -- the views after the pass a becomes w
-passes_step : (p : OpenPile) (views : List View) (a : ℕ) (w : View) → views ≡ p.passes → a < length p.passes → set views a (pass_at (with_pass p a w) a) ≡ set p.passes a w
+passes_step : (p : OpenPile) (views : List View) (a : ℕ) (w : View) → views ≡ p.passes → a < length p.passes
+    → set views a (pass_at (with_pass p a w) a) ≡ set p.passes a w
 passes_step p views a w e there = λ q. set (e q) a (pass_at-with p a w there q)
 
 -- a load leaves the words as they are
-pub shows_load : (t : Terms) (p : OpenPile) (s : State ℕ View) (word a : ℕ) (w : View) → Shows t p s → a < length p.passes
+pub shows_load : (t : Terms) (p : OpenPile) (s : State ℕ View) (word a : ℕ) (w : View)
+    → Shows t p s → a < length p.passes
     → Shows t (with_pass p a w) (stepped_to s word (slice_index s.words word) a (pass_at (with_pass p a w) a))
 shows_load t p s word a w h there =
     let same = set-get_or s.words word 0 in
@@ -41,8 +43,10 @@ shows_load t p s word a w h there =
     }
 
 -- a draw adds 1 to the number word
-pub shows_draw : (t : Terms) (p : OpenPile) (s : State ℕ View) (a i : ℕ) → AreTerms t → IsLawful t p → May t p (draw a i) → Shows t p s
-    → Shows t (after t p (draw a i)) (stepped_to s 1 ((slice_index s.words 1 + 1) % 2 ^ 64) a (pass_at (after t p (draw a i)) a))
+pub shows_draw : (t : Terms) (p : OpenPile) (s : State ℕ View) (a i : ℕ)
+    → AreTerms t → IsLawful t p → May t p (draw a i) → Shows t p s
+    → Shows t (after t p (draw a i))
+    (stepped_to s 1 ((slice_index s.words 1 + 1) % 2 ^ 64) a (pass_at (after t p (draw a i)) a))
 shows_draw t p s a i terms r may h =
     let n = slice_index s.words 1 in
     let quota = r.quota in
@@ -54,22 +58,32 @@ shows_draw t p s a i terms r may h =
     let next : (n + 1) % 2 ^ 64 ≡ n + 1 = mod-eq_of_lt {n = n + 1} {m = 2 ^ 64} (omega arith) in
     record {
       wide = length-set s.words 1 ((n + 1) % 2 ^ 64) ∙ h.wide;
-      number = get_or-set_same s.words 1 ((n + 1) % 2 ^ 64) 0 (omega arith) ∙ (next ∙ omega (arith, length-append p.drawn (i ∷ [])));
-      heights = λ j l. get_or-set_other s.words 1 (j + 2) ((n + 1) % 2 ^ 64) 0 (λ e. absurd (omega arith)) ∙ h.heights j l;
+      number = get_or-set_same s.words 1 ((n + 1) % 2 ^ 64) 0 (omega arith)
+          ∙ (next ∙ omega (arith, length-append p.drawn (i ∷ [])));
+      heights = λ j l.
+          get_or-set_other s.words 1 (j + 2) ((n + 1) % 2 ^ 64) 0 (λ e. absurd (omega arith)) ∙ h.heights j l;
       passes = passes_step p s.views a (drew (pass_at p a) (length p.drawn) i) h.passes may.there;
     }
 
 -- the word of a site becomes x, and the others stay
-height_shown : (t : Terms) (p q : OpenPile) (s : State ℕ View) (i x : ℕ) → i < sites (grid_of_terms t) → Shows t p s → q.height i ≡ x → ((j : ℕ) → i ≢ j → q.height j ≡ p.height j)
+height_shown : (t : Terms) (p q : OpenPile) (s : State ℕ View) (i x : ℕ)
+    → i < sites (grid_of_terms t) → Shows t p s → q.height i ≡ x
+    → ((j : ℕ) → i ≢ j → q.height j ≡ p.height j)
     → (j : ℕ) → j < sites (grid_of_terms t) → slice_index (set s.words (i + 2) x) (j + 2) ≡ q.height j
 height_shown t p q s i x inside h here others j l = let wide = h.wide in ⊎_elim
-    (λ (e : i ≡ j). ap (λ z. get_or (set s.words (i + 2) x) (z + 2) 0) (sym e) ∙ (get_or-set_same s.words (i + 2) x 0 (omega arith) ∙ (sym here ∙ ap q.height e)))
-    (λ (ne : i ≡ j → ⊥). get_or-set_other s.words (i + 2) (j + 2) x 0 (λ e. ne (omega arith)) ∙ (h.heights j l ∙ sym (others j ne)))
+    (λ (e : i ≡ j). ap (λ z. get_or (set s.words (i + 2) x) (z + 2) 0) (sym e)
+    ∙ (get_or-set_same s.words (i + 2) x 0 (omega arith) ∙ (sym here ∙ ap q.height e)))
+    (λ (ne : i ≡ j → ⊥).
+    get_or-set_other s.words (i + 2) (j + 2) x 0 (λ e. ne (omega arith)) ∙ (h.heights j l ∙ sym (others j ne)))
     (cases_eq i j)
 
 -- grains laid on a site are added to its word
-pub shows_arrived : (t : Terms) (p : OpenPile) (s : State ℕ View) (a i k : ℕ) → AreTerms t → IsLawful t p → a < length p.passes → 0 < count_by (are_for i k) (pass_at p a).hand → i < sites (grid_of_terms t) → Shows t p s
-    → Shows t (arrived p a i k) (stepped_to s (i + 2) ((slice_index s.words (i + 2) + k) % 2 ^ 64) a (pass_at (arrived p a i k) a))
+pub shows_arrived : (t : Terms) (p : OpenPile) (s : State ℕ View) (a i k : ℕ)
+    → AreTerms t → IsLawful t p → a < length p.passes
+    → 0 < count_by (are_for i k) (pass_at p a).hand
+    → i < sites (grid_of_terms t) → Shows t p s
+    → Shows t (arrived p a i k)
+    (stepped_to s (i + 2) ((slice_index s.words (i + 2) + k) % 2 ^ 64) a (pass_at (arrived p a i k) a))
 shows_arrived t p s a i k terms r there in_hand inside h =
     let n = slice_index s.words (i + 2) in
     let is = h.heights i inside in
@@ -85,13 +99,16 @@ shows_arrived t p s a i k terms r there in_hand inside h =
     record {
       wide = length-set s.words (i + 2) ((n + k) % 2 ^ 64) ∙ h.wide;
       number = get_or-set_other s.words (i + 2) 1 ((n + k) % 2 ^ 64) 0 (λ e. absurd (omega arith)) ∙ h.number;
-      heights = height_shown t p q s i ((n + k) % 2 ^ 64) inside h (omega arith) (λ j ne. let e = amount_else i k j ne in omega arith);
+      heights = height_shown t p q s i ((n + k) % 2 ^ 64) inside h
+          (omega arith) (λ j ne. let e = amount_else i k j ne in omega arith);
       passes = passes_step p s.views a (laid_down v i k) h.passes there;
     }
 
 -- grains taken from a site are subtracted from its word
-pub shows_unload : (t : Terms) (p : OpenPile) (s : State ℕ View) (a i k : ℕ) → AreTerms t → IsLawful t p → May t p (unload a i k) → Shows t p s
-    → Shows t (after t p (unload a i k)) (stepped_to s (i + 2) ((slice_index s.words (i + 2) + (2 ^ 64 - 4 * k)) % 2 ^ 64) a (pass_at (after t p (unload a i k)) a))
+pub shows_unload : (t : Terms) (p : OpenPile) (s : State ℕ View) (a i k : ℕ)
+    → AreTerms t → IsLawful t p → May t p (unload a i k) → Shows t p s
+    → Shows t (after t p (unload a i k)) (stepped_to s (i + 2)
+    ((slice_index s.words (i + 2) + (2 ^ 64 - 4 * k)) % 2 ^ 64) a (pass_at (after t p (unload a i k)) a))
 shows_unload t p s a i k terms r may h =
     let n = slice_index s.words (i + 2) in
     let inside = may.inside in
@@ -103,11 +120,13 @@ shows_unload t p s a i k terms r may h =
     let few = few_present t p terms r i inside in
     let here = amount_here i (4 * k) i refl in
     let round : n + (2 ^ 64 - 4 * k) ≡ (n - 4 * k) + 2 ^ 64 = omega arith in
-    let next : (n + (2 ^ 64 - 4 * k)) % 2 ^ 64 ≡ n - 4 * k = ap (λ z. z % 2 ^ 64) round ∙ (add-mod_right (n - 4 * k) (2 ^ 64) ∙ mod-eq_of_lt {n = n - 4 * k} {m = 2 ^ 64} (omega arith)) in
+    let next : (n + (2 ^ 64 - 4 * k)) % 2 ^ 64 ≡ n - 4 * k = ap (λ z. z % 2 ^ 64) round
+    ∙ (add-mod_right (n - 4 * k) (2 ^ 64) ∙ mod-eq_of_lt {n = n - 4 * k} {m = 2 ^ 64} (omega arith)) in
     let x = (n + (2 ^ 64 - 4 * k)) % 2 ^ 64 in
     record {
       wide = length-set s.words (i + 2) x ∙ h.wide;
       number = get_or-set_other s.words (i + 2) 1 x 0 (λ e. absurd (omega arith)) ∙ h.number;
-      heights = height_shown t p q s i x inside h (omega arith) (λ j ne. let e = amount_else i (4 * k) j ne in omega arith);
+      heights =
+          height_shown t p q s i x inside h (omega arith) (λ j ne. let e = amount_else i (4 * k) j ne in omega arith);
       passes = passes_step p s.views a (unloaded t (pass_at p a) i k) h.passes may.there;
     }

@@ -49,7 +49,12 @@ behind_first [] = []
 behind_first (g ∷ gs) = gs
 
 abbrev pub drew : View → ℕ → ℕ → View
-drew v n i = record v { left = v.left - 1; seen = n + 1; receipts = v.receipts ++ receipt n i ∷ []; hand = v.hand ++ grains i 1 ∷ [] }
+drew v n i = record v {
+  left = v.left - 1;
+  seen = n + 1;
+  receipts = v.receipts ++ receipt n i ∷ [];
+  hand = v.hand ++ grains i 1 ∷ [];
+}
 
 -- the receipts of consecutive drops, numbered from n on
 abbrev pub receipts_from : ℕ → List ℕ → List Receipt
@@ -62,7 +67,12 @@ one_for_each is = map (λ i. grains i 1) is
 
 -- a pass after consecutive draws, numbered from n on
 abbrev pub drew_all : View → ℕ → List ℕ → View
-drew_all v n is = record v { left = v.left - length is; seen = n + length is; receipts = v.receipts ++ receipts_from n is; hand = v.hand ++ one_for_each is }
+drew_all v n is = record v {
+  left = v.left - length is;
+  seen = n + length is;
+  receipts = v.receipts ++ receipts_from n is;
+  hand = v.hand ++ one_for_each is;
+}
 
 -- these are k grains for the site i
 abbrev pub are_for : ℕ → ℕ → Grains → Bool
@@ -206,10 +216,12 @@ after t p begin = record p { passes = first_pass t ∷ [] }
 after t p (draw a i) = record (with_pass p a (drew (pass_at p a) (length p.drawn) i)) { drawn = p.drawn ++ i ∷ [] }
 after t p (place a i) = arrived p a i 1
 after t p (count a) = with_pass p a (counted (pass_at p a) (length p.drawn))
-after t p (split a q n) = record p { passes = slice_set p.passes a (parent (pass_at p a) q n) ++ child (pass_at p a) q n ∷ [] }
+after t p (split a q n) =
+    record p { passes = slice_set p.passes a (parent (pass_at p a) q n) ++ child (pass_at p a) q n ∷ [] }
 after t p (join a b) = with_pass (with_pass p a (joined (pass_at p a) (pass_at p b))) b nobody
 after t p (look a i) = with_pass p a (looked (pass_at p a) i (p.height i))
-after t p (unload a i k) = record (with_pass p a (unloaded t (pass_at p a) i k)) { height = λ j. p.height j - amount_at i (4 * k) j }
+after t p (unload a i k) =
+    record (with_pass p a (unloaded t (pass_at p a) i k)) { height = λ j. p.height j - amount_at i (4 * k) j }
 after t p (deliver a i k) = arrived p a i k
 
 -- the pile before its first pass is made

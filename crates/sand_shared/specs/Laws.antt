@@ -27,7 +27,8 @@ HoldsLawful rule = (t : Terms) (s : State ℕ View) → rule t s → ShowLawful 
 
 -- on a lawful pile, the grains on a site and in hand for it are at most the start and the quota together
 abbrev pub FewGrains : Type 0
-FewGrains = (t : Terms) (p : OpenPile) → AreTerms t → IsLawful t p → (i : ℕ) → i < sites (grid_of_terms t) → present p i ≤ sum t.start.heights + t.quota
+FewGrains = (t : Terms) (p : OpenPile) → AreTerms t → IsLawful t p → (i : ℕ) → i < sites (grid_of_terms t)
+    → present p i ≤ sum t.start.heights + t.quota
 
 -- no more drops have begun than the quota
 abbrev pub FewDraws : Type 0

@@ -82,14 +82,16 @@ poured t p i = height_of t.start i + tally p.drawn i
 pub record IsLawfulPass (t : Terms) (p : OpenPile) (v : View) : Type 0 where
   pub seen : v.seen ≤ length p.drawn
   pub receipts : All (λ r. slice_get p.drawn r.number ≡ Some r.site) v.receipts
-  pub hand : (i : ℕ) → i < sites (grid_of_terms t) → held v.hand i ≤ dropped v.receipts i + flow (grid_of_terms t) (toppled_by v) i
+  pub hand : (i : ℕ) → i < sites (grid_of_terms t)
+      → held v.hand i ≤ dropped v.receipts i + flow (grid_of_terms t) (toppled_by v) i
   pub least : holds_site v v.spot ≡ true → v.spot < sites (grid_of_terms t) → v.least ≤ p.height v.spot
 
 pub record IsLawful (t : Terms) (p : OpenPile) : Type 0 where
   -- no grain vanishes or is doubled
   pub balance : IsToppled (grid_of_terms t) (poured t p) (toppled p) (present p)
   -- no site has toppled more often than in any w that stabilises the start and all drawn grains
-  pub needed : (w : ℕ → ℕ) → Stabilises (grid_of_terms t) (poured t p) w → (i : ℕ) → i < sites (grid_of_terms t) → toppled p i ≤ w i
+  pub needed : (w : ℕ → ℕ) → Stabilises (grid_of_terms t) (poured t p) w → (i : ℕ) → i < sites (grid_of_terms t)
+      → toppled p i ≤ w i
   -- the receipts have the numbers 0 to n - 1, each once, and each site has as many receipts as draws
   pub numbers : (n : ℕ) → in_all (λ v. numbered v.receipts n) p ≡ one_if (nat_lt n (length p.drawn))
   pub receipts : in_all (λ v. length v.receipts) p ≡ length p.drawn

@@ -25,7 +25,9 @@ abbrev pub rows_follow : Rows → Rows → Bool
 rows_follow r q = (q.first == q.end) || (q.first == r.end)
 
 abbrev pub rows_together : Rows → Rows → Rows
-rows_together r q = if rows_follow r q then record { first = r.first; end = r.end + count_of q } else record { first = q.first; end = q.end + count_of r }
+rows_together r q = if rows_follow r q
+    then record { first = r.first; end = r.end + count_of q }
+    else record { first = q.first; end = q.end + count_of r }
 
 -- neither follows the other
 abbrev pub AreApart : Rows → Rows → Type 0

@@ -28,7 +28,8 @@ IsCalm t v = (i : ℕ) → i < sites (grid_of_terms t) → LeavesAtMost t v i 3
 
 -- no site has toppled more often than the start and the receipts require, and the total is bounded by their weight
 pub record IsSparing (t : Terms) (v : View) : Type 0 where
-  pub needed : (w : ℕ → ℕ) → Stabilises (grid_of_terms t) (laid t v) w → (i : ℕ) → i < sites (grid_of_terms t) → toppled_by v i ≤ w i
+  pub needed : (w : ℕ → ℕ) → Stabilises (grid_of_terms t) (laid t v) w → (i : ℕ) → i < sites (grid_of_terms t)
+      → toppled_by v i ≤ w i
   pub weighed : 2 * sum v.counts ≤ weight (grid_of_terms t) (laid t v)
 
 abbrev pub with_counts : View → List ℕ → View
@@ -41,7 +42,8 @@ coming_to v counts j = with_counts v (take j counts ++ drop j v.counts)
 -- the j-th site toppled k div 4 times, for the k when the sweep came to it
 abbrev pub TopplesInTurn : Terms → View → List ℕ → ℕ → Type 0
 TopplesInTurn t v counts j = let times = slice_index counts j - slice_index v.counts j in
-    LeavesAtLeast t (coming_to v counts j) (v.base + j) (4 * times) × LeavesAtMost t (coming_to v counts j) (v.base + j) (4 * times + 3)
+    LeavesAtLeast t (coming_to v counts j) (v.base + j) (4 * times)
+    × LeavesAtMost t (coming_to v counts j) (v.base + j) (4 * times + 3)
 
 -- a sweep over the rows of v that leaves these counts and returns these topplings
 pub record SweptRows (t : Terms) (v : View) (counts : List ℕ) (topplings : ℕ) : Type 0 where
@@ -50,7 +52,8 @@ pub record SweptRows (t : Terms) (v : View) (counts : List ℕ) (topplings : ℕ
   pub idle : topplings ≡ 0 → counts ≡ v.counts
   pub never_fall : (j : ℕ) → slice_index v.counts j ≤ slice_index counts j
   -- each site toppled at least k div 4 times
-  pub enough : (j : ℕ) → j < length v.counts → LeavesAtMost t v (v.base + j) (4 * (slice_index counts j - slice_index v.counts j) + 3)
+  pub enough : (j : ℕ) → j < length v.counts
+      → LeavesAtMost t v (v.base + j) (4 * (slice_index counts j - slice_index v.counts j) + 3)
 
 -- such a sweep over all sites, if no other pass can drop or topple
 pub record SweptAll (t : Terms) (v : View) (counts : List ℕ) (topplings : ℕ) : Type 0 where
@@ -71,6 +74,7 @@ pub record IsRestOf (t : Terms) (p : PassView) (r : SettledView) : Type 0 where
   pub grid : r.pile.grid ≡ grid_of_terms t
   pub heights_each : length r.pile.heights ≡ sites (grid_of_terms t)
   pub odometer_each : length r.odometer ≡ sites (grid_of_terms t)
-  pub settled : IsSettled (grid_of_terms t) (laid t (at_rest p)) (λ i. slice_index p.counts i + odometer_of r i) (height_of r.pile)
+  pub settled : IsSettled (grid_of_terms t) (laid t (at_rest p))
+      (λ i. slice_index p.counts i + odometer_of r i) (height_of r.pile)
   pub all_topplings : r.topplings ≡ topplings_of (grid_of_terms t) (odometer_of r)
   pub all_lost : r.lost ≡ lost_of (grid_of_terms t) (odometer_of r)

@@ -29,7 +29,8 @@ impl Words {
         requires counts { (seat.old.me.0.base ≡ 0) × (seat.old.me.0.counts ≡ counts.old.items) }
         requires all { length counts.old.items ≡ sites (grid_of_terms self.now.terms) }
         ensures seat { StaysSeated seat.old seat.new }
-        ensures view { seat.new.me.0 ≡ record (looked seat.old.me.0 seat.new.me.0.spot seat.new.me.0.least) { counts = counts.new.items } }
+        ensures view { seat.new.me.0
+            ≡ record (looked seat.old.me.0 seat.new.me.0.spot seat.new.me.0.least) { counts = counts.new.items } }
         ensures long { length counts.new.items ≡ length counts.old.items }
         ensures never_fall { (j : ℕ) → slice_index counts.old.items j ≤ slice_index counts.new.items j }
         ensures calm { IsCalm self.now.terms (with_counts seat.old.me.0 counts.new.items) }
@@ -71,7 +72,11 @@ impl SharedPile {
     }
 
     // A history with an entry for each receipt, if the pass is whole.
-    pub(crate) fn room_for_history(&self, alloc: Global, pass: &Pass) -> Result<Vec<usize>, CloseFault>
+    pub(crate) fn room_for_history(
+        &self,
+        alloc: Global,
+        pass: &Pass,
+    ) -> Result<Vec<usize>, CloseFault>
         requires { IsPassOf self.now pass.now }
         ensures missing { IfErr result (λ e. (e ≡ CloseFault.Missing) ↔ ¬ IsWhole self.now.terms pass.now) }
         ensures whole { OnOk result (IsWhole self.now.terms pass.now) }

@@ -64,7 +64,8 @@ pub(crate) fn add(numbers: &mut Vec<u64>, more: &[u64])
     requires lengths { length numbers.old.items ≡ length more.now }
     requires small { (i : ℕ) → i < length more.now → slice_index numbers.old.items i + slice_index more.now i < 2 ^ 64 }
     ensures long { length numbers.new.items ≡ length numbers.old.items }
-    ensures sums { (i : ℕ) → i < length more.now → slice_index numbers.new.items i ≡ slice_index numbers.old.items i + slice_index more.now i }
+    ensures sums { (i : ℕ) → i < length more.now
+        → slice_index numbers.new.items i ≡ slice_index numbers.old.items i + slice_index more.now i }
     ensures never_fall { (i : ℕ) → slice_index numbers.old.items i ≤ slice_index numbers.new.items i }
 {
     'places: for i in 0..more.len() {
@@ -125,7 +126,8 @@ impl SharedPile {
         requires room { (heights.items ≡ []) × (length pass.old.counts ≤ vec_capacity heights) }
         ensures pass { pass.new ≡ pass.old }
         ensures grid { result.grid ≡ grid_of_terms self.now.terms }
-        ensures underway { IsUnderway (grid_of_terms self.now.terms) (laid self.now.terms (at_rest pass.old)) (slice_index pass.old.counts) (height_of result) }
+        ensures underway { IsUnderway (grid_of_terms self.now.terms)
+            (laid self.now.terms (at_rest pass.old)) (slice_index pass.old.counts) (height_of result) }
     {
         self.words.read(&mut pass.seat, &mut heights);
         Pile::from_vec(pass.shape, heights)

@@ -40,7 +40,8 @@ impl Words {
         requires hand { seat.old.me.0.hand ≡ one_for_each drops.now }
         requires inside { All (λ i. i < sites (grid_of_terms self.now.terms)) drops.now }
         requires long { length counts.old.items ≡ sites (grid_of_terms self.now.terms) }
-        requires counted { (i : ℕ) → i < sites (grid_of_terms self.now.terms) → slice_index counts.old.items i ≡ tally drops.now i }
+        requires counted { (i : ℕ) → i < sites (grid_of_terms self.now.terms)
+            → slice_index counts.old.items i ≡ tally drops.now i }
         ensures seat { StaysSeated seat.old seat.new }
         ensures view { seat.new.me.0 ≡ record seat.old.me.0 { hand = [] } }
         ensures none { counts.new.items ≡ zeros (sites (grid_of_terms self.now.terms)) }

@@ -9,9 +9,9 @@ ghost use Rattle.sand_settle.specs.Settling.{odometer_of};
 ghost use Rattle.sand_shared.specs.Record.{IsOneThreads};
 ghost use Rattle.sand_model.specs.Piles.{most_grains};
 
+use crate::completing::add;
 use crate::faults::SharedFault;
 use crate::record::{Record, copy_of};
-use crate::completing::add;
 use sand_settle::Settled;
 use std::alloc::Global;
 
@@ -20,7 +20,8 @@ impl Record {
     /// other. Returns Memory if an allocation fails; this record is then unchanged.
     pub fn append(&mut self, alloc: Global, next: &Record) -> Result<(), SharedFault>
         requires start { next.now.start ≡ self.old.settled.pile }
-        requires limit { sum self.old.start.heights + (length self.old.history + length next.now.history) ≤ most_grains }
+        requires limit { sum self.old.start.heights + (length self.old.history + length next.now.history)
+            ≤ most_grains }
         ensures one_threads { OnOk result (IsOneThreads self.new) }
         ensures start { OnOk result (self.new.start ≡ self.old.start) }
         ensures history { OnOk result (self.new.history ≡ self.old.history ++ next.now.history) }
@@ -28,7 +29,8 @@ impl Record {
         ensures odometer { OnOk result (
             (i : ℕ) → i < sites self.old.start.grid →
             odometer_of self.new.settled i ≡ odometer_of self.old.settled i + odometer_of next.now.settled i) }
-        ensures topplings { OnOk result (self.new.settled.topplings ≡ self.old.settled.topplings + next.now.settled.topplings) }
+        ensures topplings { OnOk result (
+            self.new.settled.topplings ≡ self.old.settled.topplings + next.now.settled.topplings) }
         ensures lost { OnOk result (self.new.settled.lost ≡ self.old.settled.lost + next.now.settled.lost) }
         ensures unchanged { OnErr result (self.new ≡ self.old) }
         ensures memory { IsOkUnless result (SharedFault.Memory alloc_error) }
@@ -45,7 +47,8 @@ impl Record {
     /// Like `append`, but returns a new record.
     pub fn followed_by(&self, alloc: Global, next: &Record) -> Result<Record, SharedFault>
         requires start { next.now.start ≡ self.now.settled.pile }
-        requires limit { sum self.now.start.heights + (length self.now.history + length next.now.history) ≤ most_grains }
+        requires limit { sum self.now.start.heights + (length self.now.history + length next.now.history)
+            ≤ most_grains }
         ensures one_threads { IfOk result IsOneThreads }
         ensures start { IfOk result (λ r. r.start ≡ self.now.start) }
         ensures history { IfOk result (λ r. r.history ≡ self.now.history ++ next.now.history) }
@@ -53,7 +56,8 @@ impl Record {
         ensures odometer { IfOk result (λ r.
             (i : ℕ) → i < sites self.now.start.grid →
             odometer_of r.settled i ≡ odometer_of self.now.settled i + odometer_of next.now.settled i) }
-        ensures topplings { IfOk result (λ r. r.settled.topplings ≡ self.now.settled.topplings + next.now.settled.topplings) }
+        ensures topplings { IfOk result (λ r.
+            r.settled.topplings ≡ self.now.settled.topplings + next.now.settled.topplings) }
         ensures lost { IfOk result (λ r. r.settled.lost ≡ self.now.settled.lost + next.now.settled.lost) }
         ensures memory { IsOkUnless result (SharedFault.Memory alloc_error) }
     {

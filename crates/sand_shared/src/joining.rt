@@ -17,7 +17,8 @@ fn lay_together(
     second: &mut Vec<u64>,
     in_order: bool,
 ) -> Result<(), AllocError>
-    ensures together { OnOk result (first.new.items ≡ (if in_order then first.old.items ++ second.old.items else second.old.items ++ first.old.items)) }
+    ensures together { OnOk result (first.new.items
+        ≡ (if in_order then first.old.items ++ second.old.items else second.old.items ++ first.old.items)) }
     ensures unchanged { OnErr result ((first.new.items ≡ first.old.items) × (second.new.items ≡ second.old.items)) }
 {
     if in_order {

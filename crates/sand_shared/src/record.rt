@@ -54,7 +54,8 @@ impl Record {
         requires all_sites { All (λ i. i < sites start.grid) history.items }
         requires limit { sum start.heights + length history.items ≤ most_grains }
         requires one_each { (length heights.items ≡ sites start.grid) × (length odometer.items ≡ sites start.grid) }
-        requires settled { IsSettled start.grid (λ i. height_of start i + tally history.items i) (slice_index odometer.items) (slice_index heights.items) }
+        requires settled { IsSettled start.grid (λ i. height_of start i + tally history.items i)
+            (slice_index odometer.items) (slice_index heights.items) }
         ensures start { result.start ≡ start }
         ensures history { result.history ≡ history.items }
         ensures heights { result.settled.pile.heights ≡ heights.items }

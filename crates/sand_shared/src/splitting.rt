@@ -23,7 +23,8 @@ impl SharedPile {
         ensures not_rows { result ≢ Err SplitFault.Rows }
         ensures unchanged { OnErr result (pass.new ≡ pass.old) }
         ensures parent { OnOk result (pass.new ≡ record pass.old { left = pass.old.left - quota }) }
-        ensures child { IfOk result (λ c. c ≡ record pass.old { left = quota; receipts = []; rows = no_rows; counts = [] }) }
+        ensures child { IfOk result
+            (λ c. c ≡ record pass.old { left = quota; receipts = []; rows = no_rows; counts = [] }) }
     {
         let bare = &mut pass.bare;
         if bare.left < quota {

@@ -39,7 +39,8 @@ impl Model for Words {
 
     ghost view = { λ w. record { table = w.table.shared.table_id; terms = w.terms } };
 
-    ghost invariant = { λ w. AreWords w.table.shared.key w.lattice (record { table = w.table.shared.table_id; terms = w.terms }) };
+    ghost invariant = { λ w.
+        AreWords w.table.shared.key w.lattice (record { table = w.table.shared.table_id; terms = w.terms }) };
 }
 
 impl Words {
@@ -95,9 +96,11 @@ impl Words {
         requires some { 0 < length drops.now }
         requires left { length drops.now ≤ seat.old.me.0.left }
         requires inside { All (λ i. i < sites (grid_of_terms self.now.terms)) drops.now }
-        requires picked { (J.terms ≡ self.now.terms) × (J.pass ≡ seat.old.id) × (J.events ≡ all_draws seat.old.id drops.now) }
+        requires picked { (J.terms ≡ self.now.terms) × (J.pass ≡ seat.old.id)
+            × (J.events ≡ all_draws seat.old.id drops.now) }
         ensures seat { StaysSeated seat.old seat.new }
-        ensures happened { Happened self.now.terms seat.old.id (all_draws seat.old.id drops.now) seat.old.me.0 result seat.new.me.0 }
+        ensures happened { Happened self.now.terms seat.old.id
+            (all_draws seat.old.id drops.now) seat.old.me.0 result seat.new.me.0 }
     {
         self.table
             .shared
@@ -110,9 +113,11 @@ impl Words {
         requires some { 0 < amount }
         requires hand { amount ≤ count_by (are_for site 1) seat.old.me.0.hand }
         requires site { site < sites (grid_of_terms self.now.terms) }
-        requires picked { (J.terms ≡ self.now.terms) × (J.pass ≡ seat.old.id) × (J.events ≡ all_places seat.old.id site amount) }
+        requires picked { (J.terms ≡ self.now.terms) × (J.pass ≡ seat.old.id)
+            × (J.events ≡ all_places seat.old.id site amount) }
         ensures seat { StaysSeated seat.old seat.new }
-        ensures happened { (n : ℕ) × Happened self.now.terms seat.old.id (all_places seat.old.id site amount) seat.old.me.0 n seat.new.me.0 }
+        ensures happened { (n : ℕ)
+            × Happened self.now.terms seat.old.id (all_places seat.old.id site amount) seat.old.me.0 n seat.new.me.0 }
     {
         self.table
             .shared
@@ -124,7 +129,8 @@ impl Words {
         requires seat { IsSeatAt self.now seat.old }
         requires picked { (J.terms ≡ self.now.terms) × (J.pass ≡ seat.old.id) × (J.events ≡ count seat.old.id ∷ []) }
         ensures seat { StaysSeated seat.old seat.new }
-        ensures happened { Happened self.now.terms seat.old.id (count seat.old.id ∷ []) seat.old.me.0 result seat.new.me.0 }
+        ensures happened { Happened self.now.terms seat.old.id
+            (count seat.old.id ∷ []) seat.old.me.0 result seat.new.me.0 }
     {
         self.table.shared.load::<Take<J>>(seat, 1)
     }
@@ -134,9 +140,11 @@ impl Words {
         requires seat { IsSeatAt self.now seat.old }
         requires own { holds_site seat.old.me.0 site ≡ true }
         requires site { site < sites (grid_of_terms self.now.terms) }
-        requires picked { (J.terms ≡ self.now.terms) × (J.pass ≡ seat.old.id) × (J.events ≡ look seat.old.id site ∷ []) }
+        requires picked { (J.terms ≡ self.now.terms) × (J.pass ≡ seat.old.id)
+            × (J.events ≡ look seat.old.id site ∷ []) }
         ensures seat { StaysSeated seat.old seat.new }
-        ensures happened { Happened self.now.terms seat.old.id (look seat.old.id site ∷ []) seat.old.me.0 result seat.new.me.0 }
+        ensures happened { Happened self.now.terms seat.old.id
+            (look seat.old.id site ∷ []) seat.old.me.0 result seat.new.me.0 }
     {
         self.table.shared.load::<Take<J>>(seat, site + 2)
     }
@@ -148,9 +156,11 @@ impl Words {
         requires there { 4 * times ≤ seat.old.me.0.least }
         requires site { site < sites (grid_of_terms self.now.terms) }
         requires small { 4 * times < 2 ^ 64 }
-        requires picked { (J.terms ≡ self.now.terms) × (J.pass ≡ seat.old.id) × (J.events ≡ unload seat.old.id site times ∷ []) }
+        requires picked { (J.terms ≡ self.now.terms) × (J.pass ≡ seat.old.id)
+            × (J.events ≡ unload seat.old.id site times ∷ []) }
         ensures seat { StaysSeated seat.old seat.new }
-        ensures happened { (n : ℕ) × Happened self.now.terms seat.old.id (unload seat.old.id site times ∷ []) seat.old.me.0 n seat.new.me.0 }
+        ensures happened { (n : ℕ)
+            × Happened self.now.terms seat.old.id (unload seat.old.id site times ∷ []) seat.old.me.0 n seat.new.me.0 }
     {
         self.table
             .shared
@@ -162,9 +172,11 @@ impl Words {
         requires seat { IsSeatAt self.now seat.old }
         requires hand { seat.old.me.0.hand ≡ grains site times ∷ behind_first seat.old.me.0.hand }
         requires site { site < sites (grid_of_terms self.now.terms) }
-        requires picked { (J.terms ≡ self.now.terms) × (J.pass ≡ seat.old.id) × (J.events ≡ deliver seat.old.id site times ∷ []) }
+        requires picked { (J.terms ≡ self.now.terms) × (J.pass ≡ seat.old.id)
+            × (J.events ≡ deliver seat.old.id site times ∷ []) }
         ensures seat { StaysSeated seat.old seat.new }
-        ensures happened { (n : ℕ) × Happened self.now.terms seat.old.id (deliver seat.old.id site times ∷ []) seat.old.me.0 n seat.new.me.0 }
+        ensures happened { (n : ℕ)
+            × Happened self.now.terms seat.old.id (deliver seat.old.id site times ∷ []) seat.old.me.0 n seat.new.me.0 }
     {
         self.table
             .shared
@@ -251,7 +263,8 @@ impl Words {
 fn read_heights(closed: &Closed<u8, Global>, sites: usize, heights: &mut Vec<u64>)
     requires closed { (slots_len closed.now.words ≡ sites + 2) × IsFull closed.now.words × (sites ≤ 65536) }
     requires room { (heights.old.items ≡ []) × (sites ≤ vec_capacity heights.old) }
-    ensures heights { (i : ℕ) → i < sites → slice_index heights.new.items i ≡ slice_index (slots_items closed.now.words) (i + 2) }
+    ensures heights { (i : ℕ) → i < sites
+        → slice_index heights.new.items i ≡ slice_index (slots_items closed.now.words) (i + 2) }
     ensures length { length heights.new.items ≡ sites }
 {
     for site in 0..sites {

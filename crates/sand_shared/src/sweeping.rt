@@ -56,10 +56,12 @@ impl Words {
         requires rows { seat.old.me.0.base + length seat.old.me.0.counts ≤ sites (grid_of_terms self.now.terms) }
         requires site { site < sites (grid_of_terms self.now.terms) }
         ensures seat { StaysSeated seat.old seat.new }
-        ensures view { seat.new.me.0 ≡ record (looked seat.old.me.0 site seat.new.me.0.least) { counts = raised seat.old.me.0 site result } }
+        ensures view { seat.new.me.0
+            ≡ record (looked seat.old.me.0 site seat.new.me.0.least) { counts = raised seat.old.me.0 site result } }
         ensures few { sum seat.new.me.0.counts < 2 ^ 54 }
         ensures enough { LeavesAtMost self.now.terms seat.old.me.0 site (4 * result + 3) }
-        ensures no_more { HasAll self.now.terms seat.old.me.0 → LeavesAtLeast self.now.terms seat.old.me.0 site (4 * result) }
+        ensures no_more { HasAll self.now.terms seat.old.me.0
+            → LeavesAtLeast self.now.terms seat.old.me.0 site (4 * result) }
         ensures sparing { HasAll self.now.terms seat.old.me.0 → IsSparing self.now.terms seat.new.me.0 }
     {
         let times = self.look::<Brand>(seat, site) / TOPPLING_HEIGHT;
@@ -77,9 +79,11 @@ impl Words {
         requires counts { (seat.old.me.0.base ≡ base) × (seat.old.me.0.counts ≡ counts.old.items) }
         requires rows { base + length counts.old.items ≤ sites (grid_of_terms self.now.terms) }
         ensures seat { StaysSeated seat.old seat.new }
-        ensures view { seat.new.me.0 ≡ record (looked seat.old.me.0 seat.new.me.0.spot seat.new.me.0.least) { counts = counts.new.items } }
+        ensures view { seat.new.me.0
+            ≡ record (looked seat.old.me.0 seat.new.me.0.spot seat.new.me.0.least) { counts = counts.new.items } }
         ensures swept { SweptRows self.now.terms seat.old.me.0 counts.new.items result }
-        ensures all { HasAll self.now.terms seat.old.me.0 → SweptAll self.now.terms seat.old.me.0 counts.new.items result }
+        ensures all { HasAll self.now.terms seat.old.me.0
+            → SweptAll self.now.terms seat.old.me.0 counts.new.items result }
         ensures few { sum counts.new.items < 2 ^ 54 }
     {
         self.tell_limits();

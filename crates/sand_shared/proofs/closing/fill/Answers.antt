@@ -13,9 +13,16 @@ loop-receipt-preserved c =
     let inv = c.loop-receipt.invariant in
     let long = inv.long in
     let inside = c.requires.inside j (receipt 0 0) below in
-    record { long = length-set _ _ _ ∙ inv.long; told = told_more c.args.receipts.now j (receipt 0 0) c.loop-receipt.history.items below c.requires.once (omega arith) inv.told }
+    record {
+      long = length-set _ _ _ ∙ inv.long;
+      told = told_more c.args.receipts.now j (receipt 0 0)
+          c.loop-receipt.history.items below c.requires.once (omega arith) inv.told;
+    }
 
 pub returns-clause-tells : goal.returns-clause-tells
 returns-clause-tells c =
     let done = c.loop-receipt-test.false in
-    all_at (λ (r : Receipt). slice_get c.loop-receipt.history.items r.number ≡ Some r.site) c.args.receipts.now (receipt 0 0) (λ k l. c.loop-receipt.invariant.told k (omega arith))
+    all_at
+    (λ (r : Receipt). slice_get c.loop-receipt.history.items r.number ≡ Some r.site) c.args.receipts.now
+    (receipt 0 0)
+    (λ k l. c.loop-receipt.invariant.told k (omega arith))

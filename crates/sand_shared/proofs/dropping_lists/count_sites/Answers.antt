@@ -6,8 +6,10 @@ use Rattle.sand_shared.proofs.dropping_lists.count_sites.Goals as goal
 use Rattle.sand_shared.proofs.dropping_lists.count_sites.Goals.{After-index_mut}
 
 -- a read at an entry of the list finds the count so far
-read : (c : After-index_mut) → c.index_mut.result.now ≡ slice_index c.drops.counts.items (get_or c.args.drops.now c.drops.site-index 0)
-read c = read_count (length c.args.counts.now.items) c.drops.site-index _ c.drops.counts.items c.args.drops.now c.drops.invariant.long c.requires.inside c.drops-test.true c.index_mut.ensures.value
+read : (c : After-index_mut)
+    → c.index_mut.result.now ≡ slice_index c.drops.counts.items (get_or c.args.drops.now c.drops.site-index 0)
+read c = read_count (length c.args.counts.now.items) c.drops.site-index _ c.drops.counts.items
+    c.args.drops.now c.drops.invariant.long c.requires.inside c.drops-test.true c.index_mut.ensures.value
 
 pub overflow_add-index_mut : goal.overflow_add-index_mut
 overflow_add-index_mut c =
@@ -30,5 +32,7 @@ drops-preserved c =
     let inside = c.requires.inside k 0 below in
     record {
       long = length-set cs (get_or ds k 0) (c.index_mut.result.now + 1) ∙ inv.long;
-      counted = subst (λ z. (i : ℕ) → i < n → get_or (set cs (get_or ds k 0) (z + 1)) i 0 ≡ tally (take (k + 1) ds) i) (sym (read (goal.at.drops-preserved c).After-index_mut)) (counted_more n k cs ds below (omega arith) inv.counted);
+      counted = subst (λ z. (i : ℕ) → i < n → get_or (set cs (get_or ds k 0) (z + 1)) i 0 ≡ tally (take (k + 1) ds) i)
+          (sym (read (goal.at.drops-preserved c).After-index_mut))
+          (counted_more n k cs ds below (omega arith) inv.counted);
     }

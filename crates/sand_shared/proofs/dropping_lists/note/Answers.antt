@@ -23,8 +23,11 @@ drops-preserved c =
     record {
       next = omega arith;
       capacity = c.push_reserved.ensures.capacity ∙ inv.capacity;
-      long = ap (λ (l : List Receipt). length l) items ∙ omega (arith, length-append rs (receipt n (get_or ds k 0) ∷ []));
-      rest = ap (λ (l : List Receipt). l ++ receipts_from (n + 1) (drop (k + 1) ds)) items ∙ (note_more rs n (get_or ds k 0) (drop (k + 1) ds) ∙ (ap (λ l. rs ++ receipts_from n l) (sym here) ∙ inv.rest));
+      long =
+          ap (λ (l : List Receipt). length l) items ∙ omega (arith, length-append rs (receipt n (get_or ds k 0) ∷ []));
+      rest = ap (λ (l : List Receipt). l ++ receipts_from (n + 1) (drop (k + 1) ds)) items
+          ∙ (note_more rs n (get_or ds k 0) (drop (k + 1) ds)
+          ∙ (ap (λ l. rs ++ receipts_from n l) (sym here) ∙ inv.rest));
     }
 
 pub returns-clause-items : goal.returns-clause-items
@@ -32,4 +35,5 @@ returns-clause-items c =
     let ds = c.args.drops.now in
     let done = c.drops-test.false in
     let none : drop c.drops.site-index ds ≡ [] = drop_all c.drops.site-index ds (omega arith) in
-    sym (append-nil c.drops.receipts.items) ∙ (ap (λ l. c.drops.receipts.items ++ receipts_from c.drops.next l) (sym none) ∙ c.drops.invariant.rest)
+    sym (append-nil c.drops.receipts.items)
+    ∙ (ap (λ l. c.drops.receipts.items ++ receipts_from c.drops.next l) (sym none) ∙ c.drops.invariant.rest)

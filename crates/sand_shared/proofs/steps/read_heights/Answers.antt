@@ -19,7 +19,9 @@ loop-site-preserved c =
       long = ap (λ l. length l) items ∙ omega (arith, length-append xs (a ∷ []));
       room = omega (arith, c.push_reserved.ensures.capacity, inv.room);
       read = λ k l. ap (λ ys. get_or ys k 0) items ∙ ⊎_elim
-          (λ (e : k ≡ i). ap (λ z. get_or (xs ++ a ∷ []) z 0) {x = k} {y = length xs} (omega arith) ∙ (get_or-append_seam xs a [] 0 ∙ (sym (some_there ws (i + 2) a 0 c.word.ensures) ∙ ap (λ z. get_or ws (z + 2) 0) (sym e))))
+          (λ (e : k ≡ i). ap (λ z. get_or (xs ++ a ∷ []) z 0) {x = k} {y = length xs} (omega arith)
+          ∙ (get_or-append_seam xs a [] 0
+          ∙ (sym (some_there ws (i + 2) a 0 c.word.ensures) ∙ ap (λ z. get_or ws (z + 2) 0) (sym e))))
           (λ (ne : k ≡ i → ⊥). get_or_append_left xs (a ∷ []) 0 k (omega arith) ∙ inv.read k (omega arith))
           (cases_eq k i);
     }

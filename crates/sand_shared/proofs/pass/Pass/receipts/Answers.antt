@@ -3,4 +3,5 @@ use Rattle.sand_shared.specs.Passes.{PassView, EachOnce}
 use Rattle.sand_shared.proofs.pass.Pass.receipts.Goals as goal
 
 pub returns-clause-each_once : goal.returns-clause-each_once
-returns-clause-each_once c = subst (λ (p : PassView). EachOnce p.receipts) (ap (λ z. z.bare) c.self-inside.view_is ∙ c.self.view_is) c.self-inside.invariant.pass.once
+returns-clause-each_once c = subst (λ (p : PassView). EachOnce p.receipts)
+    (ap (λ z. z.bare) c.self-inside.view_is ∙ c.self.view_is) c.self-inside.invariant.pass.once

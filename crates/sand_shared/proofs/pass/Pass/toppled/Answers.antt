@@ -17,7 +17,8 @@ index-requires c =
     let inside = site_inside p.shape p.rows c.args.site inv.grid held in
     let from = inside.from in
     let below = inside.below in
-    let base : c.from.result * c.width.result ≡ p.rows.first * p.shape.width = λ i. c.from.ensures i * c.width.ensures.value i in
+    let base : c.from.result * c.width.result ≡ p.rows.first * p.shape.width =
+    λ i. c.from.ensures i * c.width.ensures.value i in
     let long = inv.one_each in omega arith
 
 pub returns : goal.returns
@@ -29,7 +30,8 @@ returns c =
     let inside = site_inside p.shape p.rows c.args.site inv.grid held in
     let from = inside.from in
     let below = inside.below in
-    let base : c.from.result * c.width.result ≡ p.rows.first * p.shape.width = λ i. c.from.ensures i * c.width.ensures.value i in
+    let base : c.from.result * c.width.result ≡ p.rows.first * p.shape.width =
+    λ i. c.from.ensures i * c.width.ensures.value i in
     let long = inv.one_each in
     get_or_read p.counts.items _ _ (omega arith) c.index.ensures 0
     ∙ ap (λ b. get_or p.counts.items (c.args.site - b) 0) base

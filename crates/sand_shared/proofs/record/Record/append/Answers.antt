@@ -25,13 +25,22 @@ of_parts-requires-clause-settled c =
     let q = c.args.next.now in
     let one = subst IsOneThreads c.self.view_is c.self.invariant in
     let next = subst IsOneThreads c.next.view_is c.next.invariant in
-    let added = are_added r q one next c.requires.start _ _ _ (c.in_ok-odometer.ensures.items ∙ c.odometers.ensures.value ∙ ap (λ (v : RecordView). v.settled.odometer) c.self.view_is)
-    (c.odometers-2.ensures.value ∙ ap (λ (v : RecordView). v.settled.odometer) c.next.view_is) c.add.ensures.long c.add.ensures.sums in
-    let pile : c.in_ok-pile.pile ≡ q.settled.pile = c.in_ok-pile.ensures ∙ c.pile.ensures.value ∙ ap (λ (v : RecordView). v.settled.pile) c.next.view_is in
+    let added = are_added r q one next c.requires.start _ _ _
+    (c.in_ok-odometer.ensures.items ∙ c.odometers.ensures.value
+    ∙ ap (λ (v : RecordView). v.settled.odometer) c.self.view_is)
+    (c.odometers-2.ensures.value ∙ ap (λ (v : RecordView). v.settled.odometer) c.next.view_is)
+    c.add.ensures.long c.add.ensures.sums in
+    let pile : c.in_ok-pile.pile ≡ q.settled.pile =
+    c.in_ok-pile.ensures ∙ c.pile.ensures.value ∙ ap (λ (v : RecordView). v.settled.pile) c.next.view_is in
     let both = joined_topplings r q one next c.requires.start c.requires.limit c.add.new.numbers.items added in
     let mine = c.lost.ensures ∙ ap (λ (v : RecordView). v.settled.lost) c.self.view_is in
     let theirs = c.lost-2.ensures ∙ ap (λ (v : RecordView). v.settled.lost) c.next.view_is in
-    subst IsSettledRecord (λ i. record { pile = sym pile i; odometer = c.add.new.numbers.items; topplings = sym both i; lost = sym mine i + sym theirs i })
+    subst IsSettledRecord (λ i. record {
+      pile = sym pile i;
+      odometer = c.add.new.numbers.items;
+      topplings = sym both i;
+      lost = sym mine i + sym theirs i;
+    })
     (settled_record _ (followed r q one next c.requires.start c.requires.limit c.add.new.numbers.items added))
 
 pub of_parts-requires-clause-small : goal.of_parts-requires-clause-small
@@ -40,8 +49,11 @@ of_parts-requires-clause-small c =
     let q = c.args.next.now in
     let one = subst IsOneThreads c.self.view_is c.self.invariant in
     let next = subst IsOneThreads c.next.view_is c.next.invariant in
-    let added = are_added r q one next c.requires.start _ _ _ (c.in_ok-odometer.ensures.items ∙ c.odometers.ensures.value ∙ ap (λ (v : RecordView). v.settled.odometer) c.self.view_is)
-    (c.odometers-2.ensures.value ∙ ap (λ (v : RecordView). v.settled.odometer) c.next.view_is) c.add.ensures.long c.add.ensures.sums in
+    let added = are_added r q one next c.requires.start _ _ _
+    (c.in_ok-odometer.ensures.items ∙ c.odometers.ensures.value
+    ∙ ap (λ (v : RecordView). v.settled.odometer) c.self.view_is)
+    (c.odometers-2.ensures.value ∙ ap (λ (v : RecordView). v.settled.odometer) c.next.view_is)
+    c.add.ensures.long c.add.ensures.sums in
     let both = joined_topplings r q one next c.requires.start c.requires.limit c.add.new.numbers.items added in
     let a = small_topplings r one in
     let b = small_topplings q next in omega arith
@@ -54,15 +66,25 @@ invariant_of-self-2 c =
     let one = subst IsOneThreads c.self.view_is c.self.invariant in
     let next = subst IsOneThreads c.next.view_is c.next.invariant in
     let sums = c.add.new.numbers.items in
-    let added = are_added r q one next c.requires.start _ _ _ (c.in_ok-odometer.ensures.items ∙ c.odometers.ensures.value ∙ ap (λ (v : RecordView). v.settled.odometer) c.self.view_is)
-    (c.odometers-2.ensures.value ∙ ap (λ (v : RecordView). v.settled.odometer) c.next.view_is) c.add.ensures.long c.add.ensures.sums in
+    let added = are_added r q one next c.requires.start _ _ _
+    (c.in_ok-odometer.ensures.items ∙ c.odometers.ensures.value
+    ∙ ap (λ (v : RecordView). v.settled.odometer) c.self.view_is)
+    (c.odometers-2.ensures.value ∙ ap (λ (v : RecordView). v.settled.odometer) c.next.view_is)
+    c.add.ensures.long c.add.ensures.sums in
     let start : c.self.inside.start ≡ r.start = ap (λ (v : RecordView). v.start) c.self.view_is in
-    let pile : c.in_ok-pile.pile ≡ q.settled.pile = c.in_ok-pile.ensures ∙ c.pile.ensures.value ∙ ap (λ (v : RecordView). v.settled.pile) c.next.view_is in
+    let pile : c.in_ok-pile.pile ≡ q.settled.pile =
+    c.in_ok-pile.ensures ∙ c.pile.ensures.value ∙ ap (λ (v : RecordView). v.settled.pile) c.next.view_is in
     let both = joined_topplings r q one next c.requires.start c.requires.limit sums added in
     let mine = c.lost.ensures ∙ ap (λ (v : RecordView). v.settled.lost) c.self.view_is in
     let theirs = c.lost-2.ensures ∙ ap (λ (v : RecordView). v.settled.lost) c.next.view_is in
-    let settled : c.of_parts.result ≡ record { pile = q.settled.pile; odometer = sums; topplings = r.settled.topplings + q.settled.topplings; lost = r.settled.lost + q.settled.lost }
-    = c.of_parts.ensures ∙ (λ i. record { pile = pile i; odometer = sums; topplings = both i; lost = mine i + theirs i }) in
+    let settled : c.of_parts.result ≡ record {
+      pile = q.settled.pile;
+      odometer = sums;
+      topplings = r.settled.topplings + q.settled.topplings;
+      lost = r.settled.lost + q.settled.lost;
+    }
+    = c.of_parts.ensures ∙ (λ i.
+    record { pile = pile i; odometer = sums; topplings = both i; lost = mine i + theirs i }) in
     subst IsOneThreads (λ i. record { start = sym start i; history = sym history i; settled = sym settled i })
     (followed r q one next c.requires.start c.requires.limit sums added)
 
@@ -75,6 +97,10 @@ returns-clause-topplings c =
     let q = c.args.next.now in
     let one = subst IsOneThreads c.self.view_is c.self.invariant in
     let next = subst IsOneThreads c.next.view_is c.next.invariant in
-    let added = are_added r q one next c.requires.start _ _ _ (c.in_ok-odometer.ensures.items ∙ c.odometers.ensures.value ∙ ap (λ (v : RecordView). v.settled.odometer) c.self.view_is)
-    (c.odometers-2.ensures.value ∙ ap (λ (v : RecordView). v.settled.odometer) c.next.view_is) c.add.ensures.long c.add.ensures.sums in
-    ap (λ (s : SettledView). s.topplings) c.of_parts.ensures ∙ joined_topplings r q one next c.requires.start c.requires.limit c.add.new.numbers.items added
+    let added = are_added r q one next c.requires.start _ _ _
+    (c.in_ok-odometer.ensures.items ∙ c.odometers.ensures.value
+    ∙ ap (λ (v : RecordView). v.settled.odometer) c.self.view_is)
+    (c.odometers-2.ensures.value ∙ ap (λ (v : RecordView). v.settled.odometer) c.next.view_is)
+    c.add.ensures.long c.add.ensures.sums in
+    ap (λ (s : SettledView). s.topplings) c.of_parts.ensures
+    ∙ joined_topplings r q one next c.requires.start c.requires.limit c.add.new.numbers.items added

@@ -9,27 +9,63 @@ use Rattle.sand_shared.proofs.record.Record.of_lists.Goals as goal
 pub from_vec-pile-requires-clause-limit : goal.from_vec-pile-requires-clause-limit
 from_vec-pile-requires-clause-limit c =
     let left = grains_left c.args.start c.args.history.items c.args.heights.items c.args.odometer.items
-    record { pile = c.shape.ensures.pile; all_sites = c.requires.all_sites; limit = c.requires.limit; heights_each = c.requires.one_each.0; odometer_each = c.requires.one_each.1; settled = c.requires.settled } in
+    record {
+      pile = c.shape.ensures.pile;
+      all_sites = c.requires.all_sites;
+      limit = c.requires.limit;
+      heights_each = c.requires.one_each.0;
+      odometer_each = c.requires.one_each.1;
+      settled = c.requires.settled;
+    } in
     let limit = c.requires.limit in omega arith
 
 pub overflow_sub-lost : goal.overflow_sub-lost
 overflow_sub-lost c =
     let left = grains_left c.args.start c.args.history.items c.args.heights.items c.args.odometer.items
-    record { pile = c.shape.ensures.pile; all_sites = c.requires.all_sites; limit = c.requires.limit; heights_each = c.requires.one_each.0; odometer_each = c.requires.one_each.1; settled = c.requires.settled } in
+    record {
+      pile = c.shape.ensures.pile;
+      all_sites = c.requires.all_sites;
+      limit = c.requires.limit;
+      heights_each = c.requires.one_each.0;
+      odometer_each = c.requires.one_each.1;
+      settled = c.requires.settled;
+    } in
     let start = c.grains.ensures.value in
     let rest = c.grains-2.ensures.value ∙ ap (λ (p : PileView). sum p.heights) c.from_vec-pile.ensures in
     let drops = c.len.ensures in
     let long = c.args.history.ok.0 in omega arith
 
-made : (c : After-grains-2) → IsOneThreads (record { start = c.args.start; history = c.args.history.items; settled = record { pile = c.from_vec-pile.result; odometer = c.args.odometer.items; topplings = sum c.args.odometer.items; lost = c.grains.result + c.len.result - c.grains-2.result } })
+made : (c : After-grains-2)
+    → IsOneThreads (record {
+      start = c.args.start;
+      history = c.args.history.items;
+      settled = record {
+        pile = c.from_vec-pile.result;
+        odometer = c.args.odometer.items;
+        topplings = sum c.args.odometer.items;
+        lost = c.grains.result + c.len.result - c.grains-2.result;
+      };
+    })
 made c =
     let start = c.grains.ensures.value in
     let rest = c.grains-2.ensures.value ∙ ap (λ (p : PileView). sum p.heights) c.from_vec-pile.ensures in
     let drops = c.len.ensures in
     let long = c.args.history.ok.0 in
     one_threads c.args.start c.args.history.items c.args.heights.items c.args.odometer.items
-    record { pile = c.shape.ensures.pile; all_sites = c.requires.all_sites; limit = c.requires.limit; heights_each = c.requires.one_each.0; odometer_each = c.requires.one_each.1; settled = c.requires.settled }
-    (record { pile = c.from_vec-pile.result; odometer = c.args.odometer.items; topplings = sum c.args.odometer.items; lost = c.grains.result + c.len.result - c.grains-2.result })
+    record {
+      pile = c.shape.ensures.pile;
+      all_sites = c.requires.all_sites;
+      limit = c.requires.limit;
+      heights_each = c.requires.one_each.0;
+      odometer_each = c.requires.one_each.1;
+      settled = c.requires.settled;
+    }
+    (record {
+      pile = c.from_vec-pile.result;
+      odometer = c.args.odometer.items;
+      topplings = sum c.args.odometer.items;
+      lost = c.grains.result + c.len.result - c.grains-2.result;
+    })
     (ap (λ (p : PileView). p.grid) c.from_vec-pile.ensures ∙ c.shape.ensures.value)
     (ap (λ (p : PileView). p.heights) c.from_vec-pile.ensures)
     refl
@@ -37,14 +73,25 @@ made c =
     (omega arith)
 
 pub of_parts-settled-requires-clause-settled : goal.of_parts-settled-requires-clause-settled
-of_parts-settled-requires-clause-settled c = settled_record _ (made (goal.at.of_parts-settled-requires-clause-settled c).After-grains-2)
+of_parts-settled-requires-clause-settled c =
+    settled_record _ (made (goal.at.of_parts-settled-requires-clause-settled c).After-grains-2)
 
 pub of_parts-settled-requires-clause-small : goal.of_parts-settled-requires-clause-small
 of_parts-settled-requires-clause-small c =
     let few = few_topplings c.args.start c.args.history.items c.args.heights.items c.args.odometer.items
-    record { pile = c.shape.ensures.pile; all_sites = c.requires.all_sites; limit = c.requires.limit; heights_each = c.requires.one_each.0; odometer_each = c.requires.one_each.1; settled = c.requires.settled } in omega arith
+    record {
+      pile = c.shape.ensures.pile;
+      all_sites = c.requires.all_sites;
+      limit = c.requires.limit;
+      heights_each = c.requires.one_each.0;
+      odometer_each = c.requires.one_each.1;
+      settled = c.requires.settled;
+    }
+    in omega arith
 
 pub invariant_of-result : goal.invariant_of-result
 invariant_of-result c =
-    subst (λ (z : List ℕ × SettledView). IsOneThreads (record { start = c.args.start; history = z.0; settled = z.1 })) (λ i. (sym c.of.ensures i, sym c.of_parts-settled.ensures i))
+    subst
+    (λ (z : List ℕ × SettledView). IsOneThreads (record { start = c.args.start; history = z.0; settled = z.1 }))
+    (λ i. (sym c.of.ensures i, sym c.of_parts-settled.ensures i))
     (made (goal.at.invariant_of-result c).After-grains-2)

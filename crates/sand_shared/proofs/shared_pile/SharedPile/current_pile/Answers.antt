@@ -13,14 +13,21 @@ use Rattle.sand_shared.proofs.SeatOfPass.{still_bare}
 use Rattle.sand_shared.proofs.shared_pile.SharedPile.current_pile.Goals as goal
 
 pub invariant_of-pass : goal.invariant_of-pass
-invariant_of-pass c = still_bare c.pass.inside c.read.new.seat c.pass.invariant c.read.ensures.view c.read.ensures.seat.bare
+invariant_of-pass c =
+    still_bare c.pass.inside c.read.new.seat c.pass.invariant c.read.ensures.view c.read.ensures.seat.bare
 
 pub returns-clause-underway : goal.returns-clause-underway
 returns-clause-underway c =
     let inv = c.pass.invariant in
     let h = slice_index c.read.new.heights.items in
     let each = subst IsPass c.pass.view_is c.pass.invariant.pass in
-    let here = subst (λ (m : Me ℕ View). IsUnderway (grid_of_terms c.self.inside.words.terms) (laid c.self.inside.words.terms m.0) (toppled_by m.0) h) inv.me c.read.ensures.underway in
-    let there = subst (λ (z : Terms × PassView). IsUnderway (grid_of_terms z.0) (laid z.0 (at_rest z.1)) (toppled_by (at_rest z.1)) h) (λ i. ((c.self.view_is i).terms, c.pass.view_is i)) here in
-    subst (λ (q : PileView). IsUnderway (grid_of_terms c.args.self.now.terms) (laid c.args.self.now.terms (at_rest c.args.pass.now)) (slice_index c.args.pass.now.counts) (height_of q)) (sym c.from_vec.ensures)
+    let here = subst (λ (m : Me ℕ View).
+    IsUnderway (grid_of_terms c.self.inside.words.terms) (laid c.self.inside.words.terms m.0) (toppled_by m.0) h)
+    inv.me c.read.ensures.underway in
+    let there = subst
+    (λ (z : Terms × PassView). IsUnderway (grid_of_terms z.0) (laid z.0 (at_rest z.1)) (toppled_by (at_rest z.1)) h)
+    (λ i. ((c.self.view_is i).terms, c.pass.view_is i)) here in
+    subst (λ (q : PileView). IsUnderway (grid_of_terms c.args.self.now.terms)
+    (laid c.args.self.now.terms (at_rest c.args.pass.now)) (slice_index c.args.pass.now.counts) (height_of q))
+    (sym c.from_vec.ensures)
     (left_underway c.args.self.now.terms c.args.pass.now c.requires.pass.grid each.one_each c.requires.whole h there)

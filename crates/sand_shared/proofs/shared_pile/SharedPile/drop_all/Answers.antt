@@ -25,18 +25,24 @@ small c =
 
 -- what the seat has once all grains are laid
 has : (c : After-place_all) → let p = c.bare.inside in let ds = c.args.drops.now in let n = c.draw-number.result in
-    c.place_all.new.seat.me.0 ≡ record (at_rest (record (shown p) { left = p.left - length ds; seen = n + length ds; receipts = p.seat.me.0.receipts ++ receipts_from n ds })) { spot = p.seat.me.0.spot; least = p.seat.me.0.least }
+    c.place_all.new.seat.me.0 ≡ record (at_rest (record (shown
+    p) { left = p.left - length ds; seen = n + length ds; receipts = p.seat.me.0.receipts ++ receipts_from n ds })) {
+      spot = p.seat.me.0.spot;
+      least = p.seat.me.0.least;
+    }
 has c =
     let ds = c.args.drops.now in
     let n = c.draw-number.result in
-    c.place_all.ensures.view ∙ ap (λ (u : View). record u { hand = [] }) (drew_row_is _ _ ds _ _ n (let some_drops = c.if-count-eq0.false in omega arith) c.draw-number.ensures.happened)
+    c.place_all.ensures.view ∙ ap (λ (u : View). record u { hand = [] })
+    (drew_row_is _ _ ds _ _ n (let some_drops = c.if-count-eq0.false in omega arith) c.draw-number.ensures.happened)
     ∙ ap (λ (m : Me ℕ View). record (drew_all m.0 n ds) { hand = [] }) c.bare.invariant.me
 
 pub place_all-requires-clause-hand : goal.place_all-requires-clause-hand
 place_all-requires-clause-hand c =
     let ds = c.args.drops.now in
     let some_drops = c.if-count-eq0.false in
-    ap (λ (v : View). v.hand) (drew_row_is _ _ ds _ _ c.draw-number.result (omega arith) c.draw-number.ensures.happened) ∙ ap (λ (m : Me ℕ View). m.0.hand ++ one_for_each ds) c.bare.invariant.me
+    ap (λ (v : View). v.hand) (drew_row_is _ _ ds _ _ c.draw-number.result (omega arith) c.draw-number.ensures.happened)
+    ∙ ap (λ (m : Me ℕ View). m.0.hand ++ one_for_each ds) c.bare.invariant.me
 
 pub invariant_of-bare : goal.invariant_of-bare
 invariant_of-bare c =
@@ -49,7 +55,9 @@ invariant_of-bare c =
     let same = receipts_long n ds in
     let made = inv.each_made in
     let new = fresh (goal.at.invariant_of-bare c).After-draw-number in
-    seated (record (shown p) { left = p.left - length ds; seen = n + length ds; receipts = v.receipts ++ receipts_from n ds }) v.spot v.least
+    seated
+    (record (shown p) { left = p.left - length ds; seen = n + length ds; receipts = v.receipts ++ receipts_from n ds })
+    v.spot v.least
     record {
       once = once_row p.seen n ds v.receipts new inv.pass.below inv.pass.once;
       below = below_row p.seen n ds v.receipts new inv.pass.below;
@@ -75,7 +83,10 @@ invariant_of-pass-2 c =
     let before = inv.listed ∙ sym (ap (λ (p : PassView). p.receipts) c.bare.view_is) in
     record {
       listed = items ∙ ap (λ (l : List Receipt). l ++ receipts_from n ds) before ∙ sym drawn;
-      fit = (let fit = inv.fit in let long = ap (λ (l : List Receipt). length l) items in let more = length-append c.pass.inside.receipts.items (receipts_from n ds) in let same = receipts_long n ds in
+      fit = (let fit = inv.fit in
+          let long = ap (λ (l : List Receipt). length l) items in
+          let more = length-append c.pass.inside.receipts.items (receipts_from n ds) in
+          let same = receipts_long n ds in
           let left = ap (λ (p : PassView). p.left) c.bare.view_is in omega (arith, c.note.ensures.room));
     }
 

@@ -16,7 +16,8 @@ pub place-requires-clause-hand : goal.place-requires-clause-hand
 place-requires-clause-hand c =
     let n = c.draw-number.result in
     let i = c.args.site in
-    let hand = ap (λ (v : View). v.hand) (drew_row_is _ _ (i ∷ []) _ _ n (omega arith) c.draw-number.ensures.happened) ∙ ap (λ (m : Me ℕ View). m.0.hand ++ grains i 1 ∷ []) c.bare.invariant.me in
+    let hand = ap (λ (v : View). v.hand) (drew_row_is _ _ (i ∷ []) _ _ n (omega arith) c.draw-number.ensures.happened)
+    ∙ ap (λ (m : Me ℕ View). m.0.hand ++ grains i 1 ∷ []) c.bare.invariant.me in
     subst (λ (l : List Grains). 1 ≤ count_by (are_for i 1) l) (sym hand) (first_counts i 1 (grains i 1 ∷ []) refl)
 
 pub invariant_of-bare : goal.invariant_of-bare
@@ -30,7 +31,8 @@ invariant_of-bare c =
     let fresh = row_fresh _ _ (i ∷ []) _ _ n (omega arith) happened in
     let seen = ap (λ (m : Me ℕ View). m.0.seen) inv.me in
     let lay = λ (u : View). record u { hand = laid_on i 1 u.hand } in
-    let q : PassView = record (shown p) { left = p.left - 1; seen = n + 1; receipts = v.receipts ++ receipt n i ∷ [] } in
+    let q : PassView =
+    record (shown p) { left = p.left - 1; seen = n + 1; receipts = v.receipts ++ receipt n i ∷ [] } in
     let laid : c.place.new.seat.me.0 ≡ record (at_rest q) { spot = v.spot; least = v.least } =
     laid_is _ _ i 1 _ _ _ c.place.ensures.happened.1
     ∙ ap lay (drew_row_is _ _ (i ∷ []) _ _ n (omega arith) happened)

@@ -14,7 +14,8 @@ one_grid c =
 
 pub join-requires-clause-rows : goal.join-requires-clause-rows
 join-requires-clause-rows c =
-    seats_touch c.pass.inside c.other.inside c.pass.invariant c.other.invariant (one_grid (goal.at.join-requires-clause-rows c).After-touch) (sym c.touch.ensures ∙ c.if-not-touch.false)
+    seats_touch c.pass.inside c.other.inside c.pass.invariant c.other.invariant
+    (one_grid (goal.at.join-requires-clause-rows c).After-touch) (sym c.touch.ensures ∙ c.if-not-touch.false)
 
 pub invariant_of-pass-2 : goal.invariant_of-pass-2
 invariant_of-pass-2 c =
@@ -25,11 +26,23 @@ invariant_of-pass-2 c =
     let both = together (shown p) (shown o) in
     let same = one_grid (goal.at.invariant_of-pass-2 c).After-touch in
     let touch = sym c.touch.ensures ∙ c.if-not-touch.false in
-    let laid : c.lay_together.new.first.items ≡ (if c.are_followed_by-in_order.result then p.counts.items ++ o.counts.items else o.counts.items ++ p.counts.items) = search rules in
-    let counts : c.lay_together.new.first.items ≡ both.counts = laid ∙ ap (λ (b : Bool). if b then p.counts.items ++ o.counts.items else o.counts.items ++ p.counts.items) c.are_followed_by-in_order.ensures in
+    let laid : c.lay_together.new.first.items ≡ (if c.are_followed_by-in_order.result
+    then p.counts.items ++ o.counts.items
+    else o.counts.items ++ p.counts.items) =
+    search rules in
+    let counts : c.lay_together.new.first.items ≡ both.counts =
+    laid ∙ ap (λ (b : Bool). if b then p.counts.items ++ o.counts.items else o.counts.items ++ p.counts.items)
+    c.are_followed_by-in_order.ensures in
     let made = c.learn.ensures.view ∙ c.join.ensures.joined in
     let mine = inv.each_made in
     let its = inv'.each_made in
     let long = length-append (shown p).receipts (shown o).receipts in
-    seated both 0 0 (joined_pass p o inv inv' same touch _ _ c.learn.new.seat.me.0 made c.learn.ensures.stands) (omega arith) (made ∙ joined_view p o inv inv' same) c.learn.ensures.seat.bare
-    (λ i. record both { table = c.learn.new.seat.table_id; receipts = c.learn.new.seat.me.0.receipts; seen = c.max-pass-inside.ensures i; rows = c.together-pass-inside.ensures i; counts = counts i })
+    seated both 0 0 (joined_pass p o inv inv' same touch _ _ c.learn.new.seat.me.0 made c.learn.ensures.stands)
+    (omega arith) (made ∙ joined_view p o inv inv' same) c.learn.ensures.seat.bare
+    (λ i. record both {
+      table = c.learn.new.seat.table_id;
+      receipts = c.learn.new.seat.me.0.receipts;
+      seen = c.max-pass-inside.ensures i;
+      rows = c.together-pass-inside.ensures i;
+      counts = counts i;
+    })

@@ -10,7 +10,15 @@ invariant_of-bare c =
     let inv = c.bare.invariant in
     let x = c.bare.inside in
     let quota = c.args.quota in
-    let kept : c.len-kept.result ≡ length x.counts.items = let count = c.len-kept.ensures in let long = x.counts.ok.0 in omega arith in
-    seated (record (shown x) { left = x.left - quota }) x.seat.me.0.spot 0 record { once = inv.pass.once; below = inv.pass.below; grid = inv.pass.grid; rows = inv.pass.rows; one_each = inv.pass.one_each } inv.each_made
-    (c.split-seat.ensures.parent ∙ ap (λ n. parent x.seat.me.0 quota (length x.seat.me.0.counts - n)) kept ∙ rows_kept x inv quota)
+    let kept : c.len-kept.result ≡ length x.counts.items =
+    let count = c.len-kept.ensures in let long = x.counts.ok.0 in omega arith in
+    seated (record (shown x) { left = x.left - quota }) x.seat.me.0.spot 0 record {
+      once = inv.pass.once;
+      below = inv.pass.below;
+      grid = inv.pass.grid;
+      rows = inv.pass.rows;
+      one_each = inv.pass.one_each;
+    } inv.each_made
+    (c.split-seat.ensures.parent
+    ∙ ap (λ n. parent x.seat.me.0 quota (length x.seat.me.0.counts - n)) kept ∙ rows_kept x inv quota)
     c.split-seat.ensures.seat.bare refl

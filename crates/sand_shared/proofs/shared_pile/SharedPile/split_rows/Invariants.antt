@@ -3,4 +3,8 @@ use Rattle.sand_shared.specs.Events.{split}
 use Rattle.sand_shared.proofs.shared_pile.SharedPile.split_rows.Given as goal
 
 abbrev pub ghosts-split : goal.ghosts-split
-ghosts-split a = record { terms = a.self.now.terms; pass = a.seat.now.id; events = split a.seat.now.id a._quota (length a.seat.now.me.0.counts - a._kept) ∷ [] }
+ghosts-split a = record {
+  terms = a.self.now.terms;
+  pass = a.seat.now.id;
+  events = split a.seat.now.id a._quota (length a.seat.now.me.0.counts - a._kept) ∷ [];
+}

@@ -16,5 +16,12 @@ invariant_of-bare c =
     let fresh = counted_fresh _ _ 0 0 _ _ n happened in
     let seen = ap (λ (m : Me ℕ View). m.0.seen) inv.me in
     seated (record (shown p) { seen = n }) p.seat.me.0.spot p.seat.me.0.least
-    record { once = inv.pass.once; below = λ k d l. (let b = inv.pass.below k d l in omega arith); grid = inv.pass.grid; rows = inv.pass.rows; one_each = inv.pass.one_each }
-    inv.each_made (counted_is _ _ 0 0 _ _ n happened ∙ ap (λ (m : Me ℕ View). counted m.0 n) inv.me) c.count-drops.ensures.seat.bare refl
+    record {
+      once = inv.pass.once;
+      below = λ k d l. (let b = inv.pass.below k d l in omega arith);
+      grid = inv.pass.grid;
+      rows = inv.pass.rows;
+      one_each = inv.pass.one_each;
+    }
+    inv.each_made (counted_is _ _ 0 0 _ _ n happened ∙ ap (λ (m : Me ℕ View). counted m.0 n) inv.me)
+    c.count-drops.ensures.seat.bare refl

@@ -10,7 +10,8 @@ load-requires g c =
     (counts _ _ _ _)
 
 pub returns-clause-seat : goal.returns-clause-seat
-returns-clause-seat g c = record { table = c.load.ensures.0; id = c.load.ensures.1; bare = c.load.ensures.2.1 ∙ c.requires.seat.bare }
+returns-clause-seat g c =
+    record { table = c.load.ensures.0; id = c.load.ensures.1; bare = c.load.ensures.2.1 ∙ c.requires.seat.bare }
 
 pub returns-clause-happened : goal.returns-clause-happened
 returns-clause-happened g c = happened_picked c.requires.picked c.load.ensures.2.0

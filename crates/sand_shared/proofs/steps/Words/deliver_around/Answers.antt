@@ -6,31 +6,42 @@ use Rattle.sand_shared.proofs.SentToNeighbours.{north_first, west_first, east_fi
 use Rattle.sand_shared.proofs.steps.Words.deliver_around.Goals as goal
 
 pub deliver_to-requires-clause-hand : goal.deliver_to-requires-clause-hand
-deliver_to-requires-clause-hand c = north_first c.args.self.now.terms c.args.site c.args.times c.neighbours.result c.neighbours.ensures c.args.seat.now.me.0 c.requires.hand
+deliver_to-requires-clause-hand c = north_first c.args.self.now.terms c.args.site c.args.times
+    c.neighbours.result c.neighbours.ensures c.args.seat.now.me.0 c.requires.hand
 
 pub deliver_to-requires-clause-site : goal.deliver_to-requires-clause-site
-deliver_to-requires-clause-site c = place_inside (grid_of_terms c.args.self.now.terms) c.args.site (sites (grid_of_terms c.args.self.now.terms)) 0 c.neighbours.result c.neighbours.ensures c.requires.site refl
+deliver_to-requires-clause-site c = place_inside (grid_of_terms c.args.self.now.terms) c.args.site
+    (sites (grid_of_terms c.args.self.now.terms)) 0 c.neighbours.result c.neighbours.ensures c.requires.site refl
 
 pub deliver_to-requires-2-clause-hand : goal.deliver_to-requires-2-clause-hand
-deliver_to-requires-2-clause-hand c = west_first c.args.self.now.terms c.args.site c.args.times c.neighbours.result c.neighbours.ensures c.args.seat.now.me.0 c.requires.hand _ c.deliver_to.ensures.view
+deliver_to-requires-2-clause-hand c = west_first c.args.self.now.terms c.args.site c.args.times
+    c.neighbours.result c.neighbours.ensures c.args.seat.now.me.0 c.requires.hand _ c.deliver_to.ensures.view
 
 pub deliver_to-requires-2-clause-site : goal.deliver_to-requires-2-clause-site
-deliver_to-requires-2-clause-site c = place_inside (grid_of_terms c.args.self.now.terms) c.args.site (sites (grid_of_terms c.args.self.now.terms)) 1 c.neighbours.result c.neighbours.ensures c.requires.site refl
+deliver_to-requires-2-clause-site c = place_inside (grid_of_terms c.args.self.now.terms) c.args.site
+    (sites (grid_of_terms c.args.self.now.terms)) 1 c.neighbours.result c.neighbours.ensures c.requires.site refl
 
 pub deliver_to-requires-3-clause-hand : goal.deliver_to-requires-3-clause-hand
 deliver_to-requires-3-clause-hand c =
-    east_first c.args.self.now.terms c.args.site c.args.times c.neighbours.result c.neighbours.ensures c.args.seat.now.me.0 c.requires.hand _ c.deliver_to.ensures.view _ c.deliver_to-2.ensures.view
+    east_first c.args.self.now.terms c.args.site c.args.times c.neighbours.result c.neighbours.ensures
+    c.args.seat.now.me.0 c.requires.hand _ c.deliver_to.ensures.view _ c.deliver_to-2.ensures.view
 
 pub deliver_to-requires-3-clause-site : goal.deliver_to-requires-3-clause-site
-deliver_to-requires-3-clause-site c = place_inside (grid_of_terms c.args.self.now.terms) c.args.site (sites (grid_of_terms c.args.self.now.terms)) 2 c.neighbours.result c.neighbours.ensures c.requires.site refl
+deliver_to-requires-3-clause-site c = place_inside (grid_of_terms c.args.self.now.terms) c.args.site
+    (sites (grid_of_terms c.args.self.now.terms)) 2 c.neighbours.result c.neighbours.ensures c.requires.site refl
 
 pub deliver_to-requires-4-clause-hand : goal.deliver_to-requires-4-clause-hand
 deliver_to-requires-4-clause-hand c =
-    south_first c.args.self.now.terms c.args.site c.args.times c.neighbours.result c.neighbours.ensures c.args.seat.now.me.0 c.requires.hand _ c.deliver_to.ensures.view _ c.deliver_to-2.ensures.view _ c.deliver_to-3.ensures.view
+    south_first c.args.self.now.terms c.args.site c.args.times c.neighbours.result
+    c.neighbours.ensures c.args.seat.now.me.0 c.requires.hand _ c.deliver_to.ensures.view
+    _ c.deliver_to-2.ensures.view _ c.deliver_to-3.ensures.view
 
 pub deliver_to-requires-4-clause-site : goal.deliver_to-requires-4-clause-site
-deliver_to-requires-4-clause-site c = place_inside (grid_of_terms c.args.self.now.terms) c.args.site (sites (grid_of_terms c.args.self.now.terms)) 3 c.neighbours.result c.neighbours.ensures c.requires.site refl
+deliver_to-requires-4-clause-site c = place_inside (grid_of_terms c.args.self.now.terms) c.args.site
+    (sites (grid_of_terms c.args.self.now.terms)) 3 c.neighbours.result c.neighbours.ensures c.requires.site refl
 
 pub returns-clause-view : goal.returns-clause-view
 returns-clause-view c =
-    all_sent c.args.self.now.terms c.args.site c.args.times c.neighbours.result c.neighbours.ensures c.args.seat.now.me.0 c.requires.hand _ c.deliver_to.ensures.view _ c.deliver_to-2.ensures.view _ c.deliver_to-3.ensures.view _ c.deliver_to-4.ensures.view
+    all_sent c.args.self.now.terms c.args.site c.args.times c.neighbours.result
+    c.neighbours.ensures c.args.seat.now.me.0 c.requires.hand _ c.deliver_to.ensures.view _
+    c.deliver_to-2.ensures.view _ c.deliver_to-3.ensures.view _ c.deliver_to-4.ensures.view

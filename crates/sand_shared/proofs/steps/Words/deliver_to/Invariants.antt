@@ -3,4 +3,5 @@ use Rattle.sand_shared.specs.Events.{deliver}
 use Rattle.sand_shared.proofs.steps.Words.deliver_to.Given as goal
 
 abbrev pub ghosts-deliver : goal.ghosts-deliver
-ghosts-deliver a = record { terms = a.self.now.terms; pass = a.seat.now.id; events = deliver a.seat.now.id a.site a.times ∷ [] }
+ghosts-deliver a =
+    record { terms = a.self.now.terms; pass = a.seat.now.id; events = deliver a.seat.now.id a.site a.times ∷ [] }

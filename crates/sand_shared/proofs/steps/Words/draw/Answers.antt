@@ -8,11 +8,16 @@ use Rattle.sand_shared.proofs.steps.Words.draw.Goals as goal
 pub fetch_add-requires : goal.fetch_add-requires
 fetch_add-requires g c =
     let ds = c.args.drops.now in
-    asks c.self.invariant c.self.view_is c.requires.seat (all_draws _ ds) 1 (λ n. (n + length ds) % 2 ^ 64) (omega arith) c.requires.picked
+    asks c.self.invariant c.self.view_is c.requires.seat (all_draws _ ds)
+    1 (λ n. (n + length ds) % 2 ^ 64) (omega arith) c.requires.picked
     (draws_row _ _ ds _ _ c.requires.some c.requires.left c.requires.inside)
 
 pub returns-clause-seat : goal.returns-clause-seat
-returns-clause-seat g c = record { table = c.fetch_add.ensures.0; id = c.fetch_add.ensures.1; bare = c.fetch_add.ensures.2.1 ∙ c.requires.seat.bare }
+returns-clause-seat g c = record {
+  table = c.fetch_add.ensures.0;
+  id = c.fetch_add.ensures.1;
+  bare = c.fetch_add.ensures.2.1 ∙ c.requires.seat.bare;
+}
 
 pub returns-clause-happened : goal.returns-clause-happened
 returns-clause-happened g c = happened_picked c.requires.picked c.fetch_add.ensures.2.0

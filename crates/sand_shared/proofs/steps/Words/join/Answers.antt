@@ -20,5 +20,6 @@ join_seat-requires c =
       at_table words is c.requires.other,
       c.requires.other.bare,
       has_word words is 0 (omega arith),
-      subst (λ (t : Terms). Joins (IsRunning t) a v b w (joined v w) nobody) (sym (key_now words is)) (joins _ a v b w c.requires.hands.0 c.requires.hands.1 c.requires.rows),
+      subst (λ (t : Terms). Joins (IsRunning t) a v b w (joined v w) nobody) (sym (key_now words is))
+          (joins _ a v b w c.requires.hands.0 c.requires.hands.1 c.requires.rows),
     )

@@ -5,10 +5,12 @@ use Rattle.sand_shared.proofs.StepsOnWords.{asks}
 use Rattle.sand_shared.proofs.steps.Words.learn.Goals as goal
 
 pub load-requires : goal.load-requires
-load-requires g c = asks c.self.invariant c.self.view_is c.requires.seat [] 0 (λ n. n) (omega arith) c.requires.picked (learns _ _ _ _)
+load-requires g c =
+    asks c.self.invariant c.self.view_is c.requires.seat [] 0 (λ n. n) (omega arith) c.requires.picked (learns _ _ _ _)
 
 pub returns-clause-seat : goal.returns-clause-seat
-returns-clause-seat g c = record { table = c.load.ensures.0; id = c.load.ensures.1; bare = c.load.ensures.2.1 ∙ c.requires.seat.bare }
+returns-clause-seat g c =
+    record { table = c.load.ensures.0; id = c.load.ensures.1; bare = c.load.ensures.2.1 ∙ c.requires.seat.bare }
 
 pub returns-clause-view : goal.returns-clause-view
 returns-clause-view g c =
@@ -16,4 +18,5 @@ returns-clause-view g c =
 
 pub returns-clause-stands : goal.returns-clause-stands
 returns-clause-stands g c =
-    let h = happened_picked c.requires.picked c.load.ensures.2.0 in subst (Stands _ _) (sym h.before.pass ∙ h.pass_after) h.before
+    let h = happened_picked c.requires.picked c.load.ensures.2.0 in
+    subst (Stands _ _) (sym h.before.pass ∙ h.pass_after) h.before

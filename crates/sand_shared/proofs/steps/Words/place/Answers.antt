@@ -10,11 +10,16 @@ fetch_add-requires g c =
     let inside = c.requires.site in
     let i = c.args.site in
     let k = c.args.amount in
-    asks c.self.invariant c.self.view_is c.requires.seat (all_places _ i k) (i + 2) (λ n. (n + k) % 2 ^ 64) (omega arith) c.requires.picked
+    asks c.self.invariant c.self.view_is c.requires.seat (all_places _ i k)
+    (i + 2) (λ n. (n + k) % 2 ^ 64) (omega arith) c.requires.picked
     (places_row _ _ i k _ _ c.requires.some c.requires.hand inside)
 
 pub returns-clause-seat : goal.returns-clause-seat
-returns-clause-seat g c = record { table = c.fetch_add.ensures.0; id = c.fetch_add.ensures.1; bare = c.fetch_add.ensures.2.1 ∙ c.requires.seat.bare }
+returns-clause-seat g c = record {
+  table = c.fetch_add.ensures.0;
+  id = c.fetch_add.ensures.1;
+  bare = c.fetch_add.ensures.2.1 ∙ c.requires.seat.bare;
+}
 
 pub returns-clause-happened : goal.returns-clause-happened
 returns-clause-happened g c = (c.fetch_add.result, happened_picked c.requires.picked c.fetch_add.ensures.2.0)

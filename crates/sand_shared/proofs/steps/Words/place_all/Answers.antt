@@ -19,7 +19,8 @@ drops-init c =
     record {
       seat = record { table = refl; id = refl; bare = c.requires.seat.bare };
       view = refl;
-      waits = subst (λ (l : List Grains). Waits n c.args.counts.now.items l c.args.drops.now) (sym c.requires.hand) (waits_all n c.args.counts.now.items c.args.drops.now c.requires.long c.requires.inside c.requires.counted);
+      waits = subst (λ (l : List Grains). Waits n c.args.counts.now.items l c.args.drops.now) (sym c.requires.hand)
+          (waits_all n c.args.counts.now.items c.args.drops.now c.requires.long c.requires.inside c.requires.counted);
     }
 
 pub place-requires-clause-hand : goal.place-requires-clause-hand
@@ -54,7 +55,8 @@ drops-preserved c =
           record {
             seat = subst (StaysSeated c.args.seat.now) (sym w.seat-is) (stays_on inv.seat w.place.ensures.seat);
             view = laid ∙ (λ q. record (inv.view q) { hand = sym (ap (λ (v : View). v.hand) laid) q });
-            waits = subst (λ (z : List ℕ × List Grains). Waits n z.0 z.1 (drop (k + 1) ds)) (λ q. (sym counts_is q, sym hand_is q)) (waits_laid n x (drop (k + 1) ds) cs hand inside coming);
+            waits = subst (λ (z : List ℕ × List Grains). Waits n z.0 z.1 (drop (k + 1) ds))
+                (λ q. (sym counts_is q, sym hand_is q)) (waits_laid n x (drop (k + 1) ds) cs hand inside coming);
           })
       | else-amount-ne0 w ↦
           (let none = w.if-amount-ne0.false in
@@ -63,20 +65,26 @@ drops-preserved c =
           record {
             seat = subst (StaysSeated c.args.seat.now) (sym w.seat-is) inv.seat;
             view = same ∙ (λ q. record (inv.view q) { hand = (sym same q).hand });
-            waits = subst (λ (z : List ℕ × List Grains). Waits n z.0 z.1 (drop (k + 1) ds)) (λ q. (sym counts_is q, (sym same q).hand)) (waits_past n x (drop (k + 1) ds) cs hand (omega arith) coming);
+            waits = subst (λ (z : List ℕ × List Grains). Waits n z.0 z.1 (drop (k + 1) ds))
+                (λ q. (sym counts_is q, (sym same q).hand))
+                (waits_past n x (drop (k + 1) ds) cs hand (omega arith) coming);
           })
     ]
 
-none_waits : (c : After-drops) → Waits (sites (grid_of_terms c.args.self.now.terms)) c.drops.counts.items c.drops.seat.me.0.hand []
+none_waits : (c : After-drops)
+    → Waits (sites (grid_of_terms c.args.self.now.terms)) c.drops.counts.items c.drops.seat.me.0.hand []
 none_waits c =
     let done = c.drops-test.false in
     let none = drop_all c.drops.site-index c.args.drops.now (omega arith) in
-    subst (Waits (sites (grid_of_terms c.args.self.now.terms)) c.drops.counts.items c.drops.seat.me.0.hand) none c.drops.invariant.waits
+    subst (Waits (sites (grid_of_terms c.args.self.now.terms)) c.drops.counts.items c.drops.seat.me.0.hand)
+    none c.drops.invariant.waits
 
 pub returns-clause-view : goal.returns-clause-view
 returns-clause-view c =
-    let empty = hand_empty (sites (grid_of_terms c.args.self.now.terms)) c.drops.counts.items c.drops.seat.me.0.hand (none_waits c) in
+    let empty = hand_empty (sites (grid_of_terms c.args.self.now.terms))
+    c.drops.counts.items c.drops.seat.me.0.hand (none_waits c) in
     c.drops.invariant.view ∙ (λ q. record c.args.seat.now.me.0 { hand = empty q })
 
 pub returns-clause-none : goal.returns-clause-none
-returns-clause-none c = counts_zero (sites (grid_of_terms c.args.self.now.terms)) c.drops.counts.items c.drops.seat.me.0.hand (none_waits c)
+returns-clause-none c =
+    counts_zero (sites (grid_of_terms c.args.self.now.terms)) c.drops.counts.items c.drops.seat.me.0.hand (none_waits c)

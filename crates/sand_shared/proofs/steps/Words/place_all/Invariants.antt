@@ -7,7 +7,8 @@ use Rattle.sand_shared.proofs.DropsBySite.{Waits}
 use Rattle.sand_shared.proofs.steps.Words.place_all.Given as goal
 
 abbrev pub ghosts-place : goal.ghosts-place
-ghosts-place a = record { terms = a.self.now.terms; pass = a.seat.now.id; events = all_places a.seat.now.id a.site a.amount }
+ghosts-place a =
+    record { terms = a.self.now.terms; pass = a.seat.now.id; events = all_places a.seat.now.id a.site a.amount }
 
 abbrev pub invariant-drops : goal.invariant-drops
 invariant-drops l = record {

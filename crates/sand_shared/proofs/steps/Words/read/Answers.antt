@@ -28,10 +28,13 @@ sites-preserved c =
     let xs = c.sites.heights.items in
     let items = c.push_reserved.ensures.items in
     let long = inv.long in
-    let is : new ≡ looked v i n = looked_is t _ i 0 _ _ _ c.look-height.ensures.happened ∙ (λ q. looked (inv.view q) i n) in
+    let is : new ≡ looked v i n =
+    looked_is t _ i 0 _ _ _ c.look-height.ensures.happened ∙ (λ q. looked (inv.view q) i n) in
     let spot = ap (λ (u : View). u.spot) is in
     let least = ap (λ (u : View). u.least) is in
-    let exactly = looked_exactly t _ i _ _ n c.look-height.ensures.happened (ap (λ (u : View). u.hand) inv.view ∙ c.requires.hand) (subst (HasAll t) (sym inv.view) record { quota = c.requires.all.quota; all_sites = c.requires.all.all_sites }) in
+    let exactly =
+    looked_exactly t _ i _ _ n c.look-height.ensures.happened (ap (λ (u : View). u.hand) inv.view ∙ c.requires.hand)
+    (subst (HasAll t) (sym inv.view) record { quota = c.requires.all.quota; all_sites = c.requires.all.all_sites }) in
     let here = subst (λ (u : View). n + 4 * toppled_by u i ≡ laid t u i + flow g (toppled_by u) i) inv.view exactly in
     record {
       table = c.look-height.ensures.seat.table ∙ inv.table;
@@ -41,17 +44,26 @@ sites-preserved c =
       long = ap (λ l. length l) items ∙ omega (arith, length-append xs (n ∷ []));
       room = omega (arith, c.push_reserved.ensures.capacity, inv.room);
       left = λ k l. ⊎_elim
-          (λ (e : k ≡ i). let now = ap (λ ys. get_or ys k 0) items ∙ (ap (λ z. get_or (xs ++ n ∷ []) z 0) {x = k} {y = length xs} (omega arith) ∙ get_or-append_seam xs n [] 0) in
-          subst (λ (z : ℕ × ℕ). z.0 + 4 * toppled_by v z.1 ≡ laid t v z.1 + flow g (toppled_by v) z.1) (λ q. (sym now q, sym e q)) here)
-          (λ (ne : k ≡ i → ⊥). let now = ap (λ ys. get_or ys k 0) items ∙ get_or_append_left xs (n ∷ []) 0 k (omega arith) in
-          subst (λ z. z + 4 * toppled_by v k ≡ laid t v k + flow g (toppled_by v) k) (sym now) (inv.left k (omega arith)))
+          (λ (e : k ≡ i).
+          let now =
+          ap (λ ys. get_or ys k 0) items ∙ (ap (λ z. get_or (xs ++ n ∷ []) z 0) {x = k} {y = length xs} (omega arith)
+          ∙ get_or-append_seam xs n [] 0) in
+          subst (λ (z : ℕ × ℕ). z.0 + 4 * toppled_by v z.1 ≡ laid t v z.1 + flow g (toppled_by v) z.1)
+          (λ q. (sym now q, sym e q)) here)
+          (λ (ne : k ≡ i → ⊥).
+          let now = ap (λ ys. get_or ys k 0) items ∙ get_or_append_left xs (n ∷ []) 0 k (omega arith) in
+          subst (λ z. z + 4 * toppled_by v k ≡ laid t v k + flow g (toppled_by v) k)
+          (sym now) (inv.left k (omega arith)))
           (cases_eq k i);
     }
 
 counted : (c : goal.After-learn) → c.sites-sites.result ≡ sites (grid_of_terms c.args.self.now.terms)
-counted c = c.sites-sites.ensures.value ∙ ap sites (c.shape.ensures.value ∙ ap (λ (t : Terms). grid_of_terms t) c.terms.ensures.value)
+counted c = c.sites-sites.ensures.value
+    ∙ ap sites (c.shape.ensures.value ∙ ap (λ (t : Terms). grid_of_terms t) c.terms.ensures.value)
 
-left_there : (c : goal.After-learn) → IsToppled (grid_of_terms c.args.self.now.terms) (laid c.args.self.now.terms c.args.seat.now.me.0) (toppled_by c.args.seat.now.me.0) (slice_index c.sites.heights.items)
+left_there : (c : goal.After-learn)
+    → IsToppled (grid_of_terms c.args.self.now.terms) (laid c.args.self.now.terms c.args.seat.now.me.0)
+    (toppled_by c.args.seat.now.me.0) (slice_index c.sites.heights.items)
 left_there c =
     let all = counted c in
     let upto = c.sites.auto.site-end in
@@ -68,7 +80,8 @@ returns-clause-limit c =
     let done = c.sites-test.false in
     let w = looked v c.sites.seat.me.0.spot c.sites.seat.me.0.least in
     let stands = subst (Stands t _) (c.learn.ensures.view ∙ inv.view) c.learn.ensures.stands in
-    left_few t _ w stands record { quota = c.requires.all.quota; all_sites = c.requires.all.all_sites } (toppled_by v) c.sites.heights.items (inv.long ∙ omega arith) (left_there c)
+    left_few t _ w stands record { quota = c.requires.all.quota; all_sites = c.requires.all.all_sites }
+    (toppled_by v) c.sites.heights.items (inv.long ∙ omega arith) (left_there c)
 
 pub returns-clause-underway : goal.returns-clause-underway
 returns-clause-underway c =
@@ -77,4 +90,5 @@ returns-clause-underway c =
     let v = c.args.seat.now.me.0 in
     let w = looked v c.sites.seat.me.0.spot c.sites.seat.me.0.least in
     let stands = subst (Stands t _) (c.learn.ensures.view ∙ inv.view) c.learn.ensures.stands in
-    is_underway t _ w stands record { quota = c.requires.all.quota; all_sites = c.requires.all.all_sites } c.requires.rows (slice_index c.sites.heights.items) (left_there c)
+    is_underway t _ w stands record { quota = c.requires.all.quota; all_sites = c.requires.all.all_sites }
+    c.requires.rows (slice_index c.sites.heights.items) (left_there c)

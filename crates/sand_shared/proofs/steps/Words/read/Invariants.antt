@@ -13,7 +13,9 @@ invariant-sites l = record {
   view : l.seat.me.0 ≡ looked l.initial.seat.me.0 l.seat.me.0.spot l.seat.me.0.least;
   long : length l.heights.items ≡ l.site;
   room : l.sites ≤ vec_capacity l.heights;
-  left : (i : ℕ) → i < l.site → get_or l.heights.items i 0 + 4 * toppled_by l.initial.seat.me.0 i ≡ laid l.self.terms l.initial.seat.me.0 i + flow (grid_of_terms l.self.terms) (toppled_by l.initial.seat.me.0) i;
+  left : (i : ℕ) → i < l.site
+      → get_or l.heights.items i 0 + 4 * toppled_by l.initial.seat.me.0 i
+      ≡ laid l.self.terms l.initial.seat.me.0 i + flow (grid_of_terms l.self.terms) (toppled_by l.initial.seat.me.0) i;
 }
 
 abbrev pub ghosts-look : goal.ghosts-look

@@ -12,35 +12,47 @@ use Rattle.sand_shared.proofs.PassAfterEvent.{looked_is, unloaded_is}
 use Rattle.sand_shared.proofs.PassKnowsPile.{stands_few, stands_sparing, looked_at_most, looked_at_least, stands_unloaded}
 use Rattle.sand_shared.proofs.steps.Words.relieve.Goals as goal
 
-unloaded_view : (c : goal.After-deliver_around) → c.unload.new.seat.me.0 ≡ unloaded c.args.self.now.terms (looked c.args.seat.now.me.0 c.args.site c.look-times.result) c.args.site (c.look-times.result / 4)
+unloaded_view : (c : goal.After-deliver_around)
+    → c.unload.new.seat.me.0 ≡ unloaded c.args.self.now.terms
+    (looked c.args.seat.now.me.0 c.args.site c.look-times.result) c.args.site (c.look-times.result / 4)
 unloaded_view c =
     let t = c.args.self.now.terms in
     let i = c.args.site in
     let k = c.look-times.result / 4 in
-    unloaded_is t _ i k _ _ _ c.unload.ensures.happened.1 ∙ ap (λ v. unloaded t v i k) (looked_is t _ i 0 _ _ _ c.look-times.ensures.happened)
+    unloaded_is t _ i k _ _ _ c.unload.ensures.happened.1
+    ∙ ap (λ v. unloaded t v i k) (looked_is t _ i 0 _ _ _ c.look-times.ensures.happened)
 
-unloaded_rows : (c : goal.After-deliver_around) → c.unload.new.seat.me.0.base + length c.unload.new.seat.me.0.counts ≤ sites (grid_of_terms c.args.self.now.terms)
+unloaded_rows : (c : goal.After-deliver_around)
+    → c.unload.new.seat.me.0.base + length c.unload.new.seat.me.0.counts ≤ sites (grid_of_terms c.args.self.now.terms)
 unloaded_rows c =
     let v = c.args.seat.now.me.0 in
     let i = c.args.site in
     let rows = c.requires.rows in
     let long = length-set v.counts (i - v.base) (get_or v.counts (i - v.base) 0 + c.look-times.result / 4) in
-    subst (λ (u : View). u.base + length u.counts ≤ sites (grid_of_terms c.args.self.now.terms)) (sym (unloaded_view c)) (omega arith)
+    subst (λ (u : View). u.base + length u.counts ≤ sites (grid_of_terms c.args.self.now.terms))
+    (sym (unloaded_view c)) (omega arith)
 
 still_all : (t : Terms) (v : View) (i k n : ℕ) → HasAll t v → HasAll t (unloaded t (looked v i n) i k)
-still_all t v i k n all = record { quota = all.quota; all_sites = λ j l. holds-unloaded t (looked v i n) i k j ∙ all.all_sites j l }
+still_all t v i k n all =
+    record { quota = all.quota; all_sites = λ j l. holds-unloaded t (looked v i n) i k j ∙ all.all_sites j l }
 
 pub returns-then-times-ne0-clause-few : goal.returns-then-times-ne0-clause-few
 returns-then-times-ne0-clause-few c =
     let t = c.args.self.now.terms in
     let stands = stands_unloaded t _ c.args.site (c.look-times.result / 4) _ _ _ c.unload.ensures.happened.1 in
-    subst (λ (v : View). sum v.counts < 2 ^ 54) (sym c.deliver_around.ensures.view) (stands_few t _ c.unload.new.seat.me.0 stands (unloaded_rows c))
+    subst (λ (v : View). sum v.counts < 2 ^ 54) (sym c.deliver_around.ensures.view)
+    (stands_few t _ c.unload.new.seat.me.0 stands (unloaded_rows c))
 
 pub returns-then-times-ne0-clause-enough : goal.returns-then-times-ne0-clause-enough
-returns-then-times-ne0-clause-enough c = let most = looked_at_most c.args.self.now.terms _ c.args.site _ _ _ c.look-times.ensures.happened c.requires.hand in omega arith
+returns-then-times-ne0-clause-enough c =
+    let most = looked_at_most c.args.self.now.terms _ c.args.site _ _ _ c.look-times.ensures.happened c.requires.hand in
+    omega arith
 
 pub returns-then-times-ne0-clause-no_more : goal.returns-then-times-ne0-clause-no_more
-returns-then-times-ne0-clause-no_more c all = let least = looked_at_least c.args.self.now.terms _ c.args.site _ _ _ c.look-times.ensures.happened c.requires.hand all in omega arith
+returns-then-times-ne0-clause-no_more c all =
+    let least =
+    looked_at_least c.args.self.now.terms _ c.args.site _ _ _ c.look-times.ensures.happened c.requires.hand all in
+    omega arith
 
 pub returns-then-times-ne0-clause-sparing : goal.returns-then-times-ne0-clause-sparing
 returns-then-times-ne0-clause-sparing c all =
@@ -48,7 +60,8 @@ returns-then-times-ne0-clause-sparing c all =
     let u = c.unload.new.seat.me.0 in
     let k = c.look-times.result / 4 in
     let stands = stands_unloaded t _ c.args.site k _ _ _ c.unload.ensures.happened.1 in
-    let has = subst (HasAll t) (sym (unloaded_view c)) (still_all t c.args.seat.now.me.0 c.args.site k c.look-times.result all) in
+    let has =
+    subst (HasAll t) (sym (unloaded_view c)) (still_all t c.args.seat.now.me.0 c.args.site k c.look-times.result all) in
     let s = stands_sparing t _ u stands has (unloaded_rows c) in
     subst (IsSparing t) (sym c.deliver_around.ensures.view) record { needed = s.needed; weighed = s.weighed }
 
@@ -64,16 +77,22 @@ returns-else-times-ne0-clause-view c =
     is ∙ (λ q. record (looked v i ((sym is q).least)) { counts = same q })
 
 pub returns-else-times-ne0-clause-enough : goal.returns-else-times-ne0-clause-enough
-returns-else-times-ne0-clause-enough c = let most = looked_at_most c.args.self.now.terms _ c.args.site _ _ _ c.look-times.ensures.happened c.requires.hand in omega arith
+returns-else-times-ne0-clause-enough c =
+    let most = looked_at_most c.args.self.now.terms _ c.args.site _ _ _ c.look-times.ensures.happened c.requires.hand in
+    omega arith
 
 pub returns-else-times-ne0-clause-no_more : goal.returns-else-times-ne0-clause-no_more
-returns-else-times-ne0-clause-no_more c all = let least = looked_at_least c.args.self.now.terms _ c.args.site _ _ _ c.look-times.ensures.happened c.requires.hand all in omega arith
+returns-else-times-ne0-clause-no_more c all =
+    let least =
+    looked_at_least c.args.self.now.terms _ c.args.site _ _ _ c.look-times.ensures.happened c.requires.hand all in
+    omega arith
 
 pub returns-else-times-ne0-clause-few : goal.returns-else-times-ne0-clause-few
 returns-else-times-ne0-clause-few c =
     let t = c.args.self.now.terms in
     let is = looked_is t _ c.args.site 0 _ _ _ c.look-times.ensures.happened in
-    subst (λ (v : View). sum v.counts < 2 ^ 54) (sym is) (stands_few t _ c.args.seat.now.me.0 c.look-times.ensures.happened.before c.requires.rows)
+    subst (λ (v : View). sum v.counts < 2 ^ 54) (sym is)
+    (stands_few t _ c.args.seat.now.me.0 c.look-times.ensures.happened.before c.requires.rows)
 
 pub returns-else-times-ne0-clause-sparing : goal.returns-else-times-ne0-clause-sparing
 returns-else-times-ne0-clause-sparing c all =

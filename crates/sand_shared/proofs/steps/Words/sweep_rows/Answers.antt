@@ -18,7 +18,9 @@ overflow_add-base c =
     let long = c.args.counts.now.ok.0 in omega arith
 
 -- the sweep is at a site of the pass and of the grid
-inside : (c : After-relieve-times) → let v = c.args.seat.now.me.0 in (v.base + length v.counts ≤ sites (grid_of_terms c.args.self.now.terms)) × (c.sites.i < length v.counts)
+inside : (c : After-relieve-times)
+    → let v = c.args.seat.now.me.0 in
+    (v.base + length v.counts ≤ sites (grid_of_terms c.args.self.now.terms)) × (c.sites.i < length v.counts)
 inside c =
     let first = ap (λ (l : List ℕ). length l) c.requires.counts.1 in
     let base = c.requires.counts.0 in
@@ -42,7 +44,8 @@ sites-preserved-then-times-eq0 c =
     record {
       seat = stays_on inv.seat did.seat;
       view = kept_view t v me new cs c.args.base c.sites.i c.relieve-times.result base inv.view did.view none;
-      swept = kept_swept t v me new cs c.args.base c.sites.i c.relieve-times.result base inv.view did.view none c.sites.topplings at.0 at.1 inv.swept did.enough did.few did.no_more did.sparing;
+      swept = kept_swept t v me new cs c.args.base c.sites.i c.relieve-times.result base inv.view
+          did.view none c.sites.topplings at.0 at.1 inv.swept did.enough did.few did.no_more did.sparing;
     }
 
 pub sites-preserved : goal.sites-preserved
@@ -63,12 +66,16 @@ sites-preserved c =
     let value : c.index_mut.result.now ≡ get_or cs i 0 = get_or_read cs _ _ (omega arith) c.index_mut.ensures.value 0 in
     record {
       seat = stays_on inv.seat did.seat;
-      view = next_view t v me new cs c.args.base i times base inv.view did.view ∙ (λ q. record (looked v new.spot new.least) { counts = set cs i (sym value q + times) });
+      view = next_view t v me new cs c.args.base i times base inv.view did.view
+          ∙ (λ q. record (looked v new.spot new.least) { counts = set cs i (sym value q + times) });
       swept = subst (λ z. Sweeps t v (set cs i (z + times)) (i + 1) (c.sites.topplings + times)) (sym value)
-          (next_swept t v me new cs c.args.base i times base inv.view did.view c.sites.topplings at.0 place inv.swept did.enough did.few did.no_more did.sparing);
+          (next_swept t v me new cs c.args.base i times base inv.view did.view
+          c.sites.topplings at.0 place inv.swept did.enough did.few did.no_more did.sparing);
     }
 
-swept_all : (c : After-sites) → let v = c.args.seat.now.me.0 in Sweeps c.args.self.now.terms v c.sites.counts.items (length v.counts) c.sites.topplings
+swept_all : (c : After-sites)
+    → let v = c.args.seat.now.me.0 in
+    Sweeps c.args.self.now.terms v c.sites.counts.items (length v.counts) c.sites.topplings
 swept_all c =
     let v = c.args.seat.now.me.0 in
     let first = ap (λ (l : List ℕ). length l) c.requires.counts.1 in
@@ -76,13 +83,17 @@ swept_all c =
     let end = c.len-i-end.ensures in
     let upto = c.sites.auto.i-end in
     let known = c.args.counts.now.ok.0 in
-    subst (λ k. Sweeps c.args.self.now.terms v c.sites.counts.items k c.sites.topplings) (omega arith) c.sites.invariant.swept
+    subst (λ k. Sweeps c.args.self.now.terms v c.sites.counts.items k c.sites.topplings)
+    (omega arith) c.sites.invariant.swept
 
 pub returns-clause-swept : goal.returns-clause-swept
-returns-clause-swept c = sweeps_end c.args.self.now.terms c.args.seat.now.me.0 c.sites.counts.items c.sites.topplings (swept_all c)
+returns-clause-swept c =
+    sweeps_end c.args.self.now.terms c.args.seat.now.me.0 c.sites.counts.items c.sites.topplings (swept_all c)
 
 pub returns-clause-all : goal.returns-clause-all
-returns-clause-all c = sweeps_all c.args.self.now.terms c.args.seat.now.me.0 c.sites.counts.items c.sites.topplings (swept_all c)
+returns-clause-all c =
+    sweeps_all c.args.self.now.terms c.args.seat.now.me.0 c.sites.counts.items c.sites.topplings (swept_all c)
 
 pub returns-clause-few : goal.returns-clause-few
-returns-clause-few c = sweeps_few c.args.self.now.terms c.args.seat.now.me.0 c.sites.counts.items c.sites.topplings (swept_all c)
+returns-clause-few c =
+    sweeps_few c.args.self.now.terms c.args.seat.now.me.0 c.sites.counts.items c.sites.topplings (swept_all c)
