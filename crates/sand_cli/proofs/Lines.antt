@@ -1,17 +1,12 @@
 -- How clap's builders extend the command line.
-use Rattle.std.proofs.Common.{◌≡◌, ◌∙◌, false, ◌||◌, Err, IfOk, Ok, Result, ap₂}
+use Rattle.std.proofs.Common.{◌≡◌, ◌∙◌, false, ◌||◌, IfOk, Ok, Result, ap₂}
 use Rattle.std.proofs.lemmas.Result.{IfOk-at_ok, IfOk-weaker}
 use Rattle.std.specs.declared.alloc.AllocError.{AllocError}
 use Rattle.clap.specs.Words.{AddsArg, AddsSubcommand, App, Rule, app_of, rule_of, with_rule}
 use Rattle.clap.specs.declared.builder.arg.Arg.{Arg}
 use Rattle.clap.specs.declared.builder.command.Command.{Command}
 use Rattle.clap.specs.declared.builder.command.Command.TheViews.{out-Command}
-use Rattle.sand_cli.specs.Line.{or_command}
-
--- the command has this line, and no global options
-pub record IsLine (command : Command) (line : App) : Type 0 where
-  pub line_is : app_of command ≡ line
-  pub local : (out-Command command).has_globals ≡ false
+use Rattle.sand_cli.specs.Line.{IfLine, IsLine, or_command}
 
 -- `Command::arg` adds one option to the line
 pub one_option : {line : App} {rule : Rule} {old new : Command} {option : Arg} → AddsArg old option new → IsLine old line → rule_of option ≡ rule
@@ -25,10 +20,6 @@ one_option adds old rule_is local = record {
 pub one_more : {line command : App} {old sub new : Command} → AddsSubcommand old sub new → app_of old ≡ line → app_of sub ≡ command
     → (out-Command sub).has_globals ≡ false → app_of new ≡ or_command line command
 one_more adds line_is command_is local = adds.shape local ∙ ap₂ or_command line_is command_is
-
--- the command, if there is one, has this line, and no global options
-abbrev pub IfLine : Result Command AllocError → App → Type 0
-IfLine command line = IfOk command (λ c. IsLine c line)
 
 -- `with_option` adds one option to the line
 pub option_more : {rule : Rule} (line : App) (option : Arg) (from to : Result Command AllocError) → IfOk to (λ new. (old : Command) × (from ≡ Ok old) × AddsArg old option new)
@@ -44,8 +35,3 @@ command_more line command from sub to adds from_is sub_is =
     IfOk-weaker to _ _ (λ new h.
     let added = IfOk-at_ok (λ c. IsLine c command) h.3 sub_is in
     one_more h.4 (IfOk-at_ok (λ c. app_of c ≡ line) h.2 from_is) added.line_is added.local) adds
-
--- the line of a command, if there is one
-pub is_of : (command : Result Command AllocError) (line : App) → IfOk command (λ c. app_of c ≡ line) → IfOk command (λ c. (out-Command c).has_globals ≡ false) → IfLine command line
-is_of (Ok c) line is local = record { line_is = is; local = local }
-is_of (Err e) line is local = tt

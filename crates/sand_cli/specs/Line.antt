@@ -1,9 +1,12 @@
 -- The accepted command line, in terms of clap's model.
-use Rattle.std.specs.Prelude.{ℕ, [], ◌∷◌, Some, codes, fold, true}
-use Rattle.clap.specs.Words.{App, Rule, Text, new_app, new_rule, with_rule, with_subcommand}
+use Rattle.std.specs.Prelude.{ℕ, ◌≡◌, List, [], ◌∷◌, ◌++◌, IfOk, Result, Some, codes, false, fold, true}
+use Rattle.std.specs.declared.alloc.AllocError.{AllocError}
+use Rattle.clap.specs.Words.{App, Rule, Text, app_of, new_app, new_rule, with_rule, with_subcommand}
 use Rattle.clap.specs.Simple.{on_top}
 use Rattle.sand_plan.specs.Plans.{most_droppers, most_drops, most_epochs, most_observers, most_sweeps, most_workers}
 use Rattle.clap.specs.declared.builder.action.ArgAction.TheVariants.{Set, SetTrue}
+use Rattle.clap.specs.declared.builder.command.Command.{Command}
+use Rattle.clap.specs.declared.builder.command.Command.TheViews.{out-Command}
 use Rattle.clap.specs.declared.builder.value_parser.ValueParser.TheVariants as parser
 
 -- an option without a value
@@ -74,10 +77,29 @@ wanting_command line = on_top (λ s. record s { subcommand_required = true; disa
 abbrev pub or_command : App → App → App
 or_command line command = with_subcommand line command.top
 
+abbrev pub first_four : List App
+first_four = settle_line ∷ bare_line (codes "burn") ∷ identity_line ∷ drops_line ∷ []
+
+abbrev pub next_four : List App
+next_four = pgm_line (codes "add") ∷ pgm_line (codes "inverse") ∷ multiple_line ∷ pgm_line (codes "recurrent") ∷ []
+
 -- `sandpile`, which requires one of its commands
 unfoldable pub command_line : App
-command_line = fold or_command (wanting_command (bare_line (codes "sandpile"))) (
-    settle_line ∷ bare_line (codes "burn") ∷ identity_line
-    ∷ drops_line ∷ pgm_line (codes "add") ∷ pgm_line (codes "inverse")
-    ∷ multiple_line ∷ pgm_line (codes "recurrent") ∷ lab_line ∷ []
-    )
+command_line = fold or_command (wanting_command (bare_line (codes "sandpile"))) (first_four ++ next_four ++ lab_line ∷ [])
+
+-- the command has this line, and no global options
+pub record IsLine (command : Command) (line : App) : Type 0 where
+  pub line_is : app_of command ≡ line
+  pub local : (out-Command command).has_globals ≡ false
+
+-- the command, if there is one, has this line, and no global options
+abbrev pub IfLine : Result Command AllocError → App → Type 0
+IfLine command line = IfOk command (λ c. IsLine c line)
+
+-- the second command, if there is one, is the first with one more option
+abbrev pub AddsRule : Result Command AllocError → Result Command AllocError → Rule → Type 0
+AddsRule from to rule = (line : App) → IfLine from line → IfLine to (with_rule line rule)
+
+-- the second command line, if there is one, is the first with more commands
+abbrev pub AddsCommands : Result Command AllocError → Result Command AllocError → List App → Type 0
+AddsCommands from to commands = (line : App) → IfOk from (λ c. app_of c ≡ line) → IfOk to (λ c. app_of c ≡ fold or_command line commands)

@@ -274,6 +274,22 @@ Example:
   3",
 };
 
+// The options of several commands.
+
+pub(crate) const PGM: &str = "Write a picture (plain PGM) instead of text";
+
+pub(crate) const PILE: &str = "Write only the pile, in input format";
+
+// The options of `drops`, with their limits.
+
+pub(crate) const COUNT: &str = "Number of random drops, up to 4294967295";
+
+pub(crate) const DROPS_SEED: &str = "Seed, up to 4294967295 [default: 0]";
+
+pub(crate) const STREAM: &str = "Stream, up to 4294967295 [default: 0]";
+
+pub(crate) const FROM: &str = "Sites to skip, up to 4294967295 [default: 0]";
+
 // The settings of `lab`, with their limits.
 
 pub(crate) const SEED: &str = "Seed, up to 4294967295";

@@ -1,12 +1,14 @@
 //! The command line that `sandpile` accepts, built with clap.
+//!
+//! Commands and options are large values. Functions that make them are not inlined, because a single stack frame with
+//! room for all of them would have 42 KB.
 
 ghost use Rattle.std.specs.Prelude.{◌≡◌, IfOk, Ok, codes, false};
 ghost use Rattle.clap.specs.Words.{AddsArg, AddsSubcommand, app_of, rule_of};
 ghost use Rattle.clap.specs.declared.builder.command.Command.{Command};
-ghost use Rattle.clap.specs.declared.builder.command.Command.TheViews.{out-Command};
-ghost use Rattle.sand_cli.specs.Line.{bare_line, command_line, drops_line, flag, identity_line, lab_line, multiple_line, number, pgm_line, setting, settle_line, side, times};
+ghost use Rattle.sand_cli.specs.Line.{AddsCommands, AddsRule, IfLine, IsLine, bare_line, command_line, drops_line, flag, next_four, identity_line, lab_line, multiple_line, number, pgm_line, first_four, setting, settle_line, side, times};
 
-use crate::help::{self, Help};
+use crate::help::{self, DROPPERS, DROPS_OF_EACH, EPOCHS, Help, OBSERVERS, SEED, SWEEPS, WORKERS};
 use clap::builder::ValueParser;
 use clap::{Arg, ArgAction, Command};
 use sand_plan::{
@@ -83,23 +85,8 @@ fn setting<'a>(
     number(alloc, name, u64::from(least), u64::from(most), about).default_value(usual)
 }
 
-fn pgm<'a>(alloc: Global) -> Arg<'a>
-    ensures rule { rule_of result ≡ flag (codes "pgm") }
-    ensures local { result.global ≡ false }
-{
-    flag(alloc, "pgm", "Write a picture (plain PGM) instead of text")
-}
-
-fn pile<'a>(alloc: Global) -> Arg<'a>
-    ensures rule { rule_of result ≡ flag (codes "pile") }
-    ensures local { result.global ≡ false }
-{
-    flag(alloc, "pile", "Write only the pile, in input format")
-}
-
 fn bare_line<'a>(alloc: Global, name: &'a str, help: Help) -> Command<'a>
-    ensures line { app_of result ≡ bare_line name.entry.now }
-    ensures local { (out-Command result).has_globals ≡ false }
+    ensures { IsLine result (bare_line name.entry.now) }
 {
     Command::new(alloc, name)
         .about(help.about)
@@ -125,90 +112,149 @@ fn with_option<'a>(
     line?.arg(option)
 }
 
-fn pgm_line<'a>(alloc: Global, name: &'a str, help: Help) -> Result<Command<'a>, AllocError>
-    ensures line { IfOk result (λ c. app_of c ≡ pgm_line name.entry.now) }
-    ensures local { IfOk result (λ c. (out-Command c).has_globals ≡ false) }
+#[inline(never)]
+fn with_flag<'a>(
+    alloc: Global,
+    line: Result<Command<'a>, AllocError>,
+    name: &'a str,
+    about: &'static str,
+) -> Result<Command<'a>, AllocError>
+    ensures { AddsRule line.entry result (flag name.entry.now) }
 {
-    bare_line(alloc, name, help).arg(pgm(alloc))
+    with_option(line, flag(alloc, name, about))
 }
 
+#[inline(never)]
+fn with_word<'a>(
+    alloc: Global,
+    line: Result<Command<'a>, AllocError>,
+    name: &'a str,
+    about: &'static str,
+) -> Result<Command<'a>, AllocError>
+    ensures { AddsRule line.entry result (number name.entry.now 0 4294967295) }
+{
+    with_option(line, word(alloc, name, about))
+}
+
+#[inline(never)]
+fn with_side<'a>(
+    alloc: Global,
+    line: Result<Command<'a>, AllocError>,
+    name: &'a str,
+    about: &'static str,
+) -> Result<Command<'a>, AllocError>
+    ensures { AddsRule line.entry result (side name.entry.now) }
+{
+    with_option(line, side(alloc, name, about))
+}
+
+#[inline(never)]
+fn with_times<'a>(
+    alloc: Global,
+    line: Result<Command<'a>, AllocError>,
+) -> Result<Command<'a>, AllocError>
+    ensures { AddsRule line.entry result times }
+{
+    with_option(line, times(alloc))
+}
+
+#[inline(never)]
+fn with_setting<'a>(
+    alloc: Global,
+    line: Result<Command<'a>, AllocError>,
+    name: &'a str,
+    least: u32,
+    most: u32,
+    usual: &'static str,
+    about: &'static str,
+) -> Result<Command<'a>, AllocError>
+    ensures { AddsRule line.entry result (setting name.entry.now least most usual.now) }
+{
+    with_option(line, setting(alloc, name, least, most, usual, about))
+}
+
+fn with_pgm<'a>(
+    alloc: Global,
+    line: Result<Command<'a>, AllocError>,
+) -> Result<Command<'a>, AllocError>
+    ensures { AddsRule line.entry result (flag (codes "pgm")) }
+{
+    with_flag(alloc, line, "pgm", help::PGM)
+}
+
+fn with_pile<'a>(
+    alloc: Global,
+    line: Result<Command<'a>, AllocError>,
+) -> Result<Command<'a>, AllocError>
+    ensures { AddsRule line.entry result (flag (codes "pile")) }
+{
+    with_flag(alloc, line, "pile", help::PILE)
+}
+
+#[inline(never)]
+fn pgm_line<'a>(alloc: Global, name: &'a str, help: Help) -> Result<Command<'a>, AllocError>
+    ensures { IfLine result (pgm_line name.entry.now) }
+{
+    with_pgm(alloc, Ok(bare_line(alloc, name, help)))
+}
+
+#[inline(never)]
 fn settle_line<'a>(alloc: Global) -> Result<Command<'a>, AllocError>
-    ensures line { IfOk result (λ c. app_of c ≡ settle_line) }
-    ensures local { IfOk result (λ c. (out-Command c).has_globals ≡ false) }
+    ensures { IfLine result settle_line }
 {
     let line = Ok(bare_line(alloc, "settle", help::SETTLE));
-    let line = with_option(line, pile(alloc));
-    with_option(line, pgm(alloc))
+    let line = with_pile(alloc, line);
+    with_pgm(alloc, line)
 }
 
+#[inline(never)]
 fn drops_line<'a>(alloc: Global) -> Result<Command<'a>, AllocError>
-    ensures line { IfOk result (λ c. app_of c ≡ drops_line) }
-    ensures local { IfOk result (λ c. (out-Command c).has_globals ≡ false) }
+    ensures { IfLine result drops_line }
 {
-    let count = word(alloc, "count", "Number of random drops, up to 4294967295");
-    let seed = word(alloc, "seed", "Seed, up to 4294967295 [default: 0]");
-    let stream = word(alloc, "stream", "Stream, up to 4294967295 [default: 0]");
-    let from = word(
-        alloc,
-        "from",
-        "Sites to skip, up to 4294967295 [default: 0]",
-    );
-    let table = flag(alloc, "table", "Write only the table");
     let line = Ok(bare_line(alloc, "drops", help::DROPS));
-    let line = with_option(line, count);
-    let line = with_option(line, seed);
-    let line = with_option(line, stream);
-    let line = with_option(line, from);
-    let line = with_option(line, table);
-    with_option(line, pile(alloc))
+    let line = with_word(alloc, line, "count", help::COUNT);
+    let line = with_word(alloc, line, "seed", help::DROPS_SEED);
+    let line = with_word(alloc, line, "stream", help::STREAM);
+    let line = with_word(alloc, line, "from", help::FROM);
+    let line = with_flag(alloc, line, "table", "Write only the table");
+    with_pile(alloc, line)
 }
 
+#[inline(never)]
 fn identity_line<'a>(alloc: Global) -> Result<Command<'a>, AllocError>
-    ensures line { IfOk result (λ c. app_of c ≡ identity_line) }
-    ensures local { IfOk result (λ c. (out-Command c).has_globals ≡ false) }
+    ensures { IfLine result identity_line }
 {
-    let width = side(alloc, "width", "Number of columns, from 1 to 256");
-    let height = side(alloc, "height", "Number of rows, from 1 to 256");
-    let cylinder = flag(alloc, "cylinder", "Make the rows wrap around");
     let line = Ok(bare_line(alloc, "identity", help::IDENTITY));
-    let line = with_option(line, width);
-    let line = with_option(line, height);
-    let line = with_option(line, cylinder);
-    with_option(line, pgm(alloc))
+    let line = with_side(alloc, line, "width", "Number of columns, from 1 to 256");
+    let line = with_side(alloc, line, "height", "Number of rows, from 1 to 256");
+    let line = with_flag(alloc, line, "cylinder", "Make the rows wrap around");
+    with_pgm(alloc, line)
 }
 
+#[inline(never)]
 fn multiple_line<'a>(alloc: Global) -> Result<Command<'a>, AllocError>
-    ensures line { IfOk result (λ c. app_of c ≡ multiple_line) }
-    ensures local { IfOk result (λ c. (out-Command c).has_globals ≡ false) }
+    ensures { IfLine result multiple_line }
 {
     let line = Ok(bare_line(alloc, "multiple", help::MULTIPLE));
-    let line = with_option(line, times(alloc));
-    with_option(line, pgm(alloc))
+    let line = with_times(alloc, line);
+    with_pgm(alloc, line)
 }
 
+#[inline(never)]
 fn lab_line<'a>(alloc: Global) -> Result<Command<'a>, AllocError>
-    ensures line { IfOk result (λ c. app_of c ≡ lab_line) }
-    ensures local { IfOk result (λ c. (out-Command c).has_globals ≡ false) }
+    ensures { IfLine result lab_line }
 {
-    let seed = setting(alloc, "seed", 0, 4294967295, "0", help::SEED);
-    let droppers = setting(alloc, "droppers", 1, MOST_DROPPERS, "2", help::DROPPERS);
-    let drops = setting(alloc, "drops", 0, MOST_DROPS, "100", help::DROPS_OF_EACH);
-    let epochs = setting(alloc, "epochs", 1, MOST_EPOCHS, "1", help::EPOCHS);
-    let workers = setting(alloc, "workers", 1, MOST_WORKERS, "1", help::WORKERS);
-    let sweeps = setting(alloc, "sweeps", 0, MOST_SWEEPS, "0", help::SWEEPS);
-    let observers = setting(alloc, "observers", 0, MOST_OBSERVERS, "0", help::OBSERVERS);
-    let journal = flag(alloc, "journal", "Also write a line for each drop");
     let line = Ok(bare_line(alloc, "lab", help::LAB));
-    let line = with_option(line, seed);
-    let line = with_option(line, droppers);
-    let line = with_option(line, drops);
-    let line = with_option(line, epochs);
-    let line = with_option(line, workers);
-    let line = with_option(line, sweeps);
-    let line = with_option(line, observers);
-    let line = with_option(line, journal);
-    let line = with_option(line, pile(alloc));
-    with_option(line, pgm(alloc))
+    let line = with_setting(alloc, line, "seed", 0, 4294967295, "0", SEED);
+    let line = with_setting(alloc, line, "droppers", 1, MOST_DROPPERS, "2", DROPPERS);
+    let line = with_setting(alloc, line, "drops", 0, MOST_DROPS, "100", DROPS_OF_EACH);
+    let line = with_setting(alloc, line, "epochs", 1, MOST_EPOCHS, "1", EPOCHS);
+    let line = with_setting(alloc, line, "workers", 1, MOST_WORKERS, "1", WORKERS);
+    let line = with_setting(alloc, line, "sweeps", 0, MOST_SWEEPS, "0", SWEEPS);
+    let line = with_setting(alloc, line, "observers", 0, MOST_OBSERVERS, "0", OBSERVERS);
+    let line = with_flag(alloc, line, "journal", "Also write a line for each drop");
+    let line = with_pile(alloc, line);
+    with_pgm(alloc, line)
 }
 
 // Adds a command to the command line, if both are `Ok`.
@@ -222,20 +268,43 @@ fn with_command<'a>(
     line?.subcommand(command?)
 }
 
+// Adds `settle`, `burn`, `identity` and `drops`.
+#[inline(never)]
+fn with_first_four<'a>(
+    alloc: Global,
+    line: Result<Command<'a>, AllocError>,
+) -> Result<Command<'a>, AllocError>
+    ensures { AddsCommands line.entry result first_four }
+{
+    let line = with_command(line, settle_line(alloc));
+    let line = with_command(line, Ok(bare_line(alloc, "burn", help::BURN)));
+    let line = with_command(line, identity_line(alloc));
+    with_command(line, drops_line(alloc))
+}
+
+// Adds `add`, `inverse`, `multiple` and `recurrent`.
+#[inline(never)]
+fn with_next_four<'a>(
+    alloc: Global,
+    line: Result<Command<'a>, AllocError>,
+) -> Result<Command<'a>, AllocError>
+    ensures { AddsCommands line.entry result next_four }
+{
+    let line = with_command(line, pgm_line(alloc, "add", help::ADD));
+    let line = with_command(line, pgm_line(alloc, "inverse", help::INVERSE));
+    let line = with_command(line, multiple_line(alloc));
+    with_command(line, pgm_line(alloc, "recurrent", help::RECURRENT))
+}
+
 /// The command line of `sandpile`.
+#[inline(never)]
 pub(crate) fn command_line<'a>(alloc: Global) -> Result<Command<'a>, AllocError>
     ensures { IfOk result (λ c. app_of c ≡ command_line) }
 {
     let top = program_line(alloc)
         .subcommand_required(true)
         .disable_help_subcommand(true);
-    let line = with_command(Ok(top), settle_line(alloc));
-    let line = with_command(line, Ok(bare_line(alloc, "burn", help::BURN)));
-    let line = with_command(line, identity_line(alloc));
-    let line = with_command(line, drops_line(alloc));
-    let line = with_command(line, pgm_line(alloc, "add", help::ADD));
-    let line = with_command(line, pgm_line(alloc, "inverse", help::INVERSE));
-    let line = with_command(line, multiple_line(alloc));
-    let line = with_command(line, pgm_line(alloc, "recurrent", help::RECURRENT));
+    let line = with_first_four(alloc, Ok(top));
+    let line = with_next_four(alloc, line);
     with_command(line, lab_line(alloc))
 }
