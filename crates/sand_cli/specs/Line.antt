@@ -85,7 +85,8 @@ next_four = pgm_line (codes "add") ∷ pgm_line (codes "inverse") ∷ multiple_l
 
 -- `sandpile`, which requires one of its commands
 unfoldable pub command_line : App
-command_line = fold or_command (wanting_command (bare_line (codes "sandpile"))) (first_four ++ next_four ++ lab_line ∷ [])
+command_line = fold or_command (wanting_command (bare_line (codes "sandpile")))
+    (first_four ++ next_four ++ lab_line ∷ [])
 
 -- the command has this line, and no global options
 pub record IsLine (command : Command) (line : App) : Type 0 where
@@ -102,4 +103,5 @@ AddsRule from to rule = (line : App) → IfLine from line → IfLine to (with_ru
 
 -- the second command line, if there is one, is the first with more commands
 abbrev pub AddsCommands : Result Command AllocError → Result Command AllocError → List App → Type 0
-AddsCommands from to commands = (line : App) → IfOk from (λ c. app_of c ≡ line) → IfOk to (λ c. app_of c ≡ fold or_command line commands)
+AddsCommands from to commands = (line : App) → IfOk from (λ c. app_of c ≡ line)
+    → IfOk to (λ c. app_of c ≡ fold or_command line commands)

@@ -11,7 +11,7 @@ use Rattle.sand_desk.specs.declared.faults.DeskFault.{DeskFault}
 use Rattle.sand_desk.specs.declared.faults.DeskFault.TheVariants as desk
 use Rattle.sand_desk.specs.Answers.{Fails}
 use Rattle.sand_desk.specs.Commands.{Finds, IsDropsFault}
-use Rattle.sand_desk.specs.Dropping.{IsOverfull, drawn_sites, with_draw}
+use Rattle.sand_desk.specs.DropsCommand.{IsOverfull, drawn_sites, with_draw}
 use Rattle.sand_desk.specs.Faults.{of_text}
 use Rattle.sand_desk.proofs.DrawnSites.{length-drawn}
 

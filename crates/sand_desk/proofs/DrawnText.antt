@@ -16,7 +16,7 @@ use Rattle.sand_cli.specs.declared.task.Draw.{Draw}
 use Rattle.sand_cli.specs.declared.task.Part.{Part}
 use Rattle.sand_desk.specs.declared.faults.DeskFault.{DeskFault}
 use Rattle.sand_desk.specs.Commands.{IsDropsFault, IsWritten, WorkEnds}
-use Rattle.sand_desk.specs.Dropping.{AreRows, IsDropsText, drawn_sites, drops_in, with_draw}
+use Rattle.sand_desk.specs.DropsCommand.{AreRows, IsDropsText, drawn_sites, drops_in, with_draw}
 use Rattle.sand_desk.specs.Faults.{of_stream}
 use Rattle.sand_desk.specs.Streaming.{AreAdded, BreaksInRows, end_in, head_in, rows_in}
 use Rattle.sand_desk.proofs.Streaming.{text_in_parts}

@@ -15,7 +15,7 @@ use Rattle.sand_settle.specs.Avalanches.{IsAvalanche, area_of}
 use Rattle.sand_settle.specs.Drops.{OneView, IsAfter, Drops, TakesGrain, grid_of_one_pile, topplings_between}
 use Rattle.sand_settle.specs.Settling.{SettledView, odometer_of}
 use Rattle.sand_settle.proofs.Drops.{after_drop}
-use Rattle.sand_desk.specs.Dropping.{AreRows}
+use Rattle.sand_desk.specs.DropsCommand.{AreRows}
 
 -- a number for each site
 by_site : Grid → (ℕ → ℕ) → List ℕ

@@ -18,7 +18,7 @@ use Rattle.sand_text.specs.Texts.{text_of}
 use Rattle.sand_cli.specs.declared.task.Draw.{Draw}
 use Rattle.sand_cli.specs.declared.task.Part.TheVariants as parts
 use Rattle.sand_desk.specs.Drawing.{DropsTheDraw, LeavesTheSame, WritesTheSamePile}
-use Rattle.sand_desk.specs.Dropping.{drawn_sites, with_draw}
+use Rattle.sand_desk.specs.DropsCommand.{drawn_sites, with_draw}
 
 abbrev drawn_on : Draw → PileView → List ℕ
 drawn_on draw start = drawn_sites (sites start.grid) draw

@@ -6,7 +6,7 @@ use Rattle.sand_settle.specs.Settling.{SettledView}
 use Rattle.sand_settle.specs.Drops.{OneView, grid_of_one_pile, topplings_between, Drops}
 use Rattle.sand_cli.specs.declared.task.Part.{Part}
 use Rattle.sand_cli.specs.declared.task.Part.TheVariants as parts
-use Rattle.sand_desk.specs.Dropping.{AreNoted, AreRows, drops_in, is_pile}
+use Rattle.sand_desk.specs.DropsCommand.{AreNoted, AreRows, drops_in, is_pile}
 
 -- the rows of some drops, then those of the drops after them
 pub rows_join : (n m : ℕ) (v u w : OneView) (sites later : List ℕ) (rows more : List (ℕ × Avalanche)) → m ≡ n + length sites → AreRows n v sites rows u → AreRows m u later more w

@@ -19,7 +19,7 @@ use Rattle.sand_text.specs.declared.fault.TextFault.{TextFault}
 use Rattle.sand_text.specs.Reading.{pile_of, ◌>>=◌}
 use Rattle.sand_cli.specs.declared.task.Draw.{Draw}
 use Rattle.sand_desk.specs.Drawing.{IsCutInTwo, RunsInParts}
-use Rattle.sand_desk.specs.Dropping.{AreRows, drawn_sites, with_draw}
+use Rattle.sand_desk.specs.DropsCommand.{AreRows, drawn_sites, with_draw}
 use Rattle.sand_desk.proofs.DrawnSites.{drawn_split, length-drawn}
 
 -- ---- one drop

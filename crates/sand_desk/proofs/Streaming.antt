@@ -16,7 +16,7 @@ use Rattle.sand_text.proofs.Growing.{breaks_within, grows_on, stays}
 use Rattle.sand_text.specs.declared.fault.StreamFault.{StreamFault}
 use Rattle.sand_cli.specs.declared.task.Part.{Part}
 use Rattle.sand_cli.specs.declared.task.Part.TheVariants as parts
-use Rattle.sand_desk.specs.Dropping.{AreRows, drops_in}
+use Rattle.sand_desk.specs.DropsCommand.{AreRows, drops_in}
 use Rattle.sand_desk.specs.Faults.{of_stream}
 use Rattle.sand_desk.specs.Streaming.{AreAdded, BreaksInRows, end_in, head_in, pile_and_sums, row_in, rows_in}
 use Rattle.sand_desk.proofs.DropsExist.{drops_exist}

@@ -11,7 +11,7 @@ use Rattle.sand_group.specs.Recurrence.{IsRecurrent}
 use Rattle.sand_text.specs.Reading.{two_of}
 use Rattle.sand_desk.specs.Commands.{IsSumFault, Finds}
 use Rattle.sand_desk.specs.Faults.{of_group}
-use Rattle.sand_desk.specs.Group.{IsUnfit}
+use Rattle.sand_desk.specs.GroupCommands.{IsUnfit}
 use Rattle.sand_desk.specs.declared.faults.DeskFault.TheVariants as desk
 
 -- a pile that cannot be unstable is stable

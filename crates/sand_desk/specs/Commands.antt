@@ -15,11 +15,11 @@ use Rattle.sand_cli.specs.declared.task.Task.{Task}
 use Rattle.sand_cli.specs.declared.task.Task.TheVariants as task
 use Rattle.sand_desk.specs.declared.faults.DeskFault.{DeskFault}
 use Rattle.sand_desk.specs.declared.faults.DeskFault.TheVariants as desk
-use Rattle.sand_desk.specs.Dropping.{IsDropsText, IsOverfull, drops_for}
+use Rattle.sand_desk.specs.DropsCommand.{IsDropsText, IsOverfull, drops_for}
 use Rattle.sand_desk.specs.Faults.{of_shape, of_text}
-use Rattle.sand_desk.specs.Group.{edge_of, IsBurnText, IsIdentityText, IsSumText, IsInverseText, IsMultipleText, IsRecurrentText, IsUnfitPile, IsUnfitPair, IsMismatch}
+use Rattle.sand_desk.specs.GroupCommands.{edge_of, IsBurnText, IsIdentityText, IsSumText, IsInverseText, IsMultipleText, IsRecurrentText, IsUnfitPile, IsUnfitPair, IsMismatch}
 use Rattle.sand_desk.specs.Laboratory.{IsLabText, IsOvergrown, IsRunnable}
-use Rattle.sand_desk.specs.Settling.{IsSettleText}
+use Rattle.sand_desk.specs.SettleCommand.{IsSettleText}
 use Rattle.sand_model.specs.Piles.{most_grains}
 
 abbrev pub reads_input : Task → Bool

@@ -7,7 +7,7 @@ use Rattle.sand_cli.specs.declared.task.Form.{Form}
 use Rattle.sand_cli.specs.declared.task.Form.TheVariants.{Pile}
 use Rattle.sand_cli.specs.declared.task.Part.{Part}
 use Rattle.sand_cli.specs.declared.task.Part.TheVariants as parts
-use Rattle.sand_desk.specs.Dropping.{IsDropsText}
+use Rattle.sand_desk.specs.DropsCommand.{IsDropsText}
 use Rattle.sand_desk.specs.Laboratory.{IsLabText}
 
 -- a run of one epoch in which one dropper makes the drops of the draw: as many, with the same seed, at the sites of
@@ -22,8 +22,9 @@ pub record DropsTheDraw (draw : Draw) (w : Wish) : Type 0 where
 
 -- both texts show the same settled record: its pile, the grains lost and the topplings
 abbrev pub LeavesTheSame : Type 0
-LeavesTheSame = (draw : Draw) (w : Wish) (part : Part) (journal : Bool) (form : Form) (input one other : List ℕ) → DropsTheDraw draw w
-    → (drops : IsDropsText (Some draw) part input one) → (run : IsLabText w journal form input other) → drops.last.settled ≡ run.report.total.settled
+LeavesTheSame = (draw : Draw) (w : Wish) (part : Part) (journal : Bool) (form : Form) (input one other : List ℕ)
+    → DropsTheDraw draw w → (drops : IsDropsText (Some draw) part input one) → (run : IsLabText w journal form input other)
+    → drops.last.settled ≡ run.report.total.settled
 
 -- so with `--pile` the texts are the same
 abbrev pub WritesTheSamePile : Type 0
@@ -40,6 +41,8 @@ pub record IsCutInTwo (whole first second : Draw) : Type 0 where
 
 -- a run, and one from the pile that it left, have the rows and the final pile of a single run
 abbrev pub RunsInParts : Type 0
-RunsInParts = (whole first second : Draw) (a b c : Part) (input left all one other : List ℕ) → IsCutInTwo whole first second
-    → (uncut : IsDropsText (Some whole) a input all) → (begun : IsDropsText (Some first) b input one) → (resumed : IsDropsText (Some second) c left other)
-    → pile_of left ≡ Ok begun.last.settled.pile → (uncut.rows ≡ begun.rows ++ resumed.rows) × (uncut.last.settled.pile ≡ resumed.last.settled.pile)
+RunsInParts = (whole first second : Draw) (a b c : Part) (input left all one other : List ℕ)
+    → IsCutInTwo whole first second → (uncut : IsDropsText (Some whole) a input all)
+    → (begun : IsDropsText (Some first) b input one) → (resumed : IsDropsText (Some second) c left other)
+    → pile_of left ≡ Ok begun.last.settled.pile
+    → (uncut.rows ≡ begun.rows ++ resumed.rows) × (uncut.last.settled.pile ≡ resumed.last.settled.pile)

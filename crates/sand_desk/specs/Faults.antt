@@ -74,7 +74,8 @@ place_of (Write sent) = codes " after " ++ decimal sent
 place_of fault = []
 
 abbrev pub fault_line : DeskFault → List ℕ
-fault_line fault = codes "fault " ++ decimal (number_of fault) ++ codes " " ++ name_of fault ++ place_of fault ++ codes "\n"
+fault_line fault = codes "fault " ++ decimal (number_of fault) ++ codes " " ++ name_of fault
+    ++ place_of fault ++ codes "\n"
 
 -- a call for help is not misuse
 abbrev pub usage_status : ErrorKind → ℕ

@@ -30,4 +30,5 @@ IsHelped fault held held' = (status_of fault ≡ 0) × IsShown None held held'
 
 -- no help was shown: the words did not ask for it, and their fault is returned; or the writer failed; or memory ran out
 abbrev pub IsUnhelped : DeskFault → Option (List ℕ) → Option (List ℕ) → DeskFault → Type 0
-IsUnhelped fault held held' ending = ((status_of fault ≢ 0) × (ending ≡ fault) × Keeps held held') ⊎ ((status_of fault ≡ 0) × IsUnshown None held held' ending)
+IsUnhelped fault held held' ending = ((status_of fault ≢ 0) × (ending ≡ fault) × Keeps held held')
+    ⊎ ((status_of fault ≡ 0) × IsUnshown None held held' ending)

@@ -16,11 +16,17 @@ use Rattle.sand_plan.specs.Plans.{all_drops}
 use Rattle.sand_lab.specs.Reports.{SheetView, ReportView, IsReport}
 
 abbrev pub sums_of : RecordView → Sums
-sums_of r = record { drops = length r.history; topplings = r.settled.topplings; lost = r.settled.lost; grains = sum r.settled.pile.heights }
+sums_of r = record {
+  drops = length r.history;
+  topplings = r.settled.topplings;
+  lost = r.settled.lost;
+  grains = sum r.settled.pile.heights;
+}
 
 -- the sums of each epoch and of all epochs, the last pile, and how often each site toppled
 abbrev pub lab_text_of_report : ReportView → List ℕ
-lab_text_of_report p = lab_text_of (map sums_of p.records) (sums_of p.total) p.total.settled.pile p.total.settled.odometer
+lab_text_of_report p = lab_text_of (map sums_of p.records) (sums_of p.total) p.total.settled.pile
+    p.total.settled.odometer
 
 abbrev pub dropper_and_site : Entry → ℕ × ℕ
 dropper_and_site e = (e.dropper, e.site)

@@ -1,11 +1,11 @@
 pub mod Answers
 pub mod Commands
-pub mod Dropping
-pub mod Faults
-pub mod Group
-pub mod Helping
-pub mod Settling
-pub mod Laboratory
 pub mod Drawing
+pub mod DropsCommand
+pub mod Faults
+pub mod GroupCommands
+pub mod Helping
+pub mod Laboratory
+pub mod SettleCommand
 pub mod Streaming
 pub mod Version

@@ -11,7 +11,7 @@ use Rattle.sand_text.specs.declared.fault.StreamFault.{StreamFault}
 use Rattle.sand_cli.specs.declared.task.Part.{Part}
 use Rattle.sand_cli.specs.declared.task.Part.TheVariants as parts
 use Rattle.sand_desk.specs.declared.faults.DeskFault.{DeskFault}
-use Rattle.sand_desk.specs.Dropping.{AreRows}
+use Rattle.sand_desk.specs.DropsCommand.{AreRows}
 use Rattle.sand_desk.specs.Faults.{of_stream}
 
 abbrev pub head_in : Part → List ℕ
@@ -36,13 +36,15 @@ end_in parts.Table last = []
 end_in parts.Pile last = text_of last.pile
 
 -- the drops at these sites lead from v to w, and their rows, numbered from n, were appended
-pub record AreAdded (part : Part) (n : ℕ) (v : OneView) (sites : List ℕ) (w : OneView) (held held' : Option (List ℕ)) (b b' : Waiting) : Type 0 where
+pub record AreAdded (part : Part) (n : ℕ) (v : OneView) (sites : List ℕ) (w : OneView) (held held' : Option (List ℕ))
+    (b b' : Waiting) : Type 0 where
   pub rows : List (ℕ × Avalanche)
   pub dropped : AreRows n v sites rows w
   pub grown : GrowsBy held held' b b' (rows_in part rows)
 
 -- the drops at these sites lead from v to some w, and the writer failed within the bytes up to the end of their rows
-pub record BreaksInRows (start : PileView) (part : Part) (n : ℕ) (v : OneView) (sites : List ℕ) (held held' : Option (List ℕ)) (b : Waiting) (fault : DeskFault) : Type 0 where
+pub record BreaksInRows (start : PileView) (part : Part) (n : ℕ) (v : OneView) (sites : List ℕ)
+    (held held' : Option (List ℕ)) (b : Waiting) (fault : DeskFault) : Type 0 where
   pub why : StreamFault
   pub told : fault ≡ of_stream why
   pub last : OneView

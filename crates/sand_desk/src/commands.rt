@@ -7,14 +7,14 @@ ghost use Rattle.sand_text.specs.Flow.{IsFurther, IsFurtherByAtMost, IsOfReading
 ghost use Rattle.sand_cli.specs.Asked.{IsWithin};
 ghost use Rattle.sand_desk.specs.Commands.{IsTextOf, IsFaultOf, IsWritten, Finds, IsDone, EndsBy, HelpsIfAsked, Takes, TellsWords, WorkEnds, call_of, reads_input, writes_whole};
 
-use crate::drawn::drawn_drops;
-use crate::dropping::listed_drops;
+use crate::drawn_drops::drawn_drops;
 use crate::faults::DeskFault;
-use crate::group::{
+use crate::group_commands::{
     burn_input, identity_text, inverse_input, multiple_input, recurrent_input, sum_input,
 };
 use crate::laboratory::lab_input;
-use crate::settling::settle_input;
+use crate::listed_drops::listed_drops;
+use crate::settle_command::settle_input;
 use sand_cli::{Task, task_of};
 use sand_lab::{Gate, Open};
 use sand_text::{StreamFault, read_all, write_text};
@@ -24,11 +24,14 @@ use std::thread::Threads;
 
 // The task's input: everything the reader has, or nothing if the task reads none.
 fn take_input<R: Read>(alloc: Global, task: Task, reader: &mut R) -> Result<Vec<u8>, StreamFault>
-    ensures taken { IfOk result (λ input. Takes (reads_input task) (R.remaining reader.old) (R.remaining reader.new) input.items) }
+    ensures taken { IfOk result (λ input.
+        Takes (reads_input task) (R.remaining reader.old) (R.remaining reader.new) input.items) }
     ensures within { IfOk result (λ input. length input.items ≤ most_bytes) }
     ensures reads { IfErr result (λ e. reads_input task ≡ true) }
-    ensures too_long { IsErrOf result StreamFault.TooLong → IsFurther (R.remaining reader.old) (R.remaining reader.new) (most_bytes + 1) }
-    ensures failed { IfErr result (λ e. e ≢ StreamFault.TooLong → IsFurtherByAtMost (R.remaining reader.old) (R.remaining reader.new) most_bytes) }
+    ensures too_long { IsErrOf result StreamFault.TooLong
+        → IsFurther (R.remaining reader.old) (R.remaining reader.new) (most_bytes + 1) }
+    ensures failed { IfErr result (λ e. e ≢ StreamFault.TooLong
+        → IsFurtherByAtMost (R.remaining reader.old) (R.remaining reader.new) most_bytes) }
     ensures fault { IfErr result IsOfReading }
 {
     match task {
@@ -84,7 +87,8 @@ fn carry_out<T: Threads + Sync, G: Gate, W: Write>(
 ) -> Result<(), DeskFault>
     requires { IsWithin task }
     ensures done { OnOk result (IsWritten (IsTextOf task input.now) (W.contents writer.old) (W.contents writer.new)) }
-    ensures fault { IfErr result (WorkEnds (IsTextOf task input.now) (IsFaultOf task input.now) (W.contents writer.old) (W.contents writer.new)) }
+    ensures fault { IfErr result (WorkEnds (IsTextOf task input.now) (IsFaultOf task input.now)
+        (W.contents writer.old) (W.contents writer.new)) }
 {
     if let Task::Drops {
         drawn: Some(draw),

@@ -6,14 +6,14 @@
 #![tactic(auto)]
 
 mod commands;
-mod drawn;
-mod dropping;
+mod drawn_drops;
 mod faults;
-mod group;
+mod group_commands;
 mod helping;
 mod laboratory;
 pub mod laws;
-mod settling;
+mod listed_drops;
+mod settle_command;
 mod texts;
 mod version;
 

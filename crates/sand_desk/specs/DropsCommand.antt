@@ -41,7 +41,8 @@ AreRows n v (site ∷ sites) rows w = (u : OneView) × (avalanche : Avalanche) �
 
 -- the record of the drops at these sites, which lead from v to w: a row each, or nothing if only the pile is wanted
 abbrev pub AreNoted : Bool → OneView → List ℕ → List (ℕ × Avalanche) → OneView → Type 0
-AreNoted alone v sites noted w = (rows : List (ℕ × Avalanche)) × AreRows v.number v sites rows w × (noted ≡ (if alone then [] else rows))
+AreNoted alone v sites noted w = (rows : List (ℕ × Avalanche)) × AreRows v.number v sites rows w
+    × (noted ≡ (if alone then [] else rows))
 
 abbrev pub is_pile : Part → Bool
 is_pile parts.Pile = true

@@ -5,7 +5,7 @@ ghost use Rattle.sand_model.specs.Piles.{height_of};
 ghost use Rattle.sand_model.specs.Sand.{IsStable};
 ghost use Rattle.sand_text.specs.Reading.{pile_of};
 ghost use Rattle.sand_desk.specs.Commands.{IsUnreadable, Finds};
-ghost use Rattle.sand_desk.specs.Settling.{IsSettleText};
+ghost use Rattle.sand_desk.specs.SettleCommand.{IsSettleText};
 
 use crate::faults::DeskFault;
 use crate::texts::{pgm_text, pile_text, read_pile, settle_text};

@@ -11,7 +11,7 @@ ghost use Rattle.sand_settle.specs.Drops.{grid_of_one_pile, IsAfter};
 ghost use Rattle.sand_text.specs.Blocks.{BreaksIn, GrowsBy};
 ghost use Rattle.sand_cli.specs.Asked.{IsDraw};
 ghost use Rattle.sand_desk.specs.Commands.{IsDropsFault, IsWritten, WorkEnds};
-ghost use Rattle.sand_desk.specs.Dropping.{IsDropsText, drawn_sites};
+ghost use Rattle.sand_desk.specs.DropsCommand.{IsDropsText, drawn_sites};
 ghost use Rattle.sand_desk.specs.Streaming.{AreAdded, BreaksInRows, end_in, head_in, pile_and_sums, row_in};
 
 use crate::faults::DeskFault;
@@ -42,8 +42,10 @@ fn push_row<W: Write>(
     number: u64,
     avalanche: Avalanche,
 ) -> Result<(), StreamFault>
-    ensures ok { OnOk result (GrowsBy (W.contents writer.old) (W.contents writer.new) blocks.old blocks.new (row_in part (number, avalanche))) }
-    ensures err { IfErr result (BreaksIn (W.contents writer.old) (W.contents writer.new) blocks.old (row_in part (number, avalanche))) }
+    ensures ok { OnOk result (GrowsBy (W.contents writer.old) (W.contents writer.new)
+        blocks.old blocks.new (row_in part (number, avalanche))) }
+    ensures err { IfErr result (BreaksIn (W.contents writer.old) (W.contents writer.new)
+        blocks.old (row_in part (number, avalanche))) }
 {
     match part {
         Part::All | Part::Table => blocks.push_entry(writer, number, avalanche),
@@ -62,7 +64,8 @@ fn drop_drawn<G: Gate, W: Write>(
 ) -> Result<(), DeskFault>
     requires draw { IsDraw draw }
     requires room { pile.old.grains + draw.count ≤ most_grains }
-    ensures rows { OnOk result (AreAdded part draw.from pile.old (drawn_sites (sites (grid_of_one_pile pile.old)) draw) pile.new
+    ensures rows { OnOk result (AreAdded part draw.from pile.old
+        (drawn_sites (sites (grid_of_one_pile pile.old)) draw) pile.new
         (W.contents writer.old) (W.contents writer.new) blocks.old blocks.new) }
     ensures after { OnOk result ((start : PileView) → IsAfter start [] pile.old
         → IsAfter start (drawn_sites (sites (grid_of_one_pile pile.old)) draw) pile.new) }
@@ -85,8 +88,10 @@ fn push_pile_and_sums<W: Write>(
     writer: &mut W,
     last: &Settled,
 ) -> Result<(), StreamFault>
-    ensures ok { OnOk result (GrowsBy (W.contents writer.old) (W.contents writer.new) blocks.old blocks.new (pile_and_sums last.now)) }
-    ensures err { IfErr result (BreaksIn (W.contents writer.old) (W.contents writer.new) blocks.old (pile_and_sums last.now)) }
+    ensures ok { OnOk result (GrowsBy (W.contents writer.old) (W.contents writer.new)
+        blocks.old blocks.new (pile_and_sums last.now)) }
+    ensures err { IfErr result (BreaksIn (W.contents writer.old) (W.contents writer.new)
+        blocks.old (pile_and_sums last.now)) }
 {
     blocks.push_pile(writer, last.pile())?;
     blocks.push_sum(writer, "lost ", last.lost())?;
@@ -100,8 +105,10 @@ fn push_end<W: Write>(
     part: Part,
     last: &Settled,
 ) -> Result<(), StreamFault>
-    ensures ok { OnOk result (GrowsBy (W.contents writer.old) (W.contents writer.new) blocks.old blocks.new (end_in part last.now)) }
-    ensures err { IfErr result (BreaksIn (W.contents writer.old) (W.contents writer.new) blocks.old (end_in part last.now)) }
+    ensures ok { OnOk result (GrowsBy (W.contents writer.old) (W.contents writer.new)
+        blocks.old blocks.new (end_in part last.now)) }
+    ensures err { IfErr result (BreaksIn (W.contents writer.old) (W.contents writer.new)
+        blocks.old (end_in part last.now)) }
 {
     match part {
         Part::All => push_pile_and_sums(blocks, writer, last),
@@ -121,7 +128,8 @@ pub(crate) fn drawn_drops<G: Gate, W: Write>(
     writer: &mut W,
 ) -> Result<(), DeskFault>
     requires { IsDraw draw }
-    ensures done { OnOk result (IsWritten (IsDropsText (Some draw) part input.now) (W.contents writer.old) (W.contents writer.new)) }
+    ensures done { OnOk result (IsWritten (IsDropsText (Some draw) part input.now)
+        (W.contents writer.old) (W.contents writer.new)) }
     ensures fault { IfErr result (WorkEnds (IsDropsText (Some draw) part input.now) (IsDropsFault (Some draw) input.now)
         (W.contents writer.old) (W.contents writer.new)) }
 {

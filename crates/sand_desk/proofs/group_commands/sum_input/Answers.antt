@@ -3,7 +3,7 @@ use Rattle.std.proofs.lemmas.Result.{err_from_is_err_and, IfOk-weaker}
 use Rattle.sand_model.specs.Grid.{Grid, sites}
 use Rattle.sand_model.specs.Piles.{PileView}
 use Rattle.sand_desk.proofs.Unfit.{first_refused, second_refused}
-use Rattle.sand_desk.proofs.group.sum_input.Goals as goal
+use Rattle.sand_desk.proofs.group_commands.sum_input.Goals as goal
 
 abbrev grid : PileView → Grid
 grid p = p.grid

@@ -5,7 +5,7 @@ ghost use Rattle.sand_model.specs.Grid.{sites};
 ghost use Rattle.sand_model.specs.Piles.{PileView};
 ghost use Rattle.sand_settle.specs.Drops.{grid_of_one_pile, IsAfter};
 ghost use Rattle.sand_desk.specs.Commands.{IsDropFault, IsDropsFault, Finds};
-ghost use Rattle.sand_desk.specs.Dropping.{AreNoted, IsDropsText, drops_in, drops_text_of, is_pile};
+ghost use Rattle.sand_desk.specs.DropsCommand.{AreNoted, IsDropsText, drops_in, drops_text_of, is_pile};
 
 use crate::faults::DeskFault;
 use crate::texts::{pile_text, read_drops, table_text};

@@ -4,7 +4,7 @@ use Rattle.sand_model.specs.Piles.{PileView}
 use Rattle.sand_settle.specs.Drops.{grid_of_one_pile, IsAfter}
 use Rattle.sand_lab.specs.Streams.{stream_sites}
 use Rattle.sand_desk.specs.Streaming.{AreAdded}
-use Rattle.sand_desk.proofs.drawn.drop_drawn.Given as goal
+use Rattle.sand_desk.proofs.drawn_drops.drop_drawn.Given as goal
 
 abbrev pub invariant-loop-read : goal.invariant-loop-read
 invariant-loop-read g l = record {

@@ -1,7 +1,7 @@
 use Rattle.std.proofs.Common.{◌≡◌, ◌∙◌, ◌+◌, ◌++◌, ◌∷◌, [], ℕ, List, if◌then◌else◌, ap, arith, length, take, get_or}
 use Rattle.std.proofs.lemmas.List.{length-take-le, take_more}
 use Rattle.sand_desk.proofs.Rows.{noted_push}
-use Rattle.sand_desk.proofs.dropping.drop_all.Goals as goal
+use Rattle.sand_desk.proofs.listed_drops.drop_all.Goals as goal
 
 pub note-requires : goal.note-requires
 note-requires c = λ is. omega (arith, c.loop-site.invariant.len is, c.loop-site.invariant.room is, c.loop-site-test.true)

@@ -1,8 +1,8 @@
 use Rattle.std.proofs.Common.{◌≡◌, ◌+◌, [], false, length, take, vec_len, vec_capacity}
 use Rattle.sand_model.specs.Piles.{PileView}
 use Rattle.sand_settle.specs.Drops.{grid_of_one_pile, IsAfter}
-use Rattle.sand_desk.specs.Dropping.{AreNoted}
-use Rattle.sand_desk.proofs.dropping.drop_all.Given as goal
+use Rattle.sand_desk.specs.DropsCommand.{AreNoted}
+use Rattle.sand_desk.proofs.listed_drops.drop_all.Given as goal
 
 abbrev pub invariant-loop-site : goal.invariant-loop-site
 invariant-loop-site l = record {

@@ -7,7 +7,7 @@ use Rattle.sand_desk.specs.Faults.{of_stream}
 use Rattle.sand_desk.specs.Streaming.{AreAdded, BreaksInRows}
 use Rattle.sand_desk.proofs.DrawnSites.{drawn_inside, drawn_more, drawn_none, drawn_split, length-drawn}
 use Rattle.sand_desk.proofs.Streaming.{broke_in_row, none_added, row_added}
-use Rattle.sand_desk.proofs.drawn.drop_drawn.Goals as goal
+use Rattle.sand_desk.proofs.drawn_drops.drop_drawn.Goals as goal
 
 pub loop-read-init : goal.loop-read-init
 loop-read-init g c =

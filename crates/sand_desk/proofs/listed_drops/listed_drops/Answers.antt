@@ -1,10 +1,10 @@
 use Rattle.std.proofs.Common.{◌∙◌, ◌<◌, ℕ, All, sym, subst}
 use Rattle.std.proofs.lemmas.Result.{IfOk-weaker}
 use Rattle.sand_model.specs.Grid.{Grid, sites}
-use Rattle.sand_desk.specs.Dropping.{AreNoted, AreRows}
+use Rattle.sand_desk.specs.DropsCommand.{AreNoted, AreRows}
 use Rattle.sand_desk.proofs.DropSites.{drops_inside}
 use Rattle.sand_desk.proofs.Rows.{noted_text}
-use Rattle.sand_desk.proofs.dropping.listed_drops.Goals as goal
+use Rattle.sand_desk.proofs.listed_drops.listed_drops.Goals as goal
 
 pub drop_all-requires : goal.drop_all-requires
 drop_all-requires c =

@@ -14,7 +14,7 @@ use Rattle.sand_text.specs.Burning.{burn_text_of}
 use Rattle.sand_text.specs.Reading.{pile_of, two_of}
 use Rattle.sand_desk.specs.declared.faults.DeskFault.{DeskFault}
 use Rattle.sand_desk.specs.declared.faults.DeskFault.TheVariants as desk
-use Rattle.sand_desk.specs.Settling.{pile_or_picture}
+use Rattle.sand_desk.specs.SettleCommand.{pile_or_picture}
 
 -- ---- the texts
 

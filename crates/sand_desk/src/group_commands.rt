@@ -5,8 +5,8 @@ ghost use Rattle.sand_model.specs.Piles.{height_of};
 ghost use Rattle.sand_model.specs.Sand.{IsStable};
 ghost use Rattle.sand_text.specs.Reading.{pile_of};
 ghost use Rattle.sand_desk.specs.Commands.{IsBurnFault, IsShapeless, IsSumFault, IsElementFault, IsUnreadable, Finds};
-ghost use Rattle.sand_desk.specs.Group.{IsBurnText, IsIdentityText, IsSumText, IsInverseText, IsMultipleText, IsRecurrentText, edge_of};
-ghost use Rattle.sand_desk.specs.Settling.{pile_or_picture};
+ghost use Rattle.sand_desk.specs.GroupCommands.{IsBurnText, IsIdentityText, IsSumText, IsInverseText, IsMultipleText, IsRecurrentText, edge_of};
+ghost use Rattle.sand_desk.specs.SettleCommand.{pile_or_picture};
 
 use crate::faults::DeskFault;
 use crate::texts::{burn_text, pgm_text, pile_text, read_pile, read_two};

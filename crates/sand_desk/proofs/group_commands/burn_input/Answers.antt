@@ -1,7 +1,7 @@
 use Rattle.std.proofs.lemmas.Result.{IfOk-weaker}
 use Rattle.sand_model.specs.Piles.{height_of}
 use Rattle.sand_desk.proofs.Unfit.{stable}
-use Rattle.sand_desk.proofs.group.burn_input.Goals as goal
+use Rattle.sand_desk.proofs.group_commands.burn_input.Goals as goal
 
 pub returns-clause-text : goal.returns-clause-text
 returns-clause-text c =

@@ -3,11 +3,11 @@ use Rattle.std.specs.Prelude.{Some}
 use Rattle.std.proofs.lemmas.Result.{err_from_is_err_and}
 use Rattle.sand_model.specs.Piles.{most_grains}
 use Rattle.sand_desk.specs.Commands.{IsDropsFault}
-use Rattle.sand_desk.specs.Dropping.{IsDropsText}
+use Rattle.sand_desk.specs.DropsCommand.{IsDropsText}
 use Rattle.sand_desk.proofs.DrawnText.{all_taken, end_fails, last_fails, rows_fail}
 use Rattle.sand_desk.proofs.Drawing.{overfull, unread}
 use Rattle.sand_desk.proofs.Endings.{found_first}
-use Rattle.sand_desk.proofs.drawn.drawn_drops.Goals as goal
+use Rattle.sand_desk.proofs.drawn_drops.drawn_drops.Goals as goal
 
 pub returns-in_err-start-clause-fault : goal.returns-in_err-start-clause-fault
 returns-in_err-start-clause-fault g c =
