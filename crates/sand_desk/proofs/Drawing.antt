@@ -16,19 +16,27 @@ use Rattle.sand_desk.specs.Faults.{of_text}
 use Rattle.sand_desk.proofs.DrawnSites.{length-drawn}
 
 -- a text without a pile has none to drop on
-read_fault : (draw : Draw) (input : List ℕ) (why : TextFault) → pile_of input ≡ Err why → Finds (IsDropsFault (Some draw) input) (of_text why)
-read_fault draw input (text.Text place) e = record { why = text.Text place; read = ap (λ r. r >>= with_draw draw) e; told = refl }
-read_fault draw input (text.TooLarge place) e = record { why = text.TooLarge place; read = ap (λ r. r >>= with_draw draw) e; told = refl }
+read_fault : (draw : Draw) (input : List ℕ) (why : TextFault) → pile_of input ≡ Err why
+    → Finds (IsDropsFault (Some draw) input) (of_text why)
+read_fault draw input (text.Text place) e =
+    record { why = text.Text place; read = ap (λ r. r >>= with_draw draw) e; told = refl }
+read_fault draw input (text.TooLarge place) e =
+    record { why = text.TooLarge place; read = ap (λ r. r >>= with_draw draw) e; told = refl }
 read_fault draw input text.Side e = record { why = text.Side; read = ap (λ r. r >>= with_draw draw) e; told = refl }
 read_fault draw input text.Narrow e = record { why = text.Narrow; read = ap (λ r. r >>= with_draw draw) e; told = refl }
 read_fault draw input text.Length e = record { why = text.Length; read = ap (λ r. r >>= with_draw draw) e; told = refl }
-read_fault draw input text.TooManyGrains e = record { why = text.TooManyGrains; read = ap (λ r. r >>= with_draw draw) e; told = refl }
-read_fault draw input (text.NoSite index) e = record { why = text.NoSite index; read = ap (λ r. r >>= with_draw draw) e; told = refl }
+read_fault draw input text.TooManyGrains e =
+    record { why = text.TooManyGrains; read = ap (λ r. r >>= with_draw draw) e; told = refl }
+read_fault draw input (text.NoSite index) e =
+    record { why = text.NoSite index; read = ap (λ r. r >>= with_draw draw) e; told = refl }
 
-by_why : (draw : Draw) (input : List ℕ) (fault : DeskFault) (why : TextFault) → pile_of input ≡ Err why → fault ≡ of_text why → Finds (IsDropsFault (Some draw) input) fault
+by_why : (draw : Draw) (input : List ℕ) (fault : DeskFault) (why : TextFault)
+    → pile_of input ≡ Err why → fault ≡ of_text why
+    → Finds (IsDropsFault (Some draw) input) fault
 by_why draw input fault why e is = subst (Finds (IsDropsFault (Some draw) input)) (sym is) (read_fault draw input why e)
 
-pub unread : (draw : Draw) (input : List ℕ) (fault : DeskFault) → Fails fault (pile_of input) → Finds (IsDropsFault (Some draw) input) fault
+pub unread : (draw : Draw) (input : List ℕ) (fault : DeskFault) → Fails fault (pile_of input)
+    → Finds (IsDropsFault (Some draw) input) fault
 unread draw input desk.Memory h = tt
 unread draw input desk.Side (why, e, is) = by_why draw input desk.Side why e is
 unread draw input desk.Length (why, e, is) = by_why draw input desk.Length why e is
@@ -49,8 +57,11 @@ unread draw input desk.Narrow (why, e, is) = by_why draw input desk.Narrow why e
 unread draw input (desk.NoSite index) (why, e, is) = by_why draw input (desk.NoSite index) why e is
 
 -- if the grains and drops exceed the limit, there is no room for all drops
-pub overfull : (draw : Draw) (input : List ℕ) (start : PileView) → pile_of input ≡ Ok start → most_grains < sum start.heights + draw.count → IsOverfull (Some draw) input
+pub overfull : (draw : Draw) (input : List ℕ) (start : PileView)
+    → pile_of input ≡ Ok start → most_grains < sum start.heights + draw.count
+    → IsOverfull (Some draw) input
 overfull draw input start read over =
     let drawn = drawn_sites (sites start.grid) draw in
-    let long : length drawn ≡ draw.count = length-drawn (sites start.grid) draw.seed draw.stream draw.from draw.count (draw.from + draw.count) refl in
+    let long : length drawn ≡ draw.count =
+    length-drawn (sites start.grid) draw.seed draw.stream draw.from draw.count (draw.from + draw.count) refl in
     record { pile = start; sites = drawn; read = ap (λ r. r >>= with_draw draw) read; over = omega (arith, over, long) }

@@ -22,14 +22,17 @@ use Rattle.sand_desk.specs.Streaming.{AreAdded, BreaksInRows, end_in, head_in, r
 use Rattle.sand_desk.proofs.Streaming.{text_in_parts}
 
 -- the drops of a draw, made on the pile in the input
-pub record AreDrawn (draw : Draw) (input : List ℕ) (first : OneView) (rows : List (ℕ × Avalanche)) (last : OneView) : Type 0 where
+pub record AreDrawn (draw : Draw) (input : List ℕ) (first : OneView)
+    (rows : List (ℕ × Avalanche)) (last : OneView) : Type 0 where
   pub start : PileView
   pub read : pile_of input ≡ Ok start
   pub settled : IsAfter start [] first
   pub dropped : AreRows draw.from first (drawn_sites (sites (grid_of_one_pile first)) draw) rows last
   pub end : IsAfter start (drawn_sites (sites (grid_of_one_pile first)) draw) last
 
-drawn_text : (draw : Draw) (part : Part) (input : List ℕ) (first last : OneView) (rows : List (ℕ × Avalanche)) → AreDrawn draw input first rows last → IsDropsText (Some draw) part input (drops_in part rows last.settled)
+drawn_text : (draw : Draw) (part : Part) (input : List ℕ) (first last : OneView) (rows : List (ℕ × Avalanche))
+    → AreDrawn draw input first rows last
+    → IsDropsText (Some draw) part input (drops_in part rows last.settled)
 drawn_text draw part input first last rows drawn =
     let grid : grid_of_one_pile first ≡ drawn.start.grid = drawn.settled.settled.grid in
     let P : Grid → Type 0 = λ g. AreRows draw.from first (drawn_sites (sites g) draw) rows last in
@@ -52,12 +55,15 @@ abbrev pub head_of : Part → Waiting
 head_of part = record { bytes = head_in part; sent = 0 }
 
 -- the writer failed within the text
-pub drawn_breaks : (draw : Draw) (part : Part) (input : List ℕ) (first last : OneView) (rows : List (ℕ × Avalanche)) (held held' : Option (List ℕ)) (b : Waiting) (why : StreamFault)
-    → AreDrawn draw input first rows last → b ≡ head_of part → BreaksIn held held' b (rows_in part rows ++ end_in part last.settled) why
+pub drawn_breaks : (draw : Draw) (part : Part) (input : List ℕ) (first last : OneView)
+    (rows : List (ℕ × Avalanche)) (held held' : Option (List ℕ)) (b : Waiting) (why : StreamFault)
+    → AreDrawn draw input first rows last → b ≡ head_of part
+    → BreaksIn held held' b (rows_in part rows ++ end_in part last.settled) why
     → WorkEnds (IsDropsText (Some draw) part input) (IsDropsFault (Some draw) input) held held' (of_stream why)
 drawn_breaks draw part input first last rows held held' b why drawn is broken =
     let P : Waiting → Type 0 = λ w. BreaksIn held held' w (rows_in part rows ++ end_in part last.settled) why in
-    let here : BreaksIn held held' (head_of part) (rows_in part rows ++ end_in part last.settled) why = subst P is broken in
+    let here : BreaksIn held held' (head_of part) (rows_in part rows ++ end_in part last.settled) why =
+    subst P is broken in
     let whole = text_in_parts part rows last.settled in
     let sent : 0 + here.taken ≡ here.taken = omega arith in
     inl (record {
@@ -70,45 +76,58 @@ drawn_breaks draw part input first last rows held held' b why drawn is broken =
     })
 
 -- the writer failed in the rows
-pub rows_fail : (draw : Draw) (part : Part) (input : List ℕ) (start : PileView) (first : OneView) (held held' : Option (List ℕ)) (b : Waiting) (fault : DeskFault)
+pub rows_fail : (draw : Draw) (part : Part) (input : List ℕ) (start : PileView)
+    (first : OneView) (held held' : Option (List ℕ)) (b : Waiting) (fault : DeskFault)
     → pile_of input ≡ Ok start → IsAfter start [] first → b ≡ head_of part
-    → ((s : PileView) → IsAfter s [] first → BreaksInRows s part draw.from first (drawn_sites (sites (grid_of_one_pile first)) draw) held held' b fault)
+    → ((s : PileView) → IsAfter s [] first
+    → BreaksInRows s part draw.from first (drawn_sites (sites (grid_of_one_pile first)) draw) held held' b fault)
     → WorkEnds (IsDropsText (Some draw) part input) (IsDropsFault (Some draw) input) held held' fault
 rows_fail draw part input start first held held' b fault read settled is breaks =
     let cut = breaks start settled in
-    let drawn : AreDrawn draw input first cut.rows cut.last = record { start = start; read = read; settled = settled; dropped = cut.dropped; end = cut.end } in
+    let drawn : AreDrawn draw input first cut.rows cut.last =
+    record { start = start; read = read; settled = settled; dropped = cut.dropped; end = cut.end } in
     let broken = breaks_before held held' b (rows_in part cut.rows) (end_in part cut.last.settled) cut.why cut.broken in
     subst (WorkEnds (IsDropsText (Some draw) part input) (IsDropsFault (Some draw) input) held held') (sym cut.told)
     (drawn_breaks draw part input first cut.last cut.rows held held' b cut.why drawn is broken)
 
-module _ (draw : Draw) (part : Part) (input : List ℕ) (start : PileView) (first last : OneView) (held mid : Option (List ℕ)) (b c : Waiting) (read : pile_of input ≡ Ok start) (settled : IsAfter start [] first)
-    (is : b ≡ head_of part) (added : AreAdded part draw.from first (drawn_sites (sites (grid_of_one_pile first)) draw) last held mid b c)
-    (after : (s : PileView) → IsAfter s [] first → IsAfter s (drawn_sites (sites (grid_of_one_pile first)) draw) last) where
+module _ (draw : Draw) (part : Part) (input : List ℕ) (start : PileView) (first last : OneView)
+    (held mid : Option (List ℕ)) (b c : Waiting) (read : pile_of input ≡ Ok start) (settled : IsAfter start [] first)
+    (is : b ≡ head_of part) (added : AreAdded part draw.from first
+    (drawn_sites (sites (grid_of_one_pile first)) draw) last held mid b c)
+    (after : (s : PileView) → IsAfter s [] first
+    → IsAfter s (drawn_sites (sites (grid_of_one_pile first)) draw) last) where
   drawn : AreDrawn draw input first added.rows last
   drawn = record { start = start; read = read; settled = settled; dropped = added.dropped; end = after start settled }
 
   -- the writer failed after the rows
-  pub end_fails : (held' : Option (List ℕ)) (why : StreamFault) → BreaksIn mid held' c (end_in part last.settled) why → WorkEnds (IsDropsText (Some draw) part input) (IsDropsFault (Some draw) input) held held' (of_stream why)
+  pub end_fails : (held' : Option (List ℕ)) (why : StreamFault) → BreaksIn mid held' c (end_in part last.settled) why
+      → WorkEnds (IsDropsText (Some draw) part input) (IsDropsFault (Some draw) input) held held' (of_stream why)
   end_fails held' why broken =
-      drawn_breaks draw part input first last added.rows held held' b why drawn is (breaks_on held mid held' b c (rows_in part added.rows) (end_in part last.settled) why added.grown broken)
+      drawn_breaks draw part input first last added.rows held held' b why drawn is
+      (breaks_on held mid held' b c (rows_in part added.rows) (end_in part last.settled) why added.grown broken)
 
   module _ (more : Option (List ℕ)) (d : Waiting) (grown : GrowsBy mid more c d (end_in part last.settled)) where
     whole : GrowsBy held more b d (rows_in part added.rows ++ end_in part last.settled)
     whole = grows_on held mid more b c d (rows_in part added.rows) (end_in part last.settled) added.grown grown
 
     -- the writer failed in the last block
-    pub last_fails : (held' : Option (List ℕ)) (why : StreamFault) → BreaksIn more held' d [] why → WorkEnds (IsDropsText (Some draw) part input) (IsDropsFault (Some draw) input) held held' (of_stream why)
+    pub last_fails : (held' : Option (List ℕ)) (why : StreamFault) → BreaksIn more held' d [] why
+        → WorkEnds (IsDropsText (Some draw) part input) (IsDropsFault (Some draw) input) held held' (of_stream why)
     last_fails held' why broken =
         let P : List ℕ → Type 0 = λ t. BreaksIn held held' b t why in
         drawn_breaks draw part input first last added.rows held held' b why drawn is
-        (subst P (append-nil (rows_in part added.rows ++ end_in part last.settled)) (breaks_on held more held' b d (rows_in part added.rows ++ end_in part last.settled) [] why whole broken))
+        (subst P (append-nil (rows_in part added.rows ++ end_in part last.settled))
+        (breaks_on held more held' b d (rows_in part added.rows ++ end_in part last.settled) [] why whole broken))
 
-    pub all_taken : (held' : Option (List ℕ)) → Appends more held' d.bytes → IsWritten (IsDropsText (Some draw) part input) held held'
+    pub all_taken : (held' : Option (List ℕ)) → Appends more held' d.bytes
+        → IsWritten (IsDropsText (Some draw) part input) held held'
     all_taken held' rest =
         let text : whole.gone ++ d.bytes ≡ drops_in part added.rows last.settled =
-        sym whole.all ∙ ap (λ (w : Waiting). w.bytes ++ (rows_in part added.rows ++ end_in part last.settled)) is ∙ text_in_parts part added.rows last.settled in
+        sym whole.all ∙ ap (λ (w : Waiting). w.bytes ++ (rows_in part added.rows ++ end_in part last.settled)) is
+        ∙ text_in_parts part added.rows last.settled in
         record {
           text = drops_in part added.rows last.settled;
           answer = drawn_text draw part input first last added.rows drawn;
-          written = subst (Appends held held') text (Appends-trans held more held' whole.gone d.bytes whole.written rest);
+          written =
+              subst (Appends held held') text (Appends-trans held more held' whole.gone d.bytes whole.written rest);
         }

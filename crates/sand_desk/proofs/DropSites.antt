@@ -29,7 +29,8 @@ none_found n ns none =
     (λ (all : length ns ≤ prefix_len (λ x. not (leb n x)) ns). all)
     (cases_lt (prefix_len (λ x. not (leb n x)) ns) (length ns))
 
-among : (g : Grid) (ns ds : List ℕ) (o : Option ℕ) → position (leb (sites g)) ns ≡ o → unless_at o NoSite (Ok ns) ≡ Ok ds → All (λ j. j < sites g) ds
+among : (g : Grid) (ns ds : List ℕ) (o : Option ℕ) → position (leb (sites g)) ns ≡ o
+    → unless_at o NoSite (Ok ns) ≡ Ok ds → All (λ j. j < sites g) ds
 among g ns ds None none read =
     let same : ns ≡ ds = cc in
     let P : List ℕ → Type 0 = λ xs. All (λ j. j < sites g) xs in
@@ -42,7 +43,10 @@ with_pile pile ds = Ok (pile, ds)
 abbrev drops_behind : PileView × List ℕ → Result (PileView × List ℕ) TextFault
 drops_behind front = sites_among front.0.grid front.1 >>= with_pile front.0
 
-behind : (front : PileView × List ℕ) (drops : Result (List ℕ) TextFault) (pile : PileView) (ds : List ℕ) → sites_among front.0.grid front.1 ≡ drops → (drops >>= with_pile front.0) ≡ Ok (pile, ds) → All (λ j. j < sites pile.grid) ds
+behind : (front : PileView × List ℕ) (drops : Result (List ℕ) TextFault) (pile : PileView) (ds : List ℕ)
+    → sites_among front.0.grid front.1 ≡ drops
+    → (drops >>= with_pile front.0) ≡ Ok (pile, ds)
+    → All (λ j. j < sites pile.grid) ds
 behind front (Err fault) pile ds was read = absurd cc
 behind front (Ok xs) pile ds was read =
     let left : PileView × List ℕ = (front.0, xs) in
@@ -54,10 +58,12 @@ behind front (Ok xs) pile ds was read =
     let Q : List ℕ → Type 0 = λ d. All (λ j. j < sites front.0.grid) d in
     subst P grid (subst Q same (among front.0.grid front.1 xs (position (leb (sites front.0.grid)) front.1) refl was))
 
-held : (front : Result (PileView × List ℕ) TextFault) (pile : PileView) (ds : List ℕ) → (front >>= drops_behind) ≡ Ok (pile, ds) → All (λ j. j < sites pile.grid) ds
+held : (front : Result (PileView × List ℕ) TextFault) (pile : PileView) (ds : List ℕ)
+    → (front >>= drops_behind) ≡ Ok (pile, ds) → All (λ j. j < sites pile.grid) ds
 held (Err fault) pile ds read = absurd cc
 held (Ok front) pile ds read = behind front (sites_among front.0.grid front.1) pile ds refl read
 
-pub drops_inside : (text : List ℕ) (pile : PileView) (ds : List ℕ) → drops_of text ≡ Ok (pile, ds) → All (λ j. j < sites pile.grid) ds
+pub drops_inside : (text : List ℕ) (pile : PileView) (ds : List ℕ) → drops_of text ≡ Ok (pile, ds)
+    → All (λ j. j < sites pile.grid) ds
 unfolding drops_of
 drops_inside text pile ds read = held (front_of false text) pile ds read

@@ -46,7 +46,8 @@ unfolding poured
 takes_grain r site u t each done =
     let g : Grid = r.pile.grid in
     let counts : List ℕ = by_site g (λ j. get_or r.odometer j 0 + u j) in
-    let grown : (j : ℕ) → j < sites g → get_or counts j 0 ≡ get_or r.odometer j 0 + u j = get_or-by_site g (λ j. get_or r.odometer j 0 + u j) in
+    let grown : (j : ℕ) → j < sites g → get_or counts j 0 ≡ get_or r.odometer j 0 + u j =
+    get_or-by_site g (λ j. get_or r.odometer j 0 + u j) in
     record {
       grid = refl;
       heights_each = length-by_site g t;
@@ -56,7 +57,9 @@ takes_grain r site u t each done =
           (λ (inside : j < sites g). let e = grown j inside in omega arith)
           (λ (outside : sites g ≤ j). let none = get_or_past r.odometer j 0 (omega arith) in omega arith)
           (cases_lt j (sites g));
-      settled = settled_same g (λ j. get_or r.pile.heights j 0 + one_at site j) (λ j. get_or r.pile.heights j 0 + one_at site j) u (λ j. get_or counts j 0 - get_or r.odometer j 0) t (λ j. get_or (by_site g t) j 0)
+      settled = settled_same g (λ j. get_or r.pile.heights j 0 + one_at site j)
+          (λ j. get_or r.pile.heights j 0 + one_at site j) u
+          (λ j. get_or counts j 0 - get_or r.odometer j 0) t (λ j. get_or (by_site g t) j 0)
           (λ i l. refl) (λ i l. let e = grown i l in omega arith) (λ i l. sym (get_or-by_site g t i l)) done;
       more_topplings = refl;
       more_lost = refl;
@@ -68,7 +71,9 @@ record IsReach (g : Grid) (site : ℕ) (v : ℕ → ℕ) (n reach : ℕ) : Type 
   reached : 0 < reach → (j : ℕ) × (j < n) × (0 < v j) × (distance g site j ≡ reach)
 
 -- the same, with one more site
-reach_more : (g : Grid) (site : ℕ) (v : ℕ → ℕ) (n near far : ℕ) → ((j : ℕ) → j < n → 0 < v j → distance g site j ≤ near) → near ≤ far → (0 < v n → distance g site n ≤ far)
+reach_more : (g : Grid) (site : ℕ) (v : ℕ → ℕ) (n near far : ℕ)
+    → ((j : ℕ) → j < n → 0 < v j → distance g site j ≤ near)
+    → near ≤ far → (0 < v n → distance g site n ≤ far)
     → (0 < far → (j : ℕ) × (j < suc n) × (0 < v j) × (distance g site j ≡ far)) → IsReach g site v (suc n) far
 reach_more g site v n near far within more last reached = record {
   within = λ j l topples.
@@ -83,18 +88,25 @@ reach_more g site v n near far within more last reached = record {
 }
 
 reach_of : (g : Grid) (site : ℕ) (v : ℕ → ℕ) (n : ℕ) → (reach : ℕ) × IsReach g site v n reach
-reach_of g site v zero = (0, record { within = λ j l topples. absurd (omega arith); reached = λ l. absurd (omega arith) })
+reach_of g site v zero =
+    (0, record { within = λ j l topples. absurd (omega arith); reached = λ l. absurd (omega arith) })
 reach_of g site v (suc n) =
     let rest = reach_of g site v n in
-    let before : 0 < rest.0 → (j : ℕ) × (j < suc n) × (0 < v j) × (distance g site j ≡ rest.0) = λ l. (let j = rest.1.reached l in (j.0, omega (arith, j.1), j.2, j.3)) in
+    let before : 0 < rest.0 → (j : ℕ) × (j < suc n) × (0 < v j) × (distance g site j ≡ rest.0) =
+    λ l. (let j = rest.1.reached l in (j.0, omega (arith, j.1), j.2, j.3)) in
     ⊎_elim
     (λ (topples : 0 < v n).
     ⊎_elim
-    (λ (farther : rest.0 < distance g site n).
-    (distance g site n, reach_more g site v n rest.0 (distance g site n) rest.1.within (omega arith) (λ _. omega arith) (λ _. (n, omega arith, topples, refl))))
-    (λ (near : distance g site n ≤ rest.0). (rest.0, reach_more g site v n rest.0 rest.0 rest.1.within (omega arith) (λ _. near) before))
+    (λ (farther : rest.0 < distance g site n). (
+      distance g site n,
+      reach_more g site v n rest.0 (distance g site n) rest.1.within
+          (omega arith) (λ _. omega arith) (λ _. (n, omega arith, topples, refl)),
+    ))
+    (λ (near : distance g site n ≤ rest.0).
+    (rest.0, reach_more g site v n rest.0 rest.0 rest.1.within (omega arith) (λ _. near) before))
     (cases_lt rest.0 (distance g site n)))
-    (λ (still : v n ≤ 0). (rest.0, reach_more g site v n rest.0 rest.0 rest.1.within (omega arith) (λ topples. absurd (omega arith)) before))
+    (λ (still : v n ≤ 0).
+    (rest.0, reach_more g site v n rest.0 rest.0 rest.1.within (omega arith) (λ topples. absurd (omega arith)) before))
     (cases_lt 0 (v n))
 
 -- whatever topples is an avalanche
@@ -112,8 +124,11 @@ avalanche_of g site v =
       },
     )
 
-drop_exists : (v : OneView) (site : ℕ) → length v.settled.odometer ≡ sites (grid_of_one_pile v) → site < sites (grid_of_one_pile v) → v.grains < most_grains
-    → (w : OneView) × (a : Avalanche) × Drops v site w × IsAvalanche (grid_of_one_pile v) site (topplings_between v.settled w.settled) a
+drop_exists : (v : OneView) (site : ℕ)
+    → length v.settled.odometer ≡ sites (grid_of_one_pile v)
+    → site < sites (grid_of_one_pile v) → v.grains < most_grains
+    → (w : OneView) × (a : Avalanche) × Drops v site w
+    × IsAvalanche (grid_of_one_pile v) site (topplings_between v.settled w.settled) a
 drop_exists v site each inside room =
     let r : SettledView = v.settled in
     let done = settles r.pile.grid (λ j. get_or r.pile.heights j 0 + one_at site j) in
@@ -139,7 +154,8 @@ pub record Continues (start : PileView) (past : List ℕ) (n : ℕ) (v : OneView
   pub end : IsAfter start (past ++ more) last
 
 -- for any stable pile and any list of sites within the grain limit, the drops and avalanches exist
-pub drops_exist : (start : PileView) (past more : List ℕ) (n : ℕ) (v : OneView) → IsAfter start past v → All (λ j. j < sites start.grid) more
+pub drops_exist : (start : PileView) (past more : List ℕ) (n : ℕ) (v : OneView)
+    → IsAfter start past v → All (λ j. j < sites start.grid) more
     → sum start.heights + (length past + length more) ≤ most_grains → Continues start past n v more
 drops_exist start past [] n v after inside few =
     let P : List ℕ → Type 0 = λ history. IsAfter start history v in
@@ -151,10 +167,13 @@ drops_exist start past [] n v after inside few =
     }
 drops_exist start past (site ∷ more) n v after inside few =
     let grid = ap sites after.settled.grid in
-    let first = drop_exists v site (after.settled.odometer_each ∙ sym grid) (let l = All-head (λ j. j < sites start.grid) site more inside in omega (arith, l, grid)) (let grains = after.grains in omega (arith, grains, few)) in
+    let first = drop_exists v site (after.settled.odometer_each ∙ sym grid)
+    (let l = All-head (λ j. j < sites start.grid) site more inside in omega (arith, l, grid))
+    (let grains = after.grains in omega (arith, grains, few)) in
     let next = after_drop start past site v first.0 first.2 after in
     let longer = length-append past (site ∷ []) in
-    let rest = drops_exist start (past ++ site ∷ []) more (n + 1) first.0 next (All-tail (λ j. j < sites start.grid) site more inside) (omega (arith, longer, few)) in
+    let rest = drops_exist start (past ++ site ∷ []) more (n + 1) first.0 next
+    (All-tail (λ j. j < sites start.grid) site more inside) (omega (arith, longer, few)) in
     let P : List ℕ → Type 0 = λ history. IsAfter start history rest.last in
     record {
       rows = (n, first.1) ∷ rest.rows;

@@ -24,23 +24,30 @@ none_given (Some all) None kept = absurd kept
 none_given (Some all) (Some rest) kept = (0, omega arith, (omega arith, ap Some kept))
 
 -- the reader gave all it had, within the limit
-all_given : (left left' : Option (List ℕ)) (input : List ℕ) → GivesAll left left' input → length input ≤ most_bytes → IsFurtherByAtMost left left' most_bytes
+all_given : (left left' : Option (List ℕ)) (input : List ℕ) → GivesAll left left' input → length input ≤ most_bytes
+    → IsFurtherByAtMost left left' most_bytes
 all_given None left' input all within = (length input, within, tt)
 all_given (Some bytes) left' input all within =
     let same : length input ≡ length bytes = ap length all.0 in
     (length bytes, omega (arith, within, same), (omega arith, all.1 ∙ ap Some (sym (drop-length bytes))))
 
 -- a task's input was read
-taken : (reads : Bool) (left left' : Option (List ℕ)) (input : List ℕ) → Takes reads left left' input → length input ≤ most_bytes → IsFurtherByAtMost left left' most_bytes
+taken : (reads : Bool) (left left' : Option (List ℕ)) (input : List ℕ)
+    → Takes reads left left' input → length input ≤ most_bytes
+    → IsFurtherByAtMost left left' most_bytes
 taken true left left' input all within = all_given left left' input all within
 taken false left left' input all within = none_given left left' all.0
 
-unread : (reads : Bool) (left left' : Option (List ℕ)) (input : List ℕ) → Takes reads left left' input → reads ≡ false → Keeps left left'
+unread : (reads : Bool) (left left' : Option (List ℕ)) (input : List ℕ) → Takes reads left left' input → reads ≡ false
+    → Keeps left left'
 unread true left left' input all e = absurd (true≢false e)
 unread false left left' input all e = all.0
 
 -- memory ran out while the input was read
-starved_reading : (call : Call) (task : Task) → call.asked ≡ Some task → reads_input task ≡ true → IsFurtherByAtMost call.left call.left_after most_bytes → Keeps call.held call.held_after → IsStarved call
+starved_reading : (call : Call) (task : Task)
+    → call.asked ≡ Some task → reads_input task ≡ true
+    → IsFurtherByAtMost call.left call.left_after most_bytes
+    → Keeps call.held call.held_after → IsStarved call
 starved_reading call task e reads further kept =
     let asks : asks_for_input call.asked ≡ true = ap asks_for_input e ∙ reads in
     record {
@@ -50,17 +57,22 @@ starved_reading call task e reads further kept =
     }
 
 -- memory ran out after the input was read
-starved_working : (call : Call) (task : Task) (input : List ℕ) → IsRead call task input → Keeps call.held call.held_after → IsStarved call
+starved_working : (call : Call) (task : Task) (input : List ℕ)
+    → IsRead call task input → Keeps call.held call.held_after → IsStarved call
 starved_working call task input read kept = record {
   further = taken (reads_input task) call.left call.left_after input read.all read.within;
-  unread = λ none. unread (reads_input task) call.left call.left_after input read.all (sym (ap asks_for_input read.is_asked) ∙ none);
+  unread = λ none.
+      unread (reads_input task) call.left call.left_after input read.all (sym (ap asks_for_input read.is_asked) ∙ none);
   unwritten = kept;
 }
 
-pub reading_ends : (call : Call) (task : Task) (f : StreamFault) → call.asked ≡ Some task → reads_input task ≡ true → IsOfReading f
-    → (f ≡ stream.TooLong → IsFurther call.left call.left_after (most_bytes + 1)) → ((f ≡ stream.TooLong → ⊥) → IsFurtherByAtMost call.left call.left_after most_bytes)
+pub reading_ends : (call : Call) (task : Task) (f : StreamFault)
+    → call.asked ≡ Some task → reads_input task ≡ true → IsOfReading f
+    → (f ≡ stream.TooLong → IsFurther call.left call.left_after (most_bytes + 1))
+    → ((f ≡ stream.TooLong → ⊥) → IsFurtherByAtMost call.left call.left_after most_bytes)
     → Keeps call.held call.held_after → EndsBy call (of_stream f)
-reading_ends call task stream.Memory e reads kind flooded stopped kept = starved_reading call task e reads (stopped (λ q. cc)) kept
+reading_ends call task stream.Memory e reads kind flooded stopped kept =
+    starved_reading call task e reads (stopped (λ q. cc)) kept
 reading_ends call task stream.Read e reads kind flooded stopped kept = record {
   task = task;
   is_asked = e;
@@ -77,7 +89,9 @@ reading_ends call task stream.TooLong e reads kind flooded stopped kept = record
 }
 reading_ends call task (stream.Write sent) e reads kind flooded stopped kept = absurd kind
 
-faulty : (call : Call) (task : Task) (input : List ℕ) (fault : DeskFault) → IsRead call task input → IsFaultOf task input fault → Keeps call.held call.held_after → IsFaulty call fault
+faulty : (call : Call) (task : Task) (input : List ℕ) (fault : DeskFault)
+    → IsRead call task input → IsFaultOf task input fault
+    → Keeps call.held call.held_after → IsFaulty call fault
 faulty call task input fault read found kept = record {
   task = task;
   input = input;
@@ -87,7 +101,9 @@ faulty call task input fault read found kept = record {
 }
 
 -- the task found a fault in its input, or memory ran out, and nothing was written
-refused : (call : Call) (task : Task) (input : List ℕ) (fault : DeskFault) → IsRead call task input → Finds (IsFaultOf task input) fault → Keeps call.held call.held_after → EndsBy call fault
+refused : (call : Call) (task : Task) (input : List ℕ) (fault : DeskFault)
+    → IsRead call task input → Finds (IsFaultOf task input) fault
+    → Keeps call.held call.held_after → EndsBy call fault
 refused call task input desk.Memory read found kept = starved_working call task input read kept
 refused call task input (desk.Usage error) read found kept = absurd found
 refused call task input (desk.Clash conflict) read found kept = absurd found
@@ -98,7 +114,8 @@ refused call task input desk.Side read found kept = faulty call task input desk.
 refused call task input desk.Length read found kept = faulty call task input desk.Length read found kept
 refused call task input desk.TooManyGrains read found kept = faulty call task input desk.TooManyGrains read found kept
 refused call task input (desk.Text place) read found kept = faulty call task input (desk.Text place) read found kept
-refused call task input (desk.TooLarge place) read found kept = faulty call task input (desk.TooLarge place) read found kept
+refused call task input (desk.TooLarge place) read found kept =
+    faulty call task input (desk.TooLarge place) read found kept
 refused call task input desk.Narrow read found kept = faulty call task input desk.Narrow read found kept
 refused call task input desk.Full read found kept = faulty call task input desk.Full read found kept
 refused call task input desk.Unstable read found kept = faulty call task input desk.Unstable read found kept
@@ -108,7 +125,10 @@ refused call task input desk.Taken read found kept = faulty call task input desk
 refused call task input (desk.NoSite index) read found kept = faulty call task input (desk.NoSite index) read found kept
 
 -- the writer failed
-cut_short : (call : Call) (task : Task) (input : List ℕ) (fault : DeskFault) → IsRead call task input → IsBrokenOff (IsTextOf task input) call.held call.held_after fault → EndsBy call fault
+cut_short : (call : Call) (task : Task) (input : List ℕ) (fault : DeskFault)
+    → IsRead call task input
+    → IsBrokenOff (IsTextOf task input) call.held call.held_after fault
+    → EndsBy call fault
 cut_short call task input fault read broken =
     let ends : EndsBy call (desk.Write broken.sent) = record {
       task = task;
@@ -121,20 +141,29 @@ cut_short call task input fault read broken =
     } in
     subst (EndsBy call) (sym broken.told) ends
 
-pub work_ends : (call : Call) (task : Task) (input : List ℕ) (fault : DeskFault) → IsRead call task input → WorkEnds (IsTextOf task input) (IsFaultOf task input) call.held call.held_after fault → EndsBy call fault
+pub work_ends : (call : Call) (task : Task) (input : List ℕ) (fault : DeskFault)
+    → IsRead call task input
+    → WorkEnds (IsTextOf task input) (IsFaultOf task input) call.held call.held_after fault
+    → EndsBy call fault
 work_ends call task input fault read ends =
     ⊎_elim
-    (λ (broken : IsBrokenOff (IsTextOf task input) call.held call.held_after fault). cut_short call task input fault read broken)
-    (λ (no : IsRefused (IsFaultOf task input) call.held call.held_after fault). refused call task input fault read no.found no.unwritten)
+    (λ (broken : IsBrokenOff (IsTextOf task input) call.held call.held_after fault).
+    cut_short call task input fault read broken)
+    (λ (no : IsRefused (IsFaultOf task input) call.held call.held_after fault).
+    refused call task input fault read no.found no.unwritten)
     ends
 
 -- a fault of the work was found before anything was written
-pub found_first : (IsText : List ℕ → Type 0) (IsFault : DeskFault → Type 0) (held : Option (List ℕ)) (fault : DeskFault) → Finds IsFault fault → WorkEnds IsText IsFault held held fault
+pub found_first : (IsText : List ℕ → Type 0) (IsFault : DeskFault → Type 0) (held : Option (List ℕ)) (fault : DeskFault)
+    → Finds IsFault fault → WorkEnds IsText IsFault held held fault
 found_first IsText IsFault held fault found = inr (record { found = found; unwritten = keeps held })
 
 -- the writer failed within a whole text
-pub text_broke : (IsText : List ℕ → Type 0) (IsFault : DeskFault → Type 0) (held held' : Option (List ℕ)) (text : List ℕ) (f : StreamFault) → IsText text
-    → ((sent : ℕ) × (f ≡ stream.Write sent) × (sent ≤ length text) × Appends held held' (take sent text)) → WorkEnds IsText IsFault held held' (of_stream f)
+pub text_broke : (IsText : List ℕ → Type 0) (IsFault : DeskFault → Type 0)
+    (held held' : Option (List ℕ)) (text : List ℕ) (f : StreamFault)
+    → IsText text
+    → ((sent : ℕ) × (f ≡ stream.Write sent) × (sent ≤ length text) × Appends held held' (take sent text))
+    → WorkEnds IsText IsFault held held' (of_stream f)
 text_broke IsText IsFault held held' text f answer cut = inl (record {
   sent = cut.0;
   told = ap of_stream cut.1;
@@ -145,7 +174,8 @@ text_broke IsText IsFault held held' text f answer cut = inl (record {
 })
 
 -- a fault of the work is not a fault of the words
-found_no_help : (words : List Text) (IsFault : DeskFault → Type 0) (fault : DeskFault) → Finds IsFault fault → HelpsIfAsked words fault × TellsWords words fault
+found_no_help : (words : List Text) (IsFault : DeskFault → Type 0) (fault : DeskFault) → Finds IsFault fault
+    → HelpsIfAsked words fault × TellsWords words fault
 found_no_help words IsFault desk.Memory found = (tt, tt)
 found_no_help words IsFault desk.Read found = (tt, tt)
 found_no_help words IsFault desk.TooLong found = (tt, tt)
@@ -165,7 +195,10 @@ found_no_help words IsFault (desk.NoSite index) found = (tt, tt)
 found_no_help words IsFault (desk.Usage error) found = absurd found
 found_no_help words IsFault (desk.Clash conflict) found = absurd found
 
-pub work_no_help : (words : List Text) (IsText : List ℕ → Type 0) (IsFault : DeskFault → Type 0) (held held' : Option (List ℕ)) (fault : DeskFault) → WorkEnds IsText IsFault held held' fault → HelpsIfAsked words fault × TellsWords words fault
+pub work_no_help : (words : List Text) (IsText : List ℕ → Type 0)
+    (IsFault : DeskFault → Type 0) (held held' : Option (List ℕ)) (fault : DeskFault)
+    → WorkEnds IsText IsFault held held' fault
+    → HelpsIfAsked words fault × TellsWords words fault
 work_no_help words IsText IsFault held held' fault ends =
     ⊎_elim
     (λ (broken : IsBrokenOff IsText held held' fault).

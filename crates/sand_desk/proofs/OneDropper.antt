@@ -25,7 +25,8 @@ drawn_on draw start = drawn_sites (sites start.grid) draw
 
 -- in one epoch, one dropper drops on each site as often as the draw
 epoch_of_draw : (draw : Draw) (w : Wish) → DropsTheDraw draw w → (start : PileView) (i : ℕ)
-    → sum_below w.droppers (λ k. tally (stream_sites (sites start.grid) w.seed (stream_of 0 k) w.drops) i) ≡ tally (drawn_on draw start) i
+    → sum_below w.droppers (λ k. tally (stream_sites (sites start.grid) w.seed (stream_of 0 k) w.drops) i)
+    ≡ tally (drawn_on draw start) i
 unfolding sum_below
 epoch_of_draw draw w asks start i =
     let each : ℕ → ℕ = λ k. tally (stream_sites (sites start.grid) w.seed (stream_of 0 k) w.drops) i in
@@ -33,11 +34,14 @@ epoch_of_draw draw w asks start i =
     let alone : sum_below 1 each ≡ 0 + each 0 = refl in
     let none : 0 ≡ draw.from = sym asks.from in
     let count : w.drops ≡ draw.from + draw.count = omega (arith, asks.drops, asks.from) in
-    let first : each 0 ≡ tally (drawn_on draw start) i = λ k. tally (drop (none k) (stream_sites (sites start.grid) (asks.seed k) (sym asks.stream k) (count k))) i in
+    let first : each 0 ≡ tally (drawn_on draw start) i =
+    λ k. tally (drop (none k) (stream_sites (sites start.grid) (asks.seed k) (sym asks.stream k) (count k))) i in
     omega (arith, one, alone, first)
 
 -- so does the run
-run_of_draw : (draw : Draw) (album : List ℕ) (w : Wish) → DropsTheDraw draw w → (start : PileView) (rs : List RecordView) (ss : List SheetView) → length rs ≡ 1
+run_of_draw : (draw : Draw) (album : List ℕ) (w : Wish) → DropsTheDraw draw w
+    → (start : PileView) (rs : List RecordView) (ss : List SheetView)
+    → length rs ≡ 1
     → AreEpochs album w start 0 rs ss → (i : ℕ) → tally (histories rs) i ≡ tally (drawn_on draw start) i
 run_of_draw draw album w asks start [] ss one epochs i = absurd (omega arith)
 run_of_draw draw album w asks start (r ∷ []) [] one epochs i = absurd epochs
@@ -49,13 +53,21 @@ run_of_draw draw album w asks start (r ∷ []) (s ∷ ss) one epochs i =
 run_of_draw draw album w asks start (r ∷ q ∷ rs) ss one epochs i = absurd (omega arith)
 
 -- the record of the run is that of the single-threaded pile
-same_record : (draw : Draw) (album : List ℕ) (w : Wish) → DropsTheDraw draw w → (start : PileView) (last : OneView) (report : ReportView) → IsAfter start (drawn_on draw start) last
+same_record : (draw : Draw) (album : List ℕ) (w : Wish) → DropsTheDraw draw w
+    → (start : PileView) (last : OneView) (report : ReportView)
+    → IsAfter start (drawn_on draw start) last
     → IsReport album w start report → last.settled ≡ report.total.settled
 same_record draw album w asks start last report after left =
     let mine : RecordView = record { start = start; history = drawn_on draw start; settled = last.settled } in
-    let one : IsOneThreads mine = record { start_pile = after.start_pile; all_sites = after.all_sites; limit = after.limit; settled = after.settled } in
+    let one : IsOneThreads mine = record {
+      start_pile = after.start_pile;
+      all_sites = after.all_sites;
+      limit = after.limit;
+      settled = after.settled;
+    } in
     one_threads_once mine report.total one left.total.one_threads (sym left.total.from_start)
-    (λ i. sym (run_of_draw draw album w asks start report.records report.sheets (left.all ∙ asks.epochs) left.epochs i) ∙ ap (λ (h : List ℕ). tally h i) (sym left.total.history))
+    (λ i. sym (run_of_draw draw album w asks start report.records report.sheets (left.all ∙ asks.epochs) left.epochs i)
+    ∙ ap (λ (h : List ℕ). tally h i) (sym left.total.history))
 
 read_or : {A : Type 0} → A → Result A TextFault → A
 read_or x (Ok y) = y
@@ -65,13 +77,18 @@ pub leaves_the_same : LeavesTheSame
 unfolding read_or
 leaves_the_same draw w part journal form input one other asks drops run =
     let start = run.start in
-    let reads : ◌≡◌ {A = Result (PileView × List ℕ) TextFault} (Ok (start, drawn_on draw start)) (Ok (drops.pile, drops.sites)) =
+    let reads : ◌≡◌ {A = Result (PileView × List ℕ) TextFault}
+    (Ok (start, drawn_on draw start)) (Ok (drops.pile, drops.sites)) =
     sym (ap (λ r. r >>= with_draw draw) run.read) ∙ drops.read in
-    let pair : (start, drawn_on draw start) ≡ (drops.pile, drops.sites) = ap (read_or (start, drawn_on draw start)) reads in
+    let pair : (start, drawn_on draw start) ≡ (drops.pile, drops.sites) =
+    ap (read_or (start, drawn_on draw start)) reads in
     let after : IsAfter start (drawn_on draw start) drops.last =
     subst (λ (p : PileView × List ℕ). IsAfter p.0 p.1 drops.last) (sym pair) drops.end in
     same_record draw run.album w asks start drops.last run.report after run.left
 
 pub writes_the_same_pile : WritesTheSamePile
 writes_the_same_pile draw w journal input one other asks drops run =
-    drops.written ∙ ap (λ (r : SettledView). text_of r.pile) (leaves_the_same draw w parts.Pile journal _ input one other asks drops run) ∙ sym run.written
+    drops.written
+    ∙ ap (λ (r : SettledView). text_of r.pile)
+    (leaves_the_same draw w parts.Pile journal _ input one other asks drops run)
+    ∙ sym run.written

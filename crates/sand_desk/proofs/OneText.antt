@@ -16,7 +16,12 @@ use Rattle.sand_lab.specs.Reports.{ReportView, IsReport}
 use Rattle.sand_desk.specs.Laboratory.{sums_of, lab_text_of_report, report_text_of, OneLabText}
 
 sums_of_one : OneView → Sums
-sums_of_one o = record { drops = o.number; topplings = o.settled.topplings; lost = o.settled.lost; grains = sum o.settled.pile.heights }
+sums_of_one o = record {
+  drops = o.number;
+  topplings = o.settled.topplings;
+  lost = o.settled.lost;
+  grains = sum o.settled.pile.heights;
+}
 
 -- what a report shows is what its single-threaded piles show
 shown : List OneView → OneView → List ℕ
@@ -24,12 +29,14 @@ shown ones total = lab_text_of (map sums_of_one ones) (sums_of_one total) total.
 
 text_shown : (p : ReportView) → lab_text_of_report p ≡ shown (map one_of p.records) (one_of p.total)
 unfolding shown sums_of_one
-text_shown p = ap (λ sums. lab_text_of sums (sums_of p.total) p.total.settled.pile p.total.settled.odometer) (sym (map-map sums_of_one one_of p.records))
+text_shown p = ap (λ sums. lab_text_of sums (sums_of p.total) p.total.settled.pile p.total.settled.odometer)
+    (sym (map-map sums_of_one one_of p.records))
 
 same_text : (form : Form) (p q : ReportView) → AreAlike p q → report_text_of false form p ≡ report_text_of false form q
 same_text Picture p q alike = ap (λ (o : OneView). pgm_text_of o.settled.pile) alike.total
 same_text Pile p q alike = ap (λ (o : OneView). text_of o.settled.pile) alike.total
-same_text Text p q alike = ap (λ text. text ++ []) (text_shown p ∙ ap₂ shown alike.epochs alike.total ∙ sym (text_shown q))
+same_text Text p q alike =
+    ap (λ text. text ++ []) (text_shown p ∙ ap₂ shown alike.epochs alike.total ∙ sym (text_shown q))
 
 read_or : PileView → Result PileView TextFault → PileView
 read_or p (Ok q) = q
@@ -43,5 +50,8 @@ same_start p q e = ap (read_or p) e
 pub one_text : OneOutcome → OneLabText
 one_text one_outcome w v form input one other asks a b =
     let starts : a.start ≡ b.start = same_start a.start b.start (sym a.read ∙ b.read) in
-    let left : IsReport b.album v a.start b.report = subst (λ (x : PileView). IsReport b.album v x b.report) (sym starts) b.left in
-    a.written ∙ same_text form a.report b.report (one_outcome a.album b.album w v a.start a.report b.report asks a.left left) ∙ sym b.written
+    let left : IsReport b.album v a.start b.report =
+    subst (λ (x : PileView). IsReport b.album v x b.report) (sym starts) b.left in
+    a.written
+    ∙ same_text form a.report b.report (one_outcome a.album b.album w v a.start a.report b.report asks a.left left)
+    ∙ sym b.written

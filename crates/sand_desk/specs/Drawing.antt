@@ -23,7 +23,8 @@ pub record DropsTheDraw (draw : Draw) (w : Wish) : Type 0 where
 -- both texts show the same settled record: its pile, the grains lost and the topplings
 abbrev pub LeavesTheSame : Type 0
 LeavesTheSame = (draw : Draw) (w : Wish) (part : Part) (journal : Bool) (form : Form) (input one other : List ℕ)
-    → DropsTheDraw draw w → (drops : IsDropsText (Some draw) part input one) → (run : IsLabText w journal form input other)
+    → DropsTheDraw draw w → (drops : IsDropsText (Some draw) part input one)
+    → (run : IsLabText w journal form input other)
     → drops.last.settled ≡ run.report.total.settled
 
 -- so with `--pile` the texts are the same

@@ -27,7 +27,8 @@ pub fn is_record(
 
 /// Whether the grains of the first record's start and the drops of both records are within the grain limit.
 pub fn are_within_limit(first: &Record, next: &Record) -> bool
-    ensures { IsTrue result → sum first.now.start.heights + (length first.now.history + length next.now.history) ≤ most_grains }
+    ensures { IsTrue result
+        → sum first.now.start.heights + (length first.now.history + length next.now.history) ≤ most_grains }
 {
     let drops = first.history().len() + next.history().len();
     first.start().grains() + drops as u64 <= GRAIN_LIMIT

@@ -8,6 +8,10 @@ use Rattle.sand_desk.proofs.commands.carry_out.Goals as goal
 
 pub returns-in-Drops-Some-default-clause-fault : goal.returns-in-Drops-Some-default-clause-fault
 returns-in-Drops-Some-default-clause-fault g c =
-    let drawn : c.in-Drops-Some-default.drawn ≡ Some c.in-Drops-Some-default.draw = rw c.in-Drops-Some-default.is at c.in-Drops-Some-default.drawn-is in
-    let P : Option Draw → Type 0 = λ d. IfErr c.drawn_drops.result (WorkEnds (IsTextOf (Drops d c.in-Drops-Some-default.part) c.args.input.now) (IsFaultOf (Drops d c.in-Drops-Some-default.part) c.args.input.now) (g.W.Write.contents c.args.writer.now) (g.W.Write.contents c.drawn_drops.new.writer)) in
+    let drawn : c.in-Drops-Some-default.drawn ≡ Some c.in-Drops-Some-default.draw =
+    rw c.in-Drops-Some-default.is at c.in-Drops-Some-default.drawn-is in
+    let P : Option Draw → Type 0 =
+    λ d. IfErr c.drawn_drops.result (WorkEnds (IsTextOf (Drops d c.in-Drops-Some-default.part) c.args.input.now)
+    (IsFaultOf (Drops d c.in-Drops-Some-default.part) c.args.input.now)
+    (g.W.Write.contents c.args.writer.now) (g.W.Write.contents c.drawn_drops.new.writer)) in
     rw c.in-Drops-Some-default.is (subst P (sym drawn) c.drawn_drops.ensures.fault)

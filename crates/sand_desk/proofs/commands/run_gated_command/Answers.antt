@@ -9,7 +9,9 @@ returns-in_err-input-clause-fault g c =
     let p = err_from_is_err_and c.from_residual-in_err-input.result c.from_residual-in_err-input.ensures.1 in
     let held = g.W.Write.contents c.args.writer.now in
     rw (p.1, p.2)
-    (reading_ends (call_of (map string_bytes c.args.words.now) (g.R.Read.remaining c.args.reader.now) (g.R.Read.remaining c.take_input.new.reader) held held) c.in_ok-task.task _ c.in_ok-task.ensures.ok c.in_err-input.ensures.reads c.in_err-input.ensures.fault
+    (reading_ends (call_of (map string_bytes c.args.words.now)
+    (g.R.Read.remaining c.args.reader.now) (g.R.Read.remaining c.take_input.new.reader) held held)
+    c.in_ok-task.task _ c.in_ok-task.ensures.ok c.in_err-input.ensures.reads c.in_err-input.ensures.fault
     (λ e. c.in_err-input.ensures.too_long cc) c.in_err-input.ensures.failed (keeps held))
 
 pub returns-clause-done : goal.returns-clause-done
@@ -32,19 +34,26 @@ returns-clause-done g c =
 
 pub returns-clause-fault : goal.returns-clause-fault
 returns-clause-fault g c =
-    let call : Call = call_of (map string_bytes c.args.words.now) (g.R.Read.remaining c.args.reader.now) (g.R.Read.remaining c.take_input.new.reader) (g.W.Write.contents c.args.writer.now) (g.W.Write.contents c.carry_out.new.writer) in
+    let call : Call = call_of (map string_bytes c.args.words.now)
+    (g.R.Read.remaining c.args.reader.now) (g.R.Read.remaining c.take_input.new.reader)
+    (g.W.Write.contents c.args.writer.now) (g.W.Write.contents c.carry_out.new.writer) in
     let read : IsRead call c.in_ok-task.task c.in_ok-input.input.items = record {
       is_asked = c.in_ok-task.ensures.ok;
       all = c.in_ok-input.ensures.taken;
       within = c.in_ok-input.ensures.within;
     } in
     let ends = rw c.as_slice.ensures.value at c.carry_out.ensures.fault in
-    IfErr-weaker c.carry_out.result _ _ (λ fault failed. work_ends call c.in_ok-task.task c.in_ok-input.input.items fault read failed) ends
+    IfErr-weaker c.carry_out.result _ _
+    (λ fault failed. work_ends call c.in_ok-task.task c.in_ok-input.input.items fault read failed) ends
 
 pub returns-clause-help : goal.returns-clause-help
 returns-clause-help g c =
-    IfErr-weaker c.carry_out.result _ _ (λ fault failed. (work_no_help (map string_bytes c.args.words.now) _ _ _ _ fault failed).0) c.carry_out.ensures.fault
+    IfErr-weaker c.carry_out.result _ _
+    (λ fault failed. (work_no_help (map string_bytes c.args.words.now) _ _ _ _ fault failed).0)
+    c.carry_out.ensures.fault
 
 pub returns-clause-told : goal.returns-clause-told
 returns-clause-told g c =
-    IfErr-weaker c.carry_out.result _ _ (λ fault failed. (work_no_help (map string_bytes c.args.words.now) _ _ _ _ fault failed).1) c.carry_out.ensures.fault
+    IfErr-weaker c.carry_out.result _ _
+    (λ fault failed. (work_no_help (map string_bytes c.args.words.now) _ _ _ _ fault failed).1)
+    c.carry_out.ensures.fault

@@ -13,26 +13,31 @@ pub returns-in_err-start-clause-fault : goal.returns-in_err-start-clause-fault
 returns-in_err-start-clause-fault g c =
     let p = err_from_is_err_and c.from_residual.result c.from_residual.ensures.1 in
     rw (p.1, p.2)
-    (found_first (IsDropsText (Some c.args.draw) c.args.part c.args.input.now) (IsDropsFault (Some c.args.draw) c.args.input.now) (g.W.Write.contents c.args.writer.now) _
+    (found_first (IsDropsText (Some c.args.draw) c.args.part c.args.input.now)
+    (IsDropsFault (Some c.args.draw) c.args.input.now) (g.W.Write.contents c.args.writer.now) _
     (unread c.args.draw c.args.input.now _ c.in_err-start.ensures))
 
 pub returns-then-from-grains-clause-fault : goal.returns-then-from-grains-clause-fault
 returns-then-from-grains-clause-fault g c =
-    let over : most_grains < sum c.in_ok-start.start.heights + c.args.draw.count = omega (arith, c.if-from-grains.true, c.from.ensures, c.grains.ensures.value, c.grains.ensures.pile.limit) in
-    found_first (IsDropsText (Some c.args.draw) c.args.part c.args.input.now) (IsDropsFault (Some c.args.draw) c.args.input.now) (g.W.Write.contents c.args.writer.now) _
+    let over : most_grains < sum c.in_ok-start.start.heights + c.args.draw.count =
+    omega (arith, c.if-from-grains.true, c.from.ensures, c.grains.ensures.value, c.grains.ensures.pile.limit) in
+    found_first (IsDropsText (Some c.args.draw) c.args.part c.args.input.now)
+    (IsDropsFault (Some c.args.draw) c.args.input.now) (g.W.Write.contents c.args.writer.now) _
     (overfull c.args.draw c.args.input.now c.in_ok-start.start c.in_ok-start.ensures over)
 
 pub returns-in_err-blocks-clause-fault : goal.returns-in_err-blocks-clause-fault
 returns-in_err-blocks-clause-fault g c =
     let p = err_from_is_err_and c.from_residual-in_err-blocks.result c.from_residual-in_err-blocks.ensures.1 in
-    rw (p.1, p.2) (found_first (IsDropsText (Some c.args.draw) c.args.part c.args.input.now) (IsDropsFault (Some c.args.draw) c.args.input.now) (g.W.Write.contents c.args.writer.now) _ tt)
+    rw (p.1, p.2) (found_first (IsDropsText (Some c.args.draw) c.args.part c.args.input.now)
+    (IsDropsFault (Some c.args.draw) c.args.input.now) (g.W.Write.contents c.args.writer.now) _ tt)
 
 pub returns-in_err-drop_drawn-clause-fault : goal.returns-in_err-drop_drawn-clause-fault
 returns-in_err-drop_drawn-clause-fault g c =
     let p = err_from_is_err_and c.from_residual-in_err-drop_drawn.result c.from_residual-in_err-drop_drawn.ensures.1 in
     let is = rw c.head_of.ensures at c.in_ok-blocks.ensures in
     rw (p.1, p.2)
-    (rows_fail c.args.draw c.args.part c.args.input.now c.in_ok-start.start c.in_ok-pile.pile (g.W.Write.contents c.args.writer.now) (g.W.Write.contents c.drop_drawn.new.writer) c.in_ok-blocks.blocks _
+    (rows_fail c.args.draw c.args.part c.args.input.now c.in_ok-start.start c.in_ok-pile.pile
+    (g.W.Write.contents c.args.writer.now) (g.W.Write.contents c.drop_drawn.new.writer) c.in_ok-blocks.blocks _
     c.in_ok-start.ensures c.in_ok-pile.ensures.settled is c.in_err-drop_drawn.ensures.fault)
 
 pub returns-in_err-push_end-clause-fault : goal.returns-in_err-push_end-clause-fault
@@ -40,8 +45,10 @@ returns-in_err-push_end-clause-fault g c =
     let p = err_from_is_err_and c.from_residual-in_err-push_end.result c.from_residual-in_err-push_end.ensures.1 in
     let is = rw c.head_of.ensures at c.in_ok-blocks.ensures in
     rw (p.1, p.2)
-    (end_fails c.args.draw c.args.part c.args.input.now c.in_ok-start.start c.in_ok-pile.pile c.drop_drawn.new.pile (g.W.Write.contents c.args.writer.now) (g.W.Write.contents c.drop_drawn.new.writer)
-    c.in_ok-blocks.blocks c.drop_drawn.new.blocks c.in_ok-start.ensures c.in_ok-pile.ensures.settled is c.in_ok-drop_drawn.ensures.rows c.in_ok-drop_drawn.ensures.after
+    (end_fails c.args.draw c.args.part c.args.input.now c.in_ok-start.start c.in_ok-pile.pile
+    c.drop_drawn.new.pile (g.W.Write.contents c.args.writer.now) (g.W.Write.contents c.drop_drawn.new.writer)
+    c.in_ok-blocks.blocks c.drop_drawn.new.blocks c.in_ok-start.ensures c.in_ok-pile.ensures.settled
+    is c.in_ok-drop_drawn.ensures.rows c.in_ok-drop_drawn.ensures.after
     (g.W.Write.contents c.push_end.new.writer) _ (rw c.finish-last.ensures at c.in_err-push_end.ensures.err))
 
 pub returns-in_err-finish-clause-fault : goal.returns-in_err-finish-clause-fault
@@ -49,13 +56,21 @@ returns-in_err-finish-clause-fault g c =
     let p = err_from_is_err_and c.from_residual-in_err-finish.result c.from_residual-in_err-finish.ensures.1 in
     let is = rw c.head_of.ensures at c.in_ok-blocks.ensures in
     rw (p.1, p.2)
-    (last_fails c.args.draw c.args.part c.args.input.now c.in_ok-start.start c.in_ok-pile.pile c.drop_drawn.new.pile (g.W.Write.contents c.args.writer.now) (g.W.Write.contents c.drop_drawn.new.writer)
-    c.in_ok-blocks.blocks c.drop_drawn.new.blocks c.in_ok-start.ensures c.in_ok-pile.ensures.settled is c.in_ok-drop_drawn.ensures.rows c.in_ok-drop_drawn.ensures.after
-    (g.W.Write.contents c.push_end.new.writer) c.push_end.new.blocks (rw c.finish-last.ensures at c.in_ok-push_end.ensures.ok) (g.W.Write.contents c.finish.new.writer) _ c.in_err-finish.ensures.err)
+    (last_fails c.args.draw c.args.part c.args.input.now c.in_ok-start.start c.in_ok-pile.pile
+    c.drop_drawn.new.pile (g.W.Write.contents c.args.writer.now) (g.W.Write.contents c.drop_drawn.new.writer)
+    c.in_ok-blocks.blocks c.drop_drawn.new.blocks c.in_ok-start.ensures c.in_ok-pile.ensures.settled
+    is c.in_ok-drop_drawn.ensures.rows c.in_ok-drop_drawn.ensures.after
+    (g.W.Write.contents c.push_end.new.writer) c.push_end.new.blocks
+    (rw c.finish-last.ensures at c.in_ok-push_end.ensures.ok)
+    (g.W.Write.contents c.finish.new.writer) _ c.in_err-finish.ensures.err)
 
 pub returns-clause-done : goal.returns-clause-done
 returns-clause-done g c =
     let is = rw c.head_of.ensures at c.in_ok-blocks.ensures in
-    all_taken c.args.draw c.args.part c.args.input.now c.in_ok-start.start c.in_ok-pile.pile c.drop_drawn.new.pile (g.W.Write.contents c.args.writer.now) (g.W.Write.contents c.drop_drawn.new.writer)
-    c.in_ok-blocks.blocks c.drop_drawn.new.blocks c.in_ok-start.ensures c.in_ok-pile.ensures.settled is c.in_ok-drop_drawn.ensures.rows c.in_ok-drop_drawn.ensures.after
-    (g.W.Write.contents c.push_end.new.writer) c.push_end.new.blocks (rw c.finish-last.ensures at c.in_ok-push_end.ensures.ok) (g.W.Write.contents c.finish.new.writer) c.in_ok-finish.ensures.ok
+    all_taken c.args.draw c.args.part c.args.input.now c.in_ok-start.start c.in_ok-pile.pile
+    c.drop_drawn.new.pile (g.W.Write.contents c.args.writer.now) (g.W.Write.contents c.drop_drawn.new.writer)
+    c.in_ok-blocks.blocks c.drop_drawn.new.blocks c.in_ok-start.ensures c.in_ok-pile.ensures.settled
+    is c.in_ok-drop_drawn.ensures.rows c.in_ok-drop_drawn.ensures.after
+    (g.W.Write.contents c.push_end.new.writer) c.push_end.new.blocks
+    (rw c.finish-last.ensures at c.in_ok-push_end.ensures.ok)
+    (g.W.Write.contents c.finish.new.writer) c.in_ok-finish.ensures.ok

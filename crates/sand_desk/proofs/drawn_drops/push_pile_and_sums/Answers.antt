@@ -27,10 +27,15 @@ pub returns-clause-ok : goal.returns-clause-ok
 returns-clause-ok g c =
     let first = rw c.pile.ensures.value at c.in_ok-push_pile.ensures.ok in
     let second = rw c.lost.ensures at c.in_ok-push_sum.ensures.ok in
-    IfOk-weaker c.push_sum-2.result _ _ (λ _ third. grows_on _ _ _ _ _ _ _ _ (grows_on _ _ _ _ _ _ _ _ first second) (rw c.topplings.ensures at third)) c.push_sum-2.ensures.ok
+    IfOk-weaker c.push_sum-2.result _ _
+    (λ _ third. grows_on _ _ _ _ _ _ _ _ (grows_on _ _ _ _ _ _ _ _ first second) (rw c.topplings.ensures at third))
+    c.push_sum-2.ensures.ok
 
 pub returns-clause-err : goal.returns-clause-err
 returns-clause-err g c =
     let first = rw c.pile.ensures.value at c.in_ok-push_pile.ensures.ok in
     let second = rw c.lost.ensures at c.in_ok-push_sum.ensures.ok in
-    IfErr-weaker c.push_sum-2.result _ _ (λ fault third. breaks_on _ _ _ _ _ _ _ fault (grows_on _ _ _ _ _ _ _ _ first second) (rw c.topplings.ensures at third)) c.push_sum-2.ensures.err
+    IfErr-weaker c.push_sum-2.result _ _
+    (λ fault third.
+    breaks_on _ _ _ _ _ _ _ fault (grows_on _ _ _ _ _ _ _ _ first second) (rw c.topplings.ensures at third))
+    c.push_sum-2.ensures.err

@@ -10,7 +10,8 @@ returns-clause-text c =
       pile = c.in_ok-pile.pile;
       burned = c.in_ok-burned.burned;
       read = c.in_ok-pile.ensures;
-      stable = stable c.in_ok-pile.pile.grid (height_of c.in_ok-pile.pile) (λ high. let is = c.in_ok-burned.ensures.unstable.1 high in cc);
+      stable = stable c.in_ok-pile.pile.grid (height_of c.in_ok-pile.pile)
+          (λ high. let is = c.in_ok-burned.ensures.unstable.1 high in cc);
       found = c.in_ok-burned.ensures.burned;
       written = rw c.shape.ensures.value at written;
     })

@@ -11,7 +11,8 @@ grid p = p.grid
 pub returns-in_err-first-2-clause-fault : goal.returns-in_err-first-2-clause-fault
 returns-in_err-first-2-clause-fault c =
     let p = err_from_is_err_and c.from_residual-in_err-first-2.result c.from_residual-in_err-first-2.ensures.1 in
-    rw (p.1, p.2) (first_refused c.args.input.now c.in_ok-first.first c.in_ok-first.second c.from_pile.result c.in_err-first-2.field-0.0 c.in_ok-first.ensures (record {
+    rw (p.1, p.2) (first_refused c.args.input.now c.in_ok-first.first c.in_ok-first.second
+    c.from_pile.result c.in_err-first-2.field-0.0 c.in_ok-first.ensures (record {
       is = c.in_err-first-2.was;
       unstable = c.from_pile.ensures.unstable;
       not_recurrent = c.from_pile.ensures.not_recurrent;
@@ -21,7 +22,8 @@ returns-in_err-first-2-clause-fault c =
 pub returns-in_err-second-clause-fault : goal.returns-in_err-second-clause-fault
 returns-in_err-second-clause-fault c =
     let p = err_from_is_err_and c.from_residual-in_err-second.result c.from_residual-in_err-second.ensures.1 in
-    rw (p.1, p.2) (second_refused c.args.input.now c.in_ok-first.first c.in_ok-first.second c.from_pile-2.result c.in_err-second.field-0.0 c.in_ok-first.ensures c.in_ok-first-2.ensures.recurrent (record {
+    rw (p.1, p.2) (second_refused c.args.input.now c.in_ok-first.first c.in_ok-first.second c.from_pile-2.result
+    c.in_err-second.field-0.0 c.in_ok-first.ensures c.in_ok-first-2.ensures.recurrent (record {
       is = c.in_err-second.was;
       unstable = c.from_pile-2.ensures.unstable;
       not_recurrent = c.from_pile-2.ensures.not_recurrent;
@@ -37,11 +39,13 @@ returns-clause-text c =
       read = c.in_ok-first.ensures;
       first_recurrent = c.in_ok-first-2.ensures.recurrent;
       second_recurrent = c.in_ok-second.ensures.recurrent;
-      one_shape = ap grid (sym c.in_ok-first-2.ensures.made) ∙ (c.in_ok-sum.ensures.one_shape ∙ ap grid c.in_ok-second.ensures.made);
+      one_shape = ap grid (sym c.in_ok-first-2.ensures.made)
+          ∙ (c.in_ok-sum.ensures.one_shape ∙ ap grid c.in_ok-second.ensures.made);
       answer = record {
         pile = c.in_ok-sum.sum;
         grid = c.in_ok-sum.ensures.settled.grid ∙ ap grid c.in_ok-first-2.ensures.made;
-        one_each = c.in_ok-sum.ensures.settled.one_each ∙ ap (λ (p : PileView). sites p.grid) c.in_ok-first-2.ensures.made;
+        one_each =
+            c.in_ok-sum.ensures.settled.one_each ∙ ap (λ (p : PileView). sites p.grid) c.in_ok-first-2.ensures.made;
         wanted = rw (c.in_ok-first-2.ensures.made, c.in_ok-second.ensures.made) at c.in_ok-sum.ensures.sum;
         written = rw c.pile.ensures.value at written;
       };

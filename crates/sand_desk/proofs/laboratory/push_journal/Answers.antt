@@ -8,7 +8,9 @@ pub loop-number-init : goal.loop-number-init
 loop-number-init c = no_line (λ n e. journal_line c.args.epoch n (dropper_and_site e)) c.args.journal.now _
 
 pub loop-number-preserved : goal.loop-number-preserved
-loop-number-preserved c = one_line_more (λ n e. journal_line c.args.epoch n (dropper_and_site e)) c.args.journal.now c.loop-number.number _ _ _ _ (omega arith) c.in_ok-push_journal_line.ensures c.loop-number.invariant
+loop-number-preserved c = one_line_more (λ n e. journal_line c.args.epoch n (dropper_and_site e)) c.args.journal.now
+    c.loop-number.number _ _ _ _ (omega arith) c.in_ok-push_journal_line.ensures c.loop-number.invariant
 
 pub returns : goal.returns
-returns c = all_lines_of dropper_and_site (journal_line c.args.epoch) c.args.journal.now c.loop-number.number _ _ (omega arith) c.loop-number.invariant
+returns c = all_lines_of dropper_and_site (journal_line c.args.epoch)
+    c.args.journal.now c.loop-number.number _ _ (omega arith) c.loop-number.invariant

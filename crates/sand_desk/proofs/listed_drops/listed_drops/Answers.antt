@@ -14,7 +14,9 @@ drop_all-requires c =
 
 pub returns-clause-text : goal.returns-clause-text
 returns-clause-text c =
-    let noted : AreNoted c.is_pile.result c.in_ok-pile.pile c.in_ok-start.drops.items c.in_ok-rows.rows.items c.drop_all.new.pile = rw c.as_slice.ensures.value at c.in_ok-rows.ensures.rows in
+    let noted : AreNoted c.is_pile.result c.in_ok-pile.pile
+    c.in_ok-start.drops.items c.in_ok-rows.rows.items c.drop_all.new.pile =
+    rw c.as_slice.ensures.value at c.in_ok-rows.ensures.rows in
     let P : ℕ → Type 0 = λ n. AreRows n c.in_ok-pile.pile c.in_ok-start.drops.items noted.0 c.drop_all.new.pile in
     IfOk-weaker c.part_text.result _ _
     (λ text written. record {
@@ -26,7 +28,9 @@ returns-clause-text c =
       read = c.in_ok-start.ensures;
       start = c.in_ok-pile.ensures.settled;
       dropped = subst P c.in_ok-pile.ensures.settled.number noted.1;
-      end = rw c.as_slice.ensures.value at (c.in_ok-rows.ensures.after c.in_ok-start.start c.in_ok-pile.ensures.settled);
-      written = (rw (c.as_slice-2.ensures.value, c.finish-last.ensures) at written) ∙ noted_text c.args.part c.in_ok-rows.rows.items noted.0 c.drop_all.new.pile.settled (rw c.is_pile.ensures at noted.2);
+      end =
+          rw c.as_slice.ensures.value at (c.in_ok-rows.ensures.after c.in_ok-start.start c.in_ok-pile.ensures.settled);
+      written = (rw (c.as_slice-2.ensures.value, c.finish-last.ensures) at written) ∙ noted_text c.args.part
+          c.in_ok-rows.rows.items noted.0 c.drop_all.new.pile.settled (rw c.is_pile.ensures at noted.2);
     })
     c.part_text.ensures.text

@@ -13,7 +13,9 @@ loop-epoch-init c =
     head ∙ no_line (λ n entries. journal_lines n (drops_of entries)) c.args.epochs.now (codes "journal\n")
 
 pub loop-epoch-preserved : goal.loop-epoch-preserved
-loop-epoch-preserved c = one_line_more (λ n entries. journal_lines n (drops_of entries)) c.args.epochs.now c.loop-epoch.epoch _ (codes "journal\n") _ _ (omega arith) c.in_ok-push_epoch.ensures c.loop-epoch.invariant
+loop-epoch-preserved c = one_line_more (λ n entries. journal_lines n (drops_of entries)) c.args.epochs.now
+    c.loop-epoch.epoch _ (codes "journal\n") _ _ (omega arith) c.in_ok-push_epoch.ensures c.loop-epoch.invariant
 
 pub returns : goal.returns
-returns c = all_lines_of drops_of journal_lines c.args.epochs.now c.loop-epoch.epoch (codes "journal\n") _ (omega arith) c.loop-epoch.invariant
+returns c = all_lines_of drops_of journal_lines c.args.epochs.now
+    c.loop-epoch.epoch (codes "journal\n") _ (omega arith) c.loop-epoch.invariant

@@ -11,7 +11,9 @@ pub loop-number-init : goal.loop-number-init
 loop-number-init c = no_line (λ n e. journal_line c.args.epoch n (drop_of e)) c.args.entries.now _
 
 pub loop-number-preserved : goal.loop-number-preserved
-loop-number-preserved c = one_line_more (λ n e. journal_line c.args.epoch n (drop_of e)) c.args.entries.now c.loop-number.number _ _ _ _ (omega arith) c.in_ok-push_journal_line.ensures c.loop-number.invariant
+loop-number-preserved c = one_line_more (λ n e. journal_line c.args.epoch n (drop_of e)) c.args.entries.now
+    c.loop-number.number _ _ _ _ (omega arith) c.in_ok-push_journal_line.ensures c.loop-number.invariant
 
 pub returns : goal.returns
-returns c = all_lines_of drop_of (journal_line c.args.epoch) c.args.entries.now c.loop-number.number _ _ (omega arith) c.loop-number.invariant
+returns c = all_lines_of drop_of (journal_line c.args.epoch) c.args.entries.now
+    c.loop-number.number _ _ (omega arith) c.loop-number.invariant
