@@ -18,8 +18,8 @@ use Rattle.sand_lab.specs.declared.droppers.Dropper.{Dropper}
 use Rattle.sand_lab.specs.declared.observers.Observer.{Observer}
 use Rattle.sand_plan.specs.declared.wish.Wish.{Wish}
 use Rattle.sand_lab.specs.declared.workers.Worker.{Worker}
-use Rattle.sand_lab.specs.Crews.{EachAt, band, due, rowless, banded, IsDropper, IsWorker, IsObserver, IsCrew, HasEmptied, HasTended, HasRead, HasWorked}
-use Rattle.sand_lab.specs.Jobs.{CanDrop, CanSweep, CanWatch, HasDropped, HasSwept, HasWatched, Climbs}
+use Rattle.sand_lab.specs.Crews.{EachAt, band, due, rowless, banded, IsDropper, IsWorker, IsObserver, IsCrew, HasDroppedItsStream, HasSweptItsBand, HasReadItsTallies, HasWorked}
+use Rattle.sand_lab.specs.Jobs.{CanDrop, CanSweep, CanTally, TookDropTurns, TookSweepTurns, TookTallyTurns, Climbs}
 use Rattle.sand_lab.proofs.EachAtItsPlace.{each_zip}
 use Rattle.sand_lab.specs.Streams.{Reading, stream_sites}
 
@@ -49,17 +49,17 @@ can_sweep s n j x is = record {
   swept = is.swept ∙ sym (ap (λ (p : PassView). sum p.counts) is.pass ∙ sum_zeros (count_of (band (grid_of_terms s.terms).height n j) * (grid_of_terms s.terms).width));
 }
 
-pub can_watch : (s : SharedView) (i : ℕ) (o : Observer) → IsObserver s i o → CanWatch s 16 o
-can_watch s i o is = record { of_pile = of_pile s o.pass (rowless s 0) is.pass refl refl; no_tallies = is.tallies; room = is.room }
+pub can_tally : (s : SharedView) (i : ℕ) (o : Observer) → IsObserver s i o → CanTally s 16 o
+can_tally s i o is = record { of_pile = of_pile s o.pass (rowless s 0) is.pass refl refl; no_tallies = is.tallies; room = is.room }
 
-pub can_tend : (s : SharedView) (w : Wish) (j : ℕ) (x : Worker) → HasTended s w j x → CanSweep s x
-can_tend s w j x is = record {
+pub can_sweep_on : (s : SharedView) (w : Wish) (j : ℕ) (x : Worker) → HasSweptItsBand s w j x → CanSweep s x
+can_sweep_on s w j x is = record {
   of_pile = of_pile s x.pass (record (banded s (band (grid_of_terms s.terms).height w.workers j)) { counts = x.pass.counts }) is.pass refl refl;
   swept = is.swept;
 }
 
-pub emptied : (s : SharedView) (w : Wish) (t k : ℕ) (d e : Dropper) → IsDropper s w t k d → HasDropped s w.drops d e → HasEmptied s w t k e
-emptied s w t k d e is has = record {
+pub dropped_its_stream : (s : SharedView) (w : Wish) (t k : ℕ) (d e : Dropper) → IsDropper s w t k d → TookDropTurns s w.drops d e → HasDroppedItsStream s w t k e
+dropped_its_stream s w t k d e is has = record {
   pass = has.kept ∙ ap (λ (p : PassView). record p { left = 0; seen = e.pass.seen; receipts = e.pass.receipts }) is.pass;
   sites = has.sites ∙ ap (λ (r : Reading). stream_sites r.sites r.seed r.stream w.drops) is.sites;
   ascends = has.ascends;
@@ -92,7 +92,7 @@ none_toppled v n i e =
     ap (λ (m : ℕ). cond (leb (v.rows.first * v.grid.width) i) m 0) zero_there ∙ cond_same _ 0
 
 -- a worker that sweeps at least once does what is due
-due_swept : (s : SharedView) (rows : Rows) (turns : ℕ) (w x : Worker) → w.pass ≡ banded s rows → 0 < turns → HasSwept s turns w x → due s.terms.start rows ≤ x.swept
+due_swept : (s : SharedView) (rows : Rows) (turns : ℕ) (w x : Worker) → w.pass ≡ banded s rows → 0 < turns → TookSweepTurns s turns w x → due s.terms.start rows ≤ x.swept
 due_swept s rows turns w x is some has =
     let width = (grid_of_terms s.terms).width in
     let many = count_of rows * width in
@@ -112,8 +112,8 @@ due_swept s rows turns w x is some has =
     let all = quarters hs x.pass.counts short each in
     omega (arith, all, has.can.swept)
 
-pub tended : (s : SharedView) (w : Wish) (j : ℕ) (x y : Worker) → IsWorker s w.workers j x → HasSwept s w.sweeps x y → HasTended s w j y
-tended s w j x y is has = record {
+pub swept_its_band : (s : SharedView) (w : Wish) (j : ℕ) (x y : Worker) → IsWorker s w.workers j x → TookSweepTurns s w.sweeps x y → HasSweptItsBand s w j y
+swept_its_band s w j x y is has = record {
   pass = has.kept ∙ ap (λ (p : PassView). record p { counts = y.pass.counts }) is.pass;
   swept = has.can.swept;
   enough = λ some. due_swept s (band (grid_of_terms s.terms).height w.workers j) w.sweeps x y is.pass some has;
@@ -128,8 +128,8 @@ sums_up (x ∷ xs) (y ∷ ys) long up =
     omega (arith, first, rest, sum_by-cons (λ n. n) x xs, sum_by-cons (λ n. n) y ys)
 
 -- another round undoes nothing
-pub tended_more : (s : SharedView) (w : Wish) (j turns : ℕ) (x y : Worker) → HasTended s w j x → HasSwept s turns x y → HasTended s w j y
-tended_more s w j turns x y is has = record {
+pub swept_more : (s : SharedView) (w : Wish) (j turns : ℕ) (x y : Worker) → HasSweptItsBand s w j x → TookSweepTurns s turns x y → HasSweptItsBand s w j y
+swept_more s w j turns x y is has = record {
   pass = has.kept ∙ ap (λ (p : PassView). record p { counts = y.pass.counts }) is.pass;
   swept = has.can.swept;
   enough = λ some. let more = sums_up x.pass.counts y.pass.counts has.same_rows has.never_fall in omega (arith, is.enough some, is.swept, has.can.swept, more);
@@ -139,33 +139,33 @@ climbs_to : (from top most : ℕ) (ns : List ℕ) → Climbs from ns top → fro
 climbs_to from top most [] h le all = le
 climbs_to from top most (n ∷ ns) h le all = (h.0, climbs_to n top most ns h.1 (all 0 0 (omega arith)) (λ k d lt. all (suc k) d (omega (arith, lt))))
 
-pub has_read : (s : SharedView) (i : ℕ) (o p : Observer) → IsObserver s i o → HasWatched s 16 o p → HasRead s i p
-has_read s i o p is has = record {
+pub read_its_tallies : (s : SharedView) (i : ℕ) (o p : Observer) → IsObserver s i o → TookTallyTurns s 16 o p → HasReadItsTallies s i p
+read_its_tallies s i o p is has = record {
   pass = has.kept ∙ ap (λ (q : PassView). record q { seen = p.pass.seen }) is.pass;
   sixteen = has.as_many;
   climbs = climbs_to 0 p.pass.seen s.terms.quota p.tallies.items has.climbs (omega arith) has.within;
 }
 
 -- what a crew has done
-pub worked : (s : SharedView) (w : Wish) (t : ℕ) (c d : Crew) → IsCrew s w t c → AllZip (HasDropped s w.drops) c.droppers.items d.droppers.items
-    → AllZip (HasSwept s w.sweeps) c.workers.items d.workers.items → AllZip (HasWatched s 16) c.observers.items d.observers.items → HasWorked s w t d
-worked s w t c d is dropped swept watched = record {
-  droppers = each_zip (IsDropper s w t) (HasEmptied s w t) (HasDropped s w.drops) c.droppers.items d.droppers.items is.droppers dropped (emptied s w t);
-  all_droppers = AllZip-long (HasDropped s w.drops) c.droppers.items d.droppers.items dropped ∙ is.all_droppers;
-  workers = each_zip (IsWorker s w.workers) (HasTended s w) (HasSwept s w.sweeps) c.workers.items d.workers.items is.workers swept (tended s w);
-  all_workers = AllZip-long (HasSwept s w.sweeps) c.workers.items d.workers.items swept ∙ is.all_workers;
-  observers = each_zip (IsObserver s) (HasRead s) (HasWatched s 16) c.observers.items d.observers.items is.observers watched (has_read s);
-  all_observers = AllZip-long (HasWatched s 16) c.observers.items d.observers.items watched ∙ is.all_observers;
+pub worked : (s : SharedView) (w : Wish) (t : ℕ) (c d : Crew) → IsCrew s w t c → AllZip (TookDropTurns s w.drops) c.droppers.items d.droppers.items
+    → AllZip (TookSweepTurns s w.sweeps) c.workers.items d.workers.items → AllZip (TookTallyTurns s 16) c.observers.items d.observers.items → HasWorked s w t d
+worked s w t c d is dropped swept tallied = record {
+  droppers = each_zip (IsDropper s w t) (HasDroppedItsStream s w t) (TookDropTurns s w.drops) c.droppers.items d.droppers.items is.droppers dropped (dropped_its_stream s w t);
+  all_droppers = AllZip-long (TookDropTurns s w.drops) c.droppers.items d.droppers.items dropped ∙ is.all_droppers;
+  workers = each_zip (IsWorker s w.workers) (HasSweptItsBand s w) (TookSweepTurns s w.sweeps) c.workers.items d.workers.items is.workers swept (swept_its_band s w);
+  all_workers = AllZip-long (TookSweepTurns s w.sweeps) c.workers.items d.workers.items swept ∙ is.all_workers;
+  observers = each_zip (IsObserver s) (HasReadItsTallies s) (TookTallyTurns s 16) c.observers.items d.observers.items is.observers tallied (read_its_tallies s);
+  all_observers = AllZip-long (TookTallyTurns s 16) c.observers.items d.observers.items tallied ∙ is.all_observers;
 }
 
 -- and after another round of its workers
-pub worked_on : (s : SharedView) (w : Wish) (t turns : ℕ) (c d : Crew) → HasWorked s w t c → AllZip (HasSwept s turns) c.workers.items d.workers.items
+pub worked_on : (s : SharedView) (w : Wish) (t turns : ℕ) (c d : Crew) → HasWorked s w t c → AllZip (TookSweepTurns s turns) c.workers.items d.workers.items
     → d.droppers ≡ c.droppers → d.observers ≡ c.observers → HasWorked s w t d
 worked_on s w t turns c d has swept same also = record {
-  droppers = subst (λ v. EachAt (HasEmptied s w t) v.items) (sym same) has.droppers;
+  droppers = subst (λ v. EachAt (HasDroppedItsStream s w t) v.items) (sym same) has.droppers;
   all_droppers = ap (λ v. length v.items) same ∙ has.all_droppers;
-  workers = each_zip (HasTended s w) (HasTended s w) (HasSwept s turns) c.workers.items d.workers.items has.workers swept (λ j x y. tended_more s w j turns x y);
-  all_workers = AllZip-long (HasSwept s turns) c.workers.items d.workers.items swept ∙ has.all_workers;
-  observers = subst (λ v. EachAt (HasRead s) v.items) (sym also) has.observers;
+  workers = each_zip (HasSweptItsBand s w) (HasSweptItsBand s w) (TookSweepTurns s turns) c.workers.items d.workers.items has.workers swept (λ j x y. swept_more s w j turns x y);
+  all_workers = AllZip-long (TookSweepTurns s turns) c.workers.items d.workers.items swept ∙ has.all_workers;
+  observers = subst (λ v. EachAt (HasReadItsTallies s) v.items) (sym also) has.observers;
   all_observers = ap (λ v. length v.items) also ∙ has.all_observers;
 }

@@ -8,8 +8,8 @@ use Rattle.sand_model.specs.Grid.{sites}
 use Rattle.sand_shared.specs.OpenPile.{grid_of_terms}
 use Rattle.sand_shared.specs.Passes.{SharedView, PassView, IsPassOf, AllBelow}
 use Rattle.sand_lab.specs.declared.droppers.Dropper.{Dropper}
-use Rattle.sand_lab.specs.Jobs.{CanDrop, IsDropping, HasDropped, dropped_at}
-use Rattle.sand_lab.specs.Journals.{Ascends}
+use Rattle.sand_lab.specs.Jobs.{CanDrop, IsDropping, TookDropTurns}
+use Rattle.sand_lab.specs.Journals.{Ascends, receipt_sites}
 use Rattle.sand_lab.specs.Streams.{Reading, site_at}
 
 -- a batch has at least one drop
@@ -32,7 +32,7 @@ begins s turns d can =
       grid = can.grid;
       reading = (λ i. record d.sites { read = can.unread i });
       inside = subst (All (λ i. i < sites (grid_of_terms s.terms))) (sym none) (All-nil (λ i. i < sites (grid_of_terms s.terms)));
-      sites = λ i. dropped_at (bare i) ++ none i;
+      sites = λ i. receipt_sites (bare i) ++ none i;
       ascends = subst Ascends (sym bare) (λ i j e before inside. absurd (omega (arith, before, inside)));
       within = subst (AllBelow s.terms.quota) (sym bare) (All-nil (λ r. r.number < s.terms.quota));
       below = subst (AllBelow d.pass.seen) (sym bare) (All-nil (λ r. r.number < d.pass.seen));
@@ -56,15 +56,15 @@ reads_one s turns n d e f site h more who pass counts reading items room is insi
       grid = h.grid;
       reading = reading ∙ ap (λ (r : Reading). record r { read = r.read + 1 }) h.reading;
       inside = subst (All (λ i. i < sites (grid_of_terms s.terms))) (sym items) (All-push (λ i. i < sites (grid_of_terms s.terms)) e.batch.items site h.inside (omega (arith, inside, many)));
-      sites = rw add-one ((λ i. dropped_at (pass i).receipts ++ items i) ∙ sym (append_assoc (dropped_at e.pass.receipts) e.batch.items (site ∷ [])) ∙ (λ i. h.sites i ++ next i ∷ []));
+      sites = rw add-one ((λ i. receipt_sites (pass i).receipts ++ items i) ∙ sym (append_assoc (receipt_sites e.pass.receipts) e.batch.items (site ∷ [])) ∙ (λ i. h.sites i ++ next i ∷ []));
       ascends = subst (λ (p : PassView). Ascends p.receipts) (sym pass) h.ascends;
       within = subst (λ (p : PassView). AllBelow s.terms.quota p.receipts) (sym pass) h.within;
       below = subst (λ (p : PassView). AllBelow p.seen p.receipts) (sym pass) h.below;
     }
 
 -- a dropper that has read all sites and holds none has dropped on all of them
-pub has_dropped : (s : SharedView) (turns : ℕ) (d e : Dropper) → IsDropping s turns turns d e → e.batch.items ≡ [] → HasDropped s turns d e
-has_dropped s turns d e h none =
+pub took_drop_turns : (s : SharedView) (turns : ℕ) (d e : Dropper) → IsDropping s turns turns d e → e.batch.items ≡ [] → TookDropTurns s turns d e
+took_drop_turns s turns d e h none =
     let long = ap (λ (xs : List ℕ). length xs) none in
     let was = h.left in
     let left : e.pass.left ≡ 0 = omega (arith, long, was) in
@@ -72,7 +72,7 @@ has_dropped s turns d e h none =
       who = h.who;
       of_pile = h.of_pile;
       kept = h.kept ∙ (λ i. record d.pass { left = left i; seen = e.pass.seen; receipts = e.pass.receipts });
-      sites = sym (append-nil (dropped_at e.pass.receipts)) ∙ (λ i. dropped_at e.pass.receipts ++ sym none i) ∙ h.sites;
+      sites = sym (append-nil (receipt_sites e.pass.receipts)) ∙ (λ i. receipt_sites e.pass.receipts ++ sym none i) ∙ h.sites;
       ascends = h.ascends;
       within = h.within;
     }

@@ -19,12 +19,12 @@ use Rattle.sand_lab.specs.declared.journal.Entry.{Entry}
 use Rattle.sand_lab.specs.declared.observers.Observer.{Observer}
 use Rattle.sand_plan.specs.declared.wish.Wish.{Wish}
 use Rattle.sand_lab.specs.declared.workers.Worker.{Worker}
-use Rattle.sand_lab.specs.Crews.{EachAt, band, due, tallies_each, HasEmptied, HasTended, HasRead, HasWorked}
+use Rattle.sand_lab.specs.Crews.{EachAt, band, due, tallies_each, HasDroppedItsStream, HasSweptItsBand, HasReadItsTallies, HasWorked}
 use Rattle.sand_lab.specs.Gathering.{parts_of, all_counts, all_swept, readings, HasGathered}
-use Rattle.sand_lab.specs.Jobs.{Climbs, dropped_at}
-use Rattle.sand_lab.specs.Journals.{Ascends, AreParts, HavePlaces, IsJournal, joined}
+use Rattle.sand_lab.specs.Jobs.{Climbs}
+use Rattle.sand_lab.specs.Journals.{Ascends, AreParts, HavePlaces, IsJournal, flattened, receipt_sites}
 use Rattle.sand_plan.specs.Plans.{IsPlan, quota_of}
-use Rattle.sand_lab.specs.Reports.{AreTallies, AreSwept, IsClosed}
+use Rattle.sand_lab.specs.Epochs.{AreTallies, AreSwept, IsClosed}
 use Rattle.sand_lab.specs.Streams.{stream_of, stream_sites}
 use Rattle.sand_lab.proofs.JournalSites.{journal_sites}
 use Rattle.sand_lab.proofs.JournalFollowsStreams.{follows_streams, length-parts}
@@ -70,9 +70,9 @@ module _ (s : SharedView) (w : Wish) (t : ℕ) (c : Crew) (p : PassView) (quota 
   pub parts : AreParts w.drops (parts_of c.droppers.items) p.receipts
   parts = record {
     whole = flat_map-map (λ (part : List Receipt). part) (λ (d : Dropper). d.pass.receipts) c.droppers.items ∙ sym gathered.receipts;
-    long = all_map (HasEmptied s w t) (λ (part : List Receipt). length part ≡ w.drops) (λ (d : Dropper). d.pass.receipts) c.droppers.items has.droppers
+    long = all_map (HasDroppedItsStream s w t) (λ (part : List Receipt). length part ≡ w.drops) (λ (d : Dropper). d.pass.receipts) c.droppers.items has.droppers
         (λ k d h. sym (length-map d.pass.receipts (λ (r : Receipt). r.site)) ∙ ap length h.sites ∙ length-stream_sites (sites (grid_of_terms s.terms)) w.seed (stream_of t k) w.drops);
-    ascend = all_map (HasEmptied s w t) Ascends (λ (d : Dropper). d.pass.receipts) c.droppers.items has.droppers (λ k d h. h.ascends);
+    ascend = all_map (HasDroppedItsStream s w t) Ascends (λ (d : Dropper). d.pass.receipts) c.droppers.items has.droppers (λ k d h. h.ascends);
   }
 
   pub many_parts : length (parts_of c.droppers.items) ≡ w.droppers
@@ -83,7 +83,7 @@ module _ (s : SharedView) (w : Wish) (t : ℕ) (c : Crew) (p : PassView) (quota 
 
   pub within : AllBelow (length p.receipts) p.receipts
   within =
-      let flat = all_flat (HasEmptied s w t) (λ (r : Receipt). r.number < s.terms.quota) (λ (d : Dropper). d.pass.receipts) c.droppers.items has.droppers (λ k d h. h.within) in
+      let flat = all_flat (HasDroppedItsStream s w t) (λ (r : Receipt). r.number < s.terms.quota) (λ (d : Dropper). d.pass.receipts) c.droppers.items has.droppers (λ k d h. h.within) in
       let these = subst (AllBelow s.terms.quota) (sym gathered.receipts) flat in
       subst (λ (n : ℕ). AllBelow n p.receipts) (quota ∙ sym all_dropped) these
 
@@ -91,8 +91,8 @@ module _ (s : SharedView) (w : Wish) (t : ℕ) (c : Crew) (p : PassView) (quota 
   whole = record { quota = (let none = gathered.left in let all = all_dropped in omega (arith, none, all, quota)); rows = gathered.rows }
 
   -- the lists of the droppers' receipts together are all receipts
-  pub gathered_parts : (lists : List (List Receipt)) → lists ≡ parts_of c.droppers.items → joined lists ≡ p.receipts
-  gathered_parts lists same = ap joined same ∙ parts.whole
+  pub gathered_parts : (lists : List (List Receipt)) → lists ≡ parts_of c.droppers.items → flattened lists ≡ p.receipts
+  gathered_parts lists same = ap flattened same ∙ parts.whole
 
   -- a journal of all drops has an entry for each
   pub places : (lists : List (List Receipt)) (long : ℕ) → lists ≡ parts_of c.droppers.items → long ≡ quota_of w → EachOnce p.receipts → IsPlan w → HavePlaces w.drops lists long
@@ -106,23 +106,23 @@ module _ (s : SharedView) (w : Wish) (t : ℕ) (c : Crew) (p : PassView) (quota 
         few_droppers = (let few = plan.droppers in let many = ap (λ (ps : List (List Receipt)). length ps) same ∙ many_parts in omega (arith, few, many));
       }
 
-  tallied : (tallies : List (List ℕ)) → tallies ≡ readings c.observers.items → AreTallies w tallies
-  tallied tallies e =
+  are_tallies : (tallies : List (List ℕ)) → tallies ≡ readings c.observers.items → AreTallies w tallies
+  are_tallies tallies e =
       let read = subst (λ (q : ℕ). All (λ ts. Climbs 0 ts q) (readings c.observers.items)) quota
-      (all_map (HasRead s) (λ ts. Climbs 0 ts s.terms.quota) (λ (o : Observer). o.tallies.items) c.observers.items has.observers (λ i o h. h.climbs)) in
-      let sixteen = all_map (HasRead s) (λ ts. length ts ≡ tallies_each) (λ (o : Observer). o.tallies.items) c.observers.items has.observers (λ i o h. h.sixteen) in
+      (all_map (HasReadItsTallies s) (λ ts. Climbs 0 ts s.terms.quota) (λ (o : Observer). o.tallies.items) c.observers.items has.observers (λ i o h. h.climbs)) in
+      let sixteen = all_map (HasReadItsTallies s) (λ ts. length ts ≡ tallies_each) (λ (o : Observer). o.tallies.items) c.observers.items has.observers (λ i o h. h.sixteen) in
       record {
         all = ap length e ∙ length-map c.observers.items (λ (o : Observer). o.tallies.items) ∙ has.all_observers;
         as_many = subst (All (λ ts. length ts ≡ tallies_each)) (sym e) sixteen;
         climb = subst (All (λ ts. Climbs 0 ts (quota_of w))) (sym e) read;
       }
 
-  tended : (r : RecordView) (swept : List ℕ) → IsOneThreads r → ((i : ℕ) → slice_index p.counts i ≤ odometer_of r.settled i) → swept ≡ all_swept c.workers.items → AreSwept w s.terms.start r swept
-  tended r swept one below e =
+  are_swept : (r : RecordView) (swept : List ℕ) → IsOneThreads r → ((i : ℕ) → slice_index p.counts i ≤ odometer_of r.settled i) → swept ≡ all_swept c.workers.items → AreSwept w s.terms.start r swept
+  are_swept r swept one below e =
       let same : sum (all_swept c.workers.items) ≡ sum (all_counts c.workers.items) = swept_counts c.workers.items (λ i j x at. (has.workers j x at).swept) in
       let few = counts_few r p.counts one below in
       let long : length swept ≡ w.workers = ap length e ∙ length-map c.workers.items (λ (x : Worker). x.swept) ∙ has.all_workers in
-      let each = each_map (HasTended s w) (λ j n. 0 < w.sweeps → due s.terms.start (band (grid_of_terms s.terms).height w.workers j) ≤ n) (λ (x : Worker). x.swept) c.workers.items has.workers (λ j x h. h.enough) in
+      let each = each_map (HasSweptItsBand s w) (λ j n. 0 < w.sweeps → due s.terms.start (band (grid_of_terms s.terms).height w.workers j) ≤ n) (λ (x : Worker). x.swept) c.workers.items has.workers (λ j x h. h.enough) in
       record {
         all = long;
         few = omega (arith, ap (λ (ns : List ℕ). sum ns) e, same, ap (λ (ns : List ℕ). sum ns) gathered.counts, few);
@@ -130,7 +130,7 @@ module _ (s : SharedView) (w : Wish) (t : ℕ) (c : Crew) (p : PassView) (quota 
             (each j (slice_index (all_swept c.workers.items) j) (slice_get-get_or (all_swept c.workers.items) j 0 (omega (arith, lt, long, ap length e))) some);
       }
 
-  pub closed_is : (r : RecordView) (js : List Entry) (tallies : List (List ℕ)) (swept : List ℕ) → IsJournal w.drops (joined (parts_of c.droppers.items)) js → IsRecordOf s.terms p r
+  pub closed_is : (r : RecordView) (js : List Entry) (tallies : List (List ℕ)) (swept : List ℕ) → IsJournal w.drops (flattened (parts_of c.droppers.items)) js → IsRecordOf s.terms p r
       → tallies ≡ readings c.observers.items → swept ≡ all_swept c.workers.items → IsClosed w s.terms.start t r js tallies swept
   closed_is r js tallies swept written closed read found =
       let once = closed.each_number_once in
@@ -140,7 +140,7 @@ module _ (s : SharedView) (w : Wish) (t : ℕ) (c : Crew) (p : PassView) (quota 
         from_start = closed.start;
         history = journal_sites w.drops p.receipts js r.history journal closed.history once within closed.each_drop_once;
         streams = follows_streams (sites (grid_of_terms s.terms)) w.seed w.droppers w.drops t (parts_of c.droppers.items) p.receipts js parts many_parts once within journal
-            (each_map (HasEmptied s w t) (λ k part. dropped_at part ≡ stream_sites (sites (grid_of_terms s.terms)) w.seed (stream_of t k) w.drops) (λ (d : Dropper). d.pass.receipts) c.droppers.items has.droppers (λ k d h. h.sites));
-        read = tallied tallies read;
-        tended = tended r swept closed.one_threads closed.never_fall found;
+            (each_map (HasDroppedItsStream s w t) (λ k part. receipt_sites part ≡ stream_sites (sites (grid_of_terms s.terms)) w.seed (stream_of t k) w.drops) (λ (d : Dropper). d.pass.receipts) c.droppers.items has.droppers (λ k d h. h.sites));
+        observers = are_tallies tallies read;
+        workers = are_swept r swept closed.one_threads closed.never_fall found;
       }

@@ -9,20 +9,20 @@ use Rattle.std.specs.Prelude.{slice_get}
 use Rattle.sand_shared.specs.declared.view.Receipt.{Receipt}
 use Rattle.sand_shared.specs.Passes.{EachOnce, AllBelow}
 use Rattle.sand_lab.specs.declared.journal.Entry.{Entry}
-use Rattle.sand_lab.specs.Journals.{entry, joined, sites_by, Ascends, AreParts, IsJournal, FollowsStreams}
+use Rattle.sand_lab.specs.Journals.{entry, flattened, receipt_sites, sites_by, Ascends, AreParts, IsJournal, FollowsStreams}
 use Rattle.sand_lab.specs.Streams.{stream_of, stream_sites}
 use Rattle.sand_lab.proofs.JournalSites.{entry_of}
 use Rattle.sand_lab.proofs.EachNumberOnce.{HasNumber}
-use Rattle.sand_lab.proofs.SitesOfOneDropper.{HasEntry, sites_of, picked}
+use Rattle.sand_lab.proofs.SitesOfOneDropper.{HasEntry, picked}
 
 -- the first k parts of d receipts each have k * d receipts
-length-first : (drops k : ℕ) (parts : List (List Receipt)) → All (λ (part : List Receipt). length part ≡ drops) parts → k ≤ length parts → length (joined (take k parts)) ≡ k * drops
+length-first : (drops k : ℕ) (parts : List (List Receipt)) → All (λ (part : List Receipt). length part ≡ drops) parts → k ≤ length parts → length (flattened (take k parts)) ≡ k * drops
 length-first drops zero parts long few = omega arith
 length-first drops (suc k) [] long few = absurd (omega arith)
 length-first drops (suc k) (part ∷ parts) long few =
     let first = long 0 [] (omega arith) in
     let later = length-first drops k parts (λ i d inside. long (suc i) d (omega arith)) (omega arith) in
-    let both = length-append part (joined (take k parts)) in omega arith
+    let both = length-append part (flattened (take k parts)) in omega arith
 
 -- if there is any receipt, no part is empty
 some_each : (n many drops : ℕ) → n < many * drops → 0 < drops
@@ -34,7 +34,7 @@ module _ (drops : ℕ) (parts : List (List Receipt)) (rs : List Receipt) (are : 
   length-parts =
       let every = take_all (length parts) parts (omega arith) in
       let all = length-first drops (length parts) parts are.long (omega arith) in
-      ap (λ (xs : List Receipt). length xs) (sym are.whole) ∙ (ap (λ (ps : List (List Receipt)). length (joined ps)) (sym every) ∙ all)
+      ap (λ (xs : List Receipt). length xs) (sym are.whole) ∙ (ap (λ (ps : List (List Receipt)). length (flattened ps)) (sym every) ∙ all)
 
   module _ (k : ℕ) (part : List Receipt) (there : slice_get parts k ≡ Some part) where
     read : get_or parts k [] ≡ part
@@ -54,7 +54,7 @@ module _ (drops : ℕ) (parts : List (List Receipt)) (rs : List Receipt) (are : 
         let before = length-first drops k parts are.long (omega arith) in
         let fits : i < length (get_or parts k []) = rw read (omega arith) in
         ap (λ (xs : List Receipt). get_or xs (k * drops + i) d) (sym are.whole)
-        ∙ (ap (λ n. get_or (joined parts) (n + i) d) (sym before) ∙ (get_or-flat_map (λ (p : List Receipt). p) parts k i [] d within fits ∙ ap (λ (p : List Receipt). get_or p i d) read))
+        ∙ (ap (λ n. get_or (flattened parts) (n + i) d) (sym before) ∙ (get_or-flat_map (λ (p : List Receipt). p) parts k i [] d within fits ∙ ap (λ (p : List Receipt). get_or p i d) read))
 
     pub place_inside : (i : ℕ) → i < drops → k * drops + i < length rs
     place_inside i inside =
@@ -102,13 +102,13 @@ module _ (drops : ℕ) (parts : List (List Receipt)) (rs : List Receipt) (are : 
           let number = found.3 in (i, r, slice_get-get_or part i r (omega arith) ∙ ap Some same, omega arith)
 
       -- so the k-th dropper's sites are those of the part
-      pub part_sites : sites_by k js ≡ sites_of part
+      pub part_sites : sites_by k js ≡ receipt_sites part
       part_sites = picked k js zero part (record { ascends = ascends; entries = entries; receipts = receipts })
 
 -- if each part has the sites of its dropper's stream, the journal follows the streams
 pub follows_streams : (sites seed droppers drops epoch : ℕ) (parts : List (List Receipt)) (rs : List Receipt) (js : List Entry) → AreParts drops parts rs → length parts ≡ droppers
     → EachOnce rs → AllBelow (length rs) rs → IsJournal drops rs js
-    → ((k : ℕ) (part : List Receipt) → slice_get parts k ≡ Some part → sites_of part ≡ stream_sites sites seed (stream_of epoch k) drops)
+    → ((k : ℕ) (part : List Receipt) → slice_get parts k ≡ Some part → receipt_sites part ≡ stream_sites sites seed (stream_of epoch k) drops)
     → FollowsStreams sites seed droppers drops epoch js
 follows_streams sites seed droppers drops epoch parts rs js are many once below journal streams = record {
   all = journal.one_each ∙ (length-parts drops parts rs are ∙ ap (λ n. n * drops) many);

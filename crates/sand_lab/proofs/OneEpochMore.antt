@@ -1,5 +1,5 @@
 -- A report with one more epoch, and why each epoch stays within the limit.
-use Rattle.std.proofs.Common.{◌≡◌, ℕ, zero, suc, ◌+◌, ◌*◌, ◌<◌, ◌≤◌, List, [], ◌∷◌, ◌++◌, length, sum, sum_by, refl, sym, ap, ◌∙◌, subst, arith, append_assoc, append-nil, length-append}
+use Rattle.std.proofs.Common.{◌≡◌, ℕ, zero, suc, ◌+◌, ◌-◌, ◌*◌, ◌<◌, ◌≤◌, List, [], ◌∷◌, ◌++◌, length, sum, sum_by, refl, sym, ap, ◌∙◌, subst, arith, append_assoc, append-nil, length-append}
 use Rattle.std.proofs.lemmas.List.{length-map}
 use Rattle.std.proofs.lemmas.List.Sums.{sum_by-cons, sum_by-append}
 use Rattle.sand_model.specs.Grid.{sites}
@@ -9,6 +9,7 @@ use Rattle.sand_shared.specs.Record.{RecordView}
 use Rattle.sand_lab.specs.declared.journal.Entry.{Entry}
 use Rattle.sand_plan.specs.declared.wish.Wish.{Wish}
 use Rattle.sand_plan.specs.Plans.{quota_of, all_drops}
+use Rattle.sand_lab.specs.Epochs.{IsClosed}
 use Rattle.sand_lab.specs.Reports.{SheetView, ReportView, report_of, IsEpoch, AreEpochs, IsTotal, IsReportOf, IsBoth, HasGrown, last_pile, histories}
 use Rattle.sand_lab.proofs.RecordBounds.{settled_grains}
 
@@ -78,8 +79,14 @@ report_more album w start n p q r s is e g =
     }
 
 -- an epoch makes as many drops as its quota
-pub epoch_drops : (album : List ℕ) (w : Wish) (start : PileView) (t : ℕ) (r : RecordView) (s : SheetView) → IsEpoch album w start t r s → length r.history ≡ quota_of w
-epoch_drops album w start t r s e = ap length (sym e.closed.history) ∙ length-map s.journal (λ (x : Entry). x.site) ∙ e.closed.streams.all
+pub closed_drops : (w : Wish) (start : PileView) (t : ℕ) (r : RecordView) (js : List Entry)
+    (tallies : List (List ℕ)) (swept : List ℕ) → IsClosed w start t r js tallies swept → length r.history ≡ quota_of w
+closed_drops w start t r js tallies swept is =
+    ap length (sym is.history) ∙ length-map js (λ (x : Entry). x.site) ∙ is.streams.all
+
+pub epoch_drops : (album : List ℕ) (w : Wish) (start : PileView) (t : ℕ) (r : RecordView) (s : SheetView)
+    → IsEpoch album w start t r s → length r.history ≡ quota_of w
+epoch_drops album w start t r s e = closed_drops w start t r s.journal s.tallies s.swept e.closed
 
 all_dropped : (album : List ℕ) (w : Wish) (start : PileView) (t : ℕ) (rs : List RecordView) (ss : List SheetView) → AreEpochs album w start t rs ss → length (histories rs) ≡ length rs * quota_of w
 all_dropped album w start t [] ss h = omega arith
@@ -96,6 +103,11 @@ dropped_so_far album w start n p is = ap length is.total.history ∙ all_dropped
 
 one_more : (n epochs quota : ℕ) → n < epochs → n * quota + quota ≤ quota * epochs
 one_more n epochs quota lt = grind (arith, lt)
+
+-- the first epoch and the later ones
+pub first_and_later : (epochs quota : ℕ) → 0 < epochs → quota + quota * (epochs - 1) ≡ quota * epochs
+first_and_later zero quota some = absurd (omega (arith, some))
+first_and_later (suc n) quota some = grind arith
 
 -- each epoch has room for its drops
 pub room_for_epoch : (album : List ℕ) (w : Wish) (start : PileView) (n : ℕ) (p : ReportView) → IsReportOf album w start n p → n < w.epochs → sum start.heights + all_drops w ≤ most_grains

@@ -9,8 +9,8 @@ use Rattle.std.proofs.lemmas.List.Quantifiers.{all_pairs_push}
 use Rattle.sand_shared.specs.Events.{receipt, receipts_from}
 use Rattle.sand_shared.specs.Passes.{PassView, AllBelow, at_rest}
 use Rattle.sand_shared.specs.Sweeps.{LeavesAtMost, SweptRows}
-use Rattle.sand_lab.specs.Journals.{Ascends}
-use Rattle.sand_lab.specs.Jobs.{Climbs, dropped_at}
+use Rattle.sand_lab.specs.Journals.{Ascends, receipt_sites}
+use Rattle.sand_lab.specs.Jobs.{Climbs}
 
 -- a receipt whose number is at least what was seen
 pub ascends_push : (seen : ℕ) (rs : List Receipt) (r : Receipt) → Ascends rs → AllBelow seen rs → seen ≤ r.number → Ascends (rs ++ r ∷ [])
@@ -37,18 +37,18 @@ within_row n most rs (i ∷ is) below le = All-append (λ (r : Receipt). r.numbe
 pub below_row : (seen n : ℕ) (rs : List Receipt) (is : List ℕ) → AllBelow seen rs → seen ≤ n → AllBelow (n + length is) (rs ++ receipts_from n is)
 below_row seen n rs is below le = within_row n (n + length is) rs is (λ k d lt. let one = below k d lt in omega (arith, one, le)) (λ some. omega arith)
 
-pub dropped_row : (n : ℕ) (rs : List Receipt) (is : List ℕ) → dropped_at (rs ++ receipts_from n is) ≡ dropped_at rs ++ is
-dropped_row n [] [] = refl
-dropped_row n [] (i ∷ is) = ap (λ ns. i ∷ ns) (dropped_row (n + 1) [] is)
-dropped_row n (r ∷ rs) is = ap (λ ns. r.site ∷ ns) (dropped_row n rs is)
+pub sites_row : (n : ℕ) (rs : List Receipt) (is : List ℕ) → receipt_sites (rs ++ receipts_from n is) ≡ receipt_sites rs ++ is
+sites_row n [] [] = refl
+sites_row n [] (i ∷ is) = ap (λ ns. i ∷ ns) (sites_row (n + 1) [] is)
+sites_row n (r ∷ rs) is = ap (λ ns. r.site ∷ ns) (sites_row n rs is)
 
 pub climbs_push : (from mid : ℕ) (ns : List ℕ) (n : ℕ) → Climbs from ns mid → mid ≤ n → Climbs from (ns ++ n ∷ []) n
 climbs_push from mid [] n h le = (omega arith, omega arith)
 climbs_push from mid (x ∷ ns) n h le = (h.0, climbs_push x mid ns n h.1 le)
 
-pub dropped_push : (rs : List Receipt) (r : Receipt) → dropped_at (rs ++ r ∷ []) ≡ dropped_at rs ++ r.site ∷ []
-dropped_push [] r = refl
-dropped_push (x ∷ rs) r = ap (λ ns. x.site ∷ ns) (dropped_push rs r)
+pub sites_push : (rs : List Receipt) (r : Receipt) → receipt_sites (rs ++ r ∷ []) ≡ receipt_sites rs ++ r.site ∷ []
+sites_push [] r = refl
+sites_push (x ∷ rs) r = ap (λ ns. x.site ∷ ns) (sites_push rs r)
 
 pub zip_append : {A B : Type 0} (R : A → B → Type 0) (xs ys : List A) (us vs : List B) → AllZip R xs us → AllZip R ys vs → AllZip R (xs ++ ys) (us ++ vs)
 zip_append R [] ys [] vs h k = k

@@ -12,7 +12,7 @@ pub record IsSheet (album : List ℕ) (w : Wish) (t : ℕ) (s : SheetView) : Typ
   pub place : IsPlace album t s.place
 
 sheet_of : (album : List ℕ) (w : Wish) (start : PileView) (t : ℕ) (r : RecordView) (s : SheetView) → IsEpoch album w start t r s → IsSheet album w t s
-sheet_of album w start t r s epoch = record { tallies = epoch.closed.read.all; swept = epoch.closed.tended.all; place = epoch.place }
+sheet_of album w start t r s epoch = record { tallies = epoch.closed.observers.all; swept = epoch.closed.workers.all; place = epoch.place }
 
 -- the sheets start at epoch `from`, so the one at index t is that of epoch from + t
 sheets_of : (album : List ℕ) (w : Wish) (none : SheetView) (start : PileView) (from : ℕ) (rs : List RecordView) (ss : List SheetView) → AreEpochs album w start from rs ss

@@ -1,15 +1,12 @@
 -- The sites of one dropper, picked from a journal, are those of its receipts.
-use Rattle.std.proofs.Common.{ℕ, zero, suc, ◌≡◌, ◌≢◌, ◌+◌, ◌<◌, List, [], ◌∷◌, map, Some, refl, ap, ap₂, ⊎_elim, arith}
+use Rattle.std.proofs.Common.{ℕ, zero, suc, ◌≡◌, ◌≢◌, ◌+◌, ◌<◌, List, [], ◌∷◌, Some, refl, ap, ap₂, ⊎_elim, arith}
 use Rattle.std.proofs.lemmas.Bool.{cases_eq, eq-eqb, ne_eqb}
 use Rattle.std.proofs.lemmas.Option.{none-some, same_Some, get_or_from_slice_get, slice_get_within}
 use Rattle.std.specs.Prelude.{slice_get}
 use Rattle.sand_shared.specs.declared.view.Receipt.{Receipt}
 use Rattle.sand_lab.specs.declared.journal.Entry.{Entry}
-use Rattle.sand_lab.specs.Journals.{entry, sites_by, Ascends}
+use Rattle.sand_lab.specs.Journals.{entry, receipt_sites, sites_by, Ascends}
 use Rattle.sand_lab.proofs.EachNumberOnce.{HasNumber}
-
-abbrev pub sites_of : List Receipt → List ℕ
-sites_of rs = map (λ (r : Receipt). r.site) rs
 
 -- Below, js is the tail of a journal, whose entries are numbered from m on.
 
@@ -81,9 +78,9 @@ past_other k m e js rs given other = record {
 
 -- so the dropper's sites are those of its receipts
 abbrev pub Picked : ℕ → List Entry → Type 0
-Picked k js = (m : ℕ) (rs : List Receipt) → Matches k m js rs → sites_by k js ≡ sites_of rs
+Picked k js = (m : ℕ) (rs : List Receipt) → Matches k m js rs → sites_by k js ≡ receipt_sites rs
 
-picked_first : (k m : ℕ) (e : Entry) (js : List Entry) (rs : List Receipt) → Picked k js → Matches k m (e ∷ js) rs → e.dropper ≡ k → e.site ∷ sites_by k js ≡ sites_of rs
+picked_first : (k m : ℕ) (e : Entry) (js : List Entry) (rs : List Receipt) → Picked k js → Matches k m (e ∷ js) rs → e.dropper ≡ k → e.site ∷ sites_by k js ≡ receipt_sites rs
 picked_first k m e js [] later given is = absurd (none-some _ (given.receipts zero e refl is).2)
 picked_first k m e js (r ∷ rs) later given is =
     let first = first_number k m e js r rs given is in

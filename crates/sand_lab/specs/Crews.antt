@@ -13,8 +13,8 @@ use Rattle.sand_lab.specs.declared.droppers.Dropper.{Dropper}
 use Rattle.sand_lab.specs.declared.observers.Observer.{Observer}
 use Rattle.sand_plan.specs.declared.wish.Wish.{Wish}
 use Rattle.sand_lab.specs.declared.workers.Worker.{Worker}
-use Rattle.sand_lab.specs.Jobs.{dropped_at, Climbs}
-use Rattle.sand_lab.specs.Journals.{Ascends}
+use Rattle.sand_lab.specs.Jobs.{Climbs}
+use Rattle.sand_lab.specs.Journals.{Ascends, receipt_sites}
 use Rattle.sand_lab.specs.Streams.{stream_of, stream_sites}
 
 -- P holds of each element at its index
@@ -84,31 +84,31 @@ pub record IsCrew (s : SharedView) (w : Wish) (epoch : ℕ) (c : Crew) : Type 0 
 -- After
 
 -- it has dropped its whole quota at the sites of its stream, in order
-pub record HasEmptied (s : SharedView) (w : Wish) (epoch k : ℕ) (d : Dropper) : Type 0 where
+pub record HasDroppedItsStream (s : SharedView) (w : Wish) (epoch k : ℕ) (d : Dropper) : Type 0 where
   pub pass : d.pass ≡ record (rowless s 0) { seen = d.pass.seen; receipts = d.pass.receipts }
-  pub sites : dropped_at d.pass.receipts ≡ stream_sites (sites (grid_of_terms s.terms)) w.seed (stream_of epoch k) w.drops
+  pub sites : receipt_sites d.pass.receipts ≡ stream_sites (sites (grid_of_terms s.terms)) w.seed (stream_of epoch k) w.drops
   pub ascends : Ascends d.pass.receipts
   pub within : AllBelow s.terms.quota d.pass.receipts
 
 -- it has swept its band; if at least once, it has toppled what was due there
-pub record HasTended (s : SharedView) (w : Wish) (j : ℕ) (x : Worker) : Type 0 where
+pub record HasSweptItsBand (s : SharedView) (w : Wish) (j : ℕ) (x : Worker) : Type 0 where
   pub pass : x.pass ≡ record (banded s (band (grid_of_terms s.terms).height w.workers j)) { counts = x.pass.counts }
   pub swept : x.swept ≡ sum x.pass.counts
   pub enough : 0 < w.sweeps → due s.terms.start (band (grid_of_terms s.terms).height w.workers j) ≤ x.swept
 
 -- it has read its tallies, which never fell and never exceeded the quota
-pub record HasRead (s : SharedView) (i : ℕ) (o : Observer) : Type 0 where
+pub record HasReadItsTallies (s : SharedView) (i : ℕ) (o : Observer) : Type 0 where
   pub pass : o.pass ≡ record (rowless s 0) { seen = o.pass.seen }
   pub sixteen : length o.tallies.items ≡ tallies_each
   pub climbs : Climbs 0 o.tallies.items s.terms.quota
 
 -- a crew that has done its work
 pub record HasWorked (s : SharedView) (w : Wish) (epoch : ℕ) (c : Crew) : Type 0 where
-  pub droppers : EachAt (HasEmptied s w epoch) c.droppers.items
+  pub droppers : EachAt (HasDroppedItsStream s w epoch) c.droppers.items
   pub all_droppers : length c.droppers.items ≡ w.droppers
-  pub workers : EachAt (HasTended s w) c.workers.items
+  pub workers : EachAt (HasSweptItsBand s w) c.workers.items
   pub all_workers : length c.workers.items ≡ w.workers
-  pub observers : EachAt (HasRead s) c.observers.items
+  pub observers : EachAt (HasReadItsTallies s) c.observers.items
   pub all_observers : length c.observers.items ≡ w.observers
 
 -- in any epoch, its work has turned the crew c into d

@@ -1,21 +1,17 @@
 -- What droppers, workers and observers do with their passes in a number of turns.
-use Rattle.std.specs.Prelude.{ℕ, ◌≡◌, ◌+◌, ◌-◌, ◌*◌, ◌<◌, ◌≤◌, List, [], ◌∷◌, ◌++◌, All, length, map, sum, slice_index, vec_capacity}
+use Rattle.std.specs.Prelude.{ℕ, ◌≡◌, ◌+◌, ◌-◌, ◌*◌, ◌<◌, ◌≤◌, List, [], ◌∷◌, ◌++◌, All, length, sum, slice_index, vec_capacity}
 use Rattle.std.specs.Int.{div_ceil}
 use Rattle.sand_model.specs.Grid.{sites}
-use Rattle.sand_shared.specs.declared.view.Receipt.{Receipt}
 use Rattle.sand_shared.specs.OpenPile.{grid_of_terms}
 use Rattle.sand_shared.specs.Passes.{SharedView, IsPassOf, AllBelow, at_rest}
 use Rattle.sand_shared.specs.Sweeps.{LeavesAtMost}
-use Rattle.sand_lab.specs.Journals.{Ascends}
+use Rattle.sand_lab.specs.Journals.{Ascends, receipt_sites}
 use Rattle.sand_lab.specs.Streams.{stream_sites}
 use Rattle.sand_lab.specs.declared.droppers.Dropper.{Dropper}
 use Rattle.sand_lab.specs.declared.workers.Worker.{Worker}
 use Rattle.sand_lab.specs.declared.observers.Observer.{Observer}
 
 -- Droppers
-
-abbrev pub dropped_at : List Receipt → List ℕ
-dropped_at receipts = map (λ (r : Receipt). r.site) receipts
 
 -- a dropper that has not begun, has `turns` grains to drop, and has room for a batch of a sixteenth of them
 pub record CanDrop (s : SharedView) (turns : ℕ) (d : Dropper) : Type 0 where
@@ -40,17 +36,17 @@ pub record IsDropping (s : SharedView) (turns read : ℕ) (d e : Dropper) : Type
   pub grid : d.sites.sites ≡ sites (grid_of_terms s.terms)
   pub reading : e.sites ≡ record d.sites { read = read }
   pub inside : All (λ i. i < sites (grid_of_terms s.terms)) e.batch.items
-  pub sites : dropped_at e.pass.receipts ++ e.batch.items ≡ stream_sites d.sites.sites d.sites.seed d.sites.stream read
+  pub sites : receipt_sites e.pass.receipts ++ e.batch.items ≡ stream_sites d.sites.sites d.sites.seed d.sites.stream read
   pub ascends : Ascends e.pass.receipts
   pub within : AllBelow s.terms.quota e.pass.receipts
   pub below : AllBelow e.pass.seen e.pass.receipts
 
--- it has dropped all of them, at the sites of its stream, in order
-pub record HasDropped (s : SharedView) (turns : ℕ) (d e : Dropper) : Type 0 where
+-- in `turns` turns d became e: it has dropped a grain in each, at the sites of its stream, in order
+pub record TookDropTurns (s : SharedView) (turns : ℕ) (d e : Dropper) : Type 0 where
   pub who : e.who ≡ d.who
   pub of_pile : IsPassOf s e.pass
   pub kept : e.pass ≡ record d.pass { left = 0; seen = e.pass.seen; receipts = e.pass.receipts }
-  pub sites : dropped_at e.pass.receipts ≡ stream_sites d.sites.sites d.sites.seed d.sites.stream turns
+  pub sites : receipt_sites e.pass.receipts ≡ stream_sites d.sites.sites d.sites.seed d.sites.stream turns
   pub ascends : Ascends e.pass.receipts
   pub within : AllBelow s.terms.quota e.pass.receipts
 
@@ -61,9 +57,9 @@ pub record CanSweep (s : SharedView) (w : Worker) : Type 0 where
   pub of_pile : IsPassOf s w.pass
   pub swept : w.swept ≡ sum w.pass.counts
 
--- it has swept its rows; if at least once, each site has toppled at least k div 4 times (k as in `Sweeps` of
--- sand_shared)
-pub record HasSwept (s : SharedView) (turns : ℕ) (w x : Worker) : Type 0 where
+-- in `turns` turns w became x: it has swept its rows in each; if at least once, each site has toppled at least k div 4
+-- times (k as in `Sweeps` of sand_shared)
+pub record TookSweepTurns (s : SharedView) (turns : ℕ) (w x : Worker) : Type 0 where
   pub who : x.who ≡ w.who
   pub can : CanSweep s x
   pub kept : x.pass ≡ record w.pass { counts = x.pass.counts }
@@ -80,13 +76,13 @@ Climbs from [] to = from ≤ to
 Climbs from (n ∷ ns) to = (from ≤ n) × Climbs n ns to
 
 -- an observer that has not begun, with room for `turns` tallies
-pub record CanWatch (s : SharedView) (turns : ℕ) (o : Observer) : Type 0 where
+pub record CanTally (s : SharedView) (turns : ℕ) (o : Observer) : Type 0 where
   pub of_pile : IsPassOf s o.pass
   pub no_tallies : o.tallies.items ≡ []
   pub room : turns ≤ vec_capacity o.tallies
 
--- it has read `turns` tallies, each at most the quota
-pub record HasWatched (s : SharedView) (turns : ℕ) (o p : Observer) : Type 0 where
+-- in `turns` turns o became p: it has read a tally in each, at most the quota
+pub record TookTallyTurns (s : SharedView) (turns : ℕ) (o p : Observer) : Type 0 where
   pub who : p.who ≡ o.who
   pub of_pile : IsPassOf s p.pass
   pub kept : p.pass ≡ record o.pass { seen = p.pass.seen }

@@ -17,6 +17,10 @@ sites_in journal = map (λ e. e.site) journal
 abbrev pub sites_by : ℕ → List Entry → List ℕ
 sites_by dropper journal = sites_in (filter (λ e. e.dropper == dropper) journal)
 
+-- the sites of receipts, in order
+abbrev pub receipt_sites : List Receipt → List ℕ
+receipt_sites receipts = map (λ (r : Receipt). r.site) receipts
+
 -- each receipt has a greater number than those before it
 abbrev pub Ascends : List Receipt → Type 0
 Ascends receipts = AllPairs (λ r s. r.number < s.number) receipts
@@ -25,22 +29,23 @@ Ascends receipts = AllPairs (λ r s. r.number < s.number) receipts
 abbrev pub lists : List (Vec Receipt Global) → List (List Receipt)
 lists parts = map (λ part. part.items) parts
 
-abbrev pub joined : List (List Receipt) → List Receipt
-joined parts = flat_map (λ (part : List Receipt). part) parts
+-- the parts one after another
+abbrev pub flattened : List (List Receipt) → List Receipt
+flattened parts = flat_map (λ (part : List Receipt). part) parts
 
 -- the receipts are the parts one after another; each part has `drops` receipts, with ascending numbers
 pub record AreParts (drops : ℕ) (parts : List (List Receipt)) (receipts : List Receipt) : Type 0 where
-  pub whole : joined parts ≡ receipts
+  pub whole : flattened parts ≡ receipts
   pub long : All (λ part. length part ≡ drops) parts
   pub ascend : All Ascends parts
 
 -- such parts of at most 2^32 droppers, in which each number below their length occurs once, so that a journal of length
 -- `long` has an entry for each receipt
 pub record HavePlaces (drops : ℕ) (parts : List (List Receipt)) (long : ℕ) : Type 0 where
-  pub are_parts : AreParts drops parts (joined parts)
-  pub one_each : long ≡ length (joined parts)
-  pub once : EachOnce (joined parts)
-  pub below : AllBelow (length (joined parts)) (joined parts)
+  pub are_parts : AreParts drops parts (flattened parts)
+  pub one_each : long ≡ length (flattened parts)
+  pub once : EachOnce (flattened parts)
+  pub below : AllBelow (length (flattened parts)) (flattened parts)
   pub few_droppers : length parts ≤ 2 ^ 32
 
 -- the entry of each of a dropper's receipts is at its number

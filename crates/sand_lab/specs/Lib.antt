@@ -5,5 +5,6 @@ pub mod Jobs
 pub mod Albums
 pub mod Crews
 pub mod Gathering
+pub mod Epochs
 pub mod Reports
 pub mod Laws

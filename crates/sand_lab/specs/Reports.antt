@@ -1,6 +1,6 @@
 -- The result of a run: a record of each epoch, with its journal, its tallies, what its workers swept and the album's
 -- note of it; and one record of all epochs.
-use Rattle.std.specs.Prelude.{ℕ, ◌≡◌, ◌+◌, ◌<◌, ◌≤◌, List, [], ◌∷◌, ◌++◌, Option, Some, None, All, length, sum, sum_by, slice_index, slice_index_or}
+use Rattle.std.specs.Prelude.{ℕ, ◌≡◌, ◌+◌, ◌<◌, List, [], ◌∷◌, ◌++◌, Option, Some, None, length, sum_by, slice_index_or}
 use Rattle.std.specs.List.{flat_map}
 use Rattle.sand_model.specs.Grid.{sites}
 use Rattle.sand_model.specs.Piles.{PileView}
@@ -9,10 +9,7 @@ use Rattle.sand_shared.specs.Record.{RecordView, IsOneThreads}
 use Rattle.sand_lab.specs.declared.journal.Entry.{Entry}
 use Rattle.sand_plan.specs.declared.wish.Wish.{Wish}
 use Rattle.sand_lab.specs.Albums.{PictureView, IsPlace}
-use Rattle.sand_lab.specs.Crews.{band, due, tallies_each}
-use Rattle.sand_lab.specs.Jobs.{Climbs}
-use Rattle.sand_lab.specs.Journals.{FollowsStreams, sites_in}
-use Rattle.sand_plan.specs.Plans.{quota_of}
+use Rattle.sand_lab.specs.Epochs.{IsClosed}
 
 -- what is kept of an epoch with its record; `place` names the album's place, and `shown` is what the note of it knows
 pub record SheetView : Type 0 where
@@ -27,29 +24,7 @@ pub record ReportView : Type 0 where
   pub sheets : List SheetView
   pub total : RecordView
 
--- the tallies of each observer never fell and never exceeded the quota
-pub record AreTallies (w : Wish) (tallies : List (List ℕ)) : Type 0 where
-  pub all : length tallies ≡ w.observers
-  pub as_many : All (λ ts. length ts ≡ tallies_each) tallies
-  pub climb : All (λ ts. Climbs 0 ts (quota_of w)) tallies
-
--- the workers swept no more than toppled in all; with at least one sweep, each swept at least what was due in its band
-pub record AreSwept (w : Wish) (start : PileView) (r : RecordView) (swept : List ℕ) : Type 0 where
-  pub all : length swept ≡ w.workers
-  pub few : sum swept ≤ r.settled.topplings
-  pub enough : 0 < w.sweeps → (j : ℕ) → j < w.workers → due start (band start.grid.height w.workers j) ≤ slice_index swept j
-
--- epoch t is closed: the history has the drops of the journal, and there each dropper has the sites of its stream
-pub record IsClosed (w : Wish) (start : PileView) (t : ℕ) (r : RecordView)
-    (journal : List Entry) (tallies : List (List ℕ)) (swept : List ℕ) : Type 0 where
-  pub one_threads : IsOneThreads r
-  pub from_start : r.start ≡ start
-  pub history : sites_in journal ≡ r.history
-  pub streams : FollowsStreams (sites start.grid) w.seed w.droppers w.drops t journal
-  pub read : AreTallies w tallies
-  pub tended : AreSwept w start r swept
-
--- and the album's place t shows its record
+-- epoch t is closed, and the album's place t shows its record
 pub record IsEpoch (album : List ℕ) (w : Wish) (start : PileView) (t : ℕ) (r : RecordView) (s : SheetView) : Type 0 where
   pub closed : IsClosed w start t r s.journal s.tallies s.swept
   pub place : IsPlace album t s.place

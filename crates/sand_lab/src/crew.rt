@@ -4,7 +4,7 @@ ghost use Rattle.std.specs.Prelude.{◌≡◌, ◌↔◌, ℕ, All, IsTrue};
 ghost use Rattle.std.specs.List.{AllZip};
 ghost use Rattle.std.specs.Thread.{IsSync};
 ghost use Rattle.sand_lab.specs.Crews.{IsCrew, HasBecome, HasWorked, tallies_each};
-ghost use Rattle.sand_lab.specs.Jobs.{CanDrop, CanSweep, CanWatch, HasDropped, HasSwept, HasWatched};
+ghost use Rattle.sand_lab.specs.Jobs.{CanDrop, CanSweep, CanTally, TookDropTurns, TookSweepTurns, TookTallyTurns};
 ghost use Rattle.sand_plan.specs.declared.wish.Wish.{Wish};
 
 use crate::droppers::Dropper;
@@ -38,7 +38,7 @@ fn do_list<R: Threads + Sync, G: Gate, W: Work>(
 }
 
 // Workers sweep while observers read the tally.
-fn sweep_and_watch<R: Threads + Sync, G: Gate>(
+fn sweep_and_tally<R: Threads + Sync, G: Gate>(
     rt: &R,
     pile: &SharedPile,
     gate: &G,
@@ -47,19 +47,19 @@ fn sweep_and_watch<R: Threads + Sync, G: Gate>(
     observers: &mut Vec<Observer>,
 )
     requires workers { All (CanSweep pile.now) workers.old.items }
-    requires observers { All (CanWatch pile.now tallies_each) observers.old.items }
-    ensures workers { AllZip (HasSwept pile.now sweeps) workers.old.items workers.new.items }
-    ensures observers { AllZip (HasWatched pile.now tallies_each) observers.old.items observers.new.items }
+    requires observers { All (CanTally pile.now tallies_each) observers.old.items }
+    ensures workers { AllZip (TookSweepTurns pile.now sweeps) workers.old.items workers.new.items }
+    ensures observers { AllZip (TookTallyTurns pile.now tallies_each) observers.old.items observers.new.items }
 {
     join_mut(
         rt,
         &mut ||
             requires { IsSync R.row × IsSync G.row × All (CanSweep pile.now) workers.now.items }
-            ensures { AllZip (HasSwept pile.entry.now sweeps) workers.entry.now.items workers.exit.now.items }
+            ensures { AllZip (TookSweepTurns pile.entry.now sweeps) workers.entry.now.items workers.exit.now.items }
         { do_list(rt, pile, gate, sweeps, workers) },
         &mut ||
-            requires { IsSync R.row × IsSync G.row × All (CanWatch pile.now tallies_each) observers.now.items }
-            ensures { AllZip (HasWatched pile.entry.now tallies_each) observers.entry.now.items observers.exit.now.items }
+            requires { IsSync R.row × IsSync G.row × All (CanTally pile.now tallies_each) observers.now.items }
+            ensures { AllZip (TookTallyTurns pile.entry.now tallies_each) observers.entry.now.items observers.exit.now.items }
         { do_list(rt, pile, gate, TALLIES, observers) },
     );
 }
@@ -75,22 +75,22 @@ fn all_work<R: Threads + Sync, G: Gate>(
 )
     requires droppers { All (CanDrop pile.now wish.drops) droppers.old.items }
     requires workers { All (CanSweep pile.now) workers.old.items }
-    requires observers { All (CanWatch pile.now tallies_each) observers.old.items }
-    ensures droppers { AllZip (HasDropped pile.now wish.drops) droppers.old.items droppers.new.items }
-    ensures workers { AllZip (HasSwept pile.now wish.sweeps) workers.old.items workers.new.items }
-    ensures observers { AllZip (HasWatched pile.now tallies_each) observers.old.items observers.new.items }
+    requires observers { All (CanTally pile.now tallies_each) observers.old.items }
+    ensures droppers { AllZip (TookDropTurns pile.now wish.drops) droppers.old.items droppers.new.items }
+    ensures workers { AllZip (TookSweepTurns pile.now wish.sweeps) workers.old.items workers.new.items }
+    ensures observers { AllZip (TookTallyTurns pile.now tallies_each) observers.old.items observers.new.items }
 {
     join_mut(
         rt,
         &mut ||
             requires { IsSync R.row × IsSync G.row × All (CanDrop pile.now wish.drops) droppers.now.items }
-            ensures { AllZip (HasDropped pile.entry.now wish.drops) droppers.entry.now.items droppers.exit.now.items }
+            ensures { AllZip (TookDropTurns pile.entry.now wish.drops) droppers.entry.now.items droppers.exit.now.items }
         { do_list(rt, pile, gate, wish.drops, droppers) },
         &mut ||
-            requires { IsSync R.row × IsSync G.row × All (CanSweep pile.now) workers.now.items × All (CanWatch pile.now tallies_each) observers.now.items }
-            ensures workers { AllZip (HasSwept pile.entry.now wish.sweeps) workers.entry.now.items workers.exit.now.items }
-            ensures observers { AllZip (HasWatched pile.entry.now tallies_each) observers.entry.now.items observers.exit.now.items }
-        { sweep_and_watch(rt, pile, gate, wish.sweeps, workers, observers) },
+            requires { IsSync R.row × IsSync G.row × All (CanSweep pile.now) workers.now.items × All (CanTally pile.now tallies_each) observers.now.items }
+            ensures workers { AllZip (TookSweepTurns pile.entry.now wish.sweeps) workers.entry.now.items workers.exit.now.items }
+            ensures observers { AllZip (TookTallyTurns pile.entry.now tallies_each) observers.entry.now.items observers.exit.now.items }
+        { sweep_and_tally(rt, pile, gate, wish.sweeps, workers, observers) },
     );
 }
 

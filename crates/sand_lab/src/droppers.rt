@@ -7,7 +7,7 @@
 
 ghost use Rattle.std.specs.Prelude.{◌≡◌, ℕ, ◌+◌, ◌<◌, [], length};
 ghost use Rattle.std.specs.Int.{div_ceil};
-ghost use Rattle.sand_lab.specs.Jobs.{CanDrop, HasDropped, IsDropping};
+ghost use Rattle.sand_lab.specs.Jobs.{CanDrop, TookDropTurns, IsDropping};
 
 use crate::gate::{Gate, Role};
 use crate::work::Work;
@@ -81,11 +81,11 @@ impl Dropper {
 }
 
 impl Work for Dropper {
-    ghost use Rattle.sand_lab.specs.Jobs.{CanDrop, HasDropped};
+    ghost use Rattle.sand_lab.specs.Jobs.{CanDrop, TookDropTurns};
 
     ghost ready = { CanDrop };
 
-    ghost done = { HasDropped };
+    ghost done = { TookDropTurns };
 
     fn take_turns<G: Gate>(&mut self, pile: &SharedPile, gate: &G, turns: u32) {
         let holds = gate.holds();

@@ -6,7 +6,7 @@ ghost use Rattle.std.specs.List.{flat_map};
 ghost use Rattle.sand_shared.specs.OpenPile.{grid_of_terms};
 ghost use Rattle.sand_shared.specs.Passes.{IsPassOf, together};
 ghost use Rattle.sand_shared.specs.Rows.{AreApart, no_rows};
-ghost use Rattle.sand_lab.specs.Crews.{EachAt, HasEmptied, HasTended, HasRead, HasWorked, rowless};
+ghost use Rattle.sand_lab.specs.Crews.{EachAt, HasDroppedItsStream, HasSweptItsBand, HasReadItsTallies, HasWorked, rowless};
 ghost use Rattle.sand_lab.specs.Faults.{IsMemory};
 ghost use Rattle.sand_lab.specs.Gathering.{all_receipts, all_counts, all_swept, readings, HasGathered, parts_of, HoldsReceipts, HoldsBand, HoldsNothing};
 ghost use Rattle.sand_lab.specs.Journals.{lists};

@@ -3,7 +3,7 @@
 ghost use Rattle.std.specs.Prelude.{◌≡◌, ◌≤◌, [], length, vec_len, vec_capacity, IfOk, IfErr};
 ghost use Rattle.sand_shared.specs.Passes.{AllBelow};
 ghost use Rattle.sand_lab.specs.Faults.{IsMemory};
-ghost use Rattle.sand_lab.specs.Journals.{Ascends, HavePlaces, IsJournal, HasEntries, AgreeBeside, joined, lists, sites_in};
+ghost use Rattle.sand_lab.specs.Journals.{Ascends, HavePlaces, IsJournal, HasEntries, AgreeBeside, flattened, lists, sites_in};
 
 use crate::faults::LabFault;
 use sand_shared::Receipt;
@@ -47,16 +47,16 @@ fn write_part(journal: &mut Vec<Entry>, dropper: u32, receipts: &[Receipt])
 /// Writes the journal of all receipts. They come in parts, one for each dropper, with `_drops` receipts each.
 pub(crate) fn write_journal(journal: &mut Vec<Entry>, parts: &[Vec<Receipt>], _drops: u32)
     requires { HavePlaces _drops (lists parts.now) (vec_len journal.old) }
-    ensures journal { IsJournal _drops (joined (lists parts.now)) journal.new.items }
+    ensures journal { IsJournal _drops (flattened (lists parts.now)) journal.new.items }
 {
     for dropper in 0..parts.len() {
         write_part(journal, dropper as u32, parts[dropper].as_slice());
     }
 }
 
-/// A list with room for a history of `drops` drops, in memory that the system has already provided. The only error is
-/// Memory.
-pub(crate) fn blank_history(alloc: Global, drops: u64) -> Result<Vec<usize>, LabFault>
+/// An empty list with room for a history of `drops` drops, in memory that the system has already provided. The only
+/// error is Memory.
+pub(crate) fn room_for_history(alloc: Global, drops: u64) -> Result<Vec<usize>, LabFault>
     ensures empty { IfOk result (λ v. v.items ≡ []) }
     ensures room { IfOk result (λ v. drops ≤ vec_capacity v) }
     ensures memory { IfErr result IsMemory }

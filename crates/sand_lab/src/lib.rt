@@ -12,6 +12,7 @@ mod hiring;
 mod journal;
 pub mod laws;
 mod observers;
+mod overlap;
 mod plan;
 mod report;
 mod runs;

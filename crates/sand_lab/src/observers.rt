@@ -15,11 +15,11 @@ pub(crate) struct Observer {
 }
 
 impl Work for Observer {
-    ghost use Rattle.sand_lab.specs.Jobs.{CanWatch, HasWatched};
+    ghost use Rattle.sand_lab.specs.Jobs.{CanTally, TookTallyTurns};
 
-    ghost ready = { CanWatch };
+    ghost ready = { CanTally };
 
-    ghost done = { HasWatched };
+    ghost done = { TookTallyTurns };
 
     fn take_turns<G: Gate>(&mut self, pile: &SharedPile, gate: &G, turns: u32) {
         for turn in 0..turns {

@@ -1,7 +1,7 @@
 //! A plan: a wish within its limits.
 
 ghost use Rattle.std.specs.Prelude.{◌≡◌, ◌↔◌, IfOk, IsErr};
-ghost use Rattle.sand_plan.specs.Plans.{IsPlan};
+ghost use Rattle.sand_plan.specs.Plans.{IsPlan, quota_of};
 
 use crate::faults::LabFault;
 use sand_plan::Wish;
@@ -45,4 +45,11 @@ impl Plan {
     {
         self.wish
     }
+}
+
+/// The number of drops in an epoch.
+pub(crate) fn quota_of(wish: Wish) -> u64
+    ensures { result ≡ quota_of wish }
+{
+    u64::from(wish.droppers) * u64::from(wish.drops)
 }

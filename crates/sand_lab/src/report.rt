@@ -6,12 +6,35 @@ ghost use Rattle.sand_lab.specs.Reports.{HasGrown, IsBoth, report_of, sheet_at};
 ghost use Rattle.sand_model.specs.Piles.{most_grains};
 
 use crate::album::Note;
-use crate::epochs::Sheet;
 use crate::faults::LabFault;
+use crate::gathering::Findings;
 use crate::journal::Entry;
 use sand_shared::Record;
 use std::alloc::Global;
 use std::marker::Model;
+
+/// What is kept of an epoch, apart from its record.
+#[derive(Drop)]
+pub(crate) struct Sheet {
+    pub(crate) journal: Vec<Entry>,
+    pub(crate) findings: Findings,
+    pub(crate) note: Note,
+}
+
+impl Model for Sheet {
+    ghost use Rattle.std.specs.Prelude.{map};
+    ghost use Rattle.sand_lab.specs.Reports.{SheetView};
+
+    ghost Value = { SheetView };
+
+    ghost view = { λ s. record {
+      journal = s.journal.items;
+      tallies = map (λ ts. ts.items) s.findings.tallies.items;
+      swept = s.findings.swept.items;
+      place = s.note.cell;
+      shown = s.note.known;
+    } };
+}
 
 /// The result of a run.
 #[derive(Drop)]

@@ -7,10 +7,10 @@ ghost use Rattle.sand_lab.specs.Reports.{IsReport};
 ghost use Rattle.sand_model.specs.Piles.{most_grains};
 
 use crate::album::Album;
-use crate::epochs::{quota_of, run_epoch, run_first_epoch};
+use crate::epochs::closed_epoch;
 use crate::faults::LabFault;
 use crate::gate::Gate;
-use crate::plan::Plan;
+use crate::plan::{Plan, quota_of};
 use crate::report::Report;
 use sand_model::{GRAIN_LIMIT, Pile};
 use sand_plan::Wish;
@@ -33,11 +33,14 @@ fn run_all<R: Threads + Sync, G: Gate>(
     ensures faults { IfErr result IsOfEpoch }
 {
     let later = quota_of(wish) * u64::from(wish.epochs - 1);
-    let (closed, sheet, total) = run_first_epoch(rt, alloc, start, wish, gate, album, later)?;
-    let mut report = Report::of(alloc, wish.epochs, closed, sheet, total)?;
+    let first = closed_epoch(rt, alloc, start, wish, 0, gate)?;
+    let copy = first.copy_to_grow(alloc, later)?;
+    let (closed, sheet) = first.publish(alloc, 0, album)?;
+    let mut report = Report::of(alloc, wish.epochs, closed, sheet, copy)?;
     for epoch in 1..wish.epochs {
         let pile = report.total().pile();
-        let (closed, sheet) = run_epoch(rt, alloc, pile, wish, epoch, gate, album)?;
+        let next = closed_epoch(rt, alloc, pile, wish, epoch, gate)?;
+        let (closed, sheet) = next.publish(alloc, epoch, album)?;
         report.add(alloc, closed, sheet)?;
     }
     Ok(report)

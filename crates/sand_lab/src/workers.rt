@@ -16,11 +16,11 @@ pub(crate) struct Worker {
 
 impl Work for Worker {
     ghost use Rattle.sand_shared.specs.Passes.{SharedView};
-    ghost use Rattle.sand_lab.specs.Jobs.{CanSweep, HasSwept};
+    ghost use Rattle.sand_lab.specs.Jobs.{CanSweep, TookSweepTurns};
 
     ghost ready = { λ s turns w. CanSweep s w };
 
-    ghost done = { HasSwept };
+    ghost done = { TookSweepTurns };
 
     fn take_turns<G: Gate>(&mut self, pile: &SharedPile, gate: &G, turns: u32) {
         for turn in 0..turns {

@@ -4,8 +4,8 @@ use Rattle.sand_shared.specs.declared.view.Receipt.{Receipt}
 use Rattle.sand_shared.specs.declared.view.Terms.{Terms}
 use Rattle.sand_shared.specs.Passes.{PassView, EachOnce}
 use Rattle.sand_shared.specs.Record.{RecordView}
-use Rattle.sand_lab.specs.Journals.{IsJournal, joined, lists}
-use Rattle.sand_lab.specs.Reports.{IsClosed}
+use Rattle.sand_lab.specs.Journals.{IsJournal, flattened, lists}
+use Rattle.sand_lab.specs.Epochs.{IsClosed}
 use Rattle.sand_lab.proofs.EpochIsClosed.{whole, gathered_parts, places, closed_is}
 use Rattle.sand_lab.proofs.epochs.closed_epoch.Goals as goal
 
@@ -16,23 +16,23 @@ pub gather-requires-clause-crew : goal.gather-requires-clause-crew
 gather-requires-clause-crew g c =
     (c.args.wish, c.args.epoch, c.requires.plan.some_workers, c.sweep_on.ensures c.args.wish c.args.epoch (c.work_and_make_blank.ensures.crew.worked c.args.epoch c.in_ok-crew.ensures.crew))
 
-pub note_and_close-requires-clause-whole : goal.note_and_close-requires-clause-whole
-note_and_close-requires-clause-whole g c κs bounds =
+pub settle-requires-clause-whole : goal.settle-requires-clause-whole
+settle-requires-clause-whole g c κs bounds =
     let s = c.in_ok-pile.pile in
     let quota = ap (λ (t : Terms). t.quota) c.in_ok-pile.ensures.terms ∙ c.quota_of.ensures in
     let has = c.sweep_on.ensures c.args.wish c.args.epoch (c.work_and_make_blank.ensures.crew.worked c.args.epoch c.in_ok-crew.ensures.crew) in
     whole s c.args.wish c.args.epoch c.sweep_on.new.self c.gather.new.first quota has c.in_ok-parts.ensures.first
 
-pub note_and_close-requires-clause-places : goal.note_and_close-requires-clause-places
-note_and_close-requires-clause-places g c κs bounds =
+pub settle-requires-clause-places : goal.settle-requires-clause-places
+settle-requires-clause-places g c κs bounds =
     let s = c.in_ok-pile.pile in
     let quota = ap (λ (t : Terms). t.quota) c.in_ok-pile.ensures.terms ∙ c.quota_of.ensures in
     let has = c.sweep_on.ensures c.args.wish c.args.epoch (c.work_and_make_blank.ensures.crew.worked c.args.epoch c.in_ok-crew.ensures.crew) in
     let once : EachOnce c.gather.new.first.receipts = subst EachOnce (ap (λ (p : PassView). p.receipts) c.all.view_is) c.all.invariant.pass.once in
     places s c.args.wish c.args.epoch c.sweep_on.new.self c.gather.new.first quota has c.in_ok-parts.ensures.first (lists c.in_ok-parts.field-0.parts.items) (vec_len c.in_ok-blank.blank.journal) c.in_ok-parts.ensures.parts c.in_ok-blank.ensures.journal once c.requires.plan
 
-pub note_and_close-requires-clause-parts : goal.note_and_close-requires-clause-parts
-note_and_close-requires-clause-parts g c κs bounds =
+pub settle-requires-clause-parts : goal.settle-requires-clause-parts
+settle-requires-clause-parts g c κs bounds =
     let s = c.in_ok-pile.pile in
     let quota = ap (λ (t : Terms). t.quota) c.in_ok-pile.ensures.terms ∙ c.quota_of.ensures in
     let has = c.sweep_on.ensures c.args.wish c.args.epoch (c.work_and_make_blank.ensures.crew.worked c.args.epoch c.in_ok-crew.ensures.crew) in
@@ -47,8 +47,14 @@ returns-clause-closed g c =
     let has = c.sweep_on.ensures w c.args.epoch (c.work_and_make_blank.ensures.crew.worked c.args.epoch c.in_ok-crew.ensures.crew) in
     let gathered = c.in_ok-parts.ensures in
     let written = c.in_ok-journal.journal.items in
-    let journal = subst (λ (parts : List (List Receipt)). IsJournal w.drops (joined parts) written) gathered.parts c.in_ok-journal.ensures.journal in
+    let journal = subst (λ (parts : List (List Receipt)). IsJournal w.drops (flattened parts) written) gathered.parts c.in_ok-journal.ensures.journal in
     let tallies = map (λ ts. ts.items) c.in_ok-parts.field-0.findings.tallies.items in
     let swept = c.in_ok-parts.field-0.findings.swept.items in
-    subst (λ (z : PileView × RecordView). IsClosed w z.0 c.args.epoch z.1 written tallies swept) (λ i. (start i, sym c.in_ok-closed.ensures.first i))
-    (closed_is s w c.args.epoch c.sweep_on.new.self c.gather.new.first quota has gathered.first c.in_ok-journal.closed written tallies swept journal c.in_ok-journal.ensures.closed gathered.tallies gathered.swept)
+    let epoch = closed_is s w c.args.epoch c.sweep_on.new.self c.gather.new.first quota has gathered.first
+    c.in_ok-journal.closed written tallies swept journal c.in_ok-journal.ensures.closed
+    gathered.tallies gathered.swept in
+    record {
+      closed = subst (λ (z : PileView × RecordView). IsClosed w z.0 c.args.epoch z.1 written tallies swept)
+          (λ i. (start i, sym c.in_ok-closed.ensures.first i)) epoch;
+      shown = c.in_ok-closed.ensures.second ∙ sym c.in_ok-closed.ensures.first;
+    }

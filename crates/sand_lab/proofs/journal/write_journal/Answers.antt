@@ -2,7 +2,7 @@ use Rattle.std.proofs.Common.{◌≡◌, ◌*◌, length, vec_len, Some, ap, sym
 use Rattle.std.proofs.lemmas.List.{length-map}
 use Rattle.std.specs.Prelude.{slice_get}
 use Rattle.sand_shared.specs.Passes.{AllBelow}
-use Rattle.sand_lab.specs.Journals.{joined, lists}
+use Rattle.sand_lab.specs.Journals.{flattened, lists}
 use Rattle.sand_lab.proofs.EntriesAtNumbers.{NotedBelow, part_at, part_below, noted_more, all_noted}
 use Rattle.sand_lab.proofs.JournalFollowsStreams.{ascends}
 use Rattle.sand_lab.proofs.journal.write_journal.Goals as goal
@@ -16,20 +16,20 @@ here c =
 
 pub write_part-requires-clause-ascends : goal.write_part-requires-clause-ascends
 write_part-requires-clause-ascends c =
-    ascends c.args._drops (lists c.args.parts.now) (joined (lists c.args.parts.now)) c.requires.are_parts c.loop-dropper.dropper c.as_slice.result.now (here (goal.at.write_part-requires-clause-ascends c).After-as_slice)
+    ascends c.args._drops (lists c.args.parts.now) (flattened (lists c.args.parts.now)) c.requires.are_parts c.loop-dropper.dropper c.as_slice.result.now (here (goal.at.write_part-requires-clause-ascends c).After-as_slice)
 
 pub write_part-requires-clause-below : goal.write_part-requires-clause-below
 write_part-requires-clause-below c =
-    let long : length (joined (lists c.args.parts.now)) ≡ vec_len c.loop-dropper.journal = sym (c.loop-dropper.invariant.long ∙ c.requires.one_each) in
-    part_below c.args._drops (lists c.args.parts.now) (joined (lists c.args.parts.now)) c.requires.are_parts c.loop-dropper.dropper c.as_slice.result.now (vec_len c.loop-dropper.journal)
-    (here (goal.at.write_part-requires-clause-below c).After-as_slice) (subst (λ n. AllBelow n (joined (lists c.args.parts.now))) long c.requires.below)
+    let long : length (flattened (lists c.args.parts.now)) ≡ vec_len c.loop-dropper.journal = sym (c.loop-dropper.invariant.long ∙ c.requires.one_each) in
+    part_below c.args._drops (lists c.args.parts.now) (flattened (lists c.args.parts.now)) c.requires.are_parts c.loop-dropper.dropper c.as_slice.result.now (vec_len c.loop-dropper.journal)
+    (here (goal.at.write_part-requires-clause-below c).After-as_slice) (subst (λ n. AllBelow n (flattened (lists c.args.parts.now))) long c.requires.below)
 
 pub loop-dropper-preserved : goal.loop-dropper-preserved
 loop-dropper-preserved c =
     let done = c.write_part.ensures in
     record {
       long = done.long ∙ c.loop-dropper.invariant.long;
-      noted = noted_more c.args._drops (lists c.args.parts.now) (joined (lists c.args.parts.now)) c.requires.are_parts c.loop-dropper.dropper c.as_slice.result.now
+      noted = noted_more c.args._drops (lists c.args.parts.now) (flattened (lists c.args.parts.now)) c.requires.are_parts c.loop-dropper.dropper c.as_slice.result.now
           c.loop-dropper.journal.items c.write_part.new.journal.items (here (goal.at.loop-dropper-preserved c).After-as_slice) c.requires.once done.entries done.others c.loop-dropper.invariant.noted;
     }
 
@@ -37,7 +37,7 @@ pub returns : goal.returns
 returns c =
     let drops = c.args._drops in
     let parts = lists c.args.parts.now in
-    let all = joined parts in
+    let all = flattened parts in
     let js = c.loop-dropper.journal.items in
     let long : length js ≡ length all = (let kept = c.loop-dropper.invariant.long in let one_each = c.requires.one_each in omega (arith, kept, one_each)) in
     let end : c.loop-dropper.dropper ≡ length parts = (let last = c.loop-dropper-test.false in let fits = c.loop-dropper.auto.dropper-end in let same = length-map c.args.parts.now (λ part. part.items) in omega (arith, last, fits, same)) in

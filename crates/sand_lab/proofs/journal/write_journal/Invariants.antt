@@ -1,10 +1,10 @@
 use Rattle.std.proofs.Common.{◌≡◌, ◌*◌, vec_len}
-use Rattle.sand_lab.specs.Journals.{joined, lists}
+use Rattle.sand_lab.specs.Journals.{flattened, lists}
 use Rattle.sand_lab.proofs.EntriesAtNumbers.{NotedBelow}
 use Rattle.sand_lab.proofs.journal.write_journal.Given as goal
 
 abbrev pub invariant-loop-dropper : goal.invariant-loop-dropper
 invariant-loop-dropper l = record {
   long : vec_len l.journal ≡ vec_len l.fn.journal;
-  noted : NotedBelow l._drops (l.dropper * l._drops) (joined (lists l.parts)) l.journal.items;
+  noted : NotedBelow l._drops (l.dropper * l._drops) (flattened (lists l.parts)) l.journal.items;
 }

@@ -1,7 +1,7 @@
 use Rattle.std.proofs.Common.{ℕ, sym, subst}
 use Rattle.sand_lab.specs.declared.droppers.Dropper.{Dropper}
 use Rattle.sand_lab.specs.declared.observers.Observer.{Observer}
-use Rattle.sand_lab.specs.Crews.{HasEmptied, HasRead}
+use Rattle.sand_lab.specs.Crews.{HasDroppedItsStream, HasReadItsTallies}
 use Rattle.sand_lab.specs.Gathering.{HoldsReceipts, HoldsBand, HoldsNothing}
 use Rattle.sand_lab.proofs.EachAtItsPlace.{each_all}
 use Rattle.sand_lab.proofs.crew.Crew.gather.Goals as goal
@@ -10,7 +10,7 @@ pub gather_droppers-requires-clause-droppers : goal.gather_droppers-requires-cla
 gather_droppers-requires-clause-droppers c =
     let s = c.args.pile.now in
     let has = c.requires.crew.3 in
-    each_all (HasEmptied s c.requires.crew.0 c.requires.crew.1) (λ (d : Dropper). HoldsReceipts s d.pass) c.args.self.droppers.items has.droppers (λ i d h. h.pass)
+    each_all (HasDroppedItsStream s c.requires.crew.0 c.requires.crew.1) (λ (d : Dropper). HoldsReceipts s d.pass) c.args.self.droppers.items has.droppers (λ i d h. h.pass)
 
 pub gather_workers-requires-clause-workers : goal.gather_workers-requires-clause-workers
 gather_workers-requires-clause-workers c i x at =
@@ -21,4 +21,4 @@ pub gather_observers-requires-clause-observers : goal.gather_observers-requires-
 gather_observers-requires-clause-observers c =
     let s = c.args.pile.now in
     let has = c.requires.crew.3 in
-    each_all (HasRead s) (λ (o : Observer). HoldsNothing s o.pass) c.args.self.observers.items has.observers (λ i o h. h.pass)
+    each_all (HasReadItsTallies s) (λ (o : Observer). HoldsNothing s o.pass) c.args.self.observers.items has.observers (λ i o h. h.pass)

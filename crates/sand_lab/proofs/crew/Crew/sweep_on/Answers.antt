@@ -1,9 +1,9 @@
 use Rattle.std.proofs.Common.{refl}
 use Rattle.sand_lab.specs.declared.crew.Crew.{Crew}
-use Rattle.sand_lab.specs.Crews.{HasTended}
+use Rattle.sand_lab.specs.Crews.{HasSweptItsBand}
 use Rattle.sand_lab.specs.Jobs.{CanSweep}
 use Rattle.sand_lab.proofs.EachAtItsPlace.{each_all}
-use Rattle.sand_lab.proofs.CrewHasWorked.{can_tend, worked_on}
+use Rattle.sand_lab.proofs.CrewHasWorked.{can_sweep_on, worked_on}
 use Rattle.sand_lab.proofs.crew.Crew.sweep_on.Goals as goal
 
 pub do_list-requires-after_bounds : goal.do_list-requires-after_bounds
@@ -12,7 +12,7 @@ do_list-requires-after_bounds g c κs within =
     let w = c.requires.0 in
     let t = c.requires.1 in
     let has = c.loop.invariant w t c.requires.2 in
-    each_all (HasTended s w) (CanSweep s) c.loop.self.workers.items has.workers (can_tend s w)
+    each_all (HasSweptItsBand s w) (CanSweep s) c.loop.self.workers.items has.workers (can_sweep_on s w)
 
 pub returns-then-is_calm : goal.returns-then-is_calm
 returns-then-is_calm g c w t has =

@@ -1,7 +1,7 @@
 use Rattle.sand_lab.specs.Crews.{IsDropper, IsWorker, IsObserver}
-use Rattle.sand_lab.specs.Jobs.{CanDrop, CanSweep, CanWatch}
+use Rattle.sand_lab.specs.Jobs.{CanDrop, CanSweep, CanTally}
 use Rattle.sand_lab.proofs.EachAtItsPlace.{each_all}
-use Rattle.sand_lab.proofs.CrewHasWorked.{can_drop, can_sweep, can_watch, worked}
+use Rattle.sand_lab.proofs.CrewHasWorked.{can_drop, can_sweep, can_tally, worked}
 use Rattle.sand_lab.proofs.crew.Crew.work.Goals as goal
 
 pub all_work-requires-clause-droppers : goal.all_work-requires-clause-droppers
@@ -20,7 +20,7 @@ all_work-requires-clause-workers g c κs within =
 pub all_work-requires-clause-observers : goal.all_work-requires-clause-observers
 all_work-requires-clause-observers g c κs within =
     let s = c.args.pile.now in
-    each_all (IsObserver s) (CanWatch s 16) c.args.self.now.observers.items c.requires.1.observers (can_watch s)
+    each_all (IsObserver s) (CanTally s 16) c.args.self.now.observers.items c.requires.1.observers (can_tally s)
 
 pub returns : goal.returns
 returns g c = record { worked = λ t is. worked c.args.pile.now c.args.wish t c.args.self.now (record { droppers = c.all_work.new.droppers; workers = c.all_work.new.workers; observers = c.all_work.new.observers }) is c.all_work.ensures.droppers c.all_work.ensures.workers c.all_work.ensures.observers }

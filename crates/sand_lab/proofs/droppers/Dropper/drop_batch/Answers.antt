@@ -6,9 +6,8 @@ use Rattle.sand_shared.specs.declared.view.Receipt.{Receipt}
 use Rattle.sand_shared.specs.Events.{receipts_from}
 use Rattle.sand_shared.specs.OpenPile.{grid_of_terms}
 use Rattle.sand_shared.specs.Passes.{PassView, AllBelow}
-use Rattle.sand_lab.specs.Jobs.{dropped_at}
-use Rattle.sand_lab.specs.Journals.{Ascends}
-use Rattle.sand_lab.proofs.OneTurnMore.{ascends_row, below_row, within_row, dropped_row}
+use Rattle.sand_lab.specs.Journals.{Ascends, receipt_sites}
+use Rattle.sand_lab.proofs.OneTurnMore.{ascends_row, below_row, within_row, sites_row}
 use Rattle.sand_lab.proofs.droppers.Dropper.drop_batch.Goals as goal
 
 pub returns-clause-dropped : goal.returns-clause-dropped
@@ -38,7 +37,7 @@ returns-clause-dropped c turns read first h =
       grid = h.grid;
       reading = h.reading;
       inside = subst (All (λ i. i < sites (grid_of_terms s.terms))) (sym none) (All-nil (λ i. i < sites (grid_of_terms s.terms)));
-      sites = (λ i. dropped_at (receipts i) ++ none i) ∙ append-nil (dropped_at (p.receipts ++ receipts_from n is)) ∙ dropped_row n p.receipts is ∙ h.sites;
+      sites = (λ i. receipt_sites (receipts i) ++ none i) ∙ append-nil (receipt_sites (p.receipts ++ receipts_from n is)) ∙ sites_row n p.receipts is ∙ h.sites;
       ascends = subst Ascends (sym receipts) (ascends_row p.seen n p.receipts is h.ascends h.below fresh);
       within = subst (AllBelow s.terms.quota) (sym receipts) (within_row n s.terms.quota p.receipts is h.within (subst (λ (xs : List ℕ). 0 < length xs → n + length xs ≤ s.terms.quota) c.as_slice-batch.ensures.value c.in-Ok.ensures.in_the_quota));
       below = subst (λ (z : ℕ × List Receipt). AllBelow z.0 z.1) (λ i. (sym seen i, sym receipts i)) (below_row p.seen n p.receipts is h.below fresh);

@@ -3,10 +3,9 @@ use Rattle.std.proofs.lemmas.List.Elements.{All-push}
 use Rattle.sand_shared.specs.declared.view.Receipt.{Receipt}
 use Rattle.sand_shared.specs.Events.{receipt}
 use Rattle.sand_shared.specs.Passes.{PassView, AllBelow}
-use Rattle.sand_lab.specs.Jobs.{dropped_at}
-use Rattle.sand_lab.specs.Journals.{Ascends}
+use Rattle.sand_lab.specs.Journals.{Ascends, receipt_sites}
 use Rattle.sand_lab.specs.Streams.{Reading, site_at}
-use Rattle.sand_lab.proofs.OneTurnMore.{ascends_push, below_push, dropped_push}
+use Rattle.sand_lab.proofs.OneTurnMore.{ascends_push, below_push, sites_push}
 use Rattle.sand_lab.proofs.droppers.Dropper.drop_next.Goals as goal
 
 pub returns-clause-dropped : goal.returns-clause-dropped
@@ -21,7 +20,7 @@ returns-clause-dropped c read first more h =
     let seen : q.seen ≡ n + 1 = ap (λ (x : PassView). x.seen) after in
     let receipts : q.receipts ≡ p.receipts ++ receipt n at ∷ [] = ap (λ (x : PassView). x.receipts) after in
     let next : at ≡ site_at first.sites.sites first.sites.seed first.sites.stream read = c.next_site-site.ensures.site ∙ ap (λ (r : Reading). site_at r.sites r.seed r.stream r.read) h.reading in
-    let was = sym (append-nil (dropped_at p.receipts)) ∙ (λ i. dropped_at p.receipts ++ sym none i) ∙ h.sites in
+    let was = sym (append-nil (receipt_sites p.receipts)) ∙ (λ i. receipt_sites p.receipts ++ sym none i) ∙ h.sites in
     let fresh = c.in-Ok.ensures.after_all_seen in
     let all = h.left in
     record {
@@ -35,7 +34,7 @@ returns-clause-dropped c read first more h =
       grid = h.grid;
       reading = c.next_site-site.ensures.read ∙ ap (λ (r : Reading). record r { read = r.read + 1 }) h.reading;
       inside = h.inside;
-      sites = rw add-one ((λ i. dropped_at (receipts i) ++ none i) ∙ append-nil (dropped_at (p.receipts ++ receipt n at ∷ [])) ∙ dropped_push p.receipts (receipt n at) ∙ (λ i. was i ++ next i ∷ []));
+      sites = rw add-one ((λ i. receipt_sites (receipts i) ++ none i) ∙ append-nil (receipt_sites (p.receipts ++ receipt n at ∷ [])) ∙ sites_push p.receipts (receipt n at) ∙ (λ i. was i ++ next i ∷ []));
       ascends = subst Ascends (sym receipts) (ascends_push p.seen p.receipts (receipt n at) h.ascends h.below fresh);
       within = subst (AllBelow c.args.pile.now.terms.quota) (sym receipts) (All-push (λ (r : Receipt). r.number < c.args.pile.now.terms.quota) p.receipts (receipt n at) h.within c.in-Ok.ensures.in_the_quota);
       below = subst (λ (z : ℕ × List Receipt). AllBelow z.0 z.1) (λ i. (sym seen i, sym receipts i)) (below_push p.seen p.receipts (receipt n at) h.below fresh);

@@ -3,7 +3,7 @@ use Rattle.std.specs.Int.{div_ceil}
 use Rattle.std.specs.declared.alloc.Global.{Global}
 use Rattle.sand_lab.specs.declared.droppers.Dropper.{Dropper}
 use Rattle.sand_lab.specs.Jobs.{IsDropping}
-use Rattle.sand_lab.proofs.DropperDropsAll.{some_in_a_batch, begins, has_dropped}
+use Rattle.sand_lab.proofs.DropperDropsAll.{some_in_a_batch, begins, took_drop_turns}
 use Rattle.sand_lab.proofs.droppers.DropperWork.take_turns.Goals as goal
 use Rattle.sand_lab.proofs.droppers.DropperWork.take_turns.Goals.{then-holds, else-holds}
 
@@ -48,4 +48,4 @@ drop_batch-requires g c = (c.args.turns, c.loop-turn.turn, c.args.self.now, c.lo
 pub returns : goal.returns
 returns g c =
     let all : c.loop-turn.turn ≡ c.args.turns = (let done = c.loop-turn-test.false in let may = c.loop-turn.invariant.dropping.may_read in omega (arith, done, may)) in
-    has_dropped c.args.pile.now c.args.turns c.args.self.now c.drop_batch.new.self (subst (λ (n : ℕ). IsDropping c.args.pile.now c.args.turns n c.args.self.now c.drop_batch.new.self) all (c.drop_batch.ensures.dropped c.args.turns c.loop-turn.turn c.args.self.now c.loop-turn.invariant.dropping)) c.drop_batch.ensures.all
+    took_drop_turns c.args.pile.now c.args.turns c.args.self.now c.drop_batch.new.self (subst (λ (n : ℕ). IsDropping c.args.pile.now c.args.turns n c.args.self.now c.drop_batch.new.self) all (c.drop_batch.ensures.dropped c.args.turns c.loop-turn.turn c.args.self.now c.loop-turn.invariant.dropping)) c.drop_batch.ensures.all

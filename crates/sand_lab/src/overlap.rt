@@ -1,0 +1,161 @@
+//! What overlaps in an epoch: its long lists are touched, written and freed on another thread while this one works.
+//!
+//! A list of all drops takes many pages of memory. The system provides a page when it is first touched, which takes longer
+//! than the drops that the page is for, and takes it back when it is freed.
+
+ghost use Rattle.std.specs.Prelude.{◌≡◌, ℕ, ◌≤◌, [], length, vec_len, vec_capacity, IfOk, IfErr};
+ghost use Rattle.std.specs.Thread.{IsSync};
+ghost use Rattle.sand_plan.specs.Plans.{quota_of};
+ghost use Rattle.sand_shared.specs.Passes.{IsPassOf, IsWhole};
+ghost use Rattle.sand_shared.specs.Sweeps.{IsRestOf};
+ghost use Rattle.sand_lab.specs.Crews.{IsCrew, HasBecome};
+ghost use Rattle.sand_lab.specs.Faults.{IsMemory};
+ghost use Rattle.sand_lab.specs.Journals.{HavePlaces, IsJournal, flattened, lists, sites_in};
+
+use crate::crew::Crew;
+use crate::faults::LabFault;
+use crate::gate::Gate;
+use crate::journal::{Entry, blank_journal, history_of, room_for_history, write_journal};
+use crate::plan::quota_of;
+use sand_plan::Wish;
+use sand_settle::Settled;
+use sand_shared::{BarePass, Receipt, SharedPile};
+use std::alloc::Global;
+use std::thread::{Threads, join, join_mut};
+
+/// A blank journal, and room for a history.
+#[derive(Drop)]
+pub(crate) struct Blank {
+    pub(crate) journal: Vec<Entry>,
+    pub(crate) history: Vec<usize>,
+}
+
+// Both lists, made concurrently.
+fn make_blank<R: Threads + Sync>(rt: &R, alloc: Global, drops: u64) -> Result<Blank, LabFault>
+    ensures journal { IfOk result (λ b. vec_len b.journal ≡ drops) }
+    ensures history { IfOk result (λ b. (b.history.items ≡ []) × (drops ≤ vec_capacity b.history)) }
+    ensures memory { IfErr result IsMemory }
+{
+    let (journal, history) = join(
+        rt,
+        || -> Result<Vec<Entry>, LabFault>
+            ensures long { IfOk result (λ v. vec_len v ≡ drops) }
+            ensures memory { IfErr result IsMemory }
+        { blank_journal(alloc, drops) },
+        || -> Result<Vec<usize>, LabFault>
+            ensures empty { IfOk result (λ v. v.items ≡ []) }
+            ensures room { IfOk result (λ v. drops ≤ vec_capacity v) }
+            ensures memory { IfErr result IsMemory }
+        { room_for_history(alloc, drops) },
+    );
+    let journal = journal?;
+    let history = history?;
+    Ok(Blank { journal, history })
+}
+
+/// A crew works while the lists for its results are made. The only error is Memory.
+pub(crate) fn work_and_make_blank<R: Threads + Sync, G: Gate>(
+    rt: &R,
+    alloc: Global,
+    crew: &mut Crew,
+    pile: &SharedPile,
+    gate: &G,
+    wish: Wish,
+) -> Result<Blank, LabFault>
+    requires crew { (epoch : ℕ) × IsCrew pile.now wish epoch crew.old }
+    ensures crew { HasBecome pile.now wish crew.old crew.new }
+    ensures journal { IfOk result (λ b. vec_len b.journal ≡ quota_of wish) }
+    ensures history { IfOk result (λ b. (b.history.items ≡ []) × (quota_of wish ≤ vec_capacity b.history)) }
+    ensures memory { IfErr result IsMemory }
+{
+    let drops = quota_of(wish);
+    let ((), blank) = join_mut(
+        rt,
+        &mut ||
+            requires { IsSync R.row × IsSync G.row × ((epoch : ℕ) × IsCrew pile.now wish epoch crew.now) }
+            ensures { HasBecome pile.entry.now wish crew.entry.now crew.exit.now }
+        { crew.work(rt, pile, gate, wish) },
+        &mut || -> Result<Blank, LabFault>
+            requires { IsSync R.row }
+            ensures journal { IfOk result (λ b. vec_len b.journal ≡ drops) }
+            ensures history { IfOk result (λ b. (b.history.items ≡ []) × (drops ≤ vec_capacity b.history)) }
+            ensures memory { IfErr result IsMemory }
+        { make_blank(rt, alloc, drops) },
+    );
+    blank
+}
+
+// Settles the rest of a pile with a pass that has gathered everything, so the only error is Memory.
+fn settle_gathered(
+    alloc: Global,
+    pile: &SharedPile,
+    all: &mut BarePass,
+) -> Result<Settled, LabFault>
+    requires of_pile { IsPassOf pile.now all.old }
+    requires whole { IsWhole pile.now.terms all.old }
+    ensures pass { all.new ≡ all.old }
+    ensures rest { IfOk result (IsRestOf pile.now.terms all.old) }
+    ensures memory { IfErr result IsMemory }
+{
+    match pile.settle_rest(alloc, all) {
+        Ok(rest) => Ok(rest),
+        Err(fault) => Err(LabFault::of_close(fault)),
+    }
+}
+
+/// Settles the rest of a pile while another thread, if one can be made, writes the journal of all receipts. The only
+/// error is Memory.
+pub(crate) fn settle_and_write_journal<R: Threads + Sync>(
+    rt: &R,
+    alloc: Global,
+    pile: &SharedPile,
+    all: &mut BarePass,
+    journal: &mut Vec<Entry>,
+    parts: &[Vec<Receipt>],
+    drops: u32,
+) -> Result<Settled, LabFault>
+    requires of_pile { IsPassOf pile.now all.old }
+    requires whole { IsWhole pile.now.terms all.old }
+    requires places { HavePlaces drops (lists parts.now) (vec_len journal.old) }
+    ensures journal { IsJournal drops (flattened (lists parts.now)) journal.new.items }
+    ensures pass { all.new ≡ all.old }
+    ensures rest { IfOk result (IsRestOf pile.now.terms all.old) }
+    ensures memory { IfErr result IsMemory }
+{
+    let ((), rest) = join_mut(
+        rt,
+        &mut ||
+            requires { HavePlaces drops (lists parts.now) (vec_len journal.now) }
+            ensures { IsJournal drops (flattened (lists parts.entry.now)) journal.exit.now.items }
+        { write_journal(journal, parts, drops) },
+        &mut || -> Result<Settled, LabFault>
+            requires { IsPassOf pile.now all.now × IsWhole pile.now.terms all.now }
+            ensures pass { all.exit.now ≡ all.entry.now }
+            ensures rest { IfOk result (IsRestOf pile.entry.now.terms all.entry.now) }
+            ensures memory { IfErr result IsMemory }
+        { settle_gathered(alloc, pile, all) },
+    );
+    rest
+}
+
+/// Writes the history of a journal into a list with room for it, while another thread frees the receipts.
+pub(crate) fn write_history_and_free<R: Threads>(
+    rt: &R,
+    blank: Vec<usize>,
+    journal: &[Entry],
+    parts: Vec<Vec<Receipt>>,
+) -> Vec<usize>
+    requires empty { blank.items ≡ [] }
+    requires room { length journal.now ≤ vec_capacity blank }
+    ensures { result.items ≡ sites_in journal.now }
+{
+    let ((), history) = join(
+        rt,
+        move || drop(parts),
+        move || -> Vec<usize>
+            requires { (blank.items ≡ []) × (length journal.now ≤ vec_capacity blank) }
+            ensures { result.items ≡ sites_in journal.entry.now }
+        { history_of(blank, journal) },
+    );
+    history
+}
