@@ -14,31 +14,46 @@ module _ {A : Type 0} where
   each_push P (z ∷ xs) x h p (suc i) y e = each_push (λ j. P (suc j)) xs x (λ j w g. h (suc j) w g) p i y e
 
   -- one more element in front, with the indices counted from n
-  pub each_first : (P : ℕ → A → Type 0) (n : ℕ) (xs : List A) (x : A) → EachAt (λ i. P (suc n + i)) xs → P n x → EachAt (λ i. P (n + i)) (x ∷ xs)
-  each_first P n xs x h p zero y e = let same : n ≡ n + 0 = omega arith in subst (λ (m : ℕ). P m y) same (subst (λ (z : A). P n z) (same_Some _ _ e) p)
-  each_first P n xs x h p (suc i) y e = let same : suc n + i ≡ n + suc i = omega arith in subst (λ (m : ℕ). P m y) same (h i y e)
+  pub each_first : (P : ℕ → A → Type 0) (n : ℕ) (xs : List A) (x : A) → EachAt (λ i. P (suc n + i)) xs → P n x
+      → EachAt (λ i. P (n + i)) (x ∷ xs)
+  each_first P n xs x h p zero y e =
+      let same : n ≡ n + 0 = omega arith in
+      subst (λ (m : ℕ). P m y) same (subst (λ (z : A). P n z) (same_Some _ _ e) p)
+  each_first P n xs x h p (suc i) y e =
+      let same : suc n + i ≡ n + suc i = omega arith in
+      subst (λ (m : ℕ). P m y) same (h i y e)
 
   pub each_none : (P : ℕ → A → Type 0) → EachAt P []
   each_none P i x e = absurd (none-some x e)
 
 module _ {A : Type 0} where
-  pub each_all : (P : ℕ → A → Type 0) (Q : A → Type 0) (xs : List A) → EachAt P xs → ((i : ℕ) (x : A) → P i x → Q x) → All Q xs
+  pub each_all : (P : ℕ → A → Type 0) (Q : A → Type 0) (xs : List A) → EachAt P xs → ((i : ℕ) (x : A) → P i x → Q x)
+      → All Q xs
   each_all P Q [] h f = All-nil Q
-  each_all P Q (x ∷ xs) h f = All-cons Q x xs (f 0 x (h 0 x refl)) (each_all (λ i. P (suc i)) Q xs (λ i y e. h (suc i) y e) (λ i y p. f (suc i) y p))
+  each_all P Q (x ∷ xs) h f = All-cons Q x xs (f 0 x (h 0 x refl))
+      (each_all (λ i. P (suc i)) Q xs (λ i y e. h (suc i) y e) (λ i y p. f (suc i) y p))
 
-  pub each_zip : (P Q : ℕ → A → Type 0) (R : A → A → Type 0) (xs ys : List A) → EachAt P xs → AllZip R xs ys → ((i : ℕ) (x y : A) → P i x → R x y → Q i y) → EachAt Q ys
+  pub each_zip : (P Q : ℕ → A → Type 0) (R : A → A → Type 0) (xs ys : List A)
+      → EachAt P xs → AllZip R xs ys → ((i : ℕ) (x y : A) → P i x → R x y → Q i y)
+      → EachAt Q ys
   each_zip P Q R [] [] h z f i y e = absurd (none-some y e)
   each_zip P Q R [] (y ∷ ys) h z f i v e = absurd z
   each_zip P Q R (x ∷ xs) [] h z f i v e = absurd z
-  each_zip P Q R (x ∷ xs) (y ∷ ys) h z f zero v e = subst (λ (u : A). Q 0 u) (same_Some _ _ e) (f 0 x y (h 0 x refl) z.0)
-  each_zip P Q R (x ∷ xs) (y ∷ ys) h z f (suc i) v e = each_zip (λ j. P (suc j)) (λ j. Q (suc j)) R xs ys (λ j w g. h (suc j) w g) z.1 (λ j a b p r. f (suc j) a b p r) i v e
+  each_zip P Q R (x ∷ xs) (y ∷ ys) h z f zero v e =
+      subst (λ (u : A). Q 0 u) (same_Some _ _ e) (f 0 x y (h 0 x refl) z.0)
+  each_zip P Q R (x ∷ xs) (y ∷ ys) h z f (suc i) v e = each_zip (λ j. P (suc j)) (λ j. Q (suc j))
+      R xs ys (λ j w g. h (suc j) w g) z.1 (λ j a b p r. f (suc j) a b p r) i v e
 
 module _ {A B : Type 0} where
-  pub all_map : (P : ℕ → A → Type 0) (Q : B → Type 0) (v : A → B) (xs : List A) → EachAt P xs → ((i : ℕ) (x : A) → P i x → Q (v x)) → All Q (map v xs)
+  pub all_map : (P : ℕ → A → Type 0) (Q : B → Type 0) (v : A → B) (xs : List A)
+      → EachAt P xs → ((i : ℕ) (x : A) → P i x → Q (v x)) → All Q (map v xs)
   all_map P Q v [] h f = All-nil Q
-  all_map P Q v (x ∷ xs) h f = All-cons Q (v x) (map v xs) (f 0 x (h 0 x refl)) (all_map (λ i. P (suc i)) Q v xs (λ i y e. h (suc i) y e) (λ i y p. f (suc i) y p))
+  all_map P Q v (x ∷ xs) h f = All-cons Q (v x) (map v xs) (f 0 x (h 0 x refl))
+      (all_map (λ i. P (suc i)) Q v xs (λ i y e. h (suc i) y e) (λ i y p. f (suc i) y p))
 
-  pub each_map : (P : ℕ → A → Type 0) (Q : ℕ → B → Type 0) (v : A → B) (xs : List A) → EachAt P xs → ((i : ℕ) (x : A) → P i x → Q i (v x)) → EachAt Q (map v xs)
+  pub each_map : (P : ℕ → A → Type 0) (Q : ℕ → B → Type 0) (v : A → B) (xs : List A)
+      → EachAt P xs → ((i : ℕ) (x : A) → P i x → Q i (v x)) → EachAt Q (map v xs)
   each_map P Q v [] h f i y e = absurd (none-some y e)
   each_map P Q v (x ∷ xs) h f zero y e = subst (λ (z : B). Q 0 z) (same_Some _ _ e) (f 0 x (h 0 x refl))
-  each_map P Q v (x ∷ xs) h f (suc i) y e = each_map (λ j. P (suc j)) (λ j. Q (suc j)) v xs (λ j z g. h (suc j) z g) (λ j z p. f (suc j) z p) i y e
+  each_map P Q v (x ∷ xs) h f (suc i) y e =
+      each_map (λ j. P (suc j)) (λ j. Q (suc j)) v xs (λ j z g. h (suc j) z g) (λ j z p. f (suc j) z p) i y e

@@ -23,15 +23,18 @@ tally-numbers : (rs : List Receipt) (n : ℕ) → tally (numbers_of rs) n ≡ nu
 tally-numbers rs n = sum_by-map (λ j. one_at j n) (λ (r : Receipt). r.number) rs
 
 -- n different numbers below n leave none out
-pub each_number : (rs : List Receipt) → EachOnce rs → AllBelow (length rs) rs → (n : ℕ) → n < length rs → numbered rs n ≡ 1
+pub each_number : (rs : List Receipt) → EachOnce rs → AllBelow (length rs) rs → (n : ℕ) → n < length rs
+    → numbered rs n ≡ 1
 each_number rs once below n inside =
-    let all : sum_below (length rs) (tally (numbers_of rs)) ≡ length (numbers_of rs) = sum_below-tally (length rs) (numbers_of rs) (All-map (λ j. j < length rs) (λ (r : Receipt). r.number) rs below) in
+    let all : sum_below (length rs) (tally (numbers_of rs)) ≡ length (numbers_of rs) =
+    sum_below-tally (length rs) (numbers_of rs) (All-map (λ j. j < length rs) (λ (r : Receipt). r.number) rs below) in
     let long : length (numbers_of rs) ≡ length rs = length-map rs (λ (r : Receipt). r.number) in
     let here = once n in
     let same = tally-numbers rs n in
     ⊎_elim
     (λ (none : numbered rs n < 1).
-    let less = fewer_than_all (length rs) (tally (numbers_of rs)) n (λ i l. let o = once i in let e = tally-numbers rs i in omega arith) inside (omega arith) in
+    let less = fewer_than_all (length rs) (tally (numbers_of rs)) n
+    (λ i l. let o = once i in let e = tally-numbers rs i in omega arith) inside (omega arith) in
     absurd (omega arith))
     (λ (some : 1 ≤ numbered rs n). omega arith)
     (cases_lt (numbered rs n) 1)
@@ -57,14 +60,19 @@ pub receipt_of : (rs : List Receipt) → EachOnce rs → AllBelow (length rs) rs
 receipt_of rs once below n inside = let one = each_number rs once below n inside in some_receipt rs n (omega arith)
 
 -- receipts with the same number have the same index
-pub one_place : (rs : List Receipt) (i j : ℕ) (r q : Receipt) → EachOnce rs → slice_get rs i ≡ Some r → slice_get rs j ≡ Some q → r.number ≡ q.number → i ≡ j
+pub one_place : (rs : List Receipt) (i j : ℕ) (r q : Receipt) → EachOnce rs
+    → slice_get rs i ≡ Some r → slice_get rs j ≡ Some q → r.number ≡ q.number
+    → i ≡ j
 one_place rs i j r q once here there same =
     ⊎_elim
     (λ (e : i ≡ j). e)
     (λ (ne : i ≡ j → ⊥).
-    let first = one_if_same (get_or rs i r).number r.number (ap (λ (x : Receipt). x.number) (get_or_from_slice_get rs i r r here)) in
-    let second = one_if_same (get_or rs j r).number r.number (ap (λ (x : Receipt). x.number) (get_or_from_slice_get rs j q r there) ∙ sym same) in
-    let two = sum_by_two (λ (x : Receipt). one_if (eqb x.number r.number)) rs i j r (slice_get_within rs i r here) (slice_get_within rs j q there) (λ e. ne (sym e)) in
+    let first = one_if_same (get_or rs i r).number r.number
+    (ap (λ (x : Receipt). x.number) (get_or_from_slice_get rs i r r here)) in
+    let second = one_if_same (get_or rs j r).number r.number
+    (ap (λ (x : Receipt). x.number) (get_or_from_slice_get rs j q r there) ∙ sym same) in
+    let two = sum_by_two (λ (x : Receipt). one_if (eqb x.number r.number)) rs i j r
+    (slice_get_within rs i r here) (slice_get_within rs j q there) (λ e. ne (sym e)) in
     let most = once r.number in
     absurd (omega arith))
     (cases_eq i j)

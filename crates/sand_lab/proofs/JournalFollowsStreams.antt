@@ -16,7 +16,9 @@ use Rattle.sand_lab.proofs.EachNumberOnce.{HasNumber}
 use Rattle.sand_lab.proofs.SitesOfOneDropper.{HasEntry, picked}
 
 -- the first k parts of d receipts each have k * d receipts
-length-first : (drops k : ℕ) (parts : List (List Receipt)) → All (λ (part : List Receipt). length part ≡ drops) parts → k ≤ length parts → length (flattened (take k parts)) ≡ k * drops
+length-first : (drops k : ℕ) (parts : List (List Receipt))
+    → All (λ (part : List Receipt). length part ≡ drops) parts → k ≤ length parts
+    → length (flattened (take k parts)) ≡ k * drops
 length-first drops zero parts long few = omega arith
 length-first drops (suc k) [] long few = absurd (omega arith)
 length-first drops (suc k) (part ∷ parts) long few =
@@ -34,7 +36,8 @@ module _ (drops : ℕ) (parts : List (List Receipt)) (rs : List Receipt) (are : 
   length-parts =
       let every = take_all (length parts) parts (omega arith) in
       let all = length-first drops (length parts) parts are.long (omega arith) in
-      ap (λ (xs : List Receipt). length xs) (sym are.whole) ∙ (ap (λ (ps : List (List Receipt)). length (flattened ps)) (sym every) ∙ all)
+      ap (λ (xs : List Receipt). length xs) (sym are.whole)
+      ∙ (ap (λ (ps : List (List Receipt)). length (flattened ps)) (sym every) ∙ all)
 
   module _ (k : ℕ) (part : List Receipt) (there : slice_get parts k ≡ Some part) where
     read : get_or parts k [] ≡ part
@@ -54,7 +57,9 @@ module _ (drops : ℕ) (parts : List (List Receipt)) (rs : List Receipt) (are : 
         let before = length-first drops k parts are.long (omega arith) in
         let fits : i < length (get_or parts k []) = rw read (omega arith) in
         ap (λ (xs : List Receipt). get_or xs (k * drops + i) d) (sym are.whole)
-        ∙ (ap (λ n. get_or (flattened parts) (n + i) d) (sym before) ∙ (get_or-flat_map (λ (p : List Receipt). p) parts k i [] d within fits ∙ ap (λ (p : List Receipt). get_or p i d) read))
+        ∙ (ap (λ n. get_or (flattened parts) (n + i) d) (sym before)
+        ∙ (get_or-flat_map (λ (p : List Receipt). p) parts k i [] d within fits
+        ∙ ap (λ (p : List Receipt). get_or p i d) read))
 
     pub place_inside : (i : ℕ) → i < drops → k * drops + i < length rs
     place_inside i inside =
@@ -66,22 +71,29 @@ module _ (drops : ℕ) (parts : List (List Receipt)) (rs : List Receipt) (are : 
         let long = length-part in
         let within = slice_get_within part i r at_part in
         let inside : i < drops = omega arith in
-        slice_get-get_or rs (k * drops + i) r (place_inside i inside) ∙ ap Some (same_receipt i r inside ∙ get_or_from_slice_get part i r r at_part)
+        slice_get-get_or rs (k * drops + i) r (place_inside i inside)
+        ∙ ap Some (same_receipt i r inside ∙ get_or_from_slice_get part i r r at_part)
 
     -- and the converse
     pub in_part : (i : ℕ) (r : Receipt) → i < drops → slice_get rs (k * drops + i) ≡ Some r → slice_get part i ≡ Some r
     in_part i r inside at_all =
         let long = length-part in
-        slice_get-get_or part i r (omega (arith, inside, long)) ∙ ap Some (sym (same_receipt i r inside) ∙ get_or_from_slice_get rs (k * drops + i) r r at_all)
+        slice_get-get_or part i r (omega (arith, inside, long))
+        ∙ ap Some (sym (same_receipt i r inside) ∙ get_or_from_slice_get rs (k * drops + i) r r at_all)
 
-    module _ (js : List Entry) (once : EachOnce rs) (below : AllBelow (length rs) rs) (journal : IsJournal drops rs js) where
+    module _ (js : List Entry) (once : EachOnce rs)
+        (below : AllBelow (length rs) rs) (journal : IsJournal drops rs js) where
       -- each receipt of the part has its entry, under the k-th dropper
       entries : (i : ℕ) (r : Receipt) → slice_get part i ≡ Some r → HasEntry k 0 js r
       entries i r at_part =
           let long = length-part in
           let within = slice_get_within part i r at_part in
-          let inside : i < drops = omega arith in
-          (r.number, omega arith, journal.noted (k * drops + i) r (in_all i r at_part) ∙ ap (λ x. Some (entry x r.site)) (div-mul-add k drops i inside))
+          let inside : i < drops = omega arith in (
+            r.number,
+            omega arith,
+            journal.noted (k * drops + i) r (in_all i r at_part)
+                ∙ ap (λ x. Some (entry x r.site)) (div-mul-add k drops i inside),
+          )
 
       -- each entry of the k-th dropper has its receipt in the part
       receipts : (n : ℕ) (e : Entry) → slice_get js n ≡ Some e → e.dropper ≡ k → HasNumber part (0 + n)
@@ -97,7 +109,8 @@ module _ (drops : ℕ) (parts : List (List Receipt)) (rs : List Receipt) (are : 
           let inside : i < drops = omega arith in
           let row : p / drops ≡ k = ap (λ (x : Entry). x.dropper) (same_Some _ _ (sym found.4 ∙ at_journal)) ∙ is in
           let place : k * drops + i ≡ p = ap (λ q. q * drops + i) (sym row) ∙ div-add-mod' p drops in
-          let same : get_or part i r ≡ r = sym (same_receipt i r inside) ∙ (ap (λ q. get_or rs q r) place ∙ get_or_from_slice_get rs p r r found.2) in
+          let same : get_or part i r ≡ r =
+          sym (same_receipt i r inside) ∙ (ap (λ q. get_or rs q r) place ∙ get_or_from_slice_get rs p r r found.2) in
           let long = length-part in
           let number = found.3 in (i, r, slice_get-get_or part i r (omega arith) ∙ ap Some same, omega arith)
 
@@ -106,9 +119,12 @@ module _ (drops : ℕ) (parts : List (List Receipt)) (rs : List Receipt) (are : 
       part_sites = picked k js zero part (record { ascends = ascends; entries = entries; receipts = receipts })
 
 -- if each part has the sites of its dropper's stream, the journal follows the streams
-pub follows_streams : (sites seed droppers drops epoch : ℕ) (parts : List (List Receipt)) (rs : List Receipt) (js : List Entry) → AreParts drops parts rs → length parts ≡ droppers
+pub follows_streams : (sites seed droppers drops epoch : ℕ)
+    (parts : List (List Receipt)) (rs : List Receipt) (js : List Entry)
+    → AreParts drops parts rs → length parts ≡ droppers
     → EachOnce rs → AllBelow (length rs) rs → IsJournal drops rs js
-    → ((k : ℕ) (part : List Receipt) → slice_get parts k ≡ Some part → receipt_sites part ≡ stream_sites sites seed (stream_of epoch k) drops)
+    → ((k : ℕ) (part : List Receipt) → slice_get parts k ≡ Some part
+    → receipt_sites part ≡ stream_sites sites seed (stream_of epoch k) drops)
     → FollowsStreams sites seed droppers drops epoch js
 follows_streams sites seed droppers drops epoch parts rs js are many once below journal streams = record {
   all = journal.one_each ∙ (length-parts drops parts rs are ∙ ap (λ n. n * drops) many);

@@ -11,14 +11,18 @@ use Rattle.sand_lab.specs.Journals.{entry, sites_in, IsJournal}
 use Rattle.sand_lab.proofs.EachNumberOnce.{receipt_of}
 
 -- the entry at each number is that of its receipt
-pub entry_of : (drops : ℕ) (rs : List Receipt) (js : List Entry) → EachOnce rs → AllBelow (length rs) rs → IsJournal drops rs js → (n : ℕ) → n < length rs
-    → (i : ℕ) × (r : Receipt) × (slice_get rs i ≡ Some r) × (r.number ≡ n) × (slice_get js n ≡ Some (entry (i / drops) r.site))
+pub entry_of : (drops : ℕ) (rs : List Receipt) (js : List Entry) → EachOnce rs
+    → AllBelow (length rs) rs → IsJournal drops rs js → (n : ℕ) → n < length rs
+    → (i : ℕ) × (r : Receipt) × (slice_get rs i ≡ Some r)
+    × (r.number ≡ n) × (slice_get js n ≡ Some (entry (i / drops) r.site))
 entry_of drops rs js once below journal n inside =
     let found = receipt_of rs once below n inside in
     (found.0, found.1, found.2, found.3, ap (slice_get js) (sym found.3) ∙ journal.noted found.0 found.1 found.2)
 
 -- a journal and a history of the same receipts have the same sites
-pub journal_sites : (drops : ℕ) (rs : List Receipt) (js : List Entry) (history : List ℕ) → IsJournal drops rs js → Tells rs history → EachOnce rs → AllBelow (length rs) rs → length history ≡ length rs
+pub journal_sites : (drops : ℕ) (rs : List Receipt) (js : List Entry) (history : List ℕ)
+    → IsJournal drops rs js → Tells rs history → EachOnce rs
+    → AllBelow (length rs) rs → length history ≡ length rs
     → sites_in js ≡ history
 journal_sites drops rs js history journal told once below long =
     let as_long : length (sites_in js) ≡ length js = length-map js (λ (e : Entry). e.site) in
@@ -29,12 +33,16 @@ journal_sites drops rs js history journal told once below long =
     let i = found.0 in
     let r = found.1 in
     let read : get_or js n (entry 0 0) ≡ entry (i / drops) r.site = get_or_from_slice_get js n _ (entry 0 0) found.4 in
-    let tells : slice_get history r.number ≡ Some r.site = subst (λ (q : Receipt). slice_get history q.number ≡ Some q.site) (get_or_from_slice_get rs i r r found.2) (told i r (slice_get_within rs i r found.2)) in
+    let tells : slice_get history r.number ≡ Some r.site =
+    subst (λ (q : Receipt). slice_get history q.number ≡ Some q.site)
+    (get_or_from_slice_get rs i r r found.2) (told i r (slice_get_within rs i r found.2)) in
     get_or-map (λ (e : Entry). e.site) js n (entry 0 0) 0 (omega arith)
-    ∙ (ap (λ (e : Entry). e.site) read ∙ sym (get_or_from_slice_get history n r.site 0 (ap (slice_get history) (sym found.3) ∙ tells))))
+    ∙ (ap (λ (e : Entry). e.site) read
+    ∙ sym (get_or_from_slice_get history n r.site 0 (ap (slice_get history) (sym found.3) ∙ tells))))
 
 -- the sites of a journal agree with its receipts
 pub journal_tells : (drops : ℕ) (rs : List Receipt) (js : List Entry) → IsJournal drops rs js → Tells rs (sites_in js)
 journal_tells drops rs js journal k d inside =
     let r = get_or rs k d in
-    slice_get-map (λ (e : Entry). e.site) js r.number ∙ ap (option_map (λ (e : Entry). e.site)) (journal.noted k r (slice_get-get_or rs k d inside))
+    slice_get-map (λ (e : Entry). e.site) js r.number
+    ∙ ap (option_map (λ (e : Entry). e.site)) (journal.noted k r (slice_get-get_or rs k d inside))

@@ -13,14 +13,21 @@ use Rattle.sand_lab.specs.Epochs.{IsClosed}
 use Rattle.sand_lab.specs.Reports.{SheetView, ReportView, report_of, IsEpoch, AreEpochs, IsTotal, IsReportOf, IsBoth, HasGrown, last_pile, histories}
 use Rattle.sand_lab.proofs.RecordBounds.{settled_grains}
 
-epochs_push : (album : List ℕ) (w : Wish) (start : PileView) (t : ℕ) (rs : List RecordView) (ss : List SheetView) (r : RecordView) (s : SheetView) → AreEpochs album w start t rs ss
+epochs_push : (album : List ℕ) (w : Wish) (start : PileView) (t : ℕ)
+    (rs : List RecordView) (ss : List SheetView) (r : RecordView) (s : SheetView)
+    → AreEpochs album w start t rs ss
     → IsEpoch album w (last_pile start rs) (t + length rs) r s → AreEpochs album w start t (rs ++ r ∷ []) (ss ++ s ∷ [])
-epochs_push album w start t [] [] r s h e = let same : t + zero ≡ t = omega arith in (subst (λ (n : ℕ). IsEpoch album w start n r s) same e, tt)
+epochs_push album w start t [] [] r s h e =
+    let same : t + zero ≡ t = omega arith in
+    (subst (λ (n : ℕ). IsEpoch album w start n r s) same e, tt)
 epochs_push album w start t [] (y ∷ ss) r s h e = absurd h
 epochs_push album w start t (x ∷ rs) [] r s h e = absurd h
 epochs_push album w start t (x ∷ rs) (y ∷ ss) r s h e =
-    let same : t + suc (length rs) ≡ t + 1 + length rs = omega arith in
-    (h.0, epochs_push album w x.settled.pile (t + 1) rs ss r s h.1 (subst (λ (n : ℕ). IsEpoch album w (last_pile x.settled.pile rs) n r s) same e))
+    let same : t + suc (length rs) ≡ t + 1 + length rs = omega arith in (
+      h.0,
+      epochs_push album w x.settled.pile (t + 1) rs ss r s h.1
+          (subst (λ (n : ℕ). IsEpoch album w (last_pile x.settled.pile rs) n r s) same e),
+    )
 
 last_push : (start : PileView) (rs : List RecordView) (r : RecordView) → last_pile start (rs ++ r ∷ []) ≡ r.settled.pile
 last_push start [] r = refl
@@ -28,12 +35,14 @@ last_push start (x ∷ rs) r = last_push x.settled.pile rs r
 
 histories_push : (rs : List RecordView) (r : RecordView) → histories (rs ++ r ∷ []) ≡ histories rs ++ r.history
 histories_push [] r = append-nil r.history
-histories_push (x ∷ rs) r = ap (λ (ns : List ℕ). x.history ++ ns) (histories_push rs r) ∙ sym (append_assoc x.history (histories rs) r.history)
+histories_push (x ∷ rs) r =
+    ap (λ (ns : List ℕ). x.history ++ ns) (histories_push rs r) ∙ sym (append_assoc x.history (histories rs) r.history)
 
 sum_push : (f : RecordView → ℕ) (rs : List RecordView) (r : RecordView) → sum_by f (rs ++ r ∷ []) ≡ sum_by f rs + f r
 sum_push f rs r = let both = sum_by-append f rs (r ∷ []) in let one = sum_by-cons f r [] in omega (arith, both, one)
 
-total_more : (start : PileView) (rs : List RecordView) (p r q : RecordView) → IsTotal start rs p → IsBoth p r q → IsTotal start (rs ++ r ∷ []) q
+total_more : (start : PileView) (rs : List RecordView) (p r q : RecordView) → IsTotal start rs p → IsBoth p r q
+    → IsTotal start (rs ++ r ∷ []) q
 total_more start rs p r q t b = record {
   one_threads = b.one_threads;
   from_start = b.start ∙ t.from_start;
@@ -45,11 +54,18 @@ total_more start rs p r q t b = record {
       let was = t.odometer i l in
       let push = sum_push (λ x. odometer_of x.settled i) rs r in
       omega (arith, both, was, push);
-  topplings = (let push = sum_push (λ x. x.settled.topplings) rs r in let both = b.topplings in let was = t.topplings in omega (arith, both, was, push));
-  lost = (let push = sum_push (λ x. x.settled.lost) rs r in let both = b.lost in let was = t.lost in omega (arith, both, was, push));
+  topplings = (let push = sum_push (λ x. x.settled.topplings) rs r in
+      let both = b.topplings in
+      let was = t.topplings in
+      omega (arith, both, was, push));
+  lost = (let push = sum_push (λ x. x.settled.lost) rs r in
+      let both = b.lost in
+      let was = t.lost in
+      omega (arith, both, was, push));
 }
 
-pub report_first : (album : List ℕ) (w : Wish) (start : PileView) (r : RecordView) (s : SheetView) → IsEpoch album w start 0 r s → IsReportOf album w start 1 (report_of r s)
+pub report_first : (album : List ℕ) (w : Wish) (start : PileView) (r : RecordView) (s : SheetView)
+    → IsEpoch album w start 0 r s → IsReportOf album w start 1 (report_of r s)
 report_first album w start r s e = record {
   all = refl;
   epochs = (e, tt);
@@ -65,17 +81,22 @@ report_first album w start r s e = record {
 }
 
 -- one more epoch, which starts from the pile of the total
-pub report_more : (album : List ℕ) (w : Wish) (start : PileView) (n : ℕ) (p q : ReportView) (r : RecordView) (s : SheetView) → IsReportOf album w start n p → IsEpoch album w p.total.settled.pile n r s
+pub report_more : (album : List ℕ) (w : Wish) (start : PileView)
+    (n : ℕ) (p q : ReportView) (r : RecordView) (s : SheetView)
+    → IsReportOf album w start n p → IsEpoch album w p.total.settled.pile n r s
     → HasGrown p r s q → IsReportOf album w start (n + 1) q
 report_more album w start n p q r s is e g =
     let place : n ≡ zero + length p.records = omega (arith, is.all) in
     let next : IsEpoch album w (last_pile start p.records) (zero + length p.records) r s =
-    subst (λ (m : ℕ). IsEpoch album w (last_pile start p.records) m r s) place (subst (λ (x : PileView). IsEpoch album w x n r s) is.total.pile e) in
+    subst (λ (m : ℕ). IsEpoch album w (last_pile start p.records) m r s) place
+    (subst (λ (x : PileView). IsEpoch album w x n r s) is.total.pile e) in
     let pushed = epochs_push album w start zero p.records p.sheets r s is.epochs next in
     record {
       all = ap length g.records ∙ length-append p.records (r ∷ []) ∙ ap (λ (m : ℕ). m + 1) is.all;
-      epochs = subst (λ (ss : List SheetView). AreEpochs album w start 0 q.records ss) (sym g.sheets) (subst (λ (rs : List RecordView). AreEpochs album w start 0 rs (p.sheets ++ s ∷ [])) (sym g.records) pushed);
-      total = subst (λ (rs : List RecordView). IsTotal start rs q.total) (sym g.records) (total_more start p.records p.total r q.total is.total g.total);
+      epochs = subst (λ (ss : List SheetView). AreEpochs album w start 0 q.records ss) (sym g.sheets)
+          (subst (λ (rs : List RecordView). AreEpochs album w start 0 rs (p.sheets ++ s ∷ [])) (sym g.records) pushed);
+      total = subst (λ (rs : List RecordView). IsTotal start rs q.total) (sym g.records)
+          (total_more start p.records p.total r q.total is.total g.total);
     }
 
 -- an epoch makes as many drops as its quota
@@ -88,7 +109,9 @@ pub epoch_drops : (album : List ℕ) (w : Wish) (start : PileView) (t : ℕ) (r 
     → IsEpoch album w start t r s → length r.history ≡ quota_of w
 epoch_drops album w start t r s e = closed_drops w start t r s.journal s.tallies s.swept e.closed
 
-all_dropped : (album : List ℕ) (w : Wish) (start : PileView) (t : ℕ) (rs : List RecordView) (ss : List SheetView) → AreEpochs album w start t rs ss → length (histories rs) ≡ length rs * quota_of w
+all_dropped : (album : List ℕ) (w : Wish) (start : PileView) (t : ℕ) (rs : List RecordView) (ss : List SheetView)
+    → AreEpochs album w start t rs ss
+    → length (histories rs) ≡ length rs * quota_of w
 all_dropped album w start t [] ss h = omega arith
 all_dropped album w start t (r ∷ rs) [] h = absurd h
 all_dropped album w start t (r ∷ rs) (s ∷ ss) h =
@@ -98,8 +121,10 @@ all_dropped album w start t (r ∷ rs) (s ∷ ss) h =
     omega (arith, one, rest, both)
 
 -- the epochs so far made as many drops as their quotas
-pub dropped_so_far : (album : List ℕ) (w : Wish) (start : PileView) (n : ℕ) (p : ReportView) → IsReportOf album w start n p → length p.total.history ≡ n * quota_of w
-dropped_so_far album w start n p is = ap length is.total.history ∙ all_dropped album w start 0 p.records p.sheets is.epochs ∙ ap (λ (m : ℕ). m * quota_of w) is.all
+pub dropped_so_far : (album : List ℕ) (w : Wish) (start : PileView) (n : ℕ) (p : ReportView)
+    → IsReportOf album w start n p → length p.total.history ≡ n * quota_of w
+dropped_so_far album w start n p is = ap length is.total.history
+    ∙ all_dropped album w start 0 p.records p.sheets is.epochs ∙ ap (λ (m : ℕ). m * quota_of w) is.all
 
 one_more : (n epochs quota : ℕ) → n < epochs → n * quota + quota ≤ quota * epochs
 one_more n epochs quota lt = grind (arith, lt)
@@ -110,8 +135,11 @@ first_and_later zero quota some = absurd (omega (arith, some))
 first_and_later (suc n) quota some = grind arith
 
 -- each epoch has room for its drops
-pub room_for_epoch : (album : List ℕ) (w : Wish) (start : PileView) (n : ℕ) (p : ReportView) → IsReportOf album w start n p → n < w.epochs → sum start.heights + all_drops w ≤ most_grains
-    → (sum p.total.start.heights + (length p.total.history + quota_of w) ≤ most_grains) × (sum p.total.settled.pile.heights + quota_of w ≤ most_grains)
+pub room_for_epoch : (album : List ℕ) (w : Wish) (start : PileView) (n : ℕ) (p : ReportView)
+    → IsReportOf album w start n p → n < w.epochs
+    → sum start.heights + all_drops w ≤ most_grains
+    → (sum p.total.start.heights + (length p.total.history + quota_of w) ≤ most_grains)
+    × (sum p.total.settled.pile.heights + quota_of w ≤ most_grains)
 room_for_epoch album w start n p is lt limit =
     let drops = dropped_so_far album w start n p is in
     let more = one_more n w.epochs (quota_of w) lt in

@@ -13,31 +13,44 @@ use Rattle.sand_lab.specs.Journals.{Ascends, receipt_sites}
 use Rattle.sand_lab.specs.Jobs.{Climbs}
 
 -- a receipt whose number is at least what was seen
-pub ascends_push : (seen : ℕ) (rs : List Receipt) (r : Receipt) → Ascends rs → AllBelow seen rs → seen ≤ r.number → Ascends (rs ++ r ∷ [])
-ascends_push seen rs r up below le = all_pairs_push (λ (a b : Receipt). a.number < b.number) rs r up (λ k d lt. let one = below k d lt in omega (arith, one, le))
+pub ascends_push : (seen : ℕ) (rs : List Receipt) (r : Receipt) → Ascends rs → AllBelow seen rs → seen ≤ r.number
+    → Ascends (rs ++ r ∷ [])
+ascends_push seen rs r up below le = all_pairs_push (λ (a b : Receipt). a.number < b.number)
+    rs r up (λ k d lt. let one = below k d lt in omega (arith, one, le))
 
-pub below_push : (seen : ℕ) (rs : List Receipt) (r : Receipt) → AllBelow seen rs → seen ≤ r.number → AllBelow (r.number + 1) (rs ++ r ∷ [])
-below_push seen rs r below le = All-push (λ (a : Receipt). a.number < r.number + 1) rs r (λ k d lt. let one = below k d lt in omega (arith, one, le)) (omega arith)
+pub below_push : (seen : ℕ) (rs : List Receipt) (r : Receipt) → AllBelow seen rs → seen ≤ r.number
+    → AllBelow (r.number + 1) (rs ++ r ∷ [])
+below_push seen rs r below le = All-push (λ (a : Receipt). a.number < r.number + 1)
+    rs r (λ k d lt. let one = below k d lt in omega (arith, one, le)) (omega arith)
 
 -- receipts of consecutive drops, numbered from at least what was seen
-pub ascends_row : (seen n : ℕ) (rs : List Receipt) (is : List ℕ) → Ascends rs → AllBelow seen rs → seen ≤ n → Ascends (rs ++ receipts_from n is)
+pub ascends_row : (seen n : ℕ) (rs : List Receipt) (is : List ℕ) → Ascends rs → AllBelow seen rs → seen ≤ n
+    → Ascends (rs ++ receipts_from n is)
 ascends_row seen n rs [] up below le = subst Ascends (sym (append-nil rs)) up
 ascends_row seen n rs (i ∷ is) up below le =
     subst Ascends (append_assoc rs (receipt n i ∷ []) (receipts_from (n + 1) is))
-    (ascends_row (n + 1) (n + 1) (rs ++ receipt n i ∷ []) is (ascends_push seen rs (receipt n i) up below le) (below_push seen rs (receipt n i) below le) (omega arith))
+    (ascends_row (n + 1) (n + 1) (rs ++ receipt n i ∷ []) is (ascends_push seen rs (receipt n i) up below le)
+    (below_push seen rs (receipt n i) below le) (omega arith))
 
 row_below : (n most : ℕ) (is : List ℕ) → n + length is ≤ most → AllBelow most (receipts_from n is)
 row_below n most [] le = All-nil (λ (r : Receipt). r.number < most)
-row_below n most (i ∷ is) le = All-cons (λ (r : Receipt). r.number < most) (receipt n i) (receipts_from (n + 1) is) (omega (arith, le)) (row_below (n + 1) most is (omega (arith, le)))
+row_below n most (i ∷ is) le = All-cons (λ (r : Receipt). r.number < most) (receipt n i)
+    (receipts_from (n + 1) is) (omega (arith, le)) (row_below (n + 1) most is (omega (arith, le)))
 
-pub within_row : (n most : ℕ) (rs : List Receipt) (is : List ℕ) → AllBelow most rs → (0 < length is → n + length is ≤ most) → AllBelow most (rs ++ receipts_from n is)
+pub within_row : (n most : ℕ) (rs : List Receipt) (is : List ℕ)
+    → AllBelow most rs → (0 < length is → n + length is ≤ most)
+    → AllBelow most (rs ++ receipts_from n is)
 within_row n most rs [] below le = subst (AllBelow most) (sym (append-nil rs)) below
-within_row n most rs (i ∷ is) below le = All-append (λ (r : Receipt). r.number < most) rs (receipts_from n (i ∷ is)) below (row_below n most (i ∷ is) (le (omega arith)))
+within_row n most rs (i ∷ is) below le = All-append (λ (r : Receipt). r.number < most)
+    rs (receipts_from n (i ∷ is)) below (row_below n most (i ∷ is) (le (omega arith)))
 
-pub below_row : (seen n : ℕ) (rs : List Receipt) (is : List ℕ) → AllBelow seen rs → seen ≤ n → AllBelow (n + length is) (rs ++ receipts_from n is)
-below_row seen n rs is below le = within_row n (n + length is) rs is (λ k d lt. let one = below k d lt in omega (arith, one, le)) (λ some. omega arith)
+pub below_row : (seen n : ℕ) (rs : List Receipt) (is : List ℕ) → AllBelow seen rs → seen ≤ n
+    → AllBelow (n + length is) (rs ++ receipts_from n is)
+below_row seen n rs is below le = within_row n (n + length is) rs is
+    (λ k d lt. let one = below k d lt in omega (arith, one, le)) (λ some. omega arith)
 
-pub sites_row : (n : ℕ) (rs : List Receipt) (is : List ℕ) → receipt_sites (rs ++ receipts_from n is) ≡ receipt_sites rs ++ is
+pub sites_row : (n : ℕ) (rs : List Receipt) (is : List ℕ)
+    → receipt_sites (rs ++ receipts_from n is) ≡ receipt_sites rs ++ is
 sites_row n [] [] = refl
 sites_row n [] (i ∷ is) = ap (λ ns. i ∷ ns) (sites_row (n + 1) [] is)
 sites_row n (r ∷ rs) is = ap (λ ns. r.site ∷ ns) (sites_row n rs is)
@@ -50,7 +63,8 @@ pub sites_push : (rs : List Receipt) (r : Receipt) → receipt_sites (rs ++ r �
 sites_push [] r = refl
 sites_push (x ∷ rs) r = ap (λ ns. x.site ∷ ns) (sites_push rs r)
 
-pub zip_append : {A B : Type 0} (R : A → B → Type 0) (xs ys : List A) (us vs : List B) → AllZip R xs us → AllZip R ys vs → AllZip R (xs ++ ys) (us ++ vs)
+pub zip_append : {A B : Type 0} (R : A → B → Type 0) (xs ys : List A) (us vs : List B) → AllZip R xs us → AllZip R ys vs
+    → AllZip R (xs ++ ys) (us ++ vs)
 zip_append R [] ys [] vs h k = k
 zip_append R [] ys (u ∷ us) vs h k = absurd h
 zip_append R (x ∷ xs) ys [] vs h k = absurd h
@@ -58,11 +72,15 @@ zip_append R (x ∷ xs) ys (u ∷ us) vs h k = (h.0, zip_append R xs ys us vs h.
 
 -- each site has toppled, since the pass p, as often as its own grains require
 abbrev pub EnoughSince : Terms → PassView → List ℕ → Type 0
-EnoughSince t p counts = (j : ℕ) → j < length p.counts → LeavesAtMost t (at_rest p) ((at_rest p).base + j) (4 * (slice_index counts j - slice_index p.counts j) + 3)
+EnoughSince t p counts = (j : ℕ) → j < length p.counts
+    → LeavesAtMost t (at_rest p) ((at_rest p).base + j) (4 * (slice_index counts j - slice_index p.counts j) + 3)
 
 -- the first sweep does enough, and later ones undo nothing
-pub enough_after : (t : Terms) (p q : PassView) (counts : List ℕ) (topplings turn : ℕ) → (turn ≡ 0 → q ≡ p) → (0 < turn → EnoughSince t p q.counts) → SweptRows t (at_rest q) counts topplings → EnoughSince t p counts
-enough_after t p q counts topplings zero begun before swept j lt = (subst (λ (x : PassView). SweptRows t (at_rest x) counts topplings) (begun refl) swept).enough j lt
+pub enough_after : (t : Terms) (p q : PassView) (counts : List ℕ) (topplings turn : ℕ)
+    → (turn ≡ 0 → q ≡ p) → (0 < turn → EnoughSince t p q.counts)
+    → SweptRows t (at_rest q) counts topplings → EnoughSince t p counts
+enough_after t p q counts topplings zero begun before swept j lt =
+    (subst (λ (x : PassView). SweptRows t (at_rest x) counts topplings) (begun refl) swept).enough j lt
 enough_after t p q counts topplings (suc n) begun before swept j lt =
     let was = before (omega arith) j lt in
     let up = swept.never_fall j in

@@ -8,11 +8,17 @@ use Rattle.sand_settle.specs.Settling.{odometer_of}
 use Rattle.sand_shared.specs.Record.{RecordView, IsOneThreads}
 use Rattle.sand_shared.proofs.RecordSums.{leads_of, grains_left}
 
-pub settled_grains : (r : RecordView) → IsOneThreads r → sum r.settled.pile.heights ≤ sum r.start.heights + length r.history
-settled_grains r one = let left = grains_left r.start r.history r.settled.pile.heights r.settled.odometer (leads_of r one) in omega arith
+pub settled_grains : (r : RecordView) → IsOneThreads r
+    → sum r.settled.pile.heights ≤ sum r.start.heights + length r.history
+settled_grains r one =
+    let left = grains_left r.start r.history r.settled.pile.heights r.settled.odometer (leads_of r one) in
+    omega arith
 
 -- counts that are at most the odometer add up to at most all topplings
-pub counts_below : (r : RecordView) (cs : List ℕ) → IsOneThreads r → length cs ≡ sites r.start.grid → ((i : ℕ) → slice_index cs i ≤ odometer_of r.settled i) → sum cs ≤ r.settled.topplings
+pub counts_below : (r : RecordView) (cs : List ℕ)
+    → IsOneThreads r → length cs ≡ sites r.start.grid
+    → ((i : ℕ) → slice_index cs i ≤ odometer_of r.settled i)
+    → sum cs ≤ r.settled.topplings
 counts_below r cs one long below =
     let counted = sum_is_grains r.start.grid cs long in
     let fewer = sum_below_le (sites r.start.grid) (slice_index cs) (odometer_of r.settled) (λ i l. below i) in

@@ -41,17 +41,30 @@ module _ (s : SharedView) (b e : ℕ) (le : b ≤ e) where
   kept_sites = ap (λ (n : ℕ). n - (e - b) * w) (length-replicate (w * e) 0) ∙ kept w b e le
 
   -- the part split off has the rows from b to e
-  pub band_split : record (upper_part s 0 e) { left = 0; receipts = []; rows = lower_rows (top e) (e - b); counts = drop (sites_kept (upper_part s 0 e) (e - b)) (zeros (w * e)) } ≡ banded s (rows_between b e)
+  pub band_split : record (upper_part s 0 e) {
+    left = 0;
+    receipts = [];
+    rows = lower_rows (top e) (e - b);
+    counts = drop (sites_kept (upper_part s 0 e) (e - b)) (zeros (w * e));
+  }
+      ≡ banded s (rows_between b e)
   band_split =
       let rows : lower_rows (top e) (e - b) ≡ rows_between b e = ap (λ (n : ℕ). rows_between n e) (take_back b e le) in
-      let counts : drop (sites_kept (upper_part s 0 e) (e - b)) (zeros (w * e)) ≡ zeros (count_of (rows_between b e) * w) =
-      ap (λ (n : ℕ). drop n (zeros (w * e))) kept_sites ∙ drop-replicate (w * b) (w * e) 0 ∙ ap zeros (rest w b e le ∙ ap (λ (n : ℕ). n * w) (sym (count_between b e le))) in
+      let counts : drop (sites_kept (upper_part s 0 e) (e - b)) (zeros (w * e))
+      ≡ zeros (count_of (rows_between b e) * w) =
+      ap (λ (n : ℕ). drop n (zeros (w * e))) kept_sites ∙ drop-replicate (w * b) (w * e) 0
+      ∙ ap zeros (rest w b e le ∙ ap (λ (n : ℕ). n * w) (sym (count_between b e le))) in
       ap₂ (λ (r : Rows) (c : List ℕ). record (rowless s 0) { rows = r; counts = c }) rows counts
 
   -- the rest has the rows up to b
-  pub band_left : record (upper_part s 0 e) { rows = upper_rows (top e) (e - b); counts = take (sites_kept (upper_part s 0 e) (e - b)) (zeros (w * e)) } ≡ upper_part s 0 b
+  pub band_left : record (upper_part s 0 e) {
+    rows = upper_rows (top e) (e - b);
+    counts = take (sites_kept (upper_part s 0 e) (e - b)) (zeros (w * e));
+  }
+      ≡ upper_part s 0 b
   band_left =
-      let rows : upper_rows (top e) (e - b) ≡ top b = ap (λ (n : ℕ). rows_between 0 n) (take_back b e le) ∙ from_top b in
+      let rows : upper_rows (top e) (e - b) ≡ top b =
+      ap (λ (n : ℕ). rows_between 0 n) (take_back b e le) ∙ from_top b in
       let fits : w * b ≤ w * e = grind (arith, le) in
       let counts : take (sites_kept (upper_part s 0 e) (e - b)) (zeros (w * e)) ≡ zeros (w * b) =
       ap (λ (n : ℕ). take n (zeros (w * e))) kept_sites ∙ take-replicate (w * b) (w * e) 0 fits in

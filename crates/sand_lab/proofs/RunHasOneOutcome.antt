@@ -19,41 +19,60 @@ use Rattle.sand_lab.specs.Streams.{stream_of, stream_sites}
 use Rattle.sand_lab.proofs.TallyOfStreams.{tally_of_streams}
 
 -- equal heights have one settled record
-module _ (g : Grid) (s s' : ℕ → ℕ) (r q : SettledView) (same : (i : ℕ) → i < sites g → s i ≡ s' i) (mine : IsRecord g s r) (theirs : IsRecord g s' q) where
+module _ (g : Grid) (s s' : ℕ → ℕ) (r q : SettledView) (same : (i : ℕ) → i < sites g → s i ≡ s' i)
+    (mine : IsRecord g s r) (theirs : IsRecord g s' q) where
   same_start : IsSettled g s' (odometer_of r) (height_of r.pile)
-  same_start = settled_same g s s' (odometer_of r) (odometer_of r) (height_of r.pile) (height_of r.pile) same (λ i l. refl) (λ i l. refl) mine.settled
+  same_start = settled_same g s s' (odometer_of r) (odometer_of r) (height_of r.pile)
+      (height_of r.pile) same (λ i l. refl) (λ i l. refl) mine.settled
 
   same_odometer : r.odometer ≡ q.odometer
   same_odometer =
       ext_get_or 0 r.odometer q.odometer (mine.odometer_each ∙ sym theirs.odometer_each)
-      (λ i l. let long = mine.odometer_each in odometer_unique g s' (odometer_of r) (odometer_of q) same_start.odometer theirs.settled.odometer i (omega arith))
+      (λ i l.
+      let long = mine.odometer_each in
+      odometer_unique g s' (odometer_of r) (odometer_of q) same_start.odometer theirs.settled.odometer i (omega arith))
 
   same_heights : r.pile.heights ≡ q.pile.heights
   same_heights =
       ext_get_or 0 r.pile.heights q.pile.heights (mine.heights_each ∙ sym theirs.heights_each)
-      (λ i l. let long = mine.heights_each in settled_unique g s' (odometer_of r) (odometer_of q) (height_of r.pile) (height_of q.pile) same_start theirs.settled i (omega arith))
+      (λ i l.
+      let long = mine.heights_each in
+      settled_unique g s' (odometer_of r) (odometer_of q) (height_of r.pile)
+      (height_of q.pile) same_start theirs.settled i (omega arith))
 
   record_once : r ≡ q
   record_once =
       let grids = mine.grid ∙ sym theirs.grid in
-      let tops = mine.all_topplings ∙ ap (λ (u : List ℕ). topplings g (slice_index u)) same_odometer ∙ sym theirs.all_topplings in
+      let tops =
+      mine.all_topplings ∙ ap (λ (u : List ℕ). topplings g (slice_index u)) same_odometer ∙ sym theirs.all_topplings in
       let gone = mine.all_lost ∙ ap (λ (u : List ℕ). lost g (slice_index u)) same_odometer ∙ sym theirs.all_lost in
-      λ k. record { pile = record { grid = grids k; heights = same_heights k }; odometer = same_odometer k; topplings = tops k; lost = gone k }
+      λ k. record {
+        pile = record { grid = grids k; heights = same_heights k };
+        odometer = same_odometer k;
+        topplings = tops k;
+        lost = gone k;
+      }
 
 -- the result of one thread depends only on the start and on how often each site was dropped on, in any order
-pub one_threads_once : (r q : RecordView) → IsOneThreads r → IsOneThreads q → r.start ≡ q.start → ((i : ℕ) → tally r.history i ≡ tally q.history i) → r.settled ≡ q.settled
+pub one_threads_once : (r q : RecordView) → IsOneThreads r → IsOneThreads q
+    → r.start ≡ q.start → ((i : ℕ) → tally r.history i ≡ tally q.history i)
+    → r.settled ≡ q.settled
 one_threads_once r q one other starts tallies =
     let P : PileView → Type 0 = λ p. IsRecord p.grid (λ i. height_of p i + tally q.history i) q.settled in
-    record_once r.start.grid (λ i. height_of r.start i + tally r.history i) (λ i. height_of r.start i + tally q.history i) r.settled q.settled
+    record_once r.start.grid (λ i. height_of r.start i + tally r.history i)
+    (λ i. height_of r.start i + tally q.history i) r.settled q.settled
     (λ i l. ap (λ n. height_of r.start i + n) (tallies i))
     one.settled
     (subst P (sym starts) other.settled)
 
 -- an epoch's drops on each site are those of its streams
-pub epoch_tally : (album : List ℕ) (w : Wish) (start : PileView) (t : ℕ) (r : RecordView) (s : SheetView) → IsEpoch album w start t r s → (i : ℕ)
-    → tally r.history i ≡ sum_below w.droppers (λ k. tally (stream_sites (sites start.grid) w.seed (stream_of t k) w.drops) i)
+pub epoch_tally : (album : List ℕ) (w : Wish) (start : PileView) (t : ℕ) (r : RecordView) (s : SheetView)
+    → IsEpoch album w start t r s → (i : ℕ)
+    → tally r.history i ≡ sum_below w.droppers
+    (λ k. tally (stream_sites (sites start.grid) w.seed (stream_of t k) w.drops) i)
 epoch_tally album w start t r s epoch i =
-    ap (λ (h : List ℕ). tally h i) (sym epoch.closed.history) ∙ tally_of_streams (sites start.grid) w.seed w.droppers w.drops t s.journal epoch.closed.streams i
+    ap (λ (h : List ℕ). tally h i) (sym epoch.closed.history)
+    ∙ tally_of_streams (sites start.grid) w.seed w.droppers w.drops t s.journal epoch.closed.streams i
 
 -- records with equal results, whose histories together have equal tallies
 record SettleAlike (rs qs : List RecordView) : Type 0 where
@@ -61,7 +80,9 @@ record SettleAlike (rs qs : List RecordView) : Type 0 where
   tallies : (i : ℕ) → tally (histories rs) i ≡ tally (histories qs) i
 
 -- one more epoch in front of such records
-alike_more : (r q : RecordView) (rs qs : List RecordView) → one_of r ≡ one_of q → ((i : ℕ) → tally r.history i ≡ tally q.history i) → SettleAlike rs qs → SettleAlike (r ∷ rs) (q ∷ qs)
+alike_more : (r q : RecordView) (rs qs : List RecordView) → one_of r ≡ one_of q
+    → ((i : ℕ) → tally r.history i ≡ tally q.history i) → SettleAlike rs qs
+    → SettleAlike (r ∷ rs) (q ∷ qs)
 alike_more r q rs qs same tallies rest = record {
   ones = λ k. same k ∷ rest.ones k;
   tallies = λ i.
@@ -71,7 +92,8 @@ alike_more r q rs qs same tallies rest = record {
       let after = rest.tallies i in omega arith;
 }
 
-one_same : (r q : RecordView) → r.start ≡ q.start → r.settled ≡ q.settled → length r.history ≡ length q.history → one_of r ≡ one_of q
+one_same : (r q : RecordView) → r.start ≡ q.start → r.settled ≡ q.settled → length r.history ≡ length q.history
+    → one_of r ≡ one_of q
 one_same r q starts same long k = record { settled = same k; number = long k; grains = sum (starts k).heights + long k }
 
 module _ (album album' : List ℕ) (w v : Wish) (asks : AskTheSame w v) where
@@ -79,29 +101,39 @@ module _ (album album' : List ℕ) (w v : Wish) (asks : AskTheSame w v) where
   same_quota k = asks.droppers k * asks.drops k
 
   -- from equal starts both runs have such epochs
-  epochs_alike : (start start' : PileView) (t : ℕ) (rs qs : List RecordView) (ss us : List SheetView) → start ≡ start' → length rs ≡ length qs → AreEpochs album w start t rs ss → AreEpochs album' v start' t qs us → SettleAlike rs qs
+  epochs_alike : (start start' : PileView) (t : ℕ) (rs qs : List RecordView) (ss us : List SheetView)
+      → start ≡ start' → length rs ≡ length qs → AreEpochs album w start t rs ss
+      → AreEpochs album' v start' t qs us → SettleAlike rs qs
   epochs_alike start start' t [] [] ss us starts long mine theirs = record { ones = refl; tallies = λ i. refl }
   epochs_alike start start' t [] (q ∷ qs) ss us starts long mine theirs = absurd (omega arith)
   epochs_alike start start' t (r ∷ rs) [] ss us starts long mine theirs = absurd (omega arith)
   epochs_alike start start' t (r ∷ rs) (q ∷ qs) [] us starts long mine theirs = absurd mine
   epochs_alike start start' t (r ∷ rs) (q ∷ qs) (s ∷ ss) [] starts long mine theirs = absurd theirs
   epochs_alike start start' t (r ∷ rs) (q ∷ qs) (s ∷ ss) (u ∷ us) starts long (mine, more) (theirs, others) =
-      let streams : (i : ℕ) → sum_below w.droppers (λ k. tally (stream_sites (sites start.grid) w.seed (stream_of t k) w.drops) i) ≡ sum_below v.droppers (λ k. tally (stream_sites (sites start'.grid) v.seed (stream_of t k) v.drops) i) =
-      λ i j. sum_below (asks.droppers j) (λ k. tally (stream_sites (sites (starts j).grid) (asks.seed j) (stream_of t k) (asks.drops j)) i) in
+      let streams : (i : ℕ)
+      → sum_below w.droppers (λ k. tally (stream_sites (sites start.grid) w.seed (stream_of t k) w.drops) i)
+      ≡ sum_below v.droppers (λ k. tally (stream_sites (sites start'.grid) v.seed (stream_of t k) v.drops) i) =
+      λ i j. sum_below (asks.droppers j)
+      (λ k. tally (stream_sites (sites (starts j).grid) (asks.seed j) (stream_of t k) (asks.drops j)) i) in
       let tallies : (i : ℕ) → tally r.history i ≡ tally q.history i =
       λ i. epoch_tally album w start t r s mine i ∙ streams i ∙ sym (epoch_tally album' v start' t q u theirs i) in
       let from : r.start ≡ q.start = mine.closed.from_start ∙ starts ∙ sym theirs.closed.from_start in
       let same = one_threads_once r q mine.closed.one_threads theirs.closed.one_threads from tallies in
       let drops = epoch_drops album w start t r s mine ∙ same_quota ∙ sym (epoch_drops album' v start' t q u theirs) in
       alike_more r q rs qs (one_same r q from same drops) tallies
-      (epochs_alike r.settled.pile q.settled.pile (t + 1) rs qs ss us (ap (λ (x : SettledView). x.pile) same) (omega arith) more others)
+      (epochs_alike r.settled.pile q.settled.pile (t + 1) rs qs ss us
+      (ap (λ (x : SettledView). x.pile) same) (omega arith) more others)
 
 pub one_outcome : OneOutcome
 one_outcome album album' w v start p q asks mine theirs =
-    let alike = epochs_alike album album' w v asks start start 0 p.records q.records p.sheets q.sheets refl (mine.all ∙ asks.epochs ∙ sym theirs.all) mine.epochs theirs.epochs in
+    let alike = epochs_alike album album' w v asks start start 0 p.records q.records p.sheets
+    q.sheets refl (mine.all ∙ asks.epochs ∙ sym theirs.all) mine.epochs theirs.epochs in
     let from : p.total.start ≡ q.total.start = mine.total.from_start ∙ sym theirs.total.from_start in
     let same = one_threads_once p.total q.total mine.total.one_threads theirs.total.one_threads from
-    (λ i. ap (λ (h : List ℕ). tally h i) mine.total.history ∙ alike.tallies i ∙ ap (λ (h : List ℕ). tally h i) (sym theirs.total.history)) in
-    let times : w.epochs * quota_of w ≡ v.epochs * quota_of v = λ k. asks.epochs k * same_quota album album' w v asks k in
-    let drops = dropped_so_far album w start w.epochs p mine ∙ times ∙ sym (dropped_so_far album' v start v.epochs q theirs) in
+    (λ i. ap (λ (h : List ℕ). tally h i) mine.total.history ∙ alike.tallies i
+    ∙ ap (λ (h : List ℕ). tally h i) (sym theirs.total.history)) in
+    let times : w.epochs * quota_of w ≡ v.epochs * quota_of v =
+    λ k. asks.epochs k * same_quota album album' w v asks k in
+    let drops =
+    dropped_so_far album w start w.epochs p mine ∙ times ∙ sym (dropped_so_far album' v start v.epochs q theirs) in
     record { epochs = alike.ones; total = one_same p.total q.total from same drops }

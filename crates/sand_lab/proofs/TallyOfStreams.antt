@@ -24,7 +24,8 @@ of_dropper k js = filter (λ (e : Entry). eqb e.dropper k) js
 abbrev pub of_first : ℕ → List Entry → List Entry
 of_first n js = filter (λ (e : Entry). ltb e.dropper n) js
 
-sum_by-kept : (w : Entry → ℕ) (passes : Bool) (e : Entry) (js : List Entry) → sum_by w (cond passes (e ∷ js) js) ≡ w e * cond passes 1 0 + sum_by w js
+sum_by-kept : (w : Entry → ℕ) (passes : Bool) (e : Entry) (js : List Entry)
+    → sum_by w (cond passes (e ∷ js) js) ≡ w e * cond passes 1 0 + sum_by w js
 sum_by-kept w true e js = let both = sum_by-cons w e js in omega arith
 sum_by-kept w false e js = omega arith
 
@@ -37,10 +38,14 @@ sum_below-one_at_before n x w =
     (cases_lt x n)
 
 -- the sums of the first n droppers add up to the sum over their entries
-sum_below-droppers : (w : Entry → ℕ) (n : ℕ) (js : List Entry) → sum_below n (λ k. sum_by w (of_dropper k js)) ≡ sum_by w (of_first n js)
+sum_below-droppers : (w : Entry → ℕ) (n : ℕ) (js : List Entry)
+    → sum_below n (λ k. sum_by w (of_dropper k js)) ≡ sum_by w (of_first n js)
 sum_below-droppers w n [] = sum_below-zero n
 sum_below-droppers w n (e ∷ js) =
-    let each = sum_below_same n (λ k. sum_by w (of_dropper k (e ∷ js))) (λ k. w e * one_at e.dropper k + sum_by w (of_dropper k js)) (λ k less. sum_by-kept w (eqb e.dropper k) e (of_dropper k js)) in
+    let each = sum_below_same n
+    (λ k. sum_by w (of_dropper k (e ∷ js)))
+    (λ k. w e * one_at e.dropper k + sum_by w (of_dropper k js))
+    (λ k less. sum_by-kept w (eqb e.dropper k) e (of_dropper k js)) in
     let split = sum_below-add n (λ k. w e * one_at e.dropper k) (λ k. sum_by w (of_dropper k js)) in
     let first = sum_below-one_at_before n e.dropper (w e) in
     let rest = sum_below-droppers w n js in
@@ -51,7 +56,8 @@ all_pass : (p : Entry → Bool) (js : List Entry) → length (filter p js) ≡ l
 all_pass p [] as_many = refl
 all_pass p (e ∷ js) as_many =
     ⊎_elim
-    (λ (pass : p e ≡ true). let same = simp pass at as_many in rw pass (ap (λ (xs : List Entry). e ∷ xs) (all_pass p js (omega arith))))
+    (λ (pass : p e ≡ true).
+    let same = simp pass at as_many in rw pass (ap (λ (xs : List Entry). e ∷ xs) (all_pass p js (omega arith))))
     (λ (fail : p e ≡ false).
     let fewer = simp fail at as_many in
     let count = length-filter p js in
@@ -63,12 +69,14 @@ all_pass p (e ∷ js) as_many =
 sum_by-ones : (js : List Entry) → sum_by (λ e. 1) js ≡ length (sites_in js)
 sum_by-ones js = sym (sum_by-map (λ j. 1) (λ (e : Entry). e.site) js) ∙ sum_by_ones (sites_in js)
 
-module _ (sites seed droppers drops epoch : ℕ) (js : List Entry) (follows : FollowsStreams sites seed droppers drops epoch js) where
+module _ (sites seed droppers drops epoch : ℕ) (js : List Entry)
+    (follows : FollowsStreams sites seed droppers drops epoch js) where
   -- the droppers have all entries
   as_many : sum_below droppers (λ k. length (sites_by k js)) ≡ length js
   as_many =
       let each = sum_below_same droppers (λ k. length (sites_by k js)) (λ k. drops * 1)
-      (λ k less. ap length (follows.each k less) ∙ (let long = length-stream_sites sites seed (stream_of epoch k) drops in omega arith)) in
+      (λ k less. ap length (follows.each k less)
+      ∙ (let long = length-stream_sites sites seed (stream_of epoch k) drops in omega arith)) in
       let scaled = sum_below-scale droppers drops (λ k. 1) in
       let times = ap (λ n. drops * n) (sum_below-ones droppers) in
       let all = follows.all in omega arith
@@ -76,17 +84,20 @@ module _ (sites seed droppers drops epoch : ℕ) (js : List Entry) (follows : Fo
   -- so every entry belongs to one of them
   all_of_droppers : of_first droppers js ≡ js
   all_of_droppers =
-      let each = sum_below_same droppers (λ k. sum_by (λ e. 1) (of_dropper k js)) (λ k. length (sites_by k js)) (λ k less. sum_by-ones (of_dropper k js)) in
+      let each = sum_below_same droppers (λ k. sum_by (λ e. 1) (of_dropper k js))
+      (λ k. length (sites_by k js)) (λ k less. sum_by-ones (of_dropper k js)) in
       let together = sum_below-droppers (λ e. 1) droppers js in
       let all = sum_by-ones (of_first droppers js) in
       let long = length-map (of_first droppers js) (λ (e : Entry). e.site) in
       let many = as_many in all_pass (λ (e : Entry). ltb e.dropper droppers) js (omega arith)
 
   -- and a site is in the journal as often as in all streams
-  pub tally_of_streams : (i : ℕ) → tally (sites_in js) i ≡ sum_below droppers (λ k. tally (stream_sites sites seed (stream_of epoch k) drops) i)
+  pub tally_of_streams : (i : ℕ)
+      → tally (sites_in js) i ≡ sum_below droppers (λ k. tally (stream_sites sites seed (stream_of epoch k) drops) i)
   tally_of_streams i =
       let w = λ (e : Entry). one_at e.site i in
       let tallied = λ (es : List Entry). sum_by-map (λ j. one_at j i) (λ (e : Entry). e.site) es in
-      let each = sum_below_same droppers (λ k. sum_by w (of_dropper k js)) (λ k. tally (stream_sites sites seed (stream_of epoch k) drops) i)
+      let each = sum_below_same droppers (λ k. sum_by w (of_dropper k js))
+      (λ k. tally (stream_sites sites seed (stream_of epoch k) drops) i)
       (λ k less. sym (tallied (of_dropper k js)) ∙ ap (λ (xs : List ℕ). tally xs i) (follows.each k less)) in
       tallied js ∙ (ap (sum_by w) (sym all_of_droppers) ∙ (sym (sum_below-droppers w droppers js) ∙ each))

@@ -37,11 +37,22 @@ due p rows = sum_by (λ h. h / 4) (take (count_of rows * p.grid.width) (drop (ro
 
 -- a pass with a quota and no rows
 abbrev pub rowless : SharedView → ℕ → PassView
-rowless s quota = record { table = s.table; grid = grid_of_terms s.terms; left = quota; seen = 0; receipts = []; rows = no_rows; counts = [] }
+rowless s quota = record {
+  table = s.table;
+  grid = grid_of_terms s.terms;
+  left = quota;
+  seen = 0;
+  receipts = [];
+  rows = no_rows;
+  counts = [];
+}
 
 -- a pass with a quota and the rows above `end`, none of them toppled
 abbrev pub upper_part : SharedView → ℕ → ℕ → PassView
-upper_part s quota end = record (rowless s quota) { rows = record { first = 0; end = end }; counts = zeros ((grid_of_terms s.terms).width * end) }
+upper_part s quota end = record (rowless s quota) {
+  rows = record { first = 0; end = end };
+  counts = zeros ((grid_of_terms s.terms).width * end);
+}
 
 -- a pass with a quota and all rows, like the first one
 abbrev pub unshared : SharedView → ℕ → PassView
@@ -55,7 +66,8 @@ banded s rows = record (rowless s 0) { rows = rows; counts = zeros (count_of row
 
 pub record IsDropper (s : SharedView) (w : Wish) (epoch k : ℕ) (d : Dropper) : Type 0 where
   pub who : d.who ≡ k
-  pub sites : d.sites ≡ record { sites = sites (grid_of_terms s.terms); seed = w.seed; stream = stream_of epoch k; read = 0 }
+  pub sites : d.sites
+      ≡ record { sites = sites (grid_of_terms s.terms); seed = w.seed; stream = stream_of epoch k; read = 0 }
   pub pass : d.pass ≡ rowless s w.drops
   pub none_read : d.batch.items ≡ []
   pub room : div_ceil w.drops 16 ≤ vec_capacity d.batch
@@ -86,7 +98,8 @@ pub record IsCrew (s : SharedView) (w : Wish) (epoch : ℕ) (c : Crew) : Type 0 
 -- it has dropped its whole quota at the sites of its stream, in order
 pub record HasDroppedItsStream (s : SharedView) (w : Wish) (epoch k : ℕ) (d : Dropper) : Type 0 where
   pub pass : d.pass ≡ record (rowless s 0) { seen = d.pass.seen; receipts = d.pass.receipts }
-  pub sites : receipt_sites d.pass.receipts ≡ stream_sites (sites (grid_of_terms s.terms)) w.seed (stream_of epoch k) w.drops
+  pub sites : receipt_sites d.pass.receipts
+      ≡ stream_sites (sites (grid_of_terms s.terms)) w.seed (stream_of epoch k) w.drops
   pub ascends : Ascends d.pass.receipts
   pub within : AllBelow s.terms.quota d.pass.receipts
 

@@ -21,7 +21,8 @@ pub record AreTallies (w : Wish) (tallies : List (List ℕ)) : Type 0 where
 pub record AreSwept (w : Wish) (start : PileView) (r : RecordView) (swept : List ℕ) : Type 0 where
   pub all : length swept ≡ w.workers
   pub few : sum swept ≤ r.settled.topplings
-  pub enough : 0 < w.sweeps → (j : ℕ) → j < w.workers → due start (band start.grid.height w.workers j) ≤ slice_index swept j
+  pub enough : 0 < w.sweeps → (j : ℕ) → j < w.workers
+      → due start (band start.grid.height w.workers j) ≤ slice_index swept j
 
 -- epoch t is closed: the history has the drops of the journal, and there each dropper has the sites of its stream
 pub record IsClosed (w : Wish) (start : PileView) (t : ℕ) (r : RecordView)

@@ -36,7 +36,8 @@ pub record IsDropping (s : SharedView) (turns read : ℕ) (d e : Dropper) : Type
   pub grid : d.sites.sites ≡ sites (grid_of_terms s.terms)
   pub reading : e.sites ≡ record d.sites { read = read }
   pub inside : All (λ i. i < sites (grid_of_terms s.terms)) e.batch.items
-  pub sites : receipt_sites e.pass.receipts ++ e.batch.items ≡ stream_sites d.sites.sites d.sites.seed d.sites.stream read
+  pub sites : receipt_sites e.pass.receipts ++ e.batch.items
+      ≡ stream_sites d.sites.sites d.sites.seed d.sites.stream read
   pub ascends : Ascends e.pass.receipts
   pub within : AllBelow s.terms.quota e.pass.receipts
   pub below : AllBelow e.pass.seen e.pass.receipts
@@ -66,7 +67,8 @@ pub record TookSweepTurns (s : SharedView) (turns : ℕ) (w x : Worker) : Type 0
   pub same_rows : length x.pass.counts ≡ length w.pass.counts
   pub never_fall : (j : ℕ) → slice_index w.pass.counts j ≤ slice_index x.pass.counts j
   pub enough : 0 < turns → (j : ℕ) → j < length w.pass.counts
-      → LeavesAtMost s.terms (at_rest w.pass) ((at_rest w.pass).base + j) (4 * (slice_index x.pass.counts j - slice_index w.pass.counts j) + 3)
+      → LeavesAtMost s.terms (at_rest w.pass) ((at_rest w.pass).base + j)
+      (4 * (slice_index x.pass.counts j - slice_index w.pass.counts j) + 3)
 
 -- Observers
 

@@ -50,16 +50,19 @@ pub record HavePlaces (drops : ℕ) (parts : List (List Receipt)) (long : ℕ) :
 
 -- the entry of each of a dropper's receipts is at its number
 abbrev pub HasEntries : ℕ → List Receipt → List Entry → Type 0
-HasEntries dropper receipts journal = (i : ℕ) (r : Receipt) → slice_get receipts i ≡ Some r → slice_get journal r.number ≡ Some (entry dropper r.site)
+HasEntries dropper receipts journal =
+    (i : ℕ) (r : Receipt) → slice_get receipts i ≡ Some r → slice_get journal r.number ≡ Some (entry dropper r.site)
 
 -- two journals have the same entries, except at the numbers of the receipts
 abbrev pub AgreeBeside : List Receipt → List Entry → List Entry → Type 0
-AgreeBeside receipts before after = (n : ℕ) → All (λ (r : Receipt). r.number ≢ n) receipts → slice_get after n ≡ slice_get before n
+AgreeBeside receipts before after =
+    (n : ℕ) → All (λ (r : Receipt). r.number ≢ n) receipts → slice_get after n ≡ slice_get before n
 
 -- the receipts of the droppers come one dropper after another, `drops` each, and the entry of each is at its number
 pub record IsJournal (drops : ℕ) (receipts : List Receipt) (journal : List Entry) : Type 0 where
   pub one_each : length journal ≡ length receipts
-  pub noted : (i : ℕ) (r : Receipt) → slice_get receipts i ≡ Some r → slice_get journal r.number ≡ Some (entry (i / drops) r.site)
+  pub noted : (i : ℕ) (r : Receipt) → slice_get receipts i ≡ Some r
+      → slice_get journal r.number ≡ Some (entry (i / drops) r.site)
 
 -- each dropper dropped at the sites of its stream, in order, and nobody else dropped
 pub record FollowsStreams (sites seed droppers drops epoch : ℕ) (journal : List Entry) : Type 0 where

@@ -25,7 +25,8 @@ pub record ReportView : Type 0 where
   pub total : RecordView
 
 -- epoch t is closed, and the album's place t shows its record
-pub record IsEpoch (album : List ℕ) (w : Wish) (start : PileView) (t : ℕ) (r : RecordView) (s : SheetView) : Type 0 where
+pub record IsEpoch (album : List ℕ) (w : Wish) (start : PileView)
+    (t : ℕ) (r : RecordView) (s : SheetView) : Type 0 where
   pub closed : IsClosed w start t r s.journal s.tallies s.swept
   pub place : IsPlace album t s.place
   pub shown : s.shown ≡ Some (record { epoch = t; closed = r })
@@ -33,7 +34,8 @@ pub record IsEpoch (album : List ℕ) (w : Wish) (start : PileView) (t : ℕ) (r
 -- the epochs from t on, each starting from the pile of the one before it
 abbrev pub AreEpochs : List ℕ → Wish → PileView → ℕ → List RecordView → List SheetView → Type 0
 AreEpochs album w start t [] [] = Unit {0}
-AreEpochs album w start t (r ∷ rs) (s ∷ ss) = IsEpoch album w start t r s × AreEpochs album w r.settled.pile (t + 1) rs ss
+AreEpochs album w start t (r ∷ rs) (s ∷ ss) =
+    IsEpoch album w start t r s × AreEpochs album w r.settled.pile (t + 1) rs ss
 AreEpochs album w start t _ _ = ⊥
 
 -- the pile after all records
@@ -50,7 +52,8 @@ pub record IsTotal (start : PileView) (records : List RecordView) (total : Recor
   pub from_start : total.start ≡ start
   pub history : total.history ≡ histories records
   pub pile : total.settled.pile ≡ last_pile start records
-  pub odometer : (i : ℕ) → i < sites start.grid → odometer_of total.settled i ≡ sum_by (λ (r : RecordView). odometer_of r.settled i) records
+  pub odometer : (i : ℕ) → i < sites start.grid
+      → odometer_of total.settled i ≡ sum_by (λ (r : RecordView). odometer_of r.settled i) records
   pub topplings : total.settled.topplings ≡ sum_by (λ (r : RecordView). r.settled.topplings) records
   pub lost : total.settled.lost ≡ sum_by (λ (r : RecordView). r.settled.lost) records
 
@@ -78,7 +81,8 @@ pub record IsBoth (first next both : RecordView) : Type 0 where
   pub start : both.start ≡ first.start
   pub history : both.history ≡ first.history ++ next.history
   pub pile : both.settled.pile ≡ next.settled.pile
-  pub odometer : (i : ℕ) → i < sites first.start.grid → odometer_of both.settled i ≡ odometer_of first.settled i + odometer_of next.settled i
+  pub odometer : (i : ℕ) → i < sites first.start.grid
+      → odometer_of both.settled i ≡ odometer_of first.settled i + odometer_of next.settled i
   pub topplings : both.settled.topplings ≡ first.settled.topplings + next.settled.topplings
   pub lost : both.settled.lost ≡ first.settled.lost + next.settled.lost
 

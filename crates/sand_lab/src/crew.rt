@@ -59,7 +59,8 @@ fn sweep_and_tally<R: Threads + Sync, G: Gate>(
         { do_list(rt, pile, gate, sweeps, workers) },
         &mut ||
             requires { IsSync R.row × IsSync G.row × All (CanTally pile.now tallies_each) observers.now.items }
-            ensures { AllZip (TookTallyTurns pile.entry.now tallies_each) observers.entry.now.items observers.exit.now.items }
+            ensures { AllZip (TookTallyTurns pile.entry.now tallies_each)
+                observers.entry.now.items observers.exit.now.items }
         { do_list(rt, pile, gate, TALLIES, observers) },
     );
 }
@@ -84,12 +85,16 @@ fn all_work<R: Threads + Sync, G: Gate>(
         rt,
         &mut ||
             requires { IsSync R.row × IsSync G.row × All (CanDrop pile.now wish.drops) droppers.now.items }
-            ensures { AllZip (TookDropTurns pile.entry.now wish.drops) droppers.entry.now.items droppers.exit.now.items }
+            ensures { AllZip (TookDropTurns pile.entry.now wish.drops)
+                droppers.entry.now.items droppers.exit.now.items }
         { do_list(rt, pile, gate, wish.drops, droppers) },
         &mut ||
-            requires { IsSync R.row × IsSync G.row × All (CanSweep pile.now) workers.now.items × All (CanTally pile.now tallies_each) observers.now.items }
-            ensures workers { AllZip (TookSweepTurns pile.entry.now wish.sweeps) workers.entry.now.items workers.exit.now.items }
-            ensures observers { AllZip (TookTallyTurns pile.entry.now tallies_each) observers.entry.now.items observers.exit.now.items }
+            requires { IsSync R.row × IsSync G.row × All (CanSweep pile.now) workers.now.items
+                × All (CanTally pile.now tallies_each) observers.now.items }
+            ensures workers { AllZip (TookSweepTurns pile.entry.now wish.sweeps)
+                workers.entry.now.items workers.exit.now.items }
+            ensures observers { AllZip (TookTallyTurns pile.entry.now tallies_each)
+                observers.entry.now.items observers.exit.now.items }
         { sweep_and_tally(rt, pile, gate, wish.sweeps, workers, observers) },
     );
 }
@@ -127,7 +132,8 @@ impl Crew {
     /// Rounds in which each worker sweeps once, until one topples nothing; at most `rounds`.
     pub(crate) fn sweep_on<R: Threads + Sync>(&mut self, rt: &R, pile: &SharedPile, rounds: u32)
         requires { (wish : Wish) × (epoch : ℕ) × HasWorked pile.now wish epoch self.old }
-        ensures { (wish : Wish) (epoch : ℕ) → HasWorked pile.now wish epoch self.old → HasWorked pile.now wish epoch self.new }
+        ensures { (wish : Wish) (epoch : ℕ) → HasWorked pile.now wish epoch self.old
+            → HasWorked pile.now wish epoch self.new }
     {
         for _ in 0..rounds {
             do_list(rt, pile, &Open, 1, &mut self.workers);

@@ -38,7 +38,8 @@ pub(crate) fn batch_size(drops: u32) -> u32
 impl Dropper {
     // Drops on the next site of the stream; the batch is empty.
     fn drop_next(&mut self, pile: &SharedPile, _turns: u32)
-        requires dropping { (read : ℕ) × (first : Dropper) × (read < _turns) × IsDropping pile.now _turns read first self.old }
+        requires dropping { (read : ℕ) × (first : Dropper) × (read < _turns)
+            × IsDropping pile.now _turns read first self.old }
         requires empty { self.old.batch.items ≡ [] }
         ensures dropped { (read : ℕ) (first : Dropper) → read < _turns
             → IsDropping pile.now _turns read first self.old → IsDropping pile.now _turns (read + 1) first self.new }
@@ -66,7 +67,8 @@ impl Dropper {
 
     // Reads the next site of the stream into the batch, and drops on its sites when it is full.
     fn read_next(&mut self, pile: &SharedPile, turns: u32)
-        requires dropping { (read : ℕ) × (first : Dropper) × (read < turns) × IsDropping pile.now turns read first self.old }
+        requires dropping { (read : ℕ) × (first : Dropper) × (read < turns)
+            × IsDropping pile.now turns read first self.old }
         requires few { length self.old.batch.items < div_ceil turns 16 }
         ensures read { (read : ℕ) (first : Dropper) → read < turns
             → IsDropping pile.now turns read first self.old → IsDropping pile.now turns (read + 1) first self.new }

@@ -121,8 +121,8 @@ pub(crate) fn closed_epoch<R: Threads + Sync, G: Gate>(
 }
 
 impl ClosedEpoch {
-    /// A copy of the record with room for `drops` more drops, from which the total of a run grows. A total that does not
-    /// grow shares the history. The only error is Memory.
+    /// A copy of the record with room for `drops` more drops, from which the total of a run grows. A total that does
+    /// not grow shares the history. The only error is Memory.
     pub(crate) fn copy_to_grow(&self, alloc: Global, drops: u64) -> Result<Record, LabFault>
         requires limit { sum self.now.closed.start.heights + (length self.now.closed.history + drops) ≤ most_grains }
         ensures copy { IfOk result (λ r. r ≡ self.now.closed) }

@@ -66,7 +66,10 @@ fn take_in_receipts(
     requires first { IsPassOf pile.now first.old }
     requires other { HoldsReceipts pile.now other }
     ensures of_pile { IsPassOf pile.now first.new }
-    ensures first { OnOk result (first.new ≡ record first.old { seen = first.new.seen; receipts = first.old.receipts ++ other.receipts }) }
+    ensures first { OnOk result (first.new ≡ record first.old {
+      seen = first.new.seen;
+      receipts = first.old.receipts ++ other.receipts;
+    }) }
     ensures receipts { IfOk result (λ v. v.items ≡ other.receipts) }
     ensures memory { IfErr result IsMemory }
 {
@@ -83,7 +86,10 @@ fn gather_droppers(
     requires first { IsPassOf pile.now first.old }
     requires droppers { All (λ d. HoldsReceipts pile.now d.pass) droppers.items }
     ensures of_pile { IsPassOf pile.now first.new }
-    ensures first { OnOk result (first.new ≡ record first.old { seen = first.new.seen; receipts = first.old.receipts ++ all_receipts droppers.items }) }
+    ensures first { OnOk result (first.new ≡ record first.old {
+      seen = first.new.seen;
+      receipts = first.old.receipts ++ all_receipts droppers.items;
+    }) }
     ensures parts { IfOk result (λ v. lists v.items ≡ parts_of droppers.items) }
     ensures memory { IfErr result IsMemory }
 {
@@ -178,7 +184,8 @@ impl Crew {
         ensures first { OnOk result (HasGathered pile.now self first.new) }
         ensures parts { IfOk result (λ g. lists g.parts.items ≡ parts_of self.droppers.items) }
         ensures swept { IfOk result (λ g. g.findings.swept.items ≡ all_swept self.workers.items) }
-        ensures tallies { IfOk result (λ g. map (λ ts. ts.items) g.findings.tallies.items ≡ readings self.observers.items) }
+        ensures tallies { IfOk result
+            (λ g. map (λ ts. ts.items) g.findings.tallies.items ≡ readings self.observers.items) }
         ensures memory { IfErr result IsMemory }
     {
         let Crew {

@@ -30,7 +30,8 @@ fn split_quota(
     requires left { quota ≤ first.old.left }
     ensures of_pile { IsPassOf pile.now first.new }
     ensures first { OnOk result (first.new ≡ record first.old { left = first.old.left - quota }) }
-    ensures child { IfOk result (λ c. c ≡ record first.old { left = quota; receipts = []; rows = no_rows; counts = [] }) }
+    ensures child { IfOk result
+        (λ c. c ≡ record first.old { left = quota; receipts = []; rows = no_rows; counts = [] }) }
     ensures memory { IfErr result IsMemory }
 {
     match pile.split(alloc, first, quota) {

@@ -1,7 +1,7 @@
 //! What overlaps in an epoch: its long lists are touched, written and freed on another thread while this one works.
 //!
-//! A list of all drops takes many pages of memory. The system provides a page when it is first touched, which takes longer
-//! than the drops that the page is for, and takes it back when it is freed.
+//! A list of all drops takes many pages of memory. The system provides a page when it is first touched, which takes
+//! longer than the drops that the page is for, and takes it back when it is freed.
 
 ghost use Rattle.std.specs.Prelude.{◌≡◌, ℕ, ◌≤◌, [], length, vec_len, vec_capacity, IfOk, IfErr};
 ghost use Rattle.std.specs.Thread.{IsSync};

@@ -170,7 +170,8 @@ impl Report {
     ) -> Result<(), LabFault>
         requires few { length self.old.records < 100 }
         requires start { closed.start ≡ self.old.total.settled.pile }
-        requires limit { sum self.old.total.start.heights + (length self.old.total.history + length closed.history) ≤ most_grains }
+        requires limit { sum self.old.total.start.heights + (length self.old.total.history + length closed.history)
+            ≤ most_grains }
         ensures grown { OnOk result (HasGrown self.old closed sheet self.new) }
         ensures unchanged { OnErr result (self.new ≡ self.old) }
         ensures memory { IfErr result IsMemory }

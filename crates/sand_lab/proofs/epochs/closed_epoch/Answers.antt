@@ -10,33 +10,46 @@ use Rattle.sand_lab.proofs.EpochIsClosed.{whole, gathered_parts, places, closed_
 use Rattle.sand_lab.proofs.epochs.closed_epoch.Goals as goal
 
 pub sweep_on-requires-after_bounds : goal.sweep_on-requires-after_bounds
-sweep_on-requires-after_bounds g c κs bounds = (c.args.wish, c.args.epoch, c.work_and_make_blank.ensures.crew.worked c.args.epoch c.in_ok-crew.ensures.crew)
+sweep_on-requires-after_bounds g c κs bounds =
+    (c.args.wish, c.args.epoch, c.work_and_make_blank.ensures.crew.worked c.args.epoch c.in_ok-crew.ensures.crew)
 
 pub gather-requires-clause-crew : goal.gather-requires-clause-crew
-gather-requires-clause-crew g c =
-    (c.args.wish, c.args.epoch, c.requires.plan.some_workers, c.sweep_on.ensures c.args.wish c.args.epoch (c.work_and_make_blank.ensures.crew.worked c.args.epoch c.in_ok-crew.ensures.crew))
+gather-requires-clause-crew g c = (
+  c.args.wish,
+  c.args.epoch,
+  c.requires.plan.some_workers,
+  c.sweep_on.ensures c.args.wish c.args.epoch
+      (c.work_and_make_blank.ensures.crew.worked c.args.epoch c.in_ok-crew.ensures.crew),
+)
 
 pub settle-requires-clause-whole : goal.settle-requires-clause-whole
 settle-requires-clause-whole g c κs bounds =
     let s = c.in_ok-pile.pile in
     let quota = ap (λ (t : Terms). t.quota) c.in_ok-pile.ensures.terms ∙ c.quota_of.ensures in
-    let has = c.sweep_on.ensures c.args.wish c.args.epoch (c.work_and_make_blank.ensures.crew.worked c.args.epoch c.in_ok-crew.ensures.crew) in
+    let has = c.sweep_on.ensures c.args.wish c.args.epoch
+    (c.work_and_make_blank.ensures.crew.worked c.args.epoch c.in_ok-crew.ensures.crew) in
     whole s c.args.wish c.args.epoch c.sweep_on.new.self c.gather.new.first quota has c.in_ok-parts.ensures.first
 
 pub settle-requires-clause-places : goal.settle-requires-clause-places
 settle-requires-clause-places g c κs bounds =
     let s = c.in_ok-pile.pile in
     let quota = ap (λ (t : Terms). t.quota) c.in_ok-pile.ensures.terms ∙ c.quota_of.ensures in
-    let has = c.sweep_on.ensures c.args.wish c.args.epoch (c.work_and_make_blank.ensures.crew.worked c.args.epoch c.in_ok-crew.ensures.crew) in
-    let once : EachOnce c.gather.new.first.receipts = subst EachOnce (ap (λ (p : PassView). p.receipts) c.all.view_is) c.all.invariant.pass.once in
-    places s c.args.wish c.args.epoch c.sweep_on.new.self c.gather.new.first quota has c.in_ok-parts.ensures.first (lists c.in_ok-parts.field-0.parts.items) (vec_len c.in_ok-blank.blank.journal) c.in_ok-parts.ensures.parts c.in_ok-blank.ensures.journal once c.requires.plan
+    let has = c.sweep_on.ensures c.args.wish c.args.epoch
+    (c.work_and_make_blank.ensures.crew.worked c.args.epoch c.in_ok-crew.ensures.crew) in
+    let once : EachOnce c.gather.new.first.receipts =
+    subst EachOnce (ap (λ (p : PassView). p.receipts) c.all.view_is) c.all.invariant.pass.once in
+    places s c.args.wish c.args.epoch c.sweep_on.new.self c.gather.new.first quota has
+    c.in_ok-parts.ensures.first (lists c.in_ok-parts.field-0.parts.items) (vec_len c.in_ok-blank.blank.journal)
+    c.in_ok-parts.ensures.parts c.in_ok-blank.ensures.journal once c.requires.plan
 
 pub settle-requires-clause-parts : goal.settle-requires-clause-parts
 settle-requires-clause-parts g c κs bounds =
     let s = c.in_ok-pile.pile in
     let quota = ap (λ (t : Terms). t.quota) c.in_ok-pile.ensures.terms ∙ c.quota_of.ensures in
-    let has = c.sweep_on.ensures c.args.wish c.args.epoch (c.work_and_make_blank.ensures.crew.worked c.args.epoch c.in_ok-crew.ensures.crew) in
-    gathered_parts s c.args.wish c.args.epoch c.sweep_on.new.self c.gather.new.first quota has c.in_ok-parts.ensures.first (lists c.in_ok-parts.field-0.parts.items) c.in_ok-parts.ensures.parts
+    let has = c.sweep_on.ensures c.args.wish c.args.epoch
+    (c.work_and_make_blank.ensures.crew.worked c.args.epoch c.in_ok-crew.ensures.crew) in
+    gathered_parts s c.args.wish c.args.epoch c.sweep_on.new.self c.gather.new.first quota has
+    c.in_ok-parts.ensures.first (lists c.in_ok-parts.field-0.parts.items) c.in_ok-parts.ensures.parts
 
 pub returns-clause-closed : goal.returns-clause-closed
 returns-clause-closed g c =
@@ -44,10 +57,12 @@ returns-clause-closed g c =
     let w = c.args.wish in
     let quota = ap (λ (t : Terms). t.quota) c.in_ok-pile.ensures.terms ∙ c.quota_of.ensures in
     let start : s.terms.start ≡ c.args.start.now = ap (λ (t : Terms). t.start) c.in_ok-pile.ensures.terms in
-    let has = c.sweep_on.ensures w c.args.epoch (c.work_and_make_blank.ensures.crew.worked c.args.epoch c.in_ok-crew.ensures.crew) in
+    let has = c.sweep_on.ensures w c.args.epoch
+    (c.work_and_make_blank.ensures.crew.worked c.args.epoch c.in_ok-crew.ensures.crew) in
     let gathered = c.in_ok-parts.ensures in
     let written = c.in_ok-journal.journal.items in
-    let journal = subst (λ (parts : List (List Receipt)). IsJournal w.drops (flattened parts) written) gathered.parts c.in_ok-journal.ensures.journal in
+    let journal = subst (λ (parts : List (List Receipt)). IsJournal w.drops (flattened parts) written)
+    gathered.parts c.in_ok-journal.ensures.journal in
     let tallies = map (λ ts. ts.items) c.in_ok-parts.field-0.findings.tallies.items in
     let swept = c.in_ok-parts.field-0.findings.swept.items in
     let epoch = closed_is s w c.args.epoch c.sweep_on.new.self c.gather.new.first quota has gathered.first

@@ -9,7 +9,8 @@ use Rattle.sand_lab.specs.Gathering.{all_receipts, HoldsReceipts}
 use Rattle.sand_lab.proofs.gathering.gather_droppers.Goals as goal
 
 more : (ds : List Dropper) (d : Dropper) → all_receipts (ds ++ d ∷ []) ≡ all_receipts ds ++ d.pass.receipts
-more ds d = flat_map-append (λ (x : Dropper). x.pass.receipts) ds (d ∷ []) ∙ ap (λ rs. all_receipts ds ++ rs) (append-nil d.pass.receipts)
+more ds d = flat_map-append (λ (x : Dropper). x.pass.receipts) ds (d ∷ [])
+    ∙ ap (λ rs. all_receipts ds ++ rs) (append-nil d.pass.receipts)
 
 pub loop-dropper-preserved : goal.loop-dropper-preserved
 loop-dropper-preserved c =
@@ -21,14 +22,18 @@ loop-dropper-preserved c =
     let before : List Receipt = c.args.first.now.receipts in
     let seen = c.take_in_receipts.new.first.seen in
     let receipts : c.loop-dropper.first.receipts ++ d.pass.receipts ≡ before ++ all_receipts (ds ++ d ∷ []) =
-    ap (λ (p : PassView). p.receipts ++ d.pass.receipts) i.first ∙ append_assoc before (all_receipts ds) d.pass.receipts ∙ ap (λ rs. before ++ rs) (sym (more ds d)) in
+    ap (λ (p : PassView). p.receipts ++ d.pass.receipts) i.first
+    ∙ append_assoc before (all_receipts ds) d.pass.receipts ∙ ap (λ rs. before ++ rs) (sym (more ds d)) in
     let rest = subst (All (λ (x : Dropper). HoldsReceipts c.args.pile.now x.pass)) steps i.rest in
     record {
       of_pile = search rules;
-      first = c.in_ok-receipts.ensures.first ∙ ap₂ (λ (p : PassView) (rs : List Receipt). record p { seen = seen; receipts = rs }) i.first receipts;
+      first = c.in_ok-receipts.ensures.first
+          ∙ ap₂ (λ (p : PassView) (rs : List Receipt). record p { seen = seen; receipts = rs }) i.first receipts;
       items = append_assoc ds (d ∷ []) left ∙ rw (← steps) i.items;
       rest = λ k x lt. rest (suc k) x (omega (arith, lt));
       room = search rules;
-      parts = rw (c.push_reserved.ensures.items) (map-append (λ (part : Vec Receipt Global). part.items) c.loop-dropper.all.items (c.in_ok-receipts.receipts ∷ []))
-          ∙ ap₂ (λ ps (rs : List Receipt). ps ++ rs ∷ []) i.parts c.in_ok-receipts.ensures.receipts ∙ sym (map-append (λ (x : Dropper). x.pass.receipts) ds (d ∷ []));
+      parts = rw (c.push_reserved.ensures.items) (map-append (λ (part : Vec Receipt Global). part.items)
+          c.loop-dropper.all.items (c.in_ok-receipts.receipts ∷ []))
+          ∙ ap₂ (λ ps (rs : List Receipt). ps ++ rs ∷ []) i.parts c.in_ok-receipts.ensures.receipts
+          ∙ sym (map-append (λ (x : Dropper). x.pass.receipts) ds (d ∷ []));
     }

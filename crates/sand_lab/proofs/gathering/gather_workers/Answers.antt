@@ -17,7 +17,8 @@ nothing_left [] e = refl
 nothing_left (x ∷ xs) e = absurd (omega (arith, e))
 
 more : (xs : List Worker) (x : Worker) → all_counts (xs ++ x ∷ []) ≡ all_counts xs ++ x.pass.counts
-more xs x = flat_map-append (λ (w : Worker). w.pass.counts) xs (x ∷ []) ∙ ap (λ cs. all_counts xs ++ cs) (append-nil x.pass.counts)
+more xs x = flat_map-append (λ (w : Worker). w.pass.counts) xs (x ∷ [])
+    ∙ ap (λ cs. all_counts xs ++ cs) (append-nil x.pass.counts)
 
 pub take_in-requires-clause-touching : goal.take_in-requires-clause-touching
 take_in-requires-clause-touching c =
@@ -31,7 +32,8 @@ take_in-requires-clause-touching c =
     let n = length c.args.workers.items in
     let j = length xs in
     let items : xs ++ x ∷ left ≡ c.args.workers.items = rw (← steps) i.items in
-    let at : slice_get c.args.workers.items j ≡ Some x = subst (λ ws. slice_get ws j ≡ Some x) items (next_at xs left x) in
+    let at : slice_get c.args.workers.items j ≡ Some x =
+    subst (λ ws. slice_get ws j ≡ Some x) items (next_at xs left x) in
     let rows : c.loop-worker.first.rows ≡ top (j * height / n) = ap (λ (p : PassView). p.rows) i.first in
     band_touches s c.loop-worker.first x.pass (j * height / n) ((j + 1) * height / n) rows (c.requires.workers j x at)
 
@@ -47,20 +49,28 @@ loop-worker-preserved c =
     let n = length c.args.workers.items in
     let j = length xs in
     let items : xs ++ x ∷ left ≡ c.args.workers.items = rw (← steps) i.items in
-    let at : slice_get c.args.workers.items j ≡ Some x = subst (λ ws. slice_get ws j ≡ Some x) items (next_at xs left x) in
+    let at : slice_get c.args.workers.items j ≡ Some x =
+    subst (λ ws. slice_get ws j ≡ Some x) items (next_at xs left x) in
     let holds : HoldsBand s n j x = c.requires.workers j x at in
     let begin = j * height / n in
     let end = (j + 1) * height / n in
     let rows : c.loop-worker.first.rows ≡ top begin = ap (λ (p : PassView). p.rows) i.first in
-    let joined = c.in_ok-_none.ensures.first ∙ band_joined s c.loop-worker.first x.pass begin end (share_grows j height n) rows holds in
+    let joined = c.in_ok-_none.ensures.first
+    ∙ band_joined s c.loop-worker.first x.pass begin end (share_grows j height n) rows holds in
     let long : j + 1 ≡ length (xs ++ x ∷ []) = sym (length-append xs (x ∷ [])) in
-    let counts : c.loop-worker.first.counts ++ x.pass.counts ≡ all_counts (xs ++ x ∷ []) = ap (λ (p : PassView). p.counts ++ x.pass.counts) i.first ∙ sym (more xs x) in
-    let seen : (together c.loop-worker.first x.pass).seen ≡ c.take_in.new.first.seen = sym (ap (λ (p : PassView). p.seen) joined) in
+    let counts : c.loop-worker.first.counts ++ x.pass.counts ≡ all_counts (xs ++ x ∷ []) =
+    ap (λ (p : PassView). p.counts ++ x.pass.counts) i.first ∙ sym (more xs x) in
+    let seen : (together c.loop-worker.first x.pass).seen ≡ c.take_in.new.first.seen =
+    sym (ap (λ (p : PassView). p.seen) joined) in
     let all = c.args.first.now in
     record {
       of_pile = search rules;
-      first = joined ∙ ap₂ (λ (p : PassView) (m : ℕ). record p { seen = m; rows = top end; counts = c.loop-worker.first.counts ++ x.pass.counts }) i.first seen
-          ∙ ap₂ (λ (m : ℕ) (cs : List ℕ). record all { seen = c.take_in.new.first.seen; rows = top (m * height / n); counts = cs }) long counts;
+      first = joined ∙ ap₂ (λ (p : PassView) (m : ℕ).
+          record p { seen = m; rows = top end; counts = c.loop-worker.first.counts ++ x.pass.counts })
+          i.first seen
+          ∙ ap₂ (λ (m : ℕ) (cs : List ℕ).
+          record all { seen = c.take_in.new.first.seen; rows = top (m * height / n); counts = cs })
+          long counts;
       items = append_assoc xs (x ∷ []) left ∙ items;
       long = (let was = i.long in let gone = c.in-Some.ensures.steps.1 in let short = ap length steps in omega arith);
       room = search rules;
@@ -74,7 +84,11 @@ returns-clause-first c =
     let xs = c.loop-worker.yielded in
     let height = (grid_of_terms s.terms).height in
     let n = length c.args.workers.items in
-    let none : into_iter_items c.loop-worker.worker-iterator ≡ [] = nothing_left (into_iter_items c.loop-worker.worker-iterator) (i.long ∙ c.in-None.ensures.steps.0) in
+    let none : into_iter_items c.loop-worker.worker-iterator ≡ [] =
+    nothing_left (into_iter_items c.loop-worker.worker-iterator) (i.long ∙ c.in-None.ensures.steps.0) in
     let all : xs ≡ c.args.workers.items = sym (append-nil xs) ∙ rw none at i.items in
-    let whole : length xs * height / n ≡ height = ap (λ (ws : List Worker). length ws * height / n) all ∙ mul-div_cancel_left height c.requires.some in
-    i.first ∙ ap₂ (λ (m : ℕ) (ws : List Worker). record c.args.first.now { seen = c.loop-worker.first.seen; rows = top m; counts = all_counts ws }) whole all
+    let whole : length xs * height / n ≡ height =
+    ap (λ (ws : List Worker). length ws * height / n) all ∙ mul-div_cancel_left height c.requires.some in
+    i.first ∙ ap₂ (λ (m : ℕ) (ws : List Worker).
+    record c.args.first.now { seen = c.loop-worker.first.seen; rows = top m; counts = all_counts ws })
+    whole all

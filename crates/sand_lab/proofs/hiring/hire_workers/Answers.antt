@@ -15,9 +15,11 @@ loop-done-init c =
     let s = c.args.pile.now in
     let height = (grid_of_terms s.terms).height in
     let all : c.args.workers ≡ c.args.workers - 0 = omega arith in
-    let whole : height ≡ (c.args.workers - 0) * height / c.args.workers = sym (mul-div_cancel_left height c.requires.some.0) ∙ ap (λ (n : ℕ). n * height / c.args.workers) all in
+    let whole : height ≡ (c.args.workers - 0) * height / c.args.workers =
+    sym (mul-div_cancel_left height c.requires.some.0) ∙ ap (λ (n : ℕ). n * height / c.args.workers) all in
     record {
-      hired = subst (EachAt (λ i. IsWorker s c.args.workers (c.args.workers - 0 + i))) (sym c.in_ok-hired.ensures.items) (each_none (λ i. IsWorker s c.args.workers (c.args.workers - 0 + i)));
+      hired = subst (EachAt (λ i. IsWorker s c.args.workers (c.args.workers - 0 + i)))
+          (sym c.in_ok-hired.ensures.items) (each_none (λ i. IsWorker s c.args.workers (c.args.workers - 0 + i)));
       long = search rules;
       first = c.requires.first ∙ ap (λ (n : ℕ). upper_part s 0 n) whole;
     }
@@ -34,24 +36,39 @@ loop-done-preserved c =
     let here : who ≡ c.args.workers - (c.loop-done.done + 1) = omega arith in
     let above : who + 1 ≡ c.args.workers - c.loop-done.done = omega (arith, more) in
     let rows = ap (λ (g : Grid). g.height) c.requires.shape in
-    let begins : begin ≡ who * height / c.args.workers = c.band_of-begin.ensures.begin ∙ ap (λ (n : ℕ). who * n / c.args.workers) rows in
-    let ends : end ≡ (who + 1) * height / c.args.workers = c.band_of-begin.ensures.end ∙ ap (λ (n : ℕ). (who + 1) * n / c.args.workers) rows in
-    let was : c.loop-done.first ≡ upper_part s 0 end = i.first ∙ ap (λ (n : ℕ). upper_part s 0 n) (ap (λ (n : ℕ). n * height / c.args.workers) (sym above) ∙ sym ends) in
+    let begins : begin ≡ who * height / c.args.workers =
+    c.band_of-begin.ensures.begin ∙ ap (λ (n : ℕ). who * n / c.args.workers) rows in
+    let ends : end ≡ (who + 1) * height / c.args.workers =
+    c.band_of-begin.ensures.end ∙ ap (λ (n : ℕ). (who + 1) * n / c.args.workers) rows in
+    let was : c.loop-done.first ≡ upper_part s 0 end =
+    i.first ∙ ap (λ (n : ℕ). upper_part s 0 n) (ap (λ (n : ℕ). n * height / c.args.workers) (sym above) ∙ sym ends) in
     let ordered = c.band_of-begin.ensures.ordered in
     let worker : Worker = record { who = who; swept = 0; last = 0; pass = c.in_ok-pass.pass } in
-    let split : PassView → PassView = λ p. record p { left = 0; receipts = []; rows = lower_rows p.rows (end - begin); counts = drop (sites_kept p (end - begin)) p.counts } in
-    let kept : PassView → PassView = λ p. record p { rows = upper_rows p.rows (end - begin); counts = take (sites_kept p (end - begin)) p.counts } in
+    let split : PassView → PassView = λ p. record p {
+      left = 0;
+      receipts = [];
+      rows = lower_rows p.rows (end - begin);
+      counts = drop (sites_kept p (end - begin)) p.counts;
+    } in
+    let kept : PassView → PassView =
+    λ p. record p { rows = upper_rows p.rows (end - begin); counts = take (sites_kept p (end - begin)) p.counts } in
     let one : IsWorker s c.args.workers who worker = record {
       who = refl;
       swept = refl;
-      pass = c.in_ok-pass.ensures.child ∙ ap split was ∙ band_split s begin end ordered ∙ ap₂ (λ (a b : ℕ). banded s (rows_between a b)) begins ends;
+      pass = c.in_ok-pass.ensures.child ∙ ap split was ∙ band_split s begin end ordered
+          ∙ ap₂ (λ (a b : ℕ). banded s (rows_between a b)) begins ends;
     } in
     let next = c.args.workers - (c.loop-done.done + 1) in
-    let before : EachAt (λ j. IsWorker s c.args.workers (suc next + j)) c.loop-done.hired.items = let same : c.args.workers - c.loop-done.done ≡ suc next = omega (arith, more) in subst (λ (n : ℕ). EachAt (λ j. IsWorker s c.args.workers (n + j)) c.loop-done.hired.items) same i.hired in
+    let before : EachAt (λ j. IsWorker s c.args.workers (suc next + j)) c.loop-done.hired.items =
+    let same : c.args.workers - c.loop-done.done ≡ suc next = omega (arith, more) in
+    subst (λ (n : ℕ). EachAt (λ j. IsWorker s c.args.workers (n + j)) c.loop-done.hired.items) same i.hired in
     record {
-      hired = subst (EachAt (λ j. IsWorker s c.args.workers (next + j))) (sym c.in-Ok.ensures.items) (each_first (λ n. IsWorker s c.args.workers n) next c.loop-done.hired.items worker before (subst (λ (n : ℕ). IsWorker s c.args.workers n worker) here one));
+      hired = subst (EachAt (λ j. IsWorker s c.args.workers (next + j))) (sym c.in-Ok.ensures.items)
+          (each_first (λ n. IsWorker s c.args.workers n) next c.loop-done.hired.items
+          worker before (subst (λ (n : ℕ). IsWorker s c.args.workers n worker) here one));
       long = search rules;
-      first = c.in_ok-pass.ensures.first ∙ ap kept was ∙ band_left s begin end ordered ∙ ap (λ (n : ℕ). upper_part s 0 n) (begins ∙ ap (λ (n : ℕ). n * height / c.args.workers) here);
+      first = c.in_ok-pass.ensures.first ∙ ap kept was ∙ band_left s begin end ordered
+          ∙ ap (λ (n : ℕ). upper_part s 0 n) (begins ∙ ap (λ (n : ℕ). n * height / c.args.workers) here);
     }
 
 pub returns-clause-workers : goal.returns-clause-workers

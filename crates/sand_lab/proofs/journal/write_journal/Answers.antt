@@ -12,25 +12,33 @@ use Rattle.sand_lab.proofs.journal.write_journal.Goals.{After-as_slice}
 here : (c : After-as_slice) → slice_get (lists c.args.parts.now) c.loop-dropper.dropper ≡ Some c.as_slice.result.now
 here c =
     let part = c.index-parts-dropper.result in
-    part_at c.args.parts.now c.loop-dropper.dropper part c.loop-dropper-test.true ∙ (λ i. Some (sym c.index-parts-dropper.is i).items) ∙ ap (λ rs. Some rs) (sym c.as_slice.ensures.value)
+    part_at c.args.parts.now c.loop-dropper.dropper part c.loop-dropper-test.true
+    ∙ (λ i. Some (sym c.index-parts-dropper.is i).items) ∙ ap (λ rs. Some rs) (sym c.as_slice.ensures.value)
 
 pub write_part-requires-clause-ascends : goal.write_part-requires-clause-ascends
 write_part-requires-clause-ascends c =
-    ascends c.args._drops (lists c.args.parts.now) (flattened (lists c.args.parts.now)) c.requires.are_parts c.loop-dropper.dropper c.as_slice.result.now (here (goal.at.write_part-requires-clause-ascends c).After-as_slice)
+    ascends c.args._drops (lists c.args.parts.now) (flattened (lists c.args.parts.now)) c.requires.are_parts
+    c.loop-dropper.dropper c.as_slice.result.now (here (goal.at.write_part-requires-clause-ascends c).After-as_slice)
 
 pub write_part-requires-clause-below : goal.write_part-requires-clause-below
 write_part-requires-clause-below c =
-    let long : length (flattened (lists c.args.parts.now)) ≡ vec_len c.loop-dropper.journal = sym (c.loop-dropper.invariant.long ∙ c.requires.one_each) in
-    part_below c.args._drops (lists c.args.parts.now) (flattened (lists c.args.parts.now)) c.requires.are_parts c.loop-dropper.dropper c.as_slice.result.now (vec_len c.loop-dropper.journal)
-    (here (goal.at.write_part-requires-clause-below c).After-as_slice) (subst (λ n. AllBelow n (flattened (lists c.args.parts.now))) long c.requires.below)
+    let long : length (flattened (lists c.args.parts.now)) ≡ vec_len c.loop-dropper.journal =
+    sym (c.loop-dropper.invariant.long ∙ c.requires.one_each) in
+    part_below c.args._drops (lists c.args.parts.now) (flattened (lists c.args.parts.now))
+    c.requires.are_parts c.loop-dropper.dropper c.as_slice.result.now (vec_len c.loop-dropper.journal)
+    (here (goal.at.write_part-requires-clause-below c).After-as_slice)
+    (subst (λ n. AllBelow n (flattened (lists c.args.parts.now))) long c.requires.below)
 
 pub loop-dropper-preserved : goal.loop-dropper-preserved
 loop-dropper-preserved c =
     let done = c.write_part.ensures in
     record {
       long = done.long ∙ c.loop-dropper.invariant.long;
-      noted = noted_more c.args._drops (lists c.args.parts.now) (flattened (lists c.args.parts.now)) c.requires.are_parts c.loop-dropper.dropper c.as_slice.result.now
-          c.loop-dropper.journal.items c.write_part.new.journal.items (here (goal.at.loop-dropper-preserved c).After-as_slice) c.requires.once done.entries done.others c.loop-dropper.invariant.noted;
+      noted = noted_more c.args._drops (lists c.args.parts.now) (flattened (lists c.args.parts.now))
+          c.requires.are_parts c.loop-dropper.dropper c.as_slice.result.now
+          c.loop-dropper.journal.items c.write_part.new.journal.items
+          (here (goal.at.loop-dropper-preserved c).After-as_slice) c.requires.once
+          done.entries done.others c.loop-dropper.invariant.noted;
     }
 
 pub returns : goal.returns
@@ -39,6 +47,13 @@ returns c =
     let parts = lists c.args.parts.now in
     let all = flattened parts in
     let js = c.loop-dropper.journal.items in
-    let long : length js ≡ length all = (let kept = c.loop-dropper.invariant.long in let one_each = c.requires.one_each in omega (arith, kept, one_each)) in
-    let end : c.loop-dropper.dropper ≡ length parts = (let last = c.loop-dropper-test.false in let fits = c.loop-dropper.auto.dropper-end in let same = length-map c.args.parts.now (λ part. part.items) in omega (arith, last, fits, same)) in
-    record { journal = all_noted drops parts all c.requires.are_parts js long (subst (λ k. NotedBelow drops (k * drops) all js) end c.loop-dropper.invariant.noted) }
+    let long : length js ≡ length all =
+    (let kept = c.loop-dropper.invariant.long in let one_each = c.requires.one_each in omega (arith, kept, one_each)) in
+    let end : c.loop-dropper.dropper ≡ length parts = (let last = c.loop-dropper-test.false in
+    let fits = c.loop-dropper.auto.dropper-end in
+    let same = length-map c.args.parts.now (λ part. part.items) in
+    omega (arith, last, fits, same)) in
+    record {
+      journal = all_noted drops parts all c.requires.are_parts js long
+          (subst (λ k. NotedBelow drops (k * drops) all js) end c.loop-dropper.invariant.noted);
+    }

@@ -30,7 +30,9 @@ returns c =
     let end = c.loop-receipt-test.false in
     record {
       long = invariant.long;
-      entries = λ i r there. let inside = slice_get_within rs i r there in invariant.noted i r (omega (arith, inside, end)) there;
+      entries = λ i r there.
+          let inside = slice_get_within rs i r there in invariant.noted i r (omega (arith, inside, end)) there;
       others = λ n none. invariant.others n (λ j r before there e.
-          none j (receipt 0 0) (slice_get_within rs j r there) (ap (λ (q : Receipt). q.number) (get_or_from_slice_get rs j r (receipt 0 0) there) ∙ e));
+          none j (receipt 0 0) (slice_get_within rs j r there)
+          (ap (λ (q : Receipt). q.number) (get_or_from_slice_get rs j r (receipt 0 0) there) ∙ e));
     }

@@ -72,6 +72,7 @@ returns g c =
     let most = c.loop-epoch.auto.epoch-end in
     let all : c.loop-epoch.epoch ≡ c.args.wish.epochs = omega (arith, some, past, most) in
     record {
-      report = subst (λ n. IsReportOf c.args.album.now c.args.wish c.args.start.now n c.loop-epoch.report) all c.loop-epoch.invariant;
+      report = subst (λ n. IsReportOf c.args.album.now c.args.wish c.args.start.now n c.loop-epoch.report)
+          all c.loop-epoch.invariant;
       faults = tt;
     }

@@ -10,7 +10,8 @@ pub gather_droppers-requires-clause-droppers : goal.gather_droppers-requires-cla
 gather_droppers-requires-clause-droppers c =
     let s = c.args.pile.now in
     let has = c.requires.crew.3 in
-    each_all (HasDroppedItsStream s c.requires.crew.0 c.requires.crew.1) (λ (d : Dropper). HoldsReceipts s d.pass) c.args.self.droppers.items has.droppers (λ i d h. h.pass)
+    each_all (HasDroppedItsStream s c.requires.crew.0 c.requires.crew.1)
+    (λ (d : Dropper). HoldsReceipts s d.pass) c.args.self.droppers.items has.droppers (λ i d h. h.pass)
 
 pub gather_workers-requires-clause-workers : goal.gather_workers-requires-clause-workers
 gather_workers-requires-clause-workers c i x at =
@@ -21,4 +22,5 @@ pub gather_observers-requires-clause-observers : goal.gather_observers-requires-
 gather_observers-requires-clause-observers c =
     let s = c.args.pile.now in
     let has = c.requires.crew.3 in
-    each_all (HasReadItsTallies s) (λ (o : Observer). HoldsNothing s o.pass) c.args.self.observers.items has.observers (λ i o h. h.pass)
+    each_all (HasReadItsTallies s) (λ (o : Observer). HoldsNothing s o.pass)
+    c.args.self.observers.items has.observers (λ i o h. h.pass)

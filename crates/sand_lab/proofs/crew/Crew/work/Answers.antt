@@ -23,4 +23,12 @@ all_work-requires-clause-observers g c κs within =
     each_all (IsObserver s) (CanTally s 16) c.args.self.now.observers.items c.requires.1.observers (can_tally s)
 
 pub returns : goal.returns
-returns g c = record { worked = λ t is. worked c.args.pile.now c.args.wish t c.args.self.now (record { droppers = c.all_work.new.droppers; workers = c.all_work.new.workers; observers = c.all_work.new.observers }) is c.all_work.ensures.droppers c.all_work.ensures.workers c.all_work.ensures.observers }
+returns g c = record {
+  worked = λ t is. worked c.args.pile.now c.args.wish t c.args.self.now
+      (record {
+        droppers = c.all_work.new.droppers;
+        workers = c.all_work.new.workers;
+        observers = c.all_work.new.observers;
+      })
+      is c.all_work.ensures.droppers c.all_work.ensures.workers c.all_work.ensures.observers;
+}

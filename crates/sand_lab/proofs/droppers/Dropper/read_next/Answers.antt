@@ -4,12 +4,21 @@ use Rattle.sand_lab.proofs.droppers.Dropper.read_next.Goals as goal
 
 pub drop_batch-requires : goal.drop_batch-requires
 drop_batch-requires c =
-    let given = c.requires.dropping in
-    (c.args.turns, given.0 + 1, given.1, reads_one c.args.pile.now c.args.turns given.0 given.1 c.args.self.now _ c.next_site.result given.3 given.2 refl refl refl c.next_site.ensures.read c.push_reserved.ensures.items c.push_reserved.ensures.capacity c.next_site.ensures.site c.next_site.ensures.inside)
+    let given = c.requires.dropping in (
+      c.args.turns,
+      given.0 + 1,
+      given.1,
+      reads_one c.args.pile.now c.args.turns given.0 given.1 c.args.self.now _ c.next_site.result
+          given.3 given.2 refl refl refl c.next_site.ensures.read c.push_reserved.ensures.items
+          c.push_reserved.ensures.capacity c.next_site.ensures.site c.next_site.ensures.inside,
+    )
 
 pub returns-then-len-most-clause-read : goal.returns-then-len-most-clause-read
 returns-then-len-most-clause-read c read first more h =
-    c.drop_batch.ensures.dropped c.args.turns (read + 1) first (reads_one c.args.pile.now c.args.turns read first c.args.self.now _ c.next_site.result h more refl refl refl c.next_site.ensures.read c.push_reserved.ensures.items c.push_reserved.ensures.capacity c.next_site.ensures.site c.next_site.ensures.inside)
+    c.drop_batch.ensures.dropped c.args.turns (read + 1) first
+    (reads_one c.args.pile.now c.args.turns read first c.args.self.now _ c.next_site.result
+    h more refl refl refl c.next_site.ensures.read c.push_reserved.ensures.items
+    c.push_reserved.ensures.capacity c.next_site.ensures.site c.next_site.ensures.inside)
 
 pub returns-then-len-most-clause-few : goal.returns-then-len-most-clause-few
 returns-then-len-most-clause-few c =
@@ -19,7 +28,9 @@ returns-then-len-most-clause-few c =
 
 pub returns-else-len-most-clause-read : goal.returns-else-len-most-clause-read
 returns-else-len-most-clause-read c read first more h =
-    reads_one c.args.pile.now c.args.turns read first c.args.self.now _ c.next_site.result h more refl refl refl c.next_site.ensures.read c.push_reserved.ensures.items c.push_reserved.ensures.capacity c.next_site.ensures.site c.next_site.ensures.inside
+    reads_one c.args.pile.now c.args.turns read first c.args.self.now _ c.next_site.result
+    h more refl refl refl c.next_site.ensures.read c.push_reserved.ensures.items
+    c.push_reserved.ensures.capacity c.next_site.ensures.site c.next_site.ensures.inside
 
 pub returns-else-len-most-clause-few : goal.returns-else-len-most-clause-few
 returns-else-len-most-clause-few c =
@@ -27,5 +38,6 @@ returns-else-len-most-clause-few c =
     let other = c.if-len-most.false in
     let long = c.len.ensures in
     let most = c.batch_size-most.ensures in
-    let longer = ap (λ (xs : List ℕ). length xs) c.push_reserved.ensures.items ∙ length-append c.args.self.now.batch.items (c.next_site.result ∷ []) in
+    let longer = ap (λ (xs : List ℕ). length xs) c.push_reserved.ensures.items
+    ∙ length-append c.args.self.now.batch.items (c.next_site.result ∷ []) in
     omega (arith, was, other, long, most, longer)

@@ -10,15 +10,20 @@ use Rattle.sand_lab.proofs.droppers.DropperWork.take_turns.Goals.{then-holds, el
 pub loop-turn-init : goal.loop-turn-init
 loop-turn-init g c = record {
   dropping = begins c.args.pile.now c.args.turns c.args.self.now c.requires;
-  few = λ some. let one = some_in_a_batch c.args.turns some in let none = ap (λ (xs : List ℕ). length xs) c.requires.none_read in omega (arith, one, none);
+  few = λ some.
+      let one = some_in_a_batch c.args.turns some in
+      let none = ap (λ (xs : List ℕ). length xs) c.requires.none_read in
+      omega (arith, one, none);
   one_by_one = λ holds. c.requires.none_read;
 }
 
 pub drop_next-requires-clause-dropping : goal.drop_next-requires-clause-dropping
-drop_next-requires-clause-dropping g c = (c.loop-turn.turn, c.args.self.now, c.loop-turn-test.true, c.loop-turn.invariant.dropping)
+drop_next-requires-clause-dropping g c =
+    (c.loop-turn.turn, c.args.self.now, c.loop-turn-test.true, c.loop-turn.invariant.dropping)
 
 pub read_next-requires-clause-dropping : goal.read_next-requires-clause-dropping
-read_next-requires-clause-dropping g c = (c.loop-turn.turn, c.args.self.now, c.loop-turn-test.true, c.loop-turn.invariant.dropping)
+read_next-requires-clause-dropping g c =
+    (c.loop-turn.turn, c.args.self.now, c.loop-turn-test.true, c.loop-turn.invariant.dropping)
 
 pub read_next-requires-clause-few : goal.read_next-requires-clause-few
 read_next-requires-clause-few g c = c.loop-turn.invariant.few (let more = c.loop-turn-test.true in omega (arith, more))
@@ -31,13 +36,20 @@ loop-turn-preserved g c =
     let was = c.loop-turn.invariant in
     elim c.if-holds.branch [
       | then-holds w ↦ record {
-        dropping = subst (IsDropping s turns next c.args.self.now) (sym w.self-is) (w.drop_next.ensures.dropped c.loop-turn.turn c.args.self.now c.loop-turn-test.true was.dropping);
-        few = λ some. subst (λ (xs : List ℕ). length xs < div_ceil turns 16) (sym (ap (λ (x : Dropper). x.batch.items) w.self-is ∙ ap (λ (b : Vec ℕ Global). b.items) w.drop_next.ensures.batch)) (was.few some);
-        one_by_one = λ holds. ap (λ (x : Dropper). x.batch.items) w.self-is ∙ ap (λ (b : Vec ℕ Global). b.items) w.drop_next.ensures.batch ∙ was.one_by_one holds;
+        dropping = subst (IsDropping s turns next c.args.self.now) (sym w.self-is)
+            (w.drop_next.ensures.dropped c.loop-turn.turn c.args.self.now c.loop-turn-test.true was.dropping);
+        few = λ some. subst (λ (xs : List ℕ). length xs < div_ceil turns 16)
+            (sym (ap (λ (x : Dropper). x.batch.items) w.self-is
+            ∙ ap (λ (b : Vec ℕ Global). b.items) w.drop_next.ensures.batch))
+            (was.few some);
+        one_by_one = λ holds. ap (λ (x : Dropper). x.batch.items) w.self-is
+            ∙ ap (λ (b : Vec ℕ Global). b.items) w.drop_next.ensures.batch ∙ was.one_by_one holds;
       }
       | else-holds w ↦ record {
-        dropping = subst (IsDropping s turns next c.args.self.now) (sym w.self-is) (w.read_next.ensures.read c.loop-turn.turn c.args.self.now c.loop-turn-test.true was.dropping);
-        few = λ some. subst (λ (x : Dropper). length x.batch.items < div_ceil turns 16) (sym w.self-is) w.read_next.ensures.few;
+        dropping = subst (IsDropping s turns next c.args.self.now) (sym w.self-is)
+            (w.read_next.ensures.read c.loop-turn.turn c.args.self.now c.loop-turn-test.true was.dropping);
+        few = λ some.
+            subst (λ (x : Dropper). length x.batch.items < div_ceil turns 16) (sym w.self-is) w.read_next.ensures.few;
         one_by_one = λ holds. absurd (true≢false (sym holds ∙ w.if-holds.false));
       }
     ]
@@ -47,5 +59,10 @@ drop_batch-requires g c = (c.args.turns, c.loop-turn.turn, c.args.self.now, c.lo
 
 pub returns : goal.returns
 returns g c =
-    let all : c.loop-turn.turn ≡ c.args.turns = (let done = c.loop-turn-test.false in let may = c.loop-turn.invariant.dropping.may_read in omega (arith, done, may)) in
-    took_drop_turns c.args.pile.now c.args.turns c.args.self.now c.drop_batch.new.self (subst (λ (n : ℕ). IsDropping c.args.pile.now c.args.turns n c.args.self.now c.drop_batch.new.self) all (c.drop_batch.ensures.dropped c.args.turns c.loop-turn.turn c.args.self.now c.loop-turn.invariant.dropping)) c.drop_batch.ensures.all
+    let all : c.loop-turn.turn ≡ c.args.turns = (let done = c.loop-turn-test.false in
+    let may = c.loop-turn.invariant.dropping.may_read in
+    omega (arith, done, may)) in
+    took_drop_turns c.args.pile.now c.args.turns c.args.self.now c.drop_batch.new.self
+    (subst (λ (n : ℕ). IsDropping c.args.pile.now c.args.turns n c.args.self.now c.drop_batch.new.self) all
+    (c.drop_batch.ensures.dropped c.args.turns c.loop-turn.turn c.args.self.now c.loop-turn.invariant.dropping))
+    c.drop_batch.ensures.all

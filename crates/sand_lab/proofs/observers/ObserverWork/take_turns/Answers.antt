@@ -14,6 +14,8 @@ loop-turn-preserved g c =
       kept = search rules;
       room = search rules;
       as_many = search rules;
-      climbs = rw (c.push_reserved.ensures.items, ap (λ (p : PassView). p.seen) tally.pass) (climbs_push _ _ _ _ i.climbs tally.at_least_seen);
-      within = rw c.push_reserved.ensures.items (All-push (λ (n : ℕ). n ≤ c.args.pile.now.terms.quota) _ _ i.within tally.in_the_quota);
+      climbs = rw (c.push_reserved.ensures.items, ap (λ (p : PassView). p.seen) tally.pass)
+          (climbs_push _ _ _ _ i.climbs tally.at_least_seen);
+      within = rw c.push_reserved.ensures.items
+          (All-push (λ (n : ℕ). n ≤ c.args.pile.now.terms.quota) _ _ i.within tally.in_the_quota);
     }

@@ -13,5 +13,6 @@ loop-turn-preserved g c =
       kept = search rules;
       same_rows = omega (arith, swept.same_rows, i.same_rows);
       never_fall = λ j. omega (arith, i.never_fall j, swept.never_fall j);
-      enough = λ some. enough_after c.args.pile.now.terms c.args.self.now.pass c.loop-turn.self.pass c.sweep-self.new.pass.counts c.sweep-self.result c.loop-turn.turn i.begun i.enough swept;
+      enough = λ some. enough_after c.args.pile.now.terms c.args.self.now.pass c.loop-turn.self.pass
+          c.sweep-self.new.pass.counts c.sweep-self.result c.loop-turn.turn i.begun i.enough swept;
     }

@@ -14,5 +14,6 @@ invariant-loop-turn g l = record {
   same_rows : length l.self.pass.counts ≡ length l.fn.self.pass.counts;
   never_fall : (j : ℕ) → slice_index l.fn.self.pass.counts j ≤ slice_index l.self.pass.counts j;
   enough : 0 < l.turn → (j : ℕ) → j < length l.fn.self.pass.counts
-      → LeavesAtMost l.pile.terms (at_rest l.fn.self.pass) ((at_rest l.fn.self.pass).base + j) (4 * (slice_index l.self.pass.counts j - slice_index l.fn.self.pass.counts j) + 3);
+      → LeavesAtMost l.pile.terms (at_rest l.fn.self.pass) ((at_rest l.fn.self.pass).base + j)
+      (4 * (slice_index l.self.pass.counts j - slice_index l.fn.self.pass.counts j) + 3);
 }
