@@ -1,5 +1,5 @@
 -- A property of each element of a list.
-use Rattle.std.proofs.Common.{◌≡◌, Bool, true, false, cond, List, [], ◌∷◌, ◌++◌, Some, refl, subst}
+use Rattle.std.proofs.Common.{Bool, true, false, cond, List, [], ◌∷◌, ◌++◌, Some}
 use Rattle.std.specs.Prelude.{IfSome, ⊤, find}
 
 abbrev pub Each : {X : Type 0} → (X → Type 0) → List X → Type 0
@@ -14,6 +14,10 @@ pub each_both : {X : Type 0} (P Q : X → Type 0) (xs : List X) → Each P xs �
 each_both P Q [] h k = tt
 each_both P Q (x ∷ xs) h k = ((h.0, k.0), each_both P Q xs h.1 k.1)
 
+pub each_weaker : {X : Type 0} (P Q : X → Type 0) (xs : List X) → ((x : X) → P x → Q x) → Each P xs → Each Q xs
+each_weaker P Q [] f h = tt
+each_weaker P Q (x ∷ xs) f h = (f x h.0, each_weaker P Q xs f h.1)
+
 -- a property of each element holds of the one that `find` returns
 pub each_found : {X : Type 0} (test : X → Bool) (P : X → Type 0) (xs : List X) → Each P xs → IfSome (find test xs) P
 each_found test P [] each = tt
@@ -23,13 +27,7 @@ each_found test P (x ∷ xs) each = go (each_found test P xs each.1) (test x)
     go later true = each.0
     go later false = later
 
--- a property of each element that passes the test holds of the one that `find` returns
-pub of_found : {X : Type 0} (test : X → Bool) (P : X → Type 0) (xs : List X) (s : X) → Each (λ x. test x ≡ true → P x) xs → find test xs ≡ Some s → P s
-of_found test P [] s each e = cc
-of_found test P (x ∷ xs) s each e = go (λ f. of_found test P xs s each.1 f) (test x) refl e
-  where
-    go : (find test xs ≡ Some s → P s) → (b : Bool) → test x ≡ b → cond b (Some x) (find test xs) ≡ Some s → P s
-    go later true t f =
-        let same : x ≡ s = cc in
-        subst P same (each.0 t)
-    go later false t f = later f
+-- the property of the first element, and that of each other
+infixr 5 ◌&◌
+pub ◌&◌ : {A B : Type 0} → A → B → A × B
+first & others = (first, others)

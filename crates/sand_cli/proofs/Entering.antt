@@ -16,10 +16,14 @@ pub second_passes : (a b : Kinds) → or_else a b ≡ [] → b ≡ []
 second_passes [] b e = e
 second_passes (k ∷ ks) b e = cc
 
--- the walk stopped at a command of the line, and that command's level passes
+-- the level accepts the words
+abbrev pub Accepts : Shape → List Text → Type 0
+Accepts s words = level_fault s [] nothing_held words false [] ≡ []
+
+-- the walk stopped at a command of the line, and that command's level accepts the words after it
 abbrev pub Enters : App → Option (Text × List Text) → Type 0
 Enters a None = ⊥
-Enters a (Some p) = (s : Shape) × (find (λ s. answers_to p.0 (label_of s)) a.subs ≡ Some s) × (level_fault s [] nothing_held p.1 false [] ≡ [])
+Enters a (Some p) = (s : Shape) × (find (λ s. answers_to p.0 (label_of s)) a.subs ≡ Some s) × Accepts s p.1
 
 wants : (help has required argument : Bool) → required ≡ true → check_kinds help (not has && required) argument ≡ [] → has ≡ true
 wants help true required argument r e = refl
@@ -47,7 +51,7 @@ enters a words required e =
     past_settling = second_passes (settle_fault a.top.rules a.top.args_override_self end) _ (second_passes (entered_fault a stop) _ past_walk)
 
     found : (p : Text × List Text) (o : Option Shape) → option_map_or (λ s. level_fault s [] nothing_held p.1 false []) o [] ≡ []
-        → is_some (option_map (λ s. rows_at s p.1) o) ≡ true → (s : Shape) × (o ≡ Some s) × (level_fault s [] nothing_held p.1 false [] ≡ [])
+        → is_some (option_map (λ s. rows_at s p.1) o) ≡ true → (s : Shape) × (o ≡ Some s) × Accepts s p.1
     found p None f h = absurd (true≢false (sym h))
     found p (Some s) f h = (s, refl, f)
 

@@ -1,23 +1,18 @@
 pub mod Alone
-pub mod Draws
-pub mod DropsLevel
 pub mod Each
 pub mod Entering
 mod Examples
 pub mod Free
 pub mod HelpAlone
-pub mod IdentityLevel
-pub mod LabLevel
+pub mod Levels
 pub mod Lines
-pub mod MultipleLevel
 pub mod Passing
 pub mod Reading
 pub mod NumberTexts
-pub mod Settings
-pub mod Sides
+pub mod Ranges
 pub mod Spelled
 pub mod Stopped
 pub mod Taken
-pub mod Times
 pub mod Usual
 pub mod Walks
+pub mod Within

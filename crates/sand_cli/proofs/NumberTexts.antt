@@ -20,11 +20,11 @@ pub record IsNoOption (text : Text) : Type 0 where
   pub no_long : long_of text ≡ None
   pub no_short : short_of text ≡ None
 
--- the text is the number n, from `least` to `most`, and does not look like an option
-pub record IsNumberText (least most : ℕ) (text : Text) (n : ℕ) : Type 0 where
-  pub no_option : IsNoOption text
-  pub passes : is_unsigned_in least most text ≡ true
-  pub reads : (bound : ℕ) → most ≤ bound → number_of bound text ≡ Some n
+-- the digits of n do not look like an option, and are a number from `least` to `most`: n, as read up to `bound`
+pub record IsText (bound least most n : ℕ) : Type 0 where
+  pub no_option : IsNoOption (decimal n)
+  pub passes : is_unsigned_in least most (decimal n) ≡ true
+  pub reads : number_of bound (decimal n) ≡ Some n
 
 no_hyphen : (text : Text) → 47 < get_or text 0 0 → IsNoOption text
 no_hyphen [] above = absurd (omega arith)
@@ -50,8 +50,9 @@ first_digit (suc n) small =
     let above : 48 < get_or (decimal (suc n)) 0 0 = first_decimal (suc n) (omega arith) small in
     omega arith
 
-pub number_text : (least most n : ℕ) → least ≤ n → n ≤ most → most < 2 ^ 64 → IsNumberText least most (decimal n) n
-number_text least most n low high fits =
+pub number_text : (bound least most n : ℕ) → least ≤ n → n ≤ most → most ≤ bound → bound < 2 ^ 64
+    → IsText bound least most n
+number_text bound least most n low high wide fits =
     let small : n < 2 ^ 64 = omega arith in
     let first : 47 < get_or (decimal n) 0 0 = first_digit n small in
     let digits = decimal_is_IsNumeral n small in
@@ -62,5 +63,5 @@ number_text least most n low high fits =
     record {
       no_option = no_hyphen (decimal n) first;
       passes = passes;
-      reads = λ bound wide. (passed_number least most bound (decimal n) wide passes).0 ∙ ap (λ m. Some m) value;
+      reads = (passed_number least most bound (decimal n) wide passes).0 ∙ ap (λ m. Some m) value;
     }

@@ -21,10 +21,10 @@ use Rattle.clap.specs.declared.parser.matches.ValueSource.{ValueSource}
 use Rattle.clap.specs.declared.parser.matches.ValueSource.TheVariants.{CommandLine, DefaultValue}
 use Rattle.clap.specs.Walk.{Held, Names, Outcome, Row, Rule, Step, Text, Waiting, Walk, action_of, after_flag, after_step, arg_by_id, arg_by_index, arg_by_long, arg_by_short, at_row, attached_value, bundle, bundle_met, bundle_step, count_of, counted, default_rows, done, flag_met, has_long, has_row, has_short, idle, is_empty, is_pending, long_met, long_or_other, most_values, more_values, new_count, next, nothing_held, option, option_met, option_word, plain, plain_word, one_of, positional, pushed, reacted, reading_by, refused, row_text, rows_after, settled, settled_rows, short_met, short_or_plain, subcommand, subcommand_met, subcommand_or_other, takes_several, takes_values, to_positional, trailing, used, used_as, used_by_id, value, waits, walk, walk_from, walked, walked_from, with_count, with_default, with_values, without, word_met}
 use Rattle.clap.specs.Simple.{Shape}
-use Rattle.clap.specs.Faults.{action_fault, bundle_fault, bundle_step_fault, check_fault, default_fault, defaults_fault, flag_word_fault, flags_fault, given_default_fault, level_fault, long_fault, option_fault, other_fault, positional_fault, react_fault, set_fault, settle_fault, short_fault, step_fault, stray_fault, turn_fault, use_fault, values_fault, walk_fault, word_fault}
+use Rattle.clap.specs.Faults.{action_fault, bundle_fault, bundle_step_fault, check_fault, default_fault, defaults_fault, flag_word_fault, flags_fault, given_default_fault, long_fault, option_fault, other_fault, positional_fault, react_fault, set_fault, settle_fault, short_fault, step_fault, stray_fault, turn_fault, use_fault, values_fault, walk_fault, word_fault}
 use Rattle.sand_cli.proofs.Alone.{IsAlone}
 use Rattle.sand_cli.proofs.Each.{Each, each_append, each_found}
-use Rattle.sand_cli.proofs.Entering.{first_passes, second_passes}
+use Rattle.sand_cli.proofs.Entering.{Accepts, first_passes, second_passes}
 
 -- ---- rows
 
@@ -305,7 +305,7 @@ module _ (a : Rule) (s : Shape) (takes : TakesOne a s.rules) where
       walk_fine names (walked s.rules names w word) rest (second_passes (turn_fault s names w word) _ e) (turn_fine names w word (first_passes (turn_fault s names w word) _ e) fine)
 
   -- after a level that passes, each row of the argument has a value that passed
-  pub level_fine : (words : List Text) → level_fault s [] nothing_held words false [] ≡ [] → Each (Holds a) (rows_after s.rules [] words)
+  pub level_fine : (words : List Text) → Accepts s words → Each (Holds a) (rows_after s.rules [] words)
   level_fine words e =
       let end = (walk s.rules [] nothing_held words).held in
       let after_walk = second_passes (walk_fault s [] (walk_from nothing_held) words) _ e in
@@ -315,7 +315,7 @@ module _ (a : Rule) (s : Shape) (takes : TakesOne a s.rules) where
       (settled_fine a s.rules s.args_override_self takes end settles (walk_fine [] (walk_from nothing_held) words (first_passes (walk_fault s [] (walk_from nothing_held) words) _ e) tt))
 
 -- if a level passes, so do its last checks
-pub level_checks : (s : Shape) (words : List Text) → level_fault s [] nothing_held words false [] ≡ [] → check_fault s (rows_after s.rules [] words) false ≡ []
+pub level_checks : (s : Shape) (words : List Text) → Accepts s words → check_fault s (rows_after s.rules [] words) false ≡ []
 level_checks s words e =
     let end = (walk s.rules [] nothing_held words).held in
     let after_walk = second_passes (walk_fault s [] (walk_from nothing_held) words) _ e in

@@ -1,27 +1,23 @@
 -- The result of a parse, in terms of what clap guarantees.
-use Rattle.std.proofs.Common.{◌≡◌, ◌↔◌, ◌∙◌, inl, inr, true, false, List, [], ◌∷◌, Option, Some, None, ⊎_elim, refl, sym, ap, ap₂, subst}
-use Rattle.std.specs.Prelude.{option_and_then, option_map}
+use Rattle.std.proofs.Common.{◌≡◌, ◌↔◌, ◌∙◌, inl, inr, true, List, [], ◌∷◌, Option, Some, None, ⊎_elim, refl, sym, ap, ap₂, subst}
+use Rattle.std.specs.Prelude.{IfSome, option_and_then, option_map}
 use Rattle.clap.specs.Words.{App, HasKind, HasMatchesOf, IsAmong, Kinds, Text, fault_of, is_simple, is_simple_and_free, kind_of, subcommand_of, subcommand_rows_of, built}
-use Rattle.clap.specs.Simple.{Shape, argument_words, entered, label_of, rows_at}
-use Rattle.clap.specs.Walk.{answers_to, nothing_held}
-use Rattle.clap.specs.Faults.{level_fault}
+use Rattle.clap.specs.Simple.{argument_words, entered, label_of, rows_at}
+use Rattle.clap.specs.Walk.{answers_to}
 use Rattle.clap.specs.declared.error.Error.{Error}
 use Rattle.clap.specs.declared.error.kind.ErrorKind.TheVariants.{DisplayHelp}
 use Rattle.clap.specs.declared.parser.matches.ArgMatches.{ArgMatches}
 use Rattle.sand_cli.specs.Line.{command_line}
-use Rattle.sand_cli.specs.Asked.{AskForHelp, asked, conflict_among, conflict_of, faults, freely, task_named, unless}
+use Rattle.sand_cli.specs.Asked.{AskForHelp, IsWithin, asked, conflict_among, conflict_of, faults, freely, task_named, unless}
 use Rattle.sand_cli.specs.Fault.{IsFaultOf, IsOfKinds, IsUsage, ShowsHelp, TellsConflict}
 use Rattle.sand_cli.specs.declared.fault.Conflict.{Conflict}
 use Rattle.sand_cli.specs.declared.fault.WordsFault.{WordsFault}
 use Rattle.sand_cli.specs.declared.fault.WordsFault.TheVariants.{Clash, Memory, Usage}
 use Rattle.sand_cli.specs.declared.task.Task.{Task}
-use Rattle.sand_cli.proofs.Each.{Each, of_found}
+use Rattle.sand_cli.proofs.Each.{Each, each_found, ◌&◌}
 use Rattle.sand_cli.proofs.Entering.{Enters, enters}
 use Rattle.sand_cli.proofs.HelpAlone.{help_alone}
-use Rattle.sand_cli.proofs.Draws.{drops_is_sound}
-use Rattle.sand_cli.proofs.Settings.{lab_is_sound}
-use Rattle.sand_cli.proofs.Sides.{IsSound, identity_is_sound}
-use Rattle.sand_cli.proofs.Times.{multiple_is_sound}
+use Rattle.sand_cli.proofs.Within.{AsksWithin, IsSound, drops_within, identity_within, lab_within, multiple_within}
 use Rattle.sand_cli.proofs.Free.{line_is_free, line_is_simple}
 
 -- if a parse succeeds, its words have no fault
@@ -81,34 +77,15 @@ shows_help words (Usage error) h usage = (shown, asked_for)
 pub taken_ask : (words : List Text) → faults words ≡ [] → conflict_among words ≡ None → asked words ≡ option_and_then task_named (subcommand_of command_line words)
 taken_ask words none free = ap₂ (task_by words) none free
 
--- a command that passes, without conflicts, names a task within the limits
-abbrev NamesTask : Text × List Text → Shape → Type 0
-NamesTask p s = level_fault s [] nothing_held p.1 false [] ≡ [] → conflict_of (rows_at s p.1) ≡ None → IsSound (task_named (rows_at s p.1))
+-- a task without limits
+unlimited : {P Q : Type 0} (t : Task) → IsWithin t → P → Q → IsSound (Some t)
+unlimited t within passes free = (t, refl, within)
 
-each_names_task : (p : Text × List Text) → Each (λ s. answers_to p.0 (label_of s) ≡ true → NamesTask p s) (built command_line).subs
+each_asks_within : (words : List Text) → Each (AsksWithin words) (built command_line).subs
 unfolding command_line
-each_names_task p = (
-  λ answers passes free. (_, refl, tt),
-  (
-    λ answers passes free. (_, refl, tt),
-    (
-      λ answers passes free. identity_is_sound p.1 passes,
-      (
-        λ answers passes free. drops_is_sound p.1 passes,
-        (
-          λ answers passes free. (_, refl, tt),
-          (
-            λ answers passes free. (_, refl, tt),
-            (
-              λ answers passes free. multiple_is_sound p.1 passes,
-              (λ answers passes free. (_, refl, tt), (λ answers passes free. lab_is_sound p.1 passes free, tt)),
-            ),
-          ),
-        ),
-      ),
-    ),
-  ),
-)
+each_asks_within words =
+    unlimited _ tt & unlimited _ tt & identity_within words & drops_within words & unlimited _ tt & unlimited _ tt
+    & multiple_within words & unlimited _ tt & lab_within words & tt
 
 wants_command : (built command_line).top.subcommand_required ≡ true
 unfolding command_line
@@ -123,5 +100,6 @@ taken_are_sound words none free = go _ free (enters (built command_line) (argume
     go None apart h = absurd h
     go (Some p) apart (s, found, passes) =
         let together = sym (ap (λ f. option_and_then conflict_of (option_map (λ x. rows_at x p.1) f)) found) ∙ apart in
-        let sound = of_found (λ x. answers_to p.0 (label_of x)) (NamesTask p) (built command_line).subs s (each_names_task p) found passes together in
+        let each = each_found (λ x. answers_to p.0 (label_of x)) (AsksWithin p.1) (built command_line).subs (each_asks_within p.1) in
+        let sound = subst (λ o. IfSome o (AsksWithin p.1)) found each passes together in
         (sound.0, ap (λ f. option_and_then task_named (option_map (λ x. rows_at x p.1) f)) found ∙ sound.1, sound.2)

@@ -1,16 +1,20 @@
 -- Walks over words that a level of a parse reads without a fault.
-use Rattle.std.proofs.Common.{◌≡◌, ◌∙◌, false, cond, List, [], ◌∷◌, ◌++◌, Some, None, refl, sym, ap, ap₂, fold, append_assoc, codes}
+use Rattle.std.proofs.Common.{◌≡◌, ◌∙◌, false, cond, List, [], ◌∷◌, ◌++◌, Some, None, refl, sym, ap, ap₂, drop, fold, append_assoc, codes}
 use Rattle.std.proofs.lemmas.List.{append-nil}
 use Rattle.std.specs.Option.{option_map_or}
 use Rattle.std.specs.Str.{bytes_eq}
 use Rattle.clap.specs.Lexer.{long_of}
 use Rattle.clap.specs.Faults.{bundle_fault, check_fault, defaults_fault, flag_word_fault, level_fault, settle_fault, step_fault, turn_fault, walk_fault}
 use Rattle.clap.specs.Kinds.{Kinds, or_else}
-use Rattle.clap.specs.Simple.{Shape}
+use Rattle.clap.specs.Simple.{Shape, rows_at}
 use Rattle.clap.specs.Walk.{Held, Row, Rule, Step, Walk, after_step, finished, idle, long_or_other, next, nothing_held, option, plain_word, rows_after, settled, short_or_plain, walk_from, walked, word_met}
 use Rattle.clap.specs.Words.{Text}
 use Rattle.clap.specs.declared.builder.value_parser.Reading.TheVariants.{AsWritten}
 use Rattle.clap.specs.declared.parser.matches.ValueSource.TheVariants.{CommandLine}
+use Rattle.sand_cli.specs.Asked.{conflict_of, task_named}
+use Rattle.sand_cli.specs.Spelling.{words_of}
+use Rattle.sand_cli.specs.declared.task.Task.{Task}
+use Rattle.sand_cli.proofs.Entering.{Accepts}
 use Rattle.sand_cli.proofs.NumberTexts.{IsNoOption}
 
 -- the level reads the words without a fault, and its walk goes from `from` to `to`
@@ -27,6 +31,10 @@ reads_word s from to word passes is = record {
   walks = λ rest. ap (λ w. fold (walked s.rules []) w rest) is;
   passes = λ rest. ap₂ or_else passes (ap (λ w. walk_fault s [] w rest) is);
 }
+
+pub reads_flag : (s : Shape) (from : Walk) (word : Text) → turn_fault s [] from word ≡ []
+    → Reads s from (word ∷ []) (walked s.rules [] from word)
+reads_flag s from word passes = reads_word s from (walked s.rules [] from word) word passes refl
 
 -- one list of words after another
 pub reads_both : {s : Shape} {u v w : Walk} {xs ys : List Text} → Reads s u xs v → Reads s v ys w → Reads s u (xs ++ ys) w
@@ -74,12 +82,13 @@ value_met c id text h plain =
     ∙ (ap (λ o. long_or_other c (option id) text o h) plain.no_long ∙ ap (λ o. short_or_plain c (option id) text o h) plain.no_short)
 
 -- an option that takes one value, followed by that value
-pub reads_option : (s : Shape) (from : Walk) (rows : List Row) (word id text : Text) → turn_fault s [] from word ≡ [] → walked s.rules [] from word ≡ awaiting rows id
+pub reads_option : (s : Shape) (from : Walk) (rows : List Row) (id text : Text) → turn_fault s [] from (45 ∷ 45 ∷ id) ≡ []
+    → walked s.rules [] from (45 ∷ 45 ∷ id) ≡ awaiting rows id
     → plain_word s.rules (option id) text (awaiting rows id).held ≡ ((given rows id text).held, next idle) → IsNoOption text
-    → Reads s from (word ∷ text ∷ []) (given rows id text)
+    → Reads s from ((45 ∷ 45 ∷ id) ∷ text ∷ []) (given rows id text)
 unfolding walked
-reads_option s from rows word id text passes is takes plain =
-    reads_both (reads_word s from (awaiting rows id) word passes is) (reads_word s (awaiting rows id) (given rows id text) text value_passes value_walked)
+reads_option s from rows id text passes is takes plain =
+    reads_both (reads_word s from (awaiting rows id) (45 ∷ 45 ∷ id) passes is) (reads_word s (awaiting rows id) (given rows id text) text value_passes value_walked)
   where
     met : word_met s.rules [] false (option id) 1 text (awaiting rows id).held ≡ ((given rows id text).held, next idle)
     met = value_met s.rules id text (awaiting rows id).held plain ∙ takes
@@ -94,6 +103,15 @@ reads_option s from rows word id text passes is takes plain =
 
     value_passes : turn_fault s [] (awaiting rows id) text ≡ []
     value_passes = ap₂ or_else word_passes (ap (λ (m : Held × Step). step_fault s 1 m.0 m.1) met)
+
+-- the option after one whose value is pending
+pub reads_next : (s : Shape) (rows : List Row) (before value id text : Text) → turn_fault s [] (given rows before value) (45 ∷ 45 ∷ id) ≡ []
+    → walked s.rules [] (given rows before value) (45 ∷ 45 ∷ id) ≡ awaiting (rows ++ given_row before value ∷ []) id
+    → plain_word s.rules (option id) text (awaiting (rows ++ given_row before value ∷ []) id).held ≡ ((given (rows ++ given_row before value ∷ []) id text).held, next idle)
+    → IsNoOption text
+    → Reads s (given rows before value) ((45 ∷ 45 ∷ id) ∷ text ∷ []) (given (rows ++ given_row before value ∷ []) id text)
+reads_next s rows before value id text passes is takes plain =
+    reads_option s (given rows before value) (rows ++ given_row before value ∷ []) id text passes is takes plain
 
 -- ---- the end
 
@@ -117,3 +135,20 @@ level_ends {s} {words} {end} reads =
 pub rows_end : {s : Shape} {words : List Text} {end : Walk} → Reads s (walk_from nothing_held) words end → rows_after s.rules [] words ≡ finished s.rules end.held
 rows_end {s} {words} {end} reads =
     ap (λ (w : Walk). finished s.rules w.held) (ap (fold (walked s.rules []) (walk_from nothing_held)) (sym (append-nil words)) ∙ reads.walks [])
+
+-- ---- the task
+
+-- the command accepts the words that spell the task, and its options ask for the task and do not conflict
+pub record Asks (s : Shape) (task : Task) : Type 0 where
+  pub passes : Accepts s (drop 1 (words_of task))
+  pub free : conflict_of (rows_at s (drop 1 (words_of task))) ≡ None
+  pub reads : task_named (rows_at s (drop 1 (words_of task))) ≡ Some task
+
+pub asks : {s : Shape} {end : Walk} (task : Task) → Reads s (walk_from nothing_held) (drop 1 (words_of task)) end
+    → end_fault s end.held ≡ [] → conflict_of (s.name, finished s.rules end.held) ≡ None
+    → task_named (s.name, finished s.rules end.held) ≡ Some task → Asks s task
+asks {s} {end} task reads passes free is = record {
+  passes = level_ends reads ∙ passes;
+  free = ap (λ rows. conflict_of (s.name, rows)) (rows_end reads) ∙ free;
+  reads = ap (λ rows. task_named (s.name, rows)) (rows_end reads) ∙ is;
+}

@@ -1,0 +1,175 @@
+-- If a command accepts its words and no options conflict, it asks for a task within the limits.
+use Rattle.std.proofs.Common.{◌≡◌, ◌≤◌, ℕ, Bool, true, false, cond, ◌&&◌, ◌||◌, List, [], ◌∷◌, Option, Some, None, refl, sym, ap, ap₂, subst, arith, rules, codes, true≢false}
+use Rattle.std.specs.Prelude.{IfSome, find, option_and_then, option_map, unwrap_or}
+use Rattle.std.specs.Str.{bytes_eq}
+use Rattle.clap.specs.Words.{Row, Text}
+use Rattle.clap.specs.Simple.{Shape, built_leaf, rows_at}
+use Rattle.clap.specs.Takes.{is_given}
+use Rattle.clap.specs.Walk.{has_row, nothing_held, one_of, row_text, rows_after, settled, walk}
+use Rattle.sand_cli.specs.Asked.{GoTogether, IsDraw, IsWithin, conflict_of, draw_by, form_in, task_named, with_settings, with_sides}
+use Rattle.sand_cli.specs.Line.{drops_line, identity_line, lab_line, multiple_line}
+use Rattle.sand_cli.specs.Options.{flag_in, number_of, setting_in}
+use Rattle.sand_cli.specs.declared.fault.Conflict.TheVariants.{PileAndJournal, PileAndPicture, PileAndTable}
+use Rattle.sand_cli.specs.declared.task.Form.TheVariants.{Picture, Pile}
+use Rattle.sand_cli.specs.declared.task.Form.TheVariants as forms
+use Rattle.sand_cli.specs.declared.task.Task.{Task}
+use Rattle.sand_cli.specs.declared.task.Task.TheVariants.{Lab, Multiple}
+use Rattle.sand_cli.proofs.Each.{Each}
+use Rattle.sand_cli.proofs.Entering.{Accepts}
+use Rattle.sand_cli.proofs.Passing.{given_has_row, level_checks}
+use Rattle.sand_cli.proofs.Ranges.{IsNumber, TakesNumber, all_given, each_number}
+use Rattle.sand_cli.proofs.Usual.{each_has_row}
+
+-- there is a task, and it is within the limits
+abbrev pub IsSound : Option Task → Type 0
+IsSound o = (t : Task) × (o ≡ Some t) × IsWithin t
+
+-- if the command accepts the words, and no options conflict, its task is within the limits
+abbrev pub AsksWithin : List Text → Shape → Type 0
+AsksWithin words s = Accepts s words → conflict_of (rows_at s words) ≡ None → IsSound (task_named (rows_at s words))
+
+-- ---- `identity`
+
+abbrev pub identity_built : Shape
+identity_built = built_leaf identity_line.top
+
+identity_takes : Each (TakesNumber 18446744073709551615) identity_built.rules
+identity_takes = search rules
+
+pub identity_within : (words : List Text) → AsksWithin words identity_built
+identity_within words passes free =
+    let rows = rows_after identity_built.rules [] words in
+    let given = all_given (is_given (codes "width") rows ∷ is_given (codes "height") rows ∷ [])
+    (level_checks identity_built words passes) in
+    let number = each_number 18446744073709551615 identity_built words refl identity_takes passes in
+    let width = number.0 (given_has_row (codes "width") rows given.0) in
+    let height = number.1.0 (given_has_row (codes "height") rows given.1.0) in
+    (_, ap₂ (with_sides rows) width.1 height.1, (width.2, width.3, height.2, height.3))
+
+-- ---- `multiple`
+
+abbrev pub multiple_built : Shape
+multiple_built = built_leaf multiple_line.top
+
+multiple_takes : Each (TakesNumber 18446744073709551615) multiple_built.rules
+multiple_takes = search (rules, arith)
+
+pub multiple_within : (words : List Text) → AsksWithin words multiple_built
+multiple_within words passes free =
+    let rows = rows_after multiple_built.rules [] words in
+    let given = all_given (is_given (codes "times") rows ∷ []) (level_checks multiple_built words passes) in
+    let number = each_number 18446744073709551615 multiple_built words refl multiple_takes passes in
+    let times = number.0 (given_has_row (codes "times") rows given.0) in
+    (_, ap (option_map (λ n. Multiple n (flag_in (codes "pgm") rows))) times.1, times.3)
+
+-- ---- `drops`
+
+abbrev pub drops_built : Shape
+drops_built = built_leaf drops_line.top
+
+drops_takes : Each (TakesNumber 4294967295) drops_built.rules
+drops_takes = search (rules, arith)
+
+-- an option without a row has no text
+no_row : (id : Text) (rows : List Row) → has_row id rows ≡ false → one_of id rows ≡ None
+no_row id [] e = refl
+no_row id (r ∷ rs) e = go (no_row id rs) (bytes_eq r.id id) e
+  where
+    go : (has_row id rs ≡ false → one_of id rs ≡ None) → (own : Bool) → (own || has_row id rs) ≡ false
+        → option_and_then row_text (cond own (Some r) (find (λ x. bytes_eq x.id id) rs)) ≡ None
+    go later true f = absurd (true≢false f)
+    go later false f = later f
+
+-- the number is in range, if there is one
+abbrev IsWord : Option ℕ → Type 0
+IsWord given = IfSome given (λ n. n ≤ 4294967295)
+
+-- a number that is given is in range
+given_is_word : (name : Text) (rows : List Row)
+    → (has_row name rows ≡ true → IsNumber 4294967295 0 4294967295 (one_of name rows)) → IsWord (setting_in name rows)
+given_is_word name rows read = go (has_row name rows) refl
+  where
+    go : (has : Bool) → has_row name rows ≡ has → IsWord (setting_in name rows)
+    go false none = subst IsWord (sym (ap (option_and_then (number_of 4294967295)) (no_row name rows none))) tt
+    go true has =
+        let number = read has in
+        subst IsWord (sym number.1) number.3
+
+-- so is 0, the default
+usual_is_word : (given : Option ℕ) → IsWord given → unwrap_or given 0 ≤ 4294967295
+usual_is_word None h = omega arith
+usual_is_word (Some n) h = h
+
+draw_is_within : (count seed stream from : Option ℕ) → IsWord count → IsWord seed → IsWord stream → IsWord from
+    → IfSome (draw_by count seed stream from) IsDraw
+draw_is_within None seed stream from c s k f = tt
+draw_is_within (Some count) seed stream from c s k f = record {
+  count = c;
+  seed = usual_is_word seed s;
+  stream = usual_is_word stream k;
+  from = usual_is_word from f;
+}
+
+pub drops_within : (words : List Text) → AsksWithin words drops_built
+drops_within words passes free =
+    let rows = rows_after drops_built.rules [] words in
+    let number = each_number 4294967295 drops_built words refl drops_takes passes in
+    let count = given_is_word (codes "count") rows number.0 in
+    let seed = given_is_word (codes "seed") rows number.1.0 in
+    let stream = given_is_word (codes "stream") rows number.1.1.0 in
+    let from = given_is_word (codes "from") rows number.1.1.1.0 in
+    (_, refl, draw_is_within _ _ _ _ count seed stream from)
+
+-- ---- `lab`
+
+abbrev pub lab_built : Shape
+lab_built = built_leaf lab_line.top
+
+lab_takes : Each (TakesNumber 4294967295) lab_built.rules
+lab_takes = search (rules, arith)
+
+-- `--journal` and `--pile` exclude each other
+go_together : (pile pgm journal table : Bool)
+    → cond (pile && pgm) (Some PileAndPicture) (cond (pile && journal) (Some PileAndJournal) (cond (pile && table) (Some PileAndTable) None)) ≡ None
+    → GoTogether journal (cond pile Pile (cond pgm Picture forms.Text))
+go_together true true journal table free = cc
+go_together true false true table free = cc
+go_together true false false table free = tt
+go_together false true true table free = tt
+go_together false true false table free = tt
+go_together false false true table free = tt
+go_together false false false table free = tt
+
+pub lab_within : (words : List Text) → AsksWithin words lab_built
+lab_within words passes free =
+    let rows = rows_after lab_built.rules [] words in
+    let has = each_has_row lab_built.rules (settled lab_built.rules (walk lab_built.rules [] nothing_held words).held).rows in
+    let number = each_number 4294967295 lab_built words refl lab_takes passes in
+    let seed = number.0 (has.0 refl) in
+    let droppers = number.1.0 (has.1.0 refl) in
+    let drops = number.1.1.0 (has.1.1.0 refl) in
+    let epochs = number.1.1.1.0 (has.1.1.1.0 refl) in
+    let workers = number.1.1.1.1.0 (has.1.1.1.1.0 refl) in
+    let sweeps = number.1.1.1.1.1.0 (has.1.1.1.1.1.0 refl) in
+    let observers = number.1.1.1.1.1.1.0 (has.1.1.1.1.1.1.0 refl) in (
+      _,
+      (λ i. option_map (λ r. Lab r (flag_in (codes "journal") rows) (form_in rows))
+          (with_settings (seed.1 i) (droppers.1 i) (drops.1 i) (epochs.1 i) (workers.1 i) (sweeps.1 i) (observers.1 i))),
+      (
+        record {
+          seed = seed.3;
+          plan = record {
+            some_droppers = droppers.2;
+            droppers = droppers.3;
+            drops = drops.3;
+            some_epochs = epochs.2;
+            epochs = epochs.3;
+            some_workers = workers.2;
+            workers = workers.3;
+            sweeps = sweeps.3;
+            observers = observers.3;
+          };
+        },
+        go_together (flag_in (codes "pile") rows) (flag_in (codes "pgm") rows) (flag_in (codes "journal") rows) (flag_in (codes "table") rows) free,
+      ),
+    )
