@@ -1,10 +1,7 @@
 -- The commands whose words have numbers ask for the task that their words spell.
-use Rattle.std.proofs.Common.{◌≡◌, ◌≤◌, ℕ, Bool, true, false, not, ◌&&◌, ◌||◌, is_some, if◌then◌else◌, [], ◌∷◌, ◌++◌, Option, Some, None, refl, ap, arith, codes, decimal}
+use Rattle.std.proofs.Common.{◌≡◌, ◌≤◌, ℕ, Bool, true, false, not, ◌&&◌, ◌||◌, is_some, if◌then◌else◌, [], ◌∷◌, Option, Some, None, refl, ap, arith, codes, decimal}
 use Rattle.std.specs.Prelude.{option_map}
-use Rattle.clap.specs.Faults.{check_fault, defaults_fault, settle_fault, turn_fault}
-use Rattle.clap.specs.Kinds.{Kinds, or_else}
-use Rattle.clap.specs.Walk.{Walk, finished, nothing_held, settled, walk_from, walked}
-use Rattle.clap.specs.Words.{Text}
+use Rattle.clap.specs.Walk.{Walk, nothing_held, walk_from}
 use Rattle.clap.proofs.OnLiterals.{clap_on_literals}
 use Rattle.sand_plan.specs.Plans.{most_droppers, most_drops, most_epochs, most_observers, most_sweeps, most_workers}
 use Rattle.sand_cli.specs.Asked.{GoTogether, IsDraw, IsRun, draw_by, with_settings}
@@ -21,7 +18,7 @@ use Rattle.sand_cli.specs.declared.task.Task.{Task}
 use Rattle.sand_cli.specs.declared.task.Task.TheVariants.{Drops, Identity, Lab, Multiple}
 use Rattle.sand_plan.specs.declared.wish.Wish.{Wish}
 use Rattle.sand_cli.proofs.NumberTexts.{IsText, number_text}
-use Rattle.sand_cli.proofs.Walks.{Asks, Reads, asks, given, given_row, reads_both, reads_flag, reads_next, reads_option}
+use Rattle.sand_cli.proofs.Walks.{Asks, Reads, asks, end_passes, given, given_row, reads_both, reads_next, reads_option, reads_then}
 use Rattle.sand_cli.proofs.Within.{drops_built, identity_built, lab_built, multiple_built}
 
 -- ---- `multiple`
@@ -35,15 +32,15 @@ module _ (n : ℕ) (times : IsText 18446744073709551615 0 18446744073709551615 n
   unfolding past_times clap_on_literals
   times_read = reads_option multiple_built (walk_from nothing_held) [] (codes "times") _ refl refl refl times.no_option
 
-  number_asks : (pgm : Bool) → Asks multiple_built (Multiple n pgm)
+  times_ask : (pgm : Bool) → Asks multiple_built (Multiple n pgm)
   unfolding past_times clap_on_literals
-  number_asks true =
-      asks _ (reads_both times_read (reads_flag multiple_built past_times (codes "--pgm") (rw times.passes refl)))
-      refl refl (rw times.reads refl)
-  number_asks false = asks _ times_read (rw times.passes refl) refl (rw times.reads refl)
+  times_ask true =
+      asks _ (reads_then times_read (codes "--pgm") (rw times.passes refl)) refl refl (rw times.reads refl)
+  times_ask false = asks _ times_read (rw times.passes refl) refl (rw times.reads refl)
 
 pub multiple_asks : (n : ℕ) → n ≤ 18446744073709551615 → (pgm : Bool) → Asks multiple_built (Multiple n pgm)
-multiple_asks n within = number_asks n (number_text 18446744073709551615 0 18446744073709551615 n (omega arith) within (omega arith) (omega arith))
+multiple_asks n within =
+    times_ask n (number_text 18446744073709551615 0 18446744073709551615 n (omega arith) within (omega arith) (omega arith))
 
 -- ---- `identity`
 
@@ -59,22 +56,16 @@ module _ (m n : ℕ) (width : IsText 18446744073709551615 1 256 m) (height : IsT
       reads_both (reads_option identity_built (walk_from nothing_held) [] (codes "width") _ refl refl refl width.no_option)
       (reads_next identity_built _ _ _ (codes "height") _ (rw width.passes refl) refl refl height.no_option)
 
-  -- the walk after them and a flag
-  past_flag : Text → Walk
-  past_flag flag = walked identity_built.rules [] past_sides flag
-
   sides_ask : (cylinder pgm : Bool) → Asks identity_built (Identity m n cylinder pgm)
-  unfolding past_sides past_flag clap_on_literals
+  unfolding past_sides clap_on_literals
   sides_ask true true =
-      asks _ (reads_both sides_read (reads_both
-      (reads_flag identity_built past_sides (codes "--cylinder") (rw height.passes refl))
-      (reads_flag identity_built (past_flag (codes "--cylinder")) (codes "--pgm") refl)))
+      asks _ (reads_then (reads_then sides_read (codes "--cylinder") (rw height.passes refl)) (codes "--pgm") refl)
       refl refl (rw (width.reads, height.reads) refl)
   sides_ask true false =
-      asks _ (reads_both sides_read (reads_flag identity_built past_sides (codes "--cylinder") (rw height.passes refl)))
+      asks _ (reads_then sides_read (codes "--cylinder") (rw height.passes refl))
       refl refl (rw (width.reads, height.reads) refl)
   sides_ask false true =
-      asks _ (reads_both sides_read (reads_flag identity_built past_sides (codes "--pgm") (rw height.passes refl)))
+      asks _ (reads_then sides_read (codes "--pgm") (rw height.passes refl))
       refl refl (rw (width.reads, height.reads) refl)
   sides_ask false false =
       asks _ sides_read (rw height.passes refl) refl (rw (width.reads, height.reads) refl)
@@ -85,16 +76,20 @@ identity_asks m n within =
     sides_ask m n (number_text 18446744073709551615 1 256 m within.0 within.1 (omega arith) (omega arith))
     (number_text 18446744073709551615 1 256 n within.2 within.3 (omega arith) (omega arith))
 
--- ---- `drops`
+-- ---- `drops` and `lab`, whose numbers have 32 bits
 
-abbrev IsWordText : ℕ → Type 0
-IsWordText n = IsText 4294967295 0 4294967295 n
+abbrev IsSetting : ℕ → ℕ → ℕ → Type 0
+IsSetting least most n = IsText 4294967295 least most n
 
-word_text : (n : ℕ) → n ≤ 4294967295 → IsWordText n
-word_text n within = number_text 4294967295 0 4294967295 n (omega arith) within (omega arith) (omega arith)
+setting : (least most n : ℕ) → least ≤ n → n ≤ most → most ≤ 4294967295 → IsSetting least most n
+setting least most n low high wide = number_text 4294967295 least most n low high wide (omega arith)
 
-module _ (draw : Draw) (count : IsWordText draw.count) (seed : IsWordText draw.seed) (stream : IsWordText draw.stream)
-    (from : IsWordText draw.from) where
+-- the number, as an option has it
+abbrev read : ℕ → Option ℕ
+read n = number_of 4294967295 (decimal n)
+
+module _ (draw : Draw) (count : IsSetting 0 4294967295 draw.count) (seed : IsSetting 0 4294967295 draw.seed)
+    (stream : IsSetting 0 4294967295 draw.stream) (from : IsSetting 0 4294967295 draw.from) where
   -- the walk after the numbers of the draw; the last is still pending
   past_draw : Walk
   past_draw = given
@@ -110,58 +105,42 @@ module _ (draw : Draw) (count : IsWordText draw.count) (seed : IsWordText draw.s
       (reads_both (reads_next drops_built _ _ _ (codes "stream") _ (rw seed.passes refl) refl refl stream.no_option)
       (reads_next drops_built _ _ _ (codes "from") _ (rw stream.passes refl) refl refl from.no_option)))
 
-  -- the pending number passes
-  draw_settles : settle_fault drops_built.rules drops_built.args_override_self past_draw.held ≡ []
-  unfolding past_draw clap_on_literals
-  draw_settles = rw from.passes refl
-
-  abbrev after_draw : Kinds → Kinds
-  after_draw k = or_else k (or_else (defaults_fault (settled drops_built.rules past_draw.held).rows drops_built.rules)
-      (check_fault drops_built (finished drops_built.rules past_draw.held) false))
-
-  abbrev word : ℕ → Option ℕ
-  word n = number_of 4294967295 (decimal n)
-
-  draw_is : draw_by (word draw.count) (word draw.seed) (word draw.stream) (word draw.from) ≡ Some draw
+  draw_is : draw_by (read draw.count) (read draw.seed) (read draw.stream) (read draw.from) ≡ Some draw
   draw_is = rw (count.reads, seed.reads, stream.reads, from.reads) refl
 
-  -- no number lacks a count
-  abbrev uncounted : Option ℕ → Option Conflict
-  uncounted count =
-      if not (is_some count) && (is_some (word draw.seed) || is_some (word draw.stream) || is_some (word draw.from))
+  -- the conflict, as the count is given or not
+  abbrev conflict_by : Option ℕ → Option Conflict
+  conflict_by count =
+      if not (is_some count) && (is_some (read draw.seed) || is_some (read draw.stream) || is_some (read draw.from))
       then Some Uncounted else None
 
-  draw_is_free : uncounted (word draw.count) ≡ None
-  draw_is_free = ap uncounted count.reads
+  draw_is_free : conflict_by (read draw.count) ≡ None
+  draw_is_free = ap conflict_by count.reads
 
   draw_asks : (part : Part) → Asks drops_built (Drops (Some draw) part)
   unfolding past_draw clap_on_literals
   draw_asks parts.All =
-      asks _ draw_read (ap after_draw draw_settles) draw_is_free (ap (λ d. Some (Drops d parts.All)) draw_is)
+      asks _ draw_read (end_passes drops_built past_draw.held (rw from.passes refl) refl)
+      draw_is_free (ap (λ d. Some (Drops d parts.All)) draw_is)
   draw_asks parts.Table =
-      asks _ (reads_both draw_read (reads_flag drops_built past_draw (codes "--table") (rw from.passes refl)))
-      refl draw_is_free (ap (λ d. Some (Drops d parts.Table)) draw_is)
+      asks _ (reads_then draw_read (codes "--table") (rw from.passes refl)) refl
+      draw_is_free (ap (λ d. Some (Drops d parts.Table)) draw_is)
   draw_asks parts.Pile =
-      asks _ (reads_both draw_read (reads_flag drops_built past_draw (codes "--pile") (rw from.passes refl)))
-      refl draw_is_free (ap (λ d. Some (Drops d parts.Pile)) draw_is)
+      asks _ (reads_then draw_read (codes "--pile") (rw from.passes refl)) refl
+      draw_is_free (ap (λ d. Some (Drops d parts.Pile)) draw_is)
 
 pub drops_asks : (draw : Draw) → IsDraw draw → (part : Part) → Asks drops_built (Drops (Some draw) part)
 drops_asks draw within =
-    draw_asks draw (word_text draw.count within.count) (word_text draw.seed within.seed)
-    (word_text draw.stream within.stream) (word_text draw.from within.from)
+    draw_asks draw
+    (setting 0 4294967295 draw.count (omega arith) within.count (omega arith))
+    (setting 0 4294967295 draw.seed (omega arith) within.seed (omega arith))
+    (setting 0 4294967295 draw.stream (omega arith) within.stream (omega arith))
+    (setting 0 4294967295 draw.from (omega arith) within.from (omega arith))
 
--- ---- `lab`
-
-abbrev IsSettingText : ℕ → ℕ → ℕ → Type 0
-IsSettingText least most n = IsText 4294967295 least most n
-
-setting_text : (least most n : ℕ) → least ≤ n → n ≤ most → most ≤ 4294967295 → IsSettingText least most n
-setting_text least most n low high wide = number_text 4294967295 least most n low high wide (omega arith)
-
-module _ (wish : Wish) (seed : IsSettingText 0 4294967295 wish.seed)
-    (droppers : IsSettingText 1 most_droppers wish.droppers) (drops : IsSettingText 0 most_drops wish.drops)
-    (epochs : IsSettingText 1 most_epochs wish.epochs) (workers : IsSettingText 1 most_workers wish.workers)
-    (sweeps : IsSettingText 0 most_sweeps wish.sweeps) (observers : IsSettingText 0 most_observers wish.observers) where
+module _ (wish : Wish) (seed : IsSetting 0 4294967295 wish.seed) (droppers : IsSetting 1 most_droppers wish.droppers)
+    (drops : IsSetting 0 most_drops wish.drops) (epochs : IsSetting 1 most_epochs wish.epochs)
+    (workers : IsSetting 1 most_workers wish.workers) (sweeps : IsSetting 0 most_sweeps wish.sweeps)
+    (observers : IsSetting 0 most_observers wish.observers) where
   -- the walk after all settings; the last is still pending
   past_settings : Walk
   past_settings = given
@@ -181,57 +160,40 @@ module _ (wish : Wish) (seed : IsSettingText 0 4294967295 wish.seed)
       (reads_both (reads_next lab_built _ _ _ (codes "sweeps") _ (rw workers.passes refl) refl refl sweeps.no_option)
       (reads_next lab_built _ _ _ (codes "observers") _ (rw sweeps.passes refl) refl refl observers.no_option))))))
 
-  -- the pending number passes
-  settings_settle : settle_fault lab_built.rules lab_built.args_override_self past_settings.held ≡ []
-  unfolding past_settings clap_on_literals
-  settings_settle = rw observers.passes refl
-
-  abbrev after_settings : Kinds → Kinds
-  after_settings k = or_else k (or_else (defaults_fault (settled lab_built.rules past_settings.held).rows lab_built.rules)
-      (check_fault lab_built (finished lab_built.rules past_settings.held) false))
-
-  abbrev setting : ℕ → Option ℕ
-  setting n = number_of 4294967295 (decimal n)
-
-  wish_is : with_settings (setting wish.seed) (setting wish.droppers) (setting wish.drops) (setting wish.epochs)
-      (setting wish.workers) (setting wish.sweeps) (setting wish.observers) ≡ Some wish
+  wish_is : with_settings (read wish.seed) (read wish.droppers) (read wish.drops) (read wish.epochs) (read wish.workers)
+      (read wish.sweeps) (read wish.observers) ≡ Some wish
   wish_is = rw (seed.reads, droppers.reads, drops.reads, epochs.reads, workers.reads, sweeps.reads, observers.reads) refl
 
-  abbrev task_of : Bool → Form → Option Wish → Option Task
-  task_of journal form = option_map (λ w. Lab w journal form)
-
-  -- the walk after them and a flag
-  past_first : Text → Walk
-  past_first flag = walked lab_built.rules [] past_settings flag
-
-  first_read : (flag : Text) → turn_fault lab_built [] past_settings flag ≡ [] → Reads lab_built (walk_from nothing_held) (settings_of wish ++ flag ∷ []) (past_first flag)
-  unfolding past_first
-  first_read flag passes = reads_both settings_read (reads_flag lab_built past_settings flag passes)
+  abbrev task_by : Bool → Form → Option Wish → Option Task
+  task_by journal form = option_map (λ w. Lab w journal form)
 
   settings_ask : (journal : Bool) (form : Form) → GoTogether journal form → Asks lab_built (Lab wish journal form)
-  unfolding past_settings past_first clap_on_literals
+  unfolding past_settings clap_on_literals
   settings_ask true forms.Picture together =
-      asks _ (reads_both (first_read (codes "--journal") (rw observers.passes refl))
-      (reads_flag lab_built (past_first (codes "--journal")) (codes "--pgm") refl))
-      refl refl (ap (task_of true forms.Picture) wish_is)
+      asks _ (reads_then (reads_then settings_read (codes "--journal") (rw observers.passes refl)) (codes "--pgm") refl)
+      refl refl (ap (task_by true forms.Picture) wish_is)
   settings_ask true forms.Pile together = absurd together
   settings_ask true forms.Text together =
-      asks _ (first_read (codes "--journal") (rw observers.passes refl)) refl refl (ap (task_of true forms.Text) wish_is)
+      asks _ (reads_then settings_read (codes "--journal") (rw observers.passes refl))
+      refl refl (ap (task_by true forms.Text) wish_is)
   settings_ask false forms.Picture together =
-      asks _ (first_read (codes "--pgm") (rw observers.passes refl)) refl refl (ap (task_of false forms.Picture) wish_is)
+      asks _ (reads_then settings_read (codes "--pgm") (rw observers.passes refl))
+      refl refl (ap (task_by false forms.Picture) wish_is)
   settings_ask false forms.Pile together =
-      asks _ (first_read (codes "--pile") (rw observers.passes refl)) refl refl (ap (task_of false forms.Pile) wish_is)
+      asks _ (reads_then settings_read (codes "--pile") (rw observers.passes refl))
+      refl refl (ap (task_by false forms.Pile) wish_is)
   settings_ask false forms.Text together =
-      asks _ settings_read (ap after_settings settings_settle) refl (ap (task_of false forms.Text) wish_is)
+      asks _ settings_read (end_passes lab_built past_settings.held (rw observers.passes refl) refl)
+      refl (ap (task_by false forms.Text) wish_is)
 
 pub lab_asks : (wish : Wish) → IsRun wish → (journal : Bool) (form : Form) → GoTogether journal form
     → Asks lab_built (Lab wish journal form)
 lab_asks wish within =
     settings_ask wish
-    (setting_text 0 4294967295 wish.seed (omega arith) within.seed (omega arith))
-    (setting_text 1 most_droppers wish.droppers within.plan.some_droppers within.plan.droppers (omega arith))
-    (setting_text 0 most_drops wish.drops (omega arith) within.plan.drops (omega arith))
-    (setting_text 1 most_epochs wish.epochs within.plan.some_epochs within.plan.epochs (omega arith))
-    (setting_text 1 most_workers wish.workers within.plan.some_workers within.plan.workers (omega arith))
-    (setting_text 0 most_sweeps wish.sweeps (omega arith) within.plan.sweeps (omega arith))
-    (setting_text 0 most_observers wish.observers (omega arith) within.plan.observers (omega arith))
+    (setting 0 4294967295 wish.seed (omega arith) within.seed (omega arith))
+    (setting 1 most_droppers wish.droppers within.plan.some_droppers within.plan.droppers (omega arith))
+    (setting 0 most_drops wish.drops (omega arith) within.plan.drops (omega arith))
+    (setting 1 most_epochs wish.epochs within.plan.some_epochs within.plan.epochs (omega arith))
+    (setting 1 most_workers wish.workers within.plan.some_workers within.plan.workers (omega arith))
+    (setting 0 most_sweeps wish.sweeps (omega arith) within.plan.sweeps (omega arith))
+    (setting 0 most_observers wish.observers (omega arith) within.plan.observers (omega arith))

@@ -22,19 +22,12 @@ pub record Reads (s : Shape) (from : Walk) (words : List Text) (to : Walk) : Typ
   pub walks : (rest : List Text) → fold (walked s.rules []) from (words ++ rest) ≡ fold (walked s.rules []) to rest
   pub passes : (rest : List Text) → walk_fault s [] from (words ++ rest) ≡ walk_fault s [] to rest
 
-pub reads_nothing : {s : Shape} {w : Walk} → Reads s w [] w
-reads_nothing {s} {w} = record { walks = λ rest. refl; passes = λ rest. refl }
-
 pub reads_word : (s : Shape) (from to : Walk) (word : Text) → turn_fault s [] from word ≡ [] → walked s.rules [] from word ≡ to → Reads s from (word ∷ []) to
 unfolding walk_fault
 reads_word s from to word passes is = record {
   walks = λ rest. ap (λ w. fold (walked s.rules []) w rest) is;
   passes = λ rest. ap₂ or_else passes (ap (λ w. walk_fault s [] w rest) is);
 }
-
-pub reads_flag : (s : Shape) (from : Walk) (word : Text) → turn_fault s [] from word ≡ []
-    → Reads s from (word ∷ []) (walked s.rules [] from word)
-reads_flag s from word passes = reads_word s from (walked s.rules [] from word) word passes refl
 
 -- one list of words after another
 pub reads_both : {s : Shape} {u v w : Walk} {xs ys : List Text} → Reads s u xs v → Reads s v ys w → Reads s u (xs ++ ys) w
@@ -43,27 +36,21 @@ reads_both {s} {u} {v} {w} {xs} {ys} first second = record {
   passes = λ rest. ap (walk_fault s [] u) (append_assoc xs ys rest) ∙ (first.passes (ys ++ rest) ∙ second.passes rest);
 }
 
+-- one more word
+pub reads_then : {s : Shape} {u v : Walk} {xs : List Text} → Reads s u xs v → (word : Text) → turn_fault s [] v word ≡ []
+    → Reads s u (xs ++ word ∷ []) (walked s.rules [] v word)
+reads_then {s} {u} {v} {xs} reads word passes =
+    reads_both reads (reads_word s v (walked s.rules [] v word) word passes refl)
+
 -- ---- an option and its value
 
--- the option waits for its value, after these rows
-abbrev pub awaiting : List Row → Text → Walk
-awaiting rows id = record {
-  held = record { rows = rows; pending = Some (id, []); skip = 0 };
-  waiting = option id;
-  position = 1;
-  is_trailing = false;
-  stopped = None;
-}
-
--- the option has its value
+-- after these rows, the option has its value
 abbrev pub given : List Row → Text → Text → Walk
-given rows id text = record {
-  held = record { rows = rows; pending = Some (id, text ∷ []); skip = 0 };
-  waiting = idle;
-  position = 1;
-  is_trailing = false;
-  stopped = None;
-}
+given rows id text = walk_from (record { rows = rows; pending = Some (id, text ∷ []); skip = 0 })
+
+-- and here it waits for it
+abbrev awaiting : List Row → Text → Walk
+awaiting rows id = record (walk_from (record { rows = rows; pending = Some (id, []); skip = 0 })) { waiting = option id }
 
 -- the row of an option given with this value
 abbrev pub given_row : Text → Text → Row
@@ -135,6 +122,12 @@ level_ends {s} {words} {end} reads =
 pub rows_end : {s : Shape} {words : List Text} {end : Walk} → Reads s (walk_from nothing_held) words end → rows_after s.rules [] words ≡ finished s.rules end.held
 rows_end {s} {words} {end} reads =
     ap (λ (w : Walk). finished s.rules w.held) (ap (fold (walked s.rules []) (walk_from nothing_held)) (sym (append-nil words)) ∙ reads.walks [])
+
+-- there are none if the last value passes, and nothing is wrong after it
+pub end_passes : (s : Shape) (h : Held) → settle_fault s.rules s.args_override_self h ≡ []
+    → or_else (defaults_fault (settled s.rules h).rows s.rules) (check_fault s (finished s.rules h) false) ≡ []
+    → end_fault s h ≡ []
+end_passes s h settles checks = ap₂ or_else settles checks
 
 -- ---- the task
 
