@@ -35,8 +35,11 @@ none_is a (b ∷ c) e =
 is_none : (a : Rule) (c : List Rule) → lacks a.id c ≡ true → Each (λ b. bytes_eq a.id b.id ≡ true → a ≡ b) c
 is_none a [] e = tt
 is_none a (b ∷ c) e =
-    let parts = both _ _ e in
-    ((λ same. refused (bytes_eq b.id a.id) parts.0 ((bytes_eq-Decides b.id a.id).1 (sym ((bytes_eq-Decides a.id b.id).0 same)))), is_none a c parts.1)
+    let parts = both _ _ e in (
+      (λ same. refused (bytes_eq b.id a.id) parts.0
+          ((bytes_eq-Decides b.id a.id).1 (sym ((bytes_eq-Decides a.id b.id).0 same)))),
+      is_none a c parts.1,
+    )
 
 pub each_alone : (c : List Rule) → are_apart c ≡ true → Each (IsAlone c) c
 each_alone [] e = tt

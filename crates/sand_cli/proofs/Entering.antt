@@ -25,17 +25,20 @@ abbrev pub Enters : App → Option (Text × List Text) → Type 0
 Enters a None = ⊥
 Enters a (Some p) = (s : Shape) × (find (λ s. answers_to p.0 (label_of s)) a.subs ≡ Some s) × Accepts s p.1
 
-wants : (help has required argument : Bool) → required ≡ true → check_kinds help (not has && required) argument ≡ [] → has ≡ true
+wants : (help has required argument : Bool) → required ≡ true → check_kinds help (not has && required) argument ≡ []
+    → has ≡ true
 wants help true required argument r e = refl
 wants true false required argument r e = cc
 wants false false true argument r e = cc
 wants false false false argument r e = absurd (true≢false (sym r))
 
 -- if a command line requires a command and accepts the words, they name one
-pub enters : (a : App) (words : List Text) → a.top.subcommand_required ≡ true → built_fault a nothing_held words ≡ [] → Enters a (stop_after a.top.rules (names_of a) words)
+pub enters : (a : App) (words : List Text) → a.top.subcommand_required ≡ true → built_fault a nothing_held words ≡ []
+    → Enters a (stop_after a.top.rules (names_of a) words)
 enters a words required e =
     go stop (first_passes (entered_fault a stop) _ past_walk)
-    (wants _ (is_some (entered a stop)) a.top.subcommand_required _ required (second_passes (defaults_fault _ a.top.rules) _ past_settling))
+    (wants _ (is_some (entered a stop)) a.top.subcommand_required _ required
+    (second_passes (defaults_fault _ a.top.rules) _ past_settling))
   where
     stop : Option (Text × List Text)
     stop = stop_after a.top.rules (names_of a) words
@@ -43,14 +46,18 @@ enters a words required e =
     end : Held
     end = (walk a.top.rules (names_of a) nothing_held words).held
 
-    past_walk : or_else (entered_fault a stop) (or_else (settle_fault a.top.rules a.top.args_override_self end) (or_else (defaults_fault (settled a.top.rules end).rows a.top.rules)
+    past_walk : or_else (entered_fault a stop) (or_else (settle_fault a.top.rules a.top.args_override_self end)
+        (or_else (defaults_fault (settled a.top.rules end).rows a.top.rules)
         (check_fault a.top (finished a.top.rules end) (is_some (entered a stop))))) ≡ []
     past_walk = second_passes (walk_fault a.top (names_of a) (walk_from nothing_held) words) _ e
 
-    past_settling : or_else (defaults_fault (settled a.top.rules end).rows a.top.rules) (check_fault a.top (finished a.top.rules end) (is_some (entered a stop))) ≡ []
-    past_settling = second_passes (settle_fault a.top.rules a.top.args_override_self end) _ (second_passes (entered_fault a stop) _ past_walk)
+    past_settling : or_else (defaults_fault (settled a.top.rules end).rows a.top.rules)
+        (check_fault a.top (finished a.top.rules end) (is_some (entered a stop))) ≡ []
+    past_settling = second_passes (settle_fault a.top.rules a.top.args_override_self end)
+        _ (second_passes (entered_fault a stop) _ past_walk)
 
-    found : (p : Text × List Text) (o : Option Shape) → option_map_or (λ s. level_fault s [] nothing_held p.1 false []) o [] ≡ []
+    found : (p : Text × List Text) (o : Option Shape)
+        → option_map_or (λ s. level_fault s [] nothing_held p.1 false []) o [] ≡ []
         → is_some (option_map (λ s. rows_at s p.1) o) ≡ true → (s : Shape) × (o ≡ Some s) × Accepts s p.1
     found p None f h = absurd (true≢false (sym h))
     found p (Some s) f h = (s, refl, f)

@@ -17,11 +17,21 @@ use Rattle.sand_cli.proofs.Each.{Each}
 tasks : (program : Text) → Each (λ (e : List Text × Task). asked (program ∷ e.0) ≡ Some e.1) (
     (codes "settle" ∷ [], Settle forms.Text)
     -- options may come in any order, and a number may follow `=`
-    ∷ (codes "identity" ∷ codes "--pgm" ∷ codes "--height" ∷ codes "256" ∷ codes "--width=3" ∷ [], Identity 3 256 false true)
+    ∷ (
+      codes "identity" ∷ codes "--pgm" ∷ codes "--height" ∷ codes "256" ∷ codes "--width=3" ∷ [],
+      Identity 3 256 false true,
+    )
     -- by default a draw starts at place 0 of stream 0 of seed 0
-    ∷ (codes "drops" ∷ codes "--count" ∷ codes "5" ∷ [], Drops (Some (record { count = 5; seed = 0; stream = 0; from = 0 })) All)
+    ∷ (
+      codes "drops" ∷ codes "--count" ∷ codes "5" ∷ [],
+      Drops (Some (record { count = 5; seed = 0; stream = 0; from = 0 })) All,
+    )
     -- `lab` alone asks for a run with the defaults
-    ∷ (codes "lab" ∷ [], Lab (record { seed = 0; droppers = 2; drops = 100; epochs = 1; workers = 1; sweeps = 0; observers = 0 }) false forms.Text) ∷ [])
+    ∷ (
+      codes "lab" ∷ [],
+      Lab (record { seed = 0; droppers = 2; drops = 100; epochs = 1; workers = 1; sweeps = 0; observers = 0 })
+          false forms.Text,
+    ) ∷ [])
 unfolding command_line clap_on_literals
 tasks program = (refl, (refl, (refl, (refl, tt))))
 

@@ -49,7 +49,8 @@ value_clear ignore_case p text = if_clear _ [] _ none (one _)
 
 values_clear : (ignore_case : Bool) (p : ValueParser) (values : List Text) → IsClear (values_kinds ignore_case p values)
 values_clear ignore_case p [] = none
-values_clear ignore_case p (v ∷ vs) = or_else_clear (value_kinds ignore_case p v) _ (value_clear ignore_case p v) (values_clear ignore_case p vs)
+values_clear ignore_case p (v ∷ vs) =
+    or_else_clear (value_kinds ignore_case p v) _ (value_clear ignore_case p v) (values_clear ignore_case p vs)
 
 range_clear : (least most n : ℕ) → IsClear (range_kinds least most n)
 range_clear least most n = search (if_clear, none, one)
@@ -66,9 +67,11 @@ count_clear a [] rows = search value_clear
 count_clear a (v ∷ vs) rows = values_clear _ _ (v ∷ vs)
 
 set_clear : (again : Bool) (a : Rule) (values : List Text) (rows : List Row) → IsClear (set_fault again a values rows)
-set_clear again a values rows = or_else_clear (repeat_fault again a.id rows) _ (if_clear _ _ _ (one _) none) (values_clear _ _ values)
+set_clear again a values rows =
+    or_else_clear (repeat_fault again a.id rows) _ (if_clear _ _ _ (one _) none) (values_clear _ _ values)
 
-action_clear : (x : ArgAction) (again : Bool) (a : Rule) (values : List Text) (rows : List Row) → IsClear (action_fault x again a values rows)
+action_clear : (x : ArgAction) (again : Bool) (a : Rule) (values : List Text) (rows : List Row)
+    → IsClear (action_fault x again a values rows)
 action_clear Set again a values rows = set_clear again a values rows
 action_clear SetTrue again a values rows = set_clear again a values rows
 action_clear SetFalse again a values rows = set_clear again a values rows
@@ -99,23 +102,27 @@ module _ (c : List Rule) (again : Bool) where
   long_clear None v h = one _
   long_clear (Some a) v h = if_clear _ _ _ (option_clear a v h) (if_clear _ _ _ (one _) (react_clear a [] h))
 
-  short_clear : (o : Option Rule) (rest : Text) (h : Held) (later : Held → Kinds) → ((g : Held) → IsClear (later g)) → IsClear (short_fault c again o rest h later)
+  short_clear : (o : Option Rule) (rest : Text) (h : Held) (later : Held → Kinds) → ((g : Held) → IsClear (later g))
+      → IsClear (short_fault c again o rest h later)
   short_clear None rest h later clear = one _
   short_clear (Some a) rest h later clear =
-      if_clear _ _ _ (option_clear a (attached_value rest) h) (or_else_clear (react_fault c again a [] h) _ (react_clear a [] h) (clear _))
+      if_clear _ _ _ (option_clear a (attached_value rest) h)
+      (or_else_clear (react_fault c again a [] h) _ (react_clear a [] h) (clear _))
 
   flags_clear : (k : ℕ) (flags : Text) (skip : ℕ) (h : Held) → IsClear (flags_fault c again k flags skip h)
   unfolding flags_fault
   flags_clear zero flags skip h = none
   flags_clear (suc k) flags skip h = go (flags_clear k) (slice_get (chars flags) 0) skip
     where
-      go : ((flags : Text) (skip : ℕ) (h : Held) → IsClear (flags_fault c again k flags skip h)) → (x : Option ℕ) (left : ℕ)
+      go : ((flags : Text) (skip : ℕ) (h : Held) → IsClear (flags_fault c again k flags skip h))
+          → (x : Option ℕ) (left : ℕ)
           → IsClear (bundle_step_fault c again x flags left h (flags_fault c again k))
       go later None left = none
       go later (Some x) zero = short_clear (arg_by_short c x) _ h _ (λ g. later _ 0 g)
       go later (Some x) (suc left) = later _ left h
 
-  flag_word_clear : (o : Option (Text × Option Text)) (word : Text) (h : Held) → IsClear (flag_word_fault c again o word h)
+  flag_word_clear : (o : Option (Text × Option Text)) (word : Text) (h : Held)
+      → IsClear (flag_word_fault c again o word h)
   flag_word_clear (Some p) word h = long_clear (arg_by_long c p.0) p.1 h
   flag_word_clear None word h = of_clear _ _ (λ flags. flags_clear (length flags) flags h.skip _)
 
@@ -123,7 +130,8 @@ module _ (c : List Rule) (again : Bool) where
   unfolding defaults_fault
   defaults_clear rows [] = none
   defaults_clear rows (a ∷ rest) =
-      or_else_clear (default_fault rows a) _ (if_clear _ _ _ none (or_else_clear (request_kinds (action_of a)) _ (request_clear (action_of a)) (values_clear _ _ a.defaults)))
+      or_else_clear (default_fault rows a) _ (if_clear _ _ _ none
+      (or_else_clear (request_kinds (action_of a)) _ (request_clear (action_of a)) (values_clear _ _ a.defaults)))
       (defaults_clear (with_default rows a) rest)
 
 check_clear : (help wants missing : Bool) → IsClear (check_kinds help wants missing)
@@ -135,17 +143,20 @@ module _ (s : Shape) (helpless : s.disable_help_subcommand ≡ true) where
   other_clear : (o : Option Text) (word : Text) (h : Held) → IsClear (other_fault s o word h)
   other_clear (Some name) word h = never _ _ helpless
     where
-      never : (b disabled : Bool) → disabled ≡ true → IsClear (cond (b && not disabled) (kind.DisplayHelp ∷ kind.InvalidSubcommand ∷ []) [])
+      never : (b disabled : Bool) → disabled ≡ true
+          → IsClear (cond (b && not disabled) (kind.DisplayHelp ∷ kind.InvalidSubcommand ∷ []) [])
       never true true d = none
       never true false d = absurd (true≢false (sym d))
       never false disabled d = none
   other_clear None word h = if_clear _ _ _ none (flag_word_clear s.rules s.args_override_self _ word h)
 
-  stray_clear : (is_leaf : Bool) → IsClear (cond is_leaf (kind.UnknownArgument ∷ []) (kind.UnknownArgument ∷ kind.InvalidSubcommand ∷ []))
+  stray_clear : (is_leaf : Bool)
+      → IsClear (cond is_leaf (kind.UnknownArgument ∷ []) (kind.UnknownArgument ∷ kind.InvalidSubcommand ∷ []))
   stray_clear true = one _
   stray_clear false = record { alone = go }
     where
-      go : IsAmong kind.DisplayHelp (kind.UnknownArgument ∷ kind.InvalidSubcommand ∷ []) → kind.UnknownArgument ∷ kind.InvalidSubcommand ∷ [] ≡ kind.DisplayHelp ∷ []
+      go : IsAmong kind.DisplayHelp (kind.UnknownArgument ∷ kind.InvalidSubcommand ∷ [])
+          → kind.UnknownArgument ∷ kind.InvalidSubcommand ∷ [] ≡ kind.DisplayHelp ∷ []
       go (inl is) = cc
       go (inr (inl is)) = cc
       go (inr (inr h)) = absurd h
@@ -156,7 +167,8 @@ module _ (s : Shape) (helpless : s.disable_help_subcommand ≡ true) where
   step_clear position h (subcommand name) = none
   step_clear position h value = go (arg_by_index s.rules position)
     where
-      go : (o : Option Rule) → IsClear (option_map_or (λ a. positional_fault s.rules s.args_override_self a h) o (stray_fault s))
+      go : (o : Option Rule)
+          → IsClear (option_map_or (λ a. positional_fault s.rules s.args_override_self a h) o (stray_fault s))
       go None = stray_clear s.is_leaf
       go (Some a) = if_clear _ _ _ none (settle_clear s.rules s.args_override_self h)
 
@@ -164,15 +176,18 @@ module _ (s : Shape) (helpless : s.disable_help_subcommand ≡ true) where
   turn_clear names w word =
       let met = word_met s.rules names w.is_trailing w.waiting w.position word w.held in
       if_clear _ _ _ none (or_else_clear (word_fault s names w.is_trailing w.waiting word w.held) _
-      (if_clear _ _ _ none (other_clear (subcommand_met names w.waiting word) word w.held)) (step_clear w.position met.0 met.1))
+      (if_clear _ _ _ none (other_clear (subcommand_met names w.waiting word) word w.held))
+      (step_clear w.position met.0 met.1))
 
   walk_clear : (names : Names) (w : Walk) (words : List Text) → IsClear (walk_fault s names w words)
   unfolding walk_fault
   walk_clear names w [] = none
   walk_clear names w (word ∷ rest) =
-      or_else_clear (turn_fault s names w word) _ (turn_clear names w word) (walk_clear names (walked s.rules names w word) rest)
+      or_else_clear (turn_fault s names w word) _ (turn_clear names w word)
+      (walk_clear names (walked s.rules names w word) rest)
 
-  level_clear : (names : Names) (h : Held) (words : List Text) (has : Bool) (below : Kinds) → IsClear below → IsClear (level_fault s names h words has below)
+  level_clear : (names : Names) (h : Held) (words : List Text) (has : Bool) (below : Kinds) → IsClear below
+      → IsClear (level_fault s names h words has below)
   level_clear names h words has below clear =
       let end = (walk s.rules names h words).held in
       or_else_clear (walk_fault s names (walk_from h) words) _ (walk_clear names (walk_from h) words)
@@ -183,10 +198,13 @@ module _ (s : Shape) (helpless : s.disable_help_subcommand ≡ true) where
 
 -- ---- the command line
 
-entered_clear : (a : App) → Each (λ s. s.disable_help_subcommand ≡ true) a.subs → (stop : Option (Text × List Text)) → IsClear (entered_fault a stop)
-entered_clear a helpless stop = of_clear _ stop (λ p. go p (find (λ s. answers_to p.0 (label_of s)) a.subs) (each_found _ _ a.subs helpless))
+entered_clear : (a : App) → Each (λ s. s.disable_help_subcommand ≡ true) a.subs → (stop : Option (Text × List Text))
+    → IsClear (entered_fault a stop)
+entered_clear a helpless stop =
+    of_clear _ stop (λ p. go p (find (λ s. answers_to p.0 (label_of s)) a.subs) (each_found _ _ a.subs helpless))
   where
-    go : (p : Text × List Text) (o : Option Shape) → IfSome o (λ s. s.disable_help_subcommand ≡ true) → IsClear (option_map_or (λ s. level_fault s [] nothing_held p.1 false []) o [])
+    go : (p : Text × List Text) (o : Option Shape) → IfSome o (λ s. s.disable_help_subcommand ≡ true)
+        → IsClear (option_map_or (λ s. level_fault s [] nothing_held p.1 false []) o [])
     go p None h = none
     go p (Some s) h = level_clear s h [] nothing_held p.1 false [] none
 
@@ -200,5 +218,6 @@ commands_are_helpless = (refl, (refl, (refl, (refl, (refl, (refl, (refl, (refl, 
 
 -- if help is a possible response, it is the only one
 pub help_alone : (words : List Text) → IsAmong kind.DisplayHelp (faults words) → AskForHelp words
-help_alone words = (level_clear (built command_line).top line_is_helpless (names_of (built command_line)) nothing_held (argument_words command_line words) _ _
+help_alone words = (level_clear (built command_line).top line_is_helpless
+    (names_of (built command_line)) nothing_held (argument_words command_line words) _ _
     (entered_clear (built command_line) commands_are_helpless _)).alone

@@ -1,7 +1,7 @@
 -- The commands whose words have numbers ask for the task that their words spell.
 use Rattle.std.proofs.Common.{◌≡◌, ◌≤◌, ℕ, Bool, true, false, not, ◌&&◌, ◌||◌, is_some, if◌then◌else◌, [], ◌∷◌, Option, Some, None, refl, ap, arith, codes, decimal}
 use Rattle.std.specs.Prelude.{option_map}
-use Rattle.clap.specs.Walk.{Walk, nothing_held, walk_from}
+use Rattle.clap.specs.Walk.{Walk}
 use Rattle.clap.proofs.OnLiterals.{clap_on_literals}
 use Rattle.sand_plan.specs.Plans.{most_droppers, most_drops, most_epochs, most_observers, most_sweeps, most_workers}
 use Rattle.sand_cli.specs.Asked.{GoTogether, IsDraw, IsRun, draw_by, with_settings}
@@ -18,7 +18,7 @@ use Rattle.sand_cli.specs.declared.task.Task.{Task}
 use Rattle.sand_cli.specs.declared.task.Task.TheVariants.{Drops, Identity, Lab, Multiple}
 use Rattle.sand_plan.specs.declared.wish.Wish.{Wish}
 use Rattle.sand_cli.proofs.NumberTexts.{IsText, number_text}
-use Rattle.sand_cli.proofs.Walks.{Asks, Reads, asks, end_passes, given, given_row, reads_both, reads_next, reads_option, reads_then}
+use Rattle.sand_cli.proofs.Walks.{Asks, Reads, asks, end_passes, given, given_row, reads_both, reads_next, reads_option, reads_then, start}
 use Rattle.sand_cli.proofs.Within.{drops_built, identity_built, lab_built, multiple_built}
 
 -- ---- `multiple`
@@ -28,9 +28,9 @@ module _ (n : ℕ) (times : IsText 18446744073709551615 0 18446744073709551615 n
   past_times : Walk
   past_times = given [] (codes "times") (decimal n)
 
-  times_read : Reads multiple_built (walk_from nothing_held) (codes "--times" ∷ decimal n ∷ []) past_times
+  times_read : Reads multiple_built start (codes "--times" ∷ decimal n ∷ []) past_times
   unfolding past_times clap_on_literals
-  times_read = reads_option multiple_built (walk_from nothing_held) [] (codes "times") _ refl refl refl times.no_option
+  times_read = reads_option multiple_built start [] (codes "times") _ refl refl refl times.no_option
 
   times_ask : (pgm : Bool) → Asks multiple_built (Multiple n pgm)
   unfolding past_times clap_on_literals
@@ -40,7 +40,8 @@ module _ (n : ℕ) (times : IsText 18446744073709551615 0 18446744073709551615 n
 
 pub multiple_asks : (n : ℕ) → n ≤ 18446744073709551615 → (pgm : Bool) → Asks multiple_built (Multiple n pgm)
 multiple_asks n within =
-    times_ask n (number_text 18446744073709551615 0 18446744073709551615 n (omega arith) within (omega arith) (omega arith))
+    times_ask n
+    (number_text 18446744073709551615 0 18446744073709551615 n (omega arith) within (omega arith) (omega arith))
 
 -- ---- `identity`
 
@@ -49,11 +50,11 @@ module _ (m n : ℕ) (width : IsText 18446744073709551615 1 256 m) (height : IsT
   past_sides : Walk
   past_sides = given (given_row (codes "width") (decimal m) ∷ []) (codes "height") (decimal n)
 
-  sides_read : Reads identity_built (walk_from nothing_held)
+  sides_read : Reads identity_built start
       (codes "--width" ∷ decimal m ∷ codes "--height" ∷ decimal n ∷ []) past_sides
   unfolding past_sides clap_on_literals
   sides_read =
-      reads_both (reads_option identity_built (walk_from nothing_held) [] (codes "width") _ refl refl refl width.no_option)
+      reads_both (reads_option identity_built start [] (codes "width") _ refl refl refl width.no_option)
       (reads_next identity_built _ _ _ (codes "height") _ (rw width.passes refl) refl refl height.no_option)
 
   sides_ask : (cylinder pgm : Bool) → Asks identity_built (Identity m n cylinder pgm)
@@ -73,7 +74,8 @@ module _ (m n : ℕ) (width : IsText 18446744073709551615 1 256 m) (height : IsT
 pub identity_asks : (m n : ℕ) → (1 ≤ m) × (m ≤ 256) × (1 ≤ n) × (n ≤ 256) → (cylinder pgm : Bool)
     → Asks identity_built (Identity m n cylinder pgm)
 identity_asks m n within =
-    sides_ask m n (number_text 18446744073709551615 1 256 m within.0 within.1 (omega arith) (omega arith))
+    sides_ask m n
+    (number_text 18446744073709551615 1 256 m within.0 within.1 (omega arith) (omega arith))
     (number_text 18446744073709551615 1 256 n within.2 within.3 (omega arith) (omega arith))
 
 -- ---- `drops` and `lab`, whose numbers have 32 bits
@@ -97,10 +99,10 @@ module _ (draw : Draw) (count : IsSetting 0 4294967295 draw.count) (seed : IsSet
       ∷ given_row (codes "stream") (decimal draw.stream) ∷ [])
       (codes "from") (decimal draw.from)
 
-  draw_read : Reads drops_built (walk_from nothing_held) (draw_words (Some draw)) past_draw
+  draw_read : Reads drops_built start (draw_words (Some draw)) past_draw
   unfolding past_draw clap_on_literals
   draw_read =
-      reads_both (reads_option drops_built (walk_from nothing_held) [] (codes "count") _ refl refl refl count.no_option)
+      reads_both (reads_option drops_built start [] (codes "count") _ refl refl refl count.no_option)
       (reads_both (reads_next drops_built _ _ _ (codes "seed") _ (rw count.passes refl) refl refl seed.no_option)
       (reads_both (reads_next drops_built _ _ _ (codes "stream") _ (rw seed.passes refl) refl refl stream.no_option)
       (reads_next drops_built _ _ _ (codes "from") _ (rw stream.passes refl) refl refl from.no_option)))
@@ -149,10 +151,10 @@ module _ (wish : Wish) (seed : IsSetting 0 4294967295 wish.seed) (droppers : IsS
       ∷ given_row (codes "workers") (decimal wish.workers) ∷ given_row (codes "sweeps") (decimal wish.sweeps) ∷ [])
       (codes "observers") (decimal wish.observers)
 
-  settings_read : Reads lab_built (walk_from nothing_held) (settings_of wish) past_settings
+  settings_read : Reads lab_built start (settings_of wish) past_settings
   unfolding past_settings clap_on_literals
   settings_read =
-      reads_both (reads_option lab_built (walk_from nothing_held) [] (codes "seed") _ refl refl refl seed.no_option)
+      reads_both (reads_option lab_built start [] (codes "seed") _ refl refl refl seed.no_option)
       (reads_both (reads_next lab_built _ _ _ (codes "droppers") _ (rw seed.passes refl) refl refl droppers.no_option)
       (reads_both (reads_next lab_built _ _ _ (codes "drops") _ (rw droppers.passes refl) refl refl drops.no_option)
       (reads_both (reads_next lab_built _ _ _ (codes "epochs") _ (rw drops.passes refl) refl refl epochs.no_option)
@@ -162,7 +164,8 @@ module _ (wish : Wish) (seed : IsSetting 0 4294967295 wish.seed) (droppers : IsS
 
   wish_is : with_settings (read wish.seed) (read wish.droppers) (read wish.drops) (read wish.epochs) (read wish.workers)
       (read wish.sweeps) (read wish.observers) ≡ Some wish
-  wish_is = rw (seed.reads, droppers.reads, drops.reads, epochs.reads, workers.reads, sweeps.reads, observers.reads) refl
+  wish_is =
+      rw (seed.reads, droppers.reads, drops.reads, epochs.reads, workers.reads, sweeps.reads, observers.reads) refl
 
   abbrev task_by : Bool → Form → Option Wish → Option Task
   task_by journal form = option_map (λ w. Lab w journal form)

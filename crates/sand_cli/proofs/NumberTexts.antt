@@ -56,9 +56,11 @@ number_text bound least most n low high wide fits =
     let small : n < 2 ^ 64 = omega arith in
     let first : 47 < get_or (decimal n) 0 0 = first_digit n small in
     let digits = decimal_is_IsNumeral n small in
-    let plain : without_leading_plus (decimal n) ≡ decimal n = without_leading_plus_none (decimal n) (λ is. absurd (omega arith)) in
+    let plain : without_leading_plus (decimal n) ≡ decimal n =
+    without_leading_plus_none (decimal n) (λ is. absurd (omega arith)) in
     let value : digits_value 10 (without_leading_plus (decimal n)) ≡ n = ap (digits_value 10) plain ∙ digits.1 in
-    let passes : is_unsigned_in least most (decimal n) ≡ true = Accepts-accepts false (parser.Unsigned least most) (decimal n)
+    let passes : is_unsigned_in least most (decimal n) ≡ true =
+    Accepts-accepts false (parser.Unsigned least most) (decimal n)
     (subst (IsNumeral 10) (sym plain) digits.0, omega arith, omega arith, omega arith) in
     record {
       no_option = no_hyphen (decimal n) first;

@@ -12,7 +12,9 @@ use Rattle.clap.proofs.ValueTestLemmas.{Accepts-accepts, accepts-Accepts}
 use Rattle.sand_cli.specs.Options.{number_of, value_of}
 
 -- a flag's value as a `bool`; false if it has none
-pub flag_is : (E : Type 0) (text : Option Text) (r : Option Bool) → (text ≡ None → r ≡ None) → ((t : Text) → text ≡ Some t → ReadsOne (ParsesBool {E = E}) t r)
+pub flag_is : (E : Type 0) (text : Option Text) (r : Option Bool)
+    → (text ≡ None → r ≡ None)
+    → ((t : Text) → text ≡ Some t → ReadsOne (ParsesBool {E = E}) t r)
     → unwrap_or r false ≡ option_map_or (λ t. bytes_eq t (codes "true")) text false
 flag_is E None r none some = ap (λ o. unwrap_or o false) (none refl)
 flag_is E (Some t) r none some = go r (some t refl)
@@ -27,20 +29,25 @@ flag_is E (Some t) r none some = go r (some t refl)
     go None (e, h) = not_true (bytes_eq t true_text) refl h.0
 
 -- a number read as a type of `bits` bits, with `most` the greatest number
-pub number_is : (E : Type 0) (G : Text → Result ℕ E → Type 0) (bits most : ℕ) (text : Option Text) (r : Option ℕ) → most + 1 ≡ 2 ^ bits → most < 2 ^ 64
-    → ((t : Text) (x : Result ℕ E) → G t x → ParsesUnsigned bits 10 t x) → (text ≡ None → r ≡ None) → ((t : Text) → text ≡ Some t → ReadsOne G t r)
+pub number_is : (E : Type 0) (G : Text → Result ℕ E → Type 0) (bits most : ℕ) (text : Option Text) (r : Option ℕ)
+    → most + 1 ≡ 2 ^ bits → most < 2 ^ 64
+    → ((t : Text) (x : Result ℕ E) → G t x → ParsesUnsigned bits 10 t x)
+    → (text ≡ None → r ≡ None) → ((t : Text) → text ≡ Some t → ReadsOne G t r)
     → r ≡ option_and_then (number_of most) text
 number_is E G bits most None r greatest fits only none some = none refl
 number_is E G bits most (Some t) r greatest fits only none some = go r (some t refl)
   where
-    reads : (n : ℕ) (b : Bool) → is_unsigned_in 0 most t ≡ b → ParsesUnsigned {E = E} bits 10 t (Ok n) → Some n ≡ cond b (Some (value_of t)) None
+    reads : (n : ℕ) (b : Bool) → is_unsigned_in 0 most t ≡ b → ParsesUnsigned {E = E} bits 10 t (Ok n)
+        → Some n ≡ cond b (Some (value_of t)) None
     reads n true is h = ap (λ m. Some m) h.1
     reads n false is h =
         let high : value_of t < most + 1 = rw greatest h.0.1 in
-        let bad : true ≡ false = sym (Accepts-accepts false (parser.Unsigned 0 most) t (h.0.0, omega arith, omega arith, omega arith)) ∙ is in
+        let bad : true ≡ false =
+        sym (Accepts-accepts false (parser.Unsigned 0 most) t (h.0.0, omega arith, omega arith, omega arith)) ∙ is in
         cc
 
-    fails : (e : E) (b : Bool) → is_unsigned_in 0 most t ≡ b → ParsesUnsigned bits 10 t (Err e) → None ≡ cond b (Some (value_of t)) None
+    fails : (e : E) (b : Bool) → is_unsigned_in 0 most t ≡ b → ParsesUnsigned bits 10 t (Err e)
+        → None ≡ cond b (Some (value_of t)) None
     fails e true is h =
         let parts = accepts-Accepts false (parser.Unsigned 0 most) t is in
         let high : value_of t < most + 1 = omega (arith, parts.3) in
@@ -56,5 +63,6 @@ pub passed_number : (least most bound : ℕ) (text : Text) → most ≤ bound �
     → (number_of bound text ≡ Some (value_of text)) × (least ≤ value_of text) × (value_of text ≤ most)
 passed_number least most bound text wide passes =
     let parts = accepts-Accepts false (parser.Unsigned least most) text passes in
-    let read : is_unsigned_in 0 bound text ≡ true = Accepts-accepts false (parser.Unsigned 0 bound) text (parts.0, parts.1, omega arith, omega (arith, parts.3)) in
+    let read : is_unsigned_in 0 bound text ≡ true =
+    Accepts-accepts false (parser.Unsigned 0 bound) text (parts.0, parts.1, omega arith, omega (arith, parts.3)) in
     (ap (λ b. cond b (Some (value_of text)) None) read, parts.2, parts.3)

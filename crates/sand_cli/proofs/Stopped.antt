@@ -16,7 +16,8 @@ stays c names w name before [] = ap (stopped_at w name) (sym (append-nil before)
 stays c names w name before (word ∷ words) =
     stays c names w name (before ++ word ∷ []) words ∙ ap (stopped_at w name) (append_assoc before (word ∷ []) words)
 
-pub passes_stopped : (s : Shape) (names : Names) (w : Walk) (name : Text) (before words : List Text) → walk_fault s names (stopped_at w name before) words ≡ []
+pub passes_stopped : (s : Shape) (names : Names) (w : Walk) (name : Text) (before words : List Text)
+    → walk_fault s names (stopped_at w name before) words ≡ []
 unfolding walked walk_fault
 passes_stopped s names w name before [] = refl
 passes_stopped s names w name before (word ∷ words) = passes_stopped s names w name (before ++ word ∷ []) words

@@ -21,19 +21,24 @@ use Rattle.sand_cli.proofs.Within.{AsksWithin, IsSound, drops_within, identity_w
 use Rattle.sand_cli.proofs.Free.{line_is_free, line_is_simple}
 
 -- if a parse succeeds, its words have no fault
-pub taken : (a : App) (words : List Text) → a ≡ command_line → (is_simple_and_free a ≡ true → fault_of a words ≡ []) → faults words ≡ []
+pub taken : (a : App) (words : List Text) → a ≡ command_line → (is_simple_and_free a ≡ true → fault_of a words ≡ [])
+    → faults words ≡ []
 taken a words line h = ap (λ b. fault_of b words) (sym line) ∙ h (ap is_simple_and_free line ∙ line_is_free)
 
 -- and it names the command that clap's model finds
-pub names : (a : App) (words : List Text) (m : ArgMatches) → a ≡ command_line → HasMatchesOf a words m → subcommand_rows_of m ≡ subcommand_of command_line words
+pub names : (a : App) (words : List Text) (m : ArgMatches) → a ≡ command_line → HasMatchesOf a words m
+    → subcommand_rows_of m ≡ subcommand_of command_line words
 names a words m line h = (h (ap is_simple line ∙ line_is_simple)).1 ∙ ap (λ b. subcommand_of b words) line
 
 -- if a parse fails, memory ran out or the error is one of the kinds of the words' faults
-pub fails_by_kind : (a : App) (words : List Text) (e : Error) (f : WordsFault) → a ≡ command_line → (is_simple_and_free a ≡ true → HasKind (fault_of a words) e)
+pub fails_by_kind : (a : App) (words : List Text) (e : Error) (f : WordsFault)
+    → a ≡ command_line
+    → (is_simple_and_free a ≡ true → HasKind (fault_of a words) e)
     → IsFaultOf e f → IsOfKinds (faults words) f
 fails_by_kind a words e Memory line h is = tt
 fails_by_kind a words e (Usage kept) line h is =
-    let known : HasKind (faults words) e = subst (λ b. HasKind (fault_of b words) e) line (h (ap is_simple_and_free line ∙ line_is_free)) in
+    let known : HasKind (faults words) e =
+    subst (λ b. HasKind (fault_of b words) e) line (h (ap is_simple_and_free line ∙ line_is_free)) in
     subst (λ x. IsAmong (kind_of x) (faults words)) (sym is.0) (⊎_elim (λ memory. absurd (is.1 memory)) (λ k. k) known)
 fails_by_kind a words e (Clash conflict) line h is = absurd is
 
@@ -45,10 +50,13 @@ tells_nothing among e (Clash conflict) is = absurd is
 
 -- the task that is asked for, given the faults and the conflict of the words
 abbrev task_by : List Text → Kinds → Option Conflict → Option Task
-task_by words kinds conflict = unless kinds (freely conflict (option_and_then task_named (subcommand_of command_line words)))
+task_by words kinds conflict =
+    unless kinds (freely conflict (option_and_then task_named (subcommand_of command_line words)))
 
 -- rejected words ask for nothing
-pub refused_ask_nothing : (words : List Text) (f : WordsFault) → IsOfKinds (faults words) f → TellsConflict (conflict_among words) f → IsUsage f → asked words ≡ None
+pub refused_ask_nothing : (words : List Text) (f : WordsFault)
+    → IsOfKinds (faults words) f → TellsConflict (conflict_among words) f
+    → IsUsage f → asked words ≡ None
 refused_ask_nothing words Memory h told usage = absurd usage
 refused_ask_nothing words (Clash conflict) h told usage = ap₂ (task_by words) h told
 refused_ask_nothing words (Usage error) h told usage = go (faults words) h
@@ -58,9 +66,11 @@ refused_ask_nothing words (Usage error) h told usage = go (faults words) h
     go (x ∷ xs) k = refl
 
 -- rejected words show help if and only if they ask for it
-pub shows_help : (words : List Text) (f : WordsFault) → IsOfKinds (faults words) f → IsUsage f → ShowsHelp f ↔ AskForHelp words
+pub shows_help : (words : List Text) (f : WordsFault) → IsOfKinds (faults words) f → IsUsage f
+    → ShowsHelp f ↔ AskForHelp words
 shows_help words Memory h usage = absurd usage
-shows_help words (Clash conflict) h usage = ((λ shown. absurd shown), (λ alone. let bad : [] ≡ DisplayHelp ∷ [] = sym h ∙ alone in cc))
+shows_help words (Clash conflict) h usage =
+    ((λ shown. absurd shown), (λ alone. let bad : [] ≡ DisplayHelp ∷ [] = sym h ∙ alone in cc))
 shows_help words (Usage error) h usage = (shown, asked_for)
   where
     shown : kind_of error ≡ DisplayHelp → AskForHelp words
@@ -74,7 +84,8 @@ shows_help words (Usage error) h usage = (shown, asked_for)
     asked_for alone = only (subst (IsAmong (kind_of error)) alone h)
 
 -- words without faults or conflicts ask for what they name
-pub taken_ask : (words : List Text) → faults words ≡ [] → conflict_among words ≡ None → asked words ≡ option_and_then task_named (subcommand_of command_line words)
+pub taken_ask : (words : List Text) → faults words ≡ [] → conflict_among words ≡ None
+    → asked words ≡ option_and_then task_named (subcommand_of command_line words)
 taken_ask words none free = ap₂ (task_by words) none free
 
 -- a task without limits
@@ -92,14 +103,19 @@ unfolding command_line
 wants_command = refl
 
 -- words without faults or conflicts ask for a task within the limits
-pub taken_are_sound : (words : List Text) → faults words ≡ [] → conflict_among words ≡ None → IsSound (option_and_then task_named (subcommand_of command_line words))
-taken_are_sound words none free = go _ free (enters (built command_line) (argument_words command_line words) wants_command none)
+pub taken_are_sound : (words : List Text) → faults words ≡ [] → conflict_among words ≡ None
+    → IsSound (option_and_then task_named (subcommand_of command_line words))
+taken_are_sound words none free =
+    go _ free (enters (built command_line) (argument_words command_line words) wants_command none)
   where
-    go : (o : Option (Text × List Text)) → option_and_then conflict_of (entered (built command_line) o) ≡ None → Enters (built command_line) o
+    go : (o : Option (Text × List Text))
+        → option_and_then conflict_of (entered (built command_line) o) ≡ None
+        → Enters (built command_line) o
         → IsSound (option_and_then task_named (entered (built command_line) o))
     go None apart h = absurd h
     go (Some p) apart (s, found, passes) =
         let together = sym (ap (λ f. option_and_then conflict_of (option_map (λ x. rows_at x p.1) f)) found) ∙ apart in
-        let each = each_found (λ x. answers_to p.0 (label_of x)) (AsksWithin p.1) (built command_line).subs (each_asks_within p.1) in
+        let each = each_found (λ x. answers_to p.0 (label_of x))
+        (AsksWithin p.1) (built command_line).subs (each_asks_within p.1) in
         let sound = subst (λ o. IfSome o (AsksWithin p.1)) found each passes together in
         (sound.0, ap (λ f. option_and_then task_named (option_map (λ x. rows_at x p.1) f)) found ∙ sound.1, sound.2)

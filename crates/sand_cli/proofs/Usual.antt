@@ -14,7 +14,9 @@ kept_at : (id own : Text) (s : ValueSource) (values : List Text) (missing rows :
 kept_at id own s values missing [] e = absurd (true≢false (sym e))
 kept_at id own s values missing (r ∷ rs) e = go (kept_at id own s values missing rs) (bytes_eq r.id own)
   where
-    either : (b : Bool) → (has_row id rs ≡ true → has_row id (at_row own (more_values s values) missing rs) ≡ true) → (b || has_row id rs) ≡ true
+    either : (b : Bool)
+        → (has_row id rs ≡ true → has_row id (at_row own (more_values s values) missing rs) ≡ true)
+        → (b || has_row id rs) ≡ true
         → (b || has_row id (at_row own (more_values s values) missing rs)) ≡ true
     either true later f = refl
     either false later f = later f
@@ -46,21 +48,26 @@ kept_by id b rows e = go (has_row b.id rows)
     go true = e
     go false = filled b.defaults
 
-kept : (id : Text) (c : List Rule) (rows : List Row) → has_row id rows ≡ true → has_row id (fold with_default rows c) ≡ true
+kept : (id : Text) (c : List Rule) (rows : List Row) → has_row id rows ≡ true
+    → has_row id (fold with_default rows c) ≡ true
 kept id [] rows e = e
 kept id (b ∷ c) rows e = kept id c (with_default rows b) (kept_by id b rows e)
 
 own_default : (a : Rule) (rows : List Row) → is_empty a.defaults ≡ false → has_row a.id (with_default rows a) ≡ true
 own_default a rows some = go (has_row a.id rows) refl
   where
-    filled : (values : List Text) → is_empty values ≡ false → has_row a.id (default_rows a.id (reading_by a) values rows) ≡ true
+    filled : (values : List Text) → is_empty values ≡ false
+        → has_row a.id (default_rows a.id (reading_by a) values rows) ≡ true
     filled [] e = absurd (true≢false e)
     filled (v ∷ vs) e = own_at a.id _ (v ∷ vs) _ rows (ap (λ x. x || false) (same_id a.id))
 
-    go : (has : Bool) → has_row a.id rows ≡ has → has_row a.id (cond has rows (default_rows a.id (reading_by a) a.defaults rows)) ≡ true
+    go : (has : Bool) → has_row a.id rows ≡ has
+        → has_row a.id (cond has rows (default_rows a.id (reading_by a) a.defaults rows)) ≡ true
     go true is = is
     go false is = filled a.defaults some
 
-pub each_has_row : (c : List Rule) (rows : List Row) → Each (λ a. is_empty a.defaults ≡ false → has_row a.id (fold with_default rows c) ≡ true) c
+pub each_has_row : (c : List Rule) (rows : List Row)
+    → Each (λ a. is_empty a.defaults ≡ false → has_row a.id (fold with_default rows c) ≡ true) c
 each_has_row [] rows = tt
-each_has_row (a ∷ c) rows = ((λ some. kept a.id c (with_default rows a) (own_default a rows some)), each_has_row c (with_default rows a))
+each_has_row (a ∷ c) rows =
+    ((λ some. kept a.id c (with_default rows a) (own_default a rows some)), each_has_row c (with_default rows a))

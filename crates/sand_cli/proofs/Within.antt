@@ -130,7 +130,8 @@ lab_takes = search (rules, arith)
 
 -- `--journal` and `--pile` exclude each other
 go_together : (pile pgm journal table : Bool)
-    → cond (pile && pgm) (Some PileAndPicture) (cond (pile && journal) (Some PileAndJournal) (cond (pile && table) (Some PileAndTable) None)) ≡ None
+    → cond (pile && pgm) (Some PileAndPicture)
+    (cond (pile && journal) (Some PileAndJournal) (cond (pile && table) (Some PileAndTable) None)) ≡ None
     → GoTogether journal (cond pile Pile (cond pgm Picture forms.Text))
 go_together true true journal table free = cc
 go_together true false true table free = cc
@@ -143,7 +144,8 @@ go_together false false false table free = tt
 pub lab_within : (words : List Text) → AsksWithin words lab_built
 lab_within words passes free =
     let rows = rows_after lab_built.rules [] words in
-    let has = each_has_row lab_built.rules (settled lab_built.rules (walk lab_built.rules [] nothing_held words).held).rows in
+    let has =
+    each_has_row lab_built.rules (settled lab_built.rules (walk lab_built.rules [] nothing_held words).held).rows in
     let number = each_number 4294967295 lab_built words refl lab_takes passes in
     let seed = number.0 (has.0 refl) in
     let droppers = number.1.0 (has.1.0 refl) in
@@ -154,7 +156,8 @@ lab_within words passes free =
     let observers = number.1.1.1.1.1.1.0 (has.1.1.1.1.1.1.0 refl) in (
       _,
       (λ i. option_map (λ r. Lab r (flag_in (codes "journal") rows) (form_in rows))
-          (with_settings (seed.1 i) (droppers.1 i) (drops.1 i) (epochs.1 i) (workers.1 i) (sweeps.1 i) (observers.1 i))),
+          (with_settings (seed.1 i) (droppers.1 i) (drops.1 i)
+          (epochs.1 i) (workers.1 i) (sweeps.1 i) (observers.1 i))),
       (
         record {
           seed = seed.3;
@@ -170,6 +173,7 @@ lab_within words passes free =
             observers = observers.3;
           };
         },
-        go_together (flag_in (codes "pile") rows) (flag_in (codes "pgm") rows) (flag_in (codes "journal") rows) (flag_in (codes "table") rows) free,
+        go_together (flag_in (codes "pile") rows) (flag_in (codes "pgm") rows)
+            (flag_in (codes "journal") rows) (flag_in (codes "table") rows) free,
       ),
     )

@@ -34,7 +34,8 @@ abbrev pub identity_of : List Row → Option Task
 identity_of options = with_sides options (number_in (codes "width") options) (number_in (codes "height") options)
 
 abbrev pub multiple_of : List Row → Option Task
-multiple_of options = option_map (λ times. Multiple times (flag_in (codes "pgm") options)) (number_in (codes "times") options)
+multiple_of options =
+    option_map (λ times. Multiple times (flag_in (codes "pgm") options)) (number_in (codes "times") options)
 
 -- the run, if all settings are given
 abbrev pub with_settings : Option ℕ → Option ℕ → Option ℕ → Option ℕ → Option ℕ → Option ℕ → Option ℕ → Option Wish
@@ -114,7 +115,8 @@ abbrev pub lacks_count : Text → List Row → Bool
 lacks_count name options =
     bytes_eq name (codes "drops")
     && (not (is_some (setting_in (codes "count") options))
-    && (is_some (setting_in (codes "seed") options) || is_some (setting_in (codes "stream") options) || is_some (setting_in (codes "from") options)))
+    && (is_some (setting_in (codes "seed") options) || is_some (setting_in (codes "stream") options)
+    || is_some (setting_in (codes "from") options)))
 
 -- the conflict among a command's options, if any
 abbrev pub conflict_of : Text × List Row → Option Conflict
@@ -136,7 +138,8 @@ freely (Some conflict) task = None
 
 -- the task that the words ask for, if the command line accepts them and no options conflict
 abbrev pub asked : List Text → Option Task
-asked words = unless (faults words) (freely (conflict_among words) (option_and_then task_named (subcommand_of command_line words)))
+asked words = unless (faults words)
+    (freely (conflict_among words) (option_and_then task_named (subcommand_of command_line words)))
 
 -- the words ask for help, and nothing else is wrong with them
 abbrev pub AskForHelp : List Text → Type 0

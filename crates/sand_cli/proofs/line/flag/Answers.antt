@@ -5,5 +5,7 @@ use Rattle.sand_cli.proofs.line.flag.Goals as goal
 
 pub returns-clause-rule : goal.returns-clause-rule
 returns-clause-rule c =
-    let named = ap rule_of c.long.ensures ∙ ap (λ (r : Rule). record r { long = Some c.args.name.now }) c.new.ensures.rule in
-    ap rule_of c.help.ensures ∙ ap rule_of c.action.ensures ∙ ap (λ (r : Rule). record r { action = Some SetTrue }) named
+    let named =
+    ap rule_of c.long.ensures ∙ ap (λ (r : Rule). record r { long = Some c.args.name.now }) c.new.ensures.rule in
+    ap rule_of c.help.ensures ∙ ap rule_of c.action.ensures
+    ∙ ap (λ (r : Rule). record r { action = Some SetTrue }) named

@@ -45,7 +45,8 @@ unreachable-requires c =
     let named = names _ _ _ c.in_ok-command.ensures c.in_ok-matches.ensures.matches in
     let free = sym (ap (option_and_then conflict_of) named) ∙ (sym c.conflict_among.ensures ∙ c.in-None.is) in
     let sound = taken_are_sound _ none free in
-    let bad : None ≡ Some sound.0 = sym c.in-None-chosen.is ∙ (c.chosen.ensures ∙ (ap (option_and_then task_named) named ∙ sound.1)) in
+    let bad : None ≡ Some sound.0 =
+    sym c.in-None-chosen.is ∙ (c.chosen.ensures ∙ (ap (option_and_then task_named) named ∙ sound.1)) in
     cc
 
 pub returns-in-Some-chosen : goal.returns-in-Some-chosen

@@ -13,5 +13,7 @@ returns c =
       sweeps = c.in_ok-setting_in-6.field-0;
       observers = c.in_ok-setting_in-7.field-0;
     })) c.from.ensures
-    ∙ (λ i. with_settings (c.in_ok-setting_in.ensures i) (c.in_ok-setting_in-2.ensures i) (c.in_ok-setting_in-3.ensures i)
-    (c.in_ok-setting_in-4.ensures i) (c.in_ok-setting_in-5.ensures i) (c.in_ok-setting_in-6.ensures i) (c.in_ok-setting_in-7.ensures i))
+    ∙ (λ i.
+    with_settings (c.in_ok-setting_in.ensures i) (c.in_ok-setting_in-2.ensures i) (c.in_ok-setting_in-3.ensures i)
+    (c.in_ok-setting_in-4.ensures i) (c.in_ok-setting_in-5.ensures i)
+    (c.in_ok-setting_in-6.ensures i) (c.in_ok-setting_in-7.ensures i))
