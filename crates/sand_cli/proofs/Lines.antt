@@ -9,7 +9,8 @@ use Rattle.clap.specs.declared.builder.command.Command.TheViews.{out-Command}
 use Rattle.sand_cli.specs.Line.{IfLine, IsLine, or_command}
 
 -- `Command::arg` adds one option to the line
-pub one_option : {line : App} {rule : Rule} {old new : Command} {option : Arg} → AddsArg old option new → IsLine old line → rule_of option ≡ rule
+pub one_option : {line : App} {rule : Rule} {old new : Command} {option : Arg}
+    → AddsArg old option new → IsLine old line → rule_of option ≡ rule
     → option.global ≡ false → IsLine new (with_rule line rule)
 one_option adds old rule_is local = record {
   line_is = adds.shape local ∙ ap₂ with_rule old.line_is rule_is;
@@ -17,19 +18,22 @@ one_option adds old rule_is local = record {
 }
 
 -- `Command::subcommand` adds one command to the line
-pub one_more : {line command : App} {old sub new : Command} → AddsSubcommand old sub new → app_of old ≡ line → app_of sub ≡ command
+pub one_more : {line command : App} {old sub new : Command}
+    → AddsSubcommand old sub new → app_of old ≡ line → app_of sub ≡ command
     → (out-Command sub).has_globals ≡ false → app_of new ≡ or_command line command
 one_more adds line_is command_is local = adds.shape local ∙ ap₂ or_command line_is command_is
 
 -- `with_option` adds one option to the line
-pub option_more : {rule : Rule} (line : App) (option : Arg) (from to : Result Command AllocError) → IfOk to (λ new. (old : Command) × (from ≡ Ok old) × AddsArg old option new)
+pub option_more : {rule : Rule} (line : App) (option : Arg) (from to : Result Command AllocError)
+    → IfOk to (λ new. (old : Command) × (from ≡ Ok old) × AddsArg old option new)
     → IfLine from line → rule_of option ≡ rule → option.global ≡ false → IfLine to (with_rule line rule)
 option_more line option from to adds from_is rule_is local =
     IfOk-weaker to _ _ (λ new h. one_option h.2 (IfOk-at_ok (λ c. IsLine c line) h.1 from_is) rule_is local) adds
 
 -- `with_command` adds one command to the line
 pub command_more : (line command : App) (from sub to : Result Command AllocError)
-    → IfOk to (λ new. (old : Command) × (added : Command) × (from ≡ Ok old) × (sub ≡ Ok added) × AddsSubcommand old added new)
+    → IfOk to (λ new.
+    (old : Command) × (added : Command) × (from ≡ Ok old) × (sub ≡ Ok added) × AddsSubcommand old added new)
     → IfOk from (λ c. app_of c ≡ line) → IfLine sub command → IfOk to (λ c. app_of c ≡ or_command line command)
 command_more line command from sub to adds from_is sub_is =
     IfOk-weaker to _ _ (λ new h.
