@@ -10,6 +10,7 @@
 ghost use Rattle.std.specs.Prelude.{◌≤◌, ◌<◌};
 
 use crate::frame::{Frame, run_mut};
+use crate::lists::listed;
 use crate::neighbours::add_neighbours;
 use std::alloc::{AllocError, Global};
 
@@ -251,10 +252,8 @@ impl Fire {
 
     /// By site, 1 if the last fire did not burn it, and otherwise 0.
     pub(crate) fn unburnt(&self, alloc: Global) -> Result<Vec<f64>, AllocError> {
-        self.marks
-            .iter()
-            .map(|mark| f64::from(*mark))
-            .collect(alloc)
+        let marks = self.marks.iter();
+        listed(alloc, self.marks.len(), marks.map(|mark| f64::from(*mark)))
     }
 
     // The site of a cell that is not at an end.

@@ -2,6 +2,7 @@
 
 use crate::density::{Prediction, expected_from};
 use crate::levels::{Level, MOST_HALVINGS};
+use crate::lists::listed;
 use crate::repair::Repair;
 use crate::solver::Solver;
 use sand_model::{Pile, Shape};
@@ -51,7 +52,8 @@ fn repaired_first(alloc: Global, mut levels: Vec<Level>) -> Result<Option<Repair
 // The absolute values of the counts.
 fn sizes_of(alloc: Global, repair: &Repair) -> Result<Vec<u64>, AllocError> {
     let counts = repair.counts.iter();
-    counts.map(|count| count.unsigned_abs()).collect(alloc)
+    let sizes = counts.map(|count| count.unsigned_abs());
+    listed(alloc, repair.counts.len(), sizes)
 }
 
 fn claim_of(alloc: Global, repair: &Repair) -> Result<Claim, AllocError> {

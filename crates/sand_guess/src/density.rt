@@ -3,6 +3,7 @@
 ghost use Rattle.std.specs.Prelude.{◌≤◌, ◌<◌};
 
 use crate::frame::Frame;
+use crate::lists::listed;
 use std::alloc::{AllocError, Global};
 use std::num::{nearest_i64_to_f64, nearest_usize_to_f64};
 
@@ -85,7 +86,7 @@ fn blurred(
 // Local means of heights.
 fn density_of(alloc: Global, frame: Frame, heights: &[i64]) -> Result<Vec<f64>, AllocError> {
     let numbers = heights.iter().map(|height| nearest_i64_to_f64(*height));
-    let mut all: Vec<f64> = numbers.collect(alloc)?;
+    let mut all = listed(alloc, heights.len(), numbers)?;
     for _ in 0..2 {
         let columns = blurred(alloc, all, frame.width, frame.goes_round)?;
         all = blurred(alloc, columns, frame.height, false)?;
@@ -110,9 +111,8 @@ impl Prediction {
     ) -> Result<Prediction, AllocError> {
         let found = density_of(alloc, frame, heights)?;
         let both = found.iter().zip(expected);
-        let densities = both
-            .map(|(found, expected)| *found + TREND * (*found - *expected))
-            .collect(alloc)?;
+        let predicted = both.map(|(found, expected)| *found + TREND * (*found - *expected));
+        let densities = listed(alloc, found.len(), predicted)?;
         Ok(Prediction { frame, densities })
     }
 

@@ -3,6 +3,7 @@
 ghost use Rattle.std.specs.Prelude.{◌≤◌, ◌<◌};
 
 use crate::frame::{Frame, frame_of, signed};
+use crate::lists::listed;
 use sand_model::{Pile, Shape};
 use std::alloc::{AllocError, Global};
 
@@ -62,10 +63,11 @@ fn push_row(
 impl Level {
     /// The pile itself, at full size.
     pub(crate) fn of_pile(alloc: Global, pile: &Pile) -> Result<Level, AllocError> {
-        let heights = pile.heights().iter();
+        let heights = pile.heights();
+        let signed = heights.iter().map(|height| signed(*height));
         Ok(Level {
             frame: frame_of(pile.shape()),
-            start: heights.map(|height| signed(*height)).collect(alloc)?,
+            start: listed(alloc, heights.len(), signed)?,
             least: 0,
         })
     }

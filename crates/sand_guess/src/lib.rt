@@ -24,6 +24,7 @@ mod density;
 mod forecast;
 mod frame;
 mod levels;
+mod lists;
 mod modes;
 mod neighbours;
 mod planes;

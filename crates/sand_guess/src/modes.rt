@@ -9,6 +9,7 @@
 ghost use Rattle.std.specs.Prelude.{◌≤◌, ◌<◌};
 
 use crate::frame::Frame;
+use crate::lists::listed;
 use std::alloc::{AllocError, Global};
 use std::num::nearest_usize_to_f64;
 
@@ -42,7 +43,7 @@ fn sine_of(m: usize, half: usize) -> f64 {
 fn turn_of_sines(alloc: Global, half: usize) -> Result<Vec<f64>, AllocError>
     requires { half ≤ 1024 }
 {
-    (0..2 * half).map(|m| sine_of(m, half)).collect(alloc)
+    listed(alloc, 2 * half, (0..2 * half).map(|m| sine_of(m, half)))
 }
 
 /// Modes of one parity, on the first half of the columns, and what each adds along y.

@@ -5,6 +5,7 @@ ghost use Rattle.std.specs.Prelude.{◌≤◌, ◌<◌};
 use crate::burning::Fire;
 use crate::frame::Frame;
 use crate::levels::Level;
+use crate::lists::listed;
 use crate::planes::Planes;
 use crate::residual::{smooth, subtract};
 use crate::solver::Solver;
@@ -56,8 +57,8 @@ fn add_rounded(counts: &mut [i64], least: i64, numbers: &[f64], factor: f64) {
 // Each height less the expected one and the excess.
 fn rest_of(alloc: Global, left: &[i64], expected: &[f64]) -> Result<Vec<f64>, AllocError> {
     let both = left.iter().zip(expected);
-    both.map(|(height, expected)| nearest_i64_to_f64(*height) - *expected - EXCESS)
-        .collect(alloc)
+    let rest = both.map(|(height, expected)| nearest_i64_to_f64(*height) - *expected - EXCESS);
+    listed(alloc, left.len(), rest)
 }
 
 impl Repair {
