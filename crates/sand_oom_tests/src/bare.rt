@@ -41,25 +41,49 @@ fn last_row(alloc: Global, pile: &SharedPile, pass: &mut Pass) -> Result<BarePas
     Ok(bare_of(row))
 }
 
+// Splits the last two rows off a pass.
+fn last_rows(
+    alloc: Global,
+    pile: &SharedPile,
+    pass: &mut Pass,
+) -> Result<(BarePass, BarePass), Fail>
+    requires { IsPassOf pile.now pass.old }
+    ensures of_pile { IsPassOf pile.now pass.new }
+    ensures rows { IfOk result (λ r. IsPassOf pile.now r.0 × IsPassOf pile.now r.1) }
+{
+    let third = last_row(alloc, pile, pass)?;
+    match last_row(alloc, pile, pass) {
+        Ok(second) => Ok((second, third)),
+        Err(fault) => {
+            drop(third);
+            Err(fault)
+        }
+    }
+}
+
 // A pile of three rows with a grain each, and the bare passes of its rows.
 fn rows(alloc: Global) -> Result<(SharedPile, BarePass, BarePass, BarePass), Fail>
     ensures { IfOk result (λ r. IsPassOf r.0 r.1 × IsPassOf r.0 r.2 × IsPassOf r.0 r.3) }
 {
     let (pile, mut pass) = shared_pile(alloc, 1, 3, &[1; 3], 0)?;
-    let third = last_row(alloc, &pile, &mut pass)?;
-    let second = last_row(alloc, &pile, &mut pass)?;
-    Ok((pile, bare_of(pass), second, third))
+    match last_rows(alloc, &pile, &mut pass) {
+        Ok((second, third)) => Ok((pile, bare_of(pass), second, third)),
+        Err(fault) => {
+            drop((pile, pass));
+            Err(fault)
+        }
+    }
 }
 
 // The pass of the second row takes in that of the third, with allocation `number` refused; if that fails, it tries
-// again. The pass has to grow for its count. Returns the number of the first fault.
+// again. The pass has to grow for its count. Returns the number of the first fault, and whether they are joined.
 fn join_again(
     alloc: Global,
     number: u32,
     pile: &SharedPile,
     second: &mut BarePass,
     third: BarePass,
-) -> Result<Option<u32>, Fail>
+) -> (Option<u32>, bool)
     requires second { IsPassOf pile.now second.old }
     requires third { IsPassOf pile.now third }
     ensures { IsPassOf pile.now second.new }
@@ -68,23 +92,31 @@ fn join_again(
     let tried = join(alloc, pile, second, third);
     was_refused(alloc);
     match tried {
-        Ok(()) => Ok(None),
-        Err((fault, third)) => {
-            join(alloc, pile, second, third).ok().ok_or("join_bare")?;
-            Ok(Some(fault))
-        }
+        Ok(()) => (None, true),
+        Err((fault, third)) => (Some(fault), join(alloc, pile, second, third).ok().is_some()),
     }
+}
+
+fn settles(alloc: Global, pile: &SharedPile, pass: &mut BarePass) -> bool
+    requires { IsPassOf pile.now pass.old }
+{
+    let rest = pile.settle_rest(alloc, pass);
+    let settles = rest.is_ok();
+    drop(rest);
+    settles
 }
 
 // The first pass then takes in both others, and can settle the pile because it has everything.
 fn join_once(alloc: Global, number: u32) -> Result<Tried, Fail> {
     let (pile, mut first, mut second, third) = rows(alloc)?;
-    let fault = join_again(alloc, number, &pile, &mut second, third)?;
-    join(alloc, &pile, &mut first, second)
-        .ok()
-        .ok_or("join_bare")?;
-    let is_right = pile.settle_rest(alloc, &mut first).is_ok();
-    Ok(Tried { fault, is_right })
+    let (fault, is_joined) = join_again(alloc, number, &pile, &mut second, third);
+    let is_whole = join(alloc, &pile, &mut first, second).ok().is_some();
+    let is_settled = settles(alloc, &pile, &mut first);
+    drop((pile, first));
+    Ok(Tried {
+        fault,
+        is_right: is_joined && is_whole && is_settled,
+    })
 }
 
 #[test]
@@ -104,7 +136,9 @@ fn pair(alloc: Global) -> Result<(SharedPile, BarePass), Fail>
     ensures no_drops { IfOk result (λ r. r.1.receipts ≡ []) }
 {
     let start = open_pile(alloc, 2, 1, &[7, 7])?;
-    let (pile, pass) = SharedPile::new(alloc, &start, 0)?;
+    let made = SharedPile::new(alloc, &start, 0);
+    drop(start);
+    let (pile, pass) = made?;
     Ok((pile, bare_of(pass)))
 }
 
@@ -125,8 +159,10 @@ fn record_of(
     }
 }
 
-fn is_of_the_pair(record: &Record) -> bool {
-    is_record(record, &[], &[1, 1], &[2, 2], 12)
+fn is_of_the_pair(record: Record) -> bool {
+    let is_right = is_record(&record, &[], &[1, 1], &[2, 2], 12);
+    drop(record);
+    is_right
 }
 
 fn settle_once(alloc: Global, number: u32) -> Result<Tried, Fail> {
@@ -135,10 +171,13 @@ fn settle_once(alloc: Global, number: u32) -> Result<Tried, Fail> {
     let tried = record_of(alloc, pile, pass);
     was_refused(alloc);
     match tried {
-        Ok(record) => Ok(Tried::done(is_of_the_pair(&record))),
+        Ok(record) => Ok(Tried::done(is_of_the_pair(record))),
         Err((fault, pile, pass)) => {
-            let again = record_of(alloc, pile, pass);
-            Ok(Tried::failed(fault, again.is_ok_and(|record| is_of_the_pair(&record))))
+            let is_right = match record_of(alloc, pile, pass).ok() {
+                Some(record) => is_of_the_pair(record),
+                None => false,
+            };
+            Ok(Tried::failed(fault, is_right))
         }
     }
 }
@@ -169,11 +208,18 @@ fn a_pass_is_made_bare_without_memory(rt: HostRuntime) -> Result<(), Fail> {
 fn a_record_is_completed_without_memory(rt: HostRuntime) -> Result<(), Fail> {
     let alloc = rt.alloc();
     let (pile, mut pass) = pair(alloc)?;
-    let rest = pile.settle_rest(alloc, &mut pass)?;
-    let history = Vec::new(alloc);
-    refuse(alloc, 0);
-    let record = pile.complete(pass, rest, history);
-    assert!(rt; !was_refused(alloc));
-    assert!(rt; is_of_the_pair(&record));
-    Ok(())
+    match pile.settle_rest(alloc, &mut pass) {
+        Ok(rest) => {
+            let history = Vec::new(alloc);
+            refuse(alloc, 0);
+            let record = pile.complete(pass, rest, history);
+            assert!(rt; !was_refused(alloc));
+            assert!(rt; is_of_the_pair(record));
+            Ok(())
+        }
+        Err(fault) => {
+            drop((pile, pass));
+            Err(fault.into())
+        }
+    }
 }

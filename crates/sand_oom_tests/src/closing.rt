@@ -10,6 +10,7 @@ use sand_model::{Pile, Shape};
 use sand_shared::{Pass, Record, SharedPile};
 use sand_testing::records::is_record;
 use std::alloc::Global;
+use std::process::Abort;
 use std::test::Fail;
 
 #[derive(Clone, Copy)]
@@ -75,8 +76,11 @@ fn made(alloc: Global, pair: Pair) -> Result<(SharedPile, Pass), Fail>
         return Err("two sites".into());
     }
     let start = Pile::new(alloc, shape, &pair.start)?;
-    let (pile, mut pass) = SharedPile::new(alloc, &start, 0)?;
+    let made = SharedPile::new(alloc, &start, 0);
+    drop(start);
+    let (pile, mut pass) = made?;
     if !sweep(&pile, &mut pass, pair.swept) {
+        drop((pile, pass));
         return Err("a sweep".into());
     }
     Ok((pile, pass))
@@ -110,49 +114,56 @@ fn end_once(alloc: Global, number: u32, pair: Pair) -> Result<Tried, Fail> {
     let tried = ended(alloc, pile, pass, pair.way);
     was_refused(alloc);
     match tried {
-        Ok(record) => Ok(Tried::done(is_of(&record, pair))),
+        Ok(record) => Ok(Tried::done(is_of(record, pair))),
         Err((fault, pile, pass)) => {
             let is_unchanged = pair.toppled == [pass.toppled(0), pass.toppled(1)];
-            let again = ended(alloc, pile, pass, pair.way);
-            let is_right = again.is_ok_and(|record| is_of(&record, pair));
+            let is_right = match ended(alloc, pile, pass, pair.way).ok() {
+                Some(record) => is_of(record, pair),
+                None => false,
+            };
             Ok(Tried::failed(fault, is_unchanged && is_right))
         }
     }
 }
 
-fn is_of(record: &Record, pair: Pair) -> bool {
-    is_record(record, &[], &pair.settled, &[1, 1], 6)
+fn is_of(record: Record, pair: Pair) -> bool {
+    let is_right = is_record(&record, &[], &pair.settled, &[1, 1], 6);
+    drop(record);
+    is_right
+}
+
+// Tries to end the pile of a pair.
+fn each_refused_of<R: Print + Abort>(
+    rt: &R,
+    alloc: Global,
+    name: &str,
+    pair: Pair,
+) -> Result<(), Fail> {
+    each_number(
+        rt,
+        alloc,
+        name,
+        Spares::Nothing,
+        |alloc: Global, number: u32| end_once(alloc, number, pair),
+    )
 }
 
 #[test]
 fn close_reports_out_of_memory(rt: HostRuntime) -> Result<(), Fail> {
-    each_number(
-        &rt,
-        rt.alloc(),
-        "SharedPile::close",
-        Spares::Nothing,
-        |alloc: Global, number: u32| end_once(alloc, number, UNTOUCHED),
-    )
+    each_refused_of(&rt, rt.alloc(), "SharedPile::close", UNTOUCHED)
 }
 
 #[test]
 fn close_after_a_sweep_reports_out_of_memory(rt: HostRuntime) -> Result<(), Fail> {
-    each_number(
-        &rt,
-        rt.alloc(),
-        "SharedPile::close, after a sweep",
-        Spares::Nothing,
-        |alloc: Global, number: u32| end_once(alloc, number, SWEPT),
-    )
+    each_refused_of(&rt, rt.alloc(), "SharedPile::close, after a sweep", SWEPT)
 }
 
 #[test]
 fn settle_after_a_sweep_reports_out_of_memory(rt: HostRuntime) -> Result<(), Fail> {
-    each_number(
+    each_refused_of(
         &rt,
         rt.alloc(),
         "SharedPile::settle, after a sweep",
-        Spares::Nothing,
-        |alloc: Global, number: u32| end_once(alloc, number, HALF_SWEPT),
+        HALF_SWEPT,
     )
 }

@@ -7,11 +7,12 @@ use sand_testing::piles::open_pile;
 use std::alloc::Global;
 use std::test::Fail;
 
-// Two sites with these grains, which are recurrent.
-fn recurrent(alloc: Global, heights: [u64; 2]) -> Result<Recurrent, Fail> {
+/// Two sites with these grains, which are recurrent.
+pub fn recurrent(alloc: Global, heights: [u64; 2]) -> Result<Recurrent, Fail> {
     let pile = open_pile(alloc, 2, 1, &heights)?;
-    let recurrent = Recurrent::from_pile(alloc, &pile)?;
-    Ok(recurrent)
+    let recurrent = Recurrent::from_pile(alloc, &pile);
+    drop(pile);
+    Ok(recurrent?)
 }
 
 fn has_heights(recurrent: &Recurrent, heights: &[u64]) -> bool {

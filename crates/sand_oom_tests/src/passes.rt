@@ -1,6 +1,6 @@
 //! Shared piles and passes: made, split and joined.
 
-ghost use Rattle.std.specs.Prelude.{IfErr};
+ghost use Rattle.std.specs.Prelude.{IfOk, IfErr};
 ghost use Rattle.sand_shared.specs.Passes.{IsPassOf};
 
 use crate::memory::{refuse, was_refused};
@@ -16,6 +16,13 @@ use std::test::Fail;
 // The remaining quota of a pass, its number of receipts, what it has seen, and its rows.
 fn view(pass: &Pass) -> (u64, usize, u64, (u16, u16)) {
     (pass.left(), pass.receipts().len(), pass.seen(), pass.rows())
+}
+
+// The same of a pass that is not needed any more.
+fn view_of(pass: Pass) -> (u64, usize, u64, (u16, u16)) {
+    let view = view(&pass);
+    drop(pass);
+    view
 }
 
 #[test]
@@ -46,7 +53,7 @@ fn split_two(alloc: Global, pile: &SharedPile, pass: &mut Pass) -> Result<bool, 
     ensures { IsPassOf pile.now pass.new }
 {
     match pile.split(alloc, pass, 2) {
-        Ok(child) => Ok(view(&child) == (2, 0, 0, (0, 0)) && view(pass) == (3, 0, 0, (0, 3))),
+        Ok(child) => Ok(view_of(child) == (2, 0, 0, (0, 0)) && view(pass) == (3, 0, 0, (0, 3))),
         Err(fault) => Err(fault.number()),
     }
 }
@@ -56,14 +63,16 @@ fn split_once(alloc: Global, number: u32) -> Result<Tried, Fail> {
     refuse(alloc, number);
     let tried = split_two(alloc, &pile, &mut pass);
     was_refused(alloc);
-    match tried {
-        Ok(is_right) => Ok(Tried::done(is_right)),
+    let tried = match tried {
+        Ok(is_right) => Tried::done(is_right),
         Err(fault) => {
             let is_unchanged = view(&pass) == (5, 0, 0, (0, 3));
             let is_right = split_two(alloc, &pile, &mut pass) == Ok(true);
-            Ok(Tried::failed(fault, is_unchanged && is_right))
+            Tried::failed(fault, is_unchanged && is_right)
         }
-    }
+    };
+    drop((pile, pass));
+    Ok(tried)
 }
 
 #[test]
@@ -83,7 +92,7 @@ fn split_rows(alloc: Global, pile: &SharedPile, pass: &mut Pass) -> Result<bool,
     ensures { IsPassOf pile.now pass.new }
 {
     match pile.split_rows(alloc, pass, 2) {
-        Ok(child) => Ok(view(&child) == (0, 0, 0, (1, 3)) && view(pass) == (5, 0, 0, (0, 1))),
+        Ok(child) => Ok(view_of(child) == (0, 0, 0, (1, 3)) && view(pass) == (5, 0, 0, (0, 1))),
         Err(fault) => Err(fault.number()),
     }
 }
@@ -93,14 +102,16 @@ fn split_rows_once(alloc: Global, number: u32) -> Result<Tried, Fail> {
     refuse(alloc, number);
     let tried = split_rows(alloc, &pile, &mut pass);
     was_refused(alloc);
-    match tried {
-        Ok(is_right) => Ok(Tried::done(is_right)),
+    let tried = match tried {
+        Ok(is_right) => Tried::done(is_right),
         Err(fault) => {
             let is_unchanged = view(&pass) == (5, 0, 0, (0, 3));
             let is_right = split_rows(alloc, &pile, &mut pass) == Ok(true);
-            Ok(Tried::failed(fault, is_unchanged && is_right))
+            Tried::failed(fault, is_unchanged && is_right)
         }
-    }
+    };
+    drop((pile, pass));
+    Ok(tried)
 }
 
 #[test]
@@ -128,14 +139,14 @@ fn join(alloc: Global, pile: &SharedPile, pass: &mut Pass, other: Pass) -> Resul
 }
 
 // Joins a pass with allocation `number` refused; if that fails, joins the pass that came back. Returns the number of
-// the first fault.
+// the first fault, and whether they are joined.
 fn join_again(
     alloc: Global,
     number: u32,
     pile: &SharedPile,
     pass: &mut Pass,
     other: Pass,
-) -> Result<Option<u32>, Fail>
+) -> (Option<u32>, bool)
     requires pass { IsPassOf pile.now pass.old }
     requires other { IsPassOf pile.now other }
     ensures { IsPassOf pile.now pass.new }
@@ -144,23 +155,36 @@ fn join_again(
     let tried = join(alloc, pile, pass, other);
     was_refused(alloc);
     match tried {
-        Ok(()) => Ok(None),
-        Err((fault, other)) => {
-            join(alloc, pile, pass, other).ok().ok_or("join")?;
-            Ok(Some(fault))
+        Ok(()) => (None, true),
+        Err((fault, other)) => (Some(fault), join(alloc, pile, pass, other).ok().is_some()),
+    }
+}
+
+// A pass and its child that have dropped twice each.
+fn dropped_twice(alloc: Global) -> Result<(SharedPile, Pass, Pass), Fail>
+    ensures { IfOk result (λ r. IsPassOf r.0 r.1 × IsPassOf r.0 r.2) }
+{
+    let (pile, mut pass) = shared_pile(alloc, 1, 1, &[0], 4)?;
+    match pile.split(alloc, &mut pass, 2) {
+        Ok(mut child) => {
+            drop_rest(&pile, &mut pass, 0);
+            drop_rest(&pile, &mut child, 0);
+            Ok((pile, pass, child))
+        }
+        Err(fault) => {
+            drop((pile, pass));
+            Err(fault.into())
         }
     }
 }
 
 // A pass of quota 2 that has dropped twice is joined to a child of quota 2, which has to grow for its receipts.
 fn join_once(alloc: Global, number: u32) -> Result<Tried, Fail> {
-    let (pile, mut pass) = shared_pile(alloc, 1, 1, &[0], 4)?;
-    let mut child = pile.split(alloc, &mut pass, 2)?;
-    drop_rest(&pile, &mut pass, 0);
-    drop_rest(&pile, &mut child, 0);
-    let fault = join_again(alloc, number, &pile, &mut child, pass)?;
+    let (pile, pass, mut child) = dropped_twice(alloc)?;
+    let (fault, is_joined) = join_again(alloc, number, &pile, &mut child, pass);
     let record = closed(alloc, pile, child)?;
-    let is_right = is_record(&record, &[0; 4], &[0], &[1], 4);
+    let is_right = is_joined && is_record(&record, &[0; 4], &[0], &[1], 4);
+    drop(record);
     Ok(Tried { fault, is_right })
 }
 

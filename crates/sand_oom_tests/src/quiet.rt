@@ -1,23 +1,23 @@
 //! Calls that allocate nothing: with every allocation refused they return what they always return, and none was
 //! attempted.
 
-ghost use Rattle.std.specs.Prelude.{◌≡◌, ◌<◌, length, IfOk};
+ghost use Rattle.std.specs.Prelude.{◌≡◌, ◌<◌, length, IfOk, IsTrue};
 ghost use Rattle.sand_model.specs.Grid.{sites};
 ghost use Rattle.sand_shared.specs.OpenPile.{grid_of_terms};
 ghost use Rattle.sand_shared.specs.Passes.{IsPassOf};
 ghost use Rattle.sand_shared.specs.Rows.{HoldsSite};
 ghost use Rattle.sand_lab.specs.Reports.{sheet_at};
 
+use crate::group::recurrent;
 use crate::memory::{refuse, was_refused};
-use crate::piles::full;
-use crate::settling::{is_after_the_drop, is_settled};
+use crate::settling::{full_of_one_thread, is_after_the_drop, is_settled};
 use sand_desk::laws::{drops_of_one_dropper, one_lab_text, one_number};
 use sand_desk::{DeskFault, read_pile, status, write_fault};
+use sand_group::GroupFault;
 use sand_group::laws::{
     burning_decides, equivalents_add_up, is_group, one_in_each_class, recurrent_from_full,
     settling_is_adding,
 };
-use sand_group::{GroupFault, Recurrent};
 use sand_lab::laws::one_outcome;
 use sand_lab::{Album, Gate, LabFault, Open, Plan, Report, Role, Wish};
 use sand_model::laws::{
@@ -32,7 +32,7 @@ use sand_shared::{CloseFault, JoinFault, Pass, SharedFault, SharedPile, SiteCoun
 use sand_testing::piles::{one_site, open_pile};
 use sand_testing::records::is_record;
 use sand_testing::runs::{QUIET, run_into};
-use sand_testing::shared::closed;
+use sand_testing::shared::dropped_on;
 use std::alloc::{AllocError, Global};
 use std::test::Fail;
 
@@ -85,6 +85,7 @@ fn piles_take_no_memory(rt: HostRuntime) -> Result<(), Fail> {
     assert!(rt; topples_once(&mut pile));
     assert!(rt; pile.heights() == [1, 1].as_slice());
     assert!(rt; !was_refused(alloc));
+    drop(pile);
     Ok(())
 }
 
@@ -96,14 +97,16 @@ fn a_pile_at_the_limit_takes_no_memory(rt: HostRuntime) -> Result<(), Fail> {
     refuse(alloc, 0);
     assert!(rt; pile.add_grain(0).is_err_and(|fault| fault.number() == 3));
     assert!(rt; !was_refused(alloc));
+    drop(pile);
     Ok(())
 }
 
 // Three sites; the middle one has toppled.
 fn settled_row(alloc: Global) -> Result<Settled, Fail> {
     let start = open_pile(alloc, 3, 1, &[0, 4, 0])?;
-    let settled = settle(alloc, &start)?;
-    Ok(settled)
+    let settled = settle(alloc, &start);
+    drop(start);
+    Ok(settled?)
 }
 
 #[test]
@@ -115,20 +118,29 @@ fn settled_piles_take_no_memory(rt: HostRuntime) -> Result<(), Fail> {
     assert!(rt; is_settled(&settled, &[1, 0, 1], &[0, 1, 0], 2));
     assert!(rt; (settled.odometer(1), settled.topplings()) == (1, 1));
     assert!(rt; !was_refused(alloc));
+    drop(settled);
     Ok(())
+}
+
+// The height and the odometer of the middle of nine sites.
+fn middle_of(one: &OnePile) -> Option<(u64, u64)> {
+    if one.pile().shape().sites() != 9 {
+        return None;
+    }
+    Some((one.height(4), one.odometer(4)))
 }
 
 #[test]
 fn piles_of_one_thread_take_no_memory(rt: HostRuntime) -> Result<(), Fail> {
     let alloc = rt.alloc();
-    let mut one = OnePile::new(alloc, &full(alloc)?)?;
+    let mut one = full_of_one_thread(alloc)?;
     assert!(rt; one.pile().shape().sites() == 9);
-    one.drop_at(alloc, 4)?;
+    assert!(rt; one.drop_at(alloc, 4).is_ok());
     refuse(alloc, 0);
     assert!(rt; is_after_the_drop(&one));
-    assert!(rt; one.pile().shape().sites() == 9);
-    assert_eq!(rt; (one.height(4), one.odometer(4)), (0, 2));
+    assert_eq!(rt; middle_of(&one), Some((0, 2)));
     assert!(rt; !was_refused(alloc));
+    drop(one);
     Ok(())
 }
 
@@ -137,12 +149,21 @@ fn dropped_on_two(alloc: Global) -> Result<OnePile, Fail>
     ensures { IfOk result (λ p. sites p.settled.pile.grid ≡ 2) }
 {
     let start = open_pile(alloc, 2, 1, &[3, 2])?;
-    let mut one = OnePile::new(alloc, &start)?;
-    if one.pile().shape().sites() != 2 {
-        return Err("two sites".into());
+    let made = OnePile::new(alloc, &start);
+    drop(start);
+    let mut one = made?;
+    if !is_dropped(alloc, &mut one) {
+        drop(one);
+        return Err("a drop on the second of two sites".into());
     }
-    one.drop_at(alloc, 1)?;
     Ok(one)
+}
+
+// Whether a grain is dropped on the second of two sites.
+fn is_dropped(alloc: Global, one: &mut OnePile) -> bool
+    ensures { IsTrue result → sites one.new.settled.pile.grid ≡ 2 }
+{
+    one.pile().shape().sites() == 2 && one.drop_at(alloc, 1).is_ok()
 }
 
 // Only the first drop allocates. Though nothing toppled, the room it made is enough for drops in which all sites
@@ -157,16 +178,18 @@ fn drops_after_the_first_take_no_memory(rt: HostRuntime) -> Result<(), Fail> {
     assert!(rt; one.drop_at(alloc, 1).is_ok());
     assert!(rt; one.pile().heights() == [1, 1].as_slice());
     assert!(rt; !was_refused(alloc));
+    drop(one);
     Ok(())
 }
 
 #[test]
 fn recurrent_piles_take_no_memory(rt: HostRuntime) -> Result<(), Fail> {
     let alloc = rt.alloc();
-    let recurrent = Recurrent::from_pile(alloc, &open_pile(alloc, 2, 1, &[3, 1])?)?;
+    let recurrent = recurrent(alloc, [3, 1])?;
     refuse(alloc, 0);
     assert!(rt; recurrent.pile().heights() == [3, 1].as_slice());
     assert!(rt; !was_refused(alloc));
+    drop(recurrent);
     Ok(())
 }
 
@@ -195,13 +218,27 @@ fn has_dropped_and_swept(pass: &Pass) -> bool
     drops == (0, 1, 1) && topplings == (1, 1) && pass.rows() == (0, 2)
 }
 
+// Two rows of four grains, and a pass that has everything.
+fn two_rows(alloc: Global) -> Result<(SharedPile, Pass), Fail>
+    ensures of_pile { IfOk result (λ r. IsPassOf r.0 r.1) }
+    ensures sites { IfOk result (λ r. 1 < sites (grid_of_terms r.0.terms)) }
+    ensures first { IfOk result (λ r. HoldsSite r.1.grid r.1.rows 0) }
+    ensures second { IfOk result (λ r. HoldsSite r.1.grid r.1.rows 1) }
+{
+    let shape = Shape::new(1, 2)?;
+    if shape.width() != 1 || shape.height() != 2 {
+        return Err("two rows".into());
+    }
+    let start = Pile::new(alloc, shape, &[4, 4])?;
+    let made = SharedPile::new(alloc, &start, 1);
+    drop(start);
+    Ok(made?)
+}
+
 #[test]
 fn passes_take_no_memory(rt: HostRuntime) -> Result<(), Fail> {
     let alloc = rt.alloc();
-    let start = open_pile(alloc, 1, 2, &[4, 4])?;
-    assert!(rt; start.shape().sites() == 2);
-    assert!(rt; start.shape().width() == 1 && start.shape().height() == 2);
-    let (pile, mut pass) = SharedPile::new(alloc, &start, 1)?;
+    let (pile, mut pass) = two_rows(alloc)?;
     refuse(alloc, 0);
     assert!(rt; pile.is_whole(&pass));
     assert!(rt; drops_the_last(&pile, &mut pass));
@@ -209,6 +246,7 @@ fn passes_take_no_memory(rt: HostRuntime) -> Result<(), Fail> {
     assert!(rt; has_dropped_and_swept(&pass));
     assert!(rt; pile.is_whole(&pass));
     assert!(rt; !was_refused(alloc));
+    drop((pile, pass));
     Ok(())
 }
 
@@ -217,14 +255,17 @@ fn lists_of_drops_take_no_memory(rt: HostRuntime) -> Result<(), Fail> {
     let alloc = rt.alloc();
     let start = open_pile(alloc, 1, 2, &[0, 0])?;
     assert!(rt; start.shape().sites() == 2);
-    let (pile, mut pass) = SharedPile::new(alloc, &start, 2)?;
     let mut counts = SiteCounts::new(alloc, start.shape())?;
+    let made = SharedPile::new(alloc, &start, 2);
+    drop(start);
+    let (pile, mut pass) = made?;
     refuse(alloc, 0);
     let past = pile.drop_all(&mut pass, &[1, 1, 1], &mut counts);
     let dropped = pile.drop_all(&mut pass, &[0, 1], &mut counts);
     assert!(rt; past.is_err_and(|fault| fault.number() == 13));
     assert!(rt; dropped.is_ok_and(|number| number == 0));
     assert!(rt; !was_refused(alloc));
+    drop((pile, pass, counts));
     Ok(())
 }
 
@@ -232,15 +273,15 @@ fn lists_of_drops_take_no_memory(rt: HostRuntime) -> Result<(), Fail> {
 fn records_take_no_memory(rt: HostRuntime) -> Result<(), Fail> {
     let alloc = rt.alloc();
     let start = one_site(alloc, 3)?;
-    assert!(rt; start.shape().sites() == 1);
-    let (pile, mut pass) = SharedPile::new(alloc, &start, 1)?;
-    assert!(rt; pile.drop_at(&mut pass, 0).is_ok());
-    let record = closed(alloc, pile, pass)?;
+    let dropped = dropped_on(alloc, &start, 1);
+    drop(start);
+    let record = dropped?;
     assert!(rt; record.start().shape().sites() == 1);
     refuse(alloc, 0);
     assert!(rt; record.start().heights() == [3].as_slice() && record.odometer(0) == 1);
     assert!(rt; is_record(&record, &[0], &[0], &[1], 4));
     assert!(rt; !was_refused(alloc));
+    drop(record);
     Ok(())
 }
 
@@ -295,14 +336,16 @@ fn albums_and_reports_take_no_memory(rt: HostRuntime) -> Result<(), Fail> {
     let start = one_site(alloc, 0)?;
     let album = Album::new(alloc, 1)?;
     assert!(rt; album.places() == 1);
-    let mut report = run_into(&rt, alloc, &start, ONE_EPOCH, &Open, &album)?;
+    let ran = run_into(&rt, alloc, &start, ONE_EPOCH, &Open, &album);
+    drop(start);
+    let mut report = ran.ok().expect(&rt, "a run");
     refuse(alloc, 0);
     assert!(rt; album.places() == 1);
     assert!(rt; first_picture(&album) == Some((0, 0)));
     assert!(rt; has_one_epoch(&report));
     let known = report.note(0);
     assert!(rt; !was_refused(alloc));
-    drop(known);
+    drop((known, report, album));
     Ok(())
 }
 

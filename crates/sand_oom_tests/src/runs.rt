@@ -173,6 +173,13 @@ fn is_report(report: &Report, trial: &Trial) -> bool {
     }
 }
 
+// The same of a report that is not needed any more.
+fn was_report(report: Report, trial: &Trial) -> bool {
+    let is_right = is_report(&report, trial);
+    drop(report);
+    is_right
+}
+
 // Whether a run into an album has the right result, or the number of its fault.
 fn run_once<R: Threads + Sync>(
     rt: &R,
@@ -181,7 +188,18 @@ fn run_once<R: Threads + Sync>(
     trial: &Trial,
     album: &Album,
 ) -> Result<bool, u32> {
-    came_to!(run_into(rt, alloc, start, trial.wish, &Open, album), report => is_report(&report, trial))
+    came_to!(run_into(rt, alloc, start, trial.wish, &Open, album), report => was_report(report, trial))
+}
+
+fn two_albums(alloc: Global) -> Result<(Album, Album), Fail> {
+    let album = Album::new(alloc, 2)?;
+    match Album::new(alloc, 2) {
+        Ok(other) => Ok((album, other)),
+        Err(fault) => {
+            drop(album);
+            Err(fault.into())
+        }
+    }
 }
 
 // One try of a run. If it fails, it is repeated with another album.
@@ -192,15 +210,16 @@ fn try_run<R: Threads + Sync>(
     trial: &Trial,
     number: u32,
 ) -> Result<Tried, Fail> {
-    let album = Album::new(alloc, 2)?;
-    let other = Album::new(alloc, 2)?;
+    let (album, other) = two_albums(alloc)?;
     refuse(alloc, number);
     let tried = run_once(rt, alloc, start, trial, &album);
     was_refused(alloc);
-    Ok(match tried {
+    let tried = match tried {
         Ok(is_right) => Tried::done(is_right),
         Err(fault) => Tried::failed(fault, run_once(rt, alloc, start, trial, &other) == Ok(true)),
-    })
+    };
+    drop((album, other));
+    Ok(tried)
 }
 
 // Tries a run, with new albums each time.
@@ -222,19 +241,25 @@ fn each_refused_of_a_run<R: Threads + Sync + Print + Abort>(
 #[test]
 fn run_reports_out_of_memory(rt: HostRuntime) -> Result<(), Fail> {
     let start = one_site(rt.alloc(), 0)?;
-    each_refused_of_a_run(&rt, rt.alloc(), &start, &TWO_EPOCHS)
+    let told = each_refused_of_a_run(&rt, rt.alloc(), &start, &TWO_EPOCHS);
+    drop(start);
+    told
 }
 
 #[test]
 fn run_of_many_threads_reports_out_of_memory(rt: HostRuntime) -> Result<(), Fail> {
     let start = one_site(rt.alloc(), 3)?;
-    each_refused_of_a_run(&rt, rt.alloc(), &start, &MANY)
+    let told = each_refused_of_a_run(&rt, rt.alloc(), &start, &MANY);
+    drop(start);
+    told
 }
 
 #[test]
 fn run_with_rows_for_workers_reports_out_of_memory(rt: HostRuntime) -> Result<(), Fail> {
     let start = open_pile(rt.alloc(), 2, 2, &[4; 4])?;
-    each_refused_of_a_run(&rt, rt.alloc(), &start, &ROWS)
+    let told = each_refused_of_a_run(&rt, rt.alloc(), &start, &ROWS);
+    drop(start);
+    told
 }
 
 // The height of the first site in the picture at a place.
@@ -270,19 +295,31 @@ fn published_once<R: Threads + Sync>(
     start: &Pile,
     number: u32,
 ) -> Result<Option<bool>, Fail> {
-    let album = Album::new(alloc, 2)?;
-    let other = Album::new(alloc, 2)?;
+    let (album, other) = two_albums(alloc)?;
+    let is_right = published_in(rt, alloc, start, number, &album, &other);
+    drop((album, other));
+    Ok(is_right)
+}
+
+fn published_in<R: Threads + Sync>(
+    rt: &R,
+    alloc: Global,
+    start: &Pile,
+    number: u32,
+    album: &Album,
+    other: &Album,
+) -> Option<bool> {
     refuse(alloc, number);
-    let tried = run_once(rt, alloc, start, &TWO_EPOCHS, &album);
+    let tried = run_once(rt, alloc, start, &TWO_EPOCHS, album);
     was_refused(alloc);
-    let (first, second) = heights_in(&album);
+    let (first, second) = heights_in(album);
     if tried.is_ok() || first.is_none() || second.is_some() {
-        return Ok(None);
+        return None;
     }
     let is_right = (tried, first) == (Err(MEMORY), Some(2))
-        && stays_published(rt, alloc, start, &album)
-        && run_once(rt, alloc, start, &TWO_EPOCHS, &other) == Ok(true);
-    Ok(Some(is_right))
+        && stays_published(rt, alloc, start, album)
+        && run_once(rt, alloc, start, &TWO_EPOCHS, other) == Ok(true);
+    Some(is_right)
 }
 
 // If the second epoch runs out of memory, what the first epoch published stays: its place is taken, the other is not.
@@ -306,10 +343,17 @@ fn the_first_epoch_stays_published_if_the_second_fails(rt: HostRuntime) -> Resul
 // The report of a run with one dropper and two drops.
 fn report_of<R: Threads + Sync>(rt: &R, alloc: Global) -> Result<Report, Fail> {
     let start = one_site(alloc, 0)?;
+    let report = report_on(rt, alloc, &start);
+    drop(start);
+    report
+}
+
+fn report_on<R: Threads + Sync>(rt: &R, alloc: Global, start: &Pile) -> Result<Report, Fail> {
     let album = Album::new(alloc, 1)?;
     let wish = Wish { drops: 2, ..QUIET };
-    let report = run_into(rt, alloc, &start, wish, &Open, &album)?;
-    Ok(report)
+    let report = run_into(rt, alloc, start, wish, &Open, &album);
+    drop(album);
+    Ok(report?)
 }
 
 fn is_lab_text(text: &[u8]) -> bool {
@@ -319,21 +363,25 @@ fn is_lab_text(text: &[u8]) -> bool {
 #[test]
 fn lab_text_reports_out_of_memory(rt: HostRuntime) -> Result<(), Fail> {
     let report = report_of(&rt, rt.alloc())?;
-    each_refused(
+    let told = each_refused(
         &rt,
         rt.alloc(),
         "lab_text",
         |alloc: Global| came_to!(lab_text(alloc, &report), text => is_lab_text(text.as_slice())),
-    )
+    );
+    drop(report);
+    told
 }
 
 #[test]
 fn journal_text_reports_out_of_memory(rt: HostRuntime) -> Result<(), Fail> {
     let report = report_of(&rt, rt.alloc())?;
-    each_refused(
+    let told = each_refused(
         &rt,
         rt.alloc(),
         "journal_text",
         |alloc: Global| came_to!(journal_text(alloc, &report), text => text.as_slice() == b"journal\n0 0 0 0\n0 1 0 0\n".as_slice()),
-    )
+    );
+    drop(report);
+    told
 }

@@ -17,12 +17,14 @@ pub fn is_settled(settled: &Settled, heights: &[u64], odometer: &[u64], lost: u6
 #[test]
 fn settle_reports_out_of_memory(rt: HostRuntime) -> Result<(), Fail> {
     let pile = open_pile(rt.alloc(), 2, 1, &[4, 4])?;
-    each_refused(
+    let told = each_refused(
         &rt,
         rt.alloc(),
         "settle",
         |alloc: Global| came_to!(settle(alloc, &pile), settled => is_settled(&settled, &[1, 1], &[1, 1], 6)),
-    )
+    );
+    drop(pile);
+    told
 }
 
 // A pile that is high in the middle, from a list that the proofs need not examine place by place.
@@ -36,12 +38,14 @@ fn heap(alloc: Global) -> Result<Pile, Fail> {
 #[test]
 fn settle_by_a_guess_reports_out_of_memory(rt: HostRuntime) -> Result<(), Fail> {
     let pile = heap(rt.alloc())?;
-    each_refused(
+    let told = each_refused(
         &rt,
         rt.alloc(),
         "settle, by a guess",
         |alloc: Global| came_to!(settle(alloc, &pile), settled => settled.pile().grains().wrapping_add(settled.lost()) == 100_000),
-    )
+    );
+    drop(pile);
+    told
 }
 
 fn is_one_pile(one: &OnePile, tally: u64, heights: &[u64], odometer: &[u64], lost: u64) -> bool {
@@ -53,12 +57,21 @@ fn is_one_pile(one: &OnePile, tally: u64, heights: &[u64], odometer: &[u64], los
 #[test]
 fn new_one_pile_reports_out_of_memory(rt: HostRuntime) -> Result<(), Fail> {
     let pile = open_pile(rt.alloc(), 2, 1, &[4, 4])?;
-    each_refused(
+    let told = each_refused(
         &rt,
         rt.alloc(),
         "OnePile::new",
-        |alloc: Global| came_to!(OnePile::new(alloc, &pile), one => is_one_pile(&one, 0, &[1, 1], &[1, 1], 6)),
-    )
+        |alloc: Global| came_to!(OnePile::new(alloc, &pile), one => is_of_the_two(one)),
+    );
+    drop(pile);
+    told
+}
+
+// Whether two sites of four grains have settled.
+fn is_of_the_two(one: OnePile) -> bool {
+    let is_right = is_one_pile(&one, 0, &[1, 1], &[1, 1], 6);
+    drop(one);
+    is_right
 }
 
 /// Whether one grain was dropped in the middle of nine sites of three grains each, and nothing else.
@@ -77,6 +90,14 @@ const MIDDLE: Avalanche = Avalanche {
     lost: 12,
 };
 
+/// The pile of one thread on nine sites of three grains each.
+pub fn full_of_one_thread(alloc: Global) -> Result<OnePile, Fail> {
+    let full = full(alloc)?;
+    let one = OnePile::new(alloc, &full);
+    drop(full);
+    Ok(one?)
+}
+
 // Drops in the middle. Returns whether the drop and the pile after it are right, or the number of the fault.
 fn drop_in_the_middle(alloc: Global, one: &mut OnePile) -> Result<bool, u32> {
     if one.pile().shape().sites() <= 4 {
@@ -91,18 +112,20 @@ fn drop_in_the_middle(alloc: Global, one: &mut OnePile) -> Result<bool, u32> {
 }
 
 fn drop_once(alloc: Global, number: u32) -> Result<Tried, Fail> {
-    let mut one = OnePile::new(alloc, &full(alloc)?)?;
+    let mut one = full_of_one_thread(alloc)?;
     refuse(alloc, number);
     let tried = drop_in_the_middle(alloc, &mut one);
     was_refused(alloc);
-    match tried {
-        Ok(is_right) => Ok(Tried::done(is_right)),
+    let tried = match tried {
+        Ok(is_right) => Tried::done(is_right),
         Err(fault) => {
             let is_unchanged = is_one_pile(&one, 0, &[3; 9], &[0; 9], 0);
             let is_right = drop_in_the_middle(alloc, &mut one) == Ok(true);
-            Ok(Tried::failed(fault, is_unchanged && is_right))
+            Tried::failed(fault, is_unchanged && is_right)
         }
-    }
+    };
+    drop(one);
+    Ok(tried)
 }
 
 #[test]
