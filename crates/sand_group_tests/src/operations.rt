@@ -10,16 +10,22 @@ use std::alloc::{AllocError, Global};
 use std::test::Fail;
 
 // The forbidden set that burning finds in a pile, or an empty list if there is none.
-fn left(alloc: Global, pile: Option<Pile>) -> Option<Vec<usize>> {
-    match burn(alloc, &pile?).ok()? {
-        Burned::Recurrent(_) => Some(Vec::new(alloc)),
-        Burned::Forbidden(set) => Some(set),
+fn left(alloc: Global, pile: &Pile) -> Option<Vec<usize>> {
+    match burn(alloc, pile) {
+        Ok(Burned::Recurrent(_)) => Some(Vec::new(alloc)),
+        Ok(Burned::Forbidden(set)) => Some(set),
+        Err(_) => None,
     }
 }
 
 // Whether burning finds this set.
 fn leaves(alloc: Global, pile: Option<Pile>, set: &[usize]) -> bool {
-    match left(alloc, pile) {
+    let left = match &pile {
+        Some(pile) => left(alloc, pile),
+        None => None,
+    };
+    drop(pile);
+    match left {
         Some(left) => left.as_slice() == set,
         None => false,
     }
@@ -60,7 +66,7 @@ fn is_identity(
     let shape = Shape::with_edge(width, height, edge).ok()?;
     let neutral = identity(alloc, shape).ok()?;
     let is_twice = is_made(add(alloc, &neutral, &neutral), heights);
-    Some(is_twice && neutral.pile().heights() == heights)
+    Some(is_made(Ok(neutral), heights) && is_twice)
 }
 
 #[test]
@@ -81,21 +87,37 @@ fn knows_the_identity(rt: HostRuntime) {
 // A recurrent pile in one row.
 fn recurrent(alloc: Global, heights: &[u64]) -> Option<Recurrent> {
     let pile = row(alloc, heights)?;
-    Recurrent::from_pile(alloc, &pile).ok()
+    let recurrent = Recurrent::from_pile(alloc, &pile).ok();
+    drop(pile);
+    recurrent
+}
+
+// The sum of two recurrent piles.
+fn sum_of(
+    alloc: Global,
+    pile: &Option<Recurrent>,
+    other: &Option<Recurrent>,
+) -> Option<Result<Recurrent, GroupFault>> {
+    match (pile, other) {
+        (Some(pile), Some(other)) => Some(add(alloc, pile, other)),
+        _ => None,
+    }
 }
 
 #[test]
-fn adds(rt: HostRuntime) -> Result<(), Fail> {
-    let pile = recurrent(rt.alloc(), &[3, 1]).ok_or("not recurrent")?;
-    let other = recurrent(rt.alloc(), &[0, 2]).ok_or("not recurrent")?;
-    assert!(rt; is_made(add(rt.alloc(), &pile, &other), &[3, 3]));
-    Ok(())
+fn adds(rt: HostRuntime) {
+    let pile = recurrent(rt.alloc(), &[3, 1]);
+    let other = recurrent(rt.alloc(), &[0, 2]);
+    let sum = sum_of(rt.alloc(), &pile, &other);
+    drop((pile, other));
+    assert!(rt; is_made(sum.expect(&rt, "two recurrent piles"), &[3, 3]));
 }
 
 #[test]
 fn inverts(rt: HostRuntime) -> Result<(), Fail> {
     let pile = recurrent(rt.alloc(), &[3, 1]).ok_or("not recurrent")?;
     assert!(rt; is_made(inverse(rt.alloc(), &pile), &[0, 2]));
+    drop(pile);
     Ok(())
 }
 
@@ -118,6 +140,7 @@ fn multiplies(rt: HostRuntime) -> Result<(), Fail> {
             "{n} copies"
         );
     }
+    drop(pile);
     Ok(())
 }
 
@@ -131,6 +154,7 @@ fn acted(alloc: Global, pile: &Recurrent) -> Result<Recurrent, GroupFault> {
 fn acts(rt: HostRuntime) -> Result<(), Fail> {
     let full = recurrent(rt.alloc(), &[3, 3]).ok_or("not recurrent")?;
     assert!(rt; is_made(acted(rt.alloc(), &full), &[1, 0]));
+    drop(full);
     Ok(())
 }
 
@@ -148,16 +172,18 @@ fn refuses_what_is_not_recurrent(rt: HostRuntime) -> Result<(), Fail> {
         let pile = row(rt.alloc(), &heights).ok_or("no pile")?;
         assert!(rt; refusal(burn(rt.alloc(), &pile)) == burns);
         assert!(rt; refusal(Recurrent::from_pile(rt.alloc(), &pile)) == made);
+        drop(pile);
     }
     Ok(())
 }
 
 #[test]
-fn refuses_two_shapes(rt: HostRuntime) -> Result<(), Fail> {
-    let one = recurrent(rt.alloc(), &[3]).ok_or("not recurrent")?;
-    let two = recurrent(rt.alloc(), &[3, 1]).ok_or("not recurrent")?;
-    assert!(rt; refusal(add(rt.alloc(), &one, &two)) == 9);
-    Ok(())
+fn refuses_two_shapes(rt: HostRuntime) {
+    let one = recurrent(rt.alloc(), &[3]);
+    let two = recurrent(rt.alloc(), &[3, 1]);
+    let sum = sum_of(rt.alloc(), &one, &two);
+    drop((one, two));
+    assert!(rt; refusal(sum.expect(&rt, "two recurrent piles")) == 9);
 }
 
 #[test]
@@ -174,10 +200,12 @@ fn numbers_of_the_faults_of_the_group(rt: HostRuntime) {
 
 // Whether the recurrent pile equivalent to a pile has these heights.
 fn is_equivalent(alloc: Global, pile: Option<Pile>, heights: &[u64]) -> bool {
-    match pile {
-        Some(pile) => is_made(equivalent_recurrent(alloc, &pile), heights),
+    let is_equivalent = match &pile {
+        Some(pile) => is_made(equivalent_recurrent(alloc, pile), heights),
         None => false,
-    }
+    };
+    drop(pile);
+    is_equivalent
 }
 
 #[test]

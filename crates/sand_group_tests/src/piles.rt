@@ -29,8 +29,10 @@ pub(crate) fn ring(alloc: Global, heights: &[u64]) -> Option<Pile> {
 #[test]
 fn a_pile_and_its_copy(rt: HostRuntime) -> Result<(), Fail> {
     let pile = row(rt.alloc(), &[3, 5]).ok_or("no pile")?;
-    let copy = pile.copy(rt.alloc())?;
-    assert!(rt; copy.heights() == [3, 5].as_slice());
+    let copy = pile.copy(rt.alloc()).ok();
+    drop(pile);
+    let (_, heights) = copy.ok_or("no copy")?.into_parts();
+    assert!(rt; heights.as_slice() == [3, 5].as_slice());
     Ok(())
 }
 
@@ -47,18 +49,23 @@ fn heights_that_make_no_pile(rt: HostRuntime) {
     assert!(rt; refusal(rt.alloc(), &[1_099_511_627_775, 1]) == Some(3));
 }
 
-// A pile of one site after a grain is added: the fault's number, or 0, and the heights.
-fn with_a_grain(alloc: Global, height: u64) -> Option<(u32, Vec<u64>)> {
-    let mut pile = row(alloc, &[height])?;
+// Adds a grain to the first site. Returns the number of the fault, or 0.
+fn grain_added(pile: &mut Pile) -> Option<u32> {
     if pile.shape().sites() == 0 {
         return None;
     }
-    let number = match pile.add_grain(0) {
-        Ok(()) => 0,
-        Err(fault) => fault.number(),
-    };
+    match pile.add_grain(0) {
+        Ok(()) => Some(0),
+        Err(fault) => Some(fault.number()),
+    }
+}
+
+// A pile of one site after a grain is added: the fault's number, or 0, and the heights.
+fn with_a_grain(alloc: Global, height: u64) -> Option<(u32, Vec<u64>)> {
+    let mut pile = row(alloc, &[height])?;
+    let number = grain_added(&mut pile);
     let (_, heights) = pile.into_parts();
-    Some((number, heights))
+    Some((number?, heights))
 }
 
 #[test]
@@ -77,6 +84,14 @@ fn a_grain_is_added_up_to_the_limit(rt: HostRuntime) -> Result<(), Fail> {
     Ok(())
 }
 
+// What toppling a site returns, if it is in the grid.
+fn toppled(pile: &mut Pile, site: usize) -> Option<Result<u8, ToppleFault>> {
+    if site >= pile.shape().sites() {
+        return None;
+    }
+    Some(topple(pile, site))
+}
+
 // Whether toppling a site returns this and leaves these heights.
 fn topples(
     pile: Option<Pile>,
@@ -86,9 +101,9 @@ fn topples(
 ) -> bool {
     match pile {
         Some(mut pile) => {
-            site < pile.shape().sites()
-                && topple(&mut pile, site) == want
-                && pile.heights() == heights
+            let told = toppled(&mut pile, site);
+            let (_, left) = pile.into_parts();
+            told == Some(want) && left.as_slice() == heights
         }
         None => false,
     }

@@ -51,22 +51,41 @@ fn settles_high_piles_of_one_site(rt: HostRuntime) {
     }
 }
 
+// The settled pile of one thread.
+fn one_of(alloc: Global, start: Option<Pile>) -> Option<OnePile> {
+    OnePile::new(alloc, &start?).ok()
+}
+
+// Drops a grain. Returns the drop's number and its avalanche, or the number of the fault; 0 if the site is not in the
+// grid. No clause says so, because each clause lengthens the proofs of the callers.
+fn drop_at(alloc: Global, one: &mut OnePile, site: usize) -> Result<(u64, Avalanche), u32> {
+    if site >= one.pile().shape().sites() {
+        return Err(0);
+    }
+    match one.drop_at(alloc, site) {
+        Ok(dropped) => Ok(dropped),
+        Err(fault) => Err(fault.number()),
+    }
+}
+
 // Drops grains one after another. Returns the number and the avalanche of the last drop, and the pile after it.
 fn dropped(
     alloc: Global,
     start: Option<Pile>,
     sites: &[usize],
 ) -> Option<(u64, Avalanche, OnePile)> {
-    let mut one = OnePile::new(alloc, &start?).ok()?;
+    let mut one = one_of(alloc, start)?;
     let mut last = None;
     for site in sites {
-        if *site >= one.pile().shape().sites() {
-            return None;
-        }
-        last = Some(one.drop_at(alloc, *site).ok()?);
+        last = Some(drop_at(alloc, &mut one, *site).ok()?);
     }
     let (number, avalanche) = last?;
     Some((number, avalanche, one))
+}
+
+// Whether a pile has these heights and this odometer.
+fn has(one: &OnePile, heights: &[u64], odometer: &[u64]) -> bool {
+    one.pile().heights() == heights && one.odometers() == odometer
 }
 
 #[test]
@@ -81,8 +100,14 @@ fn drops_on_a_full_square(rt: HostRuntime) -> Result<(), Fail> {
         lost: 12,
     };
     assert!(rt; number == 0 && avalanche == want);
-    assert!(rt; one.pile().heights() == [1, 3, 1, 3, 0, 3, 1, 3, 1].as_slice());
-    assert!(rt; one.odometers() == [1, 1, 1, 1, 2, 1, 1, 1, 1].as_slice());
+    assert!(rt;
+        has(
+            &one,
+            &[1, 3, 1, 3, 0, 3, 1, 3, 1],
+            &[1, 1, 1, 1, 2, 1, 1, 1, 1]
+        )
+    );
+    drop(one);
     Ok(())
 }
 
@@ -98,8 +123,15 @@ fn a_second_drop_on_a_full_square(rt: HostRuntime) -> Result<(), Fail> {
         lost: 0,
     };
     assert!(rt; number == 1 && avalanche == calm);
-    assert!(rt; one.pile().heights() == [2, 3, 1, 3, 0, 3, 1, 3, 1].as_slice());
+    assert!(rt;
+        has(
+            &one,
+            &[2, 3, 1, 3, 0, 3, 1, 3, 1],
+            &[1, 1, 1, 1, 2, 1, 1, 1, 1]
+        )
+    );
     assert!(rt; (one.tally(), one.lost(), one.topplings()) == (2, 12, 10));
+    drop(one);
     Ok(())
 }
 
@@ -115,19 +147,18 @@ fn drops_round_a_cylinder(rt: HostRuntime) -> Result<(), Fail> {
         lost: 8,
     };
     assert!(rt; avalanche == want);
-    assert!(rt; one.pile().heights() == [2, 1, 1, 1].as_slice());
+    assert!(rt; has(&one, &[2, 1, 1, 1], &[1; 4]));
+    drop(one);
     Ok(())
 }
 
 // The number of the fault of a first drop on a pile of one site, and the number of drops after it.
 fn refusal(alloc: Global, height: u64) -> Option<(u32, u64)> {
-    let start = row(alloc, &[height])?;
-    let mut one = OnePile::new(alloc, &start).ok()?;
-    if one.pile().shape().sites() == 0 {
-        return None;
-    }
-    let fault = one.drop_at(alloc, 0).err()?;
-    Some((fault.number(), one.tally()))
+    let mut one = one_of(alloc, row(alloc, &[height]))?;
+    let fault = drop_at(alloc, &mut one, 0).err();
+    let tally = one.tally();
+    drop(one);
+    Some((fault?, tally))
 }
 
 #[test]
