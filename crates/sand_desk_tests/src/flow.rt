@@ -93,6 +93,26 @@ fn a_reader_is_read_to_its_end(rt: HostRuntime) -> Result<(), Fail> {
     Ok(())
 }
 
+// What `write_text` returns of a writer, and what the writer has taken.
+fn taken(
+    alloc: Global,
+    text: &[u8],
+    step: usize,
+    room: usize,
+    fails: bool,
+    flushes: bool,
+) -> (Result<(), StreamFault>, Vec<u8>) {
+    let mut writer = Taker {
+        taken: Vec::new(alloc),
+        step,
+        room,
+        fails,
+        flushes,
+    };
+    let written = write_text(&mut writer, text);
+    (written, writer.taken)
+}
+
 #[test]
 fn a_text_is_written_up_to_where_the_writer_stops(rt: HostRuntime) -> Result<(), Fail> {
     let text = b"3 1\n0 4 0\n";
@@ -105,16 +125,12 @@ fn a_text_is_written_up_to_where_the_writer_stops(rt: HostRuntime) -> Result<(),
         (1, 4, false, true, Err(StreamFault::Write(4))),
         (1, 10, true, false, Err(StreamFault::Write(10))),
     ] {
-        let mut writer = Taker {
-            taken: Vec::new(rt.alloc()),
-            step,
-            room,
-            fails,
-            flushes,
-        };
-        assert_eq!(rt; write_text(&mut writer, text), want, "at {step} {room}");
+        let (written, taken) = taken(rt.alloc(), text, step, room, fails, flushes);
         let (front, _) = text.split_at(room.min(text.len()));
-        assert_eq!(rt; writer.taken.as_slice(), front, "at {step} {room}");
+        assert!(rt;
+            written == want && taken.as_slice() == front,
+            "at {step} {room}"
+        );
     }
     Ok(())
 }
@@ -148,23 +164,31 @@ impl Write for Once {
     }
 }
 
+// What `write_text` returns of a writer that stops at a call, how often it was called, and what it has taken.
+fn taken_before(
+    alloc: Global,
+    text: &[u8],
+    stops_at: usize,
+    fails: bool,
+) -> (Result<(), StreamFault>, usize, Vec<u8>) {
+    let mut writer = Once {
+        taken: Vec::new(alloc),
+        calls: 0,
+        stops_at,
+        fails,
+    };
+    let written = write_text(&mut writer, text);
+    (written, writer.calls, writer.taken)
+}
+
 // The writer would take more.
 #[test]
 fn a_writer_that_stopped_is_not_called_again(rt: HostRuntime) -> Result<(), Fail> {
     let text = b"3 1\n0 4 0\n";
     for (sent, fails) in [(0, false), (0, true), (4, false), (4, true), (9, true)] {
-        let mut writer = Once {
-            taken: Vec::new(rt.alloc()),
-            calls: 0,
-            stops_at: sent + 1,
-            fails,
-        };
-        let want = Err(StreamFault::Write(sent));
-        assert_eq!(rt; write_text(&mut writer, text), want);
-        assert_eq!(rt;
-            (writer.calls, writer.taken.as_slice()),
-            (sent + 1, &text[..sent])
-        );
+        let (written, calls, taken) = taken_before(rt.alloc(), text, sent + 1, fails);
+        assert_eq!(rt; written, Err(StreamFault::Write(sent)));
+        assert_eq!(rt; (calls, taken.as_slice()), (sent + 1, &text[..sent]));
     }
     Ok(())
 }

@@ -41,10 +41,10 @@ fn turns_of<T: Threads + Sync>(rt: &T, alloc: Global, line: &str) -> Result<Opti
         fails: false,
     };
     let mut writer = Sluggish::new(alloc, 1_000_000);
-    match run_gated_command(rt, alloc, &gate, words.as_slice(), &mut reader, &mut writer) {
-        Ok(()) if !gate.astray.load(SeqCst) => Ok(Some(gate.turns.load(SeqCst))),
-        _ => Ok(None),
-    }
+    let ended = run_gated_command(rt, alloc, &gate, words.as_slice(), &mut reader, &mut writer);
+    let is_done = ended.is_ok() && !gate.astray.load(SeqCst);
+    drop((ended, words));
+    Ok(is_done.then_some(gate.turns.load(SeqCst)))
 }
 
 #[test]

@@ -20,7 +20,7 @@ fn helps<T: Threads + Sync>(
     let asked = fault_of(rt, alloc, "sandpile settle --help", &mut reader, writer)?;
     match show_help(alloc, asked, writer) {
         Ok(()) => Ok(None),
-        Err(fault) => Ok(sent(&fault)),
+        Err(fault) => Ok(sent(fault)),
     }
 }
 

@@ -2,6 +2,9 @@
 //! says of itself, pictures, texts that no command writes, and the readings as calls.
 //!
 //! `stopping` has the readers and the writer. They are not tests: each proves that it tells its bytes.
+//!
+//! Large values are dropped by `drop`. If one goes out of scope instead, the function's proof takes it apart field by
+//! field, on each way out.
 #![tactic(auto)]
 
 #[cfg(test)]

@@ -11,10 +11,13 @@ const LINE: &str = "0 0 0 0 0 0 0 0 0 0 0 0 0 0 0 0 0 0 0 0 0 0 0 0 0 0 0 0 0 0 
 fn picture(alloc: Global, width: usize, height: usize, heights: &[u64]) -> Option<Vec<u8>> {
     let shape = Shape::new(width, height).ok()?;
     let pile = Pile::new(alloc, shape, heights).ok()?;
-    if !pile.is_stable() {
-        return None;
-    }
-    pgm_text(alloc, &pile).ok()
+    let text = if pile.is_stable() {
+        pgm_text(alloc, &pile).ok()
+    } else {
+        None
+    };
+    drop(pile);
+    text
 }
 
 // Whether a text consists of these parts, in this order.

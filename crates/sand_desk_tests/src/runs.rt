@@ -8,6 +8,23 @@ use std::io::Read;
 use std::test::Fail;
 use std::thread::Threads;
 
+// How a command line ends. No clause says so, because the clauses of `run_command` lengthen the proofs of the callers.
+fn ended<T: Threads + Sync, R: Read>(
+    rt: &T,
+    alloc: Global,
+    line: &str,
+    reader: &mut R,
+    writer: &mut Sluggish,
+) -> Result<Result<(), DeskFault>, Fail> {
+    let words = words_of(alloc, line)?;
+    if words.is_empty() {
+        return Err("no words".into());
+    }
+    let ended = run_command(rt, alloc, words.as_slice(), reader, writer);
+    drop(words);
+    Ok(ended)
+}
+
 // The fault that a command line ends with.
 pub(crate) fn fault_of<T: Threads + Sync, R: Read>(
     rt: &T,
@@ -16,11 +33,7 @@ pub(crate) fn fault_of<T: Threads + Sync, R: Read>(
     reader: &mut R,
     writer: &mut Sluggish,
 ) -> Result<DeskFault, Fail> {
-    let words = words_of(alloc, line)?;
-    if words.is_empty() {
-        return Err("no words".into());
-    }
-    match run_command(rt, alloc, words.as_slice(), reader, writer) {
+    match ended(rt, alloc, line, reader, writer)? {
         Ok(()) => Err("no fault".into()),
         Err(fault) => Ok(fault),
     }
@@ -34,20 +47,21 @@ pub(crate) fn passes<T: Threads + Sync, R: Read>(
     reader: &mut R,
     writer: &mut Sluggish,
 ) -> Result<(), Fail> {
-    let words = words_of(alloc, line)?;
-    if words.is_empty() {
-        return Err("no words".into());
-    }
-    match run_command(rt, alloc, words.as_slice(), reader, writer) {
+    match ended(rt, alloc, line, reader, writer)? {
         Ok(()) => Ok(()),
-        Err(_) => Err("a fault".into()),
+        Err(fault) => {
+            drop(fault);
+            Err("a fault".into())
+        }
     }
 }
 
 // The number of bytes written before the writer failed, if that is the fault.
-pub(crate) fn sent(fault: &DeskFault) -> Option<usize> {
-    match fault {
+pub(crate) fn sent(fault: DeskFault) -> Option<usize> {
+    let sent = match &fault {
         DeskFault::Write(after) => Some(*after),
         _ => None,
-    }
+    };
+    drop(fault);
+    sent
 }

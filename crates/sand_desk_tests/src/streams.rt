@@ -9,6 +9,11 @@ use std::process::Abort;
 use std::test::Fail;
 use std::thread::Threads;
 
+// The numbers of two faults.
+const READ: Option<u32> = Some(20);
+
+const TOO_LONG: Option<u32> = Some(22);
+
 const PILE: &[u8] = b"3 1\n0 4 0\n";
 
 const SETTLED: &[u8] = b"3 1\n1 0 1\nodometer\n0 1 0\nlost 2\ntopplings 1\n";
@@ -35,7 +40,7 @@ fn stops<T: Threads + Sync + Abort>(
     let mut writer = Sluggish::new(alloc, taken.len());
     writer.is_full = is_full;
     let fault = fault_of(rt, alloc, line, &mut reader, &mut writer)?;
-    assert_eq!(rt; sent(&fault), Some(taken.len()));
+    assert_eq!(rt; sent(fault), Some(taken.len()));
     assert_eq!(rt; writer.taken.as_slice(), taken);
     Ok(())
 }
@@ -110,6 +115,19 @@ fn settled<T: Threads + Sync, R: Read>(
     fault_of(rt, alloc, "sandpile settle", reader, writer)
 }
 
+// The number of the fault of `settle`, if nothing was written.
+fn unwritten<T: Threads + Sync, R: Read>(
+    rt: &T,
+    alloc: Global,
+    reader: &mut R,
+) -> Result<Option<u32>, Fail> {
+    let mut writer = Sluggish::new(alloc, 100);
+    let fault = settled(rt, alloc, reader, &mut writer)?;
+    let number = fault.number();
+    drop(fault);
+    Ok(writer.taken.is_empty().then_some(number))
+}
+
 #[test]
 fn a_writer_that_cannot_flush(rt: HostRuntime) -> Result<(), Fail> {
     let mut reader = Failing {
@@ -119,7 +137,7 @@ fn a_writer_that_cannot_flush(rt: HostRuntime) -> Result<(), Fail> {
     let mut writer = Sluggish::new(rt.alloc(), 100);
     writer.flushes = false;
     let fault = settled(&rt, rt.alloc(), &mut reader, &mut writer)?;
-    assert_eq!(rt; sent(&fault), Some(44));
+    assert_eq!(rt; sent(fault), Some(44));
     assert_eq!(rt; writer.taken.as_slice(), SETTLED);
     Ok(())
 }
@@ -131,12 +149,8 @@ fn a_reader_that_fails_after_some_bytes(rt: HostRuntime) -> Result<(), Fail> {
             bytes: &PILE[..len],
             fails: true,
         };
-        let mut writer = Sluggish::new(rt.alloc(), 100);
-        let fault = settled(&rt, rt.alloc(), &mut reader, &mut writer)?;
-        assert!(rt;
-            matches!(fault, DeskFault::Read) && writer.taken.is_empty(),
-            "after {len}"
-        );
+        let number = unwritten(&rt, rt.alloc(), &mut reader)?;
+        assert_eq!(rt; number, READ, "after {len}");
     }
     Ok(())
 }
@@ -147,12 +161,8 @@ fn a_reader_that_fails_at_its_first_or_second_call(rt: HostRuntime) -> Result<()
         let mut reader = Cut {
             bytes: &PILE[..len],
         };
-        let mut writer = Sluggish::new(rt.alloc(), 100);
-        let fault = settled(&rt, rt.alloc(), &mut reader, &mut writer)?;
-        assert!(rt;
-            matches!(fault, DeskFault::Read) && writer.taken.is_empty(),
-            "after {len}"
-        );
+        let number = unwritten(&rt, rt.alloc(), &mut reader)?;
+        assert_eq!(rt; number, READ, "after {len}");
     }
     Ok(())
 }
@@ -160,9 +170,8 @@ fn a_reader_that_fails_at_its_first_or_second_call(rt: HostRuntime) -> Result<()
 #[test]
 fn spaces_without_end(rt: HostRuntime) -> Result<(), Fail> {
     let mut reader = Endless { given: 0 };
-    let mut writer = Sluggish::new(rt.alloc(), 100);
-    let fault = settled(&rt, rt.alloc(), &mut reader, &mut writer)?;
-    assert!(rt; matches!(fault, DeskFault::TooLong) && writer.taken.is_empty());
+    let number = unwritten(&rt, rt.alloc(), &mut reader)?;
+    assert_eq!(rt; number, TOO_LONG);
     assert!(rt; reader.given == 1_048_577);
     Ok(())
 }
