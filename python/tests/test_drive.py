@@ -147,7 +147,8 @@ class Threads(unittest.TestCase):
 
 
 STOPPED = """
-import threading, time, numpy as np, sandpile
+import signal, threading, time, numpy as np, sandpile
+signal.signal(signal.SIGINT, signal.default_int_handler)  # it is ignored in what a shell starts in the background
 run = sandpile.Drive(np.full((64, 64), 3), seed=8)
 def tell(before):  # only then does Ctrl-C come
     while run.drops == before:
