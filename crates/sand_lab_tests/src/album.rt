@@ -28,11 +28,13 @@ fn a_place_is_set_once(rt: HostRuntime) -> Result<(), Fail> {
     let album = Album::new(rt.alloc(), 1)?;
     let mut note = album.note(0);
     assert_eq!(rt; seen(&album, 0, &mut note), None);
-    run_into(&rt, rt.alloc(), &start, wish, &Open, &album)?;
+    let first = run_into(&rt, rt.alloc(), &start, wish, &Open, &album);
     assert_eq!(rt; seen(&album, 0, &mut note), Some((0, 3)));
     let again = run_into(&rt, rt.alloc(), &start, QUIET, &Open, &album);
+    assert!(rt; first.is_ok());
     assert!(rt; matches!(again, Err(LabFault::Taken)));
     assert_eq!(rt; seen(&album, 0, &mut note), Some((0, 3)));
+    drop((first, again, note, album, start));
     Ok(())
 }
 
@@ -40,7 +42,9 @@ fn a_place_is_set_once(rt: HostRuntime) -> Result<(), Fail> {
 fn seen_first(album: &Album, mut note: Note) -> Option<(u32, u64)>
     requires { IsPlace album.now 0 note.cell }
 {
-    seen(album, 0, &mut note)
+    let seen = seen(album, 0, &mut note);
+    drop(note);
+    seen
 }
 
 // What two threads see at the first place, each with a new note.
@@ -93,7 +97,9 @@ fn is_set(album: &Album, k: u32) -> bool {
         return false;
     }
     let mut note = album.note(k);
-    album.look(k, &mut note).is_some()
+    let is_set = album.look(k, &mut note).is_some();
+    drop(note);
+    is_set
 }
 
 impl Gate for Watch<'_> {
@@ -120,7 +126,10 @@ fn an_epoch_is_shown_before_the_next_one(rt: HostRuntime) -> Result<(), Fail> {
         album: &album,
         pictures: AtomicU64::new(0),
     };
-    run_into(&rt, rt.alloc(), &start, wish, &watch, &album)?;
+    let ran = run_into(&rt, rt.alloc(), &start, wish, &watch, &album);
+    assert!(rt; ran.is_ok());
     assert_eq!(rt; watch.pictures.load(SeqCst), 6);
+    drop((ran, watch));
+    drop((album, start));
     Ok(())
 }

@@ -16,6 +16,21 @@ use std::thread::{Threads, join};
 
 const ROUNDS: usize = 200;
 
+// The first pass, once it has taken in the other.
+fn joined(alloc: Global, pile: &SharedPile, mut one: Pass, other: Pass) -> Option<Pass>
+    requires one { IsPassOf pile.now one }
+    requires other { IsPassOf pile.now other }
+    ensures { IfSome result (λ p. IsPassOf pile.now p) }
+{
+    match pile.join(alloc, &mut one, other) {
+        Ok(()) => Some(one),
+        Err(told) => {
+            drop((one, told));
+            None
+        }
+    }
+}
+
 // Splits off half of a pass: half of its rows and of its quota.
 fn half_of(alloc: Global, pile: &SharedPile, pass: &mut Pass) -> Option<Pass>
     requires { IsPassOf pile.now pass.old }
@@ -25,10 +40,14 @@ fn half_of(alloc: Global, pile: &SharedPile, pass: &mut Pass) -> Option<Pass>
     let (first, end) = pass.rows();
     let rows = end.saturating_sub(first) / 2;
     let quota = pass.left() / 2;
-    let mut half = pile.split_rows(alloc, pass, rows).ok()?;
-    let more = pile.split(alloc, pass, quota).ok()?;
-    pile.join(alloc, &mut half, more).ok()?;
-    Some(half)
+    let half = pile.split_rows(alloc, pass, rows).ok()?;
+    match pile.split(alloc, pass, quota) {
+        Ok(more) => joined(alloc, pile, half, more),
+        Err(_) => {
+            drop(half);
+            None
+        }
+    }
 }
 
 // The passes of two threads, joined.
@@ -42,10 +61,19 @@ fn gathered(
     requires other { IfSome other (λ p. IsPassOf pile.now p) }
     ensures { IfSome result (λ p. IsPassOf pile.now p) }
 {
-    let mut one = one?;
-    let other = other?;
-    pile.join(alloc, &mut one, other).ok()?;
-    Some(one)
+    match one {
+        Some(one) => match other {
+            Some(other) => joined(alloc, pile, one, other),
+            None => {
+                drop(one);
+                None
+            }
+        },
+        None => {
+            drop(other);
+            None
+        }
+    }
 }
 
 // Runs 2^depth threads, each with its part of the pass.
@@ -93,14 +121,23 @@ const ODOMETER: [u64; 24] = [
 fn closed_by_eight<R: Threads + Sync>(rt: &R, alloc: Global, start: &Pile) -> Option<Record> {
     let (pile, pass) = SharedPile::new(alloc, start, 32).ok()?;
     let meeting = Meeting::new();
-    let pass = crew(rt, alloc, start, &pile, &meeting, pass, 3)?;
-    pile.close(alloc, pass).ok()
+    match crew(rt, alloc, start, &pile, &meeting, pass, 3) {
+        Some(pass) => pile.close(alloc, pass).ok(),
+        None => {
+            drop(pile);
+            None
+        }
+    }
 }
 
 // Whether eight threads have the same result as one.
 fn are_as_one<R: Threads + Sync>(rt: &R, alloc: Global, start: &Pile) -> bool {
     match closed_by_eight(rt, alloc, start) {
-        Some(record) => is_record(&record, record.history(), &HEIGHTS, &ODOMETER, 63),
+        Some(record) => {
+            let is_right = is_record(&record, record.history(), &HEIGHTS, &ODOMETER, 63);
+            drop(record);
+            is_right
+        }
         None => false,
     }
 }
@@ -111,5 +148,6 @@ fn eight_threads_are_as_one(rt: HostRuntime) -> Result<(), Fail> {
     for _ in 0..ROUNDS {
         assert!(rt; are_as_one(&rt, rt.alloc(), &start));
     }
+    drop(start);
     Ok(())
 }

@@ -7,7 +7,7 @@ ghost use Rattle.sand_shared.specs.Passes.{IsPassOf};
 
 use crate::pile_with_passes::Call::{DropAt, Join, Receipt, Split, Tally, ThrowAway};
 use crate::pile_with_passes::Told::{Done, Dropped, Fault, Number};
-use crate::pile_with_passes::{Left, PileWithPasses, Start, both_leave};
+use crate::pile_with_passes::{Left, PileWithPasses, Start, both_leave, is_there};
 use sand_model::{GRAIN_LIMIT, Pile, Shape};
 use sand_shared::{Pass, Record, SharedPile, SiteCounts};
 use sand_testing::piles::{one_site, open_pile};
@@ -39,7 +39,7 @@ fn a_quota_that_is_thrown_away_stays_missing(rt: HostRuntime) {
     ];
     let pile = PileWithPasses::played(rt.alloc(), site(&[0], 5), &drops).expect(&rt, "four drops");
     let pile = pile.still_missing(rt.alloc()).expect(&rt, "a grain");
-    assert!(rt; pile.play(rt.alloc(), &[(Tally(0), Number(4))]).is_some());
+    assert!(rt; is_there(pile.play(rt.alloc(), &[(Tally(0), Number(4))])));
 }
 
 #[test]
@@ -59,6 +59,7 @@ fn no_quota_past_the_limit(rt: HostRuntime) -> Result<(), Fail> {
     for (height, quota) in [(GRAIN_LIMIT, 1), (GRAIN_LIMIT - 1, 2)] {
         let start = one_site(rt.alloc(), height)?;
         let made = PileWithPasses::of_start(rt.alloc(), &start, quota);
+        drop(start);
         assert_eq!(rt; made.err(), Some(3));
     }
     Ok(())
@@ -97,7 +98,7 @@ fn a_tally_is_not_stale(rt: HostRuntime) {
         (DropAt(0, 0), Number(1)),
         (Tally(1), Number(2)),
     ];
-    assert!(rt; PileWithPasses::played(rt.alloc(), site(&[0], 2), &calls).is_some());
+    assert!(rt; is_there(PileWithPasses::played(rt.alloc(), site(&[0], 2), &calls)));
 }
 
 #[test]
@@ -113,7 +114,7 @@ fn a_tally_has_all_drops_that_the_pass_has_seen(rt: HostRuntime) {
         (Split(0, 0), Done),
         (Tally(1), Number(6)),
     ];
-    assert!(rt; PileWithPasses::played(rt.alloc(), site(&[0], 6), &calls).is_some());
+    assert!(rt; is_there(PileWithPasses::played(rt.alloc(), site(&[0], 6), &calls)));
 }
 
 // The child drops first, and its receipt comes last.
@@ -161,6 +162,7 @@ fn one_and_three(alloc: Global, start: &Pile) -> Option<Record>
 {
     let (pile, mut pass) = SharedPile::new(alloc, start, 4).ok()?;
     if !drop_one_and_three(alloc, start.shape(), &pile, &mut pass) {
+        drop((pile, pass));
         return None;
     }
     pile.close(alloc, pass).ok()
@@ -170,7 +172,10 @@ fn one_and_three(alloc: Global, start: &Pile) -> Option<Record>
 fn a_list_is_dropped_in_its_order(rt: HostRuntime) -> Result<(), Fail> {
     let start = open_pile(rt.alloc(), 3, 1, &[0, 3, 0])?;
     assert!(rt; start.shape().sites() == 3);
-    let record = one_and_three(rt.alloc(), &start).ok_or("four drops")?;
+    let record = one_and_three(rt.alloc(), &start);
+    drop(start);
+    let record = record.ok_or("four drops")?;
     assert!(rt; is_record(&record, &[2, 1, 0, 1], &[2, 1, 2], &[0, 1, 0], 2));
+    drop(record);
     Ok(())
 }

@@ -1,7 +1,7 @@
 //! Runs with gates that hold threads until others have begun a turn.
 
 use crate::holding::{Hold, Holds, dropper, observer, worker};
-use crate::setup::run_gated;
+use crate::setup::{run_gated, run_on_a_site};
 use sand_lab::{Entry, Wish};
 use sand_testing::piles::{one_site, open_pile};
 use sand_testing::runs::QUIET;
@@ -16,9 +16,8 @@ fn hold_each_other<R: Threads + Sync>(
     wish: Wish,
     holds: &[Hold],
 ) -> Result<bool, Fail> {
-    let start = one_site(alloc, 0)?;
     let gate = Holds::new(holds);
-    run_gated(rt, alloc, &start, wish, &gate)?;
+    run_on_a_site(rt, alloc, 0, wish, &gate)?;
     Ok(gate.have_held())
 }
 
@@ -75,13 +74,13 @@ fn a_dropper_a_worker_and_an_observer_meet(rt: HostRuntime) -> Result<(), Fail> 
     Ok(())
 }
 
-// The first tally of an observer, if no thread was released early. It is read after the gate's call for drop `drop` and
+// The first tally of an observer, if no thread was released early. It is read after the gate's call for drop `next` and
 // before that drop is made; no drop is made before the gate's call for the tally.
 fn tally_before<R: Threads + Sync>(
     rt: &R,
     alloc: Global,
     drops: u32,
-    drop: u32,
+    next: u32,
 ) -> Result<Option<u64>, Fail> {
     let start = one_site(alloc, 0)?;
     let wish = Wish {
@@ -91,15 +90,16 @@ fn tally_before<R: Threads + Sync>(
     };
     let holds = [
         Hold::new(dropper(0, 0), observer(0)),
-        Hold::new(observer(0), dropper(0, drop)),
-        Hold::new(dropper(0, drop), observer(1)),
+        Hold::new(observer(0), dropper(0, next)),
+        Hold::new(dropper(0, next), observer(1)),
     ];
     let gate = Holds::new(&holds);
-    let report = run_gated(rt, alloc, &start, wish, &gate)?;
-    if !gate.have_held() {
-        return Ok(None);
-    }
-    Ok(report.tallies(0, 0).first().copied())
+    let ran = run_gated(rt, alloc, &start, wish, &gate);
+    drop(start);
+    let report = ran?;
+    let tally = report.tallies(0, 0).first().copied();
+    drop(report);
+    Ok(if gate.have_held() { tally } else { None })
 }
 
 #[test]
@@ -146,8 +146,12 @@ fn drop_in_turn<R: Threads + Sync>(
     };
     let holds = in_turn(alloc, first, second)?;
     let gate = Holds::new(holds.as_slice());
-    let report = run_gated(rt, alloc, &start, wish, &gate)?;
-    Ok(gate.have_held() && alternates(report.journal(0), [first, second]))
+    let ran = run_gated(rt, alloc, &start, wish, &gate);
+    drop(start);
+    let report = ran?;
+    let is_in_turn = alternates(report.journal(0), [first, second]);
+    drop(report);
+    Ok(gate.have_held() && is_in_turn)
 }
 
 #[test]
@@ -174,9 +178,12 @@ fn a_worker_sweeps_after_its_gate(rt: HostRuntime) -> Result<(), Fail> {
         Hold::new(worker(0), dropper(0, 1)),
     ];
     let gate = Holds::new(&holds);
-    let report = run_gated(&rt, rt.alloc(), &start, wish, &gate)?;
+    let ran = run_gated(&rt, rt.alloc(), &start, wish, &gate);
+    drop(start);
+    let report = ran?;
     assert!(rt; gate.have_held());
     assert_eq!(rt; report.swept(0, 0), 2);
+    drop(report);
     Ok(())
 }
 
@@ -196,11 +203,14 @@ fn rounds_sweep_until_nothing_topples(rt: HostRuntime) -> Result<(), Fail> {
         Hold::new(dropper(1, 0), worker(599)),
     ];
     let gate = Holds::new(&holds);
-    let report = run_gated(&rt, rt.alloc(), &start, wish, &gate)?;
+    let ran = run_gated(&rt, rt.alloc(), &start, wish, &gate);
+    drop(start);
+    let report = ran?;
     assert!(rt; gate.have_held());
     assert_eq!(rt;
         (report.total().topplings(), report.swept(0, 0)),
         (567, 567)
     );
+    drop(report);
     Ok(())
 }

@@ -7,7 +7,7 @@ use crate::pile_with_passes::Call::{
     DropAt, IsWhole, Join, Rows, Split, SplitRows, Tally, ThrowAway,
 };
 use crate::pile_with_passes::Told::{Between, Done, Fault, Is, Number};
-use crate::pile_with_passes::{ENDINGS, Ending, Left, PileWithPasses, Start, both_leave};
+use crate::pile_with_passes::{ENDINGS, Ending, Left, PileWithPasses, Start, both_leave, is_there};
 use sand_shared::{BarePass, SharedPile};
 use sand_testing::shared::{bare_of, shared_pile};
 use std::alloc::Global;
@@ -35,7 +35,7 @@ fn rows_are_handed_on(rt: HostRuntime) {
         (Join(0, 1), Done),
         (Rows(0), Between(0, 3)),
     ];
-    assert!(rt; PileWithPasses::played(rt.alloc(), ROWS, &calls).is_some());
+    assert!(rt; is_there(PileWithPasses::played(rt.alloc(), ROWS, &calls)));
 }
 
 // The pass of the last row takes in the rows before it.
@@ -49,7 +49,7 @@ fn rows_are_joined_from_the_last_one(rt: HostRuntime) {
         (Rows(0), Between(0, 3)),
         (IsWhole(0), Is(true)),
     ];
-    assert!(rt; PileWithPasses::played(rt.alloc(), ROWS, &calls).is_some());
+    assert!(rt; is_there(PileWithPasses::played(rt.alloc(), ROWS, &calls)));
 }
 
 // The first row touches the middle one, but not the last.
@@ -63,7 +63,7 @@ fn rows_that_are_thrown_away_stay_missing(rt: HostRuntime) {
             (Join(0, 1), joined),
         ];
         let pile = PileWithPasses::played(rt.alloc(), ROWS, &calls).expect(&rt, "three rows");
-        assert!(rt; pile.still_missing(rt.alloc()).is_some());
+        assert!(rt; is_there(pile.still_missing(rt.alloc())));
     }
 }
 
@@ -119,7 +119,7 @@ fn a_receipt_that_is_thrown_away_stays_missing(rt: HostRuntime) {
     ];
     let pile = PileWithPasses::played(rt.alloc(), grain(&[0]), &calls).expect(&rt, "a drop");
     let pile = pile.still_missing(rt.alloc()).expect(&rt, "a receipt");
-    assert!(rt; pile.play(rt.alloc(), &[(Tally(0), Number(1))]).is_some());
+    assert!(rt; is_there(pile.play(rt.alloc(), &[(Tally(0), Number(1))])));
 }
 
 #[test]
@@ -167,9 +167,16 @@ fn two_rows(alloc: Global) -> Result<(SharedPile, BarePass, BarePass), Fail>
     ensures { IfOk result (λ r. IsPassOf r.0 r.1 × IsPassOf r.0 r.2) }
 {
     let (pile, mut pass) = shared_pile(alloc, 1, 2, &[8, 7], 0)?;
-    let lower = pile.split_rows(alloc, &mut pass, 1)?;
-    pile.sweep(&mut pass);
-    Ok((pile, bare_of(pass), bare_of(lower)))
+    match pile.split_rows(alloc, &mut pass, 1) {
+        Ok(lower) => {
+            pile.sweep(&mut pass);
+            Ok((pile, bare_of(pass), bare_of(lower)))
+        }
+        Err(fault) => {
+            drop((pile, pass));
+            Err(fault.into())
+        }
+    }
 }
 
 // Whether a pass that lacks the rows of another cannot settle the pile, and takes it in.
@@ -178,9 +185,11 @@ fn take_in(alloc: Global, pile: &SharedPile, pass: &mut BarePass, other: BarePas
     requires other { IsPassOf pile.now other }
     ensures { IsPassOf pile.now pass.new }
 {
-    let is_refused = pile.settle_rest(alloc, pass).is_err();
-    let is_joined = pile.join_bare(alloc, pass, other).is_ok();
-    is_refused && is_joined
+    let rest = pile.settle_rest(alloc, pass);
+    let joined = pile.join_bare(alloc, pass, other);
+    let is_taken = rest.is_err() && joined.is_ok();
+    drop((rest, joined));
+    is_taken
 }
 
 // The lower row then has 9 grains, which remain to be settled.
@@ -188,9 +197,12 @@ fn take_in(alloc: Global, pile: &SharedPile, pass: &mut BarePass, other: BarePas
 fn bare_passes_are_gathered_and_settled(rt: HostRuntime) -> Result<(), Fail> {
     let (pile, mut upper, lower) = two_rows(rt.alloc())?;
     assert!(rt; take_in(rt.alloc(), &pile, &mut upper, lower));
-    let rest = pile.settle_rest(rt.alloc(), &mut upper)?;
+    let rest = pile.settle_rest(rt.alloc(), &mut upper);
+    drop((pile, upper));
+    let rest = rest?;
     assert!(rt; rest.pile().heights() == [2, 1].as_slice());
     assert!(rt; rest.odometers() == [0, 2].as_slice());
     assert_eq!(rt; (rest.topplings(), rest.lost()), (2, 6));
+    drop(rest);
     Ok(())
 }

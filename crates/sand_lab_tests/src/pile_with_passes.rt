@@ -100,6 +100,22 @@ fn take(_pile: &SharedPile, passes: &mut Vec<Pass>, place: usize) -> Option<Pass
     Some(passes.remove(place))
 }
 
+// Takes the first two passes out of a list.
+fn take_two(_pile: &SharedPile, passes: &mut Vec<Pass>) -> Option<(Pass, Pass)>
+    requires { All (IsPassOf _pile.now) passes.old.items }
+    ensures passes { IfSome result (λ r. IsPassOf _pile.now r.0 × IsPassOf _pile.now r.1) }
+    ensures rest { All (IsPassOf _pile.now) passes.new.items }
+{
+    let other = take(_pile, passes, 1)?;
+    match take(_pile, passes, 0) {
+        Some(one) => Some((one, other)),
+        None => {
+            drop(other);
+            None
+        }
+    }
+}
+
 // Inserts a pass into a list, if there is room.
 fn put(_pile: &SharedPile, passes: &mut Vec<Pass>, place: usize, pass: Pass)
     requires passes { All (IsPassOf _pile.now) passes.old.items }
@@ -140,6 +156,7 @@ impl PileWithPasses {
         };
         let mut passes = Vec::new(alloc);
         if passes.push(pass).is_err() {
+            drop((pile, passes));
             return Err(4);
         }
         Ok(PileWithPasses {
@@ -158,14 +175,16 @@ impl PileWithPasses {
         let (width, height) = start.sides;
         let shape = Shape::new(width, height).ok()?;
         let heights = Pile::new(alloc, shape, start.heights).ok()?;
-        let pile = PileWithPasses::of_start(alloc, &heights, start.quota).ok()?;
-        pile.play(alloc, calls)
+        let pile = PileWithPasses::of_start(alloc, &heights, start.quota).ok();
+        drop(heights);
+        pile?.play(alloc, calls)
     }
 
     /// The pile, if these calls return what is expected.
     pub fn play(mut self, alloc: Global, calls: &[(Call, Told)]) -> Option<PileWithPasses> {
         for (call, told) in calls {
             if self.call(alloc, *call) != *told {
+                drop(self);
                 return None;
             }
         }
@@ -247,6 +266,7 @@ impl PileWithPasses {
         };
         let place = pass.saturating_sub(usize::from(other < pass));
         let Some(mut first) = take(&self.pile, &mut self.passes, place) else {
+            drop(second);
             return Told::NoSuch;
         };
         let refused = self.pile.join(alloc, &mut first, second).err();
@@ -260,7 +280,10 @@ impl PileWithPasses {
 
     fn throw_away(&mut self, pass: usize) -> Told {
         match take(&self.pile, &mut self.passes, pass) {
-            Some(_) => Told::Done,
+            Some(pass) => {
+                drop(pass);
+                Told::Done
+            }
             None => Told::NoSuch,
         }
     }
@@ -334,12 +357,16 @@ impl PileWithPasses {
             mut passes,
         } = self;
         if !is_inside(shape, here) || !is_inside(shape, there) {
+            drop((pile, passes));
             return None;
         }
-        let other = take(&pile, &mut passes, 1)?;
-        let one = take(&pile, &mut passes, 0)?;
+        let Some((one, other)) = take_two(&pile, &mut passes) else {
+            drop((pile, passes));
+            return None;
+        };
         let (one, other, met) = both_at_once(rt, &pile, one, other, here, there);
         if !met {
+            drop((pile, passes, one, other));
             return None;
         }
         put(&pile, &mut passes, 0, other);
@@ -373,7 +400,10 @@ impl PileWithPasses {
             Ending::Settle => pile.settle(alloc, first),
         };
         match ended {
-            Ok(record) => Ok(record),
+            Ok(record) => {
+                drop(passes);
+                Ok(record)
+            }
             Err((fault, pile, first)) => {
                 put(&pile, &mut passes, 0, first);
                 Err((
@@ -392,7 +422,10 @@ impl PileWithPasses {
     fn misses(self, alloc: Global, ending: Ending) -> Option<PileWithPasses> {
         match self.end(alloc, ending) {
             Err((14, pile)) => Some(pile),
-            _ => None,
+            ended => {
+                drop(ended);
+                None
+            }
         }
     }
 
@@ -405,16 +438,32 @@ impl PileWithPasses {
     /// Whether this ending has this result.
     pub fn leaves(self, alloc: Global, ending: Ending, left: Left<'_>) -> bool {
         match self.end(alloc, ending) {
-            Ok(record) => is_record(
-                &record,
-                left.history,
-                left.heights,
-                left.odometer,
-                left.lost,
-            ),
-            Err(_) => false,
+            Ok(record) => is_left(record, left),
+            Err(pile) => {
+                drop(pile);
+                false
+            }
         }
     }
+}
+
+fn is_left(record: Record, left: Left<'_>) -> bool {
+    let is_left = is_record(
+        &record,
+        left.history,
+        left.heights,
+        left.odometer,
+        left.lost,
+    );
+    drop(record);
+    is_left
+}
+
+/// Whether there is a pile: the calls before it returned what was expected.
+pub fn is_there(pile: Option<PileWithPasses>) -> bool {
+    let is_there = pile.is_some();
+    drop(pile);
+    is_there
 }
 
 /// Whether, after these calls, both endings have this result.

@@ -11,58 +11,99 @@ use std::test::Fail;
 fn after_the_first(alloc: Global, first: &Record) -> Result<Record, Fail> {
     let next = dropped_on(alloc, first.pile(), 1)?;
     if !are_within_limit(first, &next) {
+        drop(next);
         return Err("too many grains".into());
     }
-    let both = first.followed_by(alloc, &next)?;
-    Ok(both)
+    let both = first.followed_by(alloc, &next);
+    drop(next);
+    Ok(both?)
 }
 
 fn append_one(alloc: Global, record: &mut Record) -> Result<(), Fail> {
     let next = dropped_on(alloc, record.pile(), 1)?;
     if !are_within_limit(record, &next) {
+        drop(next);
         return Err("too many grains".into());
     }
-    record.append(alloc, &next)?;
+    let told = record.append(alloc, &next);
+    drop(next);
+    told?;
     Ok(())
+}
+
+// A record with one more drop appended.
+fn grown(alloc: Global, mut record: Record) -> Result<Record, Fail> {
+    match append_one(alloc, &mut record) {
+        Ok(()) => Ok(record),
+        Err(fault) => {
+            drop(record);
+            Err(fault)
+        }
+    }
 }
 
 // A copy with room for one more drop, which is then appended.
 fn grown_copy(alloc: Global, record: &Record) -> Result<Record, Fail> {
-    let mut copy = record.copy_with_room(alloc, 1)?;
-    append_one(alloc, &mut copy)?;
-    Ok(copy)
+    let copy = record.copy_with_room(alloc, 1)?;
+    grown(alloc, copy)
+}
+
+// The record of drops on one site.
+fn record_of(alloc: Global, height: u64, drops: u64) -> Result<Record, Fail> {
+    let start = one_site(alloc, height)?;
+    let record = dropped_on(alloc, &start, drops);
+    drop(start);
+    record
+}
+
+fn is_three(record: &Record) -> bool {
+    is_record(record, &[0, 0, 0], &[3], &[0], 0)
+}
+
+fn is_four(record: Record) -> bool {
+    let is_four = is_record(&record, &[0, 0, 0, 0], &[0], &[1], 4);
+    drop(record);
+    is_four
+}
+
+// Whether three drops have the right continuation, by a new record and by a copy that grows.
+fn is_continued(alloc: Global, first: &Record) -> Result<bool, Fail> {
+    let both = after_the_first(alloc, first)?;
+    let is_both = is_four(both);
+    let grown = grown_copy(alloc, first)?;
+    Ok(is_four(grown) && is_both)
 }
 
 // Three drops on an empty site, then one that topples it.
 #[test]
 fn one_record_after_another(rt: HostRuntime) -> Result<(), Fail> {
-    let start = one_site(rt.alloc(), 0)?;
-    let first = dropped_on(rt.alloc(), &start, 3)?;
-    assert!(rt; is_record(&first, &[0, 0, 0], &[3], &[0], 0));
-    let both = after_the_first(rt.alloc(), &first)?;
-    assert!(rt; is_record(&both, &[0, 0, 0, 0], &[0], &[1], 4));
-    let grown = grown_copy(rt.alloc(), &first)?;
-    assert!(rt; is_record(&grown, &[0, 0, 0, 0], &[0], &[1], 4));
+    let first = record_of(rt.alloc(), 0, 3)?;
+    assert!(rt; is_three(&first));
+    let told = is_continued(rt.alloc(), &first);
+    drop(first);
+    assert!(rt; told?);
     Ok(())
 }
 
 // Two records share a history. One grows, the other does not change.
 #[test]
 fn a_shared_history_grows_in_one_record_alone(rt: HostRuntime) -> Result<(), Fail> {
-    let start = one_site(rt.alloc(), 0)?;
-    let record = dropped_on(rt.alloc(), &start, 3)?;
-    let (mut one, other) = record.twice(rt.alloc())?;
-    append_one(rt.alloc(), &mut one)?;
-    assert!(rt; is_record(&one, &[0, 0, 0, 0], &[0], &[1], 4));
-    assert!(rt; is_record(&other, &[0, 0, 0], &[3], &[0], 0));
+    let record = record_of(rt.alloc(), 0, 3)?;
+    let (one, other) = record.twice(rt.alloc())?;
+    let grown = grown(rt.alloc(), one);
+    assert!(rt; is_three(&other));
+    drop(other);
+    assert!(rt; is_four(grown?));
     Ok(())
 }
 
 #[test]
 fn a_copy_of_a_record(rt: HostRuntime) -> Result<(), Fail> {
-    let start = one_site(rt.alloc(), 3)?;
-    let record = dropped_on(rt.alloc(), &start, 2)?;
-    let copy = record.copy(rt.alloc())?;
+    let record = record_of(rt.alloc(), 3, 2)?;
+    let copy = record.copy(rt.alloc());
+    drop(record);
+    let copy = copy?;
     assert!(rt; is_record(&copy, &[0, 0], &[1], &[1], 4));
+    drop(copy);
     Ok(())
 }

@@ -21,8 +21,13 @@ fn fault_of<R: Threads + Sync>(
         ..QUIET
     };
     let album = Album::new(alloc, 1)?;
-    match run_into(rt, alloc, &start, wish, &Open, &album) {
-        Ok(_) => Ok(0),
+    let ran = run_into(rt, alloc, &start, wish, &Open, &album);
+    drop((start, album));
+    match ran {
+        Ok(report) => {
+            drop(report);
+            Ok(0)
+        }
         Err(fault) => Ok(fault.number()),
     }
 }

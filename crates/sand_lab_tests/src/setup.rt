@@ -6,9 +6,11 @@ ghost use Rattle.sand_lab.specs.Reports.{sheet_at};
 use sand_lab::{Album, Gate, LabFault, Open, Report, Wish};
 use sand_model::Pile;
 use sand_shared::Record;
+use sand_testing::piles::one_site;
 use sand_testing::records::is_record;
 use sand_testing::runs::run_into;
 use std::alloc::Global;
+use std::test::Fail;
 use std::thread::Threads;
 
 /// The report of a run with an album of its own.
@@ -24,7 +26,25 @@ pub fn run_gated<R: Threads + Sync, G: Gate>(
     ensures swept { IfOk result (λ p. (t : ℕ) → t < wish.epochs → length (sheet_at p t).swept ≡ wish.workers) }
 {
     let album = Album::new(alloc, wish.epochs)?;
-    run_into(rt, alloc, start, wish, gate, &album)
+    let ran = run_into(rt, alloc, start, wish, gate, &album);
+    drop(album);
+    ran
+}
+
+/// The same on one site of this height, without the report.
+pub fn run_on_a_site<R: Threads + Sync, G: Gate>(
+    rt: &R,
+    alloc: Global,
+    height: u64,
+    wish: Wish,
+    gate: &G,
+) -> Result<(), Fail> {
+    let start = one_site(alloc, height)?;
+    let ran = run_gated(rt, alloc, &start, wish, gate);
+    drop(start);
+    let report = ran?;
+    drop(report);
+    Ok(())
 }
 
 /// The result in a record: the heights, the odometer and the grains lost.
@@ -55,5 +75,7 @@ pub fn leaves<R: Threads + Sync>(
     left: Left<'_>,
 ) -> Result<bool, LabFault> {
     let report = run_gated(rt, alloc, start, wish, &Open)?;
-    Ok(is_left(report.total(), left))
+    let leaves = is_left(report.total(), left);
+    drop(report);
+    Ok(leaves)
 }

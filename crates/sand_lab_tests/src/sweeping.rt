@@ -2,7 +2,7 @@
 
 use crate::pile_with_passes::Call::{DropAt, Join, Split, SplitRows, Sweep, Toppled};
 use crate::pile_with_passes::Told::{Done, Number};
-use crate::pile_with_passes::{Ending, Left, PileWithPasses, Start, both_leave};
+use crate::pile_with_passes::{Ending, Left, PileWithPasses, Start, both_leave, is_there};
 use sand_model::Edge;
 use sand_testing::piles::pile_on;
 use std::test::Fail;
@@ -48,7 +48,9 @@ fn sweeps_a_square(rt: HostRuntime) {
 #[test]
 fn sweeps_a_cylinder(rt: HostRuntime) -> Result<(), Fail> {
     let start = pile_on(rt.alloc(), 3, 1, Edge::Cylinder, &[4, 4, 4])?;
-    let pile = PileWithPasses::of_start(rt.alloc(), &start, 0).map_err(|_| "a shared pile")?;
+    let pile = PileWithPasses::of_start(rt.alloc(), &start, 0).ok();
+    drop(start);
+    let pile = pile.ok_or("a shared pile")?;
     let calls = [(Sweep(0), Number(3)), (Sweep(0), Number(0))];
     let pile = pile.play(rt.alloc(), &calls).ok_or("two sweeps")?;
     let left = Left {
@@ -77,7 +79,7 @@ fn goes_once_over_the_rows_of_a_part(rt: HostRuntime) {
         (Sweep(0), Number(1)),
         (Sweep(0), Number(0)),
     ];
-    assert!(rt; PileWithPasses::played(rt.alloc(), start, &calls).is_some());
+    assert!(rt; is_there(PileWithPasses::played(rt.alloc(), start, &calls)));
 }
 
 #[test]

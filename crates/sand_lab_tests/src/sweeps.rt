@@ -15,9 +15,12 @@ fn each_worker_sweeps_its_row(rt: HostRuntime) -> Result<(), Fail> {
         sweeps: 1,
         ..QUIET
     };
-    let report = run_gated(&rt, rt.alloc(), &start, wish, &Open)?;
+    let ran = run_gated(&rt, rt.alloc(), &start, wish, &Open);
+    drop(start);
+    let report = ran?;
     assert_eq!(rt; [report.swept(0, 0), report.swept(0, 1)], [2, 2]);
     assert!(rt; is_record(report.total(), &[], &[2; 4], &[1; 4], 8));
+    drop(report);
     Ok(())
 }
 
@@ -30,11 +33,14 @@ fn workers_without_rows_sweep_nothing(rt: HostRuntime) -> Result<(), Fail> {
         sweeps: 1000,
         ..QUIET
     };
-    let report = run_gated(&rt, rt.alloc(), &start, wish, &Open)?;
+    let ran = run_gated(&rt, rt.alloc(), &start, wish, &Open);
+    drop(start);
+    let report = ran?;
     for worker in 0..16 {
         let due = if worker == 7 || worker == 15 { 2 } else { 0 };
         assert_eq!(rt; report.swept(0, worker), due, "worker {worker}");
     }
+    drop(report);
     Ok(())
 }
 
@@ -50,8 +56,11 @@ fn rounds_go_on_while_one_band_topples(rt: HostRuntime) -> Result<(), Fail> {
         sweeps: 2,
         ..QUIET
     };
-    let report = run_gated(&rt, rt.alloc(), &start, wish, &Open)?;
+    let ran = run_gated(&rt, rt.alloc(), &start, wish, &Open);
+    drop(start);
+    let report = ran?;
     assert_eq!(rt; [report.swept(0, 0), report.swept(0, 1)], [0, 489]);
     assert_eq!(rt; report.total().topplings(), 494);
+    drop(report);
     Ok(())
 }

@@ -1,8 +1,7 @@
 //! How often a gate is called.
 
-use crate::setup::run_gated;
+use crate::setup::run_on_a_site;
 use sand_lab::{Gate, Role, Wish};
-use sand_testing::piles::one_site;
 use sand_testing::runs::QUIET;
 use std::sync::atomic::Ordering::SeqCst;
 use std::sync::atomic::{AtomicBool, AtomicU32};
@@ -78,7 +77,6 @@ impl Gate for Count {
 // Rounds of sweeps follow each epoch's turns, without calling the gate.
 #[test]
 fn a_gate_is_called_before_each_turn(rt: HostRuntime) -> Result<(), Fail> {
-    let start = one_site(rt.alloc(), 0)?;
     let wish = Wish {
         droppers: 2,
         drops: 5,
@@ -94,7 +92,7 @@ fn a_gate_is_called_before_each_turn(rt: HostRuntime) -> Result<(), Fail> {
         workers: Calls::new(4),
         observers: Calls::new(16),
     };
-    run_gated(&rt, rt.alloc(), &start, wish, &gate)?;
+    run_on_a_site(&rt, rt.alloc(), 0, wish, &gate)?;
     assert!(rt; gate.are_all(3));
     Ok(())
 }
@@ -102,7 +100,6 @@ fn a_gate_is_called_before_each_turn(rt: HostRuntime) -> Result<(), Fail> {
 // These numbers of drops make batches of several drops, and a shorter last batch.
 #[test]
 fn a_gate_is_called_before_each_drop_of_a_batch(rt: HostRuntime) -> Result<(), Fail> {
-    let start = one_site(rt.alloc(), 0)?;
     for drops in [17, 33, 100] {
         let wish = Wish {
             droppers: 2,
@@ -116,7 +113,7 @@ fn a_gate_is_called_before_each_drop_of_a_batch(rt: HostRuntime) -> Result<(), F
             workers: Calls::new(0),
             observers: Calls::new(0),
         };
-        run_gated(&rt, rt.alloc(), &start, wish, &gate)?;
+        run_on_a_site(&rt, rt.alloc(), 0, wish, &gate)?;
         assert!(rt; gate.are_all(2));
     }
     Ok(())

@@ -54,8 +54,8 @@ fn drop_on_two_sites<R: Threads + Sync>(rt: &R, alloc: Global, ending: Ending) -
     };
     let pile = PileWithPasses::played(alloc, start, &[(Split(0, 1), Done)])?;
     let pile = pile.both_at_once(rt, Some(0), Some(1))?;
-    let history = match pile.number(0, 0)? {
-        0 => [0, 1],
+    let history = match pile.number(0, 0) {
+        Some(0) => [0, 1],
         _ => [1, 0],
     };
     let left = Left {
