@@ -9,8 +9,7 @@
 
 ghost use Rattle.std.specs.Prelude.{◌≤◌, ◌<◌};
 
-use crate::frame::{Frame, run_mut};
-use crate::lists::listed;
+use crate::frame::{Frame, run, run_mut};
 use crate::neighbours::add_neighbours;
 use std::alloc::{AllocError, Global};
 
@@ -50,18 +49,18 @@ pub(crate) struct Fire {
 }
 
 fn put_heights(bytes: &mut [u8], heights: &[i64]) {
-    for (byte, height) in bytes.iter_mut().zip(heights) {
-        let raised = height.wrapping_add(i64::from(LEVEL)).cast_unsigned();
-        *byte = (raised & BYTE_BITS) as u8;
+    for site in 0..bytes.len().min(heights.len()) {
+        let raised = heights[site].wrapping_add(i64::from(LEVEL));
+        bytes[site] = (raised.cast_unsigned() & BYTE_BITS) as u8;
     }
 }
 
 // Marks the sites with counts above the least, and returns their number.
 fn mark(marks: &mut [u8], counts: &[i64], least: i64) -> u32 {
     let mut found = 0u32;
-    for (mark, count) in marks.iter_mut().zip(counts) {
-        let has_toppled = *count > least;
-        *mark = u8::from(has_toppled);
+    for site in 0..marks.len().min(counts.len()) {
+        let has_toppled = counts[site] > least;
+        marks[site] = u8::from(has_toppled);
         found = found.wrapping_add(u32::from(has_toppled));
     }
     found
@@ -74,39 +73,41 @@ fn set_ends(room: &mut [u8], frame: Frame) {
     } else {
         (OUTSIDE, OUTSIDE)
     };
-    for row in room.chunks_exact_mut(frame.width + 2) {
-        if let [first, .., last] = row {
-            *first = west;
-            *last = east;
+    for y in 0..frame.height {
+        let first = y * (frame.width + 2);
+        let last = first + frame.width + 1;
+        if last < room.len() {
+            room[first] = west;
+            room[last] = east;
         }
     }
 }
 
-fn set_room(cells: &mut [u8], heights: &[u8], marks: &[u8], around: &[u8]) {
-    let sites = cells.iter_mut().skip(1).zip(heights);
-    for (((room, height), mark), around) in sites.zip(marks).zip(around) {
-        let is_marked = 0u8.wrapping_sub(*mark);
-        *room = height.wrapping_sub(*around) & is_marked;
+fn set_room(room: &mut [u8], heights: &[u8], marks: &[u8], around: &[u8]) {
+    let cells = room.len().min(heights.len()).min(marks.len());
+    for x in 0..cells.min(around.len()) {
+        let is_marked = 0u8.wrapping_sub(marks[x]);
+        room[x] = heights[x].wrapping_sub(around[x]) & is_marked;
     }
 }
 
 // Unmarks what burns.
-fn unmark(marks: &mut [u8], cells: &[u8]) {
-    for (mark, room) in marks.iter_mut().zip(cells.iter().skip(1)) {
-        *mark &= u8::from(*room < LEVEL);
+fn unmark(marks: &mut [u8], room: &[u8]) {
+    for x in 0..marks.len().min(room.len()) {
+        marks[x] &= u8::from(room[x] < LEVEL);
     }
 }
 
 fn lower(counts: &mut [i64], marks: &[u8]) {
-    for (count, mark) in counts.iter_mut().zip(marks) {
-        *count = count.wrapping_sub(i64::from(*mark));
+    for site in 0..counts.len().min(marks.len()) {
+        counts[site] = counts[site].wrapping_sub(i64::from(marks[site]));
     }
 }
 
 fn untopple(heights: &mut [u8], marks: &[u8], around: &[u8]) {
-    for ((height, mark), around) in heights.iter_mut().zip(marks).zip(around) {
-        let back = (*mark << 2).wrapping_sub(*around);
-        *height = height.wrapping_add(back);
+    for x in 0..heights.len().min(marks.len()).min(around.len()) {
+        let back = (marks[x] << 2).wrapping_sub(around[x]);
+        heights[x] = heights[x].wrapping_add(back);
     }
 }
 
@@ -179,9 +180,9 @@ impl Fire {
         let frame = self.frame;
         for y in 0..frame.height {
             self.count_around(y);
-            let from = y * (frame.width + 2);
+            let from = y * (frame.width + 2) + 1;
             set_room(
-                run_mut(&mut self.room, from, frame.width + 2),
+                run_mut(&mut self.room, from, frame.width),
                 frame.row(&self.heights, y),
                 frame.row(&self.marks, y),
                 &self.around,
@@ -209,10 +210,10 @@ impl Fire {
 
     // Keeps the marks of the sites that did not burn.
     fn unmark_burnt(&mut self) {
-        let width = self.frame.width;
-        let cells = self.room.chunks_exact(width + 2);
-        for (marks, cells) in self.marks.chunks_exact_mut(width).zip(cells) {
-            unmark(marks, cells);
+        let frame = self.frame;
+        for y in 0..frame.height {
+            let room = run(&self.room, y * (frame.width + 2) + 1, frame.width);
+            unmark(frame.row_mut(&mut self.marks, y), room);
         }
     }
 
@@ -252,8 +253,11 @@ impl Fire {
 
     /// By site, 1 if the last fire did not burn it, and otherwise 0.
     pub(crate) fn unburnt(&self, alloc: Global) -> Result<Vec<f64>, AllocError> {
-        let marks = self.marks.iter();
-        listed(alloc, self.marks.len(), marks.map(|mark| f64::from(*mark)))
+        let mut unburnt = vec![in alloc; 0.0; self.marks.len()]?;
+        for site in 0..unburnt.len().min(self.marks.len()) {
+            unburnt[site] = f64::from(self.marks[site]);
+        }
+        Ok(unburnt)
     }
 
     // The site of a cell that is not at an end.
@@ -267,10 +271,11 @@ impl Fire {
     pub(crate) fn turns(&self, alloc: Global) -> Result<Vec<u32>, AllocError> {
         let mut turns = vec![in alloc; 0u32; self.frame.sites()]?;
         let mut turn = 0u32;
-        for cell in self.order.iter().take(self.burnt) {
+        for place in 0..self.burnt.min(self.order.len()) {
             turn = turn.wrapping_add(1);
-            if let Some(place) = turns.get_mut(self.site_of(*cell)) {
-                *place = turn;
+            let site = self.site_of(self.order[place]);
+            if site < turns.len() {
+                turns[site] = turn;
             }
         }
         Ok(turns)

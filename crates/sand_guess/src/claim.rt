@@ -2,7 +2,6 @@
 
 use crate::density::{Prediction, expected_from};
 use crate::levels::{Level, MOST_HALVINGS};
-use crate::lists::listed;
 use crate::repair::Repair;
 use crate::solver::Solver;
 use sand_model::{Pile, Shape};
@@ -51,9 +50,12 @@ fn repaired_first(alloc: Global, mut levels: Vec<Level>) -> Result<Option<Repair
 
 // The absolute values of the counts.
 fn sizes_of(alloc: Global, repair: &Repair) -> Result<Vec<u64>, AllocError> {
-    let counts = repair.counts.iter();
-    let sizes = counts.map(|count| count.unsigned_abs());
-    listed(alloc, repair.counts.len(), sizes)
+    let counts = &repair.counts;
+    let mut sizes = vec![in alloc; 0u64; counts.len()]?;
+    for site in 0..sizes.len().min(counts.len()) {
+        sizes[site] = counts[site].unsigned_abs();
+    }
+    Ok(sizes)
 }
 
 fn claim_of(alloc: Global, repair: &Repair) -> Result<Claim, AllocError> {

@@ -3,7 +3,6 @@
 ghost use Rattle.std.specs.Prelude.{◌≤◌, ◌<◌};
 
 use crate::frame::Frame;
-use crate::lists::listed;
 use std::alloc::{AllocError, Global};
 use std::num::{nearest_i64_to_f64, nearest_usize_to_f64};
 
@@ -41,15 +40,15 @@ fn seen_from(x: usize, cells: usize, goes_round: bool) -> usize {
 // Replaces a line by its means. `padded` has the line and what it sees beyond its ends.
 fn blur_line(line: &mut [f64], goes_round: bool, padded: &[f64]) {
     let cells = line.len();
-    let ends = padded.iter().zip(padded.iter().skip(2 * RADIUS));
-    let mut sum = padded
-        .iter()
-        .take(2 * RADIUS)
-        .fold(0.0, |sum, number| sum + *number);
-    for ((x, mean), (first, last)) in line.iter_mut().enumerate().zip(ends) {
-        sum += *last;
-        *mean = sum / nearest_usize_to_f64(seen_from(x, cells, goes_round));
-        sum -= *first;
+    let seen = 2 * RADIUS;
+    let mut sum = 0.0;
+    for number in padded.iter().take(seen) {
+        sum += *number;
+    }
+    for x in 0..cells.min(padded.len().saturating_sub(seen)) {
+        sum += padded[x + seen];
+        line[x] = sum / nearest_usize_to_f64(seen_from(x, cells, goes_round));
+        sum -= padded[x];
     }
 }
 
@@ -83,10 +82,17 @@ fn blurred(
     turned(alloc, &all, length)
 }
 
+fn numbers_of(alloc: Global, heights: &[i64]) -> Result<Vec<f64>, AllocError> {
+    let mut numbers = vec![in alloc; 0.0; heights.len()]?;
+    for site in 0..numbers.len().min(heights.len()) {
+        numbers[site] = nearest_i64_to_f64(heights[site]);
+    }
+    Ok(numbers)
+}
+
 // Local means of heights.
 fn density_of(alloc: Global, frame: Frame, heights: &[i64]) -> Result<Vec<f64>, AllocError> {
-    let numbers = heights.iter().map(|height| nearest_i64_to_f64(*height));
-    let mut all = listed(alloc, heights.len(), numbers)?;
+    let mut all = numbers_of(alloc, heights)?;
     for _ in 0..2 {
         let columns = blurred(alloc, all, frame.width, frame.goes_round)?;
         all = blurred(alloc, columns, frame.height, false)?;
@@ -109,19 +115,22 @@ impl Prediction {
         heights: &[i64],
         expected: &[f64],
     ) -> Result<Prediction, AllocError> {
-        let found = density_of(alloc, frame, heights)?;
-        let both = found.iter().zip(expected);
-        let predicted = both.map(|(found, expected)| *found + TREND * (*found - *expected));
-        let densities = listed(alloc, found.len(), predicted)?;
+        let mut densities = density_of(alloc, frame, heights)?;
+        for site in 0..densities.len().min(expected.len()) {
+            let found = densities[site];
+            densities[site] = found + TREND * (found - expected[site]);
+        }
         Ok(Prediction { frame, densities })
     }
 
-    // The density at a site of a pile of twice the size. A short side may have the same length here.
-    fn at(&self, frame: Frame, x: usize, y: usize) -> f64 {
+    // Writes row y of the densities of a pile of twice the size. A short side may have the same length here.
+    fn put_row(&self, frame: Frame, y: usize, row: &mut [f64]) {
         let across = 1 + usize::from(self.frame.width != frame.width);
         let down = 1 + usize::from(self.frame.height != frame.height);
-        let row = self.frame.row(&self.densities, y / down);
-        row.get(x / across).copied().unwrap_or(USUAL)
+        let densities = self.frame.row(&self.densities, y / down);
+        for x in 0..row.len() {
+            row[x] = densities.get(x / across).copied().unwrap_or(USUAL);
+        }
     }
 }
 
@@ -131,13 +140,10 @@ pub(crate) fn expected_from(
     frame: Frame,
     half: &Option<Prediction>,
 ) -> Result<Vec<f64>, AllocError> {
-    let mut all = Vec::with_capacity(alloc, frame.sites())?;
-    for y in 0..frame.height {
-        for x in 0..frame.width {
-            all.push(match half {
-                None => USUAL,
-                Some(prediction) => prediction.at(frame, x, y),
-            })?;
+    let mut all = vec![in alloc; USUAL; frame.sites()]?;
+    if let Some(prediction) = half {
+        for y in 0..frame.height {
+            prediction.put_row(frame, y, frame.row_mut(&mut all, y));
         }
     }
     Ok(all)

@@ -3,7 +3,6 @@
 ghost use Rattle.std.specs.Prelude.{◌≤◌, ◌<◌};
 
 use crate::frame::{Frame, frame_of, signed};
-use crate::lists::listed;
 use sand_model::{Pile, Shape};
 use std::alloc::{AllocError, Global};
 
@@ -31,43 +30,39 @@ fn share_of(side: usize) -> usize
     if side > LEAST_SIDE { 2 } else { 1 }
 }
 
-// The sum of two neighbouring heights, or twice a height that has no neighbour.
-fn sum_of_ends(heights: &[i64]) -> i64 {
-    match (heights.first(), heights.last()) {
-        (Some(first), Some(last)) => first.wrapping_add(*last),
-        _ => 0,
-    }
+// The sum of the first and the last of the `across` heights from a site on, or twice the first if there is no last.
+fn sum_of_ends(row: &[i64], from: usize, across: usize) -> i64 {
+    let first = row.get(from).copied().unwrap_or(0);
+    let last = from.wrapping_add(across).wrapping_sub(1);
+    first.wrapping_add(row.get(last).copied().unwrap_or(first))
 }
 
-// Adds the row that two rows become: of each cell the mean height of four cells, or of fewer at the end of an odd side,
-// counted twice. The remainder of a division goes to the next cell, so that no grain is lost.
-fn push_row(
-    start: &mut Vec<i64>,
-    rows: (&[i64], &[i64]),
-    across: usize,
-    carry: i64,
-) -> Result<i64, AllocError>
-    requires { 1 ≤ across }
-{
-    let (north, south) = rows;
+// Writes the row that two rows become: of each cell the mean height of four cells, or of fewer at the end of an odd
+// side, counted twice. The remainder of a division goes to the next cell, so that no grain is lost.
+fn put_row(row: &mut [i64], north: &[i64], south: &[i64], across: usize, carry: i64) -> i64 {
     let mut carry = carry;
-    for (north, south) in north.chunks(across).zip(south.chunks(across)) {
-        let sum = sum_of_ends(north).wrapping_add(sum_of_ends(south));
+    for x in 0..row.len() {
+        let from = x.wrapping_mul(across);
+        let ends = sum_of_ends(north, from, across);
+        let sum = ends.wrapping_add(sum_of_ends(south, from, across));
         let sum = sum.wrapping_add(carry);
-        start.push(sum >> 2)?;
+        row[x] = sum >> 2;
         carry = sum & 3;
     }
-    Ok(carry)
+    carry
 }
 
 impl Level {
     /// The pile itself, at full size.
     pub(crate) fn of_pile(alloc: Global, pile: &Pile) -> Result<Level, AllocError> {
         let heights = pile.heights();
-        let signed = heights.iter().map(|height| signed(*height));
+        let mut start = vec![in alloc; 0i64; heights.len()]?;
+        for site in 0..start.len().min(heights.len()) {
+            start[site] = signed(heights[site]);
+        }
         Ok(Level {
             frame: frame_of(pile.shape()),
-            start: listed(alloc, heights.len(), signed)?,
+            start,
             least: 0,
         })
     }
@@ -82,33 +77,35 @@ impl Level {
         })
     }
 
+    // Writes the heights at half the size. `across` columns and `down` rows become one.
+    fn halve_into(&self, start: &mut [i64], half: Frame, across: usize, down: usize) {
+        let mut carry = 0i64;
+        for y in 0..half.height {
+            let first = y.wrapping_mul(down);
+            let last = first.wrapping_add(down).wrapping_sub(1);
+            let north = self.frame.row(&self.start, first);
+            let south = self.frame.row(&self.start, last);
+            let south = if south.is_empty() { north } else { south };
+            carry = put_row(half.row_mut(start, y), north, south, across, carry);
+        }
+    }
+
     // The pile at half the size, or None if neither side is halved.
     fn halved(&self, alloc: Global) -> Result<Option<Level>, AllocError> {
         let frame = self.frame;
-        let across = share_of(frame.width);
-        let down = share_of(frame.height);
+        let (across, down) = (share_of(frame.width), share_of(frame.height));
         if across == 1 && down == 1 {
             return Ok(None);
         }
-        let width = (frame.width + (across - 1)) / across;
-        let height = (frame.height + (down - 1)) / down;
-        let mut start = Vec::new(alloc);
-        let mut carry = 0i64;
-        for y in 0..height {
-            let first = y.wrapping_mul(down);
-            let north = frame.row(&self.start, first);
-            let south = frame.row(&self.start, first.wrapping_add(down - 1));
-            let south = if south.is_empty() { north } else { south };
-            carry = push_row(&mut start, (north, south), across, carry)?;
-        }
-        let goes_round = frame.goes_round;
-        let frame = Frame {
-            width,
-            height,
-            goes_round,
+        let half = Frame {
+            width: (frame.width + (across - 1)) / across,
+            height: (frame.height + (down - 1)) / down,
+            goes_round: frame.goes_round,
         };
+        let mut start = vec![in alloc; 0i64; half.sites()]?;
+        self.halve_into(&mut start, half, across, down);
         Ok(Some(Level {
-            frame,
+            frame: half,
             start,
             least: self.least,
         }))

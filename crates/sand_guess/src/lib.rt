@@ -16,6 +16,9 @@
 //!
 //! The identity of the group of recurrent piles is guessed in the same way, from the empty pile (`claim`). `forecast`
 //! finds, without a solve, whether a pile is so high that a guess is faster than toppling.
+//!
+//! A loop over several lists runs over indices, up to the shortest list. The prover takes three to six times as long
+//! for zipped iterators, and the compiled loop is the same.
 #![tactic(auto)]
 
 mod burning;
@@ -24,7 +27,6 @@ mod density;
 mod forecast;
 mod frame;
 mod levels;
-mod lists;
 mod modes;
 mod neighbours;
 mod planes;

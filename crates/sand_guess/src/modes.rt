@@ -9,7 +9,6 @@
 ghost use Rattle.std.specs.Prelude.{◌≤◌, ◌<◌};
 
 use crate::frame::Frame;
-use crate::lists::listed;
 use std::alloc::{AllocError, Global};
 use std::num::nearest_usize_to_f64;
 
@@ -43,7 +42,11 @@ fn sine_of(m: usize, half: usize) -> f64 {
 fn turn_of_sines(alloc: Global, half: usize) -> Result<Vec<f64>, AllocError>
     requires { half ≤ 1024 }
 {
-    listed(alloc, 2 * half, (0..2 * half).map(|m| sine_of(m, half)))
+    let mut sines = vec![in alloc; 0.0; 2 * half]?;
+    for m in 0..sines.len() {
+        sines[m] = sine_of(m, half);
+    }
+    Ok(sines)
 }
 
 /// Modes of one parity, on the first half of the columns, and what each adds along y.

@@ -3,7 +3,7 @@
 //! Lists are by site, without a border: a row is added as a whole to the one above or below, and shifted by a cell to
 //! its sides, which the compiler does for many cells at once.
 
-use crate::frame::Frame;
+use crate::frame::{Frame, run, run_mut};
 
 /// A number that wraps around when it is added to another.
 pub(crate) trait Wraps: Copy {
@@ -26,8 +26,8 @@ impl Wraps for i64 {
 
 #[inline(always)]
 fn add<N: Wraps>(sums: &mut [N], numbers: &[N]) {
-    for (sum, number) in sums.iter_mut().zip(numbers) {
-        *sum = sum.plus(*number);
+    for x in 0..sums.len().min(numbers.len()) {
+        sums[x] = sums[x].plus(numbers[x]);
     }
 }
 
@@ -39,8 +39,8 @@ fn add_sides<N: Wraps>(sums: &mut [N], row: &[N], goes_round: bool) {
         return;
     }
     let last = cells - 1;
-    add(&mut sums[1..], &row[..last]);
-    add(&mut sums[..last], &row[1..]);
+    add(run_mut(sums, 1, last), row);
+    add(sums, run(row, 1, last));
     if goes_round {
         sums[0] = sums[0].plus(row[last]);
         sums[last] = sums[last].plus(row[0]);

@@ -5,7 +5,6 @@ ghost use Rattle.std.specs.Prelude.{◌≤◌, ◌<◌};
 use crate::burning::Fire;
 use crate::frame::Frame;
 use crate::levels::Level;
-use crate::lists::listed;
 use crate::planes::Planes;
 use crate::residual::{smooth, subtract};
 use crate::solver::Solver;
@@ -47,18 +46,20 @@ pub(crate) struct Repair {
 
 // Adds each number times `factor`, rounded, and keeps counts at `least` or above.
 fn add_rounded(counts: &mut [i64], least: i64, numbers: &[f64], factor: f64) {
-    for (count, number) in counts.iter_mut().zip(numbers) {
-        let twice = saturating_f64_to_i64(2.0 * factor * *number);
+    for site in 0..counts.len().min(numbers.len()) {
+        let twice = saturating_f64_to_i64(2.0 * factor * numbers[site]);
         let rounded = twice.wrapping_add(1) >> 1;
-        *count = count.wrapping_add(rounded).max(least);
+        counts[site] = counts[site].wrapping_add(rounded).max(least);
     }
 }
 
 // Each height less the expected one and the excess.
 fn rest_of(alloc: Global, left: &[i64], expected: &[f64]) -> Result<Vec<f64>, AllocError> {
-    let both = left.iter().zip(expected);
-    let rest = both.map(|(height, expected)| nearest_i64_to_f64(*height) - *expected - EXCESS);
-    listed(alloc, left.len(), rest)
+    let mut rest = vec![in alloc; 0.0; left.len()]?;
+    for site in 0..rest.len().min(left.len()).min(expected.len()) {
+        rest[site] = nearest_i64_to_f64(left[site]) - expected[site] - EXCESS;
+    }
+    Ok(rest)
 }
 
 impl Repair {

@@ -12,15 +12,16 @@ use crate::planes::has_room;
 
 // The start less four grains per toppling.
 fn begin_row(row: &mut [i64], start: &[i64], counts: &[i64]) {
-    for ((left, height), count) in row.iter_mut().zip(start).zip(counts) {
-        *left = height.wrapping_sub(count.wrapping_mul(4));
+    for x in 0..row.len().min(start.len()).min(counts.len()) {
+        row[x] = start[x].wrapping_sub(counts[x].wrapping_mul(4));
     }
 }
 
 /// The heights s - Lu of all rows.
 pub(crate) fn subtract(level: &Level, counts: &[i64], left: &mut [i64]) {
     let frame = level.frame;
-    for (y, row) in left.chunks_exact_mut(frame.width).enumerate() {
+    for y in 0..frame.height {
+        let row = frame.row_mut(left, y);
         begin_row(row, frame.row(&level.start, y), frame.row(counts, y));
         add_neighbours(frame, counts, y, row);
     }

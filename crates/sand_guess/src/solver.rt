@@ -7,7 +7,7 @@
 
 ghost use Rattle.std.specs.Prelude.{◌≤◌, ◌<◌};
 
-use crate::frame::{Frame, run_mut};
+use crate::frame::{Frame, run, run_mut};
 use crate::modes::{Modes, modes_of};
 use crate::product::{BLOCK, in_blocks, multiply};
 use std::alloc::{AllocError, Global};
@@ -41,27 +41,31 @@ fn rounded_up(count: usize) -> usize
     (count + (BLOCK - 1)) / BLOCK * BLOCK
 }
 
+// Takes the unknowns of the row before, if there is one, out of the equations of a row.
+fn take_out(before: (&[f64], &[f64]), diagonal: &mut [f64], row: &mut [f64]) {
+    let (shares, numbers) = before;
+    let cells = diagonal.len().min(row.len()).min(shares.len());
+    for k in 0..cells.min(numbers.len()) {
+        diagonal[k] -= shares[k];
+        row[k] += numbers[k];
+    }
+}
+
 // Eliminates the unknowns of the row before from a row. `shares` are the factors of a row's unknowns.
 fn eliminate(diagonal: &[f64], before: (&[f64], &[f64]), shares: &mut [f64], row: &mut [f64]) {
-    let (shares_before, row_before) = before;
-    for (share, own) in shares.iter_mut().zip(diagonal) {
-        *share = *own;
+    for k in 0..shares.len().min(diagonal.len()) {
+        shares[k] = diagonal[k];
     }
-    for (share, before) in shares.iter_mut().zip(shares_before) {
-        *share -= *before;
-    }
-    for (number, before) in row.iter_mut().zip(row_before) {
-        *number += *before;
-    }
-    for (number, share) in row.iter_mut().zip(shares) {
-        *share = 1.0 / *share;
-        *number *= *share;
+    take_out(before, shares, row);
+    for k in 0..shares.len().min(row.len()) {
+        shares[k] = 1.0 / shares[k];
+        row[k] *= shares[k];
     }
 }
 
 fn substitute(shares: &[f64], row: &mut [f64], after: &[f64]) {
-    for ((number, share), after) in row.iter_mut().zip(shares).zip(after) {
-        *number += *share * *after;
+    for k in 0..row.len().min(shares.len()).min(after.len()) {
+        row[k] += shares[k] * after[k];
     }
 }
 
@@ -95,10 +99,10 @@ fn substitute_all(columns: usize, shares: &[f64], all: &mut [f64])
 // once.
 fn split_row(row: &[f64], even: &mut [f64], odd: &mut [f64]) {
     let half = row.len() / 2;
-    let pairs = row.iter().zip(row.iter().rev()).take(half);
-    for ((even, odd), (here, there)) in even.iter_mut().zip(odd).zip(pairs) {
-        *even = *here + *there;
-        *odd = *here - *there;
+    for x in 0..half.min(even.len()).min(odd.len()) {
+        let (here, there) = (row[x], row[row.len() - 1 - x]);
+        even[x] = here + there;
+        odd[x] = here - there;
     }
     if row.len() % 2 == 1 && half < even.len() {
         even[half] = row[half];
@@ -108,11 +112,10 @@ fn split_row(row: &[f64], even: &mut [f64], odd: &mut [f64]) {
 // A row from its parts.
 fn join_row(row: &mut [f64], even: &[f64], odd: &[f64]) {
     let half = row.len() / 2;
-    for (place, (even, odd)) in row.iter_mut().take(half).zip(even.iter().zip(odd)) {
-        *place = *even + *odd;
-    }
-    for (place, (even, odd)) in row.iter_mut().rev().take(half).zip(even.iter().zip(odd)) {
-        *place = *even - *odd;
+    for x in 0..half.min(even.len()).min(odd.len()) {
+        let mirrored = row.len() - 1 - x;
+        row[x] = even[x] + odd[x];
+        row[mirrored] = even[x] - odd[x];
     }
     if row.len() % 2 == 1 && half < even.len() {
         row[half] = even[half];
@@ -165,20 +168,22 @@ impl Solver {
     }
 
     fn split(&self, numbers: &[f64], even: &mut [f64], odd: &mut [f64]) {
-        let even = even.chunks_exact_mut(self.even.columns);
-        let odd = odd.chunks_exact_mut(self.odd.columns);
-        let rows = numbers.chunks_exact(self.frame.width);
-        for (row, (even, odd)) in rows.zip(even.zip(odd)) {
-            split_row(row, even, odd);
+        let columns = self.even.columns;
+        for y in 0..self.frame.height {
+            let from = y.wrapping_mul(columns);
+            let even = run_mut(even, from, columns);
+            let odd = run_mut(odd, from, columns);
+            split_row(self.frame.row(numbers, y), even, odd);
         }
     }
 
     fn join(&self, numbers: &mut [f64], even: &[f64], odd: &[f64]) {
-        let even = even.chunks_exact(self.even.columns);
-        let odd = odd.chunks_exact(self.odd.columns);
-        let rows = numbers.chunks_exact_mut(self.frame.width);
-        for (row, (even, odd)) in rows.zip(even.zip(odd)) {
-            join_row(row, even, odd);
+        let columns = self.even.columns;
+        for y in 0..self.frame.height {
+            let from = y.wrapping_mul(columns);
+            let even = run(even, from, columns);
+            let odd = run(odd, from, columns);
+            join_row(self.frame.row_mut(numbers, y), even, odd);
         }
     }
 
