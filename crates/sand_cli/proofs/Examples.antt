@@ -6,7 +6,7 @@ use Rattle.clap.proofs.OnLiterals.{clap_on_literals}
 use Rattle.sand_cli.specs.Line.{command_line}
 use Rattle.sand_cli.specs.Asked.{asked, conflict_among, faults}
 use Rattle.sand_cli.specs.declared.fault.Conflict.{Conflict}
-use Rattle.sand_cli.specs.declared.fault.Conflict.TheVariants.{PileAndJournal, PileAndPicture, PileAndTable, Uncounted}
+use Rattle.sand_cli.specs.declared.fault.Conflict.TheVariants.{PileAndJournal, PileAndGraymap, PileAndTable, Uncounted}
 use Rattle.sand_cli.specs.declared.task.Form.TheVariants as forms
 use Rattle.sand_cli.specs.declared.task.Part.TheVariants.{All}
 use Rattle.sand_cli.specs.declared.task.Task.{Task}
@@ -37,7 +37,7 @@ tasks program = (refl, (refl, (refl, (refl, tt))))
 
 -- which options exclude each other
 conflicts : (program : Text) → Each (λ (e : List Text × Option Conflict). conflict_among (program ∷ e.0) ≡ e.1) (
-    (codes "settle" ∷ codes "--pgm" ∷ codes "--pile" ∷ [], Some PileAndPicture)
+    (codes "settle" ∷ codes "--pgm" ∷ codes "--pile" ∷ [], Some PileAndGraymap)
     ∷ (codes "lab" ∷ codes "--pile" ∷ codes "--journal" ∷ [], Some PileAndJournal)
     ∷ (codes "lab" ∷ codes "--pgm" ∷ codes "--journal" ∷ [], None)
     ∷ (codes "drops" ∷ codes "--table" ∷ codes "--pile" ∷ [], Some PileAndTable)

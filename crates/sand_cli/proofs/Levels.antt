@@ -172,16 +172,16 @@ module _ (wish : Wish) (seed : IsSetting 0 4294967295 wish.seed) (droppers : IsS
 
   settings_ask : (journal : Bool) (form : Form) → GoTogether journal form → Asks lab_built (Lab wish journal form)
   unfolding past_settings clap_on_literals
-  settings_ask true forms.Picture together =
+  settings_ask true forms.Graymap together =
       asks _ (reads_then (reads_then settings_read (codes "--journal") (rw observers.passes refl)) (codes "--pgm") refl)
-      refl refl (ap (task_by true forms.Picture) wish_is)
+      refl refl (ap (task_by true forms.Graymap) wish_is)
   settings_ask true forms.Pile together = absurd together
   settings_ask true forms.Text together =
       asks _ (reads_then settings_read (codes "--journal") (rw observers.passes refl))
       refl refl (ap (task_by true forms.Text) wish_is)
-  settings_ask false forms.Picture together =
+  settings_ask false forms.Graymap together =
       asks _ (reads_then settings_read (codes "--pgm") (rw observers.passes refl))
-      refl refl (ap (task_by false forms.Picture) wish_is)
+      refl refl (ap (task_by false forms.Graymap) wish_is)
   settings_ask false forms.Pile together =
       asks _ (reads_then settings_read (codes "--pile") (rw observers.passes refl))
       refl refl (ap (task_by false forms.Pile) wish_is)

@@ -14,7 +14,7 @@ use Rattle.sand_cli.specs.Line.{command_line}
 use Rattle.sand_cli.specs.Spelling.{Heeds, words_of}
 use Rattle.sand_cli.specs.declared.fault.WordsFault.{WordsFault}
 use Rattle.sand_cli.specs.declared.fault.WordsFault.TheVariants.{Clash, Memory, Usage}
-use Rattle.sand_cli.specs.declared.task.Form.TheVariants.{Picture, Pile}
+use Rattle.sand_cli.specs.declared.task.Form.TheVariants.{Graymap, Pile}
 use Rattle.sand_cli.specs.declared.task.Form.TheVariants as forms
 use Rattle.sand_cli.specs.declared.task.Part.TheVariants as parts
 use Rattle.sand_cli.specs.declared.task.Task.{Task}
@@ -75,7 +75,7 @@ module _ (program : Text) (s : Shape) (task : Task)
 -- the words that spell a task ask for it
 pub spelled_is_asked : (program : Text) (task : Task) → IsWithin task → asked (program ∷ words_of task) ≡ Some task
 unfolding command_line clap_on_literals
-spelled_is_asked program (Settle Picture) within = refl
+spelled_is_asked program (Settle Graymap) within = refl
 spelled_is_asked program (Settle Pile) within = refl
 spelled_is_asked program (Settle forms.Text) within = refl
 spelled_is_asked program Burn within = refl

@@ -9,8 +9,8 @@ use Rattle.clap.specs.Walk.{has_row, nothing_held, one_of, row_text, rows_after,
 use Rattle.sand_cli.specs.Asked.{GoTogether, IsDraw, IsWithin, conflict_of, draw_by, form_in, task_named, with_settings, with_sides}
 use Rattle.sand_cli.specs.Line.{drops_line, identity_line, lab_line, multiple_line}
 use Rattle.sand_cli.specs.Options.{flag_in, number_of, setting_in}
-use Rattle.sand_cli.specs.declared.fault.Conflict.TheVariants.{PileAndJournal, PileAndPicture, PileAndTable}
-use Rattle.sand_cli.specs.declared.task.Form.TheVariants.{Picture, Pile}
+use Rattle.sand_cli.specs.declared.fault.Conflict.TheVariants.{PileAndJournal, PileAndGraymap, PileAndTable}
+use Rattle.sand_cli.specs.declared.task.Form.TheVariants.{Graymap, Pile}
 use Rattle.sand_cli.specs.declared.task.Form.TheVariants as forms
 use Rattle.sand_cli.specs.declared.task.Task.{Task}
 use Rattle.sand_cli.specs.declared.task.Task.TheVariants.{Lab, Multiple}
@@ -130,9 +130,9 @@ lab_takes = search (rules, arith)
 
 -- `--journal` and `--pile` exclude each other
 go_together : (pile pgm journal table : Bool)
-    → cond (pile && pgm) (Some PileAndPicture)
+    → cond (pile && pgm) (Some PileAndGraymap)
     (cond (pile && journal) (Some PileAndJournal) (cond (pile && table) (Some PileAndTable) None)) ≡ None
-    → GoTogether journal (cond pile Pile (cond pgm Picture forms.Text))
+    → GoTogether journal (cond pile Pile (cond pgm Graymap forms.Text))
 go_together true true journal table free = cc
 go_together true false true table free = cc
 go_together true false false table free = tt

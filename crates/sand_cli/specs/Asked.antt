@@ -8,7 +8,7 @@ use Rattle.sand_plan.specs.declared.wish.Wish.{Wish}
 use Rattle.sand_cli.specs.Line.{command_line}
 use Rattle.sand_cli.specs.Options.{flag_in, number_in, setting_in}
 use Rattle.sand_cli.specs.declared.fault.Conflict.{Conflict}
-use Rattle.sand_cli.specs.declared.fault.Conflict.TheVariants.{PileAndJournal, PileAndPicture, PileAndTable, Uncounted}
+use Rattle.sand_cli.specs.declared.fault.Conflict.TheVariants.{PileAndJournal, PileAndGraymap, PileAndTable, Uncounted}
 use Rattle.sand_cli.specs.declared.task.Draw.{Draw}
 use Rattle.sand_cli.specs.declared.task.Form.{Form}
 use Rattle.sand_cli.specs.declared.task.Form.TheVariants as forms
@@ -21,7 +21,7 @@ use Rattle.sand_cli.specs.declared.task.Task.TheVariants.{Add, Burn, Drops, Iden
 abbrev pub form_in : List Row → Form
 form_in options =
     if flag_in (codes "pile") options then forms.Pile
-    else if flag_in (codes "pgm") options then forms.Picture
+    else if flag_in (codes "pgm") options then forms.Graymap
     else forms.Text
 
 -- the identity of a grid, if both sides are given
@@ -121,7 +121,7 @@ lacks_count name options =
 -- the conflict among a command's options, if any
 abbrev pub conflict_of : Text × List Row → Option Conflict
 conflict_of (name, options) =
-    if pile_and (codes "pgm") options then Some PileAndPicture
+    if pile_and (codes "pgm") options then Some PileAndGraymap
     else if pile_and (codes "journal") options then Some PileAndJournal
     else if pile_and (codes "table") options then Some PileAndTable
     else if lacks_count name options then Some Uncounted

@@ -20,7 +20,7 @@ flag_words flag wanted = if wanted then flag ∷ [] else []
 abbrev pub form_words : Form → List Text
 form_words forms.Text = []
 form_words forms.Pile = codes "--pile" ∷ []
-form_words forms.Picture = codes "--pgm" ∷ []
+form_words forms.Graymap = codes "--pgm" ∷ []
 
 abbrev pub settings_of : Wish → List Text
 settings_of wish =

@@ -12,7 +12,7 @@ use thiserror::Error;
 pub enum Conflict {
     /// `--pile` with `--pgm`.
     #[error("error: the argument '--pile' cannot be used with '--pgm'\n\nFor more information, try '--help'.")]
-    PileAndPicture,
+    PileAndGraymap,
     /// `--pile` with `--journal`.
     #[error("error: the argument '--pile' cannot be used with '--journal'\n\nFor more information, try '--help'.")]
     PileAndJournal,
@@ -20,7 +20,8 @@ pub enum Conflict {
     #[error("error: the argument '--pile' cannot be used with '--table'\n\nFor more information, try '--help'.")]
     PileAndTable,
     /// `--seed`, `--stream` or `--from` without `--count`.
-    #[error("error: the arguments '--seed', '--stream' and '--from' cannot be used without '--count'\n\nFor more information, try '--help'.")]
+    #[error("error: the arguments '--seed', '--stream' and '--from' cannot be used without '--count'\n\n\
+         For more information, try '--help'.")]
     Uncounted,
 }
 

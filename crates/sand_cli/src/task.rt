@@ -44,8 +44,8 @@ pub enum Form {
     Text,
     /// Alone, as text that parses back to this pile.
     Pile,
-    /// As a picture.
-    Picture,
+    /// As a picture, in plain PGM (portable graymap).
+    Graymap,
 }
 
 /// What to do. `pgm` asks for a picture instead of text.
@@ -100,7 +100,7 @@ fn form_in(options: &ArgMatches<'_>) -> Form
     if flag_in(options, "pile") {
         Form::Pile
     } else if flag_in(options, "pgm") {
-        Form::Picture
+        Form::Graymap
     } else {
         Form::Text
     }
@@ -211,7 +211,7 @@ fn conflict_of(name: &str, options: &ArgMatches<'_>) -> Option<Conflict>
     ensures { result ≡ conflict_of (name.now, rows_of (found_of options.now)) }
 {
     if pile_and("pgm", options) {
-        Some(Conflict::PileAndPicture)
+        Some(Conflict::PileAndGraymap)
     } else if pile_and("journal", options) {
         Some(Conflict::PileAndJournal)
     } else if pile_and("table", options) {

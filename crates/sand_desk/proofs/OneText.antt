@@ -10,7 +10,7 @@ use Rattle.sand_text.specs.Pictures.{pgm_text_of}
 use Rattle.sand_text.specs.Runs.{lab_text_of}
 use Rattle.sand_text.specs.Texts.{text_of}
 use Rattle.sand_cli.specs.declared.task.Form.{Form}
-use Rattle.sand_cli.specs.declared.task.Form.TheVariants.{Picture, Pile, Text}
+use Rattle.sand_cli.specs.declared.task.Form.TheVariants.{Graymap, Pile, Text}
 use Rattle.sand_lab.specs.Laws.{AreAlike, OneOutcome, one_of}
 use Rattle.sand_lab.specs.Reports.{ReportView, IsReport}
 use Rattle.sand_desk.specs.Laboratory.{sums_of, lab_text_of_report, report_text_of, OneLabText}
@@ -33,7 +33,7 @@ text_shown p = ap (λ sums. lab_text_of sums (sums_of p.total) p.total.settled.p
     (sym (map-map sums_of_one one_of p.records))
 
 same_text : (form : Form) (p q : ReportView) → AreAlike p q → report_text_of false form p ≡ report_text_of false form q
-same_text Picture p q alike = ap (λ (o : OneView). pgm_text_of o.settled.pile) alike.total
+same_text Graymap p q alike = ap (λ (o : OneView). pgm_text_of o.settled.pile) alike.total
 same_text Pile p q alike = ap (λ (o : OneView). text_of o.settled.pile) alike.total
 same_text Text p q alike =
     ap (λ text. text ++ []) (text_shown p ∙ ap₂ shown alike.epochs alike.total ∙ sym (text_shown q))

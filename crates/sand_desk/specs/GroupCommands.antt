@@ -14,7 +14,7 @@ use Rattle.sand_text.specs.Burning.{burn_text_of}
 use Rattle.sand_text.specs.Reading.{pile_of, two_of}
 use Rattle.sand_desk.specs.declared.faults.DeskFault.{DeskFault}
 use Rattle.sand_desk.specs.declared.faults.DeskFault.TheVariants as desk
-use Rattle.sand_desk.specs.SettleCommand.{pile_or_picture}
+use Rattle.sand_desk.specs.SettleCommand.{pile_or_graymap}
 
 -- ---- the texts
 
@@ -37,7 +37,7 @@ pub record IsPileText (g : Grid) (IsWanted : (ℕ → ℕ) → Type 0) (pgm : Bo
   pub grid : pile.grid ≡ g
   pub one_each : length pile.heights ≡ sites g
   pub wanted : IsWanted (height_of pile)
-  pub written : text ≡ pile_or_picture pgm pile
+  pub written : text ≡ pile_or_graymap pgm pile
 
 -- the identity of the group on a grid with these sides
 pub record IsIdentityText (width height : ℕ) (cylinder pgm : Bool) (text : List ℕ) : Type 0 where

@@ -8,7 +8,7 @@ use Rattle.sand_text.specs.Reading.{pile_of}
 use Rattle.sand_text.specs.Runs.{lab_text_of, journal_text_of}
 use Rattle.sand_text.specs.Texts.{text_of}
 use Rattle.sand_cli.specs.declared.task.Form.{Form}
-use Rattle.sand_cli.specs.declared.task.Form.TheVariants.{Picture, Pile, Text}
+use Rattle.sand_cli.specs.declared.task.Form.TheVariants.{Graymap, Pile, Text}
 use Rattle.sand_lab.specs.declared.journal.Entry.{Entry}
 use Rattle.sand_plan.specs.declared.wish.Wish.{Wish}
 use Rattle.sand_lab.specs.Laws.{AskTheSame}
@@ -39,7 +39,7 @@ journal_text_of_report p = journal_text_of (map (λ (s : SheetView). map dropper
 abbrev pub report_text_of : Bool → Form → ReportView → List ℕ
 report_text_of journal Text p = lab_text_of_report p ++ (if journal then journal_text_of_report p else [])
 report_text_of journal Pile p = text_of p.total.settled.pile
-report_text_of journal Picture p = pgm_text_of p.total.settled.pile
+report_text_of journal Graymap p = pgm_text_of p.total.settled.pile
 
 -- the text of some report of the wished run, from the pile in the input
 pub record IsLabText (w : Wish) (journal : Bool) (form : Form) (input text : List ℕ) : Type 0 where

@@ -6,18 +6,18 @@ use Rattle.sand_text.specs.Pictures.{pgm_text_of}
 use Rattle.sand_text.specs.Reading.{pile_of}
 use Rattle.sand_text.specs.Texts.{settle_text_of, text_of}
 use Rattle.sand_cli.specs.declared.task.Form.{Form}
-use Rattle.sand_cli.specs.declared.task.Form.TheVariants.{Picture, Pile, Text}
+use Rattle.sand_cli.specs.declared.task.Form.TheVariants.{Graymap, Pile, Text}
 
 -- the text of a pile, or its picture
-abbrev pub pile_or_picture : Bool → PileView → List ℕ
-pile_or_picture false pile = text_of pile
-pile_or_picture true pile = pgm_text_of pile
+abbrev pub pile_or_graymap : Bool → PileView → List ℕ
+pile_or_graymap false pile = text_of pile
+pile_or_graymap true pile = pgm_text_of pile
 
 -- the text of a settled record, or only its pile, as text or as a picture
 abbrev pub record_in : Form → SettledView → List ℕ
 record_in Text settled = settle_text_of settled
 record_in Pile settled = text_of settled.pile
-record_in Picture settled = pgm_text_of settled.pile
+record_in Graymap settled = pgm_text_of settled.pile
 
 -- the settled record of the pile in the input, in this form
 pub record IsSettleText (form : Form) (input text : List ℕ) : Type 0 where

@@ -6,7 +6,7 @@ ghost use Rattle.sand_model.specs.Sand.{IsStable};
 ghost use Rattle.sand_text.specs.Reading.{pile_of};
 ghost use Rattle.sand_desk.specs.Commands.{IsBurnFault, IsShapeless, IsSumFault, IsElementFault, IsUnreadable, Finds};
 ghost use Rattle.sand_desk.specs.GroupCommands.{IsBurnText, IsIdentityText, IsSumText, IsInverseText, IsMultipleText, IsRecurrentText, edge_of};
-ghost use Rattle.sand_desk.specs.SettleCommand.{pile_or_picture};
+ghost use Rattle.sand_desk.specs.SettleCommand.{pile_or_graymap};
 
 use crate::faults::DeskFault;
 use crate::texts::{burn_text, pgm_text, pile_text, read_pile, read_two};
@@ -15,9 +15,9 @@ use sand_model::{Edge, Pile, Shape};
 use std::alloc::Global;
 
 // A stable pile, as text or as a picture.
-fn pile_or_picture(alloc: Global, pile: &Pile, pgm: bool) -> Result<Vec<u8>, DeskFault>
+fn pile_or_graymap(alloc: Global, pile: &Pile, pgm: bool) -> Result<Vec<u8>, DeskFault>
     requires { IsStable pile.now.grid (height_of pile.now) }
-    ensures text { IfOk result (λ text. text.items ≡ pile_or_picture pgm pile.now) }
+    ensures text { IfOk result (λ text. text.items ≡ pile_or_graymap pgm pile.now) }
     ensures memory { IsOkUnless result DeskFault.Memory }
 {
     if pgm {
@@ -56,7 +56,7 @@ pub(crate) fn identity_text(
 {
     let shape = Shape::with_edge(width, height, edge_of(cylinder))?;
     let neutral = identity(alloc, shape)?;
-    pile_or_picture(alloc, neutral.pile(), pgm)
+    pile_or_graymap(alloc, neutral.pile(), pgm)
 }
 
 /// The sum of the two piles in the input, as text or as a picture. Fails if the first pile is not recurrent, then if
@@ -69,7 +69,7 @@ pub(crate) fn sum_input(alloc: Global, input: &[u8], pgm: bool) -> Result<Vec<u8
     let first = Recurrent::from_pile(alloc, &first)?;
     let second = Recurrent::from_pile(alloc, &second)?;
     let sum = add(alloc, &first, &second)?;
-    pile_or_picture(alloc, sum.pile(), pgm)
+    pile_or_graymap(alloc, sum.pile(), pgm)
 }
 
 /// The inverse of the pile in the input, as text or as a picture. Fails if that pile is not recurrent (`Unstable`,
@@ -81,7 +81,7 @@ pub(crate) fn inverse_input(alloc: Global, input: &[u8], pgm: bool) -> Result<Ve
     let pile = read_pile(alloc, input)?;
     let recurrent = Recurrent::from_pile(alloc, &pile)?;
     let inverse = inverse(alloc, &recurrent)?;
-    pile_or_picture(alloc, inverse.pile(), pgm)
+    pile_or_graymap(alloc, inverse.pile(), pgm)
 }
 
 /// The sum of `times` copies of the pile in the input, as text or as a picture. Fails if that pile is not recurrent
@@ -98,7 +98,7 @@ pub(crate) fn multiple_input(
     let pile = read_pile(alloc, input)?;
     let recurrent = Recurrent::from_pile(alloc, &pile)?;
     let sum = multiple(alloc, &recurrent, times)?;
-    pile_or_picture(alloc, sum.pile(), pgm)
+    pile_or_graymap(alloc, sum.pile(), pgm)
 }
 
 /// The recurrent pile equivalent to the pile in the input, as text or as a picture. Every pile has one, so only the
@@ -109,5 +109,5 @@ pub(crate) fn recurrent_input(alloc: Global, input: &[u8], pgm: bool) -> Result<
 {
     let pile = read_pile(alloc, input)?;
     let recurrent = equivalent_recurrent(alloc, &pile)?;
-    pile_or_picture(alloc, recurrent.pile(), pgm)
+    pile_or_graymap(alloc, recurrent.pile(), pgm)
 }

@@ -151,7 +151,7 @@ fn report_text(
     match form {
         Form::Text => whole_text(alloc, report, journal),
         Form::Pile => pile_text(alloc, report.total().pile()),
-        Form::Picture => pgm_text(alloc, report.total().pile()),
+        Form::Graymap => pgm_text(alloc, report.total().pile()),
     }
 }
 

@@ -23,6 +23,6 @@ pub(crate) fn settle_input(alloc: Global, input: &[u8], form: Form) -> Result<Ve
     match form {
         Form::Text => settle_text(alloc, &settled),
         Form::Pile => pile_text(alloc, settled.pile()),
-        Form::Picture => pgm_text(alloc, settled.pile()),
+        Form::Graymap => pgm_text(alloc, settled.pile()),
     }
 }

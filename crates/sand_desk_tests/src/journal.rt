@@ -17,7 +17,8 @@ pub struct Entry {
 
 /// Appends the lines of an epoch.
 pub fn push_epoch(text: &mut Vec<u8>, epoch: u32, entries: &[Entry]) -> Result<(), AllocError>
-    ensures { OnOk result (text.new.items ≡ text.old.items ++ journal_lines epoch (map (λ (e : Entry). (e.dropper, e.site)) entries.now)) }
+    ensures { OnOk result (text.new.items
+        ≡ text.old.items ++ journal_lines epoch (map (λ (e : Entry). (e.dropper, e.site)) entries.now)) }
 {
     for (number, entry) in entries.iter().enumerate() {
         push_journal_line(text, epoch, number as u64, entry.dropper, entry.site)?;
@@ -28,7 +29,8 @@ pub fn push_epoch(text: &mut Vec<u8>, epoch: u32, entries: &[Entry]) -> Result<(
 /// The journal of some epochs.
 pub fn journal_of(alloc: Global, epochs: &[&[Entry]]) -> Result<Vec<u8>, AllocError>
     requires { length epochs.now ≤ 100 }
-    ensures { IfOk result (λ text. text.items ≡ journal_text_of (map (λ entries. map (λ (e : Entry). (e.dropper, e.site)) entries.now) epochs.now)) }
+    ensures { IfOk result (λ text. text.items
+        ≡ journal_text_of (map (λ entries. map (λ (e : Entry). (e.dropper, e.site)) entries.now) epochs.now)) }
 {
     let mut text = Vec::new(alloc);
     push_journal_head(&mut text)?;

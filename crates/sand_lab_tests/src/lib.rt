@@ -1,5 +1,5 @@
-//! Tests of `sand_shared` and `sand_lab`: worked examples, and what no clause says: that a call succeeds, that threads really
-//! meet, and that a run calls its gate before each turn.
+//! Tests of `sand_shared` and `sand_lab`: worked examples, and what no clause says: that a call succeeds, that threads
+//! really meet, and that a run calls its gate before each turn.
 //!
 //! Large values are dropped by `drop`. If one goes out of scope instead, the function's proof takes it apart field by
 //! field, on each way out.

@@ -37,7 +37,8 @@ const COMMANDS: [Case; 13] = [
     (
         "sandpile drops",
         "3 3\n3 3 3\n3 3 3\n3 3 3\n4 0\n",
-        "number site size area reach lost\n0 4 10 9 2 12\n1 0 0 0 0 0\n3 3\n2 3 1\n3 0 3\n1 3 1\nlost 12\ntopplings 10\n",
+        "number site size area reach lost\n0 4 10 9 2 12\n1 0 0 0 0 0\n\
+         3 3\n2 3 1\n3 0 3\n1 3 1\nlost 12\ntopplings 10\n",
     ),
     (
         "sandpile drops --count 3 --seed 7",

@@ -5,8 +5,9 @@
 //! reports out of memory and nothing else, and leaves its arguments unchanged. Repeated on the same arguments, it then
 //! returns values worked out by hand.
 //!
-//! A program cannot refuse its own allocations. `tools/refusals`, which the gate calls, loads a library that does; under
-//! plain `rt ci` nothing is refused, and each call is made once. Each trial prints how many allocations were refused.
+//! A program cannot refuse its own allocations. `tools/refusals`, which the gate calls, loads a library that does;
+//! under plain `rt ci` nothing is refused, and each call is made once. Each trial prints how many allocations were
+//! refused.
 //!
 //! Large values are dropped by `drop`. If one goes out of scope instead, the function's proof takes it apart field by
 //! field, on each way out.

@@ -23,7 +23,8 @@ fn three_drops(alloc: Global) -> Result<Record, Fail> {
 // One more drop, which topples the site.
 fn one_more(alloc: Global, three: &Record) -> Result<Record, Fail>
     ensures follows { IfOk result (λ r. r.start ≡ three.now.settled.pile) }
-    ensures limit { IfOk result (λ r. sum three.now.start.heights + (length three.now.history + length r.history) ≤ most_grains) }
+    ensures limit { IfOk result (λ r.
+        sum three.now.start.heights + (length three.now.history + length r.history) ≤ most_grains) }
 {
     let one = dropped_on(alloc, three.pile(), 1)?;
     if !are_within_limit(three, &one) {

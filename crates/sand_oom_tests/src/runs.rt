@@ -380,7 +380,8 @@ fn journal_text_reports_out_of_memory(rt: HostRuntime) -> Result<(), Fail> {
         &rt,
         rt.alloc(),
         "journal_text",
-        |alloc: Global| came_to!(journal_text(alloc, &report), text => text.as_slice() == b"journal\n0 0 0 0\n0 1 0 0\n".as_slice()),
+        |alloc: Global| came_to!(journal_text(alloc, &report), text =>
+            text.as_slice() == b"journal\n0 0 0 0\n0 1 0 0\n".as_slice()),
     );
     drop(report);
     told

@@ -42,7 +42,8 @@ fn settle_by_a_guess_reports_out_of_memory(rt: HostRuntime) -> Result<(), Fail> 
         &rt,
         rt.alloc(),
         "settle, by a guess",
-        |alloc: Global| came_to!(settle(alloc, &pile), settled => settled.pile().grains().wrapping_add(settled.lost()) == 100_000),
+        |alloc: Global| came_to!(settle(alloc, &pile), settled =>
+            settled.pile().grains().wrapping_add(settled.lost()) == 100_000),
     );
     drop(pile);
     told

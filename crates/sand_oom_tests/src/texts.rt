@@ -54,7 +54,8 @@ fn settle_text_reports_out_of_memory(rt: HostRuntime) -> Result<(), Fail> {
     let start = open_pile(rt.alloc(), 3, 1, &[0, 4, 0])?;
     let settled = settle(rt.alloc(), &start)?;
     each_refused(&rt, rt.alloc(), "settle_text", |alloc: Global| {
-        came_to!(settle_text(alloc, &settled), text => text.as_slice() == b"3 1\n1 0 1\nodometer\n0 1 0\nlost 2\ntopplings 1\n".as_slice())
+        came_to!(settle_text(alloc, &settled), text =>
+            text.as_slice() == b"3 1\n1 0 1\nodometer\n0 1 0\nlost 2\ntopplings 1\n".as_slice())
     })
 }
 
@@ -72,7 +73,8 @@ fn burn_text_reports_out_of_memory(rt: HostRuntime) -> Result<(), Fail> {
     let pile = open_pile(rt.alloc(), 3, 1, &[0, 0, 3])?;
     let burned = burn(rt.alloc(), &pile)?;
     each_refused(&rt, rt.alloc(), "burn_text", |alloc: Global| {
-        came_to!(burn_text(alloc, pile.shape(), &burned), text => text.as_slice() == b"forbidden 2\n0 0\n1 0\n".as_slice())
+        came_to!(burn_text(alloc, pile.shape(), &burned), text =>
+            text.as_slice() == b"forbidden 2\n0 0\n1 0\n".as_slice())
     })
 }
 
@@ -87,6 +89,7 @@ fn table_text_reports_out_of_memory(rt: HostRuntime) -> Result<(), Fail> {
     };
     let rows = [(0, avalanche)];
     each_refused(&rt, rt.alloc(), "table_text", |alloc: Global| {
-        came_to!(table_text(alloc, rows.as_slice()), text => text.as_slice() == b"number site size area reach lost\n0 4 10 9 2 12\n".as_slice())
+        came_to!(table_text(alloc, rows.as_slice()), text =>
+            text.as_slice() == b"number site size area reach lost\n0 4 10 9 2 12\n".as_slice())
     })
 }

@@ -4,7 +4,7 @@ use Rattle.sand_model.specs.Grid.{Grid, sites}
 use Rattle.sand_model.specs.Sand.{flow, IsToppled, Stabilises}
 use Rattle.sand_model.proofs.Flow.{flow_same, flow-scale}
 
--- poured and present grow by the same amount at each site
+-- the drawn grains and those present grow by the same amount at each site
 pub balance_kept : (g : Grid) (s u r s' u' r' : ℕ → ℕ) → ((i : ℕ) → u' i ≡ u i)
     → ((i : ℕ) → i < sites g → r' i + s i ≡ r i + s' i) → IsToppled g s u r
     → IsToppled g s' u' r'

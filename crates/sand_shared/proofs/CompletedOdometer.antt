@@ -14,7 +14,7 @@ use Rattle.sand_settle.specs.Settling.{SettledView, IsRecord, odometer_of}
 use Rattle.sand_shared.specs.declared.bare_pass.BarePass.TheInside.{Inside}
 use Rattle.sand_shared.specs.declared.view.View.{View}
 use Rattle.sand_shared.specs.declared.view.Terms.{Terms}
-use Rattle.sand_shared.specs.OpenPile.{grid_of_terms, dropped, poured, toppled_by}
+use Rattle.sand_shared.specs.OpenPile.{grid_of_terms, drops_at, start_and_drawn, toppled_by}
 use Rattle.sand_shared.specs.Events.{look}
 use Rattle.sand_shared.specs.Bare.{shown, IsBare}
 use Rattle.sand_shared.specs.Passes.{PassView, SharedView, at_rest, IsPassOf, IsWhole}
@@ -22,7 +22,7 @@ use Rattle.sand_shared.specs.Rows.{count_of}
 use Rattle.sand_shared.specs.Record.{Tells}
 use Rattle.sand_shared.specs.Running.{Stands, Happened}
 use Rattle.sand_shared.specs.Seats.{HasAll}
-use Rattle.sand_shared.specs.Sweeps.{IsRestOf, laid}
+use Rattle.sand_shared.specs.Sweeps.{IsRestOf, start_and_receipts}
 use Rattle.sand_shared.proofs.GrainsAtSite.{toppled_from}
 use Rattle.sand_shared.proofs.LastPileIsSettled.{HasGathered, gathered, has_all, drawn_is, seen_is}
 use Rattle.sand_shared.proofs.PassAfterEvent.{known_is}
@@ -41,21 +41,22 @@ sum_below_above (suc n) f i l = ⊎_elim
 -- a look by a pass that has everything tells exactly what is left there
 pub looked_exactly : (t : Terms) (a i : ℕ) (v w : View) (n : ℕ)
     → Happened t a (look a i ∷ []) v n w → v.hand ≡ [] → HasAll t v
-    → n + 4 * toppled_by v i ≡ laid t v i + flow (grid_of_terms t) (toppled_by v) i
+    → n + 4 * toppled_by v i ≡ start_and_receipts t v i + flow (grid_of_terms t) (toppled_by v) i
 looked_exactly t a i v w n h free all =
     let most = looked_at_most t a i v w n h free in
     let least = looked_at_least t a i v w n h free all in omega arith
 
 module _ (t : Terms) (a : ℕ) (v : View) (s : Stands t a v) (all : HasAll t v) where
-  pub its_all : (i : ℕ) → tally s.pile.drawn i ≡ dropped v.receipts i
+  pub its_all : (i : ℕ) → tally s.pile.drawn i ≡ drops_at v.receipts i
   its_all i =
-      its_drops t s.pile s.lawful a s.there (has_all t a v s all) i ∙ ap (λ (u : View). dropped u.receipts i) s.pass
+      its_drops t s.pile s.lawful a s.there (has_all t a v s all) i ∙ ap (λ (u : View). drops_at u.receipts i) s.pass
 
-  pub laid_few : grains (grid_of_terms t) (laid t v) ≤ most_grains
+  pub laid_few : grains (grid_of_terms t) (start_and_receipts t v) ≤ most_grains
   laid_few =
       let g = grid_of_terms t in
       let p = s.pile in
-      let same = sum_below_same (sites g) (laid t v) (poured t p) (λ i _. let d = its_all i in omega arith) in
+      let same = sum_below_same (sites g) (start_and_receipts t v)
+      (start_and_drawn t p) (λ i _. let d = its_all i in omega arith) in
       let parts = sum_below-add (sites g) (height_of t.start) (tally p.drawn) in
       let start = sum_is_grains g t.start.heights s.terms.pile.one_each in
       let drops = sum_below-tally (sites g) p.drawn s.lawful.all_sites in
@@ -64,16 +65,16 @@ module _ (t : Terms) (a : ℕ) (v : View) (s : Stands t a v) (all : HasAll t v) 
 
   pub left_few : (u : ℕ → ℕ) (heights : List ℕ)
       → length heights ≡ sites (grid_of_terms t)
-      → IsToppled (grid_of_terms t) (laid t v) u (slice_index heights)
+      → IsToppled (grid_of_terms t) (start_and_receipts t v) u (slice_index heights)
       → sum heights ≤ most_grains
   left_few u heights long toppled =
       let few = laid_few in
-      let out = laplacian_sum (grid_of_terms t) (laid t v) u (slice_index heights) toppled in
+      let out = laplacian_sum (grid_of_terms t) (start_and_receipts t v) u (slice_index heights) toppled in
       let all_of = sum_is_grains (grid_of_terms t) heights long in omega arith
 
   pub is_underway : v.base + length v.counts ≤ sites (grid_of_terms t)
-      → (h : ℕ → ℕ) → IsToppled (grid_of_terms t) (laid t v) (toppled_by v) h
-      → IsUnderway (grid_of_terms t) (laid t v) (toppled_by v) h
+      → (h : ℕ → ℕ) → IsToppled (grid_of_terms t) (start_and_receipts t v) (toppled_by v) h
+      → IsUnderway (grid_of_terms t) (start_and_receipts t v) (toppled_by v) h
   is_underway fits h toppled = record { toppled = toppled; bounded = (stands_sparing t a v s all fits).needed }
 
 -- a pass that has gathered everything, and the settled rest of its pile
@@ -115,7 +116,7 @@ module _ {t : Terms} {p : PassView} {r : SettledView} {a : ℕ} {v : View} (b : 
   completed_small i l =
       let g = grid_of_terms t in
       let few = laid_few t a resting stands_resting all_resting in
-      let bound = topplings_bound g (laid t (at_rest p)) (λ j. slice_index p.counts j + odometer_of r j)
+      let bound = topplings_bound g (start_and_receipts t (at_rest p)) (λ j. slice_index p.counts j + odometer_of r j)
       (height_of r.pile) stands_resting.terms.pile.grid few b.rest.settled.toppled in
       let le = sum_below_above (sites g) (λ j. slice_index p.counts j + odometer_of r j) i l in omega arith
 
@@ -140,7 +141,7 @@ module _ {t : Terms} {p : PassView} {r : SettledView} {a : ℕ} {v : View} (b : 
         limit = omega arith;
         heights_each = ap (λ (l : List ℕ). length l) heights_are ∙ b.rest.heights_each;
         odometer_each = each ∙ whole_counts t p b.all.grid b.all.one_each b.all.whole;
-        settled = settled_same g (laid t (at_rest p)) (λ i. height_of t.start i + tally history i)
+        settled = settled_same g (start_and_receipts t (at_rest p)) (λ i. height_of t.start i + tally history i)
             (λ i. slice_index p.counts i + odometer_of r i) (slice_index sums) (height_of r.pile) (slice_index heights)
             (λ i l.
             let d = its_all t a resting s all_resting i in let e = ap (λ (h : List ℕ). tally h i) drawn in omega arith)
@@ -153,24 +154,24 @@ module _ {t : Terms} {p : PassView} {r : SettledView} {a : ℕ} {v : View} (b : 
 -- the counts of a whole pass, by site
 pub left_underway : (t : Terms) (p : PassView) → p.grid ≡ grid_of_terms t
     → length p.counts ≡ count_of p.rows * p.grid.width → IsWhole t p → (h : ℕ → ℕ)
-    → IsUnderway (grid_of_terms t) (laid t (at_rest p)) (toppled_by (at_rest p)) h
-    → IsUnderway (grid_of_terms t) (laid t (at_rest p)) (slice_index p.counts) h
+    → IsUnderway (grid_of_terms t) (start_and_receipts t (at_rest p)) (toppled_by (at_rest p)) h
+    → IsUnderway (grid_of_terms t) (start_and_receipts t (at_rest p)) (slice_index p.counts) h
 left_underway t p same each whole h =
     let base = whole_base t p same each whole in
     let is : (i : ℕ) → toppled_by (at_rest p) i ≡ slice_index p.counts i =
     λ i. toppled_from (at_rest p) i (omega arith)
     ∙ ap (slice_index p.counts) {x = i - (at_rest p).base} {y = i} (omega arith) in
-    subst (λ (f : ℕ → ℕ). IsUnderway (grid_of_terms t) (laid t (at_rest p)) f h) (λ k i. is i k)
+    subst (λ (f : ℕ → ℕ). IsUnderway (grid_of_terms t) (start_and_receipts t (at_rest p)) f h) (λ k i. is i k)
 
 pub rest_of : (t : Terms) (p : PassView) (q : PileView) (r : SettledView)
     → q.grid ≡ grid_of_terms t
-    → IsUnderway (grid_of_terms t) (laid t (at_rest p)) (slice_index p.counts) (height_of q)
+    → IsUnderway (grid_of_terms t) (start_and_receipts t (at_rest p)) (slice_index p.counts) (height_of q)
     → IsRecord q.grid (height_of q) r → IsRestOf t p r
 rest_of t p q r same under settled = record {
   grid = settled.grid ∙ same;
   heights_each = settled.heights_each ∙ ap sites same;
   odometer_each = settled.odometer_each ∙ ap sites same;
-  settled = settles_after (grid_of_terms t) (laid t (at_rest p))
+  settled = settles_after (grid_of_terms t) (start_and_receipts t (at_rest p))
       (slice_index p.counts) (height_of q) (odometer_of r) (height_of r.pile) under
       (subst (λ (g : Grid). IsSettled g (height_of q) (odometer_of r) (height_of r.pile)) same settled.settled);
   all_topplings = settled.all_topplings ∙ ap (λ (g : Grid). topplings_of g (odometer_of r)) same;

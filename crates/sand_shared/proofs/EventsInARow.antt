@@ -8,7 +8,7 @@ use Rattle.sand_shared.specs.declared.view.View.{View}
 use Rattle.sand_shared.specs.declared.view.Receipt.{Receipt}
 use Rattle.sand_shared.specs.declared.view.Terms.{Terms}
 use Rattle.sand_shared.specs.OpenPile.{OpenPile, nobody, grid_of_terms, pass_at, AreTerms, IsLawful}
-use Rattle.sand_shared.specs.Events.{Event, begin, draw, place, receipt, grains, are_for, drew, drew_all, laid_down, receipts_from, one_for_each, all_draws, all_places, unopened, May, after, AllHappen, after_all}
+use Rattle.sand_shared.specs.Events.{Event, begin, draw, place, receipt, grains, are_for, drew, drew_all, after_laying, receipts_from, one_for_each, all_draws, all_places, unopened, May, after, AllHappen, after_all}
 use Rattle.sand_shared.specs.Plays.{Takes}
 use Rattle.sand_shared.specs.Running.{Shows, IsRunning, found, Finds, Happened}
 use Rattle.sand_shared.specs.Passes.{EachOnce, AllBelow}
@@ -211,11 +211,11 @@ module _ (t : Terms) (a : ℕ) where
 
 module _ (t : Terms) (a i : ℕ) where
   pass_after_place : (p : OpenPile) → a < length p.passes
-      → pass_at (after t p (place a i)) a ≡ laid_down (pass_at p a) i 1
-  pass_after_place p there = pass_at-with p a (laid_down (pass_at p a) i 1) there
+      → pass_at (after t p (place a i)) a ≡ after_laying (pass_at p a) i 1
+  pass_after_place p there = pass_at-with p a (after_laying (pass_at p a) i 1) there
 
   there_still : (p : OpenPile) → a < length p.passes → a < length (after t p (place a i)).passes
-  there_still p there = let e = length-set p.passes a (laid_down (pass_at p a) i 1) in omega arith
+  there_still p there = let e = length-set p.passes a (after_laying (pass_at p a) i 1) in omega arith
 
   pass_after_places : (p : OpenPile) (k : ℕ) → a < length p.passes
       → pass_at (after_all t p (all_places a i k)) a ≡ record (pass_at p a) { hand = laid_on i k (pass_at p a).hand }

@@ -12,7 +12,7 @@ use Rattle.sand_shared.specs.declared.bare_pass.BarePass.TheInside.{Inside}
 use Rattle.sand_shared.specs.declared.view.View.{View}
 use Rattle.sand_shared.specs.declared.view.Receipt.{Receipt}
 use Rattle.sand_shared.specs.declared.view.Terms.{Terms}
-use Rattle.sand_shared.specs.OpenPile.{nobody, grid_of_terms, numbered, dropped, toppled_by, toppled, poured, pass_at}
+use Rattle.sand_shared.specs.OpenPile.{nobody, grid_of_terms, numbered, drops_at, toppled_by, toppled, start_and_drawn, pass_at}
 use Rattle.sand_shared.specs.Bare.{shown, IsBare}
 use Rattle.sand_shared.specs.Passes.{PassView, SharedView, AllBelow, IsPass, IsPassOf, IsWhole, at_rest}
 use Rattle.sand_shared.specs.Events.{looked}
@@ -70,7 +70,8 @@ module _ (t : Terms) (a : ℕ) (v : View) (s : Stands t a v) (all : HasAll t v) 
 module _ (t : Terms) (a : ℕ) (v : View) (heights : List ℕ) (last : IsLast t a v heights) (all : HasAll t v) where
   module _ (base : v.base ≡ 0) where
     module _ (free : v.hand ≡ []) (calm : IsCalm t v) where
-      settles : IsSettled (grid_of_terms t) (poured t last.stands.pile) (slice_index v.counts) (slice_index heights)
+      settles : IsSettled (grid_of_terms t) (start_and_drawn t last.stands.pile)
+          (slice_index v.counts) (slice_index heights)
       settles =
           let g = grid_of_terms t in
           let s = last.stands in
@@ -94,7 +95,7 @@ module _ (t : Terms) (a : ℕ) (v : View) (heights : List ℕ) (last : IsLast t 
                 at_most_three = λ i l.
                     let low = calm i l in
                     let drops = its_drops t p s.lawful a s.there (has_all t a v last.stands all) i in
-                    let same = ap (λ (u : View). dropped u.receipts i) s.pass in
+                    let same = ap (λ (u : View). drops_at u.receipts i) s.pass in
                     let here = toppled_is t a v last.stands all base i l in
                     let mine = own i l in
                     let around =

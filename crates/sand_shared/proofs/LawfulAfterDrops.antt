@@ -10,7 +10,7 @@ use Rattle.sand_model.proofs.Tallies.{tally-push}
 use Rattle.sand_shared.specs.declared.view.View.{View}
 use Rattle.sand_shared.specs.declared.view.Receipt.{Receipt}
 use Rattle.sand_shared.specs.declared.view.Terms.{Terms}
-use Rattle.sand_shared.specs.OpenPile.{OpenPile, nobody, grid_of_terms, amount_at, numbered, dropped, held, holds_site, toppled_by, toppled, poured, present, pass_at, IsLawfulPass, IsLawful}
+use Rattle.sand_shared.specs.OpenPile.{OpenPile, nobody, grid_of_terms, amount_at, numbered, drops_at, held, holds_site, toppled_by, toppled, start_and_drawn, present, pass_at, IsLawfulPass, IsLawful}
 use Rattle.sand_shared.specs.Events.{draw, place, deliver, drew, receipt, grains, are_for, without, arrived, May, after}
 use Rattle.sand_shared.proofs.SumsOverPasses.{sum_by_kept, all_after}
 use Rattle.sand_shared.proofs.GrainsAtSite.{held-append}
@@ -21,7 +21,7 @@ use Rattle.sand_shared.proofs.LawfulAfterReads.{still_lawful}
 once_more : (x n : ℕ) → one_if (ltb x n) + one_if (eqb n x) ≡ one_if (ltb x (n + 1))
 once_more x n = grind (arith, nat_tests)
 
-dropped-push : (rs : List Receipt) (n i j : ℕ) → dropped (rs ++ receipt n i ∷ []) j ≡ dropped rs j + one_if (eqb i j)
+dropped-push : (rs : List Receipt) (n i j : ℕ) → drops_at (rs ++ receipt n i ∷ []) j ≡ drops_at rs j + one_if (eqb i j)
 dropped-push rs n i j = sum_by_push (λ (r : Receipt). one_if (eqb r.site j)) rs (receipt n i)
 
 numbered-push : (rs : List Receipt) (n i x : ℕ) → numbered (rs ++ receipt n i ∷ []) x ≡ numbered rs x + one_if (eqb n x)
@@ -78,16 +78,16 @@ module _ (t : Terms) (p : OpenPile) (a i : ℕ) (r : IsLawful t p) (may : May t 
       let longer = length-append p.drawn (i ∷ []) in
       let some_left = may.some_left in
       record {
-        balance = balance_kept (grid_of_terms t) (poured t p) (toppled p)
-            (present p) (poured t q) (toppled q) (present q) still
+        balance = balance_kept (grid_of_terms t) (start_and_drawn t p) (toppled p)
+            (present p) (start_and_drawn t q) (toppled q) (present q) still
             (λ j l.
             let c = changed (λ u. held u.hand j) in
             let h = held-append v.hand (grains i 1 ∷ []) j in
             let d = tally-push p.drawn i j in
             omega arith) r.balance;
         needed = λ x stab j l. (let e = still j in
-            let m = r.needed x (stabilises_fewer (grid_of_terms t) (poured t p)
-            (poured t q) x (λ k _. let d = tally-push p.drawn i k in omega arith) stab)
+            let m = r.needed x (stabilises_fewer (grid_of_terms t) (start_and_drawn t p)
+            (start_and_drawn t q) x (λ k _. let d = tally-push p.drawn i k in omega arith) stab)
             j l in
             omega arith);
         numbers = λ x. (let c = changed (λ u. numbered u.receipts x) in
@@ -99,7 +99,7 @@ module _ (t : Terms) (p : OpenPile) (a i : ℕ) (r : IsLawful t p) (may : May t 
             let o = r.receipts in
             let b = length-append v.receipts (receipt n i ∷ []) in
             omega arith);
-        receipts_by_site = λ j. (let c = changed (λ u. dropped u.receipts j) in
+        receipts_by_site = λ j. (let c = changed (λ u. drops_at u.receipts j) in
             let b = dropped-push v.receipts n i j in
             let o = r.receipts_by_site j in
             let d = tally-push p.drawn i j in

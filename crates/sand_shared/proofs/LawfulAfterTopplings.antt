@@ -11,7 +11,7 @@ use Rattle.sand_model.proofs.Flow.{flow_same, flow-add}
 use Rattle.sand_model.proofs.Sandpile.{least_action}
 use Rattle.sand_shared.specs.declared.view.View.{View}
 use Rattle.sand_shared.specs.declared.view.Terms.{Terms}
-use Rattle.sand_shared.specs.OpenPile.{OpenPile, nobody, grid_of_terms, amount_at, numbered, dropped, held, holds_site, toppled_by, toppled, poured, present, pass_at, IsLawfulPass, IsLawful}
+use Rattle.sand_shared.specs.OpenPile.{OpenPile, nobody, grid_of_terms, amount_at, numbered, drops_at, held, holds_site, toppled_by, toppled, start_and_drawn, present, pass_at, IsLawfulPass, IsLawful}
 use Rattle.sand_shared.specs.Events.{unload, unloaded, sent, May, after}
 use Rattle.sand_shared.proofs.SumsOverPasses.{sum_by_kept, all_at}
 use Rattle.sand_shared.proofs.GrainsAtSite.{amount_here, amount_else, flow-amount, held-append, held-sent, toppled-unloaded, holds-unloaded}
@@ -43,7 +43,7 @@ module _ (t : Terms) (p : OpenPile) (a i k : ℕ) (r : IsLawful t p) (may : May 
   more_held j l = held-append (pass_at p a).hand (sent t i k) j ∙ ap (λ n. held (pass_at p a).hand j + n)
       (held-sent t i k j ∙ sym (flow-amount (grid_of_terms t) i k j may.inside l))
 
-  unload_balance : IsToppled (grid_of_terms t) (poured t (after t p (unload a i k)))
+  unload_balance : IsToppled (grid_of_terms t) (start_and_drawn t (after t p (unload a i k)))
       (toppled (after t p (unload a i k))) (present (after t p (unload a i k)))
   unload_balance = record {
     balance = λ j l.
@@ -58,7 +58,8 @@ module _ (t : Terms) (p : OpenPile) (a i k : ℕ) (r : IsLawful t p) (may : May 
         let f = flow-add g (toppled p) (amount_at i k) j in omega arith;
   }
 
-  unload_needed : (w : ℕ → ℕ) → Stabilises (grid_of_terms t) (poured t p) w → (j : ℕ) → j < sites (grid_of_terms t)
+  unload_needed : (w : ℕ → ℕ) → Stabilises (grid_of_terms t) (start_and_drawn t p) w
+      → (j : ℕ) → j < sites (grid_of_terms t)
       → toppled (after t p (unload a i k)) j ≤ w j
   unload_needed w stab j l =
       let u = more_toppled j in
@@ -69,7 +70,8 @@ module _ (t : Terms) (p : OpenPile) (a i k : ℕ) (r : IsLawful t p) (may : May 
       let b = r.balance.balance i may.inside in
       let high = may.high in
       let step =
-      least_action (grid_of_terms t) (poured t p) (toppled p) w i k may.inside stab (r.needed w stab) (omega arith) in
+      least_action (grid_of_terms t) (start_and_drawn t p) (toppled p)
+      w i k may.inside stab (r.needed w stab) (omega arith) in
       let x = ap (toppled p) e in
       let y = ap w e in omega arith)
       (λ (ne : i ≡ j → ⊥). let c = amount_else i k j ne in omega arith)
@@ -132,7 +134,7 @@ module _ (t : Terms) (p : OpenPile) (a i k : ℕ) (r : IsLawful t p) (may : May 
         needed = unload_needed;
         numbers = λ x. kept (λ u. numbered u.receipts x) refl ∙ r.numbers x;
         receipts = kept (λ u. length u.receipts) refl ∙ r.receipts;
-        receipts_by_site = λ j. kept (λ u. dropped u.receipts j) refl ∙ r.receipts_by_site j;
+        receipts_by_site = λ j. kept (λ u. drops_at u.receipts j) refl ∙ r.receipts_by_site j;
         all_sites = r.all_sites;
         quota = (let e = kept (λ u. u.left) refl in let o = r.quota in omega arith);
         holders = λ j l. kept (λ u. one_if (holds_site u j)) (ap one_if (holds-unloaded t v i k j)) ∙ r.holders j l;

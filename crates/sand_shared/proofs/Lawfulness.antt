@@ -11,7 +11,7 @@ use Rattle.sand_model.proofs.Heights.{sum_is_grains}
 use Rattle.sand_model.proofs.Sandpile.{laplacian_sum}
 use Rattle.sand_shared.specs.declared.view.View.{View}
 use Rattle.sand_shared.specs.declared.view.Terms.{Terms}
-use Rattle.sand_shared.specs.OpenPile.{OpenPile, grid_of_terms, holds_site, present, poured, toppled, AreTerms, IsLawful}
+use Rattle.sand_shared.specs.OpenPile.{OpenPile, grid_of_terms, holds_site, present, start_and_drawn, toppled, AreTerms, IsLawful}
 use Rattle.sand_shared.specs.Events.{Event, begin, draw, place, count, split, join, look, unload, deliver, unopened, May, after, AllHappen, after_all}
 use Rattle.sand_shared.proofs.LawfulAtBegin.{some_sites, begun}
 use Rattle.sand_shared.proofs.LawfulAfterReads.{count_keeps, look_keeps}
@@ -62,7 +62,7 @@ pub few_present : (t : Terms) (p : OpenPile) → AreTerms t → IsLawful t p →
 few_present t p terms r i inside =
     let g = grid_of_terms t in
     let one = at_most_sum_below (sites g) (present p) i inside in
-    let all = laplacian_sum g (poured t p) (toppled p) (present p) r.balance in
+    let all = laplacian_sum g (start_and_drawn t p) (toppled p) (present p) r.balance in
     let parts = sum_below-add (sites g) (height_of t.start) (tally p.drawn) in
     let start = sum_is_grains g t.start.heights terms.pile.one_each in
     let drops = sum_below-tally (sites g) p.drawn r.all_sites in

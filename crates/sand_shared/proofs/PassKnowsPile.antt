@@ -15,11 +15,11 @@ use Rattle.sand_model.proofs.Bounds.{topplings_bound}
 use Rattle.sand_shared.specs.declared.view.View.{View}
 use Rattle.sand_shared.specs.declared.view.Receipt.{Receipt}
 use Rattle.sand_shared.specs.declared.view.Terms.{Terms}
-use Rattle.sand_shared.specs.OpenPile.{OpenPile, nobody, grid_of_terms, dropped, held, holds_site, toppled_by, toppled, poured, present, pass_at, AreTerms, IsLawful}
+use Rattle.sand_shared.specs.OpenPile.{OpenPile, nobody, grid_of_terms, drops_at, held, holds_site, toppled_by, toppled, start_and_drawn, present, pass_at, AreTerms, IsLawful}
 use Rattle.sand_shared.specs.Events.{look, unload, unloaded, after}
 use Rattle.sand_shared.specs.Running.{Stands, Happened}
 use Rattle.sand_shared.specs.Seats.{HasAll}
-use Rattle.sand_shared.specs.Sweeps.{laid, LeavesAtMost, LeavesAtLeast, IsSparing}
+use Rattle.sand_shared.specs.Sweeps.{start_and_receipts, LeavesAtMost, LeavesAtLeast, IsSparing}
 use Rattle.sand_shared.proofs.SumsOverPasses.{sum_by_two, sum_by_only, sum_by_none, sum_by_plus, sum_by_beside, sum_by_swap}
 use Rattle.sand_shared.proofs.Balance.{flow_none}
 use Rattle.sand_shared.proofs.OneHolder.{toppled_outside, others_without, own_toppled}
@@ -46,10 +46,10 @@ module _ (t : Terms) (p : OpenPile) (r : IsLawful t p) (a : ℕ) (there : a < le
       let b = r.balance.balance i inside in
       let mine = own_toppled t p r a i there inside own in
       let out =
-      sum_by_beside (λ (u : View). held u.hand i) (λ (u : View). dropped u.receipts i + flow g (toppled_by u) i)
+      sum_by_beside (λ (u : View). held u.hand i) (λ (u : View). drops_at u.receipts i + flow g (toppled_by u) i)
       p.passes a nobody there (ap (λ hand. held hand i) free)
       (λ j l. (r.passes j nobody l).hand i inside) in
-      let parts = sum_by_plus (λ (u : View). dropped u.receipts i) (λ (u : View). flow g (toppled_by u) i) p.passes in
+      let parts = sum_by_plus (λ (u : View). drops_at u.receipts i) (λ (u : View). flow g (toppled_by u) i) p.passes in
       let around = all_flow t p i in
       let drops = r.receipts_by_site i in omega arith
 
@@ -67,9 +67,9 @@ module _ (t : Terms) (p : OpenPile) (r : IsLawful t p) (a : ℕ) (there : a < le
     no_topplings b lb ne j l =
         toppled_outside (pass_at p b) j (others_without t p r a j there l (all.all_sites j l) b lb ne)
 
-    pub its_drops : (i : ℕ) → tally p.drawn i ≡ dropped (pass_at p a).receipts i
-    its_drops i = sym (r.receipts_by_site i) ∙ sum_by_only (λ (u : View). dropped u.receipts i)
-        p.passes a nobody there (λ b lb ne. ap (λ rs. dropped rs i) (no_receipts b lb ne))
+    pub its_drops : (i : ℕ) → tally p.drawn i ≡ drops_at (pass_at p a).receipts i
+    its_drops i = sym (r.receipts_by_site i) ∙ sum_by_only (λ (u : View). drops_at u.receipts i)
+        p.passes a nobody there (λ b lb ne. ap (λ rs. drops_at rs i) (no_receipts b lb ne))
 
     pub its_topplings : (j : ℕ) → j < sites (grid_of_terms t) → toppled p j ≡ toppled_by (pass_at p a) j
     its_topplings j l = own_toppled t p r a j there l (all.all_sites j l)
@@ -80,7 +80,7 @@ module _ (t : Terms) (p : OpenPile) (r : IsLawful t p) (a : ℕ) (there : a < le
         (λ (e : b ≡ a). ap (λ z. held (pass_at p z).hand i) e ∙ ap (λ hand. held hand i) free)
         (λ (ne : b ≡ a → ⊥).
         let hand = (r.passes b nobody lb).hand i inside in
-        let none = ap (λ rs. dropped rs i) (no_receipts b lb ne) in
+        let none = ap (λ rs. drops_at rs i) (no_receipts b lb ne) in
         let still = flow_none (grid_of_terms t) (toppled_by (pass_at p b)) i inside (no_topplings b lb ne) in
         omega arith)
         (cases_eq b a))
@@ -105,9 +105,10 @@ module _ (t : Terms) (p : OpenPile) (r : IsLawful t p) (a : ℕ) (there : a < le
               (record { at_most_three = λ j l. (let s = stab.at_most_three j l in let d = its_drops j in omega arith) })
               i inside in
               omega arith);
-          weighed = (let falls = weight_after g (poured t p) (toppled p) (present p) r.balance in
+          weighed = (let falls = weight_after g (start_and_drawn t p) (toppled p) (present p) r.balance in
               let start =
-              sum_below_same (sites g) (λ i. poured t p i * grain_weight g i) (λ i. laid t v i * grain_weight g i)
+              sum_below_same (sites g) (λ i. start_and_drawn t p i * grain_weight g i)
+              (λ i. start_and_receipts t v i * grain_weight g i)
               (λ i _. ap (λ n. (height_of t.start i + n) * grain_weight g i) (its_drops i)) in
               let counts = sum_counts v (sites g) fits in
               let same = sum_below_same (sites g) (toppled p) (toppled_by v) its_topplings in omega arith);
@@ -123,7 +124,8 @@ module _ (t : Terms) (p : OpenPile) (r : IsLawful t p) (a : ℕ) (there : a < le
       let drops = sum_below-tally (sites g) p.drawn r.all_sites in
       let quota = r.quota in
       let limit = terms.limit in
-      let bound = topplings_bound g (poured t p) (toppled p) (present p) terms.pile.grid (omega arith) r.balance in
+      let bound =
+      topplings_bound g (start_and_drawn t p) (toppled p) (present p) terms.pile.grid (omega arith) r.balance in
       let mine = sum_below_le (sites g) (toppled_by v) (toppled p)
       (λ j _. get_or-le-sum_by (λ (u : View). toppled_by u j) p.passes a nobody there) in
       let counts = sum_counts v (sites g) fits in omega arith

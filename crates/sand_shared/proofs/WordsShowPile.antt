@@ -11,7 +11,7 @@ use Rattle.sand_model.specs.Grid.{sites}
 use Rattle.sand_shared.specs.declared.view.View.{View}
 use Rattle.sand_shared.specs.declared.view.Terms.{Terms}
 use Rattle.sand_shared.specs.OpenPile.{OpenPile, nobody, grid_of_terms, held, pass_at, AreTerms, IsLawful}
-use Rattle.sand_shared.specs.Events.{draw, unload, are_for, drew, laid_down, unloaded, arrived, with_pass, May, after}
+use Rattle.sand_shared.specs.Events.{draw, unload, are_for, drew, after_laying, unloaded, arrived, with_pass, May, after}
 use Rattle.sand_shared.specs.Running.{Shows}
 use Rattle.sand_shared.proofs.GrainsAtSite.{amount_here, amount_else}
 use Rattle.sand_shared.proofs.HandAfterPlacing.{held-without}
@@ -101,7 +101,7 @@ shows_arrived t p s a i k terms r there in_hand inside h =
       number = get_or-set_other s.words (i + 2) 1 ((n + k) % 2 ^ 64) 0 (λ e. absurd (omega arith)) ∙ h.number;
       heights = height_shown t p q s i ((n + k) % 2 ^ 64) inside h
           (omega arith) (λ j ne. let e = amount_else i k j ne in omega arith);
-      passes = passes_step p s.views a (laid_down v i k) h.passes there;
+      passes = passes_step p s.views a (after_laying v i k) h.passes there;
     }
 
 -- grains taken from a site are subtracted from its word

@@ -83,8 +83,8 @@ abbrev pub without : ℕ → ℕ → List Grains → List Grains
 without i k [] = []
 without i k (g ∷ gs) = if are_for i k g then gs else g ∷ without i k gs
 
-abbrev pub laid_down : View → ℕ → ℕ → View
-laid_down v i k = record v { hand = without i k v.hand }
+abbrev pub after_laying : View → ℕ → ℕ → View
+after_laying v i k = record v { hand = without i k v.hand }
 
 -- the first grains in hand go to the neighbour at a place, if there is one
 abbrev pub delivered_to : Option ℕ → View → View
@@ -154,7 +154,7 @@ with_pass p a v = record p { passes = slice_set p.passes a v }
 
 -- k grains move from a pass's hand to a site
 abbrev pub arrived : OpenPile → ℕ → ℕ → ℕ → OpenPile
-arrived p a i k = record (with_pass p a (laid_down (pass_at p a) i k)) { height = λ j. p.height j + amount_at i k j }
+arrived p a i k = record (with_pass p a (after_laying (pass_at p a) i k)) { height = λ j. p.height j + amount_at i k j }
 
 -- When an event may happen
 

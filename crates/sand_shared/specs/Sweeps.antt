@@ -7,20 +7,20 @@ use Rattle.sand_model.specs.Piles.{height_of}
 use Rattle.sand_settle.specs.Settling.{SettledView, odometer_of}
 use Rattle.sand_shared.specs.declared.view.View.{View}
 use Rattle.sand_shared.specs.declared.view.Terms.{Terms}
-use Rattle.sand_shared.specs.OpenPile.{grid_of_terms, dropped, toppled_by}
+use Rattle.sand_shared.specs.OpenPile.{grid_of_terms, drops_at, toppled_by}
 use Rattle.sand_shared.specs.Passes.{PassView, at_rest, IsWhole}
 
 -- the start and the pass's own receipts
-abbrev pub laid : Terms → View → ℕ → ℕ
-laid t v i = height_of t.start i + dropped v.receipts i
+abbrev pub start_and_receipts : Terms → View → ℕ → ℕ
+start_and_receipts t v i = height_of t.start i + drops_at v.receipts i
 
 -- k is at most n at a site
 abbrev pub LeavesAtMost : Terms → View → ℕ → ℕ → Type 0
-LeavesAtMost t v i n = laid t v i + flow (grid_of_terms t) (toppled_by v) i ≤ n + 4 * toppled_by v i
+LeavesAtMost t v i n = start_and_receipts t v i + flow (grid_of_terms t) (toppled_by v) i ≤ n + 4 * toppled_by v i
 
 -- k is at least n at a site
 abbrev pub LeavesAtLeast : Terms → View → ℕ → ℕ → Type 0
-LeavesAtLeast t v i n = n + 4 * toppled_by v i ≤ laid t v i + flow (grid_of_terms t) (toppled_by v) i
+LeavesAtLeast t v i n = n + 4 * toppled_by v i ≤ start_and_receipts t v i + flow (grid_of_terms t) (toppled_by v) i
 
 -- nothing is left to topple: k is at most 3 everywhere
 abbrev pub IsCalm : Terms → View → Type 0
@@ -28,9 +28,10 @@ IsCalm t v = (i : ℕ) → i < sites (grid_of_terms t) → LeavesAtMost t v i 3
 
 -- no site has toppled more often than the start and the receipts require, and the total is bounded by their weight
 pub record IsSparing (t : Terms) (v : View) : Type 0 where
-  pub needed : (w : ℕ → ℕ) → Stabilises (grid_of_terms t) (laid t v) w → (i : ℕ) → i < sites (grid_of_terms t)
+  pub needed : (w : ℕ → ℕ) → Stabilises (grid_of_terms t) (start_and_receipts t v) w
+      → (i : ℕ) → i < sites (grid_of_terms t)
       → toppled_by v i ≤ w i
-  pub weighed : 2 * sum v.counts ≤ weight (grid_of_terms t) (laid t v)
+  pub weighed : 2 * sum v.counts ≤ weight (grid_of_terms t) (start_and_receipts t v)
 
 abbrev pub with_counts : View → List ℕ → View
 with_counts v counts = record v { counts = counts }
@@ -74,7 +75,7 @@ pub record IsRestOf (t : Terms) (p : PassView) (r : SettledView) : Type 0 where
   pub grid : r.pile.grid ≡ grid_of_terms t
   pub heights_each : length r.pile.heights ≡ sites (grid_of_terms t)
   pub odometer_each : length r.odometer ≡ sites (grid_of_terms t)
-  pub settled : IsSettled (grid_of_terms t) (laid t (at_rest p))
+  pub settled : IsSettled (grid_of_terms t) (start_and_receipts t (at_rest p))
       (λ i. slice_index p.counts i + odometer_of r i) (height_of r.pile)
   pub all_topplings : r.topplings ≡ topplings_of (grid_of_terms t) (odometer_of r)
   pub all_lost : r.lost ≡ lost_of (grid_of_terms t) (odometer_of r)

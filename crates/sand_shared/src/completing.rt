@@ -20,7 +20,7 @@ ghost use Rattle.sand_shared.specs.Events.{looked};
 ghost use Rattle.sand_shared.specs.Passes.{IsPassOf, IsWhole, at_rest};
 ghost use Rattle.sand_shared.specs.Record.{Tells, IsRecordOf};
 ghost use Rattle.sand_shared.specs.Seats.{HasAll, IsSeatAt, StaysSeated};
-ghost use Rattle.sand_shared.specs.Sweeps.{IsRestOf, laid};
+ghost use Rattle.sand_shared.specs.Sweeps.{IsRestOf, start_and_receipts};
 
 use crate::bare_pass::BarePass;
 use crate::closing::fill;
@@ -47,8 +47,8 @@ impl Words {
         ensures view { seat.new.me.0 ≡ looked seat.old.me.0 seat.new.me.0.spot seat.new.me.0.least }
         ensures long { length heights.new.items ≡ sites (grid_of_terms self.now.terms) }
         ensures limit { sum heights.new.items ≤ most_grains }
-        ensures underway { IsUnderway (grid_of_terms self.now.terms)
-            (laid self.now.terms seat.old.me.0) (toppled_by seat.old.me.0) (slice_index heights.new.items) }
+        ensures underway { IsUnderway (grid_of_terms self.now.terms) (start_and_receipts self.now.terms seat.old.me.0)
+            (toppled_by seat.old.me.0) (slice_index heights.new.items) }
     {
         let sites = self.terms().start.shape().sites();
         'sites: for site in 0..sites {
@@ -127,7 +127,7 @@ impl SharedPile {
         ensures pass { pass.new ≡ pass.old }
         ensures grid { result.grid ≡ grid_of_terms self.now.terms }
         ensures underway { IsUnderway (grid_of_terms self.now.terms)
-            (laid self.now.terms (at_rest pass.old)) (slice_index pass.old.counts) (height_of result) }
+            (start_and_receipts self.now.terms (at_rest pass.old)) (slice_index pass.old.counts) (height_of result) }
     {
         self.words.read(&mut pass.seat, &mut heights);
         Pile::from_vec(pass.shape, heights)

@@ -32,7 +32,7 @@ returns-in_err-second-clause-fault c =
 
 pub returns-clause-text : goal.returns-clause-text
 returns-clause-text c =
-    IfOk-weaker c.pile_or_picture.result _ _
+    IfOk-weaker c.pile_or_graymap.result _ _
     (λ text written. record {
       first = c.in_ok-first.first;
       second = c.in_ok-first.second;
@@ -50,4 +50,4 @@ returns-clause-text c =
         written = rw c.pile.ensures.value at written;
       };
     })
-    c.pile_or_picture.ensures.text
+    c.pile_or_graymap.ensures.text

@@ -11,7 +11,7 @@ use Rattle.sand_shared.specs.OpenPile.{grid_of_terms, toppled_by}
 use Rattle.sand_shared.specs.Events.{looked}
 use Rattle.sand_shared.specs.Running.{Stands}
 use Rattle.sand_shared.specs.Seats.{HasAll}
-use Rattle.sand_shared.specs.Sweeps.{laid}
+use Rattle.sand_shared.specs.Sweeps.{start_and_receipts}
 use Rattle.sand_shared.proofs.PassAfterEvent.{looked_is}
 use Rattle.sand_shared.proofs.CompletedOdometer.{looked_exactly, left_few, is_underway}
 use Rattle.sand_shared.proofs.steps.Words.read.Goals as goal
@@ -35,7 +35,8 @@ sites-preserved c =
     let exactly =
     looked_exactly t _ i _ _ n c.look-height.ensures.happened (ap (λ (u : View). u.hand) inv.view ∙ c.requires.hand)
     (subst (HasAll t) (sym inv.view) record { quota = c.requires.all.quota; all_sites = c.requires.all.all_sites }) in
-    let here = subst (λ (u : View). n + 4 * toppled_by u i ≡ laid t u i + flow g (toppled_by u) i) inv.view exactly in
+    let here = subst (λ (u : View). n + 4 * toppled_by u i ≡ start_and_receipts t u i + flow g (toppled_by u) i)
+    inv.view exactly in
     record {
       table = c.look-height.ensures.seat.table ∙ inv.table;
       id = c.look-height.ensures.seat.id ∙ inv.id;
@@ -48,11 +49,11 @@ sites-preserved c =
           let now =
           ap (λ ys. get_or ys k 0) items ∙ (ap (λ z. get_or (xs ++ n ∷ []) z 0) {x = k} {y = length xs} (omega arith)
           ∙ get_or-append_seam xs n [] 0) in
-          subst (λ (z : ℕ × ℕ). z.0 + 4 * toppled_by v z.1 ≡ laid t v z.1 + flow g (toppled_by v) z.1)
+          subst (λ (z : ℕ × ℕ). z.0 + 4 * toppled_by v z.1 ≡ start_and_receipts t v z.1 + flow g (toppled_by v) z.1)
           (λ q. (sym now q, sym e q)) here)
           (λ (ne : k ≡ i → ⊥).
           let now = ap (λ ys. get_or ys k 0) items ∙ get_or_append_left xs (n ∷ []) 0 k (omega arith) in
-          subst (λ z. z + 4 * toppled_by v k ≡ laid t v k + flow g (toppled_by v) k)
+          subst (λ z. z + 4 * toppled_by v k ≡ start_and_receipts t v k + flow g (toppled_by v) k)
           (sym now) (inv.left k (omega arith)))
           (cases_eq k i);
     }
@@ -62,7 +63,7 @@ counted c = c.sites-sites.ensures.value
     ∙ ap sites (c.shape.ensures.value ∙ ap (λ (t : Terms). grid_of_terms t) c.terms.ensures.value)
 
 left_there : (c : goal.After-learn)
-    → IsToppled (grid_of_terms c.args.self.now.terms) (laid c.args.self.now.terms c.args.seat.now.me.0)
+    → IsToppled (grid_of_terms c.args.self.now.terms) (start_and_receipts c.args.self.now.terms c.args.seat.now.me.0)
     (toppled_by c.args.seat.now.me.0) (slice_index c.sites.heights.items)
 left_there c =
     let all = counted c in

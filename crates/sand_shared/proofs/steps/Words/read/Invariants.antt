@@ -2,7 +2,7 @@ use Rattle.std.proofs.Common.{◌≡◌, ℕ, ◌+◌, ◌*◌, ◌<◌, ◌≤�
 use Rattle.sand_model.specs.Sand.{flow}
 use Rattle.sand_shared.specs.OpenPile.{grid_of_terms, toppled_by}
 use Rattle.sand_shared.specs.Events.{look, looked}
-use Rattle.sand_shared.specs.Sweeps.{laid}
+use Rattle.sand_shared.specs.Sweeps.{start_and_receipts}
 use Rattle.sand_shared.proofs.steps.Words.read.Given as goal
 
 abbrev pub invariant-sites : goal.invariant-sites
@@ -15,7 +15,8 @@ invariant-sites l = record {
   room : l.sites ≤ vec_capacity l.heights;
   left : (i : ℕ) → i < l.site
       → get_or l.heights.items i 0 + 4 * toppled_by l.initial.seat.me.0 i
-      ≡ laid l.self.terms l.initial.seat.me.0 i + flow (grid_of_terms l.self.terms) (toppled_by l.initial.seat.me.0) i;
+      ≡ start_and_receipts l.self.terms l.initial.seat.me.0 i
+      + flow (grid_of_terms l.self.terms) (toppled_by l.initial.seat.me.0) i;
 }
 
 abbrev pub ghosts-look : goal.ghosts-look
