@@ -134,14 +134,19 @@ pub(crate) fn drawn_drops<G: Gate, W: Write>(
         (W.contents writer.old) (W.contents writer.new)) }
 {
     let start = read_pile(alloc, input)?;
-    let mut pile = DrivenPile::new(alloc, &start)?;
     if u64::from(draw.count) > GRAIN_LIMIT - start.grains() {
         return Err(DeskFault::Full);
     }
     let mut blocks = Blocks::new(alloc, head_of(part))?;
-    drop_drawn(gate, &mut pile, draw, part, &mut blocks, writer)?;
+    let settled = DrivenPile::new(alloc, &start);
+    drop(start);
+    let mut pile = settled?;
+    let dropped = drop_drawn(gate, &mut pile, draw, part, &mut blocks, writer);
     let last = pile.finish();
-    push_end(&mut blocks, writer, part, &last)?;
+    dropped?;
+    let ended = push_end(&mut blocks, writer, part, &last);
+    drop(last);
+    ended?;
     blocks.finish(writer)?;
     Ok(())
 }

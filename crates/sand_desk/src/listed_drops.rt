@@ -110,8 +110,11 @@ pub(crate) fn listed_drops(alloc: Global, input: &[u8], part: Part) -> Result<Ve
     ensures fault { IfErr result (Finds (IsDropsFault None input.now)) }
 {
     let (start, drops) = read_drops(alloc, input)?;
-    let mut pile = DrivenPile::new(alloc, &start)?;
-    let rows = drop_all(alloc, &mut pile, drops.as_slice(), is_pile(part))?;
+    let settled = DrivenPile::new(alloc, &start);
+    drop(start);
+    let mut pile = settled?;
+    let noted = drop_all(alloc, &mut pile, drops.as_slice(), is_pile(part));
     let last = pile.finish();
+    let rows = noted?;
     part_text(alloc, rows.as_slice(), &last, part)
 }

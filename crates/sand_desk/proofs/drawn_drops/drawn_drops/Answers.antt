@@ -31,25 +31,25 @@ returns-in_err-blocks-clause-fault g c =
     rw (p.1, p.2) (found_first (IsDropsText (Some c.args.draw) c.args.part c.args.input.now)
     (IsDropsFault (Some c.args.draw) c.args.input.now) (g.W.Write.contents c.args.writer.now) _ tt)
 
-pub returns-in_err-drop_drawn-clause-fault : goal.returns-in_err-drop_drawn-clause-fault
-returns-in_err-drop_drawn-clause-fault g c =
-    let p = err_from_is_err_and c.from_residual-in_err-drop_drawn.result c.from_residual-in_err-drop_drawn.ensures.1 in
+pub returns-in_err-dropped-clause-fault : goal.returns-in_err-dropped-clause-fault
+returns-in_err-dropped-clause-fault g c =
+    let p = err_from_is_err_and c.from_residual-in_err-dropped.result c.from_residual-in_err-dropped.ensures.1 in
     let is = rw c.head_of.ensures at c.in_ok-blocks.ensures in
     rw (p.1, p.2)
     (rows_fail c.args.draw c.args.part c.args.input.now c.in_ok-start.start c.in_ok-pile.pile
-    (g.W.Write.contents c.args.writer.now) (g.W.Write.contents c.drop_drawn.new.writer) c.in_ok-blocks.blocks _
-    c.in_ok-start.ensures c.in_ok-pile.ensures.settled is c.in_err-drop_drawn.ensures.fault)
+    (g.W.Write.contents c.args.writer.now) (g.W.Write.contents c.drop_drawn-dropped.new.writer) c.in_ok-blocks.blocks _
+    c.in_ok-start.ensures c.in_ok-pile.ensures.settled is c.in_err-dropped.ensures.fault)
 
-pub returns-in_err-push_end-clause-fault : goal.returns-in_err-push_end-clause-fault
-returns-in_err-push_end-clause-fault g c =
-    let p = err_from_is_err_and c.from_residual-in_err-push_end.result c.from_residual-in_err-push_end.ensures.1 in
+pub returns-in_err-ended-clause-fault : goal.returns-in_err-ended-clause-fault
+returns-in_err-ended-clause-fault g c =
+    let p = err_from_is_err_and c.from_residual-in_err-ended.result c.from_residual-in_err-ended.ensures.1 in
     let is = rw c.head_of.ensures at c.in_ok-blocks.ensures in
     rw (p.1, p.2)
     (end_fails c.args.draw c.args.part c.args.input.now c.in_ok-start.start c.in_ok-pile.pile
-    c.drop_drawn.new.pile (g.W.Write.contents c.args.writer.now) (g.W.Write.contents c.drop_drawn.new.writer)
-    c.in_ok-blocks.blocks c.drop_drawn.new.blocks c.in_ok-start.ensures c.in_ok-pile.ensures.settled
-    is c.in_ok-drop_drawn.ensures.rows c.in_ok-drop_drawn.ensures.after
-    (g.W.Write.contents c.push_end.new.writer) _ (rw c.finish-last.ensures at c.in_err-push_end.ensures.err))
+    c.drop_drawn-dropped.new.pile (g.W.Write.contents c.args.writer.now) (g.W.Write.contents c.drop_drawn-dropped.new.writer)
+    c.in_ok-blocks.blocks c.drop_drawn-dropped.new.blocks c.in_ok-start.ensures c.in_ok-pile.ensures.settled
+    is c.in_ok-dropped.ensures.rows c.in_ok-dropped.ensures.after
+    (g.W.Write.contents c.push_end-ended.new.writer) _ (rw c.finish-last.ensures at c.in_err-ended.ensures.err))
 
 pub returns-in_err-finish-clause-fault : goal.returns-in_err-finish-clause-fault
 returns-in_err-finish-clause-fault g c =
@@ -57,20 +57,20 @@ returns-in_err-finish-clause-fault g c =
     let is = rw c.head_of.ensures at c.in_ok-blocks.ensures in
     rw (p.1, p.2)
     (last_fails c.args.draw c.args.part c.args.input.now c.in_ok-start.start c.in_ok-pile.pile
-    c.drop_drawn.new.pile (g.W.Write.contents c.args.writer.now) (g.W.Write.contents c.drop_drawn.new.writer)
-    c.in_ok-blocks.blocks c.drop_drawn.new.blocks c.in_ok-start.ensures c.in_ok-pile.ensures.settled
-    is c.in_ok-drop_drawn.ensures.rows c.in_ok-drop_drawn.ensures.after
-    (g.W.Write.contents c.push_end.new.writer) c.push_end.new.blocks
-    (rw c.finish-last.ensures at c.in_ok-push_end.ensures.ok)
+    c.drop_drawn-dropped.new.pile (g.W.Write.contents c.args.writer.now) (g.W.Write.contents c.drop_drawn-dropped.new.writer)
+    c.in_ok-blocks.blocks c.drop_drawn-dropped.new.blocks c.in_ok-start.ensures c.in_ok-pile.ensures.settled
+    is c.in_ok-dropped.ensures.rows c.in_ok-dropped.ensures.after
+    (g.W.Write.contents c.push_end-ended.new.writer) c.push_end-ended.new.blocks
+    (rw c.finish-last.ensures at c.in_ok-ended.ensures.ok)
     (g.W.Write.contents c.finish.new.writer) _ c.in_err-finish.ensures.err)
 
 pub returns-clause-done : goal.returns-clause-done
 returns-clause-done g c =
     let is = rw c.head_of.ensures at c.in_ok-blocks.ensures in
     all_taken c.args.draw c.args.part c.args.input.now c.in_ok-start.start c.in_ok-pile.pile
-    c.drop_drawn.new.pile (g.W.Write.contents c.args.writer.now) (g.W.Write.contents c.drop_drawn.new.writer)
-    c.in_ok-blocks.blocks c.drop_drawn.new.blocks c.in_ok-start.ensures c.in_ok-pile.ensures.settled
-    is c.in_ok-drop_drawn.ensures.rows c.in_ok-drop_drawn.ensures.after
-    (g.W.Write.contents c.push_end.new.writer) c.push_end.new.blocks
-    (rw c.finish-last.ensures at c.in_ok-push_end.ensures.ok)
+    c.drop_drawn-dropped.new.pile (g.W.Write.contents c.args.writer.now) (g.W.Write.contents c.drop_drawn-dropped.new.writer)
+    c.in_ok-blocks.blocks c.drop_drawn-dropped.new.blocks c.in_ok-start.ensures c.in_ok-pile.ensures.settled
+    is c.in_ok-dropped.ensures.rows c.in_ok-dropped.ensures.after
+    (g.W.Write.contents c.push_end-ended.new.writer) c.push_end-ended.new.blocks
+    (rw c.finish-last.ensures at c.in_ok-ended.ensures.ok)
     (g.W.Write.contents c.finish.new.writer) c.in_ok-finish.ensures.ok
