@@ -4,8 +4,8 @@
 //! parsers and writers of `sand_text`, `faults` has the one fault type for all of this, `helping` shows help, and
 //! `version` writes the version.
 //!
-//! In the two commands that drop grains, a value is dropped by `drop` before the next way out. If it goes out of scope
-//! instead, the function's proof takes it apart field by field, on each way out.
+//! The two commands that drop grains drop large values early, by `drop`. If one goes out of scope instead, the
+//! function's proof takes it apart field by field, on each way out.
 #![tactic(auto)]
 
 mod commands;

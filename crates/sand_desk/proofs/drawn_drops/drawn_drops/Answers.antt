@@ -46,7 +46,8 @@ returns-in_err-ended-clause-fault g c =
     let is = rw c.head_of.ensures at c.in_ok-blocks.ensures in
     rw (p.1, p.2)
     (end_fails c.args.draw c.args.part c.args.input.now c.in_ok-start.start c.in_ok-pile.pile
-    c.drop_drawn-dropped.new.pile (g.W.Write.contents c.args.writer.now) (g.W.Write.contents c.drop_drawn-dropped.new.writer)
+    c.drop_drawn-dropped.new.pile (g.W.Write.contents c.args.writer.now)
+    (g.W.Write.contents c.drop_drawn-dropped.new.writer)
     c.in_ok-blocks.blocks c.drop_drawn-dropped.new.blocks c.in_ok-start.ensures c.in_ok-pile.ensures.settled
     is c.in_ok-dropped.ensures.rows c.in_ok-dropped.ensures.after
     (g.W.Write.contents c.push_end-ended.new.writer) _ (rw c.finish-last.ensures at c.in_err-ended.ensures.err))
@@ -57,7 +58,8 @@ returns-in_err-finish-clause-fault g c =
     let is = rw c.head_of.ensures at c.in_ok-blocks.ensures in
     rw (p.1, p.2)
     (last_fails c.args.draw c.args.part c.args.input.now c.in_ok-start.start c.in_ok-pile.pile
-    c.drop_drawn-dropped.new.pile (g.W.Write.contents c.args.writer.now) (g.W.Write.contents c.drop_drawn-dropped.new.writer)
+    c.drop_drawn-dropped.new.pile (g.W.Write.contents c.args.writer.now)
+    (g.W.Write.contents c.drop_drawn-dropped.new.writer)
     c.in_ok-blocks.blocks c.drop_drawn-dropped.new.blocks c.in_ok-start.ensures c.in_ok-pile.ensures.settled
     is c.in_ok-dropped.ensures.rows c.in_ok-dropped.ensures.after
     (g.W.Write.contents c.push_end-ended.new.writer) c.push_end-ended.new.blocks
@@ -68,7 +70,8 @@ pub returns-clause-done : goal.returns-clause-done
 returns-clause-done g c =
     let is = rw c.head_of.ensures at c.in_ok-blocks.ensures in
     all_taken c.args.draw c.args.part c.args.input.now c.in_ok-start.start c.in_ok-pile.pile
-    c.drop_drawn-dropped.new.pile (g.W.Write.contents c.args.writer.now) (g.W.Write.contents c.drop_drawn-dropped.new.writer)
+    c.drop_drawn-dropped.new.pile (g.W.Write.contents c.args.writer.now)
+    (g.W.Write.contents c.drop_drawn-dropped.new.writer)
     c.in_ok-blocks.blocks c.drop_drawn-dropped.new.blocks c.in_ok-start.ensures c.in_ok-pile.ensures.settled
     is c.in_ok-dropped.ensures.rows c.in_ok-dropped.ensures.after
     (g.W.Write.contents c.push_end-ended.new.writer) c.push_end-ended.new.blocks
