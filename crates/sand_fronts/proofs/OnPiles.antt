@@ -13,7 +13,7 @@ use Rattle.sand_tiles.specs.Counts.{counted}
 use Rattle.sand_fronts.specs.declared.sides.Beside.{Beside}
 use Rattle.sand_fronts.specs.declared.tiled_pile.Fall.{Fall}
 use Rattle.sand_fronts.specs.Tiling.{tile_of, place_of, on_tiles}
-use Rattle.sand_fronts.specs.TileLists.{ListView}
+use Rattle.sand_fronts.specs.IndexLists.{ListView}
 use Rattle.sand_fronts.specs.Waves.{tile_at}
 use Rattle.sand_fronts.specs.Counting.{count_at}
 use Rattle.sand_fronts.specs.Drops.{heights_on, counted_on, grown_on}

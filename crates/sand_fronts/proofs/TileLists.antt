@@ -6,7 +6,8 @@ use Rattle.std.proofs.lemmas.List.{drop-append-le, get_or_append_left}
 use Rattle.sand_model.specs.Lists.{Lists}
 use Rattle.sand_model.proofs.Lists.{lists_push, lists_same}
 use Rattle.sand_tiles.specs.declared.tile.Tile.{Tile}
-use Rattle.sand_fronts.specs.TileLists.{ListView, waits, waits_but, Joins}
+use Rattle.sand_fronts.specs.IndexLists.{ListView}
+use Rattle.sand_fronts.specs.TileLists.{waits, waits_but, Joins}
 use Rattle.sand_fronts.specs.Waves.{tile_at}
 use Rattle.sand_fronts.proofs.Gained.{tile_set_same, tile_set_other}
 use Rattle.std.proofs.Math.ListN.{set}
@@ -25,7 +26,7 @@ queued n p q list k joins inside others if_so if_not turn within all =
     ⊎_elim (λ (e : j ≡ k). ap p e ∙ if_not is ∙ ap q (sym e)) (λ (ne : j ≡ k → ⊥). others j l ne) (cases_eq j k)) all))
     (cases_Bool joins)
 
-one_more : (joins : Bool) (list : List ℕ) (i : ℕ)
+pub one_more : (joins : Bool) (list : List ℕ) (i : ℕ)
     → (length list ≤ length (cond joins (list ++ i ∷ []) list))
     × (length (cond joins (list ++ i ∷ []) list) ≤ length list + 1)
 one_more true list i = let e = length-append list (i ∷ []) in (omega arith, omega arith)
@@ -40,8 +41,8 @@ same_before false list i t less = refl
 pub joins_one : (ts : List Tile) (free : ℕ → ℕ) (k n : ℕ) (t : Tile) (l m : ListView) → n ≡ length ts → k < length ts
     → (0 < bit_and (tile_at ts k).due (free k) → 0 < bit_and t.due (free k))
     → m ≡ record l {
-      tiles = cond (eqb (bit_and (tile_at ts k).due (free k)) 0 && not (eqb (bit_and t.due (free k)) 0))
-          (l.tiles ++ k ∷ []) l.tiles;
+      items = cond (eqb (bit_and (tile_at ts k).due (free k)) 0 && not (eqb (bit_and t.due (free k)) 0))
+          (l.items ++ k ∷ []) l.items;
     }
     → Joins n 1 (waits (tile_at ts) free) (waits (tile_at (set ts k t)) free) l m
 joins_one ts free k n t l m each inside grows is =
@@ -50,16 +51,16 @@ joins_one ts free k n t l m each inside grows is =
     let j = eqb a 0 && not (eqb b 0) in
     let here : waits (tile_at (set ts k t)) free k ≡ ltb 0 b =
     ap (λ (x : Tile). ltb 0 (bit_and x.due (free k))) (tile_set_same ts k k t inside refl) in
-    let longer = one_more j l.tiles k in
+    let longer = one_more j l.items k in
     let P : ListView → Type 0 = λ q. Joins n 1 (waits (tile_at ts) free) (waits (tile_at (set ts k t)) free) l q in
     subst P (sym is)
     (record {
       room = refl;
       longer = longer.0;
       few = longer.1;
-      kept = same_before j l.tiles k;
+      kept = same_before j l.items k;
       waiting = λ turn within all.
-          queued n (waits (tile_at ts) free) (waits (tile_at (set ts k t)) free) l.tiles k j (omega arith)
+          queued n (waits (tile_at ts) free) (waits (tile_at (set ts k t)) free) l.items k j (omega arith)
           (λ i x ne. ap (λ (x : Tile). ltb 0 (bit_and x.due (free i))) (sym (tile_set_other ts k i t ne)))
           (λ y. let parts = and_parts (eqb a 0) (not (eqb b 0)) y in
           let a0 = eqb-true a 0 parts.0 in
@@ -111,21 +112,21 @@ joins_from n a p p' q l m same joins = record {
   longer = joins.longer;
   few = joins.few;
   kept = joins.kept;
-  waiting = λ turn within all. joins.waiting turn within (lists_same n p p' (drop turn l.tiles) same all);
+  waiting = λ turn within all. joins.waiting turn within (lists_same n p p' (drop turn l.items) same all);
 }
 
 pub joins_read : (ts : List Tile) (free : ℕ → ℕ) (k n : ℕ) (t : Tile) (l m : ListView) → n ≡ length ts → k < length ts
     → (0 < bit_and (tile_at ts k).due (free k) → 0 < bit_and t.due (free k))
     → m ≡ record l {
-      tiles = cond
+      items = cond
           (eqb (bit_and (tile_at ts k).due (free k)) 0 && not (eqb (bit_and (tile_at (set ts k t) k).due (free k)) 0))
-          (l.tiles ++ k ∷ []) l.tiles;
+          (l.items ++ k ∷ []) l.items;
     }
     → Joins n 1 (waits (tile_at ts) free) (waits (tile_at (set ts k t)) free) l m
 joins_read ts free k n t l m each inside grows is =
     joins_one ts free k n t l m each inside grows
     (is ∙ ap (λ (x : Tile). record l {
-      tiles = cond (eqb (bit_and (tile_at ts k).due (free k)) 0 && not (eqb (bit_and x.due (free k)) 0))
-          (l.tiles ++ k ∷ []) l.tiles;
+      items = cond (eqb (bit_and (tile_at ts k).due (free k)) 0 && not (eqb (bit_and x.due (free k)) 0))
+          (l.items ++ k ∷ []) l.items;
     })
     (tile_set_same ts k k t inside refl))

@@ -1,5 +1,6 @@
 pub mod Tiling
 pub mod Waves
+pub mod IndexLists
 pub mod TileLists
 pub mod Counting
 pub mod Drops

@@ -3,11 +3,7 @@ use Rattle.std.specs.Prelude.{ℕ, Bool, List, ◌≡◌, ◌⊎◌, ◌+◌, �
 use Rattle.sand_model.specs.Lists.{Lists}
 use Rattle.sand_tiles.specs.declared.tile.Tile.{Tile}
 use Rattle.sand_tiles.specs.Places.{bit}
-
--- what contracts see of a list of tiles with a fixed capacity
-pub record ListView : Type 0 where
-  pub tiles : List ℕ
-  pub room : ℕ
+use Rattle.sand_fronts.specs.IndexLists.{ListView}
 
 -- whether a free place of a tile is due
 abbrev pub waits : (ℕ → Tile) → (ℕ → ℕ) → ℕ → Bool
@@ -21,10 +17,10 @@ waits_but k τ free m = not (m == k) && waits τ free m
 -- each that passes q
 pub record Joins (n most : ℕ) (p q : ℕ → Bool) (l m : ListView) : Type 0 where
   pub room : m.room ≡ l.room
-  pub longer : length l.tiles ≤ length m.tiles
-  pub few : length m.tiles ≤ length l.tiles + most
-  pub kept : (t : ℕ) → t < length l.tiles → slice_index m.tiles t ≡ slice_index l.tiles t
-  pub waiting : (turn : ℕ) → turn ≤ length l.tiles → Lists n p (drop turn l.tiles) → Lists n q (drop turn m.tiles)
+  pub longer : length l.items ≤ length m.items
+  pub few : length m.items ≤ length l.items + most
+  pub kept : (t : ℕ) → t < length l.items → slice_index m.items t ≡ slice_index l.items t
+  pub waiting : (turn : ℕ) → turn ≤ length l.items → Lists n p (drop turn l.items) → Lists n q (drop turn m.items)
 
 -- no site of a tile has toppled in this wave
 abbrev pub IsClear : Tile → Type 0

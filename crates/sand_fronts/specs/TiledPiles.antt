@@ -7,7 +7,7 @@ use Rattle.sand_tiles.specs.declared.counting.Count.{Count}
 use Rattle.sand_tiles.specs.Counts.{counted, IsCount}
 use Rattle.sand_fronts.specs.declared.sides.Beside.{Beside}
 use Rattle.sand_fronts.specs.Tiling.{tiles, on_tiles}
-use Rattle.sand_fronts.specs.TileLists.{ListView}
+use Rattle.sand_fronts.specs.IndexLists.{ListView}
 use Rattle.sand_fronts.specs.Waves.{tile_at, AreAllOpen, IsBoard}
 use Rattle.sand_fronts.specs.Counting.{count_at}
 use Rattle.sand_fronts.specs.Drops.{heights_on, counted_on, AreQuiet, AreOutside}

@@ -13,8 +13,8 @@ ghost use Rattle.sand_fronts.specs.Waves.{tile_at};
 ghost use Rattle.sand_fronts.specs.Counting.{count_at, in_wave, over_wave, with_wave, AreCounted};
 ghost use Rattle.sand_fronts.specs.Marking.{AreMarked};
 
+use crate::index_list::IndexList;
 use crate::marks::Marks;
-use crate::tile_list::TileList;
 use sand_tiles::{Count, Tile, count_set, size, sum_over};
 
 /// The number of topplings, and of grains that fell into the sink.
@@ -91,7 +91,7 @@ pub(crate) fn count_wave(
     counts: &mut [Count],
     marks: &mut Marks,
     outside: &[Tile],
-    list: &TileList,
+    list: &IndexList,
     here: usize,
 ) -> Total
     requires here { here < length tiles.old }
@@ -100,8 +100,8 @@ pub(crate) fn count_wave(
     requires small { length tiles.old ≤ 65536 }
     requires sound { (m : ℕ) → IsCount (count_at counts.old m) }
     requires few { (m p : ℕ) → p < 64 → with_wave (tile_at tiles.old) (count_at counts.old) m p < 2 ^ 62 }
-    requires listed { AreListed here list.now.tiles 0 (length list.now.tiles) (tile_at tiles.old) }
-    requires on_board { (t : ℕ) → t < length list.now.tiles → slice_index list.now.tiles t < length tiles.old }
+    requires listed { AreListed here list.now.items 0 (length list.now.items) (tile_at tiles.old) }
+    requires on_board { (t : ℕ) → t < length list.now.items → slice_index list.now.items t < length tiles.old }
     ensures counted { AreCounted (tile_at tiles.old) (tile_at tiles.new) (count_at counts.old) (count_at counts.new) }
     ensures marked { AreMarked (count_at counts.old) (count_at counts.new)
         (slice_index marks.old) (slice_index marks.new) }
@@ -112,7 +112,7 @@ pub(crate) fn count_wave(
 {
     let mut total = add_tile(tiles, counts, marks, outside, here, NOTHING);
     for turn in 0..list.len() {
-        let k = list.tile(turn);
+        let k = list.item(turn);
         total = add_tile(tiles, counts, marks, outside, k, total);
     }
     total

@@ -24,10 +24,10 @@ ghost use Rattle.sand_fronts.specs.Drops.{heights_on, grown_on, AreQuiet, AreOut
 ghost use Rattle.sand_fronts.specs.Marking.{AreMarked};
 
 use crate::counting::{NOTHING, Total, count_wave};
+use crate::index_list::IndexList;
 use crate::marks::Marks;
 use crate::one_wave::topple_wave;
 use crate::sides::Beside;
-use crate::tile_list::TileList;
 use sand_model::Shape;
 use sand_tiles::{Count, Tile, height_at, set_of};
 
@@ -38,7 +38,7 @@ pub fn topple_all(
     tiles: &mut [Tile],
     free: &[u64],
     beside: &[Beside],
-    list: &mut TileList,
+    list: &mut IndexList,
     counts: &mut [Count],
     marks: &mut Marks,
     outside: &[Tile],

@@ -26,8 +26,8 @@ ghost use Rattle.sand_fronts.specs.Tiling.{tile_of, place_of, on_tiles};
 ghost use Rattle.sand_fronts.specs.TileLists.{waits, waits_but, Joins, AreListed};
 ghost use Rattle.sand_fronts.specs.Waves.{tile_at, only, AreOpen, AreAtRest, IsBoard, IsWave, heights_before, toppled, Leaves, Gains, over_rim, Steps};
 
+use crate::index_list::IndexList;
 use crate::sides::Beside;
-use crate::tile_list::TileList;
 use sand_model::Shape;
 use sand_tiles::{Tile, receive, visit};
 
@@ -36,11 +36,11 @@ const FIRST: u64 = 0x0101_0101_0101_0101;
 
 // Adds a grain at each place of a set in a tile, and lists the tile if a free place becomes due and none was before.
 #[inline(always)]
-fn gain_at(tiles: &mut [Tile], free: &[u64], list: &mut TileList, k: usize, gain: u64)
+fn gain_at(tiles: &mut [Tile], free: &[u64], list: &mut IndexList, k: usize, gain: u64)
     requires inside { k < length tiles.old }
     requires small { length tiles.old ≤ 65536 }
     requires one_each { length free.now ≡ length tiles.old }
-    requires room { length list.old.tiles < list.old.room }
+    requires room { length list.old.items < list.old.room }
     ensures gains { Gains (tile_at tiles.old) (tile_at tiles.new) (only k (bit gain)) }
     ensures joins { (n : ℕ) → n ≡ length tiles.old
         → Joins n 1 (waits (tile_at tiles.old) (slice_index free.now))
@@ -55,7 +55,7 @@ fn gain_at(tiles: &mut [Tile], free: &[u64], list: &mut TileList, k: usize, gain
 
 // Gives the grains that leave a tile to the four tiles next to it.
 #[inline(always)]
-fn hand_over(tiles: &mut [Tile], free: &[u64], list: &mut TileList, beside: &Beside, new: u64)
+fn hand_over(tiles: &mut [Tile], free: &[u64], list: &mut IndexList, beside: &Beside, new: u64)
     requires north { beside.now.north < length tiles.old }
     requires south { beside.now.south < length tiles.old }
     requires west { beside.now.west < length tiles.old }
@@ -63,7 +63,7 @@ fn hand_over(tiles: &mut [Tile], free: &[u64], list: &mut TileList, beside: &Bes
     requires shifts { (beside.now.west_shift ≤ 7) × (beside.now.east_shift ≤ 7) }
     requires small { length tiles.old ≤ 65536 }
     requires one_each { length free.now ≡ length tiles.old }
-    requires room { length list.old.tiles + 4 ≤ list.old.room }
+    requires room { length list.old.items + 4 ≤ list.old.room }
     ensures gains { Gains (tile_at tiles.old) (tile_at tiles.new) (over_rim beside.now new) }
     ensures joins { (n : ℕ) → n ≡ length tiles.old
         → Joins n 4 (waits (tile_at tiles.old) (slice_index free.now))
@@ -92,14 +92,14 @@ fn hand_over(tiles: &mut [Tile], free: &[u64], list: &mut TileList, beside: &Bes
 fn topple_tile(
     tiles: &mut [Tile],
     free: &[u64],
-    list: &mut TileList,
+    list: &mut IndexList,
     beside: &Beside,
     k: usize,
     start: u64,
 ) -> u64
     requires tile { k < length tiles.old }
     requires one_each { length free.now ≡ length tiles.old }
-    requires room { length list.old.tiles + 4 ≤ list.old.room }
+    requires room { length list.old.items + 4 ≤ list.old.room }
     requires ready { IsReady (tile_at tiles.old k) (slice_index free.now k) start }
     requires north { beside.now.north < length tiles.old }
     requires south { beside.now.south < length tiles.old }
@@ -124,7 +124,7 @@ pub fn topple_wave(
     tiles: &mut [Tile],
     free: &[u64],
     beside: &[Beside],
-    list: &mut TileList,
+    list: &mut IndexList,
     site: usize,
     here: usize,
     start: u64,
@@ -137,8 +137,8 @@ pub fn topple_wave(
     requires all_open { AreOpen shape site (slice_index free.now) }
     requires rest { AreAtRest shape site (tile_at tiles.old) }
     requires room { sites shape + length tiles.old + 4 ≤ list.old.room }
-    ensures listed { AreListed here list.new.tiles 0 (length list.new.tiles) (tile_at tiles.new) }
-    ensures on_board { (t : ℕ) → t < length list.new.tiles → slice_index list.new.tiles t < length tiles.new }
+    ensures listed { AreListed here list.new.items 0 (length list.new.items) (tile_at tiles.new) }
+    ensures on_board { (t : ℕ) → t < length list.new.items → slice_index list.new.items t < length tiles.new }
     ensures room { list.new.room ≡ list.old.room }
     ensures wave { IsWave shape site (heights_before shape site (tile_at tiles.old)) (tile_at tiles.new) }
     ensures advances { (k u v : ℕ → ℕ)
@@ -154,7 +154,7 @@ pub fn topple_wave(
     topple_tile(tiles, free, list, &first, here, start);
     let mut turn = 0usize;
     'turns: while turn < list.len() {
-        let k = list.tile(turn);
+        let k = list.item(turn);
         turn += 1;
         let next = beside[k];
         topple_tile(tiles, free, list, &next, k, 0);

@@ -13,9 +13,9 @@ ghost use Rattle.sand_fronts.specs.Drops.{AreOutside};
 ghost use Rattle.sand_fronts.specs.Falls.{IsFall};
 ghost use Rattle.sand_fronts.specs.TiledPiles.{IsTiledView, toppled_between};
 
+use crate::index_list::IndexList;
 use crate::marks::Marks;
 use crate::sides::{Beside, all_sides};
-use crate::tile_list::TileList;
 use crate::tiled_pile::{Fall, drop_grain};
 use crate::tiling::{all_open, find, tiles, tiles_with};
 use sand_model::Shape;
@@ -37,7 +37,7 @@ pub struct TiledPile {
     marks: Marks,
     // The number of places around each site that are outside the grid, in place of heights.
     outside: Vec<Tile>,
-    list: TileList,
+    list: IndexList,
 }
 
 impl Model for TiledPile {
@@ -103,7 +103,7 @@ impl TiledPile {
         let counts = no_counts(alloc, n)?;
         let marks = Marks::new(alloc, n)?;
         let outside = all_outside(alloc, shape)?;
-        let list = TileList::new(alloc, room)?;
+        let list = IndexList::new(alloc, room)?;
         Ok(TiledPile {
             shape,
             tiles,

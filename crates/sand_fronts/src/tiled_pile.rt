@@ -18,9 +18,9 @@ ghost use Rattle.sand_fronts.specs.TiledPiles.{IsTiledPile};
 use crate::counting::Total;
 use crate::dropping::topple_all;
 use crate::extent::{Extent, take_all};
+use crate::index_list::IndexList;
 use crate::marks::Marks;
 use crate::sides::Beside;
-use crate::tile_list::TileList;
 use crate::tiling::find;
 use sand_model::Shape;
 use sand_tiles::{Count, Tile, is_due, receive, set_of};
@@ -52,7 +52,7 @@ pub fn drop_grain(
     tiles: &mut [Tile],
     free: &mut [u64],
     beside: &[Beside],
-    list: &mut TileList,
+    list: &mut IndexList,
     counts: &mut [Count],
     marks: &mut Marks,
     outside: &[Tile],

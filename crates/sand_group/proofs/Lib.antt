@@ -7,3 +7,4 @@ pub mod BurningDecides
 pub mod OperationsOnHeights
 pub mod EmptiedIsIdentity
 pub mod Multiples
+pub mod WhyRefused

@@ -1,5 +1,5 @@
 -- The grains that a site gives to its neighbours, and the sites that join a list because of them.
-use Rattle.std.proofs.Common.{ℕ, Bool, true, false, cond, ltb, leb, ◌&&◌, Option, Some, None, map, ◌≡◌, ◌+◌, ◌-◌, ◌*◌, ◌<◌, ◌≤◌, refl, sym, ◌∙◌, ap, subst, take, drop, arith, List, [], ◌∷◌, ◌++◌, length, get_or, length-append, ⊎_elim}
+use Rattle.std.proofs.Common.{ℕ, Bool, true, false, cond, ltb, leb, ◌&&◌, Option, Some, None, map, ◌≡◌, ◌+◌, ◌-◌, ◌*◌, ◌<◌, ◌≤◌, refl, sym, ◌∙◌, ap, subst, take, drop, arith, List, [], ◌∷◌, ◌++◌, length, get_or, ⊎_elim}
 use Rattle.std.proofs.Math.ListN.{set}
 use Rattle.std.proofs.lemmas.Bool.{cases_Bool}
 use Rattle.std.proofs.lemmas.List.{take-append-le, length-map, drop-append-le}
@@ -10,7 +10,9 @@ use Rattle.sand_model.proofs.Flow.{flow-scale, flow-one_at}
 use Rattle.sand_model.proofs.Neighbours.{flow_four}
 use Rattle.sand_model.proofs.Heights.{get_or-written}
 use Rattle.sand_model.proofs.Lists.{lists_of}
-use Rattle.sand_settle.specs.SiteLists.{ListView, may_topple, Joins}
+use Rattle.sand_fronts.specs.IndexLists.{ListView}
+use Rattle.sand_fronts.proofs.TileLists.{one_more}
+use Rattle.sand_settle.specs.SiteLists.{may_topple, Joins}
 use Rattle.sand_settle.proofs.Queue.{queued}
 
 -- ---- the sites that join a list
@@ -37,27 +39,21 @@ pub kept_from : (list : List ℕ) (turn i : ℕ) (joins : Bool) → turn ≤ len
 kept_from list turn i true within = take-append-le turn list (i ∷ []) within
 kept_from list turn i false within = refl
 
-one_more : (joins : Bool) (list : List ℕ) (i : ℕ)
-    → (length list ≤ length (cond joins (list ++ i ∷ []) list))
-    × (length (cond joins (list ++ i ∷ []) list) ≤ length list + 1)
-one_more true list i = let e = length-append list (i ∷ []) in (omega arith, omega arith)
-one_more false list i = (omega arith, omega arith)
-
 pub joins_one : (h : List ℕ) (l m : ListView) (i v : ℕ)
     → i < length h → get_or h i 0 ≤ v
-    → m ≡ record l { sites = cond (ltb (get_or h i 0) 4 && leb 4 v) (l.sites ++ i ∷ []) l.sites }
+    → m ≡ record l { items = cond (ltb (get_or h i 0) 4 && leb 4 v) (l.items ++ i ∷ []) l.items }
     → Joins 1 h (set h i v) l m
 joins_one h l m i v inside more is =
     let P : ListView → Type 0 = λ q. Joins 1 h (set h i v) l q in
-    let longer = one_more (ltb (get_or h i 0) 4 && leb 4 v) l.sites i in
+    let longer = one_more (ltb (get_or h i 0) 4 && leb 4 v) l.items i in
     subst P (sym is)
     (record {
       room = refl;
       longer = longer.0;
       few = longer.1;
-      kept = λ turn within. kept_from l.sites turn i (ltb (get_or h i 0) 4 && leb 4 v) within;
+      kept = λ turn within. kept_from l.items turn i (ltb (get_or h i 0) 4 && leb 4 v) within;
       waiting = λ n turn front each within all.
-          rw each (queued_from h front l.sites turn i v within inside more (lists_of n (length h) _ _ each all));
+          rw each (queued_from h front l.items turn i v within inside more (lists_of n (length h) _ _ each all));
     })
 
 pub joins_more : (a b : ℕ) (h k q : List ℕ) (l m r : ListView) → length k ≡ length h → Joins a h k l m → Joins b k q m r

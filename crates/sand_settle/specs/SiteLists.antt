@@ -1,11 +1,7 @@
 -- Lists of sites, and the tests of their sites.
 use Rattle.std.specs.Prelude.{ℕ, Bool, List, ◌≡◌, ◌+◌, ◌-◌, ◌≤◌, ◌++◌, length, take, drop, slice_index, nat_le, nat_lt}
 use Rattle.sand_model.specs.Lists.{Lists}
-
--- what contracts see of a list of sites with a fixed capacity
-pub record ListView : Type 0 where
-  pub sites : List ℕ
-  pub room : ℕ
+use Rattle.sand_fronts.specs.IndexLists.{ListView}
 
 -- whether a site may topple at the heights s
 abbrev pub may_topple : (ℕ → ℕ) → ℕ → Bool
@@ -25,8 +21,8 @@ grown u v j = slice_index v j - slice_index u j
 -- front, it had the sites that may topple at h, it now has those that may topple at k
 pub record Joins (most : ℕ) (h k : List ℕ) (l m : ListView) : Type 0 where
   pub room : m.room ≡ l.room
-  pub longer : length l.sites ≤ length m.sites
-  pub few : length m.sites ≤ length l.sites + most
-  pub kept : (turn : ℕ) → turn ≤ length l.sites → take turn m.sites ≡ take turn l.sites
-  pub waiting : (n turn : ℕ) (front : List ℕ) → n ≡ length h → turn ≤ length l.sites
-      → ListsUnstable n h (front ++ drop turn l.sites) → ListsUnstable n k (front ++ drop turn m.sites)
+  pub longer : length l.items ≤ length m.items
+  pub few : length m.items ≤ length l.items + most
+  pub kept : (turn : ℕ) → turn ≤ length l.items → take turn m.items ≡ take turn l.items
+  pub waiting : (n turn : ℕ) (front : List ℕ) → n ≡ length h → turn ≤ length l.items
+      → ListsUnstable n h (front ++ drop turn l.items) → ListsUnstable n k (front ++ drop turn m.items)

@@ -1,7 +1,7 @@
 -- The memory for settling, before a settling and after a drop.
 use Rattle.std.specs.Prelude.{ℕ, ◌≡◌, ◌+◌, ◌≤◌, List, length, slice_index}
 use Rattle.sand_model.specs.Grid.{Grid, IsGrid, sites}
-use Rattle.sand_settle.specs.SiteLists.{ListView}
+use Rattle.sand_fronts.specs.IndexLists.{ListView}
 
 -- a count of 0 for each site, and lists with room for all sites and 4 more
 pub record IsIdle (g : Grid) (counts : List ℕ) (wave spare : ListView) : Type 0 where

@@ -11,8 +11,8 @@ ghost use Rattle.sand_model.specs.Lists.{Lists};
 ghost use Rattle.sand_settle.specs.SiteLists.{has_toppled};
 ghost use Rattle.sand_settle.specs.Avalanches.{IsAvalanche};
 
-use crate::site_list::SiteList;
 use crate::spreading::knows_sides;
+use sand_fronts::IndexList;
 use sand_model::Lattice;
 
 /// The numbers of one avalanche.
@@ -56,14 +56,14 @@ pub(crate) fn collect(
     site: usize,
     counts: &mut [u64],
     odometer: &mut [u64],
-    toppled: &SiteList,
+    toppled: &IndexList,
 ) -> Avalanche
     requires site { site < sites lattice.now }
     requires one_each { (length counts.old ≡ sites lattice.now) × (length odometer.old ≡ sites lattice.now) }
     requires few { (topplings lattice.now (slice_index counts.old) < 2 ^ 54)
         × (topplings lattice.now (slice_index odometer.old) < 2 ^ 54) }
     requires lost { lost lattice.now (slice_index counts.old) < 2 ^ 54 }
-    requires noted { Lists (sites lattice.now) (has_toppled (slice_index counts.old)) toppled.now.sites }
+    requires noted { Lists (sites lattice.now) (has_toppled (slice_index counts.old)) toppled.now.items }
     ensures avalanche { IsAvalanche lattice.now site (slice_index counts.old) result }
     ensures odometer { (j : ℕ) → slice_index odometer.new j ≡ slice_index odometer.old j + slice_index counts.old j }
     ensures uncounted { (j : ℕ) → slice_index counts.new j ≡ 0 }
@@ -71,7 +71,7 @@ pub(crate) fn collect(
     knows_sides(lattice);
     let mut avalanche = begun(site, toppled.len() as u32);
     for turn in 0..toppled.len() {
-        let place = toppled.site(turn);
+        let place = toppled.item(turn);
         let times = counts[place];
         counts[place] = 0;
         odometer[place] += times;

@@ -9,7 +9,6 @@ pub mod laws;
 mod one_pile;
 mod settled;
 mod settling;
-mod site_list;
 mod spreading;
 mod waves;
 mod workspace;

@@ -22,9 +22,9 @@ ghost use Rattle.sand_model.specs.Underway.{Advances};
 use crate::choice::{Rest, settle_by_any};
 use crate::faults::SettleFault;
 use crate::settled::Settled;
-use crate::site_list::SiteList;
 use crate::spreading::{knows_sides, spread};
 use crate::workspace::Workspace;
+use sand_fronts::IndexList;
 use sand_model::{Lattice, Pile, TOPPLING_HEIGHT};
 use std::alloc::Global;
 use std::mem;
@@ -34,26 +34,26 @@ fn topple_wave(
     lattice: &Lattice,
     heights: &mut [u64],
     counts: &mut [u64],
-    wave: &SiteList,
-    next: &mut SiteList,
+    wave: &IndexList,
+    next: &mut IndexList,
 )
     requires one_each { (length heights.old ≡ sites lattice.now) × (length counts.old ≡ sites lattice.now) }
     requires limit { sum heights.old ≤ most_grains }
     requires few { 2 * topplings lattice.now (slice_index counts.old) + weight lattice.now (slice_index heights.old)
         < 2 ^ 55 }
-    requires waiting { ListsUnstable (sites lattice.now) heights.old wave.now.sites }
+    requires waiting { ListsUnstable (sites lattice.now) heights.old wave.now.items }
     requires room { sites lattice.now + 4 ≤ next.old.room }
     ensures advances { Advances lattice.now (slice_index counts.old)
         (slice_index heights.old) (slice_index counts.new) (slice_index heights.new) }
-    ensures each_topples { topplings lattice.now (slice_index counts.old) + length wave.now.sites
+    ensures each_topples { topplings lattice.now (slice_index counts.old) + length wave.now.items
         ≤ topplings lattice.now (slice_index counts.new) }
-    ensures waiting { ListsUnstable (sites lattice.now) heights.new next.new.sites }
+    ensures waiting { ListsUnstable (sites lattice.now) heights.new next.new.items }
     ensures room { next.new.room ≡ next.old.room }
 {
     knows_sides(lattice);
     next.clear();
     for turn in 0..wave.len() {
-        let site = wave.site(turn);
+        let site = wave.item(turn);
         let times = heights[site] / TOPPLING_HEIGHT;
         heights[site] -= TOPPLING_HEIGHT * times;
         spread(lattice, heights, next, site, times);
@@ -61,10 +61,10 @@ fn topple_wave(
     }
 }
 
-fn list_unstable(heights: &[u64], wave: &mut SiteList)
+fn list_unstable(heights: &[u64], wave: &mut IndexList)
     requires small { length heights.now ≤ 65536 }
     requires room { length heights.now < wave.old.room }
-    ensures waiting { ListsUnstable (length heights.now) heights.now wave.new.sites }
+    ensures waiting { ListsUnstable (length heights.now) heights.now wave.new.items }
     ensures room { wave.new.room ≡ wave.old.room }
 {
     wave.clear();

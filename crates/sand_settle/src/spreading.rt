@@ -6,7 +6,7 @@ ghost use Rattle.sand_model.specs.Sand.{one_at, value_at};
 ghost use Rattle.sand_settle.specs.SiteLists.{Joins};
 ghost use Rattle.sand_settle.specs.Underway.{NeighboursGain};
 
-use crate::site_list::SiteList;
+use sand_fronts::IndexList;
 use sand_model::{Lattice, TOPPLING_HEIGHT};
 
 /// Does nothing at run time. It tells the proof that no side of the grid is above 256: there are at most 65,536 sites,
@@ -20,11 +20,11 @@ pub(crate) fn knows_sides(lattice: &Lattice)
 
 // Gives grains to a place if it is in the grid, and lists its site if it may topple from now on.
 #[inline(always)]
-fn deliver(heights: &mut [u64], list: &mut SiteList, place: Option<usize>, times: u64)
+fn deliver(heights: &mut [u64], list: &mut IndexList, place: Option<usize>, times: u64)
     requires inside { IfSome place (λ j. j < length heights.old) }
     requires limit { sum heights.old + times < 2 ^ 63 }
     requires small { length heights.old ≤ 65536 }
-    requires room { length list.old.sites < list.old.room }
+    requires room { length list.old.items < list.old.room }
     ensures each { (j : ℕ)
         → slice_index heights.new j ≡ slice_index heights.old j + times * value_at (λ k. one_at k j) place }
     ensures total { sum heights.new ≤ sum heights.old + times }
@@ -41,11 +41,11 @@ fn deliver(heights: &mut [u64], list: &mut SiteList, place: Option<usize>, times
 
 // Gives grains to each place around a site that is in the grid.
 #[inline(always)]
-fn deliver_four(heights: &mut [u64], list: &mut SiteList, around: [Option<usize>; 4], times: u64)
+fn deliver_four(heights: &mut [u64], list: &mut IndexList, around: [Option<usize>; 4], times: u64)
     requires inside { (k : ℕ) → IfSome (slice_index_or around k None) (λ j. j < length heights.old) }
     requires limit { sum heights.old + 4 * times < 2 ^ 63 }
     requires small { length heights.old ≤ 65536 }
-    requires room { length list.old.sites + 4 ≤ list.old.room }
+    requires room { length list.old.items + 4 ≤ list.old.room }
     ensures each { (g : Grid) (site : ℕ) → around ≡ places g site → site < sites g
         → NeighboursGain g site times heights.old heights.new }
     ensures joins { Joins 4 heights.old heights.new list.old list.new }
@@ -63,14 +63,14 @@ fn deliver_four(heights: &mut [u64], list: &mut SiteList, around: [Option<usize>
 pub(crate) fn spread(
     lattice: &Lattice,
     heights: &mut [u64],
-    list: &mut SiteList,
+    list: &mut IndexList,
     site: usize,
     times: u64,
 )
     requires site { site < sites lattice.now }
     requires one_each { length heights.old ≡ sites lattice.now }
     requires limit { sum heights.old + 4 * times < 2 ^ 63 }
-    requires room { length list.old.sites + 4 ≤ list.old.room }
+    requires room { length list.old.items + 4 ≤ list.old.room }
     ensures each { NeighboursGain lattice.now site times heights.old heights.new }
     ensures joins { Joins 4 heights.old heights.new list.old list.new }
 {

@@ -29,14 +29,14 @@ ghost use Rattle.sand_settle.specs.SiteLists.{grown, has_toppled};
 ghost use Rattle.sand_settle.specs.Underway.{TopplesListed};
 
 use crate::avalanche::{Avalanche, calm, collect};
-use crate::site_list::SiteList;
 use crate::spreading::{knows_sides, spread};
 use crate::workspace::Workspace;
+use sand_fronts::IndexList;
 use sand_model::{Lattice, TOPPLING_HEIGHT};
 
 // One wave: topples a site that may topple, then each other site that this brings to 4, once each. Lists the sites that
 // topple.
-fn topple_once(lattice: &Lattice, heights: &mut [u64], list: &mut SiteList, site: usize)
+fn topple_once(lattice: &Lattice, heights: &mut [u64], list: &mut IndexList, site: usize)
     requires site { site < sites lattice.now }
     requires one_each { length heights.old ≡ sites lattice.now }
     requires limit { sum heights.old ≤ most_grains }
@@ -44,9 +44,9 @@ fn topple_once(lattice: &Lattice, heights: &mut [u64], list: &mut SiteList, site
     requires others_low { (j : ℕ) → j < sites lattice.now → j ≢ site → slice_index heights.old j ≤ 3 }
     requires room { sites lattice.now + 4 ≤ list.old.room }
 
-    ensures advances { TopplesListed lattice.now list.new.sites heights.old heights.new }
-    ensures some { 0 < length list.new.sites }
-    ensures inside { All (λ j. j < sites lattice.now) list.new.sites }
+    ensures advances { TopplesListed lattice.now list.new.items heights.old heights.new }
+    ensures some { 0 < length list.new.items }
+    ensures inside { All (λ j. j < sites lattice.now) list.new.items }
     ensures others_low { (j : ℕ) → j < sites lattice.now → j ≢ site → slice_index heights.new j ≤ 3 }
     ensures room { list.new.room ≡ list.old.room }
 {
@@ -56,7 +56,7 @@ fn topple_once(lattice: &Lattice, heights: &mut [u64], list: &mut SiteList, site
     spread(lattice, heights, list, site, 1);
     let mut turn = 1usize;
     'turns: while turn < list.len() {
-        let other = list.site(turn);
+        let other = list.item(turn);
         heights[other] -= TOPPLING_HEIGHT;
         spread(lattice, heights, list, other, 1);
         turn += 1;
@@ -65,18 +65,18 @@ fn topple_once(lattice: &Lattice, heights: &mut [u64], list: &mut SiteList, site
 }
 
 // Counts one toppling of each site of a list, and notes a site at its first.
-fn count_each(counts: &mut [u64], toppled: &mut SiteList, list: &SiteList)
-    requires inside { All (λ j. j < length counts.old) list.now.sites }
-    requires fits { (j : ℕ) → j < length counts.old → slice_index counts.old j + tally list.now.sites j < 2 ^ 64 }
+fn count_each(counts: &mut [u64], toppled: &mut IndexList, list: &IndexList)
+    requires inside { All (λ j. j < length counts.old) list.now.items }
+    requires fits { (j : ℕ) → j < length counts.old → slice_index counts.old j + tally list.now.items j < 2 ^ 64 }
     requires small { length counts.old ≤ 65536 }
-    requires noted { Lists (length counts.old) (has_toppled (slice_index counts.old)) toppled.old.sites }
+    requires noted { Lists (length counts.old) (has_toppled (slice_index counts.old)) toppled.old.items }
     requires room { length counts.old < toppled.old.room }
-    ensures counted { (j : ℕ) → slice_index counts.new j ≡ slice_index counts.old j + tally list.now.sites j }
-    ensures noted { Lists (length counts.old) (has_toppled (slice_index counts.new)) toppled.new.sites }
+    ensures counted { (j : ℕ) → slice_index counts.new j ≡ slice_index counts.old j + tally list.now.items j }
+    ensures noted { Lists (length counts.old) (has_toppled (slice_index counts.new)) toppled.new.items }
     ensures room { toppled.new.room ≡ toppled.old.room }
 {
     for turn in 0..list.len() {
-        let site = list.site(turn);
+        let site = list.item(turn);
         let before = counts[site];
         counts[site] = before + 1;
         toppled.push_if(site, before == 0);

@@ -2,7 +2,7 @@
 
 ghost use Rattle.std.specs.Prelude.{◌≡◌, IfOk};
 
-use crate::site_list::SiteList;
+use sand_fronts::IndexList;
 use sand_model::{Lattice, Shape};
 use std::alloc::{AllocError, Global};
 use std::marker::Model;
@@ -14,9 +14,9 @@ pub(crate) struct Workspace {
     /// How often each site has toppled.
     pub(crate) counts: Vec<u64>,
     /// The sites of this wave.
-    pub(crate) wave: SiteList,
+    pub(crate) wave: IndexList,
     /// The next wave of a whole pile, or the sites that toppled in a drop.
-    pub(crate) spare: SiteList,
+    pub(crate) spare: IndexList,
 }
 
 impl Model for Workspace {
@@ -38,8 +38,8 @@ impl Workspace {
         let room = shape.sites() + 4;
         let lattice = Lattice::new(alloc, shape)?;
         let counts = vec![in alloc; 0u64; shape.sites()]?;
-        let wave = SiteList::new(alloc, room)?;
-        let spare = SiteList::new(alloc, room)?;
+        let wave = IndexList::new(alloc, room)?;
+        let spare = IndexList::new(alloc, room)?;
         Ok(Workspace {
             lattice,
             counts,

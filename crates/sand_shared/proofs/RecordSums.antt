@@ -117,44 +117,72 @@ small_lost r one =
 times_plus : (a b c : ℕ) → a * (b + c) ≡ a * b + a * c
 times_plus a b c = grind arith
 
--- the odometers of two records, added site by site
-pub record AreAdded (r q : RecordView) (sums : List ℕ) : Type 0 where
+-- the second record starts from the pile of the first, and sums are their odometers, added site by site
+pub record AreJoined (r q : RecordView) (sums : List ℕ) : Type 0 where
+  pub first : IsOneThreads r
+  pub second : IsOneThreads q
+  pub joint : q.start ≡ r.settled.pile
+  pub limit : sum r.start.heights + (length r.history + length q.history) ≤ most_grains
   pub long : length sums ≡ length r.settled.odometer
   pub each : (i : ℕ) → i < length r.settled.odometer
       → slice_index sums i ≡ odometer_of r.settled i + odometer_of q.settled i
 
-pub are_added : (r q : RecordView) → IsOneThreads r → IsOneThreads q
-    → q.start ≡ r.settled.pile → (mine theirs sums : List ℕ)
+pub are_joined : (r q : RecordView) → IsOneThreads r → IsOneThreads q
+    → q.start ≡ r.settled.pile
+    → sum r.start.heights + (length r.history + length q.history) ≤ most_grains
+    → (mine theirs sums : List ℕ)
     → mine ≡ r.settled.odometer → theirs ≡ q.settled.odometer
     → length sums ≡ length mine
     → ((i : ℕ) → i < length theirs → slice_index sums i ≡ slice_index mine i + slice_index theirs i)
-    → AreAdded r q sums
-are_added r q one next joint mine theirs sums mine_is theirs_is long each = record {
+    → AreJoined r q sums
+are_joined r q first second joint limit mine theirs sums mine_is theirs_is long each = record {
+  first = first;
+  second = second;
+  joint = joint;
+  limit = limit;
   long = long ∙ ap (λ (l : List ℕ). length l) mine_is;
-  each = λ i l. (let here = one.settled.odometer_each in
-      let there = next.settled.odometer_each ∙ ap (λ (p : PileView). sites p.grid) joint ∙ ap sites one.settled.grid in
+  each = λ i l. (let here = first.settled.odometer_each in
+      let there = second.settled.odometer_each ∙ ap (λ (p : PileView). sites p.grid) joint
+      ∙ ap sites first.settled.grid in
       let as_long = ap (λ (l : List ℕ). length l) theirs_is in
       let e = each i (omega arith) in
       let a = ap (λ (l : List ℕ). slice_index l i) mine_is in
       let b = ap (λ (l : List ℕ). slice_index l i) theirs_is in omega arith);
 }
 
--- the second record starts from the pile of the first: settling in two parts is settling at once
-module _ (r q : RecordView) (one : IsOneThreads r) (next : IsOneThreads q) (joint : q.start ≡ r.settled.pile)
-    (limit : sum r.start.heights + (length r.history + length q.history) ≤ most_grains)
-    (sums : List ℕ) (added : AreAdded r q sums) where
-  pub same_grid : q.start.grid ≡ r.start.grid
-  same_grid = ap (λ (p : PileView). p.grid) joint ∙ one.settled.grid
+-- the record of both histories, one after the other
+abbrev pub both : RecordView → RecordView → List ℕ → RecordView
+both r q sums = record {
+  start = r.start;
+  history = r.history ++ q.history;
+  settled = record {
+    pile = q.settled.pile;
+    odometer = sums;
+    topplings = r.settled.topplings + q.settled.topplings;
+    lost = r.settled.lost + q.settled.lost;
+  };
+}
+
+-- settling in two parts is settling at once
+module _ (r q : RecordView) (sums : List ℕ) (joined : AreJoined r q sums) where
+  first : IsOneThreads r
+  first = joined.first
+
+  second : IsOneThreads q
+  second = joined.second
+
+  same_grid : q.start.grid ≡ r.start.grid
+  same_grid = ap (λ (p : PileView). p.grid) joined.joint ∙ first.settled.grid
 
   all_each : (i : ℕ) → slice_index sums i ≡ odometer_of r.settled i + odometer_of q.settled i
-  all_each i = ⊎_elim (added.each i) past (cases_lt i (length r.settled.odometer))
+  all_each i = ⊎_elim (joined.each i) past (cases_lt i (length r.settled.odometer))
     where
       past : length r.settled.odometer ≤ i → slice_index sums i ≡ odometer_of r.settled i + odometer_of q.settled i
       past le =
-          let mine = one.settled.odometer_each in
-          let theirs = next.settled.odometer_each in
+          let mine = first.settled.odometer_each in
+          let theirs = second.settled.odometer_each in
           let grids = ap sites same_grid in
-          let long = added.long in
+          let long = joined.long in
           let a = get_or-eq_default sums 0 {n = i} (omega arith) in
           let b = get_or-eq_default r.settled.odometer 0 {n = i} le in
           let c = get_or-eq_default q.settled.odometer 0 {n = i} (omega arith) in omega arith
@@ -165,10 +193,10 @@ module _ (r q : RecordView) (one : IsOneThreads r) (next : IsOneThreads q) (join
       let g = r.start.grid in
       let later = subst (λ (z : Grid × PileView).
       IsSettled z.0 (λ i. height_of z.1 i + tally q.history i) (odometer_of q.settled) (height_of q.settled.pile))
-      (λ i. (same_grid i, joint i)) next.settled.settled in
+      (λ i. (same_grid i, joined.joint i)) second.settled.settled in
       let all =
       settled_in_parts g (λ i. height_of r.start i + tally r.history i) (tally q.history) (odometer_of r.settled)
-      (height_of r.settled.pile) (odometer_of q.settled) (height_of q.settled.pile) one.settled.settled later in
+      (height_of r.settled.pile) (odometer_of q.settled) (height_of q.settled.pile) first.settled.settled later in
       let drops : (i : ℕ)
       → (height_of r.start i + tally r.history i) + tally q.history i
       ≡ height_of r.start i + tally (r.history ++ q.history) i =
@@ -177,19 +205,11 @@ module _ (r q : RecordView) (one : IsOneThreads r) (next : IsOneThreads q) (join
       (λ (z : (ℕ → ℕ) × (ℕ → ℕ)). IsSettled g z.0 z.1 (height_of q.settled.pile))
       (λ k. ((λ i. drops i k), (λ i. sym (all_each i) k))) all
 
-  pub followed : IsOneThreads record {
-    start = r.start;
-    history = r.history ++ q.history;
-    settled = record {
-      pile = q.settled.pile;
-      odometer = sums;
-      topplings = r.settled.topplings + q.settled.topplings;
-      lost = r.settled.lost + q.settled.lost;
-    };
-  }
+  pub followed : IsOneThreads (both r q sums)
   followed =
       let g = r.start.grid in
       let grids = same_grid in
+      let limit = joined.limit in
       let tops = sum_below-add (sites g) (odometer_of r.settled) (odometer_of q.settled) in
       let sums_are = sum_below_same (sites g) (slice_index sums)
       (λ i. odometer_of r.settled i + odometer_of q.settled i) (λ i _. all_each i) in
@@ -201,19 +221,19 @@ module _ (r q : RecordView) (one : IsOneThreads r) (next : IsOneThreads q) (join
       (λ i _. ap (λ n. missing g i * n) (all_each i)
       ∙ times_plus (missing g i) (odometer_of r.settled i) (odometer_of q.settled i)) in
       let tops_later =
-      subst (λ z. q.settled.topplings ≡ topplings z (odometer_of q.settled)) grids next.settled.all_topplings in
-      let lost_later = subst (λ z. q.settled.lost ≡ lost z (odometer_of q.settled)) grids next.settled.all_lost in
-      let tops_before = one.settled.all_topplings in
-      let lost_before = one.settled.all_lost in
+      subst (λ z. q.settled.topplings ≡ topplings z (odometer_of q.settled)) grids second.settled.all_topplings in
+      let lost_later = subst (λ z. q.settled.lost ≡ lost z (odometer_of q.settled)) grids second.settled.all_lost in
+      let tops_before = first.settled.all_topplings in
+      let lost_before = first.settled.all_lost in
       record {
-        start_pile = one.start_pile;
-        all_sites = All-append (λ i. i < sites g) r.history q.history one.all_sites
-            (subst (λ z. All (λ i. i < sites z) q.history) grids next.all_sites);
+        start_pile = first.start_pile;
+        all_sites = All-append (λ i. i < sites g) r.history q.history first.all_sites
+            (subst (λ z. All (λ i. i < sites z) q.history) grids second.all_sites);
         limit = (let e = length-append r.history q.history in omega arith);
         settled = record {
-          grid = next.settled.grid ∙ grids;
-          heights_each = next.settled.heights_each ∙ ap sites grids;
-          odometer_each = added.long ∙ one.settled.odometer_each;
+          grid = second.settled.grid ∙ grids;
+          heights_each = second.settled.heights_each ∙ ap sites grids;
+          odometer_each = joined.long ∙ first.settled.odometer_each;
           settled = both_settled;
           all_topplings = omega arith;
           all_lost = omega arith;
@@ -223,4 +243,4 @@ module _ (r q : RecordView) (one : IsOneThreads r) (next : IsOneThreads q) (join
   pub joined_topplings : sum sums ≡ r.settled.topplings + q.settled.topplings
   joined_topplings =
       let all = followed.settled.all_topplings in
-      let counts = sum_is_grains r.start.grid sums (added.long ∙ one.settled.odometer_each) in omega arith
+      let counts = sum_is_grains r.start.grid sums (joined.long ∙ first.settled.odometer_each) in omega arith

@@ -1,6 +1,6 @@
 use Rattle.std.proofs.lemmas.Result.{IfOk-weaker}
 use Rattle.sand_model.specs.Piles.{height_of}
-use Rattle.sand_desk.proofs.Unfit.{stable}
+use Rattle.sand_group.proofs.WhyRefused.{stable}
 use Rattle.sand_desk.proofs.group_commands.burn_input.Goals as goal
 
 pub returns-clause-text : goal.returns-clause-text

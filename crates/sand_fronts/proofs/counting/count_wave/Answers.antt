@@ -17,8 +17,8 @@ loop-turn-init c = record {
   counted = c.add_tile-total.ensures.counted;
   marked = c.add_tile-total.ensures.marked;
   listed = still_listed (tile_at c.args.tiles.now) (tile_at c.add_tile-total.new.tiles)
-      (count_at c.args.counts.now) (count_at c.add_tile-total.new.counts) c.args.here c.args.list.now.tiles
-      0 (length c.args.list.now.tiles) c.requires.listed c.add_tile-total.ensures.counted;
+      (count_at c.args.counts.now) (count_at c.add_tile-total.new.counts) c.args.here c.args.list.now.items
+      0 (length c.args.list.now.items) c.requires.listed c.add_tile-total.ensures.counted;
   first = c.add_tile-total.ensures.clear;
   so_far = let e = c.add_tile-total.ensures.size (length c.args.tiles.now) c.requires.here in omega arith;
   lost = let e = c.add_tile-total.ensures.lost (length c.args.tiles.now) c.requires.here in omega arith;
@@ -26,19 +26,19 @@ loop-turn-init c = record {
 
 pub add_tile-total-requires-in-loop-turn-clause-tile : goal.add_tile-total-requires-in-loop-turn-clause-tile
 add_tile-total-requires-in-loop-turn-clause-tile c =
-    let turn : c.loop-turn.turn < length c.args.list.now.tiles =
+    let turn : c.loop-turn.turn < length c.args.list.now.items =
     omega (arith, c.len-turn-end.ensures.value, c.loop-turn-test.true) in
     let i = c.requires.on_board c.loop-turn.turn turn in
-    omega (arith, c.tile-k.ensures, c.loop-turn.invariant.tiles_each)
+    omega (arith, c.item-k.ensures, c.loop-turn.invariant.tiles_each)
 
 pub add_tile-total-requires-in-loop-turn-clause-sound : goal.add_tile-total-requires-in-loop-turn-clause-sound
 add_tile-total-requires-in-loop-turn-clause-sound c =
-    c.loop-turn.invariant.counted.sound c.requires.sound c.tile-k.result
+    c.loop-turn.invariant.counted.sound c.requires.sound c.item-k.result
 
 pub add_tile-total-requires-in-loop-turn-clause-few : goal.add_tile-total-requires-in-loop-turn-clause-few
 add_tile-total-requires-in-loop-turn-clause-few c p low =
-    let few = c.requires.few c.tile-k.result p low in
-    let same = c.loop-turn.invariant.counted.each c.tile-k.result p low in
+    let few = c.requires.few c.item-k.result p low in
+    let same = c.loop-turn.invariant.counted.each c.item-k.result p low in
     omega arith
 
 pub add_tile-total-requires-in-loop-turn-clause-small : goal.add_tile-total-requires-in-loop-turn-clause-small
@@ -51,11 +51,11 @@ add_tile-total-requires-in-loop-turn-clause-small c =
 
 pub loop-turn-preserved : goal.loop-turn-preserved
 loop-turn-preserved c =
-    let turn : c.loop-turn.turn < length c.args.list.now.tiles =
+    let turn : c.loop-turn.turn < length c.args.list.now.items =
     omega (arith, c.len-turn-end.ensures.value, c.loop-turn-test.true) in
     let i = c.requires.on_board c.loop-turn.turn turn in
     let step = c.add_tile-total-in-loop-turn.ensures in
-    let less : c.tile-k.result < length c.args.tiles.now = omega (arith, c.tile-k.ensures) in
+    let less : c.item-k.result < length c.args.tiles.now = omega (arith, c.item-k.ensures) in
     let more = step.size (length c.args.tiles.now) less in
     let gone = step.lost (length c.args.tiles.now) less in
     let first : IsClear (tile_at c.add_tile-total-in-loop-turn.new.tiles c.args.here) =
@@ -73,16 +73,16 @@ loop-turn-preserved c =
           (slice_index c.add_tile-total-in-loop-turn.new.marks) c.loop-turn.invariant.marked step.marked;
       listed = rest_listed (tile_at c.loop-turn.tiles) (tile_at c.add_tile-total-in-loop-turn.new.tiles)
           (count_at c.loop-turn.counts) (count_at c.add_tile-total-in-loop-turn.new.counts) c.args.here
-          c.tile-k.result c.args.list.now.tiles c.loop-turn.turn (length c.args.list.now.tiles)
-          c.loop-turn.invariant.listed step.counted first step.clear c.tile-k.ensures;
+          c.item-k.result c.args.list.now.items c.loop-turn.turn (length c.args.list.now.items)
+          c.loop-turn.invariant.listed step.counted first step.clear c.item-k.ensures;
       first = first;
       so_far = omega (arith, c.loop-turn.invariant.so_far);
       lost = omega (arith, c.loop-turn.invariant.lost);
     }
 
 pub returns-clause-clear : goal.returns-clause-clear
-returns-clause-clear c m = none_listed (tile_at c.loop-turn.tiles) c.args.here c.args.list.now.tiles
-    c.loop-turn.turn (length c.args.list.now.tiles) c.loop-turn.invariant.listed
+returns-clause-clear c m = none_listed (tile_at c.loop-turn.tiles) c.args.here c.args.list.now.items
+    c.loop-turn.turn (length c.args.list.now.items) c.loop-turn.invariant.listed
     (omega (arith, c.len-turn-end.ensures.value, c.loop-turn-test.false)) c.loop-turn.invariant.first m
 
 pub returns-clause-size : goal.returns-clause-size

@@ -13,7 +13,7 @@ invariant-loop-turn l = record {
   marks_each : length l.marks ≡ length l.fn.tiles;
   counted : AreCounted (tile_at l.fn.tiles) (tile_at l.tiles) (count_at l.fn.counts) (count_at l.counts);
   marked : AreMarked (count_at l.fn.counts) (count_at l.counts) (slice_index l.fn.marks) (slice_index l.marks);
-  listed : AreListed l.here l.list.tiles l.turn (length l.list.tiles) (tile_at l.tiles);
+  listed : AreListed l.here l.list.items l.turn (length l.list.items) (tile_at l.tiles);
   first : IsClear (tile_at l.tiles l.here);
   so_far : l.total.size + in_wave (length l.fn.tiles) (tile_at l.tiles)
       ≡ in_wave (length l.fn.tiles) (tile_at l.fn.tiles);

@@ -5,10 +5,12 @@ use Rattle.sand_model.specs.Lists.{Lists}
 use Rattle.sand_model.proofs.Lists.{lists_length}
 use Rattle.sand_model.proofs.SumsBelow.{one_at_same}
 use Rattle.sand_fronts.specs.Waves.{tile_at, beside_at, heights_before}
-use Rattle.sand_fronts.specs.TileLists.{ListView, waits, waits_but, AreListed}
+use Rattle.sand_fronts.specs.IndexLists.{ListView}
+use Rattle.sand_fronts.specs.TileLists.{waits, waits_but, AreListed}
 use Rattle.sand_fronts.proofs.Waves.{wave_ready}
-use Rattle.sand_fronts.proofs.Turns.{first_listed, turn_listed, turn_on_board, first_low, first_wave, turn_first, turn_more, turn_at, at_tile, front_of, others_wait, none_wait, starts_none, few_topplings, clear_site, none_left}
+use Rattle.sand_fronts.proofs.Turns.{AtTile, IsDueSite, first_listed, turn_listed, turn_on_board, first_low, first_wave, turn_first, turn_more, turn_at, at_tile, front_of, others_wait, none_wait, starts_none, few_topplings, clear_site, none_left}
 use Rattle.sand_fronts.proofs.Ends.{wave_advances}
+use Rattle.sand_fronts.proofs.one_wave.topple_wave.Goals.{After-item-k}
 use Rattle.sand_fronts.proofs.one_wave.topple_wave.Goals as goal
 
 pub topple_tile-requires-clause-ready : goal.topple_tile-requires-clause-ready
@@ -28,7 +30,7 @@ turns-init c =
     c.topple_tile.result (beside_at c.args.beside.now c.args.here) c.requires.all_open c.requires.rest
     c.requires.site c.requires.here c.requires.start b.each c.topple_tile.ensures.steps in
     let joins = c.topple_tile.ensures.joins (length c.args.tiles.now) refl in
-    let empty : c.clear.new.self.tiles ≡ [] = ap (λ (l : ListView). l.tiles) c.clear.ensures in
+    let empty : c.clear.new.self.items ≡ [] = ap (λ (l : ListView). l.items) c.clear.ensures in
     record {
       wave = first.0;
       started = first.1;
@@ -40,7 +42,7 @@ turns-init c =
       listed = first_listed c.args.shape c.args.site (tile_at c.args.tiles.now)
           (tile_at c.topple_tile.new.tiles) (slice_index c.args.free.now c.args.here) c.args.here
           c.args.start c.topple_tile.result (beside_at c.args.beside.now c.args.here)
-          c.topple_tile.new.list.tiles c.requires.rest c.topple_tile.ensures.steps;
+          c.topple_tile.new.list.items c.requires.rest c.topple_tile.ensures.steps;
       on_board = λ t less. absurd (omega arith);
       within = omega arith;
       count = omega arith;
@@ -48,42 +50,39 @@ turns-init c =
       one_each = c.topple_tile.auto.tiles;
     }
 
+-- a tile in its turn has a site that is due, and its neighbours' places are on the board
+at_turn : (c : After-item-k) → (j : ℕ)
+    × IsDueSite c.args.shape c.args.site (tile_at c.turns.tiles) c.item-k.result j
+    × AtTile c.args.shape (length c.args.tiles.now) c.item-k.result (beside_at c.args.beside.now c.item-k.result)
+at_turn c = turn_at c.args.shape c.args.site (length c.args.tiles.now) c.turns.turn c.item-k.result
+    (tile_at c.turns.tiles) (slice_index c.args.free.now) c.turns.list.items c.args.beside.now c.requires.all_open
+    c.requires.board (omega (arith, c.type_inv.free c.item-k.result)) c.turns.invariant.waiting
+    (omega (arith, c.turns-test.true, c.len.ensures.value)) c.item-k.ensures
+
 pub offset_bounds-beside-k : goal.offset_bounds-beside-k
 offset_bounds-beside-k c =
-    let turn : c.turns.turn < length c.turns.list.tiles = omega (arith, c.turns-test.true, c.len.ensures.value) in
-    let t = turn_at c.args.shape c.args.site (length c.args.tiles.now) c.turns.turn c.tile-k.result
-    (tile_at c.turns.tiles) (slice_index c.args.free.now) c.turns.list.tiles c.args.beside.now c.requires.all_open
-    c.requires.board (omega (arith, c.type_inv.free c.tile-k.result)) c.turns.invariant.waiting turn c.tile-k.ensures in
-    let i = t.2.inside in
+    let i = (at_turn (goal.at.offset_bounds-beside-k c).After-item-k).2.inside in
     let s = c.requires.board.small in
     omega arith
 
 pub bounds-beside-k : goal.bounds-beside-k
 bounds-beside-k c =
-    let turn : c.turns.turn < length c.turns.list.tiles = omega (arith, c.turns-test.true, c.len.ensures.value) in
-    let t = turn_at c.args.shape c.args.site (length c.args.tiles.now) c.turns.turn c.tile-k.result
-    (tile_at c.turns.tiles) (slice_index c.args.free.now) c.turns.list.tiles c.args.beside.now c.requires.all_open
-    c.requires.board (omega (arith, c.type_inv.free c.tile-k.result)) c.turns.invariant.waiting turn c.tile-k.ensures in
-    let i = t.2.inside in
+    let i = (at_turn (goal.at.bounds-beside-k c).After-item-k).2.inside in
     omega (arith, c.requires.board.one_each)
 
 pub topple_tile-requires-in-turns-clause-tile : goal.topple_tile-requires-in-turns-clause-tile
 topple_tile-requires-in-turns-clause-tile c =
-    let turn : c.turns.turn < length c.turns.list.tiles = omega (arith, c.turns-test.true, c.len.ensures.value) in
-    let t = turn_at c.args.shape c.args.site (length c.args.tiles.now) c.turns.turn c.tile-k.result
-    (tile_at c.turns.tiles) (slice_index c.args.free.now) c.turns.list.tiles c.args.beside.now c.requires.all_open
-    c.requires.board (omega (arith, c.type_inv.free c.tile-k.result)) c.turns.invariant.waiting turn c.tile-k.ensures in
-    let i = t.2.inside in
+    let i = (at_turn (goal.at.topple_tile-requires-in-turns-clause-tile c).After-item-k).2.inside in
     omega (arith, c.turns.invariant.one_each)
 
 pub topple_tile-requires-in-turns-clause-room : goal.topple_tile-requires-in-turns-clause-room
 topple_tile-requires-in-turns-clause-room c =
     let few = few_topplings c.args.shape (tile_at c.turns.tiles) in
     let long = lists_length (length c.args.tiles.now) (waits (tile_at c.turns.tiles) (slice_index c.args.free.now))
-    (drop c.turns.turn c.turns.list.tiles) c.turns.invariant.waiting in
+    (drop c.turns.turn c.turns.list.items) c.turns.invariant.waiting in
     omega (
       arith,
-      length-drop c.turns.turn c.turns.list.tiles,
+      length-drop c.turns.turn c.turns.list.items,
       c.turns.invariant.count,
       c.turns.invariant.list_room,
       c.turns.invariant.within,
@@ -93,53 +92,33 @@ topple_tile-requires-in-turns-clause-room c =
 pub topple_tile-requires-in-turns-clause-ready : goal.topple_tile-requires-in-turns-clause-ready
 topple_tile-requires-in-turns-clause-ready c =
     wave_ready c.args.shape c.args.site (heights_before c.args.shape c.args.site (tile_at c.args.tiles.now))
-    (slice_index c.args.free.now) (tile_at c.turns.tiles) c.tile-k.result 0 0 c.requires.all_open
+    (slice_index c.args.free.now) (tile_at c.turns.tiles) c.item-k.result 0 0 c.requires.all_open
     c.turns.invariant.wave c.requires.site (first_low c.args.shape c.args.site (tile_at c.args.tiles.now))
-    (starts_none c.args.shape c.args.site c.tile-k.result) (omega (arith, c.turns.invariant.started))
+    (starts_none c.args.shape c.args.site c.item-k.result) (omega (arith, c.turns.invariant.started))
 
 pub topple_tile-requires-in-turns-clause-north : goal.topple_tile-requires-in-turns-clause-north
 topple_tile-requires-in-turns-clause-north c =
-    let turn : c.turns.turn < length c.turns.list.tiles = omega (arith, c.turns-test.true, c.len.ensures.value) in
-    let t = turn_at c.args.shape c.args.site (length c.args.tiles.now) c.turns.turn c.tile-k.result
-    (tile_at c.turns.tiles) (slice_index c.args.free.now) c.turns.list.tiles c.args.beside.now c.requires.all_open
-    c.requires.board (omega (arith, c.type_inv.free c.tile-k.result)) c.turns.invariant.waiting turn c.tile-k.ensures in
-    let i = t.2.north in
+    let i = (at_turn (goal.at.topple_tile-requires-in-turns-clause-north c).After-item-k).2.north in
     omega (arith, c.turns.invariant.one_each)
 
 pub topple_tile-requires-in-turns-clause-south : goal.topple_tile-requires-in-turns-clause-south
 topple_tile-requires-in-turns-clause-south c =
-    let turn : c.turns.turn < length c.turns.list.tiles = omega (arith, c.turns-test.true, c.len.ensures.value) in
-    let t = turn_at c.args.shape c.args.site (length c.args.tiles.now) c.turns.turn c.tile-k.result
-    (tile_at c.turns.tiles) (slice_index c.args.free.now) c.turns.list.tiles c.args.beside.now c.requires.all_open
-    c.requires.board (omega (arith, c.type_inv.free c.tile-k.result)) c.turns.invariant.waiting turn c.tile-k.ensures in
-    let i = t.2.south in
+    let i = (at_turn (goal.at.topple_tile-requires-in-turns-clause-south c).After-item-k).2.south in
     omega (arith, c.turns.invariant.one_each)
 
 pub topple_tile-requires-in-turns-clause-west : goal.topple_tile-requires-in-turns-clause-west
 topple_tile-requires-in-turns-clause-west c =
-    let turn : c.turns.turn < length c.turns.list.tiles = omega (arith, c.turns-test.true, c.len.ensures.value) in
-    let t = turn_at c.args.shape c.args.site (length c.args.tiles.now) c.turns.turn c.tile-k.result
-    (tile_at c.turns.tiles) (slice_index c.args.free.now) c.turns.list.tiles c.args.beside.now c.requires.all_open
-    c.requires.board (omega (arith, c.type_inv.free c.tile-k.result)) c.turns.invariant.waiting turn c.tile-k.ensures in
-    let i = t.2.west in
+    let i = (at_turn (goal.at.topple_tile-requires-in-turns-clause-west c).After-item-k).2.west in
     omega (arith, c.turns.invariant.one_each)
 
 pub topple_tile-requires-in-turns-clause-east : goal.topple_tile-requires-in-turns-clause-east
 topple_tile-requires-in-turns-clause-east c =
-    let turn : c.turns.turn < length c.turns.list.tiles = omega (arith, c.turns-test.true, c.len.ensures.value) in
-    let t = turn_at c.args.shape c.args.site (length c.args.tiles.now) c.turns.turn c.tile-k.result
-    (tile_at c.turns.tiles) (slice_index c.args.free.now) c.turns.list.tiles c.args.beside.now c.requires.all_open
-    c.requires.board (omega (arith, c.type_inv.free c.tile-k.result)) c.turns.invariant.waiting turn c.tile-k.ensures in
-    let i = t.2.east in
+    let i = (at_turn (goal.at.topple_tile-requires-in-turns-clause-east c).After-item-k).2.east in
     omega (arith, c.turns.invariant.one_each)
 
 pub topple_tile-requires-in-turns-clause-shifts : goal.topple_tile-requires-in-turns-clause-shifts
 topple_tile-requires-in-turns-clause-shifts c =
-    let turn : c.turns.turn < length c.turns.list.tiles = omega (arith, c.turns-test.true, c.len.ensures.value) in
-    let t = turn_at c.args.shape c.args.site (length c.args.tiles.now) c.turns.turn c.tile-k.result
-    (tile_at c.turns.tiles) (slice_index c.args.free.now) c.turns.list.tiles c.args.beside.now c.requires.all_open
-    c.requires.board (omega (arith, c.type_inv.free c.tile-k.result)) c.turns.invariant.waiting turn c.tile-k.ensures in
-    t.2.shifts
+    (at_turn (goal.at.topple_tile-requires-in-turns-clause-shifts c).After-item-k).2.shifts
 
 pub turns-smaller : goal.turns-smaller
 turns-smaller c =
@@ -149,19 +128,17 @@ turns-smaller c =
 
 pub turns-preserved : goal.turns-preserved
 turns-preserved c =
-    let turn : c.turns.turn < length c.turns.list.tiles = omega (arith, c.turns-test.true, c.len.ensures.value) in
-    let t = turn_at c.args.shape c.args.site (length c.args.tiles.now) c.turns.turn c.tile-k.result
-    (tile_at c.turns.tiles) (slice_index c.args.free.now) c.turns.list.tiles c.args.beside.now c.requires.all_open
-    c.requires.board (omega (arith, c.type_inv.free c.tile-k.result)) c.turns.invariant.waiting turn c.tile-k.ensures in
+    let turn : c.turns.turn < length c.turns.list.items = omega (arith, c.turns-test.true, c.len.ensures.value) in
+    let t = at_turn (goal.at.turns-preserved c).After-item-k in
     let h = heights_before c.args.shape c.args.site (tile_at c.args.tiles.now) in
     let more = turn_more c.args.shape c.args.site h (slice_index c.args.free.now) (tile_at c.turns.tiles)
-    (tile_at c.topple_tile-in-turns.new.tiles) c.tile-k.result c.topple_tile-in-turns.result t.0
-    (beside_at c.args.beside.now c.tile-k.result) c.requires.all_open c.turns.invariant.wave c.requires.site
+    (tile_at c.topple_tile-in-turns.new.tiles) c.item-k.result c.topple_tile-in-turns.result t.0
+    (beside_at c.args.beside.now c.item-k.result) c.requires.all_open c.turns.invariant.wave c.requires.site
     (first_low c.args.shape c.args.site (tile_at c.args.tiles.now)) (let o = one_at_same c.args.site in omega arith)
     c.turns.invariant.started t.1 t.2.each c.topple_tile-in-turns.ensures.steps in
-    let f = front_of (length c.args.tiles.now) c.turns.turn c.tile-k.result
+    let f = front_of (length c.args.tiles.now) c.turns.turn c.item-k.result
     (waits (tile_at c.turns.tiles) (slice_index c.args.free.now))
-    c.turns.list.tiles c.turns.invariant.waiting turn c.tile-k.ensures in
+    c.turns.list.items c.turns.invariant.waiting turn c.item-k.ensures in
     let joins = c.topple_tile-in-turns.ensures.joins (length c.args.tiles.now) (sym c.turns.invariant.one_each) in
     let longer = joins.longer in
     let least = more.2 in
@@ -169,17 +146,17 @@ turns-preserved c =
       wave = more.0;
       started = more.1;
       waiting = joins.waiting (c.turns.turn + 1) (omega arith) (others_wait (length c.args.tiles.now) c.turns.turn
-          c.tile-k.result (tile_at c.turns.tiles) (slice_index c.args.free.now) c.turns.list.tiles f.2);
+          c.item-k.result (tile_at c.turns.tiles) (slice_index c.args.free.now) c.turns.list.items f.2);
       listed = turn_listed (tile_at c.turns.tiles) (tile_at c.topple_tile-in-turns.new.tiles)
-          (slice_index c.args.free.now c.tile-k.result) c.args.here c.tile-k.result c.turns.turn
-          c.topple_tile-in-turns.result (beside_at c.args.beside.now c.tile-k.result)
-          c.turns.list.tiles c.topple_tile-in-turns.new.list.tiles c.turns.invariant.listed
-          c.topple_tile-in-turns.ensures.steps c.tile-k.ensures (λ i less. joins.kept i (omega arith));
+          (slice_index c.args.free.now c.item-k.result) c.args.here c.item-k.result c.turns.turn
+          c.topple_tile-in-turns.result (beside_at c.args.beside.now c.item-k.result)
+          c.turns.list.items c.topple_tile-in-turns.new.list.items c.turns.invariant.listed
+          c.topple_tile-in-turns.ensures.steps c.item-k.ensures (λ i less. joins.kept i (omega arith));
       on_board = turn_on_board (length c.turns.tiles) (length c.topple_tile-in-turns.new.tiles)
-          c.tile-k.result c.turns.turn c.turns.list.tiles c.topple_tile-in-turns.new.list.tiles
+          c.item-k.result c.turns.turn c.turns.list.items c.topple_tile-in-turns.new.list.items
           c.topple_tile-in-turns.auto.tiles c.turns.invariant.on_board
           (let i = t.2.inside in omega (arith, c.turns.invariant.one_each))
-          c.tile-k.ensures (λ i less. joins.kept i (omega arith));
+          c.item-k.ensures (λ i less. joins.kept i (omega arith));
       within = omega arith;
       count = omega (arith, c.turns.invariant.count);
       list_room = joins.room ∙ c.turns.invariant.list_room;
@@ -188,9 +165,9 @@ turns-preserved c =
 
 pub returns-clause-listed : goal.returns-clause-listed
 returns-clause-listed c m =
-    let last : length c.turns.list.tiles ≡ c.turns.turn =
+    let last : length c.turns.list.items ≡ c.turns.turn =
     omega (arith, c.turns-test.false, c.len.ensures.value, c.turns.invariant.within) in
-    let P : ℕ → Type 0 = λ n. AreListed c.args.here c.turns.list.tiles 0 n (tile_at c.turns.tiles) in
+    let P : ℕ → Type 0 = λ n. AreListed c.args.here c.turns.list.items 0 n (tile_at c.turns.tiles) in
     subst P (sym last) c.turns.invariant.listed m
 
 pub returns-clause-on_board : goal.returns-clause-on_board
@@ -205,8 +182,8 @@ returns-clause-started c = c.turns.invariant.started
 
 pub returns-clause-none_due : goal.returns-clause-none_due
 returns-clause-none_due c j inside other =
-    let none : drop c.turns.turn c.turns.list.tiles ≡ [] =
-    drop_all c.turns.turn c.turns.list.tiles (omega (arith, c.turns-test.false, c.len.ensures.value)) in
+    let none : drop c.turns.turn c.turns.list.items ≡ [] =
+    drop_all c.turns.turn c.turns.list.items (omega (arith, c.turns-test.false, c.len.ensures.value)) in
     let P : List ℕ → Type 0 =
     λ xs. Lists (length c.args.tiles.now) (waits (tile_at c.turns.tiles) (slice_index c.args.free.now)) xs in
     none_left c.args.shape c.args.site (length c.args.tiles.now) (tile_at c.turns.tiles) (slice_index c.args.free.now)

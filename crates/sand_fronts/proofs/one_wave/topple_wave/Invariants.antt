@@ -11,10 +11,10 @@ abbrev pub invariant-turns : goal.invariant-turns
 invariant-turns l = record {
   wave : IsWave l.fn.shape l.site (heights_before l.fn.shape l.site (tile_at l.fn.tiles)) (tile_at l.tiles);
   started : toppled l.fn.shape (tile_at l.tiles) l.site ≡ 1;
-  waiting : Lists (length l.fn.tiles) (waits (tile_at l.tiles) (slice_index l.free)) (drop l.turn l.list.tiles);
-  listed : AreListed l.here l.list.tiles 0 l.turn (tile_at l.tiles);
-  on_board : (t : ℕ) → t < l.turn → slice_index l.list.tiles t < length l.tiles;
-  within : l.turn ≤ length l.list.tiles;
+  waiting : Lists (length l.fn.tiles) (waits (tile_at l.tiles) (slice_index l.free)) (drop l.turn l.list.items);
+  listed : AreListed l.here l.list.items 0 l.turn (tile_at l.tiles);
+  on_board : (t : ℕ) → t < l.turn → slice_index l.list.items t < length l.tiles;
+  within : l.turn ≤ length l.list.items;
   count : l.turn ≤ topplings l.fn.shape (toppled l.fn.shape (tile_at l.tiles));
   list_room : l.list.room ≡ l.fn.list.room;
   one_each : length l.tiles ≡ length l.fn.tiles;

@@ -1,38 +1,31 @@
-use Rattle.std.proofs.Common.{◌<◌, ◌∙◌}
+use Rattle.std.proofs.Common.{◌+◌, ◌<◌, ◌∙◌}
 use Rattle.sand_model.specs.Grid.{sites}
 use Rattle.sand_model.specs.Piles.{height_of}
 use Rattle.sand_model.specs.Sand.{one_at}
+use Rattle.sand_group.specs.Group.{IsSettledPile}
 use Rattle.sand_group.proofs.OperationsSettle.{recurrent_plus}
 use Rattle.sand_group.proofs.OperationsOnHeights.{grain_settles, recurrent_there}
+use Rattle.sand_group.proofs.group.act.Goals.{In_ok-settled}
 use Rattle.sand_group.proofs.group.act.Goals as goal
+
+settles : (c : In_ok-settled) → IsSettledPile c.c.inside.pile.grid
+    (λ i. height_of c.c.inside.pile i + one_at c.args.site i) c.in_ok-settled.field-0
+settles c =
+    let inside : c.args.site < sites c.c.inside.pile.grid = rw c.c.view_is c.requires in
+    grain_settles c.shape-shape.result c.c.inside.pile c.in_ok-settled.field-0
+    c.in_ok-heights.heights.items c.args.site c.index_mut.result.now c.shape-shape.ensures.value
+    c.shape-shape.ensures.pile (c.in_ok-heights.ensures.items ∙ c.heights.ensures.value)
+    inside c.index_mut.ensures.value c.in_ok-settled.ensures.settled
 
 pub invariant_of-result : goal.invariant_of-result
 invariant_of-result c =
-    let inside : c.args.site < sites c.c.inside.pile.grid = rw c.c.view_is c.requires in
-    let done = grain_settles c.shape-shape.result c.c.inside.pile c.in_ok-settled.field-0
-    c.in_ok-heights.heights.items c.args.site c.index_mut.result.now c.shape-shape.ensures.value
-    c.shape-shape.ensures.pile (c.in_ok-heights.ensures.items ∙ c.heights.ensures.value)
-    inside c.index_mut.ensures.value c.in_ok-settled.ensures.settled in
+    let done = settles (goal.at.invariant_of-result c).In_ok-settled in
     recurrent_there c.c.inside.pile.grid _ c.in_ok-settled.field-0 done
     (recurrent_plus c.c.inside.pile.grid (height_of c.c.inside.pile) (one_at c.args.site)
     done.odometer (height_of c.in_ok-settled.field-0) c.c.invariant done.settled)
 
 pub returns-clause-settled : goal.returns-clause-settled
-returns-clause-settled c =
-    let inside : c.args.site < sites c.c.inside.pile.grid = rw c.c.view_is c.requires in
-    rw (← c.c.view_is)
-    (grain_settles c.shape-shape.result c.c.inside.pile c.in_ok-settled.field-0
-    c.in_ok-heights.heights.items c.args.site c.index_mut.result.now c.shape-shape.ensures.value
-    c.shape-shape.ensures.pile (c.in_ok-heights.ensures.items ∙ c.heights.ensures.value)
-    inside c.index_mut.ensures.value c.in_ok-settled.ensures.settled)
+returns-clause-settled c = rw (← c.c.view_is) (settles (goal.at.returns-clause-settled c).In_ok-settled)
 
 pub returns-clause-recurrent : goal.returns-clause-recurrent
-returns-clause-recurrent c =
-    let inside : c.args.site < sites c.c.inside.pile.grid = rw c.c.view_is c.requires in
-    let done = grain_settles c.shape-shape.result c.c.inside.pile c.in_ok-settled.field-0
-    c.in_ok-heights.heights.items c.args.site c.index_mut.result.now c.shape-shape.ensures.value
-    c.shape-shape.ensures.pile (c.in_ok-heights.ensures.items ∙ c.heights.ensures.value)
-    inside c.index_mut.ensures.value c.in_ok-settled.ensures.settled in
-    recurrent_there c.c.inside.pile.grid _ c.in_ok-settled.field-0 done
-    (recurrent_plus c.c.inside.pile.grid (height_of c.c.inside.pile) (one_at c.args.site)
-    done.odometer (height_of c.in_ok-settled.field-0) c.c.invariant done.settled)
+returns-clause-recurrent c = invariant_of-result c

@@ -10,6 +10,7 @@ use Rattle.sand_lab.specs.declared.workers.Worker.{Worker}
 use Rattle.sand_lab.specs.Gathering.{all_counts, HoldsBand}
 use Rattle.sand_lab.proofs.RowsInBands.{top}
 use Rattle.sand_lab.proofs.BandsJoinToAll.{band_joined, band_touches, next_at, share_grows}
+use Rattle.sand_lab.proofs.gathering.gather_workers.Goals.{In-Some}
 use Rattle.sand_lab.proofs.gathering.gather_workers.Goals as goal
 
 nothing_left : {A : Type 0} (xs : List A) → length xs ≡ 0 → xs ≡ []
@@ -20,25 +21,36 @@ more : (xs : List Worker) (x : Worker) → all_counts (xs ++ x ∷ []) ≡ all_c
 more xs x = flat_map-append (λ (w : Worker). w.pass.counts) xs (x ∷ [])
     ∙ ap (λ cs. all_counts xs ++ cs) (append-nil x.pass.counts)
 
-pub take_in-requires-clause-touching : goal.take_in-requires-clause-touching
-take_in-requires-clause-touching c =
-    let i = c.loop-worker.invariant in
-    let s = c.args.pile.now in
+in_order : (c : In-Some)
+    → c.loop-worker.yielded ++ c.in-Some.worker ∷ into_iter_items c.next.new.self ≡ c.args.workers.items
+in_order c =
+    let steps : into_iter_items c.loop-worker.worker-iterator ≡ c.in-Some.worker ∷ into_iter_items c.next.new.self =
+    c.in-Some.ensures.steps.0 in
+    rw (← steps) c.loop-worker.invariant.items
+
+-- the next worker has the band after those of the workers so far
+holds : (c : In-Some)
+    → HoldsBand c.args.pile.now (length c.args.workers.items) (length c.loop-worker.yielded) c.in-Some.worker
+holds c =
     let xs = c.loop-worker.yielded in
     let x = c.in-Some.worker in
-    let left = into_iter_items c.next.new.self in
-    let steps : into_iter_items c.loop-worker.worker-iterator ≡ x ∷ left = c.in-Some.ensures.steps.0 in
+    let at : slice_get c.args.workers.items (length xs) ≡ Some x =
+    subst (λ ws. slice_get ws (length xs) ≡ Some x) (in_order c) (next_at xs (into_iter_items c.next.new.self) x) in
+    c.requires.workers (length xs) x at
+
+pub take_in-requires-clause-touching : goal.take_in-requires-clause-touching
+take_in-requires-clause-touching c =
+    let s = c.args.pile.now in
     let height = (grid_of_terms s.terms).height in
     let n = length c.args.workers.items in
-    let j = length xs in
-    let items : xs ++ x ∷ left ≡ c.args.workers.items = rw (← steps) i.items in
-    let at : slice_get c.args.workers.items j ≡ Some x =
-    subst (λ ws. slice_get ws j ≡ Some x) items (next_at xs left x) in
-    let rows : c.loop-worker.first.rows ≡ top (j * height / n) = ap (λ (p : PassView). p.rows) i.first in
-    band_touches s c.loop-worker.first x.pass (j * height / n) ((j + 1) * height / n) rows (c.requires.workers j x at)
+    let j = length c.loop-worker.yielded in
+    band_touches s c.loop-worker.first c.in-Some.worker.pass (j * height / n) ((j + 1) * height / n)
+    (ap (λ (p : PassView). p.rows) c.loop-worker.invariant.first)
+    (holds (goal.at.take_in-requires-clause-touching c).In-Some)
 
 pub loop-worker-preserved : goal.loop-worker-preserved
 loop-worker-preserved c =
+    let at = (goal.at.loop-worker-preserved c).In-Some in
     let i = c.loop-worker.invariant in
     let s = c.args.pile.now in
     let xs = c.loop-worker.yielded in
@@ -48,15 +60,11 @@ loop-worker-preserved c =
     let height = (grid_of_terms s.terms).height in
     let n = length c.args.workers.items in
     let j = length xs in
-    let items : xs ++ x ∷ left ≡ c.args.workers.items = rw (← steps) i.items in
-    let at : slice_get c.args.workers.items j ≡ Some x =
-    subst (λ ws. slice_get ws j ≡ Some x) items (next_at xs left x) in
-    let holds : HoldsBand s n j x = c.requires.workers j x at in
     let begin = j * height / n in
     let end = (j + 1) * height / n in
     let rows : c.loop-worker.first.rows ≡ top begin = ap (λ (p : PassView). p.rows) i.first in
     let joined = c.in_ok-_none.ensures.first
-    ∙ band_joined s c.loop-worker.first x.pass begin end (share_grows j height n) rows holds in
+    ∙ band_joined s c.loop-worker.first x.pass begin end (share_grows j height n) rows (holds at) in
     let long : j + 1 ≡ length (xs ++ x ∷ []) = sym (length-append xs (x ∷ [])) in
     let counts : c.loop-worker.first.counts ++ x.pass.counts ≡ all_counts (xs ++ x ∷ []) =
     ap (λ (p : PassView). p.counts ++ x.pass.counts) i.first ∙ sym (more xs x) in
@@ -71,7 +79,7 @@ loop-worker-preserved c =
           ∙ ap₂ (λ (m : ℕ) (cs : List ℕ).
           record all { seen = c.take_in.new.first.seen; rows = top (m * height / n); counts = cs })
           long counts;
-      items = append_assoc xs (x ∷ []) left ∙ items;
+      items = append_assoc xs (x ∷ []) left ∙ in_order at;
       long = (let was = i.long in let gone = c.in-Some.ensures.steps.1 in let short = ap length steps in omega arith);
       room = search rules;
       swept = rw (c.push_reserved.ensures.items, i.swept) (sym (map-append (λ (w : Worker). w.swept) xs (x ∷ [])));

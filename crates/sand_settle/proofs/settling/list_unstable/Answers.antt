@@ -1,6 +1,7 @@
 use Rattle.std.proofs.Common.{◌∙◌, ap, arith, get_or}
 use Rattle.sand_model.proofs.Lists.{lists_length, lists_none, lists_more, lists_of}
-use Rattle.sand_settle.specs.SiteLists.{ListView, may_topple}
+use Rattle.sand_fronts.specs.IndexLists.{ListView}
+use Rattle.sand_settle.specs.SiteLists.{may_topple}
 use Rattle.sand_settle.proofs.settling.list_unstable.Goals as goal
 
 pub push_if-requires-clause-room : goal.push_if-requires-clause-room
@@ -10,15 +11,15 @@ push_if-requires-clause-room c =
 
 pub loop-site-init : goal.loop-site-init
 loop-site-init c = record {
-  listed = rw (ap (λ (l : ListView). l.sites) c.clear.ensures)
+  listed = rw (ap (λ (l : ListView). l.items) c.clear.ensures)
       (lists_none (may_topple (λ j. get_or c.args.heights.now j 0)));
   room = ap (λ (l : ListView). l.room) c.clear.ensures;
 }
 
 pub loop-site-preserved : goal.loop-site-preserved
 loop-site-preserved c = record {
-  listed = rw (ap (λ (l : ListView). l.sites) c.push_if.ensures) (lists_more c.loop-site.site
-      (may_topple (λ j. get_or c.args.heights.now j 0)) c.loop-site.wave.sites c.loop-site.invariant.listed);
+  listed = rw (ap (λ (l : ListView). l.items) c.push_if.ensures) (lists_more c.loop-site.site
+      (may_topple (λ j. get_or c.args.heights.now j 0)) c.loop-site.wave.items c.loop-site.invariant.listed);
   room = ap (λ (l : ListView). l.room) c.push_if.ensures ∙ c.loop-site.invariant.room;
 }
 

@@ -7,7 +7,7 @@ use Rattle.sand_model.specs.Sand.{one_at}
 use Rattle.sand_model.proofs.Bounds.{sites_limit}
 use Rattle.sand_model.proofs.Heights.{counted}
 use Rattle.sand_model.proofs.Lists.{lists_of}
-use Rattle.sand_settle.specs.SiteLists.{ListView}
+use Rattle.sand_fronts.specs.IndexLists.{ListView}
 use Rattle.sand_settle.proofs.Joined.{toppled_times}
 use Rattle.sand_settle.proofs.Queue.{turn_inside, turn_high, others_wait, queue_room}
 use Rattle.sand_settle.proofs.Underway.{advance_more, advance_turn, turn_counts, counts_small, sum_falls}
@@ -19,70 +19,70 @@ loop-turn-init c = record {
   counts_each = c.requires.one_each.1;
   advances = record { underway = λ s before. before; weight_pays = omega arith; grains_fall = omega arith };
   each_topples = omega arith;
-  waiting = rw (ap (λ (l : ListView). l.sites) c.clear.ensures, append-nil) c.requires.waiting;
+  waiting = rw (ap (λ (l : ListView). l.items) c.clear.ensures, append-nil) c.requires.waiting;
   room = ap (λ (l : ListView). l.room) c.clear.ensures;
 }
 
 pub offset_bounds-heights-site : goal.offset_bounds-heights-site
 offset_bounds-heights-site c =
-    let turn : c.loop-turn.turn < length c.args.wave.now.sites = omega (arith, c.len-turn-end.ensures.value) in
-    let inside = turn_inside (sites c.args.lattice.now) _ c.args.wave.now.sites c.loop-turn.next.sites
-    c.loop-turn.turn c.site-site.result c.site-site.ensures turn c.loop-turn.invariant.waiting in
+    let turn : c.loop-turn.turn < length c.args.wave.now.items = omega (arith, c.len-turn-end.ensures.value) in
+    let inside = turn_inside (sites c.args.lattice.now) _ c.args.wave.now.items c.loop-turn.next.items
+    c.loop-turn.turn c.item-site.result c.item-site.ensures turn c.loop-turn.invariant.waiting in
     let small = sites_limit c.args.lattice.now c.knows_sides.ensures in
     omega arith
 
 pub bounds-heights-site : goal.bounds-heights-site
 bounds-heights-site c =
-    let turn : c.loop-turn.turn < length c.args.wave.now.sites = omega (arith, c.len-turn-end.ensures.value) in
-    let inside = turn_inside (sites c.args.lattice.now) _ c.args.wave.now.sites c.loop-turn.next.sites
-    c.loop-turn.turn c.site-site.result c.site-site.ensures turn c.loop-turn.invariant.waiting in
+    let turn : c.loop-turn.turn < length c.args.wave.now.items = omega (arith, c.len-turn-end.ensures.value) in
+    let inside = turn_inside (sites c.args.lattice.now) _ c.args.wave.now.items c.loop-turn.next.items
+    c.loop-turn.turn c.item-site.result c.item-site.ensures turn c.loop-turn.invariant.waiting in
     omega (arith, c.loop-turn.invariant.heights_each)
 
 pub spread-requires-clause-site : goal.spread-requires-clause-site
 spread-requires-clause-site c =
-    let turn : c.loop-turn.turn < length c.args.wave.now.sites = omega (arith, c.len-turn-end.ensures.value) in
-    turn_inside (sites c.args.lattice.now) _ c.args.wave.now.sites c.loop-turn.next.sites
-    c.loop-turn.turn c.site-site.result c.site-site.ensures turn c.loop-turn.invariant.waiting
+    let turn : c.loop-turn.turn < length c.args.wave.now.items = omega (arith, c.len-turn-end.ensures.value) in
+    turn_inside (sites c.args.lattice.now) _ c.args.wave.now.items c.loop-turn.next.items
+    c.loop-turn.turn c.item-site.result c.item-site.ensures turn c.loop-turn.invariant.waiting
 
 pub spread-requires-clause-limit : goal.spread-requires-clause-limit
 spread-requires-clause-limit c =
-    let turn : c.loop-turn.turn < length c.args.wave.now.sites = omega (arith, c.len-turn-end.ensures.value) in
-    let inside = turn_inside (sites c.args.lattice.now) _ c.args.wave.now.sites c.loop-turn.next.sites
-    c.loop-turn.turn c.site-site.result c.site-site.ensures turn c.loop-turn.invariant.waiting in
+    let turn : c.loop-turn.turn < length c.args.wave.now.items = omega (arith, c.len-turn-end.ensures.value) in
+    let inside = turn_inside (sites c.args.lattice.now) _ c.args.wave.now.items c.loop-turn.next.items
+    c.loop-turn.turn c.item-site.result c.item-site.ensures turn c.loop-turn.invariant.waiting in
     let falls = sum_falls c.args.lattice.now _ _ c.args.heights.now c.loop-turn.heights
     c.requires.one_each.0 c.loop-turn.invariant.heights_each c.loop-turn.invariant.advances in
-    let parts = sum_by-set (λ x. x) c.loop-turn.heights c.site-site.result
-    (get_or c.loop-turn.heights c.site-site.result 0 - 4 * (get_or c.loop-turn.heights c.site-site.result 0 / 4))
+    let parts = sum_by-set (λ x. x) c.loop-turn.heights c.item-site.result
+    (get_or c.loop-turn.heights c.item-site.result 0 - 4 * (get_or c.loop-turn.heights c.item-site.result 0 / 4))
     0 (omega (arith, c.loop-turn.invariant.heights_each)) in
     omega (arith, c.requires.limit)
 
 pub spread-requires-clause-room : goal.spread-requires-clause-room
 spread-requires-clause-room c =
-    let few = queue_room _ _ _ c.loop-turn.next.sites c.loop-turn.invariant.waiting in
+    let few = queue_room _ _ _ c.loop-turn.next.items c.loop-turn.invariant.waiting in
     omega (arith, c.requires.room, c.loop-turn.invariant.room)
 
 pub overflow_add-counts : goal.overflow_add-counts
 overflow_add-counts c =
-    let turn : c.loop-turn.turn < length c.args.wave.now.sites = omega (arith, c.len-turn-end.ensures.value) in
-    let inside = turn_inside (sites c.args.lattice.now) _ c.args.wave.now.sites c.loop-turn.next.sites
-    c.loop-turn.turn c.site-site.result c.site-site.ensures turn c.loop-turn.invariant.waiting in
+    let turn : c.loop-turn.turn < length c.args.wave.now.items = omega (arith, c.len-turn-end.ensures.value) in
+    let inside = turn_inside (sites c.args.lattice.now) _ c.args.wave.now.items c.loop-turn.next.items
+    c.loop-turn.turn c.item-site.result c.item-site.ensures turn c.loop-turn.invariant.waiting in
     let few = counts_small c.args.lattice.now _ _ (λ j. get_or c.loop-turn.counts j 0)
-    _ c.site-site.result c.loop-turn.invariant.advances c.requires.few inside in
+    _ c.item-site.result c.loop-turn.invariant.advances c.requires.few inside in
     let height = get_or-le-sum_by (λ x. x) c.loop-turn.heights
-    c.site-site.result 0 (omega (arith, c.loop-turn.invariant.heights_each)) in
+    c.item-site.result 0 (omega (arith, c.loop-turn.invariant.heights_each)) in
     let falls = sum_falls c.args.lattice.now _ _ c.args.heights.now c.loop-turn.heights
     c.requires.one_each.0 c.loop-turn.invariant.heights_each c.loop-turn.invariant.advances in
     omega (arith, c.requires.limit)
 
 pub loop-turn-preserved : goal.loop-turn-preserved
 loop-turn-preserved c =
-    let turn : c.loop-turn.turn < length c.args.wave.now.sites = omega (arith, c.len-turn-end.ensures.value) in
-    let inside = turn_inside (sites c.args.lattice.now) _ c.args.wave.now.sites c.loop-turn.next.sites
-    c.loop-turn.turn c.site-site.result c.site-site.ensures turn c.loop-turn.invariant.waiting in
-    let i : ℕ = c.site-site.result in
+    let turn : c.loop-turn.turn < length c.args.wave.now.items = omega (arith, c.len-turn-end.ensures.value) in
+    let inside = turn_inside (sites c.args.lattice.now) _ c.args.wave.now.items c.loop-turn.next.items
+    c.loop-turn.turn c.item-site.result c.item-site.ensures turn c.loop-turn.invariant.waiting in
+    let i : ℕ = c.item-site.result in
     let k : ℕ = get_or c.loop-turn.heights i 0 / 4 in
-    let high = turn_high (sites c.args.lattice.now) (λ j. get_or c.loop-turn.heights j 0) c.args.wave.now.sites
-    c.loop-turn.next.sites c.loop-turn.turn i c.site-site.ensures turn c.loop-turn.invariant.waiting in
+    let high = turn_high (sites c.args.lattice.now) (λ j. get_or c.loop-turn.heights j 0) c.args.wave.now.items
+    c.loop-turn.next.items c.loop-turn.turn i c.item-site.ensures turn c.loop-turn.invariant.waiting in
     let each : length (set c.loop-turn.heights i (get_or c.loop-turn.heights i 0 - 4 * k)) ≡ sites c.args.lattice.now =
     length-set c.loop-turn.heights i (get_or c.loop-turn.heights i 0 - 4 * k) ∙ c.loop-turn.invariant.heights_each in
     let done = toppled_times c.args.lattice.now i k c.loop-turn.heights c.spread.new.heights
@@ -99,8 +99,8 @@ loop-turn-preserved c =
     (λ j. get_or (set c.loop-turn.counts i (get_or c.loop-turn.counts i 0 + k)) j 0)
     i k inside (λ j l. counts j) (omega arith) in
     let others = others_wait (sites c.args.lattice.now) c.loop-turn.heights
-    c.args.wave.now.sites c.loop-turn.next.sites c.loop-turn.turn i
-    (sym c.loop-turn.invariant.heights_each) c.site-site.ensures turn c.loop-turn.invariant.waiting in
+    c.args.wave.now.items c.loop-turn.next.items c.loop-turn.turn i
+    (sym c.loop-turn.invariant.heights_each) c.item-site.ensures turn c.loop-turn.invariant.waiting in
     record {
       heights_each = c.spread.auto.heights ∙ each;
       counts_each =
@@ -108,7 +108,7 @@ loop-turn-preserved c =
       advances = advance_more c.args.lattice.now _ _ _ _ _ _ c.loop-turn.invariant.advances more;
       each_topples = omega (arith, c.loop-turn.invariant.each_topples);
       waiting = c.spread.ensures.joins.waiting (sites c.args.lattice.now) 0
-          (drop (c.loop-turn.turn + 1) c.args.wave.now.sites) (sym each) (omega arith)
+          (drop (c.loop-turn.turn + 1) c.args.wave.now.items) (sym each) (omega arith)
           (lists_of _ (sites c.args.lattice.now) _ _ c.loop-turn.invariant.heights_each others);
       room = c.spread.ensures.joins.room ∙ c.loop-turn.invariant.room;
     }

@@ -14,6 +14,6 @@ invariant-loop-turn l = record {
       (λ j. get_or l.initial.heights j 0) (λ j. get_or l.counts j 0) (λ j. get_or l.heights j 0);
   each_topples : topplings l.lattice (λ j. get_or l.initial.counts j 0) + l.turn
       ≤ topplings l.lattice (λ j. get_or l.counts j 0);
-  waiting : Lists (sites l.lattice) (may_topple (λ j. get_or l.heights j 0)) (drop l.turn l.wave.sites ++ l.next.sites);
+  waiting : Lists (sites l.lattice) (may_topple (λ j. get_or l.heights j 0)) (drop l.turn l.wave.items ++ l.next.items);
   room : l.next.room ≡ l.fn.next.room;
 }

@@ -3,7 +3,7 @@ use Rattle.std.proofs.lemmas.List.{nil_from_length, take_at}
 use Rattle.sand_model.specs.Grid.{Grid, sites}
 use Rattle.sand_model.specs.Sand.{IsSettled}
 use Rattle.sand_model.proofs.Lists.{lists_of}
-use Rattle.sand_settle.specs.SiteLists.{ListView}
+use Rattle.sand_fronts.specs.IndexLists.{ListView}
 use Rattle.sand_settle.proofs.Queue.{all_low}
 use Rattle.sand_settle.proofs.Underway.{advance_more, sum_falls, few_at_first, settled_at_last}
 use Rattle.sand_settle.proofs.workspace.Workspace.settle.Goals as goal
@@ -42,7 +42,7 @@ waves-preserved c = record {
   counts_each = omega (arith, c.waves.invariant.counts_each, c.topple_wave.auto.counts);
   turns_each = omega (arith, c.waves.invariant.turns_each, c.topple_wave.ensures.each_topples);
   advances = advance_more c.self.inside.lattice _ _ _ _ _ _ c.waves.invariant.advances c.topple_wave.ensures.advances;
-  waiting = rw (ap (λ (l : ListView). l.sites) c.swap.ensures.x_after) c.topple_wave.ensures.waiting;
+  waiting = rw (ap (λ (l : ListView). l.items) c.swap.ensures.x_after) c.topple_wave.ensures.waiting;
   wave_room = omega (
     arith,
     ap (λ (l : ListView). l.room) c.swap.ensures.x_after,
@@ -60,7 +60,7 @@ returns-clause-settled c =
     ≡ c.waves.counts =
     take_at c.waves.counts (drop (length c.waves.counts) c.self.inside.counts.items)
     c.self.inside.counts.len (omega (arith, c.waves.auto.counts, c.as_mut_slice-counts.ensures.len)) in
-    let none : c.waves.wave.sites ≡ [] = nil_from_length c.waves.wave.sites (omega (arith, c.len.ensures.value)) in
+    let none : c.waves.wave.items ≡ [] = nil_from_length c.waves.wave.items (omega (arith, c.len.ensures.value)) in
     let waiting = rw none at c.waves.invariant.waiting in
     let settled =
     settled_at_last g (λ j. get_or c.args.heights.now j 0) (λ j. get_or c.as_mut_slice-counts.result.now j 0)

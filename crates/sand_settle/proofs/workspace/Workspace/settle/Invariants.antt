@@ -13,7 +13,7 @@ invariant-waves l = record {
   turns_each : l.turns ≤ l.left + topplings l.lattice (λ j. get_or l.counts j 0);
   advances : Advances l.lattice (λ j. get_or l.initial.counts j 0)
       (λ j. get_or l.initial.heights j 0) (λ j. get_or l.counts j 0) (λ j. get_or l.heights j 0);
-  waiting : Lists (sites l.lattice) (may_topple (λ j. get_or l.heights j 0)) l.wave.sites;
+  waiting : Lists (sites l.lattice) (may_topple (λ j. get_or l.heights j 0)) l.wave.items;
   wave_room : sites l.lattice + 4 ≤ l.wave.room;
   next_room : sites l.lattice + 4 ≤ l.next.room;
 }

@@ -1,6 +1,6 @@
-use Rattle.std.proofs.Common.{◌+◌, ◌∙◌, refl, sym, ap, arith, get_or}
+use Rattle.std.proofs.Common.{◌+◌, ◌^◌, ◌<◌, ◌∙◌, refl, sym, ap, arith, get_or}
 use Rattle.sand_model.specs.Grid.{Grid, sites}
-use Rattle.sand_model.specs.Sand.{tally, topplings}
+use Rattle.sand_model.specs.Sand.{IsSettled, lost, tally, topplings}
 use Rattle.sand_model.proofs.Lists.{lists_of}
 use Rattle.sand_model.proofs.Tallies.{sum_below-tally}
 use Rattle.sand_model.proofs.SumsBelow.{sum_below-add}
@@ -8,6 +8,7 @@ use Rattle.sand_settle.specs.SiteLists.{has_toppled}
 use Rattle.sand_settle.proofs.Collected.{avalanche_none}
 use Rattle.sand_settle.proofs.Drops.{settled_calm, small_settling, settled_between, avalanche_between}
 use Rattle.sand_settle.proofs.Underway.{advance_more, sum_falls, counts_small, few_at_first, all_stable, settled_at_last}
+use Rattle.sand_settle.proofs.workspace.Workspace.settle_at.Goals.{After-waves}
 use Rattle.sand_settle.proofs.workspace.Workspace.settle_at.Goals as goal
 
 pub returns-then-heights-site-lt-TOPPLING_HEIGHT-clause-settled :
@@ -33,21 +34,21 @@ count_each-requires-clause-fits c j l =
     c.args.heights.now c.self.invariant.sides (c.requires.one_each.0 ∙ sym (ap sites c.self.view_is)) c.requires.limit
     (λ i. ap (λ u. get_or u i 0) c.as_mut_slice-counts.ensures.value ∙ c.self.invariant.uncounted i) in
     let more = c.topple_once.ensures.advances (λ i. get_or c.waves.counts i 0)
-    (λ i. get_or c.waves.counts i 0 + tally c.topple_once.new.list.sites i) (λ i m. refl) in
+    (λ i. get_or c.waves.counts i 0 + tally c.topple_once.new.list.items i) (λ i m. refl) in
     let all = advance_more c.self.inside.lattice _ _ _ _ _ _ c.waves.invariant.advances more in
     let small =
-    counts_small c.self.inside.lattice _ _ (λ i. get_or c.waves.counts i 0 + tally c.topple_once.new.list.sites i)
+    counts_small c.self.inside.lattice _ _ (λ i. get_or c.waves.counts i 0 + tally c.topple_once.new.list.items i)
     _ j all first (omega (arith, c.waves.invariant.counts_each)) in
     omega arith
 
 pub waves-smaller : goal.waves-smaller
 waves-smaller c =
     let more = c.topple_once.ensures.advances (λ i. get_or c.waves.counts i 0)
-    (λ i. get_or c.waves.counts i 0 + tally c.topple_once.new.list.sites i) (λ i m. refl) in
+    (λ i. get_or c.waves.counts i 0 + tally c.topple_once.new.list.items i) (λ i m. refl) in
     let parts =
-    sum_below-add (sites c.self.inside.lattice) (λ i. get_or c.waves.counts i 0) (tally c.topple_once.new.list.sites) in
+    sum_below-add (sites c.self.inside.lattice) (λ i. get_or c.waves.counts i 0) (tally c.topple_once.new.list.items) in
     let long =
-    sum_below-tally (sites c.self.inside.lattice) c.topple_once.new.list.sites c.topple_once.ensures.inside in
+    sum_below-tally (sites c.self.inside.lattice) c.topple_once.new.list.items c.topple_once.ensures.inside in
     omega (arith, more.weight_pays, c.topple_once.ensures.some)
 
 pub waves-preserved : goal.waves-preserved
@@ -65,43 +66,33 @@ waves-preserved c = record {
 }
 
 -- ---- after the last wave
+settled : (c : After-waves) → IsSettled c.self.inside.lattice
+    (λ j. get_or c.args.heights.now j 0) (λ j. get_or c.waves.counts j 0) (λ j. get_or c.waves.heights j 0)
+settled c = settled_at_last c.self.inside.lattice
+    (λ j. get_or c.args.heights.now j 0) (λ j. get_or c.as_mut_slice-counts.result.now j 0)
+    (λ j. get_or c.waves.counts j 0) (λ j. get_or c.waves.heights j 0)
+    (λ j. ap (λ u. get_or u j 0) c.as_mut_slice-counts.ensures.value ∙ c.self.invariant.uncounted j)
+    c.waves.invariant.advances (all_stable c.self.inside.lattice
+    (λ j. get_or c.waves.heights j 0) c.args.site (omega arith) c.waves.invariant.others_low)
+
+small : (c : After-waves) → let g = c.self.inside.lattice in
+    (topplings g (λ j. get_or c.waves.counts j 0) < 2 ^ 54) × (lost g (λ j. get_or c.waves.counts j 0) < 2 ^ 54)
+small c = small_settling c.self.inside.lattice c.args.heights.now c.waves.counts (λ j. get_or c.waves.heights j 0)
+    c.self.invariant.sides (c.requires.one_each.0 ∙ sym (ap sites c.self.view_is)) c.requires.limit (settled c)
+
 pub collect-requires-clause-few : goal.collect-requires-clause-few
 collect-requires-clause-few c =
-    let settled = settled_at_last c.self.inside.lattice
-    (λ j. get_or c.args.heights.now j 0) (λ j. get_or c.as_mut_slice-counts.result.now j 0)
-    (λ j. get_or c.waves.counts j 0) (λ j. get_or c.waves.heights j 0)
-    (λ j. ap (λ u. get_or u j 0) c.as_mut_slice-counts.ensures.value ∙ c.self.invariant.uncounted j)
-    c.waves.invariant.advances (all_stable c.self.inside.lattice
-    (λ j. get_or c.waves.heights j 0) c.args.site (omega arith) c.waves.invariant.others_low) in
-    let small = small_settling c.self.inside.lattice c.args.heights.now c.waves.counts (λ j. get_or c.waves.heights j 0)
-    c.self.invariant.sides (c.requires.one_each.0 ∙ sym (ap sites c.self.view_is)) c.requires.limit settled in (
-      small.0,
-      (let same = ap (λ (g : Grid). topplings g (λ j. get_or c.args.odometer.now j 0)) c.self.view_is in
-          omega (arith, c.requires.few)),
-    )
+    let few = (small (goal.at.collect-requires-clause-few c).After-waves).0 in
+    let same = ap (λ (g : Grid). topplings g (λ j. get_or c.args.odometer.now j 0)) c.self.view_is in
+    (few, omega (arith, c.requires.few))
 
 pub collect-requires-clause-lost : goal.collect-requires-clause-lost
-collect-requires-clause-lost c =
-    let settled = settled_at_last c.self.inside.lattice
-    (λ j. get_or c.args.heights.now j 0) (λ j. get_or c.as_mut_slice-counts.result.now j 0)
-    (λ j. get_or c.waves.counts j 0) (λ j. get_or c.waves.heights j 0)
-    (λ j. ap (λ u. get_or u j 0) c.as_mut_slice-counts.ensures.value ∙ c.self.invariant.uncounted j)
-    c.waves.invariant.advances (all_stable c.self.inside.lattice
-    (λ j. get_or c.waves.heights j 0) c.args.site (omega arith) c.waves.invariant.others_low) in
-    let small = small_settling c.self.inside.lattice c.args.heights.now c.waves.counts (λ j. get_or c.waves.heights j 0)
-    c.self.invariant.sides (c.requires.one_each.0 ∙ sym (ap sites c.self.view_is)) c.requires.limit settled in
-    small.1
+collect-requires-clause-lost c = (small (goal.at.collect-requires-clause-lost c).After-waves).1
 
 pub returns-clause-settled : goal.returns-clause-settled
-returns-clause-settled c =
-    let settled = settled_at_last c.self.inside.lattice
-    (λ j. get_or c.args.heights.now j 0) (λ j. get_or c.as_mut_slice-counts.result.now j 0)
-    (λ j. get_or c.waves.counts j 0) (λ j. get_or c.waves.heights j 0)
-    (λ j. ap (λ u. get_or u j 0) c.as_mut_slice-counts.ensures.value ∙ c.self.invariant.uncounted j)
-    c.waves.invariant.advances (all_stable c.self.inside.lattice
-    (λ j. get_or c.waves.heights j 0) c.args.site (omega arith) c.waves.invariant.others_low) in
-    settled_between c.self.inside.lattice c.args.self.now c.args.heights.now c.waves.counts
-    c.args.odometer.now _ _ c.self.view_is c.collect.ensures.odometer settled
+returns-clause-settled c = settled_between c.self.inside.lattice c.args.self.now c.args.heights.now c.waves.counts
+    c.args.odometer.now _ _ c.self.view_is c.collect.ensures.odometer
+    (settled (goal.at.returns-clause-settled c).After-waves)
 
 pub returns-clause-avalanche : goal.returns-clause-avalanche
 returns-clause-avalanche c = avalanche_between c.self.inside.lattice c.args.self.now c.args.site c.waves.counts

@@ -13,7 +13,7 @@ invariant-waves l = record {
   advances : Advances l.lattice (λ j. get_or l.initial.counts j 0)
       (λ j. get_or l.initial.heights j 0) (λ j. get_or l.counts j 0) (λ j. get_or l.heights j 0);
   others_low : (j : ℕ) → j < sites l.lattice → j ≢ l.site → get_or l.heights j 0 ≤ 3;
-  noted : Lists (sites l.lattice) (has_toppled (λ j. get_or l.counts j 0)) l.toppled.sites;
+  noted : Lists (sites l.lattice) (has_toppled (λ j. get_or l.counts j 0)) l.toppled.items;
   wave_room : l.wave.room ≡ l.initial.wave.room;
   spare_room : l.toppled.room ≡ l.initial.toppled.room;
 }

@@ -5,16 +5,19 @@ use Rattle.sand_shared.specs.Bare.{shown}
 use Rattle.sand_shared.specs.OpenPile.{toppled_by}
 use Rattle.sand_shared.specs.Rows.{HoldsSite}
 use Rattle.sand_shared.proofs.GrainsAtSite.{toppled_from}
-use Rattle.sand_shared.proofs.RowSites.{site_inside}
+use Rattle.sand_shared.proofs.RowSites.{IsInside, site_inside}
+use Rattle.sand_shared.proofs.pass.Pass.toppled.Goals.{After-width}
 use Rattle.sand_shared.proofs.pass.Pass.toppled.Goals as goal
+
+holds : (c : After-width) → IsInside c.bare.inside.shape c.bare.inside.rows c.args.site
+holds c = site_inside c.bare.inside.shape c.bare.inside.rows c.args.site c.bare.invariant.pass.grid
+    (subst (λ (v : PassView). HoldsSite v.grid v.rows c.args.site) (sym (c.bare.view_is ∙ c.self.view_is)) c.requires)
 
 pub index-requires : goal.index-requires
 index-requires c =
     let p = c.bare.inside in
     let inv = c.bare.invariant.pass in
-    let is = c.bare.view_is ∙ c.self.view_is in
-    let held = subst (λ (v : PassView). HoldsSite v.grid v.rows c.args.site) (sym is) c.requires in
-    let inside = site_inside p.shape p.rows c.args.site inv.grid held in
+    let inside = holds (goal.at.index-requires c).After-width in
     let from = inside.from in
     let below = inside.below in
     let base : c.from.result * c.width.result ≡ p.rows.first * p.shape.width =
@@ -26,8 +29,7 @@ returns c =
     let p = c.bare.inside in
     let inv = c.bare.invariant.pass in
     let is = c.bare.view_is ∙ c.self.view_is in
-    let held = subst (λ (v : PassView). HoldsSite v.grid v.rows c.args.site) (sym is) c.requires in
-    let inside = site_inside p.shape p.rows c.args.site inv.grid held in
+    let inside = holds (goal.at.returns c).After-width in
     let from = inside.from in
     let below = inside.below in
     let base : c.from.result * c.width.result ≡ p.rows.first * p.shape.width =

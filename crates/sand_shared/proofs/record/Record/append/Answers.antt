@@ -1,8 +1,9 @@
-use Rattle.std.proofs.Common.{◌≡◌, ℕ, ◌+◌, ◌++◌, List, sym, ap, ◌∙◌, subst, arith, rules}
+use Rattle.std.proofs.Common.{◌≡◌, ℕ, ◌+◌, ◌++◌, List, sum, sym, ap, ◌∙◌, subst, arith, rules}
 use Rattle.std.specs.Prelude.{slice_index}
 use Rattle.sand_settle.specs.Settling.{SettledView, IsSettledRecord}
 use Rattle.sand_shared.specs.Record.{RecordView, IsOneThreads}
-use Rattle.sand_shared.proofs.RecordSums.{are_added, small_entries, small_topplings, small_lost, joined_topplings, followed, settled_record}
+use Rattle.sand_shared.proofs.RecordSums.{AreJoined, are_joined, small_entries, small_topplings, small_lost, joined_topplings, both, followed, settled_record}
+use Rattle.sand_shared.proofs.record.Record.append.Goals.{After-lost-2}
 use Rattle.sand_shared.proofs.record.Record.append.Goals as goal
 
 pub add-requires-clause-small : goal.add-requires-clause-small
@@ -19,88 +20,61 @@ overflow_add-lost c =
     let mine = c.lost.ensures in
     let theirs = c.lost-2.ensures in omega arith
 
-pub of_parts-requires-clause-settled : goal.of_parts-requires-clause-settled
-of_parts-requires-clause-settled c =
-    let r = c.args.self.now in
-    let q = c.args.next.now in
-    let one = subst IsOneThreads c.self.view_is c.self.invariant in
-    let next = subst IsOneThreads c.next.view_is c.next.invariant in
-    let added = are_added r q one next c.requires.start _ _ _
+joined : (c : After-lost-2) → AreJoined c.args.self.now c.args.next.now c.add.new.numbers.items
+joined c = are_joined c.args.self.now c.args.next.now
+    (subst IsOneThreads c.self.view_is c.self.invariant)
+    (subst IsOneThreads c.next.view_is c.next.invariant)
+    c.requires.start c.requires.limit _ _ _
     (c.in_ok-odometer.ensures.items ∙ c.odometers.ensures.value
     ∙ ap (λ (v : RecordView). v.settled.odometer) c.self.view_is)
     (c.odometers-2.ensures.value ∙ ap (λ (v : RecordView). v.settled.odometer) c.next.view_is)
-    c.add.ensures.long c.add.ensures.sums in
-    let pile : c.in_ok-pile.pile ≡ q.settled.pile =
+    c.add.ensures.long c.add.ensures.sums
+
+parts : (c : After-lost-2)
+    → (both c.args.self.now c.args.next.now c.add.new.numbers.items).settled
+    ≡ record {
+      pile = c.in_ok-pile.pile;
+      odometer = c.add.new.numbers.items;
+      topplings = sum c.add.new.numbers.items;
+      lost = c.lost.result + c.lost-2.result;
+    }
+parts c =
+    let pile : c.in_ok-pile.pile ≡ c.args.next.now.settled.pile =
     c.in_ok-pile.ensures ∙ c.pile.ensures.value ∙ ap (λ (v : RecordView). v.settled.pile) c.next.view_is in
-    let both = joined_topplings r q one next c.requires.start c.requires.limit c.add.new.numbers.items added in
+    let topplings = joined_topplings _ _ _ (joined c) in
     let mine = c.lost.ensures ∙ ap (λ (v : RecordView). v.settled.lost) c.self.view_is in
     let theirs = c.lost-2.ensures ∙ ap (λ (v : RecordView). v.settled.lost) c.next.view_is in
-    subst IsSettledRecord (λ i. record {
+    λ i. record {
       pile = sym pile i;
       odometer = c.add.new.numbers.items;
-      topplings = sym both i;
+      topplings = sym topplings i;
       lost = sym mine i + sym theirs i;
-    })
-    (settled_record _ (followed r q one next c.requires.start c.requires.limit c.add.new.numbers.items added))
+    }
+
+pub of_parts-requires-clause-settled : goal.of_parts-requires-clause-settled
+of_parts-requires-clause-settled c =
+    let at = (goal.at.of_parts-requires-clause-settled c).After-lost-2 in
+    subst IsSettledRecord (parts at) (settled_record _ (followed _ _ _ (joined at)))
 
 pub of_parts-requires-clause-small : goal.of_parts-requires-clause-small
 of_parts-requires-clause-small c =
-    let r = c.args.self.now in
-    let q = c.args.next.now in
-    let one = subst IsOneThreads c.self.view_is c.self.invariant in
-    let next = subst IsOneThreads c.next.view_is c.next.invariant in
-    let added = are_added r q one next c.requires.start _ _ _
-    (c.in_ok-odometer.ensures.items ∙ c.odometers.ensures.value
-    ∙ ap (λ (v : RecordView). v.settled.odometer) c.self.view_is)
-    (c.odometers-2.ensures.value ∙ ap (λ (v : RecordView). v.settled.odometer) c.next.view_is)
-    c.add.ensures.long c.add.ensures.sums in
-    let both = joined_topplings r q one next c.requires.start c.requires.limit c.add.new.numbers.items added in
-    let a = small_topplings r one in
-    let b = small_topplings q next in omega arith
+    let at = (goal.at.of_parts-requires-clause-small c).After-lost-2 in
+    let few = small_topplings _ (followed _ _ _ (joined at)) in
+    let sums = joined_topplings _ _ _ (joined at) in omega arith
 
 pub invariant_of-self-2 : goal.invariant_of-self-2
 invariant_of-self-2 c =
-    let r = c.args.self.now in
-    let q = c.args.next.now in
-    let history : c.append.new.self ≡ r.history ++ q.history = search rules in
-    let one = subst IsOneThreads c.self.view_is c.self.invariant in
-    let next = subst IsOneThreads c.next.view_is c.next.invariant in
-    let sums = c.add.new.numbers.items in
-    let added = are_added r q one next c.requires.start _ _ _
-    (c.in_ok-odometer.ensures.items ∙ c.odometers.ensures.value
-    ∙ ap (λ (v : RecordView). v.settled.odometer) c.self.view_is)
-    (c.odometers-2.ensures.value ∙ ap (λ (v : RecordView). v.settled.odometer) c.next.view_is)
-    c.add.ensures.long c.add.ensures.sums in
-    let start : c.self.inside.start ≡ r.start = ap (λ (v : RecordView). v.start) c.self.view_is in
-    let pile : c.in_ok-pile.pile ≡ q.settled.pile =
-    c.in_ok-pile.ensures ∙ c.pile.ensures.value ∙ ap (λ (v : RecordView). v.settled.pile) c.next.view_is in
-    let both = joined_topplings r q one next c.requires.start c.requires.limit sums added in
-    let mine = c.lost.ensures ∙ ap (λ (v : RecordView). v.settled.lost) c.self.view_is in
-    let theirs = c.lost-2.ensures ∙ ap (λ (v : RecordView). v.settled.lost) c.next.view_is in
-    let settled : c.of_parts.result ≡ record {
-      pile = q.settled.pile;
-      odometer = sums;
-      topplings = r.settled.topplings + q.settled.topplings;
-      lost = r.settled.lost + q.settled.lost;
-    }
-    = c.of_parts.ensures ∙ (λ i.
-    record { pile = pile i; odometer = sums; topplings = both i; lost = mine i + theirs i }) in
+    let at = (goal.at.invariant_of-self-2 c).After-lost-2 in
+    let start : c.self.inside.start ≡ c.args.self.now.start = ap (λ (v : RecordView). v.start) c.self.view_is in
+    let history : c.append.new.self ≡ c.args.self.now.history ++ c.args.next.now.history = search rules in
+    let settled = c.of_parts.ensures ∙ sym (parts at) in
     subst IsOneThreads (λ i. record { start = sym start i; history = sym history i; settled = sym settled i })
-    (followed r q one next c.requires.start c.requires.limit sums added)
+    (followed _ _ _ (joined at))
 
 pub returns-clause-one_threads : goal.returns-clause-one_threads
 returns-clause-one_threads c = invariant_of-self-2 c
 
 pub returns-clause-topplings : goal.returns-clause-topplings
 returns-clause-topplings c =
-    let r = c.args.self.now in
-    let q = c.args.next.now in
-    let one = subst IsOneThreads c.self.view_is c.self.invariant in
-    let next = subst IsOneThreads c.next.view_is c.next.invariant in
-    let added = are_added r q one next c.requires.start _ _ _
-    (c.in_ok-odometer.ensures.items ∙ c.odometers.ensures.value
-    ∙ ap (λ (v : RecordView). v.settled.odometer) c.self.view_is)
-    (c.odometers-2.ensures.value ∙ ap (λ (v : RecordView). v.settled.odometer) c.next.view_is)
-    c.add.ensures.long c.add.ensures.sums in
-    ap (λ (s : SettledView). s.topplings) c.of_parts.ensures
-    ∙ joined_topplings r q one next c.requires.start c.requires.limit c.add.new.numbers.items added
+    let at = (goal.at.returns-clause-topplings c).After-lost-2 in
+    ap (λ (s : SettledView). s.topplings) (c.of_parts.ensures ∙ sym (parts at))

@@ -2,40 +2,37 @@ use Rattle.std.proofs.Common.{ℕ, ◌+◌, ◌-◌, List, sum, refl, sym, ap, �
 use Rattle.sand_model.specs.Piles.{PileView}
 use Rattle.sand_settle.specs.Settling.{SettledView}
 use Rattle.sand_shared.specs.Record.{IsOneThreads}
-use Rattle.sand_shared.proofs.RecordSums.{few_topplings, grains_left, one_threads, settled_record}
-use Rattle.sand_shared.proofs.record.Record.of_lists.Goals.{After-grains-2}
+use Rattle.sand_shared.proofs.RecordSums.{LeadsTo, few_topplings, grains_left, one_threads, settled_record}
+use Rattle.sand_shared.proofs.record.Record.of_lists.Goals.{After-grains-2, After-shape}
 use Rattle.sand_shared.proofs.record.Record.of_lists.Goals as goal
+
+leads : (c : After-shape) → LeadsTo c.args.start c.args.history.items c.args.heights.items c.args.odometer.items
+leads c = record {
+  pile = c.shape.ensures.pile;
+  all_sites = c.requires.all_sites;
+  limit = c.requires.limit;
+  heights_each = c.requires.one_each.0;
+  odometer_each = c.requires.one_each.1;
+  settled = c.requires.settled;
+}
 
 pub from_vec-pile-requires-clause-limit : goal.from_vec-pile-requires-clause-limit
 from_vec-pile-requires-clause-limit c =
     let left = grains_left c.args.start c.args.history.items c.args.heights.items c.args.odometer.items
-    record {
-      pile = c.shape.ensures.pile;
-      all_sites = c.requires.all_sites;
-      limit = c.requires.limit;
-      heights_each = c.requires.one_each.0;
-      odometer_each = c.requires.one_each.1;
-      settled = c.requires.settled;
-    } in
+    (leads (goal.at.from_vec-pile-requires-clause-limit c).After-shape) in
     let limit = c.requires.limit in omega arith
 
 pub overflow_sub-lost : goal.overflow_sub-lost
 overflow_sub-lost c =
     let left = grains_left c.args.start c.args.history.items c.args.heights.items c.args.odometer.items
-    record {
-      pile = c.shape.ensures.pile;
-      all_sites = c.requires.all_sites;
-      limit = c.requires.limit;
-      heights_each = c.requires.one_each.0;
-      odometer_each = c.requires.one_each.1;
-      settled = c.requires.settled;
-    } in
+    (leads (goal.at.overflow_sub-lost c).After-shape) in
     let start = c.grains.ensures.value in
     let rest = c.grains-2.ensures.value ∙ ap (λ (p : PileView). sum p.heights) c.from_vec-pile.ensures in
     let drops = c.len.ensures in
     let long = c.args.history.ok.0 in omega arith
 
 made : (c : After-grains-2)
+    → LeadsTo c.args.start c.args.history.items c.args.heights.items c.args.odometer.items
     → IsOneThreads (record {
       start = c.args.start;
       history = c.args.history.items;
@@ -46,20 +43,12 @@ made : (c : After-grains-2)
         lost = c.grains.result + c.len.result - c.grains-2.result;
       };
     })
-made c =
+made c leads_to =
     let start = c.grains.ensures.value in
     let rest = c.grains-2.ensures.value ∙ ap (λ (p : PileView). sum p.heights) c.from_vec-pile.ensures in
     let drops = c.len.ensures in
     let long = c.args.history.ok.0 in
-    one_threads c.args.start c.args.history.items c.args.heights.items c.args.odometer.items
-    record {
-      pile = c.shape.ensures.pile;
-      all_sites = c.requires.all_sites;
-      limit = c.requires.limit;
-      heights_each = c.requires.one_each.0;
-      odometer_each = c.requires.one_each.1;
-      settled = c.requires.settled;
-    }
+    one_threads c.args.start c.args.history.items c.args.heights.items c.args.odometer.items leads_to
     (record {
       pile = c.from_vec-pile.result;
       odometer = c.args.odometer.items;
@@ -74,24 +63,19 @@ made c =
 
 pub of_parts-settled-requires-clause-settled : goal.of_parts-settled-requires-clause-settled
 of_parts-settled-requires-clause-settled c =
-    settled_record _ (made (goal.at.of_parts-settled-requires-clause-settled c).After-grains-2)
+    let at = goal.at.of_parts-settled-requires-clause-settled c in
+    settled_record _ (made at.After-grains-2 (leads at.After-shape))
 
 pub of_parts-settled-requires-clause-small : goal.of_parts-settled-requires-clause-small
 of_parts-settled-requires-clause-small c =
     let few = few_topplings c.args.start c.args.history.items c.args.heights.items c.args.odometer.items
-    record {
-      pile = c.shape.ensures.pile;
-      all_sites = c.requires.all_sites;
-      limit = c.requires.limit;
-      heights_each = c.requires.one_each.0;
-      odometer_each = c.requires.one_each.1;
-      settled = c.requires.settled;
-    }
+    (leads (goal.at.of_parts-settled-requires-clause-small c).After-shape)
     in omega arith
 
 pub invariant_of-result : goal.invariant_of-result
 invariant_of-result c =
+    let at = goal.at.invariant_of-result c in
     subst
     (λ (z : List ℕ × SettledView). IsOneThreads (record { start = c.args.start; history = z.0; settled = z.1 }))
     (λ i. (sym c.of.ensures i, sym c.of_parts-settled.ensures i))
-    (made (goal.at.invariant_of-result c).After-grains-2)
+    (made at.After-grains-2 (leads at.After-shape))
