@@ -90,44 +90,61 @@ rows_fail draw part input start first held held' b fault read settled is breaks 
     subst (WorkEnds (IsDropsText (Some draw) part input) (IsDropsFault (Some draw) input) held held') (sym cut.told)
     (drawn_breaks draw part input first cut.last cut.rows held held' b cut.why drawn is broken)
 
-module _ (draw : Draw) (part : Part) (input : List ℕ) (start : PileView) (first last : OneView)
-    (held mid : Option (List ℕ)) (b c : Waiting) (read : pile_of input ≡ Ok start) (settled : IsAfter start [] first)
-    (is : b ≡ head_of part) (added : AreAdded part draw.from first
-    (drawn_sites (sites (grid_of_one_pile first)) draw) last held mid b c)
-    (after : (s : PileView) → IsAfter s [] first
-    → IsAfter s (drawn_sites (sites (grid_of_one_pile first)) draw) last) where
-  drawn : AreDrawn draw input first added.rows last
-  drawn = record { start = start; read = read; settled = settled; dropped = added.dropped; end = after start settled }
+-- the rows are in the blocks, of which some are written
+pub record ArePushed (draw : Draw) (part : Part) (input : List ℕ) (held mid : Option (List ℕ)) (c : Waiting)
+    : Type 0 where
+  pub start : PileView
+  pub first : OneView
+  pub last : OneView
+  pub b : Waiting
+  pub read : pile_of input ≡ Ok start
+  pub settled : IsAfter start [] first
+  pub head : b ≡ head_of part
+  pub added : AreAdded part draw.from first (drawn_sites (sites (grid_of_one_pile first)) draw) last held mid b c
+  pub after : (s : PileView) → IsAfter s [] first → IsAfter s (drawn_sites (sites (grid_of_one_pile first)) draw) last
+
+module _ (draw : Draw) (part : Part) (input : List ℕ) (held mid : Option (List ℕ)) (c : Waiting)
+    (p : ArePushed draw part input held mid c) where
+  drawn : AreDrawn draw input p.first p.added.rows p.last
+  drawn = record {
+    start = p.start;
+    read = p.read;
+    settled = p.settled;
+    dropped = p.added.dropped;
+    end = p.after p.start p.settled;
+  }
 
   -- the writer failed after the rows
-  pub end_fails : (held' : Option (List ℕ)) (why : StreamFault) → BreaksIn mid held' c (end_in part last.settled) why
+  pub end_fails : (held' : Option (List ℕ)) (why : StreamFault) → BreaksIn mid held' c (end_in part p.last.settled) why
       → WorkEnds (IsDropsText (Some draw) part input) (IsDropsFault (Some draw) input) held held' (of_stream why)
   end_fails held' why broken =
-      drawn_breaks draw part input first last added.rows held held' b why drawn is
-      (breaks_on held mid held' b c (rows_in part added.rows) (end_in part last.settled) why added.grown broken)
+      drawn_breaks draw part input p.first p.last p.added.rows held held' p.b why drawn p.head
+      (breaks_on held mid held' p.b c (rows_in part p.added.rows) (end_in part p.last.settled) why p.added.grown broken)
 
-  module _ (more : Option (List ℕ)) (d : Waiting) (grown : GrowsBy mid more c d (end_in part last.settled)) where
-    whole : GrowsBy held more b d (rows_in part added.rows ++ end_in part last.settled)
-    whole = grows_on held mid more b c d (rows_in part added.rows) (end_in part last.settled) added.grown grown
+  module _ (more : Option (List ℕ)) (d : Waiting) (grown : GrowsBy mid more c d (end_in part p.last.settled)) where
+    abbrev text : List ℕ
+    text = rows_in part p.added.rows ++ end_in part p.last.settled
+
+    whole : GrowsBy held more p.b d text
+    whole =
+        grows_on held mid more p.b c d (rows_in part p.added.rows) (end_in part p.last.settled) p.added.grown grown
 
     -- the writer failed in the last block
     pub last_fails : (held' : Option (List ℕ)) (why : StreamFault) → BreaksIn more held' d [] why
         → WorkEnds (IsDropsText (Some draw) part input) (IsDropsFault (Some draw) input) held held' (of_stream why)
     last_fails held' why broken =
-        let P : List ℕ → Type 0 = λ t. BreaksIn held held' b t why in
-        drawn_breaks draw part input first last added.rows held held' b why drawn is
-        (subst P (append-nil (rows_in part added.rows ++ end_in part last.settled))
-        (breaks_on held more held' b d (rows_in part added.rows ++ end_in part last.settled) [] why whole broken))
+        let P : List ℕ → Type 0 = λ t. BreaksIn held held' p.b t why in
+        drawn_breaks draw part input p.first p.last p.added.rows held held' p.b why drawn p.head
+        (subst P (append-nil text) (breaks_on held more held' p.b d text [] why whole broken))
 
     pub all_taken : (held' : Option (List ℕ)) → Appends more held' d.bytes
         → IsWritten (IsDropsText (Some draw) part input) held held'
     all_taken held' rest =
-        let text : whole.gone ++ d.bytes ≡ drops_in part added.rows last.settled =
-        sym whole.all ∙ ap (λ (w : Waiting). w.bytes ++ (rows_in part added.rows ++ end_in part last.settled)) is
-        ∙ text_in_parts part added.rows last.settled in
+        let all : whole.gone ++ d.bytes ≡ drops_in part p.added.rows p.last.settled =
+        sym whole.all ∙ ap (λ (w : Waiting). w.bytes ++ text) p.head ∙ text_in_parts part p.added.rows p.last.settled in
         record {
-          text = drops_in part added.rows last.settled;
-          answer = drawn_text draw part input first last added.rows drawn;
+          text = drops_in part p.added.rows p.last.settled;
+          answer = drawn_text draw part input p.first p.last p.added.rows drawn;
           written =
-              subst (Appends held held') text (Appends-trans held more held' whole.gone d.bytes whole.written rest);
+              subst (Appends held held') all (Appends-trans held more held' whole.gone d.bytes whole.written rest);
         }

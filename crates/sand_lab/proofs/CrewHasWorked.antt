@@ -7,7 +7,7 @@ use Rattle.sand_model.specs.Piles.{height_of}
 use Rattle.std.proofs.lemmas.List.{get_or-take, get_or-drop, length-replicate, length-take}
 use Rattle.std.proofs.lemmas.List.Sums.{sum_by-cons}
 use Rattle.sand_shared.specs.Events.{zeros}
-use Rattle.sand_shared.specs.OpenPile.{grid_of_terms, drops_at, toppled_by}
+use Rattle.sand_shared.specs.OpenPile.{grid_of_terms, toppled_by}
 use Rattle.sand_shared.specs.Passes.{SharedView, PassView, IsPassOf, at_rest}
 use Rattle.sand_shared.specs.Rows.{count_of}
 use Rattle.sand_shared.specs.Sweeps.{LeavesAtMost}

@@ -4,10 +4,26 @@ use Rattle.std.proofs.lemmas.Result.{err_from_is_err_and}
 use Rattle.sand_model.specs.Piles.{most_grains}
 use Rattle.sand_desk.specs.Commands.{IsDropsFault}
 use Rattle.sand_desk.specs.DropsCommand.{IsDropsText}
-use Rattle.sand_desk.proofs.DrawnText.{all_taken, end_fails, last_fails, rows_fail}
+use Rattle.sand_desk.proofs.DrawnText.{ArePushed, all_taken, end_fails, last_fails, rows_fail}
 use Rattle.sand_desk.proofs.Drawing.{overfull, unread}
 use Rattle.sand_desk.proofs.Endings.{found_first}
+use Rattle.sand_desk.proofs.drawn_drops.drawn_drops.Goals.{In_ok-dropped}
 use Rattle.sand_desk.proofs.drawn_drops.drawn_drops.Goals as goal
+
+abbrev pushed : (g : _) (c : In_ok-dropped g)
+    → ArePushed c.args.draw c.args.part c.args.input.now (g.W.Write.contents c.args.writer.now)
+    (g.W.Write.contents c.drop_drawn-dropped.new.writer) c.drop_drawn-dropped.new.blocks
+pushed g c = record {
+  start = c.in_ok-start.start;
+  first = c.in_ok-pile.pile;
+  last = c.drop_drawn-dropped.new.pile;
+  b = c.in_ok-blocks.blocks;
+  read = c.in_ok-start.ensures;
+  settled = c.in_ok-pile.ensures.settled;
+  head = rw c.head_of.ensures at c.in_ok-blocks.ensures;
+  added = c.in_ok-dropped.ensures.rows;
+  after = c.in_ok-dropped.ensures.after;
+}
 
 pub returns-in_err-start-clause-fault : goal.returns-in_err-start-clause-fault
 returns-in_err-start-clause-fault g c =
@@ -43,37 +59,25 @@ returns-in_err-dropped-clause-fault g c =
 pub returns-in_err-ended-clause-fault : goal.returns-in_err-ended-clause-fault
 returns-in_err-ended-clause-fault g c =
     let p = err_from_is_err_and c.from_residual-in_err-ended.result c.from_residual-in_err-ended.ensures.1 in
-    let is = rw c.head_of.ensures at c.in_ok-blocks.ensures in
     rw (p.1, p.2)
-    (end_fails c.args.draw c.args.part c.args.input.now c.in_ok-start.start c.in_ok-pile.pile
-    c.drop_drawn-dropped.new.pile (g.W.Write.contents c.args.writer.now)
-    (g.W.Write.contents c.drop_drawn-dropped.new.writer)
-    c.in_ok-blocks.blocks c.drop_drawn-dropped.new.blocks c.in_ok-start.ensures c.in_ok-pile.ensures.settled
-    is c.in_ok-dropped.ensures.rows c.in_ok-dropped.ensures.after
+    (end_fails c.args.draw c.args.part c.args.input.now _ _ _
+    (pushed g (goal.at.returns-in_err-ended-clause-fault g c).In_ok-dropped)
     (g.W.Write.contents c.push_end-ended.new.writer) _ (rw c.finish-last.ensures at c.in_err-ended.ensures.err))
 
 pub returns-in_err-finish-clause-fault : goal.returns-in_err-finish-clause-fault
 returns-in_err-finish-clause-fault g c =
     let p = err_from_is_err_and c.from_residual-in_err-finish.result c.from_residual-in_err-finish.ensures.1 in
-    let is = rw c.head_of.ensures at c.in_ok-blocks.ensures in
     rw (p.1, p.2)
-    (last_fails c.args.draw c.args.part c.args.input.now c.in_ok-start.start c.in_ok-pile.pile
-    c.drop_drawn-dropped.new.pile (g.W.Write.contents c.args.writer.now)
-    (g.W.Write.contents c.drop_drawn-dropped.new.writer)
-    c.in_ok-blocks.blocks c.drop_drawn-dropped.new.blocks c.in_ok-start.ensures c.in_ok-pile.ensures.settled
-    is c.in_ok-dropped.ensures.rows c.in_ok-dropped.ensures.after
+    (last_fails c.args.draw c.args.part c.args.input.now _ _ _
+    (pushed g (goal.at.returns-in_err-finish-clause-fault g c).In_ok-dropped)
     (g.W.Write.contents c.push_end-ended.new.writer) c.push_end-ended.new.blocks
     (rw c.finish-last.ensures at c.in_ok-ended.ensures.ok)
     (g.W.Write.contents c.finish.new.writer) _ c.in_err-finish.ensures.err)
 
 pub returns-clause-done : goal.returns-clause-done
 returns-clause-done g c =
-    let is = rw c.head_of.ensures at c.in_ok-blocks.ensures in
-    all_taken c.args.draw c.args.part c.args.input.now c.in_ok-start.start c.in_ok-pile.pile
-    c.drop_drawn-dropped.new.pile (g.W.Write.contents c.args.writer.now)
-    (g.W.Write.contents c.drop_drawn-dropped.new.writer)
-    c.in_ok-blocks.blocks c.drop_drawn-dropped.new.blocks c.in_ok-start.ensures c.in_ok-pile.ensures.settled
-    is c.in_ok-dropped.ensures.rows c.in_ok-dropped.ensures.after
+    all_taken c.args.draw c.args.part c.args.input.now _ _ _
+    (pushed g (goal.at.returns-clause-done g c).In_ok-dropped)
     (g.W.Write.contents c.push_end-ended.new.writer) c.push_end-ended.new.blocks
     (rw c.finish-last.ensures at c.in_ok-ended.ensures.ok)
     (g.W.Write.contents c.finish.new.writer) c.in_ok-finish.ensures.ok

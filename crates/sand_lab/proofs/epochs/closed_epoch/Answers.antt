@@ -4,10 +4,22 @@ use Rattle.sand_shared.specs.declared.view.Receipt.{Receipt}
 use Rattle.sand_shared.specs.declared.view.Terms.{Terms}
 use Rattle.sand_shared.specs.Passes.{PassView, EachOnce}
 use Rattle.sand_shared.specs.Record.{RecordView}
+use Rattle.sand_plan.specs.Plans.{quota_of}
+use Rattle.sand_lab.specs.Crews.{HasWorked}
 use Rattle.sand_lab.specs.Journals.{IsJournal, flattened, lists}
 use Rattle.sand_lab.specs.Epochs.{IsClosed}
 use Rattle.sand_lab.proofs.EpochIsClosed.{whole, gathered_parts, places, closed_is}
+use Rattle.sand_lab.proofs.epochs.closed_epoch.Goals.{After-sweep_on}
 use Rattle.sand_lab.proofs.epochs.closed_epoch.Goals as goal
+
+quota : (g : _) (c : After-sweep_on g) → c.in_ok-pile.pile.terms.quota ≡ quota_of c.args.wish
+quota g c = ap (λ (t : Terms). t.quota) c.in_ok-pile.ensures.terms ∙ c.quota_of.ensures
+
+-- the sweeps that are left keep what the crew has worked
+worked : (g : _) (c : After-sweep_on g) → HasWorked c.in_ok-pile.pile c.args.wish c.args.epoch c.sweep_on.new.self
+worked g c =
+    c.sweep_on.ensures c.args.wish c.args.epoch
+    (c.work_and_make_blank.ensures.crew.worked c.args.epoch c.in_ok-crew.ensures.crew)
 
 pub sweep_on-requires-after_bounds : goal.sweep_on-requires-after_bounds
 sweep_on-requires-after_bounds g c κs bounds =
@@ -18,55 +30,44 @@ gather-requires-clause-crew g c = (
   c.args.wish,
   c.args.epoch,
   c.requires.plan.some_workers,
-  c.sweep_on.ensures c.args.wish c.args.epoch
-      (c.work_and_make_blank.ensures.crew.worked c.args.epoch c.in_ok-crew.ensures.crew),
+  worked g (goal.at.gather-requires-clause-crew g c).After-sweep_on,
 )
 
 pub settle-requires-clause-whole : goal.settle-requires-clause-whole
 settle-requires-clause-whole g c κs bounds =
-    let s = c.in_ok-pile.pile in
-    let quota = ap (λ (t : Terms). t.quota) c.in_ok-pile.ensures.terms ∙ c.quota_of.ensures in
-    let has = c.sweep_on.ensures c.args.wish c.args.epoch
-    (c.work_and_make_blank.ensures.crew.worked c.args.epoch c.in_ok-crew.ensures.crew) in
-    whole s c.args.wish c.args.epoch c.sweep_on.new.self c.gather.new.first quota has c.in_ok-parts.ensures.first
+    let at = (goal.at.settle-requires-clause-whole g c).After-sweep_on in
+    whole c.in_ok-pile.pile c.args.wish c.args.epoch c.sweep_on.new.self c.gather.new.first (quota g at) (worked g at)
+    c.in_ok-parts.ensures.first
 
 pub settle-requires-clause-places : goal.settle-requires-clause-places
 settle-requires-clause-places g c κs bounds =
-    let s = c.in_ok-pile.pile in
-    let quota = ap (λ (t : Terms). t.quota) c.in_ok-pile.ensures.terms ∙ c.quota_of.ensures in
-    let has = c.sweep_on.ensures c.args.wish c.args.epoch
-    (c.work_and_make_blank.ensures.crew.worked c.args.epoch c.in_ok-crew.ensures.crew) in
+    let at = (goal.at.settle-requires-clause-places g c).After-sweep_on in
     let once : EachOnce c.gather.new.first.receipts =
     subst EachOnce (ap (λ (p : PassView). p.receipts) c.all.view_is) c.all.invariant.pass.once in
-    places s c.args.wish c.args.epoch c.sweep_on.new.self c.gather.new.first quota has
+    places c.in_ok-pile.pile c.args.wish c.args.epoch c.sweep_on.new.self c.gather.new.first (quota g at) (worked g at)
     c.in_ok-parts.ensures.first (lists c.in_ok-parts.field-0.parts.items) (vec_len c.in_ok-blank.blank.journal)
     c.in_ok-parts.ensures.parts c.in_ok-blank.ensures.journal once c.requires.plan
 
 pub settle-requires-clause-parts : goal.settle-requires-clause-parts
 settle-requires-clause-parts g c κs bounds =
-    let s = c.in_ok-pile.pile in
-    let quota = ap (λ (t : Terms). t.quota) c.in_ok-pile.ensures.terms ∙ c.quota_of.ensures in
-    let has = c.sweep_on.ensures c.args.wish c.args.epoch
-    (c.work_and_make_blank.ensures.crew.worked c.args.epoch c.in_ok-crew.ensures.crew) in
-    gathered_parts s c.args.wish c.args.epoch c.sweep_on.new.self c.gather.new.first quota has
-    c.in_ok-parts.ensures.first (lists c.in_ok-parts.field-0.parts.items) c.in_ok-parts.ensures.parts
+    let at = (goal.at.settle-requires-clause-parts g c).After-sweep_on in
+    gathered_parts c.in_ok-pile.pile c.args.wish c.args.epoch c.sweep_on.new.self c.gather.new.first (quota g at)
+    (worked g at) c.in_ok-parts.ensures.first (lists c.in_ok-parts.field-0.parts.items) c.in_ok-parts.ensures.parts
 
 pub returns-clause-closed : goal.returns-clause-closed
 returns-clause-closed g c =
     let s = c.in_ok-pile.pile in
     let w = c.args.wish in
-    let quota = ap (λ (t : Terms). t.quota) c.in_ok-pile.ensures.terms ∙ c.quota_of.ensures in
+    let at = (goal.at.returns-clause-closed g c).After-sweep_on in
     let start : s.terms.start ≡ c.args.start.now = ap (λ (t : Terms). t.start) c.in_ok-pile.ensures.terms in
-    let has = c.sweep_on.ensures w c.args.epoch
-    (c.work_and_make_blank.ensures.crew.worked c.args.epoch c.in_ok-crew.ensures.crew) in
     let gathered = c.in_ok-parts.ensures in
     let written = c.in_ok-journal.journal.items in
     let journal = subst (λ (parts : List (List Receipt)). IsJournal w.drops (flattened parts) written)
     gathered.parts c.in_ok-journal.ensures.journal in
     let tallies = map (λ ts. ts.items) c.in_ok-parts.field-0.findings.tallies.items in
     let swept = c.in_ok-parts.field-0.findings.swept.items in
-    let epoch = closed_is s w c.args.epoch c.sweep_on.new.self c.gather.new.first quota has gathered.first
-    c.in_ok-journal.closed written tallies swept journal c.in_ok-journal.ensures.closed
+    let epoch = closed_is s w c.args.epoch c.sweep_on.new.self c.gather.new.first (quota g at) (worked g at)
+    gathered.first c.in_ok-journal.closed written tallies swept journal c.in_ok-journal.ensures.closed
     gathered.tallies gathered.swept in
     record {
       closed = subst (λ (z : PileView × RecordView). IsClosed w z.0 c.args.epoch z.1 written tallies swept)
