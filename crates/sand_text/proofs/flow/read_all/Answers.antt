@@ -1,4 +1,6 @@
 use Rattle.std.proofs.Common.{◌+◌, take, length, arith}
+use Rattle.std.proofs.KnownBytes.{Consumes-trans}
+use Rattle.std.proofs.lemmas.Grind.{common_steps}
 use Rattle.std.proofs.lemmas.List.{length-take}
 use Rattle.sand_text.proofs.Streams.{further, any_fault}
 use Rattle.sand_text.proofs.flow.read_all.Goals as goal
@@ -34,3 +36,11 @@ returns-in_err-extend_from_slice-clause-failed g c = any_fault c.from_residual.r
           bytes n c.reading.invariant.given c.in-Ok.ensures.bytes.0
           (omega (arith, bound.0, bound.1, length-take c.in-Ok.count c.read.new.buf)),
     ))
+
+pub reading-preserved : goal.reading-preserved
+reading-preserved g c = record {
+  given = rw c.in_ok-extend_from_slice.ensures.items (Consumes-trans (g.R.Read.remaining c.args.reader.now)
+      (g.R.Read.remaining c.reading.reader) (g.R.Read.remaining c.read.new.self) c.reading.text.items
+      (take c.in-Ok.count c.read.new.buf) c.reading.invariant.given c.in-Ok.ensures.bytes.0);
+  within = grind (arith, common_steps);
+}
