@@ -1,10 +1,10 @@
 //! A run: epoch after epoch, each starting from the pile of the one before it.
 
-ghost use Rattle.std.specs.Prelude.{◌≡◌, ◌≢◌, ◌↔◌, ◌+◌, ◌*◌, ◌<◌, ◌≤◌, length, sum, IfOk, IfErr};
+ghost use Rattle.std.specs.Prelude.{◌≡◌, ◌≢◌, ◌↔◌, ◌+◌, ◌*◌, ◌<◌, ◌≤◌, length, sum, IfOk, IfErr, OnOk};
 ghost use Rattle.sand_lab.specs.Faults.{IsOfEpoch};
-ghost use Rattle.sand_plan.specs.Plans.{IsPlan, all_drops};
-ghost use Rattle.sand_lab.specs.Reports.{IsReport};
-ghost use Rattle.sand_model.specs.Piles.{most_grains};
+ghost use Rattle.sand_plan.specs.Plans.{IsPlan, all_drops, quota_of};
+ghost use Rattle.sand_lab.specs.Reports.{IsReport, IsReportOf};
+ghost use Rattle.sand_model.specs.Piles.{PileView, most_grains};
 
 use crate::album::Album;
 use crate::epochs::closed_epoch;
@@ -16,6 +16,53 @@ use sand_model::{GRAIN_LIMIT, Pile};
 use sand_plan::Wish;
 use std::alloc::Global;
 use std::thread::Threads;
+
+// The report of the first epoch, whose total has room for the drops of the others.
+fn first_report<R: Threads + Sync, G: Gate>(
+    rt: &R,
+    alloc: Global,
+    start: &Pile,
+    wish: Wish,
+    gate: &G,
+    album: &Album,
+) -> Result<Report, LabFault>
+    requires plan { IsPlan wish }
+    requires limit { sum start.now.heights + all_drops wish ≤ most_grains }
+    requires places { 0 < length album.now }
+    ensures report { IfOk result (IsReportOf album.now wish start.now 1) }
+    ensures faults { IfErr result IsOfEpoch }
+{
+    let later = quota_of(wish) * u64::from(wish.epochs - 1);
+    let first = closed_epoch(rt, alloc, start, wish, 0, gate)?;
+    let copy = first.copy_to_grow(alloc, later)?;
+    let (closed, sheet) = first.publish(alloc, 0, album)?;
+    Report::of(alloc, wish.epochs, closed, sheet, copy)
+}
+
+// Runs the next epoch, which starts from the pile of the total, and adds it to the report.
+fn add_epoch<R: Threads + Sync, G: Gate>(
+    rt: &R,
+    alloc: Global,
+    wish: Wish,
+    epoch: u32,
+    gate: &G,
+    album: &Album,
+    report: &mut Report,
+) -> Result<(), LabFault>
+    requires plan { IsPlan wish }
+    requires place { epoch < length album.now }
+    requires few { length report.old.records < 100 }
+    requires room { (sum report.old.total.start.heights + (length report.old.total.history + quota_of wish)
+        ≤ most_grains) × (sum report.old.total.settled.pile.heights + quota_of wish ≤ most_grains) }
+    ensures report { OnOk result ((start : PileView)
+        → IsReportOf album.now wish start epoch report.old → IsReportOf album.now wish start (epoch + 1) report.new) }
+    ensures faults { IfErr result IsOfEpoch }
+{
+    let pile = report.total().pile();
+    let next = closed_epoch(rt, alloc, pile, wish, epoch, gate)?;
+    let (closed, sheet) = next.publish(alloc, epoch, album)?;
+    report.add(alloc, closed, sheet)
+}
 
 // Runs all epochs of a plan that fits the limit and the album.
 fn run_all<R: Threads + Sync, G: Gate>(
@@ -32,16 +79,9 @@ fn run_all<R: Threads + Sync, G: Gate>(
     ensures report { IfOk result (IsReport album.now wish start.now) }
     ensures faults { IfErr result IsOfEpoch }
 {
-    let later = quota_of(wish) * u64::from(wish.epochs - 1);
-    let first = closed_epoch(rt, alloc, start, wish, 0, gate)?;
-    let copy = first.copy_to_grow(alloc, later)?;
-    let (closed, sheet) = first.publish(alloc, 0, album)?;
-    let mut report = Report::of(alloc, wish.epochs, closed, sheet, copy)?;
+    let mut report = first_report(rt, alloc, start, wish, gate, album)?;
     for epoch in 1..wish.epochs {
-        let pile = report.total().pile();
-        let next = closed_epoch(rt, alloc, pile, wish, epoch, gate)?;
-        let (closed, sheet) = next.publish(alloc, epoch, album)?;
-        report.add(alloc, closed, sheet)?;
+        add_epoch(rt, alloc, wish, epoch, gate, album, &mut report)?;
     }
     Ok(report)
 }
