@@ -1,6 +1,22 @@
 //! The report of a run: a record of each epoch and one of all, the journals, and what workers and observers found.
 
-ghost use Rattle.std.specs.Prelude.{◌≡◌, ◌+◌, ◌<◌, ◌≤◌, [], length, sum, slice_index, slice_index_or, IfOk, IfErr, OnOk, OnErr};
+ghost use Rattle.std.specs.Prelude.{
+  ◌≡◌,
+  ◌+◌,
+  ◌<◌,
+  ◌≤◌,
+  [],
+  length,
+  sum,
+  slice_index,
+  slice_index_or,
+  vec_len,
+  vec_capacity,
+  IfOk,
+  IfErr,
+  OnOk,
+  OnErr,
+};
 ghost use Rattle.sand_lab.specs.Faults.{IsMemory};
 ghost use Rattle.sand_lab.specs.Reports.{HasGrown, IsBoth, report_of, sheet_at};
 ghost use Rattle.sand_model.specs.Piles.{most_grains};
@@ -135,22 +151,34 @@ fn append(alloc: Global, total: &mut Record, next: &Record) -> Result<(), LabFau
     }
 }
 
+// Makes room for one more epoch.
+fn reserve_one(records: &mut Vec<Record>, sheets: &mut Vec<Sheet>) -> Result<(), LabFault>
+    ensures records { records.new.items ≡ records.old.items }
+    ensures sheets { sheets.new.items ≡ sheets.old.items }
+    ensures room_for_the_record { OnOk result (vec_len records.new < vec_capacity records.new) }
+    ensures room_for_the_sheet { OnOk result (vec_len sheets.new < vec_capacity sheets.new) }
+    ensures memory { IfErr result IsMemory }
+{
+    records.reserve(1)?;
+    sheets.reserve(1)?;
+    Ok(())
+}
+
 impl Report {
-    /// The report of the first of `epochs` epochs; its record is also the total. The only error is Memory.
+    /// The report of the first epoch; its record is also the total. The only error is Memory.
     pub(crate) fn of(
         alloc: Global,
-        epochs: u32,
         closed: Record,
         sheet: Sheet,
         total: Record,
     ) -> Result<Report, LabFault>
-        requires epochs { 0 < epochs }
         requires total { total ≡ closed }
         ensures report { IfOk result (λ p. p ≡ report_of closed sheet) }
         ensures memory { IfErr result IsMemory }
     {
-        let mut records = Vec::with_capacity(alloc, epochs as usize)?;
-        let mut sheets = Vec::with_capacity(alloc, epochs as usize)?;
+        let mut records = Vec::new(alloc);
+        let mut sheets = Vec::new(alloc);
+        reserve_one(&mut records, &mut sheets)?;
         records.push_reserved(closed);
         sheets.push_reserved(sheet);
         Ok(Report {
@@ -176,8 +204,7 @@ impl Report {
         ensures unchanged { OnErr result (self.new ≡ self.old) }
         ensures memory { IfErr result IsMemory }
     {
-        self.records.reserve(1)?;
-        self.sheets.reserve(1)?;
+        reserve_one(&mut self.records, &mut self.sheets)?;
         append(alloc, &mut self.total, &closed)?;
         self.records.push_reserved(closed);
         self.sheets.push_reserved(sheet);

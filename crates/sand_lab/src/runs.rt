@@ -36,7 +36,7 @@ fn first_report<R: Threads + Sync, G: Gate>(
     let first = closed_epoch(rt, alloc, start, wish, 0, gate)?;
     let copy = first.copy_to_grow(alloc, later)?;
     let (closed, sheet) = first.publish(alloc, 0, album)?;
-    Report::of(alloc, wish.epochs, closed, sheet, copy)
+    Report::of(alloc, closed, sheet, copy)
 }
 
 // Runs the next epoch, which starts from the pile of the total, and adds it to the report.
