@@ -96,11 +96,11 @@ pub record ArePushed (draw : Draw) (part : Part) (input : List ℕ) (held mid : 
   pub start : PileView
   pub first : OneView
   pub last : OneView
-  pub b : Waiting
+  pub blocks : Waiting
   pub read : pile_of input ≡ Ok start
   pub settled : IsAfter start [] first
-  pub head : b ≡ head_of part
-  pub added : AreAdded part draw.from first (drawn_sites (sites (grid_of_one_pile first)) draw) last held mid b c
+  pub head : blocks ≡ head_of part
+  pub added : AreAdded part draw.from first (drawn_sites (sites (grid_of_one_pile first)) draw) last held mid blocks c
   pub after : (s : PileView) → IsAfter s [] first → IsAfter s (drawn_sites (sites (grid_of_one_pile first)) draw) last
 
 module _ (draw : Draw) (part : Part) (input : List ℕ) (held mid : Option (List ℕ)) (c : Waiting)
@@ -118,24 +118,25 @@ module _ (draw : Draw) (part : Part) (input : List ℕ) (held mid : Option (List
   pub end_fails : (held' : Option (List ℕ)) (why : StreamFault) → BreaksIn mid held' c (end_in part p.last.settled) why
       → WorkEnds (IsDropsText (Some draw) part input) (IsDropsFault (Some draw) input) held held' (of_stream why)
   end_fails held' why broken =
-      drawn_breaks draw part input p.first p.last p.added.rows held held' p.b why drawn p.head
-      (breaks_on held mid held' p.b c (rows_in part p.added.rows) (end_in part p.last.settled) why p.added.grown broken)
+      drawn_breaks draw part input p.first p.last p.added.rows held held' p.blocks why drawn p.head
+      (breaks_on held mid held' p.blocks c (rows_in part p.added.rows) (end_in part p.last.settled) why
+      p.added.grown broken)
 
   module _ (more : Option (List ℕ)) (d : Waiting) (grown : GrowsBy mid more c d (end_in part p.last.settled)) where
     abbrev text : List ℕ
     text = rows_in part p.added.rows ++ end_in part p.last.settled
 
-    whole : GrowsBy held more p.b d text
+    whole : GrowsBy held more p.blocks d text
     whole =
-        grows_on held mid more p.b c d (rows_in part p.added.rows) (end_in part p.last.settled) p.added.grown grown
+        grows_on held mid more p.blocks c d (rows_in part p.added.rows) (end_in part p.last.settled) p.added.grown grown
 
     -- the writer failed in the last block
     pub last_fails : (held' : Option (List ℕ)) (why : StreamFault) → BreaksIn more held' d [] why
         → WorkEnds (IsDropsText (Some draw) part input) (IsDropsFault (Some draw) input) held held' (of_stream why)
     last_fails held' why broken =
-        let P : List ℕ → Type 0 = λ t. BreaksIn held held' p.b t why in
-        drawn_breaks draw part input p.first p.last p.added.rows held held' p.b why drawn p.head
-        (subst P (append-nil text) (breaks_on held more held' p.b d text [] why whole broken))
+        let P : List ℕ → Type 0 = λ t. BreaksIn held held' p.blocks t why in
+        drawn_breaks draw part input p.first p.last p.added.rows held held' p.blocks why drawn p.head
+        (subst P (append-nil text) (breaks_on held more held' p.blocks d text [] why whole broken))
 
     pub all_taken : (held' : Option (List ℕ)) → Appends more held' d.bytes
         → IsWritten (IsDropsText (Some draw) part input) held held'
