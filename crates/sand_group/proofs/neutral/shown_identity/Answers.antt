@@ -19,3 +19,6 @@ returns-in-Ok-Recurrent-clause-identity c =
       equivalent = rw c.from_vec-pile.ensures (emptied_is_none c.args.shape
           (λ i. get_or c.in-Some-2.heights.items i 0) (λ i. get_or c.in-Some.counts.items i 0) emptied);
     }
+
+pub returns-in-Ok-Forbidden-clause-identity : goal.returns-in-Ok-Forbidden-clause-identity
+returns-in-Ok-Forbidden-clause-identity c = tt
