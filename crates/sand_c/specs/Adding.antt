@@ -1,23 +1,18 @@
 -- What `sandpile_add` does.
 use Rattle.std.specs.Prelude.{ℕ, ◌≡◌, ◌⊎◌, Bool, List, length, Result, Ok, Err}
-use Rattle.sand_model.specs.Grid.{Grid, sites}
+use Rattle.sand_model.specs.Grid.{sites}
 use Rattle.sand_model.specs.Piles.{PileView, height_of}
 use Rattle.sand_group.specs.Group.{IsSum}
 use Rattle.sand_group.specs.Recurrence.{IsRecurrent}
 use Rattle.sand_c.specs.declared.faults.Fault.{Fault}
 use Rattle.sand_c.specs.declared.faults.Fault.TheVariants.{Memory}
-use Rattle.sand_c.specs.Arguments.{grid_of, has_length, pile_on, ◌>>=◌}
+use Rattle.sand_c.specs.Arguments.{pile_on, pile_with, ◌>>=◌}
 use Rattle.sand_c.specs.Unfit.{IsUnfit}
 
--- two piles on one grid
-abbrev pub two_on : Grid → List ℕ → List ℕ → Result (PileView × PileView) Fault
-two_on g heights others = pile_on g heights >>= λ p. pile_on g others >>= λ q. Ok (p, q)
-
--- the piles in the arguments
+-- the piles in the arguments, both on one grid
 abbrev pub adding_of : ℕ → ℕ → Bool → List ℕ → List ℕ → Result (PileView × PileView) Fault
 adding_of width height cylinder heights others =
-    grid_of width height cylinder >>= λ g.
-    has_length (sites g) (length heights) >>= λ _. has_length (sites g) (length others) >>= λ _. two_on g heights others
+    pile_with width height cylinder heights (length others) >>= λ p. pile_on p.grid others >>= λ q. Ok (p, q)
 
 -- a sum fails: its arguments have a fault, or memory runs out, or the first pile is not recurrent, or the second is not
 abbrev pub AddFails : Fault → Result (PileView × PileView) Fault → Type 0

@@ -36,6 +36,12 @@ pile_on g heights = if length heights == sites g
     then (if nat_lt most_grains (sum heights) then Err TooManyGrains else Ok (record { grid = g; heights = heights }))
     else Err Length
 
+-- the pile with these heights on the grid with these sides and this edge, if it has `places` sites
+abbrev pub pile_with : ℕ → ℕ → Bool → List ℕ → ℕ → Result PileView Fault
+pile_with width height cylinder heights places =
+    grid_of width height cylinder >>= λ g.
+    has_length (sites g) (length heights) >>= λ _. has_length (sites g) places >>= λ _. pile_on g heights
+
 -- a call fails with the fault of its arguments; memory runs out only if they have none
 abbrev pub Fails : {A : Type 0} → Fault → Result A Fault → Type 0
 Fails Memory meaning = IsOk meaning

@@ -8,12 +8,10 @@ use Rattle.sand_group.specs.declared.burning.Burned.TheVariants.{Recurrent, Forb
 use Rattle.sand_group.specs.Recurrence.{IsRecurrent, IsBurningOrder, IsGreatestForbidden}
 use Rattle.sand_c.specs.declared.faults.Fault.{Fault}
 use Rattle.sand_c.specs.declared.faults.Fault.TheVariants.{Memory, Unstable}
-use Rattle.sand_c.specs.Arguments.{grid_of, has_length, pile_on, ◌>>=◌}
+use Rattle.sand_c.specs.Arguments.{pile_with}
 
 abbrev pub burning_of : ℕ → ℕ → Bool → List ℕ → List ℕ → Result PileView Fault
-burning_of width height cylinder heights found =
-    grid_of width height cylinder >>= λ g.
-    has_length (sites g) (length heights) >>= λ _. has_length (sites g) (length found) >>= λ _. pile_on g heights
+burning_of width height cylinder heights found = pile_with width height cylinder heights (length found)
 
 -- these sites are a burning order of a recurrent pile, or the greatest forbidden set of any other
 abbrev pub IsFound : Grid → (ℕ → ℕ) → Bool → List ℕ → Type 0

@@ -1,39 +1,61 @@
 //! The sum of two recurrent piles.
 
-ghost use Rattle.std.specs.Prelude.{◌≡◌, ◌≢◌, OnOk, OnErr, IfErr};
+ghost use Rattle.std.specs.Prelude.{◌≡◌, ◌≢◌, ◌≤◌, length, sum, Ok, IfOk, IfErr};
+ghost use Rattle.sand_model.specs.Grid.{sites};
+ghost use Rattle.sand_model.specs.Piles.{most_grains};
 ghost use Rattle.sand_c.specs.Adding.{adding_of, IsAdding, AddFails};
 ghost use Rattle.sand_c.specs.Arguments.{IsAnswer};
 
-use crate::arguments::{grains_of, grid_of};
-use crate::faults::{Fault, answer};
-use crate::recurrent::recurrent_on;
-use sand_group::add;
+use crate::arguments::{grains_of, grid_for};
+use crate::faults::Fault;
+use crate::recurrent::{answer_in, recurrent_on};
+use sand_group::{Recurrent, add};
+use sand_model::Shape;
 use std::alloc::Global;
 
-fn add_into(
+// The sum of two recurrent piles with these heights.
+fn sum_on(alloc: Global, shape: Shape, heights: &[u64], others: &[u64]) -> Result<Recurrent, Fault>
+    requires heights { length heights.now ≡ sites shape }
+    requires others { length others.now ≡ sites shape }
+    requires heights_limit { sum heights.now ≤ most_grains }
+    requires others_limit { sum others.now ≤ most_grains }
+    ensures added { IfOk result (λ c. IsAdding (Ok (
+      record { grid = shape; heights = heights.now },
+      record { grid = shape; heights = others.now },
+    )) c.heights) }
+    ensures one_each { IfOk result (λ c. length c.heights ≡ sites shape) }
+    ensures fault { IfErr result (λ e. AddFails e (Ok (
+      record { grid = shape; heights = heights.now },
+      record { grid = shape; heights = others.now },
+    ))) }
+{
+    let first = recurrent_on(alloc, shape, heights)?;
+    let second = recurrent_on(alloc, shape, others)?;
+    let sum = add(alloc, &first, &second);
+    // Freed here, so that no way out below has to.
+    drop(second);
+    drop(first);
+    Ok(sum?)
+}
+
+// The sum of the two piles in the arguments.
+fn sum_of(
     alloc: Global,
     width: usize,
     height: usize,
     cylinder: bool,
-    heights: &mut [u64],
+    heights: &[u64],
     others: &[u64],
-) -> Result<(), Fault>
-    ensures added { OnOk result (IsAdding (adding_of width height cylinder heights.old others.now) heights.new) }
-    ensures fault { IfErr result (λ e. AddFails e (adding_of width height cylinder heights.old others.now)) }
-    ensures heights { OnErr result (heights.new ≡ heights.old) }
+) -> Result<Recurrent, Fault>
+    ensures added { IfOk result (λ c. IsAdding (adding_of width height cylinder heights.now others.now) c.heights) }
+    ensures one_each { IfOk result (λ c. length c.heights ≡ length heights.now) }
+    ensures fault { IfErr result (λ e. AddFails e (adding_of width height cylinder heights.now others.now)) }
 {
-    let shape = grid_of(width, height, cylinder)?;
-    if heights.len() != shape.sites() || others.len() != shape.sites() {
-        return Err(Fault::Length);
-    }
-    if grains_of(heights).is_none() || grains_of(others).is_none() {
+    let shape = grid_for(width, height, cylinder, heights, others.len())?;
+    if grains_of(others).is_none() {
         return Err(Fault::TooManyGrains);
     }
-    let first = recurrent_on(alloc, shape, heights)?;
-    let second = recurrent_on(alloc, shape, others)?;
-    let sum = add(alloc, &first, &second)?;
-    heights.copy_from_slice(sum.pile().heights());
-    Ok(())
+    sum_on(alloc, shape, heights, others)
 }
 
 /// Replaces the heights with those of the sum of two recurrent piles. Returns 0, or the first of 1 (Side), 24 (Narrow),
@@ -52,5 +74,6 @@ pub extern "C" fn sandpile_add(
     ensures answer { IsAnswer result (λ e. AddFails e (adding_of width height cylinder heights.old others.now)) }
     ensures heights { result ≢ 0 → heights.new ≡ heights.old }
 {
-    answer(add_into(alloc, width, height, cylinder, heights, others))
+    let sum = sum_of(alloc, width, height, cylinder, heights, others);
+    answer_in(sum, heights)
 }

@@ -1,9 +1,9 @@
 //! The meaning of a call's arguments.
 
-ghost use Rattle.std.specs.Prelude.{◌≡◌, ◌<◌, ◌≤◌, Ok, IfOk, IfErr, IfSome, IfNone, length, sum};
+ghost use Rattle.std.specs.Prelude.{◌≡◌, ◌<◌, ◌≤◌, Ok, Err, OnOk, IfOk, IfErr, IfSome, IfNone, length, sum};
 ghost use Rattle.sand_model.specs.Piles.{most_grains};
 ghost use Rattle.sand_model.specs.Grid.{sites};
-ghost use Rattle.sand_c.specs.Arguments.{edge_of, grid_of, pile_on, Fails};
+ghost use Rattle.sand_c.specs.Arguments.{edge_of, grid_of, pile_on, pile_with, Fails};
 
 use crate::faults::Fault;
 use sand_model::{Edge, GRAIN_LIMIT, Pile, Shape};
@@ -50,4 +50,30 @@ pub(crate) fn grains_of(heights: &[u64]) -> Option<u64>
         grains += *height;
     }
     Some(grains)
+}
+
+/// The grid in the arguments, if it has as many sites as there are heights, and as there are places, and the sum of the
+/// heights is within the limit.
+pub(crate) fn grid_for(
+    width: usize,
+    height: usize,
+    cylinder: bool,
+    heights: &[u64],
+    places: usize,
+) -> Result<Shape, Fault>
+    ensures meant { IfOk result (λ g. pile_with width height cylinder heights.now places
+        ≡ Ok (record { grid = g; heights = heights.now })) }
+    ensures one_each { IfOk result (λ g. length heights.now ≡ sites g) }
+    ensures places { IfOk result (λ g. places ≡ sites g) }
+    ensures limit { OnOk result (sum heights.now ≤ most_grains) }
+    ensures fault { IfErr result (λ e. pile_with width height cylinder heights.now places ≡ Err e) }
+{
+    let shape = grid_of(width, height, cylinder)?;
+    if heights.len() != shape.sites() || places != shape.sites() {
+        return Err(Fault::Length);
+    }
+    if grains_of(heights).is_none() {
+        return Err(Fault::TooManyGrains);
+    }
+    Ok(shape)
 }

@@ -1,16 +1,15 @@
 //! The burning test.
 
-ghost use Rattle.std.specs.Prelude.{◌≡◌, ◌≢◌, ◌≤◌, length, take, IfOk, OnOk, OnErr, IfErr};
+ghost use Rattle.std.specs.Prelude.{◌≡◌, ◌≢◌, ◌≤◌, length, sum, take, Ok, IfOk, OnOk, OnErr, IfErr};
 ghost use Rattle.sand_model.specs.Grid.{sites};
-ghost use Rattle.sand_model.specs.Piles.{height_of};
-ghost use Rattle.sand_model.specs.Sand.{IsStable};
+ghost use Rattle.sand_model.specs.Piles.{most_grains};
 ghost use Rattle.sand_c.specs.Arguments.{IsAnswer};
 ghost use Rattle.sand_c.specs.Burning.{burning_of, IsBurning, BurnFails, sites_in, burns_out};
 
-use crate::arguments::{grains_of, grid_of};
+use crate::arguments::grid_for;
 use crate::faults::{Fault, answer};
 use sand_group::{Burned, burn};
-use sand_model::Pile;
+use sand_model::{Pile, Shape};
 use std::alloc::Global;
 
 // Copies a list to the front of a slice.
@@ -42,7 +41,25 @@ fn write_burned(places: &mut [usize], burned: &Burned) -> (usize, bool)
     }
 }
 
+// What burning the pile with these heights finds.
 #[tactic(auto, using(crate::proofs::Found::fits, crate::proofs::Found::found, crate::proofs::Unfit::burnt))]
+fn burned_on(alloc: Global, shape: Shape, heights: &[u64]) -> Result<Burned, Fault>
+    requires one_each { length heights.now ≡ sites shape }
+    requires limit { sum heights.now ≤ most_grains }
+    ensures burned { IfOk result (λ b. IsBurning (Ok (record { grid = shape; heights = heights.now }))
+        (sites_in b) (length (sites_in b)) (burns_out b)) }
+    ensures room { IfOk result (λ b. length (sites_in b) ≤ sites shape) }
+    ensures fault { IfErr result (λ e. BurnFails e (Ok (record { grid = shape; heights = heights.now }))) }
+{
+    let Ok(pile) = Pile::new(alloc, shape, heights) else {
+        return Err(Fault::Memory);
+    };
+    let burned = burn(alloc, &pile);
+    // Freed here, so that no way out below has to.
+    drop(pile);
+    Ok(burned?)
+}
+
 fn burn_into(
     alloc: Global,
     width: usize,
@@ -60,17 +77,8 @@ fn burn_into(
     ensures count { OnErr result (count.new ≡ count.old) }
     ensures recurrent { OnErr result (recurrent.new ≡ recurrent.old) }
 {
-    let shape = grid_of(width, height, cylinder)?;
-    if heights.len() != shape.sites() || found.len() != shape.sites() {
-        return Err(Fault::Length);
-    }
-    if grains_of(heights).is_none() {
-        return Err(Fault::TooManyGrains);
-    }
-    let Ok(pile) = Pile::new(alloc, shape, heights) else {
-        return Err(Fault::Memory);
-    };
-    let burned = burn(alloc, &pile)?;
+    let shape = grid_for(width, height, cylinder, heights, found.len())?;
+    let burned = burned_on(alloc, shape, heights)?;
     let (written, all) = write_burned(found, &burned);
     *count = written;
     *recurrent = all;

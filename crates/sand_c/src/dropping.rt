@@ -11,7 +11,7 @@ use crate::arguments::{grains_of, grid_of};
 use crate::avalanche::{SandpileAvalanche, like};
 use crate::faults::{Fault, answer};
 use sand_model::{GRAIN_LIMIT, Pile, Shape};
-use sand_settle::DrivenPile;
+use sand_settle::{DrivenPile, Settled};
 use std::alloc::Global;
 
 // Drops a grain at each site in turn, and records each avalanche.
@@ -104,6 +104,26 @@ fn start_of(
     }
 }
 
+// The pile after the drops, and their avalanches.
+fn dropped_on(
+    alloc: Global,
+    start: &Pile,
+    drops: &[usize],
+) -> Result<(Settled, Vec<SandpileAvalanche>), Fault>
+    requires sites { All (λ site. site < sites start.now.grid) drops.now }
+    requires room { sum start.now.heights + length drops.now ≤ most_grains }
+    ensures dropped { IfOk result (λ r. IsDropping (Ok start.now) drops.now
+        r.0.pile.heights r.0.odometer r.1.items) }
+    ensures heights { IfOk result (λ r. length r.0.pile.heights ≡ sites start.now.grid) }
+    ensures odometer { IfOk result (λ r. length r.0.odometer ≡ sites start.now.grid) }
+    ensures rows { IfOk result (λ r. length r.1.items ≡ length drops.now) }
+    ensures memory { IsOkUnless result Fault.Memory }
+{
+    let mut pile = DrivenPile::new(alloc, start)?;
+    let rows = drop_all(alloc, &mut pile, drops)?;
+    Ok((pile.finish(), rows))
+}
+
 fn drop_into(
     alloc: Global,
     width: usize,
@@ -128,9 +148,10 @@ fn drop_into(
     let start = start_of(
         alloc, width, height, cylinder, heights, odometer, drops, avalanches,
     )?;
-    let mut pile = DrivenPile::new(alloc, &start)?;
-    let rows = drop_all(alloc, &mut pile, drops)?;
-    let last = pile.finish();
+    let dropped = dropped_on(alloc, &start, drops);
+    // Freed here, so that no way out below has to.
+    drop(start);
+    let (last, rows) = dropped?;
     heights.copy_from_slice(last.pile().heights());
     odometer.copy_from_slice(last.odometers());
     avalanches.copy_from_slice(rows.as_slice());

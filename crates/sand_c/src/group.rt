@@ -1,33 +1,33 @@
 //! The group of recurrent piles.
 
-ghost use Rattle.std.specs.Prelude.{◌≡◌, ◌≢◌, OnOk, OnErr, IfErr, IsOk};
+ghost use Rattle.std.specs.Prelude.{◌≡◌, ◌≢◌, length, OnOk, IfOk, IfErr, IsOk};
 ghost use Rattle.sand_c.specs.Arguments.{Fails, Answers};
 ghost use Rattle.sand_c.specs.Group.{identity_of, recurrent_of, IsIdentityOf, IsRecurrentOf};
 
 use crate::arguments::{grid_of, pile_on};
-use crate::faults::{Fault, answer};
-use sand_group::{equivalent_recurrent, identity};
+use crate::faults::Fault;
+use crate::recurrent::answer_in;
+use sand_group::{Recurrent, equivalent_recurrent, identity};
 use std::alloc::Global;
 
-fn identity_into(
+// The identity of the group on the grid in the arguments.
+fn identity_for(
     alloc: Global,
     width: usize,
     height: usize,
     cylinder: bool,
-    heights: &mut [u64],
-) -> Result<(), Fault>
-    ensures meant { OnOk result (IsOk (identity_of width height cylinder heights.old)) }
-    ensures identity { OnOk result (IsIdentityOf (identity_of width height cylinder heights.old) heights.new) }
-    ensures fault { IfErr result (λ e. Fails e (identity_of width height cylinder heights.old)) }
-    ensures heights { OnErr result (heights.new ≡ heights.old) }
+    heights: &[u64],
+) -> Result<Recurrent, Fault>
+    ensures meant { OnOk result (IsOk (identity_of width height cylinder heights.now)) }
+    ensures identity { IfOk result (λ c. IsIdentityOf (identity_of width height cylinder heights.now) c.heights) }
+    ensures one_each { IfOk result (λ c. length c.heights ≡ length heights.now) }
+    ensures fault { IfErr result (λ e. Fails e (identity_of width height cylinder heights.now)) }
 {
     let shape = grid_of(width, height, cylinder)?;
     if heights.len() != shape.sites() {
         return Err(Fault::Length);
     }
-    let neutral = identity(alloc, shape)?;
-    heights.copy_from_slice(neutral.pile().heights());
-    Ok(())
+    Ok(identity(alloc, shape)?)
 }
 
 /// Writes the heights of the identity of the group on a grid. Returns 0, or the first of 1 (Side), 24 (Narrow) and 2
@@ -45,26 +45,29 @@ pub extern "C" fn sandpile_identity(
     ensures answer { Answers result (identity_of width height cylinder heights.old) }
     ensures heights { result ≢ 0 → heights.new ≡ heights.old }
 {
-    answer(identity_into(alloc, width, height, cylinder, heights))
+    let neutral = identity_for(alloc, width, height, cylinder, heights);
+    answer_in(neutral, heights)
 }
 
-fn recurrent_into(
+// The recurrent pile equivalent to the one in the arguments.
+fn recurrent_for(
     alloc: Global,
     width: usize,
     height: usize,
     cylinder: bool,
-    heights: &mut [u64],
-) -> Result<(), Fault>
-    ensures meant { OnOk result (IsOk (recurrent_of width height cylinder heights.old)) }
-    ensures recurrent { OnOk result (IsRecurrentOf (recurrent_of width height cylinder heights.old) heights.new) }
-    ensures fault { IfErr result (λ e. Fails e (recurrent_of width height cylinder heights.old)) }
-    ensures heights { OnErr result (heights.new ≡ heights.old) }
+    heights: &[u64],
+) -> Result<Recurrent, Fault>
+    ensures meant { OnOk result (IsOk (recurrent_of width height cylinder heights.now)) }
+    ensures recurrent { IfOk result (λ c. IsRecurrentOf (recurrent_of width height cylinder heights.now) c.heights) }
+    ensures one_each { IfOk result (λ c. length c.heights ≡ length heights.now) }
+    ensures fault { IfErr result (λ e. Fails e (recurrent_of width height cylinder heights.now)) }
 {
     let shape = grid_of(width, height, cylinder)?;
     let pile = pile_on(alloc, shape, heights)?;
-    let recurrent = equivalent_recurrent(alloc, &pile)?;
-    heights.copy_from_slice(recurrent.pile().heights());
-    Ok(())
+    let recurrent = equivalent_recurrent(alloc, &pile);
+    // Freed here, so that no way out below has to.
+    drop(pile);
+    Ok(recurrent?)
 }
 
 /// Replaces the heights with those of the unique recurrent pile equivalent to the pile. Returns 0, or the first of 1
@@ -82,5 +85,6 @@ pub extern "C" fn sandpile_recurrent(
     ensures answer { Answers result (recurrent_of width height cylinder heights.old) }
     ensures heights { result ≢ 0 → heights.new ≡ heights.old }
 {
-    answer(recurrent_into(alloc, width, height, cylinder, heights))
+    let recurrent = recurrent_for(alloc, width, height, cylinder, heights);
+    answer_in(recurrent, heights)
 }

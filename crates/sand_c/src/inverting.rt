@@ -1,30 +1,32 @@
 //! The inverse of a recurrent pile.
 
-ghost use Rattle.std.specs.Prelude.{◌≡◌, ◌≢◌, OnOk, OnErr, IfErr};
+ghost use Rattle.std.specs.Prelude.{◌≡◌, ◌≢◌, length, IfOk, IfErr};
 ghost use Rattle.sand_c.specs.Arguments.{IsAnswer};
 ghost use Rattle.sand_c.specs.Inverting.{IsInverting};
 ghost use Rattle.sand_c.specs.Unfit.{ElementFails, element_of};
 
-use crate::faults::{Fault, answer};
-use crate::recurrent::element_of;
-use sand_group::inverse;
+use crate::faults::Fault;
+use crate::recurrent::{answer_in, element_of};
+use sand_group::{Recurrent, inverse};
 use std::alloc::Global;
 
-fn inverse_into(
+// The inverse of the pile in the arguments.
+fn inverse_of(
     alloc: Global,
     width: usize,
     height: usize,
     cylinder: bool,
-    heights: &mut [u64],
-) -> Result<(), Fault>
-    ensures inverted { OnOk result (IsInverting (element_of width height cylinder heights.old) heights.new) }
-    ensures fault { IfErr result (λ e. ElementFails e (element_of width height cylinder heights.old)) }
-    ensures heights { OnErr result (heights.new ≡ heights.old) }
+    heights: &[u64],
+) -> Result<Recurrent, Fault>
+    ensures inverted { IfOk result (λ c. IsInverting (element_of width height cylinder heights.now) c.heights) }
+    ensures one_each { IfOk result (λ c. length c.heights ≡ length heights.now) }
+    ensures fault { IfErr result (λ e. ElementFails e (element_of width height cylinder heights.now)) }
 {
     let pile = element_of(alloc, width, height, cylinder, heights)?;
-    let negative = inverse(alloc, &pile)?;
-    heights.copy_from_slice(negative.pile().heights());
-    Ok(())
+    let negative = inverse(alloc, &pile);
+    // Freed here, so that no way out below has to.
+    drop(pile);
+    Ok(negative?)
 }
 
 /// Replaces the heights with those of the inverse of a recurrent pile. Returns 0, or the first of 1 (Side), 24
@@ -41,5 +43,6 @@ pub extern "C" fn sandpile_inverse(
     ensures answer { IsAnswer result (λ e. ElementFails e (element_of width height cylinder heights.old)) }
     ensures heights { result ≢ 0 → heights.new ≡ heights.old }
 {
-    answer(inverse_into(alloc, width, height, cylinder, heights))
+    let negative = inverse_of(alloc, width, height, cylinder, heights);
+    answer_in(negative, heights)
 }

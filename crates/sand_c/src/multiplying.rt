@@ -1,31 +1,33 @@
 //! The n-fold sum of a recurrent pile.
 
-ghost use Rattle.std.specs.Prelude.{◌≡◌, ◌≢◌, OnOk, OnErr, IfErr};
+ghost use Rattle.std.specs.Prelude.{◌≡◌, ◌≢◌, length, IfOk, IfErr};
 ghost use Rattle.sand_c.specs.Arguments.{IsAnswer};
 ghost use Rattle.sand_c.specs.Multiplying.{IsMultiplying};
 ghost use Rattle.sand_c.specs.Unfit.{ElementFails, element_of};
 
-use crate::faults::{Fault, answer};
-use crate::recurrent::element_of;
-use sand_group::multiple;
+use crate::faults::Fault;
+use crate::recurrent::{answer_in, element_of};
+use sand_group::{Recurrent, multiple};
 use std::alloc::Global;
 
-fn multiple_into(
+// The n-fold sum of the pile in the arguments.
+fn multiple_of(
     alloc: Global,
     width: usize,
     height: usize,
     cylinder: bool,
-    heights: &mut [u64],
+    heights: &[u64],
     n: u64,
-) -> Result<(), Fault>
-    ensures multiplied { OnOk result (IsMultiplying (element_of width height cylinder heights.old) n heights.new) }
-    ensures fault { IfErr result (λ e. ElementFails e (element_of width height cylinder heights.old)) }
-    ensures heights { OnErr result (heights.new ≡ heights.old) }
+) -> Result<Recurrent, Fault>
+    ensures multiplied { IfOk result (λ c. IsMultiplying (element_of width height cylinder heights.now) n c.heights) }
+    ensures one_each { IfOk result (λ c. length c.heights ≡ length heights.now) }
+    ensures fault { IfErr result (λ e. ElementFails e (element_of width height cylinder heights.now)) }
 {
     let pile = element_of(alloc, width, height, cylinder, heights)?;
-    let sum = multiple(alloc, &pile, n)?;
-    heights.copy_from_slice(sum.pile().heights());
-    Ok(())
+    let sum = multiple(alloc, &pile, n);
+    // Freed here, so that no way out below has to.
+    drop(pile);
+    Ok(sum?)
 }
 
 /// Replaces the heights with those of the n-fold sum of a recurrent pile. Returns 0, or the first of 1 (Side), 24
@@ -43,5 +45,6 @@ pub extern "C" fn sandpile_multiple(
     ensures answer { IsAnswer result (λ e. ElementFails e (element_of width height cylinder heights.old)) }
     ensures heights { result ≢ 0 → heights.new ≡ heights.old }
 {
-    answer(multiple_into(alloc, width, height, cylinder, heights, n))
+    let sum = multiple_of(alloc, width, height, cylinder, heights, n);
+    answer_in(sum, heights)
 }

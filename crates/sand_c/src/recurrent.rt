@@ -1,9 +1,10 @@
 //! The elements of the group: recurrent piles.
 
-ghost use Rattle.std.specs.Prelude.{◌≡◌, ◌≤◌, ◌⊎◌, length, sum, Ok, IfOk, IfErr};
+ghost use Rattle.std.specs.Prelude.{◌≡◌, ◌≤◌, ◌⊎◌, ◌↔◌, length, sum, Ok, IfOk, IfErr, OnErr, IsOk};
 ghost use Rattle.sand_model.specs.Grid.{sites};
 ghost use Rattle.sand_model.specs.Piles.{height_of, most_grains};
 ghost use Rattle.sand_group.specs.Recurrence.{IsRecurrent};
+ghost use Rattle.sand_c.specs.Faults.{number_of};
 ghost use Rattle.sand_c.specs.Unfit.{ElementFails, IsUnfit, element_of};
 
 use crate::arguments::{grains_of, grid_of};
@@ -51,4 +52,21 @@ pub(crate) fn element_of(
         return Err(Fault::TooManyGrains);
     }
     recurrent_on(alloc, shape, heights)
+}
+
+/// Writes the heights of a recurrent pile, if there is one. Returns what an export does.
+pub(crate) fn answer_in(outcome: Result<Recurrent, Fault>, heights: &mut [u64]) -> u32
+    requires { IfOk outcome (λ c. length c.heights ≡ length heights.old) }
+    ensures ok { IsOk outcome ↔ (result ≡ 0) }
+    ensures fault { IfErr outcome (λ e. result ≡ number_of e) }
+    ensures written { IfOk outcome (λ c. heights.new ≡ c.heights) }
+    ensures kept { OnErr outcome (heights.new ≡ heights.old) }
+{
+    match outcome {
+        Ok(recurrent) => {
+            heights.copy_from_slice(recurrent.pile().heights());
+            0
+        }
+        Err(fault) => fault.number(),
+    }
 }

@@ -1,13 +1,39 @@
 //! Settling a pile.
 
-ghost use Rattle.std.specs.Prelude.{◌≡◌, ◌≢◌, OnOk, OnErr, IfErr, IsOk};
+ghost use Rattle.std.specs.Prelude.{◌≡◌, ◌≢◌, length, OnOk, OnErr, IfOk, IfErr, IsOk};
 ghost use Rattle.sand_c.specs.Arguments.{Fails, Answers};
 ghost use Rattle.sand_c.specs.Settling.{settling_of, IsSettling};
 
 use crate::arguments::{grid_of, pile_on};
 use crate::faults::{Fault, answer};
-use sand_settle::settle;
+use sand_settle::{Settled, settle};
 use std::alloc::Global;
+
+// The pile in the arguments, settled.
+fn settled_on(
+    alloc: Global,
+    width: usize,
+    height: usize,
+    cylinder: bool,
+    heights: &[u64],
+    odometer: &[u64],
+) -> Result<Settled, Fault>
+    ensures settled { IfOk result (λ r. IsSettling (settling_of width height cylinder heights.now odometer.now)
+        r.pile.heights r.odometer r.lost r.topplings) }
+    ensures heights { IfOk result (λ r. length r.pile.heights ≡ length heights.now) }
+    ensures odometer { IfOk result (λ r. length r.odometer ≡ length odometer.now) }
+    ensures fault { IfErr result (λ e. Fails e (settling_of width height cylinder heights.now odometer.now)) }
+{
+    let shape = grid_of(width, height, cylinder)?;
+    if odometer.len() != shape.sites() {
+        return Err(Fault::Length);
+    }
+    let pile = pile_on(alloc, shape, heights)?;
+    let settled = settle(alloc, &pile);
+    // Freed here, so that no way out below has to.
+    drop(pile);
+    Ok(settled?)
+}
 
 fn settle_into(
     alloc: Global,
@@ -28,12 +54,7 @@ fn settle_into(
     ensures lost { OnErr result (lost.new ≡ lost.old) }
     ensures topplings { OnErr result (topplings.new ≡ topplings.old) }
 {
-    let shape = grid_of(width, height, cylinder)?;
-    if odometer.len() != shape.sites() {
-        return Err(Fault::Length);
-    }
-    let pile = pile_on(alloc, shape, heights)?;
-    let settled = settle(alloc, &pile)?;
+    let settled = settled_on(alloc, width, height, cylinder, heights, odometer)?;
     heights.copy_from_slice(settled.pile().heights());
     odometer.copy_from_slice(settled.odometers());
     *lost = settled.lost();
