@@ -2,6 +2,7 @@
 
 ghost use Rattle.std.specs.Prelude.{◌≡◌, ◌≢◌, ℕ, ◌+◌, ◌<◌, ◌≤◌, List, [], ◌++◌, length, take, codes, decimal, OnOk, IfErr};
 ghost use Rattle.std.specs.Io.KnownBytes.{Appends};
+ghost use Rattle.std.specs.Process.{exit_status};
 ghost use Rattle.arrayvec.specs.ArrayString.{array_string_len};
 ghost use Rattle.sand_desk.specs.Faults.{number_of, name_of, status_of, fault_line, place_of, of_text, of_read, of_stream, of_words, of_one, of_group, of_shape};
 ghost use Rattle.sand_desk.specs.declared.faults.DeskFault.TheVariants as desk;
@@ -16,6 +17,7 @@ use sand_settle::{OneFault, SettleFault};
 use sand_text::{ReadFault, StreamFault, TextFault, write_text};
 use std::alloc::AllocError;
 use std::io::Write;
+use std::process::ExitCode;
 use thiserror::Error;
 
 /// Why a command ended without writing all of its text.
@@ -287,4 +289,32 @@ pub fn write_fault<W: Write>(fault: &DeskFault, writer: &mut W) -> Result<(), De
 {
     write_text(writer, line_of(fault).as_str().as_bytes())?;
     Ok(())
+}
+
+// Writes the line of a fault, or as much of it as the writer takes.
+fn write_line<W: Write>(fault: &DeskFault, writer: &mut W)
+    ensures { (sent : ℕ) × Appends (W.contents writer.old) (W.contents writer.new) (take sent (fault_line fault.now)) }
+{
+    let _ = write_text(writer, line_of(fault).as_str().as_bytes());
+}
+
+/// Reports a fault on standard error, to which `errors` writes, and returns the exit status of a program that ends with
+/// it. For misuse, the line is what clap says of the words. A call for help is no fault: `show_help` answers it.
+pub fn report_fault<R: Eprint, W: Write>(rt: &R, errors: &mut W, fault: &DeskFault) -> ExitCode
+    requires { status_of fault.now ≢ 0 }
+    ensures status { exit_status result ≡ status_of fault.now }
+    ensures line { number_of fault.now ≢ 23 → (sent : ℕ) ×
+        Appends (W.contents errors.old) (W.contents errors.new) (take sent (fault_line fault.now)) }
+    ensures misuse { number_of fault.now ≡ 23 → W.contents errors.new ≡ W.contents errors.old }
+{
+    match fault {
+        DeskFault::Usage(error) => {
+            let _ = eprint!(rt; "{error}");
+        }
+        DeskFault::Clash(conflict) => {
+            let _ = eprintln!(rt; "{conflict}");
+        }
+        _ => write_line(fault, errors),
+    }
+    ExitCode::from(status(fault))
 }

@@ -21,7 +21,7 @@ mod texts;
 mod version;
 
 pub use commands::{run_command, run_gated_command};
-pub use faults::{DeskFault, status, write_fault};
+pub use faults::{DeskFault, report_fault, status, write_fault};
 pub use helping::show_help;
 pub use laboratory::{journal_text, lab_text};
 pub use texts::{

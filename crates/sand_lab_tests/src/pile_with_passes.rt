@@ -17,7 +17,7 @@ use std::marker::Model;
 use std::thread::Threads;
 
 /// A call. It names passes by their position in the list, and sites by their numbers.
-#[derive(Clone, Copy, Debug, PartialEq, Eq)]
+#[derive(Clone, Copy)]
 pub enum Call {
     DropAt(usize, usize),
     Tally(usize),
@@ -53,7 +53,7 @@ pub enum Told {
 }
 
 /// The two ways to end a shared pile. Both leave the same record.
-#[derive(Clone, Copy, Debug, PartialEq, Eq)]
+#[derive(Clone, Copy)]
 pub enum Ending {
     Close,
     Settle,

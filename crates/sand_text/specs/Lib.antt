@@ -6,6 +6,7 @@ pub mod Flow
 pub mod Laws
 pub mod Left
 pub mod Pictures
+pub mod Places
 pub mod Reading
 pub mod Runs
 pub mod Surveys

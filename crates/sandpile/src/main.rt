@@ -1,23 +1,23 @@
 //! The program `sandpile`. It passes its words, standard input and standard output to `sand_desk`, and reports a fault
-//! with a line on standard error and with its exit status. If standard error is a terminal, advice from `sand_advice`
-//! follows the line, and long commands show their progress there.
+//! with a line on standard error and with its exit status. If standard error is a terminal, advice follows the line,
+//! and long commands show their progress there.
 #![tactic(auto)]
 
-ghost use Rattle.std.specs.Prelude.{◌≡◌, ◌≢◌, ◌<◌, IfErr, length};
-ghost use Rattle.std.specs.Process.{exit_status};
+ghost use Rattle.std.specs.Prelude.{◌≢◌, ◌<◌, IfErr, length};
 ghost use Rattle.sand_desk.specs.Faults.{status_of};
 
+mod advice;
 mod arguments;
 mod kept;
 mod progress;
 mod request;
 
+use advice::{advice, tip, write_explain_help, write_explained};
 use arguments::{is_nothing, words_of};
 use kept::Kept;
 use progress::{Cleared, Progress, work_of};
 use request::{Request, request_of};
-use sand_advice::{advice, tip, write_explain_help, write_explained};
-use sand_desk::{DeskFault, run_gated_command, show_help, status, write_fault, write_version};
+use sand_desk::{DeskFault, report_fault, run_gated_command, show_help, write_version};
 use sand_lab::{Gate, Open};
 use std::alloc::Global;
 use std::io;
@@ -31,7 +31,7 @@ fn main(rt: HostRuntime) -> ExitCode {
     let words = match words_of(&rt, alloc) {
         Ok(words) => words,
         Err(error) if error.kind() == io::ErrorKind::OutOfMemory => {
-            return end(&rt, &mut rt.stderr(), &DeskFault::Memory);
+            return report_fault(&rt, &mut rt.stderr(), &DeskFault::Memory);
         }
         Err(_) => {
             let _ = rt.eprintln("error: an argument is not valid UTF-8");
@@ -57,7 +57,7 @@ fn main(rt: HostRuntime) -> ExitCode {
     match answered {
         Ok(()) => ExitCode::SUCCESS,
         Err(fault) => {
-            let code = end(&rt, &mut rt.stderr(), &fault);
+            let code = report_fault(&rt, &mut rt.stderr(), &fault);
             if speaks {
                 advise(&rt, alloc, words.as_slice(), input.copy(), &fault);
             }
@@ -145,24 +145,4 @@ fn advise<R: Eprint>(
     if let Ok(text) = said {
         let _ = eprint!(rt; "{text}");
     }
-}
-
-// Reports a fault on standard error, and returns its status. A call for help does not get here: the help was written,
-// or failed with a fault of the writer.
-fn end<R: Eprint, W: Write>(rt: &R, errors: &mut W, fault: &DeskFault) -> ExitCode
-    requires { status_of fault.now ≢ 0 }
-    ensures { exit_status result ≡ status_of fault.now }
-{
-    match fault {
-        DeskFault::Usage(error) => {
-            let _ = eprint!(rt; "{error}");
-        }
-        DeskFault::Clash(conflict) => {
-            let _ = eprintln!(rt; "{conflict}");
-        }
-        _ => {
-            let _ = write_fault(fault, errors);
-        }
-    }
-    ExitCode::from(status(fault))
 }

@@ -1,7 +1,7 @@
 //! The progress line of a long command on a terminal, and the writer that clears it before anything else is written
 //! there.
 
-use sand_advice::progress_line;
+use crate::advice::progress_line;
 use sand_cli::{Task, task_of};
 use sand_lab::{Gate, Role};
 use std::alloc::{AllocError, Global};

@@ -1,6 +1,6 @@
 //! What the words ask for: a command's task, or something of the program itself.
 
-use sand_advice::{Explained, FAULTS, fault_named, is_command};
+use crate::advice::{Explained, FAULTS, fault_named, is_command};
 use sand_desk::asks_for_version;
 use std::slice;
 

@@ -1,7 +1,7 @@
 //! Numbers, bytes and positions as they are written in a sentence.
 
-use crate::outline::Outline;
-use crate::place::{column, line};
+use crate::advice::outline::Outline;
+use sand_text::{column, line};
 use std::alloc::AllocError;
 
 /// Appends a position in an input: `line 2, column 3: `. An offset past the end counts as the end.

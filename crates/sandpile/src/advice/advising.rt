@@ -2,11 +2,11 @@
 //!
 //! It examines the bytes of the input again. No promise of a command depends on any of this.
 
-use crate::faults::{Explained, of_fault};
-use crate::outline::Numbers;
-use crate::pushing::{push_byte, push_grouped, push_place};
-use crate::refused::Refused;
-use crate::{piles, strange};
+use crate::advice::faults::{Explained, of_fault};
+use crate::advice::outline::Numbers;
+use crate::advice::pushing::{push_byte, push_grouped, push_place};
+use crate::advice::refused::Refused;
+use crate::advice::{piles, strange};
 use sand_desk::DeskFault;
 use sand_model::GRAIN_LIMIT;
 use std::alloc::{AllocError, Global};

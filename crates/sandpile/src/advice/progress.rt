@@ -1,6 +1,6 @@
 //! The progress of a long command, in one line.
 
-use crate::pushing::push_grouped;
+use crate::advice::pushing::push_grouped;
 use std::alloc::{AllocError, Global};
 
 const MINUTE: u64 = 60;

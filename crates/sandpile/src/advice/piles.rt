@@ -1,8 +1,8 @@
 //! What is said about the sides, the heights and the grains of a rejected pile.
 
-use crate::outline::{Defect, Outline, grid_without_size};
-use crate::pushing::{push_grouped, push_heights, push_place, push_sides};
-use crate::refused::Refused;
+use crate::advice::outline::{Defect, Outline, grid_without_size};
+use crate::advice::pushing::{push_grouped, push_heights, push_place, push_sides};
+use crate::advice::refused::Refused;
 use sand_desk::read_two;
 use sand_group::{Burned, burn};
 use sand_model::{CYLINDER_WIDTH, GRAIN_LIMIT, SIDE_LIMIT};

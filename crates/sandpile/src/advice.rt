@@ -5,14 +5,12 @@
 //! the line of its fault leaves out. `misuse` examines the words. `progress` shows how far a long command is.
 //!
 //! No script reads these texts, so no contract fixes their words: `tools/at-a-terminal` shows them.
-#![tactic(auto)]
 
 mod advising;
 mod faults;
 mod misuse;
 mod outline;
 mod piles;
-mod place;
 mod progress;
 mod pushing;
 mod refused;
@@ -21,5 +19,4 @@ mod strange;
 pub use advising::advice;
 pub use faults::{Explained, FAULTS, fault_named, write_explain_help, write_explained};
 pub use misuse::{is_command, tip};
-pub use place::{column, line};
 pub use progress::progress_line;

@@ -1,6 +1,6 @@
 //! A rejected command, and the pile of its input that a fault is about.
 
-use crate::outline::{Defect, Numbers, Outline};
+use crate::advice::outline::{Defect, Numbers, Outline};
 
 /// A rejected command, and the bytes that it read.
 #[derive(Clone, Copy)]

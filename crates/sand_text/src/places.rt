@@ -2,7 +2,7 @@
 
 ghost use Rattle.std.specs.Prelude.{◌≡◌, ◌≤◌, count_by, length, not, reverse};
 ghost use Rattle.std.specs.List.{take_while};
-ghost use Rattle.sand_advice.specs.Places.{ends_line, line_of, column_of};
+ghost use Rattle.sand_text.specs.Places.{ends_line, line_of, column_of};
 
 // The number of line ends in a text.
 fn line_ends(text: &[u8]) -> usize
