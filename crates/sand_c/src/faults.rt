@@ -10,7 +10,7 @@ use sand_settle::{OneFault, SettleFault};
 use std::alloc::AllocError;
 
 /// Why a call failed.
-#[derive(Clone, Copy, Debug, PartialEq, Eq)]
+#[derive(Clone, Copy)]
 pub enum Fault {
     /// A side is outside 1 to 256.
     Side,
