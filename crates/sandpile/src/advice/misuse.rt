@@ -38,12 +38,12 @@ enum Mistake<'a> {
 }
 
 fn reads_a_pile(word: &str) -> bool {
-    READERS.iter().any(|command| *command == word)
+    READERS.contains(&word)
 }
 
 /// Whether a word is a command.
 pub fn is_command(word: &str) -> bool {
-    reads_a_pile(word) || OTHERS.iter().any(|command| *command == word)
+    reads_a_pile(word) || OTHERS.contains(&word)
 }
 
 // Whether a word is a whole number as options accept it.
@@ -60,7 +60,7 @@ fn is_plain(word: &str) -> bool {
 
 // Whether the word is an option that takes the next word as its value.
 fn awaits_value(word: &str) -> bool {
-    word.starts_with("--") && !word.contains('=') && !FLAGS.iter().any(|flag| *flag == word)
+    word.starts_with("--") && !word.contains('=') && !FLAGS.contains(&word)
 }
 
 // The mistake in a value, if there is one. For an empty value clap's message is enough.
