@@ -18,7 +18,7 @@ use crate::marks::Marks;
 use sand_tiles::{Count, Tile, count_set, size, sum_over};
 
 /// The number of topplings, and of grains that fell into the sink.
-#[derive(Clone, Copy, Debug)]
+#[derive(Clone, Copy)]
 pub struct Total {
     pub size: u64,
     pub lost: u64,

@@ -15,7 +15,7 @@ use sand_model::Shape;
 use sand_tiles::size;
 
 /// The number of sites that toppled, and the greatest distance of one, or 0 if none did.
-#[derive(Clone, Copy, Debug)]
+#[derive(Clone, Copy)]
 pub(crate) struct Extent {
     pub(crate) area: u64,
     pub(crate) reach: usize,

@@ -6,7 +6,7 @@ use std::alloc::{AllocError, Global};
 use std::marker::Model;
 
 /// A list of the indices of sites or of tiles, with room for `room` of them.
-#[derive(Debug, Drop)]
+#[derive(Drop)]
 pub struct IndexList {
     len: usize,
     slots: Vec<u32>,

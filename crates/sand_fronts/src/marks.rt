@@ -9,7 +9,7 @@ use std::alloc::{AllocError, Global};
 use std::marker::Model;
 
 /// A set of places for each tile.
-#[derive(Debug, Drop)]
+#[derive(Drop)]
 pub struct Marks {
     words: Vec<u64>,
     // The sets before `first`, and from `end` on, are empty.

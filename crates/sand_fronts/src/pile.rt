@@ -24,7 +24,7 @@ use std::alloc::{AllocError, Global};
 use std::marker::Model;
 
 /// A stable pile on tiles, and all that its drops need.
-#[derive(Debug, Drop)]
+#[derive(Drop)]
 pub struct TiledPile {
     shape: Shape,
     tiles: Vec<Tile>,

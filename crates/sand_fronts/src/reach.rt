@@ -12,7 +12,7 @@ use sand_model::{Edge, Shape};
 use sand_tiles::set_of;
 
 /// The column and the row of a site, or of the first place of a tile.
-#[derive(Clone, Copy, Debug)]
+#[derive(Clone, Copy)]
 pub(crate) struct Spot {
     pub(crate) column: usize,
     pub(crate) row: usize,

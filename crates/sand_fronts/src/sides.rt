@@ -15,7 +15,7 @@ use sand_model::{Edge, Shape};
 use std::alloc::{AllocError, Global};
 
 /// The four tiles next to a tile, and how far a column shifts to the west and to the east of it.
-#[derive(Clone, Copy, Debug)]
+#[derive(Clone, Copy)]
 pub struct Beside {
     pub north: usize,
     pub south: usize,

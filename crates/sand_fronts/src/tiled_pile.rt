@@ -26,7 +26,7 @@ use sand_model::Shape;
 use sand_tiles::{Count, Tile, is_due, receive, set_of};
 
 /// The numbers of one avalanche.
-#[derive(Clone, Copy, Debug)]
+#[derive(Clone, Copy)]
 pub struct Fall {
     /// The number of topplings.
     pub size: u64,

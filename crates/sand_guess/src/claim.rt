@@ -11,7 +11,7 @@ use std::alloc::{AllocError, Global};
 const SWEEPS_OF_A_GUESS: usize = 7_000;
 
 /// A claim: by site, how often it topples and the turn at which it burns.
-#[derive(Debug, Drop)]
+#[derive(Drop)]
 pub struct Claim {
     pub counts: Vec<u64>,
     pub turns: Vec<u32>,

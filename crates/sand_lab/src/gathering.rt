@@ -21,14 +21,14 @@ use sand_shared::{BarePass, Pass, Receipt, SharedPile};
 use std::alloc::Global;
 
 /// The receipts of each dropper, and what the workers and the observers found.
-#[derive(Debug, Drop)]
+#[derive(Drop)]
 pub(crate) struct Gathered {
     pub(crate) parts: Vec<Vec<Receipt>>,
     pub(crate) findings: Findings,
 }
 
 /// What the workers and the observers of an epoch found.
-#[derive(Debug, Drop)]
+#[derive(Drop)]
 pub(crate) struct Findings {
     pub(crate) swept: Vec<u64>,
     pub(crate) tallies: Vec<Vec<u64>>,

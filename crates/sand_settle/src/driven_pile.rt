@@ -21,7 +21,7 @@ use std::alloc::{AllocError, Global};
 use std::marker::Model;
 
 /// A pile on which one thread drops grains one by one, with all topplings since its start.
-#[derive(Debug, Drop)]
+#[derive(Drop)]
 pub struct DrivenPile {
     // The settled start, for its odometer.
     start: Settled,

@@ -24,7 +24,7 @@ use std::alloc::Global;
 use std::marker::Model;
 
 /// A pile on which one thread drops grains one by one, with all topplings since its start.
-#[derive(Debug, Drop)]
+#[derive(Drop)]
 pub struct OnePile {
     settled: Settled,
     // Allocated at the first drop.

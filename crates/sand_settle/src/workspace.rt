@@ -8,7 +8,7 @@ use std::alloc::{AllocError, Global};
 use std::marker::Model;
 
 /// A lattice, counts that are all 0, and two lists with room for all sites.
-#[derive(Debug, Drop)]
+#[derive(Drop)]
 pub(crate) struct Workspace {
     pub(crate) lattice: Lattice,
     /// How often each site has toppled.

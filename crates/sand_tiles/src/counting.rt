@@ -32,7 +32,7 @@ pub fn sum_over(numbers: &Tile, set: u64) -> u64
 }
 
 /// A number from 0 to 31 at each place of a tile: one bit plane for each power of 2.
-#[derive(Clone, Copy, Debug)]
+#[derive(Clone, Copy)]
 pub struct Planes {
     pub ones: u64,
     pub twos: u64,
@@ -53,7 +53,7 @@ const EMPTY: Planes = Planes {
 };
 
 /// How often each place of a tile has toppled.
-#[derive(Clone, Copy, Debug)]
+#[derive(Clone, Copy)]
 pub struct Count {
     /// The topplings since the last spill.
     pub planes: Planes,

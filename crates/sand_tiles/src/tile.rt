@@ -9,7 +9,7 @@ ghost use Rattle.sand_model.specs.Sand.{one_at};
 ghost use Rattle.sand_tiles.specs.Places.{bit, height, had, Receives};
 
 /// The heights of 8 by 8 places modulo 4, the places that are due to topple, and those that have toppled.
-#[derive(Clone, Copy, Debug)]
+#[derive(Clone, Copy)]
 pub struct Tile {
     /// The low bit of each height.
     pub low: u64,

@@ -7,3 +7,6 @@ returns-clause-settled c = record {
   meant = search rules;
   settled = search rules;
 }
+
+pub returns-then-odometer-sites-clause-fault : goal.returns-then-odometer-sites-clause-fault
+returns-then-odometer-sites-clause-fault c = search rules

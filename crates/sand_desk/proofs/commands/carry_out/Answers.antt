@@ -1,9 +1,11 @@
 use Rattle.std.proofs.Common.{◌≡◌, sym, subst}
+use Rattle.std.proofs.lemmas.Result.{err_from_is_err_and}
 use Rattle.std.specs.Prelude.{Option, Some}
 use Rattle.std.specs.Result.{IfErr}
 use Rattle.sand_cli.specs.declared.task.Draw.{Draw}
 use Rattle.sand_cli.specs.declared.task.Task.TheVariants.{Drops}
 use Rattle.sand_desk.specs.Commands.{IsFaultOf, IsTextOf, WorkEnds}
+use Rattle.sand_desk.proofs.Endings.{found_first}
 use Rattle.sand_desk.proofs.commands.carry_out.Goals as goal
 
 pub returns-in-Drops-Some-default-clause-fault : goal.returns-in-Drops-Some-default-clause-fault
@@ -15,3 +17,10 @@ returns-in-Drops-Some-default-clause-fault g c =
     (IsFaultOf (Drops d c.in-Drops-Some-default.part) c.args.input.now)
     (g.W.Write.contents c.args.writer.now) (g.W.Write.contents c.drawn_drops.new.writer)) in
     rw c.in-Drops-Some-default.is (subst P (sym drawn) c.drawn_drops.ensures.fault)
+
+pub returns-in_err-text-clause-fault : goal.returns-in_err-text-clause-fault
+returns-in_err-text-clause-fault g c =
+    let p = err_from_is_err_and c.from_residual.result c.from_residual.ensures.1 in
+    rw (p.1, p.2)
+    (found_first (IsTextOf c.args.task c.args.input.now) (IsFaultOf c.args.task c.args.input.now)
+    (g.W.Write.contents c.args.writer.now) _ c.in_err-text.ensures.fault)

@@ -1,3 +1,4 @@
+use Rattle.std.proofs.Common.{rules}
 use Rattle.sand_model.specs.Piles.{height_of}
 use Rattle.sand_group.proofs.OperationsSettle.{recurrent_plus, sum_is_settled}
 use Rattle.sand_group.proofs.OperationsOnHeights.{low_heights, sums_low, sum_settles, recurrent_there}
@@ -37,3 +38,6 @@ returns-clause-sum c =
     c.heights.ensures.value c.heights-2.ensures.value c.in_ok-heights.ensures.sums c.in_ok-settled.ensures.settled in
     rw (← c.a.view_is, ← c.b.view_is) (sum_is_settled c.a.inside.pile.grid (height_of c.a.inside.pile)
     (height_of c.b.inside.pile) done.odometer (height_of c.in_ok-settled.field-0) c.a.invariant done.settled)
+
+pub returns-in_err-heights-clause-shapes : goal.returns-in_err-heights-clause-shapes
+returns-in_err-heights-clause-shapes c = search rules

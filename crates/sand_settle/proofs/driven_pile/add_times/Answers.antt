@@ -1,4 +1,4 @@
-use Rattle.std.proofs.Common.{ℕ, ◌+◌, ◌∙◌, arith, slice_index, sym}
+use Rattle.std.proofs.Common.{ℕ, ◌+◌, ◌∙◌, arith, slice_index, sym, rules}
 use Rattle.std.proofs.lemmas.List.{ext_get_or}
 use Rattle.sand_fronts.specs.TiledPiles.{by_site}
 use Rattle.sand_fronts.proofs.NewPiles.{by_site_at, by_site_long}
@@ -14,3 +14,6 @@ returns c =
     let at =
     by_site_at c.args.fronts.now.grid sum j (omega (arith, l, c.loop-site.auto.odometer, c.requires.one_each)) in
     omega arith)
+
+pub loop-site-preserved : goal.loop-site-preserved
+loop-site-preserved c = search rules

@@ -78,3 +78,8 @@ pub returns-clause-topplings : goal.returns-clause-topplings
 returns-clause-topplings c =
     let at = (goal.at.returns-clause-topplings c).After-lost-2 in
     ap (λ (s : SettledView). s.topplings) (c.of_parts.ensures ∙ sym (parts at))
+
+pub returns-clause-lost : goal.returns-clause-lost
+returns-clause-lost c =
+    let at = (goal.at.returns-clause-lost c).After-lost-2 in
+    ap (λ (s : SettledView). s.lost) (c.of_parts.ensures ∙ sym (parts at))

@@ -104,3 +104,6 @@ pub returns-clause-pass : goal.returns-clause-pass
 returns-clause-pass c =
     let receipts = ap (λ (v : View). v.receipts) (has (goal.at.returns-clause-pass c).After-place_all) in
     search rules
+
+pub returns-then-count-eq0-clause-empty : goal.returns-then-count-eq0-clause-empty
+returns-then-count-eq0-clause-empty c = search rules

@@ -1,4 +1,4 @@
-use Rattle.std.proofs.Common.{◌≡◌, ℕ, ◌+◌, ◌-◌, ◌≤◌, List, [], ◌∷◌, ◌++◌, sym, refl, ap, ◌∙◌, subst, arith, length-append}
+use Rattle.std.proofs.Common.{◌≡◌, ℕ, ◌+◌, ◌-◌, ◌≤◌, List, [], ◌∷◌, ◌++◌, sym, refl, ap, ◌∙◌, subst, arith, length-append, rules}
 use Rattle.std.specs.Prelude.{count_by}
 use Rattle.atomic_table.specs.Table.{Me}
 use Rattle.sand_shared.specs.declared.view.View.{View}
@@ -49,3 +49,6 @@ invariant_of-bare c =
       one_each = inv.pass.one_each;
     }
     (omega arith) laid c.place.ensures.seat.bare refl
+
+pub invariant_of-pass-2 : goal.invariant_of-pass-2
+invariant_of-pass-2 c = search rules
