@@ -1,7 +1,9 @@
 -- The n-fold sums of a recurrent pile add up as n does.
-use Rattle.std.proofs.Common.{ℕ, ◌≡◌, ◌+◌, ◌*◌, ◌<◌, arith}
+use Rattle.std.proofs.Common.{ℕ, ◌≡◌, ◌+◌, ◌-◌, ◌*◌, ◌/◌, ◌^◌, ◌<◌, ◌≤◌, arith}
 use Rattle.std.specs.Prelude.{ℤ, pos, ◌+ℤ◌, ◌↔◌}
 use Rattle.std.proofs.lemmas.Int.{ints}
+use Rattle.std.proofs.lemmas.Nat.{shr-shr}
+use Rattle.std.proofs.Math.Nat.{div-eq_of_lt-le, div-one}
 use Rattle.sand_model.specs.Grid.{Grid, sites}
 use Rattle.sand_model.specs.Integers.{whole}
 use Rattle.sand_model.specs.Piles.{PileView, height_of}
@@ -73,3 +75,19 @@ pub has_one_multiple : (g : Grid) (n : ℕ) (c : ℕ → ℕ)
 has_one_multiple g n c =
     let some = class_has_one g (λ i. pos (n * c i)) in
     (some.0, some.1, λ b is. represented_once g (λ i. pos (n * c i)) b some.0 is some.1)
+
+-- n / 2 ^ k has the binary digits of n but for the last k
+
+pub first_digit : (g : Grid) (n k : ℕ) (c e : PileView) → 2 ^ k ≤ n → n < 2 * 2 ^ k → e ≡ c → IsRecurrent g (height_of c)
+    → IsMultiple g (n / 2 ^ k) (height_of c) (height_of e)
+first_digit g n k c e low high =
+    copy_is_multiple g (n / 2 ^ k) c e (div-eq_of_lt-le (2 ^ k) (omega arith) (omega arith))
+
+pub without_last_digit : (g : Grid) (n k : ℕ) (c a : ℕ → ℕ) → ¬ k ≡ 0 → IsMultiple g (n / 2 ^ k) c a
+    → IsMultiple g (n / 2 ^ (k - 1) / 2) c a
+without_last_digit g n k c a more is =
+    let one : k - 1 + 1 ≡ k = omega arith in
+    rw (shr-shr n (k - 1) 1, one) is
+
+pub all_digits : (g : Grid) (n k : ℕ) (c a : ℕ → ℕ) → k ≡ 0 → IsMultiple g (n / 2 ^ k) c a → IsMultiple g n c a
+all_digits g n k c a none is = rw (none, div-one n) at is

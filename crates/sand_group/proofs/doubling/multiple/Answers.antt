@@ -1,0 +1,39 @@
+use Rattle.std.proofs.Common.{◌∙◌, ap, arith, length, subst}
+use Rattle.sand_model.specs.Piles.{IsPile, PileView, height_of}
+use Rattle.sand_group.proofs.Multiples.{first_digit, without_last_digit, all_digits}
+use Rattle.sand_group.proofs.doubling.multiple.Goals as goal
+
+pub digits-init : goal.digits-init
+digits-init c =
+    let same = c.in_ok-sum.ensures.same in
+    let is_pile = subst IsPile c.pile.ensures.value c.shape-shape.ensures.pile in
+    record {
+      few = c.ilog2-digits.ensures.bound;
+      grid = ap (λ (p : PileView). p.grid) same;
+      one_each = ap (λ (p : PileView). length p.heights) same ∙ is_pile.one_each;
+      multiple = first_digit c.args.c.now.grid c.args.n c.ilog2-digits.result c.args.c.now c.in_ok-sum.sum
+          c.ilog2-digits.ensures.power_le c.ilog2-digits.ensures.next_power_gt same c.pile.ensures.recurrent;
+    }
+
+pub overflow_shr-n : goal.overflow_shr-n
+overflow_shr-n c = let few = c.digits.invariant.few in omega arith
+
+pub doubled-requires-clause-half : goal.doubled-requires-clause-half
+doubled-requires-clause-half c =
+    without_last_digit c.args.c.now.grid c.args.n c.digits.digits (height_of c.args.c.now) (height_of c.digits.sum)
+    c.digits-test.true c.digits.invariant.multiple
+
+pub digits-preserved : goal.digits-preserved
+digits-preserved c =
+    let few = c.digits.invariant.few in
+    record {
+      few = omega arith;
+      grid = c.in_ok-sum-2.ensures.grid;
+      one_each = c.in_ok-sum-2.ensures.one_each;
+      multiple = c.in_ok-sum-2.ensures.multiple;
+    }
+
+pub returns-clause-multiple : goal.returns-clause-multiple
+returns-clause-multiple c =
+    all_digits c.args.c.now.grid c.args.n c.digits.digits (height_of c.args.c.now) (height_of c.digits.sum)
+    c.digits-test.false c.digits.invariant.multiple
