@@ -9,7 +9,11 @@
    changed. Faults are listed in the order in which they are checked.
 
    Pointers must not be null, even if the length is 0, and the arrays and numbers of one call must not overlap. No state
-   is kept between calls: threads may call concurrently, on different arrays. */
+   is kept between calls: threads may call concurrently, on different arrays.
+
+   A call needs at most 24 KiB of stack. Do not call from a signal handler, or in a forked child if its parent had several
+   threads. Memory comes from `malloc`, `realloc` and `free`. In a program that replaces them, all three must belong to one
+   allocator, and the address of a block must be a multiple of each power of two up to 16 that divides the block's size. */
 #ifndef SANDPILE_H
 #define SANDPILE_H
 
@@ -83,7 +87,8 @@ uint32_t sandpile_sites(size_t width, size_t height, bool cylinder, uint64_t see
                         size_t sites_length);
 
 /* Burns a stable pile. If it is recurrent, `found` becomes a burning order of all sites; if not, its first `count`
-   elements become the greatest forbidden set, ascending. `found` has one element per site.
+   elements become the greatest forbidden set, ascending, and the others stay as they were. `found` has one element per
+   site.
    SIDE, NARROW, LENGTH, TOO_MANY_GRAINS; then UNSTABLE or MEMORY. */
 uint32_t sandpile_burn(size_t width, size_t height, bool cylinder, const uint64_t *heights, size_t heights_length,
                        size_t *found, size_t found_length, size_t *count, bool *recurrent);

@@ -1,6 +1,6 @@
 //! The burning test.
 
-ghost use Rattle.std.specs.Prelude.{◌≡◌, ◌≢◌, ◌≤◌, length, sum, take, Ok, IfOk, OnOk, OnErr, IfErr};
+ghost use Rattle.std.specs.Prelude.{◌≡◌, ◌≢◌, ◌≤◌, length, sum, take, drop, Ok, IfOk, OnOk, OnErr, IfErr};
 ghost use Rattle.sand_model.specs.Grid.{sites};
 ghost use Rattle.sand_model.specs.Piles.{most_grains};
 ghost use Rattle.sand_c.specs.Arguments.{IsAnswer};
@@ -16,6 +16,7 @@ use std::alloc::Global;
 fn write_front(places: &mut [usize], list: &[usize])
     requires { length list.now ≤ length places.old }
     ensures front { take (length list.now) places.new ≡ list.now }
+    ensures rest { drop (length list.now) places.new ≡ drop (length list.now) places.old }
     ensures len { length places.new ≡ length places.old }
 {
     let (front, _) = places.split_at_mut(list.len());
@@ -26,6 +27,7 @@ fn write_front(places: &mut [usize], list: &[usize])
 fn write_burned(places: &mut [usize], burned: &Burned) -> (usize, bool)
     requires { length (sites_in burned.now) ≤ length places.old }
     ensures front { take result.0 places.new ≡ sites_in burned.now }
+    ensures rest { drop result.0 places.new ≡ drop result.0 places.old }
     ensures count { result.0 ≡ length (sites_in burned.now) }
     ensures all { result.1 ≡ burns_out burned.now }
 {
@@ -72,6 +74,7 @@ fn burn_into(
 ) -> Result<(), Fault>
     ensures burned { OnOk result
         (IsBurning (burning_of width height cylinder heights.now found.old) found.new count.new recurrent.new) }
+    ensures rest { OnOk result (drop count.new found.new ≡ drop count.new found.old) }
     ensures fault { IfErr result (λ e. BurnFails e (burning_of width height cylinder heights.now found.old)) }
     ensures found { OnErr result (found.new ≡ found.old) }
     ensures count { OnErr result (count.new ≡ count.old) }
@@ -86,7 +89,7 @@ fn burn_into(
 }
 
 /// Burns a stable pile. If it is recurrent, `found` becomes a burning order; if not, its first `count` places become
-/// the sites of the greatest forbidden set, ascending. Returns 0, or the first of 1 (Side), 24 (Narrow), 2 (Length of a
+/// the sites of the greatest forbidden set, ascending, and the others stay. Returns 0, or the first of 1 (Side), 24 (Narrow), 2 (Length of a
 /// slice), 3 (TooManyGrains) and 7 (Unstable), or 4 (Memory).
 #[unsafe(no_mangle)]
 pub extern "C" fn sandpile_burn(
@@ -101,6 +104,7 @@ pub extern "C" fn sandpile_burn(
 ) -> u32
     ensures burned { result ≡ 0
         → IsBurning (burning_of width height cylinder heights.now found.old) found.new count.new recurrent.new }
+    ensures rest { result ≡ 0 → drop count.new found.new ≡ drop count.new found.old }
     ensures answer { IsAnswer result (λ e. BurnFails e (burning_of width height cylinder heights.now found.old)) }
     ensures found { result ≢ 0 → found.new ≡ found.old }
     ensures count { result ≢ 0 → count.new ≡ count.old }
