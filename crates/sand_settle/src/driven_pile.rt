@@ -9,6 +9,7 @@ ghost use Rattle.sand_model.specs.Grid.{sites};
 ghost use Rattle.sand_model.specs.Piles.{PileView, height_of, most_grains};
 ghost use Rattle.sand_fronts.specs.TiledPiles.{by_site};
 ghost use Rattle.sand_settle.specs.Avalanches.{IsAvalanche};
+ghost use Rattle.sand_settle.specs.Settling.{odometer_of};
 ghost use Rattle.sand_settle.specs.Drops.{grid_of_one_pile, topplings_between, IsAfter, Drops};
 
 use crate::avalanche::Avalanche;
@@ -169,6 +170,14 @@ impl DrivenPile {
         ensures { result ≡ self.now.settled.lost }
     {
         self.lost
+    }
+
+    /// How often a site has toppled since the start, including its settling.
+    pub fn odometer(&self, site: usize) -> u64
+        requires { site < sites (grid_of_one_pile self.now) }
+        ensures { result ≡ odometer_of self.now.settled site }
+    {
+        self.start.odometer(site) + self.fronts.times(site)
     }
 
     /// The settled record of the start and all drops, without a copy.

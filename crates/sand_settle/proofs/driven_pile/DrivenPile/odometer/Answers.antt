@@ -1,0 +1,39 @@
+use Rattle.std.proofs.Common.{◌≡◌, ◌+◌, ◌<◌, ℕ, ap, arith, slice_index, subst, sym}
+use Rattle.sand_model.specs.Grid.{sites}
+use Rattle.sand_fronts.proofs.NewPiles.{by_site_at}
+use Rattle.sand_settle.specs.Drops.{OneView, grid_of_one_pile}
+use Rattle.sand_settle.specs.Settling.{odometer_of}
+use Rattle.sand_settle.proofs.Driven.{few_counts}
+use Rattle.sand_settle.proofs.driven_pile.DrivenPile.odometer.Goals as goal
+
+-- a site of the pile that contracts see is one of the pile inside
+inside : {v w : OneView} → v ≡ w → (site : ℕ) → site < sites (grid_of_one_pile w) → site < sites (grid_of_one_pile v)
+inside same site lt = subst (λ (u : OneView). site < sites (grid_of_one_pile u)) (sym same) lt
+
+pub times-requires-clause-few : goal.times-requires-clause-few
+times-requires-clause-few c =
+    let lt = inside c.self.view_is c.args.site c.requires in
+    let one = ap sites c.self.invariant.one_grid in
+    let few = few_counts c.self.inside.start c.self.inside.fronts c.self.inside.number
+    c.self.inside.topplings c.self.inside.lost c.self.inside.grains c.self.invariant c.args.site (omega arith) in
+    omega arith
+
+pub overflow_add-result : goal.overflow_add-result
+overflow_add-result c =
+    let lt = inside c.self.view_is c.args.site c.requires in
+    let one = ap sites c.self.invariant.one_grid in
+    let few = few_counts c.self.inside.start c.self.inside.fronts c.self.inside.number
+    c.self.inside.topplings c.self.inside.lost c.self.inside.grains c.self.invariant c.args.site (omega arith) in
+    let first = c.odometer.ensures in
+    let more = c.times.ensures in
+    record { fits = omega arith }
+
+pub returns : goal.returns
+returns c =
+    let at = by_site_at c.self.inside.start.pile.grid
+    (λ j. slice_index c.self.inside.start.odometer j + slice_index c.self.inside.fronts.times j)
+    c.args.site (inside c.self.view_is c.args.site c.requires) in
+    let first = c.odometer.ensures in
+    let more = c.times.ensures in
+    subst (λ (v : OneView). c.odometer.result + c.times.result ≡ odometer_of v.settled c.args.site)
+    c.self.view_is (omega arith)
