@@ -19,7 +19,7 @@ use Rattle.sand_shared.specs.Events.{look}
 use Rattle.sand_shared.specs.Bare.{shown, IsBare}
 use Rattle.sand_shared.specs.Passes.{PassView, SharedView, at_rest, IsPassOf, IsWhole}
 use Rattle.sand_shared.specs.Rows.{count_of}
-use Rattle.sand_shared.specs.Record.{Tells}
+use Rattle.sand_shared.specs.Record.{Tells, IsCompleted}
 use Rattle.sand_shared.specs.Running.{Stands, Happened}
 use Rattle.sand_shared.specs.Seats.{HasAll}
 use Rattle.sand_shared.specs.Sweeps.{IsRestOf, start_and_receipts}
@@ -27,7 +27,6 @@ use Rattle.sand_shared.proofs.GrainsAtSite.{toppled_from}
 use Rattle.sand_shared.proofs.LastPileIsSettled.{HasGathered, gathered, has_all, drawn_is, seen_is}
 use Rattle.sand_shared.proofs.PassAfterEvent.{known_is}
 use Rattle.sand_shared.proofs.PassKnowsPile.{its_drops, stands_sparing, looked_at_most, looked_at_least}
-use Rattle.sand_shared.proofs.RecordSums.{LeadsTo}
 use Rattle.sand_shared.proofs.WholeHasAll.{whole_base, whole_counts, swept_has_all}
 
 sum_below_above : (n : ℕ) (f : ℕ → ℕ) (i : ℕ) → i < n → f i ≤ sum_below n f
@@ -120,34 +119,30 @@ module _ {t : Terms} {p : PassView} {r : SettledView} {a : ℕ} {v : View} (b : 
       (height_of r.pile) stands_resting.terms.pile.grid few b.rest.settled.toppled in
       let le = sum_below_above (sites g) (λ j. slice_index p.counts j + odometer_of r j) i l in omega arith
 
-  pub completed_leads : (history sums heights odometers : List ℕ)
-      → length history ≡ length p.receipts
-      → Tells p.receipts history → heights ≡ r.pile.heights
-      → odometers ≡ r.odometer → length sums ≡ length p.counts
-      → ((i : ℕ) → i < length odometers → slice_index sums i ≡ slice_index p.counts i + slice_index odometers i)
-      → LeadsTo t.start history heights sums
+  pub completed_leads : (history : List ℕ)
+      → length history ≡ length p.receipts → Tells p.receipts history
+      → IsCompleted t.start history p.counts r
   unfolding resting
-  completed_leads history sums heights odometers long told heights_are odometers_are each added =
+  completed_leads history long told =
       let g = grid_of_terms t in
       let s = stands_resting in
       let drawn = drawn_is t a resting s all_resting history long told in
       let same = ap (λ (l : List ℕ). length l) drawn in
       let quota = s.lawful.quota in
       let limit = s.terms.limit in
-      let one_each = ap (λ (l : List ℕ). length l) odometers_are ∙ b.rest.odometer_each in
       record {
-        pile = s.terms.pile;
         all_sites = subst (All (λ i. i < sites g)) (sym drawn) s.lawful.all_sites;
         limit = omega arith;
-        heights_each = ap (λ (l : List ℕ). length l) heights_are ∙ b.rest.heights_each;
-        odometer_each = each ∙ whole_counts t p b.all.grid b.all.one_each b.all.whole;
+        heights_each = b.rest.heights_each;
+        counts_each = whole_counts t p b.all.grid b.all.one_each b.all.whole;
+        odometer_each = b.rest.odometer_each;
+        small = completed_small;
         settled = settled_same g (start_and_receipts t (at_rest p)) (λ i. height_of t.start i + tally history i)
-            (λ i. slice_index p.counts i + odometer_of r i) (slice_index sums) (height_of r.pile) (slice_index heights)
+            (λ i. slice_index p.counts i + odometer_of r i) (λ i. slice_index p.counts i + odometer_of r i)
+            (height_of r.pile) (height_of r.pile)
             (λ i l.
             let d = its_all t a resting s all_resting i in let e = ap (λ (h : List ℕ). tally h i) drawn in omega arith)
-            (λ i l.
-            sym (added i (omega arith) ∙ ap (λ (l : List ℕ). slice_index p.counts i + slice_index l i) odometers_are))
-            (λ i l. ap (λ (l : List ℕ). slice_index l i) (sym heights_are))
+            (λ i l. refl) (λ i l. refl)
             b.rest.settled;
       }
 

@@ -1,7 +1,7 @@
 -- What contracts see of the record of a closed pile, and of the last moment of a shared one.
-use Rattle.std.specs.Prelude.{ℕ, ◌≡◌, ◌+◌, ◌<◌, ◌≤◌, Some, List, All, length, sum, slice_get, slice_index}
+use Rattle.std.specs.Prelude.{ℕ, ◌≡◌, ◌+◌, ◌^◌, ◌<◌, ◌≤◌, Some, List, All, length, sum, slice_get, slice_index}
 use Rattle.sand_model.specs.Grid.{sites}
-use Rattle.sand_model.specs.Sand.{tally}
+use Rattle.sand_model.specs.Sand.{IsSettled, tally}
 use Rattle.sand_model.specs.Piles.{PileView, IsPile, height_of, most_grains}
 use Rattle.sand_settle.specs.Settling.{SettledView, IsRecord, odometer_of}
 use Rattle.sand_shared.specs.declared.view.Receipt.{Receipt}
@@ -42,6 +42,18 @@ pub record IsRecordOf (t : Terms) (p : PassView) (r : RecordView) : Type 0 where
   pub all_seen : p.seen ≡ length r.history
   -- what toppled in place stays toppled
   pub never_fall : (i : ℕ) → slice_index p.counts i ≤ odometer_of r.settled i
+
+-- counts of what has toppled and a settled rest add up to the least odometer of the start and the history, and the rest
+-- is the settled pile
+pub record IsCompleted (start : PileView) (history counts : List ℕ) (rest : SettledView) : Type 0 where
+  pub all_sites : All (λ i. i < sites start.grid) history
+  pub limit : sum start.heights + length history ≤ most_grains
+  pub heights_each : length rest.pile.heights ≡ sites start.grid
+  pub counts_each : length counts ≡ sites start.grid
+  pub odometer_each : length rest.odometer ≡ sites start.grid
+  pub small : (i : ℕ) → i < sites start.grid → slice_index counts i + odometer_of rest i < 2 ^ 54
+  pub settled : IsSettled start.grid (λ i. height_of start i + tally history i)
+      (λ i. slice_index counts i + odometer_of rest i) (height_of rest.pile)
 
 -- the last moment: the pass a has v on a lawful open pile with these heights
 pub record IsLast (t : Terms) (a : ℕ) (v : View) (heights : List ℕ) : Type 0 where

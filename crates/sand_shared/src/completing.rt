@@ -15,10 +15,11 @@ ghost use Rattle.std.specs.Prelude.{◌≡◌, ℕ, ◌+◌, ◌^◌, ◌<◌, �
 ghost use Rattle.sand_model.specs.Grid.{sites};
 ghost use Rattle.sand_model.specs.Sand.{IsUnderway};
 ghost use Rattle.sand_model.specs.Piles.{height_of, most_grains};
+ghost use Rattle.sand_settle.specs.Settling.{odometer_of};
 ghost use Rattle.sand_shared.specs.OpenPile.{grid_of_terms, toppled_by};
 ghost use Rattle.sand_shared.specs.Events.{looked};
 ghost use Rattle.sand_shared.specs.Passes.{IsPassOf, IsWhole, at_rest};
-ghost use Rattle.sand_shared.specs.Record.{Tells, IsRecordOf};
+ghost use Rattle.sand_shared.specs.Record.{Tells, IsRecordOf, IsCompleted};
 ghost use Rattle.sand_shared.specs.Seats.{HasAll, IsSeatAt, StaysSeated};
 ghost use Rattle.sand_shared.specs.Sweeps.{IsRestOf, start_and_receipts};
 
@@ -26,7 +27,7 @@ use crate::bare_pass::BarePass;
 use crate::closing::fill;
 use crate::faults::CloseFault;
 use crate::pass::Pass;
-use crate::record::Record;
+use crate::record::{Record, copy_of};
 use crate::shared_pile::SharedPile;
 use crate::steps::{PassSeat, Words};
 use crate::view::{Receipt, Terms};
@@ -73,6 +74,18 @@ pub(crate) fn add(numbers: &mut Vec<u64>, more: &[u64])
     }
 }
 
+// The record of a start and a history, from the counts of what has toppled and the settled rest.
+fn record_of(start: Pile, history: Vec<usize>, mut counts: Vec<u64>, rest: Settled) -> Record
+    requires { IsCompleted start history.items counts.items rest }
+    ensures start { result.start ≡ start }
+    ensures history { result.history ≡ history.items }
+    ensures never_fall { (i : ℕ) → slice_index counts.items i ≤ odometer_of result.settled i }
+{
+    add(&mut counts, rest.odometers());
+    let (_, heights) = rest.into_pile().into_parts();
+    Record::of_lists(start, history, heights, counts)
+}
+
 impl SharedPile {
     /// Settles the pile with a pass that has gathered everything, and returns the record, the same as
     /// `SharedPile::close`. Returns Missing if the pass lacks quota, receipts or rows; else Memory if an allocation
@@ -96,6 +109,48 @@ impl SharedPile {
         };
         self.write_history(&mut bare, &mut history, receipts.as_slice());
         Ok(self.complete(bare, rest, history))
+    }
+
+    /// The record of the pile with a pass that has gathered everything, the same as that of `SharedPile::settle`. The
+    /// pile and the pass do not change, and may go on. Returns Missing if the pass lacks quota, receipts or rows; else
+    /// Memory if an allocation fails.
+    pub fn record_now(&self, alloc: Global, pass: &mut Pass) -> Result<Record, CloseFault>
+        requires { IsPassOf self.now pass.old }
+        ensures pass { pass.new ≡ pass.old }
+        ensures missing { IfErr result (λ e. (e ≡ CloseFault.Missing) ↔ ¬ IsWhole self.now.terms pass.old) }
+        ensures whole { OnOk result (IsWhole self.now.terms pass.old) }
+        ensures record_now { IfOk result (IsRecordOf self.now.terms pass.old) }
+    {
+        let mut history = self.room_for_history(alloc, pass)?;
+        let counts = Vec::from_slice(alloc, pass.bare.counts.as_slice())?;
+        let start = copy_of(alloc, &self.words.terms().start)?;
+        let Pass { bare, receipts } = pass;
+        let rest = self.settle_rest(alloc, bare)?;
+        self.write_history(bare, &mut history, receipts.as_slice());
+        Ok(self.record_with(bare, start, history, counts, rest))
+    }
+
+    // The record of the pile with a whole pass, from copies of its start and its counts.
+    fn record_with(
+        &self,
+        pass: &mut BarePass,
+        start: Pile,
+        history: Vec<usize>,
+        counts: Vec<u64>,
+        rest: Settled,
+    ) -> Record
+        requires pass { IsPassOf self.now pass.old }
+        requires whole { IsWhole self.now.terms pass.old }
+        requires start { start ≡ self.now.terms.start }
+        requires tells { Tells pass.old.receipts history.items }
+        requires one_each { length history.items ≡ length pass.old.receipts }
+        requires counts { counts.items ≡ pass.old.counts }
+        requires rest { IsRestOf self.now.terms pass.old rest }
+        ensures pass { pass.new ≡ pass.old }
+        ensures closed { IsRecordOf self.now.terms pass.old result }
+    {
+        self.words.learn::<Brand>(&mut pass.seat);
+        record_of(start, history, counts, rest)
     }
 
     /// Settles what is left to topple, in plain memory, with a pass that has gathered everything. The shared pile and
@@ -166,12 +221,10 @@ impl SharedPile {
             seen: _,
             made: _,
             rows: _,
-            mut counts,
+            counts,
         } = pass;
         words.learn::<Brand>(&mut seat);
         let Terms { start, quota: _ } = words.end(seat);
-        add(&mut counts, rest.odometers());
-        let (_, heights) = rest.into_pile().into_parts();
-        Record::of_lists(start, history, heights, counts)
+        record_of(start, history, counts, rest)
     }
 }

@@ -1,0 +1,40 @@
+use Rattle.std.proofs.Common.{ℕ, List, length, sym, ap, ◌+◌, ◌∙◌, refl, arith}
+use Rattle.std.specs.Prelude.{slice_index}
+use Rattle.sand_model.specs.Piles.{PileView, height_of}
+use Rattle.sand_model.specs.Sand.{tally}
+use Rattle.sand_model.proofs.Sandpile.{settled_same}
+use Rattle.sand_settle.specs.Settling.{odometer_of}
+use Rattle.sand_shared.proofs.completing.record_of.Goals as goal
+
+pub add-requires-clause-small : goal.add-requires-clause-small
+add-requires-clause-small c i l =
+    let same = ap (λ (l : List ℕ). length l) c.odometers.ensures.value in
+    let here = ap (λ (l : List ℕ). slice_index l i) c.odometers.ensures.value in
+    let each = c.requires.odometer_each in
+    let small = c.requires.small i (omega arith) in omega arith
+
+pub of_lists-requires : goal.of_lists-requires
+of_lists-requires c =
+    let start = c.args.start in
+    let counts = c.args.counts.items in
+    let odometers = c.odometers.ensures.value in
+    let heights = c.into_parts-heights.ensures.heights ∙ ap (λ (q : PileView). q.heights) c.into_pile.ensures in
+    let each = ap (λ (l : List ℕ). length l) odometers ∙ c.requires.odometer_each in
+    record {
+      all_sites = c.requires.all_sites;
+      limit = c.requires.limit;
+      one_each = (ap (λ (l : List ℕ). length l) heights ∙ c.requires.heights_each, c.add.ensures.long ∙ c.requires.counts_each);
+      settled = settled_same start.grid
+          (λ i. height_of start i + tally c.args.history.items i) (λ i. height_of start i + tally c.args.history.items i)
+          (λ i. slice_index counts i + odometer_of c.args.rest i) (slice_index c.add.new.numbers.items)
+          (height_of c.args.rest.pile) (slice_index c.into_parts-heights.result.1.items)
+          (λ i l. refl)
+          (λ i l. sym (c.add.ensures.sums i (omega arith) ∙ ap (λ (l : List ℕ). slice_index counts i + slice_index l i) odometers))
+          (λ i l. ap (λ (l : List ℕ). slice_index l i) (sym heights))
+          c.requires.settled;
+    }
+
+pub returns-clause-never_fall : goal.returns-clause-never_fall
+returns-clause-never_fall c = λ i.
+    let odometer = ap (λ (l : List ℕ). slice_index l i) c.of_lists.ensures.odometer in
+    let never = c.add.ensures.never_fall i in omega arith

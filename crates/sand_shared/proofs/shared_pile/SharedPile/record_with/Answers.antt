@@ -1,0 +1,45 @@
+use Rattle.std.proofs.Common.{ℕ, List, length, sym, ap, ◌∙◌, subst, arith, rules}
+use Rattle.std.specs.Prelude.{slice_index}
+use Rattle.sand_model.specs.Piles.{PileView}
+use Rattle.sand_shared.specs.declared.view.Receipt.{Receipt}
+use Rattle.sand_shared.specs.Passes.{SharedView, PassView, EachOnce}
+use Rattle.sand_shared.specs.Record.{Tells, IsCompleted}
+use Rattle.sand_shared.proofs.PassAfterEvent.{known_is}
+use Rattle.sand_shared.proofs.SeatOfPass.{still_bare}
+use Rattle.sand_shared.proofs.CompletedOdometer.{completed_by, completed_seen, completed_leads}
+use Rattle.sand_shared.proofs.shared_pile.SharedPile.record_with.Goals as goal
+
+pub invariant_of-pass : goal.invariant_of-pass
+invariant_of-pass c = still_bare c.pass.inside c.learn.new.seat c.pass.invariant
+    (known_is c.learn.new.seat.me.0 c.pass.inside.seat.me.0 c.learn.ensures.view) c.learn.ensures.seat.bare
+
+pub record_of-requires : goal.record_of-requires
+record_of-requires c =
+    let b = completed_by c.self.view_is c.pass.view_is c.pass.invariant c.requires.pass
+    c.requires.whole c.requires.rest c.learn.ensures.view c.learn.ensures.stands in
+    let told = subst (λ (q : PassView). Tells q.receipts c.args.history.items) (sym c.pass.view_is) c.requires.tells in
+    let long = c.requires.one_each ∙ ap (λ (q : PassView). length q.receipts) (sym c.pass.view_is) in
+    let start = c.requires.start ∙ ap (λ (v : SharedView). v.terms.start) (sym c.self.view_is) in
+    let counts = c.requires.counts ∙ ap (λ (q : PassView). q.counts) (sym c.pass.view_is) in
+    subst (λ (q : PileView × List ℕ). IsCompleted q.0 c.args.history.items q.1 c.args.rest)
+    (λ i. (sym start i, sym counts i)) (completed_leads b c.args.history.items long told)
+
+pub returns-clause-closed : goal.returns-clause-closed
+returns-clause-closed c =
+    let b = completed_by c.self.view_is c.pass.view_is c.pass.invariant c.requires.pass
+    c.requires.whole c.requires.rest c.learn.ensures.view c.learn.ensures.stands in
+    let history = c.record_of.ensures.history in
+    let long = ap (λ (l : List ℕ). length l) history ∙ c.requires.one_each in
+    let receipts = ap (λ (q : PassView). q.receipts) c.pass.view_is in
+    record {
+      one_threads = search rules;
+      start = c.record_of.ensures.start ∙ c.requires.start;
+      history = subst (Tells c.args.pass.now.receipts) (sym history) c.requires.tells;
+      each_drop_once = long;
+      each_number_once = subst EachOnce receipts c.pass.invariant.pass.once;
+      all_seen = ap (λ (q : PassView). q.seen) (sym c.pass.view_is) ∙ completed_seen b
+          ∙ ap (λ (l : List Receipt). length l) receipts ∙ sym long;
+      never_fall = λ i.
+          let counts = ap (λ (l : List ℕ). slice_index l i) c.requires.counts in
+          let never = c.record_of.ensures.never_fall i in omega arith;
+    }
