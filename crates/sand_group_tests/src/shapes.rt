@@ -35,6 +35,15 @@ fn neighbours_on_a_grid_and_on_a_cylinder(rt: HostRuntime) -> Result<(), Fail> {
     Ok(())
 }
 
+// Sites are numbered by rows, also on a cylinder.
+#[test]
+fn a_site_and_its_place(rt: HostRuntime) -> Result<(), Fail> {
+    let shape = Shape::with_edge(4, 3, Edge::Cylinder)?;
+    assert!(rt; shape.sites() == 12);
+    assert_eq!(rt; (shape.site(1, 2), shape.place(9)), (Some(9), (1, 2)));
+    Ok(())
+}
+
 #[test]
 fn sides_outside_the_limits(rt: HostRuntime) {
     for (width, height) in [(0, 1), (257, 1), (1, 0), (1, 257)] {

@@ -8,7 +8,7 @@ const GREATEST: [u32; 6] = [64, 1_000_000, 100, 16, 1000, 16];
 
 const LEAST: [u32; 6] = [1, 0, 1, 1, 0, 0];
 
-// The number of the fault of a plan, or 0.
+// The number of the fault of a plan; 0 if there is a plan, which has its wish.
 fn fault_of(fields: [u32; 6]) -> u32 {
     let [droppers, drops, epochs, workers, sweeps, observers] = fields;
     let wish = Wish {
@@ -21,7 +21,8 @@ fn fault_of(fields: [u32; 6]) -> u32 {
         observers,
     };
     match Plan::new(wish) {
-        Ok(_) => 0,
+        Ok(plan) if plan.wish() == wish => 0,
+        Ok(_) => u32::MAX,
         Err(fault) => fault.number(),
     }
 }

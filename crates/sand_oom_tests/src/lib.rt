@@ -1,5 +1,5 @@
-//! Every call that allocates, with each of its allocations refused in turn; and every call that does not allocate, with
-//! all allocations refused.
+//! Every call that allocates, with each of its allocations refused in turn; and calls that do not allocate, with all
+//! allocations refused.
 //!
 //! A call runs with its first allocation refused, then its second, and so on until none is refused. Each time it
 //! reports out of memory and nothing else, and leaves its arguments unchanged. Repeated on the same arguments, it then

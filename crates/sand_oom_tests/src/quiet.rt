@@ -11,23 +11,11 @@ ghost use Rattle.sand_lab.specs.Reports.{sheet_at};
 use crate::group::recurrent;
 use crate::memory::{refuse, was_refused};
 use crate::settling::{full_of_one_thread, is_after_the_drop, is_settled};
-use sand_desk::laws::{drops_of_one_dropper, one_lab_text, one_number};
 use sand_desk::{DeskFault, read_pile, status, write_fault};
 use sand_group::GroupFault;
-use sand_group::laws::{
-    burning_decides, equivalents_add_up, is_group, one_in_each_class, recurrent_from_full,
-    settling_is_adding,
-};
-use sand_lab::laws::one_outcome;
-use sand_lab::{Album, Gate, LabFault, Open, Plan, Report, Role, Wish};
-use sand_model::laws::{
-    abelian, each_settles, laplacian_sum, least_action, least_if_tight, over_integers,
-    settled_once, settles_after, weight_falls,
-};
-use sand_model::{Edge, GRAIN_LIMIT, Pile, Shape, topple};
-use sand_settle::laws::drops_add_up;
+use sand_lab::{Album, LabFault, Open, Report, Wish};
+use sand_model::{GRAIN_LIMIT, Pile, Shape, topple};
 use sand_settle::{OneFault, OnePile, SettleFault, Settled, settle};
-use sand_shared::laws::{always_lawful, lawful_at_every_moment, one_sweep, words_are_small};
 use sand_shared::{CloseFault, JoinFault, Pass, SharedFault, SharedPile, SiteCounts, SplitFault};
 use sand_testing::piles::{one_site, open_pile};
 use sand_testing::records::is_record;
@@ -35,32 +23,6 @@ use sand_testing::runs::{QUIET, run_into};
 use sand_testing::shared::dropped_on;
 use std::alloc::{AllocError, Global};
 use std::test::Fail;
-
-// Whether a cylinder of 4 by 3 sites has the right sides, sites and neighbours.
-fn is_cylinder(shape: Shape) -> bool {
-    if shape.sites() != 12 {
-        return false;
-    }
-    let is_of_sides = (shape.width(), shape.height(), shape.edge()) == (4, 3, Edge::Cylinder);
-    let has_sites = (shape.site(1, 2), shape.place(9)) == (Some(9), (1, 2));
-    let neighbours = (shape.neighbours(0), shape.missing(0));
-    is_of_sides && has_sites && neighbours == ([None, Some(3), Some(1), Some(4)], 1)
-}
-
-fn are_shapes_made() -> bool {
-    Shape::new(0, 1).is_err()
-        && Shape::with_edge(2, 1, Edge::Cylinder).is_err_and(|fault| fault.number() == 24)
-        && Shape::with_edge(4, 3, Edge::Cylinder).is_ok_and(is_cylinder)
-}
-
-#[test]
-fn shapes_take_no_memory(rt: HostRuntime) {
-    let alloc = rt.alloc();
-    refuse(alloc, 0);
-    let is_right = are_shapes_made();
-    assert!(rt; !was_refused(alloc));
-    assert!(rt; is_right);
-}
 
 // Whether a site of four grains topples once, then takes a grain.
 fn topples_once(pile: &mut Pile) -> bool
@@ -285,22 +247,6 @@ fn records_take_no_memory(rt: HostRuntime) -> Result<(), Fail> {
     Ok(())
 }
 
-#[test]
-fn plans_and_gates_take_no_memory(rt: HostRuntime) -> Result<(), Fail> {
-    let alloc = rt.alloc();
-    refuse(alloc, 0);
-    let plan = Plan::new(ONE_EPOCH)?;
-    assert!(rt; plan.wish() == ONE_EPOCH);
-    let none = Wish {
-        droppers: 0,
-        ..ONE_EPOCH
-    };
-    assert!(rt; Plan::new(none).is_err_and(|fault| fault.number() == 15));
-    Open.turn(Role::Dropper, 0, 0);
-    assert!(rt; !was_refused(alloc));
-    Ok(())
-}
-
 // One epoch with a dropper, a worker and an observer.
 const ONE_EPOCH: Wish = Wish {
     drops: 3,
@@ -349,52 +295,7 @@ fn albums_and_reports_take_no_memory(rt: HostRuntime) -> Result<(), Fail> {
     Ok(())
 }
 
-#[test]
-fn laws_of_piles_take_no_memory(rt: HostRuntime) {
-    let alloc = rt.alloc();
-    refuse(alloc, 0);
-    least_action();
-    weight_falls();
-    laplacian_sum();
-    each_settles();
-    abelian();
-    settles_after();
-    settled_once();
-    least_if_tight();
-    over_integers();
-    drops_add_up();
-    assert!(rt; !was_refused(alloc));
-}
-
-#[test]
-fn laws_of_the_group_take_no_memory(rt: HostRuntime) {
-    let alloc = rt.alloc();
-    refuse(alloc, 0);
-    burning_decides();
-    recurrent_from_full();
-    one_in_each_class();
-    settling_is_adding();
-    is_group();
-    equivalents_add_up();
-    assert!(rt; !was_refused(alloc));
-}
-
-#[test]
-fn laws_of_shared_piles_and_runs_take_no_memory(rt: HostRuntime) {
-    let alloc = rt.alloc();
-    refuse(alloc, 0);
-    always_lawful();
-    lawful_at_every_moment();
-    words_are_small();
-    one_sweep();
-    one_outcome();
-    one_lab_text();
-    drops_of_one_dropper();
-    one_number();
-    assert!(rt; !was_refused(alloc));
-}
-
-// The numbers of the other faults are checked above, with the calls that return them.
+// The numbers of other faults are checked with the calls that return them.
 #[test]
 fn numbers_of_faults_take_no_memory(rt: HostRuntime) {
     let alloc = rt.alloc();
