@@ -11,30 +11,31 @@ use sand_shared::{Pass, SharedPile};
 use sand_testing::shared::drop_rest;
 use std::thread::{Threads, join};
 
-// Meets the other thread; then makes all remaining drops at a site, or sweeps if none is given. Also returns whether
-// they met.
+// Meets the other thread; then makes all remaining drops at a site, or sweeps if none is given. Also returns how often
+// the sweep toppled, or nothing if they did not meet.
 fn take_turn(
     pile: &SharedPile,
     meeting: &Meeting,
     mut pass: Pass,
     site: Option<usize>,
-) -> (Pass, bool)
+) -> (Pass, Option<u64>)
     requires pass { IsPassOf pile.now pass }
     requires site { IfSome site (λ s. s < sites (grid_of_terms pile.now.terms)) }
     ensures { IsPassOf pile.now result.0 }
 {
     let met = meeting.met(2);
-    match site {
-        Some(site) => drop_rest(pile, &mut pass, site),
-        None => {
-            pile.sweep(&mut pass);
+    let topplings = match site {
+        Some(site) => {
+            drop_rest(pile, &mut pass, site);
+            0
         }
-    }
-    (pass, met)
+        None => pile.sweep(&mut pass),
+    };
+    (pass, met.then_some(topplings))
 }
 
 /// Two threads meet; then each makes all remaining drops of its pass at its site, or sweeps if it has none. Also
-/// returns whether they met.
+/// returns how often the sweep of each toppled, or nothing if they did not meet.
 pub fn both_at_once<R: Threads + Sync>(
     rt: &R,
     pile: &SharedPile,
@@ -42,7 +43,7 @@ pub fn both_at_once<R: Threads + Sync>(
     other: Pass,
     here: Option<usize>,
     there: Option<usize>,
-) -> (Pass, Pass, bool)
+) -> (Pass, Pass, Option<(u64, u64)>)
     requires one { IsPassOf pile.now one }
     requires other { IsPassOf pile.now other }
     requires here { IfSome here (λ s. s < sites (grid_of_terms pile.now.terms)) }
@@ -54,14 +55,14 @@ pub fn both_at_once<R: Threads + Sync>(
     let place = &meeting;
     let (first, second) = join(
         rt,
-        move || -> (Pass, bool)
+        move || -> (Pass, Option<u64>)
             requires { IsPassOf pile.now one × IfSome here (λ s. s < sites (grid_of_terms pile.now.terms)) }
             ensures { IsPassOf pile.entry.now result.0 }
         { take_turn(pile, place, one, here) },
-        move || -> (Pass, bool)
+        move || -> (Pass, Option<u64>)
             requires { IsPassOf pile.now other × IfSome there (λ s. s < sites (grid_of_terms pile.now.terms)) }
             ensures { IsPassOf pile.entry.now result.0 }
         { take_turn(pile, place, other, there) },
     );
-    (first.0, second.0, first.1 && second.1)
+    (first.0, second.0, first.1.zip(second.1))
 }

@@ -344,13 +344,13 @@ impl PileWithPasses {
     }
 
     /// Runs its two passes on two threads that meet: each makes all remaining drops at its site, or sweeps if it has
-    /// none. Returns `None` if they do not meet.
+    /// none. Also returns how often the sweep of each toppled. Returns `None` if they do not meet.
     pub fn both_at_once<R: Threads + Sync>(
         self,
         rt: &R,
         here: Option<usize>,
         there: Option<usize>,
-    ) -> Option<PileWithPasses> {
+    ) -> Option<(PileWithPasses, (u64, u64))> {
         let PileWithPasses {
             shape,
             pile,
@@ -364,18 +364,19 @@ impl PileWithPasses {
             drop((pile, passes));
             return None;
         };
-        let (one, other, met) = both_at_once(rt, &pile, one, other, here, there);
-        if !met {
+        let (one, other, swept) = both_at_once(rt, &pile, one, other, here, there);
+        let Some(swept) = swept else {
             drop((pile, passes, one, other));
             return None;
-        }
+        };
         put(&pile, &mut passes, 0, other);
         put(&pile, &mut passes, 0, one);
-        Some(PileWithPasses {
+        let pile = PileWithPasses {
             shape,
             pile,
             passes,
-        })
+        };
+        Some((pile, swept))
     }
 
     // Ends the shared pile with its first pass. If that fails, everything comes back, with the number of the fault.

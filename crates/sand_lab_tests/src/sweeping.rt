@@ -82,28 +82,36 @@ fn goes_once_over_the_rows_of_a_part(rt: HostRuntime) {
     assert!(rt; is_there(PileWithPasses::played(rt.alloc(), start, &calls)));
 }
 
+/// Two rows of one site. Each topples once.
+pub(crate) const TWO_ROWS: Start<'static> = Start {
+    sides: (1, 2),
+    heights: &[4, 4],
+    quota: 0,
+};
+
+pub(crate) const TWO_ROWS_SWEPT: Left<'static> = Left {
+    history: &[],
+    heights: &[1, 1],
+    odometer: &[1, 1],
+    lost: 6,
+};
+
 #[test]
 fn each_sweeps_its_own_row(rt: HostRuntime) {
-    let start = Start {
-        sides: (1, 2),
-        heights: &[4, 4],
-        quota: 0,
-    };
-    let calls = [
-        (SplitRows(0, 1), Done),
-        (Sweep(1), Number(1)),
-        (Sweep(0), Number(1)),
-        (Join(0, 1), Done),
-        (Toppled(0, 0), Number(1)),
-        (Toppled(0, 1), Number(1)),
-    ];
-    let left = Left {
-        history: &[],
-        heights: &[1, 1],
-        odometer: &[1, 1],
-        lost: 6,
-    };
-    assert!(rt; both_leave(rt.alloc(), start, &calls, left));
+    for (first, second) in [(0, 1), (1, 0)] {
+        let calls = [
+            (SplitRows(0, 1), Done),
+            (Sweep(first), Number(1)),
+            (Sweep(second), Number(1)),
+            (Join(0, 1), Done),
+            (Toppled(0, 0), Number(1)),
+            (Toppled(0, 1), Number(1)),
+        ];
+        assert!(rt;
+            both_leave(rt.alloc(), TWO_ROWS, &calls, TWO_ROWS_SWEPT),
+            "{first} before {second}"
+        );
+    }
 }
 
 // The first row has toppled twice in place; the other topples twice at the end.

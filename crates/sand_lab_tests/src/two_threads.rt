@@ -1,10 +1,13 @@
 //! Two threads that drop or sweep on one pile at the same time, on values worked out by hand.
 
-use crate::pile_with_passes::Call::{DropAt, Join, Split, SplitRows};
+use crate::pile_with_passes::Call::{DropAt, Join, Split, SplitRows, Toppled};
 use crate::pile_with_passes::Told::{Done, Number};
 use crate::pile_with_passes::{ENDINGS, Ending, Left, PileWithPasses, Start};
+use crate::sweeping::{TWO_ROWS, TWO_ROWS_SWEPT};
 use std::alloc::Global;
 use std::thread::Threads;
+
+const ROUNDS: usize = 100;
 
 // Whether the numbers of the first two drops of a pass increase.
 fn numbers_rise(pile: &PileWithPasses, pass: usize) -> bool {
@@ -36,7 +39,7 @@ fn two_threads_drop_on_one_site(rt: HostRuntime) {
     };
     let split = [(Split(0, 2), Done)];
     let pile = PileWithPasses::played(rt.alloc(), start, &split).expect(&rt, "two passes");
-    let pile = pile
+    let (pile, _) = pile
         .both_at_once(&rt, Some(0), Some(0))
         .expect(&rt, "they meet");
     assert!(rt; numbers_rise(&pile, 0));
@@ -53,7 +56,7 @@ fn drop_on_two_sites<R: Threads + Sync>(rt: &R, alloc: Global, ending: Ending) -
         quota: 2,
     };
     let pile = PileWithPasses::played(alloc, start, &[(Split(0, 1), Done)])?;
-    let pile = pile.both_at_once(rt, Some(0), Some(1))?;
+    let (pile, _) = pile.both_at_once(rt, Some(0), Some(1))?;
     let history = match pile.number(0, 0) {
         Some(0) => [0, 1],
         _ => [1, 0],
@@ -90,7 +93,7 @@ fn sweep_at_once<R: Threads + Sync>(rt: &R, alloc: Global, ending: Ending) -> Op
     };
     let calls = [(DropAt(0, 4), Number(0)), (SplitRows(0, 2), Done)];
     let pile = PileWithPasses::played(alloc, start, &calls)?;
-    let pile = pile.both_at_once(rt, None, None)?;
+    let (pile, _) = pile.both_at_once(rt, None, None)?;
     let pile = pile.play(alloc, &[(Join(0, 1), Done)])?;
     Some(pile.leaves(alloc, ending, left))
 }
@@ -99,5 +102,27 @@ fn sweep_at_once<R: Threads + Sync>(rt: &R, alloc: Global, ending: Ending) -> Op
 fn two_threads_sweep_at_once(rt: HostRuntime) {
     for ending in ENDINGS {
         assert!(rt; sweep_at_once(&rt, rt.alloc(), ending) == Some(true));
+    }
+}
+
+// Whether each of two threads that sweep a row topples it once, whichever is first.
+fn sweep_a_row_each<R: Threads + Sync>(rt: &R, alloc: Global, ending: Ending) -> Option<bool> {
+    let pile = PileWithPasses::played(alloc, TWO_ROWS, &[(SplitRows(0, 1), Done)])?;
+    let (pile, swept) = pile.both_at_once(rt, None, None)?;
+    let calls = [
+        (Join(0, 1), Done),
+        (Toppled(0, 0), Number(1)),
+        (Toppled(0, 1), Number(1)),
+    ];
+    let pile = pile.play(alloc, &calls)?;
+    Some(pile.leaves(alloc, ending, TWO_ROWS_SWEPT) && swept == (1, 1))
+}
+
+#[test]
+fn two_threads_sweep_a_row_each(rt: HostRuntime) {
+    for _ in 0..ROUNDS {
+        for ending in ENDINGS {
+            assert!(rt; sweep_a_row_each(&rt, rt.alloc(), ending) == Some(true));
+        }
     }
 }
