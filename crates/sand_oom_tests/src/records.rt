@@ -122,6 +122,35 @@ fn twice_once(alloc: Global, number: u32) -> Result<Tried, Fail> {
     }
 }
 
+// Whether a record of three drops is copied in three allocations: two lists of heights and an odometer.
+fn is_copied_without_history(alloc: Global, three: &Record) -> bool {
+    refuse(alloc, 4);
+    let copied = three.copy(alloc).ok();
+    let was_refused = was_refused(alloc);
+    let is_right = match copied {
+        Some(copy) => was_three(copy),
+        None => false,
+    };
+    is_right && !was_refused
+}
+
+// Two records take one allocation more than a copy. Each can then be copied without one for its history, so both have
+// the same list.
+#[test]
+fn two_records_share_their_history(rt: HostRuntime) -> Result<(), Fail> {
+    let alloc = rt.alloc();
+    let three = three_drops(alloc)?;
+    refuse(alloc, 5);
+    let made = three.twice(alloc);
+    assert!(rt; !was_refused(alloc));
+    let (first, second) = made?;
+    let is_first = is_copied_without_history(alloc, &first);
+    let is_second = is_copied_without_history(alloc, &second);
+    drop((first, second));
+    assert!(rt; is_first && is_second);
+    Ok(())
+}
+
 // Appends a record to one of three drops. Returns whether the result is right, or the number of the fault.
 fn append(alloc: Global, three: &mut Record, one: &Record) -> Result<bool, u32>
     requires follows { one.now.start ≡ three.old.settled.pile }
