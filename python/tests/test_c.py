@@ -2,6 +2,7 @@
 
 import unittest
 
+import exports
 from tools import LIBRARY, TOP, needs, new_folder, ran
 
 EXAMPLE = TOP / "examples" / "settle.c"
@@ -31,8 +32,7 @@ class FromC(unittest.TestCase):
     def test_only_its_calls_are_exported(self):
         names = ran("nm", "-D", "--defined-only", "--format=posix", LIBRARY / "libsandpile.so").splitlines()
         exported = {line.split("@")[0] for line in names if line.split()[1] == "T"}
-        declared = set(ran("sed", "-n", r"s/^uint32_t \(sandpile_[a-z]*\)(.*/\1/p", TOP / "include" / "sandpile.h").split())
-        self.assertEqual(exported, declared)
+        self.assertEqual(exported, exports.calls(exports.declared((TOP / "include" / "sandpile.h").read_text())))
 
     @needs("cc")
     def test_the_example(self):
