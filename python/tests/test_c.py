@@ -1,5 +1,5 @@
-"""The header and the library in C: the exports, and each call with values worked out by hand; these and the example under
-valgrind and AddressSanitizer."""
+"""The header and the library in C: the exports, each call with values worked out by hand and on a small stack; these values and
+the example under valgrind and AddressSanitizer."""
 
 import re
 import unittest
@@ -8,7 +8,7 @@ import exports
 from tools import LIBRARY, TOP, needs, new_folder, ran
 
 HERE = TOP / "python" / "tests"
-EXAMPLE, CALLS = TOP / "examples" / "settle.c", HERE / "calls.c"
+EXAMPLE, CALLS, STACK = TOP / "examples" / "settle.c", HERE / "calls.c", HERE / "stack.c"
 HEADER = TOP / "include" / "sandpile.h"
 INCLUDE = f"-I{HEADER.parent}"
 STRICT = ["-pedantic", "-Wall", "-Wextra", "-Werror"]
@@ -46,6 +46,12 @@ class FromC(unittest.TestCase):
         ran(program)
         called = set(re.findall(r"U (sandpile_\w+)", ran("nm", "-D", program)))
         self.assertEqual(called, exports.calls(exports.exported()))
+
+    @needs("cc")
+    def test_each_call_runs_on_a_small_stack(self):
+        text = ran(self.built(STACK, "-O2", "-pthread"))
+        taken = dict(re.findall(r"(sandpile_\w+): (\d+) bytes", text))
+        self.assertEqual(taken.keys(), exports.calls(exports.exported()))
 
     @needs("cc")
     def test_the_example(self):
