@@ -75,7 +75,7 @@ pub record IsRestOf (t : Terms) (p : PassView) (r : SettledView) : Type 0 where
   pub grid : r.pile.grid ≡ grid_of_terms t
   pub heights_each : length r.pile.heights ≡ sites (grid_of_terms t)
   pub odometer_each : length r.odometer ≡ sites (grid_of_terms t)
-  pub settled : IsSettled (grid_of_terms t) (start_and_receipts t (at_rest p))
+  pub settled : IsSettled (grid_of_terms t) (λ i. height_of t.start i + drops_at p.receipts i)
       (λ i. slice_index p.counts i + odometer_of r i) (height_of r.pile)
   pub all_topplings : r.topplings ≡ topplings_of (grid_of_terms t) (odometer_of r)
   pub all_lost : r.lost ≡ lost_of (grid_of_terms t) (odometer_of r)
