@@ -9,6 +9,8 @@ import shutil
 import signal
 import subprocess
 import sys
+import tempfile
+import time
 from collections.abc import Callable, Iterator
 from pathlib import Path
 from typing import Any, NamedTuple, NoReturn
@@ -23,8 +25,11 @@ WITH_NUMPY = TOP / "python" / "with-numpy"
 
 # How a script runs and ends.
 
+SIGNALS = (signal.SIGINT, signal.SIGTERM, signal.SIGHUP)
+
+
 class Told(KeyboardInterrupt):
-    """SIGTERM tells the script to end, as Ctrl-C does."""
+    """SIGTERM, or the end of the terminal, tells the script to end, as Ctrl-C does."""
 
 
 def end_by_signal(number: int, _: object) -> NoReturn:
@@ -32,10 +37,12 @@ def end_by_signal(number: int, _: object) -> NoReturn:
 
 
 def start(main: Callable[[list[str]], int]) -> NoReturn:
-    """Runs a script with the words of its command line. Ctrl-C and SIGTERM end it in good order: what it runs is ended, and its
-    temporary folders are removed. A failed command or call of the system is reported in one line."""
+    """Runs a script with the words of its command line. Ctrl-C, SIGTERM and SIGHUP end it in good order: what it runs is ended, and
+    its temporary folders are removed. A failed command or call of the system is reported in one line."""
     name = Path(sys.argv[0]).name
-    signal.signal(signal.SIGTERM, end_by_signal)
+    for number in (signal.SIGTERM, signal.SIGHUP):
+        if signal.getsignal(number) != signal.SIG_IGN:
+            signal.signal(number, end_by_signal)
     sys.stdout.reconfigure(line_buffering=True)
     try:
         sys.exit(main(sys.argv[1:]))
@@ -77,9 +84,26 @@ def end(process: subprocess.Popen, grace: float = 10) -> None:
 
 
 @contextlib.contextmanager
-def script(words: list[Any], **how: Any) -> Iterator[subprocess.Popen]:
-    """Runs a script of this repository at the top. If this script is told to end, that one is, and this one waits for it."""
-    with subprocess.Popen(words, cwd=TOP, **how) as process:
+def new_room(prefix: str) -> Iterator[Path]:
+    """A temporary folder. No signal stops its removal."""
+    room = Path(tempfile.mkdtemp(prefix=prefix))
+    try:
+        yield room
+    finally:
+        before = {number: signal.signal(number, signal.SIG_IGN) for number in SIGNALS}
+        for _ in range(10):  # what was killed just now may still write to it
+            shutil.rmtree(room, ignore_errors=True)
+            if not room.exists():
+                break
+            time.sleep(0.1)
+        for number, handler in before.items():
+            signal.signal(number, handler)
+
+
+@contextlib.contextmanager
+def script(words: list[Any], folder: Path = TOP, **how: Any) -> Iterator[subprocess.Popen]:
+    """Runs a script of this repository, at its top. If this script is told to end, that one is, and this one waits for it."""
+    with subprocess.Popen(words, cwd=folder, **how) as process:
         try:
             yield process
             process.wait()

@@ -63,6 +63,18 @@ def new_folder(test):
     return Path(folder.name)
 
 
+def stand_in(path, *lines):
+    """A script in the place of a command."""
+    path.parent.mkdir(parents=True, exist_ok=True)
+    path.write_text("\n".join(["#!/bin/bash", *lines, ""]))
+    path.chmod(0o755)
+
+
+def files_in(folder):
+    """The files in a folder, by their path there, with their bytes."""
+    return {str(path.relative_to(folder)): path.read_bytes() for path in folder.rglob("*") if path.is_file()}
+
+
 def same(one, other):
     """Whether two arrays have the same shape, type and values."""
     return one.shape == other.shape and one.dtype == other.dtype and np.array_equal(one, other)

@@ -1,0 +1,125 @@
+"""The scripts at the top, each in a small checkout with stand-ins for what it calls. The checkout's path has a space."""
+
+import os
+import shutil
+import signal
+import subprocess
+import unittest
+from pathlib import Path
+
+from tools import TOP, files_in, needs, new_folder, ran, stand_in
+
+PARTS = [
+    "tools/wrong-bodies", "tools/statement", "build", "tools/cases", "tools/at-a-terminal", "python/tests/run", "tools/try-examples",
+    "tools/refusals",
+]
+# The system's commands, without `rt`.
+SYSTEM = "/usr/bin:/bin"
+
+
+class OfScripts(unittest.TestCase):
+    """Has a checkout with the scripts named, and a folder for stand-ins that is on the path."""
+
+    scripts = ()
+
+    def setUp(self):
+        folder = new_folder(self)
+        self.top, self.bin, self.log, self.room = folder / "a checkout", folder / "bin", folder / "log", folder / "room"
+        self.room.mkdir()
+        self.log.write_text("")
+        for name in ("tools/common.py", *self.scripts):
+            (self.top / name).parent.mkdir(parents=True, exist_ok=True)
+            shutil.copy2(TOP / name, self.top / name)
+        self.env = {"PATH": f"{self.bin}:{SYSTEM}", "TMPDIR": str(self.room), "LOG": str(self.log), "PYTHONDONTWRITEBYTECODE": "1"}
+
+    def run_in(self, *words, env=None, **how):
+        """Runs a script of the checkout: its status, what it writes, and what it reports."""
+        ended = subprocess.run(words, cwd=self.top, env=env or self.env, capture_output=True, text=True, timeout=60, **how)
+        return ended.returncode, ended.stdout, ended.stderr
+
+    def noted(self):
+        """What the stand-ins have noted since the last call."""
+        lines = self.log.read_text().splitlines()
+        self.log.write_text("")
+        return lines
+
+
+class OfCheck(OfScripts):
+    scripts = ("check", ".gitignore")
+
+    def setUp(self):
+        super().setUp()
+        for part in PARTS:
+            stand_in(self.top / part, "echo 'part: 2 passed, 0 failed'")
+        stand_in(self.bin / "rt", 'echo "rt $*" >> "$LOG"', "rm -rf crates/*/out", "mkdir crates/low/out", "echo '3 passed, 0 failed'")
+        for name in ("crates/low/src/lib.rt", "crates/low/out/low", "python/build/low", "python/__pycache__/low.pyc"):
+            (self.top / name).parent.mkdir(parents=True, exist_ok=True)
+            (self.top / name).write_text(name)
+
+    def test_the_checkout_stays_as_it_is(self):
+        before = files_in(self.top)
+        status, said, _ = self.run_in("./check")
+        self.assertEqual((status, said.splitlines()[-1]), (0, "19 passed, 0 failed"))
+        self.assertEqual(files_in(self.top), before)
+        self.assertEqual(list(self.room.iterdir()), [])
+
+    @needs("git")
+    def test_the_copy_has_what_git_sees(self):
+        git = ["git", "-c", "user.name=a", "-c", "user.email=a@b"]
+        for words in (["init", "--quiet"], ["add", "."], ["commit", "--quiet", "-m", "all"]):
+            ran(*git, *words, cwd=self.top)
+        (self.top / "crates/low/src/lib.rt").write_text("changed")
+        (self.top / "crates/low/src/new.rt").write_text("new")
+        (self.top / "crates/low/specs").symlink_to("src")
+        seen = ran("git", "ls-files", "--cached", "--others", "--exclude-standard", cwd=self.top).splitlines()
+        stand_in(self.bin / "rt", 'find . -type f -o -type l | cut -c3- > "$LOG"', 'cat crates/low/src/lib.rt >> "$LOG"', "exit 1")
+        for git_folder in (".git", ".hidden"):
+            (self.top / ".git").rename(self.top / git_folder)
+            self.run_in("./check")
+            lines = [line for line in self.noted() if not line.startswith(".hidden/")]
+            self.assertEqual((sorted(lines[:-1]), lines[-1]), (sorted(seen), "changed"))
+
+    def test_anew(self):
+        for words in ([], ["--anew"]):
+            status, said, _ = self.run_in("./check", *words)
+            self.assertEqual((status, said.splitlines()[-1]), (0, "19 passed, 0 failed"))
+            self.assertEqual(self.noted(), [" ".join(["rt ci", *words])])
+
+    def test_a_failed_part_is_the_last(self):
+        stand_in(self.top / "tools/cases", "echo 'cases: 7 passed, 1 failed'; exit 1")
+        status, said, _ = self.run_in("./check")
+        self.assertEqual((status, said.splitlines()[-1]), (1, "16 passed, 1 failed"))
+
+    def test_a_signal_ends_it_in_good_order(self):
+        stand_in(self.bin / "rt", 'trap "kill \$!; echo ended >> $LOG; exit 1" INT TERM', "sleep 60 & echo begun; wait")
+        for number in (signal.SIGINT, signal.SIGTERM, signal.SIGHUP):
+            with self.subTest(number.name):
+                with subprocess.Popen(["./check"], cwd=self.top, env=self.env, stdout=subprocess.PIPE, start_new_session=True) as process:
+                    while process.stdout.readline() != b"begun\n":
+                        pass
+                    if number == signal.SIGINT:  # as a terminal does
+                        os.killpg(process.pid, number)
+                    else:
+                        process.send_signal(number)
+                    process.stdout.read()
+                self.assertEqual((process.returncode, list(self.room.iterdir())), (128 + number, []))
+                self.assertEqual(self.noted(), ["ended"])
+
+
+class OfTheGate(OfScripts):
+    scripts = (".ci/run", "tools/try-examples", "python/with-numpy")
+
+    def test_the_shell_looks_for_no_other_folder(self):
+        stand_in(self.bin / "dpkg-query")
+        for top in (self.top, self.room):
+            stand_in(top / "check", f"echo {top.name}")
+        (self.room / ".ci").mkdir()
+        self.assertEqual(self.run_in("bash", ".ci/run", env={**self.env, "CDPATH": str(self.room)})[:2], (0, "a checkout\n"))
+
+    def test_examples_without_the_toolchain(self):
+        stand_in(self.top / "crates/sandpile/out/sandpile", "echo 'Usage:'")
+        (self.top / "docs").mkdir()
+        (self.top / "examples").mkdir()
+        (self.top / "README.md").write_text("```text\n$ echo 4\n4\n```\n")
+        status, said, _ = self.run_in("tools/try-examples")
+        self.assertEqual((status, said.splitlines()[-1]), (0, "examples: 1 passed, 0 failed, 1 left out"))
