@@ -74,11 +74,11 @@ typedef struct sandpile_avalanche {
 uint32_t sandpile_settle(size_t width, size_t height, bool cylinder, uint64_t *heights, size_t heights_length,
                          uint64_t *odometer, size_t odometer_length, uint64_t *lost, uint64_t *topplings);
 
-/* Settles a pile, then drops a grain at each site in turn; each settles before the next. Writes the final heights, how
-   often each site toppled in this call (the first settling included), and an avalanche for each drop.
+/* Settles a pile, then drops a grain at each site of `drops` in turn; each settles before the next. Writes the final
+   heights, how often each site toppled in this call (the first settling included), and an avalanche for each drop.
    SIDE, NARROW, LENGTH, TOO_MANY_GRAINS, NO_SITE, FULL, MEMORY. */
 uint32_t sandpile_drop(size_t width, size_t height, bool cylinder, uint64_t *heights, size_t heights_length,
-                       uint64_t *odometer, size_t odometer_length, const size_t *sites, size_t sites_length,
+                       uint64_t *odometer, size_t odometer_length, const size_t *drops, size_t drops_length,
                        sandpile_avalanche *avalanches, size_t avalanches_length);
 
 /* Writes the sites of a stream of random drops, from its place `from` on. A stream consists of the 32-bit words of
