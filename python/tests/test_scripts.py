@@ -13,8 +13,8 @@ PARTS = [
     "tools/wrong-bodies", "tools/statement", "build", "tools/cases", "tools/at-a-terminal", "python/tests/run", "tools/try-examples",
     "tools/refusals",
 ]
-# The system's commands, without `rt`.
 SYSTEM = "/usr/bin:/bin"
+lacks_rt = unittest.skipIf(shutil.which("rt", path=SYSTEM), "`rt` is one of the system's commands")
 
 
 class OfScripts(unittest.TestCase):
@@ -91,7 +91,7 @@ class OfCheck(OfScripts):
         self.assertEqual((status, said.splitlines()[-1]), (1, "16 passed, 1 failed"))
 
     def test_a_signal_ends_it_in_good_order(self):
-        stand_in(self.bin / "rt", 'trap "kill \$!; echo ended >> $LOG; exit 1" INT TERM', "sleep 60 & echo begun; wait")
+        stand_in(self.bin / "rt", """trap 'kill $! 2> /dev/null; echo ended >> "$LOG"; exit 1' INT TERM""", "sleep 60 & echo begun; wait")
         for number in (signal.SIGINT, signal.SIGTERM, signal.SIGHUP):
             with self.subTest(number.name):
                 with subprocess.Popen(["./check"], cwd=self.top, env=self.env, stdout=subprocess.PIPE, start_new_session=True) as process:
@@ -106,6 +106,97 @@ class OfCheck(OfScripts):
                 self.assertEqual(self.noted(), ["ended"])
 
 
+class OfBuild(OfScripts):
+    scripts = ("build", "sandpile")
+
+    def setUp(self):
+        super().setUp()
+        sources = ("crates/low/src/lib.rt", "crates/sandpile/src/main.rt", "crates/sand_c/src/lib.rt")
+        for name in ("HANDLES", "include/sandpile.map", "examples/three.txt", *sources):
+            (self.top / name).parent.mkdir(parents=True, exist_ok=True)
+            (self.top / name).write_text(name)
+        (self.top / "crates.txt").write_text("low:\nsandpile: low\nsand_c staticlib: low\n")
+        stand_in(
+            self.bin / "rt", "[ $1 = version ] && echo kit && exit",
+            'echo "$1 ${PWD##*/}" >> "$LOG"', 'ls out >> "$LOG" 2>/dev/null',
+            "mkdir -p out/incremental", "echo work > out/incremental/work",
+            "if [ $1 = lib ]; then [ -e out/rlib ] || { mkdir out/rlib; echo ${PWD##*/} > out/rlib/stamp; }; exit; fi", '[ -e "$LOG.fail" ] && exit 1',
+            "printf '#!/bin/sh\\necho %s\\n' \"$(cat src/main.rt)\" > out/sandpile", "chmod +x out/sandpile",
+        )
+
+    def built(self, crate):
+        return sorted(path.name for path in (self.top / "crates" / crate / "out").iterdir())
+
+    def test_a_change_is_built(self):
+        self.assertEqual(self.run_in("./sandpile")[:2], (0, "crates/sandpile/src/main.rt\n"))
+        self.assertEqual(self.noted(), ["lib low", "run sandpile"])
+        self.assertEqual(self.run_in("./sandpile"), (0, "crates/sandpile/src/main.rt\n", ""))
+        self.assertEqual(self.noted(), [])
+        (self.top / "crates/sandpile/src/main.rt").write_text("changed")
+        self.assertEqual(self.run_in("./sandpile")[:2], (0, "changed\n"))
+
+    def test_another_toolchain_builds_again_if_that_is_asked_for(self):
+        self.run_in("./build")
+        stand_in(self.bin / "rt", "[ $1 = version ] && echo another", 'echo "$1" >> "$LOG"')
+        self.noted()
+        self.assertEqual(self.run_in("./sandpile"), (0, "crates/sandpile/src/main.rt\n", ""))
+        self.assertEqual(self.noted(), [])
+        self.run_in("./build")
+        self.assertIn("run", self.noted())
+
+    @lacks_rt
+    def test_without_the_toolchain(self):
+        without = {**self.env, "PATH": SYSTEM}
+        self.assertIn("`rt` is not on the PATH", self.run_in("./sandpile", env=without)[2])
+        self.run_in("./build")
+        self.assertEqual(self.run_in("./sandpile", env=without), (0, "crates/sandpile/src/main.rt\n", ""))
+        (self.top / "crates/low/src/lib.rt").write_text("changed")
+        status, said, reported = self.run_in("./sandpile", env=without)
+        self.assertEqual((status, said), (1, ""))
+        self.assertEqual(reported.splitlines(), [
+            "build: a source or the toolchain has changed since sandpile was built",
+            "build: `rt` is not on the PATH, and it is the Rattle toolchain, which proves and builds everything",
+        ])
+
+    def test_a_library_is_packed_and_the_work_of_its_proof_goes(self):
+        self.run_in("./build")
+        self.assertEqual((self.built("low"), self.built("sandpile")), (["rlib.tar.gz"], ["made-from", "sandpile"]))
+        self.noted()
+        (self.top / "crates/sandpile/src/main.rt").write_text("changed")
+        packed = (self.top / "crates/low/out/rlib.tar.gz").stat().st_mtime_ns
+        self.run_in("./build")
+        self.assertEqual(self.noted(), ["lib low", "rlib", "rlib.tar.gz", "run sandpile", "made-from", "sandpile"])
+        self.assertEqual((self.built("low"), (self.top / "crates/low/out/rlib.tar.gz").stat().st_mtime_ns), (["rlib.tar.gz"], packed))
+        self.assertEqual(self.run_in("./build", "for-rt")[0], 0)
+        self.assertEqual(files_in(self.top / "crates/low/out"), {"rlib/stamp": b"low\n"})
+
+    def test_what_someone_works_with_stays(self):
+        for name in ("rlib", "incremental"):
+            (self.top / "crates/low/out" / name).mkdir(parents=True)
+        self.run_in("./build")
+        self.assertEqual(self.built("low"), ["incremental", "rlib"])
+
+    def test_what_a_failed_build_has_proved_is_kept(self):
+        Path(f"{self.log}.fail").touch()
+        self.assertEqual(self.run_in("./build")[0], 1)
+        self.assertEqual((self.built("low"), self.built("sandpile")), (["rlib.tar.gz"], ["incremental"]))
+
+    @needs("cc", "ar")
+    def test_after_ci_nothing_is_left_to_build(self):
+        kit = self.bin.with_name("kit")
+        stand_in(self.bin / "rt", "[ $1 = version ] && echo kit || echo ${0%/*}/../kit/START-HERE.md")
+        stand_in(kit / "bin" / "rattle", "echo 'int sandpile_version;' | cc -x c -c -o part.o - && ar rc libsand_c.a part.o")
+        (kit / "c").mkdir()
+        ran("ar", "rc", kit / "c" / "liblibc_c.a")
+        (self.top / "include/sandpile.map").write_text("{ global: sandpile_version; local: *; };\n")
+        stand_in(self.top / "crates/sandpile/out/sandpile", "echo by ci")
+        status, _, reported = self.run_in("./build", "after-ci")
+        self.assertEqual(status, 0, reported)
+        for words in ([], ["library"]):
+            self.assertEqual(self.run_in("./build", "--if-changed", *words), (0, "", ""))
+        self.assertEqual(self.run_in("./sandpile"), (0, "by ci\n", ""))
+
+
 class OfTheGate(OfScripts):
     scripts = (".ci/run", "tools/try-examples", "python/with-numpy")
 
@@ -116,6 +207,7 @@ class OfTheGate(OfScripts):
         (self.room / ".ci").mkdir()
         self.assertEqual(self.run_in("bash", ".ci/run", env={**self.env, "CDPATH": str(self.room)})[:2], (0, "a checkout\n"))
 
+    @lacks_rt
     def test_examples_without_the_toolchain(self):
         stand_in(self.top / "crates/sandpile/out/sandpile", "echo 'Usage:'")
         (self.top / "docs").mkdir()
