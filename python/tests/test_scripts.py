@@ -120,8 +120,8 @@ class OfBuild(OfScripts):
             self.bin / "rt", "[ $1 = version ] && echo kit && exit",
             'echo "$1 ${PWD##*/}" >> "$LOG"', 'ls out >> "$LOG" 2>/dev/null',
             "mkdir -p out/incremental", "echo work > out/incremental/work",
-            "if [ $1 = lib ]; then [ -e out/rlib ] || { mkdir out/rlib; echo ${PWD##*/} > out/rlib/stamp; }; exit; fi", '[ -e "$LOG.fail" ] && exit 1',
-            "printf '#!/bin/sh\\necho %s\\n' \"$(cat src/main.rt)\" > out/sandpile", "chmod +x out/sandpile",
+            "if [ $1 = lib ]; then [ -e out/rlib ] || { mkdir out/rlib; echo ${PWD##*/} > out/rlib/stamp; }; exit; fi",
+            "printf '#!/bin/sh\\necho %s\\n' \"$(cat src/main.rt)\" > out/sandpile", "chmod +x out/sandpile", '[ ! -e "$LOG.fail" ]',
         )
 
     def built(self, crate):
@@ -165,7 +165,7 @@ class OfBuild(OfScripts):
         (self.top / "crates/sandpile/src/main.rt").write_text("changed")
         packed = (self.top / "crates/low/out/rlib.tar.gz").stat().st_mtime_ns
         self.run_in("./build")
-        self.assertEqual(self.noted(), ["lib low", "rlib", "rlib.tar.gz", "run sandpile", "made-from", "sandpile"])
+        self.assertEqual(self.noted(), ["lib low", "rlib", "rlib.tar.gz", "run sandpile", "sandpile"])
         self.assertEqual((self.built("low"), (self.top / "crates/low/out/rlib.tar.gz").stat().st_mtime_ns), (["rlib.tar.gz"], packed))
         self.assertEqual(self.run_in("./build", "for-rt")[0], 0)
         self.assertEqual(files_in(self.top / "crates/low/out"), {"rlib/stamp": b"low\n"})
@@ -179,7 +179,18 @@ class OfBuild(OfScripts):
     def test_what_a_failed_build_has_proved_is_kept(self):
         Path(f"{self.log}.fail").touch()
         self.assertEqual(self.run_in("./build")[0], 1)
-        self.assertEqual((self.built("low"), self.built("sandpile")), (["rlib.tar.gz"], ["incremental"]))
+        self.assertEqual((self.built("low"), self.built("sandpile")), (["rlib.tar.gz"], ["incremental", "sandpile"]))
+
+    def test_what_a_failed_build_has_made_is_not_run(self):
+        main, failing = self.top / "crates/sandpile/src/main.rt", Path(f"{self.log}.fail")
+        self.run_in("./build")
+        before = main.read_text()
+        main.write_text("changed")
+        failing.touch()
+        self.assertEqual(self.run_in("./build")[0], 1)
+        main.write_text(before)
+        failing.unlink()
+        self.assertEqual(self.run_in("./sandpile")[:2], (0, f"{before}\n"))
 
     @needs("cc", "ar")
     def test_after_ci_nothing_is_left_to_build(self):
