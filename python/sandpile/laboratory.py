@@ -5,6 +5,7 @@ from __future__ import annotations
 import os
 import re
 import shutil
+import signal
 import subprocess
 from dataclasses import dataclass
 from pathlib import Path
@@ -17,6 +18,11 @@ from .faults import Fault
 
 _CHECKOUT = Path(__file__).resolve().parents[2] / "crates" / "sandpile" / "out" / "sandpile"
 _USAGE = 23
+# docs/FORMATS.md describes it.
+_OUTPUT = re.compile(
+    r"epoch drops topplings lost grains\n((?:\d+(?: \d+){4}\n)*)"
+    r"total \d+(?: \d+){3}\n\d+ \d+(?: c)?\n((?:\d+[ \n])*)odometer\n((?:\d+[ \n])*)"
+)
 
 #: The type of the rows of `Run.epochs`, one for each epoch.
 EPOCH = np.dtype([("epoch", "u8"), ("drops", "u8"), ("topplings", "u8"), ("lost", "u8"), ("grains", "u8")])
@@ -56,20 +62,38 @@ def _text_of(heights: Heights, cylinder: bool) -> str:
     return "\n".join([f"{width} {height}{' c' if cylinder else ''}", *rows, ""])
 
 
-def _fault_of(message: str) -> Fault:
-    """The fault that the program reports, in a fault line or in a message about its command line."""
-    line = re.search(r"^fault (\d+) (\w+)", message, re.M)
-    if line:
-        return Fault(int(line[1]), name=line[2])
-    return Fault(_USAGE, message.partition("\n")[0].removeprefix("error: "))
+def _error_of(ended: subprocess.CompletedProcess[str]) -> Exception:
+    """The fault that the program reports. If it reports none, something else ended it, or its output is cut off."""
+    said = ended.stderr.strip()
+    fault = re.search(r"^fault (\d+) (\w+)", said, re.M)
+    if ended.returncode == 1 and fault:
+        return Fault(int(fault[1]), name=fault[2])
+    if ended.returncode == 2:
+        return Fault(_USAGE, said.partition("\n")[0].removeprefix("error: "))
+    return RuntimeError(f"the program sandpile {_end_of(ended.returncode)}; on standard error: {said or 'nothing'}")
 
 
-def _run_of(text: str, shape: tuple[int, ...]) -> Run:
-    """Parses a table of epochs, its total, a pile, and its odometer."""
-    table, _, rest = text.partition("total ")
-    epochs = [tuple(map(int, line.split())) for line in table.splitlines()[1:]]
-    pile, odometer = (part.split("\n", 2)[2] if at == 0 else part for at, part in enumerate(rest.split("odometer\n")))
-    return Run(np.array(epochs, EPOCH), *(np.array(part.split(), np.uint64).reshape(shape) for part in (pile, odometer)))
+def _end_of(status: int) -> str:
+    """How the program ended."""
+    if status == 0:
+        return "wrote only a part of its output"
+    if status > 0:
+        return f"ended with status {status}"
+    try:
+        return f"was ended by {signal.Signals(-status).name}"
+    except ValueError:
+        return f"was ended by signal {-status}"
+
+
+def _run_of(text: str, shape: tuple[int, ...]) -> Run | None:
+    """Parses a table of epochs, its total, a pile, and its odometer. A text that is cut off is none."""
+    found = _OUTPUT.fullmatch(text)
+    if not found:
+        return None
+    epochs, pile, odometer = (np.array(part.split(), np.uint64) for part in found.groups())
+    if not pile.size == odometer.size == shape[0] * shape[1]:
+        return None
+    return Run(epochs.view(EPOCH), pile.reshape(shape), odometer.reshape(shape))
 
 
 def lab(
@@ -114,8 +138,11 @@ def lab(
         is outside its limits, or Memory (4).
     TypeError
         If `pile` is not a two-dimensional array of non-negative integers.
-    FileNotFoundError
-        If the program is not found.
+    OSError
+        If the program cannot be started; FileNotFoundError if it is not found.
+    RuntimeError
+        If the program ends without a result or a fault, by a signal for example. The error says how, and what the
+        program wrote to standard error.
 
     Examples
     --------
@@ -130,8 +157,10 @@ def lab(
     )
     words = [f"--{name}={value}" for name, value in options.items()]
     ended = subprocess.run(
-        [_program(), "lab", *words], input=_text_of(heights, cylinder), capture_output=True, text=True, check=False
+        [_program(), "lab", *words], input=_text_of(heights, cylinder), capture_output=True, check=False,
+        text=True, errors="backslashreplace",
     )
-    if ended.returncode:
-        raise _fault_of(ended.stderr)
-    return _run_of(ended.stdout, heights.shape)
+    run = None if ended.returncode else _run_of(ended.stdout, heights.shape)
+    if run is None:
+        raise _error_of(ended)
+    return run
