@@ -37,8 +37,8 @@ _TAKES = {
 def _places() -> list[str]:
     """Where the library may be, in order of preference: named, in this package, built in the checkout, known to the
     system."""
-    if "LIBSANDPILE" in os.environ:
-        return [os.environ["LIBSANDPILE"]]
+    if named := os.environ.get("LIBSANDPILE"):
+        return [named]
     files = (_HERE / _NAME, _CHECKOUT / _NAME)
     return [*(str(file) for file in files if file.exists()), _NAME]
 
@@ -49,13 +49,23 @@ def _load() -> ctypes.CDLL:
         library = ctypes.CDLL(place)
     except OSError as error:
         raise ImportError(f"{place} cannot be loaded ({error}); in the repository, ./build library builds it") from None
-    for name, takes in _TAKES.items():
-        export = getattr(library, f"sandpile_{name}")
-        export.argtypes, export.restype = takes, ctypes.c_uint32
-    major = library.sandpile_version() // 10000
-    if major != _MAJOR:
-        raise ImportError(f"{place} has version {major}.x, but this module needs version {_MAJOR}.x")
+    try:
+        # Another major version may have other calls, so the version comes first.
+        major = _declared(library, "version")() // 10000
+        if major != _MAJOR:
+            raise ImportError(f"{place} has version {major}.x, but this module needs version {_MAJOR}.x")
+        for name in _TAKES:
+            _declared(library, name)
+    except AttributeError as error:
+        raise ImportError(f"{place} is no libsandpile, or is older than this module: {error}") from None
     return library
+
+
+def _declared(library: ctypes.CDLL, name: str) -> Any:
+    """An export, with the types that it takes and returns."""
+    export = getattr(library, f"sandpile_{name}")
+    export.argtypes, export.restype = _TAKES[name], ctypes.c_uint32
+    return export
 
 
 library = _load()
