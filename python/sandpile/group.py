@@ -13,8 +13,8 @@ from ._library import call
 from .burning import burn
 from .faults import Fault
 
-# The library takes factors below 2**64. Larger ones are split at this bit.
-_BITS = 63
+# A pile has fewer grains than 2 to this.
+_GRAIN_BITS = 40
 
 
 class Recurrent:
@@ -22,7 +22,7 @@ class Recurrent:
 
     ``a + b``, ``a - b``, ``-a``, ``n * a`` for any integer ``n``, and ``a == b`` are those of the group. Elements are
     hashable. ``numpy.asarray(a)`` and ``a.pile`` are the heights, and ``a[row, column]`` is one of them. ``==`` with an
-    array compares site by site; the sum with an array is not defined.
+    array compares site by site; the sum or product with an array of any kind is a `TypeError`.
 
     Parameters
     ----------
@@ -96,9 +96,19 @@ class Recurrent:
     def _is_beside(self, other: Recurrent) -> bool:
         return self.shape == other.shape and self._cylinder == other._cylinder
 
+    def _refuse(self, other: object) -> Any:
+        """Raises an error for an array, before its class can take the heights site by site, as masked arrays do."""
+        if isinstance(other, np.ndarray):
+            raise TypeError(
+                "the group adds elements, and multiplies them by integers; recurrent(array) is the element of an array"
+            )
+        return NotImplemented
+
+    __truediv__ = __floordiv__ = __mod__ = __pow__ = __matmul__ = _refuse
+
     def __add__(self, other: Recurrent) -> Recurrent:
         if not isinstance(other, Recurrent):
-            return NotImplemented
+            return self._refuse(other)
         if not self._is_beside(other):
             raise Fault(9)
         return self._made("add", other._pile)
@@ -108,19 +118,31 @@ class Recurrent:
 
     def __sub__(self, other: Recurrent) -> Recurrent:
         if not isinstance(other, Recurrent):
-            return NotImplemented
+            return self._refuse(other)
         return self + -other
 
     def __mul__(self, times: int) -> Recurrent:
+        if isinstance(times, np.ndarray) and (times.ndim or type(times) is not np.ndarray):
+            return self._refuse(times)
         try:
             times = operator.index(times)
         except TypeError:
             return NotImplemented
-        if times < 0:
-            return -self * -times
-        high, low = times >> _BITS, times & ((1 << _BITS) - 1)
-        multiple = self._made("multiple", low)
-        return multiple + self._made("multiple", 1 << _BITS) * high if high else multiple
+        return self._multiple(times) if times >= 0 else (-self)._multiple(-times)
+
+    def _multiple(self, n: int) -> Recurrent:
+        """The sum of `n` copies. The library takes an `n` below 2**64. The bits of a larger one are read from the highest
+        on, as many at once as a pile has room for: the pile so far is doubled for each, and the copies are added."""
+        if n < 1 << 64:
+            return self._made("multiple", n)
+        most = _GRAIN_BITS - 1 - (3 * self._pile.size).bit_length()
+        bits = f"{n:b}"
+        bits = bits.zfill(-(-len(bits) // most) * most)
+        heights = np.zeros_like(self._pile)
+        for at in range(0, len(bits), most):
+            heights = (heights << most) + self._pile * int(bits[at : at + most], 2)
+            call("recurrent", heights.shape, self._cylinder, heights)
+        return Recurrent._known(heights, self._cylinder)
 
     __rmul__ = __mul__
 

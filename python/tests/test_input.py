@@ -1,6 +1,8 @@
 """What the module accepts as a pile, and what it rejects. No argument is modified."""
 
+import operator
 import pickle
+import random
 import unittest
 
 import numpy as np
@@ -123,6 +125,24 @@ class Refused(unittest.TestCase):
         self.assertRaises(TypeError, lambda: a * 1.5)
         self.assertRaises(TypeError, lambda: a * b)
 
+    def test_arrays_have_no_sum_with_an_element(self):
+        class Own(np.ndarray):
+            def __radd__(self, _):
+                return "a sum outside the group"
+
+            __rsub__ = __rmul__ = __rtruediv__ = __radd__
+
+        a, ones = sandpile.identity((3, 4)), np.ones((3, 4), int)
+        arrays = [ones, np.ma.array(ones), np.ma.masked, np.ma.array(3, mask=True), ones.T.view(np.matrix), ones.view(Own)]
+        for array in [*arrays, np.array([2])]:
+            for name in ("add", "sub", "mul", "truediv", "floordiv", "mod", "pow", "matmul"):
+                with self.subTest(type=type(array).__name__, name=name):
+                    self.assertRaisesRegex(TypeError, "the group adds elements", getattr(operator, name), a, array)
+            for name in ("add", "sub", "mul"):
+                with self.subTest(type=type(array).__name__, name=name):
+                    self.assertRaises(TypeError, getattr(operator, name), array, a)
+        self.assertEqual(a + a, np.array(2) * a)
+
     def test_a_fault_can_be_passed_to_another_process(self):
         fault = pickle.loads(pickle.dumps(sandpile.Fault(25, "drop 3 is outside")))
         self.assertEqual((fault.number, fault.name, fault.sentence), (25, "NoSite", "drop 3 is outside"))
@@ -199,6 +219,14 @@ class Group(unittest.TestCase):
                 for n in (2**63 - 1, 2**63, 2**64 - 1, 2**64, 10**40, -(10**40)):
                     self.assertEqual(n * a - (n - 1) * a, a)
                 self.assertEqual(0 * a, neutral)
+
+    def test_multiples_of_any_length(self):
+        # The orders of the groups on 1 by 1, 2 by 2 and 3 by 3 (https://oeis.org/A007341).
+        for side, order in ((1, 4), (2, 192), (3, 100_352)):
+            a, chance = sandpile.recurrent(np.arange(side * side).reshape(side, side)), random.Random(side)
+            for n in [2**63000, 2**64 - 1, 2**64, order * 10**9000, 2**9000 - 1, *(chance.getrandbits(9000) for _ in range(5))]:
+                for times in (n, n + 1, -n):
+                    self.assertEqual(times * a, times % order * a)
 
     def test_elements_in_a_set(self):
         a = sandpile.Recurrent([[3, 2], [2, 2]])
