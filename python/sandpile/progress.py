@@ -2,6 +2,7 @@
 
 from __future__ import annotations
 
+import contextlib
 import sys
 import time
 from types import TracebackType
@@ -9,32 +10,58 @@ from typing import Any
 
 
 class Bar:
-    """Shows how many of `total` drops are done: with tqdm if it is installed, else on a line that is overwritten."""
+    """Shows how many of `total` drops are done: with tqdm if it is installed, else on a line that is overwritten.
+
+    No failure to show them ends the call: if tqdm fails, the line is written, and if that fails, nothing.
+    """
 
     def __init__(self, total: int, is_shown: bool) -> None:
         self._total, self._shown_at, self._is_shown = total, 0.0, is_shown
         self._tqdm: Any = None
+        self._lock: Any = None  # of tqdm
 
     def __enter__(self) -> Bar:
         if self._is_shown:
             try:
                 from tqdm.auto import tqdm
 
+                self._lock = tqdm.get_lock()
                 self._tqdm = tqdm(total=self._total, unit="drop", unit_scale=True)
-            except ImportError:
-                pass
+            except Exception:
+                self._release()
         return self
 
     def show(self, done: int) -> None:
         """Shows that `done` drops are done, at most ten times a second."""
         if self._tqdm is not None:
-            self._tqdm.update(done - self._tqdm.n)
-        elif self._is_shown and (done == self._total or time.monotonic() - self._shown_at > 0.1):
+            try:
+                self._tqdm.update(done - self._tqdm.n)
+                return
+            except Exception:
+                self._tqdm = None
+                self._release()
+        if done == self._total or time.monotonic() - self._shown_at > 0.1:
             self._shown_at = time.monotonic()
-            print(f"\r{done:,} of {self._total:,} drops", end="", file=sys.stderr, flush=True)
+            self._write(f"\r{done:,} of {self._total:,} drops")
 
     def __exit__(self, kind: type[BaseException] | None, error: BaseException | None, trace: TracebackType | None) -> None:
+        if kind is not None:
+            self._release()
         if self._tqdm is not None:
-            self._tqdm.close()
-        elif self._is_shown:
-            print(file=sys.stderr)
+            with contextlib.suppress(Exception):
+                self._tqdm.close()
+                return
+        self._write("\n")
+
+    def _release(self) -> None:
+        """Frees the lock of tqdm, which keeps it if it fails or is stopped while it writes. Its own thread would wait
+        for it when the program ends."""
+        with contextlib.suppress(Exception):
+            self._lock.release()
+
+    def _write(self, text: str) -> None:
+        if self._is_shown and sys.stderr is not None:  # `print` takes None for standard output
+            try:
+                print(text, end="", file=sys.stderr, flush=True)
+            except Exception:
+                self._is_shown = False

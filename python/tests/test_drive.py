@@ -7,7 +7,9 @@ import random
 import signal
 import subprocess
 import sys
+import threading
 import time
+import types
 import unittest
 from concurrent.futures import ThreadPoolExecutor
 from pathlib import Path
@@ -15,9 +17,10 @@ from unittest import mock
 
 import numpy as np
 import sandpile
-from tools import new_folder, same
+from tools import new_folder, ran, same
 
 FULL = np.full((32, 32), 3)
+MODULE = str(Path(sandpile.__file__).parents[1])
 
 
 def all_of(run):
@@ -122,6 +125,84 @@ class Drops(unittest.TestCase):
             self.assertRegex(shown.getvalue(), r"20,000 of 20,000 drops\n$" if modules else r"20\.0k")
 
 
+class Broken:
+    """A tqdm of which one step fails, and which then keeps its lock."""
+
+    n = 0
+
+    def __init__(self, step, error=AttributeError):
+        self.step, self.error, self.lock = step, error, threading.RLock()
+
+    def __call__(self, **_):
+        self.fail("start")
+        return self
+
+    def get_lock(self):
+        return self.lock
+
+    def update(self, more):
+        self.fail("update" if self.n else "first update")
+        self.n += more
+
+    def close(self):
+        self.fail("close")
+
+    def fail(self, step):
+        if step == self.step:
+            self.lock.acquire()
+            raise self.error(f"{step} fails")
+
+    def is_free(self):
+        """Whether another thread can take the lock."""
+        with ThreadPoolExecutor(1) as pool:
+            return pool.submit(self.lock.acquire, blocking=False).result()
+
+
+class Shut(io.StringIO):
+    """A standard error that fails."""
+
+    def write(self, _):
+        raise BrokenPipeError
+
+
+class Progress(unittest.TestCase):
+    def shown(self, modules, error):
+        """What is written on this standard error while grains drop, all of them."""
+        run, written = sandpile.Drive(FULL), io.StringIO()
+        with mock.patch.dict(sys.modules, modules), mock.patch("sys.stderr", error), mock.patch("sys.stdout", written):
+            self.assertEqual(len(run.drop(20_000, progress=True)), 20_000)
+        self.assertEqual((run.drops, written.getvalue()), (20_000, ""))
+        return error.getvalue() if isinstance(error, io.StringIO) and not error.closed else None
+
+    def test_a_tqdm_that_fails(self):
+        for step in ("start", "first update", "update"):
+            tqdm = Broken(step)
+            with self.subTest(step=step):
+                shown = self.shown({"tqdm.auto": types.SimpleNamespace(tqdm=tqdm)}, io.StringIO())
+                self.assertRegex(shown, r"\r20,000 of 20,000 drops\n$")
+                self.assertTrue(tqdm.is_free())
+        self.assertEqual(self.shown({"tqdm.auto": types.SimpleNamespace(tqdm=Broken("close"))}, io.StringIO()), "\n")
+        self.assertRegex(self.shown({"tqdm.auto": types.SimpleNamespace()}, io.StringIO()), " drops\n$")
+
+    def test_a_tqdm_that_is_stopped(self):
+        run, tqdm = sandpile.Drive(FULL), Broken("update", KeyboardInterrupt)
+        with mock.patch.dict(sys.modules, {"tqdm.auto": types.SimpleNamespace(tqdm=tqdm)}):
+            self.assertRaises(KeyboardInterrupt, run.drop, 20_000, progress=True)
+        self.assertEqual((len(run.table), tqdm.is_free()), (2 * 8192, True))
+
+    def test_a_standard_error_that_fails(self):
+        shut = io.StringIO()
+        shut.close()
+        for modules in ({}, {"tqdm.auto": None}):
+            for error in (shut, Shut(), None):
+                self.shown(modules, error)
+
+    def test_a_standard_error_that_is_closed(self):
+        script = "import sandpile; print(len(sandpile.Drive([[3]]).drop(9, progress=True)))"
+        words = ["sh", "-c", f"exec '{sys.executable}' -c '{script}' 2>&-"]
+        self.assertEqual(ran(*words, env={"PYTHONPATH": MODULE}), "9\n")
+
+
 class Threads(unittest.TestCase):
     def test_replicas_in_threads_are_those_one_after_another(self):
         def replica(stream):
@@ -177,7 +258,7 @@ class Stopped(unittest.TestCase):
     def test_ctrl_c_keeps_what_was_done(self):
         child = subprocess.Popen(
             [sys.executable, "-c", STOPPED], stdout=subprocess.PIPE, stderr=subprocess.PIPE, text=True,
-            env={"PYTHONPATH": str(Path(sandpile.__file__).parents[1])},
+            env={"PYTHONPATH": MODULE},
         )
         chance = random.Random(3)
         for _ in range(4):
