@@ -3,13 +3,14 @@
 from __future__ import annotations
 
 import os
+import threading
 from dataclasses import dataclass, replace
-from pathlib import Path
-from typing import Callable, Iterator
+from typing import Any, Callable, Iterator, Tuple
 
 import numpy as np
 from numpy.typing import ArrayLike, NDArray
 
+from . import _saves
 from ._arrays import Heights, count_of, heights_of, sites_of
 from ._library import call
 from .faults import Fault
@@ -28,6 +29,10 @@ _AVALANCHE = np.dtype([("site", np.uintp), *_FOUND])
 
 #: The type of the rows that `Drive.drop` returns, one for each drop.
 AVALANCHE = np.dtype([("number", "u8"), ("site", np.intp), *_FOUND])
+
+# How many drops a call asks for, and the sites of a part of them.
+_Sites = Callable[[int, int], NDArray[np.uintp]]
+_Asked = Tuple[int, _Sites]
 
 
 @dataclass(frozen=True)
@@ -73,7 +78,8 @@ class Drive:
 
     Notes
     -----
-    Use a `Drive` in one thread at a time. Different ones can run in parallel in different threads.
+    Use a `Drive` in one thread at a time: while a call drops grains, another one that would is refused, but other
+    threads may read the run and save it. Different ones can run in parallel in different threads.
 
     Examples
     --------
@@ -152,7 +158,8 @@ class Drive:
         n : int
             Number of grains.
         progress : bool
-            Whether to show the progress on standard error, with tqdm if it is installed.
+            Whether to show the progress on standard error, with tqdm if it is installed. If it cannot be shown, the
+            drops are made without.
 
         Returns
         -------
@@ -168,6 +175,8 @@ class Drive:
             or Memory (4), which keeps the blocks before it, like Ctrl-C.
         TypeError
             If `n` is not an integer.
+        RuntimeError
+            If another call is dropping grains on this run, in another thread.
 
         Examples
         --------
@@ -175,7 +184,7 @@ class Drive:
         >>> sandpile.Drive([[3]]).drop(5)["size"]
         array([1, 0, 0, 0, 1], dtype=uint64)
         """
-        return self._drop(count_of(n, "n"), self._draw, progress, draws=True)
+        return self._drop(lambda: (count_of(n, "n"), self._draw), progress, draws=True)
 
     def drop_at(self, sites: ArrayLike) -> NDArray[np.void]:
         """Drops a grain at each of these sites in turn. Uses no random sites.
@@ -197,6 +206,8 @@ class Drive:
             NoSite (25) if a site is outside the grid, Full (6) or Memory (4), as from `drop`.
         TypeError
             If the sites are not integers, or have more than one dimension.
+        RuntimeError
+            As from `drop`.
 
         Examples
         --------
@@ -204,8 +215,12 @@ class Drive:
         >>> sandpile.Drive([[0, 3, 0]]).drop_at([1, 1])["size"]
         array([1, 0], dtype=uint64)
         """
-        at = sites_of(sites, self._state.pile.size)
-        return self._drop(at.size, lambda begin, end: at[begin:end], progress=False, draws=False)
+
+        def asked() -> _Asked:
+            at = sites_of(sites, self._state.pile.size)
+            return at.size, lambda begin, end: at[begin:end]
+
+        return self._drop(asked, progress=False, draws=False)
 
     def _draw(self, begin: int, end: int) -> NDArray[np.uintp]:
         """The next sites of the stream, after those used so far."""
@@ -213,21 +228,43 @@ class Drive:
         call("sites", self._state.pile.shape, self._cylinder, self._seed, self._stream, self._state.drawn, sites)
         return sites
 
-    def _drop(
-        self, n: int, sites: Callable[[int, int], NDArray[np.uintp]], progress: bool, draws: bool
-    ) -> NDArray[np.void]:
-        if self._start_grains + self._state.drops + n > _MOST_GRAINS:
-            raise Fault(6)
+    def _drop(self, ask: Callable[[], _Asked], progress: bool, draws: bool) -> NDArray[np.void]:
+        """Makes the drops that `ask` returns when it has checked the arguments."""
+        lock = self._lock()
+        if lock.locked():
+            raise RuntimeError("another call is dropping grains on this Drive: use it in one thread at a time")
+        # Ctrl-C could come between an `acquire` that does not wait and its `try`. So a call that begins at the very
+        # same moment waits.
+        with lock:
+            n, sites, table = self._begun(ask)
+            with Bar(n, progress) as bar:
+                for begin, end in _blocks(n, self._state.pile.size):
+                    self._keep(table, begin, sites(begin, end), draws)
+                    bar.show(end)
+            return self._state.table
+
+    def _lock(self) -> threading.Lock:
+        """The lock that a call holds while it drops grains. A forked child has a new one: it has no other threads."""
+        locks: dict[int, threading.Lock] = vars(self).setdefault("_locks", {})
+        return locks.setdefault(os.getpid(), threading.Lock())
+
+    def __getstate__(self) -> dict[str, Any]:
+        """All but the locks, which cannot be pickled: a copy has its own."""
+        return {name: value for name, value in vars(self).items() if name != "_locks"}
+
+    def _begun(self, ask: Callable[[], _Asked]) -> tuple[int, _Sites, NDArray[np.void]]:
+        """What `ask` returns, and the table to fill. From here on, Ctrl-C leaves no row of the call before; a refused
+        call changes nothing."""
+        was = self._state
+        self._state = replace(was, table=np.empty(0, AVALANCHE))
         try:
-            table = np.empty(n, AVALANCHE)
-        except MemoryError:
-            raise Fault(4, f"not enough memory for a table of {n} drops") from None
-        self._state = replace(self._state, table=table[:0])
-        with Bar(n, progress) as bar:
-            for begin, end in _blocks(n, self._state.pile.size):
-                self._keep(table, begin, sites(begin, end), draws)
-                bar.show(end)
-        return self._state.table
+            n, sites = ask()
+            if self._start_grains + was.drops + n > _MOST_GRAINS:
+                raise Fault(6)
+            return n, sites, _new_table(n)
+        except Exception:
+            self._state = was
+            raise
 
     def _keep(self, table: NDArray[np.void], begin: int, sites: NDArray[np.uintp], draws: bool) -> None:
         """Drops a block, and stores its result in one step: Ctrl-C finds all of it or nothing."""
@@ -253,7 +290,8 @@ class Drive:
         Parameters
         ----------
         path : str or path
-            The file; `.npz` is added to a name without it. If writing fails, an existing file is unchanged.
+            The file; `.npz` is added to a name without it. It is replaced in one step: if writing fails, an existing
+            file is unchanged, and if threads or processes save to one name at once, the file is one of their saves.
 
         Raises
         ------
@@ -271,17 +309,9 @@ class Drive:
         >>> bool((run.drop(50) == again.drop(50)).all())
         True
         """
-        state, path = self._state, _npz(path)
-        numbers = [self._seed, self._stream, self._cylinder, self._start_grains, state.lost, state.drops, state.drawn]
-        beside = path.with_name(f"{path.name}.{os.getpid()}.part")
-        try:
-            with open(beside, "wb") as file:
-                np.savez_compressed(
-                    file, pile=state.pile, odometer=state.odometer, **dict(zip(_NUMBERS, map(np.uint64, numbers)))
-                )
-            os.replace(beside, path)
-        finally:
-            beside.unlink(missing_ok=True)
+        state = self._state
+        numbers = (self._seed, self._stream, self._cylinder, self._start_grains, state.lost, state.drops, state.drawn)
+        _saves.write(path, _saves.Saved(state.pile, state.odometer, *numbers))
 
     @classmethod
     def load(cls, path: str | os.PathLike[str]) -> Drive:
@@ -297,7 +327,10 @@ class Drive:
         OSError
             If the file cannot be read.
         TypeError
-            If the file was not written by `save`.
+            If the file was not written by `save`, or is damaged. Settling all grains that the run was given must yield
+            its pile, its odometer and its lost grains.
+        Fault
+            Memory (4).
 
         Examples
         --------
@@ -307,18 +340,10 @@ class Drive:
         ...     sandpile.Drive.load(os.path.join(folder, "run"))
         <Drive: 1 by 2, seed 7, stream 2, 0 drops>
         """
-        try:
-            with np.load(_npz(path), allow_pickle=False) as saved:
-                pile, odometer = heights_of(saved["pile"]), heights_of(saved["odometer"])
-                numbers = [int(saved[name]) for name in _NUMBERS]
-        except (KeyError, ValueError, EOFError) as error:
-            raise TypeError(f"{path} is not a saved run: {error}") from None
-        seed, stream, cylinder, grains, lost, drops, drawn = numbers
-        run = cls(pile, seed, stream, bool(cylinder))
-        if odometer.shape != pile.shape or not np.array_equal(run.pile, pile):
-            raise TypeError(f"{path} is not a saved run: its pile or odometer is invalid")
-        run._start_grains = grains
-        run._state = _State(pile, odometer, lost, drops, drawn, np.empty(0, AVALANCHE))
+        saved = _saves.read(path)
+        run = cls(saved.pile, saved.seed, saved.stream, bool(saved.cylinder))
+        run._start_grains = saved.start_grains
+        run._state = _State(saved.pile, saved.odometer, saved.lost, saved.drops, saved.drawn, run.table)
         return run
 
     def __repr__(self) -> str:
@@ -327,12 +352,11 @@ class Drive:
         return f"<Drive: {height} by {width}{edge}, seed {self._seed}, stream {self._stream}, {self.drops} drops>"
 
 
-_NUMBERS = ("seed", "stream", "cylinder", "start_grains", "lost", "drops", "drawn")
-
-
-def _npz(path: str | os.PathLike[str]) -> Path:
-    path = Path(path)
-    return path if path.suffix == ".npz" else path.with_name(f"{path.name}.npz")
+def _new_table(n: int) -> NDArray[np.void]:
+    try:
+        return np.empty(n, AVALANCHE)
+    except MemoryError:
+        raise Fault(4, f"not enough memory for a table of {n} drops") from None
 
 
 def _blocks(n: int, sites: int) -> Iterator[tuple[int, int]]:

@@ -62,6 +62,8 @@ try_call("settle", lambda: sandpile.settle(pile), lambda: [pile])
 try_call("high", lambda: sandpile.settle(high), lambda: [high])
 # The first drop that succeeds ends the test, so the run does not change before.
 try_call("drop", lambda: run.drop_at([0, 1, 2]), lambda: [run.pile, run.odometer, run.lost, run.drops])
+run.save("run")
+try_call("load", lambda: sandpile.Drive.load("run"), lambda: [])
 try_call("burn", lambda: sandpile.burn(a), lambda: [a.pile])
 try_call("identity", lambda: sandpile.identity((9, 7)), lambda: [])
 try_call("recurrent", lambda: sandpile.recurrent(pile), lambda: [pile])

@@ -1,7 +1,9 @@
 """Runs of drops: in one call or in many, stopped, saved, and in parallel threads."""
 
 import contextlib
+import copy
 import io
+import os
 import pickle
 import random
 import signal
@@ -17,6 +19,7 @@ from unittest import mock
 
 import numpy as np
 import sandpile
+from sandpile import driving
 from tools import new_folder, ran, same
 
 FULL = np.full((32, 32), 3)
@@ -203,7 +206,59 @@ class Progress(unittest.TestCase):
         self.assertEqual(ran(*words, env={"PYTHONPATH": MODULE}), "9\n")
 
 
+class Held:
+    """Holds the first block of drops until it is let go."""
+
+    def __init__(self):
+        self.is_there, self.go, self.block = threading.Event(), threading.Event(), driving._block
+
+    def __call__(self, *words):
+        if not self.is_there.is_set():
+            self.is_there.set()
+            self.go.wait(60)
+        return self.block(*words)
+
+
+@contextlib.contextmanager
+def dropping(run, n):
+    """Meanwhile another thread drops `n` grains on a run, and its first block is not yet made. Yields its table to be."""
+    held = Held()
+    with mock.patch.object(driving, "_block", held), ThreadPoolExecutor(1) as pool:
+        table = pool.submit(run.drop, n)
+        held.is_there.wait(60)
+        try:
+            yield table
+        finally:
+            held.go.set()
+
+
 class Threads(unittest.TestCase):
+    def test_one_run_in_two_threads(self):
+        run, path = sandpile.Drive(FULL, seed=6), new_folder(self) / "run"
+        with dropping(run, 10_000) as table:
+            for call, word in ((run.drop, 5), (run.drop_at, [0, 1]), (run.drop, 0)):
+                with self.assertRaisesRegex(RuntimeError, "another call is dropping grains on this Drive"):
+                    call(word)
+            run.save(path)
+            self.assertEqual([run.drops, sandpile.Drive.load(path).drops, pickle.loads(pickle.dumps(run)).drops], [0] * 3)
+        other = sandpile.Drive(FULL, seed=6)
+        self.assertTrue(same(table.result(), other.drop(10_000)))
+        self.assertTrue(same(run.drop(10), other.drop(10)))
+
+    def test_a_copy_and_a_child_are_runs_of_their_own(self):
+        run = sandpile.Drive(FULL, seed=6)
+        with dropping(run, 10):
+            again = pickle.loads(pickle.dumps(run))
+            self.assertEqual([len(again.drop(5)), len(copy.copy(run).drop(5))], [5, 5])
+            child = os.fork()
+            if not child:
+                with contextlib.suppress(BaseException):
+                    run.drop(5)
+                    os._exit(0)
+                os._exit(1)
+            self.assertEqual(os.waitstatus_to_exitcode(os.waitpid(child, 0)[1]), 0)
+        self.assertEqual(run.drops, 10)
+
     def test_replicas_in_threads_are_those_one_after_another(self):
         def replica(stream):
             run = sandpile.Drive(np.full((64, 64), 3), seed=1, stream=stream)
@@ -254,7 +309,36 @@ print("kept", run.drops)
 """
 
 
+class Interrupting:
+    """An argument in whose check Ctrl-C comes."""
+
+    def __index__(self):
+        raise KeyboardInterrupt
+
+    def __array__(self, *_, **__):
+        raise KeyboardInterrupt
+
+
 class Stopped(unittest.TestCase):
+    def test_a_stopped_call_has_no_rows_of_the_call_before(self):
+        run = sandpile.Drive(FULL, seed=6)
+        for call in (run.drop, run.drop_at):
+            run.drop(5)
+            self.assertRaises(KeyboardInterrupt, call, Interrupting())
+            self.assertEqual((len(run.table), run.table.dtype), (0, sandpile.AVALANCHE))
+        run.drop(5)
+        with mock.patch.object(driving, "_block", side_effect=KeyboardInterrupt):
+            self.assertRaises(KeyboardInterrupt, run.drop, 5)
+        self.assertEqual((len(run.table), run.drops), (0, 15))
+        self.assertEqual(run.drop(5)["number"].tolist(), [15, 16, 17, 18, 19])
+
+    def test_a_refused_call_keeps_the_table(self):
+        run = sandpile.Drive(FULL)
+        table = run.drop(5)
+        for call, word in ((run.drop, -1), (run.drop, "5"), (run.drop, 2**40), (run.drop_at, [1024]), (run.drop_at, [0.5])):
+            self.assertRaises((TypeError, sandpile.Fault), call, word)
+            self.assertIs(run.table, table)
+
     def test_ctrl_c_keeps_what_was_done(self):
         child = subprocess.Popen(
             [sys.executable, "-c", STOPPED], stdout=subprocess.PIPE, stderr=subprocess.PIPE, text=True,

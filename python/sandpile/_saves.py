@@ -1,0 +1,120 @@
+"""The file of a saved run: written in one step, and checked when it is read."""
+
+from __future__ import annotations
+
+import io
+import os
+import zipfile
+from dataclasses import dataclass, fields
+from pathlib import Path
+from typing import Any
+
+import numpy as np
+from numpy.lib import format as _format
+from numpy.typing import NDArray
+
+from ._arrays import Heights, count_of, heights_of
+from .faults import Fault
+from .settling import settle
+
+# A save is shorter, and so is each array in it.
+_MOST_BYTES = 1 << 21
+_MEMORY = 4
+# NumPy gives them no types.
+_read_magic: Any = _format.read_magic
+_read_header: Any = _format.read_array_header_1_0
+
+
+@dataclass(frozen=True)
+class Saved:
+    """A run, without its last table. The file has an array with the name of each field."""
+
+    pile: Heights
+    odometer: Heights
+    seed: int
+    stream: int
+    cylinder: int  # 0 or 1
+    start_grains: int
+    lost: int
+    drops: int
+    drawn: int
+
+
+def write(path: str | os.PathLike[str], saved: Saved) -> None:
+    """Writes a file under a name that no other call uses, then renames it: nobody ever reads a part of it."""
+    path = _npz(path)
+    beside = path.with_name(f"{path.name}.{os.urandom(8).hex()}.part")
+    try:
+        with open(beside, "xb") as file:
+            np.savez_compressed(file, **{name: np.asarray(value, np.uint64) for name, value in vars(saved).items()})
+        os.replace(beside, path)
+    finally:
+        beside.unlink(missing_ok=True)
+
+
+def read(path: str | os.PathLike[str]) -> Saved:
+    """Reads a file, and raises a TypeError unless it holds a possible run."""
+    with open(_npz(path), "rb") as file:
+        content = file.read(_MOST_BYTES)
+    try:
+        return _checked(_arrays_of(content))
+    except MemoryError:
+        raise Fault(_MEMORY) from None
+    except Exception as error:  # of a damaged file, zipfile and NumPy raise many kinds
+        if isinstance(error, Fault) and error.number == _MEMORY:
+            raise
+        raise TypeError(f"{path} is not a saved run, or is damaged: {error}") from None
+
+
+def _arrays_of(content: bytes) -> dict[str, NDArray[Any]]:
+    """The arrays in the content of a file. Each is read to its end, where its CRC-32 is compared."""
+    with zipfile.ZipFile(io.BytesIO(content)) as archive:
+        names = [field.name for field in fields(Saved)]
+        return {name: _array_of(archive.open(f"{name}.npy").read(_MOST_BYTES)) for name in names}
+
+
+def _array_of(member: bytes) -> NDArray[Any]:
+    """The array in a file of NumPy's. `numpy.load` would first make room for the shape that the file names."""
+    file = io.BytesIO(member)
+    _read_magic(file)
+    shape, is_fortran, kind = _read_header(file)
+    return np.frombuffer(file.read(), kind).reshape(shape, order="F" if is_fortran else "C")
+
+
+def _checked(arrays: dict[str, NDArray[Any]]) -> Saved:
+    """The run of these arrays. Whatever the order of its drops, settling all its grains at once yields the same pile,
+    odometer and lost grains."""
+    pile, odometer = heights_of(arrays.pop("pile")), heights_of(arrays.pop("odometer"))
+    saved = Saved(pile, odometer, **{name: _number(array, name) for name, array in arrays.items()})
+    given = _given(saved)
+    settled = settle(given, bool(saved.cylinder))
+    if not (
+        saved.cylinder <= 1
+        and saved.drawn <= saved.drops
+        and int(given.sum()) == saved.start_grains + saved.drops
+        and np.array_equal(settled.pile, pile)
+        and np.array_equal(settled.odometer, odometer)
+        and settled.lost == saved.lost
+    ):
+        raise ValueError("its values contradict each other")
+    return saved
+
+
+def _number(array: NDArray[Any], name: str) -> int:
+    if array.dtype.kind not in "iu" or array.shape:
+        raise ValueError(f"{name} must be an integer, but is an array of shape {array.shape} and type {array.dtype}")
+    return count_of(int(array), name)
+
+
+def _given(saved: Saved) -> Heights:
+    """The grains that each site was given, at the start and by drops: what it has and what it passed on, less what it
+    took from its neighbours. With the odometer of no run, this may wrap around; settling then shows it."""
+    rows = np.pad(saved.odometer, ((1, 1), (0, 0)))
+    toppled = np.pad(rows, ((0, 0), (1, 1)), "wrap" if saved.cylinder else "constant")
+    taken: Heights = toppled[:-2, 1:-1] + toppled[2:, 1:-1] + toppled[1:-1, :-2] + toppled[1:-1, 2:]
+    return saved.pile + (saved.odometer << 2) - taken
+
+
+def _npz(path: str | os.PathLike[str]) -> Path:
+    path = Path(path)
+    return path if path.suffix == ".npz" else path.with_name(f"{path.name}.npz")
