@@ -36,7 +36,11 @@ pile_on g heights = if length heights == sites g
     then (if nat_lt most_grains (sum heights) then Err TooManyGrains else Ok (record { grid = g; heights = heights }))
     else Err Length
 
--- the pile with these heights on the grid with these sides and this edge, if it has `places` sites
+-- the pile with these heights on the grid with these sides and this edge
+abbrev pub pile_of : ℕ → ℕ → Bool → List ℕ → Result PileView Fault
+pile_of width height cylinder heights = grid_of width height cylinder >>= λ g. pile_on g heights
+
+-- the same, if it has `places` sites
 abbrev pub pile_with : ℕ → ℕ → Bool → List ℕ → ℕ → Result PileView Fault
 pile_with width height cylinder heights places =
     grid_of width height cylinder >>= λ g.
@@ -55,3 +59,8 @@ Answers n (Err fault) = n ≡ number_of fault
 -- what a call returns: 0, or the number of such a fault
 abbrev pub IsAnswer : ℕ → (Fault → Type 0) → Type 0
 IsAnswer n Is = (n ≡ 0) ⊎ ((fault : Fault) × (n ≡ number_of fault) × Is fault)
+
+-- what a call returns that needs no memory: the number of the fault in its arguments, or 0
+abbrev pub Returns : {A : Type 0} → ℕ → Result A Fault → Type 0
+Returns n (Ok x) = n ≡ 0
+Returns n (Err fault) = n ≡ number_of fault

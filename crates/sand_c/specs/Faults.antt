@@ -9,7 +9,7 @@ use Rattle.sand_model.specs.declared.faults.PileFault.TheVariants as pile
 use Rattle.sand_settle.specs.declared.faults.OneFault.{OneFault}
 use Rattle.sand_settle.specs.declared.faults.OneFault.TheVariants as one
 use Rattle.sand_c.specs.declared.faults.Fault.{Fault}
-use Rattle.sand_c.specs.declared.faults.Fault.TheVariants.{Side, Length, TooManyGrains, Memory, Full, Unstable, NotRecurrent, Shapes, Narrow, NoSite}
+use Rattle.sand_c.specs.declared.faults.Fault.TheVariants.{Side, Length, TooManyGrains, Memory, Full, Unstable, NotRecurrent, Shapes, TooMuch, Rows, Apart, Spent, Missing, Taken, Narrow, NoSite, Empty, OtherPile}
 
 abbrev pub number_of : Fault → ℕ
 number_of Side = 1
@@ -20,8 +20,16 @@ number_of Full = 6
 number_of Unstable = 7
 number_of NotRecurrent = 8
 number_of Shapes = 9
+number_of TooMuch = 10
+number_of Rows = 11
+number_of Apart = 12
+number_of Spent = 13
+number_of Missing = 14
+number_of Taken = 17
 number_of Narrow = 24
 number_of NoSite = 25
+number_of Empty = 26
+number_of OtherPile = 27
 
 abbrev pub of_shape : ShapeFault → Fault
 of_shape shape.Side = Side

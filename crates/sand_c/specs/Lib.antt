@@ -1,11 +1,17 @@
 pub mod Adding
 pub mod Arguments
 pub mod Burning
+pub mod DriveHandles
+pub mod Driving
 pub mod Dropping
 pub mod Faults
 pub mod Group
+pub mod Handles
 pub mod Inverting
 pub mod Multiplying
+pub mod OwnedPasses
+pub mod PassHandles
+pub mod Passing
 pub mod Settling
 pub mod Streams
 pub mod Unfit

@@ -1,6 +1,6 @@
 //! Dropping grains on a settled pile.
 
-ghost use Rattle.std.specs.Prelude.{◌≡◌, ◌≢◌, ◌+◌, ◌<◌, ◌≤◌, [], length, sum, All, Ok, Err, IfOk, IfErr, OnOk, OnErr, IsTrue, IsOk, IsOkUnless};
+ghost use Rattle.std.specs.Prelude.{◌≡◌, ◌≢◌, ◌+◌, ◌<◌, ◌≤◌, ℕ, List, [], ◌++◌, length, sum, All, Ok, Err, IfOk, IfErr, OnOk, OnErr, IsTrue, IsOk, IsOkUnless};
 ghost use Rattle.sand_model.specs.Grid.{sites};
 ghost use Rattle.sand_model.specs.Piles.{PileView, most_grains};
 ghost use Rattle.sand_settle.specs.Drops.{grid_of_one_pile, IsAfter};
@@ -15,7 +15,7 @@ use sand_settle::{DrivenPile, Settled};
 use std::alloc::Global;
 
 // Drops a grain at each site in turn, and records each avalanche.
-fn drop_all(
+pub(crate) fn drop_all(
     alloc: Global,
     pile: &mut DrivenPile,
     drops: &[usize],
@@ -24,12 +24,15 @@ fn drop_all(
     requires room { pile.old.grains + length drops.now ≤ most_grains }
     ensures rows { IfOk result (λ rows. AreAvalanches pile.old drops.now rows.items pile.new) }
     ensures count { IfOk result (λ rows. length rows.items ≡ length drops.now) }
-    ensures after { OnOk result ((start : PileView) → IsAfter start [] pile.old → IsAfter start drops.now pile.new) }
+    ensures grains { OnOk result (pile.new.grains ≡ pile.old.grains + length drops.now) }
+    ensures after { OnOk result ((start : PileView) (history : List ℕ) → IsAfter start history pile.old
+        → IsAfter start (history ++ drops.now) pile.new) }
+    ensures unchanged { OnErr result (pile.new ≡ pile.old) }
     ensures memory { IsOkUnless result Fault.Memory }
 {
     let mut rows = Vec::with_capacity(alloc, drops.len())?;
     for site in drops {
-        let (_, avalanche) = pile.drop_at(*site)?;
+        let (_, avalanche) = pile.drop_at(*site).unwrap();
         let row = like(avalanche);
         rows.push_reserved(row);
     }
@@ -38,7 +41,7 @@ fn drop_all(
 
 // Whether every drop is at a site.
 #[tactic(auto, using(crate::proofs::Sites::all_sites))]
-fn are_sites(drops: &[usize], sites: usize) -> bool
+pub(crate) fn are_sites(drops: &[usize], sites: usize) -> bool
     ensures value { result ≡ are_sites sites drops.now }
     ensures all { IsTrue result → All (λ site. site < sites) drops.now }
 {

@@ -28,10 +28,26 @@ pub enum Fault {
     NotRecurrent,
     /// Two piles have different shapes.
     Shapes,
+    /// The quota exceeds what the pass has left.
+    TooMuch,
+    /// More rows than the pass has.
+    Rows,
+    /// The rows of the two passes are not adjacent.
+    Apart,
+    /// The pass has too little left to drop.
+    Spent,
+    /// The pass is missing quota, receipts or rows.
+    Missing,
+    /// The handle that is to be filled holds something.
+    Taken,
     /// A cylinder is less than 3 wide.
     Narrow,
     /// A drop is at a site outside the grid.
     NoSite,
+    /// The handle holds nothing.
+    Empty,
+    /// The two passes are of different piles.
+    OtherPile,
 }
 
 impl Fault {
@@ -48,8 +64,16 @@ impl Fault {
             Fault::Unstable => 7,
             Fault::NotRecurrent => 8,
             Fault::Shapes => 9,
+            Fault::TooMuch => 10,
+            Fault::Rows => 11,
+            Fault::Apart => 12,
+            Fault::Spent => 13,
+            Fault::Missing => 14,
+            Fault::Taken => 17,
             Fault::Narrow => 24,
             Fault::NoSite => 25,
+            Fault::Empty => 26,
+            Fault::OtherPile => 27,
         }
     }
 }

@@ -1,26 +1,35 @@
-use Rattle.std.proofs.Common.{◌∙◌, ℕ, arith, take, get_or}
+use Rattle.std.proofs.Common.{◌∙◌, ℕ, List, [], ◌∷◌, ◌++◌, subst, arith, take, get_or}
+use Rattle.std.specs.Prelude.{Result, IfOk, OnOk}
 use Rattle.std.proofs.lemmas.List.{take_more}
+use Rattle.sand_model.specs.Piles.{PileView}
+use Rattle.sand_settle.specs.Avalanches.{IsAvalanche}
+use Rattle.sand_settle.specs.Drops.{OneView, grid_of_one_pile, topplings_between, IsAfter, Drops}
+use Rattle.sand_settle.specs.declared.avalanche.Avalanche.{Avalanche}
+use Rattle.sand_settle.specs.declared.faults.OneFault.{OneFault}
 use Rattle.sand_c.specs.Dropping.{IsLike}
-use Rattle.sand_settle.specs.Drops.{grid_of_one_pile, topplings_between}
-use Rattle.sand_c.proofs.Rows.{rows_push}
+use Rattle.sand_c.proofs.Rows.{rows_push, and_then}
 use Rattle.sand_c.proofs.dropping.drop_all.Goals as goal
 
 pub loop-site-preserved : goal.loop-site-preserved
 loop-site-preserved c =
-    let site : ℕ = get_or c.args.drops.now c.loop-site.site-index 0 in
-    let more = take_more c.args.drops.now c.loop-site.site-index 0 c.loop-site-test.true in
-    let is : IsLike c.like-row.result (grid_of_one_pile c.loop-site.pile) site
-    (topplings_between c.loop-site.pile.settled c.drop_at.new.self.settled) =
-    rw c.like-row.ensures c.in_ok-avalanche.ensures.avalanche in
-    let noted =
-    rows_push c.args.pile.now c.loop-site.pile c.drop_at.new.self (take c.loop-site.site-index c.args.drops.now)
-    c.loop-site.rows.items site c.like-row.result c.loop-site.invariant.rows c.in_ok-avalanche.ensures.drops is in
+    let i : ℕ = c.loop-site.site-index in
+    let site : ℕ = get_or c.args.drops.now i 0 in
+    let v : OneView = c.loop-site.pile in let w : OneView = c.drop_at.new.self in
+    let more = take_more c.args.drops.now i 0 c.loop-site-test.true in
+    let R : Type 0 = Result (ℕ × Avalanche) OneFault in
+    let drops : Drops v site w = subst (λ (r : R). OnOk r (Drops v site w)) c.unwrap.ensures c.drop_at.ensures.drops in
+    let avalanche : IsAvalanche (grid_of_one_pile v) site (topplings_between v.settled w.settled) c.unwrap.result.1 =
+    subst (λ (r : R). IfOk r (λ q. IsAvalanche (grid_of_one_pile v) site (topplings_between v.settled w.settled) q.1)) c.unwrap.ensures c.drop_at.ensures.avalanche in
+    let after : (start : PileView) (history : List ℕ) → IsAfter start history v → IsAfter start (history ++ site ∷ []) w =
+    subst (λ (r : R). OnOk r ((start : PileView) (history : List ℕ) → IsAfter start history v → IsAfter start (history ++ site ∷ []) w)) c.unwrap.ensures c.drop_at.ensures.after in
+    let is : IsLike c.like-row.result (grid_of_one_pile v) site (topplings_between v.settled w.settled) = rw c.like-row.ensures avalanche in
+    let noted = rows_push c.args.pile.now v w (take i c.args.drops.now) c.loop-site.rows.items site c.like-row.result c.loop-site.invariant.rows drops is in
     record {
       rows = rw (more, c.push_reserved.ensures.items) noted;
-      after = λ start first. rw more (c.in_ok-avalanche.ensures.after start
-          (take c.loop-site.site-index c.args.drops.now) (c.loop-site.invariant.after start first));
-      grid = c.in_ok-avalanche.ensures.drops.settled.grid ∙ c.loop-site.invariant.grid;
-      grains = omega (arith, c.in_ok-avalanche.ensures.drops.grains, c.loop-site.invariant.grains);
+      after = λ start history first. rw more (subst (λ (l : List ℕ). IsAfter start l w) (and_then history (take i c.args.drops.now) site)
+          (after start (history ++ take i c.args.drops.now) (c.loop-site.invariant.after start history first)));
+      grid = drops.settled.grid ∙ c.loop-site.invariant.grid;
+      grains = omega (arith, drops.grains, c.loop-site.invariant.grains);
       len = omega (arith, c.push_reserved.ensures.len, c.loop-site.invariant.len);
       room = c.push_reserved.ensures.capacity ∙ c.loop-site.invariant.room;
     }

@@ -1,0 +1,71 @@
+//! A driven pile that C holds: one pointer, null or at the pile in a block of its own.
+
+ghost use Rattle.std.specs.Prelude.{◌≡◌, Option, Some, None, MatchOption};
+ghost use Rattle.sand_settle.specs.Drops.{OneView};
+ghost use Rattle.sand_c.specs.DriveHandles.{drive_coded, drive_owns};
+
+use crate::drive::Drive;
+use crate::parts::Parts;
+use std::alloc::Global;
+use std::marker::Model;
+use std::ptr::null_mut;
+
+/// A driven pile, or nothing. `held` is what contracts see of it.
+#[repr(C)]
+#[derive(Drop)]
+pub struct SandpileDrive {
+    at: *mut u8,
+    pub ghost held: { Option OneView } by { drive_coded },
+}
+
+impl Model for SandpileDrive {
+    ghost also_owns = { λ h. drive_owns h.at h.held };
+}
+
+impl SandpileDrive {
+    fn empty() -> SandpileDrive
+        ensures { result.held ≡ None }
+    {
+        SandpileDrive { at: null_mut() }
+    }
+
+    fn of_parts(parts: Parts<Drive, Global>) -> SandpileDrive
+        ensures { result.held ≡ Some parts.value }
+    {
+        let Parts { at, alloc: _ } = parts;
+        SandpileDrive { at: at as *mut u8 }
+    }
+
+    fn into_parts(self, alloc: Global) -> Option<Parts<Drive, Global>>
+        ensures { MatchOption result (self.held ≡ None) (λ p. self.held ≡ Some p.value) }
+    {
+        let SandpileDrive { at } = self;
+        if at.is_null() {
+            None
+        } else {
+            let at = at as *mut Drive;
+            Some(Parts { at, alloc })
+        }
+    }
+
+    /// Takes out what it holds.
+    pub(crate) fn take(&mut self, alloc: Global) -> Option<Box<Drive>>
+        ensures taken { MatchOption result (self.old.held ≡ None) (λ b. self.old.held ≡ Some b.value) }
+        ensures emptied { self.new.held ≡ None }
+    {
+        let handle = std::mem::replace(self, SandpileDrive::empty());
+        match handle.into_parts(alloc) {
+            Some(parts) => Some(parts.into_box()),
+            None => None,
+        }
+    }
+
+    /// Makes it hold this, in place of what it held.
+    pub(crate) fn put(&mut self, held: Box<Drive>)
+        ensures { self.new.held ≡ Some held.value }
+    {
+        *self = SandpileDrive::of_parts(Parts::of(held));
+    }
+}
+
+unsafe impl Send for SandpileDrive {}

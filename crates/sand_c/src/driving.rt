@@ -1,0 +1,281 @@
+//! A driven pile behind a handle.
+//!
+//! Each call takes the pile out of its handle, works on it, and puts it back.
+
+ghost use Rattle.std.specs.Prelude.{◌≡◌, ◌≢◌, Err, IfOk, IfErr, OnOk, OnErr, IsOk, None, length};
+ghost use Rattle.sand_c.specs.Arguments.{Fails, Answers, Returns, pile_of};
+ghost use Rattle.sand_c.specs.Driving.{IsDriveOf, Holds, LeadsTo, HaveDriven, HasDriven, IsReading, opening_of, driving_of, avalanche_of, entries_of, reading_of};
+
+use crate::arguments::{grid_of, pile_on};
+use crate::avalanche::SandpileAvalanche;
+use crate::drive::Drive;
+use crate::drive_handle::SandpileDrive;
+use crate::faults::{Fault, answer};
+use sand_model::Pile;
+use std::alloc::Global;
+
+// The pile in the arguments.
+fn pile_of(
+    alloc: Global,
+    width: usize,
+    height: usize,
+    cylinder: bool,
+    heights: &[u64],
+) -> Result<Pile, Fault>
+    ensures made { IfOk result (λ p. pile_of width height cylinder heights.now ≡ Ok p) }
+    ensures fault { IfErr result (λ e. Fails e (pile_of width height cylinder heights.now)) }
+{
+    let shape = grid_of(width, height, cylinder)?;
+    pile_on(alloc, shape, heights)
+}
+
+// A driven pile with the start in the arguments, in a block of its own.
+fn drive_of(
+    alloc: Global,
+    width: usize,
+    height: usize,
+    cylinder: bool,
+    heights: &[u64],
+) -> Result<Box<Drive>, Fault>
+    ensures made { IfOk result (λ b. IsDriveOf (pile_of width height cylinder heights.now) b.value) }
+    ensures meant { OnOk result (IsOk (pile_of width height cylinder heights.now)) }
+    ensures fault { IfErr result (λ e. Fails e (pile_of width height cylinder heights.now)) }
+{
+    let start = pile_of(alloc, width, height, cylinder, heights)?;
+    let drive = Drive::new(alloc, &start);
+    // Freed here, so that no way out below has to.
+    drop(start);
+    match Box::new(alloc, drive?) {
+        Ok(held) => Ok(held),
+        Err(_) => Err(Fault::Memory),
+    }
+}
+
+fn open(
+    alloc: Global,
+    width: usize,
+    height: usize,
+    cylinder: bool,
+    heights: &[u64],
+    drive: &mut SandpileDrive,
+) -> Result<(), Fault>
+    ensures made { OnOk result (Holds drive.new.held (IsDriveOf (pile_of width height cylinder heights.now))) }
+    ensures meant { OnOk result
+        (IsOk (opening_of drive.old.held (pile_of width height cylinder heights.now))) }
+    ensures fault { IfErr result
+        (λ e. Fails e (opening_of drive.old.held (pile_of width height cylinder heights.now))) }
+    ensures drive { OnErr result (drive.new.held ≡ drive.old.held) }
+{
+    if let Some(held) = drive.take(alloc) {
+        drive.put(held);
+        return Err(Fault::Taken);
+    }
+    let held = drive_of(alloc, width, height, cylinder, heights)?;
+    drive.put(held);
+    Ok(())
+}
+
+/// Settles a pile, and makes an empty handle hold it. Returns 0, or the first of 17 (Taken), 1 (Side), 24 (Narrow), 2
+/// (Length of the slice) and 3 (TooManyGrains), or 4 (Memory).
+#[tactic(auto, using(crate::proofs::Answered::answered))]
+#[unsafe(no_mangle)]
+pub extern "C" fn sandpile_drive_new(
+    alloc: Global,
+    width: usize,
+    height: usize,
+    cylinder: bool,
+    heights: &[u64],
+    drive: &mut SandpileDrive,
+) -> u32
+    ensures made { result ≡ 0 → Holds drive.new.held (IsDriveOf (pile_of width height cylinder heights.now)) }
+    ensures answer { Answers result (opening_of drive.old.held (pile_of width height cylinder heights.now)) }
+    ensures drive { result ≢ 0 → drive.new.held ≡ drive.old.held }
+{
+    answer(open(alloc, width, height, cylinder, heights, drive))
+}
+
+fn drop_on(
+    alloc: Global,
+    drive: &mut SandpileDrive,
+    drops: &[usize],
+    avalanches: &mut [SandpileAvalanche],
+) -> Result<(), Fault>
+    ensures driven { OnOk result
+        (LeadsTo drive.old.held (λ v w. HaveDriven v drops.now avalanches.new w) drive.new.held) }
+    ensures meant { OnOk result
+        (IsOk (driving_of drive.old.held drops.now (length avalanches.old))) }
+    ensures fault { IfErr result
+        (λ e. Fails e (driving_of drive.old.held drops.now (length avalanches.old))) }
+    ensures drive { OnErr result (drive.new.held ≡ drive.old.held) }
+    ensures avalanches { OnErr result (avalanches.new ≡ avalanches.old) }
+{
+    let Some(mut held) = drive.take(alloc) else {
+        return Err(Fault::Empty);
+    };
+    let driven = held.drop_each(alloc, drops, avalanches);
+    drive.put(held);
+    driven
+}
+
+/// Drops a grain at each site in turn; each settles before the next. Writes the avalanche of each drop. Returns 0, or
+/// the first of 26 (Empty), 2 (Length of the avalanches), 25 (NoSite) and 6 (Full), or 4 (Memory).
+#[tactic(auto, using(crate::proofs::Answered::answered))]
+#[unsafe(no_mangle)]
+pub extern "C" fn sandpile_drive_drop(
+    alloc: Global,
+    drive: &mut SandpileDrive,
+    drops: &[usize],
+    avalanches: &mut [SandpileAvalanche],
+) -> u32
+    ensures driven { result ≡ 0
+        → LeadsTo drive.old.held (λ v w. HaveDriven v drops.now avalanches.new w) drive.new.held }
+    ensures answer { Answers result
+        (driving_of drive.old.held drops.now (length avalanches.old)) }
+    ensures drive { result ≢ 0 → drive.new.held ≡ drive.old.held }
+    ensures avalanches { result ≢ 0 → avalanches.new ≡ avalanches.old }
+{
+    answer(drop_on(alloc, drive, drops, avalanches))
+}
+
+fn drop_one_on(
+    alloc: Global,
+    drive: &mut SandpileDrive,
+    site: usize,
+    avalanche: &mut SandpileAvalanche,
+    topplings: &mut [u64],
+) -> Result<(), Fault>
+    ensures driven { OnOk result
+        (LeadsTo drive.old.held (λ v w. HasDriven v site avalanche.new topplings.new w) drive.new.held) }
+    ensures meant { OnOk result
+        (IsOk (avalanche_of drive.old.held site (length topplings.old))) }
+    ensures fault { IfErr result
+        (λ e. (avalanche_of drive.old.held site (length topplings.old)) ≡ Err e) }
+    ensures drive { OnErr result (drive.new.held ≡ drive.old.held) }
+    ensures avalanche { OnErr result (avalanche.new ≡ avalanche.old) }
+    ensures topplings { OnErr result (topplings.new ≡ topplings.old) }
+{
+    let Some(mut held) = drive.take(alloc) else {
+        return Err(Fault::Empty);
+    };
+    let driven = held.drop_one(site, avalanche, topplings);
+    drive.put(held);
+    driven
+}
+
+/// Drops a grain at a site. Writes its avalanche, and how often each site topples in it. Returns 0, or the first of 26
+/// (Empty), 2 (Length of the topplings), 25 (NoSite) and 6 (Full).
+#[tactic(auto, using(crate::proofs::Answered::returned))]
+#[unsafe(no_mangle)]
+pub extern "C" fn sandpile_drive_avalanche(
+    alloc: Global,
+    drive: &mut SandpileDrive,
+    site: usize,
+    avalanche: &mut SandpileAvalanche,
+    topplings: &mut [u64],
+) -> u32
+    ensures driven { result ≡ 0
+        → LeadsTo drive.old.held (λ v w. HasDriven v site avalanche.new topplings.new w) drive.new.held }
+    ensures answer { Returns result (avalanche_of drive.old.held site (length topplings.old)) }
+    ensures drive { result ≢ 0 → drive.new.held ≡ drive.old.held }
+    ensures avalanche { result ≢ 0 → avalanche.new ≡ avalanche.old }
+    ensures topplings { result ≢ 0 → topplings.new ≡ topplings.old }
+{
+    answer(drop_one_on(alloc, drive, site, avalanche, topplings))
+}
+
+// Writes what a driven pile is now, if each array has an entry for each site, or none.
+fn read_from(
+    held: &Drive,
+    heights: &mut [u64],
+    odometer: &mut [u64],
+    topplings: &mut u64,
+    lost: &mut u64,
+) -> Result<(), Fault>
+    ensures read { OnOk result (IsReading heights.new odometer.new topplings.new lost.new held.now) }
+    ensures meant { OnOk result
+        (IsOk (entries_of held.now (length heights.old) (length odometer.old))) }
+    ensures fault { IfErr result
+        (λ e. (entries_of held.now (length heights.old) (length odometer.old)) ≡ Err e) }
+    ensures heights { OnErr result (heights.new ≡ heights.old) }
+    ensures odometer { OnErr result (odometer.new ≡ odometer.old) }
+    ensures topplings { OnErr result (topplings.new ≡ topplings.old) }
+    ensures lost { OnErr result (lost.new ≡ lost.old) }
+{
+    let sites = held.sites();
+    let wants_heights = heights.len() != 0;
+    let wants_odometer = odometer.len() != 0;
+    if (wants_heights && heights.len() != sites) || (wants_odometer && odometer.len() != sites) {
+        return Err(Fault::Length);
+    }
+    if wants_heights {
+        held.read_heights(heights);
+    }
+    if wants_odometer {
+        held.read_odometer(odometer);
+    }
+    let (all, fallen) = held.sums();
+    *topplings = all;
+    *lost = fallen;
+    Ok(())
+}
+
+fn read_into(
+    alloc: Global,
+    drive: &mut SandpileDrive,
+    heights: &mut [u64],
+    odometer: &mut [u64],
+    topplings: &mut u64,
+    lost: &mut u64,
+) -> Result<(), Fault>
+    ensures read { OnOk result
+        (Holds drive.old.held (IsReading heights.new odometer.new topplings.new lost.new)) }
+    ensures meant { OnOk result
+        (IsOk (reading_of drive.old.held (length heights.old) (length odometer.old))) }
+    ensures fault { IfErr result
+        (λ e. (reading_of drive.old.held (length heights.old) (length odometer.old))
+        ≡ Err e) }
+    ensures drive { drive.new.held ≡ drive.old.held }
+    ensures heights { OnErr result (heights.new ≡ heights.old) }
+    ensures odometer { OnErr result (odometer.new ≡ odometer.old) }
+    ensures topplings { OnErr result (topplings.new ≡ topplings.old) }
+    ensures lost { OnErr result (lost.new ≡ lost.old) }
+{
+    let Some(held) = drive.take(alloc) else {
+        return Err(Fault::Empty);
+    };
+    let read = read_from(&held, heights, odometer, topplings, lost);
+    drive.put(held);
+    read
+}
+
+/// Writes the heights now, how often each site has toppled since the start, the number of topplings and the grains
+/// lost. An array of length 0 is left out. Returns 0, or the first of 26 (Empty) and 2 (Length of a slice).
+#[tactic(auto, using(crate::proofs::Answered::returned))]
+#[unsafe(no_mangle)]
+pub extern "C" fn sandpile_drive_read(
+    alloc: Global,
+    drive: &mut SandpileDrive,
+    heights: &mut [u64],
+    odometer: &mut [u64],
+    topplings: &mut u64,
+    lost: &mut u64,
+) -> u32
+    ensures read { result ≡ 0 → Holds drive.old.held (IsReading heights.new odometer.new topplings.new lost.new) }
+    ensures answer { Returns result
+        (reading_of drive.old.held (length heights.old) (length odometer.old)) }
+    ensures drive { drive.new.held ≡ drive.old.held }
+    ensures heights { result ≢ 0 → heights.new ≡ heights.old }
+    ensures odometer { result ≢ 0 → odometer.new ≡ odometer.old }
+    ensures topplings { result ≢ 0 → topplings.new ≡ topplings.old }
+    ensures lost { result ≢ 0 → lost.new ≡ lost.old }
+{
+    answer(read_into(alloc, drive, heights, odometer, topplings, lost))
+}
+
+/// Frees what the handle holds, and empties it.
+#[unsafe(no_mangle)]
+pub extern "C" fn sandpile_drive_free(alloc: Global, drive: &mut SandpileDrive)
+    ensures { drive.new.held ≡ None }
+{
+    drop(drive.take(alloc));
+}

@@ -1,0 +1,298 @@
+//! A pass that owns a share of its pile.
+//!
+//! A pass borrows nothing, but each of its calls takes the pile by reference. So C holds both: the pass, and one of the
+//! owners of the pile. The pile is freed with the last of its passes.
+
+ghost use Rattle.std.specs.Prelude.{◌≡◌, ◌+◌, ◌<◌, ◌↔◌, ◌⊎◌, length, sum, IfOk, IfErr, OnOk, OnErr, Ok, Err, IsTrue, IsOkUnless};
+ghost use Rattle.sand_model.specs.Grid.{sites};
+ghost use Rattle.sand_model.specs.Piles.{most_grains};
+ghost use Rattle.sand_shared.specs.OpenPile.{grid_of_terms};
+ghost use Rattle.sand_shared.specs.Passes.{IsPassOf, IsWhole};
+ghost use Rattle.sand_shared.specs.Record.{IsRecordOf};
+ghost use Rattle.sand_shared.specs.Rows.{count_of, AreApart};
+ghost use Rattle.sand_c.specs.OwnedPasses.{IsFirst};
+ghost use Rattle.sand_c.specs.Arguments.{Fails};
+ghost use Rattle.sand_c.specs.Passing.{HaveDropped, HasSwept, HasCounted, AreSplit, AreSplitByRows, AreJoined, are_together, drops_by, quota_of, rows_of, whole_of, holding_of};
+
+use crate::dropping::are_sites;
+use crate::faults::Fault;
+use crate::holding::SandpileHolding;
+use sand_model::{Pile, Shape};
+use sand_shared::{CloseFault, Pass, Record, SharedFault, SharedPile, SiteCounts};
+use std::alloc::Global;
+use std::marker::Model;
+use std::sync::Arc;
+use std::sync::atomic::AtomicU64;
+use std::sync::atomic::Ordering::SeqCst;
+
+// How often `is_of_pile` looks. Calls on the passes of another pile can deceive it only if one falls into each look.
+const LOOKS: u32 = 64;
+
+/// A pass, a share of its pile, counters for its lists of drops, and a number that all passes of its pile share.
+#[derive(Drop)]
+pub struct OwnedPass {
+    pile: Arc<SharedPile>,
+    mark: Arc<AtomicU64>,
+    pass: Pass,
+    counts: SiteCounts,
+    shape: Shape,
+}
+
+impl Model for OwnedPass {
+    ghost use Rattle.std.specs.Arc.{arc_value};
+    ghost use Rattle.sand_c.specs.OwnedPasses.{OwnedPassView, IsOwned};
+
+    ghost Value = { OwnedPassView };
+
+    ghost view = { λ s. record { pile = arc_value s.pile; pass = s.pass } };
+
+    ghost invariant = { λ s. IsOwned (record { pile = arc_value s.pile; pass = s.pass }) s.counts s.shape };
+}
+
+// Whether neither of two groups of rows follows the other.
+fn are_apart(rows: (u16, u16), others: (u16, u16)) -> bool
+    ensures { IsTrue result ↔ AreApart (record { first = rows.0; end = rows.1 }) (record { first = others.0; end = others.1 }) }
+{
+    rows.0 != rows.1 && others.0 != others.1 && others.0 != rows.1 && rows.0 != others.1
+}
+
+impl OwnedPass {
+    /// The first pass of a new pile.
+    pub(crate) fn first(alloc: Global, start: &Pile, quota: u64) -> Result<OwnedPass, Fault>
+        ensures limit { (result ≡ Err Fault.TooManyGrains) ↔ (most_grains < sum start.now.heights + quota) }
+        ensures other { IfErr result (λ e. (e ≡ Fault.TooManyGrains) ⊎ (e ≡ Fault.Memory)) }
+        ensures first { IfOk result (IsFirst start.now quota) }
+    {
+        let (pile, pass) = match SharedPile::new(alloc, start, quota) {
+            Ok(made) => made,
+            Err(SharedFault::TooManyGrains) => return Err(Fault::TooManyGrains),
+            Err(SharedFault::Memory(_)) => return Err(Fault::Memory),
+        };
+        let shape = start.shape();
+        let Ok(counts) = SiteCounts::new(alloc, shape) else {
+            return Err(Fault::Memory);
+        };
+        let Ok(mark) = Arc::new(alloc, AtomicU64::new(0)) else {
+            return Err(Fault::Memory);
+        };
+        match Arc::new(alloc, pile) {
+            Ok(pile) => Ok(OwnedPass {
+                pile,
+                mark,
+                pass,
+                counts,
+                shape,
+            }),
+            Err(_) => Err(Fault::Memory),
+        }
+    }
+
+    /// The number of sites.
+    pub(crate) fn sites(&self) -> usize
+        ensures { result ≡ sites (grid_of_terms self.now.pile.terms) }
+    {
+        self.shape.sites()
+    }
+
+    /// The number of drops made with it and with passes joined to it.
+    pub(crate) fn drops(&self) -> usize
+        ensures { result ≡ length self.now.pass.receipts }
+    {
+        self.pass.receipts().len()
+    }
+
+    /// Drops a grain on each site of a list, in order, with consecutive numbers. Returns the first number.
+    pub(crate) fn drop_all(&mut self, drops: &[usize]) -> Result<u64, Fault>
+        ensures dropped { IfOk result (λ n. HaveDropped self.old drops.now n self.new) }
+        ensures may { OnOk result (drops_by self.old drops.now ≡ Ok self.old) }
+        ensures fault { IfErr result (λ e. drops_by self.old drops.now ≡ Err e) }
+        ensures unchanged { OnErr result (self.new ≡ self.old) }
+    {
+        if !are_sites(drops, self.shape.sites()) {
+            return Err(Fault::NoSite);
+        }
+        match self.pile.drop_all(&mut self.pass, drops, &mut self.counts) {
+            Ok(number) => Ok(number),
+            Err(_) => Err(Fault::Spent),
+        }
+    }
+
+    /// How many drops have begun so far.
+    pub(crate) fn tally(&mut self) -> u64
+        ensures { HasCounted self.old result self.new }
+    {
+        self.pile.tally(&mut self.pass)
+    }
+
+    /// Sweeps once over the rows of the pass. Returns the number of topplings.
+    pub(crate) fn sweep(&mut self) -> u64
+        ensures { HasSwept self.old result self.new }
+    {
+        self.pile.sweep(&mut self.pass)
+    }
+
+    // A pass of the pile with nothing, in a block of its own.
+    fn blank(&mut self, alloc: Global) -> Result<Box<OwnedPass>, Fault>
+        ensures pile { IfOk result (λ b. b.value.pile ≡ self.old.pile) }
+        ensures memory { IsOkUnless result Fault.Memory }
+        ensures unchanged { self.new ≡ self.old }
+    {
+        let shape = self.shape;
+        let Ok(counts) = SiteCounts::new(alloc, shape) else {
+            return Err(Fault::Memory);
+        };
+        let Ok(pile) = Arc::try_clone(&self.pile) else {
+            return Err(Fault::Memory);
+        };
+        let Ok(mark) = Arc::try_clone(&self.mark) else {
+            return Err(Fault::Memory);
+        };
+        let Ok(pass) = self.pile.split(alloc, &mut self.pass, 0) else {
+            return Err(Fault::Memory);
+        };
+        let owned = OwnedPass {
+            pile,
+            mark,
+            pass,
+            counts,
+            shape,
+        };
+        match Box::new(alloc, owned) {
+            Ok(held) => Ok(held),
+            Err(_) => Err(Fault::Memory),
+        }
+    }
+
+    // Makes it hold another pass of the pile.
+    fn hold(&mut self, pass: Pass)
+        requires { IsPassOf self.old.pile pass }
+        ensures { self.new ≡ record self.old { pass = pass } }
+    {
+        self.pass = pass;
+    }
+
+    /// A new pass of the pile with part of the quota.
+    pub(crate) fn split(&mut self, alloc: Global, quota: u64) -> Result<Box<OwnedPass>, Fault>
+        ensures split { IfOk result (λ child. AreSplit self.old quota self.new child.value) }
+        ensures may { OnOk result (quota_of self.old quota ≡ Ok self.old) }
+        ensures fault { IfErr result (λ e. Fails e (quota_of self.old quota)) }
+        ensures unchanged { OnErr result (self.new ≡ self.old) }
+    {
+        if self.pass.left() < quota {
+            return Err(Fault::TooMuch);
+        }
+        // With a block for it, so that nothing can fail once the quota has been split.
+        let mut child = self.blank(alloc)?;
+        match self.pile.split(alloc, &mut self.pass, quota) {
+            Ok(pass) => {
+                child.hold(pass);
+                Ok(child)
+            }
+            // All other faults are ruled out.
+            Err(_) => Err(Fault::Memory),
+        }
+    }
+
+    /// A new pass of the pile with the last `k` rows.
+    pub(crate) fn split_rows(&mut self, alloc: Global, k: u16) -> Result<Box<OwnedPass>, Fault>
+        ensures split { IfOk result (λ child. AreSplitByRows self.old k self.new child.value) }
+        ensures may { OnOk result (rows_of self.old k ≡ Ok self.old) }
+        ensures fault { IfErr result (λ e. Fails e (rows_of self.old k)) }
+        ensures unchanged { OnErr result (self.new ≡ self.old) }
+    {
+        let (first, end) = self.pass.rows();
+        if end.saturating_sub(first) < k {
+            return Err(Fault::Rows);
+        }
+        let mut child = self.blank(alloc)?;
+        match self.pile.split_rows(alloc, &mut self.pass, k) {
+            Ok(pass) => {
+                child.hold(pass);
+                Ok(child)
+            }
+            // All other faults are ruled out.
+            Err(_) => Err(Fault::Memory),
+        }
+    }
+
+    // Takes the pass out, and leaves one with nothing.
+    fn give(&mut self, alloc: Global) -> Result<Pass, Fault>
+        ensures given { IfOk result (λ p. p ≡ self.old.pass) }
+        ensures of_pile { IfOk result (λ p. IsPassOf self.old.pile p) }
+        ensures pile { self.new.pile ≡ self.old.pile }
+        ensures memory { IsOkUnless result Fault.Memory }
+        ensures unchanged { OnErr result (self.new ≡ self.old) }
+    {
+        match self.pile.split(alloc, &mut self.pass, 0) {
+            Ok(blank) => Ok(std::mem::replace(&mut self.pass, blank)),
+            Err(_) => Err(Fault::Memory),
+        }
+    }
+
+    // Whether both passes are of one pile, by a number that all passes of a pile share: it rises at each look. No proof
+    // stands on this test.
+    fn is_of_pile(&self, other: &OwnedPass) -> bool {
+        for _ in 0..LOOKS {
+            let before = other.mark.load(SeqCst);
+            self.mark.fetch_add(1, SeqCst);
+            if other.mark.load(SeqCst) == before {
+                return false;
+            }
+        }
+        true
+    }
+
+    /// Joins another pass of the pile to this one, and leaves a pass with nothing in its place.
+    pub(crate) fn join(&mut self, alloc: Global, other: &mut OwnedPass) -> Result<(), Fault>
+        requires { other.old.pile ≡ self.old.pile }
+        ensures joined { OnOk result (AreJoined self.old other.old self.new) }
+        ensures fault { IfErr result (λ e. (e ≡ Fault.OtherPile) ⊎ Fails e (are_together self.old other.old)) }
+        ensures may { OnOk result (are_together self.old other.old ≡ Ok self.old) }
+        ensures back { OnErr result (other.new ≡ other.old) }
+        ensures unchanged { OnErr result (self.new ≡ self.old) }
+    {
+        if !self.is_of_pile(other) {
+            return Err(Fault::OtherPile);
+        }
+        if are_apart(self.pass.rows(), other.pass.rows()) {
+            return Err(Fault::Apart);
+        }
+        let pass = other.give(alloc)?;
+        match self.pile.join(alloc, &mut self.pass, pass) {
+            Ok(()) => Ok(()),
+            Err((_, pass)) => {
+                other.hold(pass);
+                // Apart is ruled out.
+                Err(Fault::Memory)
+            }
+        }
+    }
+
+    /// The record of the pile, if the pass is whole. The pile and the pass stay as they are.
+    pub(crate) fn record_now(&mut self, alloc: Global) -> Result<Record, Fault>
+        ensures record_now { IfOk result (IsRecordOf self.old.pile.terms self.old.pass) }
+        ensures whole { OnOk result (IsWhole self.old.pile.terms self.old.pass) }
+        ensures fault { IfErr result (λ e. whole_of self.old e) }
+        ensures unchanged { self.new ≡ self.old }
+    {
+        match self.pile.record_now(alloc, &mut self.pass) {
+            Ok(settled) => Ok(settled),
+            Err(CloseFault::Missing) => Err(Fault::Missing),
+            Err(CloseFault::Memory(_)) => Err(Fault::Memory),
+        }
+    }
+
+    /// What the pass holds.
+    pub(crate) fn holding(&self) -> SandpileHolding
+        ensures { result ≡ holding_of self.now.pass }
+    {
+        let (first_row, end_row) = self.pass.rows();
+        SandpileHolding {
+            left: self.pass.left(),
+            seen: self.pass.seen(),
+            drops: self.drops(),
+            first_row,
+            end_row,
+        }
+    }
+}

@@ -1,0 +1,62 @@
+"""The handles in C: the example on threads under valgrind and ThreadSanitizer, and the tests of handles.c."""
+
+import unittest
+from pathlib import Path
+
+from tools import LIBRARY, TOP, needs, new_folder, ran
+
+TESTS = Path(__file__).resolve().parent / "handles.c"
+EXAMPLE = TOP / "examples" / "shared.c"
+LAST = "lost: as one thread\n"
+
+
+class Handles(unittest.TestCase):
+    def built(self, source, *options):
+        """A program of this source, linked with the shared library."""
+        program = new_folder(self) / source.stem
+        linked = [f"-L{LIBRARY}", "-lsandpile", f"-Wl,-rpath,{LIBRARY}", "-pthread"]
+        ran("cc", "-pedantic", "-Wall", "-Wextra", "-Werror", *options, f"-I{TOP / 'include'}", source, *linked, "-o", program)
+        return program
+
+    def example(self, *options):
+        return self.built(EXAMPLE, "-std=c99", "-D_POSIX_C_SOURCE=200809L", *options)
+
+    def tested(self, name):
+        text = ran(self.built(TESTS, "-std=c11", "-D_GNU_SOURCE", "-O2"), name)
+        self.assertEqual((text.count("\n"), text.split(":")[0]), (1, name))
+
+    @needs("cc")
+    def test_the_example_is_as_one_thread(self):
+        self.assertTrue(ran(self.example("-O2")).endswith(LAST))
+
+    @needs("cc", "valgrind")
+    def test_memcheck_is_silent_over_the_example(self):
+        words = ["--quiet", "--error-exitcode=9", "--leak-check=full", "--show-leak-kinds=all"]
+        text = ran("valgrind", *words, self.example("-O1", "-g"))
+        self.assertEqual((text.count("\n"), text.endswith(LAST)), (1, True))
+
+    @needs("cc", "valgrind")
+    def test_drd_is_silent_over_the_example(self):
+        text = ran("valgrind", "--tool=drd", "--quiet", "--error-exitcode=9", self.example("-O1", "-g"))
+        self.assertEqual((text.count("\n"), text.endswith(LAST)), (1, True))
+
+    @needs("cc")
+    def test_threadsanitizer_is_silent_over_the_example(self):
+        text = ran(self.example("-O1", "-g", "-fsanitize=thread"))
+        self.assertEqual((text.count("\n"), text.endswith(LAST)), (1, True))
+
+    @needs("cc")
+    def test_interleavings_are_as_one_thread(self):
+        self.tested("interleave")
+
+    @needs("cc")
+    def test_a_failed_allocation_changes_nothing(self):
+        self.tested("refuse")
+
+    @needs("cc")
+    def test_handles_leave_nothing_behind(self):
+        self.tested("churn")
+
+    @needs("cc")
+    def test_misuse_is_refused(self):
+        self.tested("misuse")
