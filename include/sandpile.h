@@ -151,9 +151,9 @@ typedef struct sandpile_drive {
 uint32_t sandpile_drive_new(size_t width, size_t height, bool cylinder, const uint64_t *heights, size_t heights_length,
                             sandpile_drive *drive);
 
-/* Drops a grain at each site in turn; each settles before the next. Writes an avalanche for each drop. Any number of calls
-   does what one call with all their drops does. EMPTY, LENGTH, NO_SITE, FULL, MEMORY. */
-uint32_t sandpile_drive_drop(sandpile_drive *drive, const size_t *sites, size_t sites_length, sandpile_avalanche *avalanches,
+/* Drops a grain at each site of `drops` in turn; each settles before the next. Writes an avalanche for each drop. Any
+   number of calls does what one call with all their drops does. EMPTY, LENGTH, NO_SITE, FULL, MEMORY. */
+uint32_t sandpile_drive_drop(sandpile_drive *drive, const size_t *drops, size_t drops_length, sandpile_avalanche *avalanches,
                              size_t avalanches_length);
 
 /* Drops a grain at a site. Writes its avalanche, and how often each site topples in it. EMPTY, LENGTH, NO_SITE, FULL. */
@@ -195,9 +195,9 @@ uint32_t sandpile_pass_split(sandpile_pass *pass, uint64_t quota, sandpile_pass 
 /* The same, with the last `rows` rows of a pass. TAKEN (the child), EMPTY, ROWS, MEMORY. */
 uint32_t sandpile_pass_split_rows(sandpile_pass *pass, uint16_t rows, sandpile_pass *child);
 
-/* Drops a grain at each site in turn, and topples nothing. All drops of all passes have numbers, from 0 on; these get
-   consecutive ones, and `first` is the first. EMPTY, NO_SITE, SPENT. */
-uint32_t sandpile_pass_drop(sandpile_pass *pass, const size_t *sites, size_t sites_length, uint64_t *first);
+/* Drops a grain at each site of `drops` in turn, and topples nothing. All drops of all passes have numbers, from 0 on;
+   these get consecutive ones, and `first` is the first. EMPTY, NO_SITE, SPENT. */
+uint32_t sandpile_pass_drop(sandpile_pass *pass, const size_t *drops, size_t drops_length, uint64_t *first);
 
 /* Writes how many drops of all passes have begun. EMPTY. */
 uint32_t sandpile_pass_tally(sandpile_pass *pass, uint64_t *drops);
