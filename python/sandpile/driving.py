@@ -5,7 +5,7 @@ from __future__ import annotations
 import os
 import threading
 from dataclasses import dataclass, replace
-from typing import Any, Callable, Iterator, Tuple
+from typing import Any, Callable, Iterator
 
 import numpy as np
 from numpy.typing import ArrayLike, NDArray
@@ -32,7 +32,7 @@ AVALANCHE = np.dtype([("number", "u8"), ("site", np.intp), *_FOUND])
 
 # How many drops a call asks for, and the sites of a part of them.
 _Sites = Callable[[int, int], NDArray[np.uintp]]
-_Asked = Tuple[int, _Sites]
+_Asked = tuple[int, _Sites]
 
 
 @dataclass(frozen=True)
