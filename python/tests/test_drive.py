@@ -20,7 +20,7 @@ from unittest import mock
 import numpy as np
 import sandpile
 from sandpile import driving
-from tools import new_folder, ran, same
+from tools import needs_module, new_folder, ran, same
 
 FULL = np.full((32, 32), 3)
 MODULE = str(Path(sandpile.__file__).parents[1])
@@ -204,6 +204,22 @@ class Progress(unittest.TestCase):
         script = "import sandpile; print(len(sandpile.Drive([[3]]).drop(9, progress=True)))"
         words = ["sh", "-c", f"exec '{sys.executable}' -c '{script}' 2>&-"]
         self.assertEqual(ran(*words, env={"PYTHONPATH": MODULE}), "9\n")
+
+    @needs_module("tqdm")
+    def test_the_program_ends_after_its_standard_error_failed(self):
+        script = """
+import time, sandpile, tqdm
+tqdm.tqdm.monitor_interval = 0.01  # its thread takes the lock at each, and the program waits for the thread
+print(len(sandpile.Drive([[3]]).drop(9, progress=True)), flush=True)
+time.sleep(0.2)
+"""
+        read, write = os.pipe()
+        os.close(read)
+        self.addCleanup(os.close, write)
+        text = subprocess.run(
+            [sys.executable, "-c", script], stdout=subprocess.PIPE, stderr=write, timeout=60, env={"PYTHONPATH": MODULE}
+        ).stdout
+        self.assertEqual(text, b"9\n")
 
 
 class Held:
