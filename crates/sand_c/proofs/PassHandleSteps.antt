@@ -18,7 +18,7 @@ use denote.Struct.Struct.{within}
 use denote.Struct.Owning.{shape, fields, to}
 use Rattle.core.specs.declared.option.Option.{Option}
 use Rattle.core.specs.declared.option.Option.TheVariants.{None, Some}
-use Rattle.libc.specs.Heap.{chunk}
+
 use Rattle.std_alloc.specs.Box.Ownership.{box_owns}
 use Rattle.std_heap.proofs.GlobalToken.{dealloc_token-Testable}
 use Rattle.std_alloc.proofs.BoxSteps.Form.{Bx}
@@ -26,7 +26,7 @@ use Rattle.std_heap.specs.declared.Global.{Global}
 use Rattle.std_heap.specs.contracts.Global as Heap
 use Rattle.std_heap.specs.contracts.GlobalAllocator.TheImpl.{ghosts, dict}
 use Rattle.std_heap.proofs.Global.TheLaws as heap
-use Rattle.sand_c.specs.Handles.{owns_at}
+use Rattle.sand_c.specs.Handles.{may_free, owns_at}
 pub use Rattle.sand_c.specs.contracts.owned_pass.OwnedPass.{the_row as Held}
 use Rattle.sand_c.proofs.owned_pass.OwnedPass.TheLaws as held
 use Rattle.sand_c.specs.contracts.parts.Parts as Parts
@@ -53,9 +53,9 @@ word p = vstruct (of_list (ptr_val p ∷ []))
 
 module _ {M : Type 1} {𝓤 : Ura M} (𝓛 : Logic 𝓤) (a : Global) (p : Ptr) (x : Held.Denot) where
   -- a pointer to a block may be compared with null
-  testable : ent 𝓤 (sem 𝓛 (box_owns chunk Held p x)) (guard 𝓤 (Testable p) (sem 𝓛 (box_owns chunk Held p x)))
-  testable = let B : SProp 𝓤 = sem 𝓛 (box_owns chunk Held p x) in
-      fact_use 𝓤 (Testable p) (via 𝓤 (sem 𝓛 (chunk (bare (lone Held.mir)) p)) (snd∗ 𝓤 (sem 𝓛 (lies_at Held full_share p x)) (sem 𝓛 (chunk (bare (lone Held.mir)) p))) (dealloc_token-Testable 𝓛 a (bare (lone Held.mir)) p)) (guard_i 𝓤 (Testable p) B)
+  testable : ent 𝓤 (sem 𝓛 (box_owns may_free Held p x)) (guard 𝓤 (Testable p) (sem 𝓛 (box_owns may_free Held p x)))
+  testable = let B : SProp 𝓤 = sem 𝓛 (box_owns may_free Held p x) in
+      fact_use 𝓤 (Testable p) (via 𝓤 (sem 𝓛 (may_free (bare (lone Held.mir)) p)) (snd∗ 𝓤 (sem 𝓛 (lies_at Held full_share p x)) (sem 𝓛 (may_free (bare (lone Held.mir)) p))) (dealloc_token-Testable 𝓛 a (bare (lone Held.mir)) p)) (guard_i 𝓤 (Testable p) B)
 
 module _ {M : Type 1} {𝓤 : Ura M} {𝓛 : Logic 𝓤} {K : Type 0} {Γ : List (Item 𝓤)} {G : Goal 𝓤 𝓛.H} where
   -- what a handle is made of
@@ -77,10 +77,10 @@ module _ {M : Type 1} {𝓤 : Ura M} {𝓛 : Logic 𝓤} {K : Type 0} {Γ : List
   pub either : K → (a : Global) (p : Ptr) (held : Option Held.Denot)
       → (p ≡ null_ptr → held ≡ None → Seq K 𝓛 Γ G)
       → ((b o : ℕ) (x : Held.Denot) → p ≡ block_ptr b o → held ≡ Some x → Testable (block_ptr b o)
-      → Seq K 𝓛 (‵ (box_owns chunk Held (block_ptr b o) x) ∷ Γ) G)
+      → Seq K 𝓛 (‵ (box_owns may_free Held (block_ptr b o) x) ∷ Γ) G)
       → Seq K 𝓛 (‵ (owns_at Held p held) ∷ Γ) G
   either t a p None none one = feq_l t (λ e. none e refl)
   either t a p (Some x) none one =
-      use1 𝓛 (given (Testable p) (‵ (box_owns chunk Held p x))) (testable 𝓛 a p x) $ learn t (λ ok.
-      in_a_block t p (λ q. box_owns chunk Held q x) (fst∗ 𝓤 (never 𝓤) (sem 𝓛 (chunk (bare (lone Held.mir)) null_ptr)))
+      use1 𝓛 (given (Testable p) (‵ (box_owns may_free Held p x))) (testable 𝓛 a p x) $ learn t (λ ok.
+      in_a_block t p (λ q. box_owns may_free Held q x) (fst∗ 𝓤 (never 𝓤) (sem 𝓛 (may_free (bare (lone Held.mir)) null_ptr)))
       (λ b o e. one b o x e refl (subst Testable e ok)))

@@ -7,16 +7,16 @@ use denote.Struct.Owning.{shape, fields, to}
 use denote.Param.Send.{IsSend, AllSend, owning_send, struct_send, sendable}
 use Rattle.core.specs.declared.option.Option.{Option}
 use Rattle.core.specs.declared.option.Option.TheVariants.{None, Some}
-use Rattle.libc.specs.Heap.{chunk-Keyless}
+use Rattle.std.proofs.Crossing as heap
 use Rattle.std_alloc.proofs.SendSync.{quiet, lies}
-use Rattle.sand_c.specs.Handles.{owns_at}
+use Rattle.sand_c.specs.Handles.{c_heap, owns_at}
 use Rattle.sand_c.specs.contracts.drive.Drive.{the_row as Held}
 use Rattle.sand_c.proofs.drive.Drive.TheSendSync.{the_send as held_send}
 use Rattle.sand_c.specs.contracts.drive_handle.SandpileDrive.{the_row, the_type}
 
 owned : (p : Ptr) (held : Option Held.Denot) → Keyless (owns_at Held p held)
 owned p None = tt
-owned p (Some x) = (lies Held held_send p x, chunk-Keyless (raw (lone Held.mir)) p)
+owned p (Some x) = (lies Held held_send p x, heap.frees.frees c_heap (raw (lone Held.mir)) p)
 
 pub send : IsSend the_row
 send =
