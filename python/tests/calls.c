@@ -8,6 +8,10 @@
 /* Whether two arrays of the same length are equal. */
 #define ARE_EQUAL(one, other) (sizeof(one) == sizeof(other) && memcmp(one, other, sizeof(one)) == 0)
 
+static bool is_avalanche(sandpile_avalanche a, size_t site, uint64_t size, uint32_t area, uint32_t reach, uint64_t lost) {
+    return a.site == site && a.size == size && a.area == area && a.reach == reach && a.lost == lost;
+}
+
 static void version(void) {
     assert(sandpile_version() == SANDPILE_VERSION);
 }
@@ -33,8 +37,7 @@ static void drop(void) {
     sandpile_avalanche a[2];
     assert(sandpile_drop(3, 3, false, heights, 9, odometer, 9, sites, 2, a, 2) == 0);
     assert(ARE_EQUAL(heights, settled) && ARE_EQUAL(odometer, toppled));
-    assert(a[0].site == 4 && a[0].size == 10 && a[0].area == 9 && a[0].reach == 2 && a[0].lost == 12);
-    assert(a[1].site == 1 && a[1].size == 1 && a[1].area == 1 && a[1].reach == 0 && a[1].lost == 1);
+    assert(is_avalanche(a[0], 4, 10, 9, 2, 12) && is_avalanche(a[1], 1, 1, 1, 0, 1));
 }
 
 /* The published keystreams of ChaCha8 begin 3e00ef2f 895f40d6 7f5bb8e8 if key and nonce are 0, go on with d2aefa0d eaa5c151
@@ -111,6 +114,89 @@ static void multiple(void) {
     }
 }
 
+/* 7 2 3 above 2 3 3 and 3 3 3: the first site topples, and all have 3. Then the drops and avalanches are those of `drop`. */
+static void drive(void) {
+    const uint64_t start[9] = {7, 2, 3, 2, 3, 3, 3, 3, 3}, full[9] = {3, 3, 3, 3, 3, 3, 3, 3, 3};
+    const uint64_t settled[9] = {2, 0, 2, 3, 1, 3, 1, 3, 1}, toppled[9] = {2, 2, 1, 1, 2, 1, 1, 1, 1};
+    uint64_t heights[9] = {0}, odometer[9] = {0}, topplings = 7, lost = 7;
+    const size_t sites[2] = {4, 1};
+    sandpile_avalanche a[2];
+    sandpile_drive driven = {0};
+    assert(sandpile_drive_new(3, 3, false, start, 9, &driven) == 0);
+    assert(sandpile_drive_read(&driven, heights, 9, odometer, 0, &topplings, &lost) == 0);
+    assert(ARE_EQUAL(heights, full) && topplings == 1 && lost == 2);
+    assert(sandpile_drive_drop(&driven, sites, 2, a, 2) == 0);
+    assert(is_avalanche(a[0], 4, 10, 9, 2, 12) && is_avalanche(a[1], 1, 1, 1, 0, 1));
+    assert(sandpile_drive_read(&driven, heights, 9, odometer, 9, &topplings, &lost) == 0);
+    assert(ARE_EQUAL(heights, settled) && ARE_EQUAL(odometer, toppled) && topplings == 12 && lost == 15);
+    sandpile_drive_free(&driven);
+    assert(!driven.at);
+}
+
+/* 3 by 3 of all 3 on a cylinder. The grain in the middle topples all sites. The outer rows then have 2, since each of their
+   sites has lost a grain, and the middle row has 3 4 3. Its middle topples again, then the two sites next to it. */
+static void avalanche(void) {
+    const uint64_t start[9] = {3, 3, 3, 3, 3, 3, 3, 3, 3}, settled[9] = {3, 3, 3, 1, 2, 1, 3, 3, 3};
+    const uint64_t toppled[9] = {1, 1, 1, 2, 2, 2, 1, 1, 1};
+    uint64_t heights[9] = {0}, counts[9] = {0}, topplings = 7, lost = 7;
+    sandpile_avalanche a;
+    sandpile_drive driven = {0};
+    assert(sandpile_drive_new(3, 3, true, start, 9, &driven) == 0);
+    assert(sandpile_drive_avalanche(&driven, 4, &a, counts, 9) == 0);
+    assert(is_avalanche(a, 4, 12, 9, 2, 6) && ARE_EQUAL(counts, toppled));
+    assert(sandpile_drive_read(&driven, heights, 9, counts, 0, &topplings, &lost) == 0);
+    assert(ARE_EQUAL(heights, settled) && topplings == 12 && lost == 6);
+    sandpile_drive_free(&driven);
+}
+
+static bool holds(sandpile_pass *pass, uint64_t left, uint64_t seen, size_t drops, uint16_t first_row, uint16_t end_row) {
+    sandpile_holding h;
+    assert(sandpile_pass_holding(pass, &h) == 0);
+    return h.left == left && h.seen == seen && h.drops == drops && h.first_row == first_row && h.end_row == end_row;
+}
+
+/* 9 0 2 in a column: each site is a row. Five drops make it 11 0 5. The first row topples twice (3 2 5), the last one once
+   (3 3 1). The sixth drop makes it 3 4 1: the middle topples (4 0 2), and then the first row (0 1 2). A toppling in the middle
+   loses two grains, one at an end three. Of the quota of 20, `child` gets 9 and drops 2, and `first` keeps 11 and drops 3. */
+static void share(void) {
+    const uint64_t start[3] = {9, 0, 2}, settled[3] = {0, 1, 2}, toppled[3] = {3, 1, 1};
+    const size_t drops[6] = {0, 0, 2, 2, 2, 1};
+    uint64_t heights[3] = {0}, odometer[3] = {0}, number = 7, topplings = 7, lost = 7;
+    size_t history[6] = {0};
+    sandpile_pass first = {0}, child = {0}, lower = {0};
+    assert(sandpile_shared_new(1, 3, false, start, 3, 20, &first) == 0 && holds(&first, 20, 0, 0, 0, 3));
+    assert(sandpile_pass_split(&first, 9, &child) == 0 && holds(&child, 9, 0, 0, 0, 0));
+    assert(sandpile_pass_split_rows(&first, 2, &lower) == 0 && holds(&lower, 0, 0, 0, 1, 3));
+    assert(sandpile_pass_drop(&first, drops, 3, &number) == 0 && number == 0 && holds(&first, 8, 3, 3, 0, 1));
+    assert(sandpile_pass_drop(&child, drops + 3, 2, &number) == 0 && number == 3 && holds(&child, 7, 5, 2, 0, 0));
+    assert(sandpile_pass_sweep(&first, &topplings) == 0 && topplings == 2);
+    assert(sandpile_pass_sweep(&lower, &topplings) == 0 && topplings == 1);
+    assert(sandpile_pass_tally(&first, &number) == 0 && number == 5 && holds(&first, 8, 5, 3, 0, 1));
+    assert(sandpile_pass_join(&lower, &child) == 0 && !child.at && holds(&lower, 7, 5, 2, 1, 3));
+    assert(sandpile_pass_join(&first, &lower) == 0 && !lower.at && holds(&first, 15, 5, 5, 0, 3));
+    assert(sandpile_pass_drop(&first, drops + 5, 1, &number) == 0 && number == 5 && holds(&first, 14, 6, 6, 0, 3));
+    assert(sandpile_pass_settle(&first, heights, 3, odometer, 3, history, 6, &topplings, &lost) == 0);
+    assert(ARE_EQUAL(heights, settled) && ARE_EQUAL(odometer, toppled) && ARE_EQUAL(history, drops));
+    assert(topplings == 5 && lost == 14);
+    sandpile_pass_free(&first);
+    assert(!first.at);
+}
+
+/* A shared pile without drops is the pile of `settle`. */
+static void share_no_drops(void) {
+    const uint64_t start[3] = {5, 0, 0}, settled[2][3] = {{1, 1, 0}, {1, 1, 1}}, once[3] = {1, 0, 0}, lost[2] = {3, 2};
+    for (int cylinder = 0; cylinder < 2; cylinder++) {
+        uint64_t heights[3] = {7, 7, 7}, odometer[3] = {7, 7, 7}, sunk = 7, topplings = 7;
+        size_t history[1];
+        sandpile_pass pass = {0};
+        assert(sandpile_shared_new(3, 1, cylinder, start, 3, 0, &pass) == 0);
+        assert(sandpile_pass_settle(&pass, heights, 3, odometer, 3, history, 0, &topplings, &sunk) == 0);
+        assert(ARE_EQUAL(heights, settled[cylinder]) && ARE_EQUAL(odometer, once));
+        assert(sunk == lost[cylinder] && topplings == 1);
+        sandpile_pass_free(&pass);
+    }
+}
+
 int main(void) {
     version();
     settle();
@@ -122,5 +208,9 @@ int main(void) {
     add();
     inverse();
     multiple();
+    drive();
+    avalanche();
+    share();
+    share_no_drops();
     return 0;
 }

@@ -17,6 +17,8 @@ static bool cylinder;
 static uint64_t heights[SITES], others[SITES], odometer[SITES];
 static size_t places[SITES];
 static sandpile_avalanche avalanches[DROPS];
+static sandpile_drive driven;
+static sandpile_pass whole, upper, lower, child;
 
 static uint32_t nothing(void) { return 0; }
 
@@ -49,28 +51,128 @@ static uint32_t inverse(void) { return sandpile_inverse(width, height, cylinder,
 
 static uint32_t multiple(void) { return sandpile_multiple(width, height, cylinder, heights, sites, UINT64_MAX); }
 
-/* A call, and the height of each site of the pile that it is given. */
-static const struct { const char *name; uint32_t (*make)(void); uint64_t each; } calls[] = {
-    {"no call", nothing, 0},
-    {"sandpile_version", version, 0},
-    {"sandpile_settle", settle, 4},
-    {"sandpile_settle", settle, 16777215},
-    {"sandpile_drop", drop, 3},
-    {"sandpile_drop", drop, 24},
-    {"sandpile_sites", draw, 0},
-    {"sandpile_burn", burn, 0},
-    {"sandpile_burn", burn, 3},
-    {"sandpile_identity", identity, 0},
-    {"sandpile_recurrent", recurrent, 0},
-    {"sandpile_recurrent", recurrent, 16777215},
-    {"sandpile_add", add, 3},
-    {"sandpile_inverse", inverse, 3},
-    {"sandpile_multiple", multiple, 3},
+static uint32_t drive_new(void) { return sandpile_drive_new(width, height, cylinder, heights, sites, &driven); }
+
+static uint32_t drive_drop(void) { return sandpile_drive_drop(&driven, places, DROPS, avalanches, DROPS); }
+
+static uint32_t drive_avalanche(void) {
+    return sandpile_drive_avalanche(&driven, sites / 2, avalanches, odometer, sites);
+}
+
+static uint32_t drive_read(void) {
+    uint64_t topplings, lost;
+    return sandpile_drive_read(&driven, heights, sites, odometer, sites, &topplings, &lost);
+}
+
+static uint32_t drive_free(void) {
+    sandpile_drive_free(&driven);
+    return driven.at != NULL;
+}
+
+static uint32_t shared_new(void) { return sandpile_shared_new(width, height, cylinder, heights, sites, DROPS, &whole); }
+
+static uint32_t pass_split(void) { return sandpile_pass_split(&whole, DROPS / 2, &child); }
+
+static uint32_t pass_split_rows(void) { return sandpile_pass_split_rows(&whole, (uint16_t)(height / 2), &child); }
+
+static uint32_t pass_drop(void) {
+    uint64_t first;
+    return sandpile_pass_drop(&whole, places, DROPS, &first);
+}
+
+static uint32_t pass_tally(void) {
+    uint64_t drops;
+    return sandpile_pass_tally(&whole, &drops);
+}
+
+static uint32_t pass_sweep(void) {
+    uint64_t topplings;
+    return sandpile_pass_sweep(&whole, &topplings);
+}
+
+static uint32_t pass_holding(void) {
+    sandpile_holding holding;
+    return sandpile_pass_holding(&whole, &holding);
+}
+
+static uint32_t pass_join(void) { return sandpile_pass_join(&upper, &lower); }
+
+static uint32_t pass_settle(void) {
+    uint64_t topplings, lost;
+    return sandpile_pass_settle(&whole, heights, sites, odometer, sites, places, DROPS, &topplings, &lost);
+}
+
+static uint32_t pass_free(void) {
+    sandpile_pass_free(&whole);
+    return whole.at != NULL;
+}
+
+/* What is in the handles before a call. */
+
+static uint32_t share_and_drop(void) { return shared_new() || pass_drop(); }
+
+/* Two halves of one pile, each with rows and drops. */
+static uint32_t share_in_two(void) {
+    uint64_t first;
+    return sandpile_shared_new(width, height, cylinder, heights, sites, DROPS, &upper)
+        || sandpile_pass_split(&upper, DROPS / 2, &lower)
+        || sandpile_pass_split_rows(&upper, (uint16_t)(height / 2), &child)
+        || sandpile_pass_join(&lower, &child)
+        || sandpile_pass_drop(&upper, places, DROPS / 2, &first)
+        || sandpile_pass_drop(&lower, places, DROPS / 2, &first);
+}
+
+/* A call, the height of each site of the pile that it is given, and what fills the handles before. */
+static const struct { const char *name; uint32_t (*make)(void); uint64_t each; uint32_t (*fill)(void); } calls[] = {
+    {"no call", nothing, 0, nothing},
+    {"sandpile_version", version, 0, nothing},
+    {"sandpile_settle", settle, 4, nothing},
+    {"sandpile_settle", settle, 16777215, nothing},
+    {"sandpile_drop", drop, 3, nothing},
+    {"sandpile_drop", drop, 24, nothing},
+    {"sandpile_sites", draw, 0, nothing},
+    {"sandpile_burn", burn, 0, nothing},
+    {"sandpile_burn", burn, 3, nothing},
+    {"sandpile_identity", identity, 0, nothing},
+    {"sandpile_recurrent", recurrent, 0, nothing},
+    {"sandpile_recurrent", recurrent, 16777215, nothing},
+    {"sandpile_add", add, 3, nothing},
+    {"sandpile_inverse", inverse, 3, nothing},
+    {"sandpile_multiple", multiple, 3, nothing},
+    {"sandpile_drive_new", drive_new, 4, nothing},
+    {"sandpile_drive_new", drive_new, 16777215, nothing},
+    {"sandpile_drive_drop", drive_drop, 3, drive_new},
+    {"sandpile_drive_drop", drive_drop, 24, drive_new},
+    {"sandpile_drive_avalanche", drive_avalanche, 3, drive_new},
+    {"sandpile_drive_avalanche", drive_avalanche, 24, drive_new},
+    {"sandpile_drive_read", drive_read, 3, drive_new},
+    {"sandpile_drive_free", drive_free, 3, drive_new},
+    {"sandpile_shared_new", shared_new, 3, nothing},
+    {"sandpile_shared_new", shared_new, 16777215, nothing},
+    {"sandpile_pass_split", pass_split, 3, shared_new},
+    {"sandpile_pass_split_rows", pass_split_rows, 3, share_and_drop},
+    {"sandpile_pass_drop", pass_drop, 3, shared_new},
+    {"sandpile_pass_tally", pass_tally, 3, share_and_drop},
+    {"sandpile_pass_sweep", pass_sweep, 4, share_and_drop},
+    {"sandpile_pass_sweep", pass_sweep, 16777215, share_and_drop},
+    {"sandpile_pass_holding", pass_holding, 3, share_and_drop},
+    {"sandpile_pass_join", pass_join, 3, share_in_two},
+    {"sandpile_pass_settle", pass_settle, 3, share_and_drop},
+    {"sandpile_pass_settle", pass_settle, 16777215, share_and_drop},
+    {"sandpile_pass_free", pass_free, 3, share_and_drop},
 };
 
 static void stop(const char *what) {
     fprintf(stderr, "%s failed\n", what);
     exit(1);
+}
+
+static void empty_handles(void) {
+    sandpile_drive_free(&driven);
+    sandpile_pass_free(&whole);
+    sandpile_pass_free(&upper);
+    sandpile_pass_free(&lower);
+    sandpile_pass_free(&child);
 }
 
 static void *start(void *make) { return (void *)(uintptr_t)(*(uint32_t (**)(void))make)(); }
@@ -109,8 +211,10 @@ static size_t most_of(size_t call) {
             others[at] = 3;
             places[at] = at % sites;
         }
+        if (calls[call].fill()) stop("filling the handles");
         size_t taken = stack_of(calls[call].make);
         if (taken > most) most = taken;
+        empty_handles();
     }
     return most;
 }
