@@ -53,13 +53,16 @@ class Header(unittest.TestCase):
 
     def test_what_is_wrong_is_named(self):
         numbers, site, lost = "uint64_t seed, uint64_t stream, uint64_t from", "size_t site;", "uint64_t lost;"
-        read, last = "const uint64_t *heights", "#endif\n\n#endif"
+        left, seen, other = "uint64_t left;", "uint64_t seen;", "sandpile_pass *other"
+        burn, last = "sandpile_burn(size_t width, size_t height, bool cylinder, ", "#endif\n\n#endif"
         for said, *wrong in [
             ("sandpile_sites: parameter 6 is size_t *sites, but uint64_t from", ("uint64_t from, ", "")),
             ("sandpile_sites: parameter 4 is uint32_t seed, but uint64_t seed", (numbers, numbers.replace("64", "32"))),
             ("sandpile_avalanche: field 1 is uint64_t lost, but size_t site", (site, "?"), (lost, site), ("?", lost)),
             ("sandpile_avalanche: field 4 is uint16_t reach, but uint32_t reach", ("uint32_t reach", "uint16_t reach")),
-            (f"sandpile_burn: parameter 4 is uint64_t *heights, but {read}", (read, "uint64_t *heights")),
+            ("sandpile_holding: field 1 is uint64_t seen, but uint64_t left", (left, "?"), (seen, left), ("?", seen)),
+            ("sandpile_burn: parameter 4 is uint64_t *heights, but const uint64_t *heights", (f"{burn}const ", burn)),
+            (f"sandpile_pass_join: parameter 2 is sandpile_drive *other, but {other}", (other, "sandpile_drive *other")),
             ("sandpile_version: result is size_t, but uint32_t", ("uint32_t sandpile_version", "size_t sandpile_version")),
             ("SANDPILE_FULL: number is 9, but 6", ("SANDPILE_FULL = 6", "SANDPILE_FULL = 9")),
             ("sandpile_free is not", (last, f"void sandpile_free(void *pile);\n{last}")),
