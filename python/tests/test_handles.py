@@ -21,7 +21,7 @@ class Handles(unittest.TestCase):
     def example(self, *options):
         return self.built(EXAMPLE, "-std=c99", "-D_POSIX_C_SOURCE=200809L", *options)
 
-    def tested(self, name):
+    def one_line_from(self, name):
         text = ran(self.built(TESTS, "-std=c11", "-D_GNU_SOURCE", "-O2"), name)
         self.assertEqual((text.count("\n"), text.split(":")[0]), (1, name))
 
@@ -47,16 +47,16 @@ class Handles(unittest.TestCase):
 
     @needs("cc")
     def test_interleavings_are_as_one_thread(self):
-        self.tested("interleave")
+        self.one_line_from("interleave")
 
     @needs("cc")
     def test_a_failed_allocation_changes_nothing(self):
-        self.tested("refuse")
+        self.one_line_from("refuse")
 
     @needs("cc")
     def test_handles_leave_nothing_behind(self):
-        self.tested("churn")
+        self.one_line_from("churn")
 
     @needs("cc")
     def test_misuse_is_refused(self):
-        self.tested("misuse")
+        self.one_line_from("misuse")
