@@ -8,8 +8,8 @@
    Functions that list faults return 0 or the number of a fault; after a fault, no array or number passed in has
    changed. Faults are listed in the order in which they are checked.
 
-   Pointers must not be null, even if the length is 0, and the arrays and numbers of one call must not overlap. No state
-   is kept between calls, except behind handles (below): threads may call concurrently, on different arrays.
+   Pointers must not be null, even if the length is 0, and no two pointers of one call may point to the same memory. No
+   state is kept between calls, except behind handles (below): threads may call concurrently, on different arrays.
 
    A call needs at most 24 KiB of stack. Do not call from a signal handler, or in a forked child if its parent had several
    threads. Memory comes from `malloc`, `realloc` and `free`. In a program that replaces them, all three must belong to one
@@ -62,13 +62,13 @@ static inline const char *sandpile_explain(uint32_t fault) {
     case SANDPILE_TOO_MUCH: return "the quota exceeds what the pass has left";
     case SANDPILE_ROWS: return "more rows than the pass has";
     case SANDPILE_APART: return "the rows of the two passes are not adjacent";
-    case SANDPILE_SPENT: return "the pass has too little left to drop";
+    case SANDPILE_SPENT: return "more drops than the pass has left";
     case SANDPILE_MISSING: return "the pass is missing quota, drops or rows";
-    case SANDPILE_TAKEN: return "the handle holds something already";
+    case SANDPILE_TAKEN: return "the handle already holds something";
     case SANDPILE_NARROW: return "a cylinder is less than 3 wide";
     case SANDPILE_NO_SITE: return "a drop is outside the grid";
     case SANDPILE_EMPTY: return "the handle holds nothing";
-    case SANDPILE_OTHER_PILE: return "the two passes are of different piles";
+    case SANDPILE_OTHER_PILE: return "the two passes belong to different piles";
     default: return "unknown fault number";
     }
 }
@@ -130,29 +130,29 @@ uint32_t sandpile_multiple(size_t width, size_t height, bool cylinder, uint64_t 
 
 /* Handles.
 
-   A handle is a struct that the caller owns; `{0}` is an empty one. What it holds lives from the call that fills it to the
-   one that frees it. A call fills only an empty handle, and only if it returns 0; after a fault every handle holds what it
-   held. The field `at` is the library's: never write it, and do not copy a handle that holds something, since a copy of the
-   struct is no second handle. A handle may move to another place or thread if the old place is then forgotten.
+   A handle is a struct that the caller owns; `{0}` is an empty one. What it holds lives until a call frees it or a join
+   takes it. A call fills a handle only if it is empty and the call succeeds; after a fault no handle has changed. The field
+   `at` belongs to the library: never write it. You may move a handle by copying the struct, if the old one is no longer
+   used; a copy is not a second handle.
 
-   Calls on one handle must not overlap in time. Calls on different handles may, on any threads, also on the passes of one
-   pile. Pass a handle from one thread to another by what orders memory: a lock, a `SEQ_CST` atomic, a thread's start or
-   join.
+   Calls on one handle must not run at the same time, not even those that only read. Calls on different handles may, on any
+   threads, even if their passes share a pile. Pass a handle to another thread with something that orders memory: a lock, an
+   atomic with `memory_order_seq_cst`, or starting or joining a thread.
 
-   A fork copies all that handles hold, as it copies all memory: parent and child go on apart, and neither sees the other's
-   drops. Fork while no other thread is in a call; the child of a process with several threads must not call the library. */
+   A fork copies what handles hold, like all memory. Parent and child go on independently: neither sees the other's drops. */
 
 /* A driven pile: settled, and settled again after each drop. */
 typedef struct sandpile_drive {
     void *at;
 } sandpile_drive;
 
-/* Settles a pile, and makes an empty handle hold it. TAKEN, SIDE, NARROW, LENGTH, TOO_MANY_GRAINS, MEMORY. */
+/* Fills an empty handle with a settled copy of a pile. TAKEN, SIDE, NARROW, LENGTH, TOO_MANY_GRAINS, MEMORY. */
 uint32_t sandpile_drive_new(size_t width, size_t height, bool cylinder, const uint64_t *heights, size_t heights_length,
                             sandpile_drive *drive);
 
-/* Drops a grain at each site of `drops` in turn; each settles before the next. Writes an avalanche for each drop. Any
-   number of calls does what one call with all their drops does. EMPTY, LENGTH, NO_SITE, FULL, MEMORY. */
+/* Drops a grain at each site of `drops` in turn; each settles before the next. Writes an avalanche for each drop. Several
+   calls do the same as one call with all their drops. The grains of the start and of all drops since may not exceed the
+   limit (FULL), even if some are lost. EMPTY, LENGTH, NO_SITE, FULL, MEMORY. */
 uint32_t sandpile_drive_drop(sandpile_drive *drive, const size_t *drops, size_t drops_length, sandpile_avalanche *avalanches,
                              size_t avalanches_length);
 
@@ -160,8 +160,8 @@ uint32_t sandpile_drive_drop(sandpile_drive *drive, const size_t *drops, size_t 
 uint32_t sandpile_drive_avalanche(sandpile_drive *drive, size_t site, sandpile_avalanche *avalanche, uint64_t *topplings,
                                   size_t topplings_length);
 
-/* Writes the heights, how often each site has toppled since the start (its settling included), the number of topplings and
-   the grains lost. An array of length 0 is left out. EMPTY, LENGTH. */
+/* Writes the heights and, since `sandpile_drive_new` and with its settling, how often each site toppled, the number of
+   topplings and the grains lost. An array of length 0 is not written. EMPTY, LENGTH. */
 uint32_t sandpile_drive_read(sandpile_drive *drive, uint64_t *heights, size_t heights_length, uint64_t *odometer,
                              size_t odometer_length, uint64_t *topplings, uint64_t *lost);
 
@@ -169,7 +169,8 @@ uint32_t sandpile_drive_read(sandpile_drive *drive, uint64_t *heights, size_t he
 void sandpile_drive_free(sandpile_drive *drive);
 
 /* A pass of a shared pile: the right to drop some grains on it and to topple some of its rows. Threads drop and topple at
-   the same time, each by a pass of its own, with single atomic steps and no lock. The pile is freed with its last pass. */
+   the same time, each with a pass of its own, without locks. The pile is freed when its last pass is. A pass takes 16 bytes
+   for each grain of its quota, from the start, and at least 8 bytes for each site. */
 typedef struct sandpile_pass {
     void *at;
 } sandpile_pass;
@@ -177,47 +178,50 @@ typedef struct sandpile_pass {
 /* What a pass holds. */
 typedef struct sandpile_holding {
     uint64_t left;      /* grains that it may still drop */
-    uint64_t seen;      /* drops of all passes that it knows have begun */
+    uint64_t seen;      /* drops, by any pass, that it knows have begun */
     size_t drops;       /* drops made with it and with passes joined to it */
-    uint16_t first_row; /* its first row, and one past its last; both are 0 if it has none */
-    uint16_t end_row;
+    uint16_t first_row; /* its first row, or 0 if it has none */
+    uint16_t end_row;   /* one past its last row, or 0 */
 } sandpile_holding;
 
-/* Makes a shared pile, which need not be stable, and makes an empty handle hold its first pass, with the whole quota of
-   drops and all rows. TAKEN, SIDE, NARROW, LENGTH, TOO_MANY_GRAINS (the quota included), MEMORY. */
+/* Makes a shared pile; the heights may be unstable. Fills an empty handle with its first pass, which has all rows and the
+   whole quota: how many grains may be dropped in all. TAKEN, SIDE, NARROW, LENGTH, TOO_MANY_GRAINS (the quota included),
+   MEMORY. */
 uint32_t sandpile_shared_new(size_t width, size_t height, bool cylinder, const uint64_t *heights, size_t heights_length,
                              uint64_t quota, sandpile_pass *pass);
 
-/* Makes an empty handle hold a new pass of the pile, with part of the quota that a pass has left; a quota of 0 serves to
-   look on. TAKEN (the child), EMPTY, TOO_MUCH, MEMORY. */
+/* Moves `quota` of the drops that `pass` has left to a new pass, in the empty handle `child`. With a quota of 0 the child
+   can only look on. TAKEN (the child), EMPTY, TOO_MUCH, MEMORY. */
 uint32_t sandpile_pass_split(sandpile_pass *pass, uint64_t quota, sandpile_pass *child);
 
-/* The same, with the last `rows` rows of a pass. TAKEN (the child), EMPTY, ROWS, MEMORY. */
+/* Moves the last `rows` rows of `pass` to a new pass, in the empty handle `child`. TAKEN (the child), EMPTY, ROWS, MEMORY. */
 uint32_t sandpile_pass_split_rows(sandpile_pass *pass, uint16_t rows, sandpile_pass *child);
 
-/* Drops a grain at each site of `drops` in turn, and topples nothing. All drops of all passes have numbers, from 0 on;
-   these get consecutive ones, and `first` is the first. EMPTY, NO_SITE, SPENT. */
+/* Drops a grain at each site of `drops` in turn, and topples nothing. The drops of all passes are numbered from 0. Those of
+   one call get consecutive numbers, and `first` becomes the first of them; without drops it becomes a number that means
+   nothing. EMPTY, NO_SITE, SPENT. */
 uint32_t sandpile_pass_drop(sandpile_pass *pass, const size_t *drops, size_t drops_length, uint64_t *first);
 
 /* Writes how many drops of all passes have begun. EMPTY. */
 uint32_t sandpile_pass_tally(sandpile_pass *pass, uint64_t *drops);
 
-/* Visits each site of its rows once, and topples it as often as its grains then allow. Writes the number of topplings.
-   EMPTY. */
+/* Visits each site of the pass's rows once, and topples it as often as the grains on it then allow. Writes the number of
+   topplings. EMPTY. */
 uint32_t sandpile_pass_sweep(sandpile_pass *pass, uint64_t *topplings);
 
 /* Writes what a pass holds. EMPTY. */
 uint32_t sandpile_pass_holding(sandpile_pass *pass, sandpile_holding *holding);
 
-/* Gives a pass all that another one of the same pile holds, and empties the other handle. Join passes with rows to one
-   whose rows they touch. Both must be of one pile: a test refuses others with OTHER_PILE, unless calls on the other pile
-   deceive it, and then nothing holds of either pile. EMPTY, OTHER_PILE, APART, MEMORY. */
+/* Moves all that `other` holds to `pass`, and empties `other`. If both have rows, these must be adjacent (APART). Both must
+   be passes of one pile. Others are refused with OTHER_PILE, unless joins on the other pile run at the same moment; then
+   the behaviour is undefined. EMPTY (either handle), OTHER_PILE, APART, MEMORY. */
 uint32_t sandpile_pass_join(sandpile_pass *pass, sandpile_pass *other);
 
-/* Settles what is left to topple, in memory of its own. Needs a pass that has all quota or drops and all rows, as the first
-   has when all others are joined to it. Writes the settled heights, how often each site toppled, the site of each drop by
-   number, the number of topplings and the grains lost: what one thread gets that drops this history. `history` has one
-   element per drop. The pile and the pass do not change, and may go on. EMPTY, LENGTH, MISSING, MEMORY. */
+/* Settles what is left to topple, in memory of its own. Needs a pass with all rows and the whole quota, left or dropped,
+   such as the first pass after all others have joined it. Writes the settled heights, how often each site toppled, the site
+   of each drop by number, the number of topplings and the grains lost: what one thread gets that drops this history.
+   `history` has one element per drop of the pass. The pile and the pass do not change, and may go on. EMPTY, LENGTH,
+   MISSING, MEMORY. */
 uint32_t sandpile_pass_settle(sandpile_pass *pass, uint64_t *heights, size_t heights_length, uint64_t *odometer,
                               size_t odometer_length, size_t *history, size_t history_length, uint64_t *topplings,
                               uint64_t *lost);

@@ -15,17 +15,17 @@ _FAULTS = {
     10: ("TooMuch", "the quota exceeds what the pass has left"),
     11: ("Rows", "more rows than the pass has"),
     12: ("Apart", "the rows of the two passes are not adjacent"),
-    13: ("Spent", "the pass has too little left to drop"),
+    13: ("Spent", "more drops than the pass has left"),
     14: ("Missing", "the pass is missing quota, drops or rows"),
     15: ("Plan", "a parameter of the run is out of range"),
-    17: ("Taken", "the handle holds something already"),
+    17: ("Taken", "the handle already holds something"),
     19: ("TooLarge", "a height is over 1,099,511,627,775"),
     22: ("TooLong", "the pile is longer than 1,048,576 bytes as text"),
     23: ("Usage", "the program rejects its options"),
     24: ("Narrow", "a cylinder is less than 3 wide"),
     25: ("NoSite", "a drop is outside the grid"),
     26: ("Empty", "the handle holds nothing"),
-    27: ("OtherPile", "the two passes are of different piles"),
+    27: ("OtherPile", "the two passes belong to different piles"),
 }
 
 

@@ -34,11 +34,11 @@ pub enum Fault {
     Rows,
     /// The rows of the two passes are not adjacent.
     Apart,
-    /// The pass has too little left to drop.
+    /// More drops than the pass has left.
     Spent,
     /// The pass is missing quota, receipts or rows.
     Missing,
-    /// The handle that is to be filled holds something.
+    /// The handle that is to be filled already holds something.
     Taken,
     /// A cylinder is less than 3 wide.
     Narrow,
@@ -46,7 +46,7 @@ pub enum Fault {
     NoSite,
     /// The handle holds nothing.
     Empty,
-    /// The two passes are of different piles.
+    /// The two passes belong to different piles.
     OtherPile,
 }
 

@@ -1,5 +1,5 @@
-//! The sandpile library for C. Every export takes plain numbers and slices, and returns 0 or the number of a fault; the
-//! one for the version returns the version.
+//! The sandpile library for C. An export takes numbers, slices and handles, and returns 0 or the number of a fault; the
+//! one for the version returns the version, and those that free return nothing.
 //!
 //! An export checks its arguments, calls the library's function, and writes its results only when nothing can fail any
 //! more. So after a fault no slice, no number and no handle has changed. No export keeps state between calls, except behind
