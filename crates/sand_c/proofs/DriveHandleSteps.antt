@@ -18,7 +18,6 @@ use denote.Struct.Struct.{within}
 use denote.Struct.Owning.{shape, fields, to}
 use Rattle.core.specs.declared.option.Option.{Option}
 use Rattle.core.specs.declared.option.Option.TheVariants.{None, Some}
-
 use Rattle.std_alloc.specs.Box.Ownership.{box_owns}
 use Rattle.std_heap.proofs.GlobalToken.{dealloc_token-Testable}
 use Rattle.std_alloc.proofs.BoxSteps.Form.{Bx}
