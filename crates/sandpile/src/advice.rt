@@ -17,6 +17,6 @@ mod refused;
 mod strange;
 
 pub use advising::advice;
-pub use faults::{Explained, FAULTS, fault_named, write_explain_help, write_explained};
+pub use faults::{fault_named, write_explain_help, write_explained};
 pub use misuse::{is_command, tip};
 pub use progress::progress_line;

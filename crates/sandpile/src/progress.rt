@@ -1,13 +1,17 @@
 //! The progress line of a long command on a terminal, and the writer that clears it before anything else is written
 //! there.
+//!
+//! The cursor is on the row below the line. A program in Rattle cannot catch a signal, so Ctrl-C leaves the line on the
+//! screen; what the terminal and the shell write then comes below it.
 
 use crate::advice::progress_line;
 use sand_cli::{Task, task_of};
 use sand_lab::{Gate, Role};
 use std::alloc::{AllocError, Global};
+use std::env::FillError;
 use std::io;
 use std::io::Write;
-use std::rt::Clock;
+use std::rt::{Clock, Env};
 use std::sync::atomic::Ordering::SeqCst;
 use std::sync::atomic::{AtomicBool, AtomicU64};
 use std::time::Instant;
@@ -15,18 +19,24 @@ use std::time::Instant;
 /// The number of drops that a dropper makes between two looks at the clock.
 const STEP: u32 = 1024;
 
+/// Moves the cursor from the row below the line to the line.
+const TO_LINE: &str = "\x1b[A\r";
+
+/// Clears from the cursor to the end of its row.
+const CLEAR: &str = "\x1b[K";
+
 /// Long work: the command's name, the number of dropping threads, the drops of each of them per epoch, and the number
 /// of all drops.
 #[derive(Clone, Copy)]
-pub(crate) struct Work {
+struct Work {
     command: &'static str,
     droppers: u32,
     turns: u32,
     drops: u64,
 }
 
-/// The long work that the words ask for, if any: drops at random, or a run of the laboratory.
-pub(crate) fn work_of(alloc: Global, words: &[String]) -> Option<Work> {
+// The long work that the words ask for, if any: drops at random, or a run of the laboratory.
+fn work_of(alloc: Global, words: &[String]) -> Option<Work> {
     match task_of(alloc, words).ok()? {
         Task::Drops {
             drawn: Some(draw),
@@ -46,6 +56,30 @@ pub(crate) fn work_of(alloc: Global, words: &[String]) -> Option<Work> {
                 .saturating_mul(u64::from(wish.epochs)),
         }),
         _ => None,
+    }
+}
+
+// Whether the terminal is known by a name, and can rewrite a line.
+fn rewrites_lines<R: Env>(rt: &R) -> bool {
+    let mut name = [0u8; 8];
+    match rt.var("TERM", &mut name) {
+        Ok(length) => !matches!(&name[..length], b"" | b"dumb"),
+        Err(FillError::TooLong) => true,
+        Err(FillError::NotPresent) => false,
+    }
+}
+
+/// The progress of the work that the words ask for, from now on: none if it is not long, if the terminal cannot rewrite
+/// a line, or if memory runs out.
+pub(crate) fn progress_of<'a, R: Eprint + Clock + Env>(
+    rt: &'a R,
+    alloc: Global,
+    words: &[String],
+) -> Option<Progress<'a, R>> {
+    if rewrites_lines(rt) {
+        Progress::new(rt, alloc, work_of(alloc, words)?).ok()
+    } else {
+        None
     }
 }
 
@@ -72,8 +106,7 @@ pub(crate) struct Progress<'a, R> {
 }
 
 impl<'a, R: Eprint + Clock> Progress<'a, R> {
-    /// Shows the progress of this work from now on.
-    pub(crate) fn new(rt: &'a R, alloc: Global, work: Work) -> io::Result<Progress<'a, R>> {
+    fn new(rt: &'a R, alloc: Global, work: Work) -> io::Result<Progress<'a, R>> {
         Ok(Progress {
             rt,
             alloc,
@@ -89,7 +122,7 @@ impl<'a, R: Eprint + Clock> Progress<'a, R> {
     pub(crate) fn end(&self) {
         self.is_over.store(true, SeqCst);
         if self.shown.swap(0, SeqCst) > 0 {
-            let _ = eprint!(self.rt; "\r\x1b[K");
+            let _ = eprint!(self.rt; "{TO_LINE}{CLEAR}");
         }
     }
 
@@ -118,8 +151,17 @@ impl<'a, R: Eprint + Clock> Progress<'a, R> {
         {
             let Work { command, drops, .. } = self.work;
             if let Ok(line) = progress_line(self.alloc, command, self.made(), drops, seconds) {
-                let _ = eprint!(self.rt; "\r{line}\x1b[K");
+                self.write_line(line.as_str(), shown == 0);
             }
+        }
+    }
+
+    // Writes the line in place of the one before, and ends on the row below. It is cut at the right edge, where a
+    // terminal would otherwise go on in the next row. One write has all of this, so that no signal comes in between.
+    fn write_line(&self, line: &str, is_first: bool) {
+        let start = if is_first { "\r" } else { TO_LINE };
+        if let Ok(text) = format!(in self.alloc; "{start}\x1b[?7l{line}{CLEAR}\x1b[?7h\n") {
+            let _ = eprint!(self.rt; "{text}");
         }
     }
 
@@ -183,5 +225,56 @@ impl<W: Write, R: Eprint + Clock> Write for Cleared<'_, '_, W, R> {
 
     fn flush(&mut self) -> io::Result<()> {
         self.writer.flush()
+    }
+}
+
+#[cfg(test)]
+mod tests {
+    use super::*;
+    use std::ops::Range;
+    use std::test::Fail;
+
+    fn take_turns<R: Eprint + Clock + Sync>(
+        progress: &Progress<'_, R>,
+        who: u32,
+        turns: Range<u32>,
+    ) {
+        for turn in turns {
+            progress.turn(Role::Dropper, who, turn);
+        }
+    }
+
+    // Two droppers in two epochs, each with 2,500 turns an epoch. Steps begin at the turns 0, 1,024 and 2,048, and a drop
+    // that has begun counts.
+    #[test]
+    fn each_turn_counts_once(rt: HostRuntime) -> Result<(), Fail> {
+        let work = Work {
+            command: "lab",
+            droppers: 2,
+            turns: 2_500,
+            drops: 10_000,
+        };
+        let progress = Progress::new(&rt, rt.alloc(), work)?;
+        for (who, first, end, made) in [
+            (0, 0, 1, 1),
+            (0, 1, 1_024, 1),
+            (0, 1_024, 1_025, 1_025),
+            (1, 0, 2_500, 3_074),
+            (0, 1_025, 2_500, 4_098),
+            (1, 0, 1, 4_550),
+            (0, 0, 2_500, 7_050),
+            (1, 1, 2_500, 9_098),
+        ] {
+            take_turns(&progress, who, first..end);
+            assert_eq!(rt;
+                progress.made(),
+                made,
+                "dropper {who} before its turn {end}"
+            );
+        }
+        progress.turn(Role::Worker, 0, 0);
+        progress.turn(Role::Observer, 0, 0);
+        assert_eq!(rt; progress.made(), 9_098);
+        Ok(())
     }
 }

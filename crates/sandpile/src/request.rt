@@ -1,26 +1,34 @@
 //! What the words ask for: a command's task, or something of the program itself.
 
-use crate::advice::{Explained, FAULTS, fault_named, is_command};
+ghost use Rattle.std.specs.Prelude.{◌≡◌, IfErr, IfOk, map, string_bytes, true};
+ghost use Rattle.sandpile.specs.Answering.{IsAsked, IsOfExplain, is_version, wants_explanation, wants_version};
+
+use crate::advice::{fault_named, is_command};
 use sand_desk::asks_for_version;
-use std::slice;
 
 /// What the words ask for; the first word is the program's name.
 #[derive(Clone, Copy)]
-pub(crate) enum Request<'a> {
+pub(crate) enum Request {
     Version,
-    /// The meaning of these faults.
-    Explain(&'static [Explained]),
+    /// The meaning of the fault with this number, or of all.
+    Explain(Option<u32>),
     /// The help of `explain`.
     ExplainHelp,
-    /// The meaning of a word that is not a fault.
-    NoFault(&'a str),
-    /// The meaning of several words at once.
-    ManyFaults,
     /// A command's task, or its help.
     Command,
 }
 
-fn is_version(word: &str) -> bool {
+/// What is wrong with the words after `explain`.
+#[derive(Clone, Copy)]
+pub(crate) enum Misuse<'a> {
+    /// This word is not a fault.
+    NoFault(&'a str),
+    ManyFaults,
+}
+
+fn is_version(word: &str) -> bool
+    ensures { result ≡ is_version word.now }
+{
     matches!(word, "--version" | "-V")
 }
 
@@ -28,37 +36,60 @@ fn is_help(word: &str) -> bool {
     matches!(word, "--help" | "-h")
 }
 
+fn wants_version(words: &[String]) -> bool
+    ensures { result ≡ wants_version (map string_bytes words.now) }
+{
+    match words {
+        [_, word] if word.as_str() == "-V" => true,
+        [_, command, word] => is_command(command.as_str()) && is_version(word.as_str()),
+        _ => asks_for_version(words),
+    }
+}
+
+fn wants_explanation(words: &[String]) -> bool
+    ensures { result ≡ wants_explanation (map string_bytes words.now) }
+{
+    match words {
+        [_, command, ..] => command.as_str() == "explain",
+        _ => false,
+    }
+}
+
 // What `explain` is asked for by one word.
-fn explanation_of(word: &str) -> Request<'_> {
+fn explanation_of(word: &str) -> Result<Request, Misuse<'_>>
+    ensures { IfOk result IsOfExplain }
+{
     if is_help(word) {
-        return Request::ExplainHelp;
+        return Ok(Request::ExplainHelp);
     }
     match fault_named(word) {
-        Some(fault) => Request::Explain(slice::from_ref(fault)),
-        None => Request::NoFault(word),
+        Some(fault) => Ok(Request::Explain(Some(fault.number))),
+        None => Err(Misuse::NoFault(word)),
     }
 }
 
-// What a command and one more word ask for.
-fn of_two<'a>(command: &'a str, word: &'a str) -> Request<'a> {
-    if is_command(command) && is_version(word) {
-        Request::Version
-    } else if command == "explain" {
-        explanation_of(word)
-    } else {
-        Request::Command
+// What the words after `explain` ask for.
+fn explanation_in(words: &[String]) -> Result<Request, Misuse<'_>>
+    ensures { IfOk result IsOfExplain }
+{
+    match words {
+        [] => Ok(Request::Explain(None)),
+        [word] => explanation_of(word.as_str()),
+        _ => Err(Misuse::ManyFaults),
     }
 }
 
-pub(crate) fn request_of(words: &[String]) -> Request<'_> {
-    if asks_for_version(words) {
-        return Request::Version;
+/// What the words ask for. Fails if `explain` is followed by anything but one fault, or a word that asks for help or the
+/// version.
+pub(crate) fn request_of(words: &[String]) -> Result<Request, Misuse<'_>>
+    ensures asked { IfOk result (IsAsked (map string_bytes words.now)) }
+    ensures misuse { IfErr result (λ _. wants_explanation (map string_bytes words.now) ≡ true) }
+{
+    if wants_version(words) {
+        return Ok(Request::Version);
     }
     match words {
-        [_, word] if word.as_str() == "-V" => Request::Version,
-        [_, word] if word.as_str() == "explain" => Request::Explain(&FAULTS),
-        [_, command, word] => of_two(command.as_str(), word.as_str()),
-        [_, command, ..] if command.as_str() == "explain" => Request::ManyFaults,
-        _ => Request::Command,
+        [_, _, after @ ..] if wants_explanation(words) => explanation_in(after),
+        _ => Ok(Request::Command),
     }
 }

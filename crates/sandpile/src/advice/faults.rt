@@ -1,7 +1,7 @@
 //! The faults that a command may report: what each one means, and what to do about it.
 
-ghost use Rattle.std.specs.Prelude.{◌≢◌, IfErr};
-ghost use Rattle.sand_desk.specs.Faults.{status_of};
+ghost use Rattle.std.specs.Prelude.{None, IfErr, OnOk};
+ghost use Rattle.sand_desk.specs.Helping.{IsShown, IsUnshown};
 
 use sand_desk::DeskFault;
 use sand_text::write_text;
@@ -20,7 +20,7 @@ pub struct Explained {
 }
 
 /// All faults that a command may report, by number.
-pub static FAULTS: [Explained; 16] = [
+static FAULTS: [Explained; 16] = [
     Explained {
         number: 1,
         name: "Side",
@@ -218,22 +218,32 @@ fn push_explained(text: &mut String, fault: &Explained) -> Result<(), AllocError
     push_indented(text, fault.remedy)
 }
 
-/// Writes the explanations of these faults, separated by empty lines. Fails if memory runs out for the text (`Memory`)
-/// or the writer fails (`Write`, with the number of bytes it took).
-pub fn write_explained<W: Write>(
-    alloc: Global,
-    faults: &[Explained],
-    writer: &mut W,
-) -> Result<(), DeskFault>
-    ensures { IfErr result (λ e. status_of e ≢ 0) }
-{
+// The explanation of the fault with this number, or of all, separated by empty lines.
+fn explained_text(alloc: Global, number: Option<u32>) -> Result<String, AllocError> {
     let mut text = String::new(alloc);
-    for fault in faults {
+    for fault in &FAULTS {
+        if number.is_some() && number != Some(fault.number) {
+            continue;
+        }
         if !text.is_empty() {
             text.push_str("\n")?;
         }
         push_explained(&mut text, fault)?;
     }
+    Ok(text)
+}
+
+/// Writes the explanation of the fault with this number, or of all, separated by empty lines. Fails if memory runs out
+/// for the text (`Memory`) or the writer fails (`Write`, with the number of bytes it took).
+pub fn write_explained<W: Write>(
+    alloc: Global,
+    number: Option<u32>,
+    writer: &mut W,
+) -> Result<(), DeskFault>
+    ensures shown { OnOk result (IsShown None (W.contents writer.old) (W.contents writer.new)) }
+    ensures fault { IfErr result (IsUnshown None (W.contents writer.old) (W.contents writer.new)) }
+{
+    let text = explained_text(alloc, number)?;
     write_text(writer, text.as_str().as_bytes())?;
     Ok(())
 }
@@ -241,7 +251,8 @@ pub fn write_explained<W: Write>(
 /// Writes the help of `sandpile explain`. Allocates nothing. Fails if the writer fails (`Write`, with the number of
 /// bytes it took).
 pub fn write_explain_help<W: Write>(writer: &mut W) -> Result<(), DeskFault>
-    ensures { IfErr result (λ e. status_of e ≢ 0) }
+    ensures shown { OnOk result (IsShown None (W.contents writer.old) (W.contents writer.new)) }
+    ensures fault { IfErr result (IsUnshown None (W.contents writer.old) (W.contents writer.new)) }
 {
     write_text(writer, EXPLAIN_HELP.as_bytes())?;
     Ok(())

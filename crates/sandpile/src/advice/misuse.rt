@@ -1,21 +1,9 @@
 //! Tips for words that the command line rejects: a file's name, or a value that is not a whole number.
 
+ghost use Rattle.std.specs.Prelude.{◌≡◌};
+ghost use Rattle.sandpile.specs.Answering.{is_command, reads_a_pile};
+
 use std::alloc::{AllocError, Global};
-
-/// The commands that read a pile from standard input.
-static READERS: [&str; 8] = [
-    "settle",
-    "burn",
-    "drops",
-    "add",
-    "inverse",
-    "multiple",
-    "recurrent",
-    "lab",
-];
-
-/// The commands that read nothing.
-static OTHERS: [&str; 2] = ["identity", "explain"];
 
 /// The options without a value.
 static FLAGS: [&str; 7] = [
@@ -37,13 +25,21 @@ enum Mistake<'a> {
     NotWhole(&'a str),
 }
 
-fn reads_a_pile(word: &str) -> bool {
-    READERS.contains(&word)
+// Whether a word is a command that reads a pile from standard input.
+fn reads_a_pile(word: &str) -> bool
+    ensures { result ≡ reads_a_pile word.now }
+{
+    matches!(
+        word,
+        "settle" | "burn" | "drops" | "add" | "inverse" | "multiple" | "recurrent" | "lab"
+    )
 }
 
 /// Whether a word is a command.
-pub fn is_command(word: &str) -> bool {
-    reads_a_pile(word) || OTHERS.contains(&word)
+pub fn is_command(word: &str) -> bool
+    ensures { result ≡ is_command word.now }
+{
+    reads_a_pile(word) || matches!(word, "identity" | "explain")
 }
 
 // Whether a word is a whole number as options accept it.
