@@ -6,13 +6,13 @@ ghost use Rattle.sand_desk.specs.Faults.{status_of};
 ghost use Rattle.sandpile.specs.Answering.{IsAnswer, IsNoAnswer, IsPerformed, IsUnperformed};
 
 use crate::advice::{write_explain_help, write_explained};
-use crate::progress::{Cleared, progress_of};
+use crate::progress::Progress;
 use crate::request::Request;
 use sand_desk::{DeskFault, run_gated_command, show_help, status, write_version};
 use sand_lab::{Gate, Open};
 use std::alloc::Global;
 use std::io::{Read, Write};
-use std::rt::{Clock, Env};
+use std::rt::Clock;
 use std::thread::Threads;
 
 // Runs the command that the words name, or shows the help that they ask for.
@@ -41,8 +41,8 @@ fn perform<T: Threads + Sync, G: Gate, R: Read, W: Write>(
     show_help(alloc, fault, output)
 }
 
-/// Answers a request, with a gate for its command.
-pub(crate) fn answer<T: Threads + Sync, G: Gate, R: Read, W: Write>(
+// Answers a request, with a gate for its command.
+fn answer<T: Threads + Sync, G: Gate, R: Read, W: Write>(
     rt: &T,
     alloc: Global,
     gate: &G,
@@ -67,26 +67,28 @@ pub(crate) fn answer<T: Threads + Sync, G: Gate, R: Read, W: Write>(
     }
 }
 
-/// Answers a request, and shows the progress of a long command on the terminal. `is_same`: the output goes to a terminal
-/// too.
-pub(crate) fn answer_and_show<T: Threads + Sync + Eprint + Clock + Env, R: Read, W: Write + Drop>(
+/// Answers a request, and lets a long command show its progress, if given.
+pub(crate) fn answer_and_show<T: Threads + Sync + Eprint + Clock, R: Read, W: Write>(
     rt: &T,
     alloc: Global,
+    progress: Option<&Progress<'_, T>>,
     request: Request,
     words: &[String],
     input: &mut R,
-    mut output: W,
-    is_same: bool,
+    output: &mut W,
 ) -> Result<(), DeskFault>
     requires { 0 < length words.now }
+    ensures done { OnOk result (IsAnswer request (map string_bytes words.now) (call_of (map string_bytes words.now)
+        (R.remaining input.old) (R.remaining input.new) (W.contents output.old) (W.contents output.new))) }
+    ensures fault { IfErr result (IsNoAnswer request (map string_bytes words.now) (call_of (map string_bytes words.now)
+        (R.remaining input.old) (R.remaining input.new) (W.contents output.old) (W.contents output.new))) }
     ensures told { IfErr result (TellsWords (map string_bytes words.now)) }
     ensures status { IfErr result (λ e. status_of e ≢ 0) }
 {
-    let Some(progress) = progress_of(rt, alloc, words) else {
-        return answer(rt, alloc, &Open, request, words, input, &mut output);
+    let Some(progress) = progress else {
+        return answer(rt, alloc, &Open, request, words, input, output);
     };
-    let mut output = Cleared::new(output, if is_same { Some(&progress) } else { None });
-    let answered = answer(rt, alloc, &progress, request, words, input, &mut output);
+    let answered = answer(rt, alloc, progress, request, words, input, output);
     progress.end();
     answered
 }

@@ -11,12 +11,12 @@ mod progress;
 mod request;
 
 use advice::{advice, tip};
-use answering::{answer, answer_and_show};
+use answering::answer_and_show;
 use arguments::{is_nothing, words_of};
 use kept::Kept;
+use progress::{Cleared, progress_of};
 use request::{Misuse, request_of};
 use sand_desk::{DeskFault, report_fault};
-use sand_lab::Open;
 use std::alloc::Global;
 use std::io;
 use std::io::IsTerminal;
@@ -45,14 +45,22 @@ fn main(rt: HostRuntime) -> ExitCode {
     let speaks = rt.stderr().is_terminal();
     let copy = if speaks { Some(Vec::new(alloc)) } else { None };
     let mut input = Kept::new(rt.stdin(), copy);
-    let mut output = rt.stdout();
-    let answered = if speaks {
-        let is_same = output.is_terminal();
-        answer_and_show(&rt, alloc, request, words, &mut input, output, is_same)
+    let progress = if speaks {
+        progress_of(&rt, alloc, words)
     } else {
-        answer(&rt, alloc, &Open, request, words, &mut input, &mut output)
+        None
     };
-    match answered {
+    let is_same = rt.stdout().is_terminal();
+    let mut output = Cleared::new(rt.stdout(), progress.as_ref().filter(|_| is_same));
+    match answer_and_show(
+        &rt,
+        alloc,
+        progress.as_ref(),
+        request,
+        words,
+        &mut input,
+        &mut output,
+    ) {
         Ok(()) => ExitCode::SUCCESS,
         Err(fault) => {
             let code = report_fault(&rt, &mut rt.stderr(), &fault);

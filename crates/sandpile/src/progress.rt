@@ -25,11 +25,27 @@ const TO_LINE: &str = "\x1b[A\r";
 /// Clears from the cursor to the end of its row.
 const CLEAR: &str = "\x1b[K";
 
-/// Long work: the command's name, the number of dropping threads, the drops of each of them per epoch, and the number
-/// of all drops.
+/// A command that drops grains for long.
+#[derive(Clone, Copy)]
+enum LongCommand {
+    Drops,
+    Lab,
+}
+
+impl LongCommand {
+    fn name(self) -> &'static str {
+        match self {
+            LongCommand::Drops => "drops",
+            LongCommand::Lab => "lab",
+        }
+    }
+}
+
+/// Long work: the command, the number of dropping threads, the drops of each of them per epoch, and the number of all
+/// drops.
 #[derive(Clone, Copy)]
 struct Work {
-    command: &'static str,
+    command: LongCommand,
     droppers: u32,
     turns: u32,
     drops: u64,
@@ -42,13 +58,13 @@ fn work_of(alloc: Global, words: &[String]) -> Option<Work> {
             drawn: Some(draw),
             ..
         } => Some(Work {
-            command: "drops",
+            command: LongCommand::Drops,
             droppers: 1,
             turns: draw.count,
             drops: u64::from(draw.count),
         }),
         Task::Lab { wish, .. } => Some(Work {
-            command: "lab",
+            command: LongCommand::Lab,
             droppers: wish.droppers,
             turns: wish.drops,
             drops: u64::from(wish.droppers)
@@ -150,7 +166,8 @@ impl<'a, R: Eprint + Clock> Progress<'a, R> {
                 .is_ok()
         {
             let Work { command, drops, .. } = self.work;
-            if let Ok(line) = progress_line(self.alloc, command, self.made(), drops, seconds) {
+            let name = command.name();
+            if let Ok(line) = progress_line(self.alloc, name, self.made(), drops, seconds) {
                 self.write_line(line.as_str(), shown == 0);
             }
         }
@@ -225,56 +242,5 @@ impl<W: Write, R: Eprint + Clock> Write for Cleared<'_, '_, W, R> {
 
     fn flush(&mut self) -> io::Result<()> {
         self.writer.flush()
-    }
-}
-
-#[cfg(test)]
-mod tests {
-    use super::*;
-    use std::ops::Range;
-    use std::test::Fail;
-
-    fn take_turns<R: Eprint + Clock + Sync>(
-        progress: &Progress<'_, R>,
-        who: u32,
-        turns: Range<u32>,
-    ) {
-        for turn in turns {
-            progress.turn(Role::Dropper, who, turn);
-        }
-    }
-
-    // Two droppers in two epochs, each with 2,500 turns an epoch. Steps begin at the turns 0, 1,024 and 2,048, and a drop
-    // that has begun counts.
-    #[test]
-    fn each_turn_counts_once(rt: HostRuntime) -> Result<(), Fail> {
-        let work = Work {
-            command: "lab",
-            droppers: 2,
-            turns: 2_500,
-            drops: 10_000,
-        };
-        let progress = Progress::new(&rt, rt.alloc(), work)?;
-        for (who, first, end, made) in [
-            (0, 0, 1, 1),
-            (0, 1, 1_024, 1),
-            (0, 1_024, 1_025, 1_025),
-            (1, 0, 2_500, 3_074),
-            (0, 1_025, 2_500, 4_098),
-            (1, 0, 1, 4_550),
-            (0, 0, 2_500, 7_050),
-            (1, 1, 2_500, 9_098),
-        ] {
-            take_turns(&progress, who, first..end);
-            assert_eq!(rt;
-                progress.made(),
-                made,
-                "dropper {who} before its turn {end}"
-            );
-        }
-        progress.turn(Role::Worker, 0, 0);
-        progress.turn(Role::Observer, 0, 0);
-        assert_eq!(rt; progress.made(), 9_098);
-        Ok(())
     }
 }
