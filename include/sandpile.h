@@ -213,8 +213,8 @@ uint32_t sandpile_pass_sweep(sandpile_pass *pass, uint64_t *topplings);
 uint32_t sandpile_pass_holding(sandpile_pass *pass, sandpile_holding *holding);
 
 /* Moves all that `other` holds to `pass`, and empties `other`. If both have rows, these must be adjacent (APART). Both must
-   be passes of one pile. Others are refused with OTHER_PILE, unless joins on the other pile run at the same moment; then
-   the behaviour is undefined. EMPTY (either handle), OTHER_PILE, APART, MEMORY. */
+   be passes of one pile. A test refuses others with OTHER_PILE, but no proof rests on it: joins on the other pile at
+   the same moment could deceive it, and then the behaviour is undefined. EMPTY (either handle), OTHER_PILE, APART, MEMORY. */
 uint32_t sandpile_pass_join(sandpile_pass *pass, sandpile_pass *other);
 
 /* Settles what is left to topple, in memory of its own. Needs a pass with all rows and the whole quota, left or dropped,

@@ -19,7 +19,7 @@ class Handles(unittest.TestCase):
         return program
 
     def example(self, *options):
-        return self.built(EXAMPLE, "-std=c99", "-D_POSIX_C_SOURCE=200809L", *options)
+        return self.built(EXAMPLE, "-std=c99", *options)
 
     def one_line_from(self, name):
         text = ran(self.built(TESTS, "-std=c11", "-D_GNU_SOURCE", "-O2"), name)

@@ -25,7 +25,7 @@ use std::sync::Arc;
 use std::sync::atomic::AtomicU64;
 use std::sync::atomic::Ordering::SeqCst;
 
-// How often `is_of_pile` looks. Calls on the passes of another pile can deceive it only if one falls into each look.
+// How often `is_of_pile` looks. Joins of passes of the other pile can deceive it only if one falls into each look.
 const LOOKS: u32 = 64;
 
 /// A pass, a share of its pile, counters for its lists of drops, and a number that all passes of its pile share.
