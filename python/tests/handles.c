@@ -4,24 +4,29 @@
      refuse       each allocation of each call fails in turn: nothing changes, and nothing is leaked
      churn        100,000 handles are filled and freed: memory does not grow
      misuse       faults in their order, and handles that stay as they are
+     fork         parent and child drop on copies of a drive and of a shared pile
 
-   A test prints one line. malloc, realloc and free are defined here, to count blocks and to fail. */
+   A test prints one line. malloc, calloc, realloc and free are defined here, to count blocks and to fail. */
 #include "sandpile.h"
 #include <inttypes.h>
 #include <pthread.h>
 #include <stdatomic.h>
+#include <stddef.h>
 #include <stdio.h>
 #include <stdlib.h>
 #include <string.h>
+#include <sys/wait.h>
+#include <unistd.h>
 
 enum { SIDE = 16, SITES = SIDE * SIDE, QUOTA = 200, THREADS = 4 };
 
 /* Memory */
 
-extern void *__libc_malloc(size_t), *__libc_realloc(void *, size_t), __libc_free(void *);
+extern void *__libc_malloc(size_t), *__libc_calloc(size_t, size_t), *__libc_realloc(void *, size_t);
+extern void __libc_free(void *);
 
-static atomic_long blocks;          /* those that live */
-static atomic_long requests = -1;   /* how many requests are still granted; below 0: all */
+static atomic_long blocks;        /* those that live */
+static atomic_long requests = -1; /* how many requests are still granted; below 0: all */
 
 static bool is_refused(void) {
     long left = atomic_load(&requests);
@@ -34,6 +39,13 @@ static bool is_refused(void) {
 void *malloc(size_t size) {
     if (is_refused()) return NULL;
     void *block = __libc_malloc(size);
+    if (block) atomic_fetch_add(&blocks, 1);
+    return block;
+}
+
+/* Not used by the library, but by the C library for threads, which then calls free. */
+void *calloc(size_t count, size_t size) {
+    void *block = __libc_calloc(count, size);
     if (block) atomic_fetch_add(&blocks, 1);
     return block;
 }
@@ -69,13 +81,35 @@ static uint64_t drawn(uint64_t *seed) { /* SplitMix64, Steele, Lea and Flood 201
 
 static uint64_t below(uint64_t *seed, uint64_t limit) { return drawn(seed) % limit; }
 
+/* Records */
+
+struct record {
+    uint64_t heights[SITES], odometer[SITES], topplings, lost;
+    size_t history[QUOTA];
+};
+
+static uint32_t settle_into(struct record *record, sandpile_pass *pass, size_t sites, size_t drops) {
+    return sandpile_pass_settle(pass, record->heights, sites, record->odometer, sites, record->history, drops,
+                                &record->topplings, &record->lost);
+}
+
 /* Interleavings */
 
+struct round;
+
 struct job {
+    struct round *round;
     sandpile_pass pass;
     uint64_t seed;
-    size_t sites;
-    size_t *where; /* of all jobs: the site of each drop, by number */
+};
+
+/* A pile, and jobs that drop on it at the same time. */
+struct round {
+    size_t width, height, sites, quota, count;
+    bool cylinder;
+    uint64_t start[SITES];
+    size_t where[QUOTA]; /* the site of each drop, by number */
+    struct job jobs[THREADS];
 };
 
 static void drop_some(struct job *job, sandpile_pass *pass) {
@@ -83,21 +117,34 @@ static void drop_some(struct job *job, sandpile_pass *pass) {
     OK(sandpile_pass_holding(pass, &held));
     size_t sites[8], count = below(&job->seed, 9);
     if (count > held.left) count = held.left;
-    for (size_t i = 0; i < count; i++) sites[i] = below(&job->seed, job->sites);
+    for (size_t i = 0; i < count; i++) sites[i] = below(&job->seed, job->round->sites);
     uint64_t first, toppled;
     OK(sandpile_pass_drop(pass, sites, count, &first));
-    EXPECT(first >= held.seen);
-    for (size_t i = 0; i < count; i++) job->where[first + i] = sites[i];
+    if (count > 0) {
+        EXPECT(first >= held.seen && first + count <= job->round->quota);
+        memcpy(job->round->where + first, sites, count * sizeof *sites);
+    }
     if (below(&job->seed, 3) == 0) OK(sandpile_pass_sweep(pass, &toppled));
+}
+
+/* Moves some rows of a pass to a new one. */
+static void split_some_rows(sandpile_pass *pass, uint64_t *seed, sandpile_pass *child) {
+    sandpile_holding held;
+    OK(sandpile_pass_holding(pass, &held));
+    OK(sandpile_pass_split_rows(pass, (uint16_t)below(seed, held.end_row - held.first_row + 1u), child));
+}
+
+static void split_some_quota(sandpile_pass *pass, uint64_t *seed, sandpile_pass *child) {
+    sandpile_holding held;
+    OK(sandpile_pass_holding(pass, &held));
+    OK(sandpile_pass_split(pass, below(seed, held.left + 1), child));
 }
 
 /* Splits a pass, drops by both parts, and joins them again. */
 static void part_and_join(struct job *job) {
-    sandpile_holding held;
     sandpile_pass child = {0};
-    OK(sandpile_pass_holding(&job->pass, &held));
-    if (below(&job->seed, 2)) OK(sandpile_pass_split(&job->pass, below(&job->seed, held.left + 1), &child));
-    else OK(sandpile_pass_split_rows(&job->pass, (uint16_t)below(&job->seed, held.end_row - held.first_row + 1u), &child));
+    if (below(&job->seed, 2)) split_some_quota(&job->pass, &job->seed, &child);
+    else split_some_rows(&job->pass, &job->seed, &child);
     drop_some(job, &child);
     drop_some(job, &job->pass);
     if (below(&job->seed, 2)) {
@@ -126,137 +173,186 @@ static void drop_the_rest(struct job *job) {
     OK(sandpile_pass_holding(&job->pass, &held));
     uint64_t number;
     for (uint64_t i = 0; i < held.left; i++) {
-        size_t site = below(&job->seed, job->sites);
+        size_t site = below(&job->seed, job->round->sites);
         OK(sandpile_pass_drop(&job->pass, &site, 1, &number));
-        job->where[number] = site;
+        EXPECT(number < job->round->quota);
+        job->round->where[number] = site;
     }
 }
 
-static void compare(size_t width, size_t height, bool cylinder, const uint64_t *start, sandpile_pass *pass, const size_t *where, size_t drops) {
-    size_t sites = width * height, history[QUOTA];
-    uint64_t heights[2][SITES], odometers[2][SITES], topplings[2], lost[2];
-    OK(sandpile_pass_settle(pass, heights[0], sites, odometers[0], sites, history, drops, &topplings[0], &lost[0]));
-    EXPECT(!memcmp(history, where, drops * sizeof *history));
-    memcpy(heights[1], start, sites * sizeof *start);
-    for (size_t i = 0; i < drops; i++) heights[1][history[i]]++;
-    OK(sandpile_settle(width, height, cylinder, heights[1], sites, odometers[1], sites, &lost[1], &topplings[1]));
-    EXPECT(!memcmp(heights[0], heights[1], sites * sizeof **heights));
-    EXPECT(!memcmp(odometers[0], odometers[1], sites * sizeof **odometers));
-    EXPECT(topplings[0] == topplings[1] && lost[0] == lost[1]);
+static void make_pile(struct round *round, uint64_t *seed) {
+    round->width = 1 + below(seed, SIDE);
+    round->height = 1 + below(seed, SIDE);
+    round->sites = round->width * round->height;
+    round->cylinder = round->width > 2 && below(seed, 2);
+    round->quota = below(seed, QUOTA + 1);
+    for (size_t i = 0; i < round->sites; i++) round->start[i] = below(seed, 8);
+    OK(sandpile_shared_new(round->width, round->height, round->cylinder, round->start, round->sites, round->quota,
+                           &round->jobs[0].pass));
 }
 
-static void interleave_once(uint64_t seed) {
-    size_t width = 1 + below(&seed, SIDE), height = 1 + below(&seed, SIDE), sites = width * height, where[QUOTA];
-    bool cylinder = width > 2 && below(&seed, 2);
-    uint64_t start[SITES], quota = below(&seed, QUOTA + 1);
-    for (size_t i = 0; i < sites; i++) start[i] = below(&seed, 8);
-    struct job jobs[THREADS] = {{{0}, 0, 0, NULL}};
-    size_t count = 1 + below(&seed, THREADS), rows = height;
+/* Gives each job rows and quota. The last job gets the last rows, so that the first can join all in order. */
+static void share_out(struct round *round, uint64_t *seed) {
+    sandpile_pass *first = &round->jobs[0].pass;
+    for (size_t i = round->count; --i > 0;) {
+        sandpile_pass quota = {0};
+        split_some_rows(first, seed, &round->jobs[i].pass);
+        OK(sandpile_pass_split(first, round->quota / round->count, &quota));
+        OK(sandpile_pass_join(&round->jobs[i].pass, &quota));
+    }
+}
+
+static void work_on_threads(struct round *round) {
     pthread_t threads[THREADS];
-    for (size_t i = 0; i < count; i++) jobs[i].seed = drawn(&seed), jobs[i].sites = sites, jobs[i].where = where;
-    OK(sandpile_shared_new(width, height, cylinder, start, sites, quota, &jobs[0].pass));
-    for (size_t i = count; --i > 0;) { /* the last rows first, so that all can be joined in order */
-        size_t taken = below(&seed, rows + 1);
-        sandpile_pass quota_of = {0};
-        OK(sandpile_pass_split_rows(&jobs[0].pass, (uint16_t)taken, &jobs[i].pass));
-        OK(sandpile_pass_split(&jobs[0].pass, quota / count, &quota_of));
-        OK(sandpile_pass_join(&jobs[i].pass, &quota_of));
-        rows -= taken;
+    for (size_t i = 1; i < round->count; i++) EXPECT(!pthread_create(&threads[i], NULL, work, &round->jobs[i]));
+    work(&round->jobs[0]);
+    for (size_t i = 1; i < round->count; i++) EXPECT(!pthread_join(threads[i], NULL));
+}
+
+/* A pass that lacks rows makes no record. */
+static void expect_no_record(struct round *round) {
+    struct record record;
+    sandpile_holding held;
+    OK(sandpile_pass_holding(&round->jobs[0].pass, &held));
+    if (held.end_row - held.first_row == (int)round->height) return;
+    EXPECT(settle_into(&record, &round->jobs[0].pass, round->sites, held.drops) == SANDPILE_MISSING);
+}
+
+/* Makes the drops that are left, and joins all passes to the first. */
+static void finish(struct round *round) {
+    sandpile_pass *first = &round->jobs[0].pass;
+    uint64_t drops;
+    drop_the_rest(&round->jobs[0]);
+    for (size_t i = 1; i < round->count; i++) {
+        drop_the_rest(&round->jobs[i]);
+        OK(sandpile_pass_join(first, &round->jobs[i].pass));
     }
-    for (size_t i = 1; i < count; i++) EXPECT(!pthread_create(&threads[i], NULL, work, &jobs[i]));
-    work(&jobs[0]);
-    for (size_t i = 1; i < count; i++) pthread_join(threads[i], NULL);
-    uint64_t numbers[1], sums[2];
-    if (count > 1 && rows < height) { /* a pass that lacks rows makes no record */
-        EXPECT(sandpile_pass_settle(&jobs[0].pass, start, 0, start, 0, where, 0, sums, sums + 1) == SANDPILE_LENGTH);
-    }
-    for (size_t i = 0; i < count; i++) drop_the_rest(&jobs[i]);
-    for (size_t i = 1; i < count; i++) OK(sandpile_pass_join(&jobs[0].pass, &jobs[i].pass));
-    OK(sandpile_pass_tally(&jobs[0].pass, numbers));
-    EXPECT(numbers[0] == quota);
-    compare(width, height, cylinder, start, &jobs[0].pass, where, quota);
-    for (size_t i = 0; i < count; i++) sandpile_pass_free(&jobs[i].pass);
+    OK(sandpile_pass_tally(first, &drops));
+    EXPECT(drops == round->quota);
+}
+
+/* The record is that of one thread which drops the same history. */
+static void expect_one_thread(struct round *round) {
+    struct record many, one;
+    size_t sites = round->sites, bytes = sites * sizeof *round->start;
+    OK(settle_into(&many, &round->jobs[0].pass, sites, round->quota));
+    EXPECT(!memcmp(many.history, round->where, round->quota * sizeof *round->where));
+    memcpy(one.heights, round->start, bytes);
+    for (size_t i = 0; i < round->quota; i++) one.heights[many.history[i]]++;
+    OK(sandpile_settle(round->width, round->height, round->cylinder, one.heights, sites, one.odometer, sites,
+                       &one.lost, &one.topplings));
+    EXPECT(!memcmp(many.heights, one.heights, bytes));
+    EXPECT(!memcmp(many.odometer, one.odometer, bytes));
+    EXPECT(many.topplings == one.topplings && many.lost == one.lost);
+}
+
+static void interleave_once(uint64_t seed, size_t count) {
+    struct round round = {.count = count};
+    for (size_t i = 0; i < count; i++) round.jobs[i].round = &round, round.jobs[i].seed = drawn(&seed);
+    make_pile(&round, &seed);
+    share_out(&round, &seed);
+    work_on_threads(&round);
+    expect_no_record(&round);
+    finish(&round);
+    expect_one_thread(&round);
+    sandpile_pass_free(&round.jobs[0].pass);
 }
 
 static void interleave(void) {
-    for (uint64_t round = 0; round < 2000; round++) {
-        long before = atomic_load(&blocks);
-        interleave_once(round);
-        if (round > 10) EXPECT(atomic_load(&blocks) <= before + THREADS); /* the C library keeps stacks of threads */
+    interleave_once(0, THREADS); /* the C library keeps a block for the stack of each thread */
+    long live = atomic_load(&blocks);
+    for (uint64_t seed = 1; seed < 2000; seed++) {
+        interleave_once(seed, 1 + seed % THREADS);
+        EXPECT(atomic_load(&blocks) == live);
     }
-    printf("interleave: 2000 interleavings, each as one thread\n");
+    printf("interleave: 2000 interleavings, each as one thread, no block leaked\n");
 }
 
 /* Failed allocations */
 
 static sandpile_drive drive;
 static sandpile_pass pass, other;
-static sandpile_avalanche rows[4];
-static uint64_t all[SITES], counts[SITES], sums[2];
-static size_t history[QUOTA];
+static uint64_t all[SITES]; /* a pile of threes */
 static const size_t drops[4] = {0, 1, 17, 255};
 
+/* What the calls write. */
+static struct outputs {
+    sandpile_avalanche rows[4];
+    uint64_t counts[2][SITES], sums[2];
+    struct record record;
+} out;
+
 static uint32_t new_drive(void) { return sandpile_drive_new(SIDE, SIDE, false, all, SITES, &drive); }
-static uint32_t drop_on_drive(void) { return sandpile_drive_drop(&drive, drops, 4, rows, 4); }
-static uint32_t avalanche(void) { return sandpile_drive_avalanche(&drive, 3, rows, counts, SITES); }
-static uint32_t read_drive(void) { return sandpile_drive_read(&drive, counts, SITES, counts, 0, sums, sums + 1); }
+static uint32_t drop_on_drive(void) { return sandpile_drive_drop(&drive, drops, 4, out.rows, 4); }
+static uint32_t avalanche(void) { return sandpile_drive_avalanche(&drive, 3, out.rows, out.counts[0], SITES); }
+static uint32_t read_drive(void) {
+    return sandpile_drive_read(&drive, out.counts[0], SITES, out.counts[1], SITES, &out.sums[0], &out.sums[1]);
+}
 static uint32_t new_shared(void) { return sandpile_shared_new(SIDE, SIDE, false, all, SITES, QUOTA, &pass); }
 static uint32_t split(void) { return sandpile_pass_split(&pass, 5, &other); }
 static uint32_t split_rows(void) { return sandpile_pass_split_rows(&pass, 2, &other); }
 static uint32_t join(void) { return sandpile_pass_join(&pass, &other); }
-static uint32_t drop_by(void) { return sandpile_pass_drop(&pass, drops, 4, sums); }
-static uint32_t tally(void) { return sandpile_pass_tally(&pass, sums); }
-static uint32_t sweep(void) { return sandpile_pass_sweep(&pass, sums); }
-static uint32_t settle(void) { return sandpile_pass_settle(&pass, counts, SITES, counts, SITES, history, 4, sums, sums + 1); }
+static uint32_t drop_by(void) { return sandpile_pass_drop(&pass, drops, 4, out.sums); }
+static uint32_t tally(void) { return sandpile_pass_tally(&pass, out.sums); }
+static uint32_t sweep(void) { return sandpile_pass_sweep(&pass, out.sums); }
+static uint32_t settle(void) { return settle_into(&out.record, &pass, SITES, 4); }
+
+static void fill_with_threes(void) {
+    for (int i = 0; i < SITES; i++) all[i] = 3;
+}
 
 struct state {
     sandpile_drive drive;
     sandpile_pass pass, other;
     sandpile_holding holdings[2];
-    sandpile_avalanche rows[4];
-    uint64_t all[SITES], counts[SITES], sums[2], drive_sums[2];
+    uint64_t all[SITES], drive_sums[2];
+    struct outputs out;
     long blocks;
 };
 
-static struct state state_now(void) {
-    struct state now;
-    memset(&now, 0, sizeof now);
-    now.drive = drive, now.pass = pass, now.other = other;
-    if (pass.at) OK(sandpile_pass_holding(&pass, &now.holdings[0]));
-    if (other.at) OK(sandpile_pass_holding(&other, &now.holdings[1]));
-    if (drive.at) OK(sandpile_drive_read(&drive, counts, 0, counts, 0, now.drive_sums, now.drive_sums + 1));
-    memcpy(now.rows, rows, sizeof rows), memcpy(now.all, all, sizeof all), memcpy(now.counts, counts, sizeof counts);
-    memcpy(now.sums, sums, sizeof sums);
-    now.blocks = atomic_load(&blocks);
-    return now;
+static void take_state(struct state *now) {
+    uint64_t unread[2];
+    memset(now, 0, sizeof *now);
+    now->drive = drive, now->pass = pass, now->other = other, now->out = out;
+    memcpy(now->all, all, sizeof all);
+    if (pass.at) OK(sandpile_pass_holding(&pass, &now->holdings[0]));
+    if (other.at) OK(sandpile_pass_holding(&other, &now->holdings[1]));
+    if (drive.at)
+        OK(sandpile_drive_read(&drive, &unread[0], 0, &unread[1], 0, &now->drive_sums[0], &now->drive_sums[1]));
+    now->blocks = atomic_load(&blocks);
 }
 
 /* Refuses each request of a call in turn, until none is left to refuse. Returns how many there were. */
 static long refuse_each(uint32_t (*call)(void)) {
     static struct state before, after;
+    memset(&out, 0x55, sizeof out); /* what no call writes */
     for (long granted = 0;; granted++) {
-        before = state_now();
+        take_state(&before);
         atomic_store(&requests, granted);
         uint32_t fault = call();
         atomic_store(&requests, -1);
         if (fault == 0) return granted;
         EXPECT(fault == SANDPILE_MEMORY);
-        after = state_now();
+        take_state(&after);
         EXPECT(!memcmp(&before, &after, sizeof before));
     }
 }
 
 static void refuse(void) {
-    for (int i = 0; i < SITES; i++) all[i] = 3;
+    fill_with_threes();
     long live = atomic_load(&blocks);
-    uint32_t (*const allocating[])(void) = {new_drive, drop_on_drive, new_shared, split, split_rows};
-    uint32_t (*const others[])(void) = {avalanche, read_drive, tally, sweep, drop_by};
-    for (size_t i = 0; i < sizeof allocating / sizeof *allocating; i++) {
-        if (allocating[i] == split_rows) refuse_each(join); /* only one handle for a child */
-        EXPECT(refuse_each(allocating[i]) > 0);
-    }
+    EXPECT(refuse_each(new_drive) > 0);
+    EXPECT(refuse_each(drop_on_drive) > 0);
+    EXPECT(refuse_each(avalanche) == 0);
+    EXPECT(refuse_each(read_drive) == 0);
+    EXPECT(refuse_each(new_shared) > 0);
+    EXPECT(refuse_each(split) > 0);
+    refuse_each(join); /* only one handle for a child */
+    EXPECT(refuse_each(split_rows) > 0);
     refuse_each(join);
-    for (size_t i = 0; i < sizeof others / sizeof *others; i++) EXPECT(refuse_each(others[i]) == 0);
+    EXPECT(refuse_each(tally) == 0);
+    EXPECT(refuse_each(sweep) == 0);
+    EXPECT(refuse_each(drop_by) == 0);
     EXPECT(refuse_each(settle) > 0);
     sandpile_drive_free(&drive);
     sandpile_pass_free(&pass);
@@ -264,8 +360,10 @@ static void refuse(void) {
     printf("refuse: each request of 12 calls refused, nothing changed, no block leaked\n");
 }
 
+/* Handles filled and freed */
+
 static void churn(void) {
-    for (int i = 0; i < SITES; i++) all[i] = 3;
+    fill_with_threes();
     long live = atomic_load(&blocks);
     for (int i = 0; i < 25000; i++) {
         OK(sandpile_drive_new(4, 4, false, all, 16, &drive));
@@ -282,46 +380,138 @@ static void churn(void) {
     printf("churn: 100000 handles filled and freed, no block more\n");
 }
 
-static void misuse(void) {
+/* Faults */
+
+static const size_t outside = SITES;
+static int refused;
+
+#define REFUSED(fault, call) do { EXPECT((call) == (fault)); refused++; } while (0)
+
+static void misuse_a_drive(void) {
+    REFUSED(SANDPILE_EMPTY, drop_on_drive());
+    OK(new_drive());
+    REFUSED(SANDPILE_TAKEN, new_drive());
+    REFUSED(SANDPILE_LENGTH, sandpile_drive_drop(&drive, &outside, 1, out.rows, 2));
+    REFUSED(SANDPILE_NO_SITE, sandpile_drive_drop(&drive, &outside, 1, out.rows, 1));
+    REFUSED(SANDPILE_LENGTH, sandpile_drive_avalanche(&drive, 0, out.rows, out.counts[0], 1));
+    REFUSED(SANDPILE_NO_SITE, sandpile_drive_avalanche(&drive, outside, out.rows, out.counts[0], SITES));
+    REFUSED(SANDPILE_LENGTH, sandpile_drive_read(&drive, out.counts[0], 1, out.counts[1], SITES,
+                                                 &out.sums[0], &out.sums[1]));
+    sandpile_drive_free(&drive);
+}
+
+static void misuse_a_pass(void) {
     sandpile_pass stranger = {0};
     uint64_t number = 5;
-    const size_t outside = SITES, inside = 0;
-    for (int i = 0; i < SITES; i++) all[i] = 3;
-    EXPECT(sandpile_pass_tally(&pass, &number) == SANDPILE_EMPTY && number == 5);
-    EXPECT(sandpile_drive_drop(&drive, drops, 4, rows, 4) == SANDPILE_EMPTY);
-    OK(new_drive());
-    EXPECT(new_drive() == SANDPILE_TAKEN);
-    EXPECT(sandpile_drive_drop(&drive, &outside, 1, rows, 2) == SANDPILE_LENGTH);
-    EXPECT(sandpile_drive_drop(&drive, &outside, 1, rows, 1) == SANDPILE_NO_SITE);
-    EXPECT(sandpile_drive_avalanche(&drive, 0, rows, counts, 1) == SANDPILE_LENGTH);
-    EXPECT(sandpile_drive_avalanche(&drive, outside, rows, counts, SITES) == SANDPILE_NO_SITE);
-    EXPECT(sandpile_drive_read(&drive, all, 1, counts, SITES, sums, sums + 1) == SANDPILE_LENGTH);
-    EXPECT(sandpile_shared_new(SIDE, SIDE, false, all, SITES, UINT64_MAX, &pass) == SANDPILE_TOO_MANY_GRAINS && !pass.at);
+    REFUSED(SANDPILE_EMPTY, sandpile_pass_tally(&pass, &number));
+    REFUSED(SANDPILE_TOO_MANY_GRAINS, sandpile_shared_new(SIDE, SIDE, false, all, SITES, UINT64_MAX, &pass));
+    EXPECT(!pass.at);
     OK(sandpile_shared_new(SIDE, SIDE, false, all, SITES, 3, &pass));
     OK(sandpile_shared_new(SIDE, SIDE, false, all, SITES, 3, &stranger));
-    EXPECT(sandpile_pass_join(&pass, &stranger) == SANDPILE_OTHER_PILE && stranger.at);
-    EXPECT(sandpile_pass_split(&pass, 4, &stranger) == SANDPILE_TAKEN);
-    EXPECT(sandpile_pass_split(&pass, 4, &other) == SANDPILE_TOO_MUCH && !other.at);
-    EXPECT(sandpile_pass_split_rows(&pass, 17, &other) == SANDPILE_ROWS && !other.at);
-    EXPECT(sandpile_pass_drop(&pass, drops, 4, &number) == SANDPILE_SPENT && number == 5);
-    EXPECT(sandpile_pass_drop(&pass, &outside, 1, &number) == SANDPILE_NO_SITE && number == 5);
-    OK(sandpile_pass_split_rows(&pass, 3, &other));
+    REFUSED(SANDPILE_OTHER_PILE, sandpile_pass_join(&pass, &stranger));
+    REFUSED(SANDPILE_TAKEN, sandpile_pass_split(&pass, 4, &stranger));
+    REFUSED(SANDPILE_TOO_MUCH, sandpile_pass_split(&pass, 4, &other));
+    REFUSED(SANDPILE_ROWS, sandpile_pass_split_rows(&pass, 17, &other));
+    EXPECT(stranger.at && !other.at);
+    REFUSED(SANDPILE_SPENT, sandpile_pass_drop(&pass, drops, 4, &number));
+    REFUSED(SANDPILE_NO_SITE, sandpile_pass_drop(&pass, &outside, 1, &number));
+    EXPECT(number == 5);
+    sandpile_pass_free(&stranger);
+}
+
+/* The pass has all rows, and three drops left. */
+static void misuse_a_record(void) {
     sandpile_pass middle = {0};
+    uint64_t number;
+    OK(sandpile_pass_split_rows(&pass, 3, &other));
     OK(sandpile_pass_split_rows(&pass, 3, &middle));
-    EXPECT(sandpile_pass_join(&pass, &other) == SANDPILE_APART && other.at);
-    EXPECT(sandpile_pass_settle(&pass, all, SITES, counts, SITES, history, 0, sums, sums + 1) == SANDPILE_MISSING);
+    REFUSED(SANDPILE_APART, sandpile_pass_join(&pass, &other));
+    EXPECT(other.at);
+    REFUSED(SANDPILE_MISSING, settle_into(&out.record, &pass, SITES, 0));
     OK(sandpile_pass_join(&pass, &middle));
     OK(sandpile_pass_join(&pass, &other));
-    OK(sandpile_pass_drop(&pass, &inside, 1, &number));
+    OK(sandpile_pass_drop(&pass, drops, 1, &number));
     EXPECT(number == 0);
-    OK(sandpile_pass_settle(&pass, all, SITES, counts, SITES, history, 1, sums, sums + 1));
+    OK(settle_into(&out.record, &pass, SITES, 1));
     OK(sandpile_pass_split(&pass, 1, &other));
     sandpile_pass_free(&other);
-    EXPECT(sandpile_pass_settle(&pass, all, SITES, counts, SITES, history, 1, sums, sums + 1) == SANDPILE_MISSING);
+    REFUSED(SANDPILE_MISSING, settle_into(&out.record, &pass, SITES, 1));
     sandpile_pass_free(&pass);
-    sandpile_pass_free(&stranger);
+}
+
+static void misuse(void) {
+    fill_with_threes();
+    misuse_a_drive();
+    misuse_a_pass();
+    misuse_a_record();
+    printf("misuse: %d calls refused, each with its fault\n", refused);
+}
+
+/* Forks: two sites side by side, with heights 3 and 1. The right one gets a grain before the fork. */
+
+enum { PAIR = 2 };
+
+static void make_a_pair(void) {
+    const uint64_t start[PAIR] = {3, 1};
+    const size_t right = 1;
+    uint64_t number;
+    OK(sandpile_drive_new(2, 1, false, start, PAIR, &drive));
+    OK(sandpile_shared_new(2, 1, false, start, PAIR, 3, &pass));
+    OK(sandpile_drive_drop(&drive, &right, 1, out.rows, 1));
+    OK(sandpile_pass_drop(&pass, &right, 1, &number));
+    EXPECT(number == 0);
+}
+
+static void drop_on_both(size_t site) {
+    uint64_t number, toppled;
+    OK(sandpile_drive_drop(&drive, &site, 1, out.rows, 1));
+    OK(sandpile_pass_drop(&pass, &site, 1, &number));
+    OK(sandpile_pass_sweep(&pass, &toppled));
+}
+
+static void expect_of_both(const struct record *wanted, size_t count) {
+    struct record got = {.lost = 0};
+    OK(settle_into(&got, &pass, PAIR, count));
+    EXPECT(!memcmp(&got, wanted, sizeof got)); /* the shared pile */
+    memset(&got, 0, offsetof(struct record, history));
+    OK(sandpile_drive_read(&drive, got.heights, PAIR, got.odometer, PAIR, &got.topplings, &got.lost));
+    EXPECT(!memcmp(&got, wanted, sizeof got)); /* the drive */
+}
+
+/* The heights are 3 and 2. A grain on the left topples the left site; two on the right topple the right site, then the
+   left one. */
+static const struct record of_parent = {{0, 3}, {1, 0}, 1, 3, {1, 0}};
+static const struct record of_child = {{0, 1}, {1, 1}, 2, 6, {1, 1, 1}};
+
+static void go_on_as_child(const int *ends) {
+    char byte;
+    close(ends[1]);
+    EXPECT(read(ends[0], &byte, 1) == 1); /* the parent has dropped */
+    drop_on_both(1);
+    drop_on_both(1);
+    expect_of_both(&of_child, 3);
+    _Exit(0);
+}
+
+static void go_on_as_parent(const int *ends, pid_t child) {
+    int status;
+    drop_on_both(0);
+    EXPECT(write(ends[1], "", 1) == 1);
+    EXPECT(waitpid(child, &status, 0) == child && status == 0);
+    expect_of_both(&of_parent, 2);
+}
+
+static void fork_once(void) {
+    int ends[2];
+    make_a_pair();
+    EXPECT(!pipe(ends));
+    pid_t child = fork();
+    EXPECT(child >= 0);
+    if (child == 0) go_on_as_child(ends);
+    go_on_as_parent(ends, child);
     sandpile_drive_free(&drive);
-    printf("misuse: 19 calls refused, each with its fault\n");
+    sandpile_pass_free(&pass);
+    printf("fork: parent and child each see their own drops\n");
 }
 
 int main(int count, char **words) {
@@ -330,6 +520,7 @@ int main(int count, char **words) {
         else if (!strcmp(words[i], "refuse")) refuse();
         else if (!strcmp(words[i], "churn")) churn();
         else if (!strcmp(words[i], "misuse")) misuse();
+        else if (!strcmp(words[i], "fork")) fork_once();
         else return 2;
     }
     return 0;

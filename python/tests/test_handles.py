@@ -14,8 +14,9 @@ class Handles(unittest.TestCase):
     def built(self, source, *options):
         """A program of this source, linked with the shared library."""
         program = new_folder(self) / source.stem
+        warnings = ["-pedantic", "-Wall", "-Wextra", "-Werror"]
         linked = [f"-L{LIBRARY}", "-lsandpile", f"-Wl,-rpath,{LIBRARY}", "-pthread"]
-        ran("cc", "-pedantic", "-Wall", "-Wextra", "-Werror", *options, f"-I{TOP / 'include'}", source, *linked, "-o", program)
+        ran("cc", *warnings, *options, f"-I{TOP / 'include'}", source, *linked, "-o", program)
         return program
 
     def example(self, *options):
@@ -60,3 +61,7 @@ class Handles(unittest.TestCase):
     @needs("cc")
     def test_misuse_is_refused(self):
         self.one_line_from("misuse")
+
+    @needs("cc")
+    def test_after_a_fork_parent_and_child_are_independent(self):
+        self.one_line_from("fork")
