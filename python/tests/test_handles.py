@@ -30,6 +30,11 @@ class Handles(unittest.TestCase):
     def test_the_example_is_as_one_thread(self):
         self.assertTrue(ran(self.example("-O2")).endswith(LAST))
 
+    @needs("cc")
+    def test_the_example_runs_on_threads_with_small_stacks(self):
+        limited = ["sh", "-c", 'ulimit -s 128 && exec "$0"']  # in KiB: what musl gives a thread
+        self.assertTrue(ran(*limited, self.example("-O2")).endswith(LAST))
+
     @needs("cc", "valgrind")
     def test_memcheck_is_silent_over_the_example(self):
         words = ["--quiet", "--error-exitcode=9", "--leak-check=full", "--show-leak-kinds=all"]
