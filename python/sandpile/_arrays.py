@@ -61,11 +61,21 @@ def sites_of(sites: ArrayLike, count: int) -> NDArray[np.uintp]:
             f"sites must be a list of numbers, row * width + column, but this array has {array.ndim} dimensions"
         )
     array = np.atleast_1d(array)
-    outside = np.flatnonzero((array < 0) | (array >= count))
-    if outside.size:
-        at = outside[0]
+    if array.size and not (array.min() >= 0 and array.max() < count):
+        at = np.flatnonzero((array < 0) | (array >= count))[0]
         raise Fault(25, f"drop {at} is at site {array[at]}, but the grid has only sites 0 to {count - 1}")
     return np.array(array, dtype=np.uintp, order="C")
+
+
+def site_of(site: int, count: int) -> int:
+    """A single site number, below `count`."""
+    try:
+        value = operator.index(site)
+    except TypeError:
+        raise TypeError(f"site must be an integer, not {site!r}") from None
+    if not 0 <= value < count:
+        raise Fault(25, f"the drop is at site {value}, but the grid has only sites 0 to {count - 1}")
+    return value
 
 
 def count_of(number: int, what: str, most: int = 2**64 - 1) -> int:

@@ -20,7 +20,8 @@ _MAJOR = 1
 _SIDES = (ctypes.c_size_t, ctypes.c_size_t, ctypes.c_bool)
 _ARRAY = (ctypes.c_void_p, ctypes.c_size_t)
 _PLACE = (ctypes.c_void_p,)
-_TAKES = {
+_HANDLE = _PLACE
+_TAKES: dict[str, tuple[Any, ...]] = {
     "settle": (*_SIDES, *_ARRAY, *_ARRAY, *_PLACE, *_PLACE),
     "drop": (*_SIDES, *_ARRAY, *_ARRAY, *_ARRAY, *_ARRAY),
     "sites": (*_SIDES, ctypes.c_uint64, ctypes.c_uint64, ctypes.c_uint64, *_ARRAY),
@@ -30,6 +31,11 @@ _TAKES = {
     "add": (*_SIDES, *_ARRAY, *_ARRAY),
     "inverse": (*_SIDES, *_ARRAY),
     "multiple": (*_SIDES, *_ARRAY, ctypes.c_uint64),
+    "drive_new": (*_SIDES, *_ARRAY, *_HANDLE),
+    "drive_drop": (*_HANDLE, *_ARRAY, *_ARRAY),
+    "drive_avalanche": (*_HANDLE, ctypes.c_size_t, *_PLACE, *_ARRAY),
+    "drive_read": (*_HANDLE, *_ARRAY, *_ARRAY, *_PLACE, *_PLACE),
+    "drive_free": _HANDLE,
     "version": (),
 }
 
@@ -64,7 +70,7 @@ def _load() -> ctypes.CDLL:
 def _declared(library: ctypes.CDLL, name: str) -> Any:
     """An export, with the types that it takes and returns."""
     export = getattr(library, f"sandpile_{name}")
-    export.argtypes, export.restype = _TAKES[name], ctypes.c_uint32
+    export.argtypes, export.restype = _TAKES[name], None if name.endswith("_free") else ctypes.c_uint32
     return export
 
 
@@ -72,7 +78,13 @@ library = _load()
 
 
 def call(name: str, shape: tuple[int, ...], cylinder: bool, *arguments: Any) -> None:
-    """Calls an export on a grid of this shape. An array is passed as a pointer and a length.
+    """Calls an export on a grid of this shape, as `call_on` does."""
+    height, width = shape
+    call_on(name, width, height, cylinder, *arguments)
+
+
+def call_on(name: str, *arguments: Any) -> None:
+    """Calls an export. An array is passed as a pointer and a length.
 
     Arrays must be contiguous, and new if the export writes to them. The global interpreter lock is released during the
     call. Raises the fault that the export returns.
@@ -83,7 +95,11 @@ def call(name: str, shape: tuple[int, ...], cylinder: bool, *arguments: Any) -> 
             passed += (argument.ctypes.data, argument.size)
         else:
             passed.append(argument)
-    height, width = shape
-    number = getattr(library, f"sandpile_{name}")(width, height, cylinder, *passed)
+    call_at(f"sandpile_{name}", *passed)
+
+
+def call_at(name: str, *arguments: Any) -> None:
+    """Calls an export as `call_on` does, but arrays are passed by their addresses already: NumPy is slow to tell them."""
+    number = getattr(library, name)(*arguments)
     if number:
         raise Fault(number)

@@ -39,6 +39,15 @@ class Saved:
     drops: int
     drawn: int
 
+    def given(self) -> Heights:
+        """The grains that each site was given, at the start and by drops: what it has and what it passed on, less what it
+        took from its neighbours. Settled, they are the pile, the odometer and the lost grains of the run, whatever the
+        order of the drops. With the odometer of no run, this may wrap around; settling then shows it."""
+        rows = np.pad(self.odometer, ((1, 1), (0, 0)))
+        toppled = np.pad(rows, ((0, 0), (1, 1)), "wrap" if self.cylinder else "constant")
+        taken: Heights = toppled[:-2, 1:-1] + toppled[2:, 1:-1] + toppled[1:-1, :-2] + toppled[1:-1, 2:]
+        return self.pile + (self.odometer << 2) - taken
+
 
 def write(path: str | os.PathLike[str], saved: Saved) -> None:
     """Writes a file under a name that no other call uses, then renames it: nobody ever reads a part of it."""
@@ -82,11 +91,10 @@ def _array_of(member: bytes) -> NDArray[Any]:
 
 
 def _checked(arrays: dict[str, NDArray[Any]]) -> Saved:
-    """The run of these arrays. Whatever the order of its drops, settling all its grains at once yields the same pile,
-    odometer and lost grains."""
+    """The run of these arrays, if settling all its grains at once yields its pile, odometer and lost grains."""
     pile, odometer = heights_of(arrays.pop("pile")), heights_of(arrays.pop("odometer"))
     saved = Saved(pile, odometer, **{name: _number(array, name) for name, array in arrays.items()})
-    given = _given(saved)
+    given = saved.given()
     settled = settle(given, bool(saved.cylinder))
     if not (
         saved.cylinder <= 1
@@ -104,15 +112,6 @@ def _number(array: NDArray[Any], name: str) -> int:
     if array.dtype.kind not in "iu" or array.shape:
         raise ValueError(f"{name} must be an integer, but is an array of shape {array.shape} and type {array.dtype}")
     return count_of(int(array), name)
-
-
-def _given(saved: Saved) -> Heights:
-    """The grains that each site was given, at the start and by drops: what it has and what it passed on, less what it
-    took from its neighbours. With the odometer of no run, this may wrap around; settling then shows it."""
-    rows = np.pad(saved.odometer, ((1, 1), (0, 0)))
-    toppled = np.pad(rows, ((0, 0), (1, 1)), "wrap" if saved.cylinder else "constant")
-    taken: Heights = toppled[:-2, 1:-1] + toppled[2:, 1:-1] + toppled[1:-1, :-2] + toppled[1:-1, 2:]
-    return saved.pile + (saved.odometer << 2) - taken
 
 
 def _npz(path: str | os.PathLike[str]) -> Path:

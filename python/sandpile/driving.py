@@ -2,57 +2,85 @@
 
 from __future__ import annotations
 
+import ctypes
 import os
-import threading
-from dataclasses import dataclass, replace
-from typing import Any, Callable, Iterator
+from typing import Any, Callable, NamedTuple, Optional, Tuple
 
 import numpy as np
 from numpy.typing import ArrayLike, NDArray
 
 from . import _saves
-from ._arrays import Heights, count_of, heights_of, sites_of
-from ._library import call
+from ._arrays import Heights, count_of, heights_of, site_of, sites_of
+from ._handles import DriveHandle
+from ._library import call, call_at
 from .faults import Fault
 from .progress import Bar
-from .settling import settle
 
 _MOST_GRAINS = 1_099_511_627_775
 # Limits of a block of drops, which Ctrl-C cannot interrupt: the number of drops, and drops times sites. The time of a
-# drop is proportional to the number of sites, and so is the overhead of a call, about a hundredth of a block. A block
-# takes a few tenths of a second on the largest grid, and less on others.
+# drop is at most proportional to the number of sites. A block takes a few tenths of a second on the largest grid, and less
+# on others.
 _MOST_IN_BLOCK, _WORK_IN_BLOCK = 8192, 1 << 27
+# For fewer drops, more random sites are drawn than are wanted, and memory is kept from one call to the next.
+_FEW = 256
 
 _FOUND = [("size", "u8"), ("area", "u4"), ("reach", "u4"), ("lost", "u8")]
-# The struct of include/sandpile.h.
+# The struct of include/sandpile.h. A row below is its number, and this.
 _AVALANCHE = np.dtype([("site", np.uintp), *_FOUND])
+_WORDS, _SITE = _AVALANCHE.itemsize // 8, _AVALANCHE["site"].itemsize
 
 #: The type of the rows that `Drive.drop` returns, one for each drop.
 AVALANCHE = np.dtype([("number", "u8"), ("site", np.intp), *_FOUND])
 
-# How many drops a call asks for, and the sites of a part of them.
-_Sites = Callable[[int, int], NDArray[np.uintp]]
-_Asked = tuple[int, _Sites]
+# No site has this number. The library has made a block of drops once it has written another one over it.
+_NO_SITE = 2**64 - 1
+_NO_ROWS = np.empty(0, AVALANCHE)
+_NO_HEIGHTS = np.empty((0, 0), np.uint64)
+_COUNT = np.arange(_MOST_IN_BLOCK, dtype=np.uint64)
+
+# What a copy of a run does not take over.
+_OF_THIS_PROCESS = {"_handle", "_ahead", "_found", "_block"}
 
 
-@dataclass(frozen=True)
-class _State:
-    """All that changes as grains drop. A block of drops replaces it in one step, so a run can be stopped at any
-    time."""
+class _Room:
+    """An array that the library reads or writes, its address, and its first word: NumPy is slow to tell either."""
 
-    pile: Heights
-    odometer: Heights
-    lost: int
+    def __init__(self, array: NDArray[Any]) -> None:
+        self.array, self.at = array, int(array.ctypes.data)
+        self.first = ctypes.c_uint64.from_address(self.at)
+
+
+class _State(NamedTuple):
+    """What changes here as grains drop, in one step, so Ctrl-C can come at any time."""
+
     drops: int  # so far
     drawn: int  # of these, drops at sites of the stream
     table: NDArray[np.void]  # of the last call
 
 
-def _block(pile: Heights, cylinder: bool, sites: NDArray[np.uintp]) -> tuple[Heights, Heights, NDArray[np.void]]:
-    """The pile after a drop at each of these sites, its odometer, and the avalanches."""
-    heights, odometer, avalanches = pile.copy(), np.zeros_like(pile), np.zeros(sites.size, _AVALANCHE)
-    call("drop", heights.shape, cylinder, heights, odometer, sites, avalanches)
-    return heights, odometer, avalanches
+# Drops that the library makes: where it writes their avalanches, where these belong in the table, and the state once they
+# are made.
+_Block = Tuple[_Room, NDArray[np.uint64], _State]
+# A call of the library: the export, and what it is given after the handle.
+_Call = Tuple[Any, ...]
+# The call that makes the drops from one up to another, and writes their avalanches at an address.
+_Called = Callable[[int, int, int], _Call]
+# How many drops are wanted, and what makes them.
+_Wanted = Tuple[int, _Called]
+
+
+def _drop(sites: int, n: int, found: int) -> _Call:
+    """The call that drops a grain at each of the `n` sites at an address."""
+    return "sandpile_drive_drop", sites, n, found, n
+
+
+def _block(run: Drive, block: _Block, name: str, *arguments: Any) -> None:
+    """Makes a block of drops."""
+    handle = run._handle
+    with handle.use:
+        run._block = block
+        call_at(name, handle.at, *arguments)
+        run._now()
 
 
 class Drive:
@@ -79,7 +107,8 @@ class Drive:
     Notes
     -----
     Use a `Drive` in one thread at a time: while a call drops grains, another one that would is refused, but other
-    threads may read the run and save it. Different ones can run in parallel in different threads.
+    threads may read the run and save it, between two blocks of drops. Different ones can run in parallel in different
+    threads. A copy is a run of its own, and so is that of a forked child.
 
     Examples
     --------
@@ -96,41 +125,73 @@ class Drive:
         heights = heights_of(pile)
         self._seed, self._stream = count_of(seed, "seed"), count_of(stream, "stream")
         self._cylinder = bool(cylinder)
-        settled = settle(heights, self._cylinder)
-        # The start and all drops together are within the grain limit, so each count of the odometer fits.
+        self._hold(heights)
         self._start_grains = int(heights.sum())
-        self._state = _State(settled.pile, settled.odometer, settled.lost, 0, 0, np.empty(0, AVALANCHE))
+        self._state = _State(0, 0, _NO_ROWS)
+
+    def _hold(self, given: Heights) -> None:
+        """Makes the library hold a pile that was given these grains."""
+        self._handle, self._shape = DriveHandle(given, self._cylinder), given.shape
+        self._sites = given.size
+        self._most = min(_MOST_IN_BLOCK, _WORK_IN_BLOCK // given.size)  # drops in a block
+        self._ahead = (0, _Room(np.empty(0, np.uintp)))  # a place in the stream, and the sites from there on
+        self._found = _Room(np.empty((_FEW, _WORDS), np.uint64))
+        self._block: Optional[_Block] = None  # the last one, unless it is known to be made
+
+    def _now(self) -> _State:
+        """The state, in which a block counts that was made just before Ctrl-C came. Only under `use` of the handle."""
+        if self._block is not None:
+            found, rows, after = self._block
+            if found.first.value != _NO_SITE:
+                rows[:, 1:] = found.array[: len(rows)]
+                self._state = after
+                self._block = None
+        return self._state
+
+    def _current(self) -> _State:
+        with self._handle.use:
+            return self._now()
+
+    def _read(self, pile: Heights = _NO_HEIGHTS, odometer: Heights = _NO_HEIGHTS) -> tuple[int, int, _State]:
+        """Writes the pile and the odometer, unless they are empty, as of one time. Returns the topplings, the lost grains and the
+        state."""
+        with self._handle.use:
+            return (*self._handle.read(pile, odometer), self._now())
 
     @property
     def pile(self) -> Heights:
         """The current heights, each from 0 to 3; a new array of shape (height, width), uint64."""
-        return self._state.pile.copy()
+        pile = np.empty(self._shape, np.uint64)
+        self._read(pile=pile)
+        return pile
 
     @property
     def odometer(self) -> Heights:
         """How often each site has toppled, the settling of the start included; a new array of shape (height, width),
         uint64."""
-        return self._state.odometer.copy()
+        odometer = np.empty(self._shape, np.uint64)
+        self._read(odometer=odometer)
+        return odometer
 
     @property
     def lost(self) -> int:
         """Grains lost over the edge so far, the settling of the start included."""
-        return self._state.lost
+        return self._read()[1]
 
     @property
     def topplings(self) -> int:
         """Topplings so far, the settling of the start included."""
-        return int(self._state.odometer.sum())
+        return self._read()[0]
 
     @property
     def drops(self) -> int:
         """Grains dropped so far."""
-        return self._state.drops
+        return self._current().drops
 
     @property
     def table(self) -> NDArray[np.void]:
-        """The avalanches of the last call of `drop` or `drop_at`, even if Ctrl-C stopped it."""
-        return self._state.table
+        """The avalanches of the last call of `drop`, `drop_at` or `avalanche`, even if Ctrl-C stopped it."""
+        return self._current().table
 
     @property
     def seed(self) -> int:
@@ -184,7 +245,11 @@ class Drive:
         >>> sandpile.Drive([[3]]).drop(5)["size"]
         array([1, 0, 0, 0, 1], dtype=uint64)
         """
-        return self._drop(lambda: (count_of(n, "n"), self._draw), progress, draws=True)
+
+        def asked() -> _Wanted:
+            return count_of(n, "n"), lambda begin, end, found: _drop(self._draw(end - begin), end - begin, found)
+
+        return self._drop(asked, progress, draws=True)
 
     def drop_at(self, sites: ArrayLike) -> NDArray[np.void]:
         """Drops a grain at each of these sites in turn. Uses no random sites.
@@ -216,73 +281,132 @@ class Drive:
         array([1, 0], dtype=uint64)
         """
 
-        def asked() -> _Asked:
-            at = sites_of(sites, self._state.pile.size)
-            return at.size, lambda begin, end: at[begin:end]
+        def asked() -> _Wanted:
+            room = _Room(sites_of(sites, self._sites))
+            return room.array.size, lambda begin, end, found: _drop(room.at + begin * _SITE, end - begin, found)
 
         return self._drop(asked, progress=False, draws=False)
 
-    def _draw(self, begin: int, end: int) -> NDArray[np.uintp]:
-        """The next sites of the stream, after those used so far."""
-        sites = np.zeros(end - begin, np.uintp)
-        call("sites", self._state.pile.shape, self._cylinder, self._seed, self._stream, self._state.drawn, sites)
-        return sites
+    def avalanche(self, site: int) -> tuple[np.void, Heights]:
+        """Drops a grain at a site, and returns how often each site topples in its avalanche. Uses no random site.
 
-    def _drop(self, ask: Callable[[], _Asked], progress: bool, draws: bool) -> NDArray[np.void]:
+        Parameters
+        ----------
+        site : int
+            The number of the site, row * width + column.
+
+        Returns
+        -------
+        row : numpy.void
+            The row of the avalanche in `table`, as from `drop`.
+        topplings : numpy.ndarray
+            How often each site toppled in it; shape (height, width), uint64. The sum is the size.
+
+        Raises
+        ------
+        Fault
+            NoSite (25) if the site is outside the grid, or Full (6), as from `drop`.
+        TypeError
+            If the site is not an integer.
+        RuntimeError
+            As from `drop`.
+
+        Examples
+        --------
+        >>> import sandpile
+        >>> row, topplings = sandpile.Drive([[3, 3, 1]]).avalanche(0)
+        >>> row["size"], row["reach"], topplings
+        (2, 1, array([[1, 1, 0]], dtype=uint64))
+        """
+        topplings = np.empty(self._shape, np.uint64)
+
+        def asked() -> _Wanted:
+            at = site_of(site, self._sites)
+            return 1, lambda _, __, found: ("sandpile_drive_avalanche", at, found, topplings.ctypes.data, topplings.size)
+
+        return self._drop(asked, progress=False, draws=False)[0], topplings
+
+    def _drop(self, ask: Callable[[], _Wanted], progress: bool, draws: bool) -> NDArray[np.void]:
         """Makes the drops that `ask` returns when it has checked the arguments."""
-        lock = self._lock()
-        if lock.locked():
-            raise RuntimeError("another call is dropping grains on this Drive: use it in one thread at a time")
-        # Ctrl-C could come between an `acquire` that does not wait and its `try`. So a call that begins at the very
-        # same moment waits.
-        with lock:
-            n, sites, table = self._begun(ask)
-            with Bar(n, progress) as bar:
-                for begin, end in _blocks(n, self._state.pile.size):
-                    self._keep(table, begin, sites(begin, end), draws)
-                    bar.show(end)
+        with self._handle.dropping():
+            n, called, table = self._begun(ask)
+            if progress:
+                with Bar(n) as bar:
+                    self._make(called, table, draws, bar.show)
+            else:
+                self._make(called, table, draws)
             return self._state.table
 
-    def _lock(self) -> threading.Lock:
-        """The lock that a call holds while it drops grains. A forked child has a new one: it has no other threads."""
-        locks: dict[int, threading.Lock] = vars(self).setdefault("_locks", {})
-        return locks.setdefault(os.getpid(), threading.Lock())
+    def _make(
+        self, called: _Called, table: NDArray[np.void], draws: bool, show: Optional[Callable[[int], None]] = None
+    ) -> None:
+        """Makes the drops of a table, block after block."""
+        most, n = self._most, len(table)
+        for begin in range(0, n, most):
+            end = min(begin + most, n)
+            found = self._room(end - begin)
+            _block(self, self._made(found, table, begin, end, draws), *called(begin, end, found.at))
+            if show:
+                show(end)
 
-    def __getstate__(self) -> dict[str, Any]:
-        """All but the locks, which cannot be pickled: a copy has its own."""
-        return {name: value for name, value in vars(self).items() if name != "_locks"}
-
-    def _begun(self, ask: Callable[[], _Asked]) -> tuple[int, _Sites, NDArray[np.void]]:
+    def _begun(self, ask: Callable[[], _Wanted]) -> tuple[int, _Called, NDArray[np.void]]:
         """What `ask` returns, and the table to fill. From here on, Ctrl-C leaves no row of the call before; a refused
         call changes nothing."""
-        was = self._state
-        self._state = replace(was, table=np.empty(0, AVALANCHE))
+        with self._handle.use:
+            was, self._block = self._now(), None
+            self._state = _State(was.drops, was.drawn, _NO_ROWS)
         try:
-            n, sites = ask()
+            n, called = ask()
             if self._start_grains + was.drops + n > _MOST_GRAINS:
                 raise Fault(6)
-            return n, sites, _new_table(n)
+            return n, called, _new_table(n)
         except Exception:
             self._state = was
             raise
 
-    def _keep(self, table: NDArray[np.void], begin: int, sites: NDArray[np.uintp], draws: bool) -> None:
-        """Drops a block, and stores its result in one step: Ctrl-C finds all of it or nothing."""
-        was = self._state
-        pile, odometer, avalanches = _block(was.pile, self._cylinder, sites)
-        rows = table[begin : begin + sites.size]
-        rows["number"] = np.arange(was.drops, was.drops + sites.size, dtype=np.uint64)
-        for name in ("site", *dict(_FOUND)):
-            rows[name] = avalanches[name]
-        odometer += was.odometer
-        self._state = _State(
-            pile,
-            odometer,
-            was.lost + int(avalanches["lost"].sum()),
-            was.drops + sites.size,
-            was.drawn + (sites.size if draws else 0),
-            table[: begin + sites.size],
-        )
+    def _draw(self, n: int) -> int:
+        """The address of the next `n` sites of the stream, after those used so far."""
+        (first, room), drawn = self._ahead, self._state.drawn
+        if not first <= drawn <= drawn + n <= first + room.array.size:
+            first, room = drawn, _Room(np.empty(max(n, _FEW), np.uintp))
+            call("sites", self._shape, self._cylinder, self._seed, self._stream, first, room.array)
+            self._ahead = first, room
+        return room.at + (drawn - first) * _SITE
+
+    def _room(self, n: int) -> _Room:
+        """Where the library writes the avalanches of `n` drops."""
+        room = self._found if n <= _FEW else _Room(np.empty((n, _WORDS), np.uint64))
+        room.first.value = _NO_SITE
+        return room
+
+    def _made(self, found: _Room, table: NDArray[np.void], begin: int, end: int, draws: bool) -> _Block:
+        """What a block of drops will have changed."""
+        was, n = self._state, end - begin
+        rows: NDArray[np.uint64] = np.ndarray((n, 1 + _WORDS), np.uint64, table, begin * table.itemsize)
+        if n == 1:  # which is faster so
+            rows[0, 0] = was.drops
+        else:
+            rows[:, 0] = _COUNT[:n] + np.uint64(was.drops)
+        return found, rows, _State(was.drops + n, was.drawn + n if draws else was.drawn, table[:end])
+
+    def __getstate__(self) -> dict[str, Any]:
+        """All but the handle, locks and rooms for the library: a copy has its own. Its handle is made of the grains that were
+        given."""
+        kept = {name: value for name, value in vars(self).items() if name not in _OF_THIS_PROCESS}
+        saved, state = self._saved()
+        return {**kept, "_state": state, "_given": saved.given()}
+
+    def __setstate__(self, kept: dict[str, Any]) -> None:
+        given = kept.pop("_given")
+        vars(self).update(kept)
+        self._hold(given)
+
+    def _saved(self) -> tuple[_saves.Saved, _State]:
+        """What a file keeps of the run, and the state at that time."""
+        pile, odometer = np.empty(self._shape, np.uint64), np.empty(self._shape, np.uint64)
+        _, lost, state = self._read(pile, odometer)
+        numbers = (self._seed, self._stream, self._cylinder, self._start_grains, lost, state.drops, state.drawn)
+        return _saves.Saved(pile, odometer, *numbers), state
 
     def save(self, path: str | os.PathLike[str]) -> None:
         """Saves the run to a file, for `Drive.load`. Tables are not saved.
@@ -309,9 +433,7 @@ class Drive:
         >>> bool((run.drop(50) == again.drop(50)).all())
         True
         """
-        state = self._state
-        numbers = (self._seed, self._stream, self._cylinder, self._start_grains, state.lost, state.drops, state.drawn)
-        _saves.write(path, _saves.Saved(state.pile, state.odometer, *numbers))
+        _saves.write(path, self._saved()[0])
 
     @classmethod
     def load(cls, path: str | os.PathLike[str]) -> Drive:
@@ -341,13 +463,13 @@ class Drive:
         <Drive: 1 by 2, seed 7, stream 2, 0 drops>
         """
         saved = _saves.read(path)
-        run = cls(saved.pile, saved.seed, saved.stream, bool(saved.cylinder))
+        run = cls(saved.given(), saved.seed, saved.stream, bool(saved.cylinder))
         run._start_grains = saved.start_grains
-        run._state = _State(saved.pile, saved.odometer, saved.lost, saved.drops, saved.drawn, run.table)
+        run._state = _State(saved.drops, saved.drawn, _NO_ROWS)
         return run
 
     def __repr__(self) -> str:
-        height, width = self._state.pile.shape
+        height, width = self._shape
         edge = ", cylinder" if self._cylinder else ""
         return f"<Drive: {height} by {width}{edge}, seed {self._seed}, stream {self._stream}, {self.drops} drops>"
 
@@ -357,10 +479,3 @@ def _new_table(n: int) -> NDArray[np.void]:
         return np.empty(n, AVALANCHE)
     except MemoryError:
         raise Fault(4, f"not enough memory for a table of {n} drops") from None
-
-
-def _blocks(n: int, sites: int) -> Iterator[tuple[int, int]]:
-    """The start and the end of each block of `n` drops."""
-    length = min(_MOST_IN_BLOCK, _WORK_IN_BLOCK // sites)
-    for begin in range(0, n, length):
-        yield begin, min(begin + length, n)

@@ -15,20 +15,19 @@ class Bar:
     No failure to show them ends the call: if tqdm fails, the line is written, and if that fails, nothing.
     """
 
-    def __init__(self, total: int, is_shown: bool) -> None:
-        self._total, self._shown_at, self._is_shown = total, 0.0, is_shown
+    def __init__(self, total: int) -> None:
+        self._total, self._shown_at, self._is_shown = total, 0.0, True
         self._tqdm: Any = None
         self._lock: Any = None  # of tqdm
 
     def __enter__(self) -> Bar:
-        if self._is_shown:
-            try:
-                from tqdm.auto import tqdm
+        try:
+            from tqdm.auto import tqdm
 
-                self._lock = tqdm.get_lock()
-                self._tqdm = tqdm(total=self._total, unit="drop", unit_scale=True)
-            except Exception:
-                self._release()
+            self._lock = tqdm.get_lock()
+            self._tqdm = tqdm(total=self._total, unit="drop", unit_scale=True)
+        except Exception:
+            self._release()
         return self
 
     def show(self, done: int) -> None:

@@ -1,6 +1,7 @@
 """Run by test_memory.py with tools/refuse.c preloaded: refuses an allocation of each export, the first, then the
 second, and so on until none is left. Only the export is refused memory, not NumPy or Python."""
 
+import copy
 import ctypes
 
 import numpy as np
@@ -64,6 +65,7 @@ try_call("high", lambda: sandpile.settle(high), lambda: [high])
 try_call("drop", lambda: run.drop_at([0, 1, 2]), lambda: [run.pile, run.odometer, run.lost, run.drops])
 run.save("run")
 try_call("load", lambda: sandpile.Drive.load("run"), lambda: [])
+try_call("copy", lambda: copy.copy(run), lambda: [run.pile, run.odometer, run.lost, run.drops])
 try_call("burn", lambda: sandpile.burn(a), lambda: [a.pile])
 try_call("identity", lambda: sandpile.identity((9, 7)), lambda: [])
 try_call("recurrent", lambda: sandpile.recurrent(pile), lambda: [pile])

@@ -1,6 +1,7 @@
 """Shared by several tests: random piles, the program, and tools that may be missing."""
 
 import importlib.util
+import os
 import shutil
 import subprocess
 import tempfile
@@ -73,6 +74,12 @@ def stand_in(path, *lines):
 def files_in(folder):
     """The files in a folder, by their path there, with their bytes."""
     return {str(path.relative_to(folder)): path.read_bytes() for path in folder.rglob("*") if path.is_file()}
+
+
+def resident():
+    """The bytes of memory in use."""
+    with open("/proc/self/statm") as file:
+        return int(file.read().split()[1]) * os.sysconf("SC_PAGE_SIZE")
 
 
 def same(one, other):

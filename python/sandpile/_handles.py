@@ -1,0 +1,89 @@
+"""Handles of the library: piles that live between calls."""
+
+from __future__ import annotations
+
+import ctypes
+import os
+import threading
+import weakref
+
+from . import _library
+from ._arrays import Heights
+from ._library import call, call_on
+
+
+class Handle:
+    """A struct at the address `at`, empty until a call fills it. What it holds is freed with this object."""
+
+    def __init__(self, kind: str) -> None:
+        self._struct = ctypes.c_void_p()
+        self.at = ctypes.addressof(self._struct)
+        self._free = getattr(_library.library, f"sandpile_{kind}_free")
+
+    def free(self) -> None:
+        """Frees what the handle holds, if anything, and empties it."""
+        self._free(self.at)
+
+    def __del__(self) -> None:
+        self.free()
+
+
+class DriveHandle(Handle):
+    """A driven pile. Each call of the library is made under `with handle.use`, so one thread waits for another."""
+
+    def __init__(self, heights: Heights, cylinder: bool) -> None:
+        self._renew()
+        super().__init__("drive")
+        call("drive_new", heights.shape, cylinder, heights, self.at)
+        _drives.add(self)
+
+    def _renew(self) -> None:
+        # A signal's handler may read a run in the thread that uses it.
+        self.use = threading.RLock()
+        self._dropping = threading.Lock()
+
+    def dropping(self) -> threading.Lock:
+        """The lock that a thread holds while it drops grains by several calls. Another thread that would is refused."""
+        if self._dropping.locked():
+            raise RuntimeError("another call is dropping grains on this Drive: use it in one thread at a time")
+        # Ctrl-C could come between an `acquire` that does not wait and its `try`. So a call that begins at the very same
+        # moment waits.
+        return self._dropping
+
+    def read(self, heights: Heights, odometer: Heights) -> tuple[int, int]:
+        """Writes both arrays, unless they are empty. Returns the topplings and the lost grains."""
+        topplings, lost = ctypes.c_uint64(), ctypes.c_uint64()
+        call_on("drive_read", self.at, heights, odometer, ctypes.byref(topplings), ctypes.byref(lost))
+        return topplings.value, lost.value
+
+
+# A fork waits until no thread is inside a call on a driven pile, so the child's copy of each is whole. The locks of the
+# child are new, since it has none of the threads that may hold the others.
+_drives: weakref.WeakSet[DriveHandle] = weakref.WeakSet()
+_held: list[DriveHandle] = []
+_fork = threading.RLock()
+
+
+def _before_fork() -> None:
+    _fork.acquire()
+    for drive in tuple(_drives):
+        drive.use.acquire()
+        _held.append(drive)
+
+
+def _after_fork_in_parent() -> None:
+    while _held:
+        _held.pop().use.release()
+    _fork.release()
+
+
+def _after_fork_in_child() -> None:
+    _held.clear()
+    for drive in tuple(_drives):
+        drive._renew()
+    _fork.release()
+
+
+os.register_at_fork(
+    before=_before_fork, after_in_parent=_after_fork_in_parent, after_in_child=_after_fork_in_child
+)
