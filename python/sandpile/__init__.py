@@ -12,6 +12,7 @@ interpreter lock, so threads run in parallel.
 ======================================  ==========================================================
 `settle`                                the settled pile, and how often each site topples
 `Drive`                                 drops grains one by one, and returns their avalanches
+`SharedPile`                            many threads drop grains on one pile at once
 `burn`                                  whether a pile is recurrent
 `recurrent`, `identity`, `Recurrent`    the sandpile group
 `lab`                                   a seeded run on many threads, by the program
@@ -33,10 +34,11 @@ from .group import Recurrent, identity, recurrent
 from .laboratory import EPOCH, Run, lab
 from .pictures import show
 from .settling import Settled, settle
+from .sharing import Part, Record, SharedPile
 from .version import VERSION
 
 __version__ = VERSION
 __all__ = [
-    "AVALANCHE", "EPOCH", "Burned", "Drive", "Fault", "Recurrent", "Run", "Settled",
+    "AVALANCHE", "EPOCH", "Burned", "Drive", "Fault", "Part", "Record", "Recurrent", "Run", "Settled", "SharedPile",
     "burn", "identity", "lab", "recurrent", "settle", "show",
 ]

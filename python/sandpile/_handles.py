@@ -28,6 +28,24 @@ class Handle:
         self.free()
 
 
+class PassHandle(Handle):
+    """A pass of a shared pile. It belongs to the process that made it: in a forked child it may be a copy of what another
+    thread was changing."""
+
+    def __init__(self) -> None:
+        self._process = os.getpid()
+        super().__init__("pass")
+
+    @property
+    def is_here(self) -> bool:
+        """Whether this process has made it."""
+        return self._process == os.getpid()
+
+    def __del__(self) -> None:
+        if self.is_here:
+            self.free()
+
+
 class DriveHandle(Handle):
     """A driven pile. Each call of the library is made under `with handle.use`, so one thread waits for another."""
 

@@ -36,6 +36,16 @@ _TAKES: dict[str, tuple[Any, ...]] = {
     "drive_avalanche": (*_HANDLE, ctypes.c_size_t, *_PLACE, *_ARRAY),
     "drive_read": (*_HANDLE, *_ARRAY, *_ARRAY, *_PLACE, *_PLACE),
     "drive_free": _HANDLE,
+    "shared_new": (*_SIDES, *_ARRAY, ctypes.c_uint64, *_HANDLE),
+    "pass_split": (*_HANDLE, ctypes.c_uint64, *_HANDLE),
+    "pass_split_rows": (*_HANDLE, ctypes.c_uint16, *_HANDLE),
+    "pass_drop": (*_HANDLE, *_ARRAY, *_PLACE),
+    "pass_tally": (*_HANDLE, *_PLACE),
+    "pass_sweep": (*_HANDLE, *_PLACE),
+    "pass_holding": (*_HANDLE, *_PLACE),
+    "pass_join": (*_HANDLE, *_HANDLE),
+    "pass_settle": (*_HANDLE, *_ARRAY, *_ARRAY, *_ARRAY, *_PLACE, *_PLACE),
+    "pass_free": _HANDLE,
     "version": (),
 }
 

@@ -72,3 +72,13 @@ try_call("recurrent", lambda: sandpile.recurrent(pile), lambda: [pile])
 try_call("add", lambda: a + a, lambda: [a.pile])
 try_call("inverse", lambda: -a, lambda: [a.pile])
 try_call("multiple", lambda: 5 * a, lambda: [a.pile])
+
+shared, parts = sandpile.SharedPile(pile, 9), []
+try_call("share", lambda: sandpile.SharedPile(pile, 9), lambda: [pile])
+try_call("split", lambda: parts.append(shared.split(4, rows=3)), lambda: [shared.tally()])
+parts[0].drop([5, 5, 62])
+shared.join(parts[0])
+try_call("settle shared", shared.settle, lambda: [shared.tally()])
+assert shared.settle().history.tolist() == [5, 5, 62]
+with shared.split(6, rows=7) as whole:  # nothing was lost
+    whole.drop([0] * 6)

@@ -8,6 +8,7 @@ import exports
 import numpy as np
 from sandpile import _library
 from sandpile.driving import _AVALANCHE
+from sandpile.sharing import _HOLDING
 from tools import TOP
 
 HEADER = (TOP / "include" / "sandpile.h").read_text()
@@ -45,6 +46,12 @@ def fields(struct):
 def of_avalanche(struct):
     wanted = fields(exports.laid_out(EXPORTED["sandpile_avalanche"]))
     return [*exports.differences("driving.py", {"_AVALANCHE": fields(struct)}, {"_AVALANCHE": wanted})]
+
+
+def of_holding(struct):
+    wanted = exports.laid_out(EXPORTED["sandpile_holding"])
+    found = {"size": {"number": str(np.dtype(struct).itemsize)}, "_HOLDING": fields(struct)}
+    return [*exports.differences("sharing.py", found, {"size": {"number": str(ctypes.sizeof(wanted))}, "_HOLDING": fields(wanted)})]
 
 
 class Header(unittest.TestCase):
@@ -102,6 +109,13 @@ class Module(unittest.TestCase):
 
     def test_an_avalanche_is_laid_out_as_in_c(self):
         self.assertEqual(of_avalanche(_AVALANCHE), [])
+
+    def test_a_holding_is_laid_out_as_in_c(self):
+        self.assertEqual(of_holding(_HOLDING), [])
+        self.assertEqual(
+            of_holding([(name, _HOLDING[name]) for name in _HOLDING.names]),  # without its padding
+            ["sharing.py: size: number is 28, but 32 in the sources"],
+        )
 
     def test_a_wrong_field_is_named(self):
         kinds = [(name, _AVALANCHE[name]) for name in _AVALANCHE.names]

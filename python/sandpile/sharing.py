@@ -1,0 +1,430 @@
+"""A pile on which many threads drop grains at once."""
+
+from __future__ import annotations
+
+import ctypes
+import threading
+import warnings
+from dataclasses import dataclass
+from types import TracebackType
+from typing import Any
+
+import numpy as np
+from numpy.typing import ArrayLike, NDArray
+
+from ._arrays import Heights, count_of, heights_of, sites_of
+from ._handles import PassHandle
+from ._library import call, call_on
+from .faults import Fault
+from .settling import Settled
+
+_TOO_MANY_ROWS, _APART, _MISSING, _EMPTY, _OTHER_PILE = 11, 12, 14, 26, 27
+_MOST_ROWS = 256
+# The struct of include/sandpile.h.
+_HOLDING = np.dtype(
+    [("left", "u8"), ("seen", "u8"), ("drops", np.uintp), ("first_row", "u2"), ("end_row", "u2")], align=True
+)
+
+
+@dataclass(frozen=True)
+class Record(Settled):
+    """What `SharedPile.settle` returns: what one thread gets that drops the grains of `history` one after another.
+
+    Attributes
+    ----------
+    pile, odometer, lost, topplings
+        As of a `Settled`.
+    history : numpy.ndarray
+        The site of each drop, row * width + column, by the number that `Part.drop` returned; shape (drops,), intp.
+    """
+
+    history: NDArray[np.intp]
+
+
+class _Passes:
+    """The passes of a pile: the first, one that only looks on, and those that parts hold or have given back.
+
+    A pass can be joined to the first one only if their rows are adjacent, and Python may collect a part at any time. So
+    what comes back waits until something needs it.
+    """
+
+    def __init__(self, heights: Heights, cylinder: bool, quota: int) -> None:
+        self.shape, self.is_closed = heights.shape, False
+        self.outside: set[PassHandle] = set()
+        self._back: set[PassHandle] = set()
+        # A signal's handler may count the drops in the thread that does so.
+        self._lock, self._looks = threading.RLock(), threading.RLock()
+        self._first, self._observer = PassHandle(), PassHandle()
+        call("shared_new", heights.shape, cylinder, heights, quota, self._first.at)
+        call_on("pass_split", self._first.at, 0, self._observer.at)
+
+    def check(self) -> None:
+        """Refuses a process that has not made the pile, and a pile that is closed."""
+        if not self._first.is_here:
+            raise RuntimeError("a shared pile belongs to the process that made it, and this one was forked from that")
+        if self.is_closed:
+            raise RuntimeError("this shared pile is closed")
+
+    def split(self, part: PassHandle, quota: int, rows: int) -> None:
+        """Gives a part of the quota and of the rows to an empty handle."""
+        self.check()
+        with self._lock:
+            self._gather()
+            self.outside.add(part)
+            call_on("pass_split", self._first.at, quota, part.at)
+            if rows:
+                self._split_rows(part, rows)
+
+    def _split_rows(self, part: PassHandle, rows: int) -> None:
+        lower = PassHandle()
+        try:
+            call_on("pass_split_rows", self._first.at, rows, lower.at)
+            call_on("pass_join", part.at, lower.at)
+        finally:
+            self.give_back(lower)  # it is empty, unless something has failed or Ctrl-C came
+
+    def give_back(self, part: PassHandle) -> None:
+        """Takes what a part has left and has done. Neither waits for a lock, nor fails."""
+        self._back.add(part)
+        self.outside.discard(part)
+        if self.is_closed:
+            part.free()
+
+    def _gather(self) -> None:
+        """Joins to the first pass what has come back. Each that is joined may bring its rows next to those of another."""
+        while sum([self._joins(part) for part in tuple(self._back)]):
+            pass
+
+    def _joins(self, part: PassHandle) -> bool:
+        """Joins a pass to the first one, unless rows between theirs are still elsewhere."""
+        try:
+            call_on("pass_join", self._first.at, part.at)
+        except Fault as fault:
+            if fault.number == _APART:
+                return False
+            if fault.number != _EMPTY:
+                raise
+        self._back.discard(part)
+        return True
+
+    def tally(self) -> int:
+        self.check()
+        drops = ctypes.c_uint64()
+        with self._looks:
+            call_on("pass_tally", self._observer.at, ctypes.byref(drops))
+        return drops.value
+
+    def settle(self) -> Record:
+        self.check()
+        heights, odometer = np.empty(self.shape, np.uint64), np.empty(self.shape, np.uint64)
+        lost, topplings, holding = ctypes.c_uint64(), ctypes.c_uint64(), np.zeros((), _HOLDING)
+        with self._lock:
+            self._gather()
+            call_on("pass_holding", self._first.at, holding.ctypes.data)
+            history = _new_history(int(holding["drops"]))
+            sums = (ctypes.byref(topplings), ctypes.byref(lost))
+            call_on("pass_settle", self._first.at, heights, odometer, history, *sums)
+        return Record(heights, odometer, lost.value, topplings.value, history)
+
+    def close(self) -> None:
+        """Frees the pile, at once or when the last part outside ends."""
+        with self._lock, self._looks:
+            self.is_closed = True
+            for handle in (self._first, self._observer, *self._back):
+                handle.free()
+            self._back.clear()
+
+
+def _new_history(drops: int) -> NDArray[np.intp]:
+    try:
+        return np.empty(drops, np.intp)
+    except MemoryError:
+        raise Fault(4, f"not enough memory for a history of {drops} drops") from None
+
+
+class Part:
+    """A part of a shared pile, for one thread at a time: the right to drop some grains on it, and to topple some of its rows.
+
+    `SharedPile.split` makes it. At the end of its `with` block, also after an error, it is joined to the pile, with what
+    it has left. A part that is never joined is joined when Python collects it, with a `ResourceWarning`.
+    """
+
+    def __init__(self, passes: _Passes) -> None:
+        self._passes, self._pass, self._is_joined = passes, PassHandle(), False
+        self._use = threading.Lock()
+
+    def drop(self, sites: ArrayLike) -> NDArray[np.uint64]:
+        """Drops a grain at each of these sites in turn. Nothing topples.
+
+        Parameters
+        ----------
+        sites : array_like of int
+            Site numbers, row * width + column, shape (n,), or a single one.
+
+        Returns
+        -------
+        numpy.ndarray
+            The numbers of the drops among those of all threads, from 0 on. They are consecutive. Shape (n,), uint64.
+
+        Raises
+        ------
+        Fault
+            NoSite (25) if a site is outside the grid, Spent (13) if these are more grains than the part has left, or
+            Memory (4). Then none was dropped.
+        TypeError
+            If the sites are not integers, or have more than one dimension.
+        RuntimeError
+            If another thread is using the part, if it has been joined, if the pile is closed, or in a forked process.
+
+        Examples
+        --------
+        >>> import sandpile
+        >>> with sandpile.SharedPile([[0, 3]], quota=5) as pile, pile.split(3) as part:
+        ...     part.drop([1, 1, 0])
+        array([0, 1, 2], dtype=uint64)
+        """
+        height, width = self._passes.shape
+        at, first = sites_of(sites, height * width), ctypes.c_uint64()
+        self._call("pass_drop", at, ctypes.byref(first))
+        return np.arange(first.value, first.value + at.size, dtype=np.uint64)
+
+    def sweep(self) -> int:
+        """Visits each site of its rows once, and topples it as often as its grains then allow.
+
+        Returns
+        -------
+        int
+            The number of topplings.
+
+        Raises
+        ------
+        RuntimeError
+            As from `drop`.
+
+        Examples
+        --------
+        >>> import sandpile
+        >>> with sandpile.SharedPile([[8], [0]], quota=0) as pile, pile.split(0, rows=2) as part:
+        ...     part.sweep(), part.sweep()
+        (2, 0)
+        """
+        return self._counted("pass_sweep")
+
+    def tally(self) -> int:
+        """How many drops of all threads have begun.
+
+        Raises
+        ------
+        RuntimeError
+            As from `drop`.
+        """
+        return self._counted("pass_tally")
+
+    def _counted(self, name: str) -> int:
+        count = ctypes.c_uint64()
+        self._call(name, ctypes.byref(count))
+        return count.value
+
+    def _call(self, name: str, *arguments: Any) -> None:
+        self._check()
+        # Ctrl-C could come between an `acquire` that does not wait and its `try`. So a call that begins at the very same
+        # moment waits.
+        if self._use.locked():
+            raise RuntimeError("another thread is using this part: split one off for each thread")
+        with self._use:
+            self._check()
+            call_on(name, self._pass.at, *arguments)
+
+    def _check(self) -> None:
+        self._passes.check()
+        if self._is_joined:
+            raise RuntimeError("this part has been joined to its pile")
+
+    def _join(self) -> None:
+        # A call in another thread ends first.
+        with self._use:
+            self._is_joined = True
+            self._passes.give_back(self._pass)
+
+    def __enter__(self) -> Part:
+        self._check()
+        return self
+
+    def __exit__(self, kind: type[BaseException] | None, error: BaseException | None, trace: TracebackType | None) -> None:
+        if self._pass.is_here and not self._is_joined:
+            self._join()
+
+    def __del__(self) -> None:
+        if self._pass.is_here and not self._is_joined:
+            warnings.warn("a part of a shared pile was not joined", ResourceWarning, stacklevel=2, source=self)
+            self._join()
+
+    def __reduce__(self) -> Any:
+        raise TypeError("a part of a shared pile cannot be copied or pickled: split off another one")
+
+
+class SharedPile:
+    """A pile on which many threads drop grains at once, and topple it meanwhile, without a lock.
+
+    Whatever the interleaving, the drops of all threads form one history, and `settle` returns exactly what one thread gets
+    that drops it.
+
+    Parameters
+    ----------
+    start : array_like of int
+        The start, shape (height, width), sides from 1 to 256, any integer type. It need not be stable, and is not modified.
+    quota : int
+        How many grains may be dropped on it. Each takes 16 bytes, reserved now.
+    cylinder : bool
+        Whether the first and the last column are neighbours.
+
+    Raises
+    ------
+    Fault
+        Side (1), Narrow (24), TooManyGrains (3), the quota included, Memory (4), or Plan (15) if the quota is negative.
+    TypeError
+        If `start` is not a two-dimensional array of non-negative integers, or `quota` is not an integer.
+
+    Notes
+    -----
+    Split off a `Part` for each thread. Calls on different parts run in parallel. A shared pile belongs to its process: it
+    cannot be copied or pickled, and a forked child cannot use it.
+
+    Examples
+    --------
+    >>> import numpy as np, sandpile
+    >>> from concurrent.futures import ThreadPoolExecutor
+    >>> start = np.full((8, 8), 3)
+    >>> with sandpile.SharedPile(start, quota=400) as pile:
+    ...     def work(site):
+    ...         with pile.split(100) as part:
+    ...             return part.drop([site] * 100)
+    ...     with ThreadPoolExecutor(4) as pool:
+    ...         numbers = list(pool.map(work, [0, 9, 30, 63]))
+    ...     done = pile.settle()
+    >>> bool((done.history[numbers[2]] == 30).all())
+    True
+    >>> one = sandpile.Drive(start)
+    >>> _ = one.drop_at(done.history)
+    >>> bool((one.odometer == done.odometer).all()), one.lost == done.lost
+    (True, True)
+    """
+
+    def __init__(self, start: ArrayLike, quota: int, cylinder: bool = False) -> None:
+        heights = heights_of(start)
+        self._passes = _Passes(heights, bool(cylinder), count_of(quota, "quota"))
+
+    def split(self, quota: int, rows: int | None = None) -> Part:
+        """Splits off a part, for one thread at a time.
+
+        Parameters
+        ----------
+        quota : int
+            How many grains it may drop; with 0 it can sweep its rows, and count the drops of others.
+        rows : int, optional
+            How many of the last rows that are not split off yet it gets, to topple them; without, none.
+
+        Raises
+        ------
+        Fault
+            TooMuch (10) if less of the quota is left, Rows (11) if fewer rows are, Plan (15) if a number is negative, or
+            Memory (4).
+        TypeError
+            If a number is not an integer.
+        RuntimeError
+            If the pile is closed, or in a forked process.
+        """
+        quota, rows = count_of(quota, "quota"), count_of(0 if rows is None else rows, "rows")
+        if rows > _MOST_ROWS:  # the library takes 16 bits
+            raise Fault(_TOO_MANY_ROWS)
+        part = Part(self._passes)
+        try:
+            self._passes.split(part._pass, quota, rows)
+        except BaseException:
+            part._join()
+            raise
+        return part
+
+    def join(self, part: Part) -> None:
+        """Joins a part before the end of its `with` block.
+
+        Raises
+        ------
+        Fault
+            OtherPile (27) if it is of another pile.
+        RuntimeError
+            If it has been joined already, if the pile is closed, or in a forked process.
+        """
+        if part._passes is not self._passes:
+            raise Fault(_OTHER_PILE, "the part is of another pile")
+        part._check()
+        part._join()
+
+    def tally(self) -> int:
+        """How many drops of all threads have begun. Any thread may call it at any time.
+
+        Raises
+        ------
+        RuntimeError
+            If the pile is closed, or in a forked process.
+        """
+        return self._passes.tally()
+
+    def settle(self) -> Record:
+        """What one thread gets that drops the grains of all parts one after another. All parts must have been joined. The
+        pile itself stays as it is, and may go on.
+
+        Returns
+        -------
+        Record
+            The settled `pile`, the `odometer`, the grains `lost`, the `topplings` and the `history`.
+
+        Raises
+        ------
+        Fault
+            Missing (14) if a part has not been joined, or Memory (4).
+        RuntimeError
+            If the pile is closed, or in a forked process.
+
+        Examples
+        --------
+        >>> import sandpile
+        >>> with sandpile.SharedPile([[0, 3, 0]], quota=2) as pile:
+        ...     with pile.split(2) as part:
+        ...         numbers = part.drop([1, 0])
+        ...     done = pile.settle()
+        >>> done.pile, done.topplings, done.history
+        (array([[2, 0, 1]], dtype=uint64), 1, array([1, 0]))
+        """
+        try:
+            return self._passes.settle()
+        except Fault as fault:
+            if fault.number != _MISSING:
+                raise
+            parts = len(self._passes.outside)
+            raise Fault(_MISSING, f"parts of the pile have not been joined: {parts}") from None
+
+    def close(self) -> None:
+        """Frees the pile. A part that has not been joined is of no use from then on."""
+        if self._passes._first.is_here:
+            self._passes.close()
+
+    def __enter__(self) -> SharedPile:
+        self._passes.check()
+        return self
+
+    def __exit__(self, kind: type[BaseException] | None, error: BaseException | None, trace: TracebackType | None) -> None:
+        self.close()
+
+    def __del__(self) -> None:
+        passes = vars(self).get("_passes")
+        if passes and passes.outside and not passes.is_closed and passes._first.is_here:
+            said = f"a shared pile was dropped while parts of it were not joined: {len(passes.outside)}"
+            warnings.warn(said, ResourceWarning, stacklevel=2, source=self)
+
+    def __reduce__(self) -> Any:
+        raise TypeError("a shared pile cannot be copied or pickled: its threads are those of one process")
+
+    def __repr__(self) -> str:
+        height, width = self._passes.shape
+        return f"<SharedPile: {height} by {width}>"
