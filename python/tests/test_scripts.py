@@ -59,7 +59,7 @@ class OfCheck(OfScripts):
     def test_the_checkout_stays_as_it_is(self):
         before = files_in(self.top)
         status, said, _ = self.run_in("./check")
-        self.assertEqual((status, said.splitlines()[-1]), (0, "19 passed, 0 failed"))
+        self.assertEqual((status, said.splitlines()[-1]), (0, "21 passed, 0 failed"))
         self.assertEqual(files_in(self.top), before)
         self.assertEqual(list(self.room.iterdir()), [])
 
@@ -82,13 +82,18 @@ class OfCheck(OfScripts):
     def test_anew(self):
         for words in ([], ["--anew"]):
             status, said, _ = self.run_in("./check", *words)
-            self.assertEqual((status, said.splitlines()[-1]), (0, "19 passed, 0 failed"))
+            self.assertEqual((status, said.splitlines()[-1]), (0, "21 passed, 0 failed"))
             self.assertEqual(self.noted(), [" ".join(["rt ci", *words])])
 
     def test_a_failed_part_is_the_last(self):
         stand_in(self.top / "tools/cases", "echo 'cases: 7 passed, 1 failed'; exit 1")
         status, said, _ = self.run_in("./check")
-        self.assertEqual((status, said.splitlines()[-1]), (1, "16 passed, 1 failed"))
+        self.assertEqual((status, said.splitlines()[-1]), (1, "18 passed, 1 failed"))
+
+    def test_the_refusals_are_read_from_what_the_proof_wrote(self):
+        stand_in(self.top / "tools/wrong-bodies", 'cat >> "$LOG"', "echo 'part: 2 passed, 0 failed'")
+        self.run_in("./check")
+        self.assertEqual(self.noted(), ["rt ci", "3 passed, 0 failed"])
 
     def test_a_signal_ends_it_in_good_order(self):
         stand_in(self.bin / "rt", """trap 'kill $! 2> /dev/null; echo ended >> "$LOG"; exit 1' INT TERM""", "sleep 60 & echo begun; wait")
