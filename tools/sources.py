@@ -93,6 +93,7 @@ class SourceFile:
 
     ITEM = re.compile(r"^(?:pub(?:\([^)]*\))? )?(?:struct|enum|trait|type|const|static) (\w+)(?:.*;$|[\s\S]*?^[}\])]+;?$)", re.M)
     CALL = re.compile(r'^( *)pub (?:const |extern "C" )*fn (\w+)', re.M)
+    CODING = re.compile(r"^( *(?:pub )?ghost \w+: \{.*\}) by \{.*\},$", re.M)
 
     def __init__(self, path: Path) -> None:
         self.path, self.crate, self.text = path, path.relative_to(TOP).parts[1], path.read_text(encoding="utf-8")
@@ -110,12 +111,15 @@ class SourceFile:
         return Definition(self, self.text.count("\n", 0, start), name, lines)
 
     def seen(self, item: re.Match) -> str:
-        """What contracts see of an item: of a type with a model its `Value`, and of another struct what its traits say of it."""
+        """What contracts see of an item: of a type with a model its `Value`, and of another struct what its traits say of it.
+
+        The memory that a struct owns and the coding of a ghost field are for proofs alone."""
         blocks = re.findall(rf"^(impl.* for {item[1]}\b.*)\{{\n([\s\S]*?)^\}}", self.text, re.M)
-        said = {head: re.findall(r"^    (ghost \w+ = (?:.*;|[\s\S]*?^    \};))$", block, re.M) for head, block in blocks}
+        ghosts = r"^    (ghost (?!also_owns\b)\w+ = (?:.*;|[\s\S]*?^    \};))$"
+        said = {head: re.findall(ghosts, block, re.M) for head, block in blocks}
         model = [f"{head}{{ {one} .. }}" for head, ghost in said.items() for one in ghost if one.startswith("ghost Value =")]
         other = [f"{head}{{ {' '.join(ghost)} .. }}" for head, ghost in said.items() if ghost and "struct " in item[0]]
-        return "\n".join(model or [item[0], *other])
+        return "\n".join(model or [self.CODING.sub(r"\1,", item[0]), *other])
 
     def calls(self) -> Iterator[Definition]:
         """The public functions, with their contracts. A body begins in a line of its own if there are clauses."""

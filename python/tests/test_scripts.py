@@ -213,6 +213,64 @@ class OfBuild(OfScripts):
         self.assertEqual(self.run_in("./sandpile"), (0, "by ci\n", ""))
 
 
+HANDLE = """\
+ghost use Rattle.std.specs.Prelude.{◌≡◌, Option, None};
+ghost use Rattle.low.specs.Loads.{Load, load_coded, load_owns};
+
+pub struct Handle {
+    at: *mut u8,
+    pub ghost held: { Option Load } by { load_coded },
+}
+
+impl Model for Handle {
+    ghost also_owns = { λ h. load_owns h.at h.held };
+}
+
+pub fn clear(handle: &mut Handle)
+    ensures { handle.new.held ≡ None }
+{
+}
+"""
+LOADS = """\
+use Rattle.std.specs.Prelude.{ℕ, Option}
+use Rattle.low.specs.contracts.Handle.{the_row}
+
+pub record Load : Type 0 where
+  pub grains : ℕ
+
+abbrev pub load_coded : Coded Load
+load_coded = the_row.coded
+"""
+
+
+class OfStatement(OfScripts):
+    scripts = ("tools/statement", "tools/sources.py")
+
+    def setUp(self):
+        super().setUp()
+        for name, text in {"crates.txt": "low\n", "crates/low/src/handle.rt": HANDLE, "crates/low/specs/Loads.antt": LOADS}.items():
+            (self.top / name).parent.mkdir(parents=True, exist_ok=True)
+            (self.top / name).write_text(text, encoding="utf-8")
+
+    def test_a_ghost_field_has_its_type_and_neither_coding_nor_memory(self):
+        status, said, reported = self.run_in("tools/statement", "clear")
+        self.assertEqual((status, reported), (0, ""))
+        self.assertIn("    pub ghost held: { Option Load },\n}\n", said)
+        self.assertIn("pub record Load : Type 0 where\n", said)
+        for word in ("load_coded", "load_owns", "the_row"):
+            self.assertNotIn(word, said)
+        self.assertEqual(said.splitlines()[-1], "2 definitions in 6 lines and 1 contract in 2 lines without comments, from 2 files")
+
+    def test_the_page_names_a_function_by_its_crate(self):
+        (self.top / "docs").mkdir()
+        (self.top / "tools/theorem.md").write_text("@ Handle\n\nIt empties a handle.\n\n@ low::clear\n", encoding="utf-8")
+        self.assertEqual(self.run_in("tools/statement", "--page"), (0, "", ""))
+        first, _, last = (self.top / "docs/THEOREM.md").read_text(encoding="utf-8").partition("It empties a handle.")
+        self.assertIn("pub struct Handle", first)
+        self.assertIn("pub fn clear", last)
+        self.assertEqual(self.run_in("tools/statement", "--check"), (0, "", ""))
+
+
 class OfTheGate(OfScripts):
     scripts = (".ci/run", "tools/try-examples", "python/with-numpy")
 
