@@ -30,16 +30,15 @@ drop_on_drive v site counts = has_length (sites (grid_of_one_pile v)) counts
 abbrev pub with_entries : ℕ → OneView → Result OneView Fault
 with_entries n v = if n == 0 then Ok v else (if n == sites (grid_of_one_pile v) then Ok v else Err Length)
 
--- what a handle holds, and what it may be asked for
-module _ {A : Type 0} where
-  abbrev pub held_in : Option A → Result A Fault
-  held_in None = Err Empty
-  held_in (Some v) = Ok v
+-- what a handle holds
+abbrev pub held_in : {A : Type 0} → Option A → Result A Fault
+held_in None = Err Empty
+held_in (Some v) = Ok v
 
-  -- a handle that is to be filled holds nothing
-  abbrev pub nothing_in : Option A → Result (Unit {0}) Fault
-  nothing_in None = Ok tt
-  nothing_in (Some v) = Err Taken
+-- nothing, if a handle is empty and can be filled
+abbrev pub nothing_in : {A : Type 0} → Option A → Result (Unit {0}) Fault
+nothing_in None = Ok tt
+nothing_in (Some v) = Err Taken
 
 -- the arguments, if the handle is empty
 abbrev pub opening_of : Option OneView → Result PileView Fault → Result PileView Fault

@@ -6,6 +6,7 @@ use Rattle.sand_shared.specs.OpenPile.{grid_of_terms}
 use Rattle.sand_shared.specs.Events.{zeros}
 use Rattle.sand_shared.specs.Passes.{SharedView, PassView, IsPassOf}
 
+-- a shared pile, and a pass of it
 pub record OwnedPassView : Type 0 where
   pub pile : SharedView
   pub pass : PassView
