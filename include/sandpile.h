@@ -90,6 +90,15 @@ typedef struct sandpile_avalanche {
 uint32_t sandpile_settle(size_t width, size_t height, bool cylinder, uint64_t *heights, size_t heights_length,
                          uint64_t *odometer, size_t odometer_length, uint64_t *lost, uint64_t *topplings);
 
+/* Settles several piles on grids of one shape: as many as `lost` has elements, or none. `heights` has all heights of the first
+   pile, then those of the second, and so on. `odometer` has as many elements as `heights`, and `topplings` as many as `lost`.
+   Writes for each pile what `sandpile_settle` writes. The limit is for each pile alone; if one exceeds it, none is settled.
+   During the call it takes 16 bytes for each site of each pile.
+   SIDE, NARROW, LENGTH, TOO_MANY_GRAINS, MEMORY. */
+uint32_t sandpile_settle_all(size_t width, size_t height, bool cylinder, uint64_t *heights, size_t heights_length,
+                             uint64_t *odometer, size_t odometer_length, uint64_t *lost, size_t lost_length,
+                             uint64_t *topplings, size_t topplings_length);
+
 /* Settles a pile, then drops a grain at each site of `drops` in turn; each settles before the next. Writes the final
    heights, how often each site toppled in this call (the first settling included), and an avalanche for each drop.
    SIDE, NARROW, LENGTH, TOO_MANY_GRAINS, NO_SITE, FULL, MEMORY. */

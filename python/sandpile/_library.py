@@ -23,6 +23,7 @@ _PLACE = (ctypes.c_void_p,)
 _HANDLE = _PLACE
 _TAKES: dict[str, tuple[Any, ...]] = {
     "settle": (*_SIDES, *_ARRAY, *_ARRAY, *_PLACE, *_PLACE),
+    "settle_all": (*_SIDES, *_ARRAY, *_ARRAY, *_ARRAY, *_ARRAY),
     "drop": (*_SIDES, *_ARRAY, *_ARRAY, *_ARRAY, *_ARRAY),
     "sites": (*_SIDES, ctypes.c_uint64, ctypes.c_uint64, ctypes.c_uint64, *_ARRAY),
     "burn": (*_SIDES, *_ARRAY, *_ARRAY, *_PLACE, *_PLACE),

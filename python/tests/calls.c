@@ -28,6 +28,57 @@ static void settle(void) {
     }
 }
 
+/* The pile of `settle`; one that is stable; and 0 4 0, whose middle topples. */
+static void settle_all(void) {
+    const uint64_t start[9] = {5, 0, 0, 1, 2, 3, 0, 4, 0}, once[9] = {1, 0, 0, 0, 0, 0, 0, 1, 0}, each[3] = {1, 0, 1};
+    const uint64_t settled[2][9] = {{1, 1, 0, 1, 2, 3, 1, 0, 1}, {1, 1, 1, 1, 2, 3, 1, 0, 1}};
+    const uint64_t lost[2][3] = {{3, 0, 2}, {2, 0, 2}};
+    for (int cylinder = 0; cylinder < 2; cylinder++) {
+        uint64_t heights[9], odometer[9] = {7, 7, 7, 7, 7, 7, 7, 7, 7}, sunk[3] = {7, 7, 7}, topplings[3] = {7, 7, 7};
+        memcpy(heights, start, sizeof heights);
+        assert(sandpile_settle_all(3, 1, cylinder, heights, 9, odometer, 9, sunk, 3, topplings, 3) == 0);
+        assert(ARE_EQUAL(heights, settled[cylinder]) && ARE_EQUAL(odometer, once));
+        assert(ARE_EQUAL(sunk, lost[cylinder]) && ARE_EQUAL(topplings, each));
+        assert(sandpile_settle_all(3, 1, cylinder, heights, 0, odometer, 0, sunk, 0, topplings, 0) == 0);
+        assert(ARE_EQUAL(heights, settled[cylinder]) && ARE_EQUAL(sunk, lost[cylinder]));
+    }
+}
+
+/* Each row has the faults that are checked after its own, too. The limit is for each pile, not for all together. */
+static void settle_all_faults(void) {
+    const uint64_t limit = 1099511627775;
+    const struct {
+        size_t width;
+        bool cylinder;
+        size_t heights, odometer, lost, topplings;
+        uint64_t last;
+        uint32_t fault;
+    } rows[] = {
+        {0, true, 3, 4, 2, 1, limit + 1, SANDPILE_SIDE},
+        {257, false, 3, 4, 2, 1, limit + 1, SANDPILE_SIDE},
+        {2, true, 3, 4, 2, 1, limit + 1, SANDPILE_NARROW},
+        {2, false, 4, 4, 2, 1, limit + 1, SANDPILE_LENGTH},
+        {2, false, 3, 4, 2, 2, limit + 1, SANDPILE_LENGTH},
+        {2, false, 4, 3, 2, 2, limit + 1, SANDPILE_LENGTH},
+        {2, false, 2, 2, 2, 2, limit + 1, SANDPILE_LENGTH},
+        {2, false, 4, 4, 1, 1, limit + 1, SANDPILE_LENGTH},
+        {2, false, 4, 4, 0, 0, limit + 1, SANDPILE_LENGTH},
+        {2, false, 4, 4, 2, 2, limit + 1, SANDPILE_TOO_MANY_GRAINS},
+        {2, false, 4, 4, 2, 2, UINT64_MAX, SANDPILE_TOO_MANY_GRAINS},
+        {2, false, 4, 4, 2, 2, limit, 0},
+    };
+    for (size_t i = 0; i < sizeof rows / sizeof *rows; i++) {
+        uint64_t heights[4] = {4, 0, 0, rows[i].last}, odometer[4] = {7, 7, 7, 7}, lost[2] = {7, 7}, topplings[2] = {7, 7};
+        const uint64_t start[4] = {4, 0, 0, rows[i].last}, sevens[4] = {7, 7, 7, 7}, none[2] = {7, 7};
+        uint32_t fault = sandpile_settle_all(rows[i].width, 1, rows[i].cylinder, heights, rows[i].heights, odometer,
+                                             rows[i].odometer, lost, rows[i].lost, topplings, rows[i].topplings);
+        assert(fault == rows[i].fault);
+        if (fault == 0) continue;
+        assert(ARE_EQUAL(heights, start) && ARE_EQUAL(odometer, sevens));
+        assert(ARE_EQUAL(lost, none) && ARE_EQUAL(topplings, none));
+    }
+}
+
 /* 3 by 3 of all 3. The grain in the middle topples it, then the four sides, then the corners, which have 5 by then, and then
    the middle again, which has 4. A side loses one grain, a corner two. The grain on the second site topples only this site. */
 static void drop(void) {
@@ -200,6 +251,8 @@ static void share_no_drops(void) {
 int main(void) {
     version();
     settle();
+    settle_all();
+    settle_all_faults();
     drop();
     sites();
     burn();

@@ -61,6 +61,9 @@ run = sandpile.Drive(pile)
 a = sandpile.recurrent(pile)
 try_call("settle", lambda: sandpile.settle(pile), lambda: [pile])
 try_call("high", lambda: sandpile.settle(high), lambda: [high])
+# Two piles, their odometers, the grains lost and the topplings.
+piles = [np.array([pile, pile[::-1]], "u8"), np.zeros((2, 7, 9), "u8"), np.zeros(2, "u8"), np.zeros(2, "u8")]
+try_call("settle all", lambda: _library.call("settle_all", (7, 9), False, *piles), lambda: [array.copy() for array in piles])
 # The first drop that succeeds ends the test, so the run does not change before.
 try_call("drop", lambda: run.drop_at([0, 1, 2]), lambda: [run.pile, run.odometer, run.lost, run.drops])
 run.save("run")

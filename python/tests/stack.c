@@ -29,6 +29,11 @@ static uint32_t settle(void) {
     return sandpile_settle(width, height, cylinder, heights, sites, odometer, sites, &lost, &topplings);
 }
 
+static uint32_t settle_all(void) {
+    uint64_t lost[1], topplings[1];
+    return sandpile_settle_all(width, height, cylinder, heights, sites, odometer, sites, lost, 1, topplings, 1);
+}
+
 static uint32_t drop(void) {
     return sandpile_drop(width, height, cylinder, heights, sites, odometer, sites, places, DROPS, avalanches, DROPS);
 }
@@ -128,6 +133,8 @@ static const struct { const char *name; uint32_t (*make)(void); uint64_t each; u
     {"sandpile_version", version, 0, nothing},
     {"sandpile_settle", settle, 4, nothing},
     {"sandpile_settle", settle, 16777215, nothing},
+    {"sandpile_settle_all", settle_all, 4, nothing},
+    {"sandpile_settle_all", settle_all, 16777215, nothing},
     {"sandpile_drop", drop, 3, nothing},
     {"sandpile_drop", drop, 24, nothing},
     {"sandpile_sites", draw, 0, nothing},

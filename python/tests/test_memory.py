@@ -10,8 +10,8 @@ from common import refusing_library
 from tools import needs, new_folder
 
 HERE = Path(__file__).resolve().parent
-CALLS = ["settle", "high", "drop", "load", "copy", "burn", "identity", "recurrent", "add", "inverse", "multiple", "share", "split",
-         "settle shared"]
+CALLS = ["settle", "high", "settle all", "drop", "load", "copy", "burn", "identity", "recurrent", "add", "inverse", "multiple",
+         "share", "split", "settle shared"]
 
 
 class Memory(unittest.TestCase):

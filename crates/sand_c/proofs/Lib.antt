@@ -1,6 +1,9 @@
 pub mod Answered
+pub mod Chunks
 pub mod Found
+pub mod Records
 pub mod Rows
+pub mod SettledAt
 pub mod Sites
 pub mod Unfit
 mod PartsSteps

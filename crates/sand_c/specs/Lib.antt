@@ -13,5 +13,6 @@ pub mod OwnedPasses
 pub mod PassHandles
 pub mod Passing
 pub mod Settling
+pub mod SettlingAll
 pub mod Streams
 pub mod Unfit

@@ -26,6 +26,7 @@ mod passing;
 mod recording;
 mod recurrent;
 mod settling;
+mod settling_all;
 mod sharing;
 mod streams;
 mod version;
@@ -51,6 +52,7 @@ pub use passing::{
 };
 pub use recording::sandpile_pass_settle;
 pub use settling::sandpile_settle;
+pub use settling_all::sandpile_settle_all;
 pub use sharing::{sandpile_pass_split, sandpile_pass_split_rows, sandpile_shared_new};
 pub use streams::sandpile_sites;
 pub use version::sandpile_version;

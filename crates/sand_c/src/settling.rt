@@ -1,13 +1,28 @@
 //! Settling a pile.
 
-ghost use Rattle.std.specs.Prelude.{◌≡◌, ◌≢◌, length, OnOk, OnErr, IfOk, IfErr, IsOk};
-ghost use Rattle.sand_c.specs.Arguments.{Fails, Answers};
+ghost use Rattle.std.specs.Prelude.{◌≡◌, ◌≢◌, length, slice_index, Ok, OnOk, OnErr, IfOk, IfErr, IsOk};
+ghost use Rattle.sand_settle.specs.Settling.{IsRecord};
+ghost use Rattle.sand_c.specs.Arguments.{pile_on, Fails, Answers};
 ghost use Rattle.sand_c.specs.Settling.{settling_of, IsSettling};
 
 use crate::arguments::{grid_of, pile_on};
 use crate::faults::{Fault, answer};
+use sand_model::Shape;
 use sand_settle::{Settled, settle};
 use std::alloc::Global;
+
+/// The pile with these heights, settled.
+pub(crate) fn settle_on(alloc: Global, shape: Shape, heights: &[u64]) -> Result<Settled, Fault>
+    ensures record { IfOk result (λ r. IsRecord shape (slice_index heights.now) r) }
+    ensures made { OnOk result (pile_on shape heights.now ≡ Ok (record { grid = shape; heights = heights.now })) }
+    ensures fault { IfErr result (λ e. Fails e (pile_on shape heights.now)) }
+{
+    let pile = pile_on(alloc, shape, heights)?;
+    let settled = settle(alloc, &pile);
+    // Freed here, so that no way out below has to.
+    drop(pile);
+    Ok(settled?)
+}
 
 // The pile in the arguments, settled.
 fn settled_on(
@@ -28,11 +43,7 @@ fn settled_on(
     if odometer.len() != shape.sites() {
         return Err(Fault::Length);
     }
-    let pile = pile_on(alloc, shape, heights)?;
-    let settled = settle(alloc, &pile);
-    // Freed here, so that no way out below has to.
-    drop(pile);
-    Ok(settled?)
+    settle_on(alloc, shape, heights)
 }
 
 fn settle_into(

@@ -1,12 +1,5 @@
 use Rattle.std.proofs.Common.{rules}
 use Rattle.sand_c.proofs.settling.settled_on.Goals as goal
 
-pub returns-clause-settled : goal.returns-clause-settled
-returns-clause-settled c = record {
-  start = c.in_ok-pile.pile;
-  meant = search rules;
-  settled = search rules;
-}
-
 pub returns-then-odometer-sites-clause-fault : goal.returns-then-odometer-sites-clause-fault
 returns-then-odometer-sites-clause-fault c = search rules

@@ -1,0 +1,48 @@
+-- What `sandpile_settle_all` does.
+use Rattle.std.specs.Prelude.{ℕ, zero, suc, ◌≡◌, ◌*◌, ◌<◌, ◌&&◌, Bool, true, nat_le, if◌then◌else◌, List, length, sum, slice_index, Result, Ok, Err}
+use Rattle.std.specs.Fork.{slice_chunk}
+use Rattle.sand_model.specs.Grid.{Grid, sites}
+use Rattle.sand_model.specs.Piles.{most_grains}
+use Rattle.sand_settle.specs.Settling.{IsRecord}
+use Rattle.sand_c.specs.declared.faults.Fault.{Fault}
+use Rattle.sand_c.specs.declared.faults.Fault.TheVariants.{TooManyGrains}
+use Rattle.sand_c.specs.declared.settling_all.SettledPiles.{SettledPiles}
+use Rattle.sand_c.specs.Arguments.{grid_of, has_length, ◌>>=◌}
+use Rattle.sand_c.specs.Settling.{settling_of, IsSettling}
+
+-- whether each of the first k piles of n sites is within the limit
+abbrev pub are_within : ℕ → List ℕ → ℕ → Bool
+are_within n heights zero = true
+are_within n heights (suc k) = are_within n heights k && nat_le (sum (slice_chunk heights n k)) most_grains
+
+-- the grid, if each of the first k piles on it is within the limit
+abbrev pub within_on : Grid → List ℕ → ℕ → Result Grid Fault
+within_on g heights k = if are_within (sites g) heights k then Ok g else Err TooManyGrains
+
+-- the grid, if there is a pile on it for each place of `lost`, with places for its odometer and its topplings, and each pile
+-- is within the limit
+abbrev pub settling_all_of : ℕ → ℕ → Bool → List ℕ → List ℕ → List ℕ → List ℕ → Result Grid Fault
+settling_all_of width height cylinder heights odometer lost topplings =
+    grid_of width height cylinder >>= λ g. has_length (length lost) (length topplings)
+    >>= λ _. has_length (length lost * sites g) (length heights)
+    >>= λ _. has_length (length lost * sites g) (length odometer) >>= λ _. within_on g heights (length lost)
+
+-- what is written for the j-th pile is what `sandpile_settle` writes for it
+abbrev pub IsSettlingAt : ℕ → ℕ → ℕ → Bool → List ℕ → List ℕ → List ℕ → List ℕ → List ℕ → List ℕ → Type 0
+IsSettlingAt j width height cylinder heights places after odometer lost topplings =
+    let n = width * height in
+    IsSettling (settling_of width height cylinder (slice_chunk heights n j) (slice_chunk places n j))
+    (slice_chunk after n j) (slice_chunk odometer n j) (slice_index lost j) (slice_index topplings j)
+
+-- these are the settled records of the first k piles on a grid
+pub record AreRecords (g : Grid) (heights : List ℕ) (k : ℕ) (settled : SettledPiles) : Type 0 where
+  pub heights_each : length settled.heights.items ≡ k * sites g
+  pub odometer_each : length settled.odometer.items ≡ k * sites g
+  pub lost_each : length settled.lost.items ≡ k
+  pub topplings_each : length settled.topplings.items ≡ k
+  pub records : (j : ℕ) → j < k → IsRecord g (slice_index (slice_chunk heights (sites g) j)) (record {
+    pile = record { grid = g; heights = slice_chunk settled.heights.items (sites g) j };
+    odometer = slice_chunk settled.odometer.items (sites g) j;
+    topplings = slice_index settled.topplings.items j;
+    lost = slice_index settled.lost.items j;
+  })

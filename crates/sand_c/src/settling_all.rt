@@ -1,0 +1,210 @@
+//! Settling piles of one shape in one call.
+//!
+//! Each argument has one pile after another. Nothing is written before the last pile has settled, so a failed allocation
+//! changes nothing.
+
+ghost use Rattle.std.specs.Prelude.{◌≡◌, ◌≢◌, ◌+◌, ◌*◌, ◌<◌, ◌≤◌, ℕ, true, length, sum, Ok, Err, OnOk, OnErr, IfOk, IfErr, IsOk, IsOkUnless};
+ghost use Rattle.std.specs.Fork.{slice_chunk};
+ghost use Rattle.sand_model.specs.Grid.{sites};
+ghost use Rattle.sand_model.specs.Piles.{PileView, height_of, most_grains};
+ghost use Rattle.sand_settle.specs.Settling.{IsRecord};
+ghost use Rattle.sand_c.specs.Arguments.{grid_of, Fails, Answers};
+ghost use Rattle.sand_c.specs.SettlingAll.{are_within, settling_all_of, IsSettlingAt, AreRecords};
+
+use crate::arguments::{grains_of, grid_of};
+use crate::faults::{Fault, answer};
+use crate::settling::settle_on;
+use sand_model::Shape;
+use sand_settle::Settled;
+use std::alloc::Global;
+
+// What piles of one shape settle to, one after another.
+#[derive(Drop)]
+struct SettledPiles {
+    heights: Vec<u64>,
+    odometer: Vec<u64>,
+    lost: Vec<u64>,
+    topplings: Vec<u64>,
+}
+
+impl SettledPiles {
+    ghost use Rattle.std.specs.Prelude.{[], ◌∷◌, ◌++◌, vec_len, vec_capacity};
+
+    // No pile yet, with room for `count` of them, which have `sites` sites in all.
+    fn with_room(alloc: Global, count: usize, sites: usize) -> Result<SettledPiles, Fault>
+        ensures heights { IfOk result (λ r. r.heights.items ≡ []) }
+        ensures odometer { IfOk result (λ r. r.odometer.items ≡ []) }
+        ensures lost { IfOk result (λ r. r.lost.items ≡ []) }
+        ensures topplings { IfOk result (λ r. r.topplings.items ≡ []) }
+        ensures room { IfOk result (λ r. (vec_capacity r.lost ≡ count) × (vec_capacity r.topplings ≡ count)) }
+        ensures memory { IsOkUnless result Fault.Memory }
+    {
+        let heights = Vec::with_capacity(alloc, sites)?;
+        let odometer = Vec::with_capacity(alloc, sites)?;
+        let lost = Vec::with_capacity(alloc, count)?;
+        let topplings = Vec::with_capacity(alloc, count)?;
+        Ok(SettledPiles {
+            heights,
+            odometer,
+            lost,
+            topplings,
+        })
+    }
+
+    fn push(&mut self, settled: &Settled) -> Result<(), Fault>
+        requires lost { vec_len self.old.lost < vec_capacity self.old.lost }
+        requires topplings { vec_len self.old.topplings < vec_capacity self.old.topplings }
+        ensures heights { OnOk result (self.new.heights.items ≡ self.old.heights.items ++ settled.now.pile.heights) }
+        ensures odometer { OnOk result (self.new.odometer.items ≡ self.old.odometer.items ++ settled.now.odometer) }
+        ensures lost { OnOk result (self.new.lost.items ≡ self.old.lost.items ++ settled.now.lost ∷ []) }
+        ensures topplings { OnOk result (self.new.topplings.items ≡ self.old.topplings.items ++ settled.now.topplings ∷ []) }
+        ensures counted { OnOk result ((vec_len self.new.lost ≡ vec_len self.old.lost + 1)
+            × (vec_len self.new.topplings ≡ vec_len self.old.topplings + 1)) }
+        ensures room { OnOk result ((vec_capacity self.new.lost ≡ vec_capacity self.old.lost)
+            × (vec_capacity self.new.topplings ≡ vec_capacity self.old.topplings)) }
+        ensures memory { IsOkUnless result Fault.Memory }
+    {
+        self.heights.extend_from_slice(settled.pile().heights())?;
+        self.odometer.extend_from_slice(settled.odometers())?;
+        self.lost.push_reserved(settled.lost());
+        self.topplings.push_reserved(settled.topplings());
+        Ok(())
+    }
+}
+
+// The heights of one of several piles, counted from 0.
+fn heights_at(heights: &[u64], sites: usize, pile: usize) -> &[u64]
+    requires { (pile + 1) * sites ≤ length heights.now }
+    ensures value { result.now ≡ slice_chunk heights.now sites pile }
+    ensures one_each { length result.now ≡ sites }
+{
+    heights.split_at(pile * sites).1.split_at(sites).0
+}
+
+// Whether each pile is within the limit.
+fn are_within(heights: &[u64], sites: usize, count: usize) -> bool
+    requires { length heights.now ≡ count * sites }
+    ensures { result ≡ are_within sites heights.now count }
+{
+    for pile in 0..count {
+        if grains_of(heights_at(heights, sites, pile)).is_none() {
+            return false;
+        }
+    }
+    true
+}
+
+// The grid in the arguments, if all slices have the length for as many piles as `lost` has places, and each pile is within
+// the limit.
+fn grid_for_all(
+    width: usize,
+    height: usize,
+    cylinder: bool,
+    heights: &[u64],
+    odometer: &[u64],
+    lost: &[u64],
+    topplings: &[u64],
+) -> Result<Shape, Fault>
+    ensures meant { IfOk result
+        (λ g. settling_all_of width height cylinder heights.now odometer.now lost.now topplings.now ≡ Ok g) }
+    ensures grid { IfOk result (λ g. grid_of width height cylinder ≡ Ok g) }
+    ensures within { IfOk result (λ g. are_within (sites g) heights.now (length lost.now) ≡ true) }
+    ensures heights { IfOk result (λ g. length heights.now ≡ length lost.now * sites g) }
+    ensures odometer { IfOk result (λ g. length odometer.now ≡ length lost.now * sites g) }
+    ensures topplings { OnOk result (length topplings.now ≡ length lost.now) }
+    ensures fault { IfErr result
+        (λ e. Fails e (settling_all_of width height cylinder heights.now odometer.now lost.now topplings.now)) }
+{
+    let shape = grid_of(width, height, cylinder)?;
+    if topplings.len() != lost.len() {
+        return Err(Fault::Length);
+    }
+    let all = lost.len().checked_mul(shape.sites());
+    if all != Some(heights.len()) || all != Some(odometer.len()) {
+        return Err(Fault::Length);
+    }
+    if !are_within(heights, shape.sites(), lost.len()) {
+        return Err(Fault::TooManyGrains);
+    }
+    Ok(shape)
+}
+
+fn settle_each(
+    alloc: Global,
+    shape: Shape,
+    heights: &[u64],
+    count: usize,
+) -> Result<SettledPiles, Fault>
+    requires { length heights.now ≡ count * sites shape }
+    ensures records { IfOk result (AreRecords shape heights.now count) }
+    ensures memory { IsOkUnless result Fault.Memory }
+{
+    let mut all = SettledPiles::with_room(alloc, count, heights.len())?;
+    for next in 0..count {
+        let Ok(settled) = settle_on(alloc, shape, heights_at(heights, shape.sites(), next)) else {
+            // The lengths and the limit have been checked.
+            return Err(Fault::Memory);
+        };
+        all.push(&settled)?;
+    }
+    Ok(all)
+}
+
+fn settle_all_into(
+    alloc: Global,
+    width: usize,
+    height: usize,
+    cylinder: bool,
+    heights: &mut [u64],
+    odometer: &mut [u64],
+    lost: &mut [u64],
+    topplings: &mut [u64],
+) -> Result<(), Fault>
+    ensures settled { OnOk result ((j : ℕ) → j < length lost.old → IsSettlingAt j width height cylinder
+        heights.old odometer.old heights.new odometer.new lost.new topplings.new) }
+    ensures meant { OnOk result
+        (IsOk (settling_all_of width height cylinder heights.old odometer.old lost.old topplings.old)) }
+    ensures fault { IfErr result
+        (λ e. Fails e (settling_all_of width height cylinder heights.old odometer.old lost.old topplings.old)) }
+    ensures heights { OnErr result (heights.new ≡ heights.old) }
+    ensures odometer { OnErr result (odometer.new ≡ odometer.old) }
+    ensures lost { OnErr result (lost.new ≡ lost.old) }
+    ensures topplings { OnErr result (topplings.new ≡ topplings.old) }
+{
+    let shape = grid_for_all(width, height, cylinder, heights, odometer, lost, topplings)?;
+    let all = settle_each(alloc, shape, heights, lost.len())?;
+    heights.copy_from_slice(&all.heights);
+    odometer.copy_from_slice(&all.odometer);
+    lost.copy_from_slice(&all.lost);
+    topplings.copy_from_slice(&all.topplings);
+    Ok(())
+}
+
+/// Settles piles of one shape, as many as `lost` has places. The heights of the first pile come first, then those of the
+/// next. Writes for each pile what `sandpile_settle` does. Returns 0, or the first of 1 (Side), 24 (Narrow), 2 (Length of a
+/// slice) and 3 (TooManyGrains on a pile), or 4 (Memory).
+#[tactic(auto, using(crate::proofs::Answered::answered))]
+#[unsafe(no_mangle)]
+pub extern "C" fn sandpile_settle_all(
+    alloc: Global,
+    width: usize,
+    height: usize,
+    cylinder: bool,
+    heights: &mut [u64],
+    odometer: &mut [u64],
+    lost: &mut [u64],
+    topplings: &mut [u64],
+) -> u32
+    ensures settled { result ≡ 0 → (j : ℕ) → j < length lost.old → IsSettlingAt j width height cylinder
+        heights.old odometer.old heights.new odometer.new lost.new topplings.new }
+    ensures answer { Answers result
+        (settling_all_of width height cylinder heights.old odometer.old lost.old topplings.old) }
+    ensures heights { result ≢ 0 → heights.new ≡ heights.old }
+    ensures odometer { result ≢ 0 → odometer.new ≡ odometer.old }
+    ensures lost { result ≢ 0 → lost.new ≡ lost.old }
+    ensures topplings { result ≢ 0 → topplings.new ≡ topplings.old }
+{
+    answer(settle_all_into(
+        alloc, width, height, cylinder, heights, odometer, lost, topplings,
+    ))
+}
