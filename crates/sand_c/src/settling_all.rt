@@ -3,11 +3,9 @@
 //! Each argument has one pile after another. Nothing is written before the last pile has settled, so a failed allocation
 //! changes nothing.
 
-ghost use Rattle.std.specs.Prelude.{◌≡◌, ◌≢◌, ◌+◌, ◌*◌, ◌<◌, ◌≤◌, ℕ, true, length, sum, Ok, Err, OnOk, OnErr, IfOk, IfErr, IsOk, IsOkUnless};
+ghost use Rattle.std.specs.Prelude.{◌≡◌, ◌≢◌, ◌+◌, ◌*◌, ◌<◌, ◌≤◌, ℕ, true, length, Ok, OnOk, OnErr, IfOk, IfErr, IsOk, IsOkUnless};
 ghost use Rattle.std.specs.Fork.{slice_chunk};
 ghost use Rattle.sand_model.specs.Grid.{sites};
-ghost use Rattle.sand_model.specs.Piles.{PileView, height_of, most_grains};
-ghost use Rattle.sand_settle.specs.Settling.{IsRecord};
 ghost use Rattle.sand_c.specs.Arguments.{grid_of, Fails, Answers};
 ghost use Rattle.sand_c.specs.SettlingAll.{are_within, settling_all_of, IsSettlingAt, AreRecords};
 
