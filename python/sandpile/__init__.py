@@ -4,8 +4,8 @@ The results are proved: libsandpile, which computes them, is written in Rattle (
 exports has a contract, from the settled pile with the least odometer to the sandpile group. This module
 checks the arguments and passes them on; it is tested, not proved.
 
-A pile is an array of shape (height, width) and any integer type; sides are from 1 to 256. Returned piles and odometers
-are new arrays of type uint64. No call changes its arguments. ``cylinder=True`` makes the first and the last column
+A pile is an array of shape (height, width) and any integer type; sides are from 1 to 256. Returned arrays are new, and of
+type int64, as are all fields of tables. No call changes its arguments. ``cylinder=True`` makes the first and the last column
 neighbours. Invalid input raises a `Fault` or a `TypeError`, and then nothing has changed. Calls release the global
 interpreter lock, so threads run in parallel.
 

@@ -10,7 +10,8 @@ from numpy.typing import ArrayLike, NDArray
 
 from .faults import Fault
 
-Heights = NDArray[np.uint64]
+# The library reads and writes the same 8 bytes without a sign. All that it returns is below 2**54.
+Heights = NDArray[np.int64]
 
 _MOST_SIDE = 256
 
@@ -26,7 +27,8 @@ def _integers(values: ArrayLike, what: str) -> NDArray[Any]:
 
 
 def heights_of(pile: ArrayLike) -> Heights:
-    """A new contiguous array of the heights, checked to be a two-dimensional array of non-negative integers."""
+    """A new contiguous array of the heights, checked to be a two-dimensional array of non-negative integers. A height of 2**63
+    or more is negative here, but not in the library."""
     array = _integers(pile, "heights")
     if array.ndim != 2:
         raise TypeError(f"a pile must have shape (height, width), but this array has {array.ndim} dimensions")
@@ -34,7 +36,7 @@ def heights_of(pile: ArrayLike) -> Heights:
     if array.dtype.kind == "i" and array.min() < 0:
         row, column = np.argwhere(array < 0)[0]
         raise TypeError(f"heights must be 0 or more, but the one in row {row}, column {column} is {array[row, column]}")
-    return np.array(array, dtype=np.uint64, order="C")
+    return np.array(array, dtype=np.int64, order="C")
 
 
 def check_sides(shape: tuple[int, ...]) -> None:
@@ -53,7 +55,7 @@ def shape_of(shape: tuple[int, int]) -> tuple[int, int]:
     return height, width
 
 
-def sites_of(sites: ArrayLike, count: int) -> NDArray[np.uintp]:
+def sites_of(sites: ArrayLike, count: int) -> NDArray[np.int64]:
     """A new contiguous array of site numbers, each below `count`."""
     array = _integers(sites, "sites")
     if array.ndim > 1:
@@ -64,7 +66,7 @@ def sites_of(sites: ArrayLike, count: int) -> NDArray[np.uintp]:
     if array.size and not (array.min() >= 0 and array.max() < count):
         at = np.flatnonzero((array < 0) | (array >= count))[0]
         raise Fault(25, f"drop {at} is at site {array[at]}, but the grid has only sites 0 to {count - 1}")
-    return np.array(array, dtype=np.uintp, order="C")
+    return np.array(array, dtype=np.int64, order="C")
 
 
 def site_of(site: int, count: int) -> int:

@@ -20,6 +20,7 @@ from .settling import settle
 # A save is shorter, and so is each array in it.
 _MOST_BYTES = 1 << 21
 _MEMORY = 4
+_UNSIGNED = ("seed", "stream")
 # NumPy gives them no types.
 _read_magic: Any = _format.read_magic
 _read_header: Any = _format.read_array_header_1_0
@@ -55,10 +56,14 @@ def write(path: str | os.PathLike[str], saved: Saved) -> None:
     beside = path.with_name(f"{path.name}.{os.urandom(8).hex()}.part")
     try:
         with open(beside, "xb") as file:
-            np.savez_compressed(file, **{name: np.asarray(value, np.uint64) for name, value in vars(saved).items()})
+            np.savez_compressed(file, **{name: np.asarray(value, _type_of(name)) for name, value in vars(saved).items()})
         os.replace(beside, path)
     finally:
         beside.unlink(missing_ok=True)
+
+
+def _type_of(name: str) -> Any:
+    return np.uint64 if name in _UNSIGNED else np.int64
 
 
 def read(path: str | os.PathLike[str]) -> Saved:

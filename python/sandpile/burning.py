@@ -8,7 +8,7 @@ from dataclasses import dataclass
 import numpy as np
 from numpy.typing import ArrayLike, NDArray
 
-from ._arrays import heights_of
+from ._arrays import Heights, heights_of
 from ._library import call
 
 
@@ -21,7 +21,7 @@ class Burned:
     is_recurrent : bool
         Whether all sites burn, that is, whether the pile is recurrent.
     order : numpy.ndarray
-        Site numbers, ``row * width + column``, in an order in which all sites burn; shape (sites,), intp. Empty if the
+        Site numbers, ``row * width + column``, in an order in which all sites burn; shape (sites,), int64. Empty if the
         pile is not recurrent.
     forbidden : numpy.ndarray
         Which sites are in the greatest forbidden set; shape (height, width), bool. All False if the pile is
@@ -29,7 +29,7 @@ class Burned:
     """
 
     is_recurrent: bool
-    order: NDArray[np.intp]
+    order: NDArray[np.int64]
     forbidden: NDArray[np.bool_]
 
 
@@ -58,13 +58,17 @@ def burn(pile: ArrayLike, cylinder: bool = False) -> Burned:
     >>> sandpile.burn([[0, 0, 3]]).forbidden
     array([[ True,  True, False]])
     """
-    heights = heights_of(pile)
-    found = np.zeros(heights.size, np.uintp)
+    return burned(heights_of(pile), cylinder)
+
+
+def burned(heights: Heights, cylinder: bool) -> Burned:
+    """What `burn` returns, for heights that are checked."""
+    found = np.zeros(heights.size, np.int64)
     count, recurrent = ctypes.c_size_t(), ctypes.c_bool()
     call("burn", heights.shape, cylinder, heights, found, ctypes.byref(count), ctypes.byref(recurrent))
-    sites = found[: count.value].astype(np.intp)
+    sites = found[: count.value]
     forbidden = np.zeros(heights.shape, bool)
     if recurrent.value:
         return Burned(True, sites, forbidden)
     forbidden.flat[sites] = True
-    return Burned(False, sites[:0], forbidden)
+    return Burned(False, np.empty(0, np.int64), forbidden)

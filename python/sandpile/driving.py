@@ -23,20 +23,21 @@ _MOST_GRAINS = 1_099_511_627_775
 _MOST_IN_BLOCK, _WORK_IN_BLOCK = 8192, 1 << 27
 # For fewer drops, more random sites are drawn than are wanted, and memory is kept from one call to the next.
 _FEW = 256
+# So few rows of a table are filled faster one by one.
+_ROW_BY_ROW = 4
 
-_FOUND = [("size", "u8"), ("area", "u4"), ("reach", "u4"), ("lost", "u8")]
-# The struct of include/sandpile.h. A row below is its number, and this.
-_AVALANCHE = np.dtype([("site", np.uintp), *_FOUND])
-_WORDS, _SITE = _AVALANCHE.itemsize // 8, _AVALANCHE["site"].itemsize
+# The struct of include/sandpile.h.
+_AVALANCHE = np.dtype([("site", np.uintp), ("size", "u8"), ("area", "u4"), ("reach", "u4"), ("lost", "u8")])
+_SITE = _AVALANCHE["site"].itemsize
 
 #: The type of the rows that `Drive.drop` returns, one for each drop.
-AVALANCHE = np.dtype([("number", "u8"), ("site", np.intp), *_FOUND])
+AVALANCHE = np.dtype([(name, "i8") for name in ("number", *(_AVALANCHE.names or ()))])
 
 # No site has this number. The library has made a block of drops once it has written another one over it.
 _NO_SITE = 2**64 - 1
 _NO_ROWS = np.empty(0, AVALANCHE)
-_NO_HEIGHTS = np.empty((0, 0), np.uint64)
-_COUNT = np.arange(_MOST_IN_BLOCK, dtype=np.uint64)
+_NO_HEIGHTS = np.empty((0, 0), np.int64)
+_COUNT = np.arange(_MOST_IN_BLOCK, dtype=np.int64)
 
 # What a copy of a run does not take over.
 _OF_THIS_PROCESS = {"_handle", "_ahead", "_found", "_block"}
@@ -58,9 +59,9 @@ class _State(NamedTuple):
     table: NDArray[np.void]  # of the last call
 
 
-# Drops that the library makes: where it writes their avalanches, where these belong in the table, and the state once they
-# are made.
-_Block = Tuple[_Room, NDArray[np.uint64], _State]
+# Drops that the library makes: where it writes their avalanches, the row of the table where these begin, and the state once
+# they are made.
+_Block = Tuple[_Room, int, _State]
 # A call of the library: the export, and what it is given after the handle.
 _Call = Tuple[Any, ...]
 # The call that makes the drops from one up to another, and writes their avalanches at an address.
@@ -134,16 +135,16 @@ class Drive:
         self._handle, self._shape = DriveHandle(given, self._cylinder), given.shape
         self._sites = given.size
         self._most = min(_MOST_IN_BLOCK, _WORK_IN_BLOCK // given.size)  # drops in a block
-        self._ahead = (0, _Room(np.empty(0, np.uintp)))  # a place in the stream, and the sites from there on
-        self._found = _Room(np.empty((_FEW, _WORDS), np.uint64))
+        self._ahead = (0, _Room(np.empty(0, np.int64)))  # a place in the stream, and the sites from there on
+        self._found = _Room(np.empty(_FEW, _AVALANCHE))
         self._block: Optional[_Block] = None  # the last one, unless it is known to be made
 
     def _now(self) -> _State:
         """The state, in which a block counts that was made just before Ctrl-C came. Only under `use` of the handle."""
         if self._block is not None:
-            found, rows, after = self._block
+            found, begin, after = self._block
             if found.first.value != _NO_SITE:
-                rows[:, 1:] = found.array[: len(rows)]
+                _fill(after, begin, found.array)
                 self._state = after
                 self._block = None
         return self._state
@@ -160,16 +161,16 @@ class Drive:
 
     @property
     def pile(self) -> Heights:
-        """The current heights, each from 0 to 3; a new array of shape (height, width), uint64."""
-        pile = np.empty(self._shape, np.uint64)
+        """The current heights, each from 0 to 3; a new array of shape (height, width), int64."""
+        pile = np.empty(self._shape, np.int64)
         self._read(pile=pile)
         return pile
 
     @property
     def odometer(self) -> Heights:
         """How often each site has toppled, the settling of the start included; a new array of shape (height, width),
-        uint64."""
-        odometer = np.empty(self._shape, np.uint64)
+        int64."""
+        odometer = np.empty(self._shape, np.int64)
         self._read(odometer=odometer)
         return odometer
 
@@ -243,7 +244,7 @@ class Drive:
         --------
         >>> import sandpile
         >>> sandpile.Drive([[3]]).drop(5)["size"]
-        array([1, 0, 0, 0, 1], dtype=uint64)
+        array([1, 0, 0, 0, 1])
         """
 
         def asked() -> _Wanted:
@@ -278,7 +279,7 @@ class Drive:
         --------
         >>> import sandpile
         >>> sandpile.Drive([[0, 3, 0]]).drop_at([1, 1])["size"]
-        array([1, 0], dtype=uint64)
+        array([1, 0])
         """
 
         def asked() -> _Wanted:
@@ -300,7 +301,7 @@ class Drive:
         row : numpy.void
             The row of the avalanche in `table`, as from `drop`.
         topplings : numpy.ndarray
-            How often each site toppled in it; shape (height, width), uint64. The sum is the size.
+            How often each site toppled in it; shape (height, width), int64. The sum is the size.
 
         Raises
         ------
@@ -316,9 +317,9 @@ class Drive:
         >>> import sandpile
         >>> row, topplings = sandpile.Drive([[3, 3, 1]]).avalanche(0)
         >>> row["size"], row["reach"], topplings
-        (2, 1, array([[1, 1, 0]], dtype=uint64))
+        (2, 1, array([[1, 1, 0]]))
         """
-        topplings = np.empty(self._shape, np.uint64)
+        topplings = np.empty(self._shape, np.int64)
 
         def asked() -> _Wanted:
             at = site_of(site, self._sites)
@@ -368,26 +369,21 @@ class Drive:
         """The address of the next `n` sites of the stream, after those used so far."""
         (first, room), drawn = self._ahead, self._state.drawn
         if not first <= drawn <= drawn + n <= first + room.array.size:
-            first, room = drawn, _Room(np.empty(max(n, _FEW), np.uintp))
+            first, room = drawn, _Room(np.empty(max(n, _FEW), np.int64))
             call("sites", self._shape, self._cylinder, self._seed, self._stream, first, room.array)
             self._ahead = first, room
         return room.at + (drawn - first) * _SITE
 
     def _room(self, n: int) -> _Room:
         """Where the library writes the avalanches of `n` drops."""
-        room = self._found if n <= _FEW else _Room(np.empty((n, _WORDS), np.uint64))
+        room = self._found if n <= _FEW else _Room(np.empty(n, _AVALANCHE))
         room.first.value = _NO_SITE
         return room
 
     def _made(self, found: _Room, table: NDArray[np.void], begin: int, end: int, draws: bool) -> _Block:
         """What a block of drops will have changed."""
         was, n = self._state, end - begin
-        rows: NDArray[np.uint64] = np.ndarray((n, 1 + _WORDS), np.uint64, table, begin * table.itemsize)
-        if n == 1:  # which is faster so
-            rows[0, 0] = was.drops
-        else:
-            rows[:, 0] = _COUNT[:n] + np.uint64(was.drops)
-        return found, rows, _State(was.drops + n, was.drawn + n if draws else was.drawn, table[:end])
+        return found, begin, _State(was.drops + n, was.drawn + n if draws else was.drawn, table[:end])
 
     def __getstate__(self) -> dict[str, Any]:
         """All but the handle, locks and rooms for the library: a copy has its own. Its handle is made of the grains that were
@@ -403,7 +399,7 @@ class Drive:
 
     def _saved(self) -> tuple[_saves.Saved, _State]:
         """What a file keeps of the run, and the state at that time."""
-        pile, odometer = np.empty(self._shape, np.uint64), np.empty(self._shape, np.uint64)
+        pile, odometer = np.empty(self._shape, np.int64), np.empty(self._shape, np.int64)
         _, lost, state = self._read(pile, odometer)
         numbers = (self._seed, self._stream, self._cylinder, self._start_grains, lost, state.drops, state.drawn)
         return _saves.Saved(pile, odometer, *numbers), state
@@ -472,6 +468,24 @@ class Drive:
         height, width = self._shape
         edge = ", cylinder" if self._cylinder else ""
         return f"<Drive: {height} by {width}{edge}, seed {self._seed}, stream {self._stream}, {self.drops} drops>"
+
+
+def _fill(state: _State, begin: int, found: NDArray[np.void]) -> None:
+    """Fills the table of a state from a row on with the avalanches that the library has found."""
+    table = state.table
+    n = len(table) - begin
+    first = state.drops - n
+    if n > _ROW_BY_ROW:
+        _fill_columns(table[begin:], first, found[:n])
+        return
+    for at in range(n):
+        table[begin + at] = (first + at, *found.item(at))
+
+
+def _fill_columns(rows: NDArray[np.void], first: int, found: NDArray[np.void]) -> None:
+    rows["number"] = _COUNT[: len(rows)] + first
+    for name in found.dtype.names or ():
+        rows[name] = found[name]
 
 
 def _new_table(n: int) -> NDArray[np.void]:

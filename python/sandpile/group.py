@@ -10,7 +10,7 @@ from numpy.typing import ArrayLike
 
 from ._arrays import Heights, heights_of, shape_of
 from ._library import call
-from .burning import burn
+from .burning import burned
 from .faults import Fault
 
 # A pile has fewer grains than 2 to this.
@@ -57,7 +57,7 @@ class Recurrent:
 
     def __init__(self, pile: ArrayLike, cylinder: bool = False) -> None:
         heights = heights_of(pile)
-        if not burn(heights, cylinder).is_recurrent:
+        if not burned(heights, cylinder).is_recurrent:
             raise Fault(8)
         self._keep(heights, cylinder)
 
@@ -74,7 +74,7 @@ class Recurrent:
 
     @property
     def pile(self) -> Heights:
-        """The heights, from 0 to 3; shape (height, width), uint64, read-only."""
+        """The heights, from 0 to 3; shape (height, width), int64, read-only."""
         return self._pile
 
     @property
@@ -191,9 +191,9 @@ def identity(shape: tuple[int, int], cylinder: bool = False) -> Recurrent:
     >>> import sandpile
     >>> sandpile.identity((2, 3)).pile
     array([[2, 1, 2],
-           [2, 1, 2]], dtype=uint64)
+           [2, 1, 2]])
     """
-    heights = np.zeros(shape_of(shape), np.uint64)
+    heights = np.zeros(shape_of(shape), np.int64)
     call("identity", heights.shape, cylinder, heights)
     return Recurrent._known(heights, cylinder)
 

@@ -25,7 +25,7 @@ _OUTPUT = re.compile(
 )
 
 #: The type of the rows of `Run.epochs`, one for each epoch.
-EPOCH = np.dtype([("epoch", "u8"), ("drops", "u8"), ("topplings", "u8"), ("lost", "u8"), ("grains", "u8")])
+EPOCH = np.dtype([(name, "i8") for name in ("epoch", "drops", "topplings", "lost", "grains")])
 
 
 @dataclass(frozen=True)
@@ -38,9 +38,9 @@ class Run:
         A structured array with a row for each epoch: its number `epoch` from 0, its `drops`, its `topplings`, the
         grains `lost` in it, and the `grains` of the pile at its end.
     pile : numpy.ndarray
-        The settled heights at the end; shape (height, width), uint64.
+        The settled heights at the end; shape (height, width), int64.
     odometer : numpy.ndarray
-        How often each site toppled in all epochs; shape (height, width), uint64.
+        How often each site toppled in all epochs; shape (height, width), int64.
     """
 
     epochs: NDArray[np.void]
@@ -58,7 +58,7 @@ def _program() -> str:
 
 def _text_of(heights: Heights, cylinder: bool) -> str:
     height, width = heights.shape
-    rows = (" ".join(map(str, row)) for row in heights.tolist())
+    rows = (" ".join(map(str, row)) for row in heights.view(np.uint64).tolist())
     return "\n".join([f"{width} {height}{' c' if cylinder else ''}", *rows, ""])
 
 
@@ -90,7 +90,7 @@ def _run_of(text: str, shape: tuple[int, ...]) -> Run | None:
     found = _OUTPUT.fullmatch(text)
     if not found:
         return None
-    epochs, pile, odometer = (np.array(part.split(), np.uint64) for part in found.groups())
+    epochs, pile, odometer = (np.array(part.split(), np.int64) for part in found.groups())
     if not pile.size == odometer.size == shape[0] * shape[1]:
         return None
     return Run(epochs.view(EPOCH), pile.reshape(shape), odometer.reshape(shape))
@@ -149,7 +149,7 @@ def lab(
     >>> import sandpile
     >>> run = sandpile.lab([[0]], droppers=2, drops=3, epochs=2)
     >>> run.epochs["lost"], run.odometer
-    (array([4, 8], dtype=uint64), array([[3]], dtype=uint64))
+    (array([4, 8]), array([[3]]))
     """
     heights = heights_of(pile)
     options = dict(

@@ -19,9 +19,9 @@ class Settled:
     Attributes
     ----------
     pile : numpy.ndarray
-        The settled heights, each from 0 to 3; shape (height, width), uint64.
+        The settled heights, each from 0 to 3; shape (height, width), int64.
     odometer : numpy.ndarray
-        How often each site toppled; shape (height, width), uint64. No other way of settling the pile topples any site
+        How often each site toppled; shape (height, width), int64. No other way of settling the pile topples any site
         less often.
     lost : int
         Grains that fell over the edge.
@@ -57,9 +57,9 @@ def settle(pile: ArrayLike, cylinder: bool = False) -> Settled:
     >>> import sandpile
     >>> s = sandpile.settle([[0, 4, 0]])
     >>> s.pile
-    array([[1, 0, 1]], dtype=uint64)
+    array([[1, 0, 1]])
     >>> s.odometer
-    array([[0, 1, 0]], dtype=uint64)
+    array([[0, 1, 0]])
     >>> s.lost, s.topplings
     (2, 1)
     """

@@ -35,10 +35,10 @@ class Record(Settled):
     pile, odometer, lost, topplings
         As of a `Settled`.
     history : numpy.ndarray
-        The site of each drop, row * width + column, by the number that `Part.drop` returned; shape (drops,), intp.
+        The site of each drop, row * width + column, by the number that `Part.drop` returned; shape (drops,), int64.
     """
 
-    history: NDArray[np.intp]
+    history: NDArray[np.int64]
 
 
 class _Passes:
@@ -116,7 +116,7 @@ class _Passes:
 
     def settle(self) -> Record:
         self.check()
-        heights, odometer = np.empty(self.shape, np.uint64), np.empty(self.shape, np.uint64)
+        heights, odometer = np.empty(self.shape, np.int64), np.empty(self.shape, np.int64)
         lost, topplings, holding = ctypes.c_uint64(), ctypes.c_uint64(), np.zeros((), _HOLDING)
         with self._lock:
             self._gather()
@@ -135,9 +135,9 @@ class _Passes:
             self._back.clear()
 
 
-def _new_history(drops: int) -> NDArray[np.intp]:
+def _new_history(drops: int) -> NDArray[np.int64]:
     try:
-        return np.empty(drops, np.intp)
+        return np.empty(drops, np.int64)
     except MemoryError:
         raise Fault(4, f"not enough memory for a history of {drops} drops") from None
 
@@ -153,7 +153,7 @@ class Part:
         self._passes, self._pass, self._is_joined = passes, PassHandle(), False
         self._use = threading.Lock()
 
-    def drop(self, sites: ArrayLike) -> NDArray[np.uint64]:
+    def drop(self, sites: ArrayLike) -> NDArray[np.int64]:
         """Drops a grain at each of these sites in turn. Nothing topples.
 
         Parameters
@@ -164,7 +164,7 @@ class Part:
         Returns
         -------
         numpy.ndarray
-            The numbers of the drops among those of all threads, from 0 on. They are consecutive. Shape (n,), uint64.
+            The numbers of the drops among those of all threads, from 0 on. They are consecutive. Shape (n,), int64.
 
         Raises
         ------
@@ -181,12 +181,12 @@ class Part:
         >>> import sandpile
         >>> with sandpile.SharedPile([[0, 3]], quota=5) as pile, pile.split(3) as part:
         ...     part.drop([1, 1, 0])
-        array([0, 1, 2], dtype=uint64)
+        array([0, 1, 2])
         """
         height, width = self._passes.shape
         at, first = sites_of(sites, height * width), ctypes.c_uint64()
         self._call("pass_drop", at, ctypes.byref(first))
-        return np.arange(first.value, first.value + at.size, dtype=np.uint64)
+        return np.arange(first.value, first.value + at.size, dtype=np.int64)
 
     def sweep(self) -> int:
         """Visits each site of its rows once, and topples it as often as its grains then allow.
@@ -394,7 +394,7 @@ class SharedPile:
         ...         numbers = part.drop([1, 0])
         ...     done = pile.settle()
         >>> done.pile, done.topplings, done.history
-        (array([[2, 0, 1]], dtype=uint64), 1, array([1, 0]))
+        (array([[2, 0, 1]]), 1, array([1, 0]))
         """
         try:
             return self._passes.settle()

@@ -39,7 +39,7 @@ class Drops(unittest.TestCase):
         table = whole.drop(30_000)
         pieces = [parts.drop(n) for n in (1, 0, 8191, 8192, 8193, 5423)]
         self.assertTrue(same(table, np.concatenate(pieces)))
-        self.assertTrue(same(table["number"], np.arange(30_000, dtype=np.uint64)))
+        self.assertTrue(same(table["number"], np.arange(30_000)))
         self.assertRunsEqual(whole, parts)
 
     def test_the_table_adds_up(self):

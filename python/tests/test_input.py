@@ -158,7 +158,7 @@ class Taken(unittest.TestCase):
         for name in ("pile", "odometer"):
             array = getattr(settled, name)
             np.testing.assert_array_equal(array, getattr(want, name))
-            self.assertEqual((array.dtype, array.flags.c_contiguous, array.flags.writeable), (np.uint64, True, True))
+            self.assertEqual((array.dtype, array.flags.c_contiguous, array.flags.writeable), (np.int64, True, True))
         self.assertEqual((settled.lost, settled.topplings), (want.lost, want.topplings))
         self.assertEqual(pile.tobytes(), before)
 

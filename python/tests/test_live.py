@@ -36,7 +36,7 @@ class Calls(unittest.TestCase):
         run = sandpile.Drive([[3, 3, 1]])
         row, topplings = run.avalanche(0)
         self.assertEqual(row.tolist(), (0, 0, 2, 2, 1, 5))
-        self.assertTrue(same(topplings, np.array([[1, 1, 0]], np.uint64)))
+        self.assertTrue(same(topplings, np.array([[1, 1, 0]])))
         self.assertEqual((run.pile.tolist(), run.table.tolist(), run.drops, run.lost), ([[1, 0, 2]], [row.tolist()], 1, 5))
         row, topplings = run.avalanche(np.int8(1))
         self.assertEqual((row.tolist(), topplings.tolist()), ((1, 1, 0, 0, 0, 0), [[0, 0, 0]]))

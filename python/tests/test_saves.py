@@ -15,6 +15,7 @@ from tools import new_folder, same
 CHANGED = 1500
 TOP = 2**63
 ZEROS, ZERO = np.zeros((3, 5), np.uint64), np.uint64(0)
+CENTRE = (np.arange(15).reshape(3, 5) == 7).astype(np.uint64)
 # A run on a pile without a grain, before its first drop.
 NOTHING = {"pile": ZEROS, "odometer": ZEROS, **dict.fromkeys(["start_grains", "lost", "drops", "drawn"], ZERO)}
 # What differs from a save of `run_of`, by its name: another value, or what makes one of the saved value.
@@ -27,23 +28,23 @@ WRONG = {
     "a cylinder of 2": {**NOTHING, "cylinder": np.uint64(2)},
     "another edge": {"cylinder": np.uint64(1)},
     "more drawn than dropped": {"drawn": np.uint64(54)},
-    "a grain more at the start": {"start_grains": lambda grains: grains + np.uint64(1)},
-    "a drop more": {"drops": lambda drops: drops + np.uint64(1)},
-    "a grain lost more": {"lost": lambda lost: lost + np.uint64(1)},
-    "a grain lost more, and one at the start": {at: lambda grains: grains + np.uint64(1) for at in ("lost", "start_grains")},
+    "a grain more at the start": {"start_grains": lambda grains: grains + 1},
+    "a drop more": {"drops": lambda drops: drops + 1},
+    "a grain lost more": {"lost": lambda lost: lost + 1},
+    "a grain lost more, and one at the start": {at: lambda grains: grains + 1 for at in ("lost", "start_grains")},
     "the most grains lost": {"lost": np.uint64(2**64 - 1)},
     "no odometer": {"odometer": np.zeros_like},
-    "a great count": {"odometer": lambda odometer: np.where(np.arange(15).reshape(3, 5) == 7, np.uint64(TOP), odometer)},
-    "counts that wrap around": {"odometer": lambda odometer: odometer + np.uint64(TOP)},
-    "counts that are not least": {"odometer": lambda odometer: odometer + np.uint64(1)},
+    "a great count": {"odometer": lambda odometer: odometer.astype(np.uint64) + np.uint64(TOP) * CENTRE},
+    "counts that wrap around": {"odometer": lambda odometer: odometer.astype(np.uint64) + np.uint64(TOP)},
+    "counts that are not least": {"odometer": lambda odometer: odometer + 1},
     "a float odometer": {"odometer": lambda odometer: odometer.astype(float)},
     "a flat odometer": {"odometer": np.ravel},
     "an odometer of another shape": {"odometer": np.transpose},
     "an odometer of one site": {**NOTHING, "odometer": ZEROS[:1, :1]},
     "a pile of another shape": {"pile": lambda pile: pile[:2]},
     "a pile of one site": {**NOTHING, "pile": ZEROS[:1, :1]},
-    "an unstable pile": {"pile": lambda pile: pile + np.uint64(4)},
-    "a pile below 0": {"pile": lambda pile: pile.astype(np.int64) - 4},
+    "an unstable pile": {"pile": lambda pile: pile + 4},
+    "a pile below 0": {"pile": lambda pile: pile - 4},
     "an empty pile": {"pile": np.zeros((0, 0), np.uint64), "odometer": np.zeros((0, 0), np.uint64)},
     "a side of 257": {"pile": np.zeros((1, 257), np.uint64), "odometer": np.zeros((1, 257), np.uint64)},
     "a pile of objects": {"pile": lambda pile: pile.astype(object)},
@@ -146,7 +147,7 @@ class Wrong(unittest.TestCase):
         self.refused()
 
     def test_the_same_values_of_another_type(self):
-        for kind in (np.int64, ">u8", "<u4"):
+        for kind in (np.int64, np.uint64, ">u8", "<u4"):
             for packed in (np.savez, np.savez_compressed):
                 packed(self.path, **{name: array.astype(kind, order="F") for name, array in self.arrays.items()})
                 self.assertEqual(values(sandpile.Drive.load(self.path)), values(run_of()))

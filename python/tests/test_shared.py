@@ -51,10 +51,10 @@ class ByHand(unittest.TestCase):
             with pile.split(2) as part:
                 numbers = part.drop([1, 0])
             done = pile.settle()
-        self.assertTrue(same(numbers, np.array([0, 1], np.uint64)))
-        self.assertTrue(same(done.pile, np.array([[2, 0, 1]], np.uint64)))
-        self.assertTrue(same(done.odometer, np.array([[0, 1, 0]], np.uint64)))
-        self.assertTrue(same(done.history, np.array([1, 0], np.intp)))
+        self.assertTrue(same(numbers, np.array([0, 1])))
+        self.assertTrue(same(done.pile, np.array([[2, 0, 1]])))
+        self.assertTrue(same(done.odometer, np.array([[0, 1, 0]])))
+        self.assertTrue(same(done.history, np.array([1, 0])))
         self.assertEqual((done.lost, done.topplings), (2, 1))
 
     def test_numbers_are_those_of_one_history(self):
