@@ -8,22 +8,40 @@ from typing import Any
 import numpy as np
 from numpy.typing import ArrayLike, NDArray
 
-from .faults import Fault
+from .faults import Fault, ShapeError
 
 # The library reads and writes the same 8 bytes without a sign. All that it returns is below 2**54.
 Heights = NDArray[np.int64]
 
 _MOST_SIDE = 256
+# NumPy before 1.24 makes an array of lists of them, with a warning.
+_ALLOWS_RAGGED = tuple(map(int, np.__version__.split(".")[:2])) < (1, 24)
 
 
 def _integers(values: ArrayLike, what: str) -> NDArray[Any]:
     """The values as an array, which must have one of NumPy's integer types."""
     if isinstance(values, np.ma.MaskedArray):
         raise TypeError(f"{what} must be a plain array, not a masked one")
-    array = np.asarray(values)
+    array = _array_of(values, what)
     if array.size and array.dtype.kind not in "iu":
         raise TypeError(f"{what} must be integers of at most 64 bits, but this array has type {array.dtype}")
     return array
+
+
+def _array_of(values: ArrayLike, what: str) -> NDArray[Any]:
+    """The values as an array. Lists of different lengths are refused, the same with each version of NumPy."""
+    is_list = isinstance(values, (list, tuple))
+    try:
+        if not (_ALLOWS_RAGGED and is_list and _is_ragged(values)):
+            return np.asarray(values)
+    except ValueError:
+        if not is_list:
+            raise
+    raise ShapeError(f"the lists of {what} must all have the same length")
+
+
+def _is_ragged(values: ArrayLike) -> bool:
+    return not {list, tuple, np.ndarray}.isdisjoint(map(type, np.asarray(values, object).flat))
 
 
 def heights_of(pile: ArrayLike) -> Heights:
@@ -31,11 +49,11 @@ def heights_of(pile: ArrayLike) -> Heights:
     or more is negative here, but not in the library."""
     array = _integers(pile, "heights")
     if array.ndim != 2:
-        raise TypeError(f"a pile must have shape (height, width), but this array has {array.ndim} dimensions")
+        raise ShapeError(f"a pile must have shape (height, width), but this array has {array.ndim} dimensions")
     check_sides(array.shape)
     if array.dtype.kind == "i" and array.min() < 0:
         row, column = np.argwhere(array < 0)[0]
-        raise TypeError(f"heights must be 0 or more, but the one in row {row}, column {column} is {array[row, column]}")
+        raise ValueError(f"heights must be 0 or more, but the one in row {row}, column {column} is {array[row, column]}")
     return np.array(array, dtype=np.int64, order="C")
 
 
@@ -49,8 +67,9 @@ def shape_of(shape: tuple[int, int]) -> tuple[int, int]:
     """The height and the width, which must be integers."""
     try:
         height, width = map(operator.index, shape)
-    except (TypeError, ValueError):
-        raise TypeError(f"a shape must be two integers, (height, width), not {shape!r}") from None
+    except (TypeError, ValueError) as error:
+        kind = ShapeError if isinstance(error, ValueError) else TypeError
+        raise kind(f"a shape must be two integers, (height, width), not {shape!r}") from None
     check_sides((height, width))
     return height, width
 
@@ -59,7 +78,7 @@ def sites_of(sites: ArrayLike, count: int) -> NDArray[np.int64]:
     """A new contiguous array of site numbers, each below `count`."""
     array = _integers(sites, "sites")
     if array.ndim > 1:
-        raise TypeError(
+        raise ShapeError(
             f"sites must be a list of numbers, row * width + column, but this array has {array.ndim} dimensions"
         )
     array = np.atleast_1d(array)

@@ -67,7 +67,7 @@ def _type_of(name: str) -> Any:
 
 
 def read(path: str | os.PathLike[str]) -> Saved:
-    """Reads a file, and raises a TypeError unless it holds a possible run."""
+    """Reads a file, and raises a ValueError unless it holds a possible run."""
     with open(_npz(path), "rb") as file:
         content = file.read(_MOST_BYTES)
     try:
@@ -75,9 +75,7 @@ def read(path: str | os.PathLike[str]) -> Saved:
     except MemoryError:
         raise Fault(_MEMORY) from None
     except Exception as error:  # of a damaged file, zipfile and NumPy raise many kinds
-        if isinstance(error, Fault) and error.number == _MEMORY:
-            raise
-        raise TypeError(f"{path} is not a saved run, or is damaged: {error}") from None
+        raise ValueError(f"{path} is not a saved run, or is damaged: {error}") from None
 
 
 def _arrays_of(content: bytes) -> dict[str, NDArray[Any]]:

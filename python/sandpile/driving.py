@@ -102,8 +102,10 @@ class Drive:
     ------
     Fault
         Side (1), Narrow (24), TooManyGrains (3), Memory (4), or Plan (15) if `seed` or `stream` is outside its limits.
+    ValueError
+        If a height is below 0, or `pile` is not two-dimensional; the latter is also a `TypeError`.
     TypeError
-        If `pile` is not a two-dimensional array of non-negative integers, or `seed` or `stream` is not an integer.
+        If the heights, `seed` or `stream` are not integers.
 
     Notes
     -----
@@ -271,7 +273,7 @@ class Drive:
         Fault
             NoSite (25) if a site is outside the grid, Full (6) or Memory (4), as from `drop`.
         TypeError
-            If the sites are not integers, or have more than one dimension.
+            If the sites are not integers, or have more than one dimension; the latter is also a `ValueError`.
         RuntimeError
             As from `drop`.
 
@@ -444,7 +446,7 @@ class Drive:
         ------
         OSError
             If the file cannot be read.
-        TypeError
+        ValueError
             If the file was not written by `save`, or is damaged. Settling all grains that the run was given must yield
             its pile, its odometer and its lost grains.
         Fault

@@ -1,4 +1,4 @@
-"""The exception for invalid input and for running out of memory."""
+"""The exceptions for invalid input and for running out of memory."""
 
 from __future__ import annotations
 
@@ -28,10 +28,12 @@ _FAULTS = {
     27: ("OtherPile", "the two passes belong to different piles"),
 }
 
+_MEMORY = 4
+
 
 class Fault(ValueError):
     """The input of a call is invalid, or an allocation failed. Nothing has changed, except that `Drive.drop` and
-    `Drive.drop_at` keep the blocks of drops before a failed allocation.
+    `Drive.drop_at` keep the blocks of drops before a failed allocation. A fault of Memory is also a `MemoryError`.
 
     Attributes
     ----------
@@ -52,6 +54,11 @@ class Fault(ValueError):
     1, Side, a side is outside 1 to 256
     """
 
+    def __new__(cls, number: int, sentence: str | None = None, name: str | None = None) -> Fault:
+        if cls is Fault and number == _MEMORY:
+            return super().__new__(OutOfMemory)
+        return super().__new__(cls)
+
     def __init__(self, number: int, sentence: str | None = None, name: str | None = None) -> None:
         known_name, meaning = _FAULTS.get(number, ("Unknown", "the library reported a fault unknown to this module"))
         self.number = number
@@ -61,3 +68,11 @@ class Fault(ValueError):
 
     def __reduce__(self) -> tuple[type[Fault], tuple[int, str, str]]:
         return Fault, (self.number, self.sentence, self.name)
+
+
+class OutOfMemory(Fault, MemoryError):
+    """The `Fault` Memory: an allocation failed."""
+
+
+class ShapeError(ValueError, TypeError):
+    """An array has the wrong number of dimensions, or lists in a list have different lengths."""

@@ -36,8 +36,10 @@ class Recurrent:
     Fault
         Side (1), Narrow (24), TooManyGrains (3), Unstable (7), NotRecurrent (8) or Memory (4). Adding
         elements of different grids raises Shapes (9).
+    ValueError
+        If a height is below 0, or `pile` is not two-dimensional; the latter is also a `TypeError`.
     TypeError
-        If `pile` is not a two-dimensional array of non-negative integers.
+        If the heights are not integers.
 
     Examples
     --------
@@ -212,8 +214,10 @@ def recurrent(pile: ArrayLike, cylinder: bool = False) -> Recurrent:
     ------
     Fault
         Side (1), Narrow (24), TooManyGrains (3) or Memory (4).
+    ValueError
+        If a height is below 0, or `pile` is not two-dimensional; the latter is also a `TypeError`.
     TypeError
-        If `pile` is not a two-dimensional array of non-negative integers.
+        If the heights are not integers.
 
     Examples
     --------

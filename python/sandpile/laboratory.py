@@ -136,8 +136,10 @@ def lab(
     Fault
         Side (1), Narrow (24), TooManyGrains (3), TooLarge (19) for one height, TooLong (22), Usage (23) if a parameter
         is outside its limits, or Memory (4).
+    ValueError
+        If a height is below 0, or `pile` is not two-dimensional; the latter is also a `TypeError`.
     TypeError
-        If `pile` is not a two-dimensional array of non-negative integers.
+        If the heights are not integers.
     OSError
         If the program cannot be started; FileNotFoundError if it is not found.
     RuntimeError

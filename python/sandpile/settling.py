@@ -49,8 +49,10 @@ def settle(pile: ArrayLike, cylinder: bool = False) -> Settled:
     ------
     Fault
         Side (1), Narrow (24), TooManyGrains (3) or Memory (4).
+    ValueError
+        If a height is below 0, or `pile` is not two-dimensional; the latter is also a `TypeError`.
     TypeError
-        If `pile` is not a two-dimensional array of non-negative integers.
+        If the heights are not integers.
 
     Examples
     --------

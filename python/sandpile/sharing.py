@@ -172,7 +172,7 @@ class Part:
             NoSite (25) if a site is outside the grid, Spent (13) if these are more grains than the part has left, or
             Memory (4). Then none was dropped.
         TypeError
-            If the sites are not integers, or have more than one dimension.
+            If the sites are not integers, or have more than one dimension; the latter is also a `ValueError`.
         RuntimeError
             If another thread is using the part, if it has been joined, if the pile is closed, or in a forked process.
 
@@ -282,8 +282,10 @@ class SharedPile:
     ------
     Fault
         Side (1), Narrow (24), TooManyGrains (3), the quota included, Memory (4), or Plan (15) if the quota is negative.
+    ValueError
+        If a height is below 0, or `start` is not two-dimensional; the latter is also a `TypeError`.
     TypeError
-        If `start` is not a two-dimensional array of non-negative integers, or `quota` is not an integer.
+        If the heights or `quota` are not integers.
 
     Notes
     -----

@@ -102,9 +102,9 @@ class Drops(unittest.TestCase):
         self.assertRaises(FileNotFoundError, sandpile.Drive.load, path)
         for text in (b"", b"no run"):
             path.write_bytes(text)
-            self.assertRaises(TypeError, sandpile.Drive.load, path)
+            self.assertRaises(ValueError, sandpile.Drive.load, path)
         np.savez(path, pile=FULL)
-        self.assertRaises(TypeError, sandpile.Drive.load, path)
+        self.assertRaises(ValueError, sandpile.Drive.load, path)
 
     def test_the_most_grains(self):
         most = 1_099_511_627_775

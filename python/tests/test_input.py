@@ -1,12 +1,17 @@
 """What the module accepts as a pile, and what it rejects. No argument is modified."""
 
+import copy
 import operator
 import pickle
 import random
 import unittest
+import warnings
+from unittest import mock
 
 import numpy as np
 import sandpile
+from sandpile import _arrays
+from sandpile.faults import ShapeError
 
 TAKES_PILE = {
     "settle": sandpile.settle,
@@ -18,9 +23,26 @@ TAKES_PILE = {
 }
 LIMIT = 1_099_511_627_775
 MASKED = np.ma.masked_array([[3, 3]], [[False, True]])
-NO_PILES = {
+NEGATIVE = {
     "negative": np.array([[3, -1]]),
     "least": np.array([[np.iinfo(np.int64).min]]),
+    "in a list": [[3, 2], [-1, 2]],
+}
+WRONG_SHAPES = {
+    "no dimension": np.array(3),
+    "one dimension": np.array([3, 2]),
+    "three dimensions": np.zeros((2, 2, 2), int),
+    "four dimensions": np.zeros((2, 2, 2, 2), int),
+    "an empty list": [],
+}
+RAGGED = {
+    "rows": [[3, 2], [3]],
+    "a site": [[3, 2], [3, [2]]],
+    "arrays": [np.array([3, 2]), np.array([3])],
+    "planes": [np.zeros((2, 2), int), np.zeros((2, 3), int)],
+    "a tuple": ([3, 2], 3),
+}
+NO_PILES = {
     "float": np.array([[3.0, 2.0]]),
     "not a number": np.array([[np.nan]]),
     "bool": np.array([[True, False]]),
@@ -31,9 +53,6 @@ NO_PILES = {
     "over 64 bits": [[2**64]],
     "mixed": [[2**63, -1]],
     "masked": MASKED,
-    "no dimension": np.array(3),
-    "one dimension": np.array([3, 2]),
-    "three dimensions": np.zeros((2, 2, 2), int),
     "a record": np.zeros((2, 2), [("x", int)]),
     "None": None,
 }
@@ -58,6 +77,8 @@ class Refused(unittest.TestCase):
         if isinstance(kind, int):
             self.assertEqual(caught.exception.number, kind)
             self.assertTrue(caught.exception.name.isalpha())
+        is_value, is_type = (isinstance(caught.exception, kind) for kind in (ValueError, TypeError))
+        self.assertEqual(is_value and is_type, isinstance(caught.exception, ShapeError))
         self.assertGreater(len(str(caught.exception).split()), 4)
         for word, copy in zip(words, before):
             self.assertEqual(np.array(word).tobytes(), copy.tobytes())
@@ -67,6 +88,37 @@ class Refused(unittest.TestCase):
             for name, pile in NO_PILES.items():
                 with self.subTest(call=call, pile=name):
                     self.refuses(TAKES_PILE[call], TypeError, pile)
+
+    def test_heights_below_0(self):
+        for call in TAKES_PILE:
+            for name, pile in NEGATIVE.items():
+                with self.subTest(call=call, pile=name):
+                    self.refuses(TAKES_PILE[call], ValueError, pile)
+                    self.assertRaisesRegex(ValueError, "must be 0 or more, but the one in row", TAKES_PILE[call], pile)
+
+    def test_piles_of_another_number_of_dimensions(self):
+        for call in TAKES_PILE:
+            for name, pile in WRONG_SHAPES.items():
+                for kind in (ValueError, TypeError):
+                    with self.subTest(call=call, pile=name, kind=kind):
+                        self.refuses(TAKES_PILE[call], kind, pile)
+
+    def test_lists_of_different_lengths(self):
+        calls = {**TAKES_PILE, "drop_at": sandpile.Drive([[3]]).drop_at}
+        for call in calls:
+            for name, pile in RAGGED.items():
+                for kind in (ValueError, TypeError):
+                    with self.subTest(call=call, pile=name), warnings.catch_warnings(record=True) as warned:
+                        said = "the lists of (heights|sites) must all have the same length"
+                        self.assertRaisesRegex(kind, said, calls[call], pile)
+                        self.assertEqual(warned, [])
+
+    def test_lists_of_different_lengths_by_an_older_numpy(self):
+        with mock.patch.object(_arrays, "_ALLOWS_RAGGED", True):
+            self.test_lists_of_different_lengths()
+            for pile in ([[3, 2], [1, 0]], ((3, 2), [1, 0]), [np.array([3, 2]), (1, 0)], np.array([[3, 2], [1, 0]])):
+                self.assertEqual(sandpile.settle(pile).pile.tolist(), [[3, 2], [1, 0]])
+            self.refuses(sandpile.settle, TypeError, [["3", "2"]])
 
     def test_piles_with_a_fault(self):
         for call in TAKES_PILE:
@@ -90,6 +142,8 @@ class Refused(unittest.TestCase):
             self.refuses(sandpile.identity, 1, shape)
         for shape in [(2.0, 2), (2,), (2, 2, 2), "ab", None, 4]:
             self.refuses(sandpile.identity, TypeError, shape)
+        for shape in [(2,), (2, 2, 2)]:
+            self.refuses(sandpile.identity, ValueError, shape)
         self.refuses(sandpile.identity, 24, (2, 2), cylinder=True)
 
     def test_sites(self):
@@ -144,9 +198,18 @@ class Refused(unittest.TestCase):
         self.assertEqual(a + a, np.array(2) * a)
 
     def test_a_fault_can_be_passed_to_another_process(self):
-        fault = pickle.loads(pickle.dumps(sandpile.Fault(25, "drop 3 is outside")))
-        self.assertEqual((fault.number, fault.name, fault.sentence), (25, "NoSite", "drop 3 is outside"))
-        self.assertIsInstance(fault, ValueError)
+        for number, name in ((25, "NoSite"), (4, "Memory")):
+            for again in (copy.copy, copy.deepcopy, lambda it: pickle.loads(pickle.dumps(it))):
+                fault = again(sandpile.Fault(number, "drop 3 is outside"))
+                self.assertEqual((fault.number, fault.name, fault.sentence), (number, name, "drop 3 is outside"))
+                self.assertIsInstance(fault, ValueError)
+                self.assertEqual(isinstance(fault, MemoryError), number == 4)
+
+    def test_running_out_of_memory(self):
+        run = sandpile.Drive([[3]])
+        with mock.patch("numpy.empty", side_effect=MemoryError):
+            for kind in (MemoryError, ValueError, sandpile.Fault):
+                self.assertRaisesRegex(kind, "fault 4 Memory: not enough memory for a table of 9 drops", run.drop, 9)
 
 
 class Taken(unittest.TestCase):

@@ -63,6 +63,7 @@ class Ends(unittest.TestCase):
     def test_faults(self):
         memory = self.fault_of("echo a word before it >&2; echo fault 4 Memory >&2; exit 1")
         self.assertEqual((memory.number, memory.name), (4, "Memory"))
+        self.assertIsInstance(memory, MemoryError)
         for said in ("error: no such option\nand more", "fault 4 Memory"):
             usage = self.fault_of(f"printf '{said}\\n' >&2; exit 2")
             self.assertEqual((usage.number, usage.sentence), (23, said.partition("\n")[0].replace("error: ", "")))

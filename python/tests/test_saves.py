@@ -7,6 +7,7 @@ import struct
 import unittest
 import zipfile
 from concurrent.futures import ThreadPoolExecutor
+from unittest import mock
 
 import numpy as np
 import sandpile
@@ -78,7 +79,7 @@ class Damaged(unittest.TestCase):
         self.path.write_bytes(content)
         try:
             return values(sandpile.Drive.load(self.path))
-        except TypeError as error:
+        except ValueError as error:
             self.assertIn("run.npz is not a saved run, or is damaged: ", str(error))
             return None
 
@@ -118,7 +119,7 @@ class Wrong(unittest.TestCase):
             self.arrays = dict(saved)
 
     def refused(self):
-        with self.assertRaisesRegex(TypeError, "run.npz is not a saved run, or is damaged: "):
+        with self.assertRaisesRegex(ValueError, "run.npz is not a saved run, or is damaged: "):
             sandpile.Drive.load(self.path)
 
     def test_wrong_values(self):
@@ -145,6 +146,11 @@ class Wrong(unittest.TestCase):
         with zipfile.ZipFile(self.path, "a") as archive:
             archive.writestr("pile.npy", b"\x93NUMPY\x01\x00" + struct.pack("<H", len(header)) + header + bytes(800))
         self.refused()
+
+    def test_running_out_of_memory(self):
+        for error in (MemoryError, sandpile.Fault(4)):
+            with mock.patch("sandpile._saves.settle", side_effect=error):
+                self.assertRaisesRegex(MemoryError, "fault 4 Memory", sandpile.Drive.load, self.path)
 
     def test_the_same_values_of_another_type(self):
         for kind in (np.int64, np.uint64, ">u8", "<u4"):

@@ -192,7 +192,7 @@ class Misuse(unittest.TestCase):
             (15, lambda: sandpile.SharedPile([[5]], -1)),
         ]:
             self.assertEqual(fault_or(call), number)
-        self.refuses(TypeError, "heights must be 0 or more", sandpile.SharedPile, [[-1]], 1)
+        self.refuses(ValueError, "heights must be 0 or more", sandpile.SharedPile, [[-1]], 1)
         self.refuses(TypeError, "quota must be an integer", sandpile.SharedPile, [[1]], 1.5)
         with sandpile.SharedPile([[2**40 - 5]], 4) as pile, pile.split(3) as part:
             for number, call in [
