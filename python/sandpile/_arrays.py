@@ -3,7 +3,7 @@
 from __future__ import annotations
 
 import operator
-from typing import Any
+from typing import TYPE_CHECKING, Any
 
 import numpy as np
 from numpy.typing import ArrayLike, NDArray
@@ -14,8 +14,26 @@ from .faults import Fault, ShapeError
 Heights = NDArray[np.int64]
 
 _MOST_SIDE = 256
+_SHAPES = 9
 # NumPy before 1.24 makes an array of lists of them, with a warning.
 _ALLOWS_RAGGED = tuple(map(int, np.__version__.split(".")[:2])) < (1, 24)
+
+
+class HasPile:
+    """What has a `pile` and the edge of its grid, `cylinder`. It can be passed as a pile, and NumPy takes it for one."""
+
+    __slots__ = ()
+
+    if TYPE_CHECKING:  # a dataclass would take these for the values that its fields have by default
+
+        @property
+        def pile(self) -> Heights: ...
+
+        @property
+        def cylinder(self) -> bool: ...
+
+    def __array__(self, dtype: Any = None, copy: bool | None = None) -> NDArray[Any]:
+        return np.array(self.pile, dtype=dtype)
 
 
 def _integers(values: ArrayLike, what: str) -> NDArray[Any]:
@@ -42,6 +60,27 @@ def _array_of(values: ArrayLike, what: str) -> NDArray[Any]:
 
 def _is_ragged(values: ArrayLike) -> bool:
     return not {list, tuple, np.ndarray}.isdisjoint(map(type, np.asarray(values, object).flat))
+
+
+def heights_and_edge(pile: ArrayLike, cylinder: bool | None) -> tuple[Heights, bool]:
+    """The heights, as from `heights_of`, and whether the grid is a cylinder: as `cylinder` says, else as the pile itself."""
+    return heights_of(pile), _edge_of(pile, cylinder)
+
+
+def _edge_of(pile: ArrayLike, cylinder: bool | None) -> bool:
+    edges = {pile.cylinder} if isinstance(pile, HasPile) else set()
+    if cylinder is not None:
+        edges.add(checked_edge(cylinder))
+    if len(edges) > 1:
+        raise Fault(_SHAPES, f"the pile has another edge than cylinder={cylinder}")
+    return any(edges)
+
+
+def checked_edge(cylinder: bool) -> bool:
+    """Whether a grid is a cylinder, which must be True or False."""
+    if not isinstance(cylinder, (bool, np.bool_)):
+        raise TypeError(f"cylinder must be True or False, not {cylinder!r}")
+    return bool(cylinder)
 
 
 def heights_of(pile: ArrayLike) -> Heights:

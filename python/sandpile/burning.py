@@ -8,7 +8,7 @@ from dataclasses import dataclass
 import numpy as np
 from numpy.typing import ArrayLike, NDArray
 
-from ._arrays import Heights, heights_of
+from ._arrays import Heights, heights_and_edge
 from ._library import call
 
 
@@ -33,20 +33,20 @@ class Burned:
     forbidden: NDArray[np.bool_]
 
 
-def burn(pile: ArrayLike, cylinder: bool = False) -> Burned:
+def burn(pile: ArrayLike, cylinder: bool | None = None) -> Burned:
     """Burns a stable pile from its edge. The sites that do not burn are the greatest forbidden set.
 
     Parameters
     ----------
     pile : array_like of int
         Grains on each site, shape (height, width), each from 0 to 3. Not modified.
-    cylinder : bool
-        Whether the first and the last column are neighbours.
+    cylinder : bool, optional
+        Whether the first and the last column are neighbours. By default as in `pile` if that has a `cylinder`, else False.
 
     Raises
     ------
     Fault
-        Side (1), Narrow (24), TooManyGrains (3), Unstable (7) or Memory (4).
+        Side (1), Narrow (24), TooManyGrains (3), Unstable (7), Memory (4), or Shapes (9) if `pile` has the other edge.
     ValueError
         If a height is below 0, or `pile` is not two-dimensional; the latter is also a `TypeError`.
     TypeError
@@ -60,7 +60,7 @@ def burn(pile: ArrayLike, cylinder: bool = False) -> Burned:
     >>> sandpile.burn([[0, 0, 3]]).forbidden
     array([[ True,  True, False]])
     """
-    return burned(heights_of(pile), cylinder)
+    return burned(*heights_and_edge(pile, cylinder))
 
 
 def burned(heights: Heights, cylinder: bool) -> Burned:

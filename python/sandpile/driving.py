@@ -10,7 +10,7 @@ import numpy as np
 from numpy.typing import ArrayLike, NDArray
 
 from . import _saves
-from ._arrays import Heights, count_of, heights_of, site_of, sites_of
+from ._arrays import HasPile, Heights, count_of, heights_and_edge, site_of, sites_of
 from ._handles import DriveHandle
 from ._library import call, call_at
 from .faults import Fault
@@ -84,8 +84,9 @@ def _block(run: Drive, block: _Block, name: str, *arguments: Any) -> None:
         run._now()
 
 
-class Drive:
-    """A pile on which grains drop one by one, at random or given sites. Each settles before the next.
+class Drive(HasPile):
+    """A pile on which grains drop one by one, at random or given sites. Each settles before the next. A run can be passed
+    as a pile.
 
     Parameters
     ----------
@@ -95,13 +96,14 @@ class Drive:
     seed, stream : int
         The random sites: stream `stream` of seed `seed`, each from 0 to 2**64 - 1. Streams of one seed are independent,
         so give each replica its own. ``sandpile drops --count N --seed S --stream T`` drops at the same sites.
-    cylinder : bool
-        Whether the first and the last column are neighbours.
+    cylinder : bool, optional
+        Whether the first and the last column are neighbours. By default as in `pile` if that has a `cylinder`, else False.
 
     Raises
     ------
     Fault
-        Side (1), Narrow (24), TooManyGrains (3), Memory (4), or Plan (15) if `seed` or `stream` is outside its limits.
+        Side (1), Narrow (24), TooManyGrains (3), Memory (4), Shapes (9) if `pile` has the other edge, or Plan (15) if `seed`
+        or `stream` is outside its limits.
     ValueError
         If a height is below 0, or `pile` is not two-dimensional; the latter is also a `TypeError`.
     TypeError
@@ -124,10 +126,9 @@ class Drive:
     (True, True)
     """
 
-    def __init__(self, pile: ArrayLike, seed: int = 0, stream: int = 0, cylinder: bool = False) -> None:
-        heights = heights_of(pile)
+    def __init__(self, pile: ArrayLike, seed: int = 0, stream: int = 0, cylinder: bool | None = None) -> None:
+        heights, self._cylinder = heights_and_edge(pile, cylinder)
         self._seed, self._stream = count_of(seed, "seed"), count_of(stream, "stream")
-        self._cylinder = bool(cylinder)
         self._hold(heights)
         self._start_grains = int(heights.sum())
         self._state = _State(0, 0, _NO_ROWS)

@@ -8,7 +8,7 @@ from typing import Any
 import numpy as np
 from numpy.typing import ArrayLike
 
-from ._arrays import Heights, heights_of, shape_of
+from ._arrays import HasPile, Heights, checked_edge, heights_and_edge, shape_of
 from ._library import call
 from .burning import burned
 from .faults import Fault
@@ -17,7 +17,7 @@ from .faults import Fault
 _GRAIN_BITS = 40
 
 
-class Recurrent:
+class Recurrent(HasPile):
     """A recurrent pile, as an element of the group of its grid.
 
     ``a + b``, ``a - b``, ``-a``, ``n * a`` for any integer ``n``, and ``a == b`` are those of the group. Elements are
@@ -28,14 +28,14 @@ class Recurrent:
     ----------
     pile : array_like of int
         A recurrent pile, shape (height, width). `recurrent` takes any pile.
-    cylinder : bool
-        Whether the first and the last column are neighbours.
+    cylinder : bool, optional
+        Whether the first and the last column are neighbours. By default as in `pile` if that has a `cylinder`, else False.
 
     Raises
     ------
     Fault
-        Side (1), Narrow (24), TooManyGrains (3), Unstable (7), NotRecurrent (8) or Memory (4). Adding
-        elements of different grids raises Shapes (9).
+        Side (1), Narrow (24), TooManyGrains (3), Unstable (7), NotRecurrent (8), Memory (4), or Shapes (9) if `pile` has
+        the other edge. Adding elements of different grids raises Shapes, too.
     ValueError
         If a height is below 0, or `pile` is not two-dimensional; the latter is also a `TypeError`.
     TypeError
@@ -57,15 +57,15 @@ class Recurrent:
     # NumPy then leaves the operators to this class, so `array + a` does not add the heights site by site.
     __array_ufunc__ = None
 
-    def __init__(self, pile: ArrayLike, cylinder: bool = False) -> None:
-        heights = heights_of(pile)
-        if not burned(heights, cylinder).is_recurrent:
+    def __init__(self, pile: ArrayLike, cylinder: bool | None = None) -> None:
+        heights, edge = heights_and_edge(pile, cylinder)
+        if not burned(heights, edge).is_recurrent:
             raise Fault(8)
-        self._keep(heights, cylinder)
+        self._keep(heights, edge)
 
     def _keep(self, heights: Heights, cylinder: bool) -> None:
         heights.flags.writeable = False
-        self._pile, self._cylinder = heights, bool(cylinder)
+        self._pile, self._cylinder = heights, cylinder
 
     @classmethod
     def _known(cls, heights: Heights, cylinder: bool) -> Recurrent:
@@ -161,9 +161,6 @@ class Recurrent:
     def __getitem__(self, key: Any) -> Any:
         return self._pile[key]
 
-    def __array__(self, dtype: Any = None, copy: bool | None = None) -> Any:
-        return np.array(self._pile, dtype=dtype)
-
     def __reduce__(self) -> tuple[Any, tuple[Heights, bool]]:
         return Recurrent._known, (self._pile, self._cylinder)
 
@@ -186,7 +183,7 @@ def identity(shape: tuple[int, int], cylinder: bool = False) -> Recurrent:
     Fault
         Side (1), Narrow (24) or Memory (4).
     TypeError
-        If `shape` is not two integers.
+        If `shape` is not two integers, or `cylinder` is not True or False.
 
     Examples
     --------
@@ -195,25 +192,25 @@ def identity(shape: tuple[int, int], cylinder: bool = False) -> Recurrent:
     array([[2, 1, 2],
            [2, 1, 2]])
     """
-    heights = np.zeros(shape_of(shape), np.int64)
-    call("identity", heights.shape, cylinder, heights)
-    return Recurrent._known(heights, cylinder)
+    heights, edge = np.zeros(shape_of(shape), np.int64), checked_edge(cylinder)
+    call("identity", heights.shape, edge, heights)
+    return Recurrent._known(heights, edge)
 
 
-def recurrent(pile: ArrayLike, cylinder: bool = False) -> Recurrent:
+def recurrent(pile: ArrayLike, cylinder: bool | None = None) -> Recurrent:
     """The recurrent pile equivalent to a pile: they differ by topplings, forward or backward.
 
     Parameters
     ----------
     pile : array_like of int
         Grains on each site, shape (height, width), sides from 1 to 256, any integer type. Not modified.
-    cylinder : bool
-        Whether the first and the last column are neighbours.
+    cylinder : bool, optional
+        Whether the first and the last column are neighbours. By default as in `pile` if that has a `cylinder`, else False.
 
     Raises
     ------
     Fault
-        Side (1), Narrow (24), TooManyGrains (3) or Memory (4).
+        Side (1), Narrow (24), TooManyGrains (3), Memory (4), or Shapes (9) if `pile` has the other edge.
     ValueError
         If a height is below 0, or `pile` is not two-dimensional; the latter is also a `TypeError`.
     TypeError
@@ -226,6 +223,6 @@ def recurrent(pile: ArrayLike, cylinder: bool = False) -> Recurrent:
     >>> a + sandpile.recurrent([[9, 0, 0], [0, 0, 0]]) == sandpile.recurrent([[9, 0, 0], [0, 0, 1]])
     True
     """
-    heights = heights_of(pile)
-    call("recurrent", heights.shape, cylinder, heights)
-    return Recurrent._known(heights, cylinder)
+    heights, edge = heights_and_edge(pile, cylinder)
+    call("recurrent", heights.shape, edge, heights)
+    return Recurrent._known(heights, edge)

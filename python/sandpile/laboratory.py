@@ -13,7 +13,7 @@ from pathlib import Path
 import numpy as np
 from numpy.typing import ArrayLike, NDArray
 
-from ._arrays import Heights, heights_of
+from ._arrays import HasPile, Heights, heights_and_edge
 from .faults import Fault
 
 _CHECKOUT = Path(__file__).resolve().parents[2] / "crates" / "sandpile" / "out" / "sandpile"
@@ -29,8 +29,8 @@ EPOCH = np.dtype([(name, "i8") for name in ("epoch", "drops", "topplings", "lost
 
 
 @dataclass(frozen=True)
-class Run:
-    """The result of a run of the laboratory.
+class Run(HasPile):
+    """The result of a run of the laboratory. It can be passed as a pile.
 
     Attributes
     ----------
@@ -41,11 +41,14 @@ class Run:
         The settled heights at the end; shape (height, width), int64.
     odometer : numpy.ndarray
         How often each site toppled in all epochs; shape (height, width), int64.
+    cylinder : bool
+        Whether the first and the last column are neighbours.
     """
 
     epochs: NDArray[np.void]
     pile: Heights
     odometer: Heights
+    cylinder: bool
 
 
 def _program() -> str:
@@ -85,7 +88,7 @@ def _end_of(status: int) -> str:
         return f"was ended by signal {-status}"
 
 
-def _run_of(text: str, shape: tuple[int, ...]) -> Run | None:
+def _run_of(text: str, shape: tuple[int, ...], cylinder: bool) -> Run | None:
     """Parses a table of epochs, its total, a pile, and its odometer. A text that is cut off is none."""
     found = _OUTPUT.fullmatch(text)
     if not found:
@@ -93,7 +96,7 @@ def _run_of(text: str, shape: tuple[int, ...]) -> Run | None:
     epochs, pile, odometer = (np.array(part.split(), np.int64) for part in found.groups())
     if not pile.size == odometer.size == shape[0] * shape[1]:
         return None
-    return Run(epochs.view(EPOCH), pile.reshape(shape), odometer.reshape(shape))
+    return Run(epochs.view(EPOCH), pile.reshape(shape), odometer.reshape(shape), cylinder)
 
 
 def lab(
@@ -102,7 +105,7 @@ def lab(
     droppers: int = 2,
     drops: int = 100,
     epochs: int = 1,
-    cylinder: bool = False,
+    cylinder: bool | None = None,
     workers: int = 1,
     sweeps: int = 0,
     observers: int = 0,
@@ -125,8 +128,8 @@ def lab(
         Grains per dropper and epoch, from 0 to 1,000,000.
     epochs : int
         From 1 to 100.
-    cylinder : bool
-        Whether the first and the last column are neighbours.
+    cylinder : bool, optional
+        Whether the first and the last column are neighbours. By default as in `pile` if that has a `cylinder`, else False.
     workers, sweeps, observers : int
         Threads that topple (1 to 16), how often each of them sweeps its rows (0 to 1000), and threads that count
         drops (0 to 16). They do not affect the result.
@@ -134,8 +137,8 @@ def lab(
     Raises
     ------
     Fault
-        Side (1), Narrow (24), TooManyGrains (3), TooLarge (19) for one height, TooLong (22), Usage (23) if a parameter
-        is outside its limits, or Memory (4).
+        Side (1), Narrow (24), TooManyGrains (3), TooLarge (19) for one height, TooLong (22), Shapes (9) if `pile` has the
+        other edge, Usage (23) if a parameter is outside its limits, or Memory (4).
     ValueError
         If a height is below 0, or `pile` is not two-dimensional; the latter is also a `TypeError`.
     TypeError
@@ -153,16 +156,16 @@ def lab(
     >>> run.epochs["lost"], run.odometer
     (array([4, 8]), array([[3]]))
     """
-    heights = heights_of(pile)
+    heights, edge = heights_and_edge(pile, cylinder)
     options = dict(
         seed=seed, droppers=droppers, drops=drops, epochs=epochs, workers=workers, sweeps=sweeps, observers=observers
     )
     words = [f"--{name}={value}" for name, value in options.items()]
     ended = subprocess.run(
-        [_program(), "lab", *words], input=_text_of(heights, cylinder), capture_output=True, check=False,
+        [_program(), "lab", *words], input=_text_of(heights, edge), capture_output=True, check=False,
         text=True, errors="backslashreplace",
     )
-    run = None if ended.returncode else _run_of(ended.stdout, heights.shape)
+    run = None if ended.returncode else _run_of(ended.stdout, heights.shape, edge)
     if run is None:
         raise _error_of(ended)
     return run

@@ -12,7 +12,7 @@ from typing import Any
 import numpy as np
 from numpy.typing import ArrayLike, NDArray
 
-from ._arrays import Heights, count_of, heights_of, sites_of
+from ._arrays import Heights, count_of, heights_and_edge, sites_of
 from ._handles import PassHandle
 from ._library import call, call_on
 from .faults import Fault
@@ -32,7 +32,7 @@ class Record(Settled):
 
     Attributes
     ----------
-    pile, odometer, lost, topplings
+    pile, odometer, lost, topplings, cylinder
         As of a `Settled`.
     history : numpy.ndarray
         The site of each drop, row * width + column, by the number that `Part.drop` returned; shape (drops,), int64.
@@ -49,7 +49,7 @@ class _Passes:
     """
 
     def __init__(self, heights: Heights, cylinder: bool, quota: int) -> None:
-        self.shape, self.is_closed = heights.shape, False
+        self.shape, self.cylinder, self.is_closed = heights.shape, cylinder, False
         self.outside: set[PassHandle] = set()
         self._back: set[PassHandle] = set()
         # A signal's handler may count the drops in the thread that does so.
@@ -124,7 +124,7 @@ class _Passes:
             history = _new_history(int(holding["drops"]))
             sums = (ctypes.byref(topplings), ctypes.byref(lost))
             call_on("pass_settle", self._first.at, heights, odometer, history, *sums)
-        return Record(heights, odometer, lost.value, topplings.value, history)
+        return Record(heights, odometer, lost.value, topplings.value, self.cylinder, history)
 
     def close(self) -> None:
         """Frees the pile, at once or when the last part outside ends."""
@@ -275,13 +275,14 @@ class SharedPile:
         The start, shape (height, width), sides from 1 to 256, any integer type. It need not be stable, and is not modified.
     quota : int
         How many grains may be dropped on it. Each takes 16 bytes, reserved now.
-    cylinder : bool
-        Whether the first and the last column are neighbours.
+    cylinder : bool, optional
+        Whether the first and the last column are neighbours. By default as in `start` if that has a `cylinder`, else False.
 
     Raises
     ------
     Fault
-        Side (1), Narrow (24), TooManyGrains (3), the quota included, Memory (4), or Plan (15) if the quota is negative.
+        Side (1), Narrow (24), TooManyGrains (3), the quota included, Memory (4), Shapes (9) if `start` has the other edge,
+        or Plan (15) if the quota is negative.
     ValueError
         If a height is below 0, or `start` is not two-dimensional; the latter is also a `TypeError`.
     TypeError
@@ -312,9 +313,9 @@ class SharedPile:
     (True, True)
     """
 
-    def __init__(self, start: ArrayLike, quota: int, cylinder: bool = False) -> None:
-        heights = heights_of(start)
-        self._passes = _Passes(heights, bool(cylinder), count_of(quota, "quota"))
+    def __init__(self, start: ArrayLike, quota: int, cylinder: bool | None = None) -> None:
+        heights, edge = heights_and_edge(start, cylinder)
+        self._passes = _Passes(heights, edge, count_of(quota, "quota"))
 
     def split(self, quota: int, rows: int | None = None) -> Part:
         """Splits off a part, for one thread at a time.
