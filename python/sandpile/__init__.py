@@ -6,8 +6,9 @@ checks the arguments and passes them on; it is tested, not proved.
 
 A pile is an array of shape (height, width) and any integer type; sides are from 1 to 256. Returned arrays are new, and of
 type int64, as are all fields of tables. No call changes its arguments. ``cylinder=True`` makes the first and the last column
-neighbours; a result or a run that is passed as a pile keeps its edge. A wrong value raises a `Fault` or another `ValueError`, a wrong type
-a `TypeError`, and then nothing has changed. Calls release the global interpreter lock, so threads run in parallel.
+neighbours; a result or a run that is passed as a pile keeps its edge. A wrong value raises a `Fault` or another
+`ValueError`, a wrong type a `TypeError`, and then nothing has changed. Calls release the global interpreter lock, so threads
+run in parallel.
 
 ======================================  ==========================================================
 `settle`                                the settled pile, and how often each site topples

@@ -62,18 +62,26 @@ def _is_ragged(values: ArrayLike) -> bool:
     return not {list, tuple, np.ndarray}.isdisjoint(map(type, np.asarray(values, object).flat))
 
 
-def heights_and_edge(pile: ArrayLike, cylinder: bool | None) -> tuple[Heights, bool]:
+def heights_and_edge(pile: ArrayLike, cylinder: bool | None, may_be_stack: bool = False) -> tuple[Heights, bool]:
     """The heights, as from `heights_of`, and whether the grid is a cylinder: as `cylinder` says, else as the pile itself."""
-    return heights_of(pile), _edge_of(pile, cylinder)
+    is_list = isinstance(pile, (list, tuple))
+    piles: Any = pile if is_list else [pile]
+    edges = {one.cylinder for one in piles if isinstance(one, HasPile)}
+    if edges and is_list:  # NumPy before 2 warns of objects in a list
+        pile = [one.pile if isinstance(one, HasPile) else one for one in piles]
+    return heights_of(pile, may_be_stack), _edge_of(edges, cylinder)
 
 
-def _edge_of(pile: ArrayLike, cylinder: bool | None) -> bool:
-    edges = {pile.cylinder} if isinstance(pile, HasPile) else set()
-    if cylinder is not None:
-        edges.add(checked_edge(cylinder))
+def _edge_of(edges: set[bool], cylinder: bool | None) -> bool:
+    """The only one of the edges that piles have, which must not contradict `cylinder`."""
     if len(edges) > 1:
+        raise Fault(_SHAPES, "the piles have different edges")
+    if cylinder is None:
+        return any(edges)
+    edge = checked_edge(cylinder)
+    if edges - {edge}:
         raise Fault(_SHAPES, f"the pile has another edge than cylinder={cylinder}")
-    return any(edges)
+    return edge
 
 
 def checked_edge(cylinder: bool) -> bool:
@@ -83,16 +91,18 @@ def checked_edge(cylinder: bool) -> bool:
     return bool(cylinder)
 
 
-def heights_of(pile: ArrayLike) -> Heights:
-    """A new contiguous array of the heights, checked to be a two-dimensional array of non-negative integers. A height of 2**63
-    or more is negative here, but not in the library."""
+def heights_of(pile: ArrayLike, may_be_stack: bool = False) -> Heights:
+    """A new contiguous array of the heights, checked to be non-negative integers with two dimensions, or with three in a stack
+    of piles. A height of 2**63 or more is negative here, but not in the library."""
     array = _integers(pile, "heights")
-    if array.ndim != 2:
-        raise ShapeError(f"a pile must have shape (height, width), but this array has {array.ndim} dimensions")
-    check_sides(array.shape)
-    if array.dtype.kind == "i" and array.min() < 0:
-        row, column = np.argwhere(array < 0)[0]
-        raise ValueError(f"heights must be 0 or more, but the one in row {row}, column {column} is {array[row, column]}")
+    if array.ndim != 2 and not (may_be_stack and array.ndim == 3):
+        stack = ", and a stack of piles (k, height, width)" if may_be_stack else ""
+        raise ShapeError(f"a pile must have shape (height, width){stack}, but this array has {array.ndim} dimensions")
+    check_sides(array.shape[-2:])
+    if array.dtype.kind == "i" and array.size and array.min() < 0:
+        *pile_in_stack, row, column = at = tuple(np.argwhere(array < 0)[0])
+        place = "".join(f"pile {number}, " for number in pile_in_stack)
+        raise ValueError(f"heights must be 0 or more, but the one in {place}row {row}, column {column} is {array[at]}")
     return np.array(array, dtype=np.int64, order="C")
 
 

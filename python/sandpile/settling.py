@@ -4,47 +4,54 @@ from __future__ import annotations
 
 import ctypes
 from dataclasses import dataclass
+from typing import Any
 
 import numpy as np
 from numpy.typing import ArrayLike
 
 from ._arrays import HasPile, Heights, heights_and_edge
 from ._library import call
+from .faults import Fault
+
+_TOO_MANY_GRAINS, _MOST_GRAINS = 3, 1_099_511_627_775
+# A call of the library settles piles with so many sites together, or one pile. Ctrl-C waits for its end.
+_SITES_AT_ONCE = 1 << 16
 
 
 @dataclass(frozen=True)
 class Settled(HasPile):
-    """The result of settling. It can be passed as a pile.
+    """The result of settling a pile, or each pile of a stack. It can be passed as a pile or a stack.
 
     Attributes
     ----------
     pile : numpy.ndarray
-        The settled heights, each from 0 to 3; shape (height, width), int64.
+        The settled heights, each from 0 to 3; shape (height, width), or (k, height, width) of a stack; int64.
     odometer : numpy.ndarray
-        How often each site toppled; shape (height, width), int64. No other way of settling the pile topples any site
-        less often.
-    lost : int
-        Grains that fell over the edge.
-    topplings : int
-        The number of topplings, which is the sum of the odometer.
+        How often each site toppled; the same shape, int64. No other way of settling the pile topples any site less often.
+    lost : int or numpy.ndarray
+        Grains that fell over the edge; of a stack, those of each pile, shape (k,), int64.
+    topplings : int or numpy.ndarray
+        The number of topplings, which is the sum of the odometer; of a stack, that of each pile, shape (k,), int64.
     cylinder : bool
         Whether the first and the last column are neighbours.
     """
 
     pile: Heights
     odometer: Heights
-    lost: int
-    topplings: int
+    lost: Any
+    topplings: Any
     cylinder: bool
 
 
 def settle(pile: ArrayLike, cylinder: bool | None = None) -> Settled:
-    """Settles a pile: sites with four or more grains give one to each neighbour, until there is no such site.
+    """Settles a pile, or each pile of a stack: sites with four or more grains give one to each neighbour, until there is no
+    such site.
 
     Parameters
     ----------
     pile : array_like of int
-        Grains on each site, shape (height, width), sides from 1 to 256, any integer type. Not modified.
+        Grains on each site, shape (height, width), sides from 1 to 256, any integer type. Not modified. An array of shape
+        (k, height, width), or a list of piles of one shape, is a stack, which may be empty.
     cylinder : bool, optional
         Whether the first and the last column are neighbours, so that grains are lost only in the north and the south. By
         default as in `pile` if that has a `cylinder`, such as a `Recurrent` or a `Drive`, else False.
@@ -54,7 +61,7 @@ def settle(pile: ArrayLike, cylinder: bool | None = None) -> Settled:
     Fault
         Side (1), Narrow (24), TooManyGrains (3), Memory (4), or Shapes (9) if `pile` has the other edge.
     ValueError
-        If a height is below 0, or `pile` is not two-dimensional; the latter is also a `TypeError`.
+        If a height is below 0, or `pile` has neither two nor three dimensions; the latter is also a `TypeError`.
     TypeError
         If the heights are not integers.
 
@@ -68,9 +75,37 @@ def settle(pile: ArrayLike, cylinder: bool | None = None) -> Settled:
     array([[0, 1, 0]])
     >>> s.lost, s.topplings
     (2, 1)
+    >>> sandpile.settle([[[0, 4, 0]], [[9, 0, 0]]]).topplings
+    array([1, 2])
     """
-    heights, edge = heights_and_edge(pile, cylinder)
+    heights, edge = heights_and_edge(pile, cylinder, may_be_stack=True)
+    return _settled(heights, edge) if heights.ndim == 2 else _settled_stack(heights, edge)
+
+
+def _settled(heights: Heights, edge: bool) -> Settled:
     odometer = np.zeros_like(heights)
     lost, topplings = ctypes.c_uint64(), ctypes.c_uint64()
     call("settle", heights.shape, edge, heights, odometer, ctypes.byref(lost), ctypes.byref(topplings))
     return Settled(heights, odometer, lost.value, topplings.value, edge)
+
+
+def _settled_stack(heights: Heights, edge: bool) -> Settled:
+    count, *shape = heights.shape
+    odometer, lost, topplings = np.zeros_like(heights), np.zeros(count, np.int64), np.zeros(count, np.int64)
+    at_once = _SITES_AT_ONCE // (shape[0] * shape[1])
+    for begin in range(0, max(count, 1), at_once):  # without piles, the edge is checked all the same
+        some = slice(begin, begin + at_once)
+        try:
+            call("settle_all", tuple(shape), edge, heights[some], odometer[some], lost[some], topplings[some])
+        except Fault as fault:
+            raise _of_stack(fault, heights) from None
+    return Settled(heights, odometer, lost, topplings, edge)
+
+
+def _of_stack(fault: Fault, heights: Heights) -> Fault:
+    """The fault of a stack. One of too many grains names the first pile that has them; those before it may be settled."""
+    if fault.number != _TOO_MANY_GRAINS:
+        return fault
+    grains = np.minimum(heights.view(np.uint64), _MOST_GRAINS + 1).sum(axis=(1, 2))
+    first = int((grains > _MOST_GRAINS).argmax())
+    return Fault(_TOO_MANY_GRAINS, f"pile {first} of the stack has more than {_MOST_GRAINS:,} grains")

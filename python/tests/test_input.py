@@ -99,6 +99,8 @@ class Refused(unittest.TestCase):
     def test_piles_of_another_number_of_dimensions(self):
         for call in TAKES_PILE:
             for name, pile in WRONG_SHAPES.items():
+                if (call, name) == ("settle", "three dimensions"):  # a stack of piles
+                    continue
                 for kind in (ValueError, TypeError):
                     with self.subTest(call=call, pile=name, kind=kind):
                         self.refuses(TAKES_PILE[call], kind, pile)

@@ -1,0 +1,128 @@
+"""Stacks of piles, which are settled as they are one by one."""
+
+import unittest
+import warnings
+from concurrent.futures import ThreadPoolExecutor
+from unittest import mock
+
+import numpy as np
+import sandpile
+from sandpile import _library
+from tools import same
+
+LIMIT = 1_099_511_627_775
+INT64 = np.dtype(np.int64)
+
+
+def stack_of(count, height, width, most=20, seed=1):
+    return np.random.default_rng(seed).integers(0, most, (count, height, width))
+
+
+class Stacks(unittest.TestCase):
+    def check(self, stack, **options):
+        """A stack settles as its piles do one by one, and is not modified."""
+        before, found = np.array(stack), sandpile.settle(stack, **options)
+        one_by_one = [sandpile.settle(pile, **options) for pile in stack]
+        for name in ("pile", "odometer", "lost", "topplings"):
+            wanted = np.array([getattr(settled, name) for settled in one_by_one], np.int64)
+            self.assertTrue(same(getattr(found, name), wanted), name)
+        np.testing.assert_array_equal(np.array(stack), before)
+        return found
+
+    def test_as_one_by_one(self):
+        for cylinder in (False, True):
+            for shape in [(1, 1, 3), (5, 3, 4), (40, 8, 8), (7, 1, 256), (7, 256, 3), (3, 32, 32), (1, 256, 256)]:
+                for most in (4, 20):
+                    with self.subTest(shape=shape, cylinder=cylinder, most=most):
+                        self.assertIs(self.check(stack_of(*shape, most), cylinder=cylinder).cylinder, cylinder)
+
+    def test_more_sites_than_one_call_settles(self):
+        for shape in [(1025, 8, 8), (3, 256, 256), (70, 31, 33)]:
+            self.check(stack_of(*shape, most=5))
+
+    def test_each_integer_type(self):
+        stack = stack_of(4, 3, 5, most=100)
+        for name in "bBhHiIlLqQ":
+            for order in "<>":
+                self.check(stack.astype(np.dtype(name).newbyteorder(order)))
+
+    def test_arrays_of_any_layout(self):
+        stack = stack_of(6, 7, 5)
+        self.check(np.asfortranarray(stack))
+        self.check(stack[::-2, ::-1, ::2])
+        self.check(np.broadcast_to(stack[0], (3, 7, 5)))
+        self.check(np.moveaxis(stack, 0, -1))
+        stack.flags.writeable = False
+        self.check(stack)
+        self.check(stack.tolist())
+        self.check(tuple(stack))
+
+    def test_no_pile(self):
+        for shape in [(0, 3, 4), (0, 256, 256)]:
+            for kind in (int, np.uint64, float):
+                found = sandpile.settle(np.zeros(shape, kind))
+                self.assertEqual([found.pile.shape, found.odometer.shape, found.lost.shape, found.topplings.shape],
+                                 [shape, shape, (0,), (0,)])
+                self.assertEqual({found.pile.dtype, found.odometer.dtype, found.lost.dtype, found.topplings.dtype}, {INT64})
+
+    def test_what_has_an_edge(self):
+        piles = stack_of(3, 4, 5)
+        for cylinder in (False, True):
+            elements = [sandpile.recurrent(pile, cylinder=cylinder) for pile in piles]
+            runs = [sandpile.Drive(pile, cylinder=cylinder) for pile in piles]
+            for stack in (elements, tuple(runs), [piles[0], *elements], sandpile.settle(piles, cylinder=cylinder)):
+                with warnings.catch_warnings(record=True) as warned:
+                    self.assertIs(sandpile.settle(stack).cylinder, cylinder)
+                self.assertEqual(warned, [])
+                self.assertRaisesRegex(sandpile.Fault, "fault 9 Shapes", sandpile.settle, stack, cylinder=not cylinder)
+        mixed = [sandpile.identity((3, 3)), sandpile.identity((3, 3), cylinder=True)]
+        self.assertRaisesRegex(sandpile.Fault, "fault 9 Shapes: the piles have different edges", sandpile.settle, mixed)
+
+    def test_faults(self):
+        for shape in [(2, 1, 257), (2, 0, 3), (0, 257, 1), (0, 0, 0)]:
+            for cylinder in (False, True):
+                self.assertRaisesRegex(sandpile.Fault, "fault 1", sandpile.settle, np.zeros(shape, int), cylinder=cylinder)
+        for count in (0, 1, 5):
+            self.assertRaisesRegex(sandpile.Fault, "fault 24", sandpile.settle, np.zeros((count, 3, 2), int), cylinder=True)
+
+    def test_the_pile_over_the_limit(self):
+        for at in (0, 1, 1023, 1025, 2999):
+            for heights in ([LIMIT, 1], [LIMIT + 1, 0], [2**63, 2**63], [2**64 - 1, 1], [2**64 - 1, 2**64 - 1]):
+                stack = np.zeros((3000, 8, 8), np.uint64)
+                if at:  # a call settles 1024 of them, or none
+                    stack[at - 1, 3, 3] = LIMIT
+                stack[[at, 2999], 7, :2] = heights
+                with self.subTest(at=at, heights=heights):
+                    said = f"fault 3 TooManyGrains: pile {at} of the stack has more than 1,099,511,627,775 grains"
+                    self.assertRaisesRegex(sandpile.Fault, said, sandpile.settle, stack)
+
+    def test_a_height_below_0(self):
+        stack = stack_of(5, 3, 4)
+        stack[3, 2, 1] = -7
+        self.assertRaisesRegex(ValueError, "the one in pile 3, row 2, column 1 is -7", sandpile.settle, stack)
+
+    def test_other_calls_take_no_stack(self):
+        stack = stack_of(2, 3, 4)
+        for call in (sandpile.burn, sandpile.recurrent, sandpile.Recurrent, sandpile.Drive, sandpile.lab):
+            for kind in (ValueError, TypeError):
+                for pile in (stack, stack[:0], sandpile.settle(stack)):
+                    self.assertRaisesRegex(kind, r"shape \(height, width\), but this array has 3", call, pile)
+
+    def test_stacks_in_threads(self):
+        stacks = [stack_of(30, 9, 7, seed=seed) for seed in range(40)]
+        with ThreadPoolExecutor(8) as pool:
+            found = list(pool.map(sandpile.settle, stacks))
+        for settled, stack in zip(found, stacks):
+            self.assertTrue(same(settled.odometer, sandpile.settle(stack).odometer))
+
+    def test_ctrl_c_comes_between_piles(self):
+        calls = []
+
+        def come(*words):
+            calls.append(words)
+            raise KeyboardInterrupt
+
+        with mock.patch.object(_library.library, "sandpile_settle_all", come):
+            self.assertRaises(KeyboardInterrupt, sandpile.settle, np.zeros((9, 256, 256), int))
+        self.assertEqual(len(calls), 1)
+        self.assertEqual(calls[0][4], 256 * 256)
