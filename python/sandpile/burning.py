@@ -65,7 +65,7 @@ def burn(pile: ArrayLike, cylinder: bool | None = None) -> Burned:
 
 def burned(heights: Heights, cylinder: bool) -> Burned:
     """What `burn` returns, for heights that are checked."""
-    found = np.zeros(heights.size, np.int64)
+    found = np.empty(heights.size, np.int64)
     count, recurrent = ctypes.c_size_t(), ctypes.c_bool()
     call("burn", heights.shape, cylinder, heights, found, ctypes.byref(count), ctypes.byref(recurrent))
     sites = found[: count.value]

@@ -83,7 +83,7 @@ def settle(pile: ArrayLike, cylinder: bool | None = None) -> Settled:
 
 
 def _settled(heights: Heights, edge: bool) -> Settled:
-    odometer = np.zeros_like(heights)
+    odometer = np.empty(heights.shape, np.int64)
     lost, topplings = ctypes.c_uint64(), ctypes.c_uint64()
     call("settle", heights.shape, edge, heights, odometer, ctypes.byref(lost), ctypes.byref(topplings))
     return Settled(heights, odometer, lost.value, topplings.value, edge)
@@ -91,7 +91,7 @@ def _settled(heights: Heights, edge: bool) -> Settled:
 
 def _settled_stack(heights: Heights, edge: bool) -> Settled:
     count, *shape = heights.shape
-    odometer, lost, topplings = np.zeros_like(heights), np.zeros(count, np.int64), np.zeros(count, np.int64)
+    odometer, lost, topplings = (np.empty(size, np.int64) for size in (heights.shape, count, count))
     at_once = _SITES_AT_ONCE // (shape[0] * shape[1])
     for begin in range(0, max(count, 1), at_once):  # without piles, the edge is checked all the same
         some = slice(begin, begin + at_once)
