@@ -91,7 +91,7 @@ def _settled(heights: Heights, edge: bool) -> Settled:
 
 def _settled_stack(heights: Heights, edge: bool) -> Settled:
     count, *shape = heights.shape
-    odometer, lost, topplings = (np.empty(size, np.int64) for size in (heights.shape, count, count))
+    odometer, lost, topplings = np.empty(heights.shape, np.int64), np.empty(count, np.int64), np.empty(count, np.int64)
     at_once = _SITES_AT_ONCE // (shape[0] * shape[1])
     for begin in range(0, max(count, 1), at_once):  # without piles, the edge is checked all the same
         some = slice(begin, begin + at_once)
