@@ -14,7 +14,7 @@ from .faults import Fault, ShapeError
 Heights = NDArray[np.int64]
 
 _MOST_SIDE = 256
-_SHAPES = 9
+_TOO_MANY_GRAINS, _SHAPES = 3, 9
 # NumPy before 1.24 makes an array of lists of them, with a warning.
 _ALLOWS_RAGGED = tuple(map(int, np.__version__.split(".")[:2])) < (1, 24)
 
@@ -37,13 +37,18 @@ class HasPile:
 
 
 def _integers(values: ArrayLike, what: str) -> NDArray[Any]:
-    """The values as an array, which must have one of NumPy's integer types."""
+    """The values as an array, which must have one of NumPy's integer types. Of integers over 64 bits in lists, it is one of
+    Python's integers."""
     if isinstance(values, np.ma.MaskedArray):
         raise TypeError(f"{what} must be a plain array, not a masked one")
     array = _array_of(values, what)
-    if array.size and array.dtype.kind not in "iu":
-        raise TypeError(f"{what} must be integers of at most 64 bits, but this array has type {array.dtype}")
-    return array
+    if not array.size or array.dtype.kind in "iu":
+        return array
+    if isinstance(values, (list, tuple)):
+        objects = np.asarray(values, object)
+        if {*map(type, objects.flat)} == {int}:
+            return objects
+    raise TypeError(f"{what} must be integers of at most 64 bits, but this array has type {array.dtype}")
 
 
 def _array_of(values: ArrayLike, what: str) -> NDArray[Any]:
@@ -97,13 +102,20 @@ def heights_of(pile: ArrayLike, may_be_stack: bool = False) -> Heights:
     array = _integers(pile, "heights")
     if array.ndim != 2 and not (may_be_stack and array.ndim == 3):
         stack = ", and a stack of piles (k, height, width)" if may_be_stack else ""
-        raise ShapeError(f"a pile must have shape (height, width){stack}, but this array has {array.ndim} dimensions")
+        raise ShapeError(f"a pile must have shape (height, width){stack}, but this array has shape {array.shape}")
     check_sides(array.shape[-2:])
-    if array.dtype.kind == "i" and array.size and array.min() < 0:
-        *pile_in_stack, row, column = at = tuple(np.argwhere(array < 0)[0])
-        place = "".join(f"pile {number}, " for number in pile_in_stack)
-        raise ValueError(f"heights must be 0 or more, but the one in {place}row {row}, column {column} is {array[at]}")
+    if array.dtype.kind != "u" and array.size and array.min() < 0:
+        raise ValueError(f"heights must be 0 or more, but the one in {_first(array, array < 0)}")
+    if array.dtype.kind == "O":
+        raise Fault(_TOO_MANY_GRAINS, f"the height in {_first(array, array >= 2**64)}, over 1,099,511,627,775")
     return np.array(array, dtype=np.int64, order="C")
+
+
+def _first(array: NDArray[Any], which: NDArray[np.bool_]) -> str:
+    """Where the first of these heights is, and its value."""
+    *pile, row, column = at = tuple(np.argwhere(which)[0])
+    place = "".join(f"pile {number}, " for number in pile)
+    return f"{place}row {row}, column {column} is {array[at]}"
 
 
 def check_sides(shape: tuple[int, ...]) -> None:
@@ -127,9 +139,7 @@ def sites_of(sites: ArrayLike, count: int) -> NDArray[np.int64]:
     """A new contiguous array of site numbers, each below `count`."""
     array = _integers(sites, "sites")
     if array.ndim > 1:
-        raise ShapeError(
-            f"sites must be a list of numbers, row * width + column, but this array has {array.ndim} dimensions"
-        )
+        raise ShapeError(f"sites must be a list of numbers, row * width + column, but this array has shape {array.shape}")
     array = np.atleast_1d(array)
     if array.size and not (array.min() >= 0 and array.max() < count):
         at = np.flatnonzero((array < 0) | (array >= count))[0]

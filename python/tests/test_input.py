@@ -27,6 +27,8 @@ NEGATIVE = {
     "negative": np.array([[3, -1]]),
     "least": np.array([[np.iinfo(np.int64).min]]),
     "in a list": [[3, 2], [-1, 2]],
+    "over 64 bits": [[3, -(2**70)]],
+    "mixed": [[2**63, -1]],
 }
 WRONG_SHAPES = {
     "no dimension": np.array(3),
@@ -50,8 +52,9 @@ NO_PILES = {
     "text": np.array([["3", "2"]]),
     "date": np.array([["2026-01-01"]], "datetime64[D]"),
     "object": np.array([[3, 2]], object),
-    "over 64 bits": [[2**64]],
-    "mixed": [[2**63, -1]],
+    "over 64 bits": np.array([[2**64]]),
+    "mixed": [[2**64, 0.5]],
+    "mixed with a bool": [[2**64, True]],
     "masked": MASKED,
     "a record": np.zeros((2, 2), [("x", int)]),
     "None": None,
@@ -65,6 +68,8 @@ FAULTS = {
     "an empty list": ([[]], 1),
     "too many": (np.array([[LIMIT, 1]]), 3),
     "the greatest": (np.full((2, 2), np.iinfo(np.uint64).max, np.uint64), 3),
+    "over 64 bits": ([[0, 3], [2**64, 1]], 3),
+    "257 wide, over 64 bits": ([[2**64] * 257], 1),
 }
 
 
@@ -154,7 +159,9 @@ class Refused(unittest.TestCase):
         before = pickle.dumps(run)
         for sites in [[6], [-1], np.array([0, 2**64 - 1], np.uint64), np.array([-1], np.int8)]:
             self.refuses(run.drop_at, 25, sites)
-        for sites in [[0.0], ["0"], [[0, 1]], np.array([True]), [None], [2**64]]:
+        for sites in [[2**64], [3, 2**63, -1], (-(2**64),)]:
+            self.refuses(run.drop_at, 25, sites)
+        for sites in [[0.0], ["0"], [[0, 1]], np.array([True]), [None], [2**64, 0.5]]:
             self.refuses(run.drop_at, TypeError, sites)
         self.assertEqual(pickle.dumps(run), before)
         self.assertEqual(len(run.drop_at([])), 0)

@@ -101,12 +101,16 @@ class Stacks(unittest.TestCase):
         stack[3, 2, 1] = -7
         self.assertRaisesRegex(ValueError, "the one in pile 3, row 2, column 1 is -7", sandpile.settle, stack)
 
+    def test_a_height_over_64_bits(self):
+        stack = [[[0, 1]], [[2, 2**64 + 3]]]
+        self.assertRaisesRegex(sandpile.Fault, "fault 3 .* pile 1, row 0, column 1 is 18446744073709551619", sandpile.settle, stack)
+
     def test_other_calls_take_no_stack(self):
         stack = stack_of(2, 3, 4)
         for call in (sandpile.burn, sandpile.recurrent, sandpile.Recurrent, sandpile.Drive, sandpile.lab):
             for kind in (ValueError, TypeError):
                 for pile in (stack, stack[:0], sandpile.settle(stack)):
-                    self.assertRaisesRegex(kind, r"shape \(height, width\), but this array has 3", call, pile)
+                    self.assertRaisesRegex(kind, r"shape \(height, width\), but this array has shape \(\d, 3, 4\)", call, pile)
 
     def test_stacks_in_threads(self):
         stacks = [stack_of(30, 9, 7, seed=seed) for seed in range(40)]
