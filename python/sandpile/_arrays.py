@@ -104,7 +104,9 @@ def heights_of(pile: ArrayLike, may_be_stack: bool = False) -> Heights:
         stack = ", and a stack of piles (k, height, width)" if may_be_stack else ""
         raise ShapeError(f"a pile must have shape (height, width){stack}, but this array has shape {array.shape}")
     check_sides(array.shape[-2:])
-    if array.dtype.kind != "u" and array.size and array.min() < 0:
+    if not array.size:
+        return np.empty(array.shape, np.int64)
+    if array.dtype.kind != "u" and array.min() < 0:
         raise ValueError(f"heights must be 0 or more, but the one in {_first(array, array < 0)}")
     if array.dtype.kind == "O":
         raise Fault(_TOO_MANY_GRAINS, f"the height in {_first(array, array >= 2**64)}, over 1,099,511,627,775")

@@ -59,7 +59,7 @@ class Stacks(unittest.TestCase):
 
     def test_no_pile(self):
         for shape in [(0, 3, 4), (0, 256, 256)]:
-            for kind in (int, np.uint64, float):
+            for kind in (int, np.uint64, float, object, "U1", [("x", int)]):
                 found = sandpile.settle(np.zeros(shape, kind))
                 self.assertEqual([found.pile.shape, found.odometer.shape, found.lost.shape, found.topplings.shape],
                                  [shape, shape, (0,), (0,)])
