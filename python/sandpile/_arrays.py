@@ -160,12 +160,24 @@ def site_of(site: int, count: int) -> int:
     return value
 
 
-def count_of(number: int, what: str, most: int = 2**64 - 1) -> int:
-    """A Python or NumPy number, which must be an integer from 0 to `most`."""
+def count_of(number: int, what: str, most: int = 2**64 - 1, fault: int = 15) -> int:
+    """A Python or NumPy number, which must be an integer from 0 to `most`; outside, it is this fault."""
     try:
         value = operator.index(number)
     except TypeError:
         raise TypeError(f"{what} must be an integer, not {number!r}") from None
     if not 0 <= value <= most:
-        raise Fault(15, f"{what} is {value}, but must be from 0 to {most}")
+        raise Fault(fault, f"{what} is {value}, but must be from 0 to {most}")
     return value
+
+
+def seed_of(seed: int | np.random.SeedSequence | None, bits: int = 64, fault: int = 15) -> int:
+    """A seed of 64 or 32 bits: the first number that a sequence generates, and without a seed one of fresh entropy."""
+    if seed is None:
+        seed = np.random.SeedSequence()
+    if isinstance(seed, np.random.SeedSequence):
+        return int(seed.generate_state(1, np.uint64 if bits == 64 else np.uint32)[0])
+    try:
+        return count_of(seed, "seed", 2**bits - 1, fault)
+    except TypeError:
+        raise TypeError(f"seed must be an integer, a numpy.random.SeedSequence or None, not {seed!r}") from None

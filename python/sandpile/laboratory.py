@@ -13,7 +13,7 @@ from pathlib import Path
 import numpy as np
 from numpy.typing import ArrayLike, NDArray
 
-from ._arrays import HasPile, Heights, heights_and_edge
+from ._arrays import HasPile, Heights, heights_and_edge, seed_of
 from .faults import Fault
 
 _CHECKOUT = Path(__file__).resolve().parents[2] / "crates" / "sandpile" / "out" / "sandpile"
@@ -43,12 +43,15 @@ class Run(HasPile):
         How often each site toppled in all epochs; shape (height, width), int64.
     cylinder : bool
         Whether the first and the last column are neighbours.
+    seed : int
+        The seed of the run.
     """
 
     epochs: NDArray[np.void]
     pile: Heights
     odometer: Heights
     cylinder: bool
+    seed: int
 
 
 def _program() -> str:
@@ -88,7 +91,7 @@ def _end_of(status: int) -> str:
         return f"was ended by signal {-status}"
 
 
-def _run_of(text: str, shape: tuple[int, ...], cylinder: bool) -> Run | None:
+def _run_of(text: str, shape: tuple[int, ...], cylinder: bool, seed: int) -> Run | None:
     """Parses a table of epochs, its total, a pile, and its odometer. A text that is cut off is none."""
     found = _OUTPUT.fullmatch(text)
     if not found:
@@ -96,12 +99,12 @@ def _run_of(text: str, shape: tuple[int, ...], cylinder: bool) -> Run | None:
     epochs, pile, odometer = (np.array(part.split(), np.int64) for part in found.groups())
     if not pile.size == odometer.size == shape[0] * shape[1]:
         return None
-    return Run(epochs.view(EPOCH), pile.reshape(shape), odometer.reshape(shape), cylinder)
+    return Run(epochs.view(EPOCH), pile.reshape(shape), odometer.reshape(shape), cylinder, seed)
 
 
 def lab(
     pile: ArrayLike,
-    seed: int = 0,
+    seed: int | np.random.SeedSequence | None = None,
     droppers: int = 2,
     drops: int = 100,
     epochs: int = 1,
@@ -120,8 +123,10 @@ def lab(
     ----------
     pile : array_like of int
         The start, shape (height, width), sides from 1 to 256, any integer type. Not modified.
-    seed : int
-        From 0 to 4294967295. Dropper k of epoch t drops at the sites of stream 64 * t + k.
+    seed : int or numpy.random.SeedSequence, optional
+        An integer from 0 to 4294967295, or a sequence, whose ``generate_state(1, np.uint32)[0]`` the seed then is. Without
+        a seed, one is drawn from fresh entropy. The `seed` of the result is the integer. Dropper k of epoch t drops at the
+        sites of stream 64 * t + k.
     droppers : int
         Threads that drop grains, from 1 to 64.
     drops : int
@@ -142,7 +147,7 @@ def lab(
     ValueError
         If a height is below 0, or `pile` is not two-dimensional; the latter is also a `TypeError`.
     TypeError
-        If the heights are not integers.
+        If the heights are not integers, or `seed` is neither an integer nor a sequence.
     OSError
         If the program cannot be started; FileNotFoundError if it is not found.
     RuntimeError
@@ -156,7 +161,7 @@ def lab(
     >>> run.epochs["lost"], run.odometer
     (array([4, 8]), array([[3]]))
     """
-    heights, edge = heights_and_edge(pile, cylinder)
+    (heights, edge), seed = heights_and_edge(pile, cylinder), seed_of(seed, bits=32, fault=_USAGE)
     options = dict(
         seed=seed, droppers=droppers, drops=drops, epochs=epochs, workers=workers, sweeps=sweeps, observers=observers
     )
@@ -165,7 +170,7 @@ def lab(
         [_program(), "lab", *words], input=_text_of(heights, edge), capture_output=True, check=False,
         text=True, errors="backslashreplace",
     )
-    run = None if ended.returncode else _run_of(ended.stdout, heights.shape, edge)
+    run = None if ended.returncode else _run_of(ended.stdout, heights.shape, edge, seed)
     if run is None:
         raise _error_of(ended)
     return run

@@ -32,7 +32,7 @@ CALLS = {
     "Recurrent": sandpile.Recurrent,
     "Drive": ran,
     "SharedPile": shared,
-    "lab": lambda pile, **options: sandpile.lab(pile, drops=9, **options),
+    "lab": lambda pile, **options: sandpile.lab(pile, seed=0, drops=9, **options),
 }
 CARRIERS = {name: call for name, call in CALLS.items() if name not in ("burn", "Recurrent")}
 NO_EDGES = {"a word": "False", "a number": 1, "a float": 0.0, "an array": np.array(True), "a list": [True], "a pile": PILE}

@@ -4,6 +4,7 @@ import os
 import unittest
 from unittest import mock
 
+import numpy as np
 import sandpile
 from tools import new_folder
 
@@ -26,11 +27,11 @@ class Ends(unittest.TestCase):
         named.start()
         self.addCleanup(named.stop)
 
-    def run_by(self, script):
+    def run_by(self, script, **seed):
         """A run by a program that is this shell script."""
         self.program.write_text(f"#!/bin/sh\n{script}\n")
         self.program.chmod(0o755)
-        return sandpile.lab([[0]], drops=3, epochs=2)
+        return sandpile.lab([[0]], drops=3, epochs=2, **seed)
 
     def fault_of(self, script):
         with self.assertRaises(sandpile.Fault) as caught:
@@ -41,6 +42,14 @@ class Ends(unittest.TestCase):
         run = self.run_by(f"printf '{OUTPUT}'")
         self.assertEqual(run.epochs.tolist(), [(0, 6, 1, 4, 2), (1, 6, 2, 8, 0)])
         self.assertEqual((run.pile.tolist(), run.odometer.tolist(), run.epochs.dtype), ([[0]], [[3]], sandpile.EPOCH))
+
+    def test_its_seed(self):
+        words, sequence, seeds = self.program.with_name("words"), np.random.SeedSequence(7), []
+        for given in ({}, {"seed": None}, {"seed": 2**32 - 1}, {"seed": sequence}):
+            seeds.append(self.run_by(f"echo $* > '{words}'; printf '{OUTPUT}'", **given).seed)
+            self.assertIn(f" --seed={seeds[-1]} ", words.read_text())
+        self.assertEqual(seeds[2:], [2**32 - 1, int(sequence.generate_state(1)[0])])
+        self.assertEqual((len(set(seeds)), max(seeds)), (4, 2**32 - 1))
 
     def test_output_that_is_cut_off(self):
         for length in range(len(OUTPUT)):
