@@ -3,7 +3,8 @@
 from __future__ import annotations
 
 import operator
-from typing import TYPE_CHECKING, Any
+from collections.abc import Mapping
+from typing import TYPE_CHECKING, Any, Sequence, SupportsIndex
 
 import numpy as np
 from numpy.typing import ArrayLike, NDArray
@@ -149,23 +150,60 @@ def sites_of(sites: ArrayLike, count: int) -> NDArray[np.int64]:
     return np.array(array, dtype=np.int64, order="C")
 
 
-def site_of(site: int, count: int) -> int:
-    """A single site number, below `count`."""
+def sites_at(
+    sites: ArrayLike | None, rows: ArrayLike | None, columns: ArrayLike | None, shape: tuple[int, ...]
+) -> NDArray[np.int64]:
+    """The numbers of sites, given as such or by their rows and columns, as `sites_of` returns them."""
+    height, width = shape
+    if sites is not None and rows is None and columns is None:
+        return sites_of(sites, height * width)
+    if sites is not None or rows is None or columns is None:
+        raise TypeError("sites are either numbers, or rows and columns")
+    rows, columns = np.broadcast_arrays(_integers(rows, "rows"), _integers(columns, "columns"))
+    is_outside = (rows < 0) | (rows >= height) | (columns < 0) | (columns >= width)
+    if is_outside.any():
+        at = int(is_outside.argmax())
+        raise _outside(f"drop {at}", rows.flat[at], columns.flat[at], shape)
+    return rows.astype(np.int64).ravel() * width + columns.astype(np.int64).ravel()
+
+
+def site_at(
+    site: SupportsIndex | None, row: SupportsIndex | None, column: SupportsIndex | None, shape: tuple[int, ...]
+) -> int:
+    """The number of a site, given as such or by its row and its column."""
+    height, width = shape
+    if row is None and column is None:
+        if isinstance(site, tuple):
+            raise TypeError(f"site must be an integer, not {site!r}; a row and a column are passed by name")
+        at = index_of(site, "site")
+        if not 0 <= at < height * width:
+            raise Fault(25, f"the drop is at site {at}, but the grid has only sites 0 to {height * width - 1}")
+        return at
+    if site is not None:
+        raise TypeError("a site is either a number, or a row and a column")
+    row, column = index_of(row, "row"), index_of(column, "column")
+    if not (0 <= row < height and 0 <= column < width):
+        raise _outside("the drop", row, column, shape)
+    return row * width + column
+
+
+def index_of(value: Any, what: str) -> int:
+    """A Python or NumPy number, which must be an integer."""
     try:
-        value = operator.index(site)
+        return operator.index(value)
     except TypeError:
-        raise TypeError(f"site must be an integer, not {site!r}") from None
-    if not 0 <= value < count:
-        raise Fault(25, f"the drop is at site {value}, but the grid has only sites 0 to {count - 1}")
-    return value
+        raise TypeError(f"{what} must be an integer, not {value!r}") from None
 
 
-def count_of(number: int, what: str, most: int = 2**64 - 1, fault: int = 15) -> int:
+def _outside(what: str, row: int, column: int, shape: tuple[int, ...]) -> Fault:
+    height, width = shape
+    only = f"only rows 0 to {height - 1} and columns 0 to {width - 1}"
+    return Fault(25, f"{what} is at row {row}, column {column}, but the grid has {only}")
+
+
+def count_of(number: SupportsIndex, what: str, most: int = 2**64 - 1, fault: int = 15) -> int:
     """A Python or NumPy number, which must be an integer from 0 to `most`; outside, it is this fault."""
-    try:
-        value = operator.index(number)
-    except TypeError:
-        raise TypeError(f"{what} must be an integer, not {number!r}") from None
+    value = index_of(number, what)
     if not 0 <= value <= most:
         raise Fault(fault, f"{what} is {value}, but must be from 0 to {most}")
     return value

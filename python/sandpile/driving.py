@@ -4,13 +4,13 @@ from __future__ import annotations
 
 import ctypes
 import os
-from typing import Any, Callable, NamedTuple, Optional, Tuple
+from typing import Any, Callable, NamedTuple, Optional, SupportsIndex, Tuple
 
 import numpy as np
 from numpy.typing import ArrayLike, NDArray
 
 from . import _saves
-from ._arrays import HasPile, Heights, count_of, heights_and_edge, seed_of, site_of, sites_of
+from ._arrays import HasPile, Heights, count_of, heights_and_edge, seed_of, site_at, sites_at
 from ._handles import DriveHandle
 from ._library import call, call_at
 from .faults import Fault
@@ -265,14 +265,19 @@ class Drive(HasPile):
 
         return self._drop(asked, progress, draws=True)
 
-    def drop_at(self, sites: ArrayLike) -> NDArray[np.void]:
+    def drop_at(
+        self, sites: ArrayLike | None = None, *, rows: ArrayLike | None = None, columns: ArrayLike | None = None
+    ) -> NDArray[np.void]:
         """Drops a grain at each of these sites in turn. Uses no random sites.
 
         Parameters
         ----------
         sites : array_like of int
-            Site numbers, row * width + column, shape (n,), or a single one. `numpy.ravel_multi_index` converts rows and
-            columns to them.
+            Site numbers, row * width + column, shape (n,), or a single one. So ``drop_at((1, 2))`` drops a grain at site 1
+            and one at site 2; ``drop_at(rows=1, columns=2)`` drops one in row 1, column 2.
+        rows, columns : array_like of int
+            Instead of `sites`, their rows and their columns, each from 0. They are broadcast, and taken row by row if there
+            are several dimensions.
 
         Returns
         -------
@@ -284,7 +289,10 @@ class Drive(HasPile):
         Fault
             NoSite (25) if a site is outside the grid, Full (6) or Memory (4), as from `drop`.
         TypeError
-            If the sites are not integers, or have more than one dimension; the latter is also a `ValueError`.
+            If the sites are not integers, have more than one dimension (which is also a `ValueError`), or are not given in one
+            of the two ways.
+        ValueError
+            If the rows and the columns cannot be broadcast.
         RuntimeError
             As from `drop`.
 
@@ -293,26 +301,32 @@ class Drive(HasPile):
         >>> import sandpile
         >>> sandpile.Drive([[0, 3, 0]]).drop_at([1, 1])["size"]
         array([1, 0])
+        >>> sandpile.Drive([[3, 2], [3, 3]]).drop_at(rows=[0, 1], columns=1)["site"]
+        array([1, 3])
         """
 
         def asked() -> _Wanted:
-            room = _Room(sites_of(sites, self._sites))
+            room = _Room(sites_at(sites, rows, columns, self._shape))
             return room.array.size, lambda begin, end, found: _drop(room.at + begin * _SITE, end - begin, found)
 
         return self._drop(asked, progress=False, draws=False)
 
-    def avalanche(self, site: int) -> tuple[np.void, Heights]:
+    def avalanche(
+        self, site: SupportsIndex | None = None, *, row: SupportsIndex | None = None, column: SupportsIndex | None = None
+    ) -> tuple[np.void, Heights]:
         """Drops a grain at a site, and returns how often each site topples in its avalanche. Uses no random site.
 
         Parameters
         ----------
         site : int
             The number of the site, row * width + column.
+        row, column : int
+            Instead of `site`, its row and its column, each from 0.
 
         Returns
         -------
-        row : numpy.void
-            The row of the avalanche in `table`, as from `drop`.
+        avalanche : numpy.void
+            Its row in `table`, as from `drop`.
         topplings : numpy.ndarray
             How often each site toppled in it; shape (height, width), int64. The sum is the size.
 
@@ -321,7 +335,7 @@ class Drive(HasPile):
         Fault
             NoSite (25) if the site is outside the grid, or Full (6), as from `drop`.
         TypeError
-            If the site is not an integer.
+            If the site, or its row and its column, are not integers.
         RuntimeError
             As from `drop`.
 
@@ -335,7 +349,7 @@ class Drive(HasPile):
         topplings = np.empty(self._shape, np.int64)
 
         def asked() -> _Wanted:
-            at = site_of(site, self._sites)
+            at = site_at(site, row, column, self._shape)
             return 1, lambda _, __, found: ("sandpile_drive_avalanche", at, found, topplings.ctypes.data, topplings.size)
 
         return self._drop(asked, progress=False, draws=False)[0], topplings

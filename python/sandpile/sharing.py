@@ -7,12 +7,12 @@ import threading
 import warnings
 from dataclasses import dataclass
 from types import TracebackType
-from typing import Any
+from typing import Any, SupportsIndex
 
 import numpy as np
 from numpy.typing import ArrayLike, NDArray
 
-from ._arrays import Heights, count_of, heights_and_edge, sites_of
+from ._arrays import Heights, count_of, heights_and_edge, sites_at
 from ._handles import PassHandle
 from ._library import call, call_on
 from .faults import Fault
@@ -153,13 +153,15 @@ class Part:
         self._passes, self._pass, self._is_joined = passes, PassHandle(), False
         self._use = threading.Lock()
 
-    def drop(self, sites: ArrayLike) -> NDArray[np.int64]:
+    def drop(
+        self, sites: ArrayLike | None = None, *, rows: ArrayLike | None = None, columns: ArrayLike | None = None
+    ) -> NDArray[np.int64]:
         """Drops a grain at each of these sites in turn. Nothing topples.
 
         Parameters
         ----------
-        sites : array_like of int
-            Site numbers, row * width + column, shape (n,), or a single one.
+        sites, rows, columns : array_like of int
+            The sites: their numbers, or their rows and columns, as in `Drive.drop_at`.
 
         Returns
         -------
@@ -172,7 +174,10 @@ class Part:
             NoSite (25) if a site is outside the grid, Spent (13) if these are more grains than the part has left, or
             Memory (4). Then none was dropped.
         TypeError
-            If the sites are not integers, or have more than one dimension; the latter is also a `ValueError`.
+            If the sites are not integers, have more than one dimension (which is also a `ValueError`), or are not given in one
+            of the two ways.
+        ValueError
+            If the rows and the columns cannot be broadcast.
         RuntimeError
             If another thread is using the part, if it has been joined, if the pile is closed, or in a forked process.
 
@@ -183,8 +188,7 @@ class Part:
         ...     part.drop([1, 1, 0])
         array([0, 1, 2])
         """
-        height, width = self._passes.shape
-        at, first = sites_of(sites, height * width), ctypes.c_uint64()
+        at, first = sites_at(sites, rows, columns, self._passes.shape), ctypes.c_uint64()
         self._call("pass_drop", at, ctypes.byref(first))
         return np.arange(first.value, first.value + at.size, dtype=np.int64)
 
