@@ -10,10 +10,11 @@ from numpy.typing import ArrayLike, NDArray
 
 from ._arrays import Heights, heights_and_edge
 from ._library import call
+from ._results import Result
 
 
-@dataclass(frozen=True)
-class Burned:
+@dataclass(frozen=True, eq=False, repr=False)
+class Burned(Result):
     """The result of burning.
 
     Attributes

@@ -46,7 +46,8 @@ class Recurrent(HasPile):
     >>> import sandpile
     >>> a = sandpile.Recurrent([[3, 2], [2, 2]])
     >>> a + a
-    Recurrent([[0, 3], [3, 2]])
+    Recurrent([[0, 3],
+               [3, 2]])
     >>> 24 * a == a - a == sandpile.identity((2, 2))
     True
     >>> 10**30 * a == -a + a + (10**30 % 24) * a
@@ -165,7 +166,8 @@ class Recurrent(HasPile):
         return Recurrent._known, (self._pile, self._cylinder)
 
     def __repr__(self) -> str:
-        return f"Recurrent({self._pile.tolist()}{', cylinder=True' if self._cylinder else ''})"
+        edge = ", cylinder=True" if self._cylinder else ""
+        return f"Recurrent({np.array2string(self._pile, separator=', ', prefix='Recurrent(')}{edge})"
 
 
 def identity(shape: tuple[int, int], cylinder: bool = False) -> Recurrent:

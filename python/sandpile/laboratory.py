@@ -14,6 +14,7 @@ import numpy as np
 from numpy.typing import ArrayLike, NDArray
 
 from ._arrays import HasPile, Heights, heights_and_edge, seed_of
+from ._results import Result
 from .faults import Fault
 
 _CHECKOUT = Path(__file__).resolve().parents[2] / "crates" / "sandpile" / "out" / "sandpile"
@@ -28,8 +29,8 @@ _OUTPUT = re.compile(
 EPOCH = np.dtype([(name, "i8") for name in ("epoch", "drops", "topplings", "lost", "grains")])
 
 
-@dataclass(frozen=True)
-class Run(HasPile):
+@dataclass(frozen=True, eq=False, repr=False)
+class Run(Result, HasPile):
     """The result of a run of the laboratory. It can be passed as a pile.
 
     Attributes

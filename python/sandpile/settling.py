@@ -11,6 +11,7 @@ from numpy.typing import ArrayLike
 
 from ._arrays import HasPile, Heights, heights_and_edge
 from ._library import call
+from ._results import Result
 from .faults import Fault
 
 _TOO_MANY_GRAINS, _MOST_GRAINS = 3, 1_099_511_627_775
@@ -18,8 +19,8 @@ _TOO_MANY_GRAINS, _MOST_GRAINS = 3, 1_099_511_627_775
 _SITES_AT_ONCE = 1 << 16
 
 
-@dataclass(frozen=True)
-class Settled(HasPile):
+@dataclass(frozen=True, eq=False, repr=False)
+class Settled(Result, HasPile):
     """The result of settling a pile, or each pile of a stack. It can be passed as a pile or a stack.
 
     Attributes

@@ -26,7 +26,7 @@ _HOLDING = np.dtype(
 )
 
 
-@dataclass(frozen=True)
+@dataclass(frozen=True, eq=False, repr=False)
 class Record(Settled):
     """What `SharedPile.settle` returns: what one thread gets that drops the grains of `history` one after another.
 
