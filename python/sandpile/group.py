@@ -3,15 +3,16 @@
 from __future__ import annotations
 
 import operator
-from typing import Any
+from typing import TYPE_CHECKING, Any, Sequence, SupportsIndex, overload
 
 import numpy as np
 from numpy.typing import ArrayLike
 
-from ._arrays import HasPile, Heights, checked_edge, heights_and_edge, shape_of
+from ._arrays import HasPile, Heights, checked_edge, heights_and_edge, shape_of, site_at
 from ._library import call
 from .burning import burned
 from .faults import Fault
+from .settling import settle
 
 # A pile has fewer grains than 2 to this.
 _GRAIN_BITS = 40
@@ -86,9 +87,53 @@ class Recurrent(HasPile):
         return self._cylinder
 
     @property
-    def shape(self) -> tuple[int, ...]:
+    def shape(self) -> tuple[int, int]:
         """The height and the width of the grid."""
-        return self._pile.shape
+        height, width = self._pile.shape
+        return height, width
+
+    def act(
+        self, site: SupportsIndex | None = None, *, row: SupportsIndex | None = None, column: SupportsIndex | None = None
+    ) -> Recurrent:
+        """The element after a grain drops at a site and the pile settles. This is Dhar's operator of the site; any two
+        operators commute.
+
+        Parameters
+        ----------
+        site : int
+            The number of the site, row * width + column.
+        row, column : int
+            Instead of `site`, its row and its column, each from 0.
+
+        Returns
+        -------
+        Recurrent
+            The new element; this one does not change.
+
+        Raises
+        ------
+        Fault
+            NoSite (25) if the site is outside the grid, or Memory (4).
+        TypeError
+            If the site, or its row and its column, are not integers.
+
+        See Also
+        --------
+        Drive.avalanche : how often each site topples meanwhile
+
+        Examples
+        --------
+        >>> import sandpile
+        >>> a = sandpile.Recurrent([[3, 2], [2, 2]])
+        >>> a.act(0)
+        Recurrent([[0, 3],
+                   [3, 2]])
+        >>> a.act(0).act(row=1, column=1) == a.act(3).act(0)
+        True
+        """
+        heights = self._pile.copy()
+        heights.flat[site_at(site, row, column, self.shape)] += 1
+        return Recurrent._known(settle(heights, self._cylinder).pile, self._cylinder)
 
     def _made(self, name: str, *arguments: Any) -> Recurrent:
         """The element that an export of the library makes from this one."""

@@ -11,7 +11,7 @@ from tools import needs, new_folder
 
 HERE = Path(__file__).resolve().parent
 CALLS = ["settle", "high", "settle all", "drop", "load", "copy", "burn", "identity", "recurrent", "add", "inverse", "multiple",
-         "share", "split", "settle shared"]
+         "act", "share", "split", "settle shared"]
 
 
 class Memory(unittest.TestCase):

@@ -68,7 +68,7 @@ class Lists(unittest.TestCase):
 
 class One(unittest.TestCase):
     def calls(self):
-        return (sandpile.Drive(START).avalanche,)
+        return sandpile.Drive(START).avalanche, sandpile.identity(SHAPE).act
 
     def test_it_is_the_site(self):
         for row, column in np.ndindex(SHAPE):
@@ -91,5 +91,4 @@ class One(unittest.TestCase):
             self.assertRaisesRegex(TypeError, "a site is either a number, or a row and a column", call, 1, row=1)
             self.assertRaisesRegex(TypeError, "column must be an integer, not None", call, row=1)
             self.assertRaisesRegex(TypeError, "row must be an integer, not 1.5", call, row=1.5, column=1)
-            self.assertRaises(TypeError, call)
             self.assertRaises(TypeError, call, 1, 2)
