@@ -6,7 +6,7 @@ import operator
 from typing import TYPE_CHECKING, Any, Sequence, SupportsIndex, overload
 
 import numpy as np
-from numpy.typing import ArrayLike
+from numpy.typing import ArrayLike, NDArray
 
 from ._arrays import HasPile, Heights, checked_edge, heights_and_edge, shape_of, site_at
 from ._library import call
@@ -21,9 +21,10 @@ _GRAIN_BITS = 40
 class Recurrent(HasPile):
     """A recurrent pile, as an element of the group of its grid.
 
-    ``a + b``, ``a - b``, ``-a``, ``n * a`` for any integer ``n``, and ``a == b`` are those of the group. Elements are
-    hashable. ``numpy.asarray(a)`` and ``a.pile`` are the heights, and ``a[row, column]`` is one of them. ``==`` with an
-    array compares site by site; the sum or product with an array of any kind is a `TypeError`.
+    ``a + b``, ``a - b``, ``-a``, ``n * a`` for any integer ``n``, and ``a == b`` are those of the group; `sum` adds several
+    elements. They are hashable, and have no order. ``numpy.asarray(a)`` and ``a.pile`` are the heights, and
+    ``a[row, column]`` is one of them. ``==`` and ``!=`` with an array compare site by site; any other operator with an array
+    is a `TypeError`. Only masked arrays do not ask: ``masked += a`` and ``masked < a`` use the heights.
 
     Parameters
     ----------
@@ -144,7 +145,7 @@ class Recurrent(HasPile):
     def _is_beside(self, other: Recurrent) -> bool:
         return self.shape == other.shape and self._cylinder == other._cylinder
 
-    def _refuse(self, other: object) -> Any:
+    def _refuse(self, other: object) -> Recurrent:
         """Raises an error for an array, before its class can take the heights site by site, as masked arrays do."""
         if isinstance(other, np.ndarray):
             raise TypeError(
@@ -152,7 +153,16 @@ class Recurrent(HasPile):
             )
         return NotImplemented
 
-    __truediv__ = __floordiv__ = __mod__ = __pow__ = __matmul__ = _refuse
+    def _has_no_order(self, other: object) -> bool:
+        """Raises an error for an array, as `_refuse` does."""
+        if isinstance(other, np.ndarray):
+            raise TypeError("elements of the group have no order; the array `.pile` of one has")
+        return NotImplemented
+
+    if not TYPE_CHECKING:  # so that a type checker refuses these operators, too
+        __truediv__ = __floordiv__ = __mod__ = __pow__ = __matmul__ = _refuse
+        __rsub__ = __rtruediv__ = __rfloordiv__ = __rmod__ = __rpow__ = __rmatmul__ = _refuse
+        __lt__ = __le__ = __gt__ = __ge__ = _has_no_order
 
     def __add__(self, other: Recurrent) -> Recurrent:
         if not isinstance(other, Recurrent):
@@ -160,6 +170,10 @@ class Recurrent(HasPile):
         if not self._is_beside(other):
             raise Fault(9)
         return self._made("add", other._pile)
+
+    def __radd__(self, other: int) -> Recurrent:
+        """``0 + a``, with which `sum` begins."""
+        return self if type(other) is int and other == 0 else self._refuse(other)
 
     def __neg__(self) -> Recurrent:
         return self._made("inverse")
@@ -194,12 +208,27 @@ class Recurrent(HasPile):
 
     __rmul__ = __mul__
 
+    @overload
+    def __eq__(self, other: NDArray[Any]) -> NDArray[np.bool_]: ...  # type: ignore
+
+    @overload
+    def __eq__(self, other: object) -> bool: ...
+
     def __eq__(self, other: object) -> Any:
         if isinstance(other, np.ndarray):
             return self._pile == other
         if not isinstance(other, Recurrent):
             return NotImplemented
         return self._is_beside(other) and np.array_equal(self._pile, other._pile)
+
+    @overload
+    def __ne__(self, other: NDArray[Any]) -> NDArray[np.bool_]: ...  # type: ignore
+
+    @overload
+    def __ne__(self, other: object) -> bool: ...
+
+    def __ne__(self, other: object) -> Any:
+        return self._pile != other if isinstance(other, np.ndarray) else not self == other
 
     def __hash__(self) -> int:
         return hash((self.shape, self._cylinder, self._pile.tobytes()))

@@ -1,6 +1,7 @@
-"""Elements of the group: Dhar's operators."""
+"""Elements of the group: Dhar's operators, sums, and what happens with arrays."""
 
 import itertools
+import operator
 import random
 import unittest
 
@@ -53,3 +54,54 @@ class Operators(unittest.TestCase):
             if not a.cylinder:
                 once = a.act(1).act(width) if height > 1 else a.act(1)
                 self.assertEqual(a.act(0).act(0).act(0).act(0), once)
+
+
+class Sums(unittest.TestCase):
+    def test_sum(self):
+        for a in elements():
+            self.assertEqual(sum([a, a, -a]), a)
+            self.assertEqual(sum([a, a], a), 3 * a)
+            self.assertEqual(0 + a, a)
+
+    def test_nothing_else_is_added(self):
+        a = sandpile.identity((3, 4))
+        for other in (1, 0.0, False, np.int64(0), np.uint8(0), "", None):
+            self.assertRaises(TypeError, operator.add, other, a)
+        self.assertRaises(TypeError, operator.add, a, 0)
+
+
+class Arrays(unittest.TestCase):
+    A = sandpile.recurrent(np.arange(12).reshape(3, 4))
+    ARRAYS = (np.ones((3, 4), int), np.ma.array(np.ones((3, 4), int)), np.array(0))
+
+    def refuses(self, name, one, other, said):
+        with self.subTest(name=name, one=type(one).__name__, other=type(other).__name__):
+            self.assertRaisesRegex(TypeError, said, getattr(operator, name), one, other)
+
+    def test_no_operator_takes_them(self):
+        for array in self.ARRAYS:
+            for name in ("add", "sub", "truediv", "floordiv", "mod", "pow", "matmul"):
+                self.refuses(name, array, self.A, "the group adds elements")
+                self.refuses(name, self.A, array, "the group adds elements")
+            for name in ("iadd", "isub", "itruediv"):
+                self.refuses(name, self.A, array, "the group adds elements")
+        array = self.ARRAYS[0]
+        self.refuses("iadd", array.copy(), self.A, "Recurrent")
+
+    def test_there_is_no_order(self):
+        for array in self.ARRAYS:
+            for name in ("lt", "le", "gt", "ge"):
+                self.refuses(name, self.A, array, "elements of the group have no order")
+                if not isinstance(array, np.ma.MaskedArray):  # which does not ask
+                    self.refuses(name, array, self.A, "elements of the group have no order")
+        self.assertRaises(TypeError, operator.lt, self.A, self.A)
+
+    def test_equality_is_site_by_site(self):
+        array = self.A.pile.copy()
+        array[0, 1] += 1
+        for one, other in ((self.A, array), (array, self.A), (self.A, np.ma.array(array))):
+            self.assertEqual((one == other).tolist(), (self.A.pile == array).tolist())
+            self.assertEqual((one != other).tolist(), (self.A.pile != array).tolist())
+        for other, is_equal in ((self.A + sandpile.identity((3, 4)), True), (self.A.act(0), False), (3, False), (None, False)):
+            self.assertIs(self.A == other, is_equal)
+            self.assertIs(self.A != other, not is_equal)
