@@ -100,6 +100,11 @@ def checked_edge(cylinder: bool) -> bool:
 def heights_of(pile: ArrayLike, may_be_stack: bool = False) -> Heights:
     """A new contiguous array of the heights, checked to be non-negative integers with two dimensions, or with three in a stack
     of piles. A height of 2**63 or more is negative here, but not in the library."""
+    if isinstance(pile, Mapping):
+        raise TypeError(
+            "a pile must be an array of shape (height, width), not a dictionary; "
+            "for a configuration c of SageMath on sandpiles.Grid(m, n), pass numpy.reshape(c.values(), (m, n))"
+        )
     array = _integers(pile, "heights")
     if array.ndim != 2 and not (may_be_stack and array.ndim == 3):
         stack = ", and a stack of piles (k, height, width)" if may_be_stack else ""
