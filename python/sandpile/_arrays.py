@@ -132,7 +132,7 @@ def check_sides(shape: tuple[int, ...]) -> None:
         raise Fault(1)
 
 
-def shape_of(shape: tuple[int, int]) -> tuple[int, int]:
+def shape_of(shape: Sequence[SupportsIndex]) -> tuple[int, int]:
     """The height and the width, which must be integers."""
     try:
         height, width = map(operator.index, shape)
@@ -214,7 +214,7 @@ def count_of(number: SupportsIndex, what: str, most: int = 2**64 - 1, fault: int
     return value
 
 
-def seed_of(seed: int | np.random.SeedSequence | None, bits: int = 64, fault: int = 15) -> int:
+def seed_of(seed: SupportsIndex | np.random.SeedSequence | None, bits: int = 64, fault: int = 15) -> int:
     """A seed of 64 or 32 bits: the first number that a sequence generates, and without a seed one of fresh entropy."""
     if seed is None:
         seed = np.random.SeedSequence()

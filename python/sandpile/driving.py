@@ -133,8 +133,8 @@ class Drive(HasPile):
     def __init__(
         self,
         pile: ArrayLike,
-        seed: int | np.random.SeedSequence | None = None,
-        stream: int = 0,
+        seed: SupportsIndex | np.random.SeedSequence | None = None,
+        stream: SupportsIndex = 0,
         cylinder: bool | None = None,
     ) -> None:
         heights, self._cylinder = heights_and_edge(pile, cylinder)
@@ -222,7 +222,7 @@ class Drive(HasPile):
         """Whether the first and the last column are neighbours."""
         return self._cylinder
 
-    def drop(self, n: int, progress: bool = False) -> NDArray[np.void]:
+    def drop(self, n: SupportsIndex, progress: bool = False) -> NDArray[np.void]:
         """Drops `n` grains at the next random sites.
 
         Ctrl-C stops between two blocks of drops. It raises `KeyboardInterrupt`; the pile then has all drops so far, and

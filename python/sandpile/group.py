@@ -183,14 +183,14 @@ class Recurrent(HasPile):
             return self._refuse(other)
         return self + -other
 
-    def __mul__(self, times: int) -> Recurrent:
+    def __mul__(self, times: SupportsIndex) -> Recurrent:
         if isinstance(times, np.ndarray) and (times.ndim or type(times) is not np.ndarray):
             return self._refuse(times)
         try:
-            times = operator.index(times)
+            n = operator.index(times)
         except TypeError:
             return NotImplemented
-        return self._multiple(times) if times >= 0 else (-self)._multiple(-times)
+        return self._multiple(n) if n >= 0 else (-self)._multiple(-n)
 
     def _multiple(self, n: int) -> Recurrent:
         """The sum of `n` copies. The library takes an `n` below 2**64. The bits of a larger one are read from the highest
@@ -244,7 +244,7 @@ class Recurrent(HasPile):
         return f"Recurrent({np.array2string(self._pile, separator=', ', prefix='Recurrent(')}{edge})"
 
 
-def identity(shape: tuple[int, int], cylinder: bool = False) -> Recurrent:
+def identity(shape: Sequence[SupportsIndex], cylinder: bool = False) -> Recurrent:
     """The identity of the group of a grid.
 
     Parameters

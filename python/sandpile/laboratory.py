@@ -9,11 +9,12 @@ import signal
 import subprocess
 from dataclasses import dataclass
 from pathlib import Path
+from typing import SupportsIndex
 
 import numpy as np
 from numpy.typing import ArrayLike, NDArray
 
-from ._arrays import HasPile, Heights, heights_and_edge, seed_of
+from ._arrays import HasPile, Heights, heights_and_edge, index_of, seed_of
 from ._results import Result
 from .faults import Fault
 
@@ -105,14 +106,14 @@ def _run_of(text: str, shape: tuple[int, ...], cylinder: bool, seed: int) -> Run
 
 def lab(
     pile: ArrayLike,
-    seed: int | np.random.SeedSequence | None = None,
-    droppers: int = 2,
-    drops: int = 100,
-    epochs: int = 1,
+    seed: SupportsIndex | np.random.SeedSequence | None = None,
+    droppers: SupportsIndex = 2,
+    drops: SupportsIndex = 100,
+    epochs: SupportsIndex = 1,
     cylinder: bool | None = None,
-    workers: int = 1,
-    sweeps: int = 0,
-    observers: int = 0,
+    workers: SupportsIndex = 1,
+    sweeps: SupportsIndex = 0,
+    observers: SupportsIndex = 0,
 ) -> Run:
     """Runs the laboratory: many threads drop grains on one pile at once, in epochs. The pile settles after
     each epoch.
@@ -148,7 +149,7 @@ def lab(
     ValueError
         If a height is below 0, or `pile` is not two-dimensional; the latter is also a `TypeError`.
     TypeError
-        If the heights are not integers, or `seed` is neither an integer nor a sequence.
+        If the heights or a parameter are not integers, or `seed` is neither an integer nor a sequence.
     OSError
         If the program cannot be started; FileNotFoundError if it is not found.
     RuntimeError
@@ -162,16 +163,16 @@ def lab(
     >>> run.epochs["lost"], run.odometer
     (array([4, 8]), array([[3]]))
     """
-    (heights, edge), seed = heights_and_edge(pile, cylinder), seed_of(seed, bits=32, fault=_USAGE)
+    (heights, edge), number = heights_and_edge(pile, cylinder), seed_of(seed, bits=32, fault=_USAGE)
     options = dict(
-        seed=seed, droppers=droppers, drops=drops, epochs=epochs, workers=workers, sweeps=sweeps, observers=observers
+        seed=number, droppers=droppers, drops=drops, epochs=epochs, workers=workers, sweeps=sweeps, observers=observers
     )
-    words = [f"--{name}={value}" for name, value in options.items()]
+    words = [f"--{name}={index_of(value, name)}" for name, value in options.items()]
     ended = subprocess.run(
         [_program(), "lab", *words], input=_text_of(heights, edge), capture_output=True, check=False,
         text=True, errors="backslashreplace",
     )
-    run = None if ended.returncode else _run_of(ended.stdout, heights.shape, edge, seed)
+    run = None if ended.returncode else _run_of(ended.stdout, heights.shape, edge, number)
     if run is None:
         raise _error_of(ended)
     return run

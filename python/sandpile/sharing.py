@@ -38,6 +38,8 @@ class Record(Settled):
         The site of each drop, row * width + column, by the number that `Part.drop` returned; shape (drops,), int64.
     """
 
+    lost: int
+    topplings: int
     history: NDArray[np.int64]
 
 
@@ -317,11 +319,11 @@ class SharedPile:
     (True, True)
     """
 
-    def __init__(self, start: ArrayLike, quota: int, cylinder: bool | None = None) -> None:
+    def __init__(self, start: ArrayLike, quota: SupportsIndex, cylinder: bool | None = None) -> None:
         heights, edge = heights_and_edge(start, cylinder)
         self._passes = _Passes(heights, edge, count_of(quota, "quota"))
 
-    def split(self, quota: int, rows: int | None = None) -> Part:
+    def split(self, quota: SupportsIndex, rows: SupportsIndex | None = None) -> Part:
         """Splits off a part, for one thread at a time.
 
         Parameters
@@ -341,12 +343,12 @@ class SharedPile:
         RuntimeError
             If the pile is closed, or in a forked process.
         """
-        quota, rows = count_of(quota, "quota"), count_of(0 if rows is None else rows, "rows")
-        if rows > _MOST_ROWS:  # the library takes 16 bits
+        drops, swept = count_of(quota, "quota"), count_of(0 if rows is None else rows, "rows")
+        if swept > _MOST_ROWS:  # the library takes 16 bits
             raise Fault(_TOO_MANY_ROWS)
         part = Part(self._passes)
         try:
-            self._passes.split(part._pass, quota, rows)
+            self._passes.split(part._pass, drops, swept)
         except BaseException:
             part._join()
             raise

@@ -51,6 +51,12 @@ class Ends(unittest.TestCase):
         self.assertEqual(seeds[2:], [2**32 - 1, int(sequence.generate_state(1)[0])])
         self.assertEqual((len(set(seeds)), max(seeds)), (4, 2**32 - 1))
 
+    def test_what_is_no_number(self):
+        for name in ("droppers", "drops", "epochs", "workers", "sweeps", "observers"):
+            for value in (1.5, "2", None):
+                with self.assertRaisesRegex(TypeError, f"{name} must be an integer, not "):
+                    sandpile.lab([[0]], **{name: value})
+
     def test_output_that_is_cut_off(self):
         for length in range(len(OUTPUT)):
             with self.subTest(length=length), self.assertRaisesRegex(RuntimeError, "only a part of its output.* nothing$"):

@@ -1,0 +1,184 @@
+"""`mypy --strict` passes on the module and on what users write, and refuses what the module refuses."""
+
+import collections
+import os
+import re
+import subprocess
+import sys
+import tempfile
+import unittest
+from pathlib import Path
+
+from tools import TOP, needs_module
+
+# Modules other than these need no types. The pages' own functions need none either, but what they call and return is checked.
+CONFIG = """
+[mypy]
+strict = True
+ignore_missing_imports = True
+[mypy-numpy.*,sandpile.*]
+ignore_missing_imports = False
+[mypy-distributed.*,matplotlib.*,tqdm.*]
+follow_imports = skip
+[mypy-pages.*]
+disallow_untyped_defs = False
+disallow_incomplete_defs = False
+disallow_untyped_calls = False
+"""
+
+RESULTS = """
+from typing import Any
+import numpy as np
+import sandpile
+from numpy.typing import NDArray
+from typing_extensions import assert_type
+
+Counts = NDArray[np.int64]
+p = np.full((6, 5), 7)
+s = sandpile.settle(p)
+assert_type(s, sandpile.Settled)
+assert_type(s.pile, Counts)
+assert_type(s.odometer, Counts)
+assert_type(s.lost, Any)  # of a stack it is an array
+assert_type(s == s, bool)
+assert_type(sandpile.settle([p, p], cylinder=True).pile, Counts)
+
+b = sandpile.burn(s.pile)
+assert_type(b.is_recurrent, bool)
+assert_type(b.order, Counts)
+assert_type(b.forbidden, NDArray[np.bool_])
+
+a = sandpile.recurrent(p)
+assert_type(a, sandpile.Recurrent)
+assert_type(a.pile, Counts)
+assert_type(a.shape, tuple[int, int])
+assert_type(a.cylinder, bool)
+assert_type(sandpile.identity(p.shape), sandpile.Recurrent)
+assert_type(sandpile.identity(a.shape), sandpile.Recurrent)
+assert_type(sandpile.identity([np.int64(6), 5]), sandpile.Recurrent)
+assert_type(a + a - a, sandpile.Recurrent)
+assert_type(-(3 * a) + a * np.int64(2), sandpile.Recurrent)
+assert_type(sum([a, a], sandpile.identity(a.shape)), sandpile.Recurrent)
+assert_type(a.act(3).act(s.pile.argmax()).act(row=1, column=2), sandpile.Recurrent)
+assert_type(a == a, bool)
+assert_type(a != 3, bool)
+assert_type(a == s.pile, NDArray[np.bool_])
+assert_type(a != s.pile, NDArray[np.bool_])
+assert_type({a: 1}, dict[sandpile.Recurrent, int])
+total = sum([a, a])
+other = np.int64(2) * a
+assert_type(np.asarray(a).sum(), Any)
+
+run = sandpile.Drive(p, seed=np.random.SeedSequence(1).spawn(1)[0], stream=np.int8(3))
+assert_type(run.pile, Counts)
+assert_type(run.odometer, Counts)
+assert_type(run.lost + run.topplings + run.drops + run.seed + run.stream, int)
+assert_type(run.drop(np.int64(5)), NDArray[np.void])
+assert_type(run.drop(5)["size"], NDArray[Any])
+assert_type(run.drop_at([1, 2]), NDArray[np.void])
+assert_type(run.drop_at(rows=np.arange(6), columns=2), NDArray[np.void])
+assert_type(run.avalanche(row=1, column=2), tuple[np.void, Counts])
+assert_type(run.table, NDArray[np.void])
+run.save("run.npz")
+assert_type(sandpile.Drive.load("run.npz"), sandpile.Drive)
+
+with sandpile.SharedPile(p, quota=3) as shared, shared.split(3) as part:
+    assert_type(part.drop([1, 2]), Counts)
+    assert_type(shared.tally() + part.sweep(), int)
+assert_type(shared.settle(), sandpile.Record)
+assert_type(shared.settle().lost + shared.settle().topplings, int)
+assert_type(shared.settle().history, Counts)
+
+done = sandpile.lab(p, seed=None, drops=np.int64(9), epochs=2)
+assert_type(done.epochs, NDArray[np.void])
+assert_type(done.pile, Counts)
+assert_type(done.seed, int)
+assert_type(sandpile.AVALANCHE, np.dtype[np.void])
+assert_type(sandpile.Fault(3).number, int)
+assert_type(sandpile.show(a), Any)
+
+for pile in (a, s, run, done, shared.settle()):
+    assert_type(pile.cylinder, bool)
+    assert_type(sandpile.settle(pile).cylinder, bool)
+    assert_type(np.asarray(pile), NDArray[Any])
+"""
+
+# An error of a page that is about its own variables, which may take values of several types.
+OWN = re.compile('"append" of "list"|^Incompatible types in assignment')
+
+# Each line is refused.
+REFUSED = """
+import numpy as np, sandpile; p = np.full((6, 5), 7); a = sandpile.recurrent(p); run = sandpile.Drive(p)
+
+sandpile.settle(None)
+sandpile.settle(p, cylinder="c")
+sandpile.settle(p).heights
+sandpile.settle(p).lost = 3
+sandpile.identity(3)
+sandpile.identity("ab")
+sandpile.Drive(p, seed="7")
+sandpile.Drive(p, seed=1.5)
+run.drop("5")
+run.drop(1.5)
+run.drop_at([1, 2], [3, 4])
+run.avalanche(1.5)
+run.avalanche(1, 2)
+run.pile = p
+a.act("0")
+a + 1
+a * 1.5
+a / 2
+a < a
+a.pile = p
+sandpile.lab(p, droppers="2")
+sandpile.burn(p).sites
+"""
+
+
+def pages():
+    """The scripts of the pages and of the examples, each with a name."""
+    yield "pages/__init__.py", ""
+    for page in (TOP / "README.md", *(TOP / "docs").glob("*.md")):
+        for at, text in enumerate(re.findall(r"^```python\n(.*?)^```$", page.read_text(), re.M | re.S)):
+            yield f"pages/{page.stem}_{at}.py", text
+    for path in (TOP / "examples").glob("*.py"):
+        yield f"pages/{path.name}", path.read_text()
+
+
+def mypy(texts):
+    """Runs mypy over the module and over these files."""
+    with tempfile.TemporaryDirectory() as room:
+        Path(room, "pages").mkdir()
+        for name, text in texts.items():
+            Path(room, name).write_text(text)
+        words = ["-p", "sandpile", "-p", "pages", "-m", "results", "-m", "refused", "--cache-dir=cache", "--no-error-summary"]
+        return subprocess.run(
+            [sys.executable, "-m", "mypy", *words], cwd=room, capture_output=True, text=True,
+            env={**os.environ, "MYPYPATH": str(TOP / "python")},
+        )
+
+
+@needs_module("mypy")
+class Types(unittest.TestCase):
+    maxDiff = None
+
+    @classmethod
+    def setUpClass(cls):
+        """Keeps what is said of each line, by the name of the file and the number of the line."""
+        cls.pages, cls.said = dict(pages()), collections.defaultdict(dict)
+        cls.ended = mypy({**cls.pages, "results.py": RESULTS, "refused.py": REFUSED, "mypy.ini": CONFIG})
+        for name, line, error in re.findall(r"^(.*?):(\d+): error: (.*)$", cls.ended.stdout, re.M):
+            if name not in cls.pages or not OWN.search(error):
+                cls.said[name][int(line)] = error
+
+    def test_it_has_run(self):
+        self.assertEqual((self.ended.returncode, self.ended.stderr), (1, ""), self.ended.stdout)
+        self.assertGreater(len(self.pages), 9)
+
+    def test_the_module_and_the_pages(self):
+        self.assertEqual({name: said for name, said in self.said.items() if name != "refused.py"}, {})
+
+    def test_what_is_refused(self):
+        for number, line in enumerate(REFUSED.splitlines(), 1):
+            with self.subTest(line):
+                self.assertEqual(number in self.said["refused.py"], number > 3)
