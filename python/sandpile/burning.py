@@ -53,6 +53,20 @@ def burn(pile: ArrayLike, cylinder: bool | None = None) -> Burned:
     TypeError
         If the heights are not integers.
 
+    See Also
+    --------
+    recurrent : the recurrent pile that is equivalent to a pile
+    Recurrent : a recurrent pile, as an element of the group
+
+    Notes
+    -----
+    This is Dhar's burning test [1]_: a site burns if its height is at least the number of its unburnt neighbours.
+
+    References
+    ----------
+    .. [1] D. Dhar, "Self-organized critical state of sandpile automaton models", Physical Review Letters 64 (1990)
+       1613-1616.
+
     Examples
     --------
     >>> import sandpile

@@ -113,11 +113,24 @@ class Drive(HasPile):
     TypeError
         If the heights or `stream` are not integers, or `seed` is neither an integer nor a sequence.
 
+    See Also
+    --------
+    settle : settles a pile without drops
+    SharedPile : many threads drop grains on one pile at once
+    lab : a run on many threads, by the program
+
     Notes
     -----
+    This is the driven model of Bak, Tang and Wiesenfeld [1]_.
+
     Use a `Drive` in one thread at a time: while a call drops grains, another one that would is refused, but other
     threads may read the run and save it, between two blocks of drops. Different ones can run in parallel in different
     threads. A copy is a run of its own, and so is that of a forked child.
+
+    References
+    ----------
+    .. [1] P. Bak, C. Tang and K. Wiesenfeld, "Self-organized criticality: an explanation of the 1/f noise", Physical
+       Review Letters 59 (1987) 381-384.
 
     Examples
     --------

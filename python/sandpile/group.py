@@ -43,6 +43,21 @@ class Recurrent(HasPile):
     TypeError
         If the heights are not integers.
 
+    See Also
+    --------
+    recurrent : the element that is equivalent to a pile
+    identity : the neutral element
+    burn : whether a pile is recurrent
+
+    Notes
+    -----
+    The group, and the operators `act` that generate it, are those of Dhar [1]_.
+
+    References
+    ----------
+    .. [1] D. Dhar, "Self-organized critical state of sandpile automaton models", Physical Review Letters 64 (1990)
+       1613-1616.
+
     Examples
     --------
     >>> import sandpile
@@ -261,6 +276,20 @@ def identity(shape: Sequence[SupportsIndex], cylinder: bool = False) -> Recurren
     TypeError
         If `shape` is not two integers, or `cylinder` is not True or False.
 
+    See Also
+    --------
+    recurrent : the element that is equivalent to a pile; ``recurrent(numpy.zeros(shape, int))`` is the identity, too
+    Recurrent : the operations of the group
+
+    Notes
+    -----
+    The identity is the recurrent pile that is equivalent to the empty one [1]_.
+
+    References
+    ----------
+    .. [1] D. Dhar, "Self-organized critical state of sandpile automaton models", Physical Review Letters 64 (1990)
+       1613-1616.
+
     Examples
     --------
     >>> import sandpile
@@ -291,6 +320,22 @@ def recurrent(pile: ArrayLike, cylinder: bool | None = None) -> Recurrent:
         If a height is below 0, or `pile` is not two-dimensional; the latter is also a `TypeError`.
     TypeError
         If the heights are not integers.
+
+    See Also
+    --------
+    Recurrent : the operations of the group
+    identity : the neutral element
+    burn : whether a pile is recurrent
+    settle : the stable pile that a pile becomes by topplings forward
+
+    Notes
+    -----
+    Each pile is equivalent to exactly one recurrent pile [1]_.
+
+    References
+    ----------
+    .. [1] D. Dhar, "Self-organized critical state of sandpile automaton models", Physical Review Letters 64 (1990)
+       1613-1616.
 
     Examples
     --------

@@ -66,6 +66,22 @@ def settle(pile: ArrayLike, cylinder: bool | None = None) -> Settled:
     TypeError
         If the heights are not integers.
 
+    See Also
+    --------
+    Drive : drops grains one by one
+    recurrent : the recurrent pile that is equivalent to a pile
+
+    Notes
+    -----
+    The model is that of Bak, Tang and Wiesenfeld [1]_. The result does not depend on the order in which sites topple [2]_.
+
+    References
+    ----------
+    .. [1] P. Bak, C. Tang and K. Wiesenfeld, "Self-organized criticality: an explanation of the 1/f noise", Physical
+       Review Letters 59 (1987) 381-384.
+    .. [2] D. Dhar, "Self-organized critical state of sandpile automaton models", Physical Review Letters 64 (1990)
+       1613-1616.
+
     Examples
     --------
     >>> import sandpile
