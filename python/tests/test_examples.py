@@ -3,10 +3,14 @@
 import doctest
 import importlib
 import inspect
+import operator
 import pkgutil
+import re
 import unittest
 
 import sandpile
+
+CITING = ("settle", "burn", "recurrent", "identity", "Recurrent", "Drive")
 
 
 class Examples(unittest.TestCase):
@@ -31,3 +35,18 @@ class Examples(unittest.TestCase):
                 if inspect.isfunction(value):
                     self.assertIn(">>> ", value.__doc__)
                     self.assertIn("return", value.__annotations__)
+
+    def test_see_also_names_what_there_is(self):
+        for name in CITING:
+            text = inspect.getdoc(getattr(sandpile, name))
+            section = re.search(r"^See Also\n-+\n(.*?)\n\n", text, re.M | re.S)[1]
+            with self.subTest(name=name):
+                operator.attrgetter(*re.findall(r"^([\w.]+) : ", section, re.M))(sandpile)
+
+    def test_what_is_cited_is_listed(self):
+        for name in CITING:
+            text = inspect.getdoc(getattr(sandpile, name))
+            with self.subTest(name=name):
+                cited = sorted(re.findall(r"\[(\d)\]_", text))
+                self.assertIn("1", cited)
+                self.assertEqual(cited, re.findall(r"^\.\. \[(\d)\] ", text, re.M))
