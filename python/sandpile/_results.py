@@ -20,7 +20,8 @@ class Result:
     def __repr__(self) -> str:
         name = type(self).__name__
         indent = " " * len(f"{name}(")
-        lines = ",\n".join(_line(f"{indent}{field.name}=", getattr(self, field.name)) for field in fields(self))
+        shown = [field.name for field in fields(self) if field.repr]
+        lines = ",\n".join(_line(f"{indent}{field}=", getattr(self, field)) for field in shown)
         return f"{name}({lines.lstrip()})"
 
 

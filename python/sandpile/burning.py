@@ -3,7 +3,8 @@
 from __future__ import annotations
 
 import ctypes
-from dataclasses import dataclass
+from dataclasses import dataclass, field
+from functools import cached_property
 
 import numpy as np
 from numpy.typing import ArrayLike, NDArray
@@ -27,11 +28,20 @@ class Burned(Result):
     forbidden : numpy.ndarray
         Which sites are in the greatest forbidden set; shape (height, width), bool. All False if the pile is
         recurrent.
+    time : numpy.ndarray
+        The step in which each site burns, from 1 on: in each step, all sites that can burn do; shape (height, width),
+        int64. Sites of the forbidden set have -1. Computed when it is first read.
     """
 
     is_recurrent: bool
     order: NDArray[np.int64]
     forbidden: NDArray[np.bool_]
+    _heights: Heights = field(repr=False)
+    _cylinder: bool = field(repr=False)
+
+    @cached_property
+    def time(self) -> NDArray[np.int64]:
+        return _times(self._heights, self._cylinder)
 
 
 def burn(pile: ArrayLike, cylinder: bool | None = None) -> Burned:
@@ -74,6 +84,8 @@ def burn(pile: ArrayLike, cylinder: bool | None = None) -> Burned:
     True
     >>> sandpile.burn([[0, 0, 3]]).forbidden
     array([[ True,  True, False]])
+    >>> sandpile.burn([[0, 0, 3]]).time
+    array([[-1, -1,  1]])
     """
     return burned(*heights_and_edge(pile, cylinder))
 
@@ -86,6 +98,44 @@ def burned(heights: Heights, cylinder: bool) -> Burned:
     sites = found[: count.value]
     forbidden = np.zeros(heights.shape, bool)
     if recurrent.value:
-        return Burned(True, sites, forbidden)
+        return Burned(True, sites, forbidden, heights, cylinder)
     forbidden.flat[sites] = True
-    return Burned(False, np.empty(0, np.int64), forbidden)
+    return Burned(False, np.empty(0, np.int64), forbidden, heights, cylinder)
+
+
+def _times(heights: Heights, cylinder: bool) -> NDArray[np.int64]:
+    """In which step each site burns, from 1 on, or -1. Each site is visited once, however many steps there are."""
+    neighbours = _neighbours(heights.shape, cylinder)
+    awaited = np.count_nonzero(neighbours < heights.size, axis=0) - heights.ravel()
+    front = np.flatnonzero(awaited <= 0).tolist()
+    sides, left = neighbours.tolist(), [*awaited.tolist(), 0]
+    times, now = np.full(heights.size, -1, np.int64), 0
+    while front:
+        now += 1
+        times[front] = now
+        front = _reached(front, sides, left)
+    return times.reshape(heights.shape)
+
+
+def _neighbours(shape: tuple[int, ...], cylinder: bool) -> NDArray[np.int64]:
+    """The neighbours of each site in the north, west, east and south; shape (4, sites). Beyond the edge is the number after
+    that of the last site."""
+    sites = np.arange(shape[0] * shape[1], dtype=np.int64).reshape(shape)
+    framed = np.pad(sites, 1, constant_values=sites.size)
+    if cylinder:
+        framed[1:-1, 0], framed[1:-1, -1] = sites[:, -1], sites[:, 0]
+    sides = framed[:-2, 1:-1], framed[1:-1, :-2], framed[1:-1, 2:], framed[2:, 1:-1]
+    return np.array([side.ravel() for side in sides])
+
+
+def _reached(front: list[int], sides: list[list[int]], left: list[int]) -> list[int]:
+    """The sites that can burn once those of `front` have burned. `left` has how many neighbours of each must still burn
+    before. It falls by one at a time, so each site is reached at most once."""
+    north, west, east, south = sides
+    reached = []
+    for site in front:
+        for neighbour in (north[site], west[site], east[site], south[site]):
+            left[neighbour] -= 1
+            if not left[neighbour]:
+                reached.append(neighbour)
+    return reached
