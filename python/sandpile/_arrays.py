@@ -9,6 +9,7 @@ from typing import TYPE_CHECKING, Any, Sequence, SupportsIndex
 import numpy as np
 from numpy.typing import ArrayLike, NDArray
 
+from ._png import Pictured
 from .faults import Fault, ShapeError
 
 # The library reads and writes the same 8 bytes without a sign. All that it returns is below 2**54.
@@ -20,8 +21,9 @@ _TOO_MANY_GRAINS, _SHAPES = 3, 9
 _ALLOWS_RAGGED = tuple(map(int, np.__version__.split(".")[:2])) < (1, 24)
 
 
-class HasPile:
-    """What has a `pile` and the edge of its grid, `cylinder`. It can be passed as a pile, and NumPy takes it for one."""
+class HasPile(Pictured):
+    """What has a `pile` and the edge of its grid, `cylinder`. It can be passed as a pile, NumPy takes it for one, and a
+    notebook draws it."""
 
     __slots__ = ()
 

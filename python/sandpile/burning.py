@@ -5,17 +5,19 @@ from __future__ import annotations
 import ctypes
 from dataclasses import dataclass, field
 from functools import cached_property
+from typing import Any
 
 import numpy as np
 from numpy.typing import ArrayLike, NDArray
 
 from ._arrays import Heights, heights_and_edge
 from ._library import call
+from ._png import Pictured, ma
 from ._results import Result
 
 
 @dataclass(frozen=True, eq=False, repr=False)
-class Burned(Result):
+class Burned(Result, Pictured):
     """The result of burning.
 
     Attributes
@@ -42,6 +44,9 @@ class Burned(Result):
     @cached_property
     def time(self) -> NDArray[np.int64]:
         return _times(self._heights, self._cylinder)
+
+    def _shown(self) -> Any:
+        return ma.masked_less(self.time, 0)
 
 
 def burn(pile: ArrayLike, cylinder: bool | None = None) -> Burned:

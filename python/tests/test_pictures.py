@@ -1,48 +1,197 @@
 """Pictures: each site is one pixel or a whole number of them, in the colour of its height."""
 
+import io
 import os
+import subprocess
 import sys
 import unittest
+import warnings
 from unittest import mock
 
 import numpy as np
 import sandpile
-from tools import needs_module
+from tools import needs, needs_module
 
 os.environ["MPLBACKEND"] = "Agg"
 
+SHAPES = [(1, 1), (256, 256), (1, 256), (3, 200), (40, 64)]
+COLOURS = np.array([[11, 29, 58], [47, 111, 159], [242, 193, 78], [253, 246, 227]])
+RED = [200, 16, 46]
 
+
+def piles(shapes=SHAPES):
+    return [np.random.default_rng(1).integers(0, 4, shape) for shape in shapes]
+
+
+def squares(picture, scale):
+    """The colour of each site of a picture, in which it has `scale` by `scale` pixels of one colour."""
+    sites = picture[::scale, ::scale]
+    if not np.array_equal(picture, sites.repeat(scale, axis=0).repeat(scale, axis=1)):
+        raise AssertionError("a site has more than one colour")
+    return sites
+
+
+def decoded(png):
+    """The pixels of a PNG file, by matplotlib."""
+    from matplotlib.image import imread
+
+    return (imread(io.BytesIO(png), "png")[..., :3] * 255).round().astype(int)
+
+
+def drawn(pile):
+    """The axes and the pixels of a figure of `show`."""
+    import matplotlib.pyplot as plt
+
+    axes = sandpile.show(pile)
+    axes.figure.canvas.draw()
+    pixels = np.asarray(axes.figure.canvas.buffer_rgba())[..., :3].astype(int)
+    plt.close(axes.figure)
+    return axes, pixels
+
+
+class InNotebooks(unittest.TestCase):
+    @needs_module("matplotlib")
+    def test_each_site_is_a_square(self):
+        for pile in piles():
+            scale = min(512 // max(pile.shape), 32)
+            run = sandpile.Drive(pile)
+            run.drop(100)
+            for shown in (sandpile.settle(pile), sandpile.recurrent(pile), run):
+                with self.subTest(shown=type(shown).__name__, shape=pile.shape):
+                    sites = squares(decoded(shown._repr_png_()), scale)
+                    self.assertTrue(np.array_equal(sites, COLOURS[shown.pile]))
+
+    @needs("pngtopam")
+    def test_another_program_reads_the_same(self):
+        for pile in piles():
+            ended = subprocess.run(["pngtopam"], input=sandpile.settle(pile)._repr_png_(), capture_output=True)
+            self.assertEqual((ended.returncode, ended.stderr), (0, b""))
+            scale = min(512 // max(pile.shape), 32)
+            kind, sides, most, pixels = ended.stdout.split(b"\n", 3)
+            height, width = (side * scale for side in pile.shape)
+            self.assertEqual((kind, sides, most), (b"P6", f"{width} {height}".encode(), b"255"))
+            sites = squares(np.frombuffer(pixels, np.uint8).reshape(height, width, 3), scale)
+            self.assertTrue(np.array_equal(sites, COLOURS[pile]))
+
+    @needs_module("matplotlib")
+    def test_times_of_burning_are_drawn_as_show_draws_them(self):
+        for pile in (sandpile.identity((64, 64)), sandpile.burn(piles()[-1]).time % 4, [[0, 0, 3]]):
+            burned = sandpile.burn(pile)
+            height, width = burned.forbidden.shape
+            _, pixels = drawn(burned)
+            scale = 512 // max(height, width)
+            shown = squares(pixels[-height * scale :, : width * scale], scale)
+            sites = squares(decoded(burned._repr_png_()), min(scale, 32))
+            self.assertTrue(np.array_equal(sites, shown))
+            self.assertTrue(np.array_equal((sites == RED).all(axis=2), burned.forbidden))
+
+    def test_a_stack_of_piles_has_no_picture(self):
+        self.assertIsNone(sandpile.settle(np.full((2, 3, 4), 5))._repr_png_())
+
+    def test_records_and_runs_of_the_laboratory_have_one(self):
+        with sandpile.SharedPile(np.full((9, 7), 5), quota=0) as pile:
+            record = pile.settle()
+        run = sandpile.lab(np.full((9, 7), 5), drops=0)
+        settled = sandpile.settle(np.full((9, 7), 5))
+        self.assertEqual(record._repr_png_(), settled._repr_png_())
+        self.assertEqual(run._repr_png_(), settled._repr_png_())
+
+
+@needs_module("matplotlib")
 class Show(unittest.TestCase):
-    def pixels(self, pile):
-        """The colours of a picture, and the width of a site in pixels."""
-        import matplotlib.pyplot as plt
+    def colours(self, values):
+        """The colours of the sites, without those of a colour bar."""
+        values = np.asanyarray(values)
+        height, width = values.shape
+        scale = 512 // max(height, width)
+        _, pixels = drawn(values)
+        return squares(pixels[-height * scale :, : width * scale], scale)
 
-        axes = sandpile.show(pile)
-        axes.figure.canvas.draw()
-        picture = np.asarray(axes.figure.canvas.buffer_rgba())[..., :3]
-        plt.close(axes.figure)
-        return picture, picture.shape[1] // np.asarray(pile).shape[1]
-
-    @needs_module("matplotlib")
     def test_each_height_has_its_colour(self):
-        pile = np.random.default_rng(1).integers(0, 4, (40, 64))
-        picture, scale = self.pixels(pile)
-        self.assertEqual(picture.shape, (40 * scale, 64 * scale, 3))
-        colours = [{tuple(colour) for colour in picture[scale // 2 :: scale, scale // 2 :: scale][pile == k]} for k in range(4)]
-        self.assertEqual([len(some) for some in colours], [1] * 4)
-        self.assertEqual(len(set.union(*colours)), 4)
+        for pile in piles():
+            _, pixels = drawn(pile)
+            self.assertTrue(np.array_equal(squares(pixels, 512 // max(pile.shape)), COLOURS[pile]))
 
-    @needs_module("matplotlib")
     def test_what_can_be_drawn(self):
         import matplotlib.pyplot as plt
 
-        for pile in ([[0]], [[0, 9], [10**12, 3]], sandpile.identity((256, 256)), np.zeros((3, 256), np.uint64)):
-            self.pixels(pile)
+        run = sandpile.Drive(np.full((3, 4), 3), cylinder=True)
+        record = sandpile.settle([[9]])
+        for pile in ([[0]], [[0, 9], [10**12, 3]], sandpile.identity((256, 256)), np.zeros((3, 256), np.uint64), run, record):
+            drawn(pile)
         _, axes = plt.subplots()
         self.assertIs(sandpile.show([[1, 2]], ax=axes), axes)
         plt.close("all")
-        self.assertRaises(TypeError, sandpile.show, [1, 2])
 
-    def test_without_matplotlib(self):
-        with mock.patch.dict(sys.modules, {"matplotlib.pyplot": None}), self.assertRaisesRegex(ImportError, "matplotlib"):
-            sandpile.show([[0]])
+    def test_objects_are_drawn_as_their_piles(self):
+        run = sandpile.Drive(np.full((40, 64), 5), seed=1)
+        for shown in (run, sandpile.settle(np.full((5, 4), 9)), sandpile.identity((4, 3), cylinder=True)):
+            self.assertTrue(np.array_equal(drawn(shown)[1], drawn(shown.pile)[1]))
+
+    def test_an_odometer_is_graded_and_has_a_bar(self):
+        for shape in ((40, 64), (1, 256), (256, 1), (142, 9), (181, 100)):
+            odometer = np.arange(np.prod(shape)).reshape(shape) * 1000
+            axes, pixels = drawn(odometer)
+            bar = axes.figure.axes[1]
+            self.assertEqual(bar.get_ylim(), (0, odometer.max()))
+            self.assertLessEqual(max(pixels.shape), 512 + 120)
+            self.assertTrue((pixels[:, -4:] == 255).all())  # the numbers have room
+            light = self.colours(odometer).sum(axis=2).ravel()
+            self.assertTrue((np.diff(light) >= 0).all())
+            self.assertGreater(len(set(light.tolist())), 150)
+        self.assertEqual(len(drawn([[0, 3]])[0].figure.axes), 1)
+
+    def test_a_bar_beside_given_axes(self):
+        import matplotlib.pyplot as plt
+
+        figure, (one, other) = plt.subplots(1, 2)
+        sandpile.show([[0, 3]], one)
+        self.assertEqual(len(figure.axes), 2)
+        self.assertIs(sandpile.show([[0, 7]], ax=other), other)
+        self.assertEqual(len(figure.axes), 3)
+        figure.canvas.draw()
+        plt.close(figure)
+
+    def test_differences_and_means(self):
+        one, other = (sandpile.settle(np.full((8, 8), height)).pile for height in (5, 6))
+        axes, _ = drawn(one - other)
+        self.assertEqual(axes.images[0].get_clim(), ((one - other).min(), (one - other).max()))
+        axes, _ = drawn(np.array([[0.5, 2.5]]))
+        self.assertEqual(axes.images[0].get_clim(), (0, 2.5))
+
+    def test_masks_and_masked_sites_are_red(self):
+        mask = piles()[-1] == 0
+        self.assertTrue(np.array_equal((self.colours(mask) == RED).all(axis=2), mask))
+        self.assertTrue(np.array_equal(self.colours(mask)[~mask], np.broadcast_to(COLOURS[0], (np.sum(~mask), 3))))
+        for values in (np.ma.masked_array(piles()[-1], mask), np.where(mask, np.nan, 7.0)):
+            self.assertTrue(np.array_equal((self.colours(values) == RED).all(axis=2), mask))
+        self.assertEqual(drawn(values)[0].images[0].get_clim(), (0, 7))
+
+    def test_thirty_figures(self):
+        import matplotlib.pyplot as plt
+
+        most = plt.rcParams["figure.max_open_warning"]
+        with warnings.catch_warnings():
+            warnings.simplefilter("error")
+            shown = [sandpile.show([[k % 4, k]]) for k in range(30)]
+            for axes in shown:
+                axes.figure.savefig(io.BytesIO())
+        self.assertEqual(plt.get_fignums(), [axes.figure.number for axes in shown])  # of which plt.show() shows all
+        self.assertIs(plt.gca(), shown[-1])
+        self.assertEqual(plt.rcParams["figure.max_open_warning"], most)
+        plt.close("all")
+
+    def test_what_is_no_picture(self):
+        for values in ([["a"]], [[1j]], [[None]]):
+            self.assertRaises(TypeError, sandpile.show, values)
+        for values in ([1, 2], np.zeros((2, 2, 2))):
+            for kind in (TypeError, ValueError):
+                self.assertRaises(kind, sandpile.show, values)
+
+
+class WithoutMatplotlib(unittest.TestCase):
+    def test_what_is_missing(self):
+        with mock.patch.dict(sys.modules, {"matplotlib.pyplot": None}):
+            with self.assertRaisesRegex(ImportError, "show needs matplotlib, which is not installed"):
+                sandpile.show([[0]])
+        self.assertIsInstance(sandpile.settle([[3]])._repr_png_(), bytes)

@@ -1,0 +1,85 @@
+"""Pictures without matplotlib: the colours of sites, PNG files, and what a notebook shows."""
+
+from __future__ import annotations
+
+import struct
+import zlib
+from typing import TYPE_CHECKING, Any
+
+import numpy as np
+from numpy.typing import NDArray
+
+# NumPy's stubs do not declare types for masked arrays.
+ma: Any = np.ma
+
+# For 0, 1, 2 and 3 grains. If there are other values, the colours are between these.
+COLOURS = ("#0b1d3a", "#2f6f9f", "#f2c14e", "#fdf6e3")
+LEVELS = 255
+# For sites that stand out, such as those of a forbidden set.
+RED = "#c8102e"
+# The longer side of a picture has at most this many pixels. Each site has as many as fit, in whole numbers.
+PIXELS = 512
+# A notebook shows a few sites in a small picture: each has at most this many pixels a side.
+_MOST_OF_A_SITE = 32
+
+
+def rgb(*colours: str) -> NDArray[np.uint8]:
+    """Colours as numbers; shape (n, 3)."""
+    return np.array([list(bytes.fromhex(colour[1:])) for colour in colours], np.uint8)
+
+
+def graded() -> NDArray[np.uint8]:
+    """Colours from the one of 0 grains to the one of 3; shape (LEVELS, 3)."""
+    grains = np.linspace(0, 3, LEVELS)
+    channels = [np.interp(grains, range(4), channel) for channel in rgb(*COLOURS).T]
+    return np.stack(channels, axis=1).round().astype(np.uint8)
+
+
+def is_plain(values: Any) -> bool:
+    """Whether all values are 0, 1, 2 or 3, which have a colour each."""
+    return bool(np.isin(ma.compressed(values), range(4)).all())
+
+
+def png(sites: NDArray[np.uint8], palette: NDArray[np.uint8], scale: int) -> bytes:
+    """A PNG file. Each site has `scale` by `scale` pixels in the colour of the palette with its number."""
+    pixels = sites.repeat(scale, axis=0).repeat(scale, axis=1)
+    height, width = pixels.shape
+    rows = np.pad(pixels, ((0, 0), (1, 0)))  # the 0 in front of a row says that it is not filtered
+    header = struct.pack(">IIBBBBB", width, height, 8, 3, 0, 0, 0)
+    chunks = ((b"IHDR", header), (b"PLTE", palette.tobytes()), (b"IDAT", zlib.compress(rows.tobytes())), (b"IEND", b""))
+    return b"\x89PNG\r\n\x1a\n" + b"".join(_chunk(kind, data) for kind, data in chunks)
+
+
+def _chunk(kind: bytes, data: bytes) -> bytes:
+    return struct.pack(">I", len(data)) + kind + data + struct.pack(">I", zlib.crc32(kind + data))
+
+
+def picture(values: Any) -> bytes | None:
+    """The picture that a notebook shows of integers of 0 or more, in the colours of `show`; None unless they are on one grid.
+    Masked sites are red."""
+    if values.ndim != 2:
+        return None
+    colours, sites = rgb(*COLOURS), values
+    if not is_plain(values):
+        colours, sites = graded(), np.minimum(values * LEVELS // values.max(), LEVELS - 1)
+    palette = np.concatenate([colours, rgb(RED)])
+    scale = min(PIXELS // max(values.shape), _MOST_OF_A_SITE)
+    return png(ma.filled(sites, len(colours)).astype(np.uint8), palette, scale)
+
+
+class Pictured:
+    """What a notebook shows as a picture if it is the last line of a cell."""
+
+    __slots__ = ()
+
+    if TYPE_CHECKING:
+
+        @property
+        def pile(self) -> NDArray[Any]: ...
+
+    def _shown(self) -> Any:
+        """What is drawn: an array, perhaps a masked one."""
+        return self.pile
+
+    def _repr_png_(self) -> bytes | None:
+        return picture(self._shown())
