@@ -18,6 +18,7 @@ run in parallel.
 `recurrent`, `identity`, `Recurrent`    the sandpile group
 `lab`                                   a seeded run on many threads, by the program
 `show`                                  a picture
+`animate`                               avalanches, one after another
 ======================================  ==========================================================
 
 Examples
@@ -28,6 +29,7 @@ Examples
 (3, True)
 """
 
+from .animation import animate
 from .burning import Burned, burn
 from .driving import AVALANCHE, Drive
 from .faults import Fault
@@ -41,5 +43,5 @@ from .version import VERSION
 __version__ = VERSION
 __all__ = [
     "AVALANCHE", "EPOCH", "Burned", "Drive", "Fault", "Part", "Record", "Recurrent", "Run", "Settled", "SharedPile",
-    "burn", "identity", "lab", "recurrent", "settle", "show",
+    "animate", "burn", "identity", "lab", "recurrent", "settle", "show",
 ]

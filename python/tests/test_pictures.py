@@ -192,6 +192,6 @@ class Show(unittest.TestCase):
 class WithoutMatplotlib(unittest.TestCase):
     def test_what_is_missing(self):
         with mock.patch.dict(sys.modules, {"matplotlib.pyplot": None}):
-            with self.assertRaisesRegex(ImportError, "show needs matplotlib, which is not installed"):
-                sandpile.show([[0]])
+            for call in (lambda: sandpile.show([[0]]), lambda: sandpile.animate(sandpile.Drive([[0]]))):
+                self.assertRaisesRegex(ImportError, "needs matplotlib, which is not installed", call)
         self.assertIsInstance(sandpile.settle([[3]])._repr_png_(), bytes)

@@ -47,6 +47,7 @@ b = sandpile.burn(s.pile)
 assert_type(b.is_recurrent, bool)
 assert_type(b.order, Counts)
 assert_type(b.forbidden, NDArray[np.bool_])
+assert_type(b.time, Counts)
 
 a = sandpile.recurrent(p)
 assert_type(a, sandpile.Recurrent)
@@ -96,8 +97,12 @@ assert_type(done.seed, int)
 assert_type(sandpile.AVALANCHE, np.dtype[np.void])
 assert_type(sandpile.Fault(3).number, int)
 assert_type(sandpile.show(a), Any)
+sandpile.show(b)
+sandpile.show(b.forbidden, ax=sandpile.show([[1, 2]]))
+sandpile.animate(run, np.int64(5), toppling=True, interval=50).save("run.gif")
 
 for pile in (a, s, run, done, shared.settle()):
+    sandpile.show(pile)
     assert_type(pile.cylinder, bool)
     assert_type(sandpile.settle(pile).cylinder, bool)
     assert_type(np.asarray(pile), NDArray[Any])
@@ -132,6 +137,9 @@ a < a
 a.pile = p
 sandpile.lab(p, droppers="2")
 sandpile.burn(p).sites
+sandpile.show(None)
+sandpile.animate(p)
+sandpile.animate(run, 1.5)
 """
 
 

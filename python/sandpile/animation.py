@@ -1,0 +1,124 @@
+"""Animations of avalanches, drawn with matplotlib."""
+
+from __future__ import annotations
+
+import copy
+import sys
+from collections.abc import Iterator
+from typing import TYPE_CHECKING, SupportsIndex
+
+import numpy as np
+from numpy.typing import NDArray
+
+from ._arrays import Heights, count_of
+from ._png import COLOURS, RED, rgb
+from .driving import Drive
+from .pictures import check_matplotlib, new_axes
+
+if TYPE_CHECKING:
+    from matplotlib.animation import FuncAnimation
+    from matplotlib.axes import Axes
+
+# A frame has a number for each site: its grains, and this much more if it has toppled. A site that topples next has the last
+# number.
+_TOPPLED, _TOPPLES = 4, 8
+# How much of the colour of a site that has toppled is red.
+_TINT = 0.5
+
+
+def animate(
+    run: Drive, drops: SupportsIndex = 100, toppling: bool = False, interval: float = 100, ax: Axes | None = None
+) -> FuncAnimation:
+    """Draws the next avalanches of a run, those at random sites. The run itself stays as it is.
+
+    Parameters
+    ----------
+    run : Drive
+        The run. A copy of it makes the drops.
+    drops : int
+        Number of grains.
+    toppling : bool
+        Whether to draw each avalanche step by step. In each step, all sites with four or more grains topple at once; they are
+        red before it. By default there is one frame for each drop, the pile after it. Sites that have toppled in an avalanche
+        are tinted red.
+    interval : float
+        Milliseconds from one frame to the next.
+    ax : matplotlib.axes.Axes, optional
+        Where to draw; by default a new figure of about 512 pixels.
+
+    Returns
+    -------
+    matplotlib.animation.FuncAnimation
+        The animation. Keep it as long as it is shown. ``.save("avalanches.gif", writer="pillow")`` saves it, and
+        ``.to_jshtml()`` is a player for a notebook.
+
+    Raises
+    ------
+    ImportError
+        If matplotlib is not installed.
+    TypeError
+        If `run` is not a `Drive`, or `drops` is not an integer.
+    Fault
+        Plan (15) if `drops` is negative, Memory (4), or, when it is drawn, Full (6), as from `Drive.drop`.
+
+    Examples
+    --------
+    >>> import sandpile
+    >>> run = sandpile.Drive(sandpile.identity((32, 32)))
+    >>> sandpile.animate(run, 50, toppling=True).save("avalanches.gif", writer="pillow")    # doctest: +SKIP
+    """
+    check_matplotlib("animate")
+    from matplotlib.animation import FuncAnimation
+    from matplotlib.colors import ListedColormap
+
+    if not isinstance(run, Drive):
+        raise TypeError(f"run must be a Drive, not {type(run).__name__}")
+    number, start = count_of(drops, "drops"), copy.copy(run)
+    if ax is None:
+        ax, _ = new_axes(start.pile.shape)
+    plain, red = rgb(*COLOURS), rgb(RED)
+    colours = ListedColormap(np.concatenate([plain, (1 - _TINT) * plain + _TINT * red, red]) / 255)
+    image = ax.imshow(start.pile, cmap=colours, vmin=-0.5, vmax=_TOPPLES + 0.5, interpolation="nearest")
+    ax.set_axis_off()
+    frames = _steps if toppling else _drops
+    # Each time that the animation begins, another copy makes the drops.
+    return FuncAnimation(
+        ax.figure, image.set_data, lambda: frames(copy.copy(start), number), lambda: (image,),
+        interval=interval, save_count=sys.maxsize if toppling else number, cache_frame_data=False,
+    )
+
+
+def _drops(run: Drive, drops: int) -> Iterator[Heights]:
+    """A frame for each drop."""
+    before = run.odometer
+    for _ in range(drops):
+        run.drop(1)
+        after = run.odometer
+        yield run.pile + _TOPPLED * (after > before)
+        before = after
+
+
+def _steps(run: Drive, drops: int) -> Iterator[Heights]:
+    """A frame before the first step of each avalanche, and one after each of its steps."""
+    for _ in range(drops):
+        heights = run.pile
+        heights.flat[run.drop(1)["site"]] += 1
+        yield from _avalanche(heights, run.cylinder)
+
+
+def _avalanche(heights: Heights, cylinder: bool) -> Iterator[Heights]:
+    topples, toppled = heights > 3, np.zeros(heights.shape, bool)
+    while topples.any():
+        yield np.where(topples, _TOPPLES, heights + _TOPPLED * toppled)
+        heights = _after_step(heights, topples, cylinder)
+        topples, toppled = heights > 3, toppled | topples
+    yield heights + _TOPPLED * toppled
+
+
+def _after_step(heights: Heights, topples: NDArray[np.bool_], cylinder: bool) -> Heights:
+    """The heights once these sites have toppled."""
+    given = np.pad(topples.astype(np.int64), 1)
+    if cylinder:
+        given[:, 0], given[:, -1] = given[:, -2], given[:, 1]
+    gained: Heights = given[:-2, 1:-1] + given[2:, 1:-1] + given[1:-1, :-2] + given[1:-1, 2:]
+    return heights - 4 * topples + gained

@@ -1,0 +1,96 @@
+"""Animations: the frames of avalanches, and the files that are saved."""
+
+import copy
+import os
+import unittest
+
+import numpy as np
+import sandpile
+from tools import needs_module, new_folder
+
+os.environ["MPLBACKEND"] = "Agg"
+
+
+def frames(run, drops, **how):
+    """The frames of an animation, which is drawn once so that matplotlib does not warn."""
+    import matplotlib.pyplot as plt
+
+    animation = sandpile.animate(run, drops, **how)
+    plt.gcf().canvas.draw()
+    plt.close()
+    return list(animation.new_saved_frame_seq())
+
+
+def topple(heights, cylinder):
+    """Topples once each site that has four or more grains."""
+    height, width = heights.shape
+    for row, column in np.argwhere(heights > 3):
+        heights[row, column] -= 4
+        for i, j in ((row - 1, column), (row + 1, column), (row, column - 1), (row, column + 1)):
+            if 0 <= i < height and (cylinder or 0 <= j < width):
+                heights[i, j % width] += 1
+
+
+@needs_module("matplotlib")
+class Animate(unittest.TestCase):
+    def test_by_hand(self):
+        # 3 3 1 with a grain at the first site is 4 3 1, then 0 4 1, then 1 0 2.
+        run = sandpile.Drive([[3, 3, 1]], seed=5)  # whose first grain drops on the first site
+        self.assertEqual([frame.tolist() for frame in frames(run, 1)], [[[5, 4, 2]]])
+        self.assertEqual([frame.tolist() for frame in frames(run, 1, toppling=True)], [[[8, 3, 1]], [[4, 8, 1]], [[5, 4, 2]]])
+
+    def test_frames_are_those_of_drops(self):
+        for cylinder in (False, True):
+            run = sandpile.Drive(np.full((9, 12), 5), seed=3, cylinder=cylinder)
+            run.drop(7)
+            other = copy.copy(run)
+            for frame in frames(run, 50):
+                before = other.odometer
+                other.drop(1)
+                self.assertTrue(np.array_equal(frame, other.pile + 4 * (other.odometer > before)))
+            self.assertEqual((run.drops, other.drops), (7, 57))
+
+    def test_each_step_topples_all_that_can(self):
+        for cylinder in (False, True):
+            run = sandpile.Drive(np.full((9, 12), 3), seed=3, cylinder=cylinder)
+            steps = iter(frames(run, 50, toppling=True))
+            for _ in range(50):
+                heights, toppled = run.pile.astype(int), np.zeros((9, 12), bool)
+                heights.flat[run.drop(1)["site"]] += 1
+                while (heights > 3).any():
+                    self.assertEqual(next(steps).tolist(), np.where(heights > 3, 8, heights + 4 * toppled).tolist())
+                    toppled |= heights > 3
+                    topple(heights, cylinder)
+                self.assertEqual(heights.tolist(), run.pile.tolist())
+                self.assertEqual(next(steps).tolist(), (heights + 4 * toppled).tolist())
+            self.assertIsNone(next(steps, None))
+
+    @needs_module("PIL")
+    def test_it_is_saved_again_and_again(self):
+        import matplotlib.pyplot as plt
+        from PIL import Image
+
+        folder, run = new_folder(self), sandpile.Drive(np.full((8, 16), 3), seed=1)
+        animation = sandpile.animate(run, 6)
+        for name in ("one.gif", "other.gif"):
+            animation.save(folder / name, writer="pillow")
+            run.drop(5)
+        self.assertEqual((folder / "one.gif").read_bytes(), (folder / "other.gif").read_bytes())
+        with Image.open(folder / "one.gif") as picture:
+            self.assertEqual((picture.n_frames, picture.size), (6, (512, 256)))
+        self.assertIn("<img", animation.to_jshtml())
+        plt.close()
+
+    def test_given_axes(self):
+        import matplotlib.pyplot as plt
+
+        figure, axes = plt.subplots()
+        animation = sandpile.animate(sandpile.Drive([[3]]), 2, interval=20, ax=axes)
+        figure.canvas.draw()
+        self.assertEqual((len(axes.images), animation.event_source.interval), (1, 20))
+        plt.close(figure)
+
+    def test_what_is_refused(self):
+        self.assertRaises(TypeError, sandpile.animate, [[3]])
+        self.assertRaises(TypeError, sandpile.animate, sandpile.Drive([[3]]), 1.5)
+        self.assertRaises(sandpile.Fault, sandpile.animate, sandpile.Drive([[3]]), -1)
