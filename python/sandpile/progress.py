@@ -5,6 +5,7 @@ from __future__ import annotations
 import contextlib
 import sys
 import time
+import warnings
 from types import TracebackType
 from typing import Any
 
@@ -22,7 +23,9 @@ class Bar:
 
     def __enter__(self) -> Bar:
         try:
-            from tqdm.auto import tqdm
+            with warnings.catch_warnings():
+                warnings.simplefilter("ignore")  # in a notebook without ipywidgets the bar is text, which is fine
+                from tqdm.auto import tqdm
 
             self._lock = tqdm.get_lock()
             self._tqdm = tqdm(total=self._total, unit="drop", unit_scale=True)

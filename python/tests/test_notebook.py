@@ -1,0 +1,108 @@
+"""Notebooks: the one in examples/, and what the kernel's interrupt leaves."""
+
+import json
+import os
+import sys
+import unittest
+
+from tools import TOP, needs_module, new_folder, ran
+
+NOTEBOOK = TOP / "examples" / "sandpile.ipynb"
+os.environ["PYDEVD_DISABLE_FILE_VALIDATION"] = "1"  # else ipykernel warns that Python's own modules cannot be debugged
+ENV = {**os.environ, "PYTHONPATH": str(TOP / "python"), "PYTHONDONTWRITEBYTECODE": "1"}
+ENV.pop("MPLBACKEND", None)  # a kernel has its own
+
+BEFORE = """
+import threading, time
+import numpy as np, sandpile
+
+def made():
+    return sandpile.Drive(np.full((128, 128), 3), seed=1)
+
+def look():
+    while run.drops == 1000:
+        time.sleep(0.01)
+    print("dropping", flush=True)
+
+run = made()
+run.drop(1000)
+"""
+INTERRUPTED = """
+threading.Thread(target=look).start()
+run.drop(10**7)
+"""
+AFTER = """
+table, drops = run.table, run.drops
+again = run.drop(500)
+every = made().drop(drops + 500)
+print(1000 < drops == 1000 + len(table) < 10**7, (every[1000:drops] == table).all(), (every[drops:] == again).all())
+"""
+
+
+def outputs_of(notebook):
+    """What each cell of code shows, by the first words of the cell: the kinds, and the text of streams."""
+    cells = [cell for cell in notebook["cells"] if cell["cell_type"] == "code"]
+    return {
+        "".join(cell["source"]).split("(")[0]: [
+            (sorted(output.get("data", ())), "".join(output.get("text", ()))) for output in cell["outputs"]
+        ]
+        for cell in cells
+    }
+
+
+class Notebook(unittest.TestCase):
+    def test_it_has_no_outputs(self):
+        self.assertTrue(all(not shown for shown in outputs_of(json.loads(NOTEBOOK.read_text())).values()))
+        self.assertLess(NOTEBOOK.stat().st_size, 5000)
+
+    @needs_module("nbconvert", "ipykernel", "matplotlib")
+    def test_each_cell_shows_its_picture(self):
+        folder = new_folder(self)
+        words = ("--to", "notebook", "--execute", "--output-dir", folder, NOTEBOOK)
+        ran(sys.executable, "-m", "nbconvert", *words, cwd=folder, env={**ENV, "HOME": str(folder)})
+        shown = outputs_of(json.loads((folder / NOTEBOOK.name).read_text()))
+        picture, player = [(["image/png", "text/plain"], "")], [(["text/html", "text/plain"], "")]
+        progress = shown.pop("run = sandpile.Drive")
+        self.assertEqual(list(shown.values()), [[], *5 * [picture], player])
+        self.assertEqual(progress[-1:], picture)
+        said = "".join(text for _, text in progress)
+        self.assertIn("50", said)
+        self.assertNotIn("Warning", said)
+
+
+@needs_module("jupyter_client", "ipykernel")
+class Interrupt(unittest.TestCase):
+    """A kernel, which a test can interrupt."""
+
+    def setUp(self):
+        from jupyter_client import KernelManager
+
+        folder = new_folder(self)
+        manager = KernelManager()
+        manager.kernel_spec.argv[0] = sys.executable
+        manager.start_kernel(cwd=str(folder), env={**ENV, "HOME": str(folder)})
+        self.addCleanup(manager.shutdown_kernel, now=True)
+        self.interrupt, self.client = manager.interrupt_kernel, manager.client()
+        self.client.start_channels()
+        self.addCleanup(self.client.stop_channels)
+        self.client.wait_for_ready(timeout=60)
+
+    def said(self, code, interrupt_at=None):
+        """What the kernel writes as it runs some code, with the name of its error. It is interrupted at this text."""
+        # Else the kernel may leave out the request after one that has failed.
+        request, said = self.client.execute(code, stop_on_error=False), ""
+        while True:
+            message = self.client.get_iopub_msg(timeout=60)
+            if message["parent_header"].get("msg_id") != request:
+                continue
+            content = message["content"]
+            said += content.get("text", "") + content.get("ename", "")
+            if interrupt_at and said.endswith(interrupt_at):
+                self.interrupt()
+            if content.get("execution_state") == "idle":
+                return said
+
+    def test_drops_before_it_are_kept(self):
+        self.assertEqual(self.said(BEFORE), "")
+        self.assertEqual(self.said(INTERRUPTED, interrupt_at="dropping\n"), "dropping\nKeyboardInterrupt")
+        self.assertEqual(self.said(AFTER), "True True True\n")
