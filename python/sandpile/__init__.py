@@ -16,6 +16,7 @@ run in parallel.
 `SharedPile`                            many threads drop grains on one pile at once
 `burn`                                  whether a pile is recurrent
 `recurrent`, `identity`, `Recurrent`    the sandpile group
+`random_recurrent`                      a random recurrent pile, each as likely as any other
 `lab`                                   a seeded run on many threads, by the program
 `show`                                  a picture
 `animate`                               avalanches, one after another
@@ -38,10 +39,11 @@ from .laboratory import EPOCH, Run, lab
 from .pictures import show
 from .settling import Settled, settle
 from .sharing import Part, Record, SharedPile
+from .stationary import random_recurrent
 from .version import VERSION
 
 __version__ = VERSION
 __all__ = [
     "AVALANCHE", "EPOCH", "Burned", "Drive", "Fault", "Part", "Record", "Recurrent", "Run", "Settled", "SharedPile",
-    "animate", "burn", "identity", "lab", "recurrent", "settle", "show",
+    "animate", "burn", "identity", "lab", "random_recurrent", "recurrent", "settle", "show",
 ]

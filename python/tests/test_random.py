@@ -1,0 +1,117 @@
+"""Random recurrent piles: each is as likely as any other, and what is known of a stationary pile is true of them."""
+
+import unittest
+from concurrent.futures import ThreadPoolExecutor
+
+import numpy as np
+import sandpile
+from tools import same
+
+PI = np.pi
+# The probability of each height far from the edge (Priezzhev 1994; Kenyon and Wilson 2015).
+HEIGHTS = [
+    2 / PI**2 - 4 / PI**3,
+    1 / 4 - 1 / (2 * PI) - 3 / PI**2 + 12 / PI**3,
+    3 / 8 + 1 / PI - 12 / PI**3,
+    3 / 8 - 1 / (2 * PI) + 1 / PI**2 + 4 / PI**3,
+]
+
+
+def toppling_matrix(height, width, cylinder=False):
+    def chain(n, is_ring):
+        ring = np.roll(np.eye(n), 1, axis=0) if is_ring else np.eye(n, k=1)
+        return 2 * np.eye(n) - ring - ring.T
+
+    return np.kron(chain(height, False), np.eye(width)) + np.kron(np.eye(height), chain(width, cylinder))
+
+
+def mean_size(side):
+    """The mean size of an avalanche at a random site of a square: the sum over the inverse of the toppling matrix, by its
+    eigenvectors, divided by the number of sites."""
+    angles = PI * np.arange(1, side + 1, 2) / (side + 1)  # of the eigenvectors whose sum is not 0
+    sums = 2 / (side + 1) / np.tan(angles / 2) ** 2  # squared
+    return (np.outer(sums, sums) / (4 - 2 * np.add.outer(np.cos(angles), np.cos(angles)))).sum() / side**2
+
+
+def in_threads(call, count):
+    with ThreadPoolExecutor() as pool:
+        return np.array(list(pool.map(call, range(count))))
+
+
+class Known(unittest.TestCase):
+    def assertMean(self, values, mean):
+        """The mean of independent values is the known one, within 4 standard errors."""
+        error = values.std(axis=0, ddof=1) / len(values) ** 0.5
+        self.assertTrue((abs(values.mean(axis=0) - mean) < 4 * error).all(), (values.mean(axis=0), mean, error))
+
+    def test_heights_in_the_middle(self):
+        def shares(seed):
+            middle = sandpile.random_recurrent((256, 256), seed)[64:192, 64:192]
+            return np.bincount(middle.ravel(), minlength=4) / middle.size
+
+        self.assertMean(in_threads(shares, 12), HEIGHTS)
+
+    def test_sizes_of_avalanches(self):
+        self.assertAlmostEqual(mean_size(32), np.linalg.inv(toppling_matrix(32, 32)).sum() / 32**2)
+        for side in (32, 64, 128):
+            with self.subTest(side=side):
+
+                def mean(seed):
+                    run = sandpile.Drive(sandpile.random_recurrent((side, side), seed), seed=seed)
+                    return run.drop(1000)["size"].mean()
+
+                self.assertMean(in_threads(mean, 32), mean_size(side))
+
+    def test_sizes_on_a_cylinder(self):
+        def mean(seed):
+            run = sandpile.Drive(sandpile.random_recurrent((5, 16), seed, cylinder=True), seed=seed, cylinder=True)
+            return run.drop(100)["size"].mean()
+
+        self.assertMean(in_threads(mean, 256), np.linalg.inv(toppling_matrix(5, 16, cylinder=True)).sum() / 80)
+
+
+class Uniform(unittest.TestCase):
+    def test_each_element_is_equally_likely(self):
+        for height, width, cylinder, count in ((2, 2, False, 2000), (2, 3, False, 4000), (3, 3, True, 4000)):
+            with self.subTest(height=height, width=width, cylinder=cylinder):
+                elements = round(np.linalg.det(toppling_matrix(height, width, cylinder)))
+                piles = [sandpile.random_recurrent((height, width), (1, at), cylinder).pile.ravel() for at in range(count)]
+                _, found = np.unique(piles, axis=0, return_counts=True)
+                # The sum over all elements of (found - expected)^2 / expected; its variance is twice its mean.
+                chi_square = (found**2).sum() * elements / count - count
+                self.assertLess(abs(chi_square - (elements - 1)), 4 * (2 * (elements - 1)) ** 0.5)
+                self.assertLessEqual(len(found), elements)
+
+    def test_it_is_recurrent(self):
+        for shape, cylinder in (((1, 1), False), ((1, 256), False), ((7, 5), True), ((255, 256), True)):
+            pile = sandpile.random_recurrent(shape, 1, cylinder)
+            self.assertEqual((pile.shape, pile.cylinder), (shape, cylinder))
+            self.assertTrue(sandpile.burn(pile.pile, cylinder).is_recurrent)
+
+    def test_no_pile_has_too_many_grains(self):
+        self.assertEqual({sandpile.random_recurrent((1, 1), seed)[0, 0] for seed in range(50)}, {0, 1, 2, 3})
+
+
+class Seeds(unittest.TestCase):
+    def test_the_pile_of_a_seed(self):
+        self.assertEqual(sandpile.random_recurrent((2, 3), 7).pile.tolist(), [[2, 0, 2], [3, 3, 1]])
+
+    def test_what_is_a_seed(self):
+        kinds = [7, np.int64(7), [7], np.array([7]), np.random.SeedSequence(7)]
+        self.assertEqual(len({sandpile.random_recurrent((9, 8), seed) for seed in kinds}), 1)
+        others = [None, None, 8, [7, 1], 2**200, *np.random.SeedSequence(7).spawn(2)]
+        self.assertEqual(len({sandpile.random_recurrent((9, 8), seed) for seed in [7, *others]}), 8)
+
+    def test_what_is_none(self):
+        for seed in (-1, [7, -1]):
+            self.assertRaises(ValueError, sandpile.random_recurrent, (2, 2), seed)
+        for seed in (0.5, [0.5], {}):
+            self.assertRaises(TypeError, sandpile.random_recurrent, (2, 2), seed)
+
+    def test_shapes_that_are_none(self):
+        for shape, cylinder, number in (((0, 3), False, 1), ((3, 257), False, 1), ((3, 2), True, 24)):
+            with self.assertRaises(sandpile.Fault) as caught:
+                sandpile.random_recurrent(shape, 1, cylinder)
+            self.assertEqual(caught.exception.number, number)
+        for shape in ((3,), 3, (2.5, 3), [[3, 3], [3, 3]]):
+            self.assertRaises(TypeError, sandpile.random_recurrent, shape, 1)
