@@ -208,11 +208,11 @@ def _outside(what: str, row: int, column: int, shape: tuple[int, ...]) -> Fault:
     return Fault(25, f"{what} is at row {row}, column {column}, but the grid has {only}")
 
 
-def count_of(number: SupportsIndex, what: str, most: int = 2**64 - 1, fault: int = 15) -> int:
-    """A Python or NumPy number, which must be an integer from 0 to `most`; outside, it is this fault."""
+def count_of(number: SupportsIndex, what: str, most: int = 2**64 - 1, fault: int = 15, least: int = 0) -> int:
+    """A Python or NumPy number, which must be an integer from `least` to `most`; outside, it is this fault."""
     value = index_of(number, what)
-    if not 0 <= value <= most:
-        raise Fault(fault, f"{what} is {value}, but must be from 0 to {most}")
+    if not least <= value <= most:
+        raise Fault(fault, f"{what} is {value}, but must be from {least} to {most}")
     return value
 
 
@@ -226,3 +226,11 @@ def seed_of(seed: SupportsIndex | np.random.SeedSequence | None, bits: int = 64,
         return count_of(seed, "seed", 2**bits - 1, fault)
     except TypeError:
         raise TypeError(f"seed must be an integer, a numpy.random.SeedSequence or None, not {seed!r}") from None
+
+
+def new_array(shape: int | tuple[int, ...], kind: Any, what: str) -> NDArray[Any]:
+    """An array that is not yet filled, of a size that the caller has chosen."""
+    try:
+        return np.empty(shape, kind)
+    except (MemoryError, ValueError):  # more bytes than there are, or than NumPy can count
+        raise Fault(4, f"not enough memory for {what}") from None

@@ -4,13 +4,13 @@ from __future__ import annotations
 
 import ctypes
 import os
-from typing import Any, Callable, NamedTuple, Optional, SupportsIndex, Tuple
+from typing import Any, Callable, Iterator, Literal, NamedTuple, Optional, SupportsIndex, Tuple, overload
 
 import numpy as np
 from numpy.typing import ArrayLike, NDArray
 
 from . import _saves
-from ._arrays import HasPile, Heights, count_of, heights_and_edge, seed_of, site_at, sites_at
+from ._arrays import HasPile, Heights, count_of, heights_and_edge, new_array, seed_of, site_at, sites_at
 from ._handles import DriveHandle
 from ._library import call, call_at
 from .faults import Fault
@@ -73,6 +73,11 @@ _Wanted = Tuple[int, _Called]
 def _drop(sites: int, n: int, found: int) -> _Call:
     """The call that drops a grain at each of the `n` sites at an address."""
     return "sandpile_drive_drop", sites, n, found, n
+
+
+def _avalanche(site: int, found: int, topplings: int, sites: int) -> _Call:
+    """The call that drops a grain at a site, and writes the topplings of each of the `sites` at an address."""
+    return "sandpile_drive_avalanche", site, found, topplings, sites
 
 
 def _block(run: Drive, block: _Block, name: str, *arguments: Any) -> None:
@@ -235,7 +240,15 @@ class Drive(HasPile):
         """Whether the first and the last column are neighbours."""
         return self._cylinder
 
-    def drop(self, n: SupportsIndex, progress: bool = False) -> NDArray[np.void]:
+    @overload
+    def drop(self, n: SupportsIndex, progress: bool = False, odometers: Literal[False] = False) -> NDArray[np.void]: ...
+
+    @overload
+    def drop(
+        self, n: SupportsIndex, progress: bool = False, *, odometers: Literal[True]
+    ) -> tuple[NDArray[np.void], Heights]: ...
+
+    def drop(self, n: SupportsIndex, progress: bool = False, odometers: bool = False) -> Any:
         """Drops `n` grains at the next random sites.
 
         Ctrl-C stops between two blocks of drops. It raises `KeyboardInterrupt`; the pile then has all drops so far, and
@@ -248,19 +261,25 @@ class Drive(HasPile):
         progress : bool
             Whether to show the progress on standard error, with tqdm if it is installed. If it cannot be shown, the
             drops are made without.
+        odometers : bool
+            Whether to return also how often each site topples in each avalanche. A block is then a single drop.
 
         Returns
         -------
-        numpy.ndarray
+        table : numpy.ndarray
             A structured array with a row for each drop: its `number` from 0 over all calls, its `site` (row * width +
             column), the `size` (topplings), the `area` (sites that toppled), the `reach` (greatest distance from the
-            site to one that toppled, in columns plus rows) and the grains `lost`.
+            site to one that toppled, in columns plus rows) and the grains `lost`. A row has 48 bytes; `blocks` makes the
+            rows of a long run without having all in memory.
+        topplings : numpy.ndarray
+            Only with `odometers`: how often each site topples in each avalanche; shape (n, height, width), int64.
 
         Raises
         ------
         Fault
             Plan (15) if `n` is negative, Full (6) if the start and all drops exceed 1,099,511,627,775 grains together,
-            or Memory (4), which keeps the blocks before it, like Ctrl-C.
+            or Memory (4), which keeps the blocks before it, like Ctrl-C; if the arrays that are returned cannot be made, no
+            grain drops.
         TypeError
             If `n` is not an integer.
         RuntimeError
@@ -271,12 +290,67 @@ class Drive(HasPile):
         >>> import sandpile
         >>> sandpile.Drive([[3]]).drop(5)["size"]
         array([1, 0, 0, 0, 1])
+        >>> table, topplings = sandpile.Drive([[3, 3]]).drop(5, odometers=True)
+        >>> topplings.shape, bool((topplings.sum(axis=(1, 2)) == table["size"]).all())
+        ((5, 1, 2), True)
         """
+        if odometers:
+            return self._drop_with_odometers(n, progress)
 
         def asked() -> _Wanted:
             return count_of(n, "n"), lambda begin, end, found: _drop(self._draw(end - begin), end - begin, found)
 
         return self._drop(asked, progress, draws=True)
+
+    def _drop_with_odometers(self, n: SupportsIndex, progress: bool) -> tuple[NDArray[np.void], Heights]:
+        topplings = _NO_HEIGHTS
+
+        def asked() -> _Wanted:
+            nonlocal topplings
+            drops = count_of(n, "n")
+            self._check_grains(drops)
+            topplings = new_array((drops, *self._shape), np.int64, f"the topplings of {drops} drops")
+            at, sites = topplings.ctypes.data, self._sites
+            step = sites * topplings.itemsize
+            return drops, lambda begin, _, found: _avalanche(self._next_site(), found, at + begin * step, sites)
+
+        return self._drop(asked, progress, draws=True, most=1), topplings
+
+    def blocks(self, n: SupportsIndex, size: SupportsIndex) -> Iterator[NDArray[np.void]]:
+        """Drops `n` grains at the next random sites, and yields their table in parts, so not all rows are in memory at once.
+
+        Each part is a call of `drop`, made when it is asked for. So between two of them the run has the drops of the parts
+        so far, and can be saved, used or left.
+
+        Parameters
+        ----------
+        n : int
+            Number of grains.
+        size : int
+            The rows of each part, at least 1; the last part may have fewer.
+
+        Returns
+        -------
+        iterator of numpy.ndarray
+            The parts, each as from `drop`.
+
+        Raises
+        ------
+        Fault
+            Plan (15) if `n` is negative or `size` is not positive. From the iterator Full (6) or Memory (4), as from `drop`.
+        TypeError
+            If `n` or `size` is not an integer.
+        RuntimeError
+            From the iterator, as from `drop`.
+
+        Examples
+        --------
+        >>> import sandpile
+        >>> [len(table) for table in sandpile.Drive([[3, 3]]).blocks(1000, 300)]
+        [300, 300, 300, 100]
+        """
+        drops, most = count_of(n, "n"), count_of(size, "size", least=1)
+        return (self.drop(min(most, drops - begin)) for begin in range(0, drops, most))
 
     def drop_at(
         self, sites: ArrayLike | None = None, *, rows: ArrayLike | None = None, columns: ArrayLike | None = None
@@ -327,12 +401,13 @@ class Drive(HasPile):
     def avalanche(
         self, site: SupportsIndex | None = None, *, row: SupportsIndex | None = None, column: SupportsIndex | None = None
     ) -> tuple[np.void, Heights]:
-        """Drops a grain at a site, and returns how often each site topples in its avalanche. Uses no random site.
+        """Drops a grain at a site, and returns how often each site topples in its avalanche.
 
         Parameters
         ----------
-        site : int
-            The number of the site, row * width + column.
+        site : int, optional
+            The number of the site, row * width + column. Without it, or its row and its column, it is the next random one;
+            with it, no random site is used.
         row, column : int
             Instead of `site`, its row and its column, each from 0.
 
@@ -360,29 +435,37 @@ class Drive(HasPile):
         (2, 1, array([[1, 1, 0]]))
         """
         topplings = np.empty(self._shape, np.int64)
+        is_random = site is None and row is None and column is None
 
         def asked() -> _Wanted:
-            at = site_at(site, row, column, self._shape)
-            return 1, lambda _, __, found: ("sandpile_drive_avalanche", at, found, topplings.ctypes.data, topplings.size)
+            at = self._next_site() if is_random else site_at(site, row, column, self._shape)
+            return 1, lambda _, __, found: _avalanche(at, found, topplings.ctypes.data, topplings.size)
 
-        return self._drop(asked, progress=False, draws=False)[0], topplings
+        return self._drop(asked, progress=False, draws=is_random)[0], topplings
 
-    def _drop(self, ask: Callable[[], _Wanted], progress: bool, draws: bool) -> NDArray[np.void]:
-        """Makes the drops that `ask` returns when it has checked the arguments."""
+    def _drop(
+        self, ask: Callable[[], _Wanted], progress: bool, draws: bool, most: Optional[int] = None
+    ) -> NDArray[np.void]:
+        """Makes the drops that `ask` returns when it has checked the arguments, in blocks of at most `most` if it is given."""
         with self._handle.dropping():
             n, called, table = self._begun(ask)
             if progress:
                 with Bar(n) as bar:
-                    self._make(called, table, draws, bar.show)
+                    self._make(called, table, draws, most or self._most, bar.show)
             else:
-                self._make(called, table, draws)
+                self._make(called, table, draws, most or self._most)
             return self._state.table
 
     def _make(
-        self, called: _Called, table: NDArray[np.void], draws: bool, show: Optional[Callable[[int], None]] = None
+        self,
+        called: _Called,
+        table: NDArray[np.void],
+        draws: bool,
+        most: int,
+        show: Optional[Callable[[int], None]] = None,
     ) -> None:
         """Makes the drops of a table, block after block."""
-        most, n = self._most, len(table)
+        n = len(table)
         for begin in range(0, n, most):
             end = min(begin + most, n)
             found = self._room(end - begin)
@@ -398,12 +481,20 @@ class Drive(HasPile):
             self._state = _State(was.drops, was.drawn, _NO_ROWS)
         try:
             n, called = ask()
-            if self._start_grains + was.drops + n > _MOST_GRAINS:
-                raise Fault(6)
-            return n, called, _new_table(n)
+            self._check_grains(n)
+            return n, called, new_array(n, AVALANCHE, f"a table of {n} drops")
         except Exception:
             self._state = was
             raise
+
+    def _check_grains(self, n: int) -> None:
+        """Refuses `n` more drops if they exceed the limit of grains."""
+        if self._start_grains + self._state.drops + n > _MOST_GRAINS:
+            raise Fault(6)
+
+    def _next_site(self) -> int:
+        """The next site of the stream. The drop there is yet to be made."""
+        return ctypes.c_int64.from_address(self._draw(1)).value
 
     def _draw(self, n: int) -> int:
         """The address of the next `n` sites of the stream, after those used so far."""
@@ -526,10 +617,3 @@ def _fill_columns(rows: NDArray[np.void], first: int, found: NDArray[np.void]) -
     rows["number"] = _COUNT[: len(rows)] + first
     for name in found.dtype.names or ():
         rows[name] = found[name]
-
-
-def _new_table(n: int) -> NDArray[np.void]:
-    try:
-        return np.empty(n, AVALANCHE)
-    except MemoryError:
-        raise Fault(4, f"not enough memory for a table of {n} drops") from None

@@ -5,7 +5,6 @@ from concurrent.futures import ThreadPoolExecutor
 
 import numpy as np
 import sandpile
-from tools import same
 
 PI = np.pi
 # The probability of each height far from the edge (Priezzhev 1994; Kenyon and Wilson 2015).

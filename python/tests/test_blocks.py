@@ -1,0 +1,118 @@
+"""Runs in blocks of drops, which need little memory, and the topplings of each site in each avalanche."""
+
+import unittest
+from unittest import mock
+
+import numpy as np
+import sandpile
+from sandpile import driving
+from test_live import equal
+from test_random import toppling_matrix
+from tools import same
+
+FULL = np.full((32, 32), 3)
+
+
+def two_runs(**words):
+    return (sandpile.Drive(FULL + 1, seed=5, stream=2, **words) for _ in range(2))
+
+
+class Blocks(unittest.TestCase):
+    def test_they_are_the_tables_of_one_call(self):
+        for n, size, lengths in ((1000, 300, [300, 300, 300, 100]), (9, 3, [3, 3, 3]), (4, 2**40, [4]), (0, 5, [])):
+            one, other = two_runs()
+            tables = list(one.blocks(n, size))
+            self.assertEqual(list(map(len, tables)), lengths)
+            self.assertTrue(same(np.concatenate([one.drop(0), *tables]), other.drop(n)))
+            self.assertTrue(same(one.drop(5), other.drop(5)))
+
+    def test_stopped_early(self):
+        one, other = two_runs()
+        blocks = one.blocks(2**40, 10)
+        next(blocks), next(blocks)
+        self.assertEqual(one.drops, 20)
+        one.drop(5)
+        self.assertEqual(next(blocks)["number"].tolist(), list(range(25, 35)))
+        other.drop(25), other.drop(10)
+        self.assertTrue(equal(one, other))
+
+    def test_what_is_refused_at_once(self):
+        run = sandpile.Drive(FULL)
+        for words in ((-1, 5), (5, 0), (5, -1), (2**64, 5)):
+            self.assertRaises(sandpile.Fault, run.blocks, *words)
+        for words in ((1.5, 5), (5, 1.5), (5, None)):
+            self.assertRaises(TypeError, run.blocks, *words)
+
+
+class Odometers(unittest.TestCase):
+    def test_the_topplings_of_each_drop(self):
+        for cylinder in (False, True):
+            one, other = two_runs(cylinder=cylinder)
+            table, topplings = one.drop(700, odometers=True)
+            self.assertEqual((topplings.shape, topplings.dtype), ((700, 32, 32), np.int64))
+            for row, toppled in zip(table, topplings):
+                before = other.odometer
+                self.assertEqual(other.drop(1)[0].tolist(), row.tolist())
+                self.assertTrue(same(other.odometer - before, toppled))
+            self.assertTrue(same(table["size"], topplings.sum(axis=(1, 2))))
+            self.assertTrue(same(one.drop(10), other.drop(10)))
+            self.assertTrue(equal(one, other))
+
+    def test_none(self):
+        run = sandpile.Drive(FULL)
+        table, topplings = run.drop(0, odometers=True)
+        self.assertEqual((len(table), topplings.shape, run.drops), (0, (0, 32, 32), 0))
+
+    def test_the_table_is_that_of_the_call(self):
+        run = sandpile.Drive(FULL, seed=1)
+        table, _ = run.drop(5, odometers=True)
+        self.assertTrue(same(run.table, table))
+
+    def test_what_is_refused(self):
+        run = sandpile.Drive(FULL)
+        table = run.drop(3)
+        for n, number in ((-1, 15), (2**40, 6), (2**64 - 1, 6), (2**39, 4)):
+            with self.assertRaises(sandpile.Fault) as caught:
+                run.drop(n, odometers=True)
+            self.assertEqual(caught.exception.number, number)
+        self.assertRegex(str(caught.exception), f"not enough memory for the topplings of {2**39} drops")
+        self.assertRaises(TypeError, run.drop, 1.5, odometers=True)
+        self.assertIs(run.table, table)
+        self.assertEqual(run.drops, 3)
+
+    def test_ctrl_c_keeps_what_was_done(self):
+        one, other = two_runs()
+        one.drop(5), other.drop(5)
+        made, block = [], driving._block
+
+        def stopped(*words):
+            made.append(1)
+            if len(made) == 30:
+                raise KeyboardInterrupt
+            return block(*words)
+
+        with mock.patch.object(driving, "_block", stopped):
+            self.assertRaises(KeyboardInterrupt, one.drop, 100, odometers=True)
+        self.assertEqual(one.drops, 34)
+        self.assertTrue(same(one.table, other.drop(29)))
+        self.assertTrue(same(one.drop(10), other.drop(10)))
+
+
+class Avalanches(unittest.TestCase):
+    def test_without_a_site_it_is_the_next_random_one(self):
+        one, other = two_runs()
+        for words in [()] * 300 + [(None,)]:
+            row, topplings = one.avalanche(*words)
+            table, wanted = other.drop(1, odometers=True)
+            self.assertEqual(row.tolist(), table[0].tolist())
+            self.assertTrue(same(topplings, wanted[0]))
+        one.avalanche(7), other.drop_at(7)
+        self.assertTrue(same(one.drop(10), other.drop(10)))
+
+    def test_the_mean_is_the_inverse_of_the_toppling_matrix(self):
+        # The mean is over the recurrent piles (Dhar 1990).
+        green, middle = np.linalg.inv(toppling_matrix(7, 9))[31].reshape(7, 9), 31
+        piles = (sandpile.random_recurrent((7, 9), seed) for seed in range(4000))
+        topplings = np.array([sandpile.Drive(pile).avalanche(middle)[1] for pile in piles])
+        error = topplings.std(axis=0, ddof=1) / len(topplings) ** 0.5
+        self.assertLess((abs(topplings.mean(axis=0) - green) / error).max(), 4)
