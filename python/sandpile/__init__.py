@@ -13,6 +13,7 @@ run in parallel.
 ======================================  ==========================================================
 `settle`                                the settled pile, and how often each site topples
 `Drive`                                 drops grains one by one, and returns their avalanches
+`replicas`                              the runs of many streams, in parallel
 `SharedPile`                            many threads drop grains on one pile at once
 `burn`                                  whether a pile is recurrent
 `recurrent`, `identity`, `Recurrent`    the sandpile group
@@ -37,6 +38,7 @@ from .faults import Fault
 from .group import Recurrent, identity, recurrent
 from .laboratory import EPOCH, Run, lab
 from .pictures import show
+from .replicating import REPLICA, Replicas, replicas
 from .settling import Settled, settle
 from .sharing import Part, Record, SharedPile
 from .stationary import random_recurrent
@@ -44,6 +46,6 @@ from .version import VERSION
 
 __version__ = VERSION
 __all__ = [
-    "AVALANCHE", "EPOCH", "Burned", "Drive", "Fault", "Part", "Record", "Recurrent", "Run", "Settled", "SharedPile",
-    "animate", "burn", "identity", "lab", "random_recurrent", "recurrent", "settle", "show",
+    "AVALANCHE", "EPOCH", "REPLICA", "Burned", "Drive", "Fault", "Part", "Record", "Recurrent", "Replicas", "Run", "Settled",
+    "SharedPile", "animate", "burn", "identity", "lab", "random_recurrent", "recurrent", "replicas", "settle", "show",
 ]

@@ -1,5 +1,7 @@
 """Runs in blocks of drops, which need little memory, and the topplings of each site in each avalanche."""
 
+import subprocess
+import sys
 import unittest
 from unittest import mock
 
@@ -8,7 +10,8 @@ import sandpile
 from sandpile import driving
 from test_live import equal
 from test_random import toppling_matrix
-from tools import same
+from test_replicas import MODULE, soon
+from tools import new_folder, same
 
 FULL = np.full((32, 32), 3)
 
@@ -42,6 +45,33 @@ class Blocks(unittest.TestCase):
             self.assertRaises(sandpile.Fault, run.blocks, *words)
         for words in ((1.5, 5), (5, 1.5), (5, None)):
             self.assertRaises(TypeError, run.blocks, *words)
+
+
+LONG = """
+import os, sandpile
+run = sandpile.Drive.load("run") if os.path.exists("run.npz") else sandpile.Drive([[3] * 32] * 32, seed=1)
+with open("rows", "ab") as file:
+    file.truncate(run.drops * sandpile.AVALANCHE.itemsize)
+    for table in run.blocks(100_000 - run.drops, 1000):
+        table.tofile(file)
+        file.flush()
+        run.save("run")
+"""
+
+
+class Killed(unittest.TestCase):
+    def test_a_run_that_was_killed_goes_on(self):
+        folder = new_folder(self)
+        rows, words, how = folder / "rows", [sys.executable, "-c", LONG], {"cwd": folder, "env": {"PYTHONPATH": MODULE}}
+        for least in (0, 10_000, 20_000, 30_000):
+            child = subprocess.Popen(words, **how)
+            self.assertTrue(soon(lambda: rows.exists() and rows.stat().st_size > least * sandpile.AVALANCHE.itemsize))
+            child.kill()
+            self.assertLess(child.wait(), 0)
+        subprocess.run(words, check=True, timeout=300, **how)
+        table = sandpile.Drive(FULL, seed=1).drop(100_000)
+        self.assertTrue(same(np.fromfile(rows, sandpile.AVALANCHE), table))
+        self.assertEqual(sandpile.Drive.load(folder / "run").drops, 100_000)
 
 
 class Odometers(unittest.TestCase):

@@ -1,0 +1,260 @@
+"""Replicas of a run, in parallel: each has its own stream of random sites, and may have its own random start."""
+
+from __future__ import annotations
+
+import atexit
+import contextlib
+import functools
+import itertools
+import os
+import threading
+import weakref
+from collections import deque
+from concurrent.futures import CancelledError, Future, ThreadPoolExecutor
+from dataclasses import dataclass
+from typing import Any, Callable, Deque, Generator, Iterable, Iterator, Sequence, Sized, SupportsIndex, Tuple, Union, cast
+
+import numpy as np
+from numpy.typing import ArrayLike, NDArray
+
+from ._arrays import checked_edge, count_of, heights_and_edge, new_array, seed_of, shape_of
+from .driving import AVALANCHE, Drive
+from .progress import Bar
+from .stationary import random_recurrent
+
+_MOST_STREAM = 2**63 - 1
+# Drops between two looks at whether the caller has stopped.
+_BLOCK = 8192
+
+#: The type of the rows of the tables of `replicas`, one row for each drop.
+REPLICA = np.dtype([("stream", "i8"), *AVALANCHE.descr])
+_AVALANCHE = list(AVALANCHE.names or ())
+
+_Table = NDArray[np.void]
+_Tables = Generator[_Table, None, None]
+_Submitted = Deque[Tuple[int, "Future[_Table]"]]
+_Start = Union[ArrayLike, Tuple[int, int], Callable[[int], ArrayLike]]
+
+
+class Replicas(Iterator[_Table]):
+    """The tables of replicas, one for each stream, in the order of the streams.
+
+    `close` ends an iterator early: it cancels the replicas that have not begun, and waits for threads of its own, which
+    stop between two blocks of drops. An error, Ctrl-C or the end of the iterator does the same.
+
+    Attributes
+    ----------
+    seed : int
+        The seed of all replicas.
+    """
+
+    def __init__(self, seed: int, tables: _Tables) -> None:
+        self.seed, self._tables = seed, tables
+
+    def __next__(self) -> _Table:
+        return next(self._tables)
+
+    def close(self) -> None:
+        """Cancels the replicas that have not begun."""
+        self._tables.close()
+
+
+@dataclass(frozen=True)
+class _Plan:
+    """What all replicas have in common. It is sent to each worker."""
+
+    start: Any  # an array, a shape, or a function of the stream
+    cylinder: bool | None
+    seed: int
+    drops: int
+
+    def run(self, stream: int) -> Drive:
+        """A replica before its first drop."""
+        start = self.start
+        if callable(start):
+            start = start(stream)
+        elif isinstance(start, tuple):
+            seed = np.random.SeedSequence(self.seed, spawn_key=(stream,))
+            start = random_recurrent(start, seed, bool(self.cylinder))
+        return Drive(start, self.seed, stream, self.cylinder)
+
+
+def _replica(plan: _Plan, stream: int, stop: threading.Event | None = None) -> _Table:
+    """The table of a replica."""
+    _go_on(stop)
+    run, table = plan.run(stream), new_array(plan.drops, REPLICA, f"a table of {plan.drops} drops")
+    for block in run.blocks(plan.drops, _BLOCK):
+        rows = table[run.drops - len(block) : run.drops]
+        rows["stream"], rows[_AVALANCHE] = stream, block
+        _go_on(stop)
+    return table
+
+
+def _go_on(stop: threading.Event | None) -> None:
+    """Ends a replica that nobody waits for."""
+    if stop is not None and stop.is_set():
+        raise CancelledError
+
+
+# Python waits for all threads before it runs what `atexit` has. So that the program ends soon after an error or Ctrl-C while
+# an iterator still exists, the threads are stopped before.
+_stops: weakref.WeakSet[threading.Event] = weakref.WeakSet()
+
+
+def _stop_all() -> None:
+    for stop in tuple(_stops):
+        stop.set()
+
+
+getattr(threading, "_register_atexit", atexit.register)(_stop_all)
+
+
+def replicas(
+    start: _Start,
+    seed: SupportsIndex | np.random.SeedSequence | None,
+    streams: Iterable[SupportsIndex],
+    drops: SupportsIndex,
+    executor: Any = None,
+    cylinder: bool | None = None,
+    window: SupportsIndex | None = None,
+    progress: bool = False,
+) -> Replicas:
+    """Drops grains in many replicas at once, and yields the table of each.
+
+    The tables are the same whatever runs the replicas. They come in the order of `streams`, each as soon as it and those
+    before it are made. Nothing runs until the first is asked for.
+
+    Parameters
+    ----------
+    start : tuple of int, array_like of int, or callable
+        A shape, ``(height, width)``: each replica starts from its own random recurrent pile, ``random_recurrent(start,
+        numpy.random.SeedSequence(seed, spawn_key=(stream,)))``. Or the pile from which all start, as for `Drive`. Or a
+        function of the stream that returns such a pile; for processes it must be one that can be pickled.
+    seed : int, numpy.random.SeedSequence, or None
+        The seed of all replicas, as for `Drive`.
+    streams : iterable of int
+        The stream of each replica, from 0 to 2**63 - 1.
+    drops : int
+        Grains that each replica drops.
+    executor : concurrent.futures.Executor, distributed.Client, or None
+        What runs the replicas: any executor, such as a `ProcessPoolExecutor` or an `mpi4py.futures.MPIPoolExecutor`, or a
+        client of Dask. It is not shut down. None is a thread for each processor.
+    cylinder : bool, optional
+        Whether the first and the last column are neighbours.
+    window : int, optional
+        How many replicas at most are under way or wait to be taken; each has a table of 56 bytes a drop. By default it is
+        twice the number that the executor runs at once, or twice the number of processors if it does not tell.
+    progress : bool
+        Whether to show on standard error how many drops the tables so far have, as `Drive.drop` does. `streams` must then
+        have a length.
+
+    Returns
+    -------
+    Replicas
+        An iterator of structured arrays with the column `stream`, and then those of `Drive.drop`. It has the `seed` of the
+        replicas, and `close` ends it early.
+
+    Raises
+    ------
+    Fault
+        As from `Drive`, or Plan (15) if a number is outside its limits.
+    ValueError, TypeError
+        As from `Drive`, or TypeError if another argument has the wrong type.
+    RuntimeError
+        From the iterator, if a replica fails. It names the stream, and its ``__cause__`` is the error.
+
+    See Also
+    --------
+    random_recurrent : the start of a replica
+    Drive : a single run
+
+    Examples
+    --------
+    >>> import sandpile
+    >>> for table in sandpile.replicas((32, 32), seed=7, streams=range(3), drops=100):
+    ...     print(table["stream"][0], len(table), (table["size"] >= table["area"]).all())
+    0 100 True
+    1 100 True
+    2 100 True
+    """
+    plan = _Plan(*_start_of(start, cylinder), seed_of(seed), count_of(drops, "drops"))
+    executor, workers = _workers_of(executor)
+    most = count_of(2 * workers if window is None else window, "window", least=1)
+    left = (count_of(stream, "stream", _MOST_STREAM) for stream in streams)
+    if executor is None:
+        tables = _in_threads(plan, left, most)
+    else:
+        tables = _in_order(left, functools.partial(executor.submit, _replica, plan), most)
+    if progress:
+        tables = _shown(tables, len(cast(Sized, streams)) * plan.drops)
+    return Replicas(plan.seed, tables)
+
+
+def _start_of(start: _Start, cylinder: bool | None) -> tuple[Any, bool | None]:
+    """A checked pile with its edge, or a shape or a function of the stream, whose piles may have their own."""
+    is_shape = isinstance(start, tuple) and all(map(np.isscalar, start))
+    if not is_shape and not callable(start):
+        return heights_and_edge(start, cylinder)
+    edge = None if cylinder is None else checked_edge(cylinder)
+    return shape_of(cast(Sequence[int], start)) if is_shape else start, edge
+
+
+def _workers_of(executor: Any) -> tuple[Any, int]:
+    """The executor that runs the replicas, unless threads will, and how many it runs at once."""
+    processors = os.cpu_count() or 1
+    if executor is None:
+        return None, processors
+    if hasattr(executor, "get_executor"):
+        # A client of Dask takes equal calls for one, unless it is told that they are not.
+        return executor.get_executor(pure=False), sum(executor.nthreads().values()) or processors
+    if not hasattr(executor, "submit"):
+        raise TypeError(f"executor must be one of concurrent.futures, a client of Dask or None, not {executor!r}")
+    # Those of Python and of mpi4py tell how many workers they have under this name only.
+    return executor, getattr(executor, "_max_workers", None) or processors
+
+
+def _in_order(streams: Iterator[int], submit: Callable[[int], Future[_Table]], window: int) -> _Tables:
+    """The tables in the order of the streams. At most `window` of them are under way or wait to be taken."""
+    submitted: _Submitted = deque()
+    try:
+        while True:
+            for stream in itertools.islice(streams, window - len(submitted)):
+                submitted.append((stream, submit(stream)))
+            if not submitted:
+                return
+            yield _first(submitted)
+    finally:
+        for _, future in submitted:
+            future.cancel()
+
+
+def _first(submitted: _Submitted) -> _Table:
+    """The table of the first replica, once it is there."""
+    stream, future = submitted[0]
+    try:
+        table = future.result()
+    except Exception as error:
+        raise RuntimeError(f"the replica of stream {stream} failed: {type(error).__name__}: {error}") from error
+    submitted.popleft()
+    return table
+
+
+def _in_threads(plan: _Plan, streams: Iterator[int], window: int) -> _Tables:
+    """The tables of replicas on threads that end with this iterator."""
+    stop = threading.Event()
+    _stops.add(stop)
+    with ThreadPoolExecutor(os.cpu_count()) as threads:
+        try:
+            yield from _in_order(streams, lambda stream: threads.submit(_replica, plan, stream, stop), window)
+        finally:
+            stop.set()
+
+
+def _shown(tables: _Tables, drops: int) -> _Tables:
+    """The same tables. Shows how many of all drops they have."""
+    done = 0
+    with contextlib.closing(tables), Bar(drops) as bar:
+        for table in tables:
+            done += len(table)
+            bar.show(done)
+            yield table

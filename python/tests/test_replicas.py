@@ -1,0 +1,342 @@
+"""Replicas: the same tables whatever runs them, in order, within a window, and nothing is left when they end early."""
+
+import contextlib
+import functools
+import io
+import itertools
+import multiprocessing
+import os
+import signal
+import subprocess
+import sys
+import threading
+import time
+import unittest
+import weakref
+from concurrent.futures import Executor, Future, ProcessPoolExecutor, ThreadPoolExecutor
+from pathlib import Path
+from unittest import mock
+
+import numpy as np
+import sandpile
+from sandpile import replicating
+from tools import needs, needs_module, new_folder, ran, same
+
+MODULE = str(Path(sandpile.__file__).parents[1])
+SEED, STREAMS, DROPS = 7, (3, 0, 2**63 - 1), 9000
+
+
+def own_start(shape, stream, cylinder=False):
+    """The random start of a replica."""
+    return sandpile.random_recurrent(shape, np.random.SeedSequence(SEED, spawn_key=(stream,)), cylinder)
+
+
+def full(stream):
+    """A pile of each stream except 2."""
+    if stream == 2:
+        raise sandpile.Fault(24)
+    return np.full((5, 6), 3 + stream % 2)
+
+
+# A start that is given, and the function of the stream that it stands for.
+PILE, ELEMENT, RANDOM = [[3, 3], [3, 3]], sandpile.identity((4, 4), True), functools.partial(sandpile.random_recurrent, (3, 3))
+STARTS = {
+    "a shape": ((9, 8), functools.partial(own_start, (9, 8))),
+    "a pile": (PILE, lambda _: PILE),
+    "an element": (ELEMENT, lambda _: ELEMENT),
+    "a function": (full, full),
+    "a call of which the stream is the seed": (RANDOM, RANDOM),
+}
+
+
+def by_hand(start, stream, **edge):
+    """The table of a replica, made with nothing but a `Drive`."""
+    table = sandpile.Drive(start(stream), SEED, stream, **edge).drop(DROPS)
+    return np.array([(stream, *row) for row in table.tolist()], sandpile.REPLICA)
+
+
+class Later(Executor):
+    """Runs what is submitted when it is told to."""
+
+    def __init__(self):
+        self.futures, self.calls = [], []
+
+    def submit(self, *call):
+        self.futures.append(Future())
+        self.calls.append(call)
+        return self.futures[-1]
+
+    def run(self, at):
+        call, *words = self.calls[at]
+        self.futures[at].set_running_or_notify_cancel()
+        self.futures[at].set_result(call(*words))
+
+
+class Backwards(Later):
+    """Runs what is submitted three by three, the last first."""
+
+    def submit(self, *call):
+        future = super().submit(*call)
+        if len(self.futures) % 3 == 0:
+            for at in (-1, -2, -3):
+                self.run(at)
+        return future
+
+
+class AtOnce(Later):
+    """Runs what is submitted at once."""
+
+    def submit(self, *call):
+        future = super().submit(*call)
+        self.run(-1)
+        return future
+
+
+def soon(is_true):
+    """Whether this becomes true within a minute."""
+    end = time.monotonic() + 60
+    while not is_true() and time.monotonic() < end:
+        time.sleep(0.001)
+    return is_true()
+
+
+# A replica of so many drops takes minutes.
+STOPPED = """
+import signal, threading, numpy as np, sandpile
+signal.signal(signal.SIGINT, signal.default_int_handler)  # it is ignored in what a shell starts in the background
+try:
+    print("begun", flush=True)
+    for table in sandpile.replicas((256, 256), 1, range(1000), 10**7, window=8):
+        pass
+except KeyboardInterrupt:
+    print("stopped,", threading.active_count(), "thread")
+"""
+UNFINISHED = """
+import numpy as np, sandpile
+def start(stream):
+    return sandpile.random_recurrent((256, 256), stream) if stream else np.zeros((256, 256), int)
+tables = sandpile.replicas(start, 1, range(1000), 100_000, window=1000)
+next(tables)  # which is ready soon, but all the others are not
+1 / 0
+"""
+
+
+BY_MPI = """
+import sandpile
+from mpi4py.futures import MPIPoolExecutor
+if __name__ == "__main__":
+    with MPIPoolExecutor() as pool:
+        tables = list(sandpile.replicas((9, 8), 7, range(4), 3000, pool))
+    wanted = list(sandpile.replicas((9, 8), 7, range(4), 3000))
+    if all(map(lambda one, other: one.tobytes() == other.tobytes(), tables, wanted)):
+        print(len(tables), "tables, as in threads")
+"""
+
+
+class Tables(unittest.TestCase):
+    def test_they_are_the_same_by_each_executor(self):
+        fork, spawn = map(multiprocessing.get_context, ("fork", "spawn"))
+        with ThreadPoolExecutor(2) as threads, ProcessPoolExecutor(2, fork) as forks, ProcessPoolExecutor(2, spawn) as spawns:
+            for name, (start, hand) in STARTS.items():
+                wanted = [by_hand(hand, stream) for stream in STREAMS]
+                for executor in (None, Backwards(), threads, forks, spawns):
+                    with self.subTest(start=name, executor=executor):
+                        tables = list(sandpile.replicas(start, SEED, STREAMS, DROPS, executor))
+                        self.assertEqual(len(tables), 3)
+                        self.assertTrue(all(map(same, tables, wanted)))
+
+    def test_on_a_cylinder(self):
+        for start, hand in (((4, 5), functools.partial(own_start, (4, 5), cylinder=True)), (full, full)):
+            table = next(sandpile.replicas(start, SEED, [3], DROPS, cylinder=True))
+            self.assertTrue(same(table, by_hand(hand, 3, cylinder=True)))
+            self.assertFalse(same(table, next(sandpile.replicas(start, SEED, [3], DROPS))))
+
+    def test_seeds(self):
+        fresh = [sandpile.replicas((3, 3), None, [1], 20) for _ in range(2)]
+        self.assertNotEqual(fresh[0].seed, fresh[1].seed)
+        for tables in (*fresh, sandpile.replicas((3, 3), np.random.SeedSequence(5), [1], 20)):
+            self.assertTrue(same(next(tables), next(sandpile.replicas((3, 3), tables.seed, [1], 20))))
+
+    def test_no_two_replicas_have_one_random_start(self):
+        pairs, words = [(7, 1), (7, 2), (7 + 2**32, 0), (7 + 2**32, 1), (7, 2**32), (7, 2**32 + 1)], set()
+
+        def start(shape, seed, _):
+            words.add(tuple(seed.generate_state(8)))
+            return np.zeros(shape, int)
+
+        with mock.patch.object(replicating, "random_recurrent", start):
+            for seed, stream in pairs:
+                next(sandpile.replicas((2, 2), seed, [stream], 1))
+        self.assertEqual(len(words), len(pairs))
+
+    def test_nothing_to_do(self):
+        self.assertEqual(list(sandpile.replicas((3, 3), 1, [], 5)), [])
+        self.assertEqual([len(table) for table in sandpile.replicas((3, 3), 1, range(3), 0)], [0, 0, 0])
+
+    def test_no_more_than_a_window_is_submitted_and_not_taken(self):
+        for window in (1, 4, 9):
+            executor = AtOnce()
+            tables = sandpile.replicas((3, 3), 1, itertools.count(), 5, executor, window=window)
+            self.assertEqual(executor.futures, [])
+            for taken in range(20):
+                self.assertEqual(next(tables)["stream"].tolist(), [taken] * 5)
+                self.assertEqual(len(executor.futures), taken + window)
+
+    def test_a_window_by_default(self):
+        executor = AtOnce()
+        for workers in (3, 50):
+            executor._max_workers = workers
+            next(sandpile.replicas((3, 3), 1, itertools.count(), 5, executor))
+            self.assertEqual(len(executor.futures), 2 * workers)
+            executor.futures.clear()
+
+    def test_a_table_that_was_taken_is_not_kept(self):
+        for progress in (False, True):
+            with contextlib.redirect_stderr(io.StringIO()):
+                tables = sandpile.replicas((3, 3), 1, range(30), 1000, progress=progress)
+                taken = [weakref.ref(table) for table in tables]
+            self.assertTrue(soon(lambda: not any(table() is not None for table in taken)))
+
+    def test_progress(self):
+        for modules, pattern in (({}, r"27\.0k"), ({"tqdm": None, "tqdm.auto": None}, r"\r27,000 of 27,000 drops\n$")):
+            shown = io.StringIO()
+            with contextlib.redirect_stderr(shown), mock.patch.dict(sys.modules, modules):
+                tables = list(sandpile.replicas((9, 8), SEED, STREAMS, DROPS, progress=True))
+            self.assertRegex(shown.getvalue(), pattern)
+            self.assertTrue(all(map(same, tables, sandpile.replicas((9, 8), SEED, STREAMS, DROPS))))
+
+
+class Processes(unittest.TestCase):
+    @needs("mpiexec")
+    @needs_module("mpi4py")
+    def test_by_mpi(self):
+        as_root = dict.fromkeys(["OMPI_ALLOW_RUN_AS_ROOT", "OMPI_ALLOW_RUN_AS_ROOT_CONFIRM"], "1")
+        env = {**os.environ, **as_root, "OMPI_MCA_rmaps_base_oversubscribe": "1", "PYTHONPATH": MODULE}
+        path = new_folder(self) / "mpi.py"
+        path.write_text(BY_MPI)
+        for processes in (1, 3):  # with one, the pool starts another
+            text = ran("mpiexec", "-n", processes, sys.executable, "-m", "mpi4py.futures", path, env=env, timeout=300)
+            self.assertEqual(text, "4 tables, as in threads\n")
+
+
+class Wrong(unittest.TestCase):
+    def test_what_is_refused_at_once(self):
+        for words, more in (
+            (([[-1]], 1, [1], 1), {}),
+            (((3, 257), 1, [1], 1), {}),
+            (((3, 3), -1, [1], 1), {}),
+            (((3, 3), 1, [1], -1), {}),
+            (((3, 3), 1, [1], 1), {"window": 0}),
+            (((3, 3), 1, [1], 1), {"window": -1}),
+        ):
+            with self.subTest(words=words, **more), self.assertRaises(ValueError):
+                sandpile.replicas(*words, **more)
+        for words, more in (
+            (((3, 3, 3), 1, [1], 1), {}),
+            (((3, 2.5), 1, [1], 1), {}),
+            (([[0.5]], 1, [1], 1), {}),
+            ((3, 1, [1], 1), {}),
+            (((3, 3), 1.5, [1], 1), {}),
+            (((3, 3), 1, 1, 1), {}),
+            (((3, 3), 1, [1], 1.5), {}),
+            (((3, 3), 1, [1], 1), {"executor": "threads"}),
+            (((3, 3), 1, [1], 1), {"executor": multiprocessing}),
+            (((3, 3), 1, [1], 1), {"window": 1.5}),
+            (((3, 3), 1, itertools.count(), 1), {"progress": True}),
+        ):
+            with self.subTest(words=words, **more), self.assertRaises(TypeError):
+                sandpile.replicas(*words, **more)
+
+    def test_a_stream_that_is_none(self):
+        for stream, error in ((-1, sandpile.Fault), (2**63, sandpile.Fault), ("0", TypeError)):
+            tables = sandpile.replicas((3, 3), 1, iter([0, stream]), 1, window=1)
+            self.assertEqual(len(next(tables)), 1)
+            self.assertRaisesRegex(error, "stream", next, tables)
+
+    def test_an_error_names_the_stream(self):
+        fork = multiprocessing.get_context("fork")
+        with ProcessPoolExecutor(1, fork) as processes, ThreadPoolExecutor(1) as threads:
+            for executor in (None, processes, threads):
+                tables = sandpile.replicas(full, 1, [0, 1, 2, 3], 5, executor)
+                self.assertEqual([next(tables)["stream"][0] for _ in range(2)], [0, 1])
+                with self.assertRaisesRegex(RuntimeError, "^the replica of stream 2 failed: Fault: fault 24 ") as caught:
+                    next(tables)
+                self.assertEqual(caught.exception.__cause__.number, 24)
+                self.assertRaises(StopIteration, next, tables)
+            with self.assertRaisesRegex(RuntimeError, "^the replica of stream 0 failed: .*[Pp]ickle"):
+                next(sandpile.replicas(lambda _: [[0]], 1, [0], 5, processes))
+            self.assertEqual(len(next(sandpile.replicas(full, 1, [0], 5, processes))), 5)
+
+    def test_too_many_drops_for_memory(self):
+        for drops in (2**57, 2**60):
+            with self.assertRaisesRegex(RuntimeError, "stream 0 failed: .*not enough memory for a table of") as caught:
+                next(sandpile.replicas((3, 3), 1, [0], drops))
+            self.assertEqual(caught.exception.__cause__.number, 4)
+
+
+class Ends(unittest.TestCase):
+    def assertCancelled(self, futures):
+        self.assertTrue(all(future.cancelled() for future in futures))
+
+    def test_what_has_not_begun_is_cancelled(self):
+        for end in (lambda tables: tables.close(), lambda _: None):  # the second lets the iterator go
+            executor = Later()
+            tables = sandpile.replicas((3, 3), 1, itertools.count(), 5, executor, window=4)
+            with ThreadPoolExecutor(1) as pool:
+                first = pool.submit(next, tables)
+                self.assertTrue(soon(lambda: len(executor.futures) == 4))
+                executor.run(0)
+                self.assertEqual(len(first.result()), 5)
+            end(tables)
+            del tables
+            self.assertCancelled(executor.futures[1:])
+            self.assertEqual(len(executor.futures), 4)
+
+    def test_a_wait_that_is_stopped_cancels_all(self):
+        executor = Later()
+        with mock.patch.object(Future, "result", side_effect=KeyboardInterrupt):
+            self.assertRaises(KeyboardInterrupt, next, sandpile.replicas((3, 3), 1, range(9), 5, executor, window=4))
+        self.assertCancelled(executor.futures)
+        self.assertEqual(len(executor.futures), 4)
+
+    def test_threads_end_at_their_next_block(self):
+        before, rescue = set(threading.enumerate()), threading.Event()
+        self.addCleanup(rescue.set)
+
+        class Endless(sandpile.Drive):
+            def blocks(self, n, size):
+                if self.stream == 0:
+                    yield from super().blocks(n, size)
+                while self.stream and not rescue.wait(0.01):
+                    yield self.table
+
+        with mock.patch.object(replicating, "Drive", Endless):
+            tables = sandpile.replicas((3, 3), 1, itertools.count(), 5)
+            self.assertEqual(len(next(tables)), 5)
+            self.assertGreater(len(threading.enumerate()), len(before))
+            closing = threading.Thread(target=tables.close)
+            closing.start()
+            closing.join(60)
+            self.assertFalse(closing.is_alive())
+        self.assertEqual(set(threading.enumerate()), before)
+        self.assertRaises(StopIteration, next, tables)
+
+    def test_ctrl_c(self):
+        child = subprocess.Popen(
+            [sys.executable, "-c", STOPPED], stdout=subprocess.PIPE, stderr=subprocess.PIPE, text=True,
+            env={"PYTHONPATH": MODULE},
+        )
+        if child.stdout.readline() != "begun\n":
+            self.fail(child.communicate(timeout=120)[1])
+        time.sleep(0.3)
+        child.send_signal(signal.SIGINT)
+        text, errors = child.communicate(timeout=60)
+        self.assertEqual((text, child.returncode), ("stopped, 1 thread\n", 0), errors)
+
+    def test_a_program_ends_while_there_is_an_iterator(self):
+        ended = subprocess.run(
+            [sys.executable, "-c", UNFINISHED], stdout=subprocess.PIPE, stderr=subprocess.PIPE, text=True,
+            env={"PYTHONPATH": MODULE}, timeout=60,
+        )
+        self.assertEqual(ended.returncode, 1, ended.stderr)
+        self.assertTrue(ended.stderr.endswith("\nZeroDivisionError: division by zero\n"), ended.stderr)
