@@ -120,6 +120,8 @@ class Drive(HasPile):
 
     See Also
     --------
+    random_recurrent : a start from which no burn-in is needed
+    replicas : the runs of many streams, in parallel
     settle : settles a pile without drops
     SharedPile : many threads drop grains on one pile at once
     lab : a run on many threads, by the program

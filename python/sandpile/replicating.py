@@ -128,8 +128,9 @@ def replicas(
     ----------
     start : tuple of int, array_like of int, or callable
         A shape, ``(height, width)``: each replica starts from its own random recurrent pile, ``random_recurrent(start,
-        numpy.random.SeedSequence(seed, spawn_key=(stream,)))``. Or the pile from which all start, as for `Drive`. Or a
-        function of the stream that returns such a pile; for processes it must be one that can be pickled.
+        numpy.random.SeedSequence(seed, spawn_key=(stream,)))``, with the `seed` of the result. Or the pile from which all
+        start, as for `Drive`. Or a function of the stream that returns such a pile; for processes it must be one that can
+        be pickled.
     seed : int, numpy.random.SeedSequence, or None
         The seed of all replicas, as for `Drive`.
     streams : iterable of int
