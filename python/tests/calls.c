@@ -200,6 +200,31 @@ static void avalanche(void) {
     sandpile_drive_free(&driven);
 }
 
+/* 3 3 3 above 1 2 1 and 3 3 3 on a cylinder. A grain in the middle topples nothing. A second one, dropped in a list, topples
+   the middle, which has 4, then the sites above and below it, and the corners, which have 4 and 5. The sites beside the middle
+   then have 4 and 5, too, and once they topple the middle has 4 again. That leaves 2 3 2 above 2 0 2 and 2 3 2. A third grain
+   topples nothing, and one above it only its site. */
+static void avalanches(void) {
+    const uint64_t start[9] = {3, 3, 3, 1, 2, 1, 3, 3, 3}, settled[9] = {3, 0, 3, 2, 2, 2, 2, 3, 2};
+    const uint64_t none[9] = {0}, above[9] = {0, 1}, toppled[9] = {1, 2, 1, 1, 2, 1, 1, 1, 1};
+    uint64_t heights[9] = {0}, counts[9], odometer[9] = {0}, topplings = 7, lost = 7;
+    const size_t middle = 4;
+    sandpile_avalanche a;
+    sandpile_drive driven = {0};
+    assert(sandpile_drive_new(3, 3, true, start, 9, &driven) == 0);
+    for (int i = 0; i < 2; i++) {
+        memset(counts, 0x55, sizeof counts);
+        assert(sandpile_drive_avalanche(&driven, middle, &a, counts, 9) == 0);
+        assert(is_avalanche(a, 4, 0, 0, 0, 0) && ARE_EQUAL(counts, none));
+        if (i == 0) assert(sandpile_drive_drop(&driven, &middle, 1, &a, 1) == 0 && is_avalanche(a, 4, 10, 9, 2, 6));
+    }
+    assert(sandpile_drive_avalanche(&driven, 1, &a, counts, 9) == 0);
+    assert(is_avalanche(a, 1, 1, 1, 0, 1) && ARE_EQUAL(counts, above));
+    assert(sandpile_drive_read(&driven, heights, 9, odometer, 9, &topplings, &lost) == 0);
+    assert(ARE_EQUAL(heights, settled) && ARE_EQUAL(odometer, toppled) && topplings == 11 && lost == 7);
+    sandpile_drive_free(&driven);
+}
+
 static bool holds(sandpile_pass *pass, uint64_t left, uint64_t seen, size_t drops, uint16_t first_row, uint16_t end_row) {
     sandpile_holding h;
     assert(sandpile_pass_holding(pass, &h) == 0);
@@ -263,6 +288,7 @@ int main(void) {
     multiple();
     drive();
     avalanche();
+    avalanches();
     share();
     share_no_drops();
     return 0;

@@ -4,6 +4,7 @@
      refuse       each allocation of each call fails in turn: nothing changes, and nothing is leaked
      churn        100,000 handles are filled and freed: memory does not grow
      misuse       faults in their order, and handles that stay as they are
+     avalanches   20,000 avalanches, one a call, between drops in lists, against a drive with all drops in lists
      fork         parent and child drop on copies of a drive and of a shared pile
 
    A test prints one line. malloc, calloc, realloc and free are defined here, to count blocks and to fail. */
@@ -447,6 +448,72 @@ static void misuse(void) {
     printf("misuse: %d calls refused, each with its fault\n", refused);
 }
 
+/* Avalanches: `drive` makes them one by one, between drops in lists. `twin` makes all drops in lists, and its odometers before
+   and after an avalanche tell the topplings. */
+
+enum { STEPS = 2000, MOST = 5 };
+
+static sandpile_drive twin;
+
+static const struct grid { size_t width, height; bool cylinder; } grids[] = {
+    {1, 1, false},  {1, 256, false}, {256, 1, false}, {23, 11, false}, {16, 16, false},
+    {3, 1, true},   {256, 1, true},  {3, 85, true},   {64, 4, true},   {11, 23, true},
+};
+
+static void read_twin(uint64_t *heights, uint64_t *odometer, size_t sites) {
+    uint64_t sums[2];
+    OK(sandpile_drive_read(&twin, heights, sites, odometer, sites, &sums[0], &sums[1]));
+}
+
+static void drop_in_lists(uint64_t *seed, size_t sites) {
+    sandpile_avalanche rows[2][MOST];
+    size_t where[MOST], count = below(seed, MOST + 1);
+    for (size_t i = 0; i < count; i++) where[i] = below(seed, sites);
+    OK(sandpile_drive_drop(&drive, where, count, rows[0], count));
+    OK(sandpile_drive_drop(&twin, where, count, rows[1], count));
+    EXPECT(!memcmp(rows[0], rows[1], count * sizeof **rows));
+}
+
+static void drop_alone(uint64_t *seed, size_t sites) {
+    static uint64_t heights[SITES], before[SITES], after[SITES], counts[SITES];
+    sandpile_avalanche rows[2];
+    size_t site = below(seed, sites);
+    read_twin(heights, before, sites);
+    memset(counts, 0x55, sizeof counts);
+    OK(sandpile_drive_avalanche(&drive, site, &rows[0], counts, sites));
+    OK(sandpile_drive_drop(&twin, &site, 1, &rows[1], 1));
+    read_twin(heights, after, sites);
+    EXPECT(!memcmp(&rows[0], &rows[1], sizeof *rows));
+    for (size_t i = 0; i < sites; i++) EXPECT(counts[i] == after[i] - before[i]);
+}
+
+static void expect_twins(size_t sites) {
+    struct record one = {.lost = 0}, other = {.lost = 0};
+    OK(sandpile_drive_read(&drive, one.heights, sites, one.odometer, sites, &one.topplings, &one.lost));
+    OK(sandpile_drive_read(&twin, other.heights, sites, other.odometer, sites, &other.topplings, &other.lost));
+    EXPECT(!memcmp(&one, &other, sizeof one));
+}
+
+static void avalanches_on(struct grid grid, uint64_t seed) {
+    size_t sites = grid.width * grid.height;
+    for (size_t i = 0; i < sites; i++) all[i] = below(&seed, 8);
+    OK(sandpile_drive_new(grid.width, grid.height, grid.cylinder, all, sites, &drive));
+    OK(sandpile_drive_new(grid.width, grid.height, grid.cylinder, all, sites, &twin));
+    for (int i = 0; i < STEPS; i++) {
+        if (below(&seed, 4) == 0) drop_in_lists(&seed, sites);
+        drop_alone(&seed, sites);
+        if (i % 50 == 0) expect_twins(sites);
+    }
+    sandpile_drive_free(&drive);
+    sandpile_drive_free(&twin);
+}
+
+static void avalanches(void) {
+    size_t count = sizeof grids / sizeof *grids;
+    for (size_t i = 0; i < count; i++) avalanches_on(grids[i], i);
+    printf("avalanches: %zu avalanches on %zu grids, each with its topplings\n", count * STEPS, count);
+}
+
 /* Forks: two sites side by side, with heights 3 and 1. The right one gets a grain before the fork. */
 
 enum { PAIR = 2 };
@@ -520,6 +587,7 @@ int main(int count, char **words) {
         else if (!strcmp(words[i], "refuse")) refuse();
         else if (!strcmp(words[i], "churn")) churn();
         else if (!strcmp(words[i], "misuse")) misuse();
+        else if (!strcmp(words[i], "avalanches")) avalanches();
         else if (!strcmp(words[i], "fork")) fork_once();
         else return 2;
     }

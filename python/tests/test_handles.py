@@ -68,5 +68,9 @@ class Handles(unittest.TestCase):
         self.one_line_from("misuse")
 
     @needs("cc")
+    def test_avalanches_among_other_drops(self):
+        self.one_line_from("avalanches")
+
+    @needs("cc")
     def test_after_a_fork_parent_and_child_are_independent(self):
         self.one_line_from("fork")

@@ -52,6 +52,20 @@ class Calls(unittest.TestCase):
                 self.assertEqual((topplings.sum(), np.count_nonzero(topplings)), (row["size"], row["area"]))
             self.assertTrue(equal(one, other))
 
+    def test_avalanches_among_other_drops(self):
+        chance = np.random.default_rng(3)
+        for shape, cylinder in ((1, 1), False), ((1, 60), True), ((60, 1), False), ((7, 3), True), ((20, 33), True), ((33, 20), False):
+            start = chance.integers(0, 8, shape)
+            one, other = (sandpile.Drive(start, cylinder=cylinder) for _ in range(2))
+            for site, count in chance.integers(0, (start.size, 3), (400, 2)):
+                few = chance.integers(0, start.size, count)
+                self.assertTrue(same(one.drop_at(few), other.drop_at(few)))
+                before = other.odometer
+                row, topplings = one.avalanche(site)
+                self.assertEqual(row.tolist(), other.drop_at(site)[0].tolist())
+                self.assertTrue(same(topplings, other.odometer - before))
+            self.assertTrue(same(one.pile, other.pile) and same(one.odometer, other.odometer))
+
     def test_sites_that_are_none(self):
         run = sandpile.Drive(FULL)
         table = run.drop(3)

@@ -1,6 +1,7 @@
 pub mod Answered
 pub mod Chunks
 pub mod Found
+pub mod Near
 pub mod Records
 pub mod Rows
 pub mod SettledAt

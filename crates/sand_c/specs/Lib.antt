@@ -8,6 +8,7 @@ pub mod Faults
 pub mod Group
 pub mod Handles
 pub mod Inverting
+pub mod KeptOdometers
 pub mod Multiplying
 pub mod OwnedPasses
 pub mod PassHandles

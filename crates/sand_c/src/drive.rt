@@ -7,32 +7,37 @@ ghost use Rattle.sand_settle.specs.Settling.{odometer_of};
 ghost use Rattle.sand_settle.specs.Drops.{grid_of_one_pile, IsAfter};
 ghost use Rattle.sand_c.specs.Arguments.{Fails};
 ghost use Rattle.sand_c.specs.Driving.{HaveDriven, HasDriven, drops_on_drive, drop_on_drive};
+ghost use Rattle.sand_c.specs.KeptOdometers.{IsOdometer};
 
 use crate::avalanche::{SandpileAvalanche, like};
 use crate::dropping::{are_sites, drop_all};
 use crate::faults::Fault;
+use crate::kept_odometer::{bring_up_to_date, read_odometer, take_topplings};
 use sand_model::{GRAIN_LIMIT, Pile};
 use sand_settle::DrivenPile;
 use std::alloc::Global;
 use std::marker::Model;
 
-/// A driven pile, and how many grains it still takes.
+/// A driven pile, how many grains it still takes, and an odometer for the topplings of single avalanches.
 #[derive(Drop)]
 pub struct Drive {
     pile: DrivenPile,
     room: u64,
+    // How often each site had toppled when this was read.
+    kept: Vec<u64>,
+    // Whether no grain has dropped since.
+    is_current: bool,
 }
 
 impl Model for Drive {
-    ghost use Rattle.std.specs.Prelude.{◌≡◌, ◌+◌};
-    ghost use Rattle.sand_model.specs.Piles.{most_grains};
     ghost use Rattle.sand_settle.specs.Drops.{OneView};
+    ghost use Rattle.sand_c.specs.KeptOdometers.{IsDrive};
 
     ghost Value = { OneView };
 
     ghost view = { λ d. d.pile };
 
-    ghost invariant = { λ d. d.pile.grains + d.room ≡ most_grains };
+    ghost invariant = { λ d. IsDrive d.pile d.room d.kept.items d.is_current };
 }
 
 impl Drive {
@@ -42,7 +47,13 @@ impl Drive {
     {
         let pile = DrivenPile::new(alloc, start)?;
         let room = GRAIN_LIMIT - start.grains();
-        Ok(Drive { pile, room })
+        let kept = vec![in alloc; 0; pile.shape().sites()]?;
+        Ok(Drive {
+            pile,
+            room,
+            kept,
+            is_current: false,
+        })
     }
 
     /// The number of sites.
@@ -85,6 +96,7 @@ impl Drive {
         }
         let rows = drop_all(alloc, &mut self.pile, drops)?;
         self.room -= count;
+        self.is_current = false;
         avalanches.copy_from_slice(rows.as_slice());
         Ok(())
     }
@@ -104,26 +116,12 @@ impl Drive {
     /// Writes how often each site has toppled.
     pub(crate) fn read_odometer(&self, odometer: &mut [u64])
         requires { length odometer.old ≡ sites (grid_of_one_pile self.now) }
-        ensures one_each { length odometer.new ≡ length odometer.old }
-        ensures odometer { (i : ℕ) → i < sites (grid_of_one_pile self.now)
-            → slice_index odometer.new i ≡ odometer_of self.now.settled i }
+        ensures { IsOdometer odometer.new self.now }
     {
-        for (site, count) in odometer.iter_mut().enumerate() {
-            *count = self.pile.odometer(site);
-        }
-    }
-
-    // Replaces an odometer of before by how often each site has toppled since.
-    fn subtract_from_odometer(&self, before: &mut [u64])
-        requires one_each { length before.old ≡ sites (grid_of_one_pile self.now) }
-        requires fewer { (i : ℕ) → i < sites (grid_of_one_pile self.now)
-            → slice_index before.old i ≤ odometer_of self.now.settled i }
-        ensures one_each { length before.new ≡ length before.old }
-        ensures since { (i : ℕ) → i < sites (grid_of_one_pile self.now)
-            → slice_index before.new i ≡ odometer_of self.now.settled i - slice_index before.old i }
-    {
-        for (site, count) in before.iter_mut().enumerate() {
-            *count = self.pile.odometer(site) - *count;
+        if self.is_current {
+            odometer.copy_from_slice(self.kept.as_slice());
+        } else {
+            read_odometer(&self.pile, odometer);
         }
     }
 
@@ -150,10 +148,12 @@ impl Drive {
         if self.room == 0 {
             return Err(Fault::Full);
         }
-        self.read_odometer(topplings);
+        bring_up_to_date(&self.pile, &mut self.kept, self.is_current);
         let (_, caused) = self.pile.drop_at(site).unwrap();
         self.room -= 1;
-        self.subtract_from_odometer(topplings);
+        self.is_current = true;
+        let reach = caused.reach as usize;
+        take_topplings(&self.pile, &mut self.kept, site, reach, topplings);
         *avalanche = like(caused);
         Ok(())
     }

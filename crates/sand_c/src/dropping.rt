@@ -24,6 +24,7 @@ pub(crate) fn drop_all(
     requires room { pile.old.grains + length drops.now ≤ most_grains }
     ensures rows { IfOk result (λ rows. AreAvalanches pile.old drops.now rows.items pile.new) }
     ensures count { IfOk result (λ rows. length rows.items ≡ length drops.now) }
+    ensures grid { OnOk result (grid_of_one_pile pile.new ≡ grid_of_one_pile pile.old) }
     ensures grains { OnOk result (pile.new.grains ≡ pile.old.grains + length drops.now) }
     ensures after { OnOk result ((start : PileView) (history : List ℕ) → IsAfter start history pile.old
         → IsAfter start (history ++ drops.now) pile.new) }

@@ -18,6 +18,7 @@ mod faults;
 mod group;
 mod holding;
 mod inverting;
+mod kept_odometer;
 mod multiplying;
 mod owned_pass;
 mod parts;

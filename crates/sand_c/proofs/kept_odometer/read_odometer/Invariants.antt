@@ -1,8 +1,8 @@
 use Rattle.std.proofs.Common.{◌≡◌, ◌<◌, ℕ, length, get_or}
-use Rattle.sand_c.proofs.drive.Drive.read_odometer.Given as goal
+use Rattle.sand_c.proofs.kept_odometer.read_odometer.Given as goal
 
 abbrev pub invariant-loop-site : goal.invariant-loop-site
 invariant-loop-site l = record {
   long : length l.odometer ≡ length l.initial.odometer;
-  so_far : (i : ℕ) → i < l.site → get_or l.odometer i 0 ≡ get_or l.self.settled.odometer i 0;
+  so_far : (i : ℕ) → i < l.site → get_or l.odometer i 0 ≡ get_or l.pile.settled.odometer i 0;
 }
