@@ -66,7 +66,7 @@ static inline const char *sandpile_explain(uint32_t fault) {
     case SANDPILE_MISSING: return "the pass is missing quota, drops or rows";
     case SANDPILE_TAKEN: return "the handle already holds something";
     case SANDPILE_NARROW: return "a cylinder is less than 3 wide";
-    case SANDPILE_NO_SITE: return "a drop is outside the grid";
+    case SANDPILE_NO_SITE: return "a site is outside the grid";
     case SANDPILE_EMPTY: return "the handle holds nothing";
     case SANDPILE_OTHER_PILE: return "the two passes belong to different piles";
     default: return "unknown fault number";
@@ -173,6 +173,9 @@ uint32_t sandpile_drive_avalanche(sandpile_drive *drive, size_t site, sandpile_a
    topplings and the grains lost. An array of length 0 is not written. EMPTY, LENGTH. */
 uint32_t sandpile_drive_read(sandpile_drive *drive, uint64_t *heights, size_t heights_length, uint64_t *odometer,
                              size_t odometer_length, uint64_t *topplings, uint64_t *lost);
+
+/* Writes the height of a site and, since `sandpile_drive_new` and with its settling, how often it toppled. EMPTY, NO_SITE. */
+uint32_t sandpile_drive_site(sandpile_drive *drive, size_t site, uint64_t *height, uint64_t *topplings);
 
 /* Frees what a handle holds, if anything, and empties it. */
 void sandpile_drive_free(sandpile_drive *drive);

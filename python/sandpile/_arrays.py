@@ -175,22 +175,23 @@ def sites_at(
 
 
 def site_at(
-    site: SupportsIndex | None, row: SupportsIndex | None, column: SupportsIndex | None, shape: tuple[int, ...]
+    site: SupportsIndex | None, row: SupportsIndex | None, column: SupportsIndex | None, shape: tuple[int, ...],
+    what: str = "the drop",
 ) -> int:
-    """The number of a site, given as such or by its row and its column."""
+    """The number of a site, given as such or by its row and its column. A fault says what is there."""
     height, width = shape
     if row is None and column is None:
         if isinstance(site, tuple):
             raise TypeError(f"site must be an integer, not {site!r}; a row and a column are passed by name")
         at = index_of(site, "site")
         if not 0 <= at < height * width:
-            raise Fault(25, f"the drop is at site {at}, but the grid has only sites 0 to {height * width - 1}")
+            raise Fault(25, f"{what} is at site {at}, but the grid has only sites 0 to {height * width - 1}")
         return at
     if site is not None:
         raise TypeError("a site is either a number, or a row and a column")
     row, column = index_of(row, "row"), index_of(column, "column")
     if not (0 <= row < height and 0 <= column < width):
-        raise _outside("the drop", row, column, shape)
+        raise _outside(what, row, column, shape)
     return row * width + column
 
 

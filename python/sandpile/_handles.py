@@ -9,7 +9,7 @@ import weakref
 
 from . import _library
 from ._arrays import Heights
-from ._library import call, call_on
+from ._library import call, call_at, call_on
 
 
 class Handle:
@@ -73,6 +73,12 @@ class DriveHandle(Handle):
         topplings, lost = ctypes.c_uint64(), ctypes.c_uint64()
         call_on("drive_read", self.at, heights, odometer, ctypes.byref(topplings), ctypes.byref(lost))
         return topplings.value, lost.value
+
+    def site(self, number: int) -> tuple[int, int]:
+        """The height of a site, and how often it has toppled."""
+        height, topplings = ctypes.c_uint64(), ctypes.c_uint64()
+        call_at("sandpile_drive_site", self.at, number, ctypes.byref(height), ctypes.byref(topplings))
+        return height.value, topplings.value
 
 
 # A fork waits until no thread is inside a call on a driven pile, so the child's copy of each is whole. The locks of the

@@ -36,6 +36,7 @@ _TAKES: dict[str, tuple[Any, ...]] = {
     "drive_drop": (*_HANDLE, *_ARRAY, *_ARRAY),
     "drive_avalanche": (*_HANDLE, ctypes.c_size_t, *_PLACE, *_ARRAY),
     "drive_read": (*_HANDLE, *_ARRAY, *_ARRAY, *_PLACE, *_PLACE),
+    "drive_site": (*_HANDLE, ctypes.c_size_t, *_PLACE, *_PLACE),
     "drive_free": _HANDLE,
     "shared_new": (*_SIDES, *_ARRAY, ctypes.c_uint64, *_HANDLE),
     "pass_split": (*_HANDLE, ctypes.c_uint64, *_HANDLE),

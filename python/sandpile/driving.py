@@ -207,6 +207,35 @@ class Drive(HasPile):
         self._read(odometer=odometer)
         return odometer
 
+    def height(
+        self, site: SupportsIndex | None = None, *, row: SupportsIndex | None = None, column: SupportsIndex | None = None
+    ) -> int:
+        """The current height of one site, from 0 to 3; faster than `pile` is to read.
+
+        Parameters
+        ----------
+        site : int
+            The number of the site, row * width + column.
+        row, column : int
+            Instead of `site`, its row and its column, each from 0.
+
+        Raises
+        ------
+        Fault
+            NoSite (25) if the site is outside the grid.
+        TypeError
+            If the site, or its row and its column, are not integers.
+
+        Examples
+        --------
+        >>> import sandpile
+        >>> sandpile.Drive([[5, 0, 2]]).height(2)
+        2
+        """
+        number = site_at(site, row, column, self._shape, "the height asked for")
+        with self._handle.use:
+            return self._handle.site(number)[0]
+
     @property
     def lost(self) -> int:
         """Grains lost over the edge so far, the settling of the start included."""

@@ -23,7 +23,7 @@ _FAULTS = {
     22: ("TooLong", "the pile is longer than 1,048,576 bytes as text"),
     23: ("Usage", "the program rejects its options"),
     24: ("Narrow", "a cylinder is less than 3 wide"),
-    25: ("NoSite", "a drop is outside the grid"),
+    25: ("NoSite", "a site is outside the grid"),
     26: ("Empty", "the handle holds nothing"),
     27: ("OtherPile", "the two passes belong to different piles"),
 }

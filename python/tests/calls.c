@@ -225,6 +225,24 @@ static void avalanches(void) {
     sandpile_drive_free(&driven);
 }
 
+/* 5 0 0 settles to 1 1 0. Three grains on the first site make it 4 1 0, and then 0 2 0. */
+static void site(void) {
+    const uint64_t start[3] = {5, 0, 0}, first[2][2] = {{1, 1}, {0, 2}}, second[2][2] = {{1, 0}, {2, 0}};
+    const size_t drops[3] = {0, 0, 0};
+    uint64_t found[2] = {7, 7};
+    sandpile_avalanche a[3];
+    sandpile_drive driven = {0};
+    assert(sandpile_drive_new(3, 1, false, start, 3, &driven) == 0);
+    for (int i = 0; i < 2; i++) {
+        assert(sandpile_drive_site(&driven, 0, &found[0], &found[1]) == 0 && ARE_EQUAL(found, first[i]));
+        assert(sandpile_drive_site(&driven, 1, &found[0], &found[1]) == 0 && ARE_EQUAL(found, second[i]));
+        assert(sandpile_drive_drop(&driven, drops, 3, a, 3) == 0);
+    }
+    assert(sandpile_drive_site(&driven, 3, &found[0], &found[1]) == SANDPILE_NO_SITE && ARE_EQUAL(found, second[1]));
+    sandpile_drive_free(&driven);
+    assert(sandpile_drive_site(&driven, 3, &found[0], &found[1]) == SANDPILE_EMPTY && ARE_EQUAL(found, second[1]));
+}
+
 static bool holds(sandpile_pass *pass, uint64_t left, uint64_t seen, size_t drops, uint16_t first_row, uint16_t end_row) {
     sandpile_holding h;
     assert(sandpile_pass_holding(pass, &h) == 0);
@@ -289,6 +307,7 @@ int main(void) {
     drive();
     avalanche();
     avalanches();
+    site();
     share();
     share_no_drops();
     return 0;

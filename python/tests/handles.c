@@ -289,6 +289,7 @@ static uint32_t avalanche(void) { return sandpile_drive_avalanche(&drive, 3, out
 static uint32_t read_drive(void) {
     return sandpile_drive_read(&drive, out.counts[0], SITES, out.counts[1], SITES, &out.sums[0], &out.sums[1]);
 }
+static uint32_t read_site(void) { return sandpile_drive_site(&drive, 17, &out.sums[0], &out.sums[1]); }
 static uint32_t new_shared(void) { return sandpile_shared_new(SIDE, SIDE, false, all, SITES, QUOTA, &pass); }
 static uint32_t split(void) { return sandpile_pass_split(&pass, 5, &other); }
 static uint32_t split_rows(void) { return sandpile_pass_split_rows(&pass, 2, &other); }
@@ -346,6 +347,7 @@ static void refuse(void) {
     EXPECT(refuse_each(drop_on_drive) > 0);
     EXPECT(refuse_each(avalanche) == 0);
     EXPECT(refuse_each(read_drive) == 0);
+    EXPECT(refuse_each(read_site) == 0);
     EXPECT(refuse_each(new_shared) > 0);
     EXPECT(refuse_each(split) > 0);
     refuse_each(join); /* only one handle for a child */
@@ -358,7 +360,7 @@ static void refuse(void) {
     sandpile_drive_free(&drive);
     sandpile_pass_free(&pass);
     EXPECT(atomic_load(&blocks) == live && !drive.at && !pass.at && !other.at);
-    printf("refuse: each request of 12 calls refused, nothing changed, no block leaked\n");
+    printf("refuse: each request of 13 calls refused, nothing changed, no block leaked\n");
 }
 
 /* Handles filled and freed */
@@ -389,7 +391,9 @@ static int refused;
 #define REFUSED(fault, call) do { EXPECT((call) == (fault)); refused++; } while (0)
 
 static void misuse_a_drive(void) {
+    out.sums[0] = out.sums[1] = 5;
     REFUSED(SANDPILE_EMPTY, drop_on_drive());
+    REFUSED(SANDPILE_EMPTY, sandpile_drive_site(&drive, outside, &out.sums[0], &out.sums[1]));
     OK(new_drive());
     REFUSED(SANDPILE_TAKEN, new_drive());
     REFUSED(SANDPILE_LENGTH, sandpile_drive_drop(&drive, &outside, 1, out.rows, 2));
@@ -398,6 +402,8 @@ static void misuse_a_drive(void) {
     REFUSED(SANDPILE_NO_SITE, sandpile_drive_avalanche(&drive, outside, out.rows, out.counts[0], SITES));
     REFUSED(SANDPILE_LENGTH, sandpile_drive_read(&drive, out.counts[0], 1, out.counts[1], SITES,
                                                  &out.sums[0], &out.sums[1]));
+    REFUSED(SANDPILE_NO_SITE, sandpile_drive_site(&drive, outside, &out.sums[0], &out.sums[1]));
+    EXPECT(out.sums[0] == 5 && out.sums[1] == 5);
     sandpile_drive_free(&drive);
 }
 
@@ -492,6 +498,11 @@ static void expect_twins(size_t sites) {
     OK(sandpile_drive_read(&drive, one.heights, sites, one.odometer, sites, &one.topplings, &one.lost));
     OK(sandpile_drive_read(&twin, other.heights, sites, other.odometer, sites, &other.topplings, &other.lost));
     EXPECT(!memcmp(&one, &other, sizeof one));
+    for (size_t i = 0; i < sites; i++) {
+        uint64_t height, topplings;
+        OK(sandpile_drive_site(&drive, i, &height, &topplings));
+        EXPECT(height == other.heights[i] && topplings == other.odometer[i]);
+    }
 }
 
 static void avalanches_on(struct grid grid, uint64_t seed) {

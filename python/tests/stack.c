@@ -69,6 +69,11 @@ static uint32_t drive_read(void) {
     return sandpile_drive_read(&driven, heights, sites, odometer, sites, &topplings, &lost);
 }
 
+static uint32_t drive_site(void) {
+    uint64_t grains, topplings;
+    return sandpile_drive_site(&driven, sites - 1, &grains, &topplings);
+}
+
 static uint32_t drive_free(void) {
     sandpile_drive_free(&driven);
     return driven.at != NULL;
@@ -153,6 +158,7 @@ static const struct { const char *name; uint32_t (*make)(void); uint64_t each; u
     {"sandpile_drive_avalanche", drive_avalanche, 3, drive_new},
     {"sandpile_drive_avalanche", drive_avalanche, 24, drive_new},
     {"sandpile_drive_read", drive_read, 3, drive_new},
+    {"sandpile_drive_site", drive_site, 3, drive_new},
     {"sandpile_drive_free", drive_free, 3, drive_new},
     {"sandpile_shared_new", shared_new, 3, nothing},
     {"sandpile_shared_new", shared_new, 16777215, nothing},

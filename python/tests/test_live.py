@@ -66,6 +66,25 @@ class Calls(unittest.TestCase):
                 self.assertTrue(same(topplings, other.odometer - before))
             self.assertTrue(same(one.pile, other.pile) and same(one.odometer, other.odometer))
 
+    def test_the_height_of_a_site(self):
+        for cylinder in (False, True):
+            run = sandpile.Drive(FULL + 2, seed=4, cylinder=cylinder)
+            for _ in range(3):
+                run.drop(100)
+                run.avalanche(17)
+                heights = [run.height(site) for site in range(1024)]
+                self.assertEqual((heights, {*map(type, heights)}), (run.pile.ravel().tolist(), {int}))
+            self.assertEqual(run.height(np.uint8(33)), heights[33])
+
+    def test_the_height_of_no_site(self):
+        run = sandpile.Drive(FULL)
+        for site in (-1, 1024, 2**70):
+            with self.assertRaisesRegex(sandpile.Fault, f"NoSite: asked for the height of site {site}, but .* 0 to 1023"):
+                run.height(site)
+        for site in (0.5, "0", [0], None):
+            with self.assertRaisesRegex(TypeError, "site must be an integer"):
+                run.height(site)
+
     def test_sites_that_are_none(self):
         run = sandpile.Drive(FULL)
         table = run.drop(3)

@@ -30,6 +30,10 @@ drop_on_drive v site counts = has_length (sites (grid_of_one_pile v)) counts
 abbrev pub with_entries : ℕ → OneView → Result OneView Fault
 with_entries n v = if n == 0 then Ok v else (if n == sites (grid_of_one_pile v) then Ok v else Err Length)
 
+-- the pile, if it has this site
+abbrev pub with_site : ℕ → OneView → Result OneView Fault
+with_site site v = if nat_lt site (sites (grid_of_one_pile v)) then Ok v else Err NoSite
+
 -- what a handle holds
 abbrev pub held_in : {A : Type 0} → Option A → Result A Fault
 held_in None = Err Empty
@@ -59,6 +63,10 @@ entries_of v heights odometer = with_entries heights v >>= with_entries odometer
 -- the pile in the handle, if arrays of these lengths suit it
 abbrev pub reading_of : Option OneView → ℕ → ℕ → Result OneView Fault
 reading_of held heights odometer = held_in held >>= λ v. entries_of v heights odometer
+
+-- the pile in the handle, if it has this site
+abbrev pub site_of : Option OneView → ℕ → Result OneView Fault
+site_of held site = held_in held >>= with_site site
 
 -- What a call does
 
@@ -105,3 +113,9 @@ pub record IsReading (heights odometer : List ℕ) (topplings lost : ℕ) (v : O
   pub odometer_is : (i : ℕ) → i < length odometer → slice_index odometer i ≡ odometer_of v.settled i
   pub topplings_are : topplings ≡ v.settled.topplings
   pub lost_is : lost ≡ v.settled.lost
+
+-- these are the height of a site of a driven pile, and how often it has toppled
+pub record IsSiteOf (site height topplings : ℕ) (v : OneView) : Type 0 where
+  pub inside : site < sites (grid_of_one_pile v)
+  pub height_is : height ≡ height_of v.settled.pile site
+  pub topplings_are : topplings ≡ odometer_of v.settled site

@@ -6,7 +6,7 @@ ghost use Rattle.sand_model.specs.Piles.{height_of};
 ghost use Rattle.sand_settle.specs.Settling.{odometer_of};
 ghost use Rattle.sand_settle.specs.Drops.{grid_of_one_pile, IsAfter};
 ghost use Rattle.sand_c.specs.Arguments.{Fails};
-ghost use Rattle.sand_c.specs.Driving.{HaveDriven, HasDriven, drops_on_drive, drop_on_drive};
+ghost use Rattle.sand_c.specs.Driving.{HaveDriven, HasDriven, IsSiteOf, drops_on_drive, drop_on_drive};
 ghost use Rattle.sand_c.specs.KeptOdometers.{IsOdometer};
 
 use crate::avalanche::{SandpileAvalanche, like};
@@ -123,6 +123,14 @@ impl Drive {
         } else {
             read_odometer(&self.pile, odometer);
         }
+    }
+
+    /// The height of a site, and how often it has toppled.
+    pub(crate) fn site(&self, site: usize) -> (u64, u64)
+        requires { site < sites (grid_of_one_pile self.now) }
+        ensures { IsSiteOf site result.0 result.1 self.now }
+    {
+        (self.pile.height(site), self.pile.odometer(site))
     }
 
     /// Drops a grain at a site, and writes the avalanche and how often each site topples in it.

@@ -4,7 +4,7 @@
 
 ghost use Rattle.std.specs.Prelude.{◌≡◌, ◌≢◌, Err, IfOk, IfErr, OnOk, OnErr, IsOk, None, length};
 ghost use Rattle.sand_c.specs.Arguments.{Fails, Answers, Returns, pile_of};
-ghost use Rattle.sand_c.specs.Driving.{IsDriveOf, Holds, LeadsTo, HaveDriven, HasDriven, IsReading, opening_of, driving_of, avalanche_of, entries_of, reading_of};
+ghost use Rattle.sand_c.specs.Driving.{IsDriveOf, Holds, LeadsTo, HaveDriven, HasDriven, IsReading, IsSiteOf, opening_of, driving_of, avalanche_of, entries_of, reading_of, with_site, site_of};
 
 use crate::arguments::{grid_of, pile_on};
 use crate::avalanche::SandpileAvalanche;
@@ -270,6 +270,65 @@ pub extern "C" fn sandpile_drive_read(
     ensures lost { result ≢ 0 → lost.new ≡ lost.old }
 {
     answer(read_into(alloc, drive, heights, odometer, topplings, lost))
+}
+
+// Writes the height of a site of a driven pile, and how often it has toppled.
+fn site_from(held: &Drive, site: usize, height: &mut u64, topplings: &mut u64) -> Result<(), Fault>
+    ensures read { OnOk result (IsSiteOf site height.new topplings.new held.now) }
+    ensures meant { OnOk result (IsOk (with_site site held.now)) }
+    ensures fault { IfErr result (λ e. with_site site held.now ≡ Err e) }
+    ensures height { OnErr result (height.new ≡ height.old) }
+    ensures topplings { OnErr result (topplings.new ≡ topplings.old) }
+{
+    if site >= held.sites() {
+        return Err(Fault::NoSite);
+    }
+    let (now, so_far) = held.site(site);
+    *height = now;
+    *topplings = so_far;
+    Ok(())
+}
+
+fn site_into(
+    alloc: Global,
+    drive: &mut SandpileDrive,
+    site: usize,
+    height: &mut u64,
+    topplings: &mut u64,
+) -> Result<(), Fault>
+    ensures read { OnOk result (Holds drive.old.held (IsSiteOf site height.new topplings.new)) }
+    ensures meant { OnOk result (IsOk (site_of drive.old.held site)) }
+    ensures fault { IfErr result (λ e. site_of drive.old.held site ≡ Err e) }
+    ensures drive { drive.new.held ≡ drive.old.held }
+    ensures height { OnErr result (height.new ≡ height.old) }
+    ensures topplings { OnErr result (topplings.new ≡ topplings.old) }
+{
+    let Some(held) = drive.take(alloc) else {
+        return Err(Fault::Empty);
+    };
+    let read = site_from(&held, site, height, topplings);
+    drive.put(held);
+    read
+}
+
+/// Writes the height of a site now, and how often it has toppled since the start, the start's settling included.
+/// Returns 0, or the first of 26 (Empty) and 25 (NoSite).
+#[tactic(auto, using(crate::proofs::Answered::returned))]
+#[unsafe(no_mangle)]
+pub extern "C" fn sandpile_drive_site(
+    alloc: Global,
+    drive: &mut SandpileDrive,
+    site: usize,
+    height: &mut u64,
+    topplings: &mut u64,
+) -> u32
+    ensures read { result ≡ 0 → Holds drive.old.held (IsSiteOf site height.new topplings.new) }
+    ensures answer { Returns result (site_of drive.old.held site) }
+    ensures drive { drive.new.held ≡ drive.old.held }
+    ensures height { result ≢ 0 → height.new ≡ height.old }
+    ensures topplings { result ≢ 0 → topplings.new ≡ topplings.old }
+{
+    answer(site_into(alloc, drive, site, height, topplings))
 }
 
 /// Frees what the handle holds, and empties it.

@@ -42,7 +42,7 @@ pub enum Fault {
     Taken,
     /// A cylinder is less than 3 wide.
     Narrow,
-    /// A drop is at a site outside the grid.
+    /// A site is outside the grid.
     NoSite,
     /// The handle holds nothing.
     Empty,

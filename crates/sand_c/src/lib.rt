@@ -38,7 +38,7 @@ pub use burning::sandpile_burn;
 pub use drive_handle::SandpileDrive;
 pub use driving::{
     sandpile_drive_avalanche, sandpile_drive_drop, sandpile_drive_free, sandpile_drive_new,
-    sandpile_drive_read,
+    sandpile_drive_read, sandpile_drive_site,
 };
 pub use dropping::sandpile_drop;
 pub use faults::Fault;
