@@ -79,7 +79,7 @@ class Calls(unittest.TestCase):
     def test_the_height_of_no_site(self):
         run = sandpile.Drive(FULL)
         for site in (-1, 1024, 2**70):
-            with self.assertRaisesRegex(sandpile.Fault, f"NoSite: asked for the height of site {site}, but .* 0 to 1023"):
+            with self.assertRaisesRegex(sandpile.Fault, f"NoSite: the height asked for is at site {site}, but .* 0 to 1023"):
                 run.height(site)
         for site in (0.5, "0", [0], None):
             with self.assertRaisesRegex(TypeError, "site must be an integer"):
