@@ -19,6 +19,9 @@ from ._results import Result
 from .faults import Fault
 
 _CHECKOUT = Path(__file__).resolve().parents[2] / "crates" / "sandpile" / "out" / "sandpile"
+# pip puts the program into bin/, next to sandpile/ if it has a --target, else next to lib/python3.N/site-packages/sandpile/.
+_ABOVE = list(Path(__file__).parents)
+_INSTALLED = [folder / "bin" for folder in _ABOVE[1:2] + _ABOVE[4:5]]
 _USAGE = 23
 # docs/FORMATS.md describes it.
 _OUTPUT = re.compile(
@@ -57,11 +60,16 @@ class Run(Result, HasPile):
 
 
 def _program() -> str:
-    """The program: the one named by SANDPILE, else that of the checkout, else the one on the path."""
-    named = os.environ.get("SANDPILE") or (str(_CHECKOUT) if _CHECKOUT.exists() else shutil.which("sandpile"))
-    if not named:
-        raise FileNotFoundError("the program sandpile was not found: put it on the path, or name it in SANDPILE")
-    return named
+    """The program: the one named by SANDPILE, else that of the checkout, else the one installed with this module, else the
+    one on the path."""
+    if named := os.environ.get("SANDPILE"):
+        return named
+    if _CHECKOUT.exists():
+        return str(_CHECKOUT)
+    for path in (*_INSTALLED, None):
+        if found := shutil.which("sandpile", path=path):
+            return found
+    raise FileNotFoundError("the program sandpile was not found: put it on the path, or name it in SANDPILE")
 
 
 def _text_of(heights: Heights, cylinder: bool) -> str:
@@ -119,7 +127,7 @@ def lab(
     each epoch.
 
     The program `sandpile` does the run: the one named by the variable SANDPILE, else that of the checkout, else the one
-    on the path.
+    installed with this module, else the one on the path.
 
     Parameters
     ----------

@@ -1,12 +1,17 @@
-"""How a run of the laboratory can fail: by a fault of the program, or because the program does not run to its end."""
+"""How a run of the laboratory can fail: by a fault of the program, or because the program does not run to its end; and which
+program it is."""
 
 import os
+import shutil
+import sys
 import unittest
+from pathlib import Path
 from unittest import mock
 
 import numpy as np
 import sandpile
-from tools import new_folder
+from sandpile import _library
+from tools import new_folder, ran, stand_in
 
 # A run of two droppers, three drops each, on one site that holds three grains: docs/FORMATS.md.
 OUTPUT = """epoch drops topplings lost grains
@@ -89,3 +94,27 @@ class Ends(unittest.TestCase):
         self.assertRaises(PermissionError, sandpile.lab, [[0]])
         self.program.chmod(0o755)
         self.assertRaises(OSError, sandpile.lab, [[0]])
+
+
+class Found(unittest.TestCase):
+    """Which program a module finds that is outside the checkout."""
+
+    def test_the_order(self):
+        for modules in ("lib/python3/site-packages", "."):
+            with self.subTest(modules):
+                folder = new_folder(self)
+                shutil.copytree(Path(sandpile.__file__).parent, folder / "prefix" / modules / "sandpile")
+                programs = [folder / name / "sandpile" for name in ("prefix/bin", "path", "other")]
+                for program in programs:
+                    stand_in(program)
+                env = {"PATH": f"{folder}/path", "PYTHONPATH": f"{folder}/prefix/{modules}"}
+                env["LIBSANDPILE"] = _library.library._name
+                self.assertEqual(self.found(**env, SANDPILE=str(programs[2])), str(programs[2]))
+                for program in programs[:2]:
+                    self.assertEqual(self.found(**env), str(program))
+                    program.unlink()
+                self.assertIn("put it on the path", self.found(**env))
+
+    def found(self, **env):
+        script = "try: print(laboratory._program())\nexcept FileNotFoundError as error: print(error)"
+        return ran(sys.executable, "-c", f"from sandpile import laboratory\n{script}", env=env).rstrip("\n")
