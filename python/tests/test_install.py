@@ -22,30 +22,38 @@ print(sandpile.settle(np.array([[0, 4, 0]])).topplings, _library.library._name)
 """
 
 
-class ByPip(unittest.TestCase):
-    @needs_module("pip", "setuptools", "wheel")
-    def test_pip_carries_the_library_along(self):
-        folder = new_folder(self)
-        checkout, target = folder / "checkout", folder / "target"
-        left_out = shutil.ignore_patterns("build", "*.egg-info", "__pycache__")
-        shutil.copytree(TOP / "python", checkout / "python", ignore=left_out)
-        shutil.copytree(LIBRARY, checkout / "crates" / "sand_c" / "out", symlinks=True)
-        offline = ["--no-build-isolation", "--no-deps", "--no-index", "--quiet", "--root-user-action=ignore"]
-        ran(sys.executable, "-m", "pip", "install", *offline, "--target", target, "./python", cwd=checkout)
-        shutil.rmtree(checkout)
-        env = {**os.environ, "PYTHONPATH": str(target)}
-        env.pop("LIBSANDPILE", None)
-        said = ran(sys.executable, "-c", TRIED, cwd=folder, env=env).split()
-        self.assertEqual(said, ["1", str(target / "sandpile" / "libsandpile.so.1")])
+def copied(folder):
+    """Copies what pip needs of the checkout but for what is built."""
+    for name in ("tools", "include", "python"):
+        shutil.copytree(TOP / name, folder / name, ignore=shutil.ignore_patterns("build", "*.egg-info", "__pycache__"))
 
-    @needs_module("pip", "setuptools", "wheel")
+
+class ByPip(unittest.TestCase):
+    @needs_module("pip")
+    def test_pip_carries_the_library_along(self):
+        for words in ([], ["--no-build-isolation"]):
+            with self.subTest(words):
+                folder = new_folder(self)
+                checkout, target = folder / "checkout", folder / "target"
+                copied(checkout)
+                shutil.copytree(LIBRARY, checkout / "crates" / "sand_c" / "out", symlinks=True)
+                offline = [*words, "--no-deps", "--no-index", "--quiet", "--root-user-action=ignore"]
+                ran(sys.executable, "-m", "pip", "install", *offline, "--target", target, "./python", cwd=checkout)
+                shutil.rmtree(checkout)
+                env = {**os.environ, "PYTHONPATH": str(target)}
+                env.pop("LIBSANDPILE", None)
+                said = ran(sys.executable, "-c", TRIED, cwd=folder, env=env).split()
+                self.assertEqual(said, ["1", str(target / "sandpile" / "libsandpile.so.1")])
+
+    @needs_module("pip")
     def test_pip_says_what_to_build_first(self):
         folder = new_folder(self)
-        shutil.copytree(TOP / "python", folder / "python", ignore=shutil.ignore_patterns("build", "*.egg-info"))
+        copied(folder)
         words = ["--no-build-isolation", "--no-deps", "--no-index", "--target", folder / "target", "./python"]
         with self.assertRaises(AssertionError) as caught:
             ran(sys.executable, "-m", "pip", "install", *words, cwd=folder)
         self.assertIn("run ./build library first", str(caught.exception))
+        self.assertNotIn("Traceback", str(caught.exception))
 
 
 class ByInstall(unittest.TestCase):
