@@ -197,6 +197,25 @@ class OfBuild(OfScripts):
         failing.unlink()
         self.assertEqual(self.run_in("./sandpile")[:2], (0, f"{before}\n"))
 
+    @needs("cc")
+    def test_the_wheel_is_packed_after_both_are_built(self):
+        stand_in(self.top / "tools/wheel", 'echo "wheel $*" >> "$LOG"', 'touch "$1/sandpile-2.whl"; echo sandpile-2.whl')
+        for name in ("sandpile-1.whl", "theirs.whl"):
+            (self.top / "dist").mkdir(exist_ok=True)
+            (self.top / "dist" / name).touch()
+        status, said, reported = self.run_in("./build", "wheel")
+        self.assertEqual((status, said, reported.splitlines()[-1]), (0, "", "build: dist/sandpile-2.whl is packed"))
+        noted = self.noted()
+        self.assertLess(noted.index("run sandpile"), noted.index("lib sand_c"))
+        self.assertEqual(noted[-1], f"wheel {self.top}/dist")
+        self.assertEqual(sorted(path.name for path in (self.top / "dist").iterdir()), ["sandpile-2.whl", "theirs.whl"])
+
+    def test_what_is_not_built_is_not_packed(self):
+        stand_in(self.top / "tools/wheel", 'echo "wheel $*" >> "$LOG"')
+        Path(f"{self.log}.fail").touch()
+        self.assertEqual(self.run_in("./build", "wheel")[0], 1)
+        self.assertNotIn(f"wheel {self.top}/dist", self.noted())
+
     @needs("cc", "ar")
     def test_after_ci_nothing_is_left_to_build(self):
         kit = self.bin.with_name("kit")
