@@ -17,6 +17,7 @@ from typing import Any, NamedTuple, NoReturn
 
 TOP = Path(__file__).resolve().parent.parent
 PROGRAM = TOP / "crates" / "sandpile" / "out" / "sandpile"
+STATIC = PROGRAM.with_name("sandpile-static")  # the same, and it needs no glibc
 # `rt ci` leaves two programs. The second one is made by Rattle's own compiler.
 PROGRAMS = (PROGRAM, PROGRAM.with_name("sandpile.by-rattle"))
 LIBRARY = TOP / "crates" / "sand_c" / "out" / "libsandpile.so.1"
