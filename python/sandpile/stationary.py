@@ -23,7 +23,8 @@ the limit of grains. Then the distance is below 5e-11 on each grid.
 
 from __future__ import annotations
 
-from typing import Any, Sequence, SupportsIndex, cast
+import operator
+from typing import Any, Sequence, SupportsIndex
 
 import numpy as np
 
@@ -79,6 +80,14 @@ def random_recurrent(
     height, width = shape_of(shape)
     bits = _GRAIN_BITS - (height * width - 1).bit_length()
     # NumPy promises the same words of a seed for all its versions, but not the same `integers`.
-    words = np.random.PCG64(cast(Any, seed)).random_raw(2 * height * width)
+    words = np.random.PCG64(_numpy_seed(seed)).random_raw(2 * height * width)
     one, other = (words >> np.uint64(64 - bits)).reshape(2, height, width)
     return recurrent(one, cylinder) + recurrent(other, cylinder)
+
+
+def _numpy_seed(seed: Any) -> Any:
+    """A seed for NumPy, which takes no integers but its own and Python's; those of SageMath, say, are neither."""
+    try:
+        return operator.index(seed)
+    except TypeError:
+        return seed

@@ -91,12 +91,22 @@ class Uniform(unittest.TestCase):
         self.assertEqual({sandpile.random_recurrent((1, 1), seed)[0, 0] for seed in range(50)}, {0, 1, 2, 3})
 
 
+class Indexed:
+    """An integer that is none of Python or NumPy, as those of a session of SageMath are."""
+
+    def __init__(self, value):
+        self.value = value
+
+    def __index__(self):
+        return self.value
+
+
 class Seeds(unittest.TestCase):
     def test_the_pile_of_a_seed(self):
         self.assertEqual(sandpile.random_recurrent((2, 3), 7).pile.tolist(), [[2, 0, 2], [3, 3, 1]])
 
     def test_what_is_a_seed(self):
-        kinds = [7, np.int64(7), [7], np.array([7]), np.random.SeedSequence(7)]
+        kinds = [7, np.int64(7), Indexed(7), [7], np.array([7]), np.random.SeedSequence(7)]
         self.assertEqual(len({sandpile.random_recurrent((9, 8), seed) for seed in kinds}), 1)
         others = [None, None, 8, [7, 1], 2**200, *np.random.SeedSequence(7).spawn(2)]
         self.assertEqual(len({sandpile.random_recurrent((9, 8), seed) for seed in [7, *others]}), 8)
