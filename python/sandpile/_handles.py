@@ -53,7 +53,8 @@ class DriveHandle(Handle):
         self._renew()
         super().__init__("drive")
         call("drive_new", heights.shape, cylinder, heights, self.at)
-        _drives.add(self)
+        with _fork:  # a fork reads them all
+            _drives.add(self)
 
     def _renew(self) -> None:
         # A signal's handler may read a run in the thread that uses it.

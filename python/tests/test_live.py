@@ -5,6 +5,7 @@ import copy
 import os
 import pickle
 import signal
+import sys
 import threading
 import time
 import unittest
@@ -14,7 +15,7 @@ from unittest import mock
 import numpy as np
 import sandpile
 from sandpile import _library
-from tools import new_folder, resident, same
+from tools import TOP, new_folder, ran, resident, same
 
 FULL = np.full((32, 32), 3)
 KEPT = ("pile", "odometer", "lost", "topplings", "drops", "table")
@@ -275,3 +276,25 @@ class OneAfterAnother(unittest.TestCase):
             self.assertEqual(len(dropped.result()), 10)
         other.drop(10)
         self.assertTrue(equal(run, other))
+
+    def test_a_fork_while_threads_make_runs(self):
+        script = (
+            "import os, sys, threading, time",
+            "import sandpile",
+            "sys.setswitchinterval(1e-6)",
+            "end = time.monotonic() + 2",
+            "runs = [sandpile.Drive([[0]]) for _ in range(1000)]",
+            "def work():",
+            "    while time.monotonic() < end:",
+            "        sandpile.Drive([[0]])",
+            "threads = [threading.Thread(target=work) for _ in range(3)]",
+            "for thread in threads:",
+            "    thread.start()",
+            "while time.monotonic() < end:",
+            "    child = os.fork()",
+            "    if not child:",
+            "        os._exit(0)",
+            "    os.waitpid(child, 0)",
+        )
+        env = {**os.environ, "PYTHONPATH": str(TOP / "python")}
+        self.assertEqual(ran(sys.executable, "-B", "-Wignore", "-c", "\n".join(script), env=env, timeout=100), "")
