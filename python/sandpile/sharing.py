@@ -86,7 +86,8 @@ class _Passes:
             self.give_back(lower)  # it is empty, unless something has failed or Ctrl-C came
 
     def give_back(self, part: PassHandle) -> None:
-        """Takes what a part has left and has done. Neither waits for a lock, nor fails."""
+        """Takes what a part has left and has done. Neither waits for a lock, nor fails. If Ctrl-C comes before the part has
+        left `outside`, nothing has changed."""
         self._back.add(part)
         self.outside.discard(part)
         if self.is_closed:
@@ -94,7 +95,7 @@ class _Passes:
 
     def _gather(self) -> None:
         """Joins to the first pass what has come back. Each that is joined may bring its rows next to those of another."""
-        while sum([self._joins(part) for part in tuple(self._back)]):
+        while sum([self._joins(part) for part in tuple(self._back - self.outside)]):
             pass
 
     def _joins(self, part: PassHandle) -> bool:
@@ -152,8 +153,11 @@ class Part:
     """
 
     def __init__(self, passes: _Passes) -> None:
-        self._passes, self._pass, self._is_joined = passes, PassHandle(), False
-        self._use = threading.Lock()
+        self._passes, self._pass, self._use = passes, PassHandle(), threading.Lock()
+
+    @property
+    def _is_joined(self) -> bool:
+        return self._pass not in self._passes.outside
 
     def drop(
         self, sites: ArrayLike | None = None, *, rows: ArrayLike | None = None, columns: ArrayLike | None = None
@@ -249,7 +253,6 @@ class Part:
     def _join(self) -> None:
         # A call in another thread ends first.
         with self._use:
-            self._is_joined = True
             self._passes.give_back(self._pass)
 
     def __enter__(self) -> Part:

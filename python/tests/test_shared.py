@@ -349,6 +349,30 @@ class Dropped(unittest.TestCase):
                     self.assertRaises(KeyboardInterrupt, pile.split, 2, 4)
                 self.assertEqual(len(pile.settle().history), 0)
 
+    def test_ctrl_c_at_the_end_of_a_part(self):
+        # It comes before the part is given back, then after that.
+        give_back = sharing._Passes.give_back
+
+        def before(*words):
+            raise KeyboardInterrupt
+
+        def after(*words):
+            give_back(*words)
+            raise KeyboardInterrupt
+
+        for stopped in (before, after):
+            with sandpile.SharedPile(COLUMN, quota=3) as pile:
+                with mock.patch.object(sharing._Passes, "give_back", stopped), self.assertRaises(KeyboardInterrupt):
+                    with pile.split(2) as part:
+                        part.drop([3])
+                if stopped is before:
+                    self.assertEqual(fault_or(pile.settle), 14)
+                    pile.join(part)
+                self.assertEqual(pile.settle().history.tolist(), [3])
+                self.assertRaises(RuntimeError, part.drop, [0])
+                with pile.split(2, rows=4):
+                    pass
+
     def test_memory_that_runs_out_while_parts_are_joined(self):
         with sandpile.SharedPile(COLUMN, quota=3) as pile:
             with pile.split(2) as part:
