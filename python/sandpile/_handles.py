@@ -25,7 +25,8 @@ class Handle:
         self._free(self.at)
 
     def __del__(self) -> None:
-        self.free()
+        if "_free" in vars(self):  # else Ctrl-C came while this was made
+            self.free()
 
 
 class PassHandle(Handle):
@@ -41,9 +42,10 @@ class PassHandle(Handle):
         """Whether this process has made it."""
         return self._process == os.getpid()
 
-    def __del__(self) -> None:
+    def free(self) -> None:
+        """Frees what the handle holds, in the process that made it."""
         if self.is_here:
-            self.free()
+            super().free()
 
 
 class DriveHandle(Handle):

@@ -153,7 +153,8 @@ class Part:
     """
 
     def __init__(self, passes: _Passes) -> None:
-        self._passes, self._pass, self._use = passes, PassHandle(), threading.Lock()
+        self._passes, self._use = passes, threading.Lock()
+        self._pass = PassHandle()
 
     @property
     def _is_joined(self) -> bool:
@@ -264,7 +265,7 @@ class Part:
             self._join()
 
     def __del__(self) -> None:
-        if self._pass.is_here and not self._is_joined:
+        if "_pass" in vars(self) and self._pass.is_here and not self._is_joined:
             warnings.warn("a part of a shared pile was not joined", ResourceWarning, stacklevel=2, source=self)
             self._join()
 

@@ -373,6 +373,18 @@ class Dropped(unittest.TestCase):
                 with pile.split(2, rows=4):
                     pass
 
+    def test_ctrl_c_while_a_handle_is_made(self):
+        said = []
+        with sandpile.SharedPile(COLUMN, quota=3) as pile:
+            calls = (lambda: pile.split(2), lambda: sandpile.SharedPile(COLUMN, quota=3), lambda: sandpile.Drive(COLUMN))
+            for name in ("ctypes.c_void_p", "ctypes.addressof", "os.getpid", "threading.RLock"):
+                for call in calls:
+                    with mock.patch(f"sandpile._handles.{name}", side_effect=KeyboardInterrupt), mock.patch(
+                        "sys.unraisablehook", said.append
+                    ), contextlib.suppress(KeyboardInterrupt):
+                        call()
+        self.assertEqual(said, [])
+
     def test_memory_that_runs_out_while_parts_are_joined(self):
         with sandpile.SharedPile(COLUMN, quota=3) as pile:
             with pile.split(2) as part:
