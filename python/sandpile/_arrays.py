@@ -40,8 +40,8 @@ class HasPile(Pictured):
 
 
 def _integers(values: ArrayLike, what: str) -> NDArray[Any]:
-    """The values as an array, which must have one of NumPy's integer types. Of integers over 64 bits in lists, it is one of
-    Python's integers."""
+    """The values as an array, which must have one of NumPy's integer types. Of lists with integers that no such type has
+    together, it is one of Python's integers."""
     if isinstance(values, np.ma.MaskedArray):
         raise TypeError(f"{what} must be a plain array, not a masked one")
     array = _array_of(values, what)
@@ -117,7 +117,8 @@ def heights_of(pile: ArrayLike, may_be_stack: bool = False) -> Heights:
     if array.dtype.kind != "u" and array.min() < 0:
         raise ValueError(f"heights must be 0 or more, but the one in {_first(array, array < 0)}")
     if array.dtype.kind == "O":
-        raise Fault(_TOO_MANY_GRAINS, f"the height in {_first(array, array >= 2**64)}, over 1,099,511,627,775")
+        # No integer type has all heights of such a list, so one is 2**63 or more.
+        raise Fault(_TOO_MANY_GRAINS, f"the height in {_first(array, array >= 2**63)}, over 1,099,511,627,775")
     return np.array(array, dtype=np.int64, order="C")
 
 

@@ -69,6 +69,7 @@ FAULTS = {
     "too many": (np.array([[LIMIT, 1]]), 3),
     "the greatest": (np.full((2, 2), np.iinfo(np.uint64).max, np.uint64), 3),
     "over 64 bits": ([[0, 3], [2**64, 1]], 3),
+    "over 63 bits": ([[0, 3], [2**63, 1]], 3),
     "257 wide, over 64 bits": ([[2**64] * 257], 1),
 }
 
