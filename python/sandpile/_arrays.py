@@ -42,12 +42,14 @@ class HasPile(Pictured):
 def _integers(values: ArrayLike, what: str) -> NDArray[Any]:
     """The values as an array, which must have one of NumPy's integer types. Of lists with integers that no such type has
     together, it is one of Python's integers."""
-    if isinstance(values, np.ma.MaskedArray):
-        raise TypeError(f"{what} must be a plain array, not a masked one")
+    is_list = isinstance(values, (list, tuple))
+    parts: Any = values if is_list else [values]
+    if any(isinstance(part, np.ma.MaskedArray) for part in parts):
+        raise TypeError(f"{what} must be plain arrays, not masked ones")
     array = _array_of(values, what)
     if not array.size or array.dtype.kind in "iu":
         return array
-    if isinstance(values, (list, tuple)):
+    if is_list:
         objects = np.asarray(values, object)
         if {*map(type, objects.flat)} == {int}:
             return objects

@@ -56,6 +56,8 @@ NO_PILES = {
     "mixed": [[2**64, 0.5]],
     "mixed with a bool": [[2**64, True]],
     "masked": MASKED,
+    "a list of masked rows": [MASKED[0], MASKED[0]],
+    "a tuple with a masked row": ([3, 3], MASKED[0]),
     "a record": np.zeros((2, 2), [("x", int)]),
     "None": None,
 }

@@ -105,6 +105,10 @@ class Stacks(unittest.TestCase):
         stack = [[[0, 1]], [[2, 2**64 + 3]]]
         self.assertRaisesRegex(sandpile.Fault, "fault 3 .* pile 1, row 0, column 1 is 18446744073709551619", sandpile.settle, stack)
 
+    def test_a_masked_pile(self):
+        masked = np.ma.masked_array([[3, 3]], [[False, True]])
+        self.assertRaisesRegex(TypeError, "heights must be plain arrays, not masked ones", sandpile.settle, [[[3, 3]], masked])
+
     def test_other_calls_take_no_stack(self):
         stack = stack_of(2, 3, 4)
         for call in (sandpile.burn, sandpile.recurrent, sandpile.Recurrent, sandpile.Drive, sandpile.lab):
