@@ -365,9 +365,13 @@ class SharedPile:
         ------
         Fault
             OtherPile (27) if it is of another pile.
+        TypeError
+            If it is not a `Part`.
         RuntimeError
             If it has been joined already, if the pile is closed, or in a forked process.
         """
+        if not isinstance(part, Part):
+            raise TypeError(f"part must be a Part, not {part!r}")
         if part._passes is not self._passes:
             raise Fault(_OTHER_PILE, "the part is of another pile")
         part._check()

@@ -235,6 +235,11 @@ class Misuse(unittest.TestCase):
                 part.drop([3])
             self.assertEqual([some.settle().history.tolist() for some in (pile, other)], [[], [3]])
 
+    def test_what_is_no_part(self):
+        with sandpile.SharedPile([[0]], quota=3) as pile:
+            for part in (None, 3, pile):
+                self.assertRaisesRegex(TypeError, "part must be a Part, not ", pile.join, part)
+
     def test_a_pile_that_is_closed(self):
         pile = sandpile.SharedPile(COLUMN, quota=3)
         part = pile.split(1)
