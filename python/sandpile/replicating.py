@@ -7,6 +7,7 @@ import contextlib
 import functools
 import itertools
 import os
+import sys
 import threading
 import weakref
 from collections import deque
@@ -219,7 +220,7 @@ def _in_order(streams: Iterator[int], submit: Callable[[int], Future[_Table]], w
     submitted: _Submitted = deque()
     try:
         while True:
-            for stream in itertools.islice(streams, window - len(submitted)):
+            for stream in itertools.islice(streams, min(window - len(submitted), sys.maxsize)):
                 submitted.append((stream, submit(stream)))
             if not submitted:
                 return

@@ -182,6 +182,11 @@ class Tables(unittest.TestCase):
                 self.assertEqual(next(tables)["stream"].tolist(), [taken] * 5)
                 self.assertEqual(len(executor.futures), taken + window)
 
+    def test_a_window_without_an_end(self):
+        for window in (2**63 - 1, 2**63, 2**64 - 1):
+            tables = sandpile.replicas((3, 3), 1, range(3), 1, window=window)
+            self.assertEqual([len(table) for table in tables], [1, 1, 1])
+
     def test_a_window_by_default(self):
         executor = AtOnce()
         for workers in (3, 50):
