@@ -140,7 +140,7 @@ def check_sides(shape: tuple[int, ...]) -> None:
 def shape_of(shape: Sequence[SupportsIndex]) -> tuple[int, int]:
     """The height and the width, which must be integers."""
     try:
-        height, width = map(operator.index, shape)
+        height, width = (index_of(side, "a side") for side in shape)
     except (TypeError, ValueError) as error:
         kind = ShapeError if isinstance(error, ValueError) else TypeError
         raise kind(f"a shape must be two integers, (height, width), not {shape!r}") from None
@@ -201,9 +201,11 @@ def site_at(
 def index_of(value: Any, what: str) -> int:
     """A Python or NumPy number, which must be an integer."""
     try:
-        return operator.index(value)
+        if not isinstance(value, np.bool_):  # which NumPy before 2 takes, with a warning
+            return operator.index(value)
     except TypeError:
-        raise TypeError(f"{what} must be an integer, not {value!r}") from None
+        pass
+    raise TypeError(f"{what} must be an integer, not {value!r}")
 
 
 def _outside(what: str, row: int, column: int, shape: tuple[int, ...]) -> Fault:

@@ -2,13 +2,12 @@
 
 from __future__ import annotations
 
-import operator
 from typing import TYPE_CHECKING, Any, Sequence, SupportsIndex, overload
 
 import numpy as np
 from numpy.typing import ArrayLike, NDArray
 
-from ._arrays import HasPile, Heights, checked_edge, heights_and_edge, shape_of, site_at
+from ._arrays import HasPile, Heights, checked_edge, heights_and_edge, index_of, shape_of, site_at
 from ._library import call
 from .burning import burned
 from .faults import Fault
@@ -202,7 +201,7 @@ class Recurrent(HasPile):
         if isinstance(times, np.ndarray) and (times.ndim or type(times) is not np.ndarray):
             return self._refuse(times)
         try:
-            n = operator.index(times)
+            n = index_of(times, "a multiple")
         except TypeError:
             return NotImplemented
         return self._multiple(n) if n >= 0 else (-self)._multiple(-n)

@@ -181,6 +181,17 @@ class Refused(unittest.TestCase):
         self.refuses(lambda s: sandpile.lab([[3]], seed=s), 23, 2**32)
         self.assertEqual(sandpile.Drive([[3]], seed=np.uint64(2**64 - 1), stream=np.int8(3)).seed, 2**64 - 1)
 
+    def test_a_bool_of_numpy_is_no_integer(self):
+        run, a, pile = sandpile.Drive([[3, 3]]), sandpile.identity((3, 3)), sandpile.SharedPile([[3]], 5)
+        calls = (
+            run.drop, run.avalanche, run.height, a.act, pile.split, lambda n: n * a, lambda n: a * n,
+            lambda n: run.blocks(9, n), lambda n: sandpile.Drive([[3]], n), lambda n: sandpile.identity((3, n)),
+        )
+        for call in calls:
+            with warnings.catch_warnings(record=True) as warned:
+                self.assertRaises(TypeError, call, np.True_)
+            self.assertEqual(warned, [])
+
     def test_grids_of_a_sum(self):
         a, b = sandpile.identity((3, 4)), sandpile.identity((4, 3))
         self.refuses(lambda one, other: one + other, 9, a, b)
