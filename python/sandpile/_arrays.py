@@ -49,7 +49,7 @@ def _integers(values: ArrayLike, what: str) -> NDArray[Any]:
     array = _array_of(values, what)
     if not array.size or array.dtype.kind in "iu":
         return array
-    if is_list:
+    if is_list or isinstance(values, int):
         objects = np.asarray(values, object)
         if {*map(type, objects.flat)} == {int}:
             return objects

@@ -162,7 +162,7 @@ class Refused(unittest.TestCase):
         before = pickle.dumps(run)
         for sites in [[6], [-1], np.array([0, 2**64 - 1], np.uint64), np.array([-1], np.int8)]:
             self.refuses(run.drop_at, 25, sites)
-        for sites in [[2**64], [3, 2**63, -1], (-(2**64),)]:
+        for sites in [[2**64], [3, 2**63, -1], (-(2**64),), 2**64, -(2**63) - 1]:
             self.refuses(run.drop_at, 25, sites)
         for sites in [[0.0], ["0"], [[0, 1]], np.array([True]), [None], [2**64, 0.5]]:
             self.refuses(run.drop_at, TypeError, sites)
