@@ -16,7 +16,7 @@ from .faults import Fault, ShapeError
 Heights = NDArray[np.int64]
 
 _MOST_SIDE = 256
-_TOO_MANY_GRAINS, _SHAPES = 3, 9
+_TOO_MANY_GRAINS, _MEMORY, _SHAPES = 3, 4, 9
 # NumPy before 1.24 makes an array of lists of them, with a warning.
 _ALLOWS_RAGGED = tuple(map(int, np.__version__.split(".")[:2])) < (1, 24)
 
@@ -79,7 +79,10 @@ def heights_and_edge(pile: ArrayLike, cylinder: bool | None, may_be_stack: bool 
     edges = {one.cylinder for one in piles if isinstance(one, HasPile)}
     if edges and is_list:  # NumPy before 2 warns of objects in a list
         pile = [one.pile if isinstance(one, HasPile) else one for one in piles]
-    return heights_of(pile, may_be_stack), _edge_of(edges, cylinder)
+    try:
+        return heights_of(pile, may_be_stack), _edge_of(edges, cylinder)
+    except MemoryError:
+        raise Fault(_MEMORY, "not enough memory for a copy of the heights") from None
 
 
 def _edge_of(edges: set[bool], cylinder: bool | None) -> bool:
@@ -164,6 +167,15 @@ def sites_at(
     sites: ArrayLike | None, rows: ArrayLike | None, columns: ArrayLike | None, shape: tuple[int, ...]
 ) -> NDArray[np.int64]:
     """The numbers of sites, given as such or by their rows and columns, as `sites_of` returns them."""
+    try:
+        return _sites_at(sites, rows, columns, shape)
+    except MemoryError:
+        raise Fault(_MEMORY, "not enough memory for a copy of the sites") from None
+
+
+def _sites_at(
+    sites: ArrayLike | None, rows: ArrayLike | None, columns: ArrayLike | None, shape: tuple[int, ...]
+) -> NDArray[np.int64]:
     height, width = shape
     if sites is not None and rows is None and columns is None:
         return sites_of(sites, height * width)
@@ -239,4 +251,4 @@ def new_array(shape: int | tuple[int, ...], kind: Any, what: str) -> NDArray[Any
     try:
         return np.empty(shape, kind)
     except (MemoryError, ValueError):  # more bytes than there are, or than NumPy can count
-        raise Fault(4, f"not enough memory for {what}") from None
+        raise Fault(_MEMORY, f"not enough memory for {what}") from None

@@ -9,7 +9,7 @@ from typing import Any
 import numpy as np
 from numpy.typing import ArrayLike
 
-from ._arrays import HasPile, Heights, heights_and_edge
+from ._arrays import HasPile, Heights, heights_and_edge, new_array
 from ._library import call
 from ._results import Result
 from .faults import Fault
@@ -108,7 +108,8 @@ def _settled(heights: Heights, edge: bool) -> Settled:
 
 def _settled_stack(heights: Heights, edge: bool) -> Settled:
     count, *shape = heights.shape
-    odometer, lost, topplings = np.empty(heights.shape, np.int64), np.empty(count, np.int64), np.empty(count, np.int64)
+    odometer = new_array(heights.shape, np.int64, f"the odometers of {count} piles")
+    lost, topplings = np.empty(count, np.int64), np.empty(count, np.int64)
     at_once = _SITES_AT_ONCE // (shape[0] * shape[1])
     for begin in range(0, max(count, 1), at_once):  # without piles, the edge is checked all the same
         some = slice(begin, begin + at_once)

@@ -145,6 +145,13 @@ def _new_history(drops: int) -> NDArray[np.int64]:
         raise Fault(4, f"not enough memory for a history of {drops} drops") from None
 
 
+def _numbers_from_0(drops: int) -> NDArray[np.int64]:
+    try:
+        return np.arange(drops, dtype=np.int64)
+    except MemoryError:
+        raise Fault(4, f"not enough memory for the numbers of {drops} drops") from None
+
+
 class Part:
     """A part of a shared pile, for one thread at a time: the right to drop some grains on it, and to topple some of its rows.
 
@@ -196,8 +203,10 @@ class Part:
         array([0, 1, 2])
         """
         at, first = sites_at(sites, rows, columns, self._passes.shape), ctypes.c_uint64()
+        numbers = _numbers_from_0(at.size)  # before the drops, since memory may run out
         self._call("pass_drop", at, ctypes.byref(first))
-        return np.arange(first.value, first.value + at.size, dtype=np.int64)
+        numbers += first.value
+        return numbers
 
     def sweep(self) -> int:
         """Visits each site of its rows once, and topples it as often as its grains then allow.

@@ -2,8 +2,10 @@
 
 import copy
 import operator
+import os
 import pickle
 import random
+import sys
 import unittest
 import warnings
 from unittest import mock
@@ -12,6 +14,7 @@ import numpy as np
 import sandpile
 from sandpile import _arrays
 from sandpile.faults import ShapeError
+from tools import TOP, ran
 
 TAKES_PILE = {
     "settle": sandpile.settle,
@@ -74,6 +77,34 @@ FAULTS = {
     "over 63 bits": ([[0, 3], [2**63, 1]], 3),
     "257 wide, over 64 bits": ([[2**64] * 257], 1),
 }
+
+
+# A mebibyte is 2**20 bytes. No call changes anything, so the tally is 0.
+LIMITED = """
+import resource
+import numpy as np
+import sandpile
+
+def fault(mebibytes, call, **arguments):
+    with open("/proc/self/statm") as file:
+        used = int(file.read().split()[0]) * resource.getpagesize()
+    resource.setrlimit(resource.RLIMIT_AS, (used + (mebibytes << 20), -1))
+    try:
+        call(**arguments)
+    except MemoryError as error:
+        print(getattr(error, "number", error))
+
+run, zero = sandpile.Drive([[0, 0]]), np.uint8(0)
+fault(256, sandpile.settle, pile=np.broadcast_to(zero, (10**4, 64, 64)))
+fault(256, sandpile.settle, pile=np.broadcast_to(zero, (6 * 10**3, 64, 64)))
+fault(256, run.drop_at, sites=np.broadcast_to(zero, 2**26))
+fault(256, run.drop_at, rows=np.zeros((2**15, 1), int), columns=np.zeros(2**15, int))
+pile = sandpile.SharedPile([[0]], quota=2**23)
+with pile.split(2**23) as part:
+    for mebibytes in (40, 100):
+        fault(mebibytes, part.drop, sites=np.broadcast_to(zero, 2**23))
+print(pile.tally())
+"""
 
 
 class Refused(unittest.TestCase):
@@ -233,6 +264,10 @@ class Refused(unittest.TestCase):
         with mock.patch("numpy.empty", side_effect=MemoryError):
             for kind in (MemoryError, ValueError, sandpile.Fault):
                 self.assertRaisesRegex(kind, "fault 4 Memory: not enough memory for a table of 9 drops", run.drop, 9)
+
+    def test_running_out_of_memory_for_a_copy_of_an_argument(self):
+        said = ran(sys.executable, "-B", "-c", LIMITED, env={**os.environ, "PYTHONPATH": str(TOP / "python")})
+        self.assertEqual(said.split(), ["4", "4", "4", "4", "4", "4", "0"])
 
 
 class Taken(unittest.TestCase):
