@@ -23,12 +23,11 @@ the limit of grains. Then the distance is below 5e-11 on each grid.
 
 from __future__ import annotations
 
-import operator
 from typing import Any, Sequence, SupportsIndex
 
 import numpy as np
 
-from ._arrays import shape_of
+from ._arrays import checked_edge, index_of, shape_of
 from .group import _GRAIN_BITS, Recurrent, recurrent
 
 
@@ -58,7 +57,7 @@ def random_recurrent(
     ValueError
         If an integer of `seed` is negative.
     TypeError
-        If `shape` is not two integers, or `seed` is none of those.
+        If `shape` is not two integers, `seed` is none of those, or `cylinder` is not True or False.
 
     See Also
     --------
@@ -77,17 +76,24 @@ def random_recurrent(
     >>> sandpile.burn(start).is_recurrent, start == sandpile.random_recurrent((64, 64), seed=7)
     (True, True)
     """
-    height, width = shape_of(shape)
+    (height, width), edge = shape_of(shape), checked_edge(cylinder)
     bits = _GRAIN_BITS - (height * width - 1).bit_length()
     # NumPy promises the same words of a seed for all its versions, but not the same `integers`.
-    words = np.random.PCG64(_numpy_seed(seed)).random_raw(2 * height * width)
+    words = np.random.PCG64(_checked_seed(seed)).random_raw(2 * height * width)
     one, other = (words >> np.uint64(64 - bits)).reshape(2, height, width)
-    return recurrent(one, cylinder) + recurrent(other, cylinder)
+    return recurrent(one, edge) + recurrent(other, edge)
 
 
-def _numpy_seed(seed: Any) -> Any:
-    """A seed for NumPy, which takes no integers but its own and Python's; those of SageMath, say, are neither."""
-    try:
-        return operator.index(seed)
-    except TypeError:
+def _checked_seed(seed: Any) -> np.random.SeedSequence | list[int] | None:
+    """A seed for NumPy, which accepts more, such as numbers in strings."""
+    if seed is None or isinstance(seed, np.random.SeedSequence):
         return seed
+    are_many = isinstance(seed, (list, tuple, range)) or isinstance(seed, np.ndarray) and seed.ndim
+    try:
+        numbers = [index_of(number, "seed") for number in (seed if are_many else [seed])]
+    except TypeError:
+        kinds = "an integer, a sequence of integers, a numpy.random.SeedSequence or None"
+        raise TypeError(f"seed must be {kinds}, not {seed!r}") from None
+    if min(numbers, default=0) < 0:
+        raise ValueError(f"each integer of seed must be 0 or more, but one is {min(numbers)}")
+    return numbers

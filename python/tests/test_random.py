@@ -91,14 +91,9 @@ class Uniform(unittest.TestCase):
         self.assertEqual({sandpile.random_recurrent((1, 1), seed)[0, 0] for seed in range(50)}, {0, 1, 2, 3})
 
 
-class Indexed:
-    """An integer that is none of Python or NumPy, as those of a session of SageMath are."""
-
-    def __init__(self, value):
-        self.value = value
-
+class Index:
     def __index__(self):
-        return self.value
+        return 7
 
 
 class Seeds(unittest.TestCase):
@@ -106,7 +101,7 @@ class Seeds(unittest.TestCase):
         self.assertEqual(sandpile.random_recurrent((2, 3), 7).pile.tolist(), [[2, 0, 2], [3, 3, 1]])
 
     def test_what_is_a_seed(self):
-        kinds = [7, np.int64(7), Indexed(7), [7], np.array([7]), np.random.SeedSequence(7)]
+        kinds = [7, np.int64(7), np.array(7), Index(), [7], (7,), range(7, 8), [Index()], np.array([7]), np.random.SeedSequence(7)]
         self.assertEqual(len({sandpile.random_recurrent((9, 8), seed) for seed in kinds}), 1)
         others = [None, None, 8, [7, 1], 2**200, *np.random.SeedSequence(7).spawn(2)]
         self.assertEqual(len({sandpile.random_recurrent((9, 8), seed) for seed in [7, *others]}), 8)
@@ -114,8 +109,14 @@ class Seeds(unittest.TestCase):
     def test_what_is_none(self):
         for seed in (-1, [7, -1]):
             self.assertRaises(ValueError, sandpile.random_recurrent, (2, 2), seed)
-        for seed in (0.5, [0.5], {}):
-            self.assertRaises(TypeError, sandpile.random_recurrent, (2, 2), seed)
+        matrix, drawn = np.array([[7]]).view(np.matrix), np.random.default_rng(7)
+        others = (np.True_, "7", ["7"], [None], [[7], [8, 9]], np.array(7.0), np.ma.masked, matrix, drawn, range)
+        for seed in (0.5, [0.5], {}, *others):
+            with self.subTest(seed=repr(seed)):
+                self.assertRaisesRegex(TypeError, "^seed must be an integer, a", sandpile.random_recurrent, (2, 2), seed)
+        self.assertRaisesRegex(ValueError, "seed must be 0 or more, but one is -3", sandpile.random_recurrent, (2, 2), [1, -3])
+        for cylinder in (None, 1, "yes"):
+            self.assertRaisesRegex(TypeError, "cylinder must be", sandpile.random_recurrent, (3, 3), 7, cylinder)
 
     def test_shapes_that_are_none(self):
         for shape, cylinder, number in (((0, 3), False, 1), ((3, 257), False, 1), ((3, 2), True, 24)):
