@@ -52,11 +52,13 @@ class Saved:
 
 def write(path: str | os.PathLike[str], saved: Saved) -> None:
     """Writes a file under a name that no other call uses, then renames it: nobody ever reads a part of it."""
-    path = _npz(path)
+    path, content = _npz(path), io.BytesIO()
+    # Not into the file: if writing to it failed, zipfile would go on, and fail in its `__del__`, too.
+    np.savez_compressed(content, **{name: np.asarray(value, _type_of(name)) for name, value in vars(saved).items()})
     beside = path.with_name(f"{path.name}.{os.urandom(8).hex()}.part")
     try:
         with open(beside, "xb") as file:
-            np.savez_compressed(file, **{name: np.asarray(value, _type_of(name)) for name, value in vars(saved).items()})
+            file.write(content.getbuffer())
         os.replace(beside, path)
     finally:
         beside.unlink(missing_ok=True)

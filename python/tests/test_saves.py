@@ -4,6 +4,7 @@ import io
 import os
 import random
 import struct
+import sys
 import unittest
 import zipfile
 from concurrent.futures import ThreadPoolExecutor
@@ -11,7 +12,7 @@ from unittest import mock
 
 import numpy as np
 import sandpile
-from tools import new_folder, same
+from tools import TOP, new_folder, ran, same
 
 CHANGED = 1500
 TOP = 2**63
@@ -157,6 +158,30 @@ class Wrong(unittest.TestCase):
             for packed in (np.savez, np.savez_compressed):
                 packed(self.path, **{name: array.astype(kind, order="F") for name, array in self.arrays.items()})
                 self.assertEqual(values(sandpile.Drive.load(self.path)), values(run_of()))
+
+
+# A file may have 5,000 bytes here, and the save has more. It has failed without another word, and the old one is there.
+FULL = """
+import os, resource
+import numpy as np
+import sandpile
+
+run = sandpile.Drive([[3]])
+run.save("run")
+run = sandpile.Drive(sandpile.random_recurrent((200, 200), seed=1))
+resource.setrlimit(resource.RLIMIT_FSIZE, (5_000, 5_000))
+try:
+    run.save("run")
+except OSError as error:
+    print(error.strerror, os.listdir("."), sandpile.Drive.load("run").pile)
+"""
+
+
+class Full(unittest.TestCase):
+    def test_a_file_that_has_no_room(self):
+        env = {**os.environ, "PYTHONPATH": str(TOP / "python")}
+        said = ran(sys.executable, "-B", "-c", FULL, cwd=new_folder(self), env=env)
+        self.assertEqual(said, "File too large ['run.npz'] [[3]]\n")
 
 
 class Together(unittest.TestCase):
