@@ -8,11 +8,12 @@ import sys
 import unittest
 import zipfile
 from concurrent.futures import ThreadPoolExecutor
+from pathlib import Path
 from unittest import mock
 
 import numpy as np
 import sandpile
-from tools import TOP, new_folder, ran, same
+from tools import new_folder, ran, same
 
 CHANGED = 1500
 TOP = 2**63
@@ -179,7 +180,7 @@ except OSError as error:
 
 class Full(unittest.TestCase):
     def test_a_file_that_has_no_room(self):
-        env = {**os.environ, "PYTHONPATH": str(TOP / "python")}
+        env = {**os.environ, "PYTHONPATH": str(Path(sandpile.__file__).parents[1])}
         said = ran(sys.executable, "-B", "-c", FULL, cwd=new_folder(self), env=env)
         self.assertEqual(said, "File too large ['run.npz'] [[3]]\n")
 
