@@ -45,7 +45,7 @@ def show(pile: ArrayLike | Pictured, ax: Axes | None = None) -> Axes:
     ImportError
         If matplotlib is not installed.
     ValueError
-        If `pile` is not two-dimensional; that is also a `TypeError`.
+        If `pile` has no sites, or is not two-dimensional; the latter is also a `TypeError`.
     TypeError
         If its values are not numbers.
 
@@ -90,6 +90,8 @@ def _values_of(pile: ArrayLike | Pictured) -> Any:
         raise ShapeError(f"a pile must have shape (height, width), but this array has {values.ndim} dimensions")
     if values.dtype.kind not in "biuf":
         raise TypeError(f"a picture is drawn of numbers, but this array has type {values.dtype}")
+    if not values.size:
+        raise ValueError(f"there are no sites to draw in an array of shape {values.shape}")
     return ma.masked_invalid(values)
 
 

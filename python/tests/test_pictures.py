@@ -187,6 +187,8 @@ class Show(unittest.TestCase):
         for values in ([1, 2], np.zeros((2, 2, 2))):
             for kind in (TypeError, ValueError):
                 self.assertRaises(kind, sandpile.show, values)
+        for shape in ((0, 5), (5, 0), (0, 0)):
+            self.assertRaisesRegex(ValueError, "no sites to draw", sandpile.show, np.zeros(shape, int))
 
 
 class WithoutMatplotlib(unittest.TestCase):
