@@ -279,6 +279,9 @@ class Drive(HasPile):
         self, n: SupportsIndex, progress: bool = False, *, odometers: Literal[True]
     ) -> tuple[NDArray[np.void], Heights]: ...
 
+    @overload
+    def drop(self, n: SupportsIndex, progress: bool = False, odometers: bool = False) -> Any: ...
+
     def drop(self, n: SupportsIndex, progress: bool = False, odometers: bool = False) -> Any:
         """Drops `n` grains at the next random sites.
 
