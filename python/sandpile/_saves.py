@@ -2,6 +2,7 @@
 
 from __future__ import annotations
 
+import errno
 import io
 import os
 import zipfile
@@ -121,4 +122,6 @@ def _number(array: NDArray[Any], name: str) -> int:
 
 def _npz(path: str | os.PathLike[str]) -> Path:
     path = Path(path)
+    if not path.name:
+        raise IsADirectoryError(errno.EISDIR, os.strerror(errno.EISDIR), str(path))
     return path if path.suffix == ".npz" else path.with_name(f"{path.name}.npz")

@@ -178,6 +178,13 @@ except OSError as error:
 """
 
 
+class Names(unittest.TestCase):
+    def test_a_path_without_a_name(self):
+        for path in ("", ".", "/"):
+            for call in (sandpile.Drive([[3]]).save, sandpile.Drive.load):
+                self.assertRaisesRegex(OSError, "Is a directory", call, path)
+
+
 class Full(unittest.TestCase):
     def test_a_file_that_has_no_room(self):
         env = {**os.environ, "PYTHONPATH": str(Path(sandpile.__file__).parents[1])}
