@@ -213,7 +213,7 @@ def site_at(
 def index_of(value: Any, what: str) -> int:
     """A Python or NumPy number, which must be an integer."""
     try:
-        if not isinstance(value, np.bool_):  # which NumPy before 2 takes, with a warning
+        if not isinstance(value, np.bool_):  # some versions of NumPy take it, with a warning
             return operator.index(value)
     except TypeError:
         pass

@@ -101,7 +101,8 @@ class Seeds(unittest.TestCase):
         self.assertEqual(sandpile.random_recurrent((2, 3), 7).pile.tolist(), [[2, 0, 2], [3, 3, 1]])
 
     def test_what_is_a_seed(self):
-        kinds = [7, np.int64(7), np.array(7), Index(), [7], (7,), range(7, 8), [Index()], np.array([7]), np.random.SeedSequence(7)]
+        ones = [7, np.int64(7), np.array(7), Index(), np.random.SeedSequence(7)]
+        kinds = [*ones, [7], (7,), range(7, 8), [Index()], np.array([7])]
         self.assertEqual(len({sandpile.random_recurrent((9, 8), seed) for seed in kinds}), 1)
         others = [None, None, 8, [7, 1], 2**200, *np.random.SeedSequence(7).spawn(2)]
         self.assertEqual(len({sandpile.random_recurrent((9, 8), seed) for seed in [7, *others]}), 8)
