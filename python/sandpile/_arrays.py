@@ -3,8 +3,8 @@
 from __future__ import annotations
 
 import operator
-from collections.abc import Mapping
-from typing import TYPE_CHECKING, Any, Sequence, SupportsIndex
+from collections.abc import Mapping, Sequence
+from typing import TYPE_CHECKING, Any, SupportsIndex
 
 import numpy as np
 from numpy.typing import ArrayLike, NDArray
@@ -74,6 +74,7 @@ def _is_ragged(values: ArrayLike) -> bool:
 
 def heights_and_edge(pile: ArrayLike, cylinder: bool | None, may_be_stack: bool = False) -> tuple[Heights, bool]:
     """The heights, as from `heights_of`, and whether the grid is a cylinder: as `cylinder` says, else as the pile itself."""
+    pile = _listed(pile)
     is_list = isinstance(pile, (list, tuple))
     piles: Any = pile if is_list else [pile]
     edges = {one.cylinder for one in piles if isinstance(one, HasPile)}
@@ -83,6 +84,12 @@ def heights_and_edge(pile: ArrayLike, cylinder: bool | None, may_be_stack: bool 
         return heights_of(pile, may_be_stack), _edge_of(edges, cylinder)
     except MemoryError:
         raise Fault(_MEMORY, "not enough memory for a copy of the heights") from None
+
+
+def _listed(values: Any) -> Any:
+    """A sequence such as a deque as a list, since NumPy takes it for one. Bytes and buffers stay what they are."""
+    is_other = isinstance(values, Sequence) and not isinstance(values, (list, tuple, str, bytes, bytearray, memoryview))
+    return list(values) if is_other else values
 
 
 def _edge_of(edges: set[bool], cylinder: bool | None) -> bool:

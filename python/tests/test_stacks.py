@@ -1,5 +1,6 @@
 """Stacks of piles, which are settled as they are one by one."""
 
+import collections
 import unittest
 import warnings
 from concurrent.futures import ThreadPoolExecutor
@@ -104,6 +105,14 @@ class Stacks(unittest.TestCase):
     def test_a_height_over_64_bits(self):
         stack = [[[0, 1]], [[2, 2**64 + 3]]]
         self.assertRaisesRegex(sandpile.Fault, "fault 3 .* pile 1, row 0, column 1 is 18446744073709551619", sandpile.settle, stack)
+
+    def test_sequences_that_are_no_lists(self):
+        one = sandpile.identity((3, 4), cylinder=True)
+        for kind in (collections.deque, collections.UserList):
+            settled = sandpile.settle(kind([one, one]))
+            self.assertEqual((settled.pile.shape, settled.cylinder), ((2, 3, 4), True))
+            self.assertRaisesRegex(sandpile.Fault, "fault 9 Shapes", sandpile.settle, kind([one]), cylinder=False)
+            self.assertRaisesRegex(TypeError, "the lists of heights must", sandpile.settle, kind([[1, 2], [3]]))
 
     def test_a_masked_pile(self):
         masked = np.ma.masked_array([[3, 3]], [[False, True]])
