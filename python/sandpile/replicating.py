@@ -41,7 +41,8 @@ class Replicas(Iterator[_Table]):
     """The tables of replicas, one for each stream, in the order of the streams.
 
     `close` ends an iterator early: it cancels the replicas that have not begun, and waits for threads of its own, which
-    stop between two blocks of drops. An error, Ctrl-C or the end of the iterator does the same.
+    stop between two blocks of drops. An error, Ctrl-C or the end of the iterator does the same. Use an iterator, and close it,
+    in one thread at a time.
 
     Attributes
     ----------
