@@ -44,6 +44,12 @@ class OfScripts(unittest.TestCase):
         return lines
 
 
+def heed_signals():
+    """A child inherits which signals are ignored: SIGHUP under nohup, SIGINT in what a shell starts in the background."""
+    for number in (signal.SIGINT, signal.SIGHUP):
+        signal.signal(number, signal.SIG_DFL)
+
+
 class OfCheck(OfScripts):
     scripts = ("check", ".gitignore")
 
@@ -99,7 +105,9 @@ class OfCheck(OfScripts):
         stand_in(self.bin / "rt", """trap 'kill $! 2> /dev/null; echo ended >> "$LOG"; exit 1' INT TERM""", "sleep 60 & echo begun; wait")
         for number in (signal.SIGINT, signal.SIGTERM, signal.SIGHUP):
             with self.subTest(number.name):
-                with subprocess.Popen(["./check"], cwd=self.top, env=self.env, stdout=subprocess.PIPE, start_new_session=True) as process:
+                with subprocess.Popen(
+                    ["./check"], cwd=self.top, env=self.env, stdout=subprocess.PIPE, start_new_session=True, preexec_fn=heed_signals
+                ) as process:
                     while process.stdout.readline() != b"begun\n":
                         pass
                     if number == signal.SIGINT:  # as a terminal does
