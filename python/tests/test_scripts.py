@@ -148,6 +148,18 @@ class OfBuild(OfScripts):
         (self.top / "crates/sandpile/src/main.rt").write_text("changed")
         self.assertEqual(self.run_in("./sandpile")[:2], (0, "changed\n"))
 
+    def test_the_program_is_linked_for_wheels_if_that_can_be(self):
+        rt = self.bin / "rt"
+        lines = rt.read_text().replace("chmod +x out/sandpile", "chmod +x out/sandpile; touch out/sandpile.o").splitlines()
+        stand_in(rt, "[ $1 = doc ] && echo /kit/page && exit", *lines[1:])
+        linked = "cc -static-pie -o sandpile-static sandpile.o /kit/c/libos_c.a /kit/c/liblibc_c.a"
+        for status, has_static in ((0, True), (1, False)):  # the second machine has no static C library
+            stand_in(self.bin / "cc", 'echo "cc $*" >> "$LOG"', f"[ {status} = 0 ] && touch sandpile-static", f"exit {status}")
+            (self.top / "crates/sandpile/src/main.rt").write_text(f"changed {status}")
+            self.assertEqual(self.run_in("./sandpile")[:2], (0, f"changed {status}\n"))
+            self.assertIn(linked, self.noted())
+            self.assertEqual("sandpile-static" in self.built("sandpile"), has_static)
+
     def test_another_toolchain_builds_again_if_that_is_asked_for(self):
         self.run_in("./build")
         stand_in(self.bin / "rt", "[ $1 = version ] && echo another", 'echo "$1" >> "$LOG"')
