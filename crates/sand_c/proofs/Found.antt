@@ -3,8 +3,8 @@ use Rattle.std.proofs.Common.{◌≡◌, ◌<◌, ◌≤◌, ◌+◌, ◌-◌, �
 use Rattle.std.specs.List.Sorted.{IsStrictlyIncreasing}
 use Rattle.std.proofs.lemmas.Bool.{cases_lt}
 use Rattle.sand_model.specs.Grid.{Grid, sites}
-use Rattle.sand_model.specs.Sand.{sum_below, tally}
-use Rattle.sand_model.proofs.Tallies.{sum_below-tally}
+use Rattle.sand_model.specs.Sand.{sum_below, occurrences}
+use Rattle.sand_model.proofs.Occurrences.{sum_below-occurrences}
 use Rattle.sand_group.specs.declared.burning.Burned.{Burned}
 use Rattle.sand_group.specs.declared.burning.Burned.TheVariants.{Recurrent, Forbidden}
 use Rattle.sand_group.specs.Burned.{IsBurned}
@@ -30,7 +30,7 @@ rises xs up (suc k) lt =
 -- a burning order has as many sites as the grid
 order_fits : (g : Grid) (s : ℕ → ℕ) (order : List ℕ) → IsBurningOrder g s order → length order ≡ sites g
 order_fits g s order is =
-    sym (sum_below-tally (sites g) order is.only_sites) ∙ ones (sites g) (tally order) is.each_once
+    sym (sum_below-occurrences (sites g) order is.only_sites) ∙ ones (sites g) (occurrences order) is.each_once
 
 -- a forbidden set has at most as many
 set_fits : (g : Grid) (s : ℕ → ℕ) (set : List ℕ) → IsGreatestForbidden g s set → length set ≤ sites g

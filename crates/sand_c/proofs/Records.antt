@@ -5,15 +5,15 @@ use Rattle.std.specs.Fork.{slice_chunk}
 use Rattle.std.proofs.lemmas.Bool.{cases_lt}
 use Rattle.std.proofs.lemmas.List.{length_push}
 use Rattle.sand_model.specs.Grid.{Grid, sites}
-use Rattle.sand_settle.specs.Settling.{SettledView, IsRecord}
+use Rattle.sand_settle.specs.Settling.{SettledView, IsSettledRecord}
 use Rattle.sand_c.specs.declared.settling_all.SettledPiles.{SettledPiles}
 use Rattle.sand_c.specs.SettlingAll.{AreRecords}
 use Rattle.sand_c.proofs.Chunks.{longer, chunk_before, chunk_last, number_before, number_last}
 
 -- a record that is written down in its parts
-same_record : (g : Grid) (s : ℕ → ℕ) (r : SettledView) (heights odometer : List ℕ) (topplings lost : ℕ) → IsRecord g s r
+same_record : (g : Grid) (s : ℕ → ℕ) (r : SettledView) (heights odometer : List ℕ) (topplings lost : ℕ) → IsSettledRecord g s r
     → heights ≡ r.pile.heights → odometer ≡ r.odometer → topplings ≡ r.topplings → lost ≡ r.lost
-    → IsRecord g s (record {
+    → IsSettledRecord g s (record {
       pile = record { grid = g; heights = heights };
       odometer = odometer;
       topplings = topplings;
@@ -36,7 +36,7 @@ pub record IsPushed (all : SettledPiles) (r : SettledView) (after : SettledPiles
   pub topplings : after.topplings.items ≡ all.topplings.items ++ r.topplings ∷ []
 
 pub one_more : (g : Grid) (heights : List ℕ) (k : ℕ) (all after : SettledPiles) (r : SettledView)
-    → AreRecords g heights k all → IsRecord g (slice_index (slice_chunk heights (sites g) k)) r → IsPushed all r after
+    → AreRecords g heights k all → IsSettledRecord g (slice_index (slice_chunk heights (sites g) k)) r → IsPushed all r after
     → AreRecords g heights (k + 1) after
 one_more g heights k all after r are is pushed =
     let n = sites g in

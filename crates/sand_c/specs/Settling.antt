@@ -2,7 +2,7 @@
 use Rattle.std.specs.Prelude.{ℕ, ◌≡◌, Bool, List, length, Result, Ok}
 use Rattle.sand_model.specs.Grid.{sites}
 use Rattle.sand_model.specs.Piles.{PileView, height_of}
-use Rattle.sand_settle.specs.Settling.{IsRecord}
+use Rattle.sand_settle.specs.Settling.{IsSettledRecord}
 use Rattle.sand_c.specs.declared.faults.Fault.{Fault}
 use Rattle.sand_c.specs.Arguments.{grid_of, has_length, pile_on, ◌>>=◌}
 
@@ -14,7 +14,7 @@ settling_of width height cylinder heights odometer =
 pub record IsSettling (meaning : Result PileView Fault) (after odometer : List ℕ) (lost topplings : ℕ) : Type 0 where
   pub start : PileView
   pub meant : meaning ≡ Ok start
-  pub settled : IsRecord start.grid (height_of start) (record {
+  pub settled : IsSettledRecord start.grid (height_of start) (record {
     pile = record { grid = start.grid; heights = after };
     odometer = odometer;
     topplings = topplings;

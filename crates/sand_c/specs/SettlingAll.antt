@@ -3,7 +3,7 @@ use Rattle.std.specs.Prelude.{ℕ, zero, suc, ◌≡◌, ◌*◌, ◌<◌, ◌&&
 use Rattle.std.specs.Fork.{slice_chunk}
 use Rattle.sand_model.specs.Grid.{Grid, sites}
 use Rattle.sand_model.specs.Piles.{most_grains}
-use Rattle.sand_settle.specs.Settling.{IsRecord}
+use Rattle.sand_settle.specs.Settling.{IsSettledRecord}
 use Rattle.sand_c.specs.declared.faults.Fault.{Fault}
 use Rattle.sand_c.specs.declared.faults.Fault.TheVariants.{TooManyGrains}
 use Rattle.sand_c.specs.declared.settling_all.SettledPiles.{SettledPiles}
@@ -40,7 +40,7 @@ pub record AreRecords (g : Grid) (heights : List ℕ) (k : ℕ) (settled : Settl
   pub odometer_each : length settled.odometer.items ≡ k * sites g
   pub lost_each : length settled.lost.items ≡ k
   pub topplings_each : length settled.topplings.items ≡ k
-  pub records : (j : ℕ) → j < k → IsRecord g (slice_index (slice_chunk heights (sites g) j)) (record {
+  pub records : (j : ℕ) → j < k → IsSettledRecord g (slice_index (slice_chunk heights (sites g) j)) (record {
     pile = record { grid = g; heights = slice_chunk settled.heights.items (sites g) j };
     odometer = slice_chunk settled.odometer.items (sites g) j;
     topplings = slice_index settled.topplings.items j;

@@ -1,7 +1,7 @@
 //! Settling a pile.
 
 ghost use Rattle.std.specs.Prelude.{◌≡◌, ◌≢◌, length, slice_index, Ok, OnOk, OnErr, IfOk, IfErr, IsOk};
-ghost use Rattle.sand_settle.specs.Settling.{IsRecord};
+ghost use Rattle.sand_settle.specs.Settling.{IsSettledRecord};
 ghost use Rattle.sand_c.specs.Arguments.{pile_on, Fails, Answers};
 ghost use Rattle.sand_c.specs.Settling.{settling_of, IsSettling};
 
@@ -13,7 +13,7 @@ use std::alloc::Global;
 
 /// The pile with these heights, settled.
 pub(crate) fn settle_on(alloc: Global, shape: Shape, heights: &[u64]) -> Result<Settled, Fault>
-    ensures record { IfOk result (λ r. IsRecord shape (slice_index heights.now) r) }
+    ensures record { IfOk result (λ r. IsSettledRecord shape (slice_index heights.now) r) }
     ensures made { OnOk result (pile_on shape heights.now ≡ Ok (record { grid = shape; heights = heights.now })) }
     ensures fault { IfErr result (λ e. Fails e (pile_on shape heights.now)) }
 {

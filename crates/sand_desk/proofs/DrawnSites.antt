@@ -4,7 +4,7 @@ use Rattle.std.proofs.Math.Nat.{mod-lt}
 use Rattle.std.proofs.lemmas.List.{drop-append-le, drop_all, length-drop}
 use Rattle.std.proofs.lemmas.List.Elements.{All-drop, All-nil, All-push}
 use Rattle.sand_lab.specs.Streams.{site_at, stream_sites}
-use Rattle.sand_lab.proofs.TallyOfStreams.{length-stream_sites}
+use Rattle.sand_lab.proofs.OccurrencesInStreams.{length-stream_sites}
 
 module _ (sites seed stream : ℕ) where
   -- the sites of the first k words are those of the first a, then the rest

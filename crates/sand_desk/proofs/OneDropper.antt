@@ -1,17 +1,17 @@
--- The drops of a draw and those of one dropper have the same tally, so they leave the same settled record.
+-- The drops of a draw and those of one dropper are the same at each site, so they leave the same settled record.
 use Rattle.std.proofs.Common.{◌≡◌, ◌+◌, ℕ, List, [], ◌∷◌, drop, length, refl, sym, ap, ◌∙◌, subst, arith}
 use Rattle.std.specs.Prelude.{Result, Ok, Err}
 use Rattle.sand_model.specs.Grid.{sites}
 use Rattle.sand_model.specs.Piles.{PileView}
-use Rattle.sand_model.specs.Sand.{tally, sum_below}
-use Rattle.sand_model.proofs.Tallies.{tally-append}
+use Rattle.sand_model.specs.Sand.{occurrences, sum_below}
+use Rattle.sand_model.proofs.Occurrences.{occurrences-append}
 use Rattle.sand_settle.specs.Drops.{OneView, IsAfter}
 use Rattle.sand_settle.specs.Settling.{SettledView}
 use Rattle.sand_shared.specs.Record.{RecordView, IsOneThreads}
 use Rattle.sand_plan.specs.declared.wish.Wish.{Wish}
 use Rattle.sand_lab.specs.Reports.{AreEpochs, IsReport, ReportView, SheetView, histories}
 use Rattle.sand_lab.specs.Streams.{stream_of, stream_sites}
-use Rattle.sand_lab.proofs.RunHasOneOutcome.{epoch_tally, one_threads_once}
+use Rattle.sand_lab.proofs.RunHasOneOutcome.{epoch_occurrences, one_threads_once}
 use Rattle.sand_text.specs.declared.fault.TextFault.{TextFault}
 use Rattle.sand_text.specs.Reading.{◌>>=◌}
 use Rattle.sand_text.specs.Texts.{text_of}
@@ -25,29 +25,29 @@ drawn_on draw start = drawn_sites (sites start.grid) draw
 
 -- in one epoch, one dropper drops on each site as often as the draw
 epoch_of_draw : (draw : Draw) (w : Wish) → DropsTheDraw draw w → (start : PileView) (i : ℕ)
-    → sum_below w.droppers (λ k. tally (stream_sites (sites start.grid) w.seed (stream_of 0 k) w.drops) i)
-    ≡ tally (drawn_on draw start) i
+    → sum_below w.droppers (λ k. occurrences (stream_sites (sites start.grid) w.seed (stream_of 0 k) w.drops) i)
+    ≡ occurrences (drawn_on draw start) i
 unfolding sum_below
 epoch_of_draw draw w asks start i =
-    let each : ℕ → ℕ = λ k. tally (stream_sites (sites start.grid) w.seed (stream_of 0 k) w.drops) i in
+    let each : ℕ → ℕ = λ k. occurrences (stream_sites (sites start.grid) w.seed (stream_of 0 k) w.drops) i in
     let one : sum_below w.droppers each ≡ sum_below 1 each = ap (λ n. sum_below n each) asks.droppers in
     let alone : sum_below 1 each ≡ 0 + each 0 = refl in
     let none : 0 ≡ draw.from = sym asks.from in
     let count : w.drops ≡ draw.from + draw.count = omega (arith, asks.drops, asks.from) in
-    let first : each 0 ≡ tally (drawn_on draw start) i =
-    λ k. tally (drop (none k) (stream_sites (sites start.grid) (asks.seed k) (sym asks.stream k) (count k))) i in
+    let first : each 0 ≡ occurrences (drawn_on draw start) i =
+    λ k. occurrences (drop (none k) (stream_sites (sites start.grid) (asks.seed k) (sym asks.stream k) (count k))) i in
     omega (arith, one, alone, first)
 
 -- so does the run
 run_of_draw : (draw : Draw) (album : List ℕ) (w : Wish) → DropsTheDraw draw w
     → (start : PileView) (rs : List RecordView) (ss : List SheetView)
     → length rs ≡ 1
-    → AreEpochs album w start 0 rs ss → (i : ℕ) → tally (histories rs) i ≡ tally (drawn_on draw start) i
+    → AreEpochs album w start 0 rs ss → (i : ℕ) → occurrences (histories rs) i ≡ occurrences (drawn_on draw start) i
 run_of_draw draw album w asks start [] ss one epochs i = absurd (omega arith)
 run_of_draw draw album w asks start (r ∷ []) [] one epochs i = absurd epochs
 run_of_draw draw album w asks start (r ∷ []) (s ∷ ss) one epochs i =
-    let whole : tally (histories (r ∷ [])) i ≡ tally r.history i + 0 = tally-append r.history [] i in
-    let each = epoch_tally album w start 0 r s epochs.0 i in
+    let whole : occurrences (histories (r ∷ [])) i ≡ occurrences r.history i + 0 = occurrences-append r.history [] i in
+    let each = epoch_occurrences album w start 0 r s epochs.0 i in
     let drawn = epoch_of_draw draw w asks start i in
     omega (arith, whole, each, drawn)
 run_of_draw draw album w asks start (r ∷ q ∷ rs) ss one epochs i = absurd (omega arith)
@@ -67,7 +67,7 @@ same_record draw album w asks start last report after left =
     } in
     one_threads_once mine report.total one left.total.one_threads (sym left.total.from_start)
     (λ i. sym (run_of_draw draw album w asks start report.records report.sheets (left.all ∙ asks.epochs) left.epochs i)
-    ∙ ap (λ (h : List ℕ). tally h i) (sym left.total.history))
+    ∙ ap (λ (h : List ℕ). occurrences h i) (sym left.total.history))
 
 read_or : {A : Type 0} → A → Result A TextFault → A
 read_or x (Ok y) = y

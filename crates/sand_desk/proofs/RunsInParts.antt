@@ -6,7 +6,7 @@ use Rattle.std.proofs.lemmas.Bool.{cases_lt}
 use Rattle.std.proofs.lemmas.List.{ext_get_or}
 use Rattle.sand_model.specs.Grid.{Grid, sites}
 use Rattle.sand_model.specs.Piles.{PileView}
-use Rattle.sand_model.specs.Sand.{one_at, tally, IsSettled, IsStable}
+use Rattle.sand_model.specs.Sand.{one_at, occurrences, IsSettled, IsStable}
 use Rattle.sand_model.proofs.Sandpile.{settled_once, settled_stable}
 use Rattle.sand_settle.specs.declared.avalanche.Avalanche.{Avalanche}
 use Rattle.sand_settle.specs.Avalanches.{IsAvalanche}
@@ -175,7 +175,7 @@ same_start start other v w same one two =
     let here : sites v.settled.pile.grid ≡ sites g = ap sites one.settled.grid in
     same_pile v.settled.pile w.settled.pile (one.settled.grid ∙ sym two.settled.grid)
     (one.settled.heights_each ∙ sym here) (two.settled.heights_each ∙ sym here)
-    (λ i l. (settled_once g (λ j. get_or start.heights j 0 + tally [] j) (odometer_of v.settled)
+    (λ i l. (settled_once g (λ j. get_or start.heights j 0 + occurrences [] j) (odometer_of v.settled)
     (odometer_of w.settled) (λ j. get_or v.settled.pile.heights j 0) (λ j. get_or w.settled.pile.heights j 0)
     one.settled.settled two.settled.settled i (omega (arith, l, here))).1)
 
@@ -186,18 +186,18 @@ rests start past v w left again =
     let p : PileView = v.settled.pile in
     let g : Grid = p.grid in
     let calm : IsStable start.grid (λ j. get_or p.heights j 0) =
-    settled_stable start.grid (λ j. get_or start.heights j 0 + tally past j)
+    settled_stable start.grid (λ j. get_or start.heights j 0 + occurrences past j)
     (odometer_of v.settled) (λ j. get_or p.heights j 0) left.settled.settled in
     let P : Grid → Type 0 = λ h. IsStable h (λ j. get_or p.heights j 0) in
     let stable : IsStable g (λ j. get_or p.heights j 0) = subst P (sym left.settled.grid) calm in
-    let still : IsSettled g (λ j. get_or p.heights j 0 + tally [] j) (λ j. 0) (λ j. get_or p.heights j 0 + tally [] j) =
-    settled_already g (λ j. get_or p.heights j 0 + tally [] j) (λ j. 0)
+    let still : IsSettled g (λ j. get_or p.heights j 0 + occurrences [] j) (λ j. 0) (λ j. get_or p.heights j 0 + occurrences [] j) =
+    settled_already g (λ j. get_or p.heights j 0 + occurrences [] j) (λ j. 0)
     (λ i l. let low = stable.low i l in omega (arith, low)) (λ i l. refl) in
     let each : length p.heights ≡ sites g = left.settled.heights_each ∙ ap sites (sym left.settled.grid) in
     same_pile p w.settled.pile (sym again.settled.grid) each again.settled.heights_each
     (λ i l.
-    let one = (settled_once g (λ j. get_or p.heights j 0 + tally [] j)
-    (λ j. 0) (odometer_of w.settled) (λ j. get_or p.heights j 0 + tally [] j)
+    let one = (settled_once g (λ j. get_or p.heights j 0 + occurrences [] j)
+    (λ j. 0) (odometer_of w.settled) (λ j. get_or p.heights j 0 + occurrences [] j)
     (λ j. get_or w.settled.pile.heights j 0) still again.settled.settled i l).1 in
     omega (arith, one))
 

@@ -1,7 +1,7 @@
 -- What `settle` writes.
 use Rattle.std.specs.Prelude.{◌≡◌, Bool, true, false, List, ℕ, Ok}
 use Rattle.sand_model.specs.Piles.{PileView, height_of}
-use Rattle.sand_settle.specs.Settling.{SettledView, IsRecord}
+use Rattle.sand_settle.specs.Settling.{SettledView, IsSettledRecord}
 use Rattle.sand_text.specs.Pictures.{pgm_text_of}
 use Rattle.sand_text.specs.Reading.{pile_of}
 use Rattle.sand_text.specs.Texts.{settle_text_of, text_of}
@@ -24,5 +24,5 @@ pub record IsSettleText (form : Form) (input text : List ℕ) : Type 0 where
   pub pile : PileView
   pub settled : SettledView
   pub read : pile_of input ≡ Ok pile
-  pub record_of : IsRecord pile.grid (height_of pile) settled
+  pub record_of : IsSettledRecord pile.grid (height_of pile) settled
   pub written : text ≡ record_in form settled

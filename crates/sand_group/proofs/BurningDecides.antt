@@ -8,11 +8,11 @@ use Rattle.std.proofs.lemmas.Bool.{cases_eq, cases_Bool, eq-eqb, ne_eqb, lt-ltb,
 use Rattle.std.proofs.lemmas.Nat.{div-add-mod', div_below}
 use Rattle.std.proofs.lemmas.List.Elements.{All-nil, All-cons, All-head, All-tail}
 use Rattle.sand_model.specs.Grid.{Grid, IsGrid, joins, sites, neighbours, north, west, east, south}
-use Rattle.sand_model.specs.Sand.{sum_below, flow, tally, one_at, value_at, IsStable}
+use Rattle.sand_model.specs.Sand.{sum_below, flow, occurrences, one_at, value_at, IsStable}
 use Rattle.sand_model.proofs.SumsBelow.{sum_below_same, sum_below-add, sum_below-one_at, one_at_other}
 use Rattle.sand_model.proofs.Neighbours.{flow_four, some_width}
 use Rattle.sand_model.proofs.Flow.{flow_same, flow-add, indicator}
-use Rattle.sand_model.proofs.Tallies.{tally-cons}
+use Rattle.sand_model.proofs.Occurrences.{occurrences-cons}
 use Rattle.sand_model.proofs.Lists.{at_most_one, all_or_one}
 use Rattle.sand_group.specs.Recurrence.{IsRecurrent, is_in, BurnsInOrder, IsBurningOrder}
 use Rattle.sand_model.specs.Forbidden.{IsForbidden}
@@ -102,7 +102,7 @@ may_go g s set i = set i && leb (count_by set (neighbours g i)) (s i)
 record Orders (g : Grid) (s : ℕ → ℕ) (set : ℕ → Bool) : Type 0 where
   order : List ℕ
   only_sites : All (λ i. i < sites g) order
-  each : (i : ℕ) → i < sites g → tally order i ≡ indicator set i
+  each : (i : ℕ) → i < sites g → occurrences order i ≡ indicator set i
   in_turn : BurnsInOrder g s order
 
 none_in : (g : Grid) (s : ℕ → ℕ) (set : ℕ → Bool) → ((i : ℕ) → i < sites g → set i ≡ false) → Orders g s set
@@ -121,7 +121,7 @@ one_first g s set i l goes rest =
       order = i ∷ rest.order;
       only_sites = All-cons (λ j. j < sites g) i rest.order l rest.only_sites;
       each = λ j m.
-          let cons = tally-cons i rest.order j in
+          let cons = occurrences-cons i rest.order j in
           let e = rest.each j m in
           let split = without_one set i j both.0 in
           omega arith;
@@ -129,7 +129,7 @@ one_first g s set i l goes rest =
         (let high = leb-true (count_by set (neighbours g i)) (s i) both.1 in
             let fewer = count_within g (is_in rest.order) set i l
             (λ j m here.
-            let some = ltb-true 0 (tally rest.order j) here in
+            let some = ltb-true 0 (occurrences rest.order j) here in
             let e = rest.each j m in
             without_within set i j (true_from_ne_false (without set i j) (λ (out : without set i j ≡ false).
             let zero : indicator (without set i) j ≡ 0 = rw out refl in absurd (omega arith)))) in
@@ -201,18 +201,18 @@ order_of g s recurrent =
 
 first_has_others : (g : Grid) (set : ℕ → Bool) (i : ℕ) (later : List ℕ)
     → IsGrid g → i < sites g → set i ≡ true
-    → ((j : ℕ) → j < sites g → set j ≡ true → 1 ≤ tally (i ∷ later) j)
+    → ((j : ℕ) → j < sites g → set j ≡ true → 1 ≤ occurrences (i ∷ later) j)
     → count_by set (neighbours g i) ≤ count_by (is_in later) (neighbours g i)
 unfolding flow
 first_has_others g set i later grid l here among =
     let fewer = count_within g (without set i) (is_in later) i l
     (λ j m others.
     let some = among j m (without_within set i j others) in
-    let cons = tally-cons i later j in
+    let cons = occurrences-cons i later j in
     let split = without_one set i j here in
     let also : indicator (without set i) j ≡ 1 = rw others refl in
     let all = at_most_one (set j) in
-    lt-ltb 0 (tally later j) (omega arith)) in
+    lt-ltb 0 (occurrences later j) (omega arith)) in
     let split =
     flow_same g (indicator set) (λ j. indicator (without set i) j + one_at i j) (λ j m. without_one set i j here) i l in
     let both = flow-add g (indicator (without set i)) (one_at i) i in
@@ -221,7 +221,7 @@ first_has_others g set i later grid l here among =
 
 no_forbidden : (g : Grid) (s : ℕ → ℕ) (set : ℕ → Bool) (order : List ℕ) → IsGrid g
     → IsForbidden g s set → All (λ i. i < sites g) order → BurnsInOrder g s order
-    → ((j : ℕ) → j < sites g → set j ≡ true → 1 ≤ tally order j) → ⊥
+    → ((j : ℕ) → j < sites g → set j ≡ true → 1 ≤ occurrences order j) → ⊥
 no_forbidden g s set [] grid bad below turn among =
     let none = among bad.some.0 bad.some.1 bad.some.2 in
     absurd (omega arith)
@@ -237,7 +237,7 @@ no_forbidden g s set (i ∷ later) grid bad below turn among =
     no_forbidden g s set later grid bad (All-tail (λ j. j < sites g) i later below) turn.1
     (λ j m here.
     let some = among j m here in
-    let cons = tally-cons i later j in
+    let cons = occurrences-cons i later j in
     let zero = one_at_other i j (λ e. let same : set j ≡ false = ap set (sym e) ∙ out in absurd cc) in
     omega arith))
     (cases_Bool (set i))

@@ -10,7 +10,7 @@ use Rattle.sand_model.specs.Piles.{PileView, height_of, most_grains}
 use Rattle.sand_model.proofs.Bounds.{sites_limit}
 use Rattle.sand_model.proofs.OverIntegers.{toppled_is_integers}
 use Rattle.sand_model.proofs.Sandpile.{settled_same}
-use Rattle.sand_group.specs.Group.{IsSettledPile, IsSurplus, IsIdentity}
+use Rattle.sand_group.specs.Group.{SettlesTo, IsSurplus, IsIdentity}
 use Rattle.sand_model.proofs.EachSettles.{settles}
 use Rattle.sand_group.proofs.OperationsSettle.{some_surplus, identity_is_settled, represented_once}
 
@@ -29,7 +29,7 @@ low_within_limit g heights grid len low =
 
 -- the identity, however it was found, is the settled pile of some d
 pub identity_settles : (g : Grid) (p : PileView) → p.grid ≡ g → length p.heights ≡ sites g → IsIdentity g (height_of p)
-    → (d : ℕ → ℕ) × IsSurplus g d × IsSettledPile g d p
+    → (d : ℕ → ℕ) × IsSurplus g d × SettlesTo g d p
 identity_settles g p grid each identity =
     let d = some_surplus g in
     let done = settles g d.0 in

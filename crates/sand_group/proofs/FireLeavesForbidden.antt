@@ -5,13 +5,13 @@ use Rattle.std.proofs.lemmas.List.{get_or_push, get_or_append_left, take-take, t
 use Rattle.std.specs.List.Sorted.{IsStrictlyIncreasing}
 use Rattle.std.proofs.lemmas.List.Elements.{All-head, All-tail}
 use Rattle.sand_model.specs.Grid.{Grid, sites, neighbours, missing}
-use Rattle.sand_model.specs.Sand.{flow, tally, one_at, value_at, IsStable}
+use Rattle.sand_model.specs.Sand.{flow, occurrences, one_at, value_at, IsStable}
 use Rattle.sand_model.specs.Lists.{Lists}
 use Rattle.sand_model.proofs.SumsBelow.{one_at_same, one_at_other}
 use Rattle.sand_model.proofs.Neighbours.{neighbours_mutual, neighbours_at_most_four}
 use Rattle.sand_model.proofs.Flow.{flow_same, flow-add, indicator}
 use Rattle.sand_model.proofs.Sandpile.{sum_by_ones}
-use Rattle.sand_model.proofs.Tallies.{tally-push, tally-cons}
+use Rattle.sand_model.proofs.Occurrences.{occurrences-push, occurrences-cons}
 use Rattle.sand_model.proofs.Lists.{listed, at_most_once, lists_below, lists_all, lists_leave}
 use Rattle.sand_group.specs.Recurrence.{IsRecurrent, is_in, BurnsInOrder, IsBurningOrder, IsGreatestForbidden}
 use Rattle.sand_model.specs.Forbidden.{IsForbidden}
@@ -29,8 +29,8 @@ fire_spreads_push g s before (x ∷ xs) i burnt high =
 
 forbidden_unburnt : (g : Grid) (s : ℕ → ℕ) (set : ℕ → Bool) (before xs : List ℕ)
     → IsForbidden g s set → All (λ i. i < sites g) xs
-    → ((j : ℕ) → set j ≡ true → tally before j ≡ 0)
-    → FireSpreadsFrom g s before xs → (j : ℕ) → set j ≡ true → tally xs j ≡ 0
+    → ((j : ℕ) → set j ≡ true → occurrences before j ≡ 0)
+    → FireSpreadsFrom g s before xs → (j : ℕ) → set j ≡ true → occurrences xs j ≡ 0
 forbidden_unburnt g s set before [] bad below none burnt j in' = refl
 forbidden_unburnt g s set before (x ∷ xs) bad below none burnt j in' =
     let site = All-head (λ i. i < sites g) x xs below in
@@ -40,65 +40,65 @@ forbidden_unburnt g s set before (x ∷ xs) bad below none burnt j in' =
     let fewer = count_within g set (is_out before) x site (λ m l yes. is_out-none before m (none m yes)) in
     let high = burnt.0 in
     omega arith) in
-    let after : (k : ℕ) → set k ≡ true → tally (before ++ x ∷ []) k ≡ 0 = λ k here.
-    (let push = tally-push before x k in
+    let after : (k : ℕ) → set k ≡ true → occurrences (before ++ x ∷ []) k ≡ 0 = λ k here.
+    (let push = occurrences-push before x k in
     let zero = one_at_other x k (out k here) in
     let was = none k here in
     omega arith) in
     let rest =
     forbidden_unburnt g s set (before ++ x ∷ []) xs bad (All-tail (λ i. i < sites g) x xs below) after burnt.1 j in' in
-    let cons = tally-cons x xs j in
+    let cons = occurrences-cons x xs j in
     let zero = one_at_other x j (out j in') in
     omega arith
 
 in_turn : (g : Grid) (s : ℕ → ℕ) (before xs : List ℕ) → All (λ i. i < sites g) xs
-    → ((j : ℕ) → tally before j + tally xs j ≤ 1) → FireSpreadsFrom g s before xs
+    → ((j : ℕ) → occurrences before j + occurrences xs j ≤ 1) → FireSpreadsFrom g s before xs
     → BurnsInOrder g s xs
 in_turn g s before [] below once burnt = tt
 in_turn g s before (x ∷ xs) below once burnt = (
   (let site = All-head (λ i. i < sites g) x xs below in
       let fewer = count_within g (is_in xs) (is_out before) x site
       (λ m l yes.
-      let some = ltb-true 0 (tally xs m) yes in
-      let cons = tally-cons x xs m in
+      let some = ltb-true 0 (occurrences xs m) yes in
+      let cons = occurrences-cons x xs m in
       let few = once m in
       is_out-none before m (omega arith)) in
       let high = burnt.0 in
       omega arith),
   in_turn g s (before ++ x ∷ []) xs (All-tail (λ i. i < sites g) x xs below)
       (λ j.
-      let push = tally-push before x j in let cons = tally-cons x xs j in let few = once j in omega arith) burnt.1,
+      let push = occurrences-push before x j in let cons = occurrences-cons x xs j in let few = once j in omega arith) burnt.1,
 )
 
 -- ---- the numbers of unburnt neighbours
 
 -- a site that burns is subtracted from its neighbours' numbers
-split_out : (g : Grid) (burnt : List ℕ) (i j : ℕ) → j < sites g → tally burnt i ≡ 0
+split_out : (g : Grid) (burnt : List ℕ) (i j : ℕ) → j < sites g → occurrences burnt i ≡ 0
     → count_by (is_out burnt) (neighbours g j)
-    ≡ count_by (is_out (burnt ++ i ∷ [])) (neighbours g j) + tally (neighbours g j) i
+    ≡ count_by (is_out (burnt ++ i ∷ [])) (neighbours g j) + occurrences (neighbours g j) i
 unfolding flow
 split_out g burnt i j l fresh =
     flow_same g (indicator (is_out burnt)) (λ k. indicator (is_out (burnt ++ i ∷ [])) k + one_at k i)
     (λ k m.
-    let push = tally-push burnt i k in
+    let push = occurrences-push burnt i k in
     ⊎_elim
     (λ (e : k ≡ i).
     let one = one_at_same i in
-    let here = tally-push burnt i i in
+    let here = occurrences-push burnt i i in
     let was = is_out-none burnt i fresh in
     let now = is_out-some (burnt ++ i ∷ []) i (omega arith) in
     rw (e, was, now, one) refl)
     (λ (ne : k ≡ i → ⊥).
     let zero = one_at_other k i ne in
     let turned = one_at_other i k (λ e. ne (sym e)) in
-    let same : tally (burnt ++ i ∷ []) k ≡ tally burnt k = omega arith in
+    let same : occurrences (burnt ++ i ∷ []) k ≡ occurrences burnt k = omega arith in
     rw (same, zero) (omega arith))
     (cases_eq k i)) j l
     ∙ flow-add g (indicator (is_out (burnt ++ i ∷ []))) (λ k. one_at k i) j
 
 pub enough_left : (g : Grid) (burnt : List ℕ) (unburnt : ℕ → ℕ) (i j : ℕ)
-    → CountsUnburnt g burnt unburnt → i < sites g → j < sites g → tally burnt i ≡ 0
-    → tally (neighbours g i) j ≤ unburnt j
+    → CountsUnburnt g burnt unburnt → i < sites g → j < sites g → occurrences burnt i ≡ 0
+    → occurrences (neighbours g i) j ≤ unburnt j
 enough_left g burnt unburnt i j counts li lj fresh =
     let split = split_out g burnt i j lj fresh in
     let both = neighbours_mutual g i j li lj in
@@ -106,8 +106,8 @@ enough_left g burnt unburnt i j counts li lj fresh =
     omega arith
 
 pub counts_more : (g : Grid) (burnt : List ℕ) (before after : ℕ → ℕ) (i : ℕ)
-    → CountsUnburnt g burnt before → i < sites g → tally burnt i ≡ 0
-    → ((j : ℕ) → after j + tally (neighbours g i) j ≡ before j)
+    → CountsUnburnt g burnt before → i < sites g → occurrences burnt i ≡ 0
+    → ((j : ℕ) → after j + occurrences (neighbours g i) j ≡ before j)
     → CountsUnburnt g (burnt ++ i ∷ []) after
 counts_more g burnt before after i counts l fresh fewer = record {
   each = λ j m.

@@ -13,7 +13,7 @@ use Rattle.sand_model.proofs.Sandpile.{settled_same}
 use Rattle.sand_model.proofs.Bounds.{sites_limit}
 use Rattle.sand_model.proofs.Heights.{get_or-written}
 use Rattle.sand_group.specs.Recurrence.{IsRecurrent}
-use Rattle.sand_group.specs.Group.{IsSettledPile, IsSurplus, IsIdentity, IsEquivalentRecurrent}
+use Rattle.sand_group.specs.Group.{SettlesTo, IsSurplus, IsIdentity, IsEquivalentRecurrent}
 use Rattle.sand_group.proofs.OperationsSettle.{equivalent_is_settled, represents_itself, represented_once}
 
 pub within_limit : (g : Grid) (heights : List ℕ) → IsGrid g → length heights ≡ sites g → All (λ h. h ≤ 12) heights
@@ -30,8 +30,8 @@ low_heights p heights is same stable =
 
 -- ---- settled piles
 
-pile_settles : (g h : Grid) (s r : ℕ → ℕ) (p : PileView) → IsSettledPile g s p
-    → h ≡ g → ((i : ℕ) → i < sites g → r i ≡ s i) → IsSettledPile h r p
+pile_settles : (g h : Grid) (s r : ℕ → ℕ) (p : PileView) → SettlesTo g s p
+    → h ≡ g → ((i : ℕ) → i < sites g → r i ≡ s i) → SettlesTo h r p
 pile_settles g h s r p done same equal = rw same (record {
   grid = done.grid;
   one_each = done.one_each;
@@ -40,7 +40,7 @@ pile_settles g h s r p done same equal = rw same (record {
       (λ i l. sym (equal i l)) (λ i l. refl) (λ i l. refl) done.settled;
 })
 
-pub recurrent_there : (g : Grid) (s : ℕ → ℕ) (p : PileView) → IsSettledPile g s p → IsRecurrent g (height_of p)
+pub recurrent_there : (g : Grid) (s : ℕ → ℕ) (p : PileView) → SettlesTo g s p → IsRecurrent g (height_of p)
     → IsRecurrent p.grid (height_of p)
 recurrent_there g s p done recurrent = rw done.grid recurrent
 
@@ -63,8 +63,8 @@ sums_low a b v same low_a low_b sums =
 pub sum_settles : (g : Grid) (a b p : PileView) (ha hb v : List ℕ)
     → g ≡ a.grid → IsPile a → ha ≡ a.heights → hb ≡ b.heights
     → ((i : ℕ) → i < length ha → get_or v i 0 ≡ get_or ha i 0 + get_or hb i 0)
-    → IsSettledPile g (λ i. get_or v i 0) p
-    → IsSettledPile a.grid (λ i. height_of a i + height_of b i) p
+    → SettlesTo g (λ i. get_or v i 0) p
+    → SettlesTo a.grid (λ i. height_of a i + height_of b i) p
 sum_settles g a b p ha hb v grid is same_a same_b sums done =
     let each : length ha ≡ sites g = ap length same_a ∙ is.one_each ∙ sym (ap sites grid) in
     pile_settles g a.grid (λ i. get_or v i 0) (λ i. height_of a i + height_of b i) p done (sym grid)
@@ -80,7 +80,7 @@ pub equivalent_settles : (g : Grid) (p e t c : PileView) (u : ℕ → ℕ) (he h
     → g ≡ p.grid → IsSettled p.grid (height_of p) u (height_of t) → e.grid ≡ g
     → IsPile e → IsIdentity g (height_of e) → he ≡ e.heights → ht ≡ t.heights
     → ((i : ℕ) → i < length he → get_or v i 0 ≡ get_or he i 0 + get_or ht i 0)
-    → IsSettledPile g (λ i. get_or v i 0) c
+    → SettlesTo g (λ i. get_or v i 0) c
     → IsEquivalentRecurrent p.grid (height_of p) c
 equivalent_settles g p e t c u he ht v grid start there is identity same_e same_t sums done =
     let both = sum_settles g e t c he ht v (sym there) is same_e same_t sums done in
@@ -113,7 +113,7 @@ equivalent_itself p c is recurrent done =
 -- ---- d, and the settled pile of 2d - c
 
 pub surplus_is : (g : Grid) (twice v h : List ℕ) (p : PileView)
-    → twice ≡ replicate (sites g) 6 → IsSettledPile g (λ i. get_or twice i 0) p
+    → twice ≡ replicate (sites g) 6 → SettlesTo g (λ i. get_or twice i 0) p
     → h ≡ p.heights → ((i : ℕ) → i < length h → get_or v i 0 + get_or h i 0 ≡ 6)
     → IsSurplus g (λ i. get_or v i 0)
 surplus_is g twice v h p full done same rests = record {
@@ -134,8 +134,8 @@ surplus_there g h d e is = rw (← e) is
 pub difference_settles : (g : Grid) (c p : PileView) (hc hd d v : List ℕ)
     → g ≡ c.grid → IsPile c → hc ≡ c.heights → hd ≡ d
     → ((i : ℕ) → i < length hc → get_or v i 0 ≡ 2 * get_or hd i 0 - get_or hc i 0)
-    → IsSettledPile g (λ i. get_or v i 0) p
-    → IsSettledPile c.grid (λ i. 2 * get_or d i 0 - height_of c i) p
+    → SettlesTo g (λ i. get_or v i 0) p
+    → SettlesTo c.grid (λ i. 2 * get_or d i 0 - height_of c i) p
 difference_settles g c p hc hd d v grid is same same_d differences done =
     let each : length hc ≡ sites g = ap length same ∙ is.one_each ∙ sym (ap sites grid) in
     pile_settles g c.grid (λ i. get_or v i 0) (λ i. 2 * get_or d i 0 - height_of c i) p done (sym grid)
@@ -149,8 +149,8 @@ difference_settles g c p hc hd d v grid is same same_d differences done =
 
 pub grain_settles : (g : Grid) (c p : PileView) (h : List ℕ) (site x : ℕ)
     → g ≡ c.grid → IsPile c → h ≡ c.heights → site < sites c.grid
-    → x ≡ get_or h site x → IsSettledPile g (λ i. get_or (set h site (x + 1)) i 0) p
-    → IsSettledPile c.grid (λ i. height_of c i + one_at site i) p
+    → x ≡ get_or h site x → SettlesTo g (λ i. get_or (set h site (x + 1)) i 0) p
+    → SettlesTo c.grid (λ i. height_of c i + one_at site i) p
 grain_settles g c p h site x grid is same inside read done =
     let each : length h ≡ sites c.grid = ap length same ∙ is.one_each in
     let start = get_or_read h site x (omega arith) read 0 in

@@ -11,16 +11,16 @@ use Rattle.sand_model.proofs.Sandpile.{settled_in_parts, settled_same, settled_s
 use Rattle.sand_model.proofs.Bounds.{at_most_sum_below}
 use Rattle.sand_model.proofs.OverIntegers.{above, below, parts, settled_equivalent}
 use Rattle.sand_group.specs.Recurrence.{IsRecurrent}
-use Rattle.sand_group.specs.Group.{SettlesTo, IsSurplus, Represents, IsSum, IsIdentity, IsInverse}
+use Rattle.sand_group.specs.Group.{OnceSettled, IsSurplus, Represents, IsSum, IsIdentity, IsInverse}
 use Rattle.sand_model.proofs.EachSettles.{settles}
 use Rattle.sand_group.proofs.SettledIsRecurrent.{settled_recurrent}
 use Rattle.sand_group.proofs.RecurrentIsUnique.{recurrent_unique}
 use Rattle.sand_model.proofs.EquivalenceIsLinear.{equivalent_sym, equivalent_add, equivalent_same, equivalent_times, equivalent_trans}
 
 -- s settles, so it is enough that P is true of each pile that s settles to
-pub settles_to : (g : Grid) (s : ℕ → ℕ) (P : (ℕ → ℕ) → Type 0) → ((u t : ℕ → ℕ) → IsSettled g s u t → P t)
-    → SettlesTo g s P
-settles_to g s P each =
+pub once_settled : (g : Grid) (s : ℕ → ℕ) (P : (ℕ → ℕ) → Type 0) → ((u t : ℕ → ℕ) → IsSettled g s u t → P t)
+    → OnceSettled g s P
+once_settled g s P each =
     let done = settles g s in
     record { odometer = done.0; rest = done.1; settled = done.2; each = each }
 

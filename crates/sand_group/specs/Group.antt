@@ -9,14 +9,14 @@ use Rattle.sand_model.specs.Piles.{PileView, height_of}
 use Rattle.sand_group.specs.Recurrence.{IsRecurrent}
 
 -- the heights s settle to the pile
-pub record IsSettledPile (g : Grid) (s : ℕ → ℕ) (pile : PileView) : Type 0 where
+pub record SettlesTo (g : Grid) (s : ℕ → ℕ) (pile : PileView) : Type 0 where
   pub grid : pile.grid ≡ g
   pub one_each : length pile.heights ≡ sites g
   pub odometer : ℕ → ℕ
   pub settled : IsSettled g s odometer (height_of pile)
 
 -- s settles, and P is true of each pile that s settles to
-pub record SettlesTo (g : Grid) (s : ℕ → ℕ) (P : (ℕ → ℕ) → Type 0) : Type 0 where
+pub record OnceSettled (g : Grid) (s : ℕ → ℕ) (P : (ℕ → ℕ) → Type 0) : Type 0 where
   pub odometer : ℕ → ℕ
   pub rest : ℕ → ℕ
   pub settled : IsSettled g s odometer rest

@@ -4,7 +4,7 @@ use Rattle.sand_model.specs.Grid.{Grid, IsGrid, sites}
 use Rattle.sand_model.specs.Sand.{IsStable, IsSettled}
 use Rattle.sand_model.specs.Integers.{whole, IsEquivalent}
 use Rattle.sand_group.specs.Recurrence.{IsRecurrent, IsBurningOrder}
-use Rattle.sand_group.specs.Group.{SettlesTo, IsSurplus, Represents, IsSum, IsMultiple, IsIdentity, IsInverse}
+use Rattle.sand_group.specs.Group.{OnceSettled, IsSurplus, Represents, IsSum, IsMultiple, IsIdentity, IsInverse}
 
 -- the burning test: a stable pile is recurrent if and only if all its sites burn in some order
 abbrev pub BurningDecides : Type 0
@@ -18,7 +18,7 @@ RecurrentFromFull =
 
 -- a recurrent pile with more grains settles to a recurrent pile
 abbrev pub StaysRecurrent : Type 0
-StaysRecurrent = (g : Grid) (c a : ℕ → ℕ) → IsRecurrent g c → SettlesTo g (λ i. c i + a i) (IsRecurrent g)
+StaysRecurrent = (g : Grid) (c a : ℕ → ℕ) → IsRecurrent g c → OnceSettled g (λ i. c i + a i) (IsRecurrent g)
 
 -- each class of equivalent piles has a recurrent pile
 abbrev pub EachClassHasOne : Type 0
@@ -36,7 +36,7 @@ RepresentativesAreEqual = (g : Grid) (x : ℕ → ℤ) (c e : ℕ → ℕ) → R
 
 -- a + b settles to the sum of a and b
 abbrev pub SumIsSettled : Type 0
-SumIsSettled = (g : Grid) (a b : ℕ → ℕ) → IsRecurrent g a → IsRecurrent g b → SettlesTo g (λ i. a i + b i) (IsSum g a b)
+SumIsSettled = (g : Grid) (a b : ℕ → ℕ) → IsRecurrent g a → IsRecurrent g b → OnceSettled g (λ i. a i + b i) (IsSum g a b)
 
 -- there is a d that gives the identity and the inverse
 abbrev pub EachGridHasSurplus : Type 0
@@ -44,27 +44,27 @@ EachGridHasSurplus = (g : Grid) → (d : ℕ → ℕ) × IsSurplus g d
 
 -- d settles to the identity
 abbrev pub IdentityIsSettled : Type 0
-IdentityIsSettled = (g : Grid) (d : ℕ → ℕ) → IsSurplus g d → SettlesTo g d (IsIdentity g)
+IdentityIsSettled = (g : Grid) (d : ℕ → ℕ) → IsSurplus g d → OnceSettled g d (IsIdentity g)
 
 -- 2d - c settles to the inverse of c; d is at least 3 and c at most 3, so 2d - c is at least 3 at each site
 abbrev pub InverseIsSettled : Type 0
 InverseIsSettled =
-    (g : Grid) (c d : ℕ → ℕ) → IsRecurrent g c → IsSurplus g d → SettlesTo g (λ i. 2 * d i - c i) (IsInverse g c)
+    (g : Grid) (c d : ℕ → ℕ) → IsRecurrent g c → IsSurplus g d → OnceSettled g (λ i. 2 * d i - c i) (IsInverse g c)
 
 -- c plus the identity settles to c
 abbrev pub IdentityIsNeutral : Type 0
 IdentityIsNeutral = (g : Grid) (c e : ℕ → ℕ) → IsRecurrent g c → IsIdentity g e
-    → SettlesTo g (λ i. c i + e i) (λ t. (i : ℕ) → i < sites g → t i ≡ c i)
+    → OnceSettled g (λ i. c i + e i) (λ t. (i : ℕ) → i < sites g → t i ≡ c i)
 
 -- c plus its inverse settles to the identity
 abbrev pub InverseCancels : Type 0
 InverseCancels =
-    (g : Grid) (c v : ℕ → ℕ) → IsRecurrent g c → IsInverse g c v → SettlesTo g (λ i. c i + v i) (IsIdentity g)
+    (g : Grid) (c v : ℕ → ℕ) → IsRecurrent g c → IsInverse g c v → OnceSettled g (λ i. c i + v i) (IsIdentity g)
 
 -- the settled pile of s plus the identity settles to the recurrent pile equivalent to s
 abbrev pub EquivalentIsSettled : Type 0
 EquivalentIsSettled = (g : Grid) (s e : ℕ → ℕ) → IsIdentity g e
-    → SettlesTo g s (λ t. SettlesTo g (λ i. e i + t i) (Represents g (whole s)))
+    → OnceSettled g s (λ t. OnceSettled g (λ i. e i + t i) (Represents g (whole s)))
 
 -- a recurrent pile represents itself
 abbrev pub RepresentsItself : Type 0

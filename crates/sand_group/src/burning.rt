@@ -12,7 +12,7 @@
 ghost use Rattle.std.specs.Prelude.{◌≡◌, ℕ, ◌+◌, ◌<◌, ◌≤◌, ◌↔◌, [], length, slice_index, vec_len, vec_capacity, take, IfSome, IfOk, IsOkUnless, alloc_error};
 ghost use Rattle.std.specs.List.Sorted.{IsStrictlyIncreasing};
 ghost use Rattle.sand_model.specs.Grid.{sites, neighbours};
-ghost use Rattle.sand_model.specs.Sand.{IsStable, tally, one_at, value_at};
+ghost use Rattle.sand_model.specs.Sand.{IsStable, occurrences, one_at, value_at};
 ghost use Rattle.sand_model.specs.Piles.{height_of};
 ghost use Rattle.sand_group.specs.Fire.{ListsBurning, ListsUnburnt, FireSpreadsFrom, CountsUnburnt};
 ghost use Rattle.sand_group.specs.Burned.{IsBurned};
@@ -99,11 +99,11 @@ fn spread_fire(
     requires heights_each { length heights.now ≡ sites lattice.now }
     requires one_each { length unburnt.old.items ≡ sites lattice.now }
     requires unburnt { (j : ℕ) → j < sites lattice.now
-        → tally (neighbours lattice.now site) j ≤ slice_index unburnt.old.items j }
+        → occurrences (neighbours lattice.now site) j ≤ slice_index unburnt.old.items j }
     requires all { ListsBurning (sites lattice.now) heights.now unburnt.old.items burnt.old.items }
     requires room { sites lattice.now ≤ vec_capacity burnt.old }
     ensures one_each { length unburnt.new.items ≡ sites lattice.now }
-    ensures fewer { (j : ℕ) → slice_index unburnt.new.items j + tally (neighbours lattice.now site) j
+    ensures fewer { (j : ℕ) → slice_index unburnt.new.items j + occurrences (neighbours lattice.now site) j
         ≡ slice_index unburnt.old.items j }
     ensures all { ListsBurning (sites lattice.now) heights.now unburnt.new.items burnt.new.items }
     ensures room { sites lattice.now ≤ vec_capacity burnt.new }

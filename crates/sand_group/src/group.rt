@@ -9,7 +9,7 @@ ghost use Rattle.sand_model.specs.Grid.{sites};
 ghost use Rattle.sand_model.specs.Sand.{IsStable, one_at};
 ghost use Rattle.sand_model.specs.Piles.{height_of};
 ghost use Rattle.sand_group.specs.Recurrence.{IsRecurrent};
-ghost use Rattle.sand_group.specs.Group.{IsSettledPile, IsSurplus, IsSum, IsIdentity, IsInverse};
+ghost use Rattle.sand_group.specs.Group.{SettlesTo, IsSurplus, IsSum, IsIdentity, IsInverse};
 
 use crate::burning::{Burned, burn};
 use crate::faults::GroupFault;
@@ -80,7 +80,7 @@ impl Recurrent {
 pub(crate) fn settled(alloc: Global, shape: Shape, heights: Vec<u64>) -> Result<Pile, GroupFault>
     requires one_each { length heights.items ≡ sites shape }
     requires low { All (λ h. h ≤ 12) heights.items }
-    ensures settled { IfOk result (IsSettledPile shape (slice_index heights.items)) }
+    ensures settled { IfOk result (SettlesTo shape (slice_index heights.items)) }
     ensures memory { IsOkUnless result (GroupFault.Memory alloc_error) }
 {
     prove_eq!(heights.len(), shape.sites());
@@ -150,7 +150,7 @@ pub fn add(alloc: Global, a: &Recurrent, b: &Recurrent) -> Result<Recurrent, Gro
     ensures shapes { (result ≡ Err GroupFault.Shapes) ↔ (a.now.grid ≢ b.now.grid) }
     ensures one_shape { OnOk result (a.now.grid ≡ b.now.grid) }
     ensures memory { a.now.grid ≡ b.now.grid → IsOkUnless result (GroupFault.Memory alloc_error) }
-    ensures settled { IfOk result (IsSettledPile a.now.grid (λ i. height_of a.now i + height_of b.now i)) }
+    ensures settled { IfOk result (SettlesTo a.now.grid (λ i. height_of a.now i + height_of b.now i)) }
     ensures sum { IfOk result (λ c. IsSum a.now.grid (height_of a.now) (height_of b.now) (height_of c)) }
 {
     let shape = a.pile.shape();
@@ -166,7 +166,7 @@ pub fn add(alloc: Global, a: &Recurrent, b: &Recurrent) -> Result<Recurrent, Gro
 // The identity by two settlings: of 2m, and of d.
 fn settled_identity(alloc: Global, shape: Shape) -> Result<Recurrent, GroupFault>
     ensures memory { IsOkUnless result (GroupFault.Memory alloc_error) }
-    ensures settled { IfOk result (λ e. (d : ℕ → ℕ) × IsSurplus shape d × IsSettledPile shape d e) }
+    ensures settled { IfOk result (λ e. (d : ℕ → ℕ) × IsSurplus shape d × SettlesTo shape d e) }
     ensures identity { IfOk result (λ e. IsIdentity shape (height_of e)) }
 {
     let heights = surplus(alloc, shape)?;
@@ -179,7 +179,7 @@ fn settled_identity(alloc: Global, shape: Shape) -> Result<Recurrent, GroupFault
 /// allocation fails (Memory).
 pub fn identity(alloc: Global, shape: Shape) -> Result<Recurrent, GroupFault>
     ensures memory { IsOkUnless result (GroupFault.Memory alloc_error) }
-    ensures settled { IfOk result (λ e. (d : ℕ → ℕ) × IsSurplus shape d × IsSettledPile shape d e) }
+    ensures settled { IfOk result (λ e. (d : ℕ → ℕ) × IsSurplus shape d × SettlesTo shape d e) }
     ensures identity { IfOk result (λ e. IsIdentity shape (height_of e)) }
 {
     match shown_identity(alloc, shape)? {
@@ -192,7 +192,7 @@ pub fn identity(alloc: Global, shape: Shape) -> Result<Recurrent, GroupFault>
 pub fn inverse(alloc: Global, c: &Recurrent) -> Result<Recurrent, GroupFault>
     ensures memory { IsOkUnless result (GroupFault.Memory alloc_error) }
     ensures settled { IfOk result (λ v. (d : ℕ → ℕ) × IsSurplus c.now.grid d
-        × IsSettledPile c.now.grid (λ i. 2 * d i - height_of c.now i) v) }
+        × SettlesTo c.now.grid (λ i. 2 * d i - height_of c.now i) v) }
     ensures inverse { IfOk result (λ v. IsInverse c.now.grid (height_of c.now) (height_of v)) }
 {
     let shape = c.pile.shape();
@@ -207,7 +207,7 @@ pub fn inverse(alloc: Global, c: &Recurrent) -> Result<Recurrent, GroupFault>
 pub fn act(alloc: Global, c: &Recurrent, site: usize) -> Result<Recurrent, GroupFault>
     requires { site < sites c.now.grid }
     ensures memory { IsOkUnless result (GroupFault.Memory alloc_error) }
-    ensures settled { IfOk result (IsSettledPile c.now.grid (λ i. height_of c.now i + one_at site i)) }
+    ensures settled { IfOk result (SettlesTo c.now.grid (λ i. height_of c.now i + one_at site i)) }
     ensures recurrent { IfOk result (λ t. IsRecurrent t.grid (height_of t)) }
 {
     let shape = c.pile.shape();

@@ -10,7 +10,7 @@
 //! The same holds for its northern neighbour, and so on without end.
 //!
 //! **No law assumes that a pile settles.** Each pile does (`sand_model::laws::each_settles`). So a law says that it
-//! settles, and what is true of each pile that it settles to (`SettlesTo`).
+//! settles, and what is true of each pile that it settles to (`OnceSettled`).
 //!
 //! **One in each class.** If two recurrent piles differ by Lz, the sites where z is greatest are forbidden in the
 //! second, unless z is at most 0. The same holds for -z. So two equivalent recurrent piles are equal. And a recurrent c

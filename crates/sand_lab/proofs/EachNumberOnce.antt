@@ -6,10 +6,10 @@ use Rattle.std.proofs.lemmas.List.Elements.{All-map}
 use Rattle.std.proofs.lemmas.List.Sums.{sum_by-cons}
 use Rattle.std.proofs.lemmas.Option.{get_or_from_slice_get, slice_get_within}
 use Rattle.std.specs.Prelude.{slice_get}
-use Rattle.sand_model.specs.Sand.{sum_below, tally, one_at}
+use Rattle.sand_model.specs.Sand.{sum_below, occurrences, one_at}
 use Rattle.sand_model.specs.Lists.{one_if}
 use Rattle.sand_model.proofs.Bounds.{fewer_than_all}
-use Rattle.sand_model.proofs.Tallies.{sum_below-tally}
+use Rattle.sand_model.proofs.Occurrences.{sum_below-occurrences}
 use Rattle.sand_shared.specs.declared.view.Receipt.{Receipt}
 use Rattle.sand_shared.specs.OpenPile.{numbered}
 use Rattle.sand_shared.specs.Passes.{EachOnce, AllBelow}
@@ -19,22 +19,22 @@ use Rattle.sand_shared.proofs.NumbersOnce.{one_if_same, one_if_other}
 abbrev pub numbers_of : List Receipt → List ℕ
 numbers_of rs = map (λ (r : Receipt). r.number) rs
 
-tally-numbers : (rs : List Receipt) (n : ℕ) → tally (numbers_of rs) n ≡ numbered rs n
-tally-numbers rs n = sum_by-map (λ j. one_at j n) (λ (r : Receipt). r.number) rs
+occurrences-numbers : (rs : List Receipt) (n : ℕ) → occurrences (numbers_of rs) n ≡ numbered rs n
+occurrences-numbers rs n = sum_by-map (λ j. one_at j n) (λ (r : Receipt). r.number) rs
 
 -- n different numbers below n leave none out
 pub each_number : (rs : List Receipt) → EachOnce rs → AllBelow (length rs) rs → (n : ℕ) → n < length rs
     → numbered rs n ≡ 1
 each_number rs once below n inside =
-    let all : sum_below (length rs) (tally (numbers_of rs)) ≡ length (numbers_of rs) =
-    sum_below-tally (length rs) (numbers_of rs) (All-map (λ j. j < length rs) (λ (r : Receipt). r.number) rs below) in
+    let all : sum_below (length rs) (occurrences (numbers_of rs)) ≡ length (numbers_of rs) =
+    sum_below-occurrences (length rs) (numbers_of rs) (All-map (λ j. j < length rs) (λ (r : Receipt). r.number) rs below) in
     let long : length (numbers_of rs) ≡ length rs = length-map rs (λ (r : Receipt). r.number) in
     let here = once n in
-    let same = tally-numbers rs n in
+    let same = occurrences-numbers rs n in
     ⊎_elim
     (λ (none : numbered rs n < 1).
-    let less = fewer_than_all (length rs) (tally (numbers_of rs)) n
-    (λ i l. let o = once i in let e = tally-numbers rs i in omega arith) inside (omega arith) in
+    let less = fewer_than_all (length rs) (occurrences (numbers_of rs)) n
+    (λ i l. let o = once i in let e = occurrences-numbers rs i in omega arith) inside (omega arith) in
     absurd (omega arith))
     (λ (some : 1 ≤ numbered rs n). omega arith)
     (cases_lt (numbered rs n) 1)

@@ -11,7 +11,7 @@ pub mod EachAtItsPlace
 pub mod EntriesAtNumbers
 pub mod RecordBounds
 pub mod SheetLengths
-pub mod TallyOfStreams
+pub mod OccurrencesInStreams
 pub mod OneTurnMore
 pub mod DropperDropsAll
 pub mod CrewHasWorked

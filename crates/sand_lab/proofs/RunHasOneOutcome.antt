@@ -5,10 +5,10 @@ use Rattle.std.specs.Prelude.{slice_index}
 use Rattle.std.proofs.lemmas.List.{ext_get_or}
 use Rattle.sand_model.specs.Grid.{Grid, sites}
 use Rattle.sand_model.specs.Piles.{PileView, height_of}
-use Rattle.sand_model.specs.Sand.{IsSettled, sum_below, tally, topplings, lost}
+use Rattle.sand_model.specs.Sand.{IsSettled, sum_below, occurrences, topplings, lost}
 use Rattle.sand_model.proofs.Sandpile.{odometer_unique, settled_unique, settled_same}
-use Rattle.sand_model.proofs.Tallies.{tally-append}
-use Rattle.sand_settle.specs.Settling.{SettledView, IsRecord, odometer_of}
+use Rattle.sand_model.proofs.Occurrences.{occurrences-append}
+use Rattle.sand_settle.specs.Settling.{SettledView, IsSettledRecord, odometer_of}
 use Rattle.sand_shared.specs.Record.{RecordView, IsOneThreads}
 use Rattle.sand_plan.specs.Plans.{quota_of}
 use Rattle.sand_lab.proofs.OneEpochMore.{epoch_drops, dropped_so_far}
@@ -16,11 +16,11 @@ use Rattle.sand_plan.specs.declared.wish.Wish.{Wish}
 use Rattle.sand_lab.specs.Laws.{AskTheSame, OneOutcome, one_of}
 use Rattle.sand_lab.specs.Reports.{SheetView, IsEpoch, AreEpochs, histories}
 use Rattle.sand_lab.specs.Streams.{stream_of, stream_sites}
-use Rattle.sand_lab.proofs.TallyOfStreams.{tally_of_streams}
+use Rattle.sand_lab.proofs.OccurrencesInStreams.{occurrences_in_streams}
 
 -- equal heights have one settled record
 module _ (g : Grid) (s s' : ℕ → ℕ) (r q : SettledView) (same : (i : ℕ) → i < sites g → s i ≡ s' i)
-    (mine : IsRecord g s r) (theirs : IsRecord g s' q) where
+    (mine : IsSettledRecord g s r) (theirs : IsSettledRecord g s' q) where
   same_start : IsSettled g s' (odometer_of r) (height_of r.pile)
   same_start = settled_same g s s' (odometer_of r) (odometer_of r) (height_of r.pile)
       (height_of r.pile) same (λ i l. refl) (λ i l. refl) mine.settled
@@ -55,39 +55,39 @@ module _ (g : Grid) (s s' : ℕ → ℕ) (r q : SettledView) (same : (i : ℕ) �
 
 -- the result of one thread depends only on the start and on how often each site was dropped on, in any order
 pub one_threads_once : (r q : RecordView) → IsOneThreads r → IsOneThreads q
-    → r.start ≡ q.start → ((i : ℕ) → tally r.history i ≡ tally q.history i)
+    → r.start ≡ q.start → ((i : ℕ) → occurrences r.history i ≡ occurrences q.history i)
     → r.settled ≡ q.settled
 one_threads_once r q one other starts tallies =
-    let P : PileView → Type 0 = λ p. IsRecord p.grid (λ i. height_of p i + tally q.history i) q.settled in
-    record_once r.start.grid (λ i. height_of r.start i + tally r.history i)
-    (λ i. height_of r.start i + tally q.history i) r.settled q.settled
+    let P : PileView → Type 0 = λ p. IsSettledRecord p.grid (λ i. height_of p i + occurrences q.history i) q.settled in
+    record_once r.start.grid (λ i. height_of r.start i + occurrences r.history i)
+    (λ i. height_of r.start i + occurrences q.history i) r.settled q.settled
     (λ i l. ap (λ n. height_of r.start i + n) (tallies i))
     one.settled
     (subst P (sym starts) other.settled)
 
 -- an epoch's drops on each site are those of its streams
-pub epoch_tally : (album : List ℕ) (w : Wish) (start : PileView) (t : ℕ) (r : RecordView) (s : SheetView)
+pub epoch_occurrences : (album : List ℕ) (w : Wish) (start : PileView) (t : ℕ) (r : RecordView) (s : SheetView)
     → IsEpoch album w start t r s → (i : ℕ)
-    → tally r.history i ≡ sum_below w.droppers
-    (λ k. tally (stream_sites (sites start.grid) w.seed (stream_of t k) w.drops) i)
-epoch_tally album w start t r s epoch i =
-    ap (λ (h : List ℕ). tally h i) (sym epoch.closed.history)
-    ∙ tally_of_streams (sites start.grid) w.seed w.droppers w.drops t s.journal epoch.closed.streams i
+    → occurrences r.history i ≡ sum_below w.droppers
+    (λ k. occurrences (stream_sites (sites start.grid) w.seed (stream_of t k) w.drops) i)
+epoch_occurrences album w start t r s epoch i =
+    ap (λ (h : List ℕ). occurrences h i) (sym epoch.closed.history)
+    ∙ occurrences_in_streams (sites start.grid) w.seed w.droppers w.drops t s.journal epoch.closed.streams i
 
 -- records with equal results, whose histories together have equal tallies
 record SettleAlike (rs qs : List RecordView) : Type 0 where
   ones : map one_of rs ≡ map one_of qs
-  tallies : (i : ℕ) → tally (histories rs) i ≡ tally (histories qs) i
+  tallies : (i : ℕ) → occurrences (histories rs) i ≡ occurrences (histories qs) i
 
 -- one more epoch in front of such records
 alike_more : (r q : RecordView) (rs qs : List RecordView) → one_of r ≡ one_of q
-    → ((i : ℕ) → tally r.history i ≡ tally q.history i) → SettleAlike rs qs
+    → ((i : ℕ) → occurrences r.history i ≡ occurrences q.history i) → SettleAlike rs qs
     → SettleAlike (r ∷ rs) (q ∷ qs)
 alike_more r q rs qs same tallies rest = record {
   ones = λ k. same k ∷ rest.ones k;
   tallies = λ i.
-      let mine = tally-append r.history (histories rs) i in
-      let theirs = tally-append q.history (histories qs) i in
+      let mine = occurrences-append r.history (histories rs) i in
+      let theirs = occurrences-append q.history (histories qs) i in
       let here = tallies i in
       let after = rest.tallies i in omega arith;
 }
@@ -111,12 +111,12 @@ module _ (album album' : List ℕ) (w v : Wish) (asks : AskTheSame w v) where
   epochs_alike start start' t (r ∷ rs) (q ∷ qs) (s ∷ ss) [] starts long mine theirs = absurd theirs
   epochs_alike start start' t (r ∷ rs) (q ∷ qs) (s ∷ ss) (u ∷ us) starts long (mine, more) (theirs, others) =
       let streams : (i : ℕ)
-      → sum_below w.droppers (λ k. tally (stream_sites (sites start.grid) w.seed (stream_of t k) w.drops) i)
-      ≡ sum_below v.droppers (λ k. tally (stream_sites (sites start'.grid) v.seed (stream_of t k) v.drops) i) =
+      → sum_below w.droppers (λ k. occurrences (stream_sites (sites start.grid) w.seed (stream_of t k) w.drops) i)
+      ≡ sum_below v.droppers (λ k. occurrences (stream_sites (sites start'.grid) v.seed (stream_of t k) v.drops) i) =
       λ i j. sum_below (asks.droppers j)
-      (λ k. tally (stream_sites (sites (starts j).grid) (asks.seed j) (stream_of t k) (asks.drops j)) i) in
-      let tallies : (i : ℕ) → tally r.history i ≡ tally q.history i =
-      λ i. epoch_tally album w start t r s mine i ∙ streams i ∙ sym (epoch_tally album' v start' t q u theirs i) in
+      (λ k. occurrences (stream_sites (sites (starts j).grid) (asks.seed j) (stream_of t k) (asks.drops j)) i) in
+      let tallies : (i : ℕ) → occurrences r.history i ≡ occurrences q.history i =
+      λ i. epoch_occurrences album w start t r s mine i ∙ streams i ∙ sym (epoch_occurrences album' v start' t q u theirs i) in
       let from : r.start ≡ q.start = mine.closed.from_start ∙ starts ∙ sym theirs.closed.from_start in
       let same = one_threads_once r q mine.closed.one_threads theirs.closed.one_threads from tallies in
       let drops = epoch_drops album w start t r s mine ∙ same_quota ∙ sym (epoch_drops album' v start' t q u theirs) in
@@ -130,8 +130,8 @@ one_outcome album album' w v start p q asks mine theirs =
     q.sheets refl (mine.all ∙ asks.epochs ∙ sym theirs.all) mine.epochs theirs.epochs in
     let from : p.total.start ≡ q.total.start = mine.total.from_start ∙ sym theirs.total.from_start in
     let same = one_threads_once p.total q.total mine.total.one_threads theirs.total.one_threads from
-    (λ i. ap (λ (h : List ℕ). tally h i) mine.total.history ∙ alike.tallies i
-    ∙ ap (λ (h : List ℕ). tally h i) (sym theirs.total.history)) in
+    (λ i. ap (λ (h : List ℕ). occurrences h i) mine.total.history ∙ alike.tallies i
+    ∙ ap (λ (h : List ℕ). occurrences h i) (sym theirs.total.history)) in
     let times : w.epochs * quota_of w ≡ v.epochs * quota_of v =
     λ k. asks.epochs k * same_quota album album' w v asks k in
     let drops =

@@ -3,7 +3,7 @@ use Rattle.std.proofs.Common.{ℕ, Bool, ◌≡◌, ◌+◌, ◌*◌, ◌<◌, �
 use Rattle.std.proofs.lemmas.List.Sums.{sum_by-cons}
 use Rattle.std.proofs.lemmas.List.Elements.{All-head, All-tail}
 use Rattle.sand_model.specs.Grid.{Grid, sites, places, neighbours}
-use Rattle.sand_model.specs.Sand.{sum_below, tally, flow, one_at, value_at}
+use Rattle.sand_model.specs.Sand.{sum_below, occurrences, flow, one_at, value_at}
 use Rattle.sand_model.specs.Lists.{one_if}
 use Rattle.sand_model.proofs.SumsBelow.{sum_below_same, sum_below-add, sum_below-scale, sum_below-zero, sum_below_swap, sum_below-one_at, one_at_comm}
 use Rattle.sand_model.proofs.Neighbours.{flow_four, neighbours_mutual, neighbours_below}
@@ -30,14 +30,14 @@ sum_by-scale c u (x ∷ xs) =
 
 -- a sum over a list of sites, as a sum over all sites
 pub sum_by_spread : (n : ℕ) (u : ℕ → ℕ) (xs : List ℕ) → All (λ j. j < n) xs
-    → sum_by u xs ≡ sum_below n (λ j. u j * tally xs j)
+    → sum_by u xs ≡ sum_below n (λ j. u j * occurrences xs j)
 sum_by_spread n u [] below = sym (sum_below_same n (λ j. u j * 0) (λ j. 0) (λ j l. omega arith) ∙ sum_below-zero n)
 sum_by_spread n u (x ∷ xs) below =
     let rest = sum_by_spread n u xs (All-tail (λ j. j < n) x xs below) in
     let here = sum_below-one_at n x u (All-head (λ j. j < n) x xs below) in
-    let both = sum_below-add n (λ j. u j * one_at x j) (λ j. u j * tally xs j) in
-    let cons : sum_below n (λ j. u j * tally (x ∷ xs) j) ≡ sum_below n (λ j. u j * one_at x j + u j * tally xs j) =
-    sum_below_same n (λ j. u j * tally (x ∷ xs) j) (λ j. u j * one_at x j + u j * tally xs j)
+    let both = sum_below-add n (λ j. u j * one_at x j) (λ j. u j * occurrences xs j) in
+    let cons : sum_below n (λ j. u j * occurrences (x ∷ xs) j) ≡ sum_below n (λ j. u j * one_at x j + u j * occurrences xs j) =
+    sum_below_same n (λ j. u j * occurrences (x ∷ xs) j) (λ j. u j * one_at x j + u j * occurrences xs j)
     (λ j l. let c = sum_by-cons (λ k. one_at k j) x xs in rw c (omega arith)) in
     sum_by-cons u x xs ∙ (omega arith)
 
@@ -62,7 +62,7 @@ unfolding flow
 flow-scale g c u i = sum_by-scale c u (neighbours g i)
 
 flow_spread : (g : Grid) (u : ℕ → ℕ) (i : ℕ) → i < sites g
-    → flow g u i ≡ sum_below (sites g) (λ j. u j * tally (neighbours g i) j)
+    → flow g u i ≡ sum_below (sites g) (λ j. u j * occurrences (neighbours g i) j)
 unfolding flow
 flow_spread g u i l = sum_by_spread (sites g) u (neighbours g i) (neighbours_below g i l)
 
@@ -71,16 +71,16 @@ pub flow_self_adjoint : (g : Grid) (f u : ℕ → ℕ)
     → sum_below (sites g) (λ i. f i * flow g u i) ≡ sum_below (sites g) (λ i. u i * flow g f i)
 flow_self_adjoint g f u =
     sum_below_same (sites g) (λ i. f i * flow g u i)
-    (λ i. sum_below (sites g) (λ j. f i * (u j * tally (neighbours g i) j)))
+    (λ i. sum_below (sites g) (λ j. f i * (u j * occurrences (neighbours g i) j)))
     (λ i l. ap (λ k. f i * k) (flow_spread g u i l)
-    ∙ sym (sum_below-scale (sites g) (f i) (λ j. u j * tally (neighbours g i) j)))
-    ∙ sum_below_swap (sites g) (sites g) (λ i j. f i * (u j * tally (neighbours g i) j))
+    ∙ sym (sum_below-scale (sites g) (f i) (λ j. u j * occurrences (neighbours g i) j)))
+    ∙ sum_below_swap (sites g) (sites g) (λ i j. f i * (u j * occurrences (neighbours g i) j))
     ∙ sum_below_same (sites g)
-    (λ j. sum_below (sites g) (λ i. f i * (u j * tally (neighbours g i) j))) (λ j. u j * flow g f j)
+    (λ j. sum_below (sites g) (λ i. f i * (u j * occurrences (neighbours g i) j))) (λ j. u j * flow g f j)
     (λ j m.
-    sum_below_same (sites g) (λ i. f i * (u j * tally (neighbours g i) j)) (λ i. u j * (f i * tally (neighbours g j) i))
+    sum_below_same (sites g) (λ i. f i * (u j * occurrences (neighbours g i) j)) (λ i. u j * (f i * occurrences (neighbours g j) i))
     (λ i l. let both = neighbours_mutual g i j l m in rw both (omega arith))
-    ∙ sum_below-scale (sites g) (u j) (λ i. f i * tally (neighbours g j) i)
+    ∙ sum_below-scale (sites g) (u j) (λ i. f i * occurrences (neighbours g j) i)
     ∙ ap (λ k. u j * k) (sym (flow_spread g f j m)))
 
 flow_mutual : (g : Grid) (i j : ℕ) → i < sites g → j < sites g → flow g (λ k. one_at k j) i ≡ flow g (λ k. one_at k i) j

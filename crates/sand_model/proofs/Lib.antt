@@ -5,7 +5,7 @@ pub mod Flow
 pub mod Sandpile
 pub mod Heights
 pub mod OverIntegers
-pub mod Tallies
+pub mod Occurrences
 pub mod Bounds
 pub mod Lists
 pub mod Underway

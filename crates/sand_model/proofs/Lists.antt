@@ -4,10 +4,10 @@ use Rattle.std.proofs.lemmas.Bool.{cases_eq, cases_lt, cases_Bool, lt-ltb, le-lt
 use Rattle.std.proofs.lemmas.List.{get_or_read}
 use Rattle.std.proofs.lemmas.List.Sums.{sum_by_more_le, get_or-le-sum_by}
 use Rattle.std.proofs.lemmas.List.Elements.{All-from_get_or, All-head}
-use Rattle.sand_model.specs.Sand.{sum_below, tally, one_at}
+use Rattle.sand_model.specs.Sand.{sum_below, occurrences, one_at}
 use Rattle.sand_model.specs.Lists.{Lists, one_if}
 use Rattle.sand_model.proofs.SumsBelow.{sum_below_same, sum_below-ones, one_at_same, one_at_other}
-use Rattle.sand_model.proofs.Tallies.{tally-cons, tally-push, sum_below-tally}
+use Rattle.sand_model.proofs.Occurrences.{occurrences-cons, occurrences-push, sum_below-occurrences}
 use Rattle.sand_model.proofs.Bounds.{at_most_all, fewer_than_all}
 
 pub at_most_one : (b : Bool) → one_if b ≤ 1
@@ -32,16 +32,16 @@ all_or_one (suc n) p =
 
 -- ---- what a listing says of one number
 
-tally-listing : (n : ℕ) (p : ℕ → Bool) (xs : List ℕ) (i : ℕ) → Lists n p xs → i < n → tally xs i ≡ one_if (p i)
-tally-listing n p xs i list l = let test = lt-ltb i n l in let e = list.each i in e ∙ rw test refl
+occurrences-listing : (n : ℕ) (p : ℕ → Bool) (xs : List ℕ) (i : ℕ) → Lists n p xs → i < n → occurrences xs i ≡ one_if (p i)
+occurrences-listing n p xs i list l = let test = lt-ltb i n l in let e = list.each i in e ∙ rw test refl
 
-outside : (n : ℕ) (p : ℕ → Bool) (xs : List ℕ) (i : ℕ) → Lists n p xs → n ≤ i → tally xs i ≡ 0
+outside : (n : ℕ) (p : ℕ → Bool) (xs : List ℕ) (i : ℕ) → Lists n p xs → n ≤ i → occurrences xs i ≡ 0
 outside n p xs i list past = let test = le-ltb i n past in let e = list.each i in e ∙ rw test refl
 
 -- a list with such tallies is a listing
 pub lists_from : (n : ℕ) (p : ℕ → Bool) (xs : List ℕ)
-    → ((i : ℕ) → i < n → tally xs i ≡ one_if (p i))
-    → ((i : ℕ) → n ≤ i → tally xs i ≡ 0) → Lists n p xs
+    → ((i : ℕ) → i < n → occurrences xs i ≡ one_if (p i))
+    → ((i : ℕ) → n ≤ i → occurrences xs i ≡ 0) → Lists n p xs
 lists_from n p xs inside none = record {
   each = λ i.
       ⊎_elim (λ (less : i < n). let test = lt-ltb i n less in inside i less ∙ rw test refl)
@@ -49,20 +49,20 @@ lists_from n p xs inside none = record {
       (cases_lt i n);
 }
 
-pub listed : (n : ℕ) (p : ℕ → Bool) (xs : List ℕ) (i : ℕ) → Lists n p xs → i < n → p i ≡ true → tally xs i ≡ 1
-listed n p xs i list l pass = tally-listing n p xs i list l ∙ ap one_if pass
+pub listed : (n : ℕ) (p : ℕ → Bool) (xs : List ℕ) (i : ℕ) → Lists n p xs → i < n → p i ≡ true → occurrences xs i ≡ 1
+listed n p xs i list l pass = occurrences-listing n p xs i list l ∙ ap one_if pass
 
 not_both : (a b : Bool) → b ≡ false → one_if (a && b) ≡ 0
 not_both true b e = ap one_if e
 not_both false b e = refl
 
-pub unlisted : (n : ℕ) (p : ℕ → Bool) (xs : List ℕ) (i : ℕ) → Lists n p xs → p i ≡ false → tally xs i ≡ 0
+pub unlisted : (n : ℕ) (p : ℕ → Bool) (xs : List ℕ) (i : ℕ) → Lists n p xs → p i ≡ false → occurrences xs i ≡ 0
 unlisted n p xs i list fail = list.each i ∙ not_both (ltb i n) (p i) fail
 
-pub at_most_once : (n : ℕ) (p : ℕ → Bool) (xs : List ℕ) (i : ℕ) → Lists n p xs → tally xs i ≤ 1
+pub at_most_once : (n : ℕ) (p : ℕ → Bool) (xs : List ℕ) (i : ℕ) → Lists n p xs → occurrences xs i ≤ 1
 at_most_once n p xs i list = let e = list.each i in let few = at_most_one (ltb i n && p i) in omega arith
 
-passes : (n : ℕ) (p : ℕ → Bool) (xs : List ℕ) (i : ℕ) → Lists n p xs → 1 ≤ tally xs i → p i ≡ true
+passes : (n : ℕ) (p : ℕ → Bool) (xs : List ℕ) (i : ℕ) → Lists n p xs → 1 ≤ occurrences xs i → p i ≡ true
 passes n p xs i list some =
     ⊎_elim
     (λ (pass : p i ≡ true). pass)
@@ -71,8 +71,8 @@ passes n p xs i list some =
 
 -- ---- what is in a listing
 
-tally_at : (xs : List ℕ) (k : ℕ) → k < length xs → 1 ≤ tally xs (get_or xs k 0)
-tally_at xs k l =
+occurrences_at : (xs : List ℕ) (k : ℕ) → k < length xs → 1 ≤ occurrences xs (get_or xs k 0)
+occurrences_at xs k l =
     let le = get_or-le-sum_by (λ j. one_at j (get_or xs k 0)) xs k 0 l in
     let one = one_at_same (get_or xs k 0) in
     omega arith
@@ -83,7 +83,7 @@ lists_below n p xs list =
     (λ k l.
     ⊎_elim (λ (less : get_or xs k 0 < n). less)
     (λ (past : n ≤ get_or xs k 0).
-    let none = outside n p xs (get_or xs k 0) list past in let some = tally_at xs k l in absurd (omega arith))
+    let none = outside n p xs (get_or xs k 0) list past in let some = occurrences_at xs k l in absurd (omega arith))
     (cases_lt (get_or xs k 0) n))
 
 -- elements of a listing are below n, pass, and do not occur earlier
@@ -95,24 +95,24 @@ pub read_passes : (n : ℕ) (p : ℕ → Bool) (xs : List ℕ) (k x : ℕ) → L
     → p x ≡ true
 read_passes n p xs k x list l read =
     let at = get_or_read xs k x l read 0 in
-    let same = ap (tally xs) at in
-    let some = tally_at xs k l in
+    let same = ap (occurrences xs) at in
+    let some = occurrences_at xs k l in
     passes n p xs x list (omega arith)
 
 pub read_fresh : (n : ℕ) (p : ℕ → Bool) (xs : List ℕ) (k x : ℕ) → Lists n p xs → k < length xs → x ≡ get_or xs k x
-    → tally (take k xs) x ≡ 0
+    → occurrences (take k xs) x ≡ 0
 read_fresh n p xs k x list l read =
     let le = sum_by_more_le (λ j. one_at j (get_or xs k 0)) xs k 0 l in
     let one = one_at_same (get_or xs k 0) in
     let few = at_most_once n p xs (get_or xs k 0) list in
-    ap (tally (take k xs)) (get_or_read xs k x l read 0) ∙ (omega arith)
+    ap (occurrences (take k xs)) (get_or_read xs k x l read 0) ∙ (omega arith)
 
 pub front_below : (n : ℕ) (p : ℕ → Bool) (xs : List ℕ) (i : ℕ) → Lists n p (i ∷ xs) → i < n
 front_below n p xs i list = All-head (λ j. j < n) i xs (lists_below n p (i ∷ xs) list)
 
 pub front_passes : (n : ℕ) (p : ℕ → Bool) (xs : List ℕ) (i : ℕ) → Lists n p (i ∷ xs) → p i ≡ true
 front_passes n p xs i list =
-    let first = tally-cons i xs i in
+    let first = occurrences-cons i xs i in
     let one = one_at_same i in
     passes n p (i ∷ xs) i list (omega arith)
 
@@ -127,8 +127,8 @@ none_passes n p list i l =
 
 pub length-listing : (n : ℕ) (p : ℕ → Bool) (xs : List ℕ) → Lists n p xs → length xs ≡ sum_below n (λ i. one_if (p i))
 length-listing n p xs list =
-    sym (sum_below-tally n xs (lists_below n p xs list))
-    ∙ sum_below_same n (tally xs) (λ i. one_if (p i)) (λ i l. tally-listing n p xs i list l)
+    sym (sum_below-occurrences n xs (lists_below n p xs list))
+    ∙ sum_below_same n (occurrences xs) (λ i. one_if (p i)) (λ i l. occurrences-listing n p xs i list l)
 
 pub lists_length : (n : ℕ) (p : ℕ → Bool) (xs : List ℕ) → Lists n p xs → length xs ≤ n
 lists_length n p xs list =
@@ -164,7 +164,7 @@ lists_leave n p xs list short =
 
 pub lists_same : (n : ℕ) (p q : ℕ → Bool) (xs : List ℕ) → ((j : ℕ) → j < n → p j ≡ q j) → Lists n p xs → Lists n q xs
 lists_same n p q xs same list =
-    lists_from n q xs (λ j l. tally-listing n p xs j list l ∙ ap one_if (same j l))
+    lists_from n q xs (λ j l. occurrences-listing n p xs j list l ∙ ap one_if (same j l))
     (λ j past. outside n p xs j list past)
 
 -- a number that begins to pass is appended
@@ -174,7 +174,7 @@ pub lists_push : (n : ℕ) (p q : ℕ → Bool) (xs : List ℕ) (i : ℕ) → Li
 lists_push n p q xs i list l fail pass others =
     lists_from n q (xs ++ i ∷ [])
     (λ j m.
-    let push = tally-push xs i j in
+    let push = occurrences-push xs i j in
     ⊎_elim
     (λ (e : j ≡ i).
     let one : one_at i j ≡ 1 = rw e (one_at_same i) in
@@ -183,12 +183,12 @@ lists_push n p q xs i list l fail pass others =
     omega arith)
     (λ (ne : j ≡ i → ⊥).
     let none = one_at_other i j (λ e. ne (sym e)) in
-    let was = tally-listing n p xs j list m in
+    let was = occurrences-listing n p xs j list m in
     let same = ap one_if (others j m ne) in
     omega arith)
     (cases_eq j i))
     (λ j past.
-    let push = tally-push xs i j in
+    let push = occurrences-push xs i j in
     let none = one_at_other i j (λ e. omega arith) in
     let was = outside n p xs j list past in
     omega arith)
@@ -199,7 +199,7 @@ pub lists_pop : (n : ℕ) (p q : ℕ → Bool) (xs : List ℕ) (i : ℕ) → Lis
 lists_pop n p q xs i list fail others =
     lists_from n q xs
     (λ j m.
-    let first = tally-cons i xs j in
+    let first = occurrences-cons i xs j in
     ⊎_elim
     (λ (e : j ≡ i).
     let one : one_at i j ≡ 1 = rw e (one_at_same i) in
@@ -208,11 +208,11 @@ lists_pop n p q xs i list fail others =
     omega arith)
     (λ (ne : j ≡ i → ⊥).
     let none = one_at_other i j (λ e. ne (sym e)) in
-    let was = tally-listing n p (i ∷ xs) j list m in
+    let was = occurrences-listing n p (i ∷ xs) j list m in
     let same = ap one_if (others j m ne) in
     omega arith)
     (cases_eq j i))
-    (λ j past. let first = tally-cons i xs j in let was = outside n p (i ∷ xs) j list past in omega arith)
+    (λ j past. let first = occurrences-cons i xs j in let was = outside n p (i ∷ xs) j list past in omega arith)
 
 -- ---- a listing that grows with n
 
@@ -223,10 +223,10 @@ pub lists_more_yes : (n : ℕ) (p : ℕ → Bool) (xs : List ℕ) → Lists n p 
 lists_more_yes n p xs list pass =
     lists_from (n + 1) p (xs ++ n ∷ [])
     (λ i l.
-    let push = tally-push xs n i in
+    let push = occurrences-push xs n i in
     ⊎_elim
     (λ (less : i < n).
-    let none = one_at_other n i (λ e. omega arith) in let was = tally-listing n p xs i list less in omega arith)
+    let none = one_at_other n i (λ e. omega arith) in let was = occurrences-listing n p xs i list less in omega arith)
     (λ (last : n ≤ i).
     let e : i ≡ n = omega arith in
     let one : one_at n i ≡ 1 = rw e (one_at_same n) in
@@ -235,7 +235,7 @@ lists_more_yes n p xs list pass =
     omega arith)
     (cases_lt i n))
     (λ i past.
-    let push = tally-push xs n i in
+    let push = occurrences-push xs n i in
     let none = one_at_other n i (λ e. omega arith) in
     let was = outside n p xs i list (omega arith) in
     omega arith)
@@ -244,7 +244,7 @@ pub lists_more_no : (n : ℕ) (p : ℕ → Bool) (xs : List ℕ) → Lists n p x
 lists_more_no n p xs list fail =
     lists_from (n + 1) p xs
     (λ i l.
-    ⊎_elim (λ (less : i < n). tally-listing n p xs i list less)
+    ⊎_elim (λ (less : i < n). occurrences-listing n p xs i list less)
     (λ (last : n ≤ i). let e : i ≡ n = omega arith in outside n p xs i list last ∙ sym (ap one_if (ap p e ∙ fail)))
     (cases_lt i n))
     (λ i past. outside n p xs i list (omega arith))

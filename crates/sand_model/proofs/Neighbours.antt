@@ -6,7 +6,7 @@ use Rattle.std.proofs.lemmas.List.Sums.{sum_by-cons}
 use Rattle.std.proofs.lemmas.Nat.{le-div, div_below, mod_below, mod-mul-add, mul-add-lt, div-add-mod'}
 use Rattle.std.proofs.lemmas.List.Elements.{All-cons, All-nil}
 use Rattle.sand_model.specs.Grid.{Grid, joins, sites, north, west, east, south, places, neighbours, missing}
-use Rattle.sand_model.specs.Sand.{flow, tally, one_at, value_at}
+use Rattle.sand_model.specs.Sand.{flow, occurrences, one_at, value_at}
 
 sum_by-some : (u : ℕ → ℕ) (p : Option ℕ) (ps : List (Option ℕ))
     → sum_by u (filter_map (λ q. q) (p ∷ ps)) ≡ value_at u p + sum_by u (filter_map (λ q. q) ps)
@@ -24,12 +24,12 @@ flow_four g u i =
     omega arith
 
 -- how often j is a neighbour of i, place by place
-pub tally_places : (g : Grid) (i j : ℕ) (ps : List (Option ℕ)) → ps ≡ places g i
-    → tally (neighbours g i) j
+pub occurrences_places : (g : Grid) (i j : ℕ) (ps : List (Option ℕ)) → ps ≡ places g i
+    → occurrences (neighbours g i) j
     ≡ value_at (λ k. one_at k j) (get_or ps 0 None) + value_at (λ k. one_at k j) (get_or ps 1 None)
     + value_at (λ k. one_at k j) (get_or ps 2 None) + value_at (λ k. one_at k j) (get_or ps 3 None)
 unfolding flow
-tally_places g i j ps e = rw e (flow_four g (λ k. one_at k j) i)
+occurrences_places g i j ps e = rw e (flow_four g (λ k. one_at k j) i)
 
 value_at-cond : (u : ℕ → ℕ) (b : Bool) (k : ℕ) → value_at u (cond b (Some k) None) ≡ cond b (u k) 0
 value_at-cond u true k = refl
@@ -208,11 +208,11 @@ west_east g i j li lj =
     ∙ sides_meet g.width (joins g.edge) i j (some_width g.width g.height i li)
     ∙ sym (side (λ k. one_at k i) (ltb (j % g.width + 1) g.width) (joins g.edge) (j + 1) (j - (g.width - 1)))
 
-tally_is : (xs : List ℕ) (i : ℕ) → tally xs i ≡ sum_by (λ k. one_at k i) xs
-tally_is xs i = refl
+occurrences_is : (xs : List ℕ) (i : ℕ) → occurrences xs i ≡ sum_by (λ k. one_at k i) xs
+occurrences_is xs i = refl
 
 pub neighbours_mutual : (g : Grid) (i j : ℕ) → i < sites g → j < sites g
-    → tally (neighbours g i) j ≡ tally (neighbours g j) i
+    → occurrences (neighbours g i) j ≡ occurrences (neighbours g j) i
 unfolding flow
 neighbours_mutual g i j li lj =
     let a = flow_four g (λ k. one_at k j) i in
@@ -221,7 +221,7 @@ neighbours_mutual g i j li lj =
     let sn = north_south g j i lj li in
     let we = west_east g i j li lj in
     let ew = west_east g j i lj li in
-    tally_is (neighbours g i) j ∙ (omega arith) ∙ sym (tally_is (neighbours g j) i)
+    occurrences_is (neighbours g i) j ∙ (omega arith) ∙ sym (occurrences_is (neighbours g j) i)
 
 somes_below : (n : ℕ) (p : Option ℕ) (ps : List (Option ℕ))
     → ((k : ℕ) → p ≡ Some k → k < n) → All (λ k. k < n) (filter_map (λ q. q) ps)

@@ -6,7 +6,7 @@ use Rattle.std.proofs.lemmas.List.Sums.{sum_by-cons}
 use Rattle.std.proofs.Math.Nat.{mul-le-mul_left}
 use Rattle.sand_model.specs.Grid.{Grid, joins, sites, neighbours, missing, row, north, west, east, south}
 use Rattle.sand_model.specs.Laws.{MayToppleAfter, AreLegal}
-use Rattle.sand_model.specs.Sand.{sum_below, tally, flow, IsStable, IsToppled, Stabilises, IsUnderway, IsLeast, IsSettled, grains, topplings, lost, weight, grain_weight, value_at, one_at}
+use Rattle.sand_model.specs.Sand.{sum_below, occurrences, flow, IsStable, IsToppled, Stabilises, IsUnderway, IsLeast, IsSettled, grains, topplings, lost, weight, grain_weight, value_at, one_at}
 use Rattle.sand_model.proofs.SumsBelow.{sum_below-one_at, one_at_same, one_at_other, sum_below_same, sum_below_le, sum_below-add, sum_below-scale}
 use Rattle.sand_model.proofs.Neighbours.{neighbours_at_most_four, flow_four, some_width}
 use Rattle.sand_model.proofs.Flow.{flow_le, flow_same, flow-add, flow_self_adjoint}
@@ -319,7 +319,7 @@ one_more g s u w i stable below may j l =
 -- nor does any number of them
 legal_after : (g : Grid) (s u w : ℕ → ℕ) (order : List ℕ) → AreLegal g s u order
     → Stabilises g s w → ((j : ℕ) → j < sites g → u j ≤ w j) → (i : ℕ) → i < sites g
-    → u i + tally order i ≤ w i
+    → u i + occurrences order i ≤ w i
 legal_after g s u w [] legal stable below i l = let le = below i l in omega arith
 legal_after g s u w (k ∷ order) legal stable below i l =
     let rest =
@@ -330,7 +330,7 @@ legal_after g s u w (k ∷ order) legal stable below i l =
 -- the laws, as stated in specs/Laws
 pub legal_below : (g : Grid) (s w : ℕ → ℕ) (order : List ℕ)
     → AreLegal g s (λ j. 0) order → Stabilises g s w → (i : ℕ) → i < sites g
-    → tally order i ≤ w i
+    → occurrences order i ≤ w i
 legal_below g s w order legal stable i l =
     let all = legal_after g s (λ j. 0) w order legal stable (λ j m. omega arith) i l in
     omega arith

@@ -2,7 +2,7 @@
 use Rattle.std.specs.Prelude.{ℕ, ℤ, pos, ◌≡◌, ◌+◌, ◌*◌, ◌<◌, ◌≤◌, ◌↔◌, ◌+ℤ◌, ◌-ℤ◌, ◌*ℤ◌, ◌≤ℤ◌, List, [], ◌∷◌}
 use Rattle.sand_model.specs.Grid.{Grid, sites, missing}
 use Rattle.sand_model.specs.Forbidden.{IsTight}
-use Rattle.sand_model.specs.Sand.{flow, tally, one_at, IsStable, IsToppled, Stabilises, IsUnderway, IsSettled, grains, lost, weight}
+use Rattle.sand_model.specs.Sand.{flow, occurrences, one_at, IsStable, IsToppled, Stabilises, IsUnderway, IsSettled, grains, lost, weight}
 use Rattle.sand_model.specs.Integers.{laplacian, whole_sum_below, whole, IsEquivalent}
 
 -- after each site has toppled u times, site i may topple: s - Lu is at least 4 there
@@ -18,7 +18,7 @@ AreLegal g s u (i ∷ order) = MayToppleAfter g s u i × AreLegal g s (λ j. u j
 -- legal topplings never exceed any w that stabilises the pile
 abbrev pub LeastAction : Type 0
 LeastAction = (g : Grid) (s w : ℕ → ℕ) (order : List ℕ) → AreLegal g s (λ j. 0) order → Stabilises g s w
-    → (i : ℕ) → i < sites g → tally order i ≤ w i
+    → (i : ℕ) → i < sites g → occurrences order i ≤ w i
 
 -- one toppling lowers the weight by at least 2
 abbrev pub WeightFalls : Type 0

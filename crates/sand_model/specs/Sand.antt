@@ -10,8 +10,8 @@ sum_below zero f = 0
 sum_below (suc n) f = sum_below n f + f n
 
 -- how often a site is in a list of sites
-abbrev pub tally : List ℕ → ℕ → ℕ
-tally history i = count_by (λ j. j == i) history
+abbrev pub occurrences : List ℕ → ℕ → ℕ
+occurrences history i = count_by (λ j. j == i) history
 
 -- 1 at the site k, and 0 at every other site
 abbrev pub one_at : ℕ → ℕ → ℕ

@@ -19,7 +19,7 @@ use Rattle.sand_fronts.specs.TiledPiles.{TiledView, IsTiledView, by_site, topple
 use Rattle.sand_fronts.proofs.NewPiles.{by_site_at, by_site_past, by_site_long}
 use Rattle.sand_settle.specs.declared.avalanche.Avalanche.{Avalanche}
 use Rattle.sand_settle.specs.Avalanches.{IsAvalanche}
-use Rattle.sand_settle.specs.Settling.{SettledView, IsRecord}
+use Rattle.sand_settle.specs.Settling.{SettledView, IsSettledRecord}
 use Rattle.sand_settle.specs.Drops.{IsAfter, TakesGrain, one_view, topplings_between}
 use Rattle.sand_settle.specs.Driven.{driven_record, IsDriven}
 use Rattle.sand_settle.proofs.Drops.{after_start, paid_start, paid_after, grains_after, some_record_after}
@@ -29,7 +29,7 @@ use Rattle.sand_settle.proofs.Drops.{after_start, paid_start, paid_after, grains
 -- the tiles have the heights of the record r of the start, none of their sites has toppled, and the sums are those of r
 pub record IsAtStart (start : PileView) (r : SettledView) (t : TiledView) (all gone : ℕ) : Type 0 where
   pub pile : IsPile start
-  pub record_of : IsRecord start.grid (height_of start) r
+  pub record_of : IsSettledRecord start.grid (height_of start) r
   pub one_grid : t.grid ≡ r.pile.grid
   pub by_site : IsTiledView t
   pub heights : (j : ℕ) → j < sites r.pile.grid → slice_index t.heights j ≡ slice_index r.pile.heights j
@@ -38,7 +38,7 @@ pub record IsAtStart (start : PileView) (r : SettledView) (t : TiledView) (all g
   pub all_lost : gone ≡ r.lost
 
 start_record : (start : PileView) (r : SettledView) (t : TiledView) (all gone : ℕ) → IsAtStart start r t all gone
-    → IsRecord start.grid (height_of start) (driven_record r t all gone)
+    → IsSettledRecord start.grid (height_of start) (driven_record r t all gone)
 start_record start r t all gone at =
     let g = start.grid in
     let done = at.record_of in
@@ -69,7 +69,7 @@ driven_start start r t all gone grains at whole =
     let each = at.by_site.heights_each ∙ ap sites at.one_grid in
     let long = each ∙ ap sites at.record_of.grid ∙ sym at.record_of.heights_each in
     let same = ext_get_or 0 t.heights r.pile.heights long (λ j l. at.heights j (omega arith)) in
-    let P : Grid → Type 0 = λ g. IsRecord g (height_of start) q in
+    let P : Grid → Type 0 = λ g. IsSettledRecord g (height_of start) q in
     record {
       one_grid = at.one_grid;
       paid = paid_start start q at.pile done;

@@ -4,15 +4,15 @@ use Rattle.std.proofs.Math.ListN.{set}
 use Rattle.std.proofs.lemmas.List.{length-append, append-nil, length-set, get_or_default}
 use Rattle.std.proofs.lemmas.List.Elements.{All-push}
 use Rattle.sand_model.specs.Grid.{Grid, IsGrid, sites}
-use Rattle.sand_model.specs.Sand.{tally, one_at, IsSettled, grains, topplings, lost, weight, grain_weight}
+use Rattle.sand_model.specs.Sand.{occurrences, one_at, IsSettled, grains, topplings, lost, weight, grain_weight}
 use Rattle.sand_model.specs.Piles.{PileView, IsPile, most_grains}
 use Rattle.sand_model.proofs.SumsBelow.{sum_below-add, sum_below_same}
-use Rattle.sand_model.proofs.Tallies.{tally-push}
+use Rattle.sand_model.proofs.Occurrences.{occurrences-push}
 use Rattle.sand_model.proofs.Sandpile.{laplacian_sum, weight_after, settled_in_parts, settled_same, settled_stable}
 use Rattle.sand_model.proofs.Heights.{sum_is_grains, counted}
 use Rattle.sand_model.proofs.Bounds.{weight_bound, topplings_bound}
 use Rattle.sand_model.proofs.Underway.{underway_start, underway_end}
-use Rattle.sand_settle.specs.Settling.{SettledView, IsRecord, IsSettledRecord}
+use Rattle.sand_settle.specs.Settling.{SettledView, IsSettledRecord, IsSomeSettledRecord}
 use Rattle.sand_settle.specs.Drops.{OneView, IsAfter, topplings_between, TakesGrain, Drops, DropsAll, IsPaid, one_view, IsOnePile}
 use Rattle.sand_settle.proofs.Underway.{topplings_at, all_stable}
 use Rattle.sand_settle.specs.declared.avalanche.Avalanche.{Avalanche}
@@ -25,7 +25,7 @@ pub settled_already : (g : Grid) (s u : ℕ → ℕ) → ((i : ℕ) → i < site
 settled_already g s u low none = underway_end g s u s (underway_start g s u none) low
 
 -- the grains on a settled pile and those lost are the grains of its start
-pub grains_kept : (g : Grid) (s : ℕ → ℕ) (r : SettledView) → IsRecord g s r → sum r.pile.heights + r.lost ≡ grains g s
+pub grains_kept : (g : Grid) (s : ℕ → ℕ) (r : SettledView) → IsSettledRecord g s r → sum r.pile.heights + r.lost ≡ grains g s
 grains_kept g s r done =
     let all = laplacian_sum g s (λ j. get_or r.odometer j 0) (λ j. get_or r.pile.heights j 0) done.settled.toppled in
     let after = sum_is_grains g r.pile.heights done.heights_each in
@@ -35,7 +35,7 @@ grains_kept g s r done =
 -- ---- the record of a start
 
 paid_here : (s : ℕ → ℕ) (r : SettledView) → IsGrid r.pile.grid
-    → grains r.pile.grid s ≤ most_grains → IsRecord r.pile.grid s r → IsPaid r
+    → grains r.pile.grid s ≤ most_grains → IsSettledRecord r.pile.grid s r → IsPaid r
 paid_here s r sides few done =
     let kept = grains_kept r.pile.grid s r done in
     record {
@@ -53,19 +53,19 @@ paid_here s r sides few done =
           omega arith;
     }
 
-paid_record : (g : Grid) (s : ℕ → ℕ) (r : SettledView) → IsGrid g → grains g s ≤ most_grains → IsRecord g s r → IsPaid r
+paid_record : (g : Grid) (s : ℕ → ℕ) (r : SettledView) → IsGrid g → grains g s ≤ most_grains → IsSettledRecord g s r → IsPaid r
 paid_record g s r sides few done =
-    let P : Grid → Type 0 = λ h. IsGrid h → grains h s ≤ most_grains → IsRecord h s r → IsPaid r in
+    let P : Grid → Type 0 = λ h. IsGrid h → grains h s ≤ most_grains → IsSettledRecord h s r → IsPaid r in
     subst P done.grid (paid_here s r) sides few done
 
 pub paid_start : (start : PileView) (r : SettledView) → IsPile start
-    → IsRecord start.grid (λ j. get_or start.heights j 0) r → IsPaid r
+    → IsSettledRecord start.grid (λ j. get_or start.heights j 0) r → IsPaid r
 paid_start start r pile done =
     paid_record start.grid (λ j. get_or start.heights j 0) r pile.grid
     (let e = sum_is_grains start.grid start.heights pile.one_each in let limit = pile.limit in omega arith) done
 
 pub after_start : (start : PileView) (r : SettledView) → IsPile start
-    → IsRecord start.grid (λ j. get_or start.heights j 0) r
+    → IsSettledRecord start.grid (λ j. get_or start.heights j 0) r
     → IsAfter start [] (record { settled = r; number = 0; grains = sum r.pile.heights + r.lost })
 after_start start r pile done = record {
   start_pile = pile;
@@ -76,7 +76,7 @@ after_start start r pile done = record {
     heights_each = done.heights_each;
     odometer_each = done.odometer_each;
     settled = settled_same start.grid (λ j. get_or start.heights j 0)
-        (λ j. get_or start.heights j 0 + tally [] j) (λ j. get_or r.odometer j 0)
+        (λ j. get_or start.heights j 0 + occurrences [] j) (λ j. get_or r.odometer j 0)
         (λ j. get_or r.odometer j 0) (λ j. get_or r.pile.heights j 0) (λ j. get_or r.pile.heights j 0)
         (λ i l. omega arith) (λ i l. refl) (λ i l. refl) done.settled;
     all_topplings = done.all_topplings;
@@ -157,8 +157,8 @@ paid_after r q site paid inside room taken =
 -- ---- from a start and its drops to one more drop
 
 -- a grain dropped on the settled pile of some heights leads to the record of these heights and the grain
-record_of_more : (g : Grid) (s : ℕ → ℕ) (site : ℕ) (r q : SettledView) → IsRecord g s r → TakesGrain r site q
-    → IsRecord g (λ j. s j + one_at site j) q
+record_of_more : (g : Grid) (s : ℕ → ℕ) (site : ℕ) (r q : SettledView) → IsSettledRecord g s r → TakesGrain r site q
+    → IsSettledRecord g (λ j. s j + one_at site j) q
 record_of_more g s site r q before taken =
     let P : Grid → Type 0 = λ h. IsSettled h (λ j. get_or r.pile.heights j 0 + one_at site j)
     (topplings_between r q) (λ j. get_or q.pile.heights j 0) in
@@ -190,25 +190,25 @@ record_of_more g s site r q before taken =
           omega arith;
     }
 
-pub some_record_after : (r q : SettledView) (site : ℕ) → IsSettledRecord r → TakesGrain r site q → IsSettledRecord q
+pub some_record_after : (r q : SettledView) (site : ℕ) → IsSomeSettledRecord r → TakesGrain r site q → IsSomeSettledRecord q
 some_record_after r q site (s, before) taken =
-    let P : Grid → Type 0 = λ g. IsRecord g (λ j. s j + one_at site j) q in
+    let P : Grid → Type 0 = λ g. IsSettledRecord g (λ j. s j + one_at site j) q in
     (λ j. s j + one_at site j, subst P (sym taken.grid) (record_of_more r.pile.grid s site r q before taken))
 
 -- from the record of the start and the grains so far to the record with one more grain
 record_after : (g : Grid) (s : ℕ → ℕ) (history : List ℕ) (site : ℕ) (r q : SettledView)
-    → IsRecord g (λ j. s j + tally history j) r → TakesGrain r site q
-    → IsRecord g (λ j. s j + tally (history ++ site ∷ []) j) q
+    → IsSettledRecord g (λ j. s j + occurrences history j) r → TakesGrain r site q
+    → IsSettledRecord g (λ j. s j + occurrences (history ++ site ∷ []) j) q
 record_after g s history site r q before taken =
-    let more = record_of_more g (λ j. s j + tally history j) site r q before taken in
+    let more = record_of_more g (λ j. s j + occurrences history j) site r q before taken in
     record {
       grid = more.grid;
       heights_each = more.heights_each;
       odometer_each = more.odometer_each;
-      settled = settled_same g (λ j. s j + tally history j + one_at site j)
-          (λ j. s j + tally (history ++ site ∷ []) j) (λ j. get_or q.odometer j 0)
+      settled = settled_same g (λ j. s j + occurrences history j + one_at site j)
+          (λ j. s j + occurrences (history ++ site ∷ []) j) (λ j. get_or q.odometer j 0)
           (λ j. get_or q.odometer j 0) (λ j. get_or q.pile.heights j 0) (λ j. get_or q.pile.heights j 0)
-          (λ i l. let e = tally-push history site i in omega arith) (λ i l. refl) (λ i l. refl) more.settled;
+          (λ i l. let e = occurrences-push history site i in omega arith) (λ i l. refl) (λ i l. refl) more.settled;
       all_topplings = more.all_topplings;
       all_lost = more.all_lost;
     }

@@ -4,10 +4,10 @@ use Rattle.std.proofs.Math.ListN.{set}
 use Rattle.std.proofs.lemmas.Bool.{cases_eq, cases_lt, lt-leb, le-leb}
 use Rattle.std.proofs.lemmas.List.{get_or-set_other, take-append-drop, take_more, drop_all, length-drop, length-set}
 use Rattle.sand_model.specs.Grid.{Grid, sites}
-use Rattle.sand_model.specs.Sand.{one_at, tally, flow, IsToppled, topplings}
+use Rattle.sand_model.specs.Sand.{one_at, occurrences, flow, IsToppled, topplings}
 use Rattle.sand_model.specs.Lists.{Lists, one_if}
 use Rattle.sand_model.proofs.SumsBelow.{sum_below_same, sum_below_le, sum_below-add, sum_below-ones, sum_below-one_at, one_at_same, one_at_other}
-use Rattle.sand_model.proofs.Tallies.{tally-append, tally-cons, tally-push}
+use Rattle.sand_model.proofs.Occurrences.{occurrences-append, occurrences-cons, occurrences-push}
 use Rattle.sand_model.proofs.Flow.{flow_le, flow_same, flow-add}
 use Rattle.sand_model.proofs.Sandpile.{flow_ones}
 use Rattle.sand_model.proofs.Heights.{get_or-written}
@@ -25,7 +25,7 @@ at_most_one_at i j = at_most_one (eqb i j)
 -- the order of a listing does not matter
 pub lists_swap : (n : ℕ) (test : ℕ → Bool) (xs ys : List ℕ) → Lists n test (xs ++ ys) → Lists n test (ys ++ xs)
 lists_swap n test xs ys all = record {
-  each = λ i. let one = all.each i in let a = tally-append xs ys i in let b = tally-append ys xs i in omega arith;
+  each = λ i. let one = all.each i in let a = occurrences-append xs ys i in let b = occurrences-append ys xs i in omega arith;
 }
 
 -- h without the 4 grains that the held site still has to lose
@@ -94,20 +94,20 @@ wave_few g site h k list v turn inside wave =
     let one = sum_below-one_at (sites g) site (λ j. 1) inside in
     omega arith
 
-pub tally_part : (xs : List ℕ) (n j : ℕ) → tally (take n xs) j ≤ tally xs j
-tally_part xs n j =
-    let parts = tally-append (take n xs) (drop n xs) j in
-    let whole = ap (λ ys. tally ys j) (take-append-drop n xs) in
+pub occurrences_part : (xs : List ℕ) (n j : ℕ) → occurrences (take n xs) j ≤ occurrences xs j
+occurrences_part xs n j =
+    let parts = occurrences-append (take n xs) (drop n xs) j in
+    let whole = ap (λ ys. occurrences ys j) (take-append-drop n xs) in
     omega arith
 
-pub turn_tally : (list longer : List ℕ) (turn i : ℕ) → i ≡ get_or list turn 0
+pub turn_occurrences : (list longer : List ℕ) (turn i : ℕ) → i ≡ get_or list turn 0
     → turn < length list → take (turn + 1) longer ≡ take (turn + 1) list
     → (take (turn + 1) longer ≡ take turn list ++ i ∷ [])
-    × ((j : ℕ) → tally (take (turn + 1) longer) j ≡ tally (take turn list) j + one_at i j)
-turn_tally list longer turn i e l kept =
+    × ((j : ℕ) → occurrences (take (turn + 1) longer) j ≡ occurrences (take turn list) j + one_at i j)
+turn_occurrences list longer turn i e l kept =
     let longer_is : take (turn + 1) longer ≡ take turn list ++ i ∷ [] =
     kept ∙ take_more list turn 0 l ∙ ap (λ x. take turn list ++ x ∷ []) (sym e) in
-    (longer_is, λ j. ap (λ xs. tally xs j) longer_is ∙ tally-push (take turn list) i j)
+    (longer_is, λ j. ap (λ xs. occurrences xs j) longer_is ∙ occurrences-push (take turn list) i j)
 
 -- ---- the wave begins, goes on, and ends
 
@@ -145,9 +145,9 @@ wave_turn g site i h k list v turn e l wave =
           let first = turn_of (sites g) (may_topple (λ j. get_or k j 0)) list (site ∷ []) turn i e l queue in
           let few =
           at_most_once (sites g) (may_topple (λ j. get_or k j 0)) (i ∷ (drop (turn + 1) list ++ site ∷ [])) i first in
-          let head = tally-cons i (drop (turn + 1) list ++ site ∷ []) i in
-          let rest = tally-append (drop (turn + 1) list) (site ∷ []) i in
-          let last = tally-cons site [] i in
+          let head = occurrences-cons i (drop (turn + 1) list ++ site ∷ []) i in
+          let rest = occurrences-append (drop (turn + 1) list) (site ∷ []) i in
+          let last = occurrences-cons site [] i in
           let one = one_at_same i in
           let other = ap (λ s. one_at s i) same in
           absurd (omega arith),
@@ -229,7 +229,7 @@ wave_ends g site h k list v turn done each inside wave j l ne =
     ⊎_elim (λ (less : get_or k j 0 < 4). omega arith)
     (λ (more : 4 ≤ get_or k j 0).
     let one = listed (sites g) (may_topple (λ m. get_or k m 0)) (site ∷ []) j only l (le-leb 4 (get_or k j 0) more) in
-    let cons = tally-cons site [] j in
+    let cons = occurrences-cons site [] j in
     let none = one_at_other site j (λ e. ne (sym e)) in
     absurd (omega arith))
     (cases_lt (get_or k j 0) 4)
@@ -286,7 +286,7 @@ first_waits g site h list only inside high low =
     rw only
     (lists_from (sites g) (may_topple (λ j. get_or h j 0)) (site ∷ [])
     (λ j l.
-    let cons = tally-cons site [] j in
+    let cons = occurrences-cons site [] j in
     ⊎_elim
     (λ (e : site ≡ j).
     let same = ap (λ k. get_or h k 0) e in
@@ -297,4 +297,4 @@ first_waits g site h list only inside high low =
     let none' = one_at_other site j ne in
     rw (lt-leb 4 (get_or h j 0) (omega arith)) (omega arith))
     (cases_eq site j))
-    (λ j past. let cons = tally-cons site [] j in let none' = one_at_other site j (λ e. omega arith) in omega arith))
+    (λ j past. let cons = occurrences-cons site [] j in let none' = one_at_other site j (λ e. omega arith) in omega arith))

@@ -6,7 +6,7 @@ use Rattle.sand_model.specs.Piles.{PileView, IsPile}
 use Rattle.sand_model.proofs.Sandpile.{weight_after}
 use Rattle.sand_model.proofs.Heights.{sum_is_grains, sum_left}
 use Rattle.sand_model.proofs.Bounds.{topplings_bound}
-use Rattle.sand_settle.specs.Settling.{SettledView, IsRecord}
+use Rattle.sand_settle.specs.Settling.{SettledView, IsSettledRecord}
 
 pub sum_bound : (start : PileView) (u h : List ℕ)
     → IsPile start → length u ≡ sites start.grid
@@ -33,7 +33,7 @@ pub record_is : (start : PileView) (r : SettledView) → IsPile start
     → length r.odometer ≡ sites start.grid
     → IsSettled start.grid (λ j. get_or start.heights j 0) (λ j. get_or r.odometer j 0) (λ j. get_or r.pile.heights j 0)
     → r.topplings ≡ sum r.odometer → r.lost ≡ sum start.heights - sum r.pile.heights
-    → IsRecord start.grid (λ j. get_or start.heights j 0) r
+    → IsSettledRecord start.grid (λ j. get_or start.heights j 0) r
 record_is start r pile same heights counts done all gone = record {
   grid = same;
   heights_each = heights;

@@ -2,7 +2,7 @@
 -- since.
 use Rattle.std.specs.Prelude.{ℕ, ◌≡◌, ◌+◌, ◌≤◌, sum, slice_index}
 use Rattle.sand_fronts.specs.TiledPiles.{TiledView, by_site}
-use Rattle.sand_settle.specs.Settling.{SettledView, IsSettledRecord}
+use Rattle.sand_settle.specs.Settling.{SettledView, IsSomeSettledRecord}
 use Rattle.sand_settle.specs.Drops.{IsPaid}
 
 -- the record of the start, with the heights on the tiles, and with the topplings on them added
@@ -18,6 +18,6 @@ driven_record r t topplings lost = record {
 pub record IsDriven (r : SettledView) (t : TiledView) (number topplings lost grains : ℕ) : Type 0 where
   pub one_grid : t.grid ≡ r.pile.grid
   pub paid : IsPaid (driven_record r t topplings lost)
-  pub settled : IsSettledRecord (driven_record r t topplings lost)
+  pub settled : IsSomeSettledRecord (driven_record r t topplings lost)
   pub all_grains : grains ≡ sum t.heights + lost
   pub few : number ≤ grains

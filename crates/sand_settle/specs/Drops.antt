@@ -2,9 +2,9 @@
 -- Source: chip-firing; settling in two parts is settling at once, so drops may settle one after another (Dhar 1990).
 use Rattle.std.specs.Prelude.{ℕ, Option, IsSome, IfSome, ◌≡◌, ◌+◌, ◌-◌, ◌*◌, ◌<◌, ◌≤◌, List, [], ◌∷◌, All, length, sum}
 use Rattle.sand_model.specs.Grid.{Grid, IsGrid, sites}
-use Rattle.sand_model.specs.Sand.{IsStable, IsSettled, one_at, tally, topplings, lost, weight}
+use Rattle.sand_model.specs.Sand.{IsStable, IsSettled, one_at, occurrences, topplings, lost, weight}
 use Rattle.sand_model.specs.Piles.{PileView, IsPile, height_of, most_grains}
-use Rattle.sand_settle.specs.Settling.{SettledView, IsRecord, odometer_of}
+use Rattle.sand_settle.specs.Settling.{SettledView, IsSettledRecord, odometer_of}
 
 -- the settled record since the start, the number of drops, and the grains of the start and the drops
 pub record OneView : Type 0 where
@@ -15,12 +15,12 @@ pub record OneView : Type 0 where
 abbrev pub grid_of_one_pile : OneView → Grid
 grid_of_one_pile v = v.settled.pile.grid
 
--- v is the result of this start and these drops: the settled record of the start and the tally of the drops
+-- v is the result of this start and these drops: the settled record of the start and the drops
 pub record IsAfter (start : PileView) (history : List ℕ) (v : OneView) : Type 0 where
   pub start_pile : IsPile start
   pub all_sites : All (λ j. j < sites start.grid) history
   pub limit : sum start.heights + length history ≤ most_grains
-  pub settled : IsRecord start.grid (λ j. height_of start j + tally history j) v.settled
+  pub settled : IsSettledRecord start.grid (λ j. height_of start j + occurrences history j) v.settled
   pub number : v.number ≡ length history
   pub grains : v.grains ≡ sum start.heights + length history
 

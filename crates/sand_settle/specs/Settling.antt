@@ -15,7 +15,7 @@ abbrev pub odometer_of : SettledView → ℕ → ℕ
 odometer_of r = slice_index r.odometer
 
 -- the settled record of the heights s: the settled pile, the least odometer, and their sums
-pub record IsRecord (g : Grid) (s : ℕ → ℕ) (r : SettledView) : Type 0 where
+pub record IsSettledRecord (g : Grid) (s : ℕ → ℕ) (r : SettledView) : Type 0 where
   pub grid : r.pile.grid ≡ g
   pub heights_each : length r.pile.heights ≡ sites g
   pub odometer_each : length r.odometer ≡ sites g
@@ -24,5 +24,5 @@ pub record IsRecord (g : Grid) (s : ℕ → ℕ) (r : SettledView) : Type 0 wher
   pub all_lost : r.lost ≡ lost g (odometer_of r)
 
 -- r is the settled record of some heights
-abbrev pub IsSettledRecord : SettledView → Type 0
-IsSettledRecord r = (s : ℕ → ℕ) × IsRecord r.pile.grid s r
+abbrev pub IsSomeSettledRecord : SettledView → Type 0
+IsSomeSettledRecord r = (s : ℕ → ℕ) × IsSettledRecord r.pile.grid s r

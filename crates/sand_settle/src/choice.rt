@@ -8,7 +8,7 @@
 //! wrong claim costs time, and the result is the same.
 
 ghost use Rattle.std.specs.Prelude.{◌≤◌, ◌^◌, IfOk, IfSome, IsSome};
-ghost use Rattle.sand_settle.specs.Rests.{IsSettledRest};
+ghost use Rattle.sand_settle.specs.Rests.{ComesToRest};
 
 use crate::workspace::Workspace;
 use sand_certify::certified;
@@ -35,7 +35,7 @@ pub(crate) fn settle_by_queue(
     pile: &Pile,
     turns: u64,
 ) -> Result<Option<Rest>, AllocError>
-    ensures settled { IfOk result (λ o. IfSome o (IsSettledRest pile.now)) }
+    ensures settled { IfOk result (λ o. IfSome o (ComesToRest pile.now)) }
     ensures ends { 2 ^ 54 ≤ turns → IfOk result (λ o. IsSome o) }
 {
     let workspace = Workspace::new(alloc, pile.shape())?;
@@ -52,7 +52,7 @@ pub(crate) fn settle_by_claim(
     pile: &Pile,
     claim: Option<Claim>,
 ) -> Result<Option<Rest>, AllocError>
-    ensures { IfOk result (λ o. IfSome o (IsSettledRest pile.now)) }
+    ensures { IfOk result (λ o. IfSome o (ComesToRest pile.now)) }
 {
     let Some(claim) = claim else {
         return Ok(None);
@@ -69,7 +69,7 @@ pub(crate) fn settle_by_claim(
 
 // Settles a pile if little topples: by the queue in a few turns, or by sweeps.
 fn settle_if_low(alloc: Global, pile: &Pile) -> Result<Option<Rest>, AllocError>
-    ensures { IfOk result (λ o. IfSome o (IsSettledRest pile.now)) }
+    ensures { IfOk result (λ o. IfSome o (ComesToRest pile.now)) }
 {
     let is_flat = is_flat(pile);
     let turns = if is_flat {
@@ -87,7 +87,7 @@ fn settle_if_low(alloc: Global, pile: &Pile) -> Result<Option<Rest>, AllocError>
 /// Settles a pile: by the queue or by sweeps if little topples, otherwise by a guess, and if that is wrong by the
 /// queue.
 pub(crate) fn settle_by_any(alloc: Global, pile: &Pile) -> Result<Rest, AllocError>
-    ensures { IfOk result (IsSettledRest pile.now) }
+    ensures { IfOk result (ComesToRest pile.now) }
 {
     if !is_high(pile) {
         if let Some(rest) = settle_if_low(alloc, pile)? {

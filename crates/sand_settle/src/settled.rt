@@ -5,7 +5,7 @@
 
 ghost use Rattle.std.specs.Prelude.{◌≡◌, ◌<◌, ◌^◌, IfOk, length, sum};
 ghost use Rattle.sand_model.specs.Grid.{sites};
-ghost use Rattle.sand_settle.specs.Settling.{IsSettledRecord, odometer_of};
+ghost use Rattle.sand_settle.specs.Settling.{IsSomeSettledRecord, odometer_of};
 
 use sand_model::Pile;
 use std::alloc::{AllocError, Global};
@@ -21,13 +21,13 @@ pub struct Settled {
 }
 
 impl Model for Settled {
-    ghost use Rattle.sand_settle.specs.Settling.{SettledView, IsSettledRecord};
+    ghost use Rattle.sand_settle.specs.Settling.{SettledView, IsSomeSettledRecord};
 
     ghost Value = { SettledView };
 
     ghost view = { λ r. record { pile = r.pile; odometer = r.odometer.items; topplings = r.topplings; lost = r.lost } };
 
-    ghost invariant = { λ r. IsSettledRecord
+    ghost invariant = { λ r. IsSomeSettledRecord
         (record { pile = r.pile; odometer = r.odometer.items; topplings = r.topplings; lost = r.lost }) };
 }
 
@@ -42,7 +42,7 @@ impl Settled {
     /// The record of a settled pile, its odometer and the number of grains lost, which must be those of some heights.
     /// Copies nothing.
     pub fn of_parts(pile: Pile, odometer: Vec<u64>, lost: u64) -> Settled
-        requires settled { IsSettledRecord
+        requires settled { IsSomeSettledRecord
             (record { pile = pile; odometer = odometer.items; topplings = sum odometer.items; lost = lost }) }
         requires small { sum odometer.items < 2 ^ 64 }
         ensures { result
@@ -74,7 +74,7 @@ impl Settled {
 
     pub fn pile(&self) -> &Pile
         ensures value { result.now ≡ self.now.pile }
-        ensures settled { IsSettledRecord self.now }
+        ensures settled { IsSomeSettledRecord self.now }
         ensures odometer_each { length self.now.odometer ≡ sites self.now.pile.grid }
     {
         &self.pile

@@ -14,9 +14,9 @@ ghost use Rattle.std.specs.Prelude.{◌≡◌, ◌+◌, ◌*◌, ◌^◌, ◌<�
 ghost use Rattle.sand_model.specs.Grid.{sites};
 ghost use Rattle.sand_model.specs.Sand.{IsSettled, topplings, weight};
 ghost use Rattle.sand_model.specs.Piles.{height_of, most_grains};
-ghost use Rattle.sand_settle.specs.Settling.{IsRecord};
+ghost use Rattle.sand_settle.specs.Settling.{IsSettledRecord};
 ghost use Rattle.sand_settle.specs.SiteLists.{ListsUnstable};
-ghost use Rattle.sand_settle.specs.Rests.{IsSettledRest};
+ghost use Rattle.sand_settle.specs.Rests.{ComesToRest};
 ghost use Rattle.sand_model.specs.Underway.{Advances};
 
 use crate::choice::{Rest, settle_by_any};
@@ -107,8 +107,8 @@ impl Workspace {
 }
 
 fn record_of(pile: &Pile, rest: Rest) -> Settled
-    requires { IsSettledRest pile.now rest }
-    ensures record { IsRecord pile.now.grid (height_of pile.now) result }
+    requires { ComesToRest pile.now rest }
+    ensures record { IsSettledRecord pile.now.grid (height_of pile.now) result }
     ensures half { 2 * result.topplings ≤ weight pile.now.grid (height_of pile.now) }
     ensures bound { result.topplings < 2 ^ 54 }
 {
@@ -122,7 +122,7 @@ fn record_of(pile: &Pile, rest: Rest) -> Settled
 /// The settled record of a pile: its settled pile, its least odometer, the grains lost and the topplings. Fails only if
 /// an allocation fails (Memory). The pile is unchanged.
 pub fn settle(alloc: Global, pile: &Pile) -> Result<Settled, SettleFault>
-    ensures record { IfOk result (λ r. IsRecord pile.now.grid (height_of pile.now) r) }
+    ensures record { IfOk result (λ r. IsSettledRecord pile.now.grid (height_of pile.now) r) }
     ensures half { IfOk result (λ r. 2 * r.topplings ≤ weight pile.now.grid (height_of pile.now)) }
     ensures bound { IfOk result (λ r. r.topplings < 2 ^ 54) }
 {

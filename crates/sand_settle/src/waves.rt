@@ -21,7 +21,7 @@
 
 ghost use Rattle.std.specs.Prelude.{◌≡◌, ◌≢◌, ℕ, ◌+◌, ◌*◌, ◌^◌, ◌<◌, ◌≤◌, length, sum, slice_index, All};
 ghost use Rattle.sand_model.specs.Grid.{sites};
-ghost use Rattle.sand_model.specs.Sand.{IsSettled, tally, topplings};
+ghost use Rattle.sand_model.specs.Sand.{IsSettled, occurrences, topplings};
 ghost use Rattle.sand_model.specs.Lists.{Lists};
 ghost use Rattle.sand_model.specs.Piles.{most_grains};
 ghost use Rattle.sand_settle.specs.Avalanches.{IsAvalanche};
@@ -67,11 +67,11 @@ fn topple_once(lattice: &Lattice, heights: &mut [u64], list: &mut IndexList, sit
 // Counts one toppling of each site of a list, and notes a site at its first.
 fn count_each(counts: &mut [u64], toppled: &mut IndexList, list: &IndexList)
     requires inside { All (λ j. j < length counts.old) list.now.items }
-    requires fits { (j : ℕ) → j < length counts.old → slice_index counts.old j + tally list.now.items j < 2 ^ 64 }
+    requires fits { (j : ℕ) → j < length counts.old → slice_index counts.old j + occurrences list.now.items j < 2 ^ 64 }
     requires small { length counts.old ≤ 65536 }
     requires noted { Lists (length counts.old) (has_toppled (slice_index counts.old)) toppled.old.items }
     requires room { length counts.old < toppled.old.room }
-    ensures counted { (j : ℕ) → slice_index counts.new j ≡ slice_index counts.old j + tally list.now.items j }
+    ensures counted { (j : ℕ) → slice_index counts.new j ≡ slice_index counts.old j + occurrences list.now.items j }
     ensures noted { Lists (length counts.old) (has_toppled (slice_index counts.new)) toppled.new.items }
     ensures room { toppled.new.room ≡ toppled.old.room }
 {

@@ -3,18 +3,18 @@ use Rattle.std.proofs.Common.{◌≡◌, ℕ, zero, suc, ◌+◌, ◌-◌, ◌*�
 use Rattle.std.specs.Prelude.{slice_index}
 use Rattle.std.proofs.lemmas.Bool.{cases_eq}
 use Rattle.sand_model.specs.Grid.{Grid, sites}
-use Rattle.sand_model.specs.Sand.{IsSettled, IsUnderway, IsToppled, flow, sum_below, grains, tally, topplings as topplings_of, lost as lost_of}
+use Rattle.sand_model.specs.Sand.{IsSettled, IsUnderway, IsToppled, flow, sum_below, grains, occurrences, topplings as topplings_of, lost as lost_of}
 use Rattle.sand_model.specs.Piles.{PileView, height_of, most_grains}
 use Rattle.sand_model.proofs.SumsBelow.{sum_below_same, sum_below-add}
-use Rattle.sand_model.proofs.Tallies.{sum_below-tally}
+use Rattle.sand_model.proofs.Occurrences.{sum_below-occurrences}
 use Rattle.sand_model.proofs.Heights.{sum_is_grains}
 use Rattle.sand_model.proofs.Bounds.{topplings_bound}
 use Rattle.sand_model.proofs.Sandpile.{laplacian_sum, settles_after, settled_same}
-use Rattle.sand_settle.specs.Settling.{SettledView, IsRecord, odometer_of}
+use Rattle.sand_settle.specs.Settling.{SettledView, IsSettledRecord, odometer_of}
 use Rattle.sand_shared.specs.declared.bare_pass.BarePass.TheInside.{Inside}
 use Rattle.sand_shared.specs.declared.view.View.{View}
 use Rattle.sand_shared.specs.declared.view.Terms.{Terms}
-use Rattle.sand_shared.specs.OpenPile.{grid_of_terms, drops_at, start_and_drawn, toppled_by}
+use Rattle.sand_shared.specs.OpenPile.{grid_of_terms, receipts_for, start_and_drawn, toppled_by}
 use Rattle.sand_shared.specs.Events.{look}
 use Rattle.sand_shared.specs.Bare.{shown, IsBare}
 use Rattle.sand_shared.specs.Passes.{PassView, SharedView, at_rest, IsPassOf, IsWhole}
@@ -46,9 +46,9 @@ looked_exactly t a i v w n h free all =
     let least = looked_at_least t a i v w n h free all in omega arith
 
 module _ (t : Terms) (a : ℕ) (v : View) (s : Stands t a v) (all : HasAll t v) where
-  pub its_all : (i : ℕ) → tally s.pile.drawn i ≡ drops_at v.receipts i
+  pub its_all : (i : ℕ) → occurrences s.pile.drawn i ≡ receipts_for v.receipts i
   its_all i =
-      its_drops t s.pile s.lawful a s.there (has_all t a v s all) i ∙ ap (λ (u : View). drops_at u.receipts i) s.pass
+      its_drops t s.pile s.lawful a s.there (has_all t a v s all) i ∙ ap (λ (u : View). receipts_for u.receipts i) s.pass
 
   pub laid_few : grains (grid_of_terms t) (start_and_receipts t v) ≤ most_grains
   laid_few =
@@ -56,9 +56,9 @@ module _ (t : Terms) (a : ℕ) (v : View) (s : Stands t a v) (all : HasAll t v) 
       let p = s.pile in
       let same = sum_below_same (sites g) (start_and_receipts t v)
       (start_and_drawn t p) (λ i _. let d = its_all i in omega arith) in
-      let parts = sum_below-add (sites g) (height_of t.start) (tally p.drawn) in
+      let parts = sum_below-add (sites g) (height_of t.start) (occurrences p.drawn) in
       let start = sum_is_grains g t.start.heights s.terms.pile.one_each in
-      let drops = sum_below-tally (sites g) p.drawn s.lawful.all_sites in
+      let drops = sum_below-occurrences (sites g) p.drawn s.lawful.all_sites in
       let quota = s.lawful.quota in
       let limit = s.terms.limit in omega arith
 
@@ -137,11 +137,11 @@ module _ {t : Terms} {p : PassView} {r : SettledView} {a : ℕ} {v : View} (b : 
         counts_each = whole_counts t p b.all.grid b.all.one_each b.all.whole;
         odometer_each = b.rest.odometer_each;
         small = completed_small;
-        settled = settled_same g (start_and_receipts t (at_rest p)) (λ i. height_of t.start i + tally history i)
+        settled = settled_same g (start_and_receipts t (at_rest p)) (λ i. height_of t.start i + occurrences history i)
             (λ i. slice_index p.counts i + odometer_of r i) (λ i. slice_index p.counts i + odometer_of r i)
             (height_of r.pile) (height_of r.pile)
             (λ i l.
-            let d = its_all t a resting s all_resting i in let e = ap (λ (h : List ℕ). tally h i) drawn in omega arith)
+            let d = its_all t a resting s all_resting i in let e = ap (λ (h : List ℕ). occurrences h i) drawn in omega arith)
             (λ i l. refl) (λ i l. refl)
             b.rest.settled;
       }
@@ -161,7 +161,7 @@ left_underway t p same each whole h =
 pub rest_of : (t : Terms) (p : PassView) (q : PileView) (r : SettledView)
     → q.grid ≡ grid_of_terms t
     → IsUnderway (grid_of_terms t) (start_and_receipts t (at_rest p)) (slice_index p.counts) (height_of q)
-    → IsRecord q.grid (height_of q) r → IsRestOf t p r
+    → IsSettledRecord q.grid (height_of q) r → IsRestOf t p r
 rest_of t p q r same under settled = record {
   grid = settled.grid ∙ same;
   heights_each = settled.heights_each ∙ ap sites same;

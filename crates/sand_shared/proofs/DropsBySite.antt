@@ -7,12 +7,12 @@ use Rattle.std.proofs.lemmas.List.{ext_get_or, get_or-replicate, get_or_read, ge
 use Rattle.std.proofs.lemmas.List.Elements.{All-cons, All-nil}
 use Rattle.std.proofs.lemmas.List.Sums.{sum_by-cons, count_by-le-length}
 use Rattle.std.proofs.Math.Seq.{take-suc}
-use Rattle.sand_model.specs.Sand.{tally, one_at}
+use Rattle.sand_model.specs.Sand.{occurrences, one_at}
 use Rattle.sand_model.specs.Lists.{one_if}
-use Rattle.sand_model.proofs.Tallies.{tally-cons, tally-push}
+use Rattle.sand_model.proofs.Occurrences.{occurrences-cons, occurrences-push}
 use Rattle.sand_shared.specs.declared.view.Grains.{Grains}
 use Rattle.sand_shared.specs.OpenPile.{amount_at, held}
-use Rattle.sand_shared.specs.Events.{grains, zeros, are_for, one_for_each}
+use Rattle.sand_shared.specs.Events.{grains_for, zeros, are_for, one_for_each}
 use Rattle.sand_shared.proofs.SumsOverPasses.{sum_by-map}
 use Rattle.sand_shared.proofs.NumbersOnce.{one_if_same, one_if_other}
 use Rattle.sand_shared.proofs.GrainsAtSite.{amount_here, amount_else, held-cons}
@@ -30,17 +30,17 @@ read_count n k c counts drops long inside below read =
 -- one more entry is counted
 pub counted_more : (n k : ℕ) (counts drops : List ℕ)
     → k < length drops → get_or drops k 0 < length counts
-    → ((i : ℕ) → i < n → slice_index counts i ≡ tally (take k drops) i)
+    → ((i : ℕ) → i < n → slice_index counts i ≡ occurrences (take k drops) i)
     → (i : ℕ) → i < n
     → slice_index (set counts (get_or drops k 0) (slice_index counts (get_or drops k 0) + 1)) i
-    ≡ tally (take (k + 1) drops) i
+    ≡ occurrences (take (k + 1) drops) i
 counted_more n k counts drops inside there counted i l =
     let x = get_or drops k 0 in
     let c = slice_index counts x in
     let here = counted i l in
-    let next : tally (take (k + 1) drops) i ≡ tally (take k drops) i + one_at x i =
-    ap (λ m. tally (take m drops) i) {x = k + 1} {y = suc k} (omega arith)
-    ∙ (ap (λ xs. tally xs i) (take-suc drops k 0 inside) ∙ tally-push (take k drops) x i) in
+    let next : occurrences (take (k + 1) drops) i ≡ occurrences (take k drops) i + one_at x i =
+    ap (λ m. occurrences (take m drops) i) {x = k + 1} {y = suc k} (omega arith)
+    ∙ (ap (λ xs. occurrences xs i) (take-suc drops k 0 inside) ∙ occurrences-push (take k drops) x i) in
     ⊎_elim
     (λ (e : x ≡ i).
     let one = one_if_same x i e in
@@ -51,8 +51,8 @@ counted_more n k counts drops inside there counted i l =
     let old = get_or-set_other counts x i (c + 1) 0 (λ e. ne (sym e)) in omega arith)
     (cases_eq x i)
 
-pub tally_small : (k : ℕ) (drops : List ℕ) (i : ℕ) → k < length drops → tally (take k drops) i ≤ k
-tally_small k drops i inside =
+pub occurrences_small : (k : ℕ) (drops : List ℕ) (i : ℕ) → k < length drops → occurrences (take k drops) i ≤ k
+occurrences_small k drops i inside =
     let few = count_by-le-length (λ j. eqb j i) (take k drops) in
     omega (arith, length-take k drops)
 
@@ -61,18 +61,18 @@ pub record Waits (n : ℕ) (counts : List ℕ) (hand : List Grains) (coming : Li
   pub long : length counts ≡ n
   pub single : All (λ g. (g.site < n) × (g.amount ≡ 1)) hand
   pub counted : (i : ℕ) → i < n → slice_index counts i ≡ held hand i
-  pub come : (i : ℕ) → i < n → 0 < slice_index counts i → 0 < tally coming i
+  pub come : (i : ℕ) → i < n → 0 < slice_index counts i → 0 < occurrences coming i
 
 module _ (n : ℕ) where
   all_single : (is : List ℕ) → All (λ i. i < n) is
       → All (λ (g : Grains). (g.site < n) × (g.amount ≡ 1)) (one_for_each is)
   all_single [] inside = All-nil (λ (g : Grains). (g.site < n) × (g.amount ≡ 1))
   all_single (i ∷ is) inside =
-      All-cons (λ (g : Grains). (g.site < n) × (g.amount ≡ 1)) (grains i 1) (one_for_each is)
+      All-cons (λ (g : Grains). (g.site < n) × (g.amount ≡ 1)) (grains_for i 1) (one_for_each is)
       (inside 0 0 (omega arith), refl) (all_single is (λ k d l. inside (suc k) d (omega arith)))
 
-  held-one_for_each : (is : List ℕ) (j : ℕ) → held (one_for_each is) j ≡ tally is j
-  held-one_for_each is j = sum_by-map (λ (g : Grains). amount_at g.site g.amount j) (λ i. grains i 1) is
+  held-one_for_each : (is : List ℕ) (j : ℕ) → held (one_for_each is) j ≡ occurrences is j
+  held-one_for_each is j = sum_by-map (λ (g : Grains). amount_at g.site g.amount j) (λ i. grains_for i 1) is
 
   -- single grains for a site are as many as their entries
   pub count_is : (i : ℕ) (hand : List Grains) → All (λ g. (g.site < n) × (g.amount ≡ 1)) hand
@@ -89,7 +89,7 @@ module _ (n : ℕ) where
 
   pub waits_all : (counts drops : List ℕ)
       → length counts ≡ n → All (λ i. i < n) drops
-      → ((i : ℕ) → i < n → slice_index counts i ≡ tally drops i)
+      → ((i : ℕ) → i < n → slice_index counts i ≡ occurrences drops i)
       → Waits n counts (one_for_each drops) drops
   waits_all counts drops long inside counted = record {
     long = long;
@@ -99,8 +99,8 @@ module _ (n : ℕ) where
   }
 
   module _ (x : ℕ) (coming : List ℕ) where
-    come_else : (i : ℕ) → x ≢ i → 0 < tally (x ∷ coming) i → 0 < tally coming i
-    come_else i ne some_there = let all = tally-cons x coming i in let none = one_if_other x i ne in omega arith
+    come_else : (i : ℕ) → x ≢ i → 0 < occurrences (x ∷ coming) i → 0 < occurrences coming i
+    come_else i ne some_there = let all = occurrences-cons x coming i in let none = one_if_other x i ne in omega arith
 
     -- the grains of this site were laid earlier
     pub waits_past : (counts : List ℕ) (hand : List Grains)

@@ -8,7 +8,7 @@ use Rattle.sand_shared.specs.declared.view.View.{View}
 use Rattle.sand_shared.specs.declared.view.Receipt.{Receipt}
 use Rattle.sand_shared.specs.declared.view.Terms.{Terms}
 use Rattle.sand_shared.specs.OpenPile.{OpenPile, nobody, grid_of_terms, pass_at, AreTerms, IsLawful}
-use Rattle.sand_shared.specs.Events.{Event, begin, draw, place, receipt, grains, are_for, drew, drew_all, after_laying, receipts_from, one_for_each, all_draws, all_places, unopened, May, after, AllHappen, after_all}
+use Rattle.sand_shared.specs.Events.{Event, begin, draw, place, receipt, grains_for, are_for, drew, drew_all, after_laying, receipts_from, one_for_each, all_draws, all_places, unopened, May, after, AllHappen, after_all}
 use Rattle.sand_shared.specs.Plays.{Takes}
 use Rattle.sand_shared.specs.Running.{Shows, IsRunning, found, Finds, Happened}
 use Rattle.sand_shared.specs.Passes.{EachOnce, AllBelow}
@@ -132,7 +132,7 @@ drew_more v n i is =
     let left : v.left - 1 - length is ≡ v.left - suc (length is) = omega arith in
     let seen : n + 1 + length is ≡ n + suc (length is) = omega arith in
     let receipts = append_assoc v.receipts (receipt n i ∷ []) (receipts_from (n + 1) is) in
-    let hand = append_assoc v.hand (grains i 1 ∷ []) (one_for_each is) in
+    let hand = append_assoc v.hand (grains_for i 1 ∷ []) (one_for_each is) in
     λ q. record v { left = left q; seen = seen q; receipts = receipts q; hand = hand q }
 
 drew_none : (v : View) (n : ℕ) → v.seen ≡ n → drew_all v n [] ≡ v

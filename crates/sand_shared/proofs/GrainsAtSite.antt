@@ -12,7 +12,7 @@ use Rattle.sand_shared.specs.declared.view.Grains.{Grains}
 use Rattle.sand_shared.specs.declared.view.View.{View}
 use Rattle.sand_shared.specs.declared.view.Terms.{Terms}
 use Rattle.sand_shared.specs.OpenPile.{grid_of_terms, amount_at, held, holds_site, toppled_by}
-use Rattle.sand_shared.specs.Events.{grains, sent, unloaded}
+use Rattle.sand_shared.specs.Events.{grains_for, sent, unloaded}
 use Rattle.sand_shared.proofs.SumsOverPasses.{sum_by-map}
 
 pub amount_here : (i k j : ℕ) → i ≡ j → amount_at i k j ≡ k
@@ -54,7 +54,7 @@ held-append xs ys j = sum_by-append (λ (g : Grains). amount_at g.site g.amount 
 pub held-sent : (t : Terms) (i k j : ℕ) → held (sent t i k) j ≡ flow (grid_of_terms t) (λ m. amount_at m k j) i
 unfolding flow
 held-sent t i k j =
-    sum_by-map (λ (g : Grains). amount_at g.site g.amount j) (λ m. grains m k) (neighbours (grid_of_terms t) i)
+    sum_by-map (λ (g : Grains). amount_at g.site g.amount j) (λ m. grains_for m k) (neighbours (grid_of_terms t) i)
 
 -- a site of a pass has an index among its counts
 pub place_inside : (v : View) (i : ℕ) → holds_site v i ≡ true → (v.base ≤ i) × (i - v.base < length v.counts)

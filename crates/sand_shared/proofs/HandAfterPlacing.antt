@@ -8,7 +8,7 @@ use Rattle.std.proofs.lemmas.List.Sums.{sum_by-cons}
 use Rattle.sand_model.specs.Lists.{one_if}
 use Rattle.sand_shared.specs.declared.view.Grains.{Grains}
 use Rattle.sand_shared.specs.OpenPile.{amount_at, held}
-use Rattle.sand_shared.specs.Events.{grains, behind_first, are_for, without}
+use Rattle.sand_shared.specs.Events.{grains_for, behind_first, are_for, without}
 use Rattle.sand_shared.proofs.GrainsAtSite.{amount_here, amount_else, held-cons}
 
 module _ (i k : ℕ) where
@@ -73,12 +73,12 @@ module _ (i k : ℕ) where
       rw (without-else g gs e) (All-cons P g (without i k gs) (all 0 g (omega arith)) (all_without P gs tail)))
       (cases_Bool (are_for i k g))
 
-  are_first : are_for i k (grains i k) ≡ true
+  are_first : are_for i k (grains_for i k) ≡ true
   are_first = grind (arith, nat_tests)
 
-  pub first_counts : (hand : List Grains) → hand ≡ grains i k ∷ behind_first hand → 0 < count_by (are_for i k) hand
+  pub first_counts : (hand : List Grains) → hand ≡ grains_for i k ∷ behind_first hand → 0 < count_by (are_for i k) hand
   first_counts hand first =
-      let count = ap (count_by (are_for i k)) first ∙ count-cons (grains i k) (behind_first hand) in
+      let count = ap (count_by (are_for i k)) first ∙ count-cons (grains_for i k) (behind_first hand) in
       let one = ap one_if are_first in omega arith
 
 -- a hand after n single grains are laid on the site i
@@ -111,5 +111,5 @@ module _ (i : ℕ) where
   all_laid P zero hand all = all
   all_laid P (suc c) hand all = all_laid P c (without i 1 hand) (all_without i 1 P hand all)
 
-  pub last_laid : laid_on i 1 (grains i 1 ∷ []) ≡ []
-  last_laid = without-here i 1 (grains i 1) [] (are_first i 1)
+  pub last_laid : laid_on i 1 (grains_for i 1 ∷ []) ≡ []
+  last_laid = without-here i 1 (grains_for i 1) [] (are_first i 1)

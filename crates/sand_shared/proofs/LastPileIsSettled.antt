@@ -4,7 +4,7 @@ use Rattle.std.proofs.Common.{◌≡◌, ℕ, ◌+◌, ◌-◌, ◌*◌, ◌<◌
 use Rattle.std.specs.Prelude.{slice_index, nat_lt}
 use Rattle.atomic_table.specs.Table.{Me}
 use Rattle.sand_model.specs.Grid.{sites}
-use Rattle.sand_model.specs.Sand.{IsSettled, tally}
+use Rattle.sand_model.specs.Sand.{IsSettled, occurrences}
 use Rattle.sand_model.specs.Piles.{height_of}
 use Rattle.sand_model.specs.Lists.{one_if}
 use Rattle.sand_model.proofs.Flow.{flow_same}
@@ -12,7 +12,7 @@ use Rattle.sand_shared.specs.declared.bare_pass.BarePass.TheInside.{Inside}
 use Rattle.sand_shared.specs.declared.view.View.{View}
 use Rattle.sand_shared.specs.declared.view.Receipt.{Receipt}
 use Rattle.sand_shared.specs.declared.view.Terms.{Terms}
-use Rattle.sand_shared.specs.OpenPile.{nobody, grid_of_terms, numbered, drops_at, toppled_by, toppled, start_and_drawn, pass_at}
+use Rattle.sand_shared.specs.OpenPile.{nobody, grid_of_terms, numbered, receipts_for, toppled_by, toppled, start_and_drawn, pass_at}
 use Rattle.sand_shared.specs.Bare.{shown, IsBare}
 use Rattle.sand_shared.specs.Passes.{PassView, SharedView, AllBelow, IsPass, IsPassOf, IsWhole, at_rest}
 use Rattle.sand_shared.specs.Events.{looked}
@@ -95,7 +95,7 @@ module _ (t : Terms) (a : ℕ) (v : View) (heights : List ℕ) (last : IsLast t 
                 at_most_three = λ i l.
                     let low = calm i l in
                     let drops = its_drops t p s.lawful a s.there (has_all t a v last.stands all) i in
-                    let same = ap (λ (u : View). drops_at u.receipts i) s.pass in
+                    let same = ap (λ (u : View). receipts_for u.receipts i) s.pass in
                     let here = toppled_is t a v last.stands all base i l in
                     let mine = own i l in
                     let around =
@@ -124,7 +124,7 @@ module _ (t : Terms) (a : ℕ) (v : View) (heights : List ℕ) (last : IsLast t 
             heights_each = last.one_each;
             odometer_each = each;
             settled = subst (λ (l : List ℕ). IsSettled (grid_of_terms t)
-                (λ i. height_of t.start i + tally l i) (slice_index v.counts) (slice_index heights))
+                (λ i. height_of t.start i + occurrences l i) (slice_index v.counts) (slice_index heights))
                 (sym drawn) settles;
           }
 

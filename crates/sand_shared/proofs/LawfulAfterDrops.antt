@@ -6,12 +6,12 @@ use Rattle.std.proofs.lemmas.List.Sums.{sum_by-set, sum_by_push}
 use Rattle.std.proofs.lemmas.List.Elements.{All-append, All-cons, All-nil}
 use Rattle.sand_model.specs.Grid.{sites}
 use Rattle.sand_model.specs.Lists.{one_if}
-use Rattle.sand_model.proofs.Tallies.{tally-push}
+use Rattle.sand_model.proofs.Occurrences.{occurrences-push}
 use Rattle.sand_shared.specs.declared.view.View.{View}
 use Rattle.sand_shared.specs.declared.view.Receipt.{Receipt}
 use Rattle.sand_shared.specs.declared.view.Terms.{Terms}
-use Rattle.sand_shared.specs.OpenPile.{OpenPile, nobody, grid_of_terms, amount_at, numbered, drops_at, held, holds_site, toppled_by, toppled, start_and_drawn, present, pass_at, IsLawfulPass, IsLawful}
-use Rattle.sand_shared.specs.Events.{draw, place, deliver, drew, receipt, grains, are_for, without, arrived, May, after}
+use Rattle.sand_shared.specs.OpenPile.{OpenPile, nobody, grid_of_terms, amount_at, numbered, receipts_for, held, holds_site, toppled_by, toppled, start_and_drawn, present, pass_at, IsLawfulPass, IsLawful}
+use Rattle.sand_shared.specs.Events.{draw, place, deliver, drew, receipt, grains_for, are_for, without, arrived, May, after}
 use Rattle.sand_shared.proofs.SumsOverPasses.{sum_by_kept, all_after}
 use Rattle.sand_shared.proofs.GrainsAtSite.{held-append}
 use Rattle.sand_shared.proofs.HandAfterPlacing.{held-without}
@@ -21,7 +21,7 @@ use Rattle.sand_shared.proofs.LawfulAfterReads.{still_lawful}
 once_more : (x n : ℕ) → one_if (ltb x n) + one_if (eqb n x) ≡ one_if (ltb x (n + 1))
 once_more x n = grind (arith, nat_tests)
 
-dropped-push : (rs : List Receipt) (n i j : ℕ) → drops_at (rs ++ receipt n i ∷ []) j ≡ drops_at rs j + one_if (eqb i j)
+dropped-push : (rs : List Receipt) (n i j : ℕ) → receipts_for (rs ++ receipt n i ∷ []) j ≡ receipts_for rs j + one_if (eqb i j)
 dropped-push rs n i j = sum_by_push (λ (r : Receipt). one_if (eqb r.site j)) rs (receipt n i)
 
 numbered-push : (rs : List Receipt) (n i x : ℕ) → numbered (rs ++ receipt n i ∷ []) x ≡ numbered rs x + one_if (eqb n x)
@@ -49,7 +49,7 @@ module _ (t : Terms) (p : OpenPile) (a i : ℕ) (r : IsLawful t p) (may : May t 
         receipts = All-append Q v.receipts (receipt n i ∷ []) (λ k d l. get_longer p.drawn i _ _ (f.receipts k d l))
             (All-cons Q (receipt n i) [] (get_last p.drawn i) (All-nil Q));
         hand = λ j l. (let h = f.hand j l in
-            let b = held-append v.hand (grains i 1 ∷ []) j in
+            let b = held-append v.hand (grains_for i 1 ∷ []) j in
             let c = dropped-push v.receipts n i j in
             omega arith);
         least = f.least;
@@ -82,12 +82,12 @@ module _ (t : Terms) (p : OpenPile) (a i : ℕ) (r : IsLawful t p) (may : May t 
             (present p) (start_and_drawn t q) (toppled q) (present q) still
             (λ j l.
             let c = changed (λ u. held u.hand j) in
-            let h = held-append v.hand (grains i 1 ∷ []) j in
-            let d = tally-push p.drawn i j in
+            let h = held-append v.hand (grains_for i 1 ∷ []) j in
+            let d = occurrences-push p.drawn i j in
             omega arith) r.balance;
         needed = λ x stab j l. (let e = still j in
             let m = r.needed x (stabilises_fewer (grid_of_terms t) (start_and_drawn t p)
-            (start_and_drawn t q) x (λ k _. let d = tally-push p.drawn i k in omega arith) stab)
+            (start_and_drawn t q) x (λ k _. let d = occurrences-push p.drawn i k in omega arith) stab)
             j l in
             omega arith);
         numbers = λ x. (let c = changed (λ u. numbered u.receipts x) in
@@ -99,10 +99,10 @@ module _ (t : Terms) (p : OpenPile) (a i : ℕ) (r : IsLawful t p) (may : May t 
             let o = r.receipts in
             let b = length-append v.receipts (receipt n i ∷ []) in
             omega arith);
-        receipts_by_site = λ j. (let c = changed (λ u. drops_at u.receipts j) in
+        receipts_by_site = λ j. (let c = changed (λ u. receipts_for u.receipts j) in
             let b = dropped-push v.receipts n i j in
             let o = r.receipts_by_site j in
-            let d = tally-push p.drawn i j in
+            let d = occurrences-push p.drawn i j in
             omega arith);
         all_sites = All-append (λ j. j < sites (grid_of_terms t)) p.drawn (i ∷ []) r.all_sites
             (All-cons (λ j. j < sites (grid_of_terms t)) i [] may.inside (All-nil (λ j. j < sites (grid_of_terms t))));

@@ -6,7 +6,7 @@ use Rattle.sand_model.specs.Lists.{one_if}
 use Rattle.sand_shared.specs.declared.view.View.{View}
 use Rattle.sand_shared.specs.declared.view.Grains.{Grains}
 use Rattle.sand_shared.specs.declared.view.Terms.{Terms}
-use Rattle.sand_shared.specs.OpenPile.{OpenPile, nobody, grid_of_terms, numbered, drops_at, held, holds_site, toppled_by, toppled, start_and_drawn, present, pass_at, IsLawfulPass, IsLawful}
+use Rattle.sand_shared.specs.OpenPile.{OpenPile, nobody, grid_of_terms, numbered, receipts_for, held, holds_site, toppled_by, toppled, start_and_drawn, present, pass_at, IsLawfulPass, IsLawful}
 use Rattle.sand_shared.specs.Events.{count, look, with_pass, May, after}
 use Rattle.sand_shared.proofs.SumsOverPasses.{sum_by_kept, all_after}
 use Rattle.sand_shared.proofs.Balance.{balance_kept}
@@ -36,7 +36,7 @@ still_lawful t p a seen spot least hand height r there same mine others =
       needed = λ x stab i l. (let e = still i in let n = r.needed x stab i l in omega arith);
       numbers = λ n. kept (λ u. numbered u.receipts n) refl ∙ r.numbers n;
       receipts = kept (λ u. length u.receipts) refl ∙ r.receipts;
-      receipts_by_site = λ i. kept (λ u. drops_at u.receipts i) refl ∙ r.receipts_by_site i;
+      receipts_by_site = λ i. kept (λ u. receipts_for u.receipts i) refl ∙ r.receipts_by_site i;
       all_sites = r.all_sites;
       quota = (let e = kept (λ u. u.left) refl in let b = r.quota in omega arith);
       holders = λ i l. kept (λ u. one_if (holds_site u i)) refl ∙ r.holders i l;

@@ -9,7 +9,7 @@ use Rattle.sand_model.specs.Lists.{one_if}
 use Rattle.sand_shared.specs.declared.view.View.{View}
 use Rattle.sand_shared.specs.declared.view.Receipt.{Receipt}
 use Rattle.sand_shared.specs.declared.view.Terms.{Terms}
-use Rattle.sand_shared.specs.OpenPile.{OpenPile, grid_of_terms, nobody, numbered, drops_at, held, holds_site, toppled_by, toppled, start_and_drawn, present, pass_at, IsLawfulPass, IsLawful}
+use Rattle.sand_shared.specs.OpenPile.{OpenPile, grid_of_terms, nobody, numbered, receipts_for, held, holds_site, toppled_by, toppled, start_and_drawn, present, pass_at, IsLawfulPass, IsLawful}
 use Rattle.sand_shared.specs.Events.{split, join, parent, child, joined, May, after}
 use Rattle.sand_shared.proofs.Balance.{balance_kept}
 use Rattle.sand_shared.proofs.RowPartsAddUp.{none_toppled, cut_parts, parts_hold, parts_toppled, joined_rows}
@@ -19,7 +19,7 @@ pub record SharesOut (v w x y : View) : Type 0 where
   pub left : x.left + y.left ≡ v.left + w.left
   pub receipts : length x.receipts + length y.receipts ≡ length v.receipts + length w.receipts
   pub numbers : (n : ℕ) → numbered x.receipts n + numbered y.receipts n ≡ numbered v.receipts n + numbered w.receipts n
-  pub drops : (i : ℕ) → drops_at x.receipts i + drops_at y.receipts i ≡ drops_at v.receipts i + drops_at w.receipts i
+  pub drops : (i : ℕ) → receipts_for x.receipts i + receipts_for y.receipts i ≡ receipts_for v.receipts i + receipts_for w.receipts i
   pub hands : (i : ℕ) → held x.hand i + held y.hand i ≡ held v.hand i + held w.hand i
   pub toppled : (i : ℕ) → toppled_by x i + toppled_by y i ≡ toppled_by v i + toppled_by w i
   pub sites_held : (i : ℕ)
@@ -43,7 +43,7 @@ regrouped t p views v w x y r a stays each =
       needed = λ z stab i l. (let e = still i in let n = r.needed z stab i l in omega arith);
       numbers = λ n. stays (λ u. numbered u.receipts n) (a.numbers n) refl ∙ r.numbers n;
       receipts = stays (λ u. length u.receipts) a.receipts refl ∙ r.receipts;
-      receipts_by_site = λ i. stays (λ u. drops_at u.receipts i) (a.drops i) refl ∙ r.receipts_by_site i;
+      receipts_by_site = λ i. stays (λ u. receipts_for u.receipts i) (a.drops i) refl ∙ r.receipts_by_site i;
       all_sites = r.all_sites;
       quota = (let e = stays (λ u. u.left) a.left refl in let b = r.quota in omega arith);
       holders = λ i l. stays (λ u. one_if (holds_site u i)) (a.sites_held i) (none_held i) ∙ r.holders i l;

@@ -11,7 +11,7 @@ use Rattle.sand_model.proofs.Flow.{flow_same, flow-add}
 use Rattle.sand_model.proofs.Sandpile.{least_action}
 use Rattle.sand_shared.specs.declared.view.View.{View}
 use Rattle.sand_shared.specs.declared.view.Terms.{Terms}
-use Rattle.sand_shared.specs.OpenPile.{OpenPile, nobody, grid_of_terms, amount_at, numbered, drops_at, held, holds_site, toppled_by, toppled, start_and_drawn, present, pass_at, IsLawfulPass, IsLawful}
+use Rattle.sand_shared.specs.OpenPile.{OpenPile, nobody, grid_of_terms, amount_at, numbered, receipts_for, held, holds_site, toppled_by, toppled, start_and_drawn, present, pass_at, IsLawfulPass, IsLawful}
 use Rattle.sand_shared.specs.Events.{unload, unloaded, sent, May, after}
 use Rattle.sand_shared.proofs.SumsOverPasses.{sum_by_kept, all_at}
 use Rattle.sand_shared.proofs.GrainsAtSite.{amount_here, amount_else, flow-amount, held-append, held-sent, toppled-unloaded, holds-unloaded}
@@ -134,7 +134,7 @@ module _ (t : Terms) (p : OpenPile) (a i k : ℕ) (r : IsLawful t p) (may : May 
         needed = unload_needed;
         numbers = λ x. kept (λ u. numbered u.receipts x) refl ∙ r.numbers x;
         receipts = kept (λ u. length u.receipts) refl ∙ r.receipts;
-        receipts_by_site = λ j. kept (λ u. drops_at u.receipts j) refl ∙ r.receipts_by_site j;
+        receipts_by_site = λ j. kept (λ u. receipts_for u.receipts j) refl ∙ r.receipts_by_site j;
         all_sites = r.all_sites;
         quota = (let e = kept (λ u. u.left) refl in let o = r.quota in omega arith);
         holders = λ j l. kept (λ u. one_if (holds_site u j)) (ap one_if (holds-unloaded t v i k j)) ∙ r.holders j l;

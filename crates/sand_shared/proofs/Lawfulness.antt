@@ -1,11 +1,11 @@
 -- Each event keeps the pile lawful, so any list of events does.
 use Rattle.std.proofs.Common.{length, ◌≡◌, ℕ, ◌+◌, ◌<◌, ◌≤◌, List, [], ◌∷◌, ◌++◌, sum, sum_by, refl, ap, arith}
 use Rattle.sand_model.specs.Grid.{sites}
-use Rattle.sand_model.specs.Sand.{tally}
+use Rattle.sand_model.specs.Sand.{occurrences}
 use Rattle.sand_model.specs.Piles.{height_of}
 use Rattle.sand_model.specs.Lists.{one_if}
 use Rattle.sand_model.proofs.SumsBelow.{sum_below-add}
-use Rattle.sand_model.proofs.Tallies.{sum_below-tally}
+use Rattle.sand_model.proofs.Occurrences.{sum_below-occurrences}
 use Rattle.sand_model.proofs.Bounds.{at_most_sum_below}
 use Rattle.sand_model.proofs.Heights.{sum_is_grains}
 use Rattle.sand_model.proofs.Sandpile.{laplacian_sum}
@@ -63,9 +63,9 @@ few_present t p terms r i inside =
     let g = grid_of_terms t in
     let one = at_most_sum_below (sites g) (present p) i inside in
     let all = laplacian_sum g (start_and_drawn t p) (toppled p) (present p) r.balance in
-    let parts = sum_below-add (sites g) (height_of t.start) (tally p.drawn) in
+    let parts = sum_below-add (sites g) (height_of t.start) (occurrences p.drawn) in
     let start = sum_is_grains g t.start.heights terms.pile.one_each in
-    let drops = sum_below-tally (sites g) p.drawn r.all_sites in
+    let drops = sum_below-occurrences (sites g) p.drawn r.all_sites in
     let quota = r.quota in omega arith
 
 pub few_drawn : (t : Terms) (p : OpenPile) → IsLawful t p → length p.drawn ≤ t.quota

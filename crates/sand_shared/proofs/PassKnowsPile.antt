@@ -4,10 +4,10 @@ use Rattle.std.proofs.Common.{◌≡◌, ℕ, ◌+◌, ◌*◌, ◌^◌, ◌<◌
 use Rattle.std.proofs.lemmas.Bool.{cases_eq}
 use Rattle.std.proofs.lemmas.List.Sums.{get_or-le-sum_by}
 use Rattle.sand_model.specs.Grid.{sites, neighbours}
-use Rattle.sand_model.specs.Sand.{tally, flow, grain_weight}
+use Rattle.sand_model.specs.Sand.{occurrences, flow, grain_weight}
 use Rattle.sand_model.specs.Piles.{height_of}
 use Rattle.sand_model.proofs.SumsBelow.{sum_below_same, sum_below_le, sum_below-add}
-use Rattle.sand_model.proofs.Tallies.{sum_below-tally}
+use Rattle.sand_model.proofs.Occurrences.{sum_below-occurrences}
 use Rattle.sand_model.proofs.Heights.{sum_is_grains}
 use Rattle.sand_model.proofs.Flow.{flow_same}
 use Rattle.sand_model.proofs.Sandpile.{weight_after}
@@ -15,7 +15,7 @@ use Rattle.sand_model.proofs.Bounds.{topplings_bound}
 use Rattle.sand_shared.specs.declared.view.View.{View}
 use Rattle.sand_shared.specs.declared.view.Receipt.{Receipt}
 use Rattle.sand_shared.specs.declared.view.Terms.{Terms}
-use Rattle.sand_shared.specs.OpenPile.{OpenPile, nobody, grid_of_terms, drops_at, held, holds_site, toppled_by, toppled, start_and_drawn, present, pass_at, AreTerms, IsLawful}
+use Rattle.sand_shared.specs.OpenPile.{OpenPile, nobody, grid_of_terms, receipts_for, held, holds_site, toppled_by, toppled, start_and_drawn, present, pass_at, AreTerms, IsLawful}
 use Rattle.sand_shared.specs.Events.{look, unload, unloaded, after}
 use Rattle.sand_shared.specs.Running.{Stands, Happened}
 use Rattle.sand_shared.specs.Seats.{HasAll}
@@ -46,10 +46,10 @@ module _ (t : Terms) (p : OpenPile) (r : IsLawful t p) (a : ℕ) (there : a < le
       let b = r.balance.balance i inside in
       let mine = own_toppled t p r a i there inside own in
       let out =
-      sum_by_beside (λ (u : View). held u.hand i) (λ (u : View). drops_at u.receipts i + flow g (toppled_by u) i)
+      sum_by_beside (λ (u : View). held u.hand i) (λ (u : View). receipts_for u.receipts i + flow g (toppled_by u) i)
       p.passes a nobody there (ap (λ hand. held hand i) free)
       (λ j l. (r.passes j nobody l).hand i inside) in
-      let parts = sum_by_plus (λ (u : View). drops_at u.receipts i) (λ (u : View). flow g (toppled_by u) i) p.passes in
+      let parts = sum_by_plus (λ (u : View). receipts_for u.receipts i) (λ (u : View). flow g (toppled_by u) i) p.passes in
       let around = all_flow t p i in
       let drops = r.receipts_by_site i in omega arith
 
@@ -67,9 +67,9 @@ module _ (t : Terms) (p : OpenPile) (r : IsLawful t p) (a : ℕ) (there : a < le
     no_topplings b lb ne j l =
         toppled_outside (pass_at p b) j (others_without t p r a j there l (all.all_sites j l) b lb ne)
 
-    pub its_drops : (i : ℕ) → tally p.drawn i ≡ drops_at (pass_at p a).receipts i
-    its_drops i = sym (r.receipts_by_site i) ∙ sum_by_only (λ (u : View). drops_at u.receipts i)
-        p.passes a nobody there (λ b lb ne. ap (λ rs. drops_at rs i) (no_receipts b lb ne))
+    pub its_drops : (i : ℕ) → occurrences p.drawn i ≡ receipts_for (pass_at p a).receipts i
+    its_drops i = sym (r.receipts_by_site i) ∙ sum_by_only (λ (u : View). receipts_for u.receipts i)
+        p.passes a nobody there (λ b lb ne. ap (λ rs. receipts_for rs i) (no_receipts b lb ne))
 
     pub its_topplings : (j : ℕ) → j < sites (grid_of_terms t) → toppled p j ≡ toppled_by (pass_at p a) j
     its_topplings j l = own_toppled t p r a j there l (all.all_sites j l)
@@ -80,7 +80,7 @@ module _ (t : Terms) (p : OpenPile) (r : IsLawful t p) (a : ℕ) (there : a < le
         (λ (e : b ≡ a). ap (λ z. held (pass_at p z).hand i) e ∙ ap (λ hand. held hand i) free)
         (λ (ne : b ≡ a → ⊥).
         let hand = (r.passes b nobody lb).hand i inside in
-        let none = ap (λ rs. drops_at rs i) (no_receipts b lb ne) in
+        let none = ap (λ rs. receipts_for rs i) (no_receipts b lb ne) in
         let still = flow_none (grid_of_terms t) (toppled_by (pass_at p b)) i inside (no_topplings b lb ne) in
         omega arith)
         (cases_eq b a))
@@ -119,9 +119,9 @@ module _ (t : Terms) (p : OpenPile) (r : IsLawful t p) (a : ℕ) (there : a < le
   few terms fits =
       let g = grid_of_terms t in
       let v = pass_at p a in
-      let parts = sum_below-add (sites g) (height_of t.start) (tally p.drawn) in
+      let parts = sum_below-add (sites g) (height_of t.start) (occurrences p.drawn) in
       let start = sum_is_grains g t.start.heights terms.pile.one_each in
-      let drops = sum_below-tally (sites g) p.drawn r.all_sites in
+      let drops = sum_below-occurrences (sites g) p.drawn r.all_sites in
       let quota = r.quota in
       let limit = terms.limit in
       let bound =

@@ -6,14 +6,14 @@ use Rattle.std.proofs.lemmas.Bool.{cases_lt}
 use Rattle.std.proofs.lemmas.List.Sums.{get_or-le-sum_by}
 use Rattle.std.proofs.lemmas.List.Elements.{All-append}
 use Rattle.sand_model.specs.Grid.{Grid, sites, missing}
-use Rattle.sand_model.specs.Sand.{IsSettled, grains, lost, tally, topplings}
+use Rattle.sand_model.specs.Sand.{IsSettled, grains, lost, occurrences, topplings}
 use Rattle.sand_model.specs.Piles.{PileView, IsPile, height_of, most_grains}
 use Rattle.sand_model.proofs.SumsBelow.{sum_below-add, sum_below_same}
-use Rattle.sand_model.proofs.Tallies.{sum_below-tally, tally-append}
+use Rattle.sand_model.proofs.Occurrences.{sum_below-occurrences, occurrences-append}
 use Rattle.sand_model.proofs.Heights.{sum_is_grains}
 use Rattle.sand_model.proofs.Sandpile.{laplacian_sum, settled_in_parts}
 use Rattle.sand_model.proofs.Bounds.{topplings_bound}
-use Rattle.sand_settle.specs.Settling.{SettledView, IsRecord, IsSettledRecord, odometer_of}
+use Rattle.sand_settle.specs.Settling.{SettledView, IsSettledRecord, IsSomeSettledRecord, odometer_of}
 use Rattle.sand_shared.specs.Record.{RecordView, IsOneThreads}
 
 -- a start and a history, with the heights and the odometer that they lead to
@@ -23,23 +23,23 @@ pub record LeadsTo (start : PileView) (history heights odometer : List ℕ) : Ty
   pub limit : sum start.heights + length history ≤ most_grains
   pub heights_each : length heights ≡ sites start.grid
   pub odometer_each : length odometer ≡ sites start.grid
-  pub settled : IsSettled start.grid (λ i. height_of start i + tally history i)
+  pub settled : IsSettled start.grid (λ i. height_of start i + occurrences history i)
       (slice_index odometer) (slice_index heights)
 
 module _ (start : PileView) (history heights odometer : List ℕ) (l : LeadsTo start history heights odometer) where
-  grains_in : grains start.grid (λ i. height_of start i + tally history i) ≡ sum start.heights + length history
+  grains_in : grains start.grid (λ i. height_of start i + occurrences history i) ≡ sum start.heights + length history
   grains_in =
       let g = start.grid in
-      let parts = sum_below-add (sites g) (height_of start) (tally history) in
+      let parts = sum_below-add (sites g) (height_of start) (occurrences history) in
       let a = sum_is_grains g start.heights l.pile.one_each in
-      let b = sum_below-tally (sites g) history l.all_sites in omega arith
+      let b = sum_below-occurrences (sites g) history l.all_sites in omega arith
 
   pub few_topplings : sum odometer < 2 ^ 54
   few_topplings =
       let g = start.grid in
       let all = grains_in in
       let limit = l.limit in
-      let bound = topplings_bound g (λ i. height_of start i + tally history i)
+      let bound = topplings_bound g (λ i. height_of start i + occurrences history i)
       (slice_index odometer) (slice_index heights) l.pile.grid (omega arith) l.settled.toppled in
       let counts = sum_is_grains g odometer l.odometer_each in omega arith
 
@@ -48,7 +48,7 @@ module _ (start : PileView) (history heights odometer : List ℕ) (l : LeadsTo s
   grains_left =
       let g = start.grid in
       let all = grains_in in
-      let out = laplacian_sum g (λ i. height_of start i + tally history i)
+      let out = laplacian_sum g (λ i. height_of start i + occurrences history i)
       (slice_index odometer) (slice_index heights) l.settled.toppled in
       let after = sum_is_grains g heights l.heights_each in omega arith
 
@@ -69,7 +69,7 @@ module _ (start : PileView) (history heights odometer : List ℕ) (l : LeadsTo s
           heights_each = ap (λ (xs : List ℕ). length xs) heights_are ∙ l.heights_each;
           odometer_each = ap (λ (xs : List ℕ). length xs) odometer_is ∙ l.odometer_each;
           settled = subst (λ (z : List ℕ × List ℕ).
-              IsSettled g (λ i. height_of start i + tally history i) (slice_index z.0) (slice_index z.1))
+              IsSettled g (λ i. height_of start i + occurrences history i) (slice_index z.0) (slice_index z.1))
               (λ i. (sym odometer_is i, sym heights_are i)) l.settled;
           all_topplings = toppled ∙ sum_is_grains g odometer l.odometer_each
               ∙ ap (λ (xs : List ℕ). topplings g (slice_index xs)) (sym odometer_is);
@@ -88,10 +88,10 @@ leads_of r one = record {
   settled = one.settled.settled;
 }
 
-pub settled_record : (r : RecordView) → IsOneThreads r → IsSettledRecord r.settled
+pub settled_record : (r : RecordView) → IsOneThreads r → IsSomeSettledRecord r.settled
 settled_record r one =
-    let s : ℕ → ℕ = λ i. height_of r.start i + tally r.history i in
-    (s, subst (λ (g : Grid). IsRecord g s r.settled) (sym one.settled.grid) one.settled)
+    let s : ℕ → ℕ = λ i. height_of r.start i + occurrences r.history i in
+    (s, subst (λ (g : Grid). IsSettledRecord g s r.settled) (sym one.settled.grid) one.settled)
 
 pub small_entries : (r : RecordView) → IsOneThreads r → (i : ℕ) → odometer_of r.settled i < 2 ^ 54
 small_entries r one i =
@@ -187,20 +187,20 @@ module _ (r q : RecordView) (sums : List ℕ) (joined : AreJoined r q sums) wher
           let b = get_or-eq_default r.settled.odometer 0 {n = i} le in
           let c = get_or-eq_default q.settled.odometer 0 {n = i} (omega arith) in omega arith
 
-  both_settled : IsSettled r.start.grid (λ i. height_of r.start i + tally (r.history ++ q.history) i)
+  both_settled : IsSettled r.start.grid (λ i. height_of r.start i + occurrences (r.history ++ q.history) i)
       (slice_index sums) (height_of q.settled.pile)
   both_settled =
       let g = r.start.grid in
       let later = subst (λ (z : Grid × PileView).
-      IsSettled z.0 (λ i. height_of z.1 i + tally q.history i) (odometer_of q.settled) (height_of q.settled.pile))
+      IsSettled z.0 (λ i. height_of z.1 i + occurrences q.history i) (odometer_of q.settled) (height_of q.settled.pile))
       (λ i. (same_grid i, joined.joint i)) second.settled.settled in
       let all =
-      settled_in_parts g (λ i. height_of r.start i + tally r.history i) (tally q.history) (odometer_of r.settled)
+      settled_in_parts g (λ i. height_of r.start i + occurrences r.history i) (occurrences q.history) (odometer_of r.settled)
       (height_of r.settled.pile) (odometer_of q.settled) (height_of q.settled.pile) first.settled.settled later in
       let drops : (i : ℕ)
-      → (height_of r.start i + tally r.history i) + tally q.history i
-      ≡ height_of r.start i + tally (r.history ++ q.history) i =
-      λ i. (let e = tally-append r.history q.history i in omega arith) in
+      → (height_of r.start i + occurrences r.history i) + occurrences q.history i
+      ≡ height_of r.start i + occurrences (r.history ++ q.history) i =
+      λ i. (let e = occurrences-append r.history q.history i in omega arith) in
       subst
       (λ (z : (ℕ → ℕ) × (ℕ → ℕ)). IsSettled g z.0 z.1 (height_of q.settled.pile))
       (λ k. ((λ i. drops i k), (λ i. sym (all_each i) k))) all

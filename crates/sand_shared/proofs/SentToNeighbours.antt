@@ -6,16 +6,16 @@ use Rattle.sand_shared.specs.declared.view.Grains.{Grains}
 use Rattle.sand_model.specs.Grid.{neighbours, places}
 use Rattle.sand_shared.specs.declared.view.Terms.{Terms}
 use Rattle.sand_shared.specs.OpenPile.{grid_of_terms}
-use Rattle.sand_shared.specs.Events.{grains, sent, behind_first, delivered_to}
+use Rattle.sand_shared.specs.Events.{grains_for, sent, behind_first, delivered_to}
 
 -- k grains for each of these places that has a neighbour
 abbrev pub sends : ℕ → List (Option ℕ) → List Grains
-sends k ps = map (λ j. grains j k) (filter_map (λ p. p) ps)
+sends k ps = map (λ j. grains_for j k) (filter_map (λ p. p) ps)
 
 pub first_sent : (k : ℕ) (p : Option ℕ) (ps : List (Option ℕ)) (hand : List Grains) → hand ≡ sends k (p ∷ ps)
-    → IfSome p (λ j. hand ≡ grains j k ∷ behind_first hand)
+    → IfSome p (λ j. hand ≡ grains_for j k ∷ behind_first hand)
 first_sent k None ps hand e = tt
-first_sent k (Some j) ps hand e = e ∙ (λ i. grains j k ∷ behind_first (sym e i))
+first_sent k (Some j) ps hand e = e ∙ (λ i. grains_for j k ∷ behind_first (sym e i))
 
 pub rest_sent : (k : ℕ) (p : Option ℕ) (ps : List (Option ℕ)) (v w : View) → v ≡ record w { hand = sends k (p ∷ ps) }
     → delivered_to p v ≡ record w { hand = sends k ps }
@@ -40,7 +40,7 @@ module _ (t : Terms) (i k : ℕ) (ps : List (Option ℕ))
       (sym around) in
       λ q. record v { hand = (hand ∙ read) q }
 
-  pub north_first : IfSome (get_or ps 0 None) (λ j. v.hand ≡ grains j k ∷ behind_first v.hand)
+  pub north_first : IfSome (get_or ps 0 None) (λ j. v.hand ≡ grains_for j k ∷ behind_first v.hand)
   unfolding place
   north_first = first_sent k (place 0) (place 1 ∷ place 2 ∷ place 3 ∷ []) v.hand (ap (λ (u : View). u.hand) begun)
 
@@ -49,7 +49,7 @@ module _ (t : Terms) (i k : ℕ) (ps : List (Option ℕ))
     unfolding place
     after_north = one ∙ rest_sent k (place 0) (place 1 ∷ place 2 ∷ place 3 ∷ []) v v begun
 
-    pub west_first : IfSome (get_or ps 1 None) (λ j. v1.hand ≡ grains j k ∷ behind_first v1.hand)
+    pub west_first : IfSome (get_or ps 1 None) (λ j. v1.hand ≡ grains_for j k ∷ behind_first v1.hand)
     unfolding place
     west_first = first_sent k (place 1) (place 2 ∷ place 3 ∷ []) v1.hand (ap (λ (u : View). u.hand) after_north)
 
@@ -58,7 +58,7 @@ module _ (t : Terms) (i k : ℕ) (ps : List (Option ℕ))
       unfolding place
       after_west = two ∙ rest_sent k (place 1) (place 2 ∷ place 3 ∷ []) v1 v after_north
 
-      pub east_first : IfSome (get_or ps 2 None) (λ j. v2.hand ≡ grains j k ∷ behind_first v2.hand)
+      pub east_first : IfSome (get_or ps 2 None) (λ j. v2.hand ≡ grains_for j k ∷ behind_first v2.hand)
       unfolding place
       east_first = first_sent k (place 2) (place 3 ∷ []) v2.hand (ap (λ (u : View). u.hand) after_west)
 
@@ -67,7 +67,7 @@ module _ (t : Terms) (i k : ℕ) (ps : List (Option ℕ))
         unfolding place
         after_east = three ∙ rest_sent k (place 2) (place 3 ∷ []) v2 v after_west
 
-        pub south_first : IfSome (get_or ps 3 None) (λ j. v3.hand ≡ grains j k ∷ behind_first v3.hand)
+        pub south_first : IfSome (get_or ps 3 None) (λ j. v3.hand ≡ grains_for j k ∷ behind_first v3.hand)
         unfolding place
         south_first = first_sent k (place 3) [] v3.hand (ap (λ (u : View). u.hand) after_east)
 

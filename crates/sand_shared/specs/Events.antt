@@ -33,8 +33,8 @@ pub data Event : Type 0 where
 abbrev pub receipt : ℕ → ℕ → Receipt
 receipt n i = record { number = n; site = i }
 
-abbrev pub grains : ℕ → ℕ → Grains
-grains i k = record { site = i; amount = k }
+abbrev pub grains_for : ℕ → ℕ → Grains
+grains_for i k = record { site = i; amount = k }
 
 abbrev pub zeros : ℕ → List ℕ
 zeros n = replicate n 0
@@ -53,7 +53,7 @@ drew v n i = record v {
   left = v.left - 1;
   seen = n + 1;
   receipts = v.receipts ++ receipt n i ∷ [];
-  hand = v.hand ++ grains i 1 ∷ [];
+  hand = v.hand ++ grains_for i 1 ∷ [];
 }
 
 -- the receipts of consecutive drops, numbered from n on
@@ -63,7 +63,7 @@ receipts_from n (i ∷ is) = receipt n i ∷ receipts_from (n + 1) is
 
 -- one grain for each site of a list
 abbrev pub one_for_each : List ℕ → List Grains
-one_for_each is = map (λ i. grains i 1) is
+one_for_each is = map (λ i. grains_for i 1) is
 
 -- a pass after consecutive draws, numbered from n on
 abbrev pub drew_all : View → ℕ → List ℕ → View
@@ -103,7 +103,7 @@ raised v i k = slice_set v.counts (i - v.base) (slice_index v.counts (i - v.base
 
 -- k grains for each neighbour
 abbrev pub sent : Terms → ℕ → ℕ → List Grains
-sent t i k = map (λ j. grains j k) (neighbours (grid_of_terms t) i)
+sent t i k = map (λ j. grains_for j k) (neighbours (grid_of_terms t) i)
 
 abbrev pub unloaded : Terms → View → ℕ → ℕ → View
 unloaded t v i k = record v { hand = v.hand ++ sent t i k; counts = raised v i k; least = 0 }

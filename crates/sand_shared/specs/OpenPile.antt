@@ -2,7 +2,7 @@
 -- Source: this project's own. Balance and stabilising are those of Dhar 1990 and of chip-firing, in `sand_model`.
 use Rattle.std.specs.Prelude.{ℕ, Bool, true, ◌≡◌, ◌+◌, ◌-◌, ◌<◌, ◌≤◌, ◌==◌, ◌&&◌, nat_lt, nat_le, if◌then◌else◌, Some, List, [], All, length, sum, sum_by, count_by, slice_get, slice_index, slice_index_or}
 use Rattle.sand_model.specs.Grid.{Grid, sites}
-use Rattle.sand_model.specs.Sand.{tally, flow, IsToppled, Stabilises}
+use Rattle.sand_model.specs.Sand.{occurrences, flow, IsToppled, Stabilises}
 use Rattle.sand_model.specs.Lists.{one_if}
 use Rattle.sand_model.specs.Piles.{IsPile, height_of, most_grains}
 use Rattle.sand_shared.specs.declared.view.Receipt.{Receipt}
@@ -39,8 +39,8 @@ abbrev pub held : List Grains → ℕ → ℕ
 held hand j = sum_by (λ g. amount_at g.site g.amount j) hand
 
 -- how many receipts are for the site j
-abbrev pub drops_at : List Receipt → ℕ → ℕ
-drops_at receipts j = count_by (λ r. r.site == j) receipts
+abbrev pub receipts_for : List Receipt → ℕ → ℕ
+receipts_for receipts j = count_by (λ r. r.site == j) receipts
 
 -- how many receipts have the number n
 abbrev pub numbered : List Receipt → ℕ → ℕ
@@ -74,7 +74,7 @@ present p i = p.height i + in_all (λ v. held v.hand i) p
 
 -- the start and all drawn grains
 abbrev pub start_and_drawn : Terms → OpenPile → ℕ → ℕ
-start_and_drawn t p i = height_of t.start i + tally p.drawn i
+start_and_drawn t p i = height_of t.start i + occurrences p.drawn i
 
 -- A pass has seen no more drops than have begun, its receipts have the right sites and numbers, its grains in hand come
 -- from its receipts and from its topplings next to their site, and the site at which it looked has at least as many
@@ -83,7 +83,7 @@ pub record IsLawfulPass (t : Terms) (p : OpenPile) (v : View) : Type 0 where
   pub seen : v.seen ≤ length p.drawn
   pub receipts : All (λ r. slice_get p.drawn r.number ≡ Some r.site) v.receipts
   pub hand : (i : ℕ) → i < sites (grid_of_terms t)
-      → held v.hand i ≤ drops_at v.receipts i + flow (grid_of_terms t) (toppled_by v) i
+      → held v.hand i ≤ receipts_for v.receipts i + flow (grid_of_terms t) (toppled_by v) i
   pub least : holds_site v v.spot ≡ true → v.spot < sites (grid_of_terms t) → v.least ≤ p.height v.spot
 
 pub record IsLawful (t : Terms) (p : OpenPile) : Type 0 where
@@ -96,7 +96,7 @@ pub record IsLawful (t : Terms) (p : OpenPile) : Type 0 where
   -- the receipts have the numbers 0 to n - 1, each once, and each site has as many receipts as draws
   pub numbers : (n : ℕ) → in_all (λ v. numbered v.receipts n) p ≡ one_if (nat_lt n (length p.drawn))
   pub receipts : in_all (λ v. length v.receipts) p ≡ length p.drawn
-  pub receipts_by_site : (i : ℕ) → in_all (λ v. drops_at v.receipts i) p ≡ tally p.drawn i
+  pub receipts_by_site : (i : ℕ) → in_all (λ v. receipts_for v.receipts i) p ≡ occurrences p.drawn i
   pub all_sites : All (λ i. i < sites (grid_of_terms t)) p.drawn
   -- what is not drawn is left to the passes
   pub quota : in_all (λ v. v.left) p + length p.drawn ≡ t.quota

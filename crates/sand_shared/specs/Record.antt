@@ -1,9 +1,9 @@
 -- What contracts see of the record of a closed pile, and of the last moment of a shared one.
 use Rattle.std.specs.Prelude.{ℕ, ◌≡◌, ◌+◌, ◌^◌, ◌<◌, ◌≤◌, Some, List, All, length, sum, slice_get, slice_index}
 use Rattle.sand_model.specs.Grid.{sites}
-use Rattle.sand_model.specs.Sand.{IsSettled, tally}
+use Rattle.sand_model.specs.Sand.{IsSettled, occurrences}
 use Rattle.sand_model.specs.Piles.{PileView, IsPile, height_of, most_grains}
-use Rattle.sand_settle.specs.Settling.{SettledView, IsRecord, odometer_of}
+use Rattle.sand_settle.specs.Settling.{SettledView, IsSettledRecord, odometer_of}
 use Rattle.sand_shared.specs.declared.view.Receipt.{Receipt}
 use Rattle.sand_shared.specs.declared.view.View.{View}
 use Rattle.sand_shared.specs.declared.view.Terms.{Terms}
@@ -23,7 +23,7 @@ pub record IsOneThreads (r : RecordView) : Type 0 where
   pub start_pile : IsPile r.start
   pub all_sites : All (λ i. i < sites r.start.grid) r.history
   pub limit : sum r.start.heights + length r.history ≤ most_grains
-  pub settled : IsRecord r.start.grid (λ i. height_of r.start i + tally r.history i) r.settled
+  pub settled : IsSettledRecord r.start.grid (λ i. height_of r.start i + occurrences r.history i) r.settled
 
 -- the site of each receipt is at its number
 abbrev pub Tells : List Receipt → List ℕ → Type 0
@@ -52,7 +52,7 @@ pub record IsCompleted (start : PileView) (history counts : List ℕ) (rest : Se
   pub counts_each : length counts ≡ sites start.grid
   pub odometer_each : length rest.odometer ≡ sites start.grid
   pub small : (i : ℕ) → i < sites start.grid → slice_index counts i + odometer_of rest i < 2 ^ 54
-  pub settled : IsSettled start.grid (λ i. height_of start i + tally history i)
+  pub settled : IsSettled start.grid (λ i. height_of start i + occurrences history i)
       (λ i. slice_index counts i + odometer_of rest i) (height_of rest.pile)
 
 -- the last moment: the pass a has v on a lawful open pile with these heights

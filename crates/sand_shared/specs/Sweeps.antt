@@ -7,12 +7,12 @@ use Rattle.sand_model.specs.Piles.{height_of}
 use Rattle.sand_settle.specs.Settling.{SettledView, odometer_of}
 use Rattle.sand_shared.specs.declared.view.View.{View}
 use Rattle.sand_shared.specs.declared.view.Terms.{Terms}
-use Rattle.sand_shared.specs.OpenPile.{grid_of_terms, drops_at, toppled_by}
+use Rattle.sand_shared.specs.OpenPile.{grid_of_terms, receipts_for, toppled_by}
 use Rattle.sand_shared.specs.Passes.{PassView, at_rest, IsWhole}
 
 -- the start and the pass's own receipts
 abbrev pub start_and_receipts : Terms → View → ℕ → ℕ
-start_and_receipts t v i = height_of t.start i + drops_at v.receipts i
+start_and_receipts t v i = height_of t.start i + receipts_for v.receipts i
 
 -- k is at most n at a site
 abbrev pub LeavesAtMost : Terms → View → ℕ → ℕ → Type 0
@@ -75,7 +75,7 @@ pub record IsRestOf (t : Terms) (p : PassView) (r : SettledView) : Type 0 where
   pub grid : r.pile.grid ≡ grid_of_terms t
   pub heights_each : length r.pile.heights ≡ sites (grid_of_terms t)
   pub odometer_each : length r.odometer ≡ sites (grid_of_terms t)
-  pub settled : IsSettled (grid_of_terms t) (λ i. height_of t.start i + drops_at p.receipts i)
+  pub settled : IsSettled (grid_of_terms t) (λ i. height_of t.start i + receipts_for p.receipts i)
       (λ i. slice_index p.counts i + odometer_of r i) (height_of r.pile)
   pub all_topplings : r.topplings ≡ topplings_of (grid_of_terms t) (odometer_of r)
   pub all_lost : r.lost ≡ lost_of (grid_of_terms t) (odometer_of r)

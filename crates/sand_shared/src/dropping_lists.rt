@@ -7,7 +7,7 @@
 
 ghost use Rattle.std.specs.Prelude.{◌≡◌, ℕ, ◌+◌, ◌-◌, ◌^◌, ◌<◌, ◌≤◌, ◌↔◌, [], ◌++◌, All, length, slice_index, vec_capacity, IfOk, IsErr, OnErr};
 ghost use Rattle.sand_model.specs.Grid.{sites};
-ghost use Rattle.sand_model.specs.Sand.{tally};
+ghost use Rattle.sand_model.specs.Sand.{occurrences};
 ghost use Rattle.sand_shared.specs.OpenPile.{grid_of_terms};
 ghost use Rattle.sand_shared.specs.Events.{zeros, receipts_from, one_for_each};
 ghost use Rattle.sand_shared.specs.Passes.{IsPassOf};
@@ -26,7 +26,7 @@ fn count_sites(counts: &mut Vec<u64>, drops: &[usize])
     requires none { (i : ℕ) → i < length counts.old.items → slice_index counts.old.items i ≡ 0 }
     requires inside { All (λ i. i < length counts.old.items) drops.now }
     ensures long { length counts.new.items ≡ length counts.old.items }
-    ensures counted { (i : ℕ) → i < length counts.old.items → slice_index counts.new.items i ≡ tally drops.now i }
+    ensures counted { (i : ℕ) → i < length counts.old.items → slice_index counts.new.items i ≡ occurrences drops.now i }
 {
     'drops: for site in drops.iter() {
         counts[*site] += 1;
@@ -41,7 +41,7 @@ impl Words {
         requires inside { All (λ i. i < sites (grid_of_terms self.now.terms)) drops.now }
         requires long { length counts.old.items ≡ sites (grid_of_terms self.now.terms) }
         requires counted { (i : ℕ) → i < sites (grid_of_terms self.now.terms)
-            → slice_index counts.old.items i ≡ tally drops.now i }
+            → slice_index counts.old.items i ≡ occurrences drops.now i }
         ensures seat { StaysSeated seat.old seat.new }
         ensures view { seat.new.me.0 ≡ record seat.old.me.0 { hand = [] } }
         ensures none { counts.new.items ≡ zeros (sites (grid_of_terms self.now.terms)) }

@@ -3,7 +3,7 @@
 ghost use Rattle.std.specs.Prelude.{◌≡◌, ◌+◌, ◌^◌, ◌<◌, ◌≤◌, All, IfOk, IsOkUnless, alloc_error, length, sum, slice_index};
 ghost use Rattle.sand_model.specs.Grid.{sites};
 ghost use Rattle.sand_model.specs.Piles.{height_of, most_grains};
-ghost use Rattle.sand_model.specs.Sand.{IsSettled, tally};
+ghost use Rattle.sand_model.specs.Sand.{IsSettled, occurrences};
 ghost use Rattle.sand_settle.specs.Settling.{odometer_of};
 ghost use Rattle.sand_shared.specs.Record.{IsOneThreads};
 
@@ -54,7 +54,7 @@ impl Record {
         requires all_sites { All (λ i. i < sites start.grid) history.items }
         requires limit { sum start.heights + length history.items ≤ most_grains }
         requires one_each { (length heights.items ≡ sites start.grid) × (length odometer.items ≡ sites start.grid) }
-        requires settled { IsSettled start.grid (λ i. height_of start i + tally history.items i)
+        requires settled { IsSettled start.grid (λ i. height_of start i + occurrences history.items i)
             (slice_index odometer.items) (slice_index heights.items) }
         ensures start { result.start ≡ start }
         ensures history { result.history ≡ history.items }

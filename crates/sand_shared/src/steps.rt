@@ -8,7 +8,7 @@ ghost use Rattle.std.specs.Prelude.{◌≡◌, ℕ, ◌+◌, ◌-◌, ◌*◌, �
 ghost use Rattle.std.specs.Mem.Slots.{slots_items, slots_len, IsFull};
 ghost use Rattle.sand_model.specs.Grid.{sites, places};
 ghost use Rattle.sand_shared.specs.OpenPile.{grid_of_terms, holds_site, AreTerms};
-ghost use Rattle.sand_shared.specs.Events.{all_draws, all_places, count, split, look, unload, deliver, grains, are_for, behind_first, first_pass, parent, child, joined, follows};
+ghost use Rattle.sand_shared.specs.Events.{all_draws, all_places, count, split, look, unload, deliver, grains_for, are_for, behind_first, first_pass, parent, child, joined, follows};
 ghost use Rattle.sand_shared.specs.Running.{Happened, Stands};
 ghost use Rattle.sand_shared.specs.Record.{IsLast};
 ghost use Rattle.sand_shared.specs.Seats.{IsSeatAt, StaysSeated};
@@ -170,7 +170,7 @@ impl Words {
     /// Lays the first grains in hand on their site.
     pub(crate) fn deliver<J: Picked>(&self, seat: &mut PassSeat, site: usize, times: u64)
         requires seat { IsSeatAt self.now seat.old }
-        requires hand { seat.old.me.0.hand ≡ grains site times ∷ behind_first seat.old.me.0.hand }
+        requires hand { seat.old.me.0.hand ≡ grains_for site times ∷ behind_first seat.old.me.0.hand }
         requires site { site < sites (grid_of_terms self.now.terms) }
         requires picked { (J.terms ≡ self.now.terms) × (J.pass ≡ seat.old.id)
             × (J.events ≡ deliver seat.old.id site times ∷ []) }

@@ -7,7 +7,7 @@
 ghost use Rattle.std.specs.Prelude.{◌≡◌, ◌+◌, ◌*◌, ◌^◌, ◌<◌, ◌≤◌, true, [], ◌∷◌, length, sum, IfSome};
 ghost use Rattle.sand_model.specs.Grid.{sites};
 ghost use Rattle.sand_shared.specs.OpenPile.{grid_of_terms, holds_site};
-ghost use Rattle.sand_shared.specs.Events.{looked, raised, sent, grains, behind_first, delivered_to};
+ghost use Rattle.sand_shared.specs.Events.{looked, raised, sent, grains_for, behind_first, delivered_to};
 ghost use Rattle.sand_shared.specs.Seats.{HasAll, IsSeatAt, StaysSeated};
 ghost use Rattle.sand_shared.specs.Sweeps.{LeavesAtMost, LeavesAtLeast, IsSparing, SweptRows, SweptAll, Swept};
 ghost use Rattle.sand_shared.specs.Passes.{IsPassOf};
@@ -23,7 +23,7 @@ impl Words {
     #[inline(always)]
     fn deliver_to(&self, seat: &mut PassSeat, place: Option<usize>, times: u64)
         requires seat { IsSeatAt self.now seat.old }
-        requires hand { IfSome place (λ j. seat.old.me.0.hand ≡ grains j times ∷ behind_first seat.old.me.0.hand) }
+        requires hand { IfSome place (λ j. seat.old.me.0.hand ≡ grains_for j times ∷ behind_first seat.old.me.0.hand) }
         requires site { IfSome place (λ j. j < sites (grid_of_terms self.now.terms)) }
         ensures seat { StaysSeated seat.old seat.new }
         ensures view { seat.new.me.0 ≡ delivered_to place seat.old.me.0 }

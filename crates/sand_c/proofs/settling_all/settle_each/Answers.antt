@@ -2,7 +2,7 @@ use Rattle.std.proofs.Common.{◌∙◌, ℕ, List, ap, subst, arith}
 use Rattle.std.specs.Prelude.{slice_index}
 use Rattle.std.specs.Fork.{slice_chunk}
 use Rattle.sand_model.specs.Grid.{Grid, sites}
-use Rattle.sand_settle.specs.Settling.{SettledView, IsRecord}
+use Rattle.sand_settle.specs.Settling.{SettledView, IsSettledRecord}
 use Rattle.sand_c.proofs.Records.{one_more}
 use Rattle.sand_c.proofs.settling_all.settle_each.Goals as goal
 
@@ -14,8 +14,8 @@ loop-next-preserved c =
     let pushed = c.in_ok-push.ensures in
     let r : SettledView = c.in-Ok.settled in
     let chunk = c.heights_at.ensures.value ∙ ap (λ n. slice_chunk c.args.heights.now n next) c.sites.ensures.value in
-    let settled : IsRecord g (slice_index (slice_chunk c.args.heights.now (sites g) next)) r =
-    subst (λ (hs : List ℕ). IsRecord g (slice_index hs) r) chunk c.in-Ok.ensures.record in
+    let settled : IsSettledRecord g (slice_index (slice_chunk c.args.heights.now (sites g) next)) r =
+    subst (λ (hs : List ℕ). IsSettledRecord g (slice_index hs) r) chunk c.in-Ok.ensures.record in
     record {
       records = one_more g c.args.heights.now next c.loop-next.all c.push.new.self r was.records settled (record {
         heights = pushed.heights;

@@ -1,6 +1,6 @@
 use Rattle.std.proofs.Common.{None, slice_index, get_or, arith, refl}
 use Rattle.sand_model.specs.Grid.{sites}
-use Rattle.sand_model.proofs.Neighbours.{place_inside, tally_places}
+use Rattle.sand_model.proofs.Neighbours.{place_inside, occurrences_places}
 use Rattle.sand_group.proofs.FireLeavesForbidden.{some_left}
 use Rattle.sand_group.proofs.burning.spread_fire.Goals as goal
 
@@ -14,7 +14,7 @@ note_burnt_neighbour-requires-clause-unburnt c =
     (place_inside c.args.lattice.now c.args.site (sites c.args.lattice.now)
     0 _ c.neighbours.ensures.places c.requires.site refl)
     (λ j l.
-    omega (arith, c.requires.unburnt j l, tally_places c.args.lattice.now c.args.site j _ c.neighbours.ensures.places))
+    omega (arith, c.requires.unburnt j l, occurrences_places c.args.lattice.now c.args.site j _ c.neighbours.ensures.places))
 
 pub note_burnt_neighbour-requires-2-clause-inside : goal.note_burnt_neighbour-requires-2-clause-inside
 note_burnt_neighbour-requires-2-clause-inside c = place_inside c.args.lattice.now
@@ -28,7 +28,7 @@ note_burnt_neighbour-requires-2-clause-unburnt c =
     (λ j l. omega (
       arith,
       c.requires.unburnt j l,
-      tally_places c.args.lattice.now c.args.site j _ c.neighbours.ensures.places,
+      occurrences_places c.args.lattice.now c.args.site j _ c.neighbours.ensures.places,
       c.note_burnt_neighbour.ensures.one_less j,
     ))
 
@@ -44,7 +44,7 @@ note_burnt_neighbour-requires-3-clause-unburnt c =
     (λ j l. omega (
       arith,
       c.requires.unburnt j l,
-      tally_places c.args.lattice.now c.args.site j _ c.neighbours.ensures.places,
+      occurrences_places c.args.lattice.now c.args.site j _ c.neighbours.ensures.places,
       c.note_burnt_neighbour.ensures.one_less j,
       c.note_burnt_neighbour-2.ensures.one_less j,
     ))
@@ -61,7 +61,7 @@ note_burnt_neighbour-requires-4-clause-unburnt c =
     (λ j l. omega (
       arith,
       c.requires.unburnt j l,
-      tally_places c.args.lattice.now c.args.site j _ c.neighbours.ensures.places,
+      occurrences_places c.args.lattice.now c.args.site j _ c.neighbours.ensures.places,
       c.note_burnt_neighbour.ensures.one_less j,
       c.note_burnt_neighbour-2.ensures.one_less j,
       c.note_burnt_neighbour-3.ensures.one_less j,
@@ -71,7 +71,7 @@ pub returns-clause-fewer : goal.returns-clause-fewer
 returns-clause-fewer c j =
     omega (
       arith,
-      tally_places c.args.lattice.now c.args.site j _ c.neighbours.ensures.places,
+      occurrences_places c.args.lattice.now c.args.site j _ c.neighbours.ensures.places,
       c.note_burnt_neighbour.ensures.one_less j,
       c.note_burnt_neighbour-2.ensures.one_less j,
       c.note_burnt_neighbour-3.ensures.one_less j,

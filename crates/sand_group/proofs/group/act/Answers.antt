@@ -2,13 +2,13 @@ use Rattle.std.proofs.Common.{◌+◌, ◌<◌, ◌∙◌}
 use Rattle.sand_model.specs.Grid.{sites}
 use Rattle.sand_model.specs.Piles.{height_of}
 use Rattle.sand_model.specs.Sand.{one_at}
-use Rattle.sand_group.specs.Group.{IsSettledPile}
+use Rattle.sand_group.specs.Group.{SettlesTo}
 use Rattle.sand_group.proofs.OperationsSettle.{recurrent_plus}
 use Rattle.sand_group.proofs.OperationsOnHeights.{grain_settles, recurrent_there}
 use Rattle.sand_group.proofs.group.act.Goals.{In_ok-settled}
 use Rattle.sand_group.proofs.group.act.Goals as goal
 
-settles : (c : In_ok-settled) → IsSettledPile c.c.inside.pile.grid
+settles : (c : In_ok-settled) → SettlesTo c.c.inside.pile.grid
     (λ i. height_of c.c.inside.pile i + one_at c.args.site i) c.in_ok-settled.field-0
 settles c =
     let inside : c.args.site < sites c.c.inside.pile.grid = rw c.c.view_is c.requires in

@@ -1,6 +1,6 @@
 use Rattle.std.proofs.Common.{◌-◌, ◌*◌, get_or, slice_index}
 use Rattle.sand_model.specs.Piles.{height_of}
-use Rattle.sand_group.specs.Group.{IsInverse, IsSettledPile, IsSurplus}
+use Rattle.sand_group.specs.Group.{IsInverse, SettlesTo, IsSurplus}
 use Rattle.sand_group.proofs.OperationsSettle.{inverse_is_settled}
 use Rattle.sand_group.proofs.OperationsOnHeights.{difference_settles, surplus_there, recurrent_there}
 use Rattle.sand_group.proofs.group.inverse.Goals.{In_ok-settled}
@@ -10,7 +10,7 @@ surplus_is : (c : In_ok-settled) → IsSurplus c.c.inside.pile.grid (slice_index
 surplus_is c = surplus_there c.shape-shape.result c.c.inside.pile.grid
     (slice_index c.in_ok-surplus.surplus.items) c.shape-shape.ensures.value c.in_ok-surplus.ensures.surplus
 
-settles : (c : In_ok-settled) → IsSettledPile c.c.inside.pile.grid
+settles : (c : In_ok-settled) → SettlesTo c.c.inside.pile.grid
     (λ i. 2 * get_or c.in_ok-surplus.surplus.items i 0 - height_of c.c.inside.pile i) c.in_ok-settled.field-0
 settles c = difference_settles c.shape-shape.result c.c.inside.pile c.in_ok-settled.field-0
     c.heights.result.now c.deref.result.now c.in_ok-surplus.surplus.items c.in_ok-heights.heights.items

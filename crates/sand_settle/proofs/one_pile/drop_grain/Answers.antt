@@ -2,7 +2,7 @@ use Rattle.std.proofs.Common.{◌+◌, ◌∙◌, ap, subst, arith, length, drop
 use Rattle.std.proofs.Math.ListN.{set}
 use Rattle.std.proofs.lemmas.List.{take_at}
 use Rattle.sand_model.specs.Piles.{PileView}
-use Rattle.sand_settle.specs.Settling.{SettledView, IsSettledRecord}
+use Rattle.sand_settle.specs.Settling.{SettledView, IsSomeSettledRecord}
 use Rattle.sand_settle.proofs.Drops.{Pours, raised, pours, poured_sum, poured_size, poured_record, poured_avalanche, some_record_after}
 use Rattle.sand_settle.proofs.one_pile.drop_grain.Goals.{After-settle_at-avalanche}
 use Rattle.sand_settle.proofs.one_pile.drop_grain.Goals as goal
@@ -93,7 +93,7 @@ returns-clause-taken c =
 
 pub invariant_of-record : goal.invariant_of-record
 invariant_of-record c = some_record_after c.args.settled _ c.args.drop.1
-    (subst IsSettledRecord c.settled.view_is c.settled.invariant) (returns-clause-taken c)
+    (subst IsSomeSettledRecord c.settled.view_is c.settled.invariant) (returns-clause-taken c)
 
 pub returns-clause-avalanche : goal.returns-clause-avalanche
 returns-clause-avalanche c =

@@ -2,7 +2,7 @@ use Rattle.std.proofs.Common.{get_or, ◌-◌, ◌∙◌, ap, arith, length, ref
 use Rattle.sand_model.specs.Grid.{Grid}
 use Rattle.sand_model.specs.Piles.{PileView, height_of}
 use Rattle.sand_model.proofs.Heights.{sum_left}
-use Rattle.sand_settle.specs.Settling.{IsRecord, SettledView}
+use Rattle.sand_settle.specs.Settling.{IsSettledRecord, SettledView}
 use Rattle.sand_settle.proofs.Records.{sum_bound, half_weight, record_is}
 use Rattle.sand_settle.proofs.settling.record_of.Goals.{After-grains}
 use Rattle.sand_settle.proofs.settling.record_of.Goals as goal
@@ -27,7 +27,7 @@ overflow_sub-lost c =
     )
 
 made : (c : After-grains)
-    → IsRecord c.args.pile.now.grid (height_of c.args.pile.now) (record {
+    → IsSettledRecord c.args.pile.now.grid (height_of c.args.pile.now) (record {
       pile = c.from_vec-settled.result;
       odometer = c.args.rest.odometer.items;
       topplings = sum c.args.rest.odometer.items;
@@ -47,7 +47,7 @@ made c =
 
 pub of_parts-requires-clause-settled : goal.of_parts-requires-clause-settled
 of_parts-requires-clause-settled c =
-    let P : Grid → Type 0 = λ g. IsRecord g (height_of c.args.pile.now) (record {
+    let P : Grid → Type 0 = λ g. IsSettledRecord g (height_of c.args.pile.now) (record {
       pile = c.from_vec-settled.result;
       odometer = c.args.rest.odometer.items;
       topplings = sum c.args.rest.odometer.items;
@@ -64,7 +64,7 @@ of_parts-requires-clause-small c =
 
 pub returns-clause-record : goal.returns-clause-record
 returns-clause-record c =
-    subst (λ (r : SettledView). IsRecord c.args.pile.now.grid (height_of c.args.pile.now) r)
+    subst (λ (r : SettledView). IsSettledRecord c.args.pile.now.grid (height_of c.args.pile.now) r)
     (sym c.of_parts.ensures) (made (goal.at.returns-clause-record c).After-grains)
 
 pub returns-clause-half : goal.returns-clause-half

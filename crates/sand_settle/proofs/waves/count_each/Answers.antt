@@ -5,7 +5,7 @@ use Rattle.sand_model.proofs.Lists.{lists_length, lists_of}
 use Rattle.sand_model.proofs.SumsBelow.{one_at_same}
 use Rattle.sand_fronts.specs.IndexLists.{ListView}
 use Rattle.sand_settle.specs.SiteLists.{has_toppled}
-use Rattle.sand_settle.proofs.Held.{turn_tally, tally_part}
+use Rattle.sand_settle.proofs.Held.{turn_occurrences, occurrences_part}
 use Rattle.sand_settle.proofs.Queue.{noted}
 use Rattle.sand_settle.proofs.waves.count_each.Goals as goal
 
@@ -15,10 +15,10 @@ overflow_add-counts c =
     omega (arith, c.len-turn-end.ensures.value, c.loop-turn-test.true) in
     let i : ℕ = c.item-site.result in
     let more =
-    turn_tally c.args.list.now.items c.args.list.now.items c.loop-turn.turn i c.item-site.ensures turn refl in
+    turn_occurrences c.args.list.now.items c.args.list.now.items c.loop-turn.turn i c.item-site.ensures turn refl in
     let here = more.1 i in
     let one = one_at_same i in
-    let part = tally_part c.args.list.now.items (c.loop-turn.turn + 1) i in
+    let part = occurrences_part c.args.list.now.items (c.loop-turn.turn + 1) i in
     let below = c.requires.inside c.loop-turn.turn 0 turn in
     let fits = c.requires.fits i (omega (arith, c.item-site.ensures)) in
     omega (arith, c.loop-turn.invariant.counted i)
@@ -34,7 +34,7 @@ loop-turn-preserved c =
     omega (arith, c.len-turn-end.ensures.value, c.loop-turn-test.true) in
     let i : ℕ = c.item-site.result in
     let more =
-    turn_tally c.args.list.now.items c.args.list.now.items c.loop-turn.turn i c.item-site.ensures turn refl in
+    turn_occurrences c.args.list.now.items c.args.list.now.items c.loop-turn.turn i c.item-site.ensures turn refl in
     let below = c.requires.inside c.loop-turn.turn 0 turn in
     let inside : i < length c.loop-turn.counts = omega (arith, c.item-site.ensures, c.loop-turn.auto.counts) in
     record {

@@ -1,7 +1,7 @@
 use Rattle.std.proofs.Common.{ℕ, List, length, sym, ap, ◌+◌, ◌∙◌, refl, arith}
 use Rattle.std.specs.Prelude.{slice_index}
 use Rattle.sand_model.specs.Piles.{PileView, height_of}
-use Rattle.sand_model.specs.Sand.{tally}
+use Rattle.sand_model.specs.Sand.{occurrences}
 use Rattle.sand_model.proofs.Sandpile.{settled_same}
 use Rattle.sand_settle.specs.Settling.{odometer_of}
 use Rattle.sand_shared.proofs.completing.record_of.Goals as goal
@@ -25,7 +25,7 @@ of_lists-requires c =
       limit = c.requires.limit;
       one_each = (ap (λ (l : List ℕ). length l) heights ∙ c.requires.heights_each, c.add.ensures.long ∙ c.requires.counts_each);
       settled = settled_same start.grid
-          (λ i. height_of start i + tally c.args.history.items i) (λ i. height_of start i + tally c.args.history.items i)
+          (λ i. height_of start i + occurrences c.args.history.items i) (λ i. height_of start i + occurrences c.args.history.items i)
           (λ i. slice_index counts i + odometer_of c.args.rest i) (slice_index c.add.new.numbers.items)
           (height_of c.args.rest.pile) (slice_index c.into_parts-heights.result.1.items)
           (λ i l. refl)

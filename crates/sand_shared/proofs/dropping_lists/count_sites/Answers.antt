@@ -1,7 +1,7 @@
 use Rattle.std.proofs.Common.{◌≡◌, ℕ, ◌+◌, ◌<◌, length, get_or, set, take, sym, ◌∙◌, subst, arith, length-set}
 use Rattle.std.specs.Prelude.{slice_index}
-use Rattle.sand_model.specs.Sand.{tally}
-use Rattle.sand_shared.proofs.DropsBySite.{read_count, counted_more, tally_small}
+use Rattle.sand_model.specs.Sand.{occurrences}
+use Rattle.sand_shared.proofs.DropsBySite.{read_count, counted_more, occurrences_small}
 use Rattle.sand_shared.proofs.dropping_lists.count_sites.Goals as goal
 use Rattle.sand_shared.proofs.dropping_lists.count_sites.Goals.{After-index_mut}
 
@@ -18,7 +18,7 @@ overflow_add-index_mut c =
     let below = c.drops-test.true in
     let value = read (goal.at.overflow_add-index_mut c).After-index_mut in
     let counted = c.drops.invariant.counted (get_or ds k 0) (c.requires.inside k 0 below) in
-    let small = tally_small k ds (get_or ds k 0) below in omega arith
+    let small = occurrences_small k ds (get_or ds k 0) below in omega arith
 
 pub drops-preserved : goal.drops-preserved
 drops-preserved c =
@@ -32,7 +32,7 @@ drops-preserved c =
     let inside = c.requires.inside k 0 below in
     record {
       long = length-set cs (get_or ds k 0) (c.index_mut.result.now + 1) ∙ inv.long;
-      counted = subst (λ z. (i : ℕ) → i < n → get_or (set cs (get_or ds k 0) (z + 1)) i 0 ≡ tally (take (k + 1) ds) i)
+      counted = subst (λ z. (i : ℕ) → i < n → get_or (set cs (get_or ds k 0) (z + 1)) i 0 ≡ occurrences (take (k + 1) ds) i)
           (sym (read (goal.at.drops-preserved c).After-index_mut))
           (counted_more n k cs ds below (omega arith) inv.counted);
     }

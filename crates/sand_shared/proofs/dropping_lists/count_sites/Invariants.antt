@@ -1,10 +1,10 @@
 use Rattle.std.proofs.Common.{◌≡◌, ℕ, ◌<◌, take, length, get_or}
-use Rattle.sand_model.specs.Sand.{tally}
+use Rattle.sand_model.specs.Sand.{occurrences}
 use Rattle.sand_shared.proofs.dropping_lists.count_sites.Given as goal
 
 abbrev pub invariant-drops : goal.invariant-drops
 invariant-drops l = record {
   long : length l.counts.items ≡ length l.initial.counts.items;
   counted : (i : ℕ) → i < length l.initial.counts.items
-      → get_or l.counts.items i 0 ≡ tally (take l.site-index l.drops) i;
+      → get_or l.counts.items i 0 ≡ occurrences (take l.site-index l.drops) i;
 }

@@ -3,7 +3,7 @@ use Rattle.std.proofs.lemmas.List.{take_at}
 use Rattle.sand_model.specs.Grid.{Grid}
 use Rattle.sand_model.specs.Piles.{PileView}
 use Rattle.sand_fronts.specs.TiledPiles.{by_site}
-use Rattle.sand_settle.specs.Settling.{SettledView, IsSettledRecord}
+use Rattle.sand_settle.specs.Settling.{SettledView, IsSomeSettledRecord}
 use Rattle.sand_settle.proofs.Driven.{few_counts, record_read}
 use Rattle.sand_settle.proofs.driven_pile.DrivenPile.finish.Goals as goal
 
@@ -35,4 +35,4 @@ invariant_of-result c =
     ∙ ap (λ (g : Grid).
     by_site g (λ j. slice_index c.self.inside.start.odometer j + slice_index c.self.inside.fronts.times j))
     c.self.invariant.one_grid) in
-    subst IsSettledRecord (sym all) c.self.invariant.settled
+    subst IsSomeSettledRecord (sym all) c.self.invariant.settled

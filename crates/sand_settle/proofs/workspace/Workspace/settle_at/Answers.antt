@@ -1,8 +1,8 @@
 use Rattle.std.proofs.Common.{◌+◌, ◌^◌, ◌<◌, ◌∙◌, refl, sym, ap, arith, get_or}
 use Rattle.sand_model.specs.Grid.{Grid, sites}
-use Rattle.sand_model.specs.Sand.{IsSettled, lost, tally, topplings}
+use Rattle.sand_model.specs.Sand.{IsSettled, lost, occurrences, topplings}
 use Rattle.sand_model.proofs.Lists.{lists_of}
-use Rattle.sand_model.proofs.Tallies.{sum_below-tally}
+use Rattle.sand_model.proofs.Occurrences.{sum_below-occurrences}
 use Rattle.sand_model.proofs.SumsBelow.{sum_below-add}
 use Rattle.sand_settle.specs.SiteLists.{has_toppled}
 use Rattle.sand_settle.proofs.Collected.{avalanche_none}
@@ -34,21 +34,21 @@ count_each-requires-clause-fits c j l =
     c.args.heights.now c.self.invariant.sides (c.requires.one_each.0 ∙ sym (ap sites c.self.view_is)) c.requires.limit
     (λ i. ap (λ u. get_or u i 0) c.as_mut_slice-counts.ensures.value ∙ c.self.invariant.uncounted i) in
     let more = c.topple_once.ensures.advances (λ i. get_or c.waves.counts i 0)
-    (λ i. get_or c.waves.counts i 0 + tally c.topple_once.new.list.items i) (λ i m. refl) in
+    (λ i. get_or c.waves.counts i 0 + occurrences c.topple_once.new.list.items i) (λ i m. refl) in
     let all = advance_more c.self.inside.lattice _ _ _ _ _ _ c.waves.invariant.advances more in
     let small =
-    counts_small c.self.inside.lattice _ _ (λ i. get_or c.waves.counts i 0 + tally c.topple_once.new.list.items i)
+    counts_small c.self.inside.lattice _ _ (λ i. get_or c.waves.counts i 0 + occurrences c.topple_once.new.list.items i)
     _ j all first (omega (arith, c.waves.invariant.counts_each)) in
     omega arith
 
 pub waves-smaller : goal.waves-smaller
 waves-smaller c =
     let more = c.topple_once.ensures.advances (λ i. get_or c.waves.counts i 0)
-    (λ i. get_or c.waves.counts i 0 + tally c.topple_once.new.list.items i) (λ i m. refl) in
+    (λ i. get_or c.waves.counts i 0 + occurrences c.topple_once.new.list.items i) (λ i m. refl) in
     let parts =
-    sum_below-add (sites c.self.inside.lattice) (λ i. get_or c.waves.counts i 0) (tally c.topple_once.new.list.items) in
+    sum_below-add (sites c.self.inside.lattice) (λ i. get_or c.waves.counts i 0) (occurrences c.topple_once.new.list.items) in
     let long =
-    sum_below-tally (sites c.self.inside.lattice) c.topple_once.new.list.items c.topple_once.ensures.inside in
+    sum_below-occurrences (sites c.self.inside.lattice) c.topple_once.new.list.items c.topple_once.ensures.inside in
     omega (arith, more.weight_pays, c.topple_once.ensures.some)
 
 pub waves-preserved : goal.waves-preserved

@@ -1,6 +1,6 @@
 use Rattle.std.proofs.Common.{◌≡◌, ℕ, ◌+◌, ◌++◌, List, sum, sym, ap, ◌∙◌, subst, arith, rules}
 use Rattle.std.specs.Prelude.{slice_index}
-use Rattle.sand_settle.specs.Settling.{SettledView, IsSettledRecord}
+use Rattle.sand_settle.specs.Settling.{SettledView, IsSomeSettledRecord}
 use Rattle.sand_shared.specs.Record.{RecordView, IsOneThreads}
 use Rattle.sand_shared.proofs.RecordSums.{AreJoined, are_joined, small_entries, small_topplings, small_lost, joined_topplings, both, followed, settled_record}
 use Rattle.sand_shared.proofs.record.Record.append.Goals.{After-lost-2}
@@ -54,7 +54,7 @@ parts c =
 pub of_parts-requires-clause-settled : goal.of_parts-requires-clause-settled
 of_parts-requires-clause-settled c =
     let at = (goal.at.of_parts-requires-clause-settled c).After-lost-2 in
-    subst IsSettledRecord (parts at) (settled_record _ (followed _ _ _ (joined at)))
+    subst IsSomeSettledRecord (parts at) (settled_record _ (followed _ _ _ (joined at)))
 
 pub of_parts-requires-clause-small : goal.of_parts-requires-clause-small
 of_parts-requires-clause-small c =

@@ -4,7 +4,7 @@ use Rattle.atomic_table.specs.Table.{Me}
 use Rattle.sand_shared.specs.declared.view.View.{View}
 use Rattle.sand_shared.specs.declared.view.Grains.{Grains}
 use Rattle.sand_shared.specs.Bare.{shown}
-use Rattle.sand_shared.specs.Events.{receipt, grains, are_for, drew}
+use Rattle.sand_shared.specs.Events.{receipt, grains_for, are_for, drew}
 use Rattle.sand_shared.specs.Passes.{PassView, at_rest}
 use Rattle.sand_shared.proofs.HandAfterPlacing.{laid_on, last_laid, first_counts}
 use Rattle.sand_shared.proofs.EventsInARow.{drew_row_is, row_fresh, laid_is}
@@ -17,8 +17,8 @@ place-requires-clause-hand c =
     let n = c.draw-number.result in
     let i = c.args.site in
     let hand = ap (λ (v : View). v.hand) (drew_row_is _ _ (i ∷ []) _ _ n (omega arith) c.draw-number.ensures.happened)
-    ∙ ap (λ (m : Me ℕ View). m.0.hand ++ grains i 1 ∷ []) c.bare.invariant.me in
-    subst (λ (l : List Grains). 1 ≤ count_by (are_for i 1) l) (sym hand) (first_counts i 1 (grains i 1 ∷ []) refl)
+    ∙ ap (λ (m : Me ℕ View). m.0.hand ++ grains_for i 1 ∷ []) c.bare.invariant.me in
+    subst (λ (l : List Grains). 1 ≤ count_by (are_for i 1) l) (sym hand) (first_counts i 1 (grains_for i 1 ∷ []) refl)
 
 pub invariant_of-bare : goal.invariant_of-bare
 invariant_of-bare c =

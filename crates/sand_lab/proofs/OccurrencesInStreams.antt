@@ -3,7 +3,7 @@ use Rattle.std.proofs.Common.{ℕ, zero, suc, Bool, true, false, cond, ltb, eqb,
 use Rattle.std.proofs.lemmas.Bool.{cases_Bool, cases_lt, lt-ltb, le-ltb}
 use Rattle.std.proofs.lemmas.List.{length-map}
 use Rattle.std.proofs.lemmas.List.Sums.{sum_by-cons, length-filter, count_by-le-length}
-use Rattle.sand_model.specs.Sand.{sum_below, tally, one_at}
+use Rattle.sand_model.specs.Sand.{sum_below, occurrences, one_at}
 use Rattle.sand_model.proofs.SumsBelow.{sum_below_same, sum_below-add, sum_below-ones, sum_below-scale, sum_below-zero, sum_below-one_at, sum_below-one_at_past}
 use Rattle.sand_model.proofs.Sandpile.{sum_by_ones}
 use Rattle.sand_shared.proofs.SumsOverPasses.{sum_by-map}
@@ -92,12 +92,12 @@ module _ (sites seed droppers drops epoch : ℕ) (js : List Entry)
       let many = as_many in all_pass (λ (e : Entry). ltb e.dropper droppers) js (omega arith)
 
   -- and a site is in the journal as often as in all streams
-  pub tally_of_streams : (i : ℕ)
-      → tally (sites_in js) i ≡ sum_below droppers (λ k. tally (stream_sites sites seed (stream_of epoch k) drops) i)
-  tally_of_streams i =
+  pub occurrences_in_streams : (i : ℕ)
+      → occurrences (sites_in js) i ≡ sum_below droppers (λ k. occurrences (stream_sites sites seed (stream_of epoch k) drops) i)
+  occurrences_in_streams i =
       let w = λ (e : Entry). one_at e.site i in
       let tallied = λ (es : List Entry). sum_by-map (λ j. one_at j i) (λ (e : Entry). e.site) es in
       let each = sum_below_same droppers (λ k. sum_by w (of_dropper k js))
-      (λ k. tally (stream_sites sites seed (stream_of epoch k) drops) i)
-      (λ k less. sym (tallied (of_dropper k js)) ∙ ap (λ (xs : List ℕ). tally xs i) (follows.each k less)) in
+      (λ k. occurrences (stream_sites sites seed (stream_of epoch k) drops) i)
+      (λ k less. sym (tallied (of_dropper k js)) ∙ ap (λ (xs : List ℕ). occurrences xs i) (follows.each k less)) in
       tallied js ∙ (ap (sum_by w) (sym all_of_droppers) ∙ (sym (sum_below-droppers w droppers js) ∙ each))
