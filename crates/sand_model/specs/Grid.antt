@@ -50,6 +50,10 @@ row g i = i / g.width
 abbrev pub site_at : Grid → ℕ → ℕ → Option ℕ
 site_at g x y = if nat_lt x g.width && nat_lt y g.height then Some (y * g.width + x) else None
 
+-- the site in column width / 2 and row height / 2
+abbrev pub middle : Grid → ℕ
+middle g = (g.height / 2) * g.width + g.width / 2
+
 -- the places around a site, if they are in the grid; no subtraction goes below 0: there is a row to the north, a site
 -- to the west, or the rest of the row
 unfoldable pub north : Grid → ℕ → Option ℕ

@@ -1,5 +1,5 @@
 -- The laws of toppling, over all grids and all piles.
-use Rattle.std.specs.Prelude.{ℕ, ℤ, pos, ◌≡◌, ◌+◌, ◌*◌, ◌<◌, ◌≤◌, ◌↔◌, ◌+ℤ◌, ◌-ℤ◌, ◌*ℤ◌, ◌≤ℤ◌, List, [], ◌∷◌}
+use Rattle.std.specs.Prelude.{ℕ, ℤ, pos, ◌≡◌, ◌+◌, ◌*◌, ◌<◌, ◌≤◌, ◌↔◌, ◌+ℤ◌, ◌-ℤ◌, ◌*ℤ◌, ◌≤ℤ◌, List, [], ◌∷◌, All, length, sum, slice_index}
 use Rattle.sand_model.specs.Grid.{Grid, sites, missing}
 use Rattle.sand_model.specs.Forbidden.{IsTight}
 use Rattle.sand_model.specs.Sand.{flow, occurrences, one_at, IsStable, IsToppled, Stabilises, IsUnderway, IsSettled, grains, lost, weight}
@@ -71,3 +71,22 @@ StabilisesOverIntegers = (g : Grid) (s u : ℕ → ℕ) → Stabilises g s u
 -- a pile and its settled pile are equivalent
 abbrev pub SettledIsEquivalent : Type 0
 SettledIsEquivalent = (g : Grid) (s u t : ℕ → ℕ) → IsSettled g s u t → IsEquivalent g (whole s) (whole t)
+
+-- the sum of a list of heights is the grains at its sites
+abbrev pub SumIsGrains : Type 0
+SumIsGrains = (g : Grid) (heights : List ℕ) → length heights ≡ sites g → sum heights ≡ grains g (slice_index heights)
+
+-- the grains of two piles together are those of the one and those of the other
+abbrev pub GrainsAddUp : Type 0
+GrainsAddUp = (g : Grid) (a b : ℕ → ℕ) → grains g (λ i. a i + b i) ≡ grains g a + grains g b
+
+-- each drop of a list is one grain
+abbrev pub DropsAreGrains : Type 0
+DropsAreGrains =
+    (g : Grid) (drops : List ℕ) → All (λ i. i < sites g) drops → grains g (occurrences drops) ≡ length drops
+
+-- what is outside the grid does not count: the same numbers at each site settle alike
+abbrev pub SettledBySite : Type 0
+SettledBySite = (g : Grid) (s s' u u' t t' : ℕ → ℕ) → ((i : ℕ) → i < sites g → s i ≡ s' i)
+    → ((i : ℕ) → i < sites g → u i ≡ u' i) → ((i : ℕ) → i < sites g → t i ≡ t' i)
+    → IsSettled g s u t → IsSettled g s' u' t'

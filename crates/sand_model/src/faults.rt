@@ -1,5 +1,8 @@
 //! Why a shape, a pile or a toppling was refused, with the number of each fault.
 
+ghost use Rattle.std.specs.Prelude.{◌≡◌};
+ghost use Rattle.sand_model.specs.declared.faults.PileFault.TheVariants.{Memory};
+
 use std::alloc::AllocError;
 use thiserror::Error;
 
@@ -56,6 +59,14 @@ impl PileFault {
             PileFault::TooManyGrains => 3,
             PileFault::Memory(_) => 4,
         }
+    }
+}
+
+impl From<AllocError> for PileFault {
+    ghost from_gives = { λ e fault. fault ≡ Memory e };
+
+    fn from(error: AllocError) -> PileFault {
+        PileFault::Memory(error)
     }
 }
 

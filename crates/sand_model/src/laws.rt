@@ -23,7 +23,7 @@
 //! **Natural numbers and integers.** The definitions are over the natural numbers, without subtraction. Over the
 //! integers they are the `s - Lu` and the `s - Lu <= 3` of the textbooks.
 
-ghost use Rattle.sand_model.specs.Laws.{LeastAction, WeightFalls, LaplacianSum, LaplacianSumOverIntegers, EachSettles, Abelian, SettlesAfter, SettledOnce, LeastIfTight, ToppledOverIntegers, StabilisesOverIntegers, SettledIsEquivalent};
+ghost use Rattle.sand_model.specs.Laws.{LeastAction, WeightFalls, LaplacianSum, LaplacianSumOverIntegers, EachSettles, Abelian, SettlesAfter, SettledOnce, LeastIfTight, ToppledOverIntegers, StabilisesOverIntegers, SettledIsEquivalent, SumIsGrains, GrainsAddUp, DropsAreGrains, SettledBySite};
 
 /// Legal topplings never exceed any odometer that stabilises the pile.
 pub fn least_action()
@@ -72,4 +72,16 @@ pub fn over_integers()
     ensures toppled { ToppledOverIntegers }
     ensures stabilises { StabilisesOverIntegers }
     ensures equivalent { SettledIsEquivalent }
+{}
+
+/// The grains of a list of heights, of two piles together, and of a list of drops.
+pub fn grains_add_up()
+    ensures heights { SumIsGrains }
+    ensures together { GrainsAddUp }
+    ensures drops { DropsAreGrains }
+{}
+
+/// What a pile settles to depends only on its heights at the sites of the grid.
+pub fn settled_by_site()
+    ensures { SettledBySite }
 {}

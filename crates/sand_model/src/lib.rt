@@ -4,6 +4,10 @@
 //! rows of all sites), `Sand` (topplings, what stabilises, the least odometer), `Forbidden` (forbidden sets),
 //! `Underway` (from one moment of settling to a later one), `Integers` (the same over the integers), `Lists` (lists
 //! read as sets of sites), `Piles` (what contracts see of a pile) and `Laws`. All crates above cite these.
+//!
+//! Proofs of other crates can rely on `laws` and on these modules of `proofs/`: `SumsBelow` (sums over sites),
+//! `Occurrences` (how often a site is in a list), `Heights` (a list of heights and its grains), `Bounds` (numbers that are
+//! limited by grains and sites) and `Sandpile` (the laws as lemmas).
 #![tactic(auto)]
 
 mod faults;

@@ -1,13 +1,13 @@
 //! Piles of grains on the sites of a grid, and the toppling of one site.
 
-ghost use Rattle.std.specs.Prelude.{◌≡◌, ◌≢◌, ℕ, ◌+◌, ◌*◌, ◌<◌, ◌≤◌, ◌↔◌, length, sum, slice_index, slice_set, IfOk, IfErr, IsErr, OnErr, OnOk, IfSome, IsTrue, All};
+ghost use Rattle.std.specs.Prelude.{◌≡◌, ◌≢◌, ℕ, ◌+◌, ◌*◌, ◌<◌, ◌≤◌, ◌↔◌, ◌⊎◌, length, sum, slice_index, slice_set, IfOk, IfErr, IsErr, OnErr, OnOk, IfSome, IsTrue, All, alloc_error};
 ghost use Rattle.sand_model.specs.Grid.{sites, missing};
 ghost use Rattle.sand_model.specs.Sand.{IsToppled, IsStable, one_at, value_at};
 ghost use Rattle.sand_model.specs.Piles.{IsPile, height_of, most_grains};
 
 use crate::faults::{PileFault, ToppleFault};
 use crate::shape::Shape;
-use std::alloc::Global;
+use std::alloc::{AllocError, Global};
 use std::marker::Model;
 
 /// The most grains that a pile holds, 2^40 - 1.
@@ -57,7 +57,7 @@ impl Pile {
             }
             grains += *height;
         }
-        let heights = Vec::from_slice(alloc, heights).map_err(PileFault::Memory)?;
+        let heights = Vec::from_slice(alloc, heights)?;
         Ok(Pile {
             shape,
             grains,
@@ -143,11 +143,38 @@ impl Pile {
         ensures made { IfOk result (λ p. p ≡ self.now) }
         ensures memory { IsOkUnless result (PileFault.Memory alloc_error) }
     {
-        let heights = Vec::from_slice(alloc, self.heights.as_slice()).map_err(PileFault::Memory)?;
+        let heights = Vec::from_slice(alloc, self.heights.as_slice())?;
         Ok(Pile {
             shape: self.shape,
             grains: self.grains,
             heights,
+        })
+    }
+
+    /// Whether the other pile has the same shape and the same heights.
+    pub fn equals(&self, other: &Pile) -> bool
+        ensures { IsTrue result ↔ (self.now ≡ other.now) }
+    {
+        self.shape == other.shape && self.heights.as_slice() == other.heights.as_slice()
+    }
+
+    /// The grains of two piles together, on their common shape. Returns TooManyGrains if their sum is over the limit, and
+    /// Memory if an allocation fails.
+    pub fn plus(&self, alloc: Global, other: &Pile) -> Result<Pile, PileFault>
+        requires { other.now.grid ≡ self.now.grid }
+        ensures grid { IfOk result (λ p. p.grid ≡ self.now.grid) }
+        ensures heights { IfOk result (λ p. (i : ℕ) → height_of p i ≡ height_of self.now i + height_of other.now i) }
+        ensures limit { (result ≡ Err PileFault.TooManyGrains)
+            ↔ (most_grains < sum self.now.heights + sum other.now.heights) }
+        ensures faults { IfErr result (λ e. (e ≡ PileFault.TooManyGrains) ⊎ (e ≡ PileFault.Memory alloc_error)) }
+    {
+        if other.grains > GRAIN_LIMIT - self.grains {
+            return Err(PileFault::TooManyGrains);
+        }
+        Ok(Pile {
+            shape: self.shape,
+            grains: self.grains + other.grains,
+            heights: sums(alloc, self.heights.as_slice(), other.heights.as_slice())?,
         })
     }
 
@@ -167,6 +194,21 @@ impl Pile {
         self.grains += 1;
         Ok(())
     }
+}
+
+// The sums of two lists, entry by entry.
+fn sums(alloc: Global, a: &[u64], b: &[u64]) -> Result<Vec<u64>, AllocError>
+    requires same_length { length a.now ≡ length b.now }
+    requires few { sum a.now + sum b.now ≤ most_grains }
+    ensures one_each { IfOk result (λ v. length v.items ≡ length a.now) }
+    ensures sums { IfOk result (λ v. (i : ℕ) → slice_index v.items i ≡ slice_index a.now i + slice_index b.now i) }
+    ensures total { IfOk result (λ v. sum v.items ≡ sum a.now + sum b.now) }
+{
+    let mut sums = Vec::with_capacity(alloc, a.len())?;
+    for (site, height) in a.iter().enumerate() {
+        sums.push_reserved(*height + b[site]);
+    }
+    Ok(sums)
 }
 
 fn are_low(heights: &[u64]) -> bool

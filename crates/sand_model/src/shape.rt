@@ -3,7 +3,7 @@
 //! Sites are numbered row by row from the north-west corner: the site in column `x` and row `y` is `y * width + x`.
 
 ghost use Rattle.std.specs.Prelude.{◌≡◌, ◌<◌, count_by, is_none};
-ghost use Rattle.sand_model.specs.Grid.{IsGrid, grid_with_edge, sites, column, row, north, west, east, south, places, missing, site_at};
+ghost use Rattle.sand_model.specs.Grid.{IsGrid, grid_with_edge, sites, column, row, north, west, east, south, places, missing, site_at, middle};
 ghost use Rattle.sand_model.specs.declared.shape.Edge.TheVariants.{Open};
 
 use crate::faults::ShapeFault;
@@ -123,6 +123,14 @@ impl Shape {
         } else {
             None
         }
+    }
+
+    /// The site in the middle: in column `width / 2` and row `height / 2`.
+    pub fn middle(self) -> usize
+        ensures value { result ≡ middle self }
+        ensures inside { result < sites self }
+    {
+        self.height / 2 * self.width + self.width / 2
     }
 
     /// The column and the row of a site.
