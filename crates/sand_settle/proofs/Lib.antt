@@ -6,3 +6,4 @@ pub mod Collected
 pub mod Held
 pub mod Drops
 pub mod Driven
+pub mod OneRecord

@@ -1,9 +1,26 @@
--- The law of the pile of one thread.
-use Rattle.std.specs.Prelude.{ℕ, List, []}
+-- The laws of settled records and of the pile of one thread.
+use Rattle.std.specs.Prelude.{ℕ, ◌≡◌, ◌+◌, ◌<◌, List, [], sum}
+use Rattle.sand_model.specs.Grid.{Grid, sites}
+use Rattle.sand_model.specs.Sand.{grains}
 use Rattle.sand_model.specs.Piles.{PileView}
+use Rattle.sand_settle.specs.Settling.{SettledView, IsSettledRecord}
 use Rattle.sand_settle.specs.Drops.{OneView, IsAfter, DropsAll}
 
 -- after any list of drops, one by one, the record is the settled record of the start and the list
 abbrev pub DropsAddUp : Type 0
 DropsAddUp = (start : PileView) (history : List ℕ) (v w : OneView) → IsAfter start [] v → DropsAll v history w
     → IsAfter start history w
+
+-- heights that agree at each site have the same settled records
+abbrev pub RecordBySite : Type 0
+RecordBySite = (g : Grid) (s t : ℕ → ℕ) (r : SettledView) → ((i : ℕ) → i < sites g → s i ≡ t i)
+    → IsSettledRecord g s r → IsSettledRecord g t r
+
+-- heights have one settled record: one pile, one odometer, one number of topplings and of grains lost
+abbrev pub OneRecord : Type 0
+OneRecord = (g : Grid) (s : ℕ → ℕ) (r q : SettledView) → IsSettledRecord g s r → IsSettledRecord g s q → r ≡ q
+
+-- the grains of the start are lost, or on the settled pile
+abbrev pub GrainsAreKept : Type 0
+GrainsAreKept =
+    (g : Grid) (s : ℕ → ℕ) (r : SettledView) → IsSettledRecord g s r → r.lost + sum r.pile.heights ≡ grains g s

@@ -4,7 +4,7 @@
 //! result is the settled record of the start and the drops, by the same definitions (`IsAfter`, `Drops`,
 //! `IsAvalanche`).
 
-ghost use Rattle.std.specs.Prelude.{◌≡◌, ℕ, ◌+◌, ◌^◌, ◌<◌, ◌↔◌, List, [], ◌∷◌, ◌++◌, length, slice_index, IfOk, OnOk, OnErr, IfErr, IsOkUnless, alloc_error};
+ghost use Rattle.std.specs.Prelude.{◌≡◌, ℕ, ◌+◌, ◌^◌, ◌<◌, ◌↔◌, List, [], ◌∷◌, ◌++◌, length, sum, slice_index, IfOk, OnOk, OnErr, IfErr, IsOkUnless, alloc_error};
 ghost use Rattle.sand_model.specs.Grid.{sites};
 ghost use Rattle.sand_model.specs.Piles.{PileView, height_of, most_grains};
 ghost use Rattle.sand_fronts.specs.TiledPiles.{by_site};
@@ -182,7 +182,8 @@ impl DrivenPile {
 
     /// The settled record of the start and all drops, without a copy.
     pub fn finish(self) -> Settled
-        ensures { result ≡ self.settled }
+        ensures value { result ≡ self.settled }
+        ensures kept { result.lost + sum result.pile.heights ≡ self.grains }
     {
         let DrivenPile {
             start,

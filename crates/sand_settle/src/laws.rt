@@ -1,11 +1,22 @@
-//! The law of the pile of one thread, as the contract of a function that does nothing.
+//! The laws of settled records and of the pile of one thread, as contracts of functions that do nothing.
 //!
 //! Settling in two parts is settling at once (`sand_model::laws::abelian`). So dropping grains one by one, each on a
 //! settled pile, leads to the same pile as dropping all of them together, and the odometers add up.
 
-ghost use Rattle.sand_settle.specs.Laws.{DropsAddUp};
+ghost use Rattle.sand_settle.specs.Laws.{DropsAddUp, RecordBySite, OneRecord, GrainsAreKept};
 
 /// At whatever sites grains are dropped one by one, the record is that of the start and all the grains.
 pub fn drops_add_up()
     ensures { DropsAddUp }
+{}
+
+/// Heights have one settled record, which depends only on those at the sites of the grid.
+pub fn one_record()
+    ensures unique { OneRecord }
+    ensures by_site { RecordBySite }
+{}
+
+/// No grain vanishes: those that are not lost are on the settled pile.
+pub fn grains_are_kept()
+    ensures { GrainsAreKept }
 {}

@@ -1,4 +1,8 @@
 //! Settling a sandpile on one thread.
+//!
+//! The definitions that contracts cite are in `specs/`: `Settling` (the settled record of a pile), `Drops` (drops on a
+//! settled pile, one by one), `Avalanches` and `Laws`. Proofs of other crates can rely on `laws`, and on the lemmas of
+//! `proofs/OneRecord`.
 #![tactic(auto)]
 
 mod avalanche;

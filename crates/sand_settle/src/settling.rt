@@ -109,6 +109,7 @@ impl Workspace {
 fn record_of(pile: &Pile, rest: Rest) -> Settled
     requires { ComesToRest pile.now rest }
     ensures record { IsSettledRecord pile.now.grid (height_of pile.now) result }
+    ensures kept { result.lost + sum result.pile.heights ≡ sum pile.now.heights }
     ensures half { 2 * result.topplings ≤ weight pile.now.grid (height_of pile.now) }
     ensures bound { result.topplings < 2 ^ 54 }
 {
@@ -123,6 +124,7 @@ fn record_of(pile: &Pile, rest: Rest) -> Settled
 /// an allocation fails (Memory). The pile is unchanged.
 pub fn settle(alloc: Global, pile: &Pile) -> Result<Settled, SettleFault>
     ensures record { IfOk result (λ r. IsSettledRecord pile.now.grid (height_of pile.now) r) }
+    ensures kept { IfOk result (λ r. r.lost + sum r.pile.heights ≡ sum pile.now.heights) }
     ensures half { IfOk result (λ r. 2 * r.topplings ≤ weight pile.now.grid (height_of pile.now)) }
     ensures bound { IfOk result (λ r. r.topplings < 2 ^ 54) }
 {

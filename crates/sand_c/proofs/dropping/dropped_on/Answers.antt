@@ -11,6 +11,6 @@ returns-clause-dropped c = record {
   settled = c.in_ok-pile.ensures.settled;
   dropped = c.in_ok-rows.ensures.rows;
   end = c.in_ok-rows.ensures.after c.args.start.now [] c.in_ok-pile.ensures.settled;
-  heights = ap (λ (s : SettledView). s.pile.heights) c.finish.ensures;
-  toppled = ap (λ (s : SettledView). s.odometer) c.finish.ensures;
+  heights = ap (λ (s : SettledView). s.pile.heights) c.finish.ensures.value;
+  toppled = ap (λ (s : SettledView). s.odometer) c.finish.ensures.value;
 }

@@ -1,8 +1,9 @@
 use Rattle.std.proofs.Common.{get_or, ◌-◌, ◌∙◌, ap, arith, length, refl, subst, sum, sym}
 use Rattle.sand_model.specs.Grid.{Grid}
 use Rattle.sand_model.specs.Piles.{PileView, height_of}
-use Rattle.sand_model.proofs.Heights.{sum_left}
+use Rattle.sand_model.proofs.Heights.{sum_is_grains, sum_left}
 use Rattle.sand_settle.specs.Settling.{IsSettledRecord, SettledView}
+use Rattle.sand_settle.proofs.Drops.{grains_kept}
 use Rattle.sand_settle.proofs.Records.{sum_bound, half_weight, record_is}
 use Rattle.sand_settle.proofs.settling.record_of.Goals.{After-grains}
 use Rattle.sand_settle.proofs.settling.record_of.Goals as goal
@@ -66,6 +67,15 @@ pub returns-clause-record : goal.returns-clause-record
 returns-clause-record c =
     subst (λ (r : SettledView). IsSettledRecord c.args.pile.now.grid (height_of c.args.pile.now) r)
     (sym c.of_parts.ensures) (made (goal.at.returns-clause-record c).After-grains)
+
+pub returns-clause-kept : goal.returns-clause-kept
+returns-clause-kept c =
+    let start = c.args.pile.now in
+    let record_of = subst (λ (r : SettledView). IsSettledRecord start.grid (height_of start) r)
+    (sym c.of_parts.ensures) (made (goal.at.returns-clause-kept c).After-grains) in
+    let kept = grains_kept start.grid (height_of start) c.of_parts.result record_of in
+    let before = sum_is_grains start.grid start.heights c.grains-before.ensures.pile.one_each in
+    omega arith
 
 pub returns-clause-half : goal.returns-clause-half
 returns-clause-half c =
