@@ -11,6 +11,11 @@ abbrev pub BurningDecides : Type 0
 BurningDecides =
     (g : Grid) (s : ℕ → ℕ) → IsGrid g → IsStable g s → IsRecurrent g s ↔ ((order : List ℕ) × IsBurningOrder g s order)
 
+-- what is outside the grid does not count: heights that agree at each site are alike recurrent
+abbrev pub RecurrentBySite : Type 0
+RecurrentBySite =
+    (g : Grid) (s t : ℕ → ℕ) → ((i : ℕ) → i < sites g → s i ≡ t i) → IsRecurrent g s → IsRecurrent g t
+
 -- the recurrent piles are those that settle from at least 3 grains at each site
 abbrev pub RecurrentFromFull : Type 0
 RecurrentFromFull =

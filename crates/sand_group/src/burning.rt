@@ -31,6 +31,22 @@ pub enum Burned {
     Forbidden(Vec<usize>),
 }
 
+impl Burned {
+    ghost use Rattle.std.specs.Prelude.{IsTrue};
+    ghost use Rattle.sand_model.specs.Grid.{Grid};
+    ghost use Rattle.sand_group.specs.Recurrence.{IsRecurrent};
+
+    /// Whether this is the result of a recurrent pile.
+    pub fn is_recurrent(&self) -> bool
+        ensures { (g : Grid) (s : ℕ → ℕ) → IsBurned g s self.now → (IsTrue result ↔ IsRecurrent g s) }
+    {
+        match self {
+            Burned::Recurrent(_) => true,
+            Burned::Forbidden(_) => false,
+        }
+    }
+}
+
 // For each site, the number of its neighbours: none has burnt yet.
 fn neighbour_counts(alloc: Global, lattice: &Lattice) -> Result<Vec<u8>, AllocError>
     ensures one_each { IfOk result (λ v. length v.items ≡ sites lattice.now) }

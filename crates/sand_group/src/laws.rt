@@ -16,11 +16,16 @@
 //! second, unless z is at most 0. The same holds for -z. So two equivalent recurrent piles are equal. And a recurrent c
 //! is what c + d settles to, for d = 2m - settled(2m): d is equivalent to all 0 and at least m.
 
-ghost use Rattle.sand_group.specs.Laws.{BurningDecides, RecurrentFromFull, StaysRecurrent, EachClassHasOne, EquivalentRecurrentsAreEqual, RepresentativesAreEqual, SumIsSettled, EachGridHasSurplus, IdentityIsSettled, InverseIsSettled, IdentityIsNeutral, InverseCancels, EquivalentIsSettled, RepresentsItself, EquivalentsAddUp, EachHasOneMultiple, NoneIsIdentity, OneIsItself, MultiplesAddUp};
+ghost use Rattle.sand_group.specs.Laws.{BurningDecides, RecurrentBySite, RecurrentFromFull, StaysRecurrent, EachClassHasOne, EquivalentRecurrentsAreEqual, RepresentativesAreEqual, SumIsSettled, EachGridHasSurplus, IdentityIsSettled, InverseIsSettled, IdentityIsNeutral, InverseCancels, EquivalentIsSettled, RepresentsItself, EquivalentsAddUp, EachHasOneMultiple, NoneIsIdentity, OneIsItself, MultiplesAddUp};
 
 /// A stable pile is recurrent if and only if all its sites burn in some order.
 pub fn burning_decides()
     ensures { BurningDecides }
+{}
+
+/// Whether a pile is recurrent depends only on its heights at the sites of the grid.
+pub fn recurrent_by_site()
+    ensures { RecurrentBySite }
 {}
 
 /// The recurrent piles are those that settle from at least 3 grains at each site, and more grains keep them recurrent.
