@@ -1,10 +1,9 @@
 -- The results of the operations of the group, from the lists of heights that they settle.
-use Rattle.std.proofs.Common.{ℕ, ◌≡◌, ◌+◌, ◌-◌, ◌*◌, ◌<◌, ◌≤◌, refl, sym, ◌∙◌, ap, arith, List, length, sum, get_or, replicate, All, ⊎_elim}
+use Rattle.std.proofs.Common.{ℕ, ◌≡◌, ◌+◌, ◌-◌, ◌*◌, ◌<◌, ◌≤◌, refl, sym, ◌∙◌, ap, arith, List, length, sum, get_or, replicate, All}
 use Rattle.std.proofs.Math.ListN.{set}
-use Rattle.std.proofs.lemmas.Bool.{cases_lt}
-use Rattle.std.proofs.lemmas.List.{ext_get_or, get_or-replicate, get_or_read, get_or_past}
+use Rattle.std.proofs.lemmas.List.{ext_get_or, get_or-replicate, get_or_read}
 use Rattle.std.proofs.lemmas.List.Sums.{sum_by-le}
-use Rattle.std.proofs.lemmas.List.Elements.{All-from_get_or, All-get_or}
+use Rattle.std.proofs.lemmas.List.Elements.{All-from_get_or}
 use Rattle.sand_model.specs.Grid.{Grid, IsGrid, sites}
 use Rattle.sand_model.specs.Sand.{IsStable, IsSettled, one_at}
 use Rattle.sand_model.specs.Integers.{whole}
@@ -12,6 +11,7 @@ use Rattle.sand_model.specs.Piles.{PileView, IsPile, height_of, most_grains}
 use Rattle.sand_model.proofs.Sandpile.{settled_same}
 use Rattle.sand_model.proofs.Bounds.{sites_limit}
 use Rattle.sand_model.proofs.Heights.{get_or-written}
+use Rattle.sand_settle.specs.Settling.{SettledView, IsSettledRecord, odometer_of}
 use Rattle.sand_group.specs.Recurrence.{IsRecurrent}
 use Rattle.sand_group.specs.Group.{SettlesTo, IsSurplus, IsIdentity, IsEquivalentRecurrent}
 use Rattle.sand_group.proofs.OperationsSettle.{equivalent_is_settled, represents_itself, represented_once}
@@ -46,51 +46,40 @@ recurrent_there g s p done recurrent = rw done.grid recurrent
 
 -- ---- the sum
 
-low_at : (heights : List ℕ) (i : ℕ) → All (λ h. h ≤ 3) heights → get_or heights i 0 ≤ 3
-low_at heights i low =
-    ⊎_elim (λ (l : i < length heights). All-get_or (λ h. h ≤ 3) heights i 0 l low)
-    (λ (past : length heights ≤ i). let none = get_or_past heights i 0 past in omega arith)
-    (cases_lt i (length heights))
+low_sum : (p : PileView) → IsPile p → IsStable p.grid (height_of p) → sum p.heights ≤ 196608
+low_sum p is stable =
+    let all = sum_by-le (λ h. h) 3 p.heights (low_heights p p.heights is refl stable) in
+    let area = sites_limit p.grid is.grid in
+    let each = is.one_each in
+    omega arith
 
-pub sums_low : (a b v : List ℕ) → length v ≡ length a
-    → All (λ h. h ≤ 3) a → All (λ h. h ≤ 3) b
-    → ((i : ℕ) → i < length a → get_or v i 0 ≡ get_or a i 0 + get_or b i 0)
-    → All (λ h. h ≤ 12) v
-sums_low a b v same low_a low_b sums =
-    All-from_get_or (λ h. h ≤ 12) v 0
-    (λ i l. let e = sums i (omega arith) in let p = low_at a i low_a in let q = low_at b i low_b in omega arith)
+-- two stable piles together are far below the limit
+pub together_small : (a b : PileView) → IsPile a → IsPile b → IsStable a.grid (height_of a)
+    → IsStable b.grid (height_of b) → sum a.heights + sum b.heights ≤ most_grains
+together_small a b is_a is_b stable_a stable_b =
+    let first = low_sum a is_a stable_a in let second = low_sum b is_b stable_b in omega arith
 
-pub sum_settles : (g : Grid) (a b p : PileView) (ha hb v : List ℕ)
-    → g ≡ a.grid → IsPile a → ha ≡ a.heights → hb ≡ b.heights
-    → ((i : ℕ) → i < length ha → get_or v i 0 ≡ get_or ha i 0 + get_or hb i 0)
-    → SettlesTo g (λ i. get_or v i 0) p
-    → SettlesTo a.grid (λ i. height_of a i + height_of b i) p
-sum_settles g a b p ha hb v grid is same_a same_b sums done =
-    let each : length ha ≡ sites g = ap length same_a ∙ is.one_each ∙ sym (ap sites grid) in
-    pile_settles g a.grid (λ i. get_or v i 0) (λ i. height_of a i + height_of b i) p done (sym grid)
-    (λ i l.
-    let e = sums i (omega arith) in
-    let p = ap (λ (xs : List ℕ). get_or xs i 0) same_a in
-    let q = ap (λ (xs : List ℕ). get_or xs i 0) same_b in
-    omega arith)
+pub together_settles : (a b both : PileView) (r : SettledView) → both.grid ≡ a.grid
+    → ((i : ℕ) → height_of both i ≡ height_of a i + height_of b i) → IsSettledRecord both.grid (height_of both) r
+    → SettlesTo a.grid (λ i. height_of a i + height_of b i) r.pile
+together_settles a b both r grid sums is =
+    pile_settles both.grid a.grid (height_of both) (λ i. height_of a i + height_of b i) r.pile
+    (record { grid = is.grid; one_each = is.heights_each; odometer = odometer_of r; settled = is.settled })
+    (sym grid) (λ i l. sym (sums i))
 
 -- ---- the recurrent pile of a class
 
-pub equivalent_settles : (g : Grid) (p e t c : PileView) (u : ℕ → ℕ) (he ht v : List ℕ)
-    → g ≡ p.grid → IsSettled p.grid (height_of p) u (height_of t) → e.grid ≡ g
-    → IsPile e → IsIdentity g (height_of e) → he ≡ e.heights → ht ≡ t.heights
-    → ((i : ℕ) → i < length he → get_or v i 0 ≡ get_or he i 0 + get_or ht i 0)
-    → SettlesTo g (λ i. get_or v i 0) c
+pub equivalent_settles : (p e t c : PileView) (u : ℕ → ℕ) → IsSettled p.grid (height_of p) u (height_of t)
+    → e.grid ≡ p.grid → IsIdentity p.grid (height_of e) → SettlesTo e.grid (λ i. height_of e i + height_of t i) c
     → IsEquivalentRecurrent p.grid (height_of p) c
-equivalent_settles g p e t c u he ht v grid start there is identity same_e same_t sums done =
-    let both = sum_settles g e t c he ht v (sym there) is same_e same_t sums done in
+equivalent_settles p e t c u start there identity done =
     let here = pile_settles e.grid p.grid (λ i. height_of e i + height_of t i)
-    (λ i. height_of e i + height_of t i) c both (sym (there ∙ grid)) (λ i l. refl) in
+    (λ i. height_of e i + height_of t i) c done (sym there) (λ i l. refl) in
     record {
       grid = here.grid;
       one_each = here.one_each;
       represents = equivalent_is_settled p.grid (height_of p) u (height_of t) (height_of e)
-          here.odometer (height_of c) start (rw (← grid) identity) here.settled;
+          here.odometer (height_of c) start identity here.settled;
     }
 
 pub recurrent_of : (g : Grid) (s : ℕ → ℕ) (c : PileView) → IsEquivalentRecurrent g s c

@@ -9,7 +9,7 @@ ghost use Rattle.sand_group.specs.Recurrence.{IsRecurrent};
 ghost use Rattle.sand_group.specs.Group.{IsEquivalentRecurrent};
 
 use crate::faults::GroupFault;
-use crate::group::{Recurrent, identity, settled, sums};
+use crate::group::{Recurrent, identity, settled_together};
 use sand_model::Pile;
 use sand_settle::settle;
 use std::alloc::Global;
@@ -20,11 +20,9 @@ pub fn equivalent_recurrent(alloc: Global, pile: &Pile) -> Result<Recurrent, Gro
     ensures equivalent { IfOk result (λ c. IsEquivalentRecurrent pile.now.grid (height_of pile.now) c) }
     ensures itself { IsRecurrent pile.now.grid (height_of pile.now) → IfOk result (λ c. c ≡ pile.now) }
 {
-    let shape = pile.shape();
     let start = settle(alloc, pile)?.into_pile();
-    let neutral = identity(alloc, shape)?;
-    let heights = sums(alloc, neutral.pile().heights(), start.heights())?;
+    let neutral = identity(alloc, pile.shape())?;
     Ok(Recurrent {
-        pile: settled(alloc, shape, heights)?,
+        pile: settled_together(alloc, neutral.pile(), &start)?,
     })
 }

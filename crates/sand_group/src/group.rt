@@ -14,7 +14,7 @@ ghost use Rattle.sand_group.specs.Group.{SettlesTo, IsSurplus, IsSum, IsIdentity
 use crate::burning::{Burned, burn};
 use crate::faults::GroupFault;
 use crate::neutral::shown_identity;
-use sand_model::{Pile, Shape};
+use sand_model::{Pile, PileFault, Shape};
 use sand_settle::settle;
 use std::alloc::{AllocError, Global};
 use std::marker::Model;
@@ -88,19 +88,22 @@ pub(crate) fn settled(alloc: Global, shape: Shape, heights: Vec<u64>) -> Result<
     Ok(settled.into_pile())
 }
 
-pub(crate) fn sums(alloc: Global, a: &[u64], b: &[u64]) -> Result<Vec<u64>, AllocError>
-    requires same_length { length a.now ≡ length b.now }
-    requires low_a { All (λ h. h ≤ 3) a.now }
-    requires low_b { All (λ h. h ≤ 3) b.now }
-    ensures one_each { IfOk result (λ v. length v.items ≡ length a.now) }
-    ensures sums { IfOk result (λ v. (i : ℕ) → i < length a.now
-        → slice_index v.items i ≡ slice_index a.now i + slice_index b.now i) }
+// The settled pile of two stable piles together.
+pub(crate) fn settled_together(alloc: Global, a: &Pile, b: &Pile) -> Result<Pile, GroupFault>
+    requires one_grid { b.now.grid ≡ a.now.grid }
+    requires low_a { IsStable a.now.grid (height_of a.now) }
+    requires low_b { IsStable b.now.grid (height_of b.now) }
+    ensures settled { IfOk result (SettlesTo a.now.grid (λ i. height_of a.now i + height_of b.now i)) }
+    ensures memory { IsOkUnless result (GroupFault.Memory alloc_error) }
 {
-    let mut sums = Vec::with_capacity(alloc, a.len())?;
-    for (site, height) in a.iter().enumerate() {
-        sums.push(*height + b[site])?;
-    }
-    Ok(sums)
+    let _ = (a.grains(), b.grains());
+    let both = match a.plus(alloc, b) {
+        Ok(both) => both,
+        Err(PileFault::Memory(error)) => return Err(GroupFault::Memory(error)),
+        Err(PileFault::TooManyGrains) => unreachable!(),
+        Err(PileFault::Length) => unreachable!(),
+    };
+    Ok(settle(alloc, &both)?.into_pile())
 }
 
 fn six_less(alloc: Global, heights: &[u64]) -> Result<Vec<u64>, AllocError>
@@ -153,13 +156,11 @@ pub fn add(alloc: Global, a: &Recurrent, b: &Recurrent) -> Result<Recurrent, Gro
     ensures settled { IfOk result (SettlesTo a.now.grid (λ i. height_of a.now i + height_of b.now i)) }
     ensures sum { IfOk result (λ c. IsSum a.now.grid (height_of a.now) (height_of b.now) (height_of c)) }
 {
-    let shape = a.pile.shape();
-    if shape != b.pile.shape() {
+    if a.pile.shape() != b.pile.shape() {
         return Err(GroupFault::Shapes);
     }
-    let heights = sums(alloc, a.pile.heights(), b.pile.heights())?;
     Ok(Recurrent {
-        pile: settled(alloc, shape, heights)?,
+        pile: settled_together(alloc, &a.pile, &b.pile)?,
     })
 }
 
