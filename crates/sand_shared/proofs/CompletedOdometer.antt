@@ -12,6 +12,7 @@ use Rattle.sand_model.proofs.Bounds.{topplings_bound}
 use Rattle.sand_model.proofs.Sandpile.{laplacian_sum, settles_after, settled_same}
 use Rattle.sand_settle.specs.Settling.{SettledView, IsSettledRecord, odometer_of}
 use Rattle.sand_shared.specs.declared.bare_pass.BarePass.TheInside.{Inside}
+use Rattle.sand_shared.specs.declared.view.Receipt.{Receipt}
 use Rattle.sand_shared.specs.declared.view.View.{View}
 use Rattle.sand_shared.specs.declared.view.Terms.{Terms}
 use Rattle.sand_shared.specs.OpenPile.{grid_of_terms, receipts_for, start_and_drawn, toppled_by}
@@ -24,9 +25,9 @@ use Rattle.sand_shared.specs.Running.{Stands, Happened}
 use Rattle.sand_shared.specs.Seats.{HasAll}
 use Rattle.sand_shared.specs.Sweeps.{IsRestOf, start_and_receipts}
 use Rattle.sand_shared.proofs.GrainsAtSite.{toppled_from}
-use Rattle.sand_shared.proofs.LastPileIsSettled.{HasGathered, gathered, has_all, drawn_is, seen_is}
+use Rattle.sand_shared.proofs.LastPileIsSettled.{HasGathered, gathered, its_all, drawn_is, told_by_site, seen_is}
 use Rattle.sand_shared.proofs.PassAfterEvent.{known_is}
-use Rattle.sand_shared.proofs.PassKnowsPile.{its_drops, stands_sparing, looked_at_most, looked_at_least}
+use Rattle.sand_shared.proofs.PassKnowsPile.{stands_sparing, looked_at_most, looked_at_least}
 use Rattle.sand_shared.proofs.WholeHasAll.{whole_base, whole_counts, swept_has_all}
 
 sum_below_above : (n : ℕ) (f : ℕ → ℕ) (i : ℕ) → i < n → f i ≤ sum_below n f
@@ -46,16 +47,12 @@ looked_exactly t a i v w n h free all =
     let least = looked_at_least t a i v w n h free all in omega arith
 
 module _ (t : Terms) (a : ℕ) (v : View) (s : Stands t a v) (all : HasAll t v) where
-  pub its_all : (i : ℕ) → occurrences s.pile.drawn i ≡ receipts_for v.receipts i
-  its_all i =
-      its_drops t s.pile s.lawful a s.there (has_all t a v s all) i ∙ ap (λ (u : View). receipts_for u.receipts i) s.pass
-
   pub laid_few : grains (grid_of_terms t) (start_and_receipts t v) ≤ most_grains
   laid_few =
       let g = grid_of_terms t in
       let p = s.pile in
       let same = sum_below_same (sites g) (start_and_receipts t v)
-      (start_and_drawn t p) (λ i _. let d = its_all i in omega arith) in
+      (start_and_drawn t p) (λ i _. let d = its_all t a v s all i in omega arith) in
       let parts = sum_below-add (sites g) (height_of t.start) (occurrences p.drawn) in
       let start = sum_is_grains g t.start.heights s.terms.pile.one_each in
       let drops = sum_below-occurrences (sites g) p.drawn s.lawful.all_sites in
@@ -109,6 +106,12 @@ module _ {t : Terms} {p : PassView} {r : SettledView} {a : ℕ} {v : View} (b : 
   pub completed_seen : p.seen ≡ length p.receipts
   unfolding resting
   completed_seen = seen_is t a resting stands_resting all_resting b.all.below
+
+  pub completed_by_site : {receipts : List Receipt} (history : List ℕ) → p.receipts ≡ receipts
+      → length history ≡ length receipts → Tells receipts history
+      → (i : ℕ) → occurrences history i ≡ receipts_for receipts i
+  unfolding resting
+  completed_by_site = told_by_site t a resting stands_resting all_resting
 
   pub completed_small : (i : ℕ) → i < sites (grid_of_terms t) → slice_index p.counts i + odometer_of r i < 2 ^ 54
   unfolding resting

@@ -54,6 +54,20 @@ module _ (t : Terms) (a : ℕ) (v : View) (s : Stands t a v) (all : HasAll t v) 
       history_is v.receipts s.pile.drawn numbers history (long ∙ every) told
       (subst (λ (u : View). Tells u.receipts s.pile.drawn) s.pass (s.lawful.passes a nobody s.there).receipts)
 
+  pub its_all : (i : ℕ) → occurrences s.pile.drawn i ≡ receipts_for v.receipts i
+  its_all i =
+      its_drops t s.pile s.lawful a s.there has_all i ∙ ap (λ (u : View). receipts_for u.receipts i) s.pass
+
+  -- a history that tells the receipts has each site as often as they do
+  pub told_by_site : {receipts : List Receipt} (history : List ℕ) → v.receipts ≡ receipts
+      → length history ≡ length receipts → Tells receipts history
+      → (i : ℕ) → occurrences history i ≡ receipts_for receipts i
+  told_by_site history same long told i =
+      ap (λ (h : List ℕ). occurrences h i)
+      (drawn_is history (long ∙ ap (λ (l : List Receipt). length l) (sym same))
+      (subst (λ (l : List Receipt). Tells l history) (sym same) told))
+      ∙ its_all i ∙ ap (λ (l : List Receipt). receipts_for l i) same
+
   pub seen_is : AllBelow v.seen v.receipts → v.seen ≡ length v.receipts
   seen_is below =
       let most = (s.lawful.passes a nobody s.there).seen in
@@ -94,8 +108,7 @@ module _ (t : Terms) (a : ℕ) (v : View) (heights : List ℕ) (last : IsLast t 
               stabilises = record {
                 at_most_three = λ i l.
                     let low = calm i l in
-                    let drops = its_drops t p s.lawful a s.there (has_all t a v last.stands all) i in
-                    let same = ap (λ (u : View). receipts_for u.receipts i) s.pass in
+                    let drops = its_all t a v last.stands all i in
                     let here = toppled_is t a v last.stands all base i l in
                     let mine = own i l in
                     let around =
@@ -191,6 +204,12 @@ module _ {t : Terms} {p : PassView} {counts heights : List ℕ}
   pub closed_seen : p.seen ≡ length p.receipts
   unfolding swept
   closed_seen = seen_is t a swept last_swept.stands all_swept b.all.below
+
+  pub closed_by_site : {receipts : List Receipt} (history : List ℕ) → p.receipts ≡ receipts
+      → length history ≡ length receipts → Tells receipts history
+      → (i : ℕ) → occurrences history i ≡ receipts_for receipts i
+  unfolding swept
+  closed_by_site = told_by_site t a swept last_swept.stands all_swept
 
   pub closed_leads : (history : List ℕ) → length history ≡ length p.receipts → Tells p.receipts history
       → LeadsTo t.start history heights counts

@@ -7,7 +7,7 @@ use Rattle.sand_settle.specs.Settling.{SettledView, IsSettledRecord, odometer_of
 use Rattle.sand_shared.specs.declared.view.Receipt.{Receipt}
 use Rattle.sand_shared.specs.declared.view.View.{View}
 use Rattle.sand_shared.specs.declared.view.Terms.{Terms}
-use Rattle.sand_shared.specs.OpenPile.{grid_of_terms}
+use Rattle.sand_shared.specs.OpenPile.{grid_of_terms, receipts_for}
 use Rattle.sand_shared.specs.Passes.{PassView, EachOnce}
 use Rattle.sand_shared.specs.Running.{Stands}
 
@@ -40,6 +40,8 @@ pub record IsRecordOf (t : Terms) (p : PassView) (r : RecordView) : Type 0 where
   pub each_drop_once : length r.history ≡ length p.receipts
   pub each_number_once : EachOnce p.receipts
   pub all_seen : p.seen ≡ length r.history
+  -- each site is there as often as the pass has receipts for it
+  pub by_site : (i : ℕ) → occurrences r.history i ≡ receipts_for p.receipts i
   -- what toppled in place stays toppled
   pub never_fall : (i : ℕ) → slice_index p.counts i ≤ odometer_of r.settled i
 

@@ -4,7 +4,7 @@ use Rattle.sand_shared.specs.declared.view.Receipt.{Receipt}
 use Rattle.sand_shared.specs.declared.view.Terms.{Terms}
 use Rattle.sand_shared.specs.Passes.{PassView, EachOnce}
 use Rattle.sand_shared.specs.Record.{Tells, IsCompleted}
-use Rattle.sand_shared.proofs.CompletedOdometer.{completed_by, completed_seen, completed_leads}
+use Rattle.sand_shared.proofs.CompletedOdometer.{completed_by, completed_seen, completed_by_site, completed_leads}
 use Rattle.sand_shared.proofs.shared_pile.SharedPile.complete.Goals as goal
 
 pub record_of-requires : goal.record_of-requires
@@ -23,12 +23,14 @@ returns-clause-closed c =
     let history = c.record_of.ensures.history in
     let long = ap (λ (l : List ℕ). length l) history ∙ c.requires.one_each in
     let receipts = ap (λ (q : PassView). q.receipts) c.pass.view_is in
+    let told = subst (Tells c.args.pass.receipts) (sym history) c.requires.tells in
     record {
       one_threads = search rules;
       start = search rules;
-      history = subst (Tells c.args.pass.receipts) (sym history) c.requires.tells;
+      history = told;
       each_drop_once = long;
       each_number_once = subst EachOnce receipts c.pass.invariant.pass.once;
+      by_site = completed_by_site b _ receipts long told;
       all_seen = ap (λ (q : PassView). q.seen) (sym c.pass.view_is) ∙ completed_seen b
           ∙ ap (λ (l : List Receipt). length l) receipts ∙ sym long;
       never_fall = λ i.

@@ -6,7 +6,7 @@ use Rattle.sand_shared.specs.Passes.{SharedView, PassView, EachOnce}
 use Rattle.sand_shared.specs.Record.{Tells, IsCompleted}
 use Rattle.sand_shared.proofs.PassAfterEvent.{known_is}
 use Rattle.sand_shared.proofs.SeatOfPass.{still_bare}
-use Rattle.sand_shared.proofs.CompletedOdometer.{completed_by, completed_seen, completed_leads}
+use Rattle.sand_shared.proofs.CompletedOdometer.{completed_by, completed_seen, completed_by_site, completed_leads}
 use Rattle.sand_shared.proofs.shared_pile.SharedPile.record_with.Goals as goal
 
 pub invariant_of-pass : goal.invariant_of-pass
@@ -31,12 +31,14 @@ returns-clause-closed c =
     let history = c.record_of.ensures.history in
     let long = ap (λ (l : List ℕ). length l) history ∙ c.requires.one_each in
     let receipts = ap (λ (q : PassView). q.receipts) c.pass.view_is in
+    let told = subst (Tells c.args.pass.now.receipts) (sym history) c.requires.tells in
     record {
       one_threads = search rules;
       start = c.record_of.ensures.start ∙ c.requires.start;
-      history = subst (Tells c.args.pass.now.receipts) (sym history) c.requires.tells;
+      history = told;
       each_drop_once = long;
       each_number_once = subst EachOnce receipts c.pass.invariant.pass.once;
+      by_site = completed_by_site b _ receipts long told;
       all_seen = ap (λ (q : PassView). q.seen) (sym c.pass.view_is) ∙ completed_seen b
           ∙ ap (λ (l : List Receipt). length l) receipts ∙ sym long;
       never_fall = λ i.

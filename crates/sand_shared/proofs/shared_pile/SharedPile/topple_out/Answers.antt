@@ -4,7 +4,7 @@ use Rattle.sand_shared.specs.declared.view.Terms.{Terms}
 use Rattle.sand_shared.specs.Passes.{PassView, EachOnce}
 use Rattle.sand_shared.specs.Record.{Tells}
 use Rattle.sand_shared.proofs.RecordSums.{LeadsTo}
-use Rattle.sand_shared.proofs.LastPileIsSettled.{numbers_inside, closed_by, closed_seen, closed_leads}
+use Rattle.sand_shared.proofs.LastPileIsSettled.{numbers_inside, closed_by, closed_seen, closed_by_site, closed_leads}
 use Rattle.sand_shared.proofs.shared_pile.SharedPile.topple_out.Goals as goal
 
 pub fill-requires-clause-inside : goal.fill-requires-clause-inside
@@ -44,13 +44,15 @@ returns c =
     let history = c.of_lists.ensures.history in
     let long = ap (λ (l : List ℕ). length l) history ∙ c.fill.ensures.length ∙ c.requires.history in
     let receipts = ap (λ (q : PassView). q.receipts) c.pass.view_is in
+    let told = subst (λ (z : List Receipt × List ℕ). Tells z.0 z.1)
+    (λ i. (c.requires.receipts i, sym history i)) c.fill.ensures.tells in
     record {
       one_threads = search rules;
       start = search rules;
-      history = subst (λ (z : List Receipt × List ℕ). Tells z.0 z.1)
-          (λ i. (c.requires.receipts i, sym history i)) c.fill.ensures.tells;
+      history = told;
       each_drop_once = long;
       each_number_once = subst EachOnce receipts c.pass.invariant.pass.once;
+      by_site = closed_by_site b _ receipts long told;
       all_seen = ap (λ (q : PassView). q.seen) (sym c.pass.view_is) ∙ closed_seen b
           ∙ ap (λ (l : List Receipt). length l) receipts ∙ sym long;
       never_fall = search rules;
