@@ -7,7 +7,8 @@ use Rattle.sand_model.specs.Sand.{occurrences, sum_below}
 use Rattle.sand_model.proofs.Occurrences.{occurrences-append}
 use Rattle.sand_settle.specs.Drops.{OneView, IsAfter}
 use Rattle.sand_settle.specs.Settling.{SettledView}
-use Rattle.sand_shared.specs.Record.{RecordView, IsOneThreads}
+use Rattle.sand_shared.specs.Record.{RecordView}
+use Rattle.sand_shared.proofs.RecordSums.{is_one_threads}
 use Rattle.sand_plan.specs.declared.wish.Wish.{Wish}
 use Rattle.sand_lab.specs.Reports.{AreEpochs, IsReport, ReportView, SheetView, histories}
 use Rattle.sand_lab.specs.Streams.{stream_of, stream_sites}
@@ -59,12 +60,7 @@ same_record : (draw : Draw) (album : List ℕ) (w : Wish) → DropsTheDraw draw 
     → IsReport album w start report → last.settled ≡ report.total.settled
 same_record draw album w asks start last report after left =
     let mine : RecordView = record { start = start; history = drawn_on draw start; settled = last.settled } in
-    let one : IsOneThreads mine = record {
-      start_pile = after.start_pile;
-      all_sites = after.all_sites;
-      limit = after.limit;
-      settled = after.settled;
-    } in
+    let one = is_one_threads mine after.start_pile after.all_sites after.limit after.settled in
     one_threads_once mine report.total one left.total.one_threads (sym left.total.from_start)
     (λ i. sym (run_of_draw draw album w asks start report.records report.sheets (left.all ∙ asks.epochs) left.epochs i)
     ∙ ap (λ (h : List ℕ). occurrences h i) (sym left.total.history))

@@ -6,13 +6,10 @@ use Rattle.sand_model.proofs.SumsBelow.{sum_below_le}
 use Rattle.sand_model.proofs.Heights.{sum_is_grains}
 use Rattle.sand_settle.specs.Settling.{odometer_of}
 use Rattle.sand_shared.specs.Record.{RecordView, IsOneThreads}
-use Rattle.sand_shared.proofs.RecordSums.{leads_of, grains_left}
 
 pub settled_grains : (r : RecordView) → IsOneThreads r
     → sum r.settled.pile.heights ≤ sum r.start.heights + length r.history
-settled_grains r one =
-    let left = grains_left r.start r.history r.settled.pile.heights r.settled.odometer (leads_of r one) in
-    omega arith
+settled_grains r one = let kept = one.kept in omega arith
 
 -- counts that are at most the odometer add up to at most all topplings
 pub counts_below : (r : RecordView) (cs : List ℕ)

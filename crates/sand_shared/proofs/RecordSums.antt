@@ -75,7 +75,29 @@ module _ (start : PileView) (history heights odometer : List ℕ) (l : LeadsTo s
               ∙ ap (λ (xs : List ℕ). topplings g (slice_index xs)) (sym odometer_is);
           all_lost = let same = ap (λ (xs : List ℕ). lost g (slice_index xs)) odometer_is in omega arith;
         };
+        kept = (let same = ap (λ (xs : List ℕ). sum xs) heights_are in omega arith);
       }
+
+-- the settled record of a start and a history keeps all grains
+pub is_one_threads : (r : RecordView) → IsPile r.start → All (λ i. i < sites r.start.grid) r.history
+    → sum r.start.heights + length r.history ≤ most_grains
+    → IsSettledRecord r.start.grid (λ i. height_of r.start i + occurrences r.history i) r.settled
+    → IsOneThreads r
+is_one_threads r pile inside limit settled = record {
+  start_pile = pile;
+  all_sites = inside;
+  limit = limit;
+  settled = settled;
+  kept = (let left = grains_left r.start r.history r.settled.pile.heights r.settled.odometer (record {
+    pile = pile;
+    all_sites = inside;
+    limit = limit;
+    heights_each = settled.heights_each;
+    odometer_each = settled.odometer_each;
+    settled = settled.settled;
+  }) in
+      let all = settled.all_lost in omega arith);
+}
 
 -- how small the numbers of a record are
 pub leads_of : (r : RecordView) → IsOneThreads r → LeadsTo r.start r.history r.settled.pile.heights r.settled.odometer
@@ -110,9 +132,8 @@ small_topplings r one =
 
 pub small_lost : (r : RecordView) → IsOneThreads r → r.settled.lost ≤ most_grains
 small_lost r one =
-    let left = grains_left r.start r.history r.settled.pile.heights r.settled.odometer (leads_of r one) in
-    let limit = one.limit in
-    let all = one.settled.all_lost in omega arith
+    let kept = one.kept in
+    let limit = one.limit in omega arith
 
 times_plus : (a b c : ℕ) → a * (b + c) ≡ a * b + a * c
 times_plus a b c = grind arith
@@ -238,6 +259,10 @@ module _ (r q : RecordView) (sums : List ℕ) (joined : AreJoined r q sums) wher
           all_topplings = omega arith;
           all_lost = omega arith;
         };
+        kept = (let e = length-append r.history q.history in
+            let before = first.kept in
+            let later = second.kept in
+            let same = ap (λ (p : PileView). sum p.heights) joined.joint in omega arith);
       }
 
   pub joined_topplings : sum sums ≡ r.settled.topplings + q.settled.topplings

@@ -24,6 +24,8 @@ pub record IsOneThreads (r : RecordView) : Type 0 where
   pub all_sites : All (λ i. i < sites r.start.grid) r.history
   pub limit : sum r.start.heights + length r.history ≤ most_grains
   pub settled : IsSettledRecord r.start.grid (λ i. height_of r.start i + occurrences r.history i) r.settled
+  -- each grain is on the settled pile or lost
+  pub kept : r.settled.lost + sum r.settled.pile.heights ≡ sum r.start.heights + length r.history
 
 -- the site of each receipt is at its number
 abbrev pub Tells : List Receipt → List ℕ → Type 0
