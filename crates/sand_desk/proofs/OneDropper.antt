@@ -8,7 +8,7 @@ use Rattle.sand_model.proofs.Occurrences.{occurrences-append}
 use Rattle.sand_settle.specs.Drops.{OneView, IsAfter}
 use Rattle.sand_settle.specs.Settling.{SettledView}
 use Rattle.sand_shared.specs.Record.{RecordView}
-use Rattle.sand_shared.proofs.RecordSums.{is_one_threads}
+use Rattle.sand_shared.proofs.Receipts.{is_one_threads}
 use Rattle.sand_plan.specs.declared.wish.Wish.{Wish}
 use Rattle.sand_lab.specs.Reports.{AreEpochs, IsReport, ReportView, SheetView, histories}
 use Rattle.sand_lab.specs.Streams.{stream_of, stream_sites}

@@ -1,12 +1,11 @@
 -- The last open pile of a pass that has everything, with nothing in hand and nothing left to topple: the heights are
 -- the settled pile of the start and all drops, and the counts are the least odometer.
 use Rattle.std.proofs.Common.{◌≡◌, ℕ, ◌+◌, ◌-◌, ◌*◌, ◌<◌, List, [], All, length, sym, refl, ap, ◌∙◌, subst, arith}
-use Rattle.std.specs.Prelude.{slice_index, nat_lt}
+use Rattle.std.specs.Prelude.{slice_index}
 use Rattle.atomic_table.specs.Table.{Me}
 use Rattle.sand_model.specs.Grid.{sites}
 use Rattle.sand_model.specs.Sand.{IsSettled, occurrences}
 use Rattle.sand_model.specs.Piles.{height_of}
-use Rattle.sand_model.specs.Lists.{one_if}
 use Rattle.sand_model.proofs.Flow.{flow_same}
 use Rattle.sand_shared.specs.declared.bare_pass.BarePass.TheInside.{Inside}
 use Rattle.sand_shared.specs.declared.view.View.{View}
@@ -24,7 +23,7 @@ use Rattle.sand_shared.specs.Sweeps.{IsCalm, with_counts}
 use Rattle.sand_shared.proofs.SumsOverPasses.{sum_by_only}
 use Rattle.sand_shared.proofs.GrainsAtSite.{toppled_from}
 use Rattle.sand_shared.proofs.PassKnowsPile.{no_receipts, its_drops, its_topplings, nothing_held}
-use Rattle.sand_shared.proofs.ReceiptsTellHistory.{history_is, all_seen}
+use Rattle.sand_shared.proofs.ReceiptsTellHistory.{one_below, history_is, all_seen}
 use Rattle.sand_shared.proofs.RecordSums.{LeadsTo}
 use Rattle.sand_shared.proofs.WholeHasAll.{whole_base, whole_counts, swept_has_all}
 
@@ -32,13 +31,14 @@ module _ (t : Terms) (a : ℕ) (v : View) (s : Stands t a v) (all : HasAll t v) 
   pub has_all : HasAll t (pass_at s.pile a)
   has_all = subst (HasAll t) (sym s.pass) all
 
-  numbers : (n : ℕ) → numbered v.receipts n ≡ one_if (nat_lt n (length s.pile.drawn))
-  numbers n =
+  has_number : (n : ℕ) → n < length s.pile.drawn → 0 < numbered v.receipts n
+  has_number n inside =
       let p = s.pile in
-      ap (λ (u : View). numbered u.receipts n) (sym s.pass)
-      ∙ sym (sum_by_only (λ (u : View). numbered u.receipts n) p.passes a nobody s.there
-      (λ b lb ne. ap (λ rs. numbered rs n) (no_receipts t p s.lawful a s.there has_all b lb ne)))
-      ∙ s.lawful.numbers n
+      let its = ap (λ (u : View). numbered u.receipts n) s.pass in
+      let only = sum_by_only (λ (u : View). numbered u.receipts n) p.passes a nobody s.there
+      (λ b lb ne. ap (λ rs. numbered rs n) (no_receipts t p s.lawful a s.there has_all b lb ne)) in
+      let all = s.lawful.numbers n in
+      let one = one_below n (length p.drawn) inside in omega arith
 
   every : length v.receipts ≡ length s.pile.drawn
   every =
@@ -51,7 +51,7 @@ module _ (t : Terms) (a : ℕ) (v : View) (s : Stands t a v) (all : HasAll t v) 
   pub drawn_is : (history : List ℕ) → length history ≡ length v.receipts → Tells v.receipts history
       → history ≡ s.pile.drawn
   drawn_is history long told =
-      history_is v.receipts s.pile.drawn numbers history (long ∙ every) told
+      history_is v.receipts s.pile.drawn has_number history (long ∙ every) told
       (subst (λ (u : View). Tells u.receipts s.pile.drawn) s.pass (s.lawful.passes a nobody s.there).receipts)
 
   pub its_all : (i : ℕ) → occurrences s.pile.drawn i ≡ receipts_for v.receipts i
@@ -72,7 +72,7 @@ module _ (t : Terms) (a : ℕ) (v : View) (s : Stands t a v) (all : HasAll t v) 
   seen_is below =
       let most = (s.lawful.passes a nobody s.there).seen in
       let same = ap (λ (u : View). u.seen) s.pass in
-      let least = all_seen v.receipts s.pile.drawn numbers v.seen below in
+      let least = all_seen v.receipts s.pile.drawn has_number v.seen below in
       let each = every in omega arith
 
   module _ (base : v.base ≡ 0) where

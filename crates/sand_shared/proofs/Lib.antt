@@ -34,3 +34,4 @@ pub mod RecordSums
 pub mod ReceiptsTellHistory
 pub mod LastPileIsSettled
 pub mod CompletedOdometer
+pub mod Receipts

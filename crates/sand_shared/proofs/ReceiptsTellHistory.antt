@@ -26,7 +26,7 @@ get_set_else (y ∷ ys) (suc i) zero x n = refl
 get_set_else (y ∷ ys) (suc i) (suc j) x n = get_set_else ys i j x (λ e. n (ap suc e))
 
 -- two receipts have different numbers
-apart : (rs : List Receipt) (i j : ℕ) (d : Receipt) → EachOnce rs → i < length rs → j < length rs → j ≢ i
+pub apart : (rs : List Receipt) (i j : ℕ) (d : Receipt) → EachOnce rs → i < length rs → j < length rs → j ≢ i
     → (get_or rs j d).number ≢ (get_or rs i d).number
 apart rs i j d once li lj ne e =
     let n = (get_or rs i d).number in
@@ -50,7 +50,8 @@ told_more rs j d history there once inside before k up =
     ∙ before k (omega arith))
     (cases_eq k j)
 
-found : (rs : List Receipt) (n : ℕ) (d : Receipt) → 0 < numbered rs n
+-- a number that some receipt has
+pub found : (rs : List Receipt) (n : ℕ) (d : Receipt) → 0 < numbered rs n
     → (k : ℕ) × (k < length rs) × ((get_or rs k d).number ≡ n)
 found [] n d some = absurd (omega arith)
 found (r ∷ rs) n d some =
@@ -62,7 +63,7 @@ found (r ∷ rs) n d some =
     (suc f.0, (let l = f.1 in omega arith), f.2))
     (cases_eq r.number n)
 
-one_below : (n m : ℕ) → n < m → one_if (nat_lt n m) ≡ 1
+pub one_below : (n m : ℕ) → n < m → one_if (nat_lt n m) ≡ 1
 one_below n m l = let t : ltb n m ≡ true = lt-ltb n m l in rw t
 
 same_lists : (l m : List ℕ) → length l ≡ length m → ((i : ℕ) → i < length l → slice_get l i ≡ slice_get m i) → l ≡ m
@@ -74,16 +75,13 @@ same_lists (x ∷ xs) (y ∷ ys) e each =
     let h : x ≡ y = cc in
     let t : xs ≡ ys = same_lists xs ys (omega arith) (λ i l. each (suc i) (omega arith)) in λ k. h k ∷ t k
 
--- two lists that agree with the receipts are equal
-module _ (rs : List Receipt) (drawn : List ℕ)
-    (numbers : (n : ℕ) → numbered rs n ≡ one_if (nat_lt n (length drawn))) where
+-- two lists that agree with the receipts are equal, if each of their numbers has a receipt
+module _ (rs : List Receipt) (drawn : List ℕ) (each : (n : ℕ) → n < length drawn → 0 < numbered rs n) where
   pub history_is : (history : List ℕ) → length history ≡ length drawn → Tells rs history → Tells rs drawn
       → history ≡ drawn
   history_is history long told true_of = same_lists history drawn long (λ n inside.
       let d = receipt 0 0 in
-      let here = numbers n in
-      let below = one_below n (length drawn) (omega arith) in
-      let f = found rs n d (omega arith) in
+      let f = found rs n d (each n (omega arith)) in
       ap (slice_get history) (sym f.2) ∙ told f.0 d f.1 ∙ sym (true_of f.0 d f.1) ∙ ap (slice_get drawn) f.2)
 
   -- a pass with all receipts has seen all drops
@@ -92,9 +90,7 @@ module _ (rs : List Receipt) (drawn : List ℕ)
       (λ (none : length drawn ≡ 0). omega arith)
       (λ (some : length drawn ≡ 0 → ⊥).
       let n = length drawn - 1 in
-      let here = numbers n in
-      let last = one_below n (length drawn) (omega arith) in
-      let f = found rs n (receipt 0 0) (omega arith) in
+      let f = found rs n (receipt 0 0) (each n (omega arith)) in
       let b = below f.0 (receipt 0 0) f.1 in
       let e = f.2 in omega arith)
       (cases_eq (length drawn) 0)

@@ -83,21 +83,18 @@ pub is_one_threads : (r : RecordView) → IsPile r.start → All (λ i. i < site
     → sum r.start.heights + length r.history ≤ most_grains
     → IsSettledRecord r.start.grid (λ i. height_of r.start i + occurrences r.history i) r.settled
     → IsOneThreads r
-is_one_threads r pile inside limit settled = record {
-  start_pile = pile;
-  all_sites = inside;
-  limit = limit;
-  settled = settled;
-  kept = (let left = grains_left r.start r.history r.settled.pile.heights r.settled.odometer (record {
-    pile = pile;
-    all_sites = inside;
-    limit = limit;
-    heights_each = settled.heights_each;
-    odometer_each = settled.odometer_each;
-    settled = settled.settled;
-  }) in
-      let all = settled.all_lost in omega arith);
-}
+is_one_threads r pile inside limit settled =
+    let leads : LeadsTo r.start r.history r.settled.pile.heights r.settled.odometer = record {
+      pile = pile;
+      all_sites = inside;
+      limit = limit;
+      heights_each = settled.heights_each;
+      odometer_each = settled.odometer_each;
+      settled = settled.settled;
+    } in
+    let left = grains_left r.start r.history r.settled.pile.heights r.settled.odometer leads in
+    let all = settled.all_lost in
+    record { start_pile = pile; all_sites = inside; limit = limit; settled = settled; kept = omega arith }
 
 -- how small the numbers of a record are
 pub leads_of : (r : RecordView) → IsOneThreads r → LeadsTo r.start r.history r.settled.pile.heights r.settled.odometer

@@ -1,6 +1,6 @@
 //! The laws of the shared pile, as contracts of functions that do nothing.
 
-ghost use Rattle.sand_shared.specs.Laws.{AlwaysLawful, FewDraws, FewGrains, HoldsLawful, OneSweep};
+ghost use Rattle.sand_shared.specs.Laws.{AlwaysLawful, FewDraws, FewGrains, HoldsLawful, OneSweep, ReceiptsAdd, ReceiptsBySite, RecordOfReceipts};
 
 use crate::rule::Running;
 use crate::view::{Terms, View};
@@ -26,4 +26,17 @@ pub fn words_are_small()
 /// Any two sweeps of a whole pass topple each site equally often: what the pass has determines its sweep.
 pub fn one_sweep()
     ensures { OneSweep }
+{}
+
+/// How many receipts are for a site: consecutive drops have one for each drop on it, and the receipts of two lists add
+/// up.
+pub fn receipts_by_site()
+    ensures consecutive { ReceiptsBySite }
+    ensures together { ReceiptsAdd }
+{}
+
+/// The record of a closed pile is the settled record of its start plus a grain for each receipt of the pass that closed
+/// it, in whatever order the drops came.
+pub fn record_of_receipts()
+    ensures { RecordOfReceipts }
 {}
