@@ -1,20 +1,19 @@
 -- If the numbers of receipts are all different and below their count, each number below it occurs exactly once.
-use Rattle.std.proofs.Common.{ℕ, suc, ◌≡◌, ◌<◌, ◌≤◌, List, [], ◌∷◌, map, length, get_or, eqb, Some, refl, sym, ap, ◌∙◌, ⊎_elim, arith}
+use Rattle.std.proofs.Common.{ℕ, ◌≡◌, ◌<◌, ◌≤◌, List, map, length, get_or, Some, sym, ap, ◌∙◌, ⊎_elim, arith}
 use Rattle.std.proofs.lemmas.Bool.{cases_eq, cases_lt}
 use Rattle.std.proofs.lemmas.List.{length-map}
 use Rattle.std.proofs.lemmas.List.Elements.{All-map}
-use Rattle.std.proofs.lemmas.List.Sums.{sum_by-cons}
-use Rattle.std.proofs.lemmas.Option.{get_or_from_slice_get, slice_get_within}
+use Rattle.std.proofs.lemmas.Option.{get_or_from_slice_get, slice_get-get_or, slice_get_within}
 use Rattle.std.specs.Prelude.{slice_get}
 use Rattle.sand_model.specs.Sand.{sum_below, occurrences, one_at}
-use Rattle.sand_model.specs.Lists.{one_if}
 use Rattle.sand_model.proofs.Bounds.{fewer_than_all}
 use Rattle.sand_model.proofs.Occurrences.{sum_below-occurrences}
 use Rattle.sand_shared.specs.declared.view.Receipt.{Receipt}
 use Rattle.sand_shared.specs.OpenPile.{numbered}
+use Rattle.sand_shared.specs.Events.{receipt}
 use Rattle.sand_shared.specs.Passes.{EachOnce, AllBelow}
-use Rattle.sand_shared.proofs.SumsOverPasses.{sum_by-map, sum_by_two}
-use Rattle.sand_shared.proofs.NumbersOnce.{one_if_same, one_if_other}
+use Rattle.sand_shared.proofs.ReceiptsTellHistory.{apart, found}
+use Rattle.sand_shared.proofs.SumsOverPasses.{sum_by-map}
 
 abbrev pub numbers_of : List Receipt → List ℕ
 numbers_of rs = map (λ (r : Receipt). r.number) rs
@@ -43,36 +42,24 @@ each_number rs once below n inside =
 abbrev pub HasNumber : List Receipt → ℕ → Type 0
 HasNumber rs n = (i : ℕ) × (r : Receipt) × (slice_get rs i ≡ Some r) × (r.number ≡ n)
 
-some_receipt : (rs : List Receipt) (n : ℕ) → 0 < numbered rs n → HasNumber rs n
-some_receipt [] n some = absurd (omega arith)
-some_receipt (r ∷ rs) n some =
-    let parts = sum_by-cons (λ (q : Receipt). one_if (eqb q.number n)) r rs in
-    ⊎_elim
-    (λ (e : r.number ≡ n). (0, r, refl, e))
-    (λ (ne : r.number ≡ n → ⊥).
-    let none = one_if_other r.number n ne in
-    let later = some_receipt rs n (omega arith) in
-    (suc later.0, later.1, later.2, later.3))
-    (cases_eq r.number n)
-
 -- so each number below their count has a receipt
 pub receipt_of : (rs : List Receipt) → EachOnce rs → AllBelow (length rs) rs → (n : ℕ) → n < length rs → HasNumber rs n
-receipt_of rs once below n inside = let one = each_number rs once below n inside in some_receipt rs n (omega arith)
+receipt_of rs once below n inside =
+    let one = each_number rs once below n inside in
+    let d = receipt 0 0 in
+    let f = found rs n d (omega arith) in
+    (f.0, get_or rs f.0 d, slice_get-get_or rs f.0 d f.1, f.2)
 
 -- receipts with the same number have the same index
 pub one_place : (rs : List Receipt) (i j : ℕ) (r q : Receipt) → EachOnce rs
     → slice_get rs i ≡ Some r → slice_get rs j ≡ Some q → r.number ≡ q.number
     → i ≡ j
 one_place rs i j r q once here there same =
+    let number : Receipt → ℕ = λ x. x.number in
+    let first = ap number (get_or_from_slice_get rs i r r here) in
+    let second = ap number (get_or_from_slice_get rs j q r there) in
     ⊎_elim
     (λ (e : i ≡ j). e)
-    (λ (ne : i ≡ j → ⊥).
-    let first = one_if_same (get_or rs i r).number r.number
-    (ap (λ (x : Receipt). x.number) (get_or_from_slice_get rs i r r here)) in
-    let second = one_if_same (get_or rs j r).number r.number
-    (ap (λ (x : Receipt). x.number) (get_or_from_slice_get rs j q r there) ∙ sym same) in
-    let two = sum_by_two (λ (x : Receipt). one_if (eqb x.number r.number)) rs i j r
-    (slice_get_within rs i r here) (slice_get_within rs j q there) (λ e. ne (sym e)) in
-    let most = once r.number in
-    absurd (omega arith))
+    (λ (ne : i ≡ j → ⊥). absurd (apart rs i j r once (slice_get_within rs i r here) (slice_get_within rs j q there)
+    (λ e. ne (sym e)) (second ∙ sym same ∙ sym first)))
     (cases_eq i j)

@@ -8,6 +8,7 @@ use Rattle.std.proofs.lemmas.List.Folds.{flat_map-map}
 use Rattle.std.proofs.lemmas.List.Sums.{sum_by-cons, sum_by-append}
 use Rattle.std.proofs.lemmas.Option.{slice_get-get_or}
 use Rattle.sand_model.specs.Grid.{sites}
+use Rattle.sand_model.proofs.Heights.{sum_is_grains}
 use Rattle.sand_settle.specs.Settling.{odometer_of}
 use Rattle.sand_shared.specs.declared.view.Receipt.{Receipt}
 use Rattle.sand_shared.specs.OpenPile.{grid_of_terms}
@@ -29,7 +30,6 @@ use Rattle.sand_lab.specs.Streams.{stream_of, stream_sites}
 use Rattle.sand_lab.proofs.JournalSites.{journal_sites}
 use Rattle.sand_lab.proofs.JournalFollowsStreams.{follows_streams, length-parts}
 use Rattle.sand_lab.proofs.EachAtItsPlace.{all_map, each_map}
-use Rattle.sand_lab.proofs.RecordBounds.{counts_below}
 use Rattle.sand_lab.proofs.OccurrencesInStreams.{length-stream_sites}
 
 all_flat : {A B : Type 0} (P : ℕ → A → Type 0) (Q : B → Type 0) (f : A → List B) (xs : List A)
@@ -60,16 +60,13 @@ below_list (c ∷ cs) (o ∷ os) below =
     let rest = below_list cs os (λ i. below (suc i)) in
     omega (arith, first, rest, sum_by-cons (λ n. n) c cs, sum_by-cons (λ n. n) o os)
 
-le_self : (n : ℕ) → n ≤ n
-le_self n = omega arith
-
 counts_few : (r : RecordView) (cs : List ℕ) → IsOneThreads r → ((i : ℕ) → slice_index cs i ≤ odometer_of r.settled i)
     → sum cs ≤ r.settled.topplings
 counts_few r cs one below =
-    let all =
-    counts_below r r.settled.odometer one one.settled.odometer_each (λ i. le_self (odometer_of r.settled i)) in
+    let all = sum_is_grains r.start.grid r.settled.odometer one.settled.odometer_each in
+    let topplings = one.settled.all_topplings in
     let few = below_list cs r.settled.odometer below in
-    omega (arith, all, few)
+    omega (arith, all, topplings, few)
 
 module _ (s : SharedView) (w : Wish) (t : ℕ) (c : Crew) (p : PassView)
     (quota : s.terms.quota ≡ quota_of w) (has : HasWorked s w t c) (gathered : HasGathered s c p) where

@@ -6,9 +6,10 @@ use Rattle.std.specs.Prelude.{slice_get, option_map}
 use Rattle.sand_shared.specs.declared.view.Receipt.{Receipt}
 use Rattle.sand_shared.specs.Passes.{EachOnce, AllBelow}
 use Rattle.sand_shared.specs.Record.{Tells}
+use Rattle.sand_shared.proofs.ReceiptsTellHistory.{history_is}
 use Rattle.sand_lab.specs.declared.journal.Entry.{Entry}
 use Rattle.sand_lab.specs.Journals.{entry, sites_in, IsJournal}
-use Rattle.sand_lab.proofs.EachNumberOnce.{receipt_of}
+use Rattle.sand_lab.proofs.EachNumberOnce.{each_number, receipt_of}
 
 -- the entry at each number is that of its receipt
 pub entry_of : (drops : ℕ) (rs : List Receipt) (js : List Entry) → EachOnce rs
@@ -19,30 +20,19 @@ entry_of drops rs js once below journal n inside =
     let found = receipt_of rs once below n inside in
     (found.0, found.1, found.2, found.3, ap (slice_get js) (sym found.3) ∙ journal.noted found.0 found.1 found.2)
 
--- a journal and a history of the same receipts have the same sites
-pub journal_sites : (drops : ℕ) (rs : List Receipt) (js : List Entry) (history : List ℕ)
-    → IsJournal drops rs js → Tells rs history → EachOnce rs
-    → AllBelow (length rs) rs → length history ≡ length rs
-    → sites_in js ≡ history
-journal_sites drops rs js history journal told once below long =
-    let as_long : length (sites_in js) ≡ length js = length-map js (λ (e : Entry). e.site) in
-    let each_long = journal.one_each in
-    ext_get_or 0 (sites_in js) history (omega arith)
-    (λ n inside.
-    let found = entry_of drops rs js once below journal n (omega arith) in
-    let i = found.0 in
-    let r = found.1 in
-    let read : get_or js n (entry 0 0) ≡ entry (i / drops) r.site = get_or_from_slice_get js n _ (entry 0 0) found.4 in
-    let tells : slice_get history r.number ≡ Some r.site =
-    subst (λ (q : Receipt). slice_get history q.number ≡ Some q.site)
-    (get_or_from_slice_get rs i r r found.2) (told i r (slice_get_within rs i r found.2)) in
-    get_or-map (λ (e : Entry). e.site) js n (entry 0 0) 0 (omega arith)
-    ∙ (ap (λ (e : Entry). e.site) read
-    ∙ sym (get_or_from_slice_get history n r.site 0 (ap (slice_get history) (sym found.3) ∙ tells))))
-
 -- the sites of a journal agree with its receipts
 pub journal_tells : (drops : ℕ) (rs : List Receipt) (js : List Entry) → IsJournal drops rs js → Tells rs (sites_in js)
 journal_tells drops rs js journal k d inside =
     let r = get_or rs k d in
     slice_get-map (λ (e : Entry). e.site) js r.number
     ∙ ap (option_map (λ (e : Entry). e.site)) (journal.noted k r (slice_get-get_or rs k d inside))
+
+-- a journal and a history of the same receipts have the same sites
+pub journal_sites : (drops : ℕ) (rs : List Receipt) (js : List Entry) (history : List ℕ)
+    → IsJournal drops rs js → Tells rs history → EachOnce rs
+    → AllBelow (length rs) rs → length history ≡ length rs
+    → sites_in js ≡ history
+journal_sites drops rs js history journal told once below long =
+    history_is rs history (λ n inside. let one = each_number rs once below n (omega arith) in omega arith)
+    (sites_in js) (length-map js (λ (e : Entry). e.site) ∙ journal.one_each ∙ sym long)
+    (journal_tells drops rs js journal) told

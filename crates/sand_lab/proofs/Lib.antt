@@ -9,7 +9,6 @@ pub mod JournalFollowsStreams
 pub mod SitesOfOneDropper
 pub mod EachAtItsPlace
 pub mod EntriesAtNumbers
-pub mod RecordBounds
 pub mod SheetLengths
 pub mod OccurrencesInStreams
 pub mod OneTurnMore

@@ -11,7 +11,6 @@ use Rattle.sand_plan.specs.declared.wish.Wish.{Wish}
 use Rattle.sand_plan.specs.Plans.{quota_of, all_drops}
 use Rattle.sand_lab.specs.Epochs.{IsClosed}
 use Rattle.sand_lab.specs.Reports.{SheetView, ReportView, report_of, IsEpoch, AreEpochs, IsTotal, IsReportOf, IsBoth, HasGrown, last_pile, histories}
-use Rattle.sand_lab.proofs.RecordBounds.{settled_grains}
 
 epochs_push : (album : List ℕ) (w : Wish) (start : PileView) (t : ℕ)
     (rs : List RecordView) (ss : List SheetView) (r : RecordView) (s : SheetView)
@@ -144,5 +143,5 @@ room_for_epoch album w start n p is lt limit =
     let drops = dropped_so_far album w start n p is in
     let more = one_more n w.epochs (quota_of w) lt in
     let same = ap (λ (x : PileView). sum x.heights) is.total.from_start in
-    let grains = settled_grains p.total is.total.one_threads in
+    let grains = is.total.one_threads.kept in
     (omega (arith, drops, more, same, limit), omega (arith, drops, more, same, limit, grains))
