@@ -12,7 +12,7 @@ use Rattle.sand_shared.proofs.Receipts.{is_one_threads}
 use Rattle.sand_plan.specs.declared.wish.Wish.{Wish}
 use Rattle.sand_lab.specs.Reports.{AreEpochs, IsReport, ReportView, SheetView, histories}
 use Rattle.sand_lab.specs.Streams.{stream_of, stream_sites}
-use Rattle.sand_lab.proofs.RunHasOneOutcome.{epoch_occurrences, one_threads_once}
+use Rattle.sand_lab.proofs.RunHasOneOutcome.{one_threads_once}
 use Rattle.sand_text.specs.declared.fault.TextFault.{TextFault}
 use Rattle.sand_text.specs.Reading.{◌>>=◌}
 use Rattle.sand_text.specs.Texts.{text_of}
@@ -48,7 +48,7 @@ run_of_draw draw album w asks start [] ss one epochs i = absurd (omega arith)
 run_of_draw draw album w asks start (r ∷ []) [] one epochs i = absurd epochs
 run_of_draw draw album w asks start (r ∷ []) (s ∷ ss) one epochs i =
     let whole : occurrences (histories (r ∷ [])) i ≡ occurrences r.history i + 0 = occurrences-append r.history [] i in
-    let each = epoch_occurrences album w start 0 r s epochs.0 i in
+    let each = epochs.0.closed.by_site i in
     let drawn = epoch_of_draw draw w asks start i in
     omega (arith, whole, each, drawn)
 run_of_draw draw album w asks start (r ∷ q ∷ rs) ss one epochs i = absurd (omega arith)

@@ -8,10 +8,11 @@ use Rattle.std.proofs.lemmas.List.Folds.{flat_map-map}
 use Rattle.std.proofs.lemmas.List.Sums.{sum_by-cons, sum_by-append}
 use Rattle.std.proofs.lemmas.Option.{slice_get-get_or}
 use Rattle.sand_model.specs.Grid.{sites}
+use Rattle.sand_model.specs.Sand.{sum_below, occurrences}
 use Rattle.sand_model.proofs.Heights.{sum_is_grains}
 use Rattle.sand_settle.specs.Settling.{odometer_of}
 use Rattle.sand_shared.specs.declared.view.Receipt.{Receipt}
-use Rattle.sand_shared.specs.OpenPile.{grid_of_terms}
+use Rattle.sand_shared.specs.OpenPile.{grid_of_terms, receipts_for}
 use Rattle.sand_shared.specs.Passes.{SharedView, PassView, EachOnce, AllBelow, IsWhole}
 use Rattle.sand_shared.specs.Record.{RecordView, IsOneThreads, IsRecordOf}
 use Rattle.sand_lab.specs.declared.crew.Crew.{Crew}
@@ -30,7 +31,7 @@ use Rattle.sand_lab.specs.Streams.{stream_of, stream_sites}
 use Rattle.sand_lab.proofs.JournalSites.{journal_sites}
 use Rattle.sand_lab.proofs.JournalFollowsStreams.{follows_streams, length-parts}
 use Rattle.sand_lab.proofs.EachAtItsPlace.{all_map, each_map}
-use Rattle.sand_lab.proofs.OccurrencesInStreams.{length-stream_sites}
+use Rattle.sand_lab.proofs.OccurrencesInStreams.{length-stream_sites, parts_by_site}
 
 all_flat : {A B : Type 0} (P : ℕ → A → Type 0) (Q : B → Type 0) (f : A → List B) (xs : List A)
     → EachAt P xs → ((i : ℕ) (x : A) → P i x → All Q (f x)) → All Q (flat_map f xs)
@@ -168,16 +169,19 @@ module _ (s : SharedView) (w : Wish) (t : ℕ) (c : Crew) (p : PassView)
   closed_is r js tallies swept written closed read found =
       let once = closed.each_number_once in
       let journal = subst (λ (rs : List Receipt). IsJournal w.drops rs js) parts.whole written in
+      let stream : ℕ → List ℕ = λ k. stream_sites (sites (grid_of_terms s.terms)) w.seed (stream_of t k) w.drops in
+      let each = each_map (HasDroppedItsStream s w t) (λ k part. receipt_sites part ≡ stream k)
+      (λ (d : Dropper). d.pass.receipts) c.droppers.items has.droppers (λ k d h. h.sites) in
       record {
         one_threads = closed.one_threads;
         from_start = closed.start;
         history =
             journal_sites w.drops p.receipts js r.history journal closed.history once within closed.each_drop_once;
         streams = follows_streams (sites (grid_of_terms s.terms)) w.seed w.droppers w.drops
-            t (parts_of c.droppers.items) p.receipts js parts many_parts once within journal
-            (each_map (HasDroppedItsStream s w t)
-            (λ k part. receipt_sites part ≡ stream_sites (sites (grid_of_terms s.terms)) w.seed (stream_of t k) w.drops)
-            (λ (d : Dropper). d.pass.receipts) c.droppers.items has.droppers (λ k d h. h.sites));
+            t (parts_of c.droppers.items) p.receipts js parts many_parts once within journal each;
+        by_site = λ i. closed.by_site i ∙ ap (λ (rs : List Receipt). receipts_for rs i) (sym parts.whole)
+            ∙ parts_by_site i stream (parts_of c.droppers.items) each
+            ∙ ap (λ n. sum_below n (λ k. occurrences (stream k) i)) many_parts;
         observers = are_tallies tallies read;
         workers = are_swept r swept closed.one_threads closed.never_fall found;
       }

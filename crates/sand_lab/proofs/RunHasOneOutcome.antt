@@ -14,9 +14,8 @@ use Rattle.sand_plan.specs.Plans.{quota_of}
 use Rattle.sand_lab.proofs.OneEpochMore.{epoch_drops, dropped_so_far}
 use Rattle.sand_plan.specs.declared.wish.Wish.{Wish}
 use Rattle.sand_lab.specs.Laws.{AskTheSame, OneOutcome, one_of}
-use Rattle.sand_lab.specs.Reports.{SheetView, IsEpoch, AreEpochs, histories}
+use Rattle.sand_lab.specs.Reports.{SheetView, AreEpochs, histories}
 use Rattle.sand_lab.specs.Streams.{stream_of, stream_sites}
-use Rattle.sand_lab.proofs.OccurrencesInStreams.{occurrences_in_streams}
 
 -- equal heights have one settled record
 module _ (g : Grid) (s s' : ℕ → ℕ) (r q : SettledView) (same : (i : ℕ) → i < sites g → s i ≡ s' i)
@@ -65,15 +64,6 @@ one_threads_once r q one other starts tallies =
     one.settled
     (subst P (sym starts) other.settled)
 
--- an epoch's drops on each site are those of its streams
-pub epoch_occurrences : (album : List ℕ) (w : Wish) (start : PileView) (t : ℕ) (r : RecordView) (s : SheetView)
-    → IsEpoch album w start t r s → (i : ℕ)
-    → occurrences r.history i ≡ sum_below w.droppers
-    (λ k. occurrences (stream_sites (sites start.grid) w.seed (stream_of t k) w.drops) i)
-epoch_occurrences album w start t r s epoch i =
-    ap (λ (h : List ℕ). occurrences h i) (sym epoch.closed.history)
-    ∙ occurrences_in_streams (sites start.grid) w.seed w.droppers w.drops t s.journal epoch.closed.streams i
-
 -- records with equal results, whose histories together have equal tallies
 record SettleAlike (rs qs : List RecordView) : Type 0 where
   ones : map one_of rs ≡ map one_of qs
@@ -116,7 +106,7 @@ module _ (album album' : List ℕ) (w v : Wish) (asks : AskTheSame w v) where
       λ i j. sum_below (asks.droppers j)
       (λ k. occurrences (stream_sites (sites (starts j).grid) (asks.seed j) (stream_of t k) (asks.drops j)) i) in
       let tallies : (i : ℕ) → occurrences r.history i ≡ occurrences q.history i =
-      λ i. epoch_occurrences album w start t r s mine i ∙ streams i ∙ sym (epoch_occurrences album' v start' t q u theirs i) in
+      λ i. mine.closed.by_site i ∙ streams i ∙ sym (theirs.closed.by_site i) in
       let from : r.start ≡ q.start = mine.closed.from_start ∙ starts ∙ sym theirs.closed.from_start in
       let same = one_threads_once r q mine.closed.one_threads theirs.closed.one_threads from tallies in
       let drops = epoch_drops album w start t r s mine ∙ same_quota ∙ sym (epoch_drops album' v start' t q u theirs) in

@@ -2,6 +2,7 @@
 use Rattle.std.specs.Prelude.{ℕ, ◌≡◌, ◌<◌, ◌≤◌, List, All, length, map, sum, slice_index}
 use Rattle.sand_model.specs.Grid.{sites}
 use Rattle.sand_model.specs.Piles.{PileView}
+use Rattle.sand_model.specs.Sand.{sum_below, occurrences}
 use Rattle.sand_plan.specs.declared.wish.Wish.{Wish}
 use Rattle.sand_plan.specs.Plans.{quota_of}
 use Rattle.sand_shared.specs.Record.{RecordView, IsOneThreads}
@@ -10,6 +11,7 @@ use Rattle.sand_lab.specs.declared.journal.Entry.{Entry}
 use Rattle.sand_lab.specs.Crews.{band, due, tallies_each}
 use Rattle.sand_lab.specs.Jobs.{Climbs}
 use Rattle.sand_lab.specs.Journals.{FollowsStreams, sites_in}
+use Rattle.sand_lab.specs.Streams.{stream_of, stream_sites}
 
 -- the tallies of each observer never fell and never exceeded the quota
 pub record AreTallies (w : Wish) (tallies : List (List ℕ)) : Type 0 where
@@ -31,6 +33,9 @@ pub record IsClosed (w : Wish) (start : PileView) (t : ℕ) (r : RecordView)
   pub from_start : r.start ≡ start
   pub history : sites_in journal ≡ r.history
   pub streams : FollowsStreams (sites start.grid) w.seed w.droppers w.drops t journal
+  -- the history has each site as often as all streams together
+  pub by_site : (i : ℕ) → occurrences r.history i
+      ≡ sum_below w.droppers (λ k. occurrences (stream_sites (sites start.grid) w.seed (stream_of t k) w.drops) i)
   pub observers : AreTallies w tallies
   pub workers : AreSwept w start r swept
 
