@@ -86,6 +86,14 @@ impl Record {
         self.history.as_slice()
     }
 
+    /// The settled pile with its odometer and what fell into the sink.
+    pub fn settled(&self) -> &Settled
+        ensures value { result.now ≡ self.now.settled }
+        ensures one_threads { IsOneThreads self.now }
+    {
+        &self.settled
+    }
+
     /// The settled pile.
     pub fn pile(&self) -> &Pile
         ensures value { result.now ≡ self.now.settled.pile }
