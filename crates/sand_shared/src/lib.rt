@@ -31,4 +31,4 @@ pub use pass::Pass;
 pub use record::Record;
 pub use shared_pile::SharedPile;
 pub use site_counts::SiteCounts;
-pub use view::Receipt;
+pub use view::{Receipt, Terms};
