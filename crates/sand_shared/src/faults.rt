@@ -5,6 +5,8 @@ ghost use Rattle.sand_shared.specs.declared.faults.SharedFault.TheVariants.{Memo
 ghost use Rattle.sand_shared.specs.declared.faults.SplitFault.TheVariants.{Memory as SplitMemory};
 ghost use Rattle.sand_shared.specs.declared.faults.CloseFault.TheVariants.{Memory as CloseMemory};
 
+use crate::pass::Pass;
+use crate::shared_pile::SharedPile;
 use std::alloc::AllocError;
 use thiserror::Error;
 
@@ -98,6 +100,24 @@ impl SplitFault {
     }
 }
 
+/// The fault alone, for `?`. The pass that could not be joined is discarded.
+impl From<(JoinFault, Pass)> for JoinFault {
+    ghost from_gives = { λ e fault. fault ≡ e.0 };
+
+    fn from(error: (JoinFault, Pass)) -> JoinFault {
+        error.0
+    }
+}
+
+/// The fault alone, for `?`. The passes that were not joined are discarded.
+impl From<(JoinFault, Vec<Pass>)> for JoinFault {
+    ghost from_gives = { λ e fault. fault ≡ e.0 };
+
+    fn from(error: (JoinFault, Vec<Pass>)) -> JoinFault {
+        error.0
+    }
+}
+
 impl JoinFault {
     ghost use Rattle.std.specs.Prelude.{◌≡◌};
     ghost use Rattle.sand_shared.specs.Faults.{join_fault_number};
@@ -127,6 +147,15 @@ impl From<AllocError> for CloseFault {
 
     fn from(error: AllocError) -> CloseFault {
         CloseFault::Memory(error)
+    }
+}
+
+/// The fault alone, for `?`. The pile and the pass are discarded.
+impl From<(CloseFault, SharedPile, Pass)> for CloseFault {
+    ghost from_gives = { λ e fault. fault ≡ e.0 };
+
+    fn from(error: (CloseFault, SharedPile, Pass)) -> CloseFault {
+        error.0
     }
 }
 
