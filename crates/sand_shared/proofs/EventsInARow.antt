@@ -292,10 +292,6 @@ module _ (t : Terms) (a : ℕ) (is : List ℕ) (v w : View) (n : ℕ)
 
 -- Receipts of consecutive drops
 
-pub receipts_long : (n : ℕ) (is : List ℕ) → length (receipts_from n is) ≡ length is
-receipts_long n [] = refl
-receipts_long n (i ∷ is) = let e = receipts_long (n + 1) is in omega arith
-
 pub below_row : (m n : ℕ) (is : List ℕ) (rs : List Receipt) → m ≤ n → AllBelow m rs
     → AllBelow (n + length is) (rs ++ receipts_from n is)
 below_row m n [] rs le below =

@@ -16,6 +16,7 @@ pub mod RowSites
 pub mod PassAfterEvent
 pub mod NumbersOnce
 pub mod DropsBySite
+pub mod Receipts
 pub mod EventsInARow
 pub mod StepsOnWords
 pub mod RowsSplit

@@ -1,27 +1,30 @@
 -- Lemmas for proofs that use this crate: how many receipts are for a site, and which settled record a record is.
-use Rattle.std.proofs.Common.{◌≡◌, ℕ, ◌+◌, List, [], ◌∷◌, ◌++◌, refl, subst, arith}
+use Rattle.std.proofs.Common.{◌≡◌, ℕ, ◌+◌, List, [], ◌∷◌, ◌++◌, length, refl, subst, arith}
 use Rattle.std.proofs.lemmas.List.Sums.{sum_by-cons, sum_by-append}
 use Rattle.sand_model.specs.Piles.{PileView, height_of}
 use Rattle.sand_model.specs.Sand.{occurrences, one_at}
 use Rattle.sand_model.proofs.Occurrences.{occurrences-cons}
 use Rattle.sand_settle.specs.Settling.{IsSettledRecord}
-use Rattle.sand_shared.specs.declared.view.Receipt.{Receipt}
-use Rattle.sand_shared.specs.OpenPile.{receipts_for}
+use Rattle.sand_shared.specs.OpenPile.{Receipt, receipts_for}
 use Rattle.sand_shared.specs.Events.{receipt, receipts_from}
 use Rattle.sand_shared.specs.Record.{RecordView, IsOneThreads}
-pub use Rattle.sand_shared.proofs.EventsInARow.{receipts_long}
 pub use Rattle.sand_shared.proofs.RecordSums.{is_one_threads}
 
--- consecutive drops have as many receipts for a site as their list has of it
+pub receipts_for-append : (a b : List Receipt) (i : ℕ) → receipts_for (a ++ b) i ≡ receipts_for a i + receipts_for b i
+receipts_for-append a b i = sum_by-append (λ (r : Receipt). one_at r.site i) a b
+
+-- consecutive drops have as many receipts as their list is long
+pub receipts_from-length : (n : ℕ) (drops : List ℕ) → length (receipts_from n drops) ≡ length drops
+receipts_from-length n [] = refl
+receipts_from-length n (x ∷ xs) = let rest = receipts_from-length (n + 1) xs in omega arith
+
+-- and as many for a site as their list has of it
 pub receipts_by_site : (n : ℕ) (drops : List ℕ) (i : ℕ) → receipts_for (receipts_from n drops) i ≡ occurrences drops i
 receipts_by_site n [] i = refl
 receipts_by_site n (x ∷ xs) i =
     let rest = receipts_by_site (n + 1) xs i in
     let first = sum_by-cons (λ (r : Receipt). one_at r.site i) (receipt n x) (receipts_from (n + 1) xs) in
     let drop = occurrences-cons x xs i in omega arith
-
-pub receipts_for-append : (a b : List Receipt) (i : ℕ) → receipts_for (a ++ b) i ≡ receipts_for a i + receipts_for b i
-receipts_for-append a b i = sum_by-append (λ (r : Receipt). one_at r.site i) a b
 
 -- a record whose history has each site i just d i times is the settled record of its start and these drops
 pub record_of_drops : (start : PileView) (r : RecordView) (d : ℕ → ℕ) → IsOneThreads r → r.start ≡ start

@@ -5,10 +5,10 @@
 //! grains in the list. Counters by site say how many these are. They start at 0, grow while the list is counted, and
 //! return to 0 one by one as the grains are laid, so no scan of the whole grid is needed.
 
-ghost use Rattle.std.specs.Prelude.{◌≡◌, ℕ, ◌+◌, ◌-◌, ◌^◌, ◌<◌, ◌≤◌, ◌↔◌, [], ◌++◌, All, length, slice_index, vec_capacity, IfOk, IsErr, OnErr};
+ghost use Rattle.std.specs.Prelude.{◌≡◌, ℕ, ◌+◌, ◌-◌, ◌^◌, ◌<◌, ◌≤◌, ◌↔◌, [], ◌++◌, All, length, slice_index, vec_capacity, IfOk, IsErr, OnOk, OnErr};
 ghost use Rattle.sand_model.specs.Grid.{sites};
 ghost use Rattle.sand_model.specs.Sand.{occurrences};
-ghost use Rattle.sand_shared.specs.OpenPile.{grid_of_terms};
+ghost use Rattle.sand_shared.specs.OpenPile.{grid_of_terms, receipts_for};
 ghost use Rattle.sand_shared.specs.Events.{zeros, receipts_from, one_for_each};
 ghost use Rattle.sand_shared.specs.Passes.{IsPassOf};
 ghost use Rattle.sand_shared.specs.Seats.{IsSeatAt, StaysSeated};
@@ -97,6 +97,8 @@ impl SharedPile {
           seen = n + length drops.now;
           receipts = pass.old.receipts ++ receipts_from n drops.now;
         }) }
+        ensures by_site { OnOk result ((i : ℕ)
+            → receipts_for pass.new.receipts i ≡ receipts_for pass.old.receipts i + occurrences drops.now i) }
     {
         let count = drops.len() as u64;
         let bare = &mut pass.bare;

@@ -2,10 +2,12 @@ use Rattle.std.proofs.Common.{◌≡◌, ℕ, ◌+◌, ◌-◌, ◌<◌, ◌≤�
 use Rattle.atomic_table.specs.Table.{Me}
 use Rattle.sand_shared.specs.declared.view.Receipt.{Receipt}
 use Rattle.sand_shared.specs.declared.view.View.{View}
+use Rattle.sand_shared.specs.OpenPile.{receipts_for}
 use Rattle.sand_shared.specs.Bare.{shown}
 use Rattle.sand_shared.specs.Events.{receipts_from, one_for_each, drew_all}
 use Rattle.sand_shared.specs.Passes.{PassView, at_rest}
-use Rattle.sand_shared.proofs.EventsInARow.{drew_row_is, row_fresh, row_small, receipts_long, below_row, once_row}
+use Rattle.sand_shared.proofs.EventsInARow.{drew_row_is, row_fresh, row_small, below_row, once_row}
+use Rattle.sand_shared.proofs.Receipts.{receipts_for-append, receipts_from-length, receipts_by_site}
 use Rattle.sand_shared.proofs.SeatOfPass.{seated}
 use Rattle.sand_shared.proofs.shared_pile.SharedPile.drop_all.Goals as goal
 use Rattle.sand_shared.proofs.shared_pile.SharedPile.drop_all.Goals.{After-draw-number, After-place_all}
@@ -52,7 +54,7 @@ invariant_of-bare c =
     let ds = c.args.drops.now in
     let n = c.draw-number.result in
     let more = length-append v.receipts (receipts_from n ds) in
-    let same = receipts_long n ds in
+    let same = receipts_from-length n ds in
     let made = inv.each_made in
     let new = fresh (goal.at.invariant_of-bare c).After-draw-number in
     seated
@@ -86,7 +88,7 @@ invariant_of-pass-2 c =
       fit = (let fit = inv.fit in
           let long = ap (λ (l : List Receipt). length l) items in
           let more = length-append c.pass.inside.receipts.items (receipts_from n ds) in
-          let same = receipts_long n ds in
+          let same = receipts_from-length n ds in
           let left = ap (λ (p : PassView). p.left) c.bare.view_is in omega (arith, c.note.ensures.room));
     }
 
@@ -107,3 +109,12 @@ returns-clause-pass c =
 
 pub returns-then-count-eq0-clause-empty : goal.returns-then-count-eq0-clause-empty
 returns-then-count-eq0-clause-empty c = search rules
+
+pub returns-clause-by_site : goal.returns-clause-by_site
+returns-clause-by_site c i =
+    let ds = c.args.drops.now in
+    let n = c.draw-number.result in
+    let drawn = ap (λ (v : View). receipts_for v.receipts i) (has (goal.at.returns-clause-by_site c).After-place_all) in
+    let more = receipts_for-append c.bare.inside.seat.me.0.receipts (receipts_from n ds) i in
+    let same = receipts_by_site n ds i in
+    let before = ap (λ (p : PassView). receipts_for p.receipts i) (c.bare.view_is ∙ c.pass.view_is) in omega arith
