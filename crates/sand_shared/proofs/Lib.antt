@@ -23,6 +23,7 @@ pub mod RowsSplit
 pub mod RowsJoined
 pub mod PassesSplit
 pub mod PassesJoined
+pub mod JoinedInOrder
 pub mod SeatOfPass
 pub mod SumOfCounts
 pub mod PassKnowsPile
@@ -35,4 +36,3 @@ pub mod RecordSums
 pub mod ReceiptsTellHistory
 pub mod LastPileIsSettled
 pub mod CompletedOdometer
-pub mod Receipts

@@ -1,5 +1,5 @@
 -- Lemmas for proofs that use this crate: how many receipts are for a site, and which settled record a record is.
-use Rattle.std.proofs.Common.{◌≡◌, ℕ, ◌+◌, List, [], ◌∷◌, ◌++◌, length, refl, subst, arith}
+use Rattle.std.proofs.Common.{◌≡◌, ℕ, ◌+◌, List, [], ◌∷◌, ◌++◌, length, sum_by, refl, subst, arith}
 use Rattle.std.proofs.lemmas.List.Sums.{sum_by-cons, sum_by-append}
 use Rattle.sand_model.specs.Piles.{PileView, height_of}
 use Rattle.sand_model.specs.Sand.{occurrences, one_at}
@@ -7,6 +7,7 @@ use Rattle.sand_model.proofs.Occurrences.{occurrences-cons}
 use Rattle.sand_settle.specs.Settling.{IsSettledRecord}
 use Rattle.sand_shared.specs.OpenPile.{Receipt, receipts_for}
 use Rattle.sand_shared.specs.Events.{receipt, receipts_from}
+use Rattle.sand_shared.specs.Passes.{PassView, together, together_all}
 use Rattle.sand_shared.specs.Record.{RecordView, IsOneThreads}
 pub use Rattle.sand_shared.proofs.RecordSums.{is_one_threads}
 
@@ -33,3 +34,13 @@ pub record_of_drops : (start : PileView) (r : RecordView) (d : ℕ → ℕ) → 
 record_of_drops start r d one from each =
     subst (λ (z : PileView × (ℕ → ℕ)). IsSettledRecord z.0.grid (λ i. height_of z.0 i + z.1 i) r.settled)
     (λ k. (from k, (λ i. each i k))) one.settled
+
+-- the receipts of passes joined in order are those of all of them
+pub receipts_for-together_all : (p : PassView) (qs : List PassView) (i : ℕ)
+    → receipts_for (together_all p qs).receipts i
+    ≡ receipts_for p.receipts i + sum_by (λ (q : PassView). receipts_for q.receipts i) qs
+receipts_for-together_all p [] i = omega arith
+receipts_for-together_all p (q ∷ qs) i =
+    let rest = receipts_for-together_all (together p q) qs i in
+    let both = receipts_for-append p.receipts q.receipts i in
+    let all = sum_by-cons (λ (r : PassView). receipts_for r.receipts i) q qs in omega arith

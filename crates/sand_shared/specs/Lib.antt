@@ -11,3 +11,4 @@ pub mod Record
 pub mod Seats
 pub mod Faults
 pub mod Rows
+pub mod Joins

@@ -1,5 +1,5 @@
 -- What contracts see of a shared pile and of a pass.
-use Rattle.std.specs.Prelude.{ℕ, ◌≡◌, ◌+◌, ◌-◌, ◌*◌, ◌<◌, ◌≤◌, max, if◌then◌else◌, List, [], ◌++◌, All, length}
+use Rattle.std.specs.Prelude.{ℕ, ◌≡◌, ◌+◌, ◌-◌, ◌*◌, ◌<◌, ◌≤◌, max, if◌then◌else◌, List, [], ◌∷◌, ◌++◌, All, length}
 use Rattle.atomic_table.specs.Seated.{TableId}
 use Rattle.sand_model.specs.Grid.{Grid, IsGrid}
 use Rattle.sand_shared.specs.declared.view.Receipt.{Receipt}
@@ -77,6 +77,11 @@ together p q = record p {
   rows = rows_together p.rows q.rows;
   counts = if rows_follow p.rows q.rows then p.counts ++ q.counts else q.counts ++ p.counts;
 }
+
+-- a pass and the passes of a list as one, joined in order
+abbrev pub together_all : PassView → List PassView → PassView
+together_all p [] = p
+together_all p (q ∷ qs) = together_all (together p q) qs
 
 -- the whole quota, unspent or as receipts, and all rows
 pub record IsWhole (terms : Terms) (p : PassView) : Type 0 where

@@ -1,7 +1,9 @@
-//! Joining two passes of one pile.
+//! Joining passes of one pile.
 
-ghost use Rattle.std.specs.Prelude.{◌≡◌, ◌++◌, ◌↔◌, if◌then◌else◌, IfErr, OnOk, OnErr};
-ghost use Rattle.sand_shared.specs.Passes.{IsPassOf, together};
+ghost use Rattle.std.specs.Prelude.{◌≡◌, ℕ, ◌+◌, ◌++◌, ◌↔◌, if◌then◌else◌, All, sum_by, IfErr, OnOk, OnErr};
+ghost use Rattle.sand_shared.specs.Joins.{StopsAt};
+ghost use Rattle.sand_shared.specs.OpenPile.{receipts_for};
+ghost use Rattle.sand_shared.specs.Passes.{IsPassOf, together, together_all};
 ghost use Rattle.sand_shared.specs.Rows.{AreApart};
 
 use crate::bare_pass::BarePass;
@@ -57,6 +59,34 @@ impl SharedPile {
         pass.receipts
             .extend_from_slice(receipts.as_slice())
             .unwrap();
+        Ok(())
+    }
+
+    /// Joins the passes of a list to `first`, in order, as `SharedPile::join` does. Returns the error of the first join
+    /// that fails, with the passes that are not joined, in order; those before them stay joined.
+    pub fn join_all(
+        &self,
+        alloc: Global,
+        first: &mut Pass,
+        mut passes: Vec<Pass>,
+    ) -> Result<(), (JoinFault, Vec<Pass>)>
+        requires first { IsPassOf self.now first.old }
+        requires passes { All (IsPassOf self.now) passes.items }
+        ensures of_pile { IsPassOf self.now first.new }
+        ensures joined { OnOk result (first.new ≡ together_all first.old passes.items) }
+        ensures by_site { OnOk result ((i : ℕ) → receipts_for first.new.receipts i
+            ≡ receipts_for first.old.receipts i + sum_by (λ p. receipts_for p.receipts i) passes.items) }
+        ensures stops { IfErr result (λ e. StopsAt first.old passes.items e.0 first.new e.1.items) }
+        ensures back { IfErr result (λ e. All (IsPassOf self.now) e.1.items) }
+    {
+        passes.reverse();
+        'passes: while let Some(pass) = passes.pop() {
+            if let Err((fault, refused)) = self.join(alloc, first, pass) {
+                passes.push_reserved(refused);
+                passes.reverse();
+                return Err((fault, passes));
+            }
+        }
         Ok(())
     }
 
