@@ -1,7 +1,8 @@
 //! The burning test, and the group of recurrent piles.
 //!
 //! The definitions are in `specs/`: `Recurrence` (recurrent piles, burning orders, the greatest forbidden set), `Group`
-//! (sums, multiples, the identity, inverses, the recurrent pile of a class) and `Laws`.
+//! (sums, multiples, the identity, inverses, the recurrent pile of a class), `Burned` (what the burning test returns) and
+//! `Laws`. Proofs of other crates can rely on `laws`.
 #![tactic(auto)]
 
 mod burning;

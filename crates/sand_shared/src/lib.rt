@@ -2,7 +2,9 @@
 //!
 //! The definitions are in `specs/`: `OpenPile` (the pile while it is shared, and when it is lawful), `Events` (the nine
 //! kinds of event, each with its condition and its effect) and `Running` (the rule of the table of words: events have
-//! led to what it shows).
+//! led to what it shows), `Passes` (what contracts see of a pass) and `Record` (what the record of a closed pile is).
+//!
+//! Proofs of other crates can rely on `laws`, and on the lemmas of `proofs/Receipts`.
 #![tactic(auto)]
 
 mod bare_pass;
