@@ -1,7 +1,7 @@
 //! One pile of sand shared by many threads, which drop grains on it and topple its sites in place concurrently.
 //!
 //! The definitions are in `specs/`: `OpenPile` (the pile while it is shared, and when it is lawful), `Events` (the nine
-//! kinds of event, each with its condition and its effect) and `Running` (the rule of the table of words: events have
+//! kinds of event, each with its condition and its effect), `Running` (the rule of the table of words: events have
 //! led to what it shows), `Passes` (what contracts see of a pass) and `Record` (what the record of a closed pile is).
 //!
 //! Proofs of other crates can rely on `laws`, and on the lemmas of `proofs/Receipts`.
