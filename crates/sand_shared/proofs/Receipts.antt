@@ -5,7 +5,8 @@ use Rattle.sand_model.specs.Piles.{PileView, height_of}
 use Rattle.sand_model.specs.Sand.{occurrences, one_at}
 use Rattle.sand_model.proofs.Occurrences.{occurrences-cons}
 use Rattle.sand_settle.specs.Settling.{IsSettledRecord}
-use Rattle.sand_shared.specs.OpenPile.{Receipt, receipts_for}
+use Rattle.sand_shared.specs.declared.view.Receipt.{Receipt}
+use Rattle.sand_shared.specs.OpenPile.{receipts_for}
 use Rattle.sand_shared.specs.Events.{receipt, receipts_from}
 use Rattle.sand_shared.specs.Passes.{PassView, together, together_all}
 use Rattle.sand_shared.specs.Record.{RecordView, IsOneThreads}

@@ -12,3 +12,4 @@ pub mod Seats
 pub mod Faults
 pub mod Rows
 pub mod Joins
+pub mod Types

@@ -5,10 +5,10 @@ use Rattle.sand_model.specs.Grid.{Grid, sites}
 use Rattle.sand_model.specs.Sand.{occurrences, flow, IsToppled, Stabilises}
 use Rattle.sand_model.specs.Lists.{one_if}
 use Rattle.sand_model.specs.Piles.{IsPile, height_of, most_grains}
+use Rattle.sand_shared.specs.declared.view.Receipt.{Receipt}
 use Rattle.sand_shared.specs.declared.view.Grains.{Grains}
 use Rattle.sand_shared.specs.declared.view.View.{View}
-pub use Rattle.sand_shared.specs.declared.view.Receipt.{Receipt}
-pub use Rattle.sand_shared.specs.declared.view.Terms.{Terms}
+use Rattle.sand_shared.specs.declared.view.Terms.{Terms}
 
 -- the heights by site, the sites of the drops by number, and what each pass has
 pub record OpenPile : Type 0 where
