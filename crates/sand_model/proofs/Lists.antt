@@ -38,7 +38,7 @@ occurrences-listing n p xs i list l = let test = lt-ltb i n l in let e = list.ea
 outside : (n : ℕ) (p : ℕ → Bool) (xs : List ℕ) (i : ℕ) → Lists n p xs → n ≤ i → occurrences xs i ≡ 0
 outside n p xs i list past = let test = le-ltb i n past in let e = list.each i in e ∙ rw test refl
 
--- a list with such tallies is a listing
+-- a list in which each site occurs so often is a listing
 pub lists_from : (n : ℕ) (p : ℕ → Bool) (xs : List ℕ)
     → ((i : ℕ) → i < n → occurrences xs i ≡ one_if (p i))
     → ((i : ℕ) → n ≤ i → occurrences xs i ≡ 0) → Lists n p xs
