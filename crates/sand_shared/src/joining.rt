@@ -40,6 +40,8 @@ impl SharedPile {
         requires other { IsPassOf self.now other }
         ensures of_pile { IsPassOf self.now pass.new }
         ensures joined { OnOk result (pass.new ≡ together pass.old other) }
+        ensures by_site { OnOk result ((i : ℕ) → receipts_for pass.new.receipts i
+            ≡ receipts_for pass.old.receipts i + receipts_for other.receipts i) }
         ensures touching { OnOk result (¬ AreApart pass.old.rows other.rows) }
         ensures apart { IfErr result (λ e. (e.0 ≡ JoinFault.Apart) ↔ AreApart pass.old.rows other.rows) }
         ensures unchanged { OnErr result (pass.new ≡ pass.old) }
