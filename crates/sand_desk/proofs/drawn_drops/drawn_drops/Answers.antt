@@ -62,7 +62,7 @@ returns-in_err-ended-clause-fault g c =
     rw (p.1, p.2)
     (end_fails c.args.draw c.args.part c.args.input.now _ _ _
     (pushed g (goal.at.returns-in_err-ended-clause-fault g c).In_ok-dropped)
-    (g.W.Write.contents c.push_end-ended.new.writer) _ (rw c.finish-last.ensures at c.in_err-ended.ensures.err))
+    (g.W.Write.contents c.push_end-ended.new.writer) _ (rw c.finish-last.ensures.value at c.in_err-ended.ensures.err))
 
 pub returns-in_err-finish-clause-fault : goal.returns-in_err-finish-clause-fault
 returns-in_err-finish-clause-fault g c =
@@ -71,7 +71,7 @@ returns-in_err-finish-clause-fault g c =
     (last_fails c.args.draw c.args.part c.args.input.now _ _ _
     (pushed g (goal.at.returns-in_err-finish-clause-fault g c).In_ok-dropped)
     (g.W.Write.contents c.push_end-ended.new.writer) c.push_end-ended.new.blocks
-    (rw c.finish-last.ensures at c.in_ok-ended.ensures.ok)
+    (rw c.finish-last.ensures.value at c.in_ok-ended.ensures.ok)
     (g.W.Write.contents c.finish.new.writer) _ c.in_err-finish.ensures.err)
 
 pub returns-clause-done : goal.returns-clause-done
@@ -79,5 +79,5 @@ returns-clause-done g c =
     all_taken c.args.draw c.args.part c.args.input.now _ _ _
     (pushed g (goal.at.returns-clause-done g c).In_ok-dropped)
     (g.W.Write.contents c.push_end-ended.new.writer) c.push_end-ended.new.blocks
-    (rw c.finish-last.ensures at c.in_ok-ended.ensures.ok)
+    (rw c.finish-last.ensures.value at c.in_ok-ended.ensures.ok)
     (g.W.Write.contents c.finish.new.writer) c.in_ok-finish.ensures.ok

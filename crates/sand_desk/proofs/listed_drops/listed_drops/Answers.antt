@@ -30,7 +30,7 @@ returns-clause-text c =
       dropped = subst P c.in_ok-pile.ensures.settled.number noted.1;
       end =
           rw c.as_slice.ensures.value at (c.in_ok-rows.ensures.after c.in_ok-start.start c.in_ok-pile.ensures.settled);
-      written = (rw (c.as_slice-2.ensures.value, c.finish-last.ensures) at written) ∙ noted_text c.args.part
+      written = (rw (c.as_slice-2.ensures.value, c.finish-last.ensures.value) at written) ∙ noted_text c.args.part
           c.in_ok-rows.rows.items noted.0 c.drop_all-noted.new.pile.settled (rw c.is_pile.ensures at noted.2);
     })
     c.part_text.ensures.text
