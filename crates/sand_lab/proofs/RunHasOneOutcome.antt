@@ -1,15 +1,14 @@
 -- Why a run has one outcome. A record is determined by its start and the drops on each site, because heights settle to
 -- one pile with one odometer. How often a site is dropped on in an epoch is determined by the streams.
-use Rattle.std.proofs.Common.{ℕ, ◌≡◌, ◌+◌, ◌*◌, ◌<◌, List, [], ◌∷◌, map, length, sum, refl, sym, ap, ◌∙◌, subst, arith}
-use Rattle.std.specs.Prelude.{slice_index}
-use Rattle.std.proofs.lemmas.List.{ext_get_or}
-use Rattle.sand_model.specs.Grid.{Grid, sites}
+use Rattle.std.proofs.Common.{ℕ, ◌≡◌, ◌+◌, ◌*◌, List, [], ◌∷◌, map, length, sum, refl, sym, ap, ◌∙◌, arith}
+use Rattle.sand_model.specs.Grid.{sites}
 use Rattle.sand_model.specs.Piles.{PileView, height_of}
-use Rattle.sand_model.specs.Sand.{IsSettled, sum_below, occurrences, topplings, lost}
-use Rattle.sand_model.proofs.Sandpile.{odometer_unique, settled_unique, settled_same}
+use Rattle.sand_model.specs.Sand.{sum_below, occurrences}
 use Rattle.sand_model.proofs.Occurrences.{occurrences-append}
-use Rattle.sand_settle.specs.Settling.{SettledView, IsSettledRecord, odometer_of}
+use Rattle.sand_settle.specs.Settling.{SettledView}
+use Rattle.sand_settle.proofs.OneRecord.{one_record}
 use Rattle.sand_shared.specs.Record.{RecordView, IsOneThreads}
+use Rattle.sand_shared.proofs.Receipts.{record_of_drops}
 use Rattle.sand_plan.specs.Plans.{quota_of}
 use Rattle.sand_lab.proofs.OneEpochMore.{epoch_drops, dropped_so_far}
 use Rattle.sand_plan.specs.declared.wish.Wish.{Wish}
@@ -17,52 +16,13 @@ use Rattle.sand_lab.specs.Laws.{AskTheSame, OneOutcome, one_of}
 use Rattle.sand_lab.specs.Reports.{SheetView, AreEpochs, histories}
 use Rattle.sand_lab.specs.Streams.{stream_of, stream_sites}
 
--- equal heights have one settled record
-module _ (g : Grid) (s s' : ℕ → ℕ) (r q : SettledView) (same : (i : ℕ) → i < sites g → s i ≡ s' i)
-    (mine : IsSettledRecord g s r) (theirs : IsSettledRecord g s' q) where
-  same_start : IsSettled g s' (odometer_of r) (height_of r.pile)
-  same_start = settled_same g s s' (odometer_of r) (odometer_of r) (height_of r.pile)
-      (height_of r.pile) same (λ i l. refl) (λ i l. refl) mine.settled
-
-  same_odometer : r.odometer ≡ q.odometer
-  same_odometer =
-      ext_get_or 0 r.odometer q.odometer (mine.odometer_each ∙ sym theirs.odometer_each)
-      (λ i l.
-      let long = mine.odometer_each in
-      odometer_unique g s' (odometer_of r) (odometer_of q) same_start.odometer theirs.settled.odometer i (omega arith))
-
-  same_heights : r.pile.heights ≡ q.pile.heights
-  same_heights =
-      ext_get_or 0 r.pile.heights q.pile.heights (mine.heights_each ∙ sym theirs.heights_each)
-      (λ i l.
-      let long = mine.heights_each in
-      settled_unique g s' (odometer_of r) (odometer_of q) (height_of r.pile)
-      (height_of q.pile) same_start theirs.settled i (omega arith))
-
-  record_once : r ≡ q
-  record_once =
-      let grids = mine.grid ∙ sym theirs.grid in
-      let tops =
-      mine.all_topplings ∙ ap (λ (u : List ℕ). topplings g (slice_index u)) same_odometer ∙ sym theirs.all_topplings in
-      let gone = mine.all_lost ∙ ap (λ (u : List ℕ). lost g (slice_index u)) same_odometer ∙ sym theirs.all_lost in
-      λ k. record {
-        pile = record { grid = grids k; heights = same_heights k };
-        odometer = same_odometer k;
-        topplings = tops k;
-        lost = gone k;
-      }
-
 -- the result of one thread depends only on the start and on how often each site was dropped on, in any order
 pub one_threads_once : (r q : RecordView) → IsOneThreads r → IsOneThreads q
     → r.start ≡ q.start → ((i : ℕ) → occurrences r.history i ≡ occurrences q.history i)
     → r.settled ≡ q.settled
 one_threads_once r q one other starts tallies =
-    let P : PileView → Type 0 = λ p. IsSettledRecord p.grid (λ i. height_of p i + occurrences q.history i) q.settled in
-    record_once r.start.grid (λ i. height_of r.start i + occurrences r.history i)
-    (λ i. height_of r.start i + occurrences q.history i) r.settled q.settled
-    (λ i l. ap (λ n. height_of r.start i + n) (tallies i))
-    one.settled
-    (subst P (sym starts) other.settled)
+    one_record q.start.grid (λ i. height_of q.start i + occurrences q.history i) r.settled q.settled
+    (record_of_drops q.start r (occurrences q.history) one starts tallies) other.settled
 
 -- records with equal results, whose histories together have equal tallies
 record SettleAlike (rs qs : List RecordView) : Type 0 where
