@@ -4,9 +4,9 @@ ghost use Rattle.std.specs.Prelude.{IfOk};
 ghost use Rattle.sand_shared.specs.Passes.{IsPassOf};
 
 use crate::pile_with_passes::Call::{
-    DropAt, IsWhole, Join, Rows, Split, SplitRows, Tally, ThrowAway,
+    DropAt, IsWhole, Join, JoinAll, Receipt, Rows, Split, SplitRows, Tally, ThrowAway,
 };
-use crate::pile_with_passes::Told::{Between, Done, Fault, Is, Number};
+use crate::pile_with_passes::Told::{Between, Done, Dropped, Fault, Is, Number};
 use crate::pile_with_passes::{ENDINGS, Ending, Left, PileWithPasses, Start, both_leave, is_there};
 use sand_shared::{BarePass, SharedPile};
 use sand_testing::shared::{bare_of, shared_pile};
@@ -50,6 +50,31 @@ fn rows_are_joined_from_the_last_one(rt: HostRuntime) {
         (IsWhole(0), Is(true)),
     ];
     assert!(rt; is_there(PileWithPasses::played(rt.alloc(), ROWS, &calls)));
+}
+
+// The list has a drop, the last row and the middle one. The last row is refused until the middle one is there.
+#[test]
+fn a_list_is_joined_up_to_rows_that_are_apart(rt: HostRuntime) {
+    let start = Start {
+        sides: (1, 3),
+        heights: &[0, 0, 0],
+        quota: 1,
+    };
+    let calls = [
+        (Split(0, 1), Done),
+        (DropAt(1, 2), Number(0)),
+        (SplitRows(0, 1), Done),
+        (SplitRows(0, 1), Done),
+        (JoinAll, Fault(12)),
+        (Receipt(0, 0), Dropped(0, 2)),
+        (Rows(0), Between(0, 1)),
+        (Rows(1), Between(2, 3)),
+        (Rows(2), Between(1, 2)),
+        (Join(0, 2), Done),
+        (JoinAll, Done),
+        (IsWhole(0), Is(true)),
+    ];
+    assert!(rt; is_there(PileWithPasses::played(rt.alloc(), start, &calls)));
 }
 
 // The first row touches the middle one, but not the last.

@@ -28,6 +28,8 @@ pub enum Call {
     SplitRows(usize, u16),
     /// The first pass takes in the other, which leaves the list unless that fails.
     Join(usize, usize),
+    /// The first pass of the list takes in the others, which leave the list as far as they are joined.
+    JoinAll,
     ThrowAway(usize),
     IsWhole(usize),
     Rows(usize),
@@ -199,6 +201,7 @@ impl PileWithPasses {
             Call::Split(pass, quota) => self.split(alloc, pass, quota),
             Call::SplitRows(pass, rows) => self.split_rows(alloc, pass, rows),
             Call::Join(pass, other) => self.join(alloc, pass, other),
+            Call::JoinAll => self.join_all(alloc),
             Call::ThrowAway(pass) => self.throw_away(pass),
             Call::IsWhole(pass) => self.is_whole(pass),
             Call::Rows(pass) => self.rows(pass),
@@ -276,6 +279,22 @@ impl PileWithPasses {
         };
         put(&self.pile, &mut self.passes, other, second);
         Told::Fault(fault.number())
+    }
+
+    fn join_all(&mut self, alloc: Global) -> Told {
+        let Some(mut first) = take(&self.pile, &mut self.passes, 0) else {
+            return Told::NoSuch;
+        };
+        let others = std::mem::replace(&mut self.passes, Vec::new(alloc));
+        let told = match self.pile.join_all(alloc, &mut first, others) {
+            Ok(()) => Told::Done,
+            Err((fault, back)) => {
+                self.passes = back;
+                Told::Fault(fault.number())
+            }
+        };
+        put(&self.pile, &mut self.passes, 0, first);
+        told
     }
 
     fn throw_away(&mut self, pass: usize) -> Told {
