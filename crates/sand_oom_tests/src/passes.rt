@@ -1,6 +1,8 @@
 //! Shared piles and passes: made, split and joined.
 
-ghost use Rattle.std.specs.Prelude.{IfOk, IfErr};
+ghost use Rattle.std.specs.Prelude.{◌<◌, All, IfOk, IfErr};
+ghost use Rattle.sand_model.specs.Grid.{sites};
+ghost use Rattle.sand_shared.specs.OpenPile.{grid_of_terms};
 ghost use Rattle.sand_shared.specs.Passes.{IsPassOf};
 
 use crate::memory::{refuse, was_refused};
@@ -196,5 +198,77 @@ fn join_reports_out_of_memory(rt: HostRuntime) -> Result<(), Fail> {
         "SharedPile::join",
         Spares::Nothing,
         join_once,
+    )
+}
+
+// Joins a list with allocation `number` refused; if that fails, joins the passes that came back. Returns the number of
+// the first fault, and whether all are joined.
+fn join_all_again(
+    alloc: Global,
+    number: u32,
+    pile: &SharedPile,
+    pass: &mut Pass,
+    others: Vec<Pass>,
+) -> (Option<u32>, bool)
+    requires pass { IsPassOf pile.now pass.old }
+    requires others { All (IsPassOf pile.now) others.items }
+    ensures { IsPassOf pile.now pass.new }
+{
+    refuse(alloc, number);
+    let tried = pile.join_all(alloc, pass, others);
+    was_refused(alloc);
+    match tried {
+        Ok(()) => (None, true),
+        Err((fault, back)) => {
+            let is_joined = pile.join_all(alloc, pass, back).ok().is_some();
+            (Some(fault.number()), is_joined)
+        }
+    }
+}
+
+// A child of quota 1, which has dropped its grain.
+fn dropped_once(alloc: Global, pile: &SharedPile, pass: &mut Pass) -> Result<Pass, Fail>
+    requires pass { IsPassOf pile.now pass.old }
+    requires site { 0 < sites (grid_of_terms pile.now.terms) }
+    ensures of_pile { IsPassOf pile.now pass.new }
+    ensures child { IfOk result (IsPassOf pile.now) }
+{
+    let mut child = pile.split(alloc, pass, 1)?;
+    drop_rest(pile, &mut child, 0);
+    Ok(child)
+}
+
+// A child of a pass that has dropped twelve times, and a list of another child and the pass. Each child has dropped once.
+fn dropped_by_three(alloc: Global) -> Result<(SharedPile, Pass, Vec<Pass>), Fail>
+    ensures { IfOk result (λ r. IsPassOf r.0 r.1 × All (IsPassOf r.0) r.2.items) }
+{
+    let (pile, mut pass) = shared_pile(alloc, 1, 1, &[0], 14)?;
+    let child = dropped_once(alloc, &pile, &mut pass)?;
+    let other = dropped_once(alloc, &pile, &mut pass)?;
+    drop_rest(&pile, &mut pass, 0);
+    let mut list = Vec::with_capacity(alloc, 2)?;
+    list.push_reserved(other);
+    list.push_reserved(pass);
+    Ok((pile, child, list))
+}
+
+// Both passes of a list are joined to a child of quota 1, which has to grow for the receipts of each.
+fn join_all_once(alloc: Global, number: u32) -> Result<Tried, Fail> {
+    let (pile, mut child, list) = dropped_by_three(alloc)?;
+    let (fault, is_joined) = join_all_again(alloc, number, &pile, &mut child, list);
+    let record = closed(alloc, pile, child)?;
+    let is_right = is_joined && is_record(&record, &[0; 14], &[2], &[3], 12);
+    drop(record);
+    Ok(Tried { fault, is_right })
+}
+
+#[test]
+fn join_all_reports_out_of_memory(rt: HostRuntime) -> Result<(), Fail> {
+    each_number(
+        &rt,
+        rt.alloc(),
+        "SharedPile::join_all",
+        Spares::Nothing,
+        join_all_once,
     )
 }
