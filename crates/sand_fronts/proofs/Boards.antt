@@ -44,26 +44,26 @@ pub board_of : (g : Grid) (all : List Beside) → length all ≡ tiles g
     → tiles g ≤ 65536 → ((k : ℕ) → k < tiles g → IsBeside g k (beside_at all k))
     → IsBoard g (tiles g) all
 board_of g all one_each small each =
-    let here : (j : ℕ) → j < sites g → tile_of g j < tiles g = λ j l. let r = row_after g j l in omega arith in
     record {
       small = small;
       one_each = one_each;
-      here = here;
-      each = λ j l. each (tile_of g j) (here j l);
-      north = λ j l. let e = (each (tile_of g j) (here j l)).north in let h = here j l in omega arith;
-      south = λ j l. let e = (each (tile_of g j) (here j l)).south in let r = row_after g j l in omega arith;
-      west = λ j l.
-          let e = (each (tile_of g j) (here j l)).west in
-          let w = west_below g (tile_of g j) (tiles g) (row_after g j l) in
-          omega arith;
-      east = λ j l.
-          let e = (each (tile_of g j) (here j l)).east in
-          let w = east_below g (tile_of g j) (tiles g) (row_after g j l) in
-          omega arith;
-      shifts = λ j l. (
-        let e = (each (tile_of g j) (here j l)).west_shift in let s = west_shift_below g (tile_of g j) in omega arith,
-        let e = (each (tile_of g j) (here j l)).east_shift in let s = east_shift_below g (tile_of g j) in omega arith,
-      );
+      each = λ j l.
+          let k = tile_of g j in
+          let r = row_after g j l in
+          let here : k < tiles g = omega arith in
+          let e = each k here in
+          record {
+            inside = here;
+            each = e;
+            on_board = record {
+              north = let n = e.north in omega arith;
+              south = let s = e.south in omega arith;
+              west = let w = west_below g k (tiles g) r in let s = e.west in omega arith;
+              east = let w = east_below g k (tiles g) r in let s = e.east in omega arith;
+              west_shift = let w = west_shift_below g k in let s = e.west_shift in omega arith;
+              east_shift = let w = east_shift_below g k in let s = e.east_shift in omega arith;
+            };
+          };
     }
 
 pub sides_more : (g : Grid) (xs ys : List Beside) (b : Beside) (n : ℕ)

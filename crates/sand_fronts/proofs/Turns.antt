@@ -16,7 +16,7 @@ use Rattle.sand_tiles.specs.Places.{bit}
 use Rattle.sand_tiles.proofs.Bits.{bit_le, bit_none, both_le}
 use Rattle.sand_fronts.specs.declared.sides.Beside.{Beside}
 use Rattle.sand_fronts.specs.Tiling.{tile_of, place_of, site_on, on_tiles}
-use Rattle.sand_fronts.specs.Waves.{at_site, toppled, only, AreOpen, IsWave, Steps, IsBeside, IsBoard, beside_at, AreAtRest, heights_before}
+use Rattle.sand_fronts.specs.Waves.{at_site, toppled, only, AreOpen, IsWave, Steps, IsBeside, AtTile, IsBoard, beside_at, AreAtRest, heights_before}
 use Rattle.sand_fronts.specs.TileLists.{waits, waits_but, IsClear, AreListed}
 use Rattle.sand_fronts.proofs.OnTiles.{place_below, there_again, on_tiles_le, on_nothing, at_on}
 use Rattle.sand_fronts.proofs.Waves.{only_same, open_site, wave_step}
@@ -189,29 +189,9 @@ none_wait g site n k τ free open' rest fits =
     (λ j l. sym (and_none (not (eqb j k)) (waits τ free j) (quiet_at g site τ free j open' rest (fits j))))
     (lists_from n (λ j. false) [] (λ j l. refl) (λ j l. refl))
 
--- what the board says of tile k, the tile of site j
-pub record AtTile (g : Grid) (n k : ℕ) (b : Beside) : Type 0 where
-  pub inside : k < n
-  pub each : IsBeside g k b
-  pub north : b.north < n
-  pub south : b.south < n
-  pub west : b.west < n
-  pub east : b.east < n
-  pub shifts : (b.west_shift ≤ 7) × (b.east_shift ≤ 7)
-
 pub at_tile : (g : Grid) (n j k : ℕ) (all : List Beside) → IsBoard g n all → j < sites g → tile_of g j ≡ k
     → AtTile g n k (beside_at all k)
-at_tile g n j k all board l here =
-    let P : ℕ → Type 0 = λ m. AtTile g n m (beside_at all m) in
-    subst P here (record {
-      inside = board.here j l;
-      each = board.each j l;
-      north = board.north j l;
-      south = board.south j l;
-      west = board.west j l;
-      east = board.east j l;
-      shifts = board.shifts j l;
-    })
+at_tile g n j k all board l here = subst (λ m. AtTile g n m (beside_at all m)) here (board.each j l)
 
 pub turn_at : (g : Grid) (site n turn k : ℕ) (τ : ℕ → Tile) (free : ℕ → ℕ) (list : List ℕ) (all : List Beside)
     → AreOpen g site free → IsBoard g n all
@@ -236,7 +216,7 @@ none_left g site n τ free all open' board none j inside other =
     let k = tile_of g j in
     let p = place_of g j in
     let low = place_below g j in
-    let quiet = ltb-false 0 (bit_and (τ k).due (free k)) (none_passes n (waits τ free) none k (board.here j inside)) in
+    let quiet = ltb-false 0 (bit_and (τ k).due (free k)) (none_passes n (waits τ free) none k ((board.each j inside).inside)) in
     let zero' : bit (bit_and (τ k).due (free k)) p ≡ 0 =
     ap (λ x. bit x p) (let e : bit_and (τ k).due (free k) ≡ 0 = omega arith in e) ∙ bit_none p in
     let both = both_le (τ k).due (free k) p in

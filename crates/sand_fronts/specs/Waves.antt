@@ -84,18 +84,26 @@ abbrev pub beside_at : List Beside → ℕ → Beside
 beside_at all k =
     slice_index_or all k (record { north = 0; south = 0; west = 0; east = 0; west_shift = 0; east_shift = 0 })
 
+-- the four tiles are among the first n, and shifts stay within a row
+pub record IsOnBoard (n : ℕ) (b : Beside) : Type 0 where
+  pub north : b.north < n
+  pub south : b.south < n
+  pub west : b.west < n
+  pub east : b.east < n
+  pub west_shift : b.west_shift ≤ 7
+  pub east_shift : b.east_shift ≤ 7
+
+-- tile k of n, and its four neighbours
+pub record AtTile (g : Grid) (n k : ℕ) (b : Beside) : Type 0 where
+  pub inside : k < n
+  pub each : IsBeside g k b
+  pub on_board : IsOnBoard n b
+
 -- n tiles, and for the tile of each site its four neighbours
 pub record IsBoard (g : Grid) (n : ℕ) (all : List Beside) : Type 0 where
   pub small : n ≤ 65536
   pub one_each : length all ≡ n
-  pub here : (j : ℕ) → j < sites g → tile_of g j < n
-  pub each : (j : ℕ) → j < sites g → IsBeside g (tile_of g j) (beside_at all (tile_of g j))
-  pub north : (j : ℕ) → j < sites g → (beside_at all (tile_of g j)).north < n
-  pub south : (j : ℕ) → j < sites g → (beside_at all (tile_of g j)).south < n
-  pub west : (j : ℕ) → j < sites g → (beside_at all (tile_of g j)).west < n
-  pub east : (j : ℕ) → j < sites g → (beside_at all (tile_of g j)).east < n
-  pub shifts : (j : ℕ) → j < sites g
-      → ((beside_at all (tile_of g j)).west_shift ≤ 7) × ((beside_at all (tile_of g j)).east_shift ≤ 7)
+  pub each : (j : ℕ) → j < sites g → AtTile g n (tile_of g j) (beside_at all (tile_of g j))
 
 -- the heights at the start of a wave: the dropped site has 4 more than in the planes
 abbrev pub heights_before : Grid → ℕ → (ℕ → Tile) → ℕ → ℕ

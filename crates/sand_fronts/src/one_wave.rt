@@ -24,7 +24,7 @@ ghost use Rattle.sand_model.specs.Underway.{Advances};
 ghost use Rattle.sand_tiles.specs.Places.{bit, IsReady};
 ghost use Rattle.sand_fronts.specs.Tiling.{tile_of, place_of, on_tiles};
 ghost use Rattle.sand_fronts.specs.TileLists.{waits, waits_but, Joins, AreListed};
-ghost use Rattle.sand_fronts.specs.Waves.{tile_at, only, AreOpen, AreAtRest, IsBoard, IsWave, heights_before, toppled, Leaves, Gains, over_rim, Steps};
+ghost use Rattle.sand_fronts.specs.Waves.{tile_at, only, AreOpen, AreAtRest, IsOnBoard, IsBoard, IsWave, heights_before, toppled, Leaves, Gains, over_rim, Steps};
 
 use crate::index_list::IndexList;
 use crate::sides::Beside;
@@ -56,11 +56,7 @@ fn gain_at(tiles: &mut [Tile], free: &[u64], list: &mut IndexList, k: usize, gai
 // Gives the grains that leave a tile to the four tiles next to it.
 #[inline(always)]
 fn hand_over(tiles: &mut [Tile], free: &[u64], list: &mut IndexList, beside: &Beside, new: u64)
-    requires north { beside.now.north < length tiles.old }
-    requires south { beside.now.south < length tiles.old }
-    requires west { beside.now.west < length tiles.old }
-    requires east { beside.now.east < length tiles.old }
-    requires shifts { (beside.now.west_shift ≤ 7) × (beside.now.east_shift ≤ 7) }
+    requires beside { IsOnBoard (length tiles.old) beside.now }
     requires small { length tiles.old ≤ 65536 }
     requires one_each { length free.now ≡ length tiles.old }
     requires room { length list.old.items + 4 ≤ list.old.room }
@@ -101,11 +97,7 @@ fn topple_tile(
     requires one_each { length free.now ≡ length tiles.old }
     requires room { length list.old.items + 4 ≤ list.old.room }
     requires ready { IsReady (tile_at tiles.old k) (slice_index free.now k) start }
-    requires north { beside.now.north < length tiles.old }
-    requires south { beside.now.south < length tiles.old }
-    requires west { beside.now.west < length tiles.old }
-    requires east { beside.now.east < length tiles.old }
-    requires shifts { (beside.now.west_shift ≤ 7) × (beside.now.east_shift ≤ 7) }
+    requires beside { IsOnBoard (length tiles.old) beside.now }
     requires small { length tiles.old ≤ 65536 }
     ensures steps { Steps (tile_at tiles.old) (tile_at tiles.new) (slice_index free.now k) beside.now k start result }
     ensures joins { (n : ℕ) → n ≡ length tiles.old

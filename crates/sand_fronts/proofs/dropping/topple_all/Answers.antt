@@ -88,7 +88,7 @@ size_of c =
     ∙ wave_size c.args.shape c.args.site (length c.topple_wave.new.tiles)
     (heights_before c.args.shape c.args.site (tile_at c.waves.tiles))
     (tile_at c.topple_wave.new.tiles) c.topple_wave.ensures.wave
-    (λ j l. let h = c.requires.board.here j l in omega (arith, c.topple_wave.auto.tiles, c.waves.invariant.tiles_each))
+    (λ j l. let h = (c.requires.board.each j l).inside in omega (arith, c.topple_wave.auto.tiles, c.waves.invariant.tiles_each))
 
 lost_of : (c : goal.After-height_at)
     → c.count_wave-wave.result.lost ≡ lost c.args.shape (toppled c.args.shape (tile_at c.topple_wave.new.tiles))
@@ -97,7 +97,7 @@ lost_of c =
     ∙ wave_lost c.args.shape c.args.site (length c.topple_wave.new.tiles)
     (heights_before c.args.shape c.args.site (tile_at c.waves.tiles)) (tile_at c.args.outside.now)
     (tile_at c.topple_wave.new.tiles) c.requires.outside c.topple_wave.ensures.wave
-    (λ j l. let h = c.requires.board.here j l in omega (arith, c.topple_wave.auto.tiles, c.waves.invariant.tiles_each))
+    (λ j l. let h = (c.requires.board.each j l).inside in omega (arith, c.topple_wave.auto.tiles, c.waves.invariant.tiles_each))
 
 more_lost : (c : goal.After-height_at)
     → lost c.args.shape (grown_on c.args.shape (count_at c.args.counts.now) (count_at c.count_wave-wave.new.counts))
@@ -169,7 +169,7 @@ returns-clause-settled c =
     (tile_at c.waves.tiles) (count_at c.args.counts.now) (count_at c.waves.counts))
     c.waves-test.false c.waves.invariant.passed in
     settled_kept c.args.shape _ _ c.waves.tiles c.args.here (record (tile_at c.waves.tiles c.args.here) { due = 0 })
-    (let h = c.requires.board.here c.args.site c.requires.site in
+    (let h = (c.requires.board.each c.args.site c.requires.site).inside in
     omega (arith, c.waves.invariant.tiles_each, c.requires.here.0))
     refl refl
     (waves_end c.args.shape c.args.site (tile_at c.args.tiles.now) (tile_at c.waves.tiles)
@@ -179,7 +179,7 @@ pub returns-clause-quiet : goal.returns-clause-quiet
 returns-clause-quiet c =
     quiet_at_last c.args.shape c.args.site c.waves.tiles c.args.here
     (record (tile_at c.waves.tiles c.args.here) { due = 0 })
-    (let h = c.requires.board.here c.args.site c.requires.site in
+    (let h = (c.requires.board.each c.args.site c.requires.site).inside in
     omega (arith, c.waves.invariant.tiles_each, c.requires.here.0))
     c.requires.here.0 refl refl
     c.waves.invariant.passed.clear c.waves.invariant.passed.none_due

@@ -25,12 +25,12 @@ returns-clause-gains c =
     c.gain_at-3.ensures.gains
     (λ m p low.
     let x = only_as b.west m p (bit (bit_and new 72340172838076673 * 2 ^ b.west_shift % 2 ^ 64))
-    (over_east b.west_shift (bit new)) (to_the_west new b.west_shift p c.requires.shifts.0 low) in
+    (over_east b.west_shift (bit new)) (to_the_west new b.west_shift p c.requires.beside.west_shift low) in
     omega arith))
     c.gain_at-4.ensures.gains
     (λ m p low.
     let x = only_as b.east m p (bit (bit_and (new / 2 ^ b.east_shift) 72340172838076673))
-    (over_west b.east_shift (bit new)) (to_the_east new b.east_shift p c.requires.shifts.1 low) in
+    (over_west b.east_shift (bit new)) (to_the_east new b.east_shift p c.requires.beside.east_shift low) in
     omega arith)
 
 pub returns-clause-joins : goal.returns-clause-joins

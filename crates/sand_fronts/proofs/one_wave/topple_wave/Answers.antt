@@ -4,11 +4,11 @@ use Rattle.std.proofs.lemmas.List.{length-drop, drop_all}
 use Rattle.sand_model.specs.Lists.{Lists}
 use Rattle.sand_model.proofs.Lists.{lists_length}
 use Rattle.sand_model.proofs.SumsBelow.{one_at_same}
-use Rattle.sand_fronts.specs.Waves.{tile_at, beside_at, heights_before}
+use Rattle.sand_fronts.specs.Waves.{tile_at, beside_at, heights_before, AtTile, IsOnBoard}
 use Rattle.sand_fronts.specs.IndexLists.{ListView}
 use Rattle.sand_fronts.specs.TileLists.{waits, waits_but, AreListed}
 use Rattle.sand_fronts.proofs.Waves.{wave_ready}
-use Rattle.sand_fronts.proofs.Turns.{AtTile, IsDueSite, first_listed, turn_listed, turn_on_board, first_low, first_wave, turn_first, turn_more, turn_at, at_tile, front_of, others_wait, none_wait, starts_none, few_topplings, clear_site, none_left}
+use Rattle.sand_fronts.proofs.Turns.{IsDueSite, first_listed, turn_listed, turn_on_board, first_low, first_wave, turn_first, turn_more, turn_at, at_tile, front_of, others_wait, none_wait, starts_none, few_topplings, clear_site, none_left}
 use Rattle.sand_fronts.proofs.Ends.{wave_advances}
 use Rattle.sand_fronts.proofs.one_wave.topple_wave.Goals.{After-item-k}
 use Rattle.sand_fronts.proofs.one_wave.topple_wave.Goals as goal
@@ -96,29 +96,10 @@ topple_tile-requires-in-turns-clause-ready c =
     c.turns.invariant.wave c.requires.site (first_low c.args.shape c.args.site (tile_at c.args.tiles.now))
     (starts_none c.args.shape c.args.site c.item-k.result) (omega (arith, c.turns.invariant.started))
 
-pub topple_tile-requires-in-turns-clause-north : goal.topple_tile-requires-in-turns-clause-north
-topple_tile-requires-in-turns-clause-north c =
-    let i = (at_turn (goal.at.topple_tile-requires-in-turns-clause-north c).After-item-k).2.north in
-    omega (arith, c.turns.invariant.one_each)
-
-pub topple_tile-requires-in-turns-clause-south : goal.topple_tile-requires-in-turns-clause-south
-topple_tile-requires-in-turns-clause-south c =
-    let i = (at_turn (goal.at.topple_tile-requires-in-turns-clause-south c).After-item-k).2.south in
-    omega (arith, c.turns.invariant.one_each)
-
-pub topple_tile-requires-in-turns-clause-west : goal.topple_tile-requires-in-turns-clause-west
-topple_tile-requires-in-turns-clause-west c =
-    let i = (at_turn (goal.at.topple_tile-requires-in-turns-clause-west c).After-item-k).2.west in
-    omega (arith, c.turns.invariant.one_each)
-
-pub topple_tile-requires-in-turns-clause-east : goal.topple_tile-requires-in-turns-clause-east
-topple_tile-requires-in-turns-clause-east c =
-    let i = (at_turn (goal.at.topple_tile-requires-in-turns-clause-east c).After-item-k).2.east in
-    omega (arith, c.turns.invariant.one_each)
-
-pub topple_tile-requires-in-turns-clause-shifts : goal.topple_tile-requires-in-turns-clause-shifts
-topple_tile-requires-in-turns-clause-shifts c =
-    (at_turn (goal.at.topple_tile-requires-in-turns-clause-shifts c).After-item-k).2.shifts
+pub topple_tile-requires-in-turns-clause-beside : goal.topple_tile-requires-in-turns-clause-beside
+topple_tile-requires-in-turns-clause-beside c =
+    let t = at_turn (goal.at.topple_tile-requires-in-turns-clause-beside c).After-item-k in
+    subst (λ n. IsOnBoard n (beside_at c.args.beside.now c.item-k.result)) (sym c.turns.invariant.one_each) t.2.on_board
 
 pub turns-smaller : goal.turns-smaller
 turns-smaller c =

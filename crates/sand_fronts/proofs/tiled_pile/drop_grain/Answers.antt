@@ -147,7 +147,7 @@ returns-clause-fall c =
           ∙ area_is c.args.shape (length c.topple_all-size.new.marks)
           (λ j. one_if (ltb 0 (v j))) (slice_index c.topple_all-size.new.marks) (marked_at c)
           (λ j l.
-          let h = c.requires.pile.board.here j l in
+          let h = (c.requires.pile.board.each j l).inside in
           omega (arith, c.topple_all-size.ensures.marks_each, c.requires.pile.marks_each));
       reach = reach_is c.args.shape c.args.site v (slice_index c.topple_all-size.new.marks)
           c.take_all-area.result.reach (marked_at c) c.take_all-area.ensures.reach;
