@@ -1,13 +1,18 @@
 -- The neighbours of the tile of a site are on the board.
 use Rattle.std.proofs.Common.{ℕ, Bool, true, false, cond, ◌≡◌, ◌+◌, ◌-◌, ◌*◌, ◌/◌, ◌%◌, ◌<◌, ◌≤◌, List, [], ◌∷◌, ◌++◌, length, sym, ◌∙◌, ap, subst, arith, ⊎_elim}
+use Rattle.std.specs.Vec.{with_item}
 use Rattle.std.proofs.lemmas.Bool.{cases_lt}
-use Rattle.std.proofs.lemmas.List.{get_or_push, get_or_append_left}
+use Rattle.std.proofs.lemmas.List.{get_or_push, get_or_append_left, length-set}
 use Rattle.std.proofs.lemmas.Nat.{mod_below, mul-add-lt, div_below}
-use Rattle.sand_model.specs.Grid.{Grid, sites}
+use Rattle.sand_model.specs.Grid.{Grid, IsGrid, sites}
 use Rattle.sand_model.proofs.Neighbours.{some_width}
+use Rattle.sand_tiles.specs.declared.tile.Tile.{Tile}
 use Rattle.sand_fronts.specs.declared.sides.Beside.{Beside}
+use Rattle.sand_fronts.specs.declared.board.Board.{Board}
+use Rattle.sand_fronts.specs.declared.sand.Sand.{Sand}
 use Rattle.sand_fronts.specs.Tiling.{across, down, pitch, tiles, tile_of, to_west, to_east, shift_west, shift_east, seam_west, seam_east}
-use Rattle.sand_fronts.specs.Waves.{IsBeside, IsBoard, beside_at}
+use Rattle.sand_fronts.specs.Boards.{IsBoard, IsSand}
+use Rattle.sand_fronts.specs.Waves.{IsBeside, AreBeside, beside_at}
 
 -- the tile of a site is not in the last row of tiles
 pub row_after : (g : Grid) (j : ℕ) → j < sites g → tile_of g j + pitch g < tiles g
@@ -19,6 +24,9 @@ row_after g j inside =
     let row : j / w < g.height = div_below j w g.height pos (omega arith) in
     let fits = mul-add-lt (j / w / 8 + 2) (pitch g) (j % w / 8 + 1) (down g + 2) (omega arith) (omega arith) in
     omega arith
+
+pub tile_inside : (g : Grid) (j : ℕ) → j < sites g → tile_of g j < tiles g
+tile_inside g j inside = let r = row_after g j inside in omega arith
 
 either_below : (b : Bool) (x y n : ℕ) → x < n → y < n → cond b x y < n
 either_below true x y n a b = a
@@ -40,11 +48,12 @@ east_shift_below : (g : Grid) (k : ℕ) → shift_east g k < 8
 unfolding shift_east
 east_shift_below g k = either_below (seam_east g k) ((g.width - 1) % 8) 7 8 (omega arith) (omega arith)
 
-pub board_of : (g : Grid) (all : List Beside) → length all ≡ tiles g
+pub board_of : (g : Grid) (all : List Beside) → IsGrid g → length all ≡ tiles g
     → tiles g ≤ 65536 → ((k : ℕ) → k < tiles g → IsBeside g k (beside_at all k))
-    → IsBoard g (tiles g) all
-board_of g all one_each small each =
+    → AreBeside g all
+board_of g all sides one_each small each =
     record {
+      sides = sides;
       small = small;
       one_each = one_each;
       each = λ j l.
@@ -80,12 +89,29 @@ sides_more g xs ys b n pushed long is each k below =
     (λ (last : n ≤ k). let e : n ≡ k = omega arith in subst P (sym (get_or_push xs b none k (long ∙ e))) (subst Q e is))
     (cases_lt k n))
 
-pub found_inside : (g : Grid) (j x y a : ℕ) → j < sites g → x ≡ j % g.width → y ≡ j / g.width → a ≡ across g
-    → ((y / 8 + 2) * (a + 2) + (x / 8 + 1) < tiles g) × (y % 8 * 8 + x % 8 < 64)
+pub found_inside : (g : Grid) (j x y row : ℕ) → j < sites g → x ≡ j % g.width → y ≡ j / g.width → row ≡ pitch g
+    → ((y / 8 + 2) * row + (x / 8 + 1) < tiles g) × (y % 8 * 8 + x % 8 < 64)
 unfolding tile_of
-found_inside g j x y a inside ex ey ea =
+found_inside g j x y row inside ex ey er =
     let r = row_after g j inside in
-    let m : (y / 8 + 2) * (a + 2) ≡ (j / g.width / 8 + 2) * pitch g =
-    ap (λ t. (t / 8 + 2) * (a + 2)) ey ∙ ap (λ t. (j / g.width / 8 + 2) * (t + 2)) ea in
+    let m : (y / 8 + 2) * row ≡ (j / g.width / 8 + 2) * pitch g =
+    ap (λ t. (t / 8 + 2) * row) ey ∙ ap (λ t. (j / g.width / 8 + 2) * t) er in
     let n : x / 8 ≡ j % g.width / 8 = ap (λ t. t / 8) ex in
     (omega arith, omega arith)
+
+-- ---- one entry of a list is written
+
+pub board_with : (b : Board) (k word : ℕ) → IsBoard b → IsBoard (record b { free = with_item b.free k word })
+board_with b k word was = record {
+  free_each = length-set {A = ℕ} b.free.items k word ∙ was.free_each;
+  beside = was.beside;
+  outside_each = was.outside_each;
+  outside = was.outside;
+}
+
+pub sand_with : (g : Grid) (s : Sand) (k : ℕ) (t : Tile) → IsSand g s
+    → IsSand g (record s { tiles = with_item s.tiles k t })
+sand_with g s k t was = record {
+  one_each = length-set {A = Tile} s.tiles.items k t ∙ was.one_each;
+  room = was.room;
+}

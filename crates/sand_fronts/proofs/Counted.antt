@@ -1,10 +1,11 @@
 -- The places of tiles that leave a wave and are counted.
-use Rattle.std.proofs.Common.{ℕ, List, [], length, get_or, cond, eqb, refl, ◌≡◌, ◌≢◌, ◌⊎◌, ◌+◌, ◌*◌, ◌<◌, ◌≤◌, sym, ◌∙◌, ap, subst, arith, ⊎_elim, inl, inr}
-use Rattle.std.specs.Prelude.{bit_and, bit_or}
+use Rattle.std.proofs.Common.{ℕ, List, [], length, get_or, cond, eqb, refl, ◌≡◌, ◌≢◌, ◌+◌, ◌*◌, ◌<◌, ◌≤◌, sym, ◌∙◌, ap, subst, arith, ⊎_elim, inl, inr}
+use Rattle.std.specs.Prelude.{bit_and, bit_or, slice_index}
+use Rattle.std.specs.Vec.{with_item}
 use Rattle.std.proofs.Math.Nat.{mul-le-mul_right}
 use Rattle.std.proofs.Math.ListN.{set}
 use Rattle.std.proofs.lemmas.Bool.{cases_eq, cases_lt, eq-eqb, ne_eqb}
-use Rattle.std.proofs.lemmas.List.{get_or-set_same, get_or-set_other}
+use Rattle.std.proofs.lemmas.List.{get_or-set_same, get_or-set_other, length-set, get_or_read}
 use Rattle.sand_model.specs.Sand.{sum_below, one_at}
 use Rattle.sand_model.proofs.SumsBelow.{sum_below_same, sum_below_le, sum_below-add, sum_below-scale, sum_below-ones, sum_below-zero, sum_below-one_at, one_at_same, one_at_other}
 use Rattle.sand_model.proofs.Bounds.{at_most_all}
@@ -15,8 +16,10 @@ use Rattle.sand_tiles.specs.Counts.{counted, IsCount}
 use Rattle.sand_tiles.proofs.Bits.{bit_le, bit_none, either, both_le}
 use Rattle.sand_fronts.specs.TileLists.{IsClear, AreListed}
 use Rattle.sand_fronts.specs.Waves.{tile_at}
-use Rattle.sand_fronts.specs.Counting.{count_at, in_wave, over_wave, with_wave, AreCounted}
-use Rattle.sand_fronts.specs.Marking.{AreMarked}
+use Rattle.sand_fronts.specs.declared.counts.Counts.{Counts}
+use Rattle.sand_fronts.specs.Counting.{count_at, over_wave, with_wave}
+use Rattle.sand_fronts.specs.Boards.{counts_of, marks_of, AreCounted}
+use Rattle.sand_fronts.specs.Marking.{in_sets, AreMarked}
 use Rattle.sand_fronts.proofs.Gained.{tile_set_same, tile_set_other}
 
 abbrev nothing : Count
@@ -28,157 +31,11 @@ count_set_same cs k m d inside e = ap (count_at (set cs k d)) e ∙ get_or-set_s
 count_set_other : (cs : List Count) (k m : ℕ) (d : Count) → (m ≡ k → ⊥) → count_at (set cs k d) m ≡ count_at cs m
 count_set_other cs k m d ne = get_or-set_other cs k m d nothing ne
 
-pub counted_one : (ts : List Tile) (cs : List Count) (k : ℕ) (t : Tile) (d : Count)
-    → k < length ts → length cs ≡ length ts
-    → t.low ≡ (tile_at ts k).low → t.high ≡ (tile_at ts k).high → t.due ≡ (tile_at ts k).due → t.wave ≡ 0 → IsCount d
-    → ((p : ℕ) → p < 64 → counted d p ≡ counted (count_at cs k) p + bit (tile_at ts k).wave p)
-    → AreCounted (tile_at ts) (tile_at (set ts k t)) (count_at cs) (count_at (set cs k d))
-counted_one ts cs k t d inside each low high due empty sound counts =
-    let clear : IsClear t = λ p l. ap (λ x. bit x p) empty ∙ bit_none p in
-    record {
-      low = λ m. ⊎_elim
-          (λ (e : m ≡ k).
-          ap (λ (x : Tile). x.low) (tile_set_same ts k m t inside e) ∙ low ∙ sym (ap (λ i. (tile_at ts i).low) e))
-          (λ (ne : m ≡ k → ⊥). ap (λ (x : Tile). x.low) (tile_set_other ts k m t ne))
-          (cases_eq m k);
-      high = λ m. ⊎_elim
-          (λ (e : m ≡ k).
-          ap (λ (x : Tile). x.high) (tile_set_same ts k m t inside e) ∙ high ∙ sym (ap (λ i. (tile_at ts i).high) e))
-          (λ (ne : m ≡ k → ⊥). ap (λ (x : Tile). x.high) (tile_set_other ts k m t ne))
-          (cases_eq m k);
-      due = λ m. ⊎_elim
-          (λ (e : m ≡ k).
-          ap (λ (x : Tile). x.due) (tile_set_same ts k m t inside e) ∙ due ∙ sym (ap (λ i. (tile_at ts i).due) e))
-          (λ (ne : m ≡ k → ⊥). ap (λ (x : Tile). x.due) (tile_set_other ts k m t ne))
-          (cases_eq m k);
-      each = λ m p l. ⊎_elim
-          (λ (e : m ≡ k).
-          let a = ap (λ (x : Tile). bit x.wave p) (tile_set_same ts k m t inside e) in
-          let b = ap (λ (x : Count). counted x p) (count_set_same cs k m d (omega arith) e) in
-          let c = ap (λ i. with_wave (tile_at ts) (count_at cs) i p) e in
-          let f = counts p l in
-          let z = clear p l in
-          omega arith)
-          (λ (ne : m ≡ k → ⊥).
-          let a = ap (λ (x : Tile). bit x.wave p) (tile_set_other ts k m t ne) in
-          let b = ap (λ (x : Count). counted x p) (count_set_other cs k m d ne) in
-          omega arith)
-          (cases_eq m k);
-      sound = λ before m. ⊎_elim
-          (λ (e : m ≡ k). subst IsCount (sym (count_set_same cs k m d (omega arith) e)) sound)
-          (λ (ne : m ≡ k → ⊥). subst IsCount (sym (count_set_other cs k m d ne)) (before m))
-          (cases_eq m k);
-      clear = λ m was p l. ⊎_elim
-          (λ (e : m ≡ k). ap (λ (x : Tile). bit x.wave p) (tile_set_same ts k m t inside e) ∙ clear p l)
-          (λ (ne : m ≡ k → ⊥). ap (λ (x : Tile). bit x.wave p) (tile_set_other ts k m t ne) ∙ was p l)
-          (cases_eq m k);
-    }
-
-pub counted_none : (τ : ℕ → Tile) (c : ℕ → Count) → AreCounted τ τ c c
-counted_none τ c = record {
-  low = λ m. refl;
-  high = λ m. refl;
-  due = λ m. refl;
-  each = λ m p l. refl;
-  sound = λ before. before;
-  clear = λ m was. was;
-}
-
-pub counted_more : (τ σ ρ : ℕ → Tile) (c d e : ℕ → Count) → AreCounted τ σ c d → AreCounted σ ρ d e → AreCounted τ ρ c e
-counted_more τ σ ρ c d e first second = record {
-  low = λ m. second.low m ∙ first.low m;
-  high = λ m. second.high m ∙ first.high m;
-  due = λ m. second.due m ∙ first.due m;
-  each = λ m p l. second.each m p l ∙ first.each m p l;
-  sound = λ before. second.sound (first.sound before);
-  clear = λ m was. second.clear m (first.clear m was);
-}
-
--- ---- numbers
-
-pub sum_less_one : (n k : ℕ) (f h : ℕ → ℕ) → k < n → h k ≡ 0 → ((i : ℕ) → (i ≡ k → ⊥) → h i ≡ f i)
-    → f k + sum_below n h ≡ sum_below n f
-sum_less_one n k f h inside none others =
-    let parts = sum_below_same n f (λ i. h i + f k * one_at k i) (λ i l. ⊎_elim
-    (λ (e : i ≡ k).
-    let o = ap (λ x. f k * x) (ap (one_at k) e ∙ one_at_same k) in let a = ap f e in let b = ap h e in omega arith)
-    (λ (ne : i ≡ k → ⊥).
-    let o = ap (λ x. f k * x) (one_at_other k i (λ e. ne (sym e))) in let a = others i ne in omega arith)
-    (cases_eq i k)) in
-    let both = sum_below-add n h (λ i. f k * one_at k i) in
-    let one = sum_below-one_at n k (λ i. f k) inside in
-    omega arith
-
--- a tile leaves the wave, and F of its set leaves the sum
-pub wave_less : (F : ℕ → ℕ → ℕ) (τ σ : ℕ → Tile) (k n : ℕ) → k < n → F k 0 ≡ 0
-    → (σ k).wave ≡ 0 → ((m : ℕ) → m ≢ k → (σ m).wave ≡ (τ m).wave)
-    → F k (τ k).wave + sum_below n (λ m. F m (σ m).wave) ≡ sum_below n (λ m. F m (τ m).wave)
-wave_less F τ σ k n less none empty others =
-    sum_less_one n k (λ m. F m (τ m).wave) (λ m. F m (σ m).wave)
-    less (ap (F k) empty ∙ none) (λ m ne. ap (F m) (others m ne))
-
-pub none_of_none : sum_below 64 (bit 0) ≡ 0
-none_of_none = sum_below_same 64 (bit 0) (λ p. 0) (λ p l. bit_none p) ∙ sum_below-zero 64
-
-pub none_over_none : (w : ℕ → ℕ) → sum_below 64 (λ p. w p * bit 0 p) ≡ 0
-none_over_none w =
-    sum_below_same 64 (λ p. w p * bit 0 p) (λ p. 0) (λ p l. let e = ap (λ x. w p * x) (bit_none p) in omega arith)
-    ∙ sum_below-zero 64
-
-pub few_in_wave : (n : ℕ) (τ : ℕ → Tile) → in_wave n τ ≤ 64 * n
-few_in_wave n τ =
-    let le = sum_below_le n (λ k. sum_below 64 (bit (τ k).wave)) (λ k. 64 * 1)
-    (λ k l. at_most_all 64 (bit (τ k).wave) (λ p m. bit_le (τ k).wave p)) in
-    let scaled = sum_below-scale n 64 (λ k. 1) in
-    let ones = sum_below-ones n in
-    omega arith
-
-number_le : (t : Tile) (x p : ℕ) → number t p * bit x p ≤ 7 * 1
-number_le t x p =
-    let a = bit_le t.low p in
-    let b = bit_le t.high p in
-    let c = bit_le t.due p in
-    let d = bit_le x p in
-    let few : number t p ≤ 7 = omega arith in
-    let le = mul-le-mul_right (bit x p) few in
-    omega arith
-
-pub few_over_wave : (n : ℕ) (ν τ : ℕ → Tile) → over_wave n ν τ ≤ 448 * n
-few_over_wave n ν τ =
-    let seven = sum_below-scale 64 7 (λ p. 1) in
-    let all = sum_below-ones 64 in
-    let le = sum_below_le n (λ k. sum_below 64 (λ p. number (ν k) p * bit (τ k).wave p)) (λ k. 448 * 1)
-    (λ k l.
-    let one =
-    sum_below_le 64 (λ p. number (ν k) p * bit (τ k).wave p) (λ p. 7 * 1) (λ p m. number_le (ν k) (τ k).wave p) in
-    omega arith) in
-    let scaled = sum_below-scale n 448 (λ k. 1) in
-    let ones = sum_below-ones n in
-    omega arith
-
-pub none_in_wave : (n : ℕ) (τ : ℕ → Tile) → ((m : ℕ) → IsClear (τ m)) → in_wave n τ ≡ 0
-none_in_wave n τ clear =
-    sum_below_same n (λ k. sum_below 64 (bit (τ k).wave)) (λ k. 0)
-    (λ k l. sum_below_same 64 (bit (τ k).wave) (λ p. 0) (λ p m. clear k p m) ∙ sum_below-zero 64)
-    ∙ sum_below-zero n
-
-pub none_over_wave : (n : ℕ) (ν τ : ℕ → Tile) → ((m : ℕ) → IsClear (τ m)) → over_wave n ν τ ≡ 0
-none_over_wave n ν τ clear =
-    sum_below_same n (λ k. sum_below 64 (λ p. number (ν k) p * bit (τ k).wave p)) (λ k. 0)
-    (λ k l. sum_below_same 64 (λ p. number (ν k) p * bit (τ k).wave p) (λ p. 0)
-    (λ p m. let e = ap (λ x. number (ν k) p * x) (clear k p m) in omega arith)
-    ∙ sum_below-zero 64)
-    ∙ sum_below-zero n
+-- a count that is read
+pub count_read : (cs : List Count) (k : ℕ) (x : Count) → k < length cs → x ≡ get_or cs k x → x ≡ count_at cs k
+count_read cs k x inside read = get_or_read cs k x inside read nothing
 
 -- ---- what is marked
-
-pub marked_none : (c : ℕ → Count) (a : ℕ → ℕ) → AreMarked c c a a
-marked_none c a = record {
-  never_falls = λ m p low. omega arith;
-  kept = λ m p low. omega arith;
-  new = λ m p low grown. absurd (omega arith);
-  no_other = λ m p low. omega arith;
-}
 
 pub marked_more : (c d e : ℕ → Count) (x y z : ℕ → ℕ) → AreMarked c d x y → AreMarked d e y z → AreMarked c e x z
 marked_more c d e x y z first second = record {
@@ -248,41 +105,192 @@ marked_one cs k word d x y inside counts marks =
           (cases_eq m k);
     }
 
+-- ---- what is counted
+
+pub marked_none : (c : ℕ → Count) (a : ℕ → ℕ) → AreMarked c c a a
+marked_none c a = record {
+  never_falls = λ m p low. omega arith;
+  kept = λ m p low. omega arith;
+  new = λ m p low more. absurd (omega arith);
+  no_other = λ m p low. omega arith;
+}
+
+pub counted_none : (ts : List Tile) (c : Counts) → AreCounted ts ts c c
+counted_none ts c = record {
+  tiles_each = refl;
+  counts_each = refl;
+  marks_each = refl;
+  low = λ m. refl;
+  high = λ m. refl;
+  due = λ m. refl;
+  each = λ m p l. refl;
+  sound = λ before. before;
+  clear = λ m was. was;
+  marked = marked_none (counts_of c) (marks_of c);
+}
+
+pub counted_more : (ts us vs : List Tile) (c d e : Counts) → AreCounted ts us c d → AreCounted us vs d e
+    → AreCounted ts vs c e
+counted_more ts us vs c d e first second = record {
+  tiles_each = second.tiles_each ∙ first.tiles_each;
+  counts_each = second.counts_each ∙ first.counts_each;
+  marks_each = second.marks_each ∙ first.marks_each;
+  low = λ m. second.low m ∙ first.low m;
+  high = λ m. second.high m ∙ first.high m;
+  due = λ m. second.due m ∙ first.due m;
+  each = λ m p l. second.each m p l ∙ first.each m p l;
+  sound = λ before. second.sound (first.sound before);
+  clear = λ m was. second.clear m (first.clear m was);
+  marked = marked_more (counts_of c) (counts_of d) (counts_of e) (marks_of c) (marks_of d) (marks_of e)
+      first.marked second.marked;
+}
+
+-- the set of tile k is counted and marked, and the tile leaves the wave
+pub counted_one : (ts : List Tile) (c : Counts) (k word : ℕ) (t : Tile) (was d : Count) (marks : List ℕ)
+    → k < length ts → length c.each.items ≡ length ts → length marks ≡ length c.marks
+    → word ≡ (tile_at ts k).wave → t ≡ record (tile_at ts k) { wave = 0 } → was ≡ counts_of c k → IsCount d
+    → ((p : ℕ) → p < 64 → counted d p ≡ counted was p + bit word p)
+    → ((m : ℕ) → slice_index marks m ≡ cond (eqb m k) (bit_or (marks_of c m) word) (marks_of c m))
+    → AreCounted ts (set ts k t) c (record { each = with_item c.each k d; marks = marks })
+counted_one ts c k word t was d marks inside each marks_each read is read_count sound counts marked =
+    let within : k < length c.each.items = omega arith in
+    let clear : IsClear t = λ p l. ap (λ (y : Tile). bit y.wave p) is ∙ bit_none p in
+    let kept : (F : Tile → ℕ) → F t ≡ F (tile_at ts k) → (m : ℕ) → F (tile_at (set ts k t) m) ≡ F (tile_at ts m) =
+    λ F same m. ⊎_elim
+    (λ (e : m ≡ k). ap F (tile_set_same ts k m t inside e) ∙ same ∙ sym (ap (λ i. F (tile_at ts i)) e))
+    (λ (ne : m ≡ k → ⊥). ap F (tile_set_other ts k m t ne))
+    (cases_eq m k) in
+    let counts' : (p : ℕ) → p < 64 → counted d p ≡ counted (counts_of c k) p + bit (tile_at ts k).wave p =
+    λ p l. counts p l ∙ ap (λ (y : Count). counted y p + bit word p) read_count
+    ∙ ap (λ w. counted (counts_of c k) p + bit w p) read in
+    record {
+      tiles_each = length-set {A = Tile} ts k t;
+      counts_each = length-set {A = Count} c.each.items k d;
+      marks_each = marks_each;
+      low = kept (λ y. y.low) (ap (λ (y : Tile). y.low) is);
+      high = kept (λ y. y.high) (ap (λ (y : Tile). y.high) is);
+      due = kept (λ y. y.due) (ap (λ (y : Tile). y.due) is);
+      each = λ m p l. ⊎_elim
+          (λ (e : m ≡ k).
+          let a = ap (λ (y : Tile). bit y.wave p) (tile_set_same ts k m t inside e) in
+          let b = ap (λ (y : Count). counted y p) (count_set_same c.each.items k m d within e) in
+          let f = ap (λ i. with_wave (tile_at ts) (counts_of c) i p) e in
+          let h = counts' p l in
+          let z = clear p l in
+          omega arith)
+          (λ (ne : m ≡ k → ⊥).
+          let a = ap (λ (y : Tile). bit y.wave p) (tile_set_other ts k m t ne) in
+          let b = ap (λ (y : Count). counted y p) (count_set_other c.each.items k m d ne) in
+          omega arith)
+          (cases_eq m k);
+      sound = λ before m. ⊎_elim
+          (λ (e : m ≡ k). subst IsCount (sym (count_set_same c.each.items k m d within e)) sound)
+          (λ (ne : m ≡ k → ⊥). subst IsCount (sym (count_set_other c.each.items k m d ne)) (before m))
+          (cases_eq m k);
+      clear = λ m before p l. ⊎_elim
+          (λ (e : m ≡ k). ap (λ (y : Tile). bit y.wave p) (tile_set_same ts k m t inside e) ∙ clear p l)
+          (λ (ne : m ≡ k → ⊥). ap (λ (y : Tile). bit y.wave p) (tile_set_other ts k m t ne) ∙ before p l)
+          (cases_eq m k);
+      marked = marked_one c.each.items k word d (marks_of c) (slice_index marks) within
+          (λ p l. counts p l ∙ ap (λ (y : Count). counted y p + bit word p) read_count) marked;
+    }
+
+-- ---- numbers
+
+pub sum_less_one : (n k : ℕ) (f h : ℕ → ℕ) → k < n → h k ≡ 0 → ((i : ℕ) → (i ≡ k → ⊥) → h i ≡ f i)
+    → f k + sum_below n h ≡ sum_below n f
+sum_less_one n k f h inside none others =
+    let parts = sum_below_same n f (λ i. h i + f k * one_at k i) (λ i l. ⊎_elim
+    (λ (e : i ≡ k).
+    let o = ap (λ x. f k * x) (ap (one_at k) e ∙ one_at_same k) in let a = ap f e in let b = ap h e in omega arith)
+    (λ (ne : i ≡ k → ⊥).
+    let o = ap (λ x. f k * x) (one_at_other k i (λ e. ne (sym e))) in let a = others i ne in omega arith)
+    (cases_eq i k)) in
+    let both = sum_below-add n h (λ i. f k * one_at k i) in
+    let one = sum_below-one_at n k (λ i. f k) inside in
+    omega arith
+
+-- a tile leaves the wave, and F of its set leaves the sum
+pub wave_less : (F : ℕ → ℕ → ℕ) (τ σ : ℕ → Tile) (k n : ℕ) → k < n → F k 0 ≡ 0
+    → (σ k).wave ≡ 0 → ((m : ℕ) → m ≢ k → (σ m).wave ≡ (τ m).wave)
+    → F k (τ k).wave + sum_below n (λ m. F m (σ m).wave) ≡ sum_below n (λ m. F m (τ m).wave)
+wave_less F τ σ k n less none empty others =
+    sum_less_one n k (λ m. F m (τ m).wave) (λ m. F m (σ m).wave)
+    less (ap (F k) empty ∙ none) (λ m ne. ap (F m) (others m ne))
+
+pub none_of_none : sum_below 64 (bit 0) ≡ 0
+none_of_none = sum_below_same 64 (bit 0) (λ p. 0) (λ p l. bit_none p) ∙ sum_below-zero 64
+
+pub none_over_none : (w : ℕ → ℕ) → sum_below 64 (λ p. w p * bit 0 p) ≡ 0
+none_over_none w =
+    sum_below_same 64 (λ p. w p * bit 0 p) (λ p. 0) (λ p l. let e = ap (λ x. w p * x) (bit_none p) in omega arith)
+    ∙ sum_below-zero 64
+
+pub few_in_sets : (n : ℕ) (x : ℕ → ℕ) → in_sets n x ≤ 64 * n
+few_in_sets n x =
+    let le = sum_below_le n (λ k. sum_below 64 (bit (x k))) (λ k. 64 * 1)
+    (λ k l. at_most_all 64 (bit (x k)) (λ p m. bit_le (x k) p)) in
+    let scaled = sum_below-scale n 64 (λ k. 1) in
+    let ones = sum_below-ones n in
+    omega arith
+
+number_le : (t : Tile) (x p : ℕ) → number t p * bit x p ≤ 7 * 1
+number_le t x p =
+    let a = bit_le t.low p in
+    let b = bit_le t.high p in
+    let c = bit_le t.due p in
+    let d = bit_le x p in
+    let few : number t p ≤ 7 = omega arith in
+    let le = mul-le-mul_right (bit x p) few in
+    omega arith
+
+pub few_over_wave : (n : ℕ) (ν τ : ℕ → Tile) → over_wave n ν τ ≤ 448 * n
+few_over_wave n ν τ =
+    let seven = sum_below-scale 64 7 (λ p. 1) in
+    let all = sum_below-ones 64 in
+    let le = sum_below_le n (λ k. sum_below 64 (λ p. number (ν k) p * bit (τ k).wave p)) (λ k. 448 * 1)
+    (λ k l.
+    let one =
+    sum_below_le 64 (λ p. number (ν k) p * bit (τ k).wave p) (λ p. 7 * 1) (λ p m. number_le (ν k) (τ k).wave p) in
+    omega arith) in
+    let scaled = sum_below-scale n 448 (λ k. 1) in
+    let ones = sum_below-ones n in
+    omega arith
+
+pub none_in_sets : (n : ℕ) (x : ℕ → ℕ) → ((m p : ℕ) → p < 64 → bit (x m) p ≡ 0) → in_sets n x ≡ 0
+none_in_sets n x none =
+    sum_below_same n (λ k. sum_below 64 (bit (x k))) (λ k. 0)
+    (λ k l. sum_below_same 64 (bit (x k)) (λ p. 0) (λ p m. none k p m) ∙ sum_below-zero 64)
+    ∙ sum_below-zero n
+
+pub none_over_wave : (n : ℕ) (ν τ : ℕ → Tile) → ((m : ℕ) → IsClear (τ m)) → over_wave n ν τ ≡ 0
+none_over_wave n ν τ clear =
+    sum_below_same n (λ k. sum_below 64 (λ p. number (ν k) p * bit (τ k).wave p)) (λ k. 0)
+    (λ k l. sum_below_same 64 (λ p. number (ν k) p * bit (τ k).wave p) (λ p. 0)
+    (λ p m. let e = ap (λ x. number (ν k) p * x) (clear k p m) in omega arith)
+    ∙ sum_below-zero 64)
+    ∙ sum_below-zero n
+
 -- ---- turn by turn
 
 -- the tiles still in the wave are in the rest of the list
-pub rest_listed : (τ σ : ℕ → Tile) (c d : ℕ → Count) (here k : ℕ) (list : List ℕ) (turn end : ℕ)
-    → AreListed here list turn end τ → AreCounted τ σ c d → IsClear (σ here)
-    → IsClear (σ k) → k ≡ get_or list turn 0 → AreListed here list (turn + 1) end σ
-rest_listed τ σ c d here k list turn end listed counts first clear is m = ⊎_elim
-    (λ (was : IsClear (τ m)). inl (counts.clear m was))
-    (λ (some : (m ≡ here) ⊎ ((t : ℕ) × (turn ≤ t) × (t < end) × (get_or list t 0 ≡ m))). ⊎_elim
-    (λ (e : m ≡ here). inl (λ p l. ap (λ i. bit (σ i).wave p) e ∙ first p l))
-    (λ (at : (t : ℕ) × (turn ≤ t) × (t < end) × (get_or list t 0 ≡ m)). ⊎_elim
+pub rest_listed : (ts us : List Tile) (c d : Counts) (k : ℕ) (list : List ℕ) (turn end : ℕ)
+    → AreListed list turn end (tile_at ts) → AreCounted ts us c d
+    → IsClear (tile_at us k) → k ≡ slice_index list turn → AreListed list (turn + 1) end (tile_at us)
+rest_listed ts us c d k list turn end listed counts clear is m = ⊎_elim
+    (λ (was : IsClear (tile_at ts m)). inl (counts.clear m was))
+    (λ (at : (t : ℕ) × (turn ≤ t) × (t < end) × (slice_index list t ≡ m)). ⊎_elim
     (λ (now : at.0 ≡ turn).
-    let e : m ≡ k = sym at.3 ∙ ap (λ i. get_or list i 0) now ∙ sym is in
-    inl (λ p l. ap (λ i. bit (σ i).wave p) e ∙ clear p l))
-    (λ (later : at.0 ≡ turn → ⊥). inr (inr (at.0, (let a = at.1 in omega arith), at.2, at.3)))
+    let e : m ≡ k = sym at.3 ∙ ap (slice_index list) now ∙ sym is in
+    inl (λ p l. ap (λ i. bit (tile_at us i).wave p) e ∙ clear p l))
+    (λ (later : at.0 ≡ turn → ⊥). inr (at.0, (let a = at.1 in omega arith), at.2, at.3))
     (cases_eq at.0 turn))
-    some)
     (listed m)
 
-pub none_listed : (τ : ℕ → Tile) (here : ℕ) (list : List ℕ) (turn end : ℕ)
-    → AreListed here list turn end τ → end ≤ turn → IsClear (τ here) → (m : ℕ)
+pub none_listed : (τ : ℕ → Tile) (list : List ℕ) (turn end : ℕ) → AreListed list turn end τ → end ≤ turn → (m : ℕ)
     → IsClear (τ m)
-none_listed τ here list turn end listed last first m = ⊎_elim
+none_listed τ list turn end listed last m = ⊎_elim
     (λ (was : IsClear (τ m)). was)
-    (λ (some : (m ≡ here) ⊎ ((t : ℕ) × (turn ≤ t) × (t < end) × (get_or list t 0 ≡ m))). ⊎_elim
-    (λ (e : m ≡ here). λ p l. ap (λ i. bit (τ i).wave p) e ∙ first p l)
-    (λ (at : (t : ℕ) × (turn ≤ t) × (t < end) × (get_or list t 0 ≡ m)).
+    (λ (at : (t : ℕ) × (turn ≤ t) × (t < end) × (slice_index list t ≡ m)).
     let a = at.1 in let b = at.2 in absurd (omega arith))
-    some)
-    (listed m)
-
-pub still_listed : (τ σ : ℕ → Tile) (c d : ℕ → Count) (here : ℕ) (list : List ℕ) (turn end : ℕ)
-    → AreListed here list turn end τ → AreCounted τ σ c d
-    → AreListed here list turn end σ
-still_listed τ σ c d here list turn end listed counts m = ⊎_elim
-    (λ (was : IsClear (τ m)). inl (counts.clear m was))
-    (λ (some : (m ≡ here) ⊎ ((t : ℕ) × (turn ≤ t) × (t < end) × (get_or list t 0 ≡ m))). inr some)
     (listed m)

@@ -1,8 +1,8 @@
 -- Grains added to one tile of a list, and to one after another.
-use Rattle.std.proofs.Common.{ℕ, List, cond, eqb, ◌≡◌, ◌+◌, ◌<◌, length, sym, ◌∙◌, ap, arith, ⊎_elim}
+use Rattle.std.proofs.Common.{ℕ, List, cond, eqb, get_or, ◌≡◌, ◌<◌, length, sym, ◌∙◌, ap, arith, ⊎_elim}
 use Rattle.std.proofs.Math.ListN.{set}
 use Rattle.std.proofs.lemmas.Bool.{cases_eq, eq-eqb, ne_eqb}
-use Rattle.std.proofs.lemmas.List.{get_or-set_same, get_or-set_other}
+use Rattle.std.proofs.lemmas.List.{get_or-set_same, get_or-set_other, get_or_read}
 use Rattle.sand_tiles.specs.declared.tile.Tile.{Tile}
 use Rattle.sand_tiles.specs.Places.{bit, height, had, Receives}
 use Rattle.sand_tiles.proofs.Bits.{bit_le}
@@ -17,6 +17,10 @@ tile_set_same ts k m t inside e = ap (tile_at (set ts k t)) e ∙ get_or-set_sam
 
 pub tile_set_other : (ts : List Tile) (k m : ℕ) (t : Tile) → (m ≡ k → ⊥) → tile_at (set ts k t) m ≡ tile_at ts m
 tile_set_other ts k m t ne = get_or-set_other ts k m t blank ne
+
+-- a tile that is read
+pub tile_read : (ts : List Tile) (k : ℕ) (x : Tile) → k < length ts → x ≡ get_or ts k x → x ≡ tile_at ts k
+tile_read ts k x inside read = get_or_read ts k x inside read blank
 
 pub gains_one : (ts : List Tile) (k : ℕ) (t : Tile) (gain : ℕ) → k < length ts → Receives (tile_at ts k) t gain
     → Gains (tile_at ts) (tile_at (set ts k t)) (only k (bit gain))
@@ -50,19 +54,6 @@ gains_one ts k t gain inside receives = record {
       let h = bit_le (tile_at ts m).high p in
       omega arith)
       (cases_eq m k);
-}
-
-pub gains_more : (τ σ ρ : ℕ → Tile) (a b c : ℕ → ℕ → ℕ) → Gains τ σ a
-    → Gains σ ρ b → ((m p : ℕ) → p < 64 → a m p + b m p ≡ c m p) → Gains τ ρ c
-gains_more τ σ ρ a b c first second sums = record {
-  wave = λ m p low. second.wave m p low ∙ first.wave m p low;
-  each = λ m p low few.
-      let s = sums m p low in
-      let one = first.each m p low (omega arith) in
-      let two = second.each m p low (omega arith) in
-      omega arith;
-  modulo = λ m p low.
-      let s = sums m p low in let one = first.modulo m p low in let two = second.modulo m p low in omega arith;
 }
 
 pub only_as : (k m p : ℕ) (f h : ℕ → ℕ) → f p ≡ h p → only k f m p ≡ only k h m p

@@ -15,15 +15,17 @@ use Rattle.sand_model.proofs.Underway.{underway_start, underway_end}
 use Rattle.sand_tiles.specs.declared.tile.Tile.{Tile}
 use Rattle.sand_tiles.specs.declared.counting.Count.{Count}
 use Rattle.sand_tiles.specs.Places.{bit, height, number}
-use Rattle.sand_tiles.specs.Counts.{counted, IsCount}
+use Rattle.sand_tiles.specs.Counts.{counted}
 use Rattle.sand_tiles.proofs.Bits.{bit_le, bit_none}
-use Rattle.sand_fronts.specs.Tiling.{tile_of, place_of, is_site, site_on, on_tiles}
+use Rattle.sand_fronts.specs.Tiling.{tiles, tile_of, place_of, is_site, site_on, on_tiles}
 use Rattle.sand_fronts.specs.TileLists.{IsClear}
-use Rattle.sand_fronts.specs.Waves.{tile_at, toppled, IsWave, Leaves, AreAtRest, heights_before}
-use Rattle.sand_fronts.specs.Counting.{in_wave, over_wave, with_wave, AreCounted}
+use Rattle.sand_fronts.specs.declared.counts.Counts.{Counts}
+use Rattle.sand_fronts.specs.Waves.{tile_at, toppled, IsWave, IsWholeWave, Leaves, AreAtRest, heights_before}
+use Rattle.sand_fronts.specs.Counting.{over_wave}
+use Rattle.sand_fronts.specs.Boards.{counts_of, AreCounted}
 use Rattle.sand_fronts.specs.Drops.{heights_on, grown_on, AreQuiet, AreOutside}
 use Rattle.sand_fronts.proofs.OnTiles.{place_below, there_again, on_site, off_site}
-use Rattle.sand_fronts.proofs.Ends.{wave_balance, four_again}
+use Rattle.sand_fronts.proofs.Ends.{wave_balance, wave_advances, four_again}
 use Rattle.sand_fronts.proofs.Turns.{first_low}
 use Rattle.sand_fronts.proofs.Sums.{sum_on_tiles}
 use Rattle.sand_fronts.proofs.Gained.{tile_set_same, tile_set_other}
@@ -189,11 +191,10 @@ pub record AreWaves (g : Grid) (site : ℕ) (more : Bool) (τ σ : ℕ → Tile)
   pub empty : more ≡ true → heights_on g σ site ≡ 0
   pub advances : Advances g (λ j. 0) (heights_before g site τ) (grown_on g c d) (heights_now g site more σ)
   pub counts : (m p : ℕ) → p < 64 → counted (d m) p ≡ counted (c m) p + on_tiles g (grown_on g c d) m p
-  pub sound : (m : ℕ) → IsCount (d m)
 
-pub waves_begin : (g : Grid) (site : ℕ) (τ : ℕ → Tile) (c : ℕ → Count) → AreAtRest g site τ → ((m : ℕ) → IsCount (c m))
+pub waves_begin : (g : Grid) (site : ℕ) (τ : ℕ → Tile) (c : ℕ → Count) → AreAtRest g site τ
     → AreWaves g site true τ τ c c
-waves_begin g site τ c rest sound =
+waves_begin g site τ c rest =
     let none : (j : ℕ) → j < sites g → 0 ≡ grown_on g c c j = λ j l. omega arith in
     record {
       clear = λ m p low. rest.clear m p low;
@@ -205,36 +206,38 @@ waves_begin g site τ c rest sound =
         grains_fall = omega arith;
       };
       counts = λ m p low. let b = on_below g (grown_on g c c) m p 0 low (λ j l. omega arith) in omega arith;
-      sound = sound;
     }
 
 -- the topplings of a wave, by the counts
-pub wave_counts : (g : Grid) (site : ℕ) (τ σ ρ : ℕ → Tile) (c d e : ℕ → Count) (h : ℕ → ℕ)
-    → ((m p : ℕ) → p < 64 → counted (d m) p ≡ counted (c m) p + on_tiles g (grown_on g c d) m p)
-    → ((m p : ℕ) → p < 64 → with_wave ρ e m p ≡ with_wave σ d m p) → ((m : ℕ) → IsClear (ρ m))
-    → (j : ℕ) → grown_on g c e j ≡ grown_on g c d j + toppled g σ j
-wave_counts g site τ σ ρ c d e h counts moved clear j =
+pub wave_counts : (g : Grid) (us vs : List Tile) (c : ℕ → Count) (d e : Counts)
+    → ((m p : ℕ) → p < 64 → counted (counts_of d m) p ≡ counted (c m) p + on_tiles g (grown_on g c (counts_of d)) m p)
+    → AreCounted us vs d e → ((m : ℕ) → IsClear (tile_at vs m))
+    → (j : ℕ) → grown_on g c (counts_of e) j ≡ grown_on g c (counts_of d) j + toppled g (tile_at us) j
+wave_counts g us vs c d e counts moved clear j =
     let p = place_of g j in
     let low = place_below g j in
     let m = tile_of g j in
     let a = counts m p low in
-    let b = moved m p low in
+    let b = moved.each m p low in
     let z = clear m p low in
     omega arith
 
-pub waves_more : (g : Grid) (site : ℕ) (more : Bool) (τ σ ω ρ : ℕ → Tile) (c d e : ℕ → Count)
-    → site < sites g → AreWaves g site true τ σ c d
-    → IsWave g site (heights_before g site σ) ω → toppled g ω site ≡ 1
-    → ((j : ℕ) → j < sites g → j ≢ site → bit (ω (tile_of g j)).due (place_of g j) ≡ 0)
-    → ((k u v : ℕ → ℕ) → Leaves g site (heights_before g site σ) ω k
-    → ((j : ℕ) → j < sites g → v j ≡ u j + toppled g ω j)
-    → Advances g u (heights_before g site σ) v k)
-    → AreCounted ω ρ d e → ((m : ℕ) → IsClear (ρ m))
-    → more ≡ (ltb 1 (topplings g (toppled g ω)) && eqb (heights_on g ρ site) 0)
-    → (AreWaves g site more τ ρ c e)
-    × (topplings g (grown_on g c e) ≡ topplings g (grown_on g c d) + topplings g (toppled g ω))
-    × (weight g (heights_now g site more ρ) < weight g (heights_now g site true σ))
-waves_more g site more τ σ ω ρ c d e inside waves wave started none_due advances counts clear test =
+pub waves_more : (g : Grid) (site : ℕ) (more : Bool) (τ σ : ℕ → Tile) (us vs : List Tile) (c : ℕ → Count) (d' e' : Counts)
+    → site < sites g → AreWaves g site true τ σ c (counts_of d') → IsWholeWave g site σ (tile_at us)
+    → AreCounted us vs d' e' → ((m : ℕ) → IsClear (tile_at vs m))
+    → more ≡ (ltb 1 (topplings g (toppled g (tile_at us))) && eqb (heights_on g (tile_at vs) site) 0)
+    → (AreWaves g site more τ (tile_at vs) c (counts_of e'))
+    × (topplings g (grown_on g c (counts_of e'))
+    ≡ topplings g (grown_on g c (counts_of d')) + topplings g (toppled g (tile_at us)))
+    × (weight g (heights_now g site more (tile_at vs)) < weight g (heights_now g site true σ))
+waves_more g site more τ σ us vs c d' e' inside waves whole counts clear test =
+    let ω = tile_at us in
+    let ρ = tile_at vs in
+    let d = counts_of d' in
+    let e = counts_of e' in
+    let wave = whole.wave in
+    let started = whole.started in
+    let none_due = whole.none_due in
     let t = toppled g ω in
     let h = heights_before g site σ in
     let k = heights_now g site more ρ in
@@ -264,8 +267,8 @@ waves_more g site more τ σ ω ρ c d e inside waves wave started none_due adva
     (cases_Bool more) in
     let leaves : Leaves g site h ω k = record { others = λ j l ne. now j ne; held = omega arith } in
     let sums : (j : ℕ) → j < sites g → grown_on g c e j ≡ grown_on g c d j + t j =
-    λ j l. wave_counts g site τ ω ρ c d e h waves.counts counts.each clear j in
-    let next = advances k (grown_on g c d) (grown_on g c e) leaves sums in
+    λ j l. wave_counts g us vs c d' e' waves.counts counts clear j in
+    let next = wave_advances g site h ω k (grown_on g c d) (grown_on g c e) wave started none_due leaves sums in
     let all = sum_below_same (sites g) (grown_on g c e) (λ j. grown_on g c d j + t j) sums in
     let both = sum_below-add (sites g) (grown_on g c d) t in
     let part = at_most_sum_below (sites g) t site inside in (
@@ -287,19 +290,10 @@ waves_more g site more τ σ ω ρ c d e inside waves wave started none_due adva
             let i = wave.inside m p l in
             let s = on_sum g (grown_on g c d) t (grown_on g c e) m p l sums in
             omega arith;
-        sound = counts.sound waves.sound;
       },
       omega arith,
       (let a = next.weight_pays in omega arith),
     )
-
-pub wave_size : (g : Grid) (site n : ℕ) (h : ℕ → ℕ) (τ : ℕ → Tile)
-    → IsWave g site h τ → ((j : ℕ) → j < sites g → tile_of g j < n)
-    → in_wave n τ ≡ topplings g (toppled g τ)
-wave_size g site n h τ wave here =
-    sum_below_same n (λ k. sum_below 64 (bit (τ k).wave)) (λ k. sum_below 64 (λ p. on_tiles g (toppled g τ) k p))
-    (λ k l. sum_below_same 64 (bit (τ k).wave) (λ p. on_tiles g (toppled g τ) k p) (λ p m. wave.inside k p m))
-    ∙ sum_on_tiles g (toppled g τ) n here
 
 on_product : (g : Grid) (u v : ℕ → ℕ) (k p : ℕ) → on_tiles g u k p * on_tiles g v k p ≡ on_tiles g (λ j. u j * v j) k p
 on_product g u v k p = ⊎_elim
@@ -310,18 +304,17 @@ on_product g u v k p = ⊎_elim
     ap (λ x. x * on_tiles g v k p) (off_site g u k p no) ∙ sym (off_site g (λ j. u j * v j) k p no ∙ omega arith))
     (cases_Bool (is_site g k p))
 
-pub wave_lost : (g : Grid) (site n : ℕ) (h : ℕ → ℕ) (ν τ : ℕ → Tile)
-    → AreOutside g ν → IsWave g site h τ → ((j : ℕ) → j < sites g → tile_of g j < n)
-    → over_wave n ν τ ≡ lost g (toppled g τ)
-wave_lost g site n h ν τ outside wave here =
-    sum_below_same n
+pub wave_lost : (g : Grid) (site : ℕ) (h : ℕ → ℕ) (ν τ : ℕ → Tile) → AreOutside g ν → IsWave g site h τ
+    → over_wave (tiles g) ν τ ≡ lost g (toppled g τ)
+wave_lost g site h ν τ outside wave =
+    sum_below_same (tiles g)
     (λ k. sum_below 64 (λ p. number (ν k) p * bit (τ k).wave p))
     (λ k. sum_below 64 (λ p. on_tiles g (λ j. missing g j * toppled g τ j) k p))
     (λ k l.
     sum_below_same 64 (λ p. number (ν k) p * bit (τ k).wave p) (λ p. on_tiles g (λ j. missing g j * toppled g τ j) k p)
     (λ p m. ap (λ x. x * bit (τ k).wave p) (outside k p m)
     ∙ ap (λ x. on_tiles g (missing g) k p * x) (wave.inside k p m) ∙ on_product g (missing g) (toppled g τ) k p))
-    ∙ sum_on_tiles g (λ j. missing g j * toppled g τ j) n here
+    ∙ sum_on_tiles g (λ j. missing g j * toppled g τ j)
 
 pub lost_more : (g : Grid) (u v w : ℕ → ℕ) → ((j : ℕ) → j < sites g → w j ≡ u j + v j) → lost g w ≡ lost g u + lost g v
 lost_more g u v w e =

@@ -1,16 +1,15 @@
 -- The sets of the sites that a drop has toppled.
-use Rattle.std.proofs.Common.{ℕ, true, false, cond, eqb, ltb, ◌≡◌, ◌≢◌, ◌+◌, ◌*◌, ◌<◌, ◌≤◌, ◌∙◌, refl, ap, arith, ⊎_elim}
+use Rattle.std.proofs.Common.{ℕ, true, false, cond, eqb, ltb, ◌≡◌, ◌≢◌, ◌+◌, ◌<◌, ◌≤◌, ◌∙◌, refl, ap, arith, ⊎_elim}
 use Rattle.std.proofs.lemmas.Bool.{cases_Bool, cases_eq, cases_lt, eq-eqb, ne_eqb, lt-ltb, le-ltb}
 use Rattle.sand_model.specs.Grid.{Grid, sites}
 use Rattle.sand_model.specs.Sand.{sum_below}
 use Rattle.sand_model.specs.Lists.{one_if}
-use Rattle.sand_model.proofs.SumsBelow.{sum_below_same, sum_below_le, sum_below-scale, sum_below-ones, sum_below-zero}
-use Rattle.sand_model.proofs.Bounds.{at_most_all}
+use Rattle.sand_model.proofs.SumsBelow.{sum_below_same, sum_below-zero}
 use Rattle.sand_tiles.specs.declared.counting.Count.{Count}
 use Rattle.sand_tiles.specs.Places.{bit}
 use Rattle.sand_tiles.specs.Counts.{counted}
-use Rattle.sand_tiles.proofs.Bits.{bit_le, bit_none}
-use Rattle.sand_fronts.specs.Tiling.{tile_of, is_site, site_on, on_tiles}
+use Rattle.sand_tiles.proofs.Bits.{bit_none}
+use Rattle.sand_fronts.specs.Tiling.{tiles, is_site, site_on, on_tiles}
 use Rattle.sand_fronts.specs.Drops.{grown_on}
 use Rattle.sand_fronts.specs.Marking.{in_sets, AreMarked}
 use Rattle.sand_fronts.proofs.OnTiles.{on_site, off_site}
@@ -18,19 +17,6 @@ use Rattle.sand_fronts.proofs.Sums.{sum_on_tiles}
 use Rattle.sand_fronts.proofs.Counted.{sum_less_one, none_of_none}
 
 -- ---- the sets are taken one by one
-
-pub few_in_sets : (n : ℕ) (x : ℕ → ℕ) → in_sets n x ≤ 64 * n
-few_in_sets n x =
-    let le = sum_below_le n (λ k. sum_below 64 (bit (x k))) (λ k. 64 * 1)
-    (λ k l. at_most_all 64 (bit (x k)) (λ p m. bit_le (x k) p)) in
-    let scaled = sum_below-scale n 64 (λ k. 1) in
-    let ones = sum_below-ones n in
-    omega arith
-
-pub none_in_sets : (n : ℕ) (x : ℕ → ℕ) → ((m : ℕ) → x m ≡ 0) → in_sets n x ≡ 0
-none_in_sets n x none = sum_below_same n (λ k. sum_below 64 (bit (x k)))
-    (λ k. 0) (λ k l. ap (λ w. sum_below 64 (bit w)) (none k) ∙ none_of_none)
-    ∙ sum_below-zero n
 
 pub set_taken : (x y : ℕ → ℕ) (k m : ℕ) → ((i : ℕ) → y i ≡ cond (eqb i k) 0 (x i)) → m ≡ k → y m ≡ 0
 set_taken x y k m each e = each m ∙ ap (λ b. cond b 0 (x m)) (eq-eqb m k e)
@@ -89,14 +75,12 @@ marked_word g c d a b m p low marked none counts =
     (cases_Bool (is_site g m p))
 
 -- so the sets have as many places as sites have toppled
-pub area_is : (g : Grid) (n : ℕ) (v b : ℕ → ℕ)
-    → ((m p : ℕ) → p < 64 → bit (b m) p ≡ on_tiles g v m p)
-    → ((j : ℕ) → j < sites g → tile_of g j < n)
-    → in_sets n b ≡ sum_below (sites g) v
-area_is g n v b each here =
-    sum_below_same n (λ k. sum_below 64 (bit (b k))) (λ k. sum_below 64 (λ p. on_tiles g v k p))
+pub area_is : (g : Grid) (v b : ℕ → ℕ) → ((m p : ℕ) → p < 64 → bit (b m) p ≡ on_tiles g v m p)
+    → in_sets (tiles g) b ≡ sum_below (sites g) v
+area_is g v b each =
+    sum_below_same (tiles g) (λ k. sum_below 64 (bit (b k))) (λ k. sum_below 64 (λ p. on_tiles g v k p))
     (λ k l. sum_below_same 64 (bit (b k)) (λ p. on_tiles g v k p) (λ p m. each k p m))
-    ∙ sum_on_tiles g v n here
+    ∙ sum_on_tiles g v
 
 pub none_in_area : (g : Grid) (c : ℕ → Count) → 0 ≡ sum_below (sites g) (λ j. one_if (ltb 0 (grown_on g c c j)))
 none_in_area g c =

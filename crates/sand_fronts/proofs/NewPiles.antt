@@ -11,11 +11,13 @@ use Rattle.sand_tiles.specs.declared.counting.Count.{Count}
 use Rattle.sand_tiles.specs.Places.{had}
 use Rattle.sand_tiles.specs.Counts.{counted, IsCount}
 use Rattle.sand_tiles.proofs.Bits.{bit_none}
+use Rattle.sand_fronts.specs.declared.sand.Sand.{Sand}
+use Rattle.sand_fronts.specs.declared.counts.Counts.{Counts}
 use Rattle.sand_fronts.specs.Tiling.{tile_of, place_of, on_tiles}
 use Rattle.sand_fronts.specs.TileLists.{IsClear}
 use Rattle.sand_fronts.specs.Counting.{count_at}
 use Rattle.sand_fronts.specs.Drops.{heights_on, counted_on, grown_on, AreQuiet, AreOutside}
-use Rattle.sand_fronts.specs.Waves.{tile_at}
+use Rattle.sand_fronts.specs.Boards.{tiles_of, counts_of}
 use Rattle.sand_fronts.specs.TiledPiles.{tiled_view, by_site, IsTiledView}
 use Rattle.sand_fronts.proofs.OnTiles.{place_below, at_on, on_tiles_le}
 use Rattle.sand_fronts.proofs.ManyWaves.{on_below, on_sum}
@@ -142,10 +144,10 @@ by_site_long g f = length-map-range_with_len f 0 (sites g)
 pub by_site_past : (g : Grid) (f : ℕ → ℕ) (j : ℕ) → sites g ≤ j → slice_index (by_site g f) j ≡ 0
 by_site_past g f j past = get_or-eq_default (by_site g f) 0 {n = j} (let e = by_site_long g f in omega arith)
 
-pub by_site_view : (g : Grid) (ts : List Tile) (cs : List Count) → IsTiledView (tiled_view g ts cs)
-by_site_view g ts cs = record {
-  heights_each = by_site_long g (heights_on g (tile_at ts));
-  times_each = by_site_long g (counted_on g (count_at cs));
+pub by_site_view : (g : Grid) (s : Sand) (c : Counts) → IsTiledView (tiled_view g s c)
+by_site_view g s c = record {
+  heights_each = by_site_long g (heights_on g (tiles_of s));
+  times_each = by_site_long g (counted_on g (counts_of c));
 }
 
 pub by_site_le : (g : Grid) (u v : ℕ → ℕ) (j : ℕ) → (j < sites g → u j ≤ v j)

@@ -172,42 +172,43 @@ due_heights g site ts here grain t j gets due l = ⊎_elim
 
 -- ---- the word of the site's tile, without the site and with it
 
-pub taken_out : (g : Grid) (site here grain : ℕ) (free : List ℕ)
-    → site < sites g → here ≡ tile_of g site → here < length free
+pub taken_out : (g : Grid) (site here grain whole : ℕ) (free : List ℕ)
+    → site < sites g → here ≡ tile_of g site → here < length free → whole ≡ get_or free here 0
     → ((p : ℕ) → p < 64 → bit grain p ≡ one_at (place_of g site) p)
-    → AreAllOpen g (slice_index free)
-    → AreOpen g site (slice_index (set free here (bit_xor (get_or free here 0) grain)))
-taken_out g site here grain free inside is within one all k p low =
+    → AreAllOpen g (slice_index free) → AreOpen g site (slice_index (set free here (bit_xor whole grain)))
+taken_out g site here grain whole free inside is within read one all k p low =
     let put = put_site g (λ j. 1 - one_at site j) (λ j. 1) site 1 k p
     low inside (λ j l. let f = at_most_one_at site j in omega arith) in
     let a = all k p low in
     let few = bit_le (get_or free k 0) p in
     ⊎_elim
     (λ (e : k ≡ here).
-    let now = ap (λ x. bit x p) (ap (λ i. get_or (set free here (bit_xor (get_or free here 0) grain)) i 0) e
-    ∙ get_or-set_same free here (bit_xor (get_or free here 0) grain) 0 within) in
+    let now = ap (λ x. bit x p) (ap (λ i. get_or (set free here (bit_xor whole grain)) i 0) e
+    ∙ get_or-set_same free here (bit_xor whole grain) 0 within) in
     let was = ap (λ i. bit (get_or free i 0) p) e in
-    let h = half (get_or free here 0) grain p in
-    let b = both_le (get_or free here 0) grain p in
+    let r = ap (λ w. bit w p) read in
+    let h = half whole grain p in
+    let b = both_le whole grain p in
     let b0 = b.0 in let b1 = b.1 in let b2 = b.2 in
     let o = one p low in
     let here' = only_same (tile_of g site) k (λ q. 1 * one_at (place_of g site) q) p (e ∙ is) in
     omega arith)
     (λ (ne : k ≡ here → ⊥).
-    let now = ap (λ x. bit x p) (get_or-set_other free here k (bit_xor (get_or free here 0) grain) 0 ne) in
+    let now = ap (λ x. bit x p) (get_or-set_other free here k (bit_xor whole grain) 0 ne) in
     let none = only_other (tile_of g site) k (λ q. 1 * one_at (place_of g site) q) p (λ e. ne (e ∙ sym is)) in
     omega arith)
     (cases_eq k here)
 
-pub put_back : (g : Grid) (here x : ℕ) (free : List ℕ) → here < length free → AreAllOpen g (slice_index free)
-    → AreAllOpen g (slice_index (set (set free here x) here (get_or free here 0)))
-put_back g here x free within all k p low = ⊎_elim
+pub put_back : (g : Grid) (here x whole : ℕ) (free : List ℕ) → here < length free → whole ≡ get_or free here 0
+    → AreAllOpen g (slice_index free) → AreAllOpen g (slice_index (set (set free here x) here whole))
+put_back g here x whole free within read all k p low = ⊎_elim
     (λ (e : k ≡ here).
-    ap (λ y. bit y p) (ap (λ i. get_or (set (set free here x) here (get_or free here 0)) i 0) e
-    ∙ get_or-set_same (set free here x) here (get_or free here 0) 0 (let long = length-set free here x in omega arith))
-    ∙ sym (ap (λ i. bit (get_or free i 0) p) e) ∙ all k p low)
+    ap (λ y. bit y p) (ap (λ i. get_or (set (set free here x) here whole) i 0) e
+    ∙ get_or-set_same (set free here x) here whole 0 (let long = length-set free here x in omega arith)
+    ∙ read ∙ sym (ap (λ i. get_or free i 0) e))
+    ∙ all k p low)
     (λ (ne : k ≡ here → ⊥).
-    ap (λ y. bit y p) (get_or-set_other (set free here x) here k (get_or free here 0) 0 ne
+    ap (λ y. bit y p) (get_or-set_other (set free here x) here k whole 0 ne
     ∙ get_or-set_other free here k x 0 ne)
     ∙ all k p low)
     (cases_eq k here)

@@ -69,13 +69,14 @@ around_same k m new p low e =
     around_le (bit new) (only k (bit new) m) p low (λ q l. let s = only_same k m (bit new) q e in omega arith) in
     omega arith
 
--- a step topples the set `new` of tile k and gives its grains to all neighbours
-pub spreads_from : (g : Grid) (site : ℕ) (free : ℕ → ℕ) (τ σ : ℕ → Tile) (k start s new : ℕ) (b : Beside)
+-- a step topples a set of places of tile k and gives its grains to all neighbours
+pub spreads_from : (g : Grid) (site : ℕ) (free : ℕ → ℕ) (τ σ : ℕ → Tile) (k start s : ℕ) (b : Beside)
     → AreOpen g site free → site < sites g → IsInner g k → IsBeside g k b
-    → ((p : ℕ) → p < 64 → bit start p ≡ on_tiles g (λ j. s * one_at site j) k p) → Steps τ σ (free k) b k start new
-    → Spreads g site k new τ σ
-spreads_from g site free τ σ k start s new b open' inside ik beside begins steps =
+    → ((p : ℕ) → p < 64 → bit start p ≡ on_tiles g (λ j. s * one_at site j) k p) → (steps : Steps τ σ (free k) b k start)
+    → Spreads g site k steps.new τ σ
+spreads_from g site free τ σ k start s b open' inside ik beside begins steps =
     let v = steps.visited in
+    let new = steps.new in
     let visits = steps.visits in
     let gains = steps.gains in
     let mid : ℕ → Tile = λ m. cond (eqb m k) v (τ m) in

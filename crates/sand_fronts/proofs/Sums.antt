@@ -4,7 +4,8 @@ use Rattle.std.proofs.lemmas.Bool.{cases_Bool, cases_eq, false≢true}
 use Rattle.sand_model.specs.Grid.{Grid, sites}
 use Rattle.sand_model.specs.Sand.{sum_below, one_at}
 use Rattle.sand_model.proofs.SumsBelow.{sum_below_same, sum_below_swap, sum_below-one_at, sum_below-zero, one_at_same, one_at_other}
-use Rattle.sand_fronts.specs.Tiling.{tile_of, place_of, is_site, site_on, on_tiles}
+use Rattle.sand_fronts.specs.Tiling.{tiles, tile_of, place_of, is_site, site_on, on_tiles}
+use Rattle.sand_fronts.proofs.Boards.{tile_inside}
 use Rattle.sand_fronts.proofs.OnTiles.{place_below, there_again, back_again, on_site, off_site}
 
 -- v of the site j at its own place, and 0 at each other
@@ -68,14 +69,14 @@ one_site g v k p low =
     ∙ sum_below-zero (sites g) ∙ sym (off_site g v k p no))
     (cases_Bool (is_site g k p))
 
-pub sum_on_tiles : (g : Grid) (v : ℕ → ℕ) (n : ℕ) → ((j : ℕ) → j < sites g → tile_of g j < n)
-    → sum_below n (λ k. sum_below 64 (λ p. on_tiles g v k p)) ≡ sum_below (sites g) v
-sum_on_tiles g v n inside =
-    sum_below_same n (λ k. sum_below 64 (λ p. on_tiles g v k p))
+pub sum_on_tiles : (g : Grid) (v : ℕ → ℕ)
+    → sum_below (tiles g) (λ k. sum_below 64 (λ p. on_tiles g v k p)) ≡ sum_below (sites g) v
+sum_on_tiles g v =
+    sum_below_same (tiles g) (λ k. sum_below 64 (λ p. on_tiles g v k p))
     (λ k. sum_below (sites g) (λ j. sum_below 64 (λ p. here g v j k p)))
     (λ k l. sum_below_same 64 (λ p. on_tiles g v k p)
     (λ p. sum_below (sites g) (λ j. here g v j k p)) (λ p m. sym (one_site g v k p m))
     ∙ sum_below_swap 64 (sites g) (λ p j. here g v j k p))
-    ∙ sum_below_swap n (sites g) (λ k j. sum_below 64 (λ p. here g v j k p))
-    ∙ sum_below_same (sites g) (λ j. sum_below n (λ k. sum_below 64 (λ p. here g v j k p)))
-    v (λ j l. one_place g v n j (inside j l))
+    ∙ sum_below_swap (tiles g) (sites g) (λ k j. sum_below 64 (λ p. here g v j k p))
+    ∙ sum_below_same (sites g) (λ j. sum_below (tiles g) (λ k. sum_below 64 (λ p. here g v j k p)))
+    v (λ j l. one_place g v (tiles g) j (tile_inside g j l))

@@ -9,6 +9,8 @@ use Rattle.sand_tiles.specs.declared.tile.Tile.{Tile}
 use Rattle.sand_fronts.specs.IndexLists.{ListView}
 use Rattle.sand_fronts.specs.TileLists.{waits, waits_but, Joins}
 use Rattle.sand_fronts.specs.Waves.{tile_at}
+use Rattle.sand_fronts.specs.declared.sand.Sand.{Sand}
+use Rattle.sand_fronts.specs.Boards.{tiles_of, Gets}
 use Rattle.sand_fronts.proofs.Gained.{tile_set_same, tile_set_other}
 use Rattle.std.proofs.Math.ListN.{set}
 
@@ -38,21 +40,25 @@ same_before true list i t less = get_or_append_left list (i ∷ []) 0 t less
 same_before false list i t less = refl
 
 -- a tile whose places become due joins the list if it did not wait before
-pub joins_one : (ts : List Tile) (free : ℕ → ℕ) (k n : ℕ) (t : Tile) (l m : ListView) → n ≡ length ts → k < length ts
-    → (0 < bit_and (tile_at ts k).due (free k) → 0 < bit_and t.due (free k))
+pub joins_one : (ts : List Tile) (free : ℕ → ℕ) (k places : ℕ) (x t : Tile) (l m : ListView) → k < length ts
+    → x ≡ tile_at ts k → places ≡ free k
+    → ((free : ℕ) → 0 < bit_and x.due free → 0 < bit_and t.due free)
     → m ≡ record l {
-      items = cond (eqb (bit_and (tile_at ts k).due (free k)) 0 && not (eqb (bit_and t.due (free k)) 0))
-          (l.items ++ k ∷ []) l.items;
+      items = cond (eqb (bit_and x.due places) 0 && not (eqb (bit_and t.due places) 0)) (l.items ++ k ∷ []) l.items;
     }
-    → Joins n 1 (waits (tile_at ts) free) (waits (tile_at (set ts k t)) free) l m
-joins_one ts free k n t l m each inside grows is =
-    let a = bit_and (tile_at ts k).due (free k) in
-    let b = bit_and t.due (free k) in
+    → Joins (length ts) 1 (waits (tile_at ts) free) (waits (tile_at (set ts k t)) free) l m
+joins_one ts free k places x t l m inside read word grows is =
+    let a = bit_and x.due places in
+    let b = bit_and t.due places in
     let j = eqb a 0 && not (eqb b 0) in
-    let here : waits (tile_at (set ts k t)) free k ≡ ltb 0 b =
-    ap (λ (x : Tile). ltb 0 (bit_and x.due (free k))) (tile_set_same ts k k t inside refl) in
+    let before : waits (tile_at ts) free k ≡ ltb 0 a =
+    ap (λ (y : Tile). ltb 0 (bit_and y.due (free k))) (sym read) ∙ ap (λ w. ltb 0 (bit_and x.due w)) (sym word) in
+    let after : waits (tile_at (set ts k t)) free k ≡ ltb 0 b =
+    ap (λ (y : Tile). ltb 0 (bit_and y.due (free k))) (tile_set_same ts k k t inside refl)
+    ∙ ap (λ w. ltb 0 (bit_and t.due w)) (sym word) in
     let longer = one_more j l.items k in
-    let P : ListView → Type 0 = λ q. Joins n 1 (waits (tile_at ts) free) (waits (tile_at (set ts k t)) free) l q in
+    let P : ListView → Type 0 =
+    λ q. Joins (length ts) 1 (waits (tile_at ts) free) (waits (tile_at (set ts k t)) free) l q in
     subst P (sym is)
     (record {
       room = refl;
@@ -60,35 +66,56 @@ joins_one ts free k n t l m each inside grows is =
       few = longer.1;
       kept = same_before j l.items k;
       waiting = λ turn within all.
-          queued n (waits (tile_at ts) free) (waits (tile_at (set ts k t)) free) l.items k j (omega arith)
-          (λ i x ne. ap (λ (x : Tile). ltb 0 (bit_and x.due (free i))) (sym (tile_set_other ts k i t ne)))
+          queued (length ts) (waits (tile_at ts) free) (waits (tile_at (set ts k t)) free) l.items k j inside
+          (λ i y ne. ap (λ (z : Tile). ltb 0 (bit_and z.due (free i))) (sym (tile_set_other ts k i t ne)))
           (λ y. let parts = and_parts (eqb a 0) (not (eqb b 0)) y in
           let a0 = eqb-true a 0 parts.0 in
           let b0 = eqb-false b 0 (not-true (eqb b 0) parts.1) in
-          (le-ltb 0 a (omega arith), here ∙ lt-ltb 0 b (omega arith)))
+          (before ∙ le-ltb 0 a (omega arith), after ∙ lt-ltb 0 b (omega arith)))
           (λ none.
           ⊎_elim
-          (λ (x : eqb a 0 ≡ false).
-          let a1 = eqb-false a 0 x in lt-ltb 0 a (omega arith) ∙ sym (here ∙ lt-ltb 0 b (grows (omega arith))))
-          (λ (x : not (eqb b 0) ≡ false).
-          let b0 = eqb-true b 0 (not-false (eqb b 0) x) in
+          (λ (y : eqb a 0 ≡ false).
+          let a1 = eqb-false a 0 y in
+          before ∙ lt-ltb 0 a (omega arith) ∙ sym (after ∙ lt-ltb 0 b (grows places (omega arith))))
+          (λ (y : not (eqb b 0) ≡ false).
+          let b0 = eqb-true b 0 (not-false (eqb b 0) y) in
           let a0 : a ≤ 0 =
-          ⊎_elim (λ (z : 0 < a). let g = grows z in absurd (omega arith)) (λ (z : a ≤ 0). z) (cases_lt 0 a) in
-          le-ltb 0 a a0 ∙ sym (here ∙ le-ltb 0 b (omega arith)))
+          ⊎_elim (λ (z : 0 < a). let g = grows places z in absurd (omega arith)) (λ (z : a ≤ 0). z) (cases_lt 0 a) in
+          before ∙ le-ltb 0 a a0 ∙ sym (after ∙ le-ltb 0 b (omega arith)))
           (and_cases (eqb a 0) (not (eqb b 0)) none))
           turn within all;
     })
 
-pub joins_more : (n a b : ℕ) (p q r : ℕ → Bool) (l m s : ListView) → Joins n a p q l m → Joins n b q r m s
-    → Joins n (a + b) p r l s
-joins_more n a b p q r l m s first second =
-    let f1 = first.longer in let f2 = first.few in let g1 = second.longer in let g2 = second.few in
+-- one gain after another
+pub gets_more : (free : ℕ → ℕ) (a b : ℕ) (x y z : ℕ → ℕ → ℕ) (s t u : Sand) → Gets free a x s t → Gets free b y t u
+    → ((m p : ℕ) → p < 64 → x m p + y m p ≡ z m p) → Gets free (a + b) z s u
+gets_more free a b x y z s t u first second sums =
+    let f = first.joins in
+    let g = subst (λ n. Joins n b (waits (tiles_of t) free) (waits (tiles_of u) free) t.list u.list)
+    first.one_each second.joins in
+    let f1 = f.longer in let f2 = f.few in let g1 = g.longer in let g2 = g.few in
     record {
-      room = second.room ∙ first.room;
-      longer = omega arith;
-      few = omega arith;
-      kept = λ t less. second.kept t (omega arith) ∙ first.kept t less;
-      waiting = λ turn within all. second.waiting turn (omega arith) (first.waiting turn within all);
+      one_each = second.one_each ∙ first.one_each;
+      gains = record {
+        wave = λ m p low. second.gains.wave m p low ∙ first.gains.wave m p low;
+        each = λ m p low few.
+            let e = sums m p low in
+            let one = first.gains.each m p low (omega arith) in
+            let two = second.gains.each m p low (omega arith) in
+            omega arith;
+        modulo = λ m p low.
+            let e = sums m p low in
+            let one = first.gains.modulo m p low in
+            let two = second.gains.modulo m p low in
+            omega arith;
+      };
+      joins = record {
+        room = g.room ∙ f.room;
+        longer = omega arith;
+        few = omega arith;
+        kept = λ t less. g.kept t (omega arith) ∙ f.kept t less;
+        waiting = λ turn within all. g.waiting turn (omega arith) (f.waiting turn within all);
+      };
     }
 
 -- a visited tile without due places waits no more
@@ -114,19 +141,3 @@ joins_from n a p p' q l m same joins = record {
   kept = joins.kept;
   waiting = λ turn within all. joins.waiting turn within (lists_same n p p' (drop turn l.items) same all);
 }
-
-pub joins_read : (ts : List Tile) (free : ℕ → ℕ) (k n : ℕ) (t : Tile) (l m : ListView) → n ≡ length ts → k < length ts
-    → (0 < bit_and (tile_at ts k).due (free k) → 0 < bit_and t.due (free k))
-    → m ≡ record l {
-      items = cond
-          (eqb (bit_and (tile_at ts k).due (free k)) 0 && not (eqb (bit_and (tile_at (set ts k t) k).due (free k)) 0))
-          (l.items ++ k ∷ []) l.items;
-    }
-    → Joins n 1 (waits (tile_at ts) free) (waits (tile_at (set ts k t)) free) l m
-joins_read ts free k n t l m each inside grows is =
-    joins_one ts free k n t l m each inside grows
-    (is ∙ ap (λ (x : Tile). record l {
-      items = cond (eqb (bit_and (tile_at ts k).due (free k)) 0 && not (eqb (bit_and x.due (free k)) 0))
-          (l.items ++ k ∷ []) l.items;
-    })
-    (tile_set_same ts k k t inside refl))

@@ -1,5 +1,5 @@
 -- The turns of a wave: each waiting tile is visited.
-use Rattle.std.proofs.Common.{ℕ, Bool, true, false, eqb, cond, not, ◌&&◌, ◌⊎◌, inl, inr, List, [], ◌∷◌, ◌≡◌, ◌≢◌, ◌+◌, ◌-◌, ◌*◌, ◌^◌, ◌<◌, ◌≤◌, length, drop, get_or, add-one, drop-cons, refl, sym, ◌∙◌, ap, subst, arith, ⊎_elim}
+use Rattle.std.proofs.Common.{ℕ, Bool, true, false, eqb, cond, not, ◌&&◌, inl, inr, List, [], ◌∷◌, ◌≡◌, ◌≢◌, ◌+◌, ◌-◌, ◌*◌, ◌^◌, ◌<◌, ◌≤◌, length, drop, get_or, add-one, drop-cons, refl, sym, ◌∙◌, ap, subst, arith, ⊎_elim}
 use Rattle.std.specs.Prelude.{bit_and}
 use Rattle.std.specs.Int.{bit_at, w64, trailing_zeros}
 use Rattle.std.proofs.lemmas.Bool.{cases_Bool, cases_eq, ltb-true, ltb-false, eq-eqb, ne_eqb}
@@ -15,8 +15,8 @@ use Rattle.sand_tiles.specs.declared.tile.Tile.{Tile}
 use Rattle.sand_tiles.specs.Places.{bit}
 use Rattle.sand_tiles.proofs.Bits.{bit_le, bit_none, both_le}
 use Rattle.sand_fronts.specs.declared.sides.Beside.{Beside}
-use Rattle.sand_fronts.specs.Tiling.{tile_of, place_of, site_on, on_tiles}
-use Rattle.sand_fronts.specs.Waves.{at_site, toppled, only, AreOpen, IsWave, Steps, IsBeside, AtTile, IsBoard, beside_at, AreAtRest, heights_before}
+use Rattle.sand_fronts.specs.Tiling.{tiles, tile_of, place_of, site_on, on_tiles}
+use Rattle.sand_fronts.specs.Waves.{at_site, toppled, only, AreOpen, IsWave, Steps, IsBeside, AtTile, AreBeside, beside_at, AreAtRest, heights_before}
 use Rattle.sand_fronts.specs.TileLists.{waits, waits_but, IsClear, AreListed}
 use Rattle.sand_fronts.proofs.OnTiles.{place_below, there_again, on_tiles_le, on_nothing, at_on}
 use Rattle.sand_fronts.proofs.Waves.{only_same, open_site, wave_step}
@@ -66,17 +66,18 @@ sum_after : (g : Grid) (τ σ : ℕ → Tile) (k new : ℕ)
 sum_after g τ σ k new once j = once (tile_of g j) (place_of g j) (place_below g j)
 
 -- one more turn: the wave goes on, and at least one more site has toppled
-pub turn_more : (g : Grid) (site : ℕ) (h : ℕ → ℕ) (free : ℕ → ℕ) (τ σ : ℕ → Tile) (k new j : ℕ) (b : Beside)
+pub turn_more : (g : Grid) (site : ℕ) (h : ℕ → ℕ) (free : ℕ → ℕ) (τ σ : ℕ → Tile) (k j : ℕ) (b : Beside)
     → AreOpen g site free → IsWave g site h τ → site < sites g
     → ((i : ℕ) → i < sites g → i ≢ site → h i ≤ 3) → 4 ≤ h site
     → toppled g τ site ≡ 1 → IsDueSite g site τ k j
-    → IsBeside g k b → Steps τ σ (free k) b k 0 new
+    → IsBeside g k b → Steps τ σ (free k) b k 0
     → (IsWave g site h σ) × (toppled g σ site ≡ 1) × (topplings g (toppled g τ) + 1 ≤ topplings g (toppled g σ))
-turn_more g site h free τ σ k new j b open' wave inside low high started due beside steps =
+turn_more g site h free τ σ k j b open' wave inside low high started due beside steps =
+    let new = steps.new in
     let i = inner g j due.inside in
     let ik : IsInner g k = let P : ℕ → Type 0 = λ m. IsInner g m in subst P due.here i in
     let begins = starts_none g site k in
-    let spreads = spreads_from g site free τ σ k 0 0 new b open' inside ik beside begins steps in
+    let spreads = spreads_from g site free τ σ k 0 0 b open' inside ik beside begins steps in
     let next = wave_step g site h free τ σ steps.visited k 0 0 new open'
     wave inside low high begins (omega arith) steps.visits spreads in
     let sums = sum_after g τ σ k new spreads.once in
@@ -115,13 +116,14 @@ first_wave g site τ rest inside = wave_begins g site (heights_before g site τ)
     (λ j l ne. let o = one_at_other site j (λ e. ne (sym e)) in (omega arith, rest.none_due j l ne))
     (let o = one_at_same site in omega arith)
 
-pub turn_first : (g : Grid) (site : ℕ) (free : ℕ → ℕ) (τ σ : ℕ → Tile) (k start new : ℕ) (b : Beside)
+pub turn_first : (g : Grid) (site : ℕ) (free : ℕ → ℕ) (τ σ : ℕ → Tile) (k start : ℕ) (b : Beside)
     → AreOpen g site free → AreAtRest g site τ → site < sites g
     → k ≡ tile_of g site
     → ((p : ℕ) → p < 64 → bit start p ≡ on_tiles g (λ j. 1 * one_at site j) k p)
-    → IsBeside g k b → Steps τ σ (free k) b k start new
-    → (IsWave g site (heights_before g site τ) σ) × (toppled g σ site ≡ 1)
-turn_first g site free τ σ k start new b open' rest inside here begins beside steps =
+    → IsBeside g k b → Steps τ σ (free k) b k start
+    → (IsWave g site (heights_before g site τ) σ) × (toppled g σ site ≡ 1) × (1 ≤ topplings g (toppled g σ))
+turn_first g site free τ σ k start b open' rest inside here begins beside steps =
+    let new = steps.new in
     let h = heights_before g site τ in
     let wave = first_wave g site τ rest inside in
     let low = first_low g site τ in
@@ -129,7 +131,7 @@ turn_first g site free τ σ k start new b open' rest inside here begins beside 
     let clear = rest.clear (tile_of g site) (place_of g site) (place_below g site) in
     let i = inner g site inside in
     let ik : IsInner g k = let P : ℕ → Type 0 = λ m. IsInner g m in subst P (sym here) i in
-    let spreads = spreads_from g site free τ σ k start 1 new b open' inside ik beside begins steps in
+    let spreads = spreads_from g site free τ σ k start 1 b open' inside ik beside begins steps in
     let next = wave_step g site h free τ σ steps.visited k start 1 new
     open' wave inside low high begins (omega arith) steps.visits spreads in
     let p = place_of g site in
@@ -142,7 +144,8 @@ turn_first g site free τ σ k start new b open' rest inside here begins beside 
     let held = steps.visits.at_held p lp (omega arith) in
     let n = only_same k (tile_of g site) (bit new) p (sym here) in
     let sum = sum_after g τ σ k new spreads.once site in
-    (next, omega arith)
+    let part = at_most_sum_below (sites g) (toppled g σ) site inside in
+    (next, omega arith, omega arith)
 
 pub front_of : (n turn k : ℕ) (p : ℕ → Bool) (list : List ℕ)
     → Lists n p (drop turn list) → turn < length list → k ≡ get_or list turn 0
@@ -189,18 +192,18 @@ none_wait g site n k τ free open' rest fits =
     (λ j l. sym (and_none (not (eqb j k)) (waits τ free j) (quiet_at g site τ free j open' rest (fits j))))
     (lists_from n (λ j. false) [] (λ j l. refl) (λ j l. refl))
 
-pub at_tile : (g : Grid) (n j k : ℕ) (all : List Beside) → IsBoard g n all → j < sites g → tile_of g j ≡ k
-    → AtTile g n k (beside_at all k)
-at_tile g n j k all board l here = subst (λ m. AtTile g n m (beside_at all m)) here (board.each j l)
+pub at_tile : (g : Grid) (j k : ℕ) (all : List Beside) → AreBeside g all → j < sites g → tile_of g j ≡ k
+    → AtTile g k (beside_at all k)
+at_tile g j k all board l here = subst (λ m. AtTile g m (beside_at all m)) here (board.each j l)
 
-pub turn_at : (g : Grid) (site n turn k : ℕ) (τ : ℕ → Tile) (free : ℕ → ℕ) (list : List ℕ) (all : List Beside)
-    → AreOpen g site free → IsBoard g n all
-    → free k < 2 ^ 64 → Lists n (waits τ free) (drop turn list) → turn < length list → k ≡ get_or list turn 0
-    → (j : ℕ) × IsDueSite g site τ k j × AtTile g n k (beside_at all k)
-turn_at g site n turn k τ free list all open' board fits waiting less is =
-    let f = front_of n turn k (waits τ free) list waiting less is in
+pub turn_at : (g : Grid) (site turn k : ℕ) (τ : ℕ → Tile) (free : ℕ → ℕ) (list : List ℕ) (all : List Beside)
+    → AreOpen g site free → AreBeside g all
+    → free k < 2 ^ 64 → Lists (tiles g) (waits τ free) (drop turn list) → turn < length list → k ≡ get_or list turn 0
+    → (j : ℕ) × IsDueSite g site τ k j × AtTile g k (beside_at all k)
+turn_at g site turn k τ free list all open' board fits waiting less is =
+    let f = front_of (tiles g) turn k (waits τ free) list waiting less is in
     let d = due_site g site free τ k open' fits f.1 in
-    (d.0, d.1, at_tile g n d.0 k all board d.1.inside d.1.here)
+    (d.0, d.1, at_tile g d.0 k all board d.1.inside d.1.here)
 
 pub clear_site : (g : Grid) (site : ℕ) (τ : ℕ → Tile) → AreAtRest g site τ → toppled g τ site ≡ 0
 clear_site g site τ rest = rest.clear (tile_of g site) (place_of g site) (place_below g site)
@@ -209,14 +212,14 @@ pub few_topplings : (g : Grid) (τ : ℕ → Tile) → topplings g (toppled g τ
 few_topplings g τ = at_most_all (sites g) (toppled g τ) (λ j l. bit_le _ _)
 
 -- if no tile waits, no free site is due
-pub none_left : (g : Grid) (site n : ℕ) (τ : ℕ → Tile) (free : ℕ → ℕ) (all : List Beside)
-    → AreOpen g site free → IsBoard g n all → Lists n (waits τ free) []
+pub none_left : (g : Grid) (site : ℕ) (τ : ℕ → Tile) (free : ℕ → ℕ) (all : List Beside)
+    → AreOpen g site free → AreBeside g all → Lists (tiles g) (waits τ free) []
     → (j : ℕ) → j < sites g → j ≢ site → bit (τ (tile_of g j)).due (place_of g j) ≡ 0
-none_left g site n τ free all open' board none j inside other =
+none_left g site τ free all open' board none j inside other =
     let k = tile_of g j in
     let p = place_of g j in
     let low = place_below g j in
-    let quiet = ltb-false 0 (bit_and (τ k).due (free k)) (none_passes n (waits τ free) none k ((board.each j inside).inside)) in
+    let quiet = ltb-false 0 (bit_and (τ k).due (free k)) (none_passes (tiles g) (waits τ free) none k (board.each j inside).inside) in
     let zero' : bit (bit_and (τ k).due (free k)) p ≡ 0 =
     ap (λ x. bit x p) (let e : bit_and (τ k).due (free k) ≡ 0 = omega arith in e) ∙ bit_none p in
     let both = both_le (τ k).due (free k) p in
@@ -228,42 +231,28 @@ none_left g site n τ free all open' board none j inside other =
 
 -- ---- the tiles with sites that have toppled
 
-wave_after : (τ σ : ℕ → Tile) (free k start new m p : ℕ) (b : Beside)
-    → Steps τ σ free b k start new → p < 64 → (m ≡ k → ⊥)
+wave_after : (τ σ : ℕ → Tile) (free k start m p : ℕ) (b : Beside) → Steps τ σ free b k start → p < 64 → (m ≡ k → ⊥)
     → bit (σ m).wave p ≡ bit (τ m).wave p
-wave_after τ σ free k start new m p b steps low ne =
+wave_after τ σ free k start m p b steps low ne =
     steps.gains.wave m p low ∙ ap (λ (t : Tile). bit t.wave p) (ap (λ c. cond c steps.visited (τ m)) (ne_eqb m k ne))
 
--- before the first turn: only the tile of the dropped site
-pub first_listed : (g : Grid) (site : ℕ) (τ σ : ℕ → Tile) (free here start new : ℕ) (b : Beside) (list : List ℕ)
-    → AreAtRest g site τ → Steps τ σ free b here start new
-    → AreListed here list 0 0 σ
-first_listed g site τ σ free here start new b list rest steps m = ⊎_elim
-    (λ (e : m ≡ here). inr (inl e))
-    (λ (ne : m ≡ here → ⊥). inl (λ p low. wave_after τ σ free here start new m p b steps low ne ∙ rest.clear m p low))
-    (cases_eq m here)
-
-pub turn_listed : (τ σ : ℕ → Tile) (free here k turn new : ℕ) (b : Beside) (before after : List ℕ)
-    → AreListed here before 0 turn τ → Steps τ σ free b k 0 new
+pub turn_listed : (τ σ : ℕ → Tile) (free k turn start : ℕ) (b : Beside) (before after : List ℕ)
+    → AreListed before 0 turn τ → Steps τ σ free b k start
     → k ≡ get_or before turn 0 → ((t : ℕ) → t < turn + 1 → get_or after t 0 ≡ get_or before t 0)
-    → AreListed here after 0 (turn + 1) σ
-turn_listed τ σ free here k turn new b before after listed steps is kept m = ⊎_elim
-    (λ (e : m ≡ k). inr (inr (turn, omega arith, omega arith, kept turn (omega arith) ∙ sym is ∙ sym e)))
+    → AreListed after 0 (turn + 1) σ
+turn_listed τ σ free k turn start b before after listed steps is kept m = ⊎_elim
+    (λ (e : m ≡ k). inr (turn, omega arith, omega arith, kept turn (omega arith) ∙ sym is ∙ sym e))
     (λ (ne : m ≡ k → ⊥). ⊎_elim
-    (λ (clear : IsClear (τ m)). inl (λ p low. wave_after τ σ free k 0 new m p b steps low ne ∙ clear p low))
-    (λ (some : (m ≡ here) ⊎ ((t : ℕ) × (0 ≤ t) × (t < turn) × (get_or before t 0 ≡ m))). inr (⊎_elim
-    (λ (e : m ≡ here). inl e)
+    (λ (clear : IsClear (τ m)). inl (λ p low. wave_after τ σ free k start m p b steps low ne ∙ clear p low))
     (λ (at : (t : ℕ) × (0 ≤ t) × (t < turn) × (get_or before t 0 ≡ m)).
     inr (at.0, omega arith, omega (arith, at.2), kept at.0 (omega (arith, at.2)) ∙ at.3))
-    some))
     (listed m))
     (cases_eq m k)
 
-pub turn_on_board : (n n' k turn : ℕ) (before after : List ℕ)
-    → n' ≡ n → ((t : ℕ) → t < turn → get_or before t 0 < n)
+pub turn_on_board : (n k turn : ℕ) (before after : List ℕ) → ((t : ℕ) → t < turn → get_or before t 0 < n)
     → k < n → k ≡ get_or before turn 0
-    → ((t : ℕ) → t < turn + 1 → get_or after t 0 ≡ get_or before t 0) → (t : ℕ) → t < turn + 1 → get_or after t 0 < n'
-turn_on_board n n' k turn before after same below inside is kept t less = ⊎_elim
+    → ((t : ℕ) → t < turn + 1 → get_or after t 0 ≡ get_or before t 0) → (t : ℕ) → t < turn + 1 → get_or after t 0 < n
+turn_on_board n k turn before after below inside is kept t less = ⊎_elim
     (λ (e : t ≡ turn). let a = kept t less in let b = ap (λ i. get_or before i 0) e in omega arith)
     (λ (ne : t ≡ turn → ⊥). let a = kept t less in let b = below t (omega arith) in omega arith)
     (cases_eq t turn)

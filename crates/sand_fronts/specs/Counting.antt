@@ -1,11 +1,11 @@
 -- What a wave adds to the counts of the tiles.
-use Rattle.std.specs.Prelude.{ℕ, List, [], slice_index_or, ◌≡◌, ◌+◌, ◌*◌, ◌<◌}
+use Rattle.std.specs.Prelude.{ℕ, List, [], slice_index_or, ◌+◌, ◌*◌}
 use Rattle.sand_model.specs.Sand.{sum_below}
 use Rattle.sand_tiles.specs.declared.tile.Tile.{Tile}
 use Rattle.sand_tiles.specs.declared.counting.Count.{Count}
 use Rattle.sand_tiles.specs.Places.{bit, number}
-use Rattle.sand_tiles.specs.Counts.{counted, IsCount}
-use Rattle.sand_fronts.specs.TileLists.{IsClear}
+use Rattle.sand_tiles.specs.Counts.{counted}
+use Rattle.sand_fronts.specs.Marking.{in_sets}
 
 -- the count of a tile by its number, and an empty one past the end
 abbrev pub count_at : List Count → ℕ → Count
@@ -14,7 +14,7 @@ count_at counts k = slice_index_or counts k
 
 -- the number of places of n tiles that have toppled in this wave
 abbrev pub in_wave : ℕ → (ℕ → Tile) → ℕ
-in_wave n τ = sum_below n (λ k. sum_below 64 (bit (τ k).wave))
+in_wave n τ = in_sets n (λ k. (τ k).wave)
 
 -- the sum of numbers over the places of n tiles that have toppled in this wave
 abbrev pub over_wave : ℕ → (ℕ → Tile) → (ℕ → Tile) → ℕ
@@ -23,12 +23,3 @@ over_wave n ν τ = sum_below n (λ k. sum_below 64 (λ p. number (ν k) p * bit
 -- how often a place has toppled, including this wave
 abbrev pub with_wave : (ℕ → Tile) → (ℕ → Count) → ℕ → ℕ → ℕ
 with_wave τ c k p = counted (c k) p + bit (τ k).wave p
-
--- the places that leave the wave are counted, and nothing else changes
-pub record AreCounted (τ σ : ℕ → Tile) (c d : ℕ → Count) : Type 0 where
-  pub low : (m : ℕ) → (σ m).low ≡ (τ m).low
-  pub high : (m : ℕ) → (σ m).high ≡ (τ m).high
-  pub due : (m : ℕ) → (σ m).due ≡ (τ m).due
-  pub each : (m p : ℕ) → p < 64 → with_wave σ d m p ≡ with_wave τ c m p
-  pub sound : ((m : ℕ) → IsCount (c m)) → (m : ℕ) → IsCount (d m)
-  pub clear : (m : ℕ) → IsClear (τ m) → IsClear (σ m)

@@ -2,9 +2,10 @@ pub mod Tiling
 pub mod Waves
 pub mod IndexLists
 pub mod TileLists
+pub mod Marking
 pub mod Counting
 pub mod Drops
+pub mod Boards
 pub mod TiledPiles
-pub mod Marking
 pub mod Reaching
 pub mod Falls

@@ -26,7 +26,7 @@ pub record Joins (n most : ℕ) (p q : ℕ → Bool) (l m : ListView) : Type 0 w
 abbrev pub IsClear : Tile → Type 0
 IsClear t = (p : ℕ) → p < 64 → bit t.wave p ≡ 0
 
--- each tile with a site that has toppled in this wave is the tile `here`, or in a list from one turn to before another
-abbrev pub AreListed : ℕ → List ℕ → ℕ → ℕ → (ℕ → Tile) → Type 0
-AreListed here list from end τ =
-    (m : ℕ) → IsClear (τ m) ⊎ ((m ≡ here) ⊎ ((t : ℕ) × (from ≤ t) × (t < end) × (slice_index list t ≡ m)))
+-- each tile with a site that has toppled in this wave is in a list, from one turn to before another
+abbrev pub AreListed : List ℕ → ℕ → ℕ → (ℕ → Tile) → Type 0
+AreListed list from end τ =
+    (m : ℕ) → IsClear (τ m) ⊎ ((t : ℕ) × (from ≤ t) × (t < end) × (slice_index list t ≡ m))

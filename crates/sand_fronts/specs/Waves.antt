@@ -1,12 +1,13 @@
 -- A wave on tiles: from a dropped site that has 4, each site topples at most once; the dropped site is held after its
 -- toppling.
 use Rattle.std.specs.Prelude.{ℕ, List, length, slice_index_or, ◌≡◌, ◌≢◌, ◌+◌, ◌-◌, ◌*◌, ◌%◌, ◌^◌, ◌<◌, ◌≤◌, if◌then◌else◌, ◌==◌}
-use Rattle.sand_model.specs.Grid.{Grid, sites}
+use Rattle.sand_model.specs.Grid.{Grid, IsGrid, sites}
 use Rattle.sand_model.specs.Sand.{Stabilises, flow, one_at}
 use Rattle.sand_tiles.specs.declared.tile.Tile.{Tile}
 use Rattle.sand_tiles.specs.Places.{bit, height, had, Visits}
-use Rattle.sand_fronts.specs.Tiling.{pitch, tile_of, place_of, on_tiles, over_north, over_south, over_west, over_east, to_west, to_east, shift_west, shift_east}
+use Rattle.sand_fronts.specs.Tiling.{pitch, tiles, tile_of, place_of, on_tiles, over_north, over_south, over_west, over_east, to_west, to_east, shift_west, shift_east}
 use Rattle.sand_fronts.specs.declared.sides.Beside.{Beside}
+use Rattle.sand_fronts.specs.declared.board.DropSite.{DropSite}
 
 -- numbers by tile and place, read by site
 abbrev pub at_site : Grid → (ℕ → ℕ → ℕ) → ℕ → ℕ
@@ -68,9 +69,10 @@ pub record IsBeside (g : Grid) (k : ℕ) (b : Beside) : Type 0 where
   pub west_shift : b.west_shift ≡ shift_west g k
   pub east_shift : b.east_shift ≡ shift_east g k
 
--- tile k is visited and becomes `visited`, and the grains that leave it reach the tiles next to it
-pub record Steps (τ σ : ℕ → Tile) (free : ℕ) (b : Beside) (k start new : ℕ) : Type 0 where
+-- tile k is visited and becomes `visited`, and the grains of the places `new` that leave it reach the tiles next to it
+pub record Steps (τ σ : ℕ → Tile) (free : ℕ) (b : Beside) (k start : ℕ) : Type 0 where
   pub visited : Tile
+  pub new : ℕ
   pub visits : Visits (τ k) visited free start new
   pub fits : new < 2 ^ 64
   pub gains : Gains (λ m. if m == k then visited else τ m) σ (over_rim b new)
@@ -93,17 +95,18 @@ pub record IsOnBoard (n : ℕ) (b : Beside) : Type 0 where
   pub west_shift : b.west_shift ≤ 7
   pub east_shift : b.east_shift ≤ 7
 
--- tile k of n, and its four neighbours
-pub record AtTile (g : Grid) (n k : ℕ) (b : Beside) : Type 0 where
-  pub inside : k < n
+-- tile k, and its four neighbours
+pub record AtTile (g : Grid) (k : ℕ) (b : Beside) : Type 0 where
+  pub inside : k < tiles g
   pub each : IsBeside g k b
-  pub on_board : IsOnBoard n b
+  pub on_board : IsOnBoard (tiles g) b
 
--- n tiles, and for the tile of each site its four neighbours
-pub record IsBoard (g : Grid) (n : ℕ) (all : List Beside) : Type 0 where
-  pub small : n ≤ 65536
-  pub one_each : length all ≡ n
-  pub each : (j : ℕ) → j < sites g → AtTile g n (tile_of g j) (beside_at all (tile_of g j))
+-- for the tile of each site its four neighbours
+pub record AreBeside (g : Grid) (all : List Beside) : Type 0 where
+  pub sides : IsGrid g
+  pub small : tiles g ≤ 65536
+  pub one_each : length all ≡ tiles g
+  pub each : (j : ℕ) → j < sites g → AtTile g (tile_of g j) (beside_at all (tile_of g j))
 
 -- the heights at the start of a wave: the dropped site has 4 more than in the planes
 abbrev pub heights_before : Grid → ℕ → (ℕ → Tile) → ℕ → ℕ
@@ -114,3 +117,15 @@ pub record AreAtRest (g : Grid) (site : ℕ) (τ : ℕ → Tile) : Type 0 where
   pub clear : (m p : ℕ) → p < 64 → bit (τ m).wave p ≡ 0
   pub none_due : (j : ℕ) → j < sites g → j ≢ site → bit (τ (tile_of g j)).due (place_of g j) ≡ 0
   pub empty : height (τ (tile_of g site)) (place_of g site) ≡ 0
+
+-- a site, and where it is on the tiles
+pub record IsDropSite (g : Grid) (d : DropSite) : Type 0 where
+  pub inside : d.site < sites g
+  pub tile : d.tile ≡ tile_of g d.site
+  pub place : d.place ≡ place_of g d.site
+
+-- a wave from the tiles τ, which were at rest, to the tiles σ: the dropped site has toppled, and no other site is due
+pub record IsWholeWave (g : Grid) (site : ℕ) (τ σ : ℕ → Tile) : Type 0 where
+  pub wave : IsWave g site (heights_before g site τ) σ
+  pub started : toppled g σ site ≡ 1
+  pub none_due : (j : ℕ) → j < sites g → j ≢ site → bit (σ (tile_of g j)).due (place_of g j) ≡ 0

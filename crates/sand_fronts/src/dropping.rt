@@ -13,78 +13,48 @@
 //! The dropped site is not free in its waves, and may have become due. After them nothing else is due in its tile, and
 //! `due` is set to 0: otherwise the next drop would topple the site for no reason.
 
-ghost use Rattle.std.specs.Prelude.{◌≡◌, ◌≢◌, ℕ, ◌+◌, ◌^◌, ◌<◌, ◌≤◌, length, slice_index};
-ghost use Rattle.sand_model.specs.Grid.{sites};
-ghost use Rattle.sand_model.specs.Sand.{IsSettled, lost, topplings};
-ghost use Rattle.sand_tiles.specs.Counts.{counted, IsCount};
-ghost use Rattle.sand_fronts.specs.Tiling.{tile_of, place_of, on_tiles};
-ghost use Rattle.sand_fronts.specs.Waves.{tile_at, AreOpen, AreAtRest, IsBoard, heights_before};
-ghost use Rattle.sand_fronts.specs.Counting.{count_at};
-ghost use Rattle.sand_fronts.specs.Drops.{heights_on, grown_on, AreQuiet, AreOutside};
+ghost use Rattle.std.specs.Prelude.{◌≡◌, ℕ, ◌^◌, ◌<◌};
+ghost use Rattle.sand_model.specs.Sand.{lost, topplings};
+ghost use Rattle.sand_tiles.specs.Counts.{counted};
+ghost use Rattle.sand_fronts.specs.Waves.{AreOpen, AreAtRest, IsDropSite, heights_before};
 ghost use Rattle.sand_fronts.specs.Marking.{AreMarked};
+ghost use Rattle.sand_fronts.specs.Boards.{tiles_of, free_of, counts_of, marks_of, grown, IsBoard, IsSand, AreCounts, HasSettled};
 
-use crate::counting::{NOTHING, Total, count_wave};
-use crate::index_list::IndexList;
-use crate::marks::Marks;
-use crate::one_wave::topple_wave;
-use crate::sides::Beside;
-use sand_model::Shape;
-use sand_tiles::{Count, Tile, height_at, set_of};
+use crate::board::{Board, DropSite};
+use crate::counts::{Counts, NOTHING, Total};
+use crate::sand::Sand;
+use sand_tiles::height_at;
 
 /// Topples a site that has 4, and all that follows. Counts the topplings of each site and marks the sites. Returns the
 /// number of topplings, and of grains that fell into the sink.
-pub fn topple_all(
-    shape: Shape,
-    tiles: &mut [Tile],
-    free: &[u64],
-    beside: &[Beside],
-    list: &mut IndexList,
-    counts: &mut [Count],
-    marks: &mut Marks,
-    outside: &[Tile],
-    site: usize,
-    here: usize,
-    place: usize,
+pub(crate) fn topple_all(
+    board: &Board,
+    sand: &mut Sand,
+    counts: &mut Counts,
+    drop: DropSite,
 ) -> Total
-    requires site { site < sites shape }
-    requires here { (here ≡ tile_of shape site) × (place ≡ place_of shape site) }
-    requires one_each { (length free.now ≡ length tiles.old) × (length counts.old ≡ length tiles.old)
-        × (length marks.old ≡ length tiles.old) × (length outside.now ≡ length tiles.old) }
-    requires outside { AreOutside shape (tile_at outside.now) }
-    requires board { IsBoard shape (length tiles.old) beside.now }
-    requires all_open { AreOpen shape site (slice_index free.now) }
-    requires rest { AreAtRest shape site (tile_at tiles.old) }
-    requires room { sites shape + length tiles.old + 4 ≤ list.old.room }
-    requires sound { (m : ℕ) → IsCount (count_at counts.old m) }
-    requires few { (m p : ℕ) → p < 64 → counted (count_at counts.old m) p < 2 ^ 60 }
-    ensures settled { IsSettled shape (heights_before shape site (tile_at tiles.old))
-        (grown_on shape (count_at counts.old) (count_at counts.new)) (heights_on shape (tile_at tiles.new)) }
-    ensures size { result.size ≡ topplings shape (grown_on shape (count_at counts.old) (count_at counts.new)) }
-    ensures lost { result.lost ≡ lost shape (grown_on shape (count_at counts.old) (count_at counts.new)) }
-    ensures counted { (m p : ℕ) → p < 64
-        → counted (count_at counts.new m) p ≡ counted (count_at counts.old m) p
-        + on_tiles shape (grown_on shape (count_at counts.old) (count_at counts.new)) m p }
-    ensures marked { AreMarked (count_at counts.old) (count_at counts.new)
-        (slice_index marks.old) (slice_index marks.new) }
-    ensures marks_each { length marks.new ≡ length marks.old }
-    ensures quiet { AreQuiet shape (tile_at tiles.new) }
-    ensures sound { (m : ℕ) → IsCount (count_at counts.new m) }
-    ensures room { list.new.room ≡ list.old.room }
+    requires drop { IsDropSite board.now.shape drop }
+    requires board { IsBoard board.now }
+    requires sand { IsSand board.now.shape sand.old }
+    requires counts { AreCounts board.now.shape counts.old }
+    requires all_open { AreOpen board.now.shape drop.site (free_of board.now) }
+    requires rest { AreAtRest board.now.shape drop.site (tiles_of sand.old) }
+    requires few { (m p : ℕ) → p < 64 → counted (counts_of counts.old m) p < 2 ^ 60 }
+    ensures settled { HasSettled board.now.shape (heights_before board.now.shape drop.site (tiles_of sand.old))
+        sand.new counts.old counts.new }
+    ensures size { result.size ≡ topplings board.now.shape (grown board.now.shape counts.old counts.new) }
+    ensures lost { result.lost ≡ lost board.now.shape (grown board.now.shape counts.old counts.new) }
+    ensures marked { AreMarked (counts_of counts.old) (counts_of counts.new) (marks_of counts.old) (marks_of counts.new) }
 {
-    // For the proof: the sides are within the limits.
-    let _ = shape.sites();
-    let start = set_of(place);
     let mut total = NOTHING;
     let mut more = true;
     'waves: while more {
-        topple_wave(shape, tiles, free, beside, list, site, here, start);
-        let wave = count_wave(tiles, counts, marks, outside, list, here);
-        total = Total {
-            size: total.size + wave.size,
-            lost: total.lost + wave.lost,
-        };
-        more = (wave.size > 1) & (height_at(&tiles[here], place) == 0);
+        sand.topple_wave(board, drop);
+        let wave = counts.count_wave(sand, board);
+        total.size += wave.size;
+        total.lost += wave.lost;
+        more = (wave.size > 1) & (height_at(&sand.tiles[drop.tile], drop.place) == 0);
     }
-    tiles[here].due = 0;
+    sand.tiles[drop.tile].due = 0;
     total
 }

@@ -4,13 +4,12 @@ ghost use Rattle.std.specs.Prelude.{◌≡◌, ℕ, ◌+◌, ◌^◌, ◌<◌, �
 ghost use Rattle.sand_model.specs.Grid.{sites};
 ghost use Rattle.sand_model.specs.Sand.{sum_below};
 ghost use Rattle.sand_tiles.specs.Places.{bit};
-ghost use Rattle.sand_fronts.specs.Tiling.{pitch};
 ghost use Rattle.sand_fronts.specs.Marking.{in_sets};
 ghost use Rattle.sand_fronts.specs.Reaching.{spot_of, corner_of, IsReachedFrom, IsReachedIn};
 
 use crate::marks::Marks;
 use crate::reach::{Spot, reach_of};
-use crate::tiling::across;
+use crate::tiling::pitch;
 use sand_model::Shape;
 use sand_tiles::size;
 
@@ -28,7 +27,7 @@ fn corner(shape: Shape, k: usize) -> Spot
     ensures value { result ≡ corner_of shape k }
     ensures small { (result.column < 2 ^ 31) × (result.row < 2 ^ 31) }
 {
-    let row = across(shape) + 2;
+    let row = pitch(shape);
     Spot {
         column: (k % row).saturating_sub(1) * 8,
         row: (k / row).saturating_sub(2) * 8,

@@ -10,7 +10,7 @@ use std::marker::Model;
 
 /// A set of places for each tile.
 #[derive(Drop)]
-pub struct Marks {
+pub(crate) struct Marks {
     words: Vec<u64>,
     // The sets before `first`, and from `end` on, are empty.
     first: usize,
@@ -30,7 +30,7 @@ impl Model for Marks {
 
 impl Marks {
     /// Empty sets for n tiles. Fails only if an allocation fails.
-    pub fn new(alloc: Global, n: usize) -> Result<Marks, AllocError>
+    pub(crate) fn new(alloc: Global, n: usize) -> Result<Marks, AllocError>
         ensures one_each { IfOk result (λ m. length m ≡ n) }
         ensures none { IfOk result (λ m. (k : ℕ) → slice_index m k ≡ 0) }
     {
@@ -44,7 +44,7 @@ impl Marks {
 
     /// Adds places to the set of a tile.
     #[inline(always)]
-    pub fn mark(&mut self, k: usize, set: u64)
+    pub(crate) fn mark(&mut self, k: usize, set: u64)
         requires { k < length self.old }
         ensures one_each { length self.new ≡ length self.old }
         ensures each { (m : ℕ) → slice_index self.new m

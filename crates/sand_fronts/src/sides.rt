@@ -5,24 +5,24 @@
 //! row with sites are neighbours instead, across the seam. There the last column of the grid, which may be any column
 //! of its tile, is next to the first: a grain moves from one to the other by a shift over that many columns.
 
-ghost use Rattle.std.specs.Prelude.{◌≡◌, ◌-◌, ◌^◌, ◌<◌, ◌==◌, ◌&&◌, ◌%◌, length, IfOk};
+ghost use Rattle.std.specs.Prelude.{◌≡◌, ◌-◌, ◌^◌, ◌<◌, ◌==◌, ◌&&◌, ◌%◌, IfOk};
 ghost use Rattle.sand_model.specs.Grid.{joins};
-ghost use Rattle.sand_fronts.specs.Tiling.{pitch, tiles, to_west, to_east, shift_west, shift_east};
-ghost use Rattle.sand_fronts.specs.Waves.{IsBeside, IsBoard};
+ghost use Rattle.sand_fronts.specs.Tiling.{pitch, to_west, to_east, shift_west, shift_east};
+ghost use Rattle.sand_fronts.specs.Waves.{IsBeside, AreBeside};
 
-use crate::tiling::{across, tiles};
+use crate::tiling::{across, pitch, tiles};
 use sand_model::{Edge, Shape};
 use std::alloc::{AllocError, Global};
 
 /// The four tiles next to a tile, and how far a column shifts to the west and to the east of it.
 #[derive(Clone, Copy)]
-pub struct Beside {
-    pub north: usize,
-    pub south: usize,
-    pub west: usize,
-    pub east: usize,
-    pub west_shift: u32,
-    pub east_shift: u32,
+pub(crate) struct Beside {
+    pub(crate) north: usize,
+    pub(crate) south: usize,
+    pub(crate) west: usize,
+    pub(crate) east: usize,
+    pub(crate) west_shift: u32,
+    pub(crate) east_shift: u32,
 }
 
 // Whether a tile is in this column of tiles, and the grid has a seam.
@@ -31,7 +31,7 @@ fn is_at_seam(shape: Shape, k: usize, column: usize) -> bool
 {
     match shape.edge() {
         Edge::Open => false,
-        Edge::Cylinder => k % (across(shape) + 2) == column,
+        Edge::Cylinder => k % pitch(shape) == column,
     }
 }
 
@@ -75,7 +75,7 @@ fn sides_of(shape: Shape, k: usize) -> Beside
     requires { k < 2 ^ 32 }
     ensures { IsBeside shape k result }
 {
-    let row = across(shape) + 2;
+    let row = pitch(shape);
     let (west, west_shift) = west_of(shape, k);
     let (east, east_shift) = east_of(shape, k);
     Beside {
@@ -89,9 +89,8 @@ fn sides_of(shape: Shape, k: usize) -> Beside
 }
 
 /// The neighbours of each tile of a grid. Fails only if an allocation fails.
-pub fn all_sides(alloc: Global, shape: Shape) -> Result<Vec<Beside>, AllocError>
-    ensures one_each { IfOk result (λ all. length all.items ≡ tiles shape) }
-    ensures board { IfOk result (λ all. IsBoard shape (tiles shape) all.items) }
+pub(crate) fn all_sides(alloc: Global, shape: Shape) -> Result<Vec<Beside>, AllocError>
+    ensures board { IfOk result (λ all. AreBeside shape all.items) }
 {
     let n = tiles(shape);
     let mut all = Vec::with_capacity(alloc, n)?;

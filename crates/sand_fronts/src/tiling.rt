@@ -7,7 +7,7 @@
 ghost use Rattle.std.specs.Prelude.{◌≡◌, ℕ, ◌<◌, ◌≤◌, ◌^◌, length, slice_index, IfOk};
 ghost use Rattle.sand_model.specs.Grid.{IsGrid, sites};
 ghost use Rattle.sand_tiles.specs.Places.{bit, had};
-ghost use Rattle.sand_fronts.specs.Tiling.{across, tiles, tile_of, place_of, on_tiles};
+ghost use Rattle.sand_fronts.specs.Tiling.{across, pitch, tiles, tile_of, place_of, on_tiles};
 ghost use Rattle.sand_fronts.specs.TileLists.{IsClear};
 ghost use Rattle.sand_fronts.specs.Waves.{tile_at, AreAllOpen};
 
@@ -28,12 +28,24 @@ pub(crate) fn across(shape: Shape) -> usize
     shape.width().div_ceil(SIDE)
 }
 
+/// The number of tiles in a row, including the border.
+#[inline(always)]
+pub(crate) fn pitch(shape: Shape) -> usize
+    ensures value { result ≡ pitch shape }
+    ensures some { 3 ≤ result }
+    ensures limit { result ≤ 34 }
+    ensures sides { IsGrid shape }
+{
+    across(shape) + 2
+}
+
 /// The number of tiles, including the border.
 pub(crate) fn tiles(shape: Shape) -> usize
     ensures value { result ≡ tiles shape }
     ensures limit { result ≤ 65536 }
+    ensures sides { IsGrid shape }
 {
-    (shape.height().div_ceil(SIDE) + 4) * (across(shape) + 2)
+    (shape.height().div_ceil(SIDE) + 4) * pitch(shape)
 }
 
 /// The tile and the place of a site.
@@ -46,7 +58,7 @@ pub(crate) fn find(shape: Shape, site: usize) -> (usize, usize)
     ensures inside { (result.0 < tiles shape) × (result.1 < 64) }
 {
     let (column, row) = shape.place(site);
-    let tile = (row / SIDE + 2) * (across(shape) + 2) + (column / SIDE + 1);
+    let tile = (row / SIDE + 2) * pitch(shape) + (column / SIDE + 1);
     (tile, row % SIDE * SIDE + column % SIDE)
 }
 

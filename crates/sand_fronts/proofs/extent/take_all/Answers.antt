@@ -3,9 +3,11 @@ use Rattle.std.specs.Prelude.{slice_index}
 use Rattle.std.proofs.lemmas.Bool.{cases_lt}
 use Rattle.sand_model.specs.Sand.{sum_below}
 use Rattle.sand_tiles.specs.Places.{bit}
+use Rattle.sand_tiles.proofs.Bits.{bit_none}
 use Rattle.sand_fronts.specs.declared.reach.Spot.{Spot}
 use Rattle.sand_fronts.specs.Reaching.{spot_of, corner_of, IsReachedFrom}
-use Rattle.sand_fronts.proofs.Marked.{few_in_sets, none_in_sets, set_left, set_taken, set_none, set_less, all_taken}
+use Rattle.sand_fronts.proofs.Counted.{few_in_sets, none_in_sets}
+use Rattle.sand_fronts.proofs.Marked.{set_left, set_taken, set_none, set_less, all_taken}
 use Rattle.sand_fronts.proofs.Reached.{sets_begin, sets_more, sets_all}
 use Rattle.sand_fronts.proofs.extent.take_all.Goals as goal
 
@@ -64,8 +66,8 @@ end-requires c = all_taken (slice_index c.loop-k.marks) c.loop-k.k c.between-fir
 pub returns-clause-area : goal.returns-clause-area
 returns-clause-area c =
     let none = none_in_sets (length c.args.marks.now) (slice_index c.loop-k.marks)
-    (all_taken (slice_index c.loop-k.marks) c.loop-k.k c.between-first.result.1
-    c.loop-k.invariant.taken c.loop-k.invariant.beyond (omega arith)) in
+    (λ m p l. ap (λ w. bit w p) (all_taken (slice_index c.loop-k.marks) c.loop-k.k c.between-first.result.1
+    c.loop-k.invariant.taken c.loop-k.invariant.beyond (omega arith) m) ∙ bit_none p) in
     omega (arith, c.loop-k.invariant.so_far)
 
 pub returns-clause-reach : goal.returns-clause-reach

@@ -10,9 +10,11 @@ loop-k-preserved c = record {
       c.push_reserved.ensures.items (search rules) c.sides_of.ensures c.loop-k.invariant.each;
 }
 
-pub returns-clause-board : goal.returns-clause-board
-returns-clause-board c =
+pub returns : goal.returns
+returns c =
     let long : length c.loop-k.all.items ≡ c.tiles-n.result = search rules in
-    board_of c.args.shape c.loop-k.all.items (omega (arith, c.tiles-n.ensures.value))
-    (omega (arith, c.tiles-n.ensures.value, c.tiles-n.ensures.limit))
-    (λ k l. c.loop-k.invariant.each k (omega (arith, c.tiles-n.ensures.value, c.loop-k-test.false)))
+    record {
+      board = board_of c.args.shape c.loop-k.all.items c.tiles-n.ensures.sides (omega (arith, c.tiles-n.ensures.value))
+          (omega (arith, c.tiles-n.ensures.value, c.tiles-n.ensures.limit))
+          (λ k l. c.loop-k.invariant.each k (omega (arith, c.tiles-n.ensures.value, c.loop-k-test.false)));
+    }

@@ -1,0 +1,74 @@
+use Rattle.std.proofs.Common.{sym, cond, eqb, ◌≡◌, ◌∙◌, length, arith}
+use Rattle.std.proofs.Math.ListN.{set}
+use Rattle.std.proofs.lemmas.List.{length-set, get_or_read}
+use Rattle.sand_tiles.specs.declared.tile.Tile.{Tile}
+use Rattle.sand_fronts.specs.Waves.{tile_at, beside_at}
+use Rattle.sand_fronts.specs.Tiling.{tiles}
+use Rattle.sand_fronts.specs.Boards.{tiles_of, free_of}
+use Rattle.sand_fronts.proofs.Gained.{tile_read, gains_from, written}
+use Rattle.sand_fronts.proofs.TileLists.{joins_from, visited_waits}
+use Rattle.sand_fronts.proofs.sand.Sand.topple_tile.Goals.{After-index, After-index-2}
+use Rattle.sand_fronts.proofs.sand.Sand.topple_tile.Goals as goal
+
+-- what the code reads
+reads : (c : After-index) → (c.index_mut.result.now ≡ tiles_of c.args.self.now c.args.k)
+    × (c.index.result.now ≡ free_of c.args.board.now c.args.k)
+reads c =
+    let inside = c.requires.tile.inside in (
+      tile_read c.args.self.now.tiles.items c.args.k _ (omega (arith, c.requires.sand.one_each))
+          c.index_mut.ensures.value,
+      get_or_read c.args.board.now.free.items c.args.k _ (omega (arith, c.requires.board.free_each))
+          c.index.ensures 0,
+    )
+
+reads_beside : (c : After-index-2) → c.index-2.result.now ≡ beside_at c.args.board.now.beside.items c.args.k
+reads_beside c =
+    let inside = c.requires.tile.inside in
+    get_or_read c.args.board.now.beside.items c.args.k _ (omega (arith, c.requires.board.beside.one_each))
+    c.index-2.ensures (record { north = 0; south = 0; west = 0; east = 0; west_shift = 0; east_shift = 0 })
+
+-- the number of tiles, after the visit
+visited_each : (c : After-index-2)
+    → length (set c.args.self.now.tiles.items c.args.k c.visit-new.new.tile) ≡ tiles c.args.board.now.shape
+visited_each c = length-set {A = Tile} c.args.self.now.tiles.items c.args.k c.visit-new.new.tile ∙ c.requires.sand.one_each
+
+pub visit-new-requires : goal.visit-new-requires
+visit-new-requires c = let r = reads (goal.at.visit-new-requires c).After-index in rw (r.0, r.1) c.requires.ready
+
+pub hand_over-requires-clause-beside : goal.hand_over-requires-clause-beside
+hand_over-requires-clause-beside c = rw (reads_beside c, visited_each c) c.requires.tile.on_board
+
+pub hand_over-requires-clause-small : goal.hand_over-requires-clause-small
+hand_over-requires-clause-small c = let e = visited_each c in omega (arith, c.requires.board.beside.small)
+
+pub hand_over-requires-clause-one_each : goal.hand_over-requires-clause-one_each
+hand_over-requires-clause-one_each c = c.requires.board.free_each ∙ sym (visited_each c)
+
+pub returns-clause-sand : goal.returns-clause-sand
+returns-clause-sand c = record {
+  one_each = c.hand_over.ensures.one_each ∙ visited_each (goal.at.returns-clause-sand c).After-index-2;
+  room = omega (arith, c.hand_over.ensures.joins.room, c.requires.sand.room);
+}
+
+pub returns-clause-steps : goal.returns-clause-steps
+returns-clause-steps c =
+    let r = reads (goal.at.returns-clause-steps c).After-index in
+    let s = reads_beside (goal.at.returns-clause-steps c).After-index-2 in
+    record {
+      visited = c.visit-new.new.tile;
+      new = c.visit-new.result;
+      visits = rw (← r.0, ← r.1) c.visit-new.ensures;
+      fits = omega arith;
+      gains = rw (← s) (gains_from _
+          (λ m. cond (eqb m c.args.k) c.visit-new.new.tile (tile_at c.args.self.now.tiles.items m)) _ _
+          (λ m. written c.args.self.now.tiles.items c.args.k m c.visit-new.new.tile
+          (omega (arith, c.requires.tile.inside, c.requires.sand.one_each)))
+          c.hand_over.ensures.gains);
+    }
+
+pub returns-clause-joins : goal.returns-clause-joins
+returns-clause-joins c =
+    joins_from (tiles c.args.board.now.shape) 4 _ _ _ _ _
+    (λ j l. visited_waits c.args.self.now.tiles.items (free_of c.args.board.now) c.args.k j c.visit-new.new.tile
+    (omega (arith, c.requires.tile.inside, c.requires.sand.one_each)) c.visit-new.ensures.none_due)
+    (rw (← visited_each (goal.at.returns-clause-joins c).After-index-2) c.hand_over.ensures.joins)

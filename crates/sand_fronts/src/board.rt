@@ -1,0 +1,74 @@
+//! The tiles of a grid without their sand: which of their places are free, and which tiles are next to each other.
+
+ghost use Rattle.std.specs.Prelude.{◌≡◌, ℕ, ◌<◌, length, slice_index, IfOk};
+ghost use Rattle.sand_model.specs.Grid.{missing, sites};
+ghost use Rattle.sand_fronts.specs.Tiling.{tiles};
+ghost use Rattle.sand_fronts.specs.Waves.{tile_at, AreAllOpen};
+ghost use Rattle.sand_fronts.specs.Drops.{AreOutside};
+ghost use Rattle.sand_fronts.specs.Boards.{free_of, IsBoard};
+
+use crate::sides::{Beside, all_sides};
+use crate::tiling::{all_open, tiles_with};
+use sand_model::Shape;
+use sand_tiles::Tile;
+use std::alloc::{AllocError, Global};
+
+/// The tiles of a grid.
+#[derive(Drop)]
+pub(crate) struct Board {
+    pub(crate) shape: Shape,
+    /// The free places of each tile, those that may topple: all sites, except the dropped one in its own waves.
+    pub(crate) free: Vec<u64>,
+    pub(crate) beside: Vec<Beside>,
+    /// The number of places around each site that are outside the grid, in place of heights.
+    pub(crate) outside: Vec<Tile>,
+}
+
+/// The site of a drop, with its tile and place.
+#[derive(Clone, Copy)]
+pub(crate) struct DropSite {
+    pub(crate) site: usize,
+    pub(crate) tile: usize,
+    pub(crate) place: usize,
+}
+
+// By site, the number of places around it that are outside the grid.
+fn outside_by_site(alloc: Global, shape: Shape) -> Result<Vec<u64>, AllocError>
+    ensures one_each { IfOk result (λ all. length all.items ≡ sites shape) }
+    ensures each { IfOk result (λ all. (j : ℕ) → j < sites shape → slice_index all.items j ≡ missing shape j) }
+{
+    let mut all = Vec::with_capacity(alloc, shape.sites())?;
+    for site in 0..shape.sites() {
+        all.push_reserved(u64::from(shape.missing(site)));
+    }
+    Ok(all)
+}
+
+// The same on tiles.
+fn all_outside(alloc: Global, shape: Shape) -> Result<Vec<Tile>, AllocError>
+    ensures one_each { IfOk result (λ all. length all.items ≡ tiles shape) }
+    ensures each { IfOk result (λ all. AreOutside shape (tile_at all.items)) }
+{
+    let by_site = outside_by_site(alloc, shape)?;
+    let all = tiles_with(alloc, shape, by_site.as_slice())?;
+    Ok(all)
+}
+
+impl Board {
+    /// The tiles of a grid, with all sites free. Fails only if an allocation fails.
+    pub(crate) fn new(alloc: Global, shape: Shape) -> Result<Board, AllocError>
+        ensures shape { IfOk result (λ b. b.shape ≡ shape) }
+        ensures board { IfOk result (λ b. IsBoard b) }
+        ensures all_open { IfOk result (λ b. AreAllOpen b.shape (free_of b)) }
+    {
+        let free = all_open(alloc, shape)?;
+        let beside = all_sides(alloc, shape)?;
+        let outside = all_outside(alloc, shape)?;
+        Ok(Board {
+            shape,
+            free,
+            beside,
+            outside,
+        })
+    }
+}

@@ -1,0 +1,127 @@
+//! The sand on the tiles, and one wave over them: the dropped site topples, then each other site that this brings to 4,
+//! once each.
+//!
+//! - **The balance.** Let h be the heights at the start of the wave, T the sites that have toppled and D those that are
+//!   due. For every site j except the dropped one, h(j) plus the number of its neighbours in T is the height in its
+//!   tile's planes, plus 4 if j is in T or D (`IsWave`). A visit to a tile keeps this balance, once the grains that
+//!   leave the tile are given to the tiles next to it.
+//! - **No site topples twice.** h(j) is at most 3 and there are four neighbours, so the left side of the balance is at
+//!   most 7, and a site that has toppled cannot become due again. The dropped site could; it is not free in its own
+//!   wave.
+//! - **Each toppling is legal, in any order.** Whatever stabilises the heights topples each site in T (`IsWave`:
+//!   `needed`). So the wave is a legal sequence of topplings (`advances`), though none is ever written down.
+//! - **The list.** It begins with the tile of the dropped site. A tile joins it when a free site in it becomes due and
+//!   none was before. Its turn topples all that is due there. So each turn topples a new site, and the list never has
+//!   more tiles than there are sites and tiles, plus the four that a turn may add. At its end no free site is due
+//!   (`none_due`).
+//!
+//! A border of tiles without free sites spares all tests for the edge of the grid: grains that fall into the sink are
+//! added to tiles that nobody reads. On a cylinder the tiles at the two ends of a row are neighbours, and the last
+//! column of the grid need not be the last of its tile: hence the shifts of `Beside`.
+
+ghost use Rattle.std.specs.Prelude.{◌≡◌, ℕ, ◌+◌, ◌^◌, ◌<◌, ◌≤◌, length, slice_index};
+ghost use Rattle.sand_tiles.specs.Places.{bit, IsReady};
+ghost use Rattle.sand_fronts.specs.Tiling.{tiles};
+ghost use Rattle.sand_fronts.specs.TileLists.{waits_but, waits, Joins, AreListed};
+ghost use Rattle.sand_fronts.specs.Waves.{only, AreOpen, AreAtRest, AtTile, IsOnBoard, IsDropSite, IsWholeWave, beside_at, over_rim, Steps};
+ghost use Rattle.sand_fronts.specs.Boards.{tiles_of, free_of, IsBoard, IsSand, Gets};
+
+use crate::board::{Board, DropSite};
+use crate::index_list::IndexList;
+use crate::sides::Beside;
+use sand_tiles::{Tile, receive, set_of, visit};
+
+// The first column of a tile.
+const FIRST: u64 = 0x0101_0101_0101_0101;
+
+// Does nothing at run time. It tells the proof that each word is below 2^64.
+#[inline(always)]
+fn knows_words(words: &[u64])
+    ensures { (m : ℕ) → slice_index words.now m < 2 ^ 64 }
+{
+    let _ = words.len();
+}
+
+/// The sand on the tiles, and a list of tiles that have their turn in a wave.
+#[derive(Drop)]
+pub(crate) struct Sand {
+    pub(crate) tiles: Vec<Tile>,
+    pub(crate) list: IndexList,
+}
+
+impl Sand {
+    // Adds a grain at each place of a set in a tile, and lists the tile if a free place becomes due and none was before.
+    #[inline(always)]
+    fn gain(&mut self, board: &Board, k: usize, gain: u64)
+        requires inside { k < length self.old.tiles.items }
+        requires small { length self.old.tiles.items ≤ 65536 }
+        requires one_each { length board.now.free.items ≡ length self.old.tiles.items }
+        requires room { length self.old.list.items < self.old.list.room }
+        ensures { Gets (free_of board.now) 1 (only k (bit gain)) self.old self.new }
+    {
+        let places = board.free[k];
+        let tile = &mut self.tiles[k];
+        let before = tile.due & places;
+        receive(tile, gain);
+        let after = tile.due & places;
+        self.list.push_if(k, (before == 0) & (after != 0));
+    }
+
+    // Gives the grains that leave a tile to the four tiles next to it.
+    #[inline(always)]
+    fn hand_over(&mut self, board: &Board, beside: &Beside, new: u64)
+        requires beside { IsOnBoard (length self.old.tiles.items) beside.now }
+        requires small { length self.old.tiles.items ≤ 65536 }
+        requires one_each { length board.now.free.items ≡ length self.old.tiles.items }
+        requires room { length self.old.list.items + 4 ≤ self.old.list.room }
+        ensures { Gets (free_of board.now) 4 (over_rim beside.now new) self.old self.new }
+    {
+        self.gain(board, beside.north, new << 56);
+        self.gain(board, beside.south, new >> 56);
+        self.gain(board, beside.west, (new & FIRST) << beside.west_shift);
+        self.gain(board, beside.east, new >> beside.east_shift & FIRST);
+    }
+
+    // Visits a tile, and hands over the grains that leave it.
+    #[inline(always)]
+    fn topple_tile(&mut self, board: &Board, k: usize, start: u64)
+        requires board { IsBoard board.now }
+        requires sand { IsSand board.now.shape self.old }
+        requires tile { AtTile board.now.shape k (beside_at board.now.beside.items k) }
+        requires ready { IsReady (tiles_of self.old k) (free_of board.now k) start }
+        requires room { length self.old.list.items + 4 ≤ self.old.list.room }
+        ensures sand { IsSand board.now.shape self.new }
+        ensures steps { Steps (tiles_of self.old) (tiles_of self.new) (free_of board.now k)
+            (beside_at board.now.beside.items k) k start }
+        ensures joins { Joins (tiles board.now.shape) 4 (waits_but k (tiles_of self.old) (free_of board.now))
+            (waits (tiles_of self.new) (free_of board.now)) self.old.list self.new.list }
+    {
+        let new = visit(&mut self.tiles[k], board.free[k], start);
+        self.hand_over(board, &board.beside[k], new);
+    }
+
+    /// One wave: the dropped site topples, then each other site that this brings to 4, once each. Lists their tiles.
+    pub(crate) fn topple_wave(&mut self, board: &Board, drop: DropSite)
+        requires drop { IsDropSite board.now.shape drop }
+        requires board { IsBoard board.now }
+        requires sand { IsSand board.now.shape self.old }
+        requires all_open { AreOpen board.now.shape drop.site (free_of board.now) }
+        requires rest { AreAtRest board.now.shape drop.site (tiles_of self.old) }
+        ensures wave { IsWholeWave board.now.shape drop.site (tiles_of self.old) (tiles_of self.new) }
+        ensures sand { IsSand board.now.shape self.new }
+        ensures listed { AreListed self.new.list.items 0 (length self.new.list.items) (tiles_of self.new) }
+        ensures on_board { (t : ℕ) → t < length self.new.list.items
+            → slice_index self.new.list.items t < tiles board.now.shape }
+    {
+        knows_words(board.free.as_slice());
+        self.list.clear();
+        self.list.push_if(drop.tile, true);
+        self.topple_tile(board, drop.tile, set_of(drop.place));
+        let mut turn = 1usize;
+        'turns: while turn < self.list.len() {
+            let k = self.list.item(turn);
+            turn += 1;
+            self.topple_tile(board, k, 0);
+        }
+    }
+}
