@@ -1,11 +1,12 @@
 -- Numbers by site, read by tile and place.
-use Rattle.std.proofs.Common.{ℕ, true, false, cond, ◌≡◌, ◌+◌, ◌*◌, ◌/◌, ◌%◌, ◌<◌, ◌≤◌, ◌∙◌, ap, arith, ⊎_elim}
+use Rattle.std.proofs.Common.{ℕ, true, false, cond, ◌⊎◌, ◌≡◌, ◌+◌, ◌*◌, ◌/◌, ◌%◌, ◌<◌, ◌≤◌, ◌∙◌, ap, arith, ⊎_elim}
 use Rattle.std.proofs.lemmas.Bool.{cases_Bool, lt-ltb, le-ltb, le-leb, lt-leb, ltb-true, leb-true, and_parts, and_from, and_left, and_right}
 use Rattle.std.proofs.lemmas.Nat.{div-mul-add, mod-mul-add, div-add-mod', mod_below, mul-add-lt, div_below}
 use Rattle.sand_model.specs.Grid.{Grid, sites}
 use Rattle.sand_model.proofs.Neighbours.{some_width}
-use Rattle.sand_fronts.specs.Tiling.{pitch, tile_of, place_of, row_at, column_at, is_site, site_on, on_tiles, IsBlank}
+use Rattle.sand_fronts.specs.Tiling.{pitch, tile_of, place_of, row_at, column_at, is_site, site_on, on_tiles}
 use Rattle.sand_fronts.specs.Waves.{at_site}
+use Rattle.sand_fronts.proofs.NeighboursOnTiles.{tile, place, IsBlank}
 
 row_in : (w h j : ℕ) → 0 < w → j < w * h → j / w < h
 row_in w h j pos inside = div_below j w h pos (omega arith)
@@ -75,25 +76,22 @@ no_site g v k p e = ap (λ t. cond t (v (site_on g k p)) 0) e
 
 pub on_tiles_blank : (g : Grid) (v : ℕ → ℕ) → IsBlank g (on_tiles g v)
 unfolding is_site
-on_tiles_blank g v = record {
-  above = λ c p less. let d : (1 * pitch g + c) / pitch g ≡ 1 = div-mul-add 1 (pitch g) c less in
-      no_site g v (1 * pitch g + c) p
-      (and_left _ _ (and_left _ _ (lt-leb 2 ((1 * pitch g + c) / pitch g) (omega arith))));
-  below = λ q c y x less ly lx out.
-      let k = (q + 2) * pitch g + c in
-      let d : k / pitch g ≡ q + 2 = div-mul-add (q + 2) (pitch g) c less in
-      no_site g v k (y * 8 + x) (and_right _ _ (and_left _ _ (le-ltb (row_at g k (y * 8 + x)) g.height (omega arith))));
-  before = λ q p.
-      let k = (q + 2) * pitch g in
-      let m : (k + 0) % pitch g ≡ 0 = mod-mul-add (q + 2) (pitch g) 0 (omega arith) in
-      let m' : k % pitch g ≡ 0 = ap (λ t. t % pitch g) (let e : k ≡ k + 0 = omega arith in e) ∙ m in
-      no_site g v k p (and_left _ _ (and_right _ _ (lt-leb 1 (k % pitch g) (omega arith))));
-  beyond = λ q c y x less ly lx out.
-      let k = (q + 2) * pitch g + (c + 1) in
-      let m : k % pitch g ≡ c + 1 = mod-mul-add (q + 2) (pitch g) (c + 1) less in
-      no_site g v k (y * 8 + x)
-      (and_right _ _ (and_right _ _ (le-ltb (column_at g k (y * 8 + x)) g.width (omega arith))));
-}
+on_tiles_blank g v y x less out =
+    let k = tile g y x in
+    let p = place y x in
+    let r : k / pitch g ≡ y / 8 = div-mul-add (y / 8) (pitch g) (x / 8) less in
+    let c : k % pitch g ≡ x / 8 = mod-mul-add (y / 8) (pitch g) (x / 8) less in
+    no_site g v k p
+    (⊎_elim
+    (λ (above : y < 16). and_left _ _ (and_left _ _ (lt-leb 2 (k / pitch g) (omega arith))))
+    (λ (some : (16 + g.height ≤ y) ⊎ ((x < 8) ⊎ (8 + g.width ≤ x))). ⊎_elim
+    (λ (below : 16 + g.height ≤ y). and_right _ _ (and_left _ _ (le-ltb (row_at g k p) g.height (omega arith))))
+    (λ (columns : (x < 8) ⊎ (8 + g.width ≤ x)). ⊎_elim
+    (λ (before : x < 8). and_left _ _ (and_right _ _ (lt-leb 1 (k % pitch g) (omega arith))))
+    (λ (beyond : 8 + g.width ≤ x). and_right _ _ (and_right _ _ (le-ltb (column_at g k p) g.width (omega arith))))
+    columns)
+    some)
+    out)
 
 by_site : (g : Grid) (u : ℕ → ℕ → ℕ) (j k p : ℕ) → tile_of g j ≡ k → place_of g j ≡ p
     → u (tile_of g j) (place_of g j) ≡ u k p

@@ -11,7 +11,10 @@ use Rattle.sand_tiles.proofs.Moves.{bit_shr, bit_shl, bit_shl_low, bit_above, ma
 use Rattle.sand_fronts.specs.Tiling.{across, pitch, over_north, over_south, over_west, over_east, to_west, to_east, shift_west, shift_east, seam_west, seam_east}
 use Rattle.sand_fronts.specs.Waves.{only}
 use Rattle.sand_fronts.proofs.Waves.{only_same, only_other}
-use Rattle.sand_fronts.proofs.NeighboursOnTiles.{and_no}
+
+and_no : (t b : Bool) → b ≡ false → (t && b) ≡ false
+and_no true b e = e
+and_no false b e = refl
 
 -- ---- the words that are handed over
 
@@ -74,59 +77,53 @@ to_the_west a s p small low = ⊎_elim
 
 -- ---- from the tile k
 
-both : (b : Bool) → ◌≡◌ {A = ℕ} (cond b 0 0) 0
-both true = refl
-both false = refl
+turned : (a b : Bool) (n : ℕ) → cond a (cond b n 0) 0 ≡ cond b (cond a n 0) 0
+turned true b n = refl
+turned false true n = refl
+turned false false n = refl
 
-over_north_none : (f : ℕ → ℕ) (p : ℕ) → ((q : ℕ) → f q ≡ 0) → over_north f p ≡ 0
-unfolding over_north
-over_north_none f p none = ap (λ x. cond (ltb p 8) x 0) (none (p + 56)) ∙ both (ltb p 8)
+turned' : (a b : Bool) (n : ℕ) → cond a 0 (cond b n 0) ≡ cond b (cond a 0 n) 0
+turned' false b n = refl
+turned' true true n = refl
+turned' true false n = refl
 
-over_south_none : (f : ℕ → ℕ) (p : ℕ) → ((q : ℕ) → f q ≡ 0) → over_south f p ≡ 0
-unfolding over_south
-over_south_none f p none = ap (λ x. cond (ltb p 56) 0 x) (none (p - 56)) ∙ both (ltb p 56)
+over_north_only : (k : ℕ) (f : ℕ → ℕ) (m p : ℕ) → over_north (only k f m) p ≡ only k (over_north f) m p
+unfolding over_north only
+over_north_only k f m p = turned (ltb p 8) (eqb m k) (f (p + 56))
 
-over_west_none : (s : ℕ) (f : ℕ → ℕ) (p : ℕ) → ((q : ℕ) → f q ≡ 0) → over_west s f p ≡ 0
-unfolding over_west
-over_west_none s f p none = ap (λ x. cond (eqb (p % 8) 0) x 0) (none (p + s)) ∙ both (eqb (p % 8) 0)
+over_south_only : (k : ℕ) (f : ℕ → ℕ) (m p : ℕ) → over_south (only k f m) p ≡ only k (over_south f) m p
+unfolding over_south only
+over_south_only k f m p = turned' (ltb p 56) (eqb m k) (f (p - 56))
 
-over_east_none : (s : ℕ) (f : ℕ → ℕ) (p : ℕ) → ((q : ℕ) → f q ≡ 0) → over_east s f p ≡ 0
-unfolding over_east
-over_east_none s f p none = ap (λ x. cond (eqb (p % 8) s) x 0) (none (p - s)) ∙ both (eqb (p % 8) s)
+over_west_only : (s k : ℕ) (f : ℕ → ℕ) (m p : ℕ) → over_west s (only k f m) p ≡ only k (over_west s f) m p
+unfolding over_west only
+over_west_only s k f m p = turned (eqb (p % 8) 0) (eqb m k) (f (p + s))
 
-over_north_same : (f h : ℕ → ℕ) (p : ℕ) → ((q : ℕ) → f q ≡ h q) → over_north f p ≡ over_north h p
-unfolding over_north
-over_north_same f h p same = ap (λ x. cond (ltb p 8) x 0) (same (p + 56))
+over_east_only : (s k : ℕ) (f : ℕ → ℕ) (m p : ℕ) → over_east s (only k f m) p ≡ only k (over_east s f) m p
+unfolding over_east only
+over_east_only s k f m p = turned (eqb (p % 8) s) (eqb m k) (f (p - s))
 
-over_south_same : (f h : ℕ → ℕ) (p : ℕ) → ((q : ℕ) → f q ≡ h q) → over_south f p ≡ over_south h p
-unfolding over_south
-over_south_same f h p same = ap (λ x. cond (ltb p 56) 0 x) (same (p - 56))
-
-over_west_same : (s : ℕ) (f h : ℕ → ℕ) (p : ℕ) → ((q : ℕ) → f q ≡ h q) → over_west s f p ≡ over_west s h p
-unfolding over_west
-over_west_same s f h p same = ap (λ x. cond (eqb (p % 8) 0) x 0) (same (p + s))
-
-over_east_same : (s : ℕ) (f h : ℕ → ℕ) (p : ℕ) → ((q : ℕ) → f q ≡ h q) → over_east s f p ≡ over_east s h p
-unfolding over_east
-over_east_same s f h p same = ap (λ x. cond (eqb (p % 8) s) x 0) (same (p - s))
+-- k gives to m if and only if m gets from k
+moved : (k k' m m' : ℕ) (f h : ℕ → ℕ) (p : ℕ) → (m' ≡ k → (m ≡ k') × (f p ≡ h p)) → (m ≡ k' → m' ≡ k)
+    → only k f m' p ≡ only k' h m p
+moved k k' m m' f h p to back = ⊎_elim
+    (λ (e : m' ≡ k). let t = to e in only_same k m' f p e ∙ t.1 ∙ sym (only_same k' m h p t.0))
+    (λ (ne : m' ≡ k → ⊥). only_other k m' f p ne ∙ sym (only_other k' m h p (λ e. ne (back e))))
+    (cases_eq m' k)
 
 pub north_rim : (g : Grid) (f : ℕ → ℕ) (k m p : ℕ) → pitch g ≤ k
     → over_south (only k f (m + pitch g)) p ≡ only (k - pitch g) (over_south f) m p
-north_rim g f k m p high = ⊎_elim
-    (λ (e : m + pitch g ≡ k). over_south_same (only k f (m + pitch g)) f p (λ q. only_same k (m + pitch g) f q e)
-    ∙ sym (only_same (k - pitch g) m (over_south f) p (omega arith)))
-    (λ (ne : m + pitch g ≡ k → ⊥). over_south_none (only k f (m + pitch g)) p (λ q. only_other k (m + pitch g) f q ne)
-    ∙ sym (only_other (k - pitch g) m (over_south f) p (λ e. ne (omega arith))))
-    (cases_eq (m + pitch g) k)
+north_rim g f k m p high =
+    over_south_only k f (m + pitch g) p
+    ∙ moved k (k - pitch g) m (m + pitch g) (over_south f) (over_south f) p (λ e. (omega arith, refl))
+    (λ e. omega arith)
 
 pub south_rim : (g : Grid) (f : ℕ → ℕ) (k m p : ℕ) → pitch g ≤ m
     → over_north (only k f (m - pitch g)) p ≡ only (k + pitch g) (over_north f) m p
-south_rim g f k m p high = ⊎_elim
-    (λ (e : m - pitch g ≡ k). over_north_same (only k f (m - pitch g)) f p (λ q. only_same k (m - pitch g) f q e)
-    ∙ sym (only_same (k + pitch g) m (over_north f) p (omega arith)))
-    (λ (ne : m - pitch g ≡ k → ⊥). over_north_none (only k f (m - pitch g)) p (λ q. only_other k (m - pitch g) f q ne)
-    ∙ sym (only_other (k + pitch g) m (over_north f) p (λ e. ne (omega arith))))
-    (cases_eq (m - pitch g) k)
+south_rim g f k m p high =
+    over_north_only k f (m - pitch g) p
+    ∙ moved k (k + pitch g) m (m - pitch g) (over_north f) (over_north f) p (λ e. (omega arith, refl))
+    (λ e. omega arith)
 
 -- a tile in a column of the grid, not of the border
 pub record IsInner (g : Grid) (k : ℕ) : Type 0 where
@@ -204,26 +201,16 @@ east_then_west g m k im ik to =
 
 pub east_rim : (g : Grid) (f : ℕ → ℕ) (k m p : ℕ) → IsInner g m → IsInner g k
     → over_west (shift_west g m) (only k f (to_west g m)) p ≡ only (to_east g k) (over_west (shift_east g k) f) m p
-east_rim g f k m p im ik = ⊎_elim
-    (λ (e : to_west g m ≡ k).
-    let both = west_then_east g m k im ik e in
-    over_west_same (shift_west g m) (only k f (to_west g m)) f p (λ q. only_same k (to_west g m) f q e)
-    ∙ ap (λ s. over_west s f p) both.1 ∙ sym (only_same (to_east g k) m (over_west (shift_east g k) f) p both.0))
-    (λ (ne : to_west g m ≡ k → ⊥).
-    over_west_none (shift_west g m) (only k f (to_west g m)) p (λ q. only_other k (to_west g m) f q ne)
-    ∙ sym (only_other (to_east g k) m (over_west (shift_east g k) f)
-    p (λ e. ne (sym (east_then_west g k m ik im (sym e)).0))))
-    (cases_eq (to_west g m) k)
+east_rim g f k m p im ik =
+    over_west_only (shift_west g m) k f (to_west g m) p
+    ∙ moved k (to_east g k) m (to_west g m) (over_west (shift_west g m) f) (over_west (shift_east g k) f) p
+    (λ e. let b = west_then_east g m k im ik e in (b.0, ap (λ s. over_west s f p) b.1))
+    (λ e. sym (east_then_west g k m ik im (sym e)).0)
 
 pub west_rim : (g : Grid) (f : ℕ → ℕ) (k m p : ℕ) → IsInner g m → IsInner g k
     → over_east (shift_east g m) (only k f (to_east g m)) p ≡ only (to_west g k) (over_east (shift_west g k) f) m p
-west_rim g f k m p im ik = ⊎_elim
-    (λ (e : to_east g m ≡ k).
-    let both = east_then_west g m k im ik e in
-    over_east_same (shift_east g m) (only k f (to_east g m)) f p (λ q. only_same k (to_east g m) f q e)
-    ∙ ap (λ s. over_east s f p) both.1 ∙ sym (only_same (to_west g k) m (over_east (shift_west g k) f) p both.0))
-    (λ (ne : to_east g m ≡ k → ⊥).
-    over_east_none (shift_east g m) (only k f (to_east g m)) p (λ q. only_other k (to_east g m) f q ne)
-    ∙ sym (only_other (to_west g k) m (over_east (shift_west g k) f)
-    p (λ e. ne (sym (west_then_east g k m ik im (sym e)).0))))
-    (cases_eq (to_east g m) k)
+west_rim g f k m p im ik =
+    over_east_only (shift_east g m) k f (to_east g m) p
+    ∙ moved k (to_west g k) m (to_east g m) (over_east (shift_east g m) f) (over_east (shift_west g k) f) p
+    (λ e. let b = east_then_west g m k im ik e in (b.0, ap (λ s. over_east s f p) b.1))
+    (λ e. sym (west_then_east g k m ik im (sym e)).0)

@@ -1,6 +1,6 @@
 -- A step, from the tiles to the grid.
-use Rattle.std.proofs.Common.{ℕ, cond, eqb, ◌≡◌, ◌+◌, ◌-◌, ◌*◌, ◌/◌, ◌%◌, ◌^◌, ◌<◌, ◌≤◌, sym, ◌∙◌, ap, arith, ⊎_elim}
-use Rattle.std.proofs.lemmas.Bool.{cases_eq, cases_lt, eq-eqb, ne_eqb}
+use Rattle.std.proofs.Common.{ℕ, cond, eqb, ◌≡◌, ◌+◌, ◌-◌, ◌*◌, ◌/◌, ◌%◌, ◌^◌, ◌<◌, sym, ◌∙◌, ap, arith, ⊎_elim}
+use Rattle.std.proofs.lemmas.Bool.{cases_eq, eq-eqb, ne_eqb}
 use Rattle.std.proofs.lemmas.Nat.{mod-mul-add, mod_below}
 use Rattle.sand_model.specs.Grid.{Grid, sites}
 use Rattle.sand_model.specs.Sand.{flow, one_at}
@@ -8,12 +8,11 @@ use Rattle.sand_model.proofs.Neighbours.{some_width}
 use Rattle.sand_model.proofs.SumsBelow.{one_at_other}
 use Rattle.sand_tiles.specs.declared.tile.Tile.{Tile}
 use Rattle.sand_tiles.specs.Places.{bit, height, had, around}
-use Rattle.sand_tiles.proofs.Moves.{bit_above}
 use Rattle.sand_tiles.proofs.Around.{around_none, around_le}
 use Rattle.sand_fronts.specs.declared.sides.Beside.{Beside}
-use Rattle.sand_fronts.specs.Tiling.{pitch, tile_of, place_of, on_tiles, over_north, over_south, over_west, over_east, to_west, to_east, IsBlank}
+use Rattle.sand_fronts.specs.Tiling.{pitch, tile_of, place_of, on_tiles, over_north, over_south, over_west, over_east, to_west, to_east}
 use Rattle.sand_fronts.specs.Waves.{at_site, only, AreOpen, Spreads, Steps, over_rim, IsBeside}
-use Rattle.sand_fronts.proofs.NeighboursOnTiles.{flow_on_tiles}
+use Rattle.sand_fronts.proofs.NeighboursOnTiles.{tile, place, IsBlank, flow_on_tiles}
 use Rattle.sand_fronts.proofs.OnTiles.{place_below, on_tiles_blank, at_on}
 use Rattle.sand_fronts.proofs.Waves.{only_same, only_other, newly}
 use Rattle.sand_fronts.proofs.Rims.{IsInner, north_rim, south_rim, east_rim, west_rim}
@@ -26,17 +25,6 @@ inner g j inside =
     let less : j % w < w = mod_below j w pos in
     let col = mod-mul-add (j / w / 8 + 2) (pitch g) (j % w / 8 + 1) (omega arith) in
     record { first = omega arith; last = omega arith; rows = omega arith }
-
-blank_from : (g : Grid) (u : ℕ → ℕ → ℕ) (v : ℕ → ℕ)
-    → ((m p : ℕ) → p < 64 → u m p ≡ on_tiles g v m p)
-    → ((m p : ℕ) → 64 ≤ p → u m p ≡ 0) → IsBlank g u
-blank_from g u v same high = let b = on_tiles_blank g v in record {
-  above = λ c p less.
-      ⊎_elim (λ (low : p < 64). same _ p low ∙ b.above c p less) (λ (h : 64 ≤ p). high _ p h) (cases_lt p 64);
-  below = λ q c y x less ly lx out. same _ _ (omega arith) ∙ b.below q c y x less ly lx out;
-  before = λ q p. ⊎_elim (λ (low : p < 64). same _ p low ∙ b.before q p) (λ (h : 64 ≤ p). high _ p h) (cases_lt p 64);
-  beyond = λ q c y x less ly lx out. same _ _ (omega arith) ∙ b.beyond q c y x less ly lx out;
-}
 
 -- the grains of the set `new` that a site gains: inside the tile k, and over its rim
 gained : (g : Grid) (k new : ℕ) (b : Beside) (j : ℕ) → j < sites g → IsInner g k
@@ -82,12 +70,10 @@ spreads_from g site free τ σ k start s b open' inside ik beside begins steps =
     let mid : ℕ → Tile = λ m. cond (eqb m k) v (τ m) in
     let here : (m : ℕ) → m ≡ k → mid m ≡ v = λ m e. ap (λ c. cond c v (τ m)) (eq-eqb m k e) in
     let there : (m : ℕ) → (m ≡ k → ⊥) → mid m ≡ τ m = λ m ne. ap (λ c. cond c v (τ m)) (ne_eqb m k ne) in
-    let high : (m p : ℕ) → 64 ≤ p → only k (bit new) m p ≡ 0 = λ m p h. ⊎_elim
-    (λ (e : m ≡ k). only_same k m (bit new) p e ∙ bit_above new p steps.fits h)
-    (λ (ne : m ≡ k → ⊥). only_other k m (bit new) p ne)
-    (cases_eq m k) in
-    let blank = blank_from g (only k (bit new)) (at_site g (only k (bit new)))
-    (λ m p l. newly g site free τ v k start s new m p open' begins visits l) high in
+    let u : ℕ → ℕ → ℕ = only k (bit new) in
+    let blank : IsBlank g u = λ y x less out.
+    newly g site free τ v k start s new (tile g y x) (place y x) open' begins visits (omega arith)
+    ∙ on_tiles_blank g (at_site g u) y x less out in
     record {
       once = λ m p l.
           let a = gains.wave m p l in

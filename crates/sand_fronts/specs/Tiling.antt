@@ -1,6 +1,6 @@
 -- The sites of a grid on tiles of 8 by 8 places, in a border of tiles: one at each end of a row, and two rows above and
 -- below. Source: this project's own.
-use Rattle.std.specs.Prelude.{ℕ, Bool, ◌≡◌, ◌+◌, ◌-◌, ◌*◌, ◌/◌, ◌%◌, ◌<◌, ◌≤◌, if◌then◌else◌, nat_lt, nat_le, ◌==◌, ◌&&◌}
+use Rattle.std.specs.Prelude.{ℕ, Bool, ◌+◌, ◌-◌, ◌*◌, ◌/◌, ◌%◌, if◌then◌else◌, nat_lt, nat_le, ◌==◌, ◌&&◌}
 use Rattle.sand_model.specs.Grid.{Grid, joins, row, column}
 use Rattle.sand_tiles.specs.Places.{around}
 
@@ -61,15 +61,6 @@ shift_east g k = if seam_east g k then (g.width - 1) % 8 else 7
 abbrev pub tile_flow : Grid → (ℕ → ℕ → ℕ) → ℕ → ℕ → ℕ
 tile_flow g u k p = around (u k) p + over_north (u (k - pitch g)) p + over_south (u (k + pitch g)) p
     + over_west (shift_west g k) (u (to_west g k)) p + over_east (shift_east g k) (u (to_east g k)) p
-
--- u is 0 at each place that is no site: in the border rows, in the border columns, and past the last row and column
-pub record IsBlank (g : Grid) (u : ℕ → ℕ → ℕ) : Type 0 where
-  pub above : (c p : ℕ) → c < pitch g → u (1 * pitch g + c) p ≡ 0
-  pub below : (q c y x : ℕ) → c < pitch g → y < 8 → x < 8 → g.height ≤ q * 8 + y
-      → u ((q + 2) * pitch g + c) (y * 8 + x) ≡ 0
-  pub before : (q p : ℕ) → u ((q + 2) * pitch g) p ≡ 0
-  pub beyond : (q c y x : ℕ) → c + 1 < pitch g → y < 8 → x < 8 → g.width ≤ c * 8 + x
-      → u ((q + 2) * pitch g + (c + 1)) (y * 8 + x) ≡ 0
 
 -- the row and column of a place, whether it is a site, and which
 abbrev pub row_at : Grid → ℕ → ℕ → ℕ
