@@ -1,5 +1,5 @@
 -- The places of tiles that leave a wave and are counted.
-use Rattle.std.proofs.Common.{ℕ, List, [], length, get_or, cond, eqb, refl, ◌≡◌, ◌≢◌, ◌+◌, ◌*◌, ◌<◌, ◌≤◌, sym, ◌∙◌, ap, subst, arith, ⊎_elim, inl, inr}
+use Rattle.std.proofs.Common.{ℕ, List, [], length, get_or, cond, eqb, refl, ◌≡◌, ◌≢◌, ◌+◌, ◌*◌, ◌<◌, ◌≤◌, sym, ◌∙◌, ap, arith, ⊎_elim, inl, inr}
 use Rattle.std.specs.Prelude.{bit_and, bit_or, slice_index}
 use Rattle.std.specs.Vec.{with_item}
 use Rattle.std.proofs.Math.Nat.{mul-le-mul_right}
@@ -20,7 +20,7 @@ use Rattle.sand_fronts.specs.declared.counts.Counts.{Counts}
 use Rattle.sand_fronts.specs.Counting.{count_at, over_wave, with_wave}
 use Rattle.sand_fronts.specs.Boards.{counts_of, marks_of, AreCounted}
 use Rattle.sand_fronts.specs.Marking.{in_sets, AreMarked}
-use Rattle.sand_fronts.proofs.Gained.{tile_set_same, tile_set_other}
+use Rattle.sand_fronts.proofs.Gained.{set_each, tile_set, tile_set_same, tile_set_other}
 
 abbrev nothing : Count
 nothing = record { planes = record { ones = 0; twos = 0; fours = 0; eights = 0; sixteens = 0 }; sets = 0; spilled = [] }
@@ -155,11 +155,6 @@ pub counted_one : (ts : List Tile) (c : Counts) (k word : ℕ) (t : Tile) (was d
 counted_one ts c k word t was d marks inside each marks_each read is read_count sound counts marked =
     let within : k < length c.each.items = omega arith in
     let clear : IsClear t = λ p l. ap (λ (y : Tile). bit y.wave p) is ∙ bit_none p in
-    let kept : (F : Tile → ℕ) → F t ≡ F (tile_at ts k) → (m : ℕ) → F (tile_at (set ts k t) m) ≡ F (tile_at ts m) =
-    λ F same m. ⊎_elim
-    (λ (e : m ≡ k). ap F (tile_set_same ts k m t inside e) ∙ same ∙ sym (ap (λ i. F (tile_at ts i)) e))
-    (λ (ne : m ≡ k → ⊥). ap F (tile_set_other ts k m t ne))
-    (cases_eq m k) in
     let counts' : (p : ℕ) → p < 64 → counted d p ≡ counted (counts_of c k) p + bit (tile_at ts k).wave p =
     λ p l. counts p l ∙ ap (λ (y : Count). counted y p + bit word p) read_count
     ∙ ap (λ w. counted (counts_of c k) p + bit w p) read in
@@ -167,9 +162,9 @@ counted_one ts c k word t was d marks inside each marks_each read is read_count 
       tiles_each = length-set {A = Tile} ts k t;
       counts_each = length-set {A = Count} c.each.items k d;
       marks_each = marks_each;
-      low = kept (λ y. y.low) (ap (λ (y : Tile). y.low) is);
-      high = kept (λ y. y.high) (ap (λ (y : Tile). y.high) is);
-      due = kept (λ y. y.due) (ap (λ (y : Tile). y.due) is);
+      low = tile_set (λ m x. x.low ≡ (tile_at ts m).low) ts k t inside (ap (λ (x : Tile). x.low) is) (λ m ne. refl);
+      high = tile_set (λ m x. x.high ≡ (tile_at ts m).high) ts k t inside (ap (λ (x : Tile). x.high) is) (λ m ne. refl);
+      due = tile_set (λ m x. x.due ≡ (tile_at ts m).due) ts k t inside (ap (λ (x : Tile). x.due) is) (λ m ne. refl);
       each = λ m p l. ⊎_elim
           (λ (e : m ≡ k).
           let a = ap (λ (y : Tile). bit y.wave p) (tile_set_same ts k m t inside e) in
@@ -183,14 +178,9 @@ counted_one ts c k word t was d marks inside each marks_each read is read_count 
           let b = ap (λ (y : Count). counted y p) (count_set_other c.each.items k m d ne) in
           omega arith)
           (cases_eq m k);
-      sound = λ before m. ⊎_elim
-          (λ (e : m ≡ k). subst IsCount (sym (count_set_same c.each.items k m d within e)) sound)
-          (λ (ne : m ≡ k → ⊥). subst IsCount (sym (count_set_other c.each.items k m d ne)) (before m))
-          (cases_eq m k);
-      clear = λ m before p l. ⊎_elim
-          (λ (e : m ≡ k). ap (λ (y : Tile). bit y.wave p) (tile_set_same ts k m t inside e) ∙ clear p l)
-          (λ (ne : m ≡ k → ⊥). ap (λ (y : Tile). bit y.wave p) (tile_set_other ts k m t ne) ∙ before p l)
-          (cases_eq m k);
+      sound = λ before.
+          set_each nothing (λ m x. IsCount x) c.each.items k d within sound (λ m ne. before m);
+      clear = tile_set (λ m x. IsClear (tile_at ts m) → IsClear x) ts k t inside (λ was. clear) (λ m ne was. was);
       marked = marked_one c.each.items k word d (marks_of c) (slice_index marks) within
           (λ p l. counts p l ∙ ap (λ (y : Count). counted y p + bit word p) read_count) marked;
     }

@@ -1,11 +1,12 @@
 -- Grains added to one tile of a list, and to one after another.
-use Rattle.std.proofs.Common.{ℕ, List, cond, eqb, get_or, ◌≡◌, ◌<◌, length, sym, ◌∙◌, ap, arith, ⊎_elim}
+use Rattle.std.proofs.Common.{ℕ, List, cond, eqb, get_or, ◌≡◌, ◌+◌, ◌%◌, ◌<◌, ◌≤◌, length, refl, sym, ◌∙◌, ap, subst, arith, ⊎_elim}
 use Rattle.std.proofs.Math.ListN.{set}
 use Rattle.std.proofs.lemmas.Bool.{cases_eq, eq-eqb, ne_eqb}
 use Rattle.std.proofs.lemmas.List.{get_or-set_same, get_or-set_other, get_or_read}
 use Rattle.sand_tiles.specs.declared.tile.Tile.{Tile}
 use Rattle.sand_tiles.specs.Places.{bit, height, had, Receives}
 use Rattle.sand_tiles.proofs.Bits.{bit_le}
+use Rattle.sand_fronts.specs.TileLists.{IsClear}
 use Rattle.sand_fronts.specs.Waves.{tile_at, only, Gains}
 use Rattle.sand_fronts.proofs.Waves.{only_same, only_other}
 
@@ -22,39 +23,46 @@ tile_set_other ts k m t ne = get_or-set_other ts k m t blank ne
 pub tile_read : (ts : List Tile) (k : ℕ) (x : Tile) → k < length ts → x ≡ get_or ts k x → x ≡ tile_at ts k
 tile_read ts k x inside read = get_or_read ts k x inside read blank
 
+-- what holds of the entry that is written, and of each other one, holds of all
+pub set_each : {A : Type 0} (d : A) (P : ℕ → A → Type 0) (xs : List A) (k : ℕ) (x : A) → k < length xs → P k x
+    → ((m : ℕ) → (m ≡ k → ⊥) → P m (get_or xs m d)) → (m : ℕ) → P m (get_or (set xs k x) m d)
+set_each d P xs k x inside here others m = ⊎_elim
+    (λ (e : m ≡ k). subst (λ i. P i (get_or (set xs k x) i d)) (sym e)
+    (subst (P k) (sym (get_or-set_same xs k x d inside)) here))
+    (λ (ne : m ≡ k → ⊥). subst (P m) (sym (get_or-set_other xs k m x d ne)) (others m ne))
+    (cases_eq m k)
+
+-- the same for tiles
+pub tile_set : (P : ℕ → Tile → Type 0) (ts : List Tile) (k : ℕ) (t : Tile) → k < length ts → P k t
+    → ((m : ℕ) → (m ≡ k → ⊥) → P m (tile_at ts m)) → (m : ℕ) → P m (tile_at (set ts k t) m)
+tile_set P ts k t inside here others = set_each blank P ts k t inside here others
+
+pub tile_clear : (ts : List Tile) (k : ℕ) (t : Tile) → k < length ts → t.wave ≡ (tile_at ts k).wave
+    → ((m : ℕ) → IsClear (tile_at ts m)) → (m : ℕ) → IsClear (tile_at (set ts k t) m)
+tile_clear ts k t inside same clear =
+    tile_set (λ m x. IsClear x) ts k t inside (λ p low. ap (λ w. bit w p) same ∙ clear k p low) (λ m ne. clear m)
+
 pub gains_one : (ts : List Tile) (k : ℕ) (t : Tile) (gain : ℕ) → k < length ts → Receives (tile_at ts k) t gain
     → Gains (tile_at ts) (tile_at (set ts k t)) (only k (bit gain))
-gains_one ts k t gain inside receives = record {
-  wave = λ m p low. ⊎_elim
-      (λ (e : m ≡ k). ap (λ x. bit x.wave p) (tile_set_same ts k m t inside e)
-      ∙ ap (λ x. bit x p) receives.wave ∙ sym (ap (λ x. bit (tile_at ts x).wave p) e))
-      (λ (ne : m ≡ k → ⊥). ap (λ x. bit x.wave p) (tile_set_other ts k m t ne))
-      (cases_eq m k);
-  each = λ m p low few. ⊎_elim
-      (λ (e : m ≡ k).
-      let a = ap (λ x. had x p) (tile_set_same ts k m t inside e) in
-      let b = ap (λ x. had (tile_at ts x) p) e in
-      let c = only_same k m (bit gain) p e in
-      let r = receives.each p low (omega arith) in
-      omega arith)
-      (λ (ne : m ≡ k → ⊥).
-      let a = ap (λ x. had x p) (tile_set_other ts k m t ne) in let c = only_other k m (bit gain) p ne in omega arith)
-      (cases_eq m k);
-  modulo = λ m p low. ⊎_elim
-      (λ (e : m ≡ k).
-      let a = ap (λ x. height x p) (tile_set_same ts k m t inside e) in
-      let b = ap (λ x. height (tile_at ts x) p) e in
-      let c = only_same k m (bit gain) p e in
-      let r = receives.modulo p low in
-      omega arith)
-      (λ (ne : m ≡ k → ⊥).
-      let a = ap (λ x. height x p) (tile_set_other ts k m t ne) in
-      let c = only_other k m (bit gain) p ne in
-      let l = bit_le (tile_at ts m).low p in
-      let h = bit_le (tile_at ts m).high p in
-      omega arith)
-      (cases_eq m k);
-}
+gains_one ts k t gain inside receives =
+    let all = tile_set (λ m x. (p : ℕ) → p < 64 → (bit x.wave p ≡ bit (tile_at ts m).wave p)
+    × (had (tile_at ts m) p + only k (bit gain) m p ≤ 7 → had x p ≡ had (tile_at ts m) p + only k (bit gain) m p)
+    × (height x p ≡ (height (tile_at ts m) p + only k (bit gain) m p) % 4))
+    ts k t inside
+    (λ p low.
+    let c = only_same k k (bit gain) p refl in
+    let r = receives.modulo p low in
+    (ap (λ w. bit w p) receives.wave, λ few. (let e = receives.each p low (omega arith) in omega arith), omega arith))
+    (λ m ne p low.
+    let c = only_other k m (bit gain) p ne in
+    let l = bit_le (tile_at ts m).low p in
+    let h = bit_le (tile_at ts m).high p in
+    (refl, λ few. omega arith, omega arith)) in
+    record {
+      wave = λ m p low. (all m p low).0;
+      each = λ m p low. (all m p low).1;
+      modulo = λ m p low. (all m p low).2;
+    }
 
 pub only_as : (k m p : ℕ) (f h : ℕ → ℕ) → f p ≡ h p → only k f m p ≡ only k h m p
 only_as k m p f h e = ⊎_elim
@@ -71,7 +79,7 @@ gains_from τ τ' σ a same gains = record {
 
 pub written : (ts : List Tile) (k m : ℕ) (t : Tile) → k < length ts
     → tile_at (set ts k t) m ≡ cond (eqb m k) t (tile_at ts m)
-written ts k m t inside = ⊎_elim
-    (λ (e : m ≡ k). tile_set_same ts k m t inside e ∙ sym (ap (λ b. cond b t (tile_at ts m)) (eq-eqb m k e)))
-    (λ (ne : m ≡ k → ⊥). tile_set_other ts k m t ne ∙ sym (ap (λ b. cond b t (tile_at ts m)) (ne_eqb m k ne)))
-    (cases_eq m k)
+written ts k m t inside =
+    tile_set (λ i x. x ≡ cond (eqb i k) t (tile_at ts i)) ts k t inside
+    (sym (ap (λ b. cond b t (tile_at ts k)) (eq-eqb k k refl)))
+    (λ i ne. sym (ap (λ b. cond b t (tile_at ts i)) (ne_eqb i k ne))) m

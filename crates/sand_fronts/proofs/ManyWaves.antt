@@ -2,7 +2,7 @@
 use Rattle.std.proofs.Common.{ℕ, Bool, true, false, cond, eqb, ltb, leb, ◌&&◌, List, length, ◌≡◌, ◌≢◌, ◌+◌, ◌-◌, ◌*◌, ◌^◌, ◌<◌, ◌≤◌, refl, sym, ◌∙◌, ap, arith, ⊎_elim}
 use Rattle.std.proofs.Math.Nat.{mul-le-mul_right}
 use Rattle.std.proofs.Math.ListN.{set}
-use Rattle.std.proofs.lemmas.Bool.{cases_Bool, cases_eq, and_parts, and_cases, eqb-true, eqb-false, ltb-true, ltb-false, leb-true, leb-false}
+use Rattle.std.proofs.lemmas.Bool.{cases_Bool, cases_eq, eq-eqb, ne_eqb, and_parts, and_cases, eqb-true, eqb-false, ltb-true, ltb-false, leb-true, leb-false}
 use Rattle.sand_model.specs.Grid.{Grid, IsGrid, sites, missing}
 use Rattle.sand_model.specs.Sand.{IsToppled, IsSettled, IsUnderway, flow, one_at, topplings, lost, weight, grain_weight, sum_below}
 use Rattle.sand_model.specs.Underway.{Advances}
@@ -24,11 +24,12 @@ use Rattle.sand_fronts.specs.Waves.{tile_at, toppled, IsWave, IsWholeWave, Leave
 use Rattle.sand_fronts.specs.Counting.{over_wave}
 use Rattle.sand_fronts.specs.Boards.{counts_of, AreCounted}
 use Rattle.sand_fronts.specs.Drops.{heights_on, grown_on, AreQuiet, AreOutside}
-use Rattle.sand_fronts.proofs.OnTiles.{place_below, there_again, on_site, off_site}
+use Rattle.sand_fronts.proofs.OnTiles.{place_below, on_site, off_site, on_sum, on_below}
 use Rattle.sand_fronts.proofs.Ends.{wave_balance, wave_advances, four_again}
 use Rattle.sand_fronts.proofs.Turns.{first_low}
 use Rattle.sand_fronts.proofs.Sums.{sum_on_tiles}
-use Rattle.sand_fronts.proofs.Gained.{tile_set_same, tile_set_other}
+use Rattle.sand_fronts.proofs.Gained.{tile_set, tile_clear}
+use Rattle.sand_fronts.proofs.Counted.{sum_less_one}
 
 -- the heights between two waves: if the held site may topple again, it has 4 more than in the planes
 abbrev pub heights_now : Grid → ℕ → Bool → (ℕ → Tile) → ℕ → ℕ
@@ -56,6 +57,16 @@ left_held g site h τ wave four = let l = (left_leaves g site h τ wave four).he
 mul_le : (x y z : ℕ) → x ≤ y → x * z ≤ y * z
 mul_le x y z le = mul-le-mul_right z le
 
+others_none : (g : Grid) (site : ℕ) (t : ℕ → ℕ) → site < sites g → t site ≡ 1 → topplings g t ≤ 1
+    → (j : ℕ) → j < sites g → j ≢ site → t j ≡ 0
+others_none g site t inside one few j l ne =
+    let u : ℕ → ℕ = λ i. cond (eqb i site) 0 (t i) in
+    let less = sum_less_one (sites g) site t u inside (ap (λ b. cond b 0 (t site)) (eq-eqb site site refl))
+    (λ i other. ap (λ b. cond b 0 (t i)) (ne_eqb i site other)) in
+    let part = at_most_sum_below (sites g) u j l in
+    let same : u j ≡ t j = ap (λ b. cond b 0 (t j)) (ne_eqb j site ne) in
+    omega arith
+
 -- if no other site has toppled, the held one did not get 4 grains back, since the pile is lighter
 alone_rests : (g : Grid) (site : ℕ) (h : ℕ → ℕ) (τ : ℕ → Tile)
     → IsWave g site h τ → site < sites g → toppled g τ site ≡ 1 → h site ≡ 4
@@ -69,23 +80,7 @@ alone_rests g site h τ wave inside started four none_due few back =
     let light = weight_after g h t k done in
     let at = left_held g site h τ wave four in
     let part = at_most_sum_below (sites g) t site inside in
-    let others : (j : ℕ) → j < sites g → j ≢ site → t j ≡ 0 = λ j l ne.
-    let two = sum_below_le (sites g) (λ i. t site * one_at site i + t j * one_at j i) t (λ i m. ⊎_elim
-    (λ (e : i ≡ site).
-    let a = ap (λ x. t site * x) (ap (one_at site) e ∙ one_at_same site) in
-    let b = ap (λ x. t j * x) (one_at_other j i (λ f. ne (f ∙ e))) in
-    let c = ap t e in omega arith)
-    (λ (other : i ≡ site → ⊥).
-    let a = ap (λ x. t site * x) (one_at_other site i (λ f. other (sym f))) in
-    ⊎_elim
-    (λ (f : i ≡ j). let b = ap (λ x. t j * x) (ap (one_at j) f ∙ one_at_same j) in let c = ap t f in omega arith)
-    (λ (nf : i ≡ j → ⊥). let b = ap (λ x. t j * x) (one_at_other j i (λ f. nf (sym f))) in omega arith)
-    (cases_eq i j))
-    (cases_eq i site)) in
-    let sums = sum_below-add (sites g) (λ i. t site * one_at site i) (λ i. t j * one_at j i) in
-    let a = sum_below-one_at (sites g) site (λ i. t site) inside in
-    let b = sum_below-one_at (sites g) j (λ i. t j) l in
-    omega arith in
+    let others = others_none g site t inside started few in
     let heavy = sum_below_le (sites g) (λ i. h i * grain_weight g i) (λ i. k i * grain_weight g i) (λ j l.
     let more : h j ≤ k j = ⊎_elim
     (λ (e : j ≡ site). let a = ap h e in let b = ap k e in omega arith)
@@ -159,30 +154,6 @@ underway_as g s u v t same before = record {
 }
 
 -- ---- what has been counted
-
-pub on_sum : (g : Grid) (u t v : ℕ → ℕ) (m p : ℕ) → p < 64 → ((j : ℕ) → j < sites g → v j ≡ u j + t j)
-    → on_tiles g v m p ≡ on_tiles g u m p + on_tiles g t m p
-on_sum g u t v m p low sums = ⊎_elim
-    (λ (yes : is_site g m p ≡ true).
-    let there = there_again g m p low yes in
-    let a = on_site g u m p yes in let b = on_site g t m p yes in let c = on_site g v m p yes in
-    let s = sums (site_on g m p) there.0 in
-    omega arith)
-    (λ (no : is_site g m p ≡ false).
-    let a = off_site g u m p no in let b = off_site g t m p no in let c = off_site g v m p no in
-    omega arith)
-    (cases_Bool (is_site g m p))
-
-pub on_below : (g : Grid) (v : ℕ → ℕ) (m p most : ℕ) → p < 64 → ((j : ℕ) → j < sites g → v j ≤ most)
-    → on_tiles g v m p ≤ most
-on_below g v m p most low few = ⊎_elim
-    (λ (yes : is_site g m p ≡ true).
-    let there = there_again g m p low yes in
-    let a = on_site g v m p yes in
-    let f = few (site_on g m p) there.0 in
-    omega arith)
-    (λ (no : is_site g m p ≡ false). let a = off_site g v m p no in omega arith)
-    (cases_Bool (is_site g m p))
 
 -- after any number of waves of a drop that began with the tiles τ and the counts c
 pub record AreWaves (g : Grid) (site : ℕ) (more : Bool) (τ σ : ℕ → Tile) (c d : ℕ → Count) : Type 0 where
@@ -401,16 +372,10 @@ heights_kept : (g : Grid) (ts : List Tile) (here : ℕ) (t : Tile) (j : ℕ)
     → here < length ts → t.low ≡ (tile_at ts here).low
     → t.high ≡ (tile_at ts here).high
     → heights_on g (tile_at ts) j ≡ heights_on g (tile_at (set ts here t)) j
-heights_kept g ts here t j inside low high = ⊎_elim
-    (λ (e : tile_of g j ≡ here).
-    let same = ap (λ (x : Tile). height x (place_of g j)) (tile_set_same ts here (tile_of g j) t inside e) in
-    let a = ap (λ x. bit x (place_of g j)) low in
-    let b = ap (λ x. bit x (place_of g j)) high in
-    let f = ap (λ m. height (tile_at ts m) (place_of g j)) e in
-    omega arith)
-    (λ (ne : tile_of g j ≡ here → ⊥).
-    sym (ap (λ (x : Tile). height x (place_of g j)) (tile_set_other ts here (tile_of g j) t ne)))
-    (cases_eq (tile_of g j) here)
+heights_kept g ts here t j inside low high =
+    tile_set (λ m x. (p : ℕ) → height (tile_at ts m) p ≡ height x p) ts here t inside
+    (λ p. let a = ap (λ w. bit w p) low in let b = ap (λ w. bit w p) high in omega arith)
+    (λ m ne p. refl) (tile_of g j) (place_of g j)
 
 pub settled_kept : (g : Grid) (s u : ℕ → ℕ) (ts : List Tile) (here : ℕ) (t : Tile)
     → here < length ts → t.low ≡ (tile_at ts here).low
@@ -427,17 +392,11 @@ pub quiet_at_last : (g : Grid) (site : ℕ) (ts : List Tile) (here : ℕ) (t : T
     → ((j : ℕ) → j < sites g → j ≢ site → bit (tile_at ts (tile_of g j)).due (place_of g j) ≡ 0)
     → AreQuiet g (tile_at (set ts here t))
 quiet_at_last g site ts here t inside is wave due clear none_due = record {
-  clear = λ m p low. ⊎_elim
-      (λ (e : m ≡ here).
-      ap (λ (x : Tile). bit x.wave p) (tile_set_same ts here m t inside e) ∙ ap (λ x. bit x p) wave ∙ clear here p low)
-      (λ (ne : m ≡ here → ⊥). ap (λ (x : Tile). bit x.wave p) (tile_set_other ts here m t ne) ∙ clear m p low)
-      (cases_eq m here);
-  none_due = λ j l. ⊎_elim
-      (λ (e : tile_of g j ≡ here).
-      ap (λ (x : Tile). bit x.due (place_of g j)) (tile_set_same ts here (tile_of g j) t inside e)
-      ∙ ap (λ x. bit x (place_of g j)) due ∙ bit_none (place_of g j))
-      (λ (ne : tile_of g j ≡ here → ⊥).
-      ap (λ (x : Tile). bit x.due (place_of g j)) (tile_set_other ts here (tile_of g j) t ne)
-      ∙ none_due j l (λ e. ne (ap (tile_of g) e ∙ sym is)))
-      (cases_eq (tile_of g j) here);
+  clear = tile_clear ts here t inside wave clear;
+  none_due = λ j l.
+      tile_set (λ m x. tile_of g j ≡ m → bit x.due (place_of g j) ≡ 0) ts here t inside
+      (λ e. ap (λ w. bit w (place_of g j)) due ∙ bit_none (place_of g j))
+      (λ m ne e. ap (λ i. bit (tile_at ts i).due (place_of g j)) (sym e)
+      ∙ none_due j l (λ f. ne (sym e ∙ ap (tile_of g) f ∙ sym is)))
+      (tile_of g j) refl;
 }

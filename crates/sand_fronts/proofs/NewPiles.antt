@@ -19,8 +19,7 @@ use Rattle.sand_fronts.specs.Counting.{count_at}
 use Rattle.sand_fronts.specs.Drops.{heights_on, counted_on, grown_on, AreQuiet, AreOutside}
 use Rattle.sand_fronts.specs.Boards.{tiles_of, counts_of}
 use Rattle.sand_fronts.specs.TiledPiles.{tiled_view, by_site, IsTiledView}
-use Rattle.sand_fronts.proofs.OnTiles.{place_below, at_on, on_tiles_le}
-use Rattle.sand_fronts.proofs.ManyWaves.{on_below, on_sum}
+use Rattle.sand_fronts.proofs.OnTiles.{place_below, at_on, on_tiles_le, on_below, on_sum}
 
 abbrev nothing : Count
 nothing = record { planes = record { ones = 0; twos = 0; fours = 0; eights = 0; sixteens = 0 }; sets = 0; spilled = [] }

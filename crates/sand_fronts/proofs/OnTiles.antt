@@ -1,9 +1,11 @@
 -- Numbers by site, read by tile and place.
-use Rattle.std.proofs.Common.{ℕ, true, false, cond, ◌⊎◌, ◌≡◌, ◌+◌, ◌*◌, ◌/◌, ◌%◌, ◌<◌, ◌≤◌, ◌∙◌, ap, arith, ⊎_elim}
-use Rattle.std.proofs.lemmas.Bool.{cases_Bool, lt-ltb, le-ltb, le-leb, lt-leb, ltb-true, leb-true, and_parts, and_from, and_left, and_right}
+use Rattle.std.proofs.Common.{ℕ, true, false, cond, ◌⊎◌, ◌≡◌, ◌+◌, ◌*◌, ◌/◌, ◌%◌, ◌<◌, ◌≤◌, sym, ◌∙◌, ap, arith, ⊎_elim}
+use Rattle.std.proofs.lemmas.Bool.{cases_Bool, cases_eq, lt-ltb, le-ltb, le-leb, lt-leb, ltb-true, leb-true, and_parts, and_from, and_left, and_right}
 use Rattle.std.proofs.lemmas.Nat.{div-mul-add, mod-mul-add, div-add-mod', mod_below, mul-add-lt, div_below}
 use Rattle.sand_model.specs.Grid.{Grid, sites}
+use Rattle.sand_model.specs.Sand.{one_at}
 use Rattle.sand_model.proofs.Neighbours.{some_width}
+use Rattle.sand_model.proofs.SumsBelow.{one_at_same, one_at_other}
 use Rattle.sand_fronts.specs.Tiling.{pitch, tile_of, place_of, row_at, column_at, is_site, site_on, on_tiles}
 use Rattle.sand_fronts.specs.Waves.{at_site}
 use Rattle.sand_fronts.proofs.NeighboursOnTiles.{tile, place, IsBlank}
@@ -144,3 +146,61 @@ on_nothing g k p = ⊎_elim
     (λ (is : is_site g k p ≡ true). ap (λ b. cond b 0 0) is)
     (λ (no : is_site g k p ≡ false). ap (λ b. cond b 0 0) no)
     (cases_Bool (is_site g k p))
+
+pub on_sum : (g : Grid) (u t v : ℕ → ℕ) (m p : ℕ) → p < 64 → ((j : ℕ) → j < sites g → v j ≡ u j + t j)
+    → on_tiles g v m p ≡ on_tiles g u m p + on_tiles g t m p
+on_sum g u t v m p low sums = ⊎_elim
+    (λ (yes : is_site g m p ≡ true).
+    let there = there_again g m p low yes in
+    let a = on_site g u m p yes in let b = on_site g t m p yes in let c = on_site g v m p yes in
+    let s = sums (site_on g m p) there.0 in
+    omega arith)
+    (λ (no : is_site g m p ≡ false).
+    let a = off_site g u m p no in let b = off_site g t m p no in let c = off_site g v m p no in
+    omega arith)
+    (cases_Bool (is_site g m p))
+
+pub on_below : (g : Grid) (v : ℕ → ℕ) (m p most : ℕ) → p < 64 → ((j : ℕ) → j < sites g → v j ≤ most)
+    → on_tiles g v m p ≤ most
+on_below g v m p most low few = ⊎_elim
+    (λ (yes : is_site g m p ≡ true).
+    let there = there_again g m p low yes in
+    let a = on_site g v m p yes in
+    let f = few (site_on g m p) there.0 in
+    omega arith)
+    (λ (no : is_site g m p ≡ false). let a = off_site g v m p no in omega arith)
+    (cases_Bool (is_site g m p))
+
+-- a site is at its own place alone
+apart_from : (g : Grid) (s m p : ℕ) → p < 64 → (tile_of g s ≡ m → place_of g s ≡ p → ⊥) → on_tiles g (one_at s) m p ≡ 0
+apart_from g s m p low apart = ⊎_elim
+    (λ (is : is_site g m p ≡ true).
+    let t = there_again g m p low is in
+    on_site g (one_at s) m p is
+    ∙ one_at_other s (site_on g m p) (λ e. apart (ap (tile_of g) e ∙ t.1) (ap (place_of g) e ∙ t.2)))
+    (λ (not : is_site g m p ≡ false). off_site g (one_at s) m p not)
+    (cases_Bool (is_site g m p))
+
+pub own_place : (g : Grid) (s m p : ℕ) → p < 64 → s < sites g
+    → on_tiles g (one_at s) m p ≡ one_at (tile_of g s) m * one_at (place_of g s) p
+own_place g s m p low inside = ⊎_elim
+    (λ (tile : tile_of g s ≡ m). ⊎_elim
+    (λ (place' : place_of g s ≡ p).
+    let b = back_again g s inside in
+    let there = sym (ap (λ i. is_site g i (place_of g s)) tile ∙ ap (is_site g m) place') ∙ b.0 in
+    let again = sym (ap (λ i. site_on g i (place_of g s)) tile ∙ ap (site_on g m) place') ∙ b.1 in
+    let one = on_site g (one_at s) m p there ∙ ap (one_at s) again ∙ one_at_same s in
+    let t = ap (one_at (tile_of g s)) (sym tile) ∙ one_at_same (tile_of g s) in
+    let q = ap (one_at (place_of g s)) (sym place') ∙ one_at_same (place_of g s) in
+    let both = ap (λ x. x * one_at (place_of g s) p) t in
+    omega arith)
+    (λ (ne : place_of g s ≡ p → ⊥).
+    let q = ap (λ x. one_at (tile_of g s) m * x) (one_at_other (place_of g s) p ne) in
+    let z = apart_from g s m p low (λ a b. ne b) in
+    omega arith)
+    (cases_eq (place_of g s) p))
+    (λ (ne : tile_of g s ≡ m → ⊥).
+    let t = ap (λ x. x * one_at (place_of g s) p) (one_at_other (tile_of g s) m ne) in
+    let z = apart_from g s m p low (λ a b. ne a) in
+    omega arith)
+    (cases_eq (tile_of g s) m)

@@ -3,7 +3,7 @@ use Rattle.std.proofs.Common.{ℕ, Bool, true, false, eqb, List, length, get_or,
 use Rattle.std.specs.Prelude.{bit_xor, slice_index}
 use Rattle.std.proofs.Math.ListN.{set}
 use Rattle.std.proofs.lemmas.Bool.{cases_eq, eqb-true, eqb-false}
-use Rattle.std.proofs.lemmas.List.{get_or-set_same, get_or-set_other, length-set}
+use Rattle.std.proofs.lemmas.List.{get_or-set_other, length-set}
 use Rattle.sand_model.specs.Grid.{Grid, sites}
 use Rattle.sand_model.specs.Sand.{IsSettled, one_at}
 use Rattle.sand_model.proofs.SumsBelow.{one_at_same, one_at_other}
@@ -14,14 +14,14 @@ use Rattle.sand_tiles.specs.declared.tile.Tile.{Tile}
 use Rattle.sand_tiles.specs.declared.counting.Count.{Count}
 use Rattle.sand_tiles.specs.Places.{bit, had, Receives}
 use Rattle.sand_tiles.proofs.Bits.{bit_le, half, both_le}
-use Rattle.sand_fronts.specs.Tiling.{tiles, tile_of, place_of, site_on}
+use Rattle.sand_fronts.specs.Tiling.{tiles, tile_of, place_of, site_on, on_tiles}
 use Rattle.sand_fronts.specs.TileLists.{IsClear}
 use Rattle.sand_fronts.specs.Waves.{tile_at, AreOpen, AreAllOpen, AreAtRest, heights_before}
 use Rattle.sand_fronts.specs.Drops.{heights_on, grown_on, AreQuiet}
 use Rattle.sand_fronts.proofs.OnTiles.{place_below, back_again}
 use Rattle.sand_fronts.proofs.OneSite.{put_site}
 use Rattle.sand_fronts.proofs.Waves.{only_same, only_other}
-use Rattle.sand_fronts.proofs.Gained.{tile_set_same, tile_set_other}
+use Rattle.sand_fronts.proofs.Gained.{set_each, tile_clear, tile_set_same, tile_set_other}
 
 at_most_one_at : (k j : ℕ) → one_at k j ≤ 1
 at_most_one_at k j = at_most_one (eqb k j)
@@ -75,11 +75,7 @@ site_had g site ts here grain t j gets l =
 still_clear : (g : Grid) (site : ℕ) (ts : List Tile) (here grain : ℕ) (t : Tile)
     → GetsGrain g site ts here grain t → (m : ℕ)
     → IsClear (tile_at (set ts here t) m)
-still_clear g site ts here grain t gets m p low = ⊎_elim
-    (λ (e : m ≡ here). ap (λ (x : Tile). bit x.wave p) (tile_set_same ts here m t gets.inside e)
-    ∙ ap (λ x. bit x p) gets.receives.wave ∙ gets.quiet.clear here p low)
-    (λ (ne : m ≡ here → ⊥). ap (λ (x : Tile). bit x.wave p) (tile_set_other ts here m t ne) ∙ gets.quiet.clear m p low)
-    (cases_eq m here)
+still_clear g site ts here grain t gets = tile_clear ts here t gets.inside gets.receives.wave gets.quiet.clear
 
 -- no other site is due
 others_rest : (g : Grid) (site : ℕ) (ts : List Tile) (here grain : ℕ) (t : Tile) (j : ℕ)
@@ -176,42 +172,35 @@ pub taken_out : (g : Grid) (site here grain whole : ℕ) (free : List ℕ)
     → site < sites g → here ≡ tile_of g site → here < length free → whole ≡ get_or free here 0
     → ((p : ℕ) → p < 64 → bit grain p ≡ one_at (place_of g site) p)
     → AreAllOpen g (slice_index free) → AreOpen g site (slice_index (set free here (bit_xor whole grain)))
-taken_out g site here grain whole free inside is within read one all k p low =
-    let put = put_site g (λ j. 1 - one_at site j) (λ j. 1) site 1 k p
+taken_out g site here grain whole free inside is within read one all =
+    set_each 0 (λ k w. (p : ℕ) → p < 64 → bit w p ≡ on_tiles g (λ j. 1 - one_at site j) k p)
+    free here (bit_xor whole grain) within
+    (λ p low.
+    let put = put_site g (λ j. 1 - one_at site j) (λ j. 1) site 1 here p
     low inside (λ j l. let f = at_most_one_at site j in omega arith) in
-    let a = all k p low in
-    let few = bit_le (get_or free k 0) p in
-    ⊎_elim
-    (λ (e : k ≡ here).
-    let now = ap (λ x. bit x p) (ap (λ i. get_or (set free here (bit_xor whole grain)) i 0) e
-    ∙ get_or-set_same free here (bit_xor whole grain) 0 within) in
-    let was = ap (λ i. bit (get_or free i 0) p) e in
+    let a = all here p low in
+    let few = bit_le (get_or free here 0) p in
     let r = ap (λ w. bit w p) read in
     let h = half whole grain p in
     let b = both_le whole grain p in
     let b0 = b.0 in let b1 = b.1 in let b2 = b.2 in
     let o = one p low in
-    let here' = only_same (tile_of g site) k (λ q. 1 * one_at (place_of g site) q) p (e ∙ is) in
+    let there = only_same (tile_of g site) here (λ q. 1 * one_at (place_of g site) q) p is in
     omega arith)
-    (λ (ne : k ≡ here → ⊥).
-    let now = ap (λ x. bit x p) (get_or-set_other free here k (bit_xor whole grain) 0 ne) in
+    (λ k ne p low.
+    let put = put_site g (λ j. 1 - one_at site j) (λ j. 1) site 1 k p
+    low inside (λ j l. let f = at_most_one_at site j in omega arith) in
+    let a = all k p low in
     let none = only_other (tile_of g site) k (λ q. 1 * one_at (place_of g site) q) p (λ e. ne (e ∙ sym is)) in
     omega arith)
-    (cases_eq k here)
 
 pub put_back : (g : Grid) (here x whole : ℕ) (free : List ℕ) → here < length free → whole ≡ get_or free here 0
     → AreAllOpen g (slice_index free) → AreAllOpen g (slice_index (set (set free here x) here whole))
-put_back g here x whole free within read all k p low = ⊎_elim
-    (λ (e : k ≡ here).
-    ap (λ y. bit y p) (ap (λ i. get_or (set (set free here x) here whole) i 0) e
-    ∙ get_or-set_same (set free here x) here whole 0 (let long = length-set free here x in omega arith)
-    ∙ read ∙ sym (ap (λ i. get_or free i 0) e))
-    ∙ all k p low)
-    (λ (ne : k ≡ here → ⊥).
-    ap (λ y. bit y p) (get_or-set_other (set free here x) here k whole 0 ne
-    ∙ get_or-set_other free here k x 0 ne)
-    ∙ all k p low)
-    (cases_eq k here)
+put_back g here x whole free within read all =
+    set_each 0 (λ k w. (p : ℕ) → p < 64 → bit w p ≡ on_tiles g (λ j. 1) k p) (set free here x) here whole
+    (let long = length-set free here x in omega arith)
+    (λ p low. ap (λ w. bit w p) read ∙ all here p low)
+    (λ k ne p low. ap (λ w. bit w p) (get_or-set_other free here k x 0 ne) ∙ all k p low)
 
 -- ---- what the code knows
 

@@ -2,8 +2,8 @@
 use Rattle.std.proofs.Common.{ℕ, true, false, ltb, List, length, get_or, replicate, ◌≡◌, ◌+◌, ◌*◌, ◌<◌, ◌≤◌, sym, ◌∙◌, ap, arith, ⊎_elim}
 use Rattle.std.specs.Prelude.{bit_or}
 use Rattle.std.proofs.Math.ListN.{set, get_or-eq_default}
-use Rattle.std.proofs.lemmas.Bool.{cases_Bool, cases_eq, cases_lt, lt-ltb, le-ltb, false≢true}
-use Rattle.std.proofs.lemmas.List.{get_or-set_same, get_or-set_other, get_or-replicate, length-replicate}
+use Rattle.std.proofs.lemmas.Bool.{cases_Bool, cases_eq, cases_lt, lt-ltb, le-ltb}
+use Rattle.std.proofs.lemmas.List.{get_or-replicate, length-replicate}
 use Rattle.sand_model.specs.Grid.{Grid, sites}
 use Rattle.sand_model.specs.Sand.{one_at}
 use Rattle.sand_model.specs.Lists.{one_if}
@@ -12,55 +12,33 @@ use Rattle.sand_tiles.specs.declared.tile.Tile.{Tile}
 use Rattle.sand_tiles.specs.Places.{bit, had}
 use Rattle.sand_tiles.proofs.Bits.{apart, bit_none}
 use Rattle.sand_fronts.specs.Tiling.{tile_of, place_of, is_site, site_on, on_tiles}
-use Rattle.sand_fronts.specs.TileLists.{IsClear}
 use Rattle.sand_fronts.specs.Waves.{only, tile_at}
-use Rattle.sand_fronts.proofs.OnTiles.{there_again, back_again, on_site, off_site, on_tiles_le, on_nothing}
+use Rattle.sand_fronts.proofs.OnTiles.{there_again, on_site, off_site, on_tiles_le, on_nothing, on_sum, own_place}
 use Rattle.sand_fronts.proofs.Waves.{only_same, only_other}
-use Rattle.sand_fronts.proofs.Gained.{tile_set_same, tile_set_other}
-
-pub elsewhere : (g : Grid) (s m p : ℕ) (x : ℕ) → s < sites g → ((tile_of g s ≡ m) → (place_of g s ≡ p) → ⊥)
-    → only (tile_of g s) (λ q. x * one_at (place_of g s) q) m p ≡ 0
-elsewhere g s m p x inside apart = ⊎_elim
-    (λ (tile : m ≡ tile_of g s).
-    only_same (tile_of g s) m (λ q. x * one_at (place_of g s) q) p tile
-    ∙ ap (λ y. x * y) (one_at_other (place_of g s) p (λ place. apart (sym tile) place)) ∙ omega arith)
-    (λ (other : m ≡ tile_of g s → ⊥). only_other (tile_of g s) m (λ q. x * one_at (place_of g s) q) p other)
-    (cases_eq m (tile_of g s))
+use Rattle.sand_fronts.proofs.Gained.{set_each, tile_set}
 
 pub put_site : (g : Grid) (f h : ℕ → ℕ) (s x m p : ℕ) → p < 64
     → s < sites g → ((j : ℕ) → j < sites g → h j ≡ f j + x * one_at s j)
     → on_tiles g h m p ≡ on_tiles g f m p + only (tile_of g s) (λ q. x * one_at (place_of g s) q) m p
-put_site g f h s x m p low inside more = ⊎_elim
-    (λ (yes : is_site g m p ≡ true).
-    let t = there_again g m p low yes in
-    let j = site_on g m p in
-    let a = on_site g h m p yes in
-    let b = on_site g f m p yes in
-    let c = more j t.0 in
+put_site g f h s x m p low inside more =
+    let sum = on_sum g f (λ j. x * one_at s j) h m p low more in
+    let own = ap (λ y. x * y) (own_place g s m p low inside) in
+    let times : on_tiles g (λ j. x * one_at s j) m p ≡ x * on_tiles g (one_at s) m p = ⊎_elim
+    (λ (is : is_site g m p ≡ true).
+    on_site g (λ j. x * one_at s j) m p is ∙ sym (ap (λ y. x * y) (on_site g (one_at s) m p is)))
+    (λ (not : is_site g m p ≡ false).
+    off_site g (λ j. x * one_at s j) m p not ∙ sym (ap (λ y. x * y) (off_site g (one_at s) m p not) ∙ omega arith))
+    (cases_Bool (is_site g m p)) in
     ⊎_elim
-    (λ (e : s ≡ j).
-    let tile : m ≡ tile_of g s = sym (ap (tile_of g) e ∙ t.1) in
-    let place : place_of g s ≡ p = ap (place_of g) e ∙ t.2 in
-    let one : one_at (place_of g s) p ≡ 1 = ap (λ q. one_at q p) place ∙ one_at_same p in
-    let here = only_same (tile_of g s) m (λ q. x * one_at (place_of g s) q) p tile in
-    let d : x * one_at (place_of g s) p ≡ x = ap (λ y. x * y) one ∙ omega arith in
-    let e' : x * one_at s j ≡ x = ap (λ y. x * y) (ap (λ i. one_at i j) e ∙ one_at_same j) ∙ omega arith in
+    (λ (tile : m ≡ tile_of g s).
+    let o = only_same (tile_of g s) m (λ q. x * one_at (place_of g s) q) p tile in
+    let t = ap (λ y. x * (y * one_at (place_of g s) p)) (ap (one_at (tile_of g s)) tile ∙ one_at_same (tile_of g s)) in
     omega arith)
-    (λ (ne : s ≡ j → ⊥).
-    let z : x * one_at s j ≡ 0 = ap (λ y. x * y) (one_at_other s j ne) ∙ omega arith in
-    let none = elsewhere g s m p x inside
-    (λ tile place.
-    ne (sym ((back_again g s inside).1) ∙ ap (λ i. site_on g i (place_of g s)) tile ∙ ap (site_on g m) place)) in
+    (λ (ne : m ≡ tile_of g s → ⊥).
+    let o = only_other (tile_of g s) m (λ q. x * one_at (place_of g s) q) p ne in
+    let t = ap (λ y. x * (y * one_at (place_of g s) p)) (one_at_other (tile_of g s) m (λ e. ne (sym e))) in
     omega arith)
-    (cases_eq s j))
-    (λ (no : is_site g m p ≡ false).
-    let a = off_site g h m p no in
-    let b = off_site g f m p no in
-    let none = elsewhere g s m p x inside
-    (λ tile place. false≢true (sym no
-    ∙ sym (ap (λ i. is_site g i (place_of g s)) tile ∙ ap (is_site g m) place) ∙ (back_again g s inside).0)) in
-    omega arith)
-    (cases_Bool (is_site g m p))
+    (cases_eq m (tile_of g s))
 
 -- ---- sites in their order, up to the n-th
 
@@ -133,25 +111,23 @@ pub word_more : (g : Grid) (words : List ℕ) (n k here x : ℕ) → n < sites g
     → ((p : ℕ) → p < 64 → bit here p ≡ one_at (place_of g n) p)
     → ((m p : ℕ) → p < 64 → bit (get_or words m 0) p ≡ on_tiles g (up_to (λ j. 1) n) m p)
     → (m p : ℕ) → p < 64 → bit (get_or (set words k (bit_or x here)) m 0) p ≡ on_tiles g (up_to (λ j. 1) (n + 1)) m p
-word_more g words n k here x inside tile within read one each m p low =
-    let fill = fill_site g (λ j. 1) n m p low inside in
-    let before = each m p low in
-    let few = few_filled g (λ j. 1) (n + 1) m p 1 low (λ j l. omega arith) in
-    ⊎_elim
-    (λ (e : m ≡ k).
-    let a = only_same (tile_of g n) m (λ q. 1 * one_at (place_of g n) q) p (e ∙ tile) in
+word_more g words n k here x inside tile within read one each =
+    set_each 0 (λ m w. (p : ℕ) → p < 64 → bit w p ≡ on_tiles g (up_to (λ j. 1) (n + 1)) m p) words k (bit_or x here)
+    within
+    (λ p low.
+    let fill = fill_site g (λ j. 1) n k p low inside in
+    let before = each k p low in
+    let few = few_filled g (λ j. 1) (n + 1) k p 1 low (λ j l. omega arith) in
+    let a = only_same (tile_of g n) k (λ q. 1 * one_at (place_of g n) q) p tile in
     let b = one p low in
-    let c = ap (λ i. bit (get_or words i 0) p) e in
     let r = ap (λ w. bit w p) read in
     let both = apart x here p (omega arith) in
-    let w = ap (λ x. bit x p) (ap (λ i. get_or (set words k (bit_or x here)) i 0) e
-    ∙ get_or-set_same words k (bit_or x here) 0 within) in
     omega arith)
-    (λ (ne : m ≡ k → ⊥).
+    (λ m ne p low.
+    let fill = fill_site g (λ j. 1) n m p low inside in
+    let before = each m p low in
     let a = only_other (tile_of g n) m (λ q. 1 * one_at (place_of g n) q) p (λ e. ne (e ∙ sym tile)) in
-    let w = ap (λ x. bit x p) (get_or-set_other words k m (bit_or x here) 0 ne) in
     omega arith)
-    (cases_eq m k)
 
 pub tile_more : (g : Grid) (h : ℕ → ℕ) (ts : List Tile) (n k here : ℕ) (t : Tile)
     → n < sites g → k ≡ tile_of g n → k < length ts
@@ -159,22 +135,20 @@ pub tile_more : (g : Grid) (h : ℕ → ℕ) (ts : List Tile) (n k here : ℕ) (
     → ((p : ℕ) → p < 64 → had t p ≡ had (tile_at ts k) p + h n * bit here p)
     → ((m p : ℕ) → p < 64 → had (tile_at ts m) p ≡ on_tiles g (up_to h n) m p)
     → (m p : ℕ) → p < 64 → had (tile_at (set ts k t) m) p ≡ on_tiles g (up_to h (n + 1)) m p
-tile_more g h ts n k here t inside tile within one more each m p low =
+tile_more g h ts n k here t inside tile within one more each =
+    tile_set (λ m x. (p : ℕ) → p < 64 → had x p ≡ on_tiles g (up_to h (n + 1)) m p) ts k t within
+    (λ p low.
+    let fill = fill_site g h n k p low inside in
+    let before = each k p low in
+    let a = only_same (tile_of g n) k (λ q. h n * one_at (place_of g n) q) p tile in
+    let b = ap (λ x. h n * x) (one p low) in
+    let d = more p low in
+    omega arith)
+    (λ m ne p low.
     let fill = fill_site g h n m p low inside in
     let before = each m p low in
-    ⊎_elim
-    (λ (e : m ≡ k).
-    let a = only_same (tile_of g n) m (λ q. h n * one_at (place_of g n) q) p (e ∙ tile) in
-    let b = ap (λ x. h n * x) (one p low) in
-    let c = ap (λ i. had (tile_at ts i) p) e in
-    let d = more p low in
-    let w = ap (λ x. had x p) (tile_set_same ts k m t within e) in
-    omega arith)
-    (λ (ne : m ≡ k → ⊥).
     let a = only_other (tile_of g n) m (λ q. h n * one_at (place_of g n) q) p (λ e. ne (e ∙ sym tile)) in
-    let w = ap (λ x. had x p) (tile_set_other ts k m t ne) in
     omega arith)
-    (cases_eq m k)
 
 pub tile_room : (g : Grid) (h : ℕ → ℕ) (τ : ℕ → Tile) (n k here p : ℕ)
     → n < sites g → k ≡ tile_of g n → ((j : ℕ) → j < sites g → h j ≤ 7)
@@ -235,12 +209,3 @@ no_grains g h ts n k p all low =
 pub bare_clear : (ts : List Tile) (n k p : ℕ) → ts ≡ replicate n bare → bit (tile_at ts k).wave p ≡ 0
 bare_clear ts n k p all =
     ap (λ xs. bit (tile_at xs k).wave p) all ∙ ap (λ (x : Tile). bit x.wave p) (blank_tiles n k) ∙ bit_none p
-
-pub tile_clear : (ts : List Tile) (k : ℕ) (t : Tile) → k < length ts
-    → t.wave ≡ (tile_at ts k).wave → ((m : ℕ) → IsClear (tile_at ts m)) → (m : ℕ)
-    → IsClear (tile_at (set ts k t) m)
-tile_clear ts k t inside same clear m p low = ⊎_elim
-    (λ (e : m ≡ k).
-    ap (λ (x : Tile). bit x.wave p) (tile_set_same ts k m t inside e) ∙ ap (λ x. bit x p) same ∙ clear k p low)
-    (λ (ne : m ≡ k → ⊥). ap (λ (x : Tile). bit x.wave p) (tile_set_other ts k m t ne) ∙ clear m p low)
-    (cases_eq m k)

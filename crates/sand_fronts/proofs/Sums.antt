@@ -1,12 +1,12 @@
 -- A sum over all places of all tiles is the sum over all sites.
 use Rattle.std.proofs.Common.{ℕ, true, false, ◌≡◌, ◌*◌, ◌<◌, sym, ◌∙◌, ap, arith, ⊎_elim}
-use Rattle.std.proofs.lemmas.Bool.{cases_Bool, cases_eq, false≢true}
+use Rattle.std.proofs.lemmas.Bool.{cases_Bool}
 use Rattle.sand_model.specs.Grid.{Grid, sites}
 use Rattle.sand_model.specs.Sand.{sum_below, one_at}
-use Rattle.sand_model.proofs.SumsBelow.{sum_below_same, sum_below_swap, sum_below-one_at, sum_below-zero, one_at_same, one_at_other}
+use Rattle.sand_model.proofs.SumsBelow.{sum_below_same, sum_below_swap, sum_below-one_at, sum_below-zero, one_at_comm}
 use Rattle.sand_fronts.specs.Tiling.{tiles, tile_of, place_of, is_site, site_on, on_tiles}
 use Rattle.sand_fronts.proofs.Boards.{tile_inside}
-use Rattle.sand_fronts.proofs.OnTiles.{place_below, there_again, back_again, on_site, off_site}
+use Rattle.sand_fronts.proofs.OnTiles.{place_below, there_again, on_site, off_site, own_place}
 
 -- v of the site j at its own place, and 0 at each other
 here : Grid → (ℕ → ℕ) → ℕ → ℕ → ℕ → ℕ
@@ -31,42 +31,23 @@ one_place g v n j l =
 one_site : (g : Grid) (v : ℕ → ℕ) (k p : ℕ) → p < 64 → sum_below (sites g) (λ j. here g v j k p) ≡ on_tiles g v k p
 unfolding here
 one_site g v k p low =
-    ⊎_elim
-    (λ (yes : is_site g k p ≡ true).
-    let t = there_again g k p low yes in
+    sum_below_same (sites g) (λ j. v j * one_at (place_of g j) p * one_at (tile_of g j) k)
+    (λ j. v j * on_tiles g (one_at j) k p)
+    (λ j l.
+    let e = ap (λ x. v j * x) (own_place g j k p low l) in
+    let t : v j * one_at (place_of g j) p * one_at (tile_of g j) k
+    ≡ v j * (one_at (tile_of g j) k * one_at (place_of g j) p) = grind arith in
+    t ∙ sym e)
+    ∙ ⊎_elim
+    (λ (is : is_site g k p ≡ true).
     let s = site_on g k p in
-    sum_below_same (sites g) (λ j. v j * one_at (place_of g j) p * one_at (tile_of g j) k) (λ j. v j * one_at s j)
-    (λ j l. ⊎_elim
-    (λ (e : s ≡ j).
-    let a : one_at (place_of g j) p ≡ 1 = ap (λ i. one_at i p) (ap (place_of g) (sym e) ∙ t.2) ∙ one_at_same p in
-    let b : one_at (tile_of g j) k ≡ 1 = ap (λ i. one_at i k) (ap (tile_of g) (sym e) ∙ t.1) ∙ one_at_same k in
-    let c : one_at s j ≡ 1 = ap (one_at s) (sym e) ∙ one_at_same s in
-    ap (λ x. v j * x * one_at (tile_of g j) k) a ∙ ap (λ x. v j * 1 * x) b ∙ sym (ap (λ x. v j * x) c ∙ omega arith))
-    (λ (ne : s ≡ j → ⊥).
-    let c = ap (λ x. v j * x) (one_at_other s j ne) in
-    ⊎_elim
-    (λ (tile : tile_of g j ≡ k).
-    let b = back_again g j l in
-    let apart : place_of g j ≡ p → ⊥ =
-    λ place. ne (sym (ap (λ i. site_on g i p) tile) ∙ sym (ap (site_on g (tile_of g j)) place) ∙ b.1) in
-    ap (λ x. v j * x * one_at (tile_of g j) k) (one_at_other (place_of g j) p apart) ∙ omega arith)
-    (λ (tile : tile_of g j ≡ k → ⊥).
-    ap (λ x. v j * one_at (place_of g j) p * x) (one_at_other (tile_of g j) k tile) ∙ omega arith)
-    (cases_eq (tile_of g j) k))
-    (cases_eq s j))
-    ∙ sum_below-one_at (sites g) s v t.0 ∙ sym (on_site g v k p yes))
-    (λ (no : is_site g k p ≡ false).
-    sum_below_same (sites g) (λ j. v j * one_at (place_of g j) p * one_at (tile_of g j) k) (λ j. 0)
-    (λ j l. ⊎_elim
-    (λ (tile : tile_of g j ≡ k).
-    let b = back_again g j l in
-    let apart : place_of g j ≡ p → ⊥ = λ place.
-    false≢true (sym no ∙ sym (ap (λ i. is_site g i p) tile) ∙ sym (ap (is_site g (tile_of g j)) place) ∙ b.0) in
-    ap (λ x. v j * x * one_at (tile_of g j) k) (one_at_other (place_of g j) p apart) ∙ omega arith)
-    (λ (tile : tile_of g j ≡ k → ⊥).
-    ap (λ x. v j * one_at (place_of g j) p * x) (one_at_other (tile_of g j) k tile) ∙ omega arith)
-    (cases_eq (tile_of g j) k))
-    ∙ sum_below-zero (sites g) ∙ sym (off_site g v k p no))
+    sum_below_same (sites g) (λ j. v j * on_tiles g (one_at j) k p) (λ j. v j * one_at s j)
+    (λ j l. ap (λ x. v j * x) (on_site g (one_at j) k p is ∙ one_at_comm j s))
+    ∙ sum_below-one_at (sites g) s v (there_again g k p low is).0 ∙ sym (on_site g v k p is))
+    (λ (not : is_site g k p ≡ false).
+    sum_below_same (sites g) (λ j. v j * on_tiles g (one_at j) k p) (λ j. 0)
+    (λ j l. ap (λ x. v j * x) (off_site g (one_at j) k p not) ∙ omega arith)
+    ∙ sum_below-zero (sites g) ∙ sym (off_site g v k p not))
     (cases_Bool (is_site g k p))
 
 pub sum_on_tiles : (g : Grid) (v : ℕ → ℕ)

@@ -11,7 +11,7 @@ use Rattle.sand_fronts.specs.TileLists.{waits, waits_but, Joins}
 use Rattle.sand_fronts.specs.Waves.{tile_at}
 use Rattle.sand_fronts.specs.declared.sand.Sand.{Sand}
 use Rattle.sand_fronts.specs.Boards.{tiles_of, Gets}
-use Rattle.sand_fronts.proofs.Gained.{tile_set_same, tile_set_other}
+use Rattle.sand_fronts.proofs.Gained.{tile_set, tile_set_same, tile_set_other}
 use Rattle.std.proofs.Math.ListN.{set}
 
 queued : (n : ℕ) (p q : ℕ → Bool) (list : List ℕ) (k : ℕ) (joins : Bool) → k < n → ((j : ℕ) → j < n → j ≢ k → p j ≡ q j)
@@ -122,15 +122,9 @@ gets_more free a b x y z s t u first second sums =
 pub visited_waits : (ts : List Tile) (free : ℕ → ℕ) (k m : ℕ) (t : Tile) → k < length ts → t.due ≡ 0
     → waits_but k (tile_at ts) free m ≡ waits (tile_at (set ts k t)) free m
 visited_waits ts free k m t inside none =
-    ⊎_elim
-    (λ (e : m ≡ k).
-    ap (λ b. not b && waits (tile_at ts) free m) (eq-eqb m k e)
-    ∙ sym (ap (λ (x : Tile). ltb 0 (bit_and x.due (free m))) (tile_set_same ts k m t inside e)
-    ∙ ap (λ x. ltb 0 (bit_and x (free m))) none))
-    (λ (ne : m ≡ k → ⊥).
-    ap (λ b. not b && waits (tile_at ts) free m) (ne_eqb m k ne)
-    ∙ ap (λ (x : Tile). ltb 0 (bit_and x.due (free m))) (sym (tile_set_other ts k m t ne)))
-    (cases_eq m k)
+    tile_set (λ i x. waits_but k (tile_at ts) free i ≡ ltb 0 (bit_and x.due (free i))) ts k t inside
+    (ap (λ b. not b && waits (tile_at ts) free k) (eq-eqb k k refl) ∙ sym (ap (λ w. ltb 0 (bit_and w (free k))) none))
+    (λ i ne. ap (λ b. not b && waits (tile_at ts) free i) (ne_eqb i k ne)) m
 
 pub joins_from : (n a : ℕ) (p p' q : ℕ → Bool) (l m : ListView) → ((j : ℕ) → j < n → p j ≡ p' j) → Joins n a p' q l m
     → Joins n a p q l m

@@ -4,7 +4,8 @@ use Rattle.sand_model.specs.Sand.{one_at}
 use Rattle.sand_tiles.specs.declared.tile.Tile.{Tile}
 use Rattle.sand_tiles.specs.Places.{bit, had}
 use Rattle.sand_fronts.specs.Waves.{tile_at}
-use Rattle.sand_fronts.proofs.OneSite.{no_grains, bare_clear, all_filled, tile_clear, tile_more, tile_room}
+use Rattle.sand_fronts.proofs.OneSite.{no_grains, bare_clear, all_filled, tile_more, tile_room}
+use Rattle.sand_fronts.proofs.Gained.{tile_clear}
 use Rattle.sand_fronts.proofs.tiling.tiles_with.Goals as goal
 
 pub add_grains-requires : goal.add_grains-requires
