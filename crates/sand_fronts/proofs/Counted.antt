@@ -1,5 +1,5 @@
 -- The places of tiles that leave a wave and are counted.
-use Rattle.std.proofs.Common.{ℕ, List, [], length, get_or, cond, eqb, refl, ◌≡◌, ◌≢◌, ◌+◌, ◌*◌, ◌<◌, ◌≤◌, sym, ◌∙◌, ap, arith, ⊎_elim, inl, inr}
+use Rattle.std.proofs.Common.{ℕ, List, length, get_or, cond, eqb, refl, ◌≡◌, ◌≢◌, ◌+◌, ◌*◌, ◌<◌, ◌≤◌, sym, ◌∙◌, ap, arith, ⊎_elim, inl, inr}
 use Rattle.std.specs.Prelude.{bit_and, bit_or, slice_index}
 use Rattle.std.specs.Vec.{with_item}
 use Rattle.std.proofs.Math.Nat.{mul-le-mul_right}
@@ -12,7 +12,7 @@ use Rattle.sand_model.proofs.Bounds.{at_most_all}
 use Rattle.sand_tiles.specs.declared.tile.Tile.{Tile}
 use Rattle.sand_tiles.specs.declared.counting.Count.{Count}
 use Rattle.sand_tiles.specs.Places.{bit, number}
-use Rattle.sand_tiles.specs.Counts.{counted, IsCount}
+use Rattle.sand_tiles.specs.Counts.{counted, IsCount, no_tile}
 use Rattle.sand_tiles.proofs.Bits.{bit_le, bit_none, either, both_le}
 use Rattle.sand_fronts.specs.TileLists.{IsClear, AreListed}
 use Rattle.sand_fronts.specs.Waves.{tile_at}
@@ -22,18 +22,15 @@ use Rattle.sand_fronts.specs.Boards.{counts_of, marks_of, AreCounted}
 use Rattle.sand_fronts.specs.Marking.{in_sets, AreMarked}
 use Rattle.sand_fronts.proofs.Gained.{set_each, tile_set, tile_set_same, tile_set_other}
 
-abbrev nothing : Count
-nothing = record { planes = record { ones = 0; twos = 0; fours = 0; eights = 0; sixteens = 0 }; sets = 0; spilled = [] }
-
 count_set_same : (cs : List Count) (k m : ℕ) (d : Count) → k < length cs → m ≡ k → count_at (set cs k d) m ≡ d
-count_set_same cs k m d inside e = ap (count_at (set cs k d)) e ∙ get_or-set_same cs k d nothing inside
+count_set_same cs k m d inside e = ap (count_at (set cs k d)) e ∙ get_or-set_same cs k d no_tile inside
 
 count_set_other : (cs : List Count) (k m : ℕ) (d : Count) → (m ≡ k → ⊥) → count_at (set cs k d) m ≡ count_at cs m
-count_set_other cs k m d ne = get_or-set_other cs k m d nothing ne
+count_set_other cs k m d ne = get_or-set_other cs k m d no_tile ne
 
 -- a count that is read
 pub count_read : (cs : List Count) (k : ℕ) (x : Count) → k < length cs → x ≡ get_or cs k x → x ≡ count_at cs k
-count_read cs k x inside read = get_or_read cs k x inside read nothing
+count_read cs k x inside read = get_or_read cs k x inside read no_tile
 
 -- ---- what is marked
 
@@ -179,7 +176,7 @@ counted_one ts c k word t was d marks inside each marks_each read is read_count 
           omega arith)
           (cases_eq m k);
       sound = λ before.
-          set_each nothing (λ m x. IsCount x) c.each.items k d within sound (λ m ne. before m);
+          set_each no_tile (λ m x. IsCount x) c.each.items k d within sound (λ m ne. before m);
       clear = tile_set (λ m x. IsClear (tile_at ts m) → IsClear x) ts k t inside (λ was. clear) (λ m ne was. was);
       marked = marked_one c.each.items k word d (marks_of c) (slice_index marks) within
           (λ p l. counts p l ∙ ap (λ (y : Count). counted y p + bit word p) read_count) marked;

@@ -9,7 +9,7 @@ use Rattle.sand_model.specs.Grid.{Grid, sites, missing}
 use Rattle.sand_tiles.specs.declared.tile.Tile.{Tile}
 use Rattle.sand_tiles.specs.declared.counting.Count.{Count}
 use Rattle.sand_tiles.specs.Places.{had}
-use Rattle.sand_tiles.specs.Counts.{counted, IsCount}
+use Rattle.sand_tiles.specs.Counts.{counted, IsCount, no_tile}
 use Rattle.sand_tiles.proofs.Bits.{bit_none}
 use Rattle.sand_fronts.specs.declared.sand.Sand.{Sand}
 use Rattle.sand_fronts.specs.declared.counts.Counts.{Counts}
@@ -21,22 +21,19 @@ use Rattle.sand_fronts.specs.Boards.{tiles_of, counts_of}
 use Rattle.sand_fronts.specs.TiledPiles.{tiled_view, by_site, IsTiledView}
 use Rattle.sand_fronts.proofs.OnTiles.{place_below, at_on, on_tiles_le, on_below, on_sum}
 
-abbrev nothing : Count
-nothing = record { planes = record { ones = 0; twos = 0; fours = 0; eights = 0; sixteens = 0 }; sets = 0; spilled = [] }
-
-nothing_sound : IsCount nothing
+nothing_sound : IsCount no_tile
 nothing_sound = record { few = omega arith; each = λ p low. let z = bit_none p in omega arith }
 
-nothing_counted : (p : ℕ) → counted nothing p ≡ 0
+nothing_counted : (p : ℕ) → counted no_tile p ≡ 0
 nothing_counted p = let z = bit_none p in let e = get_or-eq_default {A = ℕ} [] 0 {n = p} (omega arith) in omega arith
 
-count_is : (P : Count → Type 0) (items : List Count) (n m : ℕ) (x : Count) → items ≡ replicate n x → P x → P nothing
+count_is : (P : Count → Type 0) (items : List Count) (n m : ℕ) (x : Count) → items ≡ replicate n x → P x → P no_tile
     → P (count_at items m)
 count_is P items n m x all is none = ⊎_elim
     (λ (less : m < n).
-    subst P (sym (ap (λ (xs : List Count). count_at xs m) all ∙ get_or-replicate {A = Count} n m x nothing less)) is)
+    subst P (sym (ap (λ (xs : List Count). count_at xs m) all ∙ get_or-replicate {A = Count} n m x no_tile less)) is)
     (λ (more : n ≤ m). subst P (sym (ap (λ (xs : List Count). count_at xs m) all ∙ get_or-eq_default {A = Count}
-    (replicate n x) nothing {n = m} (let e = length-replicate {A = Count} n x in omega arith))) none)
+    (replicate n x) no_tile {n = m} (let e = length-replicate {A = Count} n x in omega arith))) none)
     (cases_lt m n)
 
 pub counts_sound : (items : List Count) (n m : ℕ) (x : Count) → items ≡ replicate n x → IsCount x

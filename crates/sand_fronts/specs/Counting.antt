@@ -1,16 +1,15 @@
 -- What a wave adds to the counts of the tiles.
-use Rattle.std.specs.Prelude.{ℕ, List, [], slice_index_or, ◌+◌, ◌*◌}
+use Rattle.std.specs.Prelude.{ℕ, List, slice_index_or, ◌+◌, ◌*◌}
 use Rattle.sand_model.specs.Sand.{sum_below}
 use Rattle.sand_tiles.specs.declared.tile.Tile.{Tile}
 use Rattle.sand_tiles.specs.declared.counting.Count.{Count}
 use Rattle.sand_tiles.specs.Places.{bit, number}
-use Rattle.sand_tiles.specs.Counts.{counted}
+use Rattle.sand_tiles.specs.Counts.{counted, no_tile}
 use Rattle.sand_fronts.specs.Marking.{in_sets}
 
 -- the count of a tile by its number, and an empty one past the end
 abbrev pub count_at : List Count → ℕ → Count
-count_at counts k = slice_index_or counts k
-    (record { planes = record { ones = 0; twos = 0; fours = 0; eights = 0; sixteens = 0 }; sets = 0; spilled = [] })
+count_at counts k = slice_index_or counts k no_tile
 
 -- the number of places of n tiles that have toppled in this wave
 abbrev pub in_wave : ℕ → (ℕ → Tile) → ℕ

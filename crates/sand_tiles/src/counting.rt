@@ -1,10 +1,10 @@
 //! Counting sets of places.
 //!
 //! The size of a set is the number of ones in a word, and a sum of small numbers over a set is a sum of three sizes
-//! (`sum_over`). How often each of 64 places has toppled is kept in five bit planes, one for each power of 2 below 32.
-//! To count one toppling at each place of a set, half adders add a one-bit number at each place. After 31 sets the
-//! planes are spilled, before a carry can leave the last one: their counts are added to a list of 64 numbers, and they
-//! are cleared.
+//! (`sum_over`). How often each of 64 places has toppled is kept in eight bit planes, one for each power of 2 below
+//! 256. To count one toppling at each place of a set, half adders add a one-bit number at each place. After 255 sets
+//! the planes are spilled, before a carry can leave the last one: their counts are added to a list of 64 numbers, and
+//! they are cleared.
 
 ghost use Rattle.std.specs.Prelude.{◌≡◌, ℕ, ◌+◌, ◌*◌, ◌^◌, ◌<◌, ◌≤◌};
 ghost use Rattle.sand_model.specs.Sand.{sum_below};
@@ -31,7 +31,7 @@ pub fn sum_over(numbers: &Tile, set: u64) -> u64
     size(set & numbers.low) + 2 * size(set & numbers.high) + 4 * size(set & numbers.due)
 }
 
-/// A number from 0 to 31 at each place of a tile: one bit plane for each power of 2.
+/// A number from 0 to 255 at each place of a tile: one bit plane for each power of 2.
 #[derive(Clone, Copy)]
 pub struct Planes {
     pub ones: u64,
@@ -39,10 +39,14 @@ pub struct Planes {
     pub fours: u64,
     pub eights: u64,
     pub sixteens: u64,
+    pub thirty_twos: u64,
+    pub sixty_fours: u64,
+    /// The bits of 128.
+    pub tops: u64,
 }
 
 // The sets that the planes count before they are spilled.
-const SPILL: u64 = 31;
+const SPILL: u64 = 255;
 
 const EMPTY: Planes = Planes {
     ones: 0,
@@ -50,6 +54,9 @@ const EMPTY: Planes = Planes {
     fours: 0,
     eights: 0,
     sixteens: 0,
+    thirty_twos: 0,
+    sixty_fours: 0,
+    tops: 0,
 };
 
 /// How often each place of a tile has toppled.
@@ -65,7 +72,7 @@ pub struct Count {
 
 #[inline(always)]
 fn add_to(planes: &mut Planes, set: u64)
-    requires { (p : ℕ) → p < 64 → times planes.old p ≤ 30 }
+    requires { (p : ℕ) → p < 64 → times planes.old p ≤ 254 }
     ensures { (p : ℕ) → p < 64 → times planes.new p ≡ times planes.old p + bit set p }
 {
     let two = planes.ones & set;
@@ -76,7 +83,13 @@ fn add_to(planes: &mut Planes, set: u64)
     planes.fours ^= four;
     let sixteen = planes.eights & eight;
     planes.eights ^= eight;
+    let thirty_two = planes.sixteens & sixteen;
     planes.sixteens ^= sixteen;
+    let sixty_four = planes.thirty_twos & thirty_two;
+    planes.thirty_twos ^= thirty_two;
+    let top = planes.sixty_fours & sixty_four;
+    planes.sixty_fours ^= sixty_four;
+    planes.tops ^= top;
 }
 
 #[inline(always)]
@@ -89,6 +102,9 @@ fn number_at(planes: &Planes, place: usize) -> u64
         + 4 * (planes.fours >> place & 1)
         + 8 * (planes.eights >> place & 1)
         + 16 * (planes.sixteens >> place & 1)
+        + 32 * (planes.thirty_twos >> place & 1)
+        + 64 * (planes.sixty_fours >> place & 1)
+        + 128 * (planes.tops >> place & 1)
 }
 
 // Moves the counts of the planes to the list.

@@ -11,4 +11,7 @@ returns c =
     let d = read_bit k.fours p in
     let e = read_bit k.eights p in
     let f = read_bit k.sixteens p in
+    let g = read_bit k.thirty_twos p in
+    let h = read_bit k.sixty_fours p in
+    let i = read_bit k.tops p in
     omega arith
