@@ -1,40 +1,34 @@
 -- The rounds of a visit to a tile.
 use Rattle.std.proofs.Common.{ℕ, ◌≡◌, ◌+◌, ◌-◌, ◌*◌, ◌%◌, ◌^◌, ◌<◌, ◌≤◌, sym, ◌∙◌, ap, arith, ⊎_elim}
-use Rattle.std.specs.Prelude.{bit_and, bit_or, bit_xor}
+use Rattle.std.specs.Prelude.{bit_and, bit_or}
 use Rattle.std.proofs.lemmas.Bool.{cases_eq}
-use Rattle.std.proofs.lemmas.Nat.{or_lt}
 use Rattle.sand_tiles.specs.declared.tile.Tile.{Tile}
-use Rattle.sand_tiles.specs.Places.{bit, height, around, unused, IsFlood, IsSpent, Stills, Topples, IsReady, Calms, Visits}
-use Rattle.sand_tiles.proofs.Bits.{bit_le, bit_none, half, both_le, apart, apart_words}
+use Rattle.sand_tiles.specs.Places.{bit, height, around, unused, IsSpent, Stills, Topples, IsReady, Calms, Visits}
+use Rattle.sand_tiles.proofs.Bits.{bit_le, bit_none, both_le, apart, apart_words}
 use Rattle.sand_tiles.proofs.Around.{around_sum, around_le, around_few, around_none}
 
 -- the places of `new` that toppled before this round
 abbrev pub done : ℕ → ℕ → ℕ → ℕ
 done new front q = bit new q - bit front q
 
--- the state of a visit that began with the tile t and has come to the tile u, with its next front; the places of `flood`
--- are in the front, and have not paid yet
-pub record IsVisit (t u : Tile) (free due new front flood : ℕ) : Type 0 where
+-- the state of a visit that began with the tile t and has come to the tile u, with its next front
+pub record IsVisit (t u : Tile) (free due new front : ℕ) : Type 0 where
   pub inside : (p : ℕ) → p < 64 → bit front p ≤ bit new p
   pub due_in : (p : ℕ) → p < 64 → bit due p ≤ bit new p
   pub once : (p : ℕ) → p < 64 → bit t.wave p + bit new p ≤ 1
   pub at_open : (p : ℕ) → p < 64 → bit free p ≡ 1
-      → height t p + around (done new front) p + 4 * bit due p + 4 * bit flood p ≡ height u p + 4 * bit new p
+      → height t p + around (done new front) p + 4 * bit due p ≡ height u p + 4 * bit new p
   pub at_held : (p : ℕ) → p < 64 → bit free p ≡ 0 → bit new p ≡ bit due p
   pub modulo : (p : ℕ) → p < 64 → height u p ≡ (height t p + around (done new front) p) % 4
   pub least : (w : ℕ → ℕ) → Stills t free due w → (p : ℕ) → p < 64 → bit new p ≤ w p
-  pub flooded : (p : ℕ) → p < 64 → bit flood p ≡ 1
-      → (bit free p ≡ 1) × (height u p ≡ 3) × (1 ≤ around (bit front) p)
 
-pub visit_begins : (t : Tile) (free due : ℕ) → IsSpent t free due → IsVisit t t free due due due 0
+pub visit_begins : (t : Tile) (free due : ℕ) → IsSpent t free due → IsVisit t t free due due due
 visit_begins t free due spent = record {
   inside = λ p low. omega arith;
   due_in = λ p low. omega arith;
   once = spent.fresh;
   at_open = λ p low is.
-      let none = around_sum (done due due) (done due due) (done due due) p low (λ q l. omega arith) in
-      let z = bit_none p in
-      omega arith;
+      let none = around_sum (done due due) (done due due) (done due due) p low (λ q l. omega arith) in omega arith;
   at_held = λ p low is. omega arith;
   modulo = λ p low.
       let none = around_sum (done due due) (done due due) (done due due) p low (λ q l. omega arith) in
@@ -42,14 +36,13 @@ visit_begins t free due spent = record {
       let h = bit_le t.high p in
       omega arith;
   least = λ w stills. stills.due_in;
-  flooded = λ p low is. let z = bit_none p in absurd (omega arith);
 }
 
 -- so far and with this front, at most the places that had not toppled
-so_far : (t u : Tile) (free due new front flood p : ℕ) → IsVisit t u free due new front flood → p < 64
+so_far : (t u : Tile) (free due new front p : ℕ) → IsVisit t u free due new front → p < 64
     → (around (done new front) p + around (bit front) p ≡ around (bit new) p)
     × (around (bit new) p ≤ around (unused free due t.wave) p) × (around (bit new) p ≤ 4)
-so_far t u free due new front flood p v low = (
+so_far t u free due new front p v low = (
   around_sum (done new front) (bit front) (bit new) p low (λ q l. let i = v.inside q l in omega arith),
   around_le (bit new) (unused free due t.wave) p low
       (λ q l. let o = v.once q l in let n = bit_le new q in let f = bit_le free q in
@@ -60,181 +53,64 @@ so_far t u free due new front flood p v low = (
   around_few (bit new) p low (λ q l. bit_le new q),
 )
 
--- a place that has toppled or is due, and has 3 grains, has no neighbour in the front
-flood_apart : (t u : Tile) (free due new front x p : ℕ) → IsSpent t free due → IsVisit t u free due new front 0
-    → IsFlood u free front x → p < 64 → bit t.wave p + bit new p + bit x p ≤ 1
-flood_apart t u free due new front x p spent v fl low =
-    let s = so_far t u free due new front 0 p v low in
-    let sum = s.0 in let most = s.1 in let few = s.2 in
-    let once = v.once p low in
-    let t1 = bit_le t.low p in let t2 = bit_le t.high p in
-    let din = v.due_in p low in
-    let z = bit_none p in
-    let b = bit_le x p in
-    ⊎_elim
-    (λ (is : bit x p ≡ 1).
-    let f = fl p low is in
-    let free1 = f.0 in let three = f.1 in let beside = f.2 in
-    let at = v.at_open p low free1 in
-    ⊎_elim
-    (λ (none : bit t.wave p + bit due p ≡ 0). omega arith)
-    (λ (one : bit t.wave p + bit due p ≡ 0 → ⊥). let low3 = spent.low p low free1 (omega arith) in omega arith)
-    (cases_eq (bit t.wave p + bit due p) 0))
-    (λ (not : bit x p ≡ 1 → ⊥). omega arith)
-    (cases_eq (bit x p) 1)
-
--- the flood joins the front
-pub visit_floods : (t u : Tile) (free due new front x : ℕ) → IsSpent t free due → IsVisit t u free due new front 0
-    → IsFlood u free front x → IsVisit t u free due (bit_or new x) (bit_or front x) x
-visit_floods t u free due new front x spent v fl =
-    let joined : (q : ℕ) → q < 64
-    → (bit (bit_or new x) q ≡ bit new q + bit x q) × (bit (bit_or front x) q ≡ bit front q + bit x q) = λ q l.
-    let a = flood_apart t u free due new front x q spent v fl l in
-    let i = v.inside q l in
-    (apart new x q (omega arith), apart front x q (omega arith)) in
-    let same : (p : ℕ) → p < 64 → around (done (bit_or new x) (bit_or front x)) p ≡ around (done new front) p = λ p low.
-    let a = around_le (done (bit_or new x) (bit_or front x)) (done new front) p low
-    (λ q l. let j = joined q l in let j0 = j.0 in let j1 = j.1 in omega arith) in
-    let b = around_le (done new front) (done (bit_or new x) (bit_or front x)) p low
-    (λ q l. let j = joined q l in let j0 = j.0 in let j1 = j.1 in omega arith) in
-    omega arith in
-    record {
-      inside = λ p low. let j = joined p low in let j0 = j.0 in let j1 = j.1 in let i = v.inside p low in omega arith;
-      due_in = λ p low. let j = (joined p low).0 in let d = v.due_in p low in omega arith;
-      once = λ p low.
-          let j = (joined p low).0 in
-          let a = flood_apart t u free due new front x p spent v fl low in
-          omega arith;
-      at_open = λ p low is.
-          let j = (joined p low).0 in
-          let b = same p low in
-          let at = v.at_open p low is in
-          let z = bit_none p in
-          omega arith;
-      at_held = λ p low is.
-          let j = (joined p low).0 in
-          let at = v.at_held p low is in
-          let b = bit_le x p in
-          ⊎_elim
-          (λ (in_x : bit x p ≡ 1). let f = (fl p low in_x).0 in absurd (omega arith))
-          (λ (not : bit x p ≡ 1 → ⊥). omega arith)
-          (cases_eq (bit x p) 1);
-      modulo = λ p low. let b = same p low in let m = v.modulo p low in omega arith;
-      least = λ r stills p low.
-          let j = (joined p low).0 in
-          let a = flood_apart t u free due new front x p spent v fl low in
-          let so = v.least r stills p low in
-          let b = bit_le x p in
-          ⊎_elim
-          (λ (in_x : bit x p ≡ 1).
-          let f = fl p low in_x in
-          let free1 = f.0 in let three = f.1 in let beside = f.2 in
-          let sum = (so_far t u free due new front 0 p v low).0 in
-          let more = around_le (bit new) r p low (v.least r stills) in
-          let at = v.at_open p low free1 in
-          let d = v.due_in p low in
-          let z = bit_none p in
-          let still = stills.at_most_three p low free1 in
-          omega arith)
-          (λ (not : bit x p ≡ 1 → ⊥). omega arith)
-          (cases_eq (bit x p) 1);
-      flooded = λ p low is.
-          let f = fl p low is in (
-            f.0,
-            f.1,
-            let le = around_le (bit front) (bit (bit_or front x)) p low
-                (λ q l. let j = (joined q l).1 in omega arith) in
-                let some = f.2 in omega arith,
-          );
-    }
-
--- the places of the next front: those that carry, without the flood
-next_is : (t u w : Tile) (free due new front flood four p : ℕ) → IsVisit t u free due new front flood → p < 64
-    → height u p + around (bit front) p ≡ height w p + 4 * bit four p
-    → (bit (bit_xor (bit_and four free) flood) p + bit flood p ≡ bit (bit_and four free) p)
-    × (bit free p ≡ 1 → bit (bit_xor (bit_and four free) flood) p + bit flood p ≡ bit four p)
-    × (bit free p ≡ 0 → (bit (bit_xor (bit_and four free) flood) p ≡ 0) × (bit flood p ≡ 0))
-next_is t u w free due new front flood four p v low e =
-    let m = both_le four free p in
-    let m0 = m.0 in let m1 = m.1 in let m2 = m.2 in
-    let h = half (bit_and four free) flood p in
-    let n = both_le (bit_and four free) flood p in
-    let n0 = n.0 in let n1 = n.1 in let n2 = n.2 in
-    let x = bit_le (bit_xor (bit_and four free) flood) p in
-    let b = bit_le flood p in
-    let f = bit_le four p in let g = bit_le free p in
-    let l = bit_le w.low p in let u' = bit_le w.high p in
-    ⊎_elim
-    (λ (is : bit flood p ≡ 1).
-    let fl = v.flooded p low is in
-    let free1 = fl.0 in let three = fl.1 in let beside = fl.2 in
-    (omega arith, λ yes'. omega arith, λ no'. absurd (omega arith)))
-    (λ (not : bit flood p ≡ 1 → ⊥). (omega arith, λ yes'. omega arith, λ no'. (omega arith, omega arith)))
-    (cases_eq (bit flood p) 1)
-
 -- a place that has toppled or is due does not reach 4 again
-pub apart_from : (t u w : Tile) (free due new front flood four p : ℕ)
-    → IsSpent t free due → IsVisit t u free due new front flood → p < 64
+pub apart_from : (t u w : Tile) (free due new front four p : ℕ)
+    → IsSpent t free due → IsVisit t u free due new front → p < 64
     → height u p + around (bit front) p ≡ height w p + 4 * bit four p
-    → bit t.wave p + bit new p + bit (bit_xor (bit_and four free) flood) p ≤ 1
-apart_from t u w free due new front flood four p spent v low e =
-    let s = so_far t u free due new front flood p v low in
+    → bit t.wave p + bit new p + bit (bit_and four free) p ≤ 1
+apart_from t u w free due new front four p spent v low e =
+    let s = so_far t u free due new front p v low in
     let sum = s.0 in let most = s.1 in let few = s.2 in
-    let n = next_is t u w free due new front flood four p v low e in
+    let both = both_le four free p in
+    let b1 = both.0 in let b2 = both.1 in
     let once = v.once p low in
     let t1 = bit_le t.low p in let t2 = bit_le t.high p in
-    let f = bit_le four p in let m = bit_le new p in let d = bit_le due p in
+    let f = bit_le four p in let n = bit_le new p in let d = bit_le due p in
     let din = v.due_in p low in
     let o = bit_le free p in
-    let b = bit_le flood p in
     ⊎_elim
     (λ (is : bit free p ≡ 1).
     let at = v.at_open p low is in
-    let n1 = n.1 is in
     ⊎_elim
     (λ (none : bit t.wave p + bit due p ≡ 0). omega arith)
     (λ (one : bit t.wave p + bit due p ≡ 0 → ⊥). let low3 = spent.low p low is (omega arith) in omega arith)
     (cases_eq (bit t.wave p + bit due p) 0))
-    (λ (not : bit free p ≡ 1 → ⊥). let n2 = (n.2 (omega arith)).0 in omega arith)
+    (λ (not : bit free p ≡ 1 → ⊥). omega arith)
     (cases_eq (bit free p) 1)
 
 -- a place that reaches 4 topples in any w that leaves no place with 4
-least_more : (t u w : Tile) (free due new front flood four p : ℕ) (r : ℕ → ℕ)
-    → IsSpent t free due → IsVisit t u free due new front flood
+least_more : (t u w : Tile) (free due new front four p : ℕ) (r : ℕ → ℕ)
+    → IsSpent t free due → IsVisit t u free due new front
     → Stills t free due r → p < 64
     → height u p + around (bit front) p ≡ height w p + 4 * bit four p
-    → bit new p + bit (bit_xor (bit_and four free) flood) p ≤ r p
-least_more t u w free due new front flood four p r spent v stills low e =
-    let s = so_far t u free due new front flood p v low in
+    → bit (bit_or new (bit_and four free)) p ≡ bit new p + bit (bit_and four free) p
+    → bit (bit_or new (bit_and four free)) p ≤ r p
+least_more t u w free due new front four p r spent v stills low e j =
+    let s = so_far t u free due new front p v low in
     let sum = s.0 in
-    let a = apart_from t u w free due new front flood four p spent v low e in
-    let n = next_is t u w free due new front flood four p v low e in
+    let a = apart_from t u w free due new front four p spent v low e in
     let so = v.least r stills p low in
     let more = around_le (bit new) r p low (v.least r stills) in
-    let f = bit_le four p in let o = bit_le free p in let b = bit_le flood p in
-    let x = bit_le (bit_xor (bit_and four free) flood) p in
+    let both = both_le four free p in
+    let b0 = both.0 in let b1 = both.1 in
+    let f = bit_le four p in let o = bit_le free p in
     let d = v.due_in p low in
     ⊎_elim
-    (λ (none : bit (bit_xor (bit_and four free) flood) p ≡ 0). omega arith)
-    (λ (some : bit (bit_xor (bit_and four free) flood) p ≡ 0 → ⊥).
-    ⊎_elim
-    (λ (is : bit free p ≡ 1).
+    (λ (none : bit (bit_and four free) p ≡ 0). omega arith)
+    (λ (some : bit (bit_and four free) p ≡ 0 → ⊥).
+    let is : bit free p ≡ 1 = omega arith in
     let at = v.at_open p low is in
-    let n1 = n.1 is in
     let still = stills.at_most_three p low is in
     omega arith)
-    (λ (not : bit free p ≡ 1 → ⊥). let n2 = (n.2 (omega arith)).0 in absurd (omega arith))
-    (cases_eq (bit free p) 1))
-    (cases_eq (bit (bit_xor (bit_and four free) flood) p) 0)
+    (cases_eq (bit (bit_and four free) p) 0)
 
-pub visit_goes_on : (t u w : Tile) (free due new front flood four : ℕ) → IsSpent t free due
-    → IsVisit t u free due new front flood
+pub visit_goes_on : (t u w : Tile) (free due new front four : ℕ) → IsSpent t free due → IsVisit t u free due new front
     → ((p : ℕ) → p < 64 → height u p + around (bit front) p ≡ height w p + 4 * bit four p)
-    → IsVisit t w free due (bit_or new (bit_xor (bit_and four free) flood)) (bit_xor (bit_and four free) flood) 0
-visit_goes_on t u w free due new front flood four spent v round =
-    let next = bit_xor (bit_and four free) flood in
-    let joined : (q : ℕ) → q < 64 → bit (bit_or new next) q ≡ bit new q + bit next q = λ q l.
-    let a = apart_from t u w free due new front flood four q spent v l (round q l) in apart new next q (omega arith) in
+    → IsVisit t w free due (bit_or new (bit_and four free)) (bit_and four free)
+visit_goes_on t u w free due new front four spent v round =
+    let next = bit_and four free in
+    let joined : (q : ℕ) → q < 64 → bit (bit_or new next) q ≡ bit new q + bit next q =
+    λ q l. let a = apart_from t u w free due new front four q spent v l (round q l) in apart new next q (omega arith) in
     let before : (p : ℕ) → p < 64
     → around (done (bit_or new next) next) p ≡ around (done new front) p + around (bit front) p =
     λ p low. sym (around_sum (done new front) (bit front) (done (bit_or new next) next)
@@ -244,20 +120,22 @@ visit_goes_on t u w free due new front flood four spent v round =
       due_in = λ p low. let j = joined p low in let d = v.due_in p low in omega arith;
       once = λ p low.
           let j = joined p low in
-          let a = apart_from t u w free due new front flood four p spent v low (round p low) in
+          let a = apart_from t u w free due new front four p spent v low (round p low) in
           omega arith;
       at_open = λ p low is.
           let j = joined p low in
           let b = before p low in
           let r = round p low in
           let at = v.at_open p low is in
-          let n = (next_is t u w free due new front flood four p v low r).1 is in
-          let z = bit_none p in
+          let m = both_le four free p in
+          let m0 = m.0 in
+          let m2 = m.2 in
           omega arith;
       at_held = λ p low is.
           let j = joined p low in
           let at = v.at_held p low is in
-          let n = ((next_is t u w free due new front flood four p v low (round p low)).2 is).0 in
+          let m = both_le four free p in
+          let m1 = m.1 in
           omega arith;
       modulo = λ p low.
           let b = before p low in
@@ -267,27 +145,19 @@ visit_goes_on t u w free due new front flood four spent v round =
           let h = bit_le w.high p in
           omega arith;
       least = λ r stills p low.
-          let j = joined p low in
-          let m = least_more t u w free due new front flood four p r spent v stills low (round p low) in
-          omega arith;
-      flooded = λ p low is. let z = bit_none p in absurd (omega arith);
+          let j = joined p low in least_more t u w free due new front four p r spent v stills low (round p low) j;
     }
 
 -- each round enlarges the set of places that have toppled, also as a number
-pub visit_grows : (t u w : Tile) (free due new front x four : ℕ) → new < 2 ^ 64 → x < 2 ^ 64 → IsSpent t free due
-    → IsVisit t u free due new front 0 → IsFlood u free front x
-    → ((p : ℕ) → p < 64 → height u p + around (bit (bit_or front x)) p ≡ height w p + 4 * bit four p)
-    → bit_or (bit_or new x) (bit_xor (bit_and four free) x) ≡ new + x + bit_xor (bit_and four free) x
-visit_grows t u w free due new front x four fits fits_x spent v fl round =
-    let floods = visit_floods t u free due new front x spent v fl in
-    let first = apart_words new x fits
-    (λ p low. let a = flood_apart t u free due new front x p spent v fl low in omega arith) in
-    let second = apart_words (bit_or new x) (bit_xor (bit_and four free) x) (or_lt 64 new x fits fits_x)
-    (λ p low. let a = apart_from t u w free due (bit_or new x) (bit_or front x) x four p spent floods low (round p low) in
-    omega arith) in
-    omega arith
+pub visit_grows : (t u w : Tile) (free due new front four : ℕ)
+    → new < 2 ^ 64 → IsSpent t free due → IsVisit t u free due new front
+    → ((p : ℕ) → p < 64 → height u p + around (bit front) p ≡ height w p + 4 * bit four p)
+    → bit_or new (bit_and four free) ≡ new + bit_and four free
+visit_grows t u w free due new front four fits spent v round =
+    apart_words new (bit_and four free) fits
+    (λ p low. let a = apart_from t u w free due new front four p spent v low (round p low) in omega arith)
 
-pub visit_ends : (t u w : Tile) (free due new front : ℕ) → front ≡ 0 → IsVisit t u free due new front 0
+pub visit_ends : (t u w : Tile) (free due new front : ℕ) → front ≡ 0 → IsVisit t u free due new front
     → w.low ≡ u.low → w.high ≡ u.high → w.wave ≡ bit_or t.wave new → Topples t w free due new
 visit_ends t u w free due new front empty v low high set =
     let none : (p : ℕ) → bit front p ≡ 0 = λ p. ap (λ x. bit x p) empty ∙ bit_none p in
@@ -300,8 +170,7 @@ visit_ends t u w free due new front empty v low high set =
     record {
       due_in = v.due_in;
       once = λ p l. ap (λ x. bit x p) set ∙ apart t.wave new p (v.once p l);
-      at_open = λ p l is.
-          let a = all p l in let s = same p in let at = v.at_open p l is in let z = bit_none p in omega arith;
+      at_open = λ p l is. let a = all p l in let s = same p in let at = v.at_open p l is in omega arith;
       at_held = v.at_held;
       modulo = λ p l. let a = all p l in let s = same p in let m = v.modulo p l in omega arith;
       least = v.least;

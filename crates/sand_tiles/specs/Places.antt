@@ -34,11 +34,6 @@ east f p = if p % 8 == 7 then 0 else f (p + 1)
 abbrev pub around : (ℕ → ℕ) → ℕ → ℕ
 around f p = north f p + south f p + west f p + east f p
 
--- each place of the set `flood` is free, has 3 grains, and is next to the set `front`
-abbrev pub IsFlood : Tile → ℕ → ℕ → ℕ → Type 0
-IsFlood t free front flood =
-    (p : ℕ) → p < 64 → bit flood p ≡ 1 → (bit free p ≡ 1) × (height t p ≡ 3) × (1 ≤ around (bit front) p)
-
 -- the places that may topple and have not yet
 abbrev pub unused : ℕ → ℕ → ℕ → ℕ → ℕ
 unused free due set q = max (bit free q) (bit due q) - bit set q

@@ -7,17 +7,14 @@
 //!   by half adders. At each place the height plus the neighbours in the front is at most 7. So the sum is the new
 //!   height, plus 4 if a carry leaves the plane `high`.
 //! - **The carry is the next front**, cut to the free places: those that may topple in this wave.
-//! - **A flood saves rounds.** A free place with 3 grains next to the front must topple. So it joins the front at once,
-//!   before the grains of the front are added. It pays its 4 grains with this carry, and is left out of the next front.
 //! - **No place topples twice in a wave.** It had at most 3 grains, gets at most one from each of its four neighbours,
-//!   and pays 4. A place that has toppled and has 3 in the planes has got a grain from each neighbour, so the flood does
-//!   not reach it. So each front has only new places. The set of all fronts grows, also as a number, and the rounds end
+//!   and pays 4. So each front has only new places. The set of all fronts grows, also as a number, and the rounds end
 //!   (`proofs/Rounds`).
 //! - **It is least.** Whatever stabilises the free places topples each place of a front (`Visits`: `least`). Without
 //!   this clause, places could support each other in a ring, and the grains would still balance.
 
 ghost use Rattle.std.specs.Prelude.{◌≡◌, ℕ, ◌+◌, ◌*◌, ◌<◌, ◌≤◌};
-ghost use Rattle.sand_tiles.specs.Places.{bit, height, around, IsFlood, IsSpent, Topples, IsReady, Visits};
+ghost use Rattle.sand_tiles.specs.Places.{bit, height, around, IsSpent, Topples, IsReady, Visits};
 
 use crate::tile::Tile;
 
@@ -47,22 +44,6 @@ fn topple_front(tile: &mut Tile, front: u64) -> u64
     four
 }
 
-// The places next to those of a set, inside the tile.
-#[inline(always)]
-fn next_to(set: u64) -> u64
-    ensures { (p : ℕ) → p < 64 → bit result p ≤ around (bit set) p }
-{
-    set << 8 | set >> 8 | set << 1 & NOT_FIRST | set >> 1 & NOT_LAST
-}
-
-// The free places with 3 grains next to a front.
-#[inline(always)]
-fn flood_of(tile: &Tile, front: u64, free: u64) -> u64
-    ensures { IsFlood tile.now free front result }
-{
-    tile.low & tile.high & free & next_to(front)
-}
-
 // Topples the due places of a tile at once, then the free ones that this brings to 4, until there are none. Returns the
 // places that have toppled.
 #[inline(always)]
@@ -74,10 +55,9 @@ fn topple_due(tile: &mut Tile, free: u64, due: u64) -> u64
     let mut front = due;
     let mut new = due;
     'rounds: while front != 0 {
-        let flood = flood_of(tile, front, free);
-        let four = topple_front(tile, front | flood);
-        front = four & free ^ flood;
-        new = new | flood | front;
+        let four = topple_front(tile, front);
+        front = four & free;
+        new |= front;
     }
     tile.wave |= new;
     new

@@ -4,7 +4,7 @@ use Rattle.sand_tiles.proofs.visiting.topple_due.Given as goal
 
 abbrev pub invariant-rounds : goal.invariant-rounds
 invariant-rounds l = record {
-  visit : IsVisit l.fn.tile l.tile l.free l.due l.new l.front 0;
+  visit : IsVisit l.fn.tile l.tile l.free l.due l.new l.front;
   below : l.front ≤ l.new;
   due_kept : l.tile.due ≡ l.fn.tile.due;
   set_kept : l.tile.wave ≡ l.fn.tile.wave;
