@@ -34,8 +34,8 @@ count_read cs k x inside read = get_or_read cs k x inside read no_tile
 
 -- ---- what is marked
 
-pub marked_more : (c d e : ℕ → Count) (x y z : ℕ → ℕ) → AreMarked c d x y → AreMarked d e y z → AreMarked c e x z
-marked_more c d e x y z first second = record {
+pub marked_more : {c d e : ℕ → Count} {x y z : ℕ → ℕ} → AreMarked c d x y → AreMarked d e y z → AreMarked c e x z
+marked_more {c} {d} {e} {x} {y} {z} first second = record {
   never_falls = λ m p low. let a = first.never_falls m p low in let b = second.never_falls m p low in omega arith;
   kept = λ m p low. let a = first.kept m p low in let b = second.kept m p low in omega arith;
   new = λ m p low grown. ⊎_elim
@@ -126,9 +126,9 @@ counted_none ts c = record {
   marked = marked_none (counts_of c) (marks_of c);
 }
 
-pub counted_more : (ts us vs : List Tile) (c d e : Counts) → AreCounted ts us c d → AreCounted us vs d e
+pub counted_more : {ts us vs : List Tile} {c d e : Counts} → AreCounted ts us c d → AreCounted us vs d e
     → AreCounted ts vs c e
-counted_more ts us vs c d e first second = record {
+counted_more first second = record {
   tiles_each = second.tiles_each ∙ first.tiles_each;
   counts_each = second.counts_each ∙ first.counts_each;
   marks_each = second.marks_each ∙ first.marks_each;
@@ -138,8 +138,7 @@ counted_more ts us vs c d e first second = record {
   each = λ m p l. second.each m p l ∙ first.each m p l;
   sound = λ before. second.sound (first.sound before);
   clear = λ m was. second.clear m (first.clear m was);
-  marked = marked_more (counts_of c) (counts_of d) (counts_of e) (marks_of c) (marks_of d) (marks_of e)
-      first.marked second.marked;
+  marked = marked_more first.marked second.marked;
 }
 
 -- the set of tile k is counted and marked, and the tile leaves the wave
@@ -261,10 +260,10 @@ none_over_wave n ν τ clear =
 -- ---- turn by turn
 
 -- the tiles still in the wave are in the rest of the list
-pub rest_listed : (ts us : List Tile) (c d : Counts) (k : ℕ) (list : List ℕ) (turn end : ℕ)
+pub rest_listed : {ts us : List Tile} {c d : Counts} (k : ℕ) (list : List ℕ) (turn end : ℕ)
     → AreListed list turn end (tile_at ts) → AreCounted ts us c d
     → IsClear (tile_at us k) → k ≡ slice_index list turn → AreListed list (turn + 1) end (tile_at us)
-rest_listed ts us c d k list turn end listed counts clear is m = ⊎_elim
+rest_listed {ts} {us} {c} {d} k list turn end listed counts clear is m = ⊎_elim
     (λ (was : IsClear (tile_at ts m)). inl (counts.clear m was))
     (λ (at : (t : ℕ) × (turn ≤ t) × (t < end) × (slice_index list t ≡ m)). ⊎_elim
     (λ (now : at.0 ≡ turn).

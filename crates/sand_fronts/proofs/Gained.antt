@@ -70,8 +70,8 @@ only_as k m p f h e = ⊎_elim
     (λ (ne : m ≡ k → ⊥). only_other k m f p ne ∙ sym (only_other k m h p ne))
     (cases_eq m k)
 
-pub gains_from : (τ τ' σ : ℕ → Tile) (a : ℕ → ℕ → ℕ) → ((m : ℕ) → τ m ≡ τ' m) → Gains τ σ a → Gains τ' σ a
-gains_from τ τ' σ a same gains = record {
+pub gains_from : {τ τ' σ : ℕ → Tile} {a : ℕ → ℕ → ℕ} → ((m : ℕ) → τ m ≡ τ' m) → Gains τ σ a → Gains τ' σ a
+gains_from same gains = record {
   wave = λ m p low. gains.wave m p low ∙ ap (λ x. bit x.wave p) (same m);
   each = λ m p low few. let e = ap (λ x. had x p) (same m) in let g = gains.each m p low (omega arith) in omega arith;
   modulo = λ m p low. let e = ap (λ x. height x p) (same m) in let g = gains.modulo m p low in omega arith;

@@ -312,10 +312,10 @@ none_lost g c =
     omega arith
 
 -- a drop on a stable pile topples fewer than 2 ^ 32 times
-pub few_topplings_yet : (g : Grid) (site : ℕ) (more : Bool) (τ σ : ℕ → Tile) (c d : ℕ → Count)
+pub few_topplings_yet : {g : Grid} {site : ℕ} {more : Bool} {τ σ : ℕ → Tile} {c d : ℕ → Count}
     → IsGrid g → AreWaves g site more τ σ c d
     → topplings g (grown_on g c d) < 2 ^ 32
-few_topplings_yet g site more τ σ c d sides waves =
+few_topplings_yet {g} {site} {more} {τ} {σ} {c} {d} sides waves =
     let h = heights_before g site τ in
     let each = sum_below_le (sites g) h (λ j. 7 * 1) (λ j l.
     let a = bit_le (τ (tile_of g j)).low (place_of g j) in
@@ -330,19 +330,19 @@ few_topplings_yet g site more τ σ c d sides waves =
     let pays = waves.advances.weight_pays in
     omega arith
 
-pub few_counted : (g : Grid) (site : ℕ) (more : Bool) (τ σ : ℕ → Tile) (c d : ℕ → Count) (m p : ℕ)
+pub few_counted : {g : Grid} {site : ℕ} {more : Bool} {τ σ : ℕ → Tile} {c d : ℕ → Count} (m p : ℕ)
     → IsGrid g → AreWaves g site more τ σ c d → p < 64
     → counted (c m) p < 2 ^ 60 → counted (d m) p < 2 ^ 61
-few_counted g site more τ σ c d m p sides waves low few =
-    let all = few_topplings_yet g site more τ σ c d sides waves in
+few_counted {g} {site} {more} {τ} {σ} {c} {d} m p sides waves low few =
+    let all = few_topplings_yet sides waves in
     let here = on_below g (grown_on g c d) m p (2 ^ 32) low
     (λ j l. let part = at_most_sum_below (sites g) (grown_on g c d) j l in omega arith) in
     let e = waves.counts m p low in
     omega arith
 
-pub waves_end : (g : Grid) (site : ℕ) (τ σ : ℕ → Tile) (c d : ℕ → Count) → AreWaves g site false τ σ c d
+pub waves_end : {g : Grid} {site : ℕ} {τ σ : ℕ → Tile} {c d : ℕ → Count} → AreWaves g site false τ σ c d
     → IsSettled g (heights_before g site τ) (grown_on g c d) (heights_on g σ)
-waves_end g site τ σ c d waves =
+waves_end {g} {site} {τ} {σ} {c} {d} waves =
     underway_end g (heights_before g site τ) (grown_on g c d) (heights_on g σ)
     (waves.advances.underway (heights_before g site τ)
     (underway_start g (heights_before g site τ) (λ j. 0) (λ j l. refl)))
@@ -352,9 +352,9 @@ waves_end g site τ σ c d waves =
     omega arith)
 
 -- between two waves the tiles are at rest
-pub at_rest : (g : Grid) (site : ℕ) (more : Bool) (τ σ : ℕ → Tile) (c d : ℕ → Count)
+pub at_rest : {g : Grid} {site : ℕ} {more : Bool} {τ σ : ℕ → Tile} {c d : ℕ → Count}
     → AreWaves g site more τ σ c d → more ≡ true → AreAtRest g site σ
-at_rest g site more τ σ c d waves is =
+at_rest {g} {site} {more} {τ} {σ} {c} {d} waves is =
     record { clear = λ m p l. waves.clear m p l; none_due = waves.none_due; empty = waves.empty is }
 
 pub none_grown : (g : Grid) (c : ℕ → Count) → 0 ≡ topplings g (grown_on g c c)

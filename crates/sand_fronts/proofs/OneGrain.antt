@@ -1,8 +1,8 @@
 -- A grain added at a site of a stable pile on tiles.
-use Rattle.std.proofs.Common.{ℕ, Bool, true, false, eqb, List, length, get_or, ◌≡◌, ◌≢◌, ◌+◌, ◌-◌, ◌*◌, ◌<◌, ◌≤◌, refl, sym, ◌∙◌, ap, arith, ⊎_elim}
+use Rattle.std.proofs.Common.{ℕ, eqb, List, length, get_or, ◌≡◌, ◌≢◌, ◌+◌, ◌-◌, ◌*◌, ◌<◌, ◌≤◌, refl, sym, ◌∙◌, ap, arith, ⊎_elim}
 use Rattle.std.specs.Prelude.{bit_xor, slice_index}
 use Rattle.std.proofs.Math.ListN.{set}
-use Rattle.std.proofs.lemmas.Bool.{cases_eq, eqb-true, eqb-false}
+use Rattle.std.proofs.lemmas.Bool.{cases_eq}
 use Rattle.std.proofs.lemmas.List.{get_or-set_other, length-set}
 use Rattle.sand_model.specs.Grid.{Grid, sites}
 use Rattle.sand_model.specs.Sand.{IsSettled, one_at}
@@ -14,7 +14,7 @@ use Rattle.sand_tiles.specs.declared.tile.Tile.{Tile}
 use Rattle.sand_tiles.specs.declared.counting.Count.{Count}
 use Rattle.sand_tiles.specs.Places.{bit, had, Receives}
 use Rattle.sand_tiles.proofs.Bits.{bit_le, half, both_le}
-use Rattle.sand_fronts.specs.Tiling.{tiles, tile_of, place_of, site_on, on_tiles}
+use Rattle.sand_fronts.specs.Tiling.{tile_of, place_of, site_on, on_tiles}
 use Rattle.sand_fronts.specs.TileLists.{IsClear}
 use Rattle.sand_fronts.specs.Waves.{tile_at, AreOpen, AreAllOpen, AreAtRest, heights_before}
 use Rattle.sand_fronts.specs.Drops.{heights_on, grown_on, AreQuiet}
@@ -47,10 +47,10 @@ pub record GetsGrain (g : Grid) (site : ℕ) (ts : List Tile) (here grain : ℕ)
   pub receives : Receives (tile_at ts here) t grain
   pub quiet : AreQuiet g (tile_at ts)
 
-site_had : (g : Grid) (site : ℕ) (ts : List Tile) (here grain : ℕ) (t : Tile) (j : ℕ)
+site_had : {g : Grid} {site : ℕ} {ts : List Tile} {here grain : ℕ} {t : Tile} (j : ℕ)
     → GetsGrain g site ts here grain t → j < sites g
     → had (tile_at (set ts here t) (tile_of g j)) (place_of g j) ≡ heights_on g (tile_at ts) j + one_at site j
-site_had g site ts here grain t j gets l =
+site_had {g} {site} {ts} {here} {grain} {t} j gets l =
     let p = place_of g j in
     let low = place_below g j in
     let clear = gets.quiet.clear (tile_of g j) p low in
@@ -72,19 +72,19 @@ site_had g site ts here grain t j gets l =
     omega arith)
     (cases_eq (tile_of g j) here)
 
-still_clear : (g : Grid) (site : ℕ) (ts : List Tile) (here grain : ℕ) (t : Tile)
+still_clear : {g : Grid} {site : ℕ} {ts : List Tile} {here grain : ℕ} {t : Tile}
     → GetsGrain g site ts here grain t → (m : ℕ)
     → IsClear (tile_at (set ts here t) m)
-still_clear g site ts here grain t gets = tile_clear ts here t gets.inside gets.receives.wave gets.quiet.clear
+still_clear {g} {site} {ts} {here} {grain} {t} gets = tile_clear ts here t gets.inside gets.receives.wave gets.quiet.clear
 
 -- no other site is due
-others_rest : (g : Grid) (site : ℕ) (ts : List Tile) (here grain : ℕ) (t : Tile) (j : ℕ)
+others_rest : {g : Grid} {site : ℕ} {ts : List Tile} {here grain : ℕ} {t : Tile} (j : ℕ)
     → GetsGrain g site ts here grain t → j < sites g → j ≢ site
     → (bit (tile_at (set ts here t) (tile_of g j)).due (place_of g j) ≡ 0)
     × (heights_on g (tile_at (set ts here t)) j ≡ heights_on g (tile_at ts) j + one_at site j)
-others_rest g site ts here grain t j gets l ne =
-    let h = site_had g site ts here grain t j gets l in
-    let c = still_clear g site ts here grain t gets (tile_of g j) (place_of g j) (place_below g j) in
+others_rest {g} {site} {ts} {here} {grain} {t} j gets l ne =
+    let h = site_had j gets l in
+    let c = still_clear gets (tile_of g j) (place_of g j) (place_below g j) in
     let z = one_at_other site j (λ e. ne (sym e)) in
     let a = bit_le (tile_at ts (tile_of g j)).low (place_of g j) in
     let b = bit_le (tile_at ts (tile_of g j)).high (place_of g j) in
@@ -92,36 +92,36 @@ others_rest g site ts here grain t j gets l ne =
 
 -- ---- if the site is not due, the pile is settled
 
-pub calm_rest : (g : Grid) (site : ℕ) (ts : List Tile) (here grain : ℕ) (t : Tile) (j : ℕ)
+pub calm_rest : {g : Grid} {site : ℕ} {ts : List Tile} {here grain : ℕ} {t : Tile} (j : ℕ)
     → GetsGrain g site ts here grain t
     → bit (tile_at (set ts here t) (tile_of g site)).due (place_of g site) ≡ 0 → j < sites g
     → (bit (tile_at (set ts here t) (tile_of g j)).due (place_of g j) ≡ 0)
     × (heights_on g (tile_at (set ts here t)) j ≡ heights_on g (tile_at ts) j + one_at site j)
-calm_rest g site ts here grain t j gets calm l = ⊎_elim
+calm_rest {g} {site} {ts} {here} {grain} {t} j gets calm l = ⊎_elim
     (λ (e : j ≡ site).
     let due = ap (λ i. bit (tile_at (set ts here t) (tile_of g i)).due (place_of g i)) e ∙ calm in
-    let h = site_had g site ts here grain t j gets l in
-    let c = still_clear g site ts here grain t gets (tile_of g j) (place_of g j) (place_below g j) in
+    let h = site_had j gets l in
+    let c = still_clear gets (tile_of g j) (place_of g j) (place_below g j) in
     (due, omega arith))
-    (λ (ne : j ≡ site → ⊥). others_rest g site ts here grain t j gets l ne)
+    (λ (ne : j ≡ site → ⊥). others_rest j gets l ne)
     (cases_eq j site)
 
-pub calm_quiet : (g : Grid) (site : ℕ) (ts : List Tile) (here grain : ℕ) (t : Tile) → GetsGrain g site ts here grain t
+pub calm_quiet : {g : Grid} {site : ℕ} {ts : List Tile} {here grain : ℕ} {t : Tile} → GetsGrain g site ts here grain t
     → bit (tile_at (set ts here t) (tile_of g site)).due (place_of g site) ≡ 0 → AreQuiet g (tile_at (set ts here t))
-calm_quiet g site ts here grain t gets calm = record {
-  clear = still_clear g site ts here grain t gets;
-  none_due = λ j l. (calm_rest g site ts here grain t j gets calm l).0;
+calm_quiet {g} {site} {ts} {here} {grain} {t} gets calm = record {
+  clear = still_clear gets;
+  none_due = λ j l. (calm_rest j gets calm l).0;
 }
 
-pub calm_settled : (g : Grid) (site : ℕ) (ts : List Tile) (here grain : ℕ) (t : Tile) (c : ℕ → Count)
+pub calm_settled : {g : Grid} {site : ℕ} {ts : List Tile} {here grain : ℕ} {t : Tile} (c : ℕ → Count)
     → GetsGrain g site ts here grain t
     → bit (tile_at (set ts here t) (tile_of g site)).due (place_of g site) ≡ 0
     → IsSettled g (λ j. heights_on g (tile_at ts) j + one_at site j)
     (grown_on g c c) (heights_on g (tile_at (set ts here t)))
-calm_settled g site ts here grain t c gets calm =
+calm_settled {g} {site} {ts} {here} {grain} {t} c gets calm =
     let s : ℕ → ℕ = λ j. heights_on g (tile_at ts) j + one_at site j in
     let same : (j : ℕ) → j < sites g → s j ≡ heights_on g (tile_at (set ts here t)) j =
-    λ j l. sym (calm_rest g site ts here grain t j gets calm l).1 in
+    λ j l. sym (calm_rest j gets calm l).1 in
     settled_same g s s (grown_on g c c) (grown_on g c c) s
     (heights_on g (tile_at (set ts here t))) (λ i l. refl) (λ i l. refl) same
     (underway_end g s (grown_on g c c) s (underway_start g s (grown_on g c c) (λ i l. omega arith))
@@ -133,35 +133,35 @@ calm_settled g site ts here grain t c gets calm =
 
 -- ---- if the site is due, it has 4
 
-pub due_rest : (g : Grid) (site : ℕ) (ts : List Tile) (here grain : ℕ) (t : Tile) → GetsGrain g site ts here grain t
+pub due_rest : {g : Grid} {site : ℕ} {ts : List Tile} {here grain : ℕ} {t : Tile} → GetsGrain g site ts here grain t
     → bit (tile_at (set ts here t) (tile_of g site)).due (place_of g site) ≡ 1
     → AreAtRest g site (tile_at (set ts here t))
-due_rest g site ts here grain t gets due = record {
-  clear = λ m p low. still_clear g site ts here grain t gets m p low;
-  none_due = λ j l ne. (others_rest g site ts here grain t j gets l ne).0;
+due_rest {g} {site} {ts} {here} {grain} {t} gets due = record {
+  clear = λ m p low. still_clear gets m p low;
+  none_due = λ j l ne. (others_rest j gets l ne).0;
   empty =
-      let h = site_had g site ts here grain t site gets gets.site_inside in
+      let h = site_had site gets gets.site_inside in
       let o = one_at_same site in
       let a = bit_le (tile_at ts (tile_of g site)).low (place_of g site) in
       let b = bit_le (tile_at ts (tile_of g site)).high (place_of g site) in
       omega arith;
 }
 
-pub due_heights : (g : Grid) (site : ℕ) (ts : List Tile) (here grain : ℕ) (t : Tile) (j : ℕ)
+pub due_heights : {g : Grid} {site : ℕ} {ts : List Tile} {here grain : ℕ} {t : Tile} (j : ℕ)
     → GetsGrain g site ts here grain t
     → bit (tile_at (set ts here t) (tile_of g site)).due (place_of g site) ≡ 1 → j < sites g
     → heights_before g site (tile_at (set ts here t)) j ≡ heights_on g (tile_at ts) j + one_at site j
-due_heights g site ts here grain t j gets due l = ⊎_elim
+due_heights {g} {site} {ts} {here} {grain} {t} j gets due l = ⊎_elim
     (λ (e : j ≡ site).
     let d = ap (λ i. bit (tile_at (set ts here t) (tile_of g i)).due (place_of g i)) e ∙ due in
-    let h = site_had g site ts here grain t j gets l in
-    let c = still_clear g site ts here grain t gets (tile_of g j) (place_of g j) (place_below g j) in
+    let h = site_had j gets l in
+    let c = still_clear gets (tile_of g j) (place_of g j) (place_below g j) in
     let o = ap (one_at site) e ∙ one_at_same site in
     let a = bit_le (tile_at ts (tile_of g j)).low (place_of g j) in
     let b = bit_le (tile_at ts (tile_of g j)).high (place_of g j) in
     omega arith)
     (λ (ne : j ≡ site → ⊥).
-    let r = (others_rest g site ts here grain t j gets l ne).1 in
+    let r = (others_rest j gets l ne).1 in
     let z = one_at_other site j (λ e. ne (sym e)) in
     omega arith)
     (cases_eq j site)
@@ -201,40 +201,3 @@ put_back g here x whole free within read all =
     (let long = length-set free here x in omega arith)
     (λ p low. ap (λ w. bit w p) read ∙ all here p low)
     (λ k ne p low. ap (λ w. bit w p) (get_or-set_other free here k x 0 ne) ∙ all k p low)
-
--- ---- what the code knows
-
-pub gets_grain : (g : Grid) (site : ℕ) (ts : List Tile) (here place grain : ℕ) (t : Tile)
-    → site < sites g → here ≡ tile_of g site
-    → place ≡ place_of g site → length ts ≡ tiles g → here < tiles g
-    → ((p : ℕ) → p < 64 → bit grain p ≡ one_at place p) → Receives (tile_at ts here) t grain → AreQuiet g (tile_at ts)
-    → GetsGrain g site ts here grain t
-gets_grain g site ts here place grain t inside is at each within one receives quiet = record {
-  site_inside = inside;
-  is = is;
-  inside = omega arith;
-  one = λ p low. one p low ∙ ap (λ q. one_at q p) at;
-  receives = receives;
-  quiet = quiet;
-}
-
-read_due : (g : Grid) (site : ℕ) (τ : ℕ → Tile) (here place : ℕ) → here ≡ tile_of g site → place ≡ place_of g site
-    → bit (τ (tile_of g site)).due (place_of g site) ≡ bit (τ here).due place
-read_due g site τ here place is at = sym (ap (λ m. bit (τ m).due place) is ∙ ap (bit (τ (tile_of g site)).due) at)
-
-pub is_due_there : (g : Grid) (site : ℕ) (τ : ℕ → Tile) (here place : ℕ) (due : Bool)
-    → here ≡ tile_of g site → place ≡ place_of g site
-    → due ≡ eqb (bit (τ here).due place) 1 → due ≡ true
-    → bit (τ (tile_of g site)).due (place_of g site) ≡ 1
-is_due_there g site τ here place due is at read so =
-    read_due g site τ here place is at ∙ eqb-true (bit (τ here).due place) 1 (sym read ∙ so)
-
-pub is_not_due_there : (g : Grid) (site : ℕ) (τ : ℕ → Tile) (here place : ℕ) (due : Bool)
-    → here ≡ tile_of g site → place ≡ place_of g site
-    → due ≡ eqb (bit (τ here).due place) 1 → due ≡ false
-    → bit (τ (tile_of g site)).due (place_of g site) ≡ 0
-is_not_due_there g site τ here place due is at read so =
-    let same = read_due g site τ here place is at in
-    let few = bit_le (τ here).due place in
-    let not_one = eqb-false (bit (τ here).due place) 1 (sym read ∙ so) in
-    omega arith

@@ -87,9 +87,9 @@ joins_one ts free k places x t l m inside read word grows is =
     })
 
 -- one gain after another
-pub gets_more : (free : ℕ → ℕ) (a b : ℕ) (x y z : ℕ → ℕ → ℕ) (s t u : Sand) → Gets free a x s t → Gets free b y t u
+pub gets_more : {free : ℕ → ℕ} {a b : ℕ} {x y : ℕ → ℕ → ℕ} (z : ℕ → ℕ → ℕ) {s t u : Sand} → Gets free a x s t → Gets free b y t u
     → ((m p : ℕ) → p < 64 → x m p + y m p ≡ z m p) → Gets free (a + b) z s u
-gets_more free a b x y z s t u first second sums =
+gets_more {free} {a} {b} {x} {y} z {s} {t} {u} first second sums =
     let f = first.joins in
     let g = subst (λ n. Joins n b (waits (tiles_of t) free) (waits (tiles_of u) free) t.list u.list)
     first.one_each second.joins in
@@ -126,9 +126,9 @@ visited_waits ts free k m t inside none =
     (ap (λ b. not b && waits (tile_at ts) free k) (eq-eqb k k refl) ∙ sym (ap (λ w. ltb 0 (bit_and w (free k))) none))
     (λ i ne. ap (λ b. not b && waits (tile_at ts) free i) (ne_eqb i k ne)) m
 
-pub joins_from : (n a : ℕ) (p p' q : ℕ → Bool) (l m : ListView) → ((j : ℕ) → j < n → p j ≡ p' j) → Joins n a p' q l m
+pub joins_from : {n a : ℕ} {p p' q : ℕ → Bool} {l m : ListView} → ((j : ℕ) → j < n → p j ≡ p' j) → Joins n a p' q l m
     → Joins n a p q l m
-joins_from n a p p' q l m same joins = record {
+joins_from {n} {a} {p} {p'} {q} {l} {m} same joins = record {
   room = joins.room;
   longer = joins.longer;
   few = joins.few;

@@ -20,14 +20,11 @@ use Rattle.sand_fronts.proofs.dropping.topple_all.Goals as goal
 
 pub topple_wave-requires-clause-rest : goal.topple_wave-requires-clause-rest
 topple_wave-requires-clause-rest c =
-    at_rest c.args.board.now.shape c.args.drop.site c.waves.more (tiles_of c.args.sand.now) (tiles_of c.waves.sand)
-    (counts_of c.args.counts.now) (counts_of c.waves.counts) c.waves.invariant.passed c.waves-test.true
+    at_rest c.waves.invariant.passed c.waves-test.true
 
 pub count_wave-wave-requires-clause-few : goal.count_wave-wave-requires-clause-few
 count_wave-wave-requires-clause-few c m p low =
-    let few = few_counted c.args.board.now.shape c.args.drop.site c.waves.more (tiles_of c.args.sand.now)
-    (tiles_of c.waves.sand) (counts_of c.args.counts.now) (counts_of c.waves.counts) m p
-    c.requires.board.beside.sides c.waves.invariant.passed low (c.requires.few m p low) in
+    let few = few_counted m p c.requires.board.beside.sides c.waves.invariant.passed low (c.requires.few m p low) in
     let one = bit_le (tiles_of c.topple_wave.new.self m).wave p in
     omega arith
 
@@ -38,8 +35,7 @@ height_at-requires c = let low = place_below c.args.board.now.shape c.args.drop.
 few_before : (c : After-count_wave-wave)
     → topplings c.args.board.now.shape (grown c.args.board.now.shape c.args.counts.now c.waves.counts) < 2 ^ 32
 few_before c =
-    few_topplings_yet c.args.board.now.shape c.args.drop.site c.waves.more (tiles_of c.args.sand.now)
-    (tiles_of c.waves.sand) (counts_of c.args.counts.now) (counts_of c.waves.counts) c.requires.board.beside.sides
+    few_topplings_yet c.requires.board.beside.sides
     c.waves.invariant.passed
 
 pub overflow_add-total : goal.overflow_add-total
@@ -151,9 +147,7 @@ waves-preserved c =
         marks_each = counted.marks_each ∙ c.waves.invariant.counts.marks_each;
         sound = counted.sound c.waves.invariant.counts.sound;
       };
-      marked = marked_more (counts_of c.args.counts.now) (counts_of c.waves.counts)
-          (counts_of c.count_wave-wave.new.self) (marks_of c.args.counts.now) (marks_of c.waves.counts)
-          (marks_of c.count_wave-wave.new.self) c.waves.invariant.marked counted.marked;
+      marked = marked_more c.waves.invariant.marked counted.marked;
       passed = n.0;
       size = omega (arith, c.waves.invariant.size, size_of d, n.1);
       lost = omega (arith, c.waves.invariant.lost, lost_of d);
@@ -181,7 +175,6 @@ returns-clause-settled c =
       quiet = quiet_at_last g site ts k t within c.requires.drop.tile (ap (λ (x : Tile). x.wave) read) refl
           passed.clear passed.none_due;
       settled = settled_kept g _ _ ts k t within (ap (λ (x : Tile). x.low) read) (ap (λ (x : Tile). x.high) read)
-          (waves_end g site (tiles_of c.args.sand.now) (tile_at ts) (counts_of c.args.counts.now)
-          (counts_of c.waves.counts) passed);
+          (waves_end passed);
       counted = passed.counts;
     }

@@ -1,12 +1,14 @@
-use Rattle.std.proofs.Common.{ℕ, true, false, eqb, ltb, ◌≡◌, ◌+◌, ◌<◌, ◌∙◌, refl, ap, subst, arith}
+use Rattle.std.proofs.Common.{length, ℕ, sym, true, false, eqb, ltb, ◌≡◌, ◌+◌, ◌<◌, ◌∙◌, refl, ap, arith}
 use Rattle.std.specs.Prelude.{bit_xor}
 use Rattle.std.proofs.Math.ListN.{set}
+use Rattle.std.proofs.lemmas.Bool.{eqb-true, eqb-false}
 use Rattle.std.proofs.lemmas.List.{length-set, get_or_read}
 use Rattle.sand_model.specs.Sand.{one_at}
 use Rattle.sand_model.specs.Lists.{one_if}
 use Rattle.sand_model.proofs.Sandpile.{settled_same}
 use Rattle.sand_tiles.specs.declared.tile.Tile.{Tile}
-use Rattle.sand_tiles.specs.Places.{bit, Receives}
+use Rattle.sand_tiles.specs.Places.{bit}
+use Rattle.sand_tiles.proofs.Bits.{bit_le}
 use Rattle.sand_fronts.specs.Tiling.{tile_of, place_of, on_tiles}
 use Rattle.sand_fronts.specs.Waves.{tile_at, heights_before}
 use Rattle.sand_fronts.specs.Marking.{in_sets}
@@ -18,7 +20,7 @@ use Rattle.sand_fronts.proofs.ManyWaves.{none_grown, none_lost, none_counted}
 use Rattle.sand_fronts.proofs.Marked.{none_in_area, marked_word, area_is}
 use Rattle.sand_fronts.proofs.NewPiles.{counts_sites}
 use Rattle.sand_fronts.proofs.Reached.{none_reached, reach_is}
-use Rattle.sand_fronts.proofs.OneGrain.{GetsGrain, gets_grain, is_due_there, is_not_due_there, calm_quiet, calm_settled, due_rest, due_heights, taken_out, put_back}
+use Rattle.sand_fronts.proofs.OneGrain.{GetsGrain, calm_quiet, calm_settled, due_rest, due_heights, taken_out, put_back}
 use Rattle.sand_fronts.proofs.tiled_pile.drop_grain.Goals.{After-receive, After-is_due, After-index-whole}
 use Rattle.sand_fronts.proofs.tiled_pile.drop_grain.Goals as goal
 
@@ -26,41 +28,45 @@ use Rattle.sand_fronts.proofs.tiled_pile.drop_grain.Goals as goal
 gets : (c : After-receive) → GetsGrain c.args.board.now.shape c.args.site c.args.sand.now.tiles.items
     c.find-tile.result.0 c.set_of-grain.result c.receive.new.tile
 gets c =
-    gets_grain c.args.board.now.shape c.args.site c.args.sand.now.tiles.items c.find-tile.result.0
-    c.find-tile.result.1 c.set_of-grain.result c.receive.new.tile c.requires.site c.find-tile.ensures.tile
-    c.find-tile.ensures.place c.requires.pile.sand.one_each c.find-tile.ensures.inside.0 c.set_of-grain.ensures
-    (subst (λ (x : Tile). Receives x c.receive.new.tile c.set_of-grain.result)
-    (tile_read c.args.sand.now.tiles.items c.find-tile.result.0 c.index_mut.result.now
-    (omega (arith, c.find-tile.ensures.inside.0, c.requires.pile.sand.one_each)) c.index_mut.ensures.value)
-    c.receive.ensures)
-    c.requires.pile.quiet
+    let inside : c.find-tile.result.0 < length c.args.sand.now.tiles.items =
+    omega (arith, c.find-tile.ensures.inside.0, c.requires.pile.sand.one_each) in
+    record {
+      site_inside = c.requires.site;
+      is = c.find-tile.ensures.tile;
+      inside = inside;
+      one = λ p low. c.set_of-grain.ensures p low ∙ ap (λ q. one_at q p) c.find-tile.ensures.place;
+      receives = rw (← tile_read c.args.sand.now.tiles.items c.find-tile.result.0 c.index_mut.result.now inside
+          c.index_mut.ensures.value)
+          c.receive.ensures;
+      quiet = c.requires.pile.quiet;
+    }
 
 -- whether the site is due
 due_is : (c : After-is_due) → c.is_due.result ≡ eqb (bit
-    (tile_at (set c.args.sand.now.tiles.items c.find-tile.result.0 c.receive.new.tile) c.find-tile.result.0).due
-    c.find-tile.result.1) 1
+    (tile_at (set c.args.sand.now.tiles.items c.find-tile.result.0 c.receive.new.tile)
+    (tile_of c.args.board.now.shape c.args.site)).due (place_of c.args.board.now.shape c.args.site)) 1
 due_is c =
     let new = set c.args.sand.now.tiles.items c.find-tile.result.0 c.receive.new.tile in
     let long = length-set {A = Tile} c.args.sand.now.tiles.items c.find-tile.result.0 c.receive.new.tile in
     c.is_due.ensures ∙ ap (λ (x : Tile). eqb (bit x.due c.find-tile.result.1) 1)
     (tile_read new c.find-tile.result.0 c.index.result.now
     (omega (arith, c.find-tile.ensures.inside.0, c.requires.pile.sand.one_each)) c.index.ensures)
+    ∙ ap (λ k. eqb (bit (tile_at new k).due c.find-tile.result.1) 1) c.find-tile.ensures.tile
+    ∙ ap (λ p. eqb (bit (tile_at new (tile_of c.args.board.now.shape c.args.site)).due p) 1) c.find-tile.ensures.place
 
 is_due : (c : After-is_due) → c.is_due.result ≡ true
     → bit (tile_at (set c.args.sand.now.tiles.items c.find-tile.result.0 c.receive.new.tile)
     (tile_of c.args.board.now.shape c.args.site)).due (place_of c.args.board.now.shape c.args.site) ≡ 1
-is_due c so =
-    is_due_there c.args.board.now.shape c.args.site
-    (tile_at (set c.args.sand.now.tiles.items c.find-tile.result.0 c.receive.new.tile)) c.find-tile.result.0
-    c.find-tile.result.1 c.is_due.result c.find-tile.ensures.tile c.find-tile.ensures.place (due_is c) so
+is_due c so = eqb-true _ 1 (sym (due_is c) ∙ so)
 
 not_due : (c : After-is_due) → c.is_due.result ≡ false
     → bit (tile_at (set c.args.sand.now.tiles.items c.find-tile.result.0 c.receive.new.tile)
     (tile_of c.args.board.now.shape c.args.site)).due (place_of c.args.board.now.shape c.args.site) ≡ 0
 not_due c so =
-    is_not_due_there c.args.board.now.shape c.args.site
-    (tile_at (set c.args.sand.now.tiles.items c.find-tile.result.0 c.receive.new.tile)) c.find-tile.result.0
-    c.find-tile.result.1 c.is_due.result c.find-tile.ensures.tile c.find-tile.ensures.place (due_is c) so
+    let few = bit_le (tile_at (set c.args.sand.now.tiles.items c.find-tile.result.0 c.receive.new.tile)
+    (tile_of c.args.board.now.shape c.args.site)).due (place_of c.args.board.now.shape c.args.site) in
+    let not_one = eqb-false _ 1 (sym (due_is c) ∙ so) in
+    omega arith
 
 -- ---- the site is not due
 
@@ -68,30 +74,25 @@ pub returns-then-not-is_due-clause-settled : goal.returns-then-not-is_due-clause
 returns-then-not-is_due-clause-settled c =
     let d = goal.at.returns-then-not-is_due-clause-settled c in
     let g = c.args.board.now.shape in
-    let ts = c.args.sand.now.tiles.items in
-    let k = c.find-tile.result.0 in
-    let grain = c.set_of-grain.result in
-    let t = c.receive.new.tile in
     let none = not_due d.After-is_due c.if-not-is_due.true in
     let counts = counts_of c.args.counts.now in
     record {
-      sand = sand_with g c.args.sand.now k t c.requires.pile.sand;
+      sand = sand_with g c.args.sand.now c.find-tile.result.0 c.receive.new.tile c.requires.pile.sand;
       counts = c.requires.pile.counts;
-      quiet = calm_quiet g c.args.site ts k grain t (gets d.After-receive) none;
-      settled = calm_settled g c.args.site ts k grain t counts (gets d.After-receive) none;
+      quiet = calm_quiet (gets d.After-receive) none;
+      settled = calm_settled counts (gets d.After-receive) none;
       counted = none_counted g counts;
     }
 
 pub returns-then-not-is_due-clause-pile : goal.returns-then-not-is_due-clause-pile
 returns-then-not-is_due-clause-pile c =
     let d = goal.at.returns-then-not-is_due-clause-pile c in
-    let g = c.args.board.now.shape in
     record {
       board = c.requires.pile.board;
       all_open = c.requires.pile.all_open;
-      sand = sand_with g c.args.sand.now c.find-tile.result.0 c.receive.new.tile c.requires.pile.sand;
-      quiet = calm_quiet g c.args.site c.args.sand.now.tiles.items c.find-tile.result.0 c.set_of-grain.result
-          c.receive.new.tile (gets d.After-receive) (not_due d.After-is_due c.if-not-is_due.true);
+      sand = sand_with c.args.board.now.shape c.args.sand.now c.find-tile.result.0 c.receive.new.tile
+          c.requires.pile.sand;
+      quiet = calm_quiet (gets d.After-receive) (not_due d.After-is_due c.if-not-is_due.true);
       counts = c.requires.pile.counts;
       at_sites = c.requires.pile.at_sites;
       unmarked = c.requires.pile.unmarked;
@@ -126,8 +127,7 @@ topple_all-size-requires-clause-all_open c =
 pub topple_all-size-requires-clause-rest : goal.topple_all-size-requires-clause-rest
 topple_all-size-requires-clause-rest c =
     let d = goal.at.topple_all-size-requires-clause-rest c in
-    due_rest c.args.board.now.shape c.args.site c.args.sand.now.tiles.items c.find-tile.result.0 c.set_of-grain.result
-    c.receive.new.tile (gets d.After-receive) (is_due d.After-is_due c.if-not-is_due.false)
+    due_rest (gets d.After-receive) (is_due d.After-is_due c.if-not-is_due.false)
 
 pub returns-clause-settled : goal.returns-clause-settled
 returns-clause-settled c =
@@ -149,8 +149,7 @@ returns-clause-settled c =
       settled = settled_same g
           (heights_before g site (tile_at (set ts c.find-tile.result.0 c.receive.new.tile)))
           (λ j. heights_on g (tile_at ts) j + one_at site j) v v left left
-          (λ i l. due_heights g site ts c.find-tile.result.0 c.set_of-grain.result c.receive.new.tile i
-          (gets d.After-receive) (is_due d.After-is_due c.if-not-is_due.false) l)
+          (λ i l. due_heights i (gets d.After-receive) (is_due d.After-is_due c.if-not-is_due.false) l)
           (λ i l. refl) (λ i l. refl) has.settled;
       counted = has.counted;
     }

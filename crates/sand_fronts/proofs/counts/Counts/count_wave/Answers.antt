@@ -58,11 +58,10 @@ loop-turn-preserved c =
     let read = ap (λ (x : Tile). sum_below 64 (λ p. number x p * bit c.take-set.result p))
     (tile_read c.args.board.now.outside.items k _ (omega (arith, c.requires.board.outside_each)) c.index.ensures) in
     record {
-      counted = counted_more c.args.sand.now.tiles.items c.loop-turn.sand.tiles.items c.take-set.new.tiles.items
-          c.args.self.now c.loop-turn.self c.take-set.new.self c.loop-turn.invariant.counted c.take-set.ensures.counted;
+      counted = counted_more c.loop-turn.invariant.counted c.take-set.ensures.counted;
       list = c.loop-turn.invariant.list;
-      listed = rest_listed c.loop-turn.sand.tiles.items c.take-set.new.tiles.items c.loop-turn.self c.take-set.new.self k
-          c.args.sand.now.list.items c.loop-turn.turn (length c.args.sand.now.list.items) c.loop-turn.invariant.listed
+      listed = rest_listed k c.args.sand.now.list.items c.loop-turn.turn (length c.args.sand.now.list.items)
+          c.loop-turn.invariant.listed
           c.take-set.ensures.counted (λ p l. ap (λ w. bit w p) c.take-set.ensures.empty ∙ bit_none p)
           (item_is d.After-item-k);
       size = omega (arith, c.loop-turn.invariant.size, c.size.ensures.value);

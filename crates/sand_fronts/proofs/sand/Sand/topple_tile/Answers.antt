@@ -1,8 +1,8 @@
-use Rattle.std.proofs.Common.{sym, cond, eqb, ◌≡◌, ◌∙◌, length, arith}
+use Rattle.std.proofs.Common.{sym, ◌≡◌, ◌∙◌, length, arith}
 use Rattle.std.proofs.Math.ListN.{set}
 use Rattle.std.proofs.lemmas.List.{length-set, get_or_read}
 use Rattle.sand_tiles.specs.declared.tile.Tile.{Tile}
-use Rattle.sand_fronts.specs.Waves.{tile_at, beside_at}
+use Rattle.sand_fronts.specs.Waves.{beside_at}
 use Rattle.sand_fronts.specs.Tiling.{tiles}
 use Rattle.sand_fronts.specs.Boards.{tiles_of, free_of}
 use Rattle.sand_fronts.proofs.Gained.{tile_read, gains_from, written}
@@ -59,16 +59,14 @@ returns-clause-steps c =
       new = c.visit-new.result;
       visits = rw (← r.0, ← r.1) c.visit-new.ensures;
       fits = omega arith;
-      gains = rw (← s) (gains_from _
-          (λ m. cond (eqb m c.args.k) c.visit-new.new.tile (tile_at c.args.self.now.tiles.items m)) _ _
-          (λ m. written c.args.self.now.tiles.items c.args.k m c.visit-new.new.tile
+      gains = rw (← s) (gains_from (λ m. written c.args.self.now.tiles.items c.args.k m c.visit-new.new.tile
           (omega (arith, c.requires.tile.inside, c.requires.sand.one_each)))
           c.hand_over.ensures.gains);
     }
 
 pub returns-clause-joins : goal.returns-clause-joins
 returns-clause-joins c =
-    joins_from (tiles c.args.board.now.shape) 4 _ _ _ _ _
+    joins_from
     (λ j l. visited_waits c.args.self.now.tiles.items (free_of c.args.board.now) c.args.k j c.visit-new.new.tile
     (omega (arith, c.requires.tile.inside, c.requires.sand.one_each)) c.visit-new.ensures.none_due)
     (rw (← visited_each (goal.at.returns-clause-joins c).After-index-2) c.hand_over.ensures.joins)
