@@ -36,29 +36,7 @@ around f p = north f p + south f p + west f p + east f p
 
 -- the places that may topple and have not yet
 abbrev pub unused : ℕ → ℕ → ℕ → ℕ → ℕ
-unused free due set q = max (bit free q) (bit due q) - bit set q
-
--- no due place has toppled, and no free place that has toppled or is due could reach 4 again, even if each other place
--- of the tile toppled
-pub record IsSpent (t : Tile) (free due : ℕ) : Type 0 where
-  pub fresh : (p : ℕ) → p < 64 → bit t.wave p + bit due p ≤ 1
-  pub low : (p : ℕ) → p < 64 → bit free p ≡ 1 → 1 ≤ bit t.wave p + bit due p
-      → height t p + around (unused free due t.wave) p ≤ 3
-
--- w topples each due place, and leaves at most 3 at each free place
-pub record Stills (t : Tile) (free due : ℕ) (w : ℕ → ℕ) : Type 0 where
-  pub due_in : (p : ℕ) → p < 64 → bit due p ≤ w p
-  pub at_most_three : (p : ℕ) → p < 64 → bit free p ≡ 1 → height t p + 4 * bit due p + around w p ≤ 4 * w p + 3
-
--- the places of the set `new` topple, each once: the due places of a tile, and the free ones that this brings to 4
-pub record Topples (t u : Tile) (free due new : ℕ) : Type 0 where
-  pub due_in : (p : ℕ) → p < 64 → bit due p ≤ bit new p
-  pub once : (p : ℕ) → p < 64 → bit u.wave p ≡ bit t.wave p + bit new p
-  pub at_open : (p : ℕ) → p < 64 → bit free p ≡ 1
-      → height t p + around (bit new) p + 4 * bit due p ≡ height u p + 4 * bit new p
-  pub at_held : (p : ℕ) → p < 64 → bit free p ≡ 0 → bit new p ≡ bit due p
-  pub modulo : (p : ℕ) → p < 64 → height u p ≡ (height t p + around (bit new) p) % 4
-  pub least : (w : ℕ → ℕ) → Stills t free due w → (p : ℕ) → p < 64 → bit new p ≤ w p
+unused free start set q = max (bit free q) (bit start q) - bit set q
 
 -- a tile gets a grain at each place of the set `gain`; a place that reaches 4 has 0 and is due
 pub record Receives (t u : Tile) (gain : ℕ) : Type 0 where

@@ -14,7 +14,7 @@
 //!   this clause, places could support each other in a ring, and the grains would still balance.
 
 ghost use Rattle.std.specs.Prelude.{◌≡◌, ℕ, ◌+◌, ◌*◌, ◌<◌, ◌≤◌};
-ghost use Rattle.sand_tiles.specs.Places.{bit, height, around, IsSpent, Topples, IsReady, Visits};
+ghost use Rattle.sand_tiles.specs.Places.{bit, height, around, IsReady, Visits};
 
 use crate::tile::Tile;
 
@@ -44,16 +44,16 @@ fn topple_front(tile: &mut Tile, front: u64) -> u64
     four
 }
 
-// Topples the due places of a tile at once, then the free ones that this brings to 4, until there are none. Returns the
-// places that have toppled.
+/// Topples the places of `start`, the free places that are due, and those that this brings to 4, until there are none.
+/// Returns the places that have toppled.
 #[inline(always)]
-fn topple_due(tile: &mut Tile, free: u64, due: u64) -> u64
-    requires { IsSpent tile.old free due }
-    ensures topples { Topples tile.old tile.new free due result }
-    ensures kept { tile.new.due ≡ tile.old.due }
+pub fn visit(tile: &mut Tile, free: u64, start: u64) -> u64
+    requires { IsReady tile.old free start }
+    ensures { Visits tile.old tile.new free start result }
 {
-    let mut front = due;
-    let mut new = due;
+    let mut front = tile.due & free | start;
+    let mut new = front;
+    tile.due = 0;
     'rounds: while front != 0 {
         let four = topple_front(tile, front);
         front = four & free;
@@ -61,16 +61,4 @@ fn topple_due(tile: &mut Tile, free: u64, due: u64) -> u64
     }
     tile.wave |= new;
     new
-}
-
-/// Topples the places of `start`, the free places that are due, and those that this brings to 4. Returns the places
-/// that have toppled.
-#[inline(always)]
-pub fn visit(tile: &mut Tile, free: u64, start: u64) -> u64
-    requires { IsReady tile.old free start }
-    ensures { Visits tile.old tile.new free start result }
-{
-    let due = tile.due & free | start;
-    tile.due = 0;
-    topple_due(tile, free, due)
 }
