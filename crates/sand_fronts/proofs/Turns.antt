@@ -66,13 +66,13 @@ sum_after : (g : Grid) (τ σ : ℕ → Tile) (k new : ℕ)
 sum_after g τ σ k new once j = once (tile_of g j) (place_of g j) (place_below g j)
 
 -- one more turn: the wave goes on, and at least one more site has toppled
-pub turn_more : (g : Grid) (site : ℕ) (h : ℕ → ℕ) (free : ℕ → ℕ) (τ σ : ℕ → Tile) (k j : ℕ) (b : Beside)
+pub turn_more : {g : Grid} {site : ℕ} {h : ℕ → ℕ} (free : ℕ → ℕ) {τ σ : ℕ → Tile} {k j : ℕ} {b : Beside}
     → AreOpen g site free → IsWave g site h τ → site < sites g
     → ((i : ℕ) → i < sites g → i ≢ site → h i ≤ 3) → 4 ≤ h site
     → toppled g τ site ≡ 1 → IsDueSite g site τ k j
     → IsBeside g k b → Steps τ σ (free k) b k 0
     → (IsWave g site h σ) × (toppled g σ site ≡ 1) × (topplings g (toppled g τ) + 1 ≤ topplings g (toppled g σ))
-turn_more g site h free τ σ k j b open' wave inside low high started due beside steps =
+turn_more {g} {site} {h} free {τ} {σ} {k} {j} {b} open' wave inside low high started due beside steps =
     let new = steps.new in
     let i = inner g j due.inside in
     let ik : IsInner g k = let P : ℕ → Type 0 = λ m. IsInner g m in subst P due.here i in
@@ -116,13 +116,13 @@ first_wave g site τ rest inside = wave_begins g site (heights_before g site τ)
     (λ j l ne. let o = one_at_other site j (λ e. ne (sym e)) in (omega arith, rest.none_due j l ne))
     (let o = one_at_same site in omega arith)
 
-pub turn_first : (g : Grid) (site : ℕ) (free : ℕ → ℕ) (τ σ : ℕ → Tile) (k start : ℕ) (b : Beside)
+pub turn_first : {g : Grid} {site : ℕ} (free : ℕ → ℕ) {τ σ : ℕ → Tile} {k start : ℕ} {b : Beside}
     → AreOpen g site free → AreAtRest g site τ → site < sites g
     → k ≡ tile_of g site
     → ((p : ℕ) → p < 64 → bit start p ≡ on_tiles g (λ j. 1 * one_at site j) k p)
     → IsBeside g k b → Steps τ σ (free k) b k start
     → (IsWave g site (heights_before g site τ) σ) × (toppled g σ site ≡ 1) × (1 ≤ topplings g (toppled g σ))
-turn_first g site free τ σ k start b open' rest inside here begins beside steps =
+turn_first {g} {site} free {τ} {σ} {k} {start} {b} open' rest inside here begins beside steps =
     let new = steps.new in
     let h = heights_before g site τ in
     let wave = first_wave g site τ rest inside in
@@ -236,11 +236,11 @@ wave_after : (τ σ : ℕ → Tile) (free k start m p : ℕ) (b : Beside) → St
 wave_after τ σ free k start m p b steps low ne =
     steps.gains.wave m p low ∙ ap (λ (t : Tile). bit t.wave p) (ap (λ c. cond c steps.visited (τ m)) (ne_eqb m k ne))
 
-pub turn_listed : (τ σ : ℕ → Tile) (free k turn start : ℕ) (b : Beside) (before after : List ℕ)
+pub turn_listed : {τ σ : ℕ → Tile} {free k start : ℕ} (turn : ℕ) {b : Beside} (before after : List ℕ)
     → AreListed before 0 turn τ → Steps τ σ free b k start
     → k ≡ get_or before turn 0 → ((t : ℕ) → t < turn + 1 → get_or after t 0 ≡ get_or before t 0)
     → AreListed after 0 (turn + 1) σ
-turn_listed τ σ free k turn start b before after listed steps is kept m = ⊎_elim
+turn_listed {τ} {σ} {free} {k} {start} turn {b} before after listed steps is kept m = ⊎_elim
     (λ (e : m ≡ k). inr (turn, omega arith, omega arith, kept turn (omega arith) ∙ sym is ∙ sym e))
     (λ (ne : m ≡ k → ⊥). ⊎_elim
     (λ (clear : IsClear (τ m)). inl (λ p low. wave_after τ σ free k start m p b steps low ne ∙ clear p low))

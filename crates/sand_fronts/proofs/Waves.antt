@@ -49,12 +49,12 @@ set_is : (g : Grid) (τ : ℕ → Tile) (j : ℕ) → toppled g τ j ≤ 1
 set_is g τ j = bit_le _ _
 
 -- a tile is ready for a visit
-pub wave_ready : (g : Grid) (site : ℕ) (h : ℕ → ℕ) (free : ℕ → ℕ) (τ : ℕ → Tile) (k start s : ℕ)
+pub wave_ready : {g : Grid} {site : ℕ} {h : ℕ → ℕ} (free : ℕ → ℕ) {τ : ℕ → Tile} (k start s : ℕ)
     → AreOpen g site free → IsWave g site h τ → site < sites g
     → ((j : ℕ) → j < sites g → j ≢ site → h j ≤ 3)
     → ((p : ℕ) → p < 64 → bit start p ≡ on_tiles g (λ j. s * one_at site j) k p) → toppled g τ site + s ≤ 1
     → IsReady (τ k) (free k) start
-wave_ready g site h free τ k start s open' wave inside low begins first =
+wave_ready {g} {site} {h} free {τ} k start s open' wave inside low begins first =
     let unused_le : (q : ℕ) → q < 64 → unused (free k) start (τ k).wave q ≤ on_tiles g (λ j. 1 - toppled g τ j) k q =
     λ q l.
     let o = open' k q l in let b = begins q l in let i = wave.inside k q l in

@@ -6,7 +6,7 @@ use Rattle.sand_model.proofs.Lists.{lists_length}
 use Rattle.sand_model.proofs.SumsBelow.{one_at_same}
 use Rattle.sand_tiles.specs.Places.{bit}
 use Rattle.sand_fronts.specs.Tiling.{tiles, on_tiles}
-use Rattle.sand_fronts.specs.Waves.{beside_at, heights_before, AtTile}
+use Rattle.sand_fronts.specs.Waves.{beside_at, AtTile}
 use Rattle.sand_fronts.specs.IndexLists.{ListView}
 use Rattle.sand_fronts.specs.TileLists.{waits, waits_but, Joins, AreListed}
 use Rattle.sand_fronts.specs.Boards.{tiles_of, free_of}
@@ -45,7 +45,7 @@ topple_tile-requires-clause-ready c =
     let g = c.args.board.now.shape in
     let site = c.args.drop.site in
     let τ = tiles_of c.args.self.now in
-    wave_ready g site (heights_before g site τ) (free_of c.args.board.now) τ c.args.drop.tile c.set_of.result 1
+    wave_ready (free_of c.args.board.now) c.args.drop.tile c.set_of.result 1
     c.requires.all_open (first_wave g site τ c.requires.rest c.requires.drop.inside) c.requires.drop.inside
     (first_low g site τ) (starts c) (let z = clear_site g site τ c.requires.rest in omega arith)
 
@@ -62,8 +62,7 @@ turns-init c =
     let b = at_tile g site k c.args.board.now.beside.items c.requires.board.beside c.requires.drop.inside
     (sym c.requires.drop.tile) in
     let steps = c.topple_tile.ensures.steps in
-    let first = turn_first g site free τ σ k c.set_of.result (beside_at c.args.board.now.beside.items k)
-    c.requires.all_open c.requires.rest c.requires.drop.inside c.requires.drop.tile
+    let first = turn_first free c.requires.all_open c.requires.rest c.requires.drop.inside c.requires.drop.tile
     (starts (goal.at.turns-init c).After-set_of) b.each steps in
     let begun : ListView = record { items = k ∷ []; room = c.args.self.now.list.room } in
     let joins = subst (λ (l : ListView). Joins n 4 (waits_but k τ free) (waits σ free) l c.topple_tile.new.self.list)
@@ -76,7 +75,7 @@ turns-init c =
       started = first.1;
       waiting = joins.waiting 1 (omega arith)
           (none_wait g site n k τ free c.requires.all_open c.requires.rest (λ m. omega (arith, words (goal.at.turns-init c).After-set_of m)));
-      listed = turn_listed τ σ (free k) k 0 c.set_of.result (beside_at c.args.board.now.beside.items k) (k ∷ []) list
+      listed = turn_listed 0 (k ∷ []) list
           (λ m. inl (λ p low. c.requires.rest.clear m p low)) steps refl kept;
       on_board = turn_on_board n k 0 (k ∷ []) list (λ t less. absurd (omega arith)) b.inside refl kept;
       within = omega arith;
@@ -101,7 +100,7 @@ topple_tile-requires-in-turns-clause-ready c =
     let g = c.args.board.now.shape in
     let site = c.args.drop.site in
     let τ = tiles_of c.args.self.now in
-    wave_ready g site (heights_before g site τ) (free_of c.args.board.now) (tiles_of c.turns.self) c.item-k.result 0 0
+    wave_ready (free_of c.args.board.now) c.item-k.result 0 0
     c.requires.all_open c.turns.invariant.wave c.requires.drop.inside (first_low g site τ)
     (starts_none g site c.item-k.result) (omega (arith, c.turns.invariant.started))
 
@@ -138,8 +137,7 @@ turns-preserved c =
     let turn : c.turns.turn < length before = omega (arith, c.turns-test.true, c.len.ensures.value) in
     let t = at_turn (goal.at.turns-preserved c).After-item-k in
     let steps = c.topple_tile-in-turns.ensures.steps in
-    let more = turn_more g site (heights_before g site (tiles_of c.args.self.now)) free τ σ k t.0 b
-    c.requires.all_open c.turns.invariant.wave c.requires.drop.inside (first_low g site (tiles_of c.args.self.now))
+    let more = turn_more free c.requires.all_open c.turns.invariant.wave c.requires.drop.inside (first_low g site (tiles_of c.args.self.now))
     (let o = one_at_same site in omega arith) c.turns.invariant.started t.1 t.2.each steps in
     let f = front_of (tiles g) c.turns.turn k (waits τ free) before c.turns.invariant.waiting turn c.item-k.ensures in
     let joins = c.topple_tile-in-turns.ensures.joins in
@@ -153,7 +151,7 @@ turns-preserved c =
       started = more.1;
       waiting = joins.waiting (c.turns.turn + 1) (omega arith)
           (others_wait (tiles g) c.turns.turn k τ free before f.2);
-      listed = turn_listed τ σ (free k) k c.turns.turn 0 b before after
+      listed = turn_listed c.turns.turn before after
           c.turns.invariant.listed steps c.item-k.ensures kept;
       on_board = turn_on_board (tiles g) k c.turns.turn before after c.turns.invariant.on_board t.2.inside
           c.item-k.ensures kept;
