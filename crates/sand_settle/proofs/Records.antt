@@ -1,12 +1,16 @@
 -- The settled record of a pile, from its parts.
-use Rattle.std.proofs.Common.{ℕ, ◌≡◌, ◌-◌, ◌*◌, ◌^◌, ◌<◌, ◌≤◌, ◌∙◌, arith, List, length, sum, get_or}
-use Rattle.sand_model.specs.Grid.{sites}
-use Rattle.sand_model.specs.Sand.{IsSettled, weight}
+use Rattle.std.proofs.Common.{ℕ, ◌≡◌, ◌-◌, ◌*◌, ◌^◌, ◌<◌, ◌≤◌, ◌∙◌, refl, sym, ap, arith, List, length, replicate, sum, get_or}
+use Rattle.std.proofs.lemmas.List.{length-replicate}
+use Rattle.sand_model.specs.Grid.{Grid, sites, missing}
+use Rattle.sand_model.specs.Sand.{IsStable, IsSettled, weight}
 use Rattle.sand_model.specs.Piles.{PileView, IsPile}
 use Rattle.sand_model.proofs.Sandpile.{weight_after}
 use Rattle.sand_model.proofs.Heights.{sum_is_grains, sum_left}
 use Rattle.sand_model.proofs.Bounds.{topplings_bound}
+use Rattle.sand_model.proofs.SumsBelow.{sum_below_same, sum_below-zero}
+use Rattle.sand_model.proofs.Underway.{underway_start, underway_end}
 use Rattle.sand_settle.specs.Settling.{SettledView, IsSettledRecord}
+use Rattle.sand_settle.proofs.Underway.{zero_at}
 
 pub sum_bound : (start : PileView) (u h : List ℕ)
     → IsPile start → length u ≡ sites start.grid
@@ -44,3 +48,24 @@ record_is start r pile same heights counts done all gone = record {
       (λ j. get_or r.odometer j 0) pile.one_each heights done.toppled in
       omega arith;
 }
+
+-- no site of a stable pile topples
+pub stable_record : (g : Grid) (h u : List ℕ) → length h ≡ sites g → u ≡ replicate (sites g) 0
+    → IsStable g (λ j. get_or h j 0) → IsSettledRecord g (λ j. get_or h j 0) (record {
+      pile = record { grid = g; heights = h };
+      odometer = u;
+      topplings = 0;
+      lost = 0;
+    })
+stable_record g h u each zeros stable =
+    let none : (j : ℕ) → get_or u j 0 ≡ 0 = λ j. zero_at (sites g) j u zeros in
+    record {
+      grid = refl;
+      heights_each = each;
+      odometer_each = ap length zeros ∙ length-replicate {A = ℕ} (sites g) 0;
+      settled = underway_end g _ _ _ (underway_start g _ _ (λ j l. none j)) stable.low;
+      all_topplings =
+          sym (sum_below_same (sites g) (λ j. get_or u j 0) (λ j. 0) (λ j l. none j) ∙ sum_below-zero (sites g));
+      all_lost = sym (sum_below_same (sites g) (λ j. missing g j * get_or u j 0) (λ j. 0)
+          (λ j l. let e = ap (λ n. missing g j * n) (none j) in omega arith) ∙ sum_below-zero (sites g));
+    }

@@ -1,6 +1,7 @@
 -- A pile that is being settled, turn by turn.
-use Rattle.std.proofs.Common.{ℕ, ◌≡◌, ◌≢◌, ◌+◌, ◌*◌, ◌^◌, ◌<◌, ◌≤◌, ap, arith, List, length, sum, get_or, ⊎_elim}
-use Rattle.std.proofs.lemmas.Bool.{cases_eq}
+use Rattle.std.proofs.Common.{ℕ, ◌≡◌, ◌≢◌, ◌+◌, ◌*◌, ◌^◌, ◌<◌, ◌≤◌, ap, arith, List, length, replicate, sum, get_or, ⊎_elim}
+use Rattle.std.proofs.lemmas.Bool.{cases_eq, cases_lt}
+use Rattle.std.proofs.lemmas.List.{get_or-replicate, get_or_past, length-replicate}
 use Rattle.sand_model.specs.Grid.{Grid, IsGrid, sites}
 use Rattle.sand_model.specs.Sand.{one_at, IsToppled, IsSettled, topplings, weight}
 use Rattle.sand_model.proofs.SumsBelow.{sum_below_same, sum_below-add, sum_below-zero, sum_below-one_at}
@@ -71,6 +72,14 @@ sum_falls g u v h k lh lk advances =
     let after = sum_is_grains g k lk in
     let falls = advances.grains_fall in
     omega arith
+
+-- a list of zeros is 0 everywhere
+pub zero_at : (n j : ℕ) (u : List ℕ) → u ≡ replicate n 0 → get_or u j 0 ≡ 0
+zero_at n j u zeros =
+    ⊎_elim
+    (λ (less : j < n). rw zeros (get_or-replicate {A = ℕ} n j 0 0 less))
+    (λ (past : n ≤ j). rw zeros (get_or_past (replicate n 0) j 0 (let e = length-replicate {A = ℕ} n 0 in omega arith)))
+    (cases_lt j n)
 
 -- at the start of a settling the topplings to come are few
 pub few_at_first : (g : Grid) (u : ℕ → ℕ) (h : List ℕ) → IsGrid g

@@ -1,8 +1,9 @@
 //! How a pile is settled: by the queue, or by a guess that is certified.
 //!
-//! The queue is the plain way, always right, and fast if little topples. So it comes first, for a few turns per site,
-//! unless the pile is found to be high (`sand_guess::is_high`). If the queue has not settled the pile, its odometer is
-//! claimed: by sweeps over all sites if the pile is low and flat (`sand_guess::toppled`), and then by a guess
+//! The queue is the plain way, always right, and fast if little topples. A light pile, of which a bound shows that not
+//! much topples (`is_light`), goes to the queue at once, and stays there. On other piles the queue comes first, for a few
+//! turns per site, unless the pile is found to be high (`sand_guess::is_high`). If the queue has not settled the pile, its
+//! odometer is claimed: by sweeps over all sites if the pile is low and flat (`sand_guess::toppled`), and then by a guess
 //! (`sand_guess::guessed`). A claim is certified (`sand_certify`), which is a proof. If every claim is rejected, the
 //! queue settles the pile from the start, however long that takes. Nothing is proved of what `sand_guess` returns: a
 //! wrong claim costs time, and the result is the same.
@@ -10,23 +11,42 @@
 ghost use Rattle.std.specs.Prelude.{◌≤◌, ◌^◌, IfOk, IfSome, IsSome};
 ghost use Rattle.sand_settle.specs.Rests.{ComesToRest};
 
-use crate::workspace::Workspace;
+use crate::settling::topple_in_waves;
 use sand_certify::certified;
 use sand_guess::{Claim, guessed, is_flat, is_high, toppled};
-use sand_model::Pile;
+use sand_model::{Edge, Pile, Shape};
 use std::alloc::{AllocError, Global};
 
-// The turns per site that the queue has before a guess is tried: a quarter of the time that a guess takes.
+// The turns that the queue has before a guess is tried, per site and besides: a quarter of the time that a guess takes.
 const TURNS_BEFORE_A_GUESS: u64 = 16;
 
-// The same before sweeps are tried. The queue is faster than sweeps only if hardly anything topples.
+const MORE_TURNS_BEFORE_A_GUESS: u64 = 512;
+
+// The turns per site before sweeps are tried. The queue is faster than sweeps only if hardly anything topples.
 const TURNS_BEFORE_SWEEPS: u64 = 1;
+
+// The bound on the topplings of a light pile, per site and besides.
+const FEW_PER_SITE: u64 = 64;
+
+const FEW: u64 = 8192;
 
 /// The heights of a settled pile, and how often each site toppled.
 #[derive(Drop)]
 pub(crate) struct Rest {
     pub(crate) heights: Vec<u64>,
     pub(crate) odometer: Vec<u64>,
+}
+
+/// Whether a bound shows that few topplings settle a pile of so many grains. They number at most half the weight
+/// (`sand_model::laws`), and no grain weighs more than the square of half of a side and one, for a side with open ends.
+pub(crate) fn is_light(shape: Shape, grains: u64) -> bool {
+    let side = match shape.edge() {
+        Edge::Open => shape.width().min(shape.height()),
+        Edge::Cylinder => shape.height(),
+    };
+    let square = (side as u64 + 1) * (side as u64 + 1);
+    let few = FEW_PER_SITE * shape.sites() as u64 + FEW;
+    grains.saturating_mul(square) / 8 <= few
 }
 
 /// Settles a pile by the queue. Returns None if `turns` sites or more have had their turn and others wait.
@@ -38,11 +58,11 @@ pub(crate) fn settle_by_queue(
     ensures settled { IfOk result (λ o. IfSome o (ComesToRest pile.now)) }
     ensures ends { 2 ^ 54 ≤ turns → IfOk result (λ o. IsSome o) }
 {
-    let workspace = Workspace::new(alloc, pile.shape())?;
     let mut heights = Vec::from_slice(alloc, pile.heights())?;
-    let Some(odometer) = workspace.settle(&mut heights, turns) else {
+    let mut odometer = vec![in alloc; 0u64; pile.shape().sites()]?;
+    if !topple_in_waves(alloc, pile.shape(), &mut heights, &mut odometer, turns)? {
         return Ok(None);
-    };
+    }
     Ok(Some(Rest { heights, odometer }))
 }
 
@@ -71,31 +91,40 @@ pub(crate) fn settle_by_claim(
 fn settle_if_low(alloc: Global, pile: &Pile) -> Result<Option<Rest>, AllocError>
     ensures { IfOk result (λ o. IfSome o (ComesToRest pile.now)) }
 {
+    let sites = pile.shape().sites() as u64;
     let is_flat = is_flat(pile);
     let turns = if is_flat {
-        TURNS_BEFORE_SWEEPS
+        sites * TURNS_BEFORE_SWEEPS
     } else {
-        TURNS_BEFORE_A_GUESS
+        sites * TURNS_BEFORE_A_GUESS + MORE_TURNS_BEFORE_A_GUESS
     };
-    let rest = settle_by_queue(alloc, pile, (pile.shape().sites() as u64) * turns)?;
+    let rest = settle_by_queue(alloc, pile, turns)?;
     if rest.is_some() || !is_flat {
         return Ok(rest);
     }
     settle_by_claim(alloc, pile, toppled(alloc, pile)?)
 }
 
-/// Settles a pile: by the queue or by sweeps if little topples, otherwise by a guess, and if that is wrong by the
-/// queue.
-pub(crate) fn settle_by_any(alloc: Global, pile: &Pile) -> Result<Rest, AllocError>
-    ensures { IfOk result (ComesToRest pile.now) }
+// Settles a pile of which more may topple: by the queue or by sweeps if little does, otherwise by a guess.
+fn settle_unless_light(alloc: Global, pile: &Pile) -> Result<Option<Rest>, AllocError>
+    ensures { IfOk result (λ o. IfSome o (ComesToRest pile.now)) }
 {
     if !is_high(pile) {
         if let Some(rest) = settle_if_low(alloc, pile)? {
-            return Ok(rest);
+            return Ok(Some(rest));
         }
     }
-    if let Some(rest) = settle_by_claim(alloc, pile, guessed(alloc, pile)?)? {
-        return Ok(rest);
+    settle_by_claim(alloc, pile, guessed(alloc, pile)?)
+}
+
+/// Settles a pile: by the queue if it is light, otherwise in the faster way, and if that fails by the queue.
+pub(crate) fn settle_by_any(alloc: Global, pile: &Pile) -> Result<Rest, AllocError>
+    ensures { IfOk result (ComesToRest pile.now) }
+{
+    if !is_light(pile.shape(), pile.grains()) {
+        if let Some(rest) = settle_unless_light(alloc, pile)? {
+            return Ok(rest);
+        }
     }
     let rest = settle_by_queue(alloc, pile, u64::MAX)?;
     Ok(rest.unwrap())

@@ -5,7 +5,9 @@
 
 ghost use Rattle.std.specs.Prelude.{◌≡◌, ◌<◌, ◌^◌, IfOk, length, sum};
 ghost use Rattle.sand_model.specs.Grid.{sites};
-ghost use Rattle.sand_settle.specs.Settling.{IsSomeSettledRecord, odometer_of};
+ghost use Rattle.sand_model.specs.Sand.{IsStable};
+ghost use Rattle.sand_model.specs.Piles.{height_of};
+ghost use Rattle.sand_settle.specs.Settling.{IsSettledRecord, IsSomeSettledRecord, odometer_of};
 
 use sand_model::Pile;
 use std::alloc::{AllocError, Global};
@@ -55,6 +57,26 @@ impl Settled {
             topplings,
             lost,
         }
+    }
+
+    /// The record of a pile that no site topples.
+    pub(crate) fn of_stable(alloc: Global, pile: &Pile) -> Result<Settled, AllocError>
+        requires { IsStable pile.now.grid (height_of pile.now) }
+        ensures record { IfOk result (λ r. IsSettledRecord pile.now.grid (height_of pile.now) r) }
+        ensures pile { IfOk result (λ r. r.pile ≡ pile.now) }
+        ensures topplings { IfOk result (λ r. r.topplings ≡ 0) }
+        ensures lost { IfOk result (λ r. r.lost ≡ 0) }
+    {
+        let Ok(settled) = pile.copy(alloc) else {
+            return Err(AllocError);
+        };
+        let odometer = vec![in alloc; 0u64; pile.shape().sites()]?;
+        Ok(Settled {
+            pile: settled,
+            odometer,
+            topplings: 0,
+            lost: 0,
+        })
     }
 
     pub fn copy(&self, alloc: Global) -> Result<Settled, AllocError>

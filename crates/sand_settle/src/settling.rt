@@ -10,7 +10,7 @@
 //!   action (`sand_model::laws`), and it holds from turn to turn (`IsUnderway`).
 //! - At the end the queue is empty, so no site may topple: the topplings stabilise the start, and are the least.
 
-ghost use Rattle.std.specs.Prelude.{◌≡◌, ◌+◌, ◌*◌, ◌^◌, ◌<◌, ◌≤◌, length, sum, slice_index, IfOk, IfSome, IsSome};
+ghost use Rattle.std.specs.Prelude.{◌≡◌, ◌+◌, ◌*◌, ◌^◌, ◌<◌, ◌≤◌, length, sum, slice_index, IfOk, IsTrue, OnErr};
 ghost use Rattle.sand_model.specs.Grid.{sites};
 ghost use Rattle.sand_model.specs.Sand.{IsSettled, topplings, weight};
 ghost use Rattle.sand_model.specs.Piles.{height_of, most_grains};
@@ -23,10 +23,9 @@ use crate::choice::{Rest, settle_by_any};
 use crate::faults::SettleFault;
 use crate::settled::Settled;
 use crate::spreading::{knows_sides, spread};
-use crate::workspace::Workspace;
 use sand_fronts::IndexList;
-use sand_model::{Lattice, Pile, TOPPLING_HEIGHT};
-use std::alloc::Global;
+use sand_model::{Lattice, Pile, Shape, TOPPLING_HEIGHT};
+use std::alloc::{AllocError, Global};
 use std::mem;
 
 // Topples each site of a wave in turn, as often as its height allows, and lists the next wave.
@@ -73,37 +72,64 @@ fn list_unstable(heights: &[u64], wave: &mut IndexList)
     }
 }
 
-impl Workspace {
-    /// Topples until no site may topple, and returns how often each site toppled. Returns None before a wave if `turns`
-    /// sites or more have had their turn.
-    pub(crate) fn settle(self, heights: &mut [u64], turns: u64) -> Option<Vec<u64>>
-        requires one_each { length heights.old ≡ sites self }
-        requires limit { sum heights.old ≤ most_grains }
-        ensures settled { IfSome result
-            (λ u. IsSettled self (slice_index heights.old) (slice_index u.items) (slice_index heights.new)) }
-        ensures odometer_each { IfSome result (λ u. length u.items ≡ sites self) }
-        ensures ends { 2 ^ 54 ≤ turns → IsSome result }
-    {
-        let Workspace {
-            lattice: ground,
-            counts: mut odometer,
-            mut wave,
-            spare: mut next,
-        } = self;
-        let lattice = &ground;
-        let counts = odometer.as_mut_slice();
-        list_unstable(heights, &mut wave);
-        let mut left = turns;
-        'waves: while wave.len() > 0 {
-            if left == 0 {
-                return None;
-            }
-            left = left.saturating_sub(wave.len() as u64);
-            topple_wave(lattice, heights, counts, &wave, &mut next);
-            mem::swap(&mut wave, &mut next);
+// Topples until no site may topple, and counts how often each site topples. Returns false before a wave if `turns` sites
+// or more have had their turn. What the two lists hold is dropped.
+fn topple_all(
+    lattice: &Lattice,
+    heights: &mut [u64],
+    counts: &mut [u64],
+    mut wave: IndexList,
+    mut next: IndexList,
+    turns: u64,
+) -> bool
+    requires heights_each { length heights.old ≡ sites lattice.now }
+    requires counts_each { length counts.old ≡ sites lattice.now }
+    requires limit { sum heights.old ≤ most_grains }
+    requires wave_room { sites lattice.now + 4 ≤ wave.room }
+    requires next_room { sites lattice.now + 4 ≤ next.room }
+    ensures settled { IsTrue result
+        → IsSettled lattice.now (slice_index heights.old) (slice_index counts.new) (slice_index heights.new) }
+    ensures ends { 2 ^ 54 ≤ turns → IsTrue result }
+{
+    knows_sides(lattice);
+    counts.fill(0);
+    list_unstable(heights, &mut wave);
+    let mut left = turns;
+    'waves: while wave.len() > 0 {
+        if left == 0 {
+            return false;
         }
-        Some(odometer)
+        left = left.saturating_sub(wave.len() as u64);
+        topple_wave(lattice, heights, counts, &wave, &mut next);
+        mem::swap(&mut wave, &mut next);
     }
+    true
+}
+
+/// Topples until no site may topple, and counts how often each site topples. Returns false before a wave if `turns` sites
+/// or more have had their turn. If an allocation fails, nothing has toppled.
+pub(crate) fn topple_in_waves(
+    alloc: Global,
+    shape: Shape,
+    heights: &mut [u64],
+    counts: &mut [u64],
+    turns: u64,
+) -> Result<bool, AllocError>
+    requires heights_each { length heights.old ≡ sites shape }
+    requires counts_each { length counts.old ≡ sites shape }
+    requires limit { sum heights.old ≤ most_grains }
+    ensures settled { IfOk result (λ b. IsTrue b
+        → IsSettled shape (slice_index heights.old) (slice_index counts.new) (slice_index heights.new)) }
+    ensures ends { 2 ^ 54 ≤ turns → IfOk result (λ b. IsTrue b) }
+    ensures heights { OnErr result (heights.new ≡ heights.old) }
+    ensures counts { OnErr result (counts.new ≡ counts.old) }
+{
+    // A toppling site may list 4 more.
+    let room = shape.sites() + 4;
+    let lattice = Lattice::new(alloc, shape)?;
+    let wave = IndexList::new(alloc, room)?;
+    let next = IndexList::new(alloc, room)?;
+    Ok(topple_all(&lattice, heights, counts, wave, next, turns))
 }
 
 fn record_of(pile: &Pile, rest: Rest) -> Settled
@@ -128,6 +154,9 @@ pub fn settle(alloc: Global, pile: &Pile) -> Result<Settled, SettleFault>
     ensures half { IfOk result (λ r. 2 * r.topplings ≤ weight pile.now.grid (height_of pile.now)) }
     ensures bound { IfOk result (λ r. r.topplings < 2 ^ 54) }
 {
+    if pile.is_stable() {
+        return Ok(Settled::of_stable(alloc, pile)?);
+    }
     let rest = settle_by_any(alloc, pile)?;
     Ok(record_of(pile, rest))
 }

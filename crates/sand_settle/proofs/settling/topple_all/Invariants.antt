@@ -4,7 +4,7 @@ use Rattle.sand_model.specs.Sand.{topplings, weight}
 use Rattle.sand_model.specs.Lists.{Lists}
 use Rattle.sand_settle.specs.SiteLists.{may_topple}
 use Rattle.sand_model.specs.Underway.{Advances}
-use Rattle.sand_settle.proofs.workspace.Workspace.settle.Given as goal
+use Rattle.sand_settle.proofs.settling.topple_all.Given as goal
 
 abbrev pub invariant-waves : goal.invariant-waves
 invariant-waves l = record {

@@ -1,0 +1,34 @@
+use Rattle.std.proofs.Common.{◌∙◌, ap, replicate, sym, subst}
+use Rattle.sand_model.specs.Grid.{sites}
+use Rattle.sand_model.specs.Piles.{PileView, height_of}
+use Rattle.sand_settle.specs.Settling.{IsSettledRecord}
+use Rattle.sand_settle.proofs.Records.{stable_record}
+use Rattle.sand_settle.proofs.settled.Settled.of_stable.Goals.{In_ok-odometer}
+use Rattle.sand_settle.proofs.settled.Settled.of_stable.Goals as goal
+
+unchanged : (c : In_ok-odometer) → IsSettledRecord c.args.pile.now.grid (height_of c.args.pile.now) (record {
+  pile = c.in-Ok.settled;
+  odometer = c.in_ok-odometer.odometer.items;
+  topplings = 0;
+  lost = 0;
+})
+unchanged c =
+    let zeros = c.in_ok-odometer.ensures.items_if_clones_equal (λ y e. e)
+    ∙ ap (λ n. replicate n 0) (c.sites.ensures.value ∙ ap sites c.shape.ensures.value) in
+    rw c.in-Ok.ensures.made (stable_record c.args.pile.now.grid c.args.pile.now.heights _
+    c.shape.ensures.pile.one_each zeros c.requires)
+
+pub invariant_of-result : goal.invariant_of-result
+invariant_of-result c =
+    let is = unchanged (goal.at.invariant_of-result c).In_ok-odometer in (
+      height_of c.args.pile.now,
+      subst (λ (p : PileView). IsSettledRecord p.grid (height_of c.args.pile.now) (record {
+        pile = c.in-Ok.settled;
+        odometer = c.in_ok-odometer.odometer.items;
+        topplings = 0;
+        lost = 0;
+      })) (sym c.in-Ok.ensures.made) is,
+    )
+
+pub returns-clause-record : goal.returns-clause-record
+returns-clause-record c = unchanged (goal.at.returns-clause-record c).In_ok-odometer

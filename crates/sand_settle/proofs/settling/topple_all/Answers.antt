@@ -1,0 +1,70 @@
+use Rattle.std.proofs.Common.{ℕ, ◌≡◌, ◌+◌, ◌*◌, ◌^◌, ◌<◌, ◌∙◌, [], ap, arith, length, get_or}
+use Rattle.std.proofs.lemmas.List.{nil_from_length}
+use Rattle.sand_model.specs.Grid.{sites}
+use Rattle.sand_model.specs.Sand.{topplings, weight}
+use Rattle.sand_model.proofs.Lists.{lists_of}
+use Rattle.sand_fronts.specs.IndexLists.{ListView}
+use Rattle.sand_settle.proofs.Queue.{all_low}
+use Rattle.sand_settle.proofs.Underway.{advance_more, sum_falls, few_at_first, settled_at_last, zero_at}
+use Rattle.sand_settle.proofs.settling.topple_all.Goals.{After-fill}
+use Rattle.sand_settle.proofs.settling.topple_all.Goals as goal
+
+uncounted : (c : After-fill) → (j : ℕ) → get_or c.fill.new.self j 0 ≡ 0
+uncounted c j = zero_at (length c.args.counts.now) j _ (c.fill.ensures.after (λ y e. e))
+
+pays : (c : After-fill) → 2 * topplings c.args.lattice.now (λ j. get_or c.fill.new.self j 0)
+    + weight c.args.lattice.now (λ j. get_or c.args.heights.now j 0) < 2 ^ 55
+pays c = few_at_first c.args.lattice.now (λ j. get_or c.fill.new.self j 0) c.args.heights.now
+    c.knows_sides.ensures c.requires.heights_each c.requires.limit (uncounted c)
+
+pub waves-init : goal.waves-init
+waves-init c = record {
+  heights_each = c.requires.heights_each;
+  counts_each = c.fill.ensures.len ∙ c.requires.counts_each;
+  turns_each = omega arith;
+  advances = record { underway = λ s before. before; weight_pays = omega arith; grains_fall = omega arith };
+  waiting = lists_of _ _ _ _ c.requires.heights_each c.list_unstable.ensures.waiting;
+  wave_room = omega (arith, c.list_unstable.ensures.room, c.requires.wave_room);
+  next_room = c.requires.next_room;
+}
+
+pub topple_wave-requires-clause-limit : goal.topple_wave-requires-clause-limit
+topple_wave-requires-clause-limit c =
+    let falls = sum_falls c.args.lattice.now _ _ c.args.heights.now c.waves.heights
+    c.requires.heights_each c.waves.invariant.heights_each c.waves.invariant.advances in
+    omega (arith, c.requires.limit)
+
+pub topple_wave-requires-clause-few : goal.topple_wave-requires-clause-few
+topple_wave-requires-clause-few c =
+    let first = pays (goal.at.topple_wave-requires-clause-few c).After-fill in
+    let later = c.waves.invariant.advances.weight_pays in
+    omega arith
+
+pub waves-preserved : goal.waves-preserved
+waves-preserved c = record {
+  heights_each = omega (arith, c.waves.invariant.heights_each, c.topple_wave.auto.heights);
+  counts_each = omega (arith, c.waves.invariant.counts_each, c.topple_wave.auto.counts);
+  turns_each = omega (arith, c.waves.invariant.turns_each, c.topple_wave.ensures.each_topples);
+  advances = advance_more c.args.lattice.now _ _ _ _ _ _ c.waves.invariant.advances c.topple_wave.ensures.advances;
+  waiting = rw (ap (λ (l : ListView). l.items) c.swap.ensures.x_after) c.topple_wave.ensures.waiting;
+  wave_room = omega (
+    arith,
+    ap (λ (l : ListView). l.room) c.swap.ensures.x_after,
+    c.topple_wave.ensures.room,
+    c.waves.invariant.next_room,
+  );
+  next_room = omega (arith, ap (λ (l : ListView). l.room) c.swap.ensures.y_after, c.waves.invariant.wave_room);
+}
+
+pub returns-clause-settled : goal.returns-clause-settled
+returns-clause-settled c _ =
+    let none : c.waves.wave.items ≡ [] = nil_from_length c.waves.wave.items (omega (arith, c.len.ensures.value)) in
+    let waiting = rw none at c.waves.invariant.waiting in
+    settled_at_last c.args.lattice.now _ _ _ _ (uncounted (goal.at.returns-clause-settled c).After-fill)
+    c.waves.invariant.advances (all_low (sites c.args.lattice.now) (λ j. get_or c.waves.heights j 0) waiting)
+
+pub returns-then-left-eq0-clause-ends : goal.returns-then-left-eq0-clause-ends
+returns-then-left-eq0-clause-ends c many =
+    let first = pays (goal.at.returns-then-left-eq0-clause-ends c).After-fill in
+    let later = c.waves.invariant.advances.weight_pays in
+    absurd (omega (arith, many, c.waves.invariant.turns_each, c.if-left-eq0.true))
