@@ -69,3 +69,31 @@ stable_record g h u each zeros stable =
       all_lost = sym (sum_below_same (sites g) (λ j. missing g j * get_or u j 0) (λ j. 0)
           (λ j l. let e = ap (λ n. missing g j * n) (none j) in omega arith) ∙ sum_below-zero (sites g));
     }
+
+-- a settling has few topplings, and makes no grains
+pub few_and_left : (start : PileView) (u h : List ℕ)
+    → IsPile start → length u ≡ sites start.grid → length h ≡ sites start.grid
+    → IsSettled start.grid (λ j. get_or start.heights j 0) (λ j. get_or u j 0) (λ j. get_or h j 0)
+    → (sum u < 2 ^ 54) × (sum h ≤ sum start.heights)
+few_and_left start u h pile counts heights done =
+    let left = sum_left start.grid start.heights h (λ j. get_or u j 0) pile.one_each heights done.toppled in
+    (sum_bound start u h pile counts done, omega arith)
+
+-- a record that is written down in its parts
+pub same_record : (g : Grid) (s : ℕ → ℕ) (r : SettledView) (heights odometer : List ℕ) (topplings lost : ℕ)
+    → IsSettledRecord g s r
+    → heights ≡ r.pile.heights → odometer ≡ r.odometer → topplings ≡ r.topplings → lost ≡ r.lost
+    → IsSettledRecord g s (record {
+      pile = record { grid = g; heights = heights };
+      odometer = odometer;
+      topplings = topplings;
+      lost = lost;
+    })
+same_record g s r heights odometer topplings lost is h o t l = rw (h, o, t, l) record {
+  grid = refl;
+  heights_each = is.heights_each;
+  odometer_each = is.odometer_each;
+  settled = is.settled;
+  all_topplings = is.all_topplings;
+  all_lost = is.all_lost;
+}

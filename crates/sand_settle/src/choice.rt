@@ -9,6 +9,7 @@
 //! wrong claim costs time, and the result is the same.
 
 ghost use Rattle.std.specs.Prelude.{◌≤◌, ◌^◌, IfOk, IfSome, IsSome};
+ghost use Rattle.sand_model.specs.Grid.{IsGrid};
 ghost use Rattle.sand_settle.specs.Rests.{ComesToRest};
 
 use crate::settling::topple_in_waves;
@@ -39,7 +40,9 @@ pub(crate) struct Rest {
 
 /// Whether a bound shows that few topplings settle a pile of so many grains. They number at most half the weight
 /// (`sand_model::laws`), and no grain weighs more than the square of half of a side and one, for a side with open ends.
-pub(crate) fn is_light(shape: Shape, grains: u64) -> bool {
+pub(crate) fn is_light(shape: Shape, grains: u64) -> bool
+    ensures { IsGrid shape }
+{
     let side = match shape.edge() {
         Edge::Open => shape.width().min(shape.height()),
         Edge::Cylinder => shape.height(),

@@ -33,7 +33,7 @@ impl Model for Settled {
         (record { pile = r.pile; odometer = r.odometer.items; topplings = r.topplings; lost = r.lost }) };
 }
 
-fn sum_of(counts: &[u64]) -> u64
+pub(crate) fn sum_of(counts: &[u64]) -> u64
     requires { sum counts.now < 2 ^ 64 }
     ensures { result ≡ sum counts.now }
 {

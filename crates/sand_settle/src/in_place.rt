@@ -1,0 +1,112 @@
+//! Settling heights where they are.
+//!
+//! `settle` returns new lists, and keeps the pile. Whoever has lists for the result, and settles many small piles, saves
+//! the copies: a stable pile takes no memory, and a light one only that of the queue.
+
+ghost use Rattle.std.specs.Prelude.{◌≡◌, ◌↔◌, ◌<◌, ◌≤◌, ◌^◌, length, sum, slice_index, IfOk, IsTrue, OnErr, All};
+ghost use Rattle.sand_model.specs.Grid.{IsGrid, sites};
+ghost use Rattle.sand_model.specs.Piles.{most_grains};
+ghost use Rattle.sand_settle.specs.InPlace.{record_in_place};
+ghost use Rattle.sand_settle.specs.Settling.{IsSettledRecord};
+
+use crate::choice::is_light;
+use crate::faults::SettleFault;
+use crate::settled::sum_of;
+use crate::settling::{settle, topple_in_waves};
+use sand_model::{Pile, Shape, TOPPLING_HEIGHT};
+use std::alloc::{AllocError, Global};
+
+/// The number of topplings, and of grains lost.
+#[derive(Clone, Copy, Debug, PartialEq, Eq)]
+pub struct Totals {
+    pub topplings: u64,
+    pub lost: u64,
+}
+
+fn are_stable(heights: &[u64]) -> bool
+    ensures { IsTrue result ↔ All (λ h. h ≤ 3) heights.now }
+{
+    heights.iter().all(|height| *height < TOPPLING_HEIGHT)
+}
+
+fn settle_light(
+    alloc: Global,
+    shape: Shape,
+    heights: &mut [u64],
+    odometer: &mut [u64],
+    grains: u64,
+) -> Result<Totals, AllocError>
+    requires sides { IsGrid shape }
+    requires heights_each { length heights.old ≡ sites shape }
+    requires odometer_each { length odometer.old ≡ sites shape }
+    requires limit { sum heights.old ≤ most_grains }
+    requires counted { grains ≡ sum heights.old }
+    ensures record { IfOk result (λ t. IsSettledRecord shape (slice_index heights.old)
+        (record_in_place shape heights.new odometer.new t)) }
+    ensures heights { OnErr result (heights.new ≡ heights.old) }
+    ensures odometer { OnErr result (odometer.new ≡ odometer.old) }
+{
+    let is_settled = topple_in_waves(alloc, shape, heights, odometer, u64::MAX)?;
+    prove!(is_settled);
+    let topplings = sum_of(odometer);
+    let left = sum_of(heights);
+    let lost = grains - left;
+    Ok(Totals { topplings, lost })
+}
+
+fn settle_copy(
+    alloc: Global,
+    shape: Shape,
+    heights: &mut [u64],
+    odometer: &mut [u64],
+    grains: u64,
+) -> Result<Totals, SettleFault>
+    requires heights_each { length heights.old ≡ sites shape }
+    requires odometer_each { length odometer.old ≡ sites shape }
+    requires limit { sum heights.old ≤ most_grains }
+    requires counted { grains ≡ sum heights.old }
+    ensures record { IfOk result (λ t. IsSettledRecord shape (slice_index heights.old)
+        (record_in_place shape heights.new odometer.new t)) }
+    ensures heights { OnErr result (heights.new ≡ heights.old) }
+    ensures odometer { OnErr result (odometer.new ≡ odometer.old) }
+{
+    let copy = Vec::from_slice(alloc, heights)?;
+    let start = Pile::from_counted(shape, copy, grains);
+    let settled = settle(alloc, &start)?;
+    heights.copy_from_slice(settled.pile().heights());
+    odometer.copy_from_slice(settled.odometers());
+    Ok(Totals {
+        topplings: settled.topplings(),
+        lost: settled.lost(),
+    })
+}
+
+/// Settles heights by site: writes the settled heights, and how often each site toppled. Fails only if an allocation
+/// fails (Memory), and then writes nothing.
+pub fn settle_in_place(
+    alloc: Global,
+    shape: Shape,
+    heights: &mut [u64],
+    odometer: &mut [u64],
+) -> Result<Totals, SettleFault>
+    requires heights_each { length heights.old ≡ sites shape }
+    requires odometer_each { length odometer.old ≡ sites shape }
+    requires limit { sum heights.old ≤ most_grains }
+    ensures record { IfOk result (λ t. IsSettledRecord shape (slice_index heights.old)
+        (record_in_place shape heights.new odometer.new t)) }
+    ensures heights { OnErr result (heights.new ≡ heights.old) }
+    ensures odometer { OnErr result (odometer.new ≡ odometer.old) }
+{
+    if are_stable(heights) {
+        odometer.fill(0);
+        return Ok(Totals {
+            topplings: 0,
+            lost: 0,
+        });
+    }
+    let grains = sum_of(heights);
+    if is_light(shape, grains) {
+        return Ok(settle_light(alloc, shape, heights, odometer, grains)?);
+    }
+    settle_copy(alloc, shape, heights, odometer, grains)
+}
