@@ -1,32 +1,15 @@
 -- The settled records of several piles, one after another.
-use Rattle.std.proofs.Common.{◌≡◌, ◌∙◌, ◌+◌, ℕ, List, [], ◌∷◌, ◌++◌, length, refl, ap, sym, arith, inl, inr}
+use Rattle.std.proofs.Common.{◌≡◌, ◌∙◌, ◌+◌, ℕ, List, [], ◌∷◌, ◌++◌, length, ap, sym, arith, inl, inr}
 use Rattle.std.specs.Prelude.{slice_index}
 use Rattle.std.specs.Fork.{slice_chunk}
 use Rattle.std.proofs.lemmas.Bool.{cases_lt}
 use Rattle.std.proofs.lemmas.List.{length_push}
 use Rattle.sand_model.specs.Grid.{Grid, sites}
 use Rattle.sand_settle.specs.Settling.{SettledView, IsSettledRecord}
+use Rattle.sand_settle.proofs.Records.{same_record}
 use Rattle.sand_c.specs.declared.settling_all.SettledPiles.{SettledPiles}
 use Rattle.sand_c.specs.SettlingAll.{AreRecords}
 use Rattle.sand_c.proofs.Chunks.{longer, chunk_before, chunk_last, number_before, number_last}
-
--- a record that is written down in its parts
-same_record : (g : Grid) (s : ℕ → ℕ) (r : SettledView) (heights odometer : List ℕ) (topplings lost : ℕ) → IsSettledRecord g s r
-    → heights ≡ r.pile.heights → odometer ≡ r.odometer → topplings ≡ r.topplings → lost ≡ r.lost
-    → IsSettledRecord g s (record {
-      pile = record { grid = g; heights = heights };
-      odometer = odometer;
-      topplings = topplings;
-      lost = lost;
-    })
-same_record g s r heights odometer topplings lost is h o t l = rw (h, o, t, l) record {
-  grid = refl;
-  heights_each = is.heights_each;
-  odometer_each = is.odometer_each;
-  settled = is.settled;
-  all_topplings = is.all_topplings;
-  all_lost = is.all_lost;
-}
 
 -- a settled pile was appended
 pub record IsPushed (all : SettledPiles) (r : SettledView) (after : SettledPiles) : Type 0 where

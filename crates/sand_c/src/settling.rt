@@ -1,49 +1,40 @@
 //! Settling a pile.
 
-ghost use Rattle.std.specs.Prelude.{◌≡◌, ◌≢◌, length, slice_index, Ok, OnOk, OnErr, IfOk, IfErr, IsOk};
-ghost use Rattle.sand_settle.specs.Settling.{IsSettledRecord};
-ghost use Rattle.sand_c.specs.Arguments.{pile_on, Fails, Answers};
+ghost use Rattle.std.specs.Prelude.{◌≡◌, ◌≢◌, ◌≤◌, length, sum, Ok, OnOk, OnErr, IfOk, IfErr, IsOk};
+ghost use Rattle.sand_model.specs.Grid.{sites};
+ghost use Rattle.sand_model.specs.Piles.{most_grains};
+ghost use Rattle.sand_c.specs.Arguments.{Fails, Answers};
 ghost use Rattle.sand_c.specs.Settling.{settling_of, IsSettling};
 
-use crate::arguments::{grid_of, pile_on};
+use crate::arguments::{grains_of, grid_of};
 use crate::faults::{Fault, answer};
 use sand_model::Shape;
-use sand_settle::{Settled, settle};
+use sand_settle::settle_in_place;
 use std::alloc::Global;
 
-/// The pile with these heights, settled.
-pub(crate) fn settle_on(alloc: Global, shape: Shape, heights: &[u64]) -> Result<Settled, Fault>
-    ensures record { IfOk result (λ r. IsSettledRecord shape (slice_index heights.now) r) }
-    ensures made { OnOk result (pile_on shape heights.now ≡ Ok (record { grid = shape; heights = heights.now })) }
-    ensures fault { IfErr result (λ e. Fails e (pile_on shape heights.now)) }
-{
-    let pile = pile_on(alloc, shape, heights)?;
-    let settled = settle(alloc, &pile);
-    // Freed here, so that no way out below has to.
-    drop(pile);
-    Ok(settled?)
-}
-
-// The pile in the arguments, settled.
-fn settled_on(
-    alloc: Global,
+// The grid in the arguments, if they are a pile with a place for the count of each site.
+fn grid_to_settle(
     width: usize,
     height: usize,
     cylinder: bool,
     heights: &[u64],
     odometer: &[u64],
-) -> Result<Settled, Fault>
-    ensures settled { IfOk result (λ r. IsSettling (settling_of width height cylinder heights.now odometer.now)
-        r.pile.heights r.odometer r.lost r.topplings) }
-    ensures heights { IfOk result (λ r. length r.pile.heights ≡ length heights.now) }
-    ensures odometer { IfOk result (λ r. length r.odometer ≡ length odometer.now) }
+) -> Result<Shape, Fault>
+    ensures meant { IfOk result (λ g. settling_of width height cylinder heights.now odometer.now
+        ≡ Ok (record { grid = g; heights = heights.now })) }
+    ensures heights { IfOk result (λ g. length heights.now ≡ sites g) }
+    ensures odometer { IfOk result (λ g. length odometer.now ≡ sites g) }
+    ensures limit { OnOk result (sum heights.now ≤ most_grains) }
     ensures fault { IfErr result (λ e. Fails e (settling_of width height cylinder heights.now odometer.now)) }
 {
     let shape = grid_of(width, height, cylinder)?;
-    if odometer.len() != shape.sites() {
+    if heights.len() != shape.sites() || odometer.len() != shape.sites() {
         return Err(Fault::Length);
     }
-    settle_on(alloc, shape, heights)
+    if grains_of(heights).is_none() {
+        return Err(Fault::TooManyGrains);
+    }
+    Ok(shape)
 }
 
 fn settle_into(
@@ -65,11 +56,10 @@ fn settle_into(
     ensures lost { OnErr result (lost.new ≡ lost.old) }
     ensures topplings { OnErr result (topplings.new ≡ topplings.old) }
 {
-    let settled = settled_on(alloc, width, height, cylinder, heights, odometer)?;
-    heights.copy_from_slice(settled.pile().heights());
-    odometer.copy_from_slice(settled.odometers());
-    *lost = settled.lost();
-    *topplings = settled.topplings();
+    let shape = grid_to_settle(width, height, cylinder, heights, odometer)?;
+    let totals = settle_in_place(alloc, shape, heights, odometer)?;
+    *lost = totals.lost;
+    *topplings = totals.topplings;
     Ok(())
 }
 

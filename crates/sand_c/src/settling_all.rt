@@ -11,9 +11,8 @@ ghost use Rattle.sand_c.specs.SettlingAll.{are_within, settling_all_of, IsSettli
 
 use crate::arguments::{grains_of, grid_of};
 use crate::faults::{Fault, answer};
-use crate::settling::settle_on;
 use sand_model::Shape;
-use sand_settle::Settled;
+use sand_settle::{Totals, settle_in_place};
 use std::alloc::Global;
 
 // What piles of one shape settle to, one after another.
@@ -49,23 +48,23 @@ impl SettledPiles {
         })
     }
 
-    fn push(&mut self, settled: &Settled) -> Result<(), Fault>
+    fn push(&mut self, heights: &[u64], odometer: &[u64], totals: Totals) -> Result<(), Fault>
         requires lost { vec_len self.old.lost < vec_capacity self.old.lost }
         requires topplings { vec_len self.old.topplings < vec_capacity self.old.topplings }
-        ensures heights { OnOk result (self.new.heights.items ≡ self.old.heights.items ++ settled.now.pile.heights) }
-        ensures odometer { OnOk result (self.new.odometer.items ≡ self.old.odometer.items ++ settled.now.odometer) }
-        ensures lost { OnOk result (self.new.lost.items ≡ self.old.lost.items ++ settled.now.lost ∷ []) }
-        ensures topplings { OnOk result (self.new.topplings.items ≡ self.old.topplings.items ++ settled.now.topplings ∷ []) }
+        ensures heights { OnOk result (self.new.heights.items ≡ self.old.heights.items ++ heights.now) }
+        ensures odometer { OnOk result (self.new.odometer.items ≡ self.old.odometer.items ++ odometer.now) }
+        ensures lost { OnOk result (self.new.lost.items ≡ self.old.lost.items ++ totals.lost ∷ []) }
+        ensures topplings { OnOk result (self.new.topplings.items ≡ self.old.topplings.items ++ totals.topplings ∷ []) }
         ensures counted { OnOk result ((vec_len self.new.lost ≡ vec_len self.old.lost + 1)
             × (vec_len self.new.topplings ≡ vec_len self.old.topplings + 1)) }
         ensures room { OnOk result ((vec_capacity self.new.lost ≡ vec_capacity self.old.lost)
             × (vec_capacity self.new.topplings ≡ vec_capacity self.old.topplings)) }
         ensures memory { IsOkUnless result Fault.Memory }
     {
-        self.heights.extend_from_slice(settled.pile().heights())?;
-        self.odometer.extend_from_slice(settled.odometers())?;
-        self.lost.push_reserved(settled.lost());
-        self.topplings.push_reserved(settled.topplings());
+        self.heights.extend_from_slice(heights)?;
+        self.odometer.extend_from_slice(odometer)?;
+        self.lost.push_reserved(totals.lost);
+        self.topplings.push_reserved(totals.topplings);
         Ok(())
     }
 }
@@ -127,23 +126,28 @@ fn grid_for_all(
     Ok(shape)
 }
 
+// Each pile is copied into one list, and settles there.
 fn settle_each(
     alloc: Global,
     shape: Shape,
     heights: &[u64],
     count: usize,
 ) -> Result<SettledPiles, Fault>
-    requires { length heights.now ≡ count * sites shape }
+    requires one_each { length heights.now ≡ count * sites shape }
+    requires within { are_within (sites shape) heights.now count ≡ true }
     ensures records { IfOk result (AreRecords shape heights.now count) }
     ensures memory { IsOkUnless result Fault.Memory }
 {
+    let sites = shape.sites();
     let mut all = SettledPiles::with_room(alloc, count, heights.len())?;
+    let mut list = vec![in alloc; 0u64; sites]?;
+    let mut counts = vec![in alloc; 0u64; sites]?;
+    let pile = list.as_mut_slice();
+    let odometer = counts.as_mut_slice();
     for next in 0..count {
-        let Ok(settled) = settle_on(alloc, shape, heights_at(heights, shape.sites(), next)) else {
-            // The lengths and the limit have been checked.
-            return Err(Fault::Memory);
-        };
-        all.push(&settled)?;
+        pile.copy_from_slice(heights_at(heights, sites, next));
+        let totals = settle_in_place(alloc, shape, pile, odometer)?;
+        all.push(pile, odometer, totals)?;
     }
     Ok(all)
 }

@@ -1,10 +1,8 @@
-use Rattle.std.proofs.Common.{◌∙◌, ap}
-use Rattle.sand_model.specs.Piles.{PileView}
 use Rattle.sand_c.proofs.settling.settle_into.Goals as goal
 
 pub returns-clause-settled : goal.returns-clause-settled
-returns-clause-settled c =
-    let heights = c.copy_from_slice.ensures.after ∙ c.heights.ensures.value
-    ∙ ap (λ (p : PileView). p.heights) c.pile.ensures.value in
-    rw (heights, c.copy_from_slice-2.ensures.after, c.odometers.ensures.value, c.lost.ensures, c.topplings.ensures)
-    c.in_ok-settled.ensures.settled
+returns-clause-settled c = record {
+  start = record { grid = c.in_ok-shape.shape; heights = c.args.heights.now };
+  meant = c.in_ok-shape.ensures.meant;
+  settled = c.in_ok-totals.ensures.record;
+}

@@ -1,10 +1,24 @@
-use Rattle.std.proofs.Common.{◌∙◌, ℕ, List, ap, subst, arith}
+use Rattle.std.proofs.Common.{◌≡◌, ◌∙◌, ℕ, List, ap, subst, arith}
 use Rattle.std.specs.Prelude.{slice_index}
 use Rattle.std.specs.Fork.{slice_chunk}
 use Rattle.sand_model.specs.Grid.{Grid, sites}
+use Rattle.sand_settle.specs.InPlace.{record_in_place}
 use Rattle.sand_settle.specs.Settling.{SettledView, IsSettledRecord}
+use Rattle.sand_c.proofs.Chunks.{each_within}
 use Rattle.sand_c.proofs.Records.{one_more}
+use Rattle.sand_c.proofs.settling_all.settle_each.Goals.{After-copy_from_slice}
 use Rattle.sand_c.proofs.settling_all.settle_each.Goals as goal
+
+-- the list has the heights of the next pile
+copied : (c : After-copy_from_slice)
+    → c.copy_from_slice.new.self ≡ slice_chunk c.args.heights.now (sites c.args.shape) c.loop-next.next
+copied c = c.copy_from_slice.ensures.after ∙ c.heights_at.ensures.value
+    ∙ ap (λ n. slice_chunk c.args.heights.now n c.loop-next.next) c.sites-sites.ensures.value
+
+pub settle_in_place-requires-clause-limit : goal.settle_in_place-requires-clause-limit
+settle_in_place-requires-clause-limit c =
+    rw (copied (goal.at.settle_in_place-requires-clause-limit c).After-copy_from_slice)
+    (each_within (sites c.args.shape) c.args.heights.now c.args.count c.requires.within c.loop-next.next c.loop-next-test.true)
 
 pub loop-next-preserved : goal.loop-next-preserved
 loop-next-preserved c =
@@ -12,10 +26,11 @@ loop-next-preserved c =
     let next : ℕ = c.loop-next.next in
     let was = c.loop-next.invariant in
     let pushed = c.in_ok-push.ensures in
-    let r : SettledView = c.in-Ok.settled in
-    let chunk = c.heights_at.ensures.value ∙ ap (λ n. slice_chunk c.args.heights.now n next) c.sites.ensures.value in
+    let r : SettledView =
+    record_in_place g c.settle_in_place.new.heights c.settle_in_place.new.odometer c.in_ok-totals.totals in
     let settled : IsSettledRecord g (slice_index (slice_chunk c.args.heights.now (sites g) next)) r =
-    subst (λ (hs : List ℕ). IsSettledRecord g (slice_index hs) r) chunk c.in-Ok.ensures.record in
+    subst (λ (hs : List ℕ). IsSettledRecord g (slice_index hs) r)
+    (copied (goal.at.loop-next-preserved c).After-copy_from_slice) c.in_ok-totals.ensures.record in
     record {
       records = one_more g c.args.heights.now next c.loop-next.all c.push.new.self r was.records settled (record {
         heights = pushed.heights;
@@ -23,6 +38,8 @@ loop-next-preserved c =
         lost = pushed.lost;
         topplings = pushed.topplings;
       });
+      pile_each = settled.heights_each;
+      odometer_each = settled.odometer_each;
       lost_len = omega (arith, pushed.counted.0, was.lost_len);
       topplings_len = omega (arith, pushed.counted.1, was.topplings_len);
       lost_room = pushed.room.0 ∙ was.lost_room;
