@@ -12,7 +12,8 @@ ghost use Rattle.std.specs.Prelude.{◌≤◌, ◌^◌, IfOk, IfSome, IsSome};
 ghost use Rattle.sand_model.specs.Grid.{IsGrid};
 ghost use Rattle.sand_settle.specs.Rests.{ComesToRest};
 
-use crate::settling::topple_in_waves;
+use crate::rounds::FEW_SITES;
+use crate::settling::topple_to_rest;
 use sand_certify::certified;
 use sand_guess::{Claim, guessed, is_flat, is_high, toppled};
 use sand_model::{Edge, Pile, Shape};
@@ -26,6 +27,9 @@ const MORE_TURNS_BEFORE_A_GUESS: u64 = 512;
 // The turns per site before sweeps are tried. The queue is faster than sweeps only if hardly anything topples.
 const TURNS_BEFORE_SWEEPS: u64 = 1;
 
+// The same if a pile is no denser than settled piles are: about as many sites topple as there are.
+const TURNS_IF_SPARSE: u64 = 3;
+
 // The bound on the topplings of a light pile, per site and besides.
 const FEW_PER_SITE: u64 = 64;
 
@@ -38,7 +42,7 @@ pub(crate) struct Rest {
     pub(crate) odometer: Vec<u64>,
 }
 
-/// Whether a bound shows that few topplings settle a pile of so many grains. They number at most half the weight
+/// Whether there are few sites, or a bound shows that few topplings settle a pile of so many grains. They number at most half the weight
 /// (`sand_model::laws`), and no grain weighs more than the square of half of a side and one, for a side with open ends.
 pub(crate) fn is_light(shape: Shape, grains: u64) -> bool
     ensures { IsGrid shape }
@@ -49,7 +53,7 @@ pub(crate) fn is_light(shape: Shape, grains: u64) -> bool
     };
     let square = (side as u64 + 1) * (side as u64 + 1);
     let few = FEW_PER_SITE * shape.sites() as u64 + FEW;
-    grains.saturating_mul(square) / 8 <= few
+    shape.sites() <= FEW_SITES || grains.saturating_mul(square) / 8 <= few
 }
 
 /// Settles a pile by the queue. Returns None if `turns` sites or more have had their turn and others wait.
@@ -63,7 +67,7 @@ pub(crate) fn settle_by_queue(
 {
     let mut heights = Vec::from_slice(alloc, pile.heights())?;
     let mut odometer = vec![in alloc; 0u64; pile.shape().sites()]?;
-    if !topple_in_waves(alloc, pile.shape(), &mut heights, &mut odometer, turns)? {
+    if !topple_to_rest(alloc, pile.shape(), &mut heights, &mut odometer, turns)? {
         return Ok(None);
     }
     Ok(Some(Rest { heights, odometer }))
@@ -96,7 +100,9 @@ fn settle_if_low(alloc: Global, pile: &Pile) -> Result<Option<Rest>, AllocError>
 {
     let sites = pile.shape().sites() as u64;
     let is_flat = is_flat(pile);
-    let turns = if is_flat {
+    let turns = if is_flat && pile.grains() * 8 <= sites * 17 {
+        sites * TURNS_IF_SPARSE
+    } else if is_flat {
         sites * TURNS_BEFORE_SWEEPS
     } else {
         sites * TURNS_BEFORE_A_GUESS + MORE_TURNS_BEFORE_A_GUESS

@@ -12,7 +12,7 @@ ghost use Rattle.sand_settle.specs.Settling.{IsSettledRecord};
 use crate::choice::is_light;
 use crate::faults::SettleFault;
 use crate::settled::sum_of;
-use crate::settling::{settle, topple_in_waves};
+use crate::settling::{settle, topple_to_rest};
 use sand_model::{Pile, Shape, TOPPLING_HEIGHT};
 use std::alloc::{AllocError, Global};
 
@@ -46,7 +46,7 @@ fn settle_light(
     ensures heights { OnErr result (heights.new ≡ heights.old) }
     ensures odometer { OnErr result (odometer.new ≡ odometer.old) }
 {
-    let is_settled = topple_in_waves(alloc, shape, heights, odometer, u64::MAX)?;
+    let is_settled = topple_to_rest(alloc, shape, heights, odometer, u64::MAX)?;
     prove!(is_settled);
     let topplings = sum_of(odometer);
     let left = sum_of(heights);

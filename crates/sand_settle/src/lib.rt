@@ -12,6 +12,7 @@ mod faults;
 mod in_place;
 pub mod laws;
 mod one_pile;
+mod rounds;
 mod settled;
 mod settling;
 mod spreading;

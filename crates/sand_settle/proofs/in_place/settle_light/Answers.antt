@@ -9,16 +9,16 @@ start : (c : Start) → PileView
 start c = record { grid = c.args.shape; heights = c.args.heights.now }
 
 done : (c : In_ok-is_settled) → IsSettled c.args.shape (λ j. get_or c.args.heights.now j 0)
-    (λ j. get_or c.topple_in_waves.new.counts j 0) (λ j. get_or c.topple_in_waves.new.heights j 0)
+    (λ j. get_or c.topple_to_rest.new.counts j 0) (λ j. get_or c.topple_to_rest.new.heights j 0)
 done c = c.in_ok-is_settled.ensures.settled (c.in_ok-is_settled.ensures.ends (omega arith))
 
 few : (c : In_ok-is_settled)
-    → (sum c.topple_in_waves.new.counts < 2 ^ 54) × (sum c.topple_in_waves.new.heights ≤ sum c.args.heights.now)
+    → (sum c.topple_to_rest.new.counts < 2 ^ 54) × (sum c.topple_to_rest.new.heights ≤ sum c.args.heights.now)
 few c = few_and_left (record { grid = c.args.shape; heights = c.args.heights.now })
-    c.topple_in_waves.new.counts c.topple_in_waves.new.heights
+    c.topple_to_rest.new.counts c.topple_to_rest.new.heights
     (record { grid = c.requires.sides; one_each = c.requires.heights_each; limit = c.requires.limit })
-    (c.topple_in_waves.auto.counts ∙ c.requires.odometer_each)
-    (c.topple_in_waves.auto.heights ∙ c.requires.heights_each) (done c)
+    (c.topple_to_rest.auto.counts ∙ c.requires.odometer_each)
+    (c.topple_to_rest.auto.heights ∙ c.requires.heights_each) (done c)
 
 pub sum_of-topplings-requires : goal.sum_of-topplings-requires
 sum_of-topplings-requires c = let all = few (goal.at.sum_of-topplings-requires c).In_ok-is_settled in
@@ -35,13 +35,13 @@ overflow_sub-lost c = let all = few (goal.at.overflow_sub-lost c).In_ok-is_settl
 pub returns-clause-record : goal.returns-clause-record
 returns-clause-record c =
     record_is (record { grid = c.args.shape; heights = c.args.heights.now }) (record {
-      pile = record { grid = c.args.shape; heights = c.topple_in_waves.new.heights };
-      odometer = c.topple_in_waves.new.counts;
+      pile = record { grid = c.args.shape; heights = c.topple_to_rest.new.heights };
+      odometer = c.topple_to_rest.new.counts;
       topplings = c.sum_of-topplings.result;
       lost = c.args.grains - c.sum_of-left.result;
     })
     (record { grid = c.requires.sides; one_each = c.requires.heights_each; limit = c.requires.limit })
-    refl (c.topple_in_waves.auto.heights ∙ c.requires.heights_each)
-    (c.topple_in_waves.auto.counts ∙ c.requires.odometer_each)
+    refl (c.topple_to_rest.auto.heights ∙ c.requires.heights_each)
+    (c.topple_to_rest.auto.counts ∙ c.requires.odometer_each)
     (done (goal.at.returns-clause-record c).In_ok-is_settled) c.sum_of-topplings.ensures
     (omega (arith, c.requires.counted, c.sum_of-left.ensures))

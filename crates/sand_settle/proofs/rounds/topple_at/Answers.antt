@@ -1,0 +1,29 @@
+use Rattle.std.proofs.Common.{ℕ, ◌∙◌, arith}
+use Rattle.std.proofs.lemmas.List.{length-set}
+use Rattle.sand_model.proofs.Neighbours.{place_inside}
+use Rattle.sand_model.proofs.Heights.{spread_toppled}
+use Rattle.sand_settle.proofs.rounds.topple_at.Goals as goal
+
+pub give-requires-clause-inside : goal.give-requires-clause-inside
+give-requires-clause-inside c = place_inside c.args.shape c.args.site _ 0 _
+    c.neighbours.ensures c.requires.site (length-set _ _ _ ∙ c.requires.one_each)
+
+pub give-requires-2-clause-inside : goal.give-requires-2-clause-inside
+give-requires-2-clause-inside c =
+    place_inside c.args.shape c.args.site _ 1 _ c.neighbours.ensures c.requires.site (omega (arith, length-set {A = ℕ}))
+
+pub give-requires-3-clause-inside : goal.give-requires-3-clause-inside
+give-requires-3-clause-inside c =
+    place_inside c.args.shape c.args.site _ 2 _ c.neighbours.ensures c.requires.site (omega (arith, length-set {A = ℕ}))
+
+pub give-requires-4-clause-inside : goal.give-requires-4-clause-inside
+give-requires-4-clause-inside c =
+    place_inside c.args.shape c.args.site _ 3 _ c.neighbours.ensures c.requires.site (omega (arith, length-set {A = ℕ}))
+
+pub returns : goal.returns
+returns c = record {
+  toppled = spread_toppled c.args.shape c.args.site c.args.times c.args.heights.now c.give-4.new.heights c.neighbours.result
+      c.neighbours.ensures c.requires.site c.requires.one_each (omega (arith, c.requires.high))
+      (λ j.
+      omega (arith, c.give.ensures.each j, c.give-2.ensures.each j, c.give-3.ensures.each j, c.give-4.ensures.each j));
+}
