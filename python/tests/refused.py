@@ -75,7 +75,9 @@ try_call("recurrent", lambda: sandpile.recurrent(pile), lambda: [pile])
 try_call("add", lambda: a + a, lambda: [a.pile])
 try_call("inverse", lambda: -a, lambda: [a.pile])
 try_call("multiple", lambda: 5 * a, lambda: [a.pile])
-try_call("act", lambda: a.act(3), lambda: [a.pile])
+# A site that topples: a stable pile settles without memory.
+full = int(np.argmax(a.pile))
+try_call("act", lambda: a.act(full), lambda: [a.pile])
 
 shared, parts = sandpile.SharedPile(pile, 9), []
 try_call("share", lambda: sandpile.SharedPile(pile, 9), lambda: [pile])
