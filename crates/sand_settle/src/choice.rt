@@ -12,7 +12,6 @@ ghost use Rattle.std.specs.Prelude.{◌≤◌, ◌^◌, IfOk, IfSome, IsSome};
 ghost use Rattle.sand_model.specs.Grid.{IsGrid};
 ghost use Rattle.sand_settle.specs.Rests.{ComesToRest};
 
-use crate::rounds::FEW_SITES;
 use crate::settling::topple_to_rest;
 use sand_certify::certified;
 use sand_guess::{Claim, guessed, is_flat, is_high, toppled};
@@ -42,7 +41,7 @@ pub(crate) struct Rest {
     pub(crate) odometer: Vec<u64>,
 }
 
-/// Whether there are few sites, or a bound shows that few topplings settle a pile of so many grains. They number at most half the weight
+/// Whether a bound shows that few topplings settle a pile of so many grains. They number at most half the weight
 /// (`sand_model::laws`), and no grain weighs more than the square of half of a side and one, for a side with open ends.
 pub(crate) fn is_light(shape: Shape, grains: u64) -> bool
     ensures { IsGrid shape }
@@ -53,7 +52,7 @@ pub(crate) fn is_light(shape: Shape, grains: u64) -> bool
     };
     let square = (side as u64 + 1) * (side as u64 + 1);
     let few = FEW_PER_SITE * shape.sites() as u64 + FEW;
-    shape.sites() <= FEW_SITES || grains.saturating_mul(square) / 8 <= few
+    grains.saturating_mul(square) / 8 <= few
 }
 
 /// Settles a pile by the queue. Returns None if `turns` sites or more have had their turn and others wait.

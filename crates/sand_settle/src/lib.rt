@@ -12,7 +12,6 @@ mod faults;
 mod in_place;
 pub mod laws;
 mod one_pile;
-mod rounds;
 mod settled;
 mod settling;
 mod spreading;

@@ -21,7 +21,6 @@ ghost use Rattle.sand_model.specs.Underway.{Advances};
 
 use crate::choice::{Rest, settle_by_any};
 use crate::faults::SettleFault;
-use crate::rounds::{FEW_SITES, topple_in_rounds};
 use crate::settled::Settled;
 use crate::spreading::{knows_sides, spread};
 use sand_fronts::IndexList;
@@ -107,9 +106,8 @@ fn topple_all(
     true
 }
 
-/// Topples until no site may topple, and counts how often each site topples: in rounds if there are few sites, otherwise
-/// in waves. Returns false before a wave if `turns` sites or more have had their turn. If an allocation fails, nothing has
-/// toppled.
+/// Topples until no site may topple, and counts how often each site topples. Returns false before a wave if `turns` sites
+/// or more have had their turn. If an allocation fails, nothing has toppled.
 pub(crate) fn topple_to_rest(
     alloc: Global,
     shape: Shape,
@@ -126,10 +124,6 @@ pub(crate) fn topple_to_rest(
     ensures heights { OnErr result (heights.new ≡ heights.old) }
     ensures counts { OnErr result (counts.new ≡ counts.old) }
 {
-    if shape.sites() <= FEW_SITES {
-        topple_in_rounds(shape, heights, counts);
-        return Ok(true);
-    }
     // A toppling site may list 4 more.
     let room = shape.sites() + 4;
     let lattice = Lattice::new(alloc, shape)?;
