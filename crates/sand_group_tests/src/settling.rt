@@ -2,7 +2,9 @@
 
 use crate::piles::{pile_on, ring, row};
 use sand_model::{Edge, Pile};
-use sand_settle::{Avalanche, OneFault, OnePile, SettleFault, Settled, settle};
+use sand_settle::{
+    Avalanche, OneFault, OnePile, SettleFault, Settled, Totals, settle, settle_in_place,
+};
 use std::alloc::{AllocError, Global};
 use std::test::Fail;
 
@@ -32,6 +34,42 @@ fn settles_as_worked_out(rt: HostRuntime) {
     assert!(rt; is_record(pair, &[1, 1], &[1, 1], (6, 2)));
     let round = record_of(alloc, ring(alloc, &[4, 4, 4]));
     assert!(rt; is_record(round, &[2, 2, 2], &[1, 1, 1], (6, 3)));
+}
+
+// Whether heights settle to these where they are, over an odometer that held something else.
+fn is_in_place(
+    alloc: Global,
+    start: Option<Pile>,
+    heights: &[u64],
+    odometer: &[u64],
+    sums: (u64, u64),
+) -> Result<bool, Fail> {
+    let Some(start) = start else {
+        return Ok(false);
+    };
+    let mut list = Vec::from_slice(alloc, start.heights())?;
+    let mut counts = vec![in alloc; 7u64; start.shape().sites()]?;
+    let Ok(Totals { topplings, lost }) = settle_in_place(
+        alloc,
+        start.shape(),
+        &mut list,
+        &mut counts,
+    ) else {
+        return Ok(false);
+    };
+    Ok(list.as_slice() == heights && counts.as_slice() == odometer && (lost, topplings) == sums)
+}
+
+#[test]
+fn settles_in_place_as_worked_out(rt: HostRuntime) -> Result<(), Fail> {
+    let alloc = rt.alloc();
+    let line = row(alloc, &[0, 4, 0]);
+    assert!(rt; is_in_place(alloc, line, &[1, 0, 1], &[0, 1, 0], (2, 1))?);
+    let stable = row(alloc, &[3, 0, 3]);
+    assert!(rt; is_in_place(alloc, stable, &[3, 0, 3], &[0, 0, 0], (0, 0))?);
+    let round = ring(alloc, &[4, 4, 4]);
+    assert!(rt; is_in_place(alloc, round, &[2, 2, 2], &[1, 1, 1], (6, 3))?);
+    Ok(())
 }
 
 #[test]
