@@ -19,6 +19,7 @@ Declarations = dict[str, dict[str, str]]
 IN_C = {f"{sign or 'i'}{bits}": f"{sign}int{bits}_t" for sign in ("u", "") for bits in (8, 16, 32, 64)}
 IN_C |= {"usize": "size_t", "bool": "bool", "f32": "float", "f64": "double"}
 STRUCT = re.compile(r"^#\[repr\(C\)\]\n(?:(?:#\[|//).*\n)*pub struct (\w+) \{\n([\s\S]*?)^\}", re.M)
+RENAMED = re.compile(r"^pub use \w+::(\w+) as (\w+);$", re.M)
 FIELD = re.compile(r"^    (?:pub(?:\([^)]*\))? )?(\w+): (.+),$", re.M)
 
 
@@ -60,12 +61,14 @@ def passed_in_c(parameter: str) -> list[str]:
 def exported() -> Declarations:
     """What the sources export."""
     found: Declarations = {}
+    lower = dict(it for file in sorted(TOP.glob("crates/*/src/**/*.rt")) for it in STRUCT.findall(file.read_text()))
     for file in map(SourceFile, sorted(TOP.glob("crates/sand_c/src/**/*.rt"))):
         for it in file.calls():
             if call := re.search(r'extern "C" fn \w+\(([^()]*)\)(?: -> (\w+))?', it.code):
                 takes = [c for parameter in call[1].split(",") for c in passed_in_c(parameter)]
                 found[it.name] = {"result": in_c(call[2] or "void", "").strip(), **numbered("parameter", takes)}
-        for name, body in STRUCT.findall(file.text):
+        renamed = [(name, lower[struct]) for struct, name in RENAMED.findall(file.text)]
+        for name, body in STRUCT.findall(file.text) + renamed:
             found[snake(name)] = numbered("field", [in_c(rust, field) for field, rust in FIELD.findall(body)])
         # No call returns Shapes: the piles of a call have one shape.
         faults = re.findall(r"^ +Fault::(?!Shapes\b)(\w+) => (\d+),$", file.text, re.M)

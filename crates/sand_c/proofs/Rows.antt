@@ -1,16 +1,16 @@
 -- The avalanches, with one more drop.
 use Rattle.std.proofs.Common.{◌≡◌, ℕ, List, [], ◌∷◌, ◌++◌, refl, sym, ap, subst}
+use Rattle.sand_settle.specs.Avalanches.{Avalanche, IsAvalanche}
 use Rattle.sand_settle.specs.Drops.{OneView, grid_of_one_pile, topplings_between, Drops}
-use Rattle.sand_c.specs.declared.avalanche.SandpileAvalanche.{SandpileAvalanche}
-use Rattle.sand_c.specs.Dropping.{AreAvalanches, IsLike}
+use Rattle.sand_c.specs.Dropping.{AreAvalanches}
 
-pub rows_push : (v u w : OneView) (sites : List ℕ) (rows : List SandpileAvalanche) (site : ℕ) (a : SandpileAvalanche)
+pub rows_push : (v u w : OneView) (sites : List ℕ) (rows : List Avalanche) (site : ℕ) (a : Avalanche)
     → AreAvalanches v sites rows u → Drops u site w
-    → IsLike a (grid_of_one_pile u) site (topplings_between u.settled w.settled)
+    → IsAvalanche (grid_of_one_pile u) site (topplings_between u.settled w.settled) a
     → AreAvalanches v (sites ++ site ∷ []) (rows ++ a ∷ []) w
 rows_push v u w [] rows site a (none, same) drop is =
     let P : OneView → Type 0 = λ x. AreAvalanches x (site ∷ []) (rows ++ a ∷ []) w in
-    let Q : List SandpileAvalanche → Type 0 = λ xs. AreAvalanches u (site ∷ []) (xs ++ a ∷ []) w in
+    let Q : List Avalanche → Type 0 = λ xs. AreAvalanches u (site ∷ []) (xs ++ a ∷ []) w in
     subst P (sym same) (subst Q (sym none) (w, a, [], drop, is, refl, (refl, refl)))
 rows_push v u w (x ∷ xs) rows site a (m, b, others, first, its, e, rest) drop is =
     (m, b, others ++ a ∷ [], first, its, ap (λ l. l ++ a ∷ []) e, rows_push m u w xs others site a rest drop is)

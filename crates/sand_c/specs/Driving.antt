@@ -2,13 +2,13 @@
 use Rattle.std.specs.Prelude.{ℕ, ◌≡◌, ◌+◌, ◌<◌, ◌⊎◌, slice_index, nat_lt, if◌then◌else◌, ◌==◌, List, [], ◌∷◌, ◌++◌, length, Option, Some, None, Result, Ok, Err}
 use Rattle.sand_model.specs.Grid.{sites}
 use Rattle.sand_model.specs.Piles.{PileView, height_of, most_grains}
+use Rattle.sand_settle.specs.Avalanches.{Avalanche, IsAvalanche}
 use Rattle.sand_settle.specs.Settling.{odometer_of}
 use Rattle.sand_settle.specs.Drops.{OneView, grid_of_one_pile, topplings_between, IsAfter, Drops}
-use Rattle.sand_c.specs.declared.avalanche.SandpileAvalanche.{SandpileAvalanche}
 use Rattle.sand_c.specs.declared.faults.Fault.{Fault}
 use Rattle.sand_c.specs.declared.faults.Fault.TheVariants.{Length, Full, NoSite, Empty, Taken}
 use Rattle.sand_c.specs.Arguments.{has_length, ◌>>=◌}
-use Rattle.sand_c.specs.Dropping.{AreAvalanches, IsLike, are_sites}
+use Rattle.sand_c.specs.Dropping.{AreAvalanches, are_sites}
 
 -- What a call may do
 
@@ -72,14 +72,14 @@ site_of held site = held_in held >>= with_site site
 
 -- drops at these sites lead from v to w: these are their avalanches, and w is the result of any start and drops that led
 -- to v, followed by these
-pub record HaveDriven (v : OneView) (drops : List ℕ) (rows : List SandpileAvalanche) (w : OneView) : Type 0 where
+pub record HaveDriven (v : OneView) (drops : List ℕ) (rows : List Avalanche) (w : OneView) : Type 0 where
   pub avalanches : AreAvalanches v drops rows w
   pub after : (start : PileView) (history : List ℕ) → IsAfter start history v → IsAfter start (history ++ drops) w
 
 -- a drop at this site leads from v to w: this is its avalanche, and the counts are how often each site topples in it
-pub record HasDriven (v : OneView) (site : ℕ) (a : SandpileAvalanche) (counts : List ℕ) (w : OneView) : Type 0 where
+pub record HasDriven (v : OneView) (site : ℕ) (a : Avalanche) (counts : List ℕ) (w : OneView) : Type 0 where
   pub drops : Drops v site w
-  pub avalanche : IsLike a (grid_of_one_pile v) site (topplings_between v.settled w.settled)
+  pub avalanche : IsAvalanche (grid_of_one_pile v) site (topplings_between v.settled w.settled) a
   pub after : (start : PileView) (history : List ℕ) → IsAfter start history v → IsAfter start (history ++ site ∷ []) w
   pub one_each : length counts ≡ sites (grid_of_one_pile v)
   pub counts_are : (i : ℕ) → i < sites (grid_of_one_pile v)

@@ -3,9 +3,8 @@ use Rattle.std.specs.Prelude.{ℕ, ◌≡◌, ◌+◌, Bool, nat_lt, if◌then�
 use Rattle.std.specs.List.{list_all}
 use Rattle.sand_model.specs.Grid.{Grid, sites}
 use Rattle.sand_model.specs.Piles.{PileView, most_grains}
-use Rattle.sand_settle.specs.Avalanches.{IsAvalanche}
+use Rattle.sand_settle.specs.Avalanches.{Avalanche, IsAvalanche}
 use Rattle.sand_settle.specs.Drops.{OneView, grid_of_one_pile, topplings_between, IsAfter, Drops}
-use Rattle.sand_c.specs.declared.avalanche.SandpileAvalanche.{SandpileAvalanche}
 use Rattle.sand_c.specs.declared.faults.Fault.{Fault}
 use Rattle.sand_c.specs.declared.faults.Fault.TheVariants.{Full, NoSite}
 use Rattle.sand_c.specs.Arguments.{grid_of, has_length, pile_on, ◌>>=◌}
@@ -30,28 +29,23 @@ with_drops drops p = with_sites drops p >>= with_room (length drops)
 abbrev pub drops_on : Grid → List ℕ → List ℕ → Result PileView Fault
 drops_on g heights drops = pile_on g heights >>= with_drops drops
 
-abbrev pub dropping_of : ℕ → ℕ → Bool → List ℕ → List ℕ → List ℕ → List SandpileAvalanche → Result PileView Fault
+abbrev pub dropping_of : ℕ → ℕ → Bool → List ℕ → List ℕ → List ℕ → List Avalanche → Result PileView Fault
 dropping_of width height cylinder heights odometer drops avalanches =
     grid_of width height cylinder >>= λ g. has_length (sites g) (length heights)
     >>= λ _. has_length (sites g) (length odometer) >>= λ _. has_length (length drops) (length avalanches)
     >>= λ _. drops_on g heights drops
 
--- the library's avalanche with the same numbers
-abbrev pub IsLike : SandpileAvalanche → Grid → ℕ → (ℕ → ℕ) → Type 0
-IsLike a g site v =
-    IsAvalanche g site v (record { site = a.site; size = a.size; area = a.area; reach = a.reach; lost = a.lost })
-
 -- the drops at these sites lead from v to w, and these are their avalanches
-abbrev pub AreAvalanches : OneView → List ℕ → List SandpileAvalanche → OneView → Type 0
+abbrev pub AreAvalanches : OneView → List ℕ → List Avalanche → OneView → Type 0
 AreAvalanches v [] rows w = (rows ≡ []) × (v ≡ w)
 AreAvalanches v (site ∷ drops) rows w =
-    (u : OneView) × (avalanche : SandpileAvalanche) × (others : List SandpileAvalanche)
-    × Drops v site u × IsLike avalanche (grid_of_one_pile v) site (topplings_between v.settled u.settled)
+    (u : OneView) × (avalanche : Avalanche) × (others : List Avalanche)
+    × Drops v site u × IsAvalanche (grid_of_one_pile v) site (topplings_between v.settled u.settled) avalanche
     × (rows ≡ avalanche ∷ others) × AreAvalanches u drops others w
 
 -- the arguments are a pile; it settled, and the drops led from there to what was written
 pub record IsDropping (meaning : Result PileView Fault) (drops after odometer : List ℕ)
-    (avalanches : List SandpileAvalanche) : Type 0 where
+    (avalanches : List Avalanche) : Type 0 where
   pub start : PileView
   pub meant : meaning ≡ Ok start
   pub first : OneView

@@ -9,7 +9,7 @@ ghost use Rattle.sand_c.specs.Arguments.{Fails};
 ghost use Rattle.sand_c.specs.Driving.{HaveDriven, HasDriven, IsSiteOf, drops_on_drive, drop_on_drive};
 ghost use Rattle.sand_c.specs.KeptOdometers.{IsOdometer};
 
-use crate::avalanche::{SandpileAvalanche, like};
+use crate::avalanche::SandpileAvalanche;
 use crate::dropping::{are_sites, drop_all};
 use crate::faults::Fault;
 use crate::kept_odometer::{bring_up_to_date, read_odometer, take_topplings};
@@ -162,7 +162,7 @@ impl Drive {
         self.is_current = true;
         let reach = caused.reach as usize;
         take_topplings(&self.pile, &mut self.kept, site, reach, topplings);
-        *avalanche = like(caused);
+        *avalanche = caused;
         Ok(())
     }
 }

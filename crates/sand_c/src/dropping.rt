@@ -8,7 +8,7 @@ ghost use Rattle.sand_c.specs.Arguments.{Fails, Answers};
 ghost use Rattle.sand_c.specs.Dropping.{AreAvalanches, IsDropping, dropping_of, are_sites, drops_on};
 
 use crate::arguments::{grains_of, grid_of};
-use crate::avalanche::{SandpileAvalanche, like};
+use crate::avalanche::SandpileAvalanche;
 use crate::faults::{Fault, answer};
 use sand_model::{GRAIN_LIMIT, Pile, Shape};
 use sand_settle::{DrivenPile, Settled};
@@ -34,8 +34,7 @@ pub(crate) fn drop_all(
     let mut rows = Vec::with_capacity(alloc, drops.len())?;
     for site in drops {
         let (_, avalanche) = pile.drop_at(*site).unwrap();
-        let row = like(avalanche);
-        rows.push_reserved(row);
+        rows.push_reserved(avalanche);
     }
     Ok(rows)
 }

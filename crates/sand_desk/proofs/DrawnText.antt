@@ -5,7 +5,7 @@ use Rattle.std.specs.Io.KnownBytes.{Appends}
 use Rattle.std.proofs.KnownBytes.{Appends-trans}
 use Rattle.sand_model.specs.Grid.{Grid, sites}
 use Rattle.sand_model.specs.Piles.{PileView}
-use Rattle.sand_settle.specs.declared.avalanche.Avalanche.{Avalanche}
+use Rattle.sand_settle.specs.Avalanches.{Avalanche}
 use Rattle.sand_settle.specs.Drops.{OneView, IsAfter, grid_of_one_pile}
 use Rattle.sand_text.specs.Blocks.{BreaksIn, GrowsBy, Waiting}
 use Rattle.sand_text.specs.Reading.{pile_of, ◌>>=◌}

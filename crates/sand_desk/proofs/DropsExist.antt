@@ -10,8 +10,7 @@ use Rattle.sand_model.specs.Piles.{PileView, most_grains}
 use Rattle.sand_model.specs.Sand.{one_at, topplings, lost, IsSettled}
 use Rattle.sand_model.proofs.EachSettles.{settles}
 use Rattle.sand_model.proofs.Sandpile.{settled_same}
-use Rattle.sand_settle.specs.declared.avalanche.Avalanche.{Avalanche}
-use Rattle.sand_settle.specs.Avalanches.{IsAvalanche, area_of}
+use Rattle.sand_settle.specs.Avalanches.{Avalanche, area_of, IsAvalanche}
 use Rattle.sand_settle.specs.Drops.{OneView, IsAfter, Drops, TakesGrain, grid_of_one_pile, topplings_between}
 use Rattle.sand_settle.specs.Settling.{SettledView, odometer_of}
 use Rattle.sand_settle.proofs.Drops.{after_drop}

@@ -1,7 +1,6 @@
 -- The rows of drops, followed by more drops.
 use Rattle.std.proofs.Common.{◌≡◌, ◌∙◌, ◌+◌, ℕ, Bool, true, false, if◌then◌else◌, List, [], ◌∷◌, ◌++◌, length, refl, sym, ap, subst, arith}
-use Rattle.sand_settle.specs.declared.avalanche.Avalanche.{Avalanche}
-use Rattle.sand_settle.specs.Avalanches.{IsAvalanche}
+use Rattle.sand_settle.specs.Avalanches.{Avalanche, IsAvalanche}
 use Rattle.sand_settle.specs.Settling.{SettledView}
 use Rattle.sand_settle.specs.Drops.{OneView, grid_of_one_pile, topplings_between, Drops}
 use Rattle.sand_cli.specs.declared.task.Part.{Part}

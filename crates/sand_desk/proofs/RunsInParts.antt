@@ -8,11 +8,10 @@ use Rattle.sand_model.specs.Grid.{Grid, sites}
 use Rattle.sand_model.specs.Piles.{PileView}
 use Rattle.sand_model.specs.Sand.{one_at, occurrences, IsSettled, IsStable}
 use Rattle.sand_model.proofs.Sandpile.{settled_once, settled_stable}
-use Rattle.sand_settle.specs.declared.avalanche.Avalanche.{Avalanche}
-use Rattle.sand_settle.specs.Avalanches.{IsAvalanche}
+use Rattle.sand_settle.specs.Avalanches.{Avalanche, IsAvalanche}
 use Rattle.sand_settle.specs.Drops.{OneView, IsAfter, Drops, grid_of_one_pile, topplings_between}
 use Rattle.sand_settle.specs.Settling.{odometer_of}
-use Rattle.sand_settle.proofs.Collected.{avalanche_same}
+use Rattle.sand_settle.proofs.Drops.{avalanche_same}
 use Rattle.sand_settle.proofs.Drops.{settled_already}
 use Rattle.sand_lab.specs.Streams.{stream_sites}
 use Rattle.sand_text.specs.declared.fault.TextFault.{TextFault}

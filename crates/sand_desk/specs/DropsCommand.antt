@@ -1,8 +1,7 @@
 -- What `drops` writes.
 use Rattle.std.specs.Prelude.{ℕ, ◌≡◌, ◌+◌, ◌<◌, Bool, true, false, if◌then◌else◌, List, [], ◌∷◌, ◌++◌, length, drop, sum, codes, Option, Some, None, Result, Ok}
 use Rattle.sand_model.specs.Piles.{PileView, most_grains}
-use Rattle.sand_settle.specs.declared.avalanche.Avalanche.{Avalanche}
-use Rattle.sand_settle.specs.Avalanches.{IsAvalanche}
+use Rattle.sand_settle.specs.Avalanches.{Avalanche, IsAvalanche}
 use Rattle.sand_settle.specs.Settling.{SettledView}
 use Rattle.sand_settle.specs.Drops.{OneView, grid_of_one_pile, topplings_between, IsAfter, Drops}
 use Rattle.sand_model.specs.Grid.{sites}

@@ -1,7 +1,7 @@
 -- What `drops --count` has written while it drops, at its end, or when the writer fails.
 use Rattle.std.specs.Prelude.{ℕ, ◌≡◌, List, [], ◌++◌, codes, Option}
 use Rattle.sand_model.specs.Piles.{PileView}
-use Rattle.sand_settle.specs.declared.avalanche.Avalanche.{Avalanche}
+use Rattle.sand_settle.specs.Avalanches.{Avalanche}
 use Rattle.sand_settle.specs.Settling.{SettledView}
 use Rattle.sand_settle.specs.Drops.{OneView, IsAfter}
 use Rattle.sand_text.specs.Blocks.{BreaksIn, GrowsBy, Waiting}

@@ -1,16 +1,15 @@
 -- The neighbours of the tile of a site are on the board.
-use Rattle.std.proofs.Common.{ℕ, Bool, true, false, cond, ◌≡◌, ◌+◌, ◌-◌, ◌*◌, ◌/◌, ◌%◌, ◌<◌, ◌≤◌, List, [], ◌∷◌, ◌++◌, length, sym, ◌∙◌, ap, subst, arith, ⊎_elim}
+use Rattle.std.proofs.Common.{ℕ, Bool, true, false, cond, ◌≡◌, ◌+◌, ◌-◌, ◌*◌, ◌/◌, ◌%◌, ◌<◌, ◌≤◌, List, length, sym, ◌∙◌, ap, arith}
 use Rattle.std.specs.Vec.{with_item}
-use Rattle.std.proofs.lemmas.Bool.{cases_lt}
-use Rattle.std.proofs.lemmas.List.{get_or_push, get_or_append_left, length-set}
-use Rattle.std.proofs.lemmas.Nat.{mod_below, mul-add-lt, div_below}
+use Rattle.std.proofs.lemmas.List.{length-set}
+use Rattle.std.proofs.lemmas.Nat.{mod_below, mul-add-lt, div_below, div-mul-add, mod-mul-add, div-add-mod'}
 use Rattle.sand_model.specs.Grid.{Grid, IsGrid, sites}
 use Rattle.sand_model.proofs.Neighbours.{some_width}
 use Rattle.sand_tiles.specs.declared.tile.Tile.{Tile}
 use Rattle.sand_fronts.specs.declared.sides.Beside.{Beside}
 use Rattle.sand_fronts.specs.declared.board.Board.{Board}
 use Rattle.sand_fronts.specs.declared.sand.Sand.{Sand}
-use Rattle.sand_fronts.specs.Tiling.{across, down, pitch, tiles, tile_of, to_west, to_east, shift_west, shift_east, seam_west, seam_east}
+use Rattle.sand_fronts.specs.Tiling.{across, down, pitch, tiles, tile_of, place_of, to_west, to_east, shift_west, shift_east, seam_west, seam_east}
 use Rattle.sand_fronts.specs.Boards.{IsBoard, IsSand}
 use Rattle.sand_fronts.specs.Waves.{IsBeside, AreBeside, beside_at}
 
@@ -75,29 +74,28 @@ board_of g all sides one_each small each =
           };
     }
 
-pub sides_more : (g : Grid) (xs ys : List Beside) (b : Beside) (n : ℕ)
-    → ys ≡ xs ++ b ∷ [] → length xs ≡ n → IsBeside g n b
-    → ((k : ℕ) → k < n → IsBeside g k (beside_at xs k))
-    → (k : ℕ) → k < n + 1 → IsBeside g k (beside_at ys k)
-sides_more g xs ys b n pushed long is each k below =
-    let none : Beside = record { north = 0; south = 0; west = 0; east = 0; west_shift = 0; east_shift = 0 } in
-    let P : Beside → Type 0 = λ x. IsBeside g k x in
-    let Q : ℕ → Type 0 = λ i. IsBeside g i b in
-    subst P (sym (ap (λ (zs : List Beside). beside_at zs k) pushed))
-    (⊎_elim
-    (λ (before : k < n). subst P (sym (get_or_append_left xs (b ∷ []) none k (omega arith))) (each k before))
-    (λ (last : n ≤ k). let e : n ≡ k = omega arith in subst P (sym (get_or_push xs b none k (long ∙ e))) (subst Q e is))
-    (cases_lt k n))
+pub found_at : (g : Grid) (y x row : ℕ) → x < g.width → row ≡ pitch g
+    → ((y / 8 + 2) * row + (x / 8 + 1) ≡ tile_of g (y * g.width + x))
+    × (y % 8 * 8 + x % 8 ≡ place_of g (y * g.width + x))
+unfolding tile_of place_of
+found_at g y x row less er =
+    let j = y * g.width + x in
+    let r : j / g.width ≡ y = div-mul-add y g.width x less in
+    let c : j % g.width ≡ x = mod-mul-add y g.width x less in (
+      ap (λ t. (y / 8 + 2) * t + (x / 8 + 1)) er
+          ∙ sym (ap (λ t. (t / 8 + 2) * pitch g + (j % g.width / 8 + 1)) r
+          ∙ ap (λ t. (y / 8 + 2) * pitch g + (t / 8 + 1)) c),
+      sym (ap (λ t. t % 8 * 8 + j % g.width % 8) r ∙ ap (λ t. y % 8 * 8 + t % 8) c),
+    )
 
-pub found_inside : (g : Grid) (j x y row : ℕ) → j < sites g → x ≡ j % g.width → y ≡ j / g.width → row ≡ pitch g
-    → ((y / 8 + 2) * row + (x / 8 + 1) < tiles g) × (y % 8 * 8 + x % 8 < 64)
-unfolding tile_of
-found_inside g j x y row inside ex ey er =
-    let r = row_after g j inside in
-    let m : (y / 8 + 2) * row ≡ (j / g.width / 8 + 2) * pitch g =
-    ap (λ t. (t / 8 + 2) * row) ey ∙ ap (λ t. (j / g.width / 8 + 2) * t) er in
-    let n : x / 8 ≡ j % g.width / 8 = ap (λ t. t / 8) ex in
-    (omega arith, omega arith)
+-- the column and the row of a site
+pub site_parts : (g : Grid) (j : ℕ) (q : ℕ × ℕ) → j < sites g → q ≡ (j % g.width, j / g.width)
+    → (q.0 < g.width) × (q.1 * g.width + q.0 ≡ j)
+site_parts g j q inside is =
+    let w = g.width in
+    let less = mod_below j w (some_width w g.height j inside) in
+    let x = ap (λ (q : ℕ × ℕ). q.0) is in
+    (omega arith, ap (λ (q : ℕ × ℕ). q.1 * w + q.0) is ∙ div-add-mod' j w)
 
 -- ---- one entry of a list is written
 

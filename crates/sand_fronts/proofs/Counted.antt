@@ -19,13 +19,13 @@ use Rattle.sand_fronts.specs.Waves.{tile_at}
 use Rattle.sand_fronts.specs.declared.counts.Counts.{Counts}
 use Rattle.sand_fronts.specs.Counting.{count_at, over_wave, with_wave}
 use Rattle.sand_fronts.specs.Boards.{counts_of, marks_of, AreCounted}
-use Rattle.sand_fronts.specs.Marking.{in_sets, AreMarked}
+use Rattle.sand_fronts.specs.Marking.{MarksView, in_sets, AreMarked}
 use Rattle.sand_fronts.proofs.Gained.{set_each, tile_set, tile_set_same, tile_set_other}
 
-count_set_same : (cs : List Count) (k m : ℕ) (d : Count) → k < length cs → m ≡ k → count_at (set cs k d) m ≡ d
+pub count_set_same : (cs : List Count) (k m : ℕ) (d : Count) → k < length cs → m ≡ k → count_at (set cs k d) m ≡ d
 count_set_same cs k m d inside e = ap (count_at (set cs k d)) e ∙ get_or-set_same cs k d no_tile inside
 
-count_set_other : (cs : List Count) (k m : ℕ) (d : Count) → (m ≡ k → ⊥) → count_at (set cs k d) m ≡ count_at cs m
+pub count_set_other : (cs : List Count) (k m : ℕ) (d : Count) → (m ≡ k → ⊥) → count_at (set cs k d) m ≡ count_at cs m
 count_set_other cs k m d ne = get_or-set_other cs k m d no_tile ne
 
 -- a count that is read
@@ -112,20 +112,6 @@ marked_none c a = record {
   no_other = λ m p low. omega arith;
 }
 
-pub counted_none : (ts : List Tile) (c : Counts) → AreCounted ts ts c c
-counted_none ts c = record {
-  tiles_each = refl;
-  counts_each = refl;
-  marks_each = refl;
-  low = λ m. refl;
-  high = λ m. refl;
-  due = λ m. refl;
-  each = λ m p l. refl;
-  sound = λ before. before;
-  clear = λ m was. was;
-  marked = marked_none (counts_of c) (marks_of c);
-}
-
 pub counted_more : {ts us vs : List Tile} {c d e : Counts} → AreCounted ts us c d → AreCounted us vs d e
     → AreCounted ts vs c e
 counted_more first second = record {
@@ -142,11 +128,11 @@ counted_more first second = record {
 }
 
 -- the set of tile k is counted and marked, and the tile leaves the wave
-pub counted_one : (ts : List Tile) (c : Counts) (k word : ℕ) (t : Tile) (was d : Count) (marks : List ℕ)
-    → k < length ts → length c.each.items ≡ length ts → length marks ≡ length c.marks
+pub counted_one : (ts : List Tile) (c : Counts) (k word : ℕ) (t : Tile) (was d : Count) (marks : MarksView)
+    → k < length ts → length c.each.items ≡ length ts → length marks.sets ≡ length c.marks.sets
     → word ≡ (tile_at ts k).wave → t ≡ record (tile_at ts k) { wave = 0 } → was ≡ counts_of c k → IsCount d
     → ((p : ℕ) → p < 64 → counted d p ≡ counted was p + bit word p)
-    → ((m : ℕ) → slice_index marks m ≡ cond (eqb m k) (bit_or (marks_of c m) word) (marks_of c m))
+    → ((m : ℕ) → slice_index marks.sets m ≡ cond (eqb m k) (bit_or (marks_of c m) word) (marks_of c m))
     → AreCounted ts (set ts k t) c (record { each = with_item c.each k d; marks = marks })
 counted_one ts c k word t was d marks inside each marks_each read is read_count sound counts marked =
     let within : k < length c.each.items = omega arith in
@@ -177,7 +163,7 @@ counted_one ts c k word t was d marks inside each marks_each read is read_count 
       sound = λ before.
           set_each no_tile (λ m x. IsCount x) c.each.items k d within sound (λ m ne. before m);
       clear = tile_set (λ m x. IsClear (tile_at ts m) → IsClear x) ts k t inside (λ was. clear) (λ m ne was. was);
-      marked = marked_one c.each.items k word d (marks_of c) (slice_index marks) within
+      marked = marked_one c.each.items k word d (marks_of c) (slice_index marks.sets) within
           (λ p l. counts p l ∙ ap (λ (y : Count). counted y p + bit word p) read_count) marked;
     }
 

@@ -1,17 +1,26 @@
 -- Grains added to one tile of a list, and to one after another.
-use Rattle.std.proofs.Common.{ℕ, List, cond, eqb, get_or, ◌≡◌, ◌+◌, ◌%◌, ◌<◌, ◌≤◌, length, refl, sym, ◌∙◌, ap, subst, arith, ⊎_elim}
+use Rattle.std.proofs.Common.{ℕ, List, cond, eqb, get_or, ◌≡◌, ◌+◌, ◌%◌, ◌^◌, ◌<◌, ◌≤◌, length, refl, sym, ◌∙◌, ap, subst, arith, ⊎_elim}
 use Rattle.std.proofs.Math.ListN.{set}
 use Rattle.std.proofs.lemmas.Bool.{cases_eq, eq-eqb, ne_eqb}
 use Rattle.std.proofs.lemmas.List.{get_or-set_same, get_or-set_other, get_or_read}
+use Rattle.std.proofs.lemmas.Nat.Bits.{same_from_bits_below, bit_at-zero}
 use Rattle.sand_tiles.specs.declared.tile.Tile.{Tile}
 use Rattle.sand_tiles.specs.Places.{bit, height, had, Receives}
 use Rattle.sand_tiles.proofs.Bits.{bit_le}
+use Rattle.sand_tiles.proofs.Moves.{cut}
 use Rattle.sand_fronts.specs.TileLists.{IsClear}
 use Rattle.sand_fronts.specs.Waves.{tile_at, only, Gains}
 use Rattle.sand_fronts.proofs.Waves.{only_same, only_other}
 
-abbrev blank : Tile
+abbrev pub blank : Tile
 blank = record { low = 0; high = 0; due = 0; wave = 0 }
+
+-- a set without places
+pub no_place : (a : ℕ) → ((p : ℕ) → p < 64 → bit a p ≡ 0) → a % 2 ^ 64 ≡ 0
+unfolding bit
+no_place a none =
+    same_from_bits_below 64 (a % 2 ^ 64) 0 (omega arith) (omega arith)
+    (λ p low. cut a p low ∙ none p low ∙ sym (bit_at-zero p))
 
 pub tile_set_same : (ts : List Tile) (k m : ℕ) (t : Tile) → k < length ts → m ≡ k → tile_at (set ts k t) m ≡ t
 tile_set_same ts k m t inside e = ap (tile_at (set ts k t)) e ∙ get_or-set_same ts k t blank inside
@@ -42,24 +51,28 @@ pub tile_clear : (ts : List Tile) (k : ℕ) (t : Tile) → k < length ts → t.w
 tile_clear ts k t inside same clear =
     tile_set (λ m x. IsClear x) ts k t inside (λ p low. ap (λ w. bit w p) same ∙ clear k p low) (λ m ne. clear m)
 
-pub gains_one : (ts : List Tile) (k : ℕ) (t : Tile) (gain : ℕ) → k < length ts → Receives (tile_at ts k) t gain
-    → Gains (tile_at ts) (tile_at (set ts k t)) (only k (bit gain))
-gains_one ts k t gain inside receives =
+pub gains_one : (free : ℕ → ℕ) (ts : List Tile) (k : ℕ) (t : Tile) (gain : ℕ) → k < length ts
+    → Receives (tile_at ts k) t gain (free k)
+    → Gains free (tile_at ts) (tile_at (set ts k t)) (only k (bit gain))
+gains_one free ts k t gain inside receives =
     let all = tile_set (λ m x. (p : ℕ) → p < 64 → (bit x.wave p ≡ bit (tile_at ts m).wave p)
-    × (had (tile_at ts m) p + only k (bit gain) m p ≤ 7 → had x p ≡ had (tile_at ts m) p + only k (bit gain) m p)
+    × (bit (free m) p ≡ 1 → had (tile_at ts m) p + only k (bit gain) m p ≤ 7
+    → had x p ≡ had (tile_at ts m) p + only k (bit gain) m p)
     × (height x p ≡ (height (tile_at ts m) p + only k (bit gain) m p) % 4))
     ts k t inside
     (λ p low.
     let c = only_same k k (bit gain) p refl in
     let r = receives.modulo p low in
-    (ap (λ w. bit w p) receives.wave, λ few. (let e = receives.each p low (omega arith) in omega arith), omega arith))
+    (ap (λ w. bit w p) receives.wave, λ is few. (let e = receives.each p low is (omega arith) in omega arith), omega arith))
     (λ m ne p low.
     let c = only_other k m (bit gain) p ne in
     let l = bit_le (tile_at ts m).low p in
     let h = bit_le (tile_at ts m).high p in
-    (refl, λ few. omega arith, omega arith)) in
+    (refl, λ is few. omega arith, omega arith)) in
     record {
       wave = λ m p low. (all m p low).0;
+      due_free = λ before. tile_set (λ m x. (p : ℕ) → p < 64 → bit x.due p ≤ bit (free m) p) ts k t inside
+          (λ p low. receives.due_free p low (before k p low)) (λ m ne. before m);
       each = λ m p low. (all m p low).1;
       modulo = λ m p low. (all m p low).2;
     }
@@ -70,10 +83,13 @@ only_as k m p f h e = ⊎_elim
     (λ (ne : m ≡ k → ⊥). only_other k m f p ne ∙ sym (only_other k m h p ne))
     (cases_eq m k)
 
-pub gains_from : {τ τ' σ : ℕ → Tile} {a : ℕ → ℕ → ℕ} → ((m : ℕ) → τ m ≡ τ' m) → Gains τ σ a → Gains τ' σ a
+pub gains_from : {free : ℕ → ℕ} {τ τ' σ : ℕ → Tile} {a : ℕ → ℕ → ℕ} → ((m : ℕ) → τ m ≡ τ' m) → Gains free τ σ a
+    → Gains free τ' σ a
 gains_from same gains = record {
   wave = λ m p low. gains.wave m p low ∙ ap (λ x. bit x.wave p) (same m);
-  each = λ m p low few. let e = ap (λ x. had x p) (same m) in let g = gains.each m p low (omega arith) in omega arith;
+  due_free = λ before. gains.due_free
+      (λ m p low. let e = ap (λ x. bit x.due p) (same m) in let b = before m p low in omega arith);
+  each = λ m p low is few. let e = ap (λ x. had x p) (same m) in let g = gains.each m p low is (omega arith) in omega arith;
   modulo = λ m p low. let e = ap (λ x. height x p) (same m) in let g = gains.modulo m p low in omega arith;
 }
 

@@ -13,7 +13,11 @@ pub mod OneSite
 pub mod Counted
 pub mod ManyWaves
 pub mod OneGrain
+pub mod Filled
 pub mod NewPiles
 pub mod Marked
+pub mod MarkedTiles
 pub mod Reached
 pub mod OnPiles
+pub mod WrittenBack
+pub mod DropsInto

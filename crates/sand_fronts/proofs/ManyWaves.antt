@@ -1,34 +1,32 @@
 -- From one wave of a drop to the next.
-use Rattle.std.proofs.Common.{ℕ, Bool, true, false, cond, eqb, ltb, leb, ◌&&◌, List, length, ◌≡◌, ◌≢◌, ◌+◌, ◌-◌, ◌*◌, ◌^◌, ◌<◌, ◌≤◌, refl, sym, ◌∙◌, ap, arith, ⊎_elim}
+use Rattle.std.proofs.Common.{ℕ, Bool, true, false, cond, eqb, ltb, leb, ◌&&◌, List, ◌≡◌, ◌≢◌, ◌+◌, ◌-◌, ◌*◌, ◌^◌, ◌<◌, ◌≤◌, refl, sym, ◌∙◌, ap, arith, ⊎_elim}
 use Rattle.std.proofs.Math.Nat.{mul-le-mul_right}
-use Rattle.std.proofs.Math.ListN.{set}
 use Rattle.std.proofs.lemmas.Bool.{cases_Bool, cases_eq, eq-eqb, ne_eqb, and_parts, and_cases, eqb-true, eqb-false, ltb-true, ltb-false, leb-true, leb-false}
 use Rattle.sand_model.specs.Grid.{Grid, IsGrid, sites, missing}
 use Rattle.sand_model.specs.Sand.{IsToppled, IsSettled, IsUnderway, flow, one_at, topplings, lost, weight, grain_weight, sum_below}
 use Rattle.sand_model.specs.Underway.{Advances}
 use Rattle.sand_model.proofs.Flow.{flow_le, flow_same}
-use Rattle.sand_model.proofs.Sandpile.{flow_ones, weight_after, settled_same}
+use Rattle.sand_model.proofs.Sandpile.{flow_ones, weight_after}
 use Rattle.sand_model.proofs.SumsBelow.{sum_below_same, sum_below_le, sum_below-add, sum_below-scale, sum_below-ones, sum_below-zero, sum_below-one_at, one_at_same, one_at_other}
 use Rattle.sand_model.proofs.Lists.{all_or_one, at_most_one}
 use Rattle.sand_model.proofs.Bounds.{at_most_sum_below, sites_limit, weight_bound}
 use Rattle.sand_model.proofs.Underway.{underway_start, underway_end}
 use Rattle.sand_tiles.specs.declared.tile.Tile.{Tile}
 use Rattle.sand_tiles.specs.declared.counting.Count.{Count}
-use Rattle.sand_tiles.specs.Places.{bit, height, number}
+use Rattle.sand_tiles.specs.Places.{bit, number}
 use Rattle.sand_tiles.specs.Counts.{counted}
-use Rattle.sand_tiles.proofs.Bits.{bit_le, bit_none}
+use Rattle.sand_tiles.proofs.Bits.{bit_le}
 use Rattle.sand_fronts.specs.Tiling.{tiles, tile_of, place_of, is_site, site_on, on_tiles}
 use Rattle.sand_fronts.specs.TileLists.{IsClear}
 use Rattle.sand_fronts.specs.declared.counts.Counts.{Counts}
-use Rattle.sand_fronts.specs.Waves.{tile_at, toppled, IsWave, IsWholeWave, Leaves, AreAtRest, heights_before}
+use Rattle.sand_fronts.specs.Waves.{tile_at, toppled, IsWave, IsWholeWave, Leaves, AreAtRest, IsNoneDue, heights_before}
 use Rattle.sand_fronts.specs.Counting.{over_wave}
 use Rattle.sand_fronts.specs.Boards.{counts_of, AreCounted}
-use Rattle.sand_fronts.specs.Drops.{heights_on, grown_on, AreQuiet, AreOutside}
+use Rattle.sand_fronts.specs.Drops.{heights_on, grown_on, AreOutside}
 use Rattle.sand_fronts.proofs.OnTiles.{place_below, on_site, off_site, on_sum, on_below}
 use Rattle.sand_fronts.proofs.Ends.{wave_balance, wave_advances, four_again}
 use Rattle.sand_fronts.proofs.Turns.{first_low}
 use Rattle.sand_fronts.proofs.Sums.{sum_on_tiles}
-use Rattle.sand_fronts.proofs.Gained.{tile_set, tile_clear}
 use Rattle.sand_fronts.proofs.Counted.{sum_less_one}
 
 -- the heights between two waves: if the held site may topple again, it has 4 more than in the planes
@@ -158,7 +156,7 @@ underway_as g s u v t same before = record {
 -- after any number of waves of a drop that began with the tiles τ and the counts c
 pub record AreWaves (g : Grid) (site : ℕ) (more : Bool) (τ σ : ℕ → Tile) (c d : ℕ → Count) : Type 0 where
   pub clear : (m : ℕ) → IsClear (σ m)
-  pub none_due : (j : ℕ) → j < sites g → j ≢ site → bit (σ (tile_of g j)).due (place_of g j) ≡ 0
+  pub none_due : IsNoneDue σ
   pub empty : more ≡ true → heights_on g σ site ≡ 0
   pub advances : Advances g (λ j. 0) (heights_before g site τ) (grown_on g c d) (heights_now g site more σ)
   pub counts : (m p : ℕ) → p < 64 → counted (d m) p ≡ counted (c m) p + on_tiles g (grown_on g c d) m p
@@ -208,7 +206,8 @@ waves_more g site more τ σ us vs c d' e' inside waves whole counts clear test 
     let e = counts_of e' in
     let wave = whole.wave in
     let started = whole.started in
-    let none_due = whole.none_due in
+    let none_due : (j : ℕ) → j < sites g → j ≢ site → bit (ω (tile_of g j)).due (place_of g j) ≡ 0 =
+    λ j l ne. whole.none_due (tile_of g j) (place_of g j) (place_below g j) in
     let t = toppled g ω in
     let h = heights_before g site σ in
     let k = heights_now g site more ρ in
@@ -245,7 +244,7 @@ waves_more g site more τ σ us vs c d' e' inside waves whole counts clear test 
     let part = at_most_sum_below (sites g) t site inside in (
       record {
         clear = clear;
-        none_due = λ j l ne. ap (λ x. bit x (place_of g j)) (counts.due (tile_of g j)) ∙ none_due j l ne;
+        none_due = λ m p low. ap (λ x. bit x p) (counts.due m) ∙ whole.none_due m p low;
         empty = λ is.
             let parts = and_parts (ltb 1 (topplings g t)) (eqb (heights_on g ρ site) 0) (sym test ∙ is) in
             eqb-true (heights_on g ρ site) 0 parts.1;
@@ -366,37 +365,3 @@ none_grown g c =
 pub none_counted : (g : Grid) (c : ℕ → Count) (m p : ℕ) → p < 64
     → counted (c m) p ≡ counted (c m) p + on_tiles g (grown_on g c c) m p
 none_counted g c m p low = let b = on_below g (grown_on g c c) m p 0 low (λ j l. omega arith) in omega arith
-
--- clearing what is due in a tile changes no height
-heights_kept : (g : Grid) (ts : List Tile) (here : ℕ) (t : Tile) (j : ℕ)
-    → here < length ts → t.low ≡ (tile_at ts here).low
-    → t.high ≡ (tile_at ts here).high
-    → heights_on g (tile_at ts) j ≡ heights_on g (tile_at (set ts here t)) j
-heights_kept g ts here t j inside low high =
-    tile_set (λ m x. (p : ℕ) → height (tile_at ts m) p ≡ height x p) ts here t inside
-    (λ p. let a = ap (λ w. bit w p) low in let b = ap (λ w. bit w p) high in omega arith)
-    (λ m ne p. refl) (tile_of g j) (place_of g j)
-
-pub settled_kept : (g : Grid) (s u : ℕ → ℕ) (ts : List Tile) (here : ℕ) (t : Tile)
-    → here < length ts → t.low ≡ (tile_at ts here).low
-    → t.high ≡ (tile_at ts here).high
-    → IsSettled g s u (heights_on g (tile_at ts)) → IsSettled g s u (heights_on g (tile_at (set ts here t)))
-settled_kept g s u ts here t inside low high done =
-    settled_same g s s u u (heights_on g (tile_at ts)) (heights_on g (tile_at (set ts here t)))
-    (λ i l. refl) (λ i l. refl) (λ i l. heights_kept g ts here t i inside low high) done
-
-pub quiet_at_last : (g : Grid) (site : ℕ) (ts : List Tile) (here : ℕ) (t : Tile)
-    → here < length ts → here ≡ tile_of g site
-    → t.wave ≡ (tile_at ts here).wave → t.due ≡ 0
-    → ((m : ℕ) → IsClear (tile_at ts m))
-    → ((j : ℕ) → j < sites g → j ≢ site → bit (tile_at ts (tile_of g j)).due (place_of g j) ≡ 0)
-    → AreQuiet g (tile_at (set ts here t))
-quiet_at_last g site ts here t inside is wave due clear none_due = record {
-  clear = tile_clear ts here t inside wave clear;
-  none_due = λ j l.
-      tile_set (λ m x. tile_of g j ≡ m → bit x.due (place_of g j) ≡ 0) ts here t inside
-      (λ e. ap (λ w. bit w (place_of g j)) due ∙ bit_none (place_of g j))
-      (λ m ne e. ap (λ i. bit (tile_at ts i).due (place_of g j)) (sym e)
-      ∙ none_due j l (λ f. ne (sym e ∙ ap (tile_of g) f ∙ sym is)))
-      (tile_of g j) refl;
-}

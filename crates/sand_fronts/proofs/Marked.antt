@@ -1,10 +1,10 @@
 -- The sets of the sites that a drop has toppled.
 use Rattle.std.proofs.Common.{ℕ, true, false, cond, eqb, ltb, ◌≡◌, ◌≢◌, ◌+◌, ◌<◌, ◌≤◌, ◌∙◌, refl, ap, arith, ⊎_elim}
-use Rattle.std.proofs.lemmas.Bool.{cases_Bool, cases_eq, cases_lt, eq-eqb, ne_eqb, lt-ltb, le-ltb}
+use Rattle.std.proofs.lemmas.Bool.{cases_Bool, cases_lt, eq-eqb, ne_eqb, lt-ltb, le-ltb}
 use Rattle.sand_model.specs.Grid.{Grid, sites}
 use Rattle.sand_model.specs.Sand.{sum_below}
 use Rattle.sand_model.specs.Lists.{one_if}
-use Rattle.sand_model.proofs.SumsBelow.{sum_below_same, sum_below-zero}
+use Rattle.sand_model.proofs.SumsBelow.{sum_below_same}
 use Rattle.sand_tiles.specs.declared.counting.Count.{Count}
 use Rattle.sand_tiles.specs.Places.{bit}
 use Rattle.sand_tiles.specs.Counts.{counted}
@@ -24,25 +24,12 @@ set_taken x y k m each e = each m ∙ ap (λ b. cond b 0 (x m)) (eq-eqb m k e)
 pub set_left : (x y : ℕ → ℕ) (k m : ℕ) → ((i : ℕ) → y i ≡ cond (eqb i k) 0 (x i)) → m ≢ k → y m ≡ x m
 set_left x y k m each ne = each m ∙ ap (λ b. cond b 0 (x m)) (ne_eqb m k ne)
 
-pub set_none : (x y : ℕ → ℕ) (k m : ℕ) → ((i : ℕ) → y i ≡ cond (eqb i k) 0 (x i)) → x m ≡ 0 → y m ≡ 0
-set_none x y k m each none = ⊎_elim
-    (λ (e : m ≡ k). set_taken x y k m each e)
-    (λ (ne : m ≡ k → ⊥). set_left x y k m each ne ∙ none)
-    (cases_eq m k)
-
 pub set_less : (n : ℕ) (x y : ℕ → ℕ) (k : ℕ) → ((i : ℕ) → y i ≡ cond (eqb i k) 0 (x i)) → k < n
     → sum_below 64 (bit (x k)) + in_sets n y ≡ in_sets n x
 set_less n x y k each less =
     sum_less_one n k (λ m. sum_below 64 (bit (x m))) (λ m. sum_below 64 (bit (y m))) less
     (ap (λ w. sum_below 64 (bit w)) (set_taken x y k k each refl) ∙ none_of_none)
     (λ m ne. ap (λ w. sum_below 64 (bit w)) (set_left x y k m each ne))
-
-pub all_taken : (x : ℕ → ℕ) (k end : ℕ) → ((m : ℕ) → m < k → x m ≡ 0)
-    → ((m : ℕ) → end ≤ m → x m ≡ 0) → end ≤ k → (m : ℕ) → x m ≡ 0
-all_taken x k end taken beyond done m = ⊎_elim
-    (λ (before : m < k). taken m before)
-    (λ (after : k ≤ m). beyond m (omega arith))
-    (cases_lt m k)
 
 -- ---- what the sets are
 
@@ -81,10 +68,3 @@ area_is g v b each =
     sum_below_same (tiles g) (λ k. sum_below 64 (bit (b k))) (λ k. sum_below 64 (λ p. on_tiles g v k p))
     (λ k l. sum_below_same 64 (bit (b k)) (λ p. on_tiles g v k p) (λ p m. each k p m))
     ∙ sum_on_tiles g v
-
-pub none_in_area : (g : Grid) (c : ℕ → Count) → 0 ≡ sum_below (sites g) (λ j. one_if (ltb 0 (grown_on g c c j)))
-none_in_area g c =
-    let same = sum_below_same (sites g) (λ j. one_if (ltb 0 (grown_on g c c j)))
-    (λ j. 0) (λ j l. ap one_if (le-ltb 0 (grown_on g c c j) (omega arith))) in
-    let none = sum_below-zero (sites g) in
-    omega arith

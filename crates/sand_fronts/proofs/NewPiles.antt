@@ -1,11 +1,13 @@
 -- A new pile on tiles.
-use Rattle.std.proofs.Common.{ℕ, List, [], ◌∷◌, ◌++◌, length, replicate, ◌≡◌, ◌+◌, ◌<◌, ◌≤◌, sym, ◌∙◌, ap, subst, arith, ⊎_elim}
+use Rattle.std.proofs.Common.{ℕ, List, [], ◌∷◌, length, replicate, Some, count_by, is_none, ◌≡◌, ◌+◌, ◌-◌, ◌*◌, ◌/◌, ◌%◌, ◌<◌, ◌≤◌, refl, sym, ◌∙◌, ap, subst, arith, ⊎_elim}
 use Rattle.std.specs.Prelude.{slice_index}
 use Rattle.std.proofs.Math.ListN.{get_or-eq_default}
-use Rattle.std.proofs.lemmas.Bool.{cases_lt}
-use Rattle.std.proofs.lemmas.List.{get_or_append_left, get_or_push, get_or-replicate, length-replicate}
+use Rattle.std.proofs.lemmas.Bool.{cases_lt, lt-ltb}
+use Rattle.std.proofs.lemmas.Nat.{div-mul-add, mod-mul-add}
+use Rattle.std.proofs.lemmas.List.{get_or-replicate, length-replicate}
 use Rattle.std.proofs.lemmas.List.FromFn.{get_or-map-range_with_len, length-map-range_with_len}
-use Rattle.sand_model.specs.Grid.{Grid, sites, missing}
+use Rattle.sand_model.specs.Grid.{Grid, sites, places, missing, north, west, east, south}
+use Rattle.sand_model.proofs.Neighbours.{missing_is}
 use Rattle.sand_tiles.specs.declared.tile.Tile.{Tile}
 use Rattle.sand_tiles.specs.declared.counting.Count.{Count}
 use Rattle.sand_tiles.specs.Places.{had}
@@ -14,12 +16,12 @@ use Rattle.sand_tiles.proofs.Bits.{bit_none}
 use Rattle.sand_fronts.specs.declared.sand.Sand.{Sand}
 use Rattle.sand_fronts.specs.declared.counts.Counts.{Counts}
 use Rattle.sand_fronts.specs.Tiling.{tile_of, place_of, on_tiles}
-use Rattle.sand_fronts.specs.TileLists.{IsClear}
 use Rattle.sand_fronts.specs.Counting.{count_at}
-use Rattle.sand_fronts.specs.Drops.{heights_on, counted_on, grown_on, AreQuiet, AreOutside}
+use Rattle.sand_fronts.specs.Drops.{heights_on, counted_on, grown_on, AreQuiet}
 use Rattle.sand_fronts.specs.Boards.{tiles_of, counts_of}
 use Rattle.sand_fronts.specs.TiledPiles.{tiled_view, by_site, IsTiledView}
-use Rattle.sand_fronts.proofs.OnTiles.{place_below, at_on, on_tiles_le, on_below, on_sum}
+use Rattle.sand_fronts.proofs.Filled.{entry_each}
+use Rattle.sand_fronts.proofs.OnTiles.{place_below, at_on, on_below, on_sum}
 
 nothing_sound : IsCount no_tile
 nothing_sound = record { few = omega arith; each = λ p low. let z = bit_none p in omega arith }
@@ -29,12 +31,11 @@ nothing_counted p = let z = bit_none p in let e = get_or-eq_default {A = ℕ} []
 
 count_is : (P : Count → Type 0) (items : List Count) (n m : ℕ) (x : Count) → items ≡ replicate n x → P x → P no_tile
     → P (count_at items m)
-count_is P items n m x all is none = ⊎_elim
-    (λ (less : m < n).
-    subst P (sym (ap (λ (xs : List Count). count_at xs m) all ∙ get_or-replicate {A = Count} n m x no_tile less)) is)
-    (λ (more : n ≤ m). subst P (sym (ap (λ (xs : List Count). count_at xs m) all ∙ get_or-eq_default {A = Count}
-    (replicate n x) no_tile {n = m} (let e = length-replicate {A = Count} n x in omega arith))) none)
-    (cases_lt m n)
+count_is P items n m x all is none =
+    entry_each no_tile (λ k c. P c) items n (ap length all ∙ length-replicate {A = Count} n x)
+    (λ k less. subst P (sym (ap (λ (xs : List Count). count_at xs k) all
+    ∙ get_or-replicate {A = Count} n k x no_tile less)) is)
+    (λ k past. none) m
 
 pub counts_sound : (items : List Count) (n m : ℕ) (x : Count) → items ≡ replicate n x → IsCount x
     → IsCount (count_at items m)
@@ -47,13 +48,10 @@ counts_none items n m p x all none = count_is (λ c. counted c p ≡ 0) items n 
 -- tiles where each site has had just its height are at rest
 pub new_quiet : (g : Grid) (h : ℕ → ℕ) (τ : ℕ → Tile)
     → ((j : ℕ) → j < sites g → h j ≤ 3)
-    → ((m p : ℕ) → p < 64 → had (τ m) p ≡ on_tiles g h m p) → AreQuiet g τ
+    → ((m p : ℕ) → p < 64 → had (τ m) p ≡ on_tiles g h m p) → AreQuiet τ
 new_quiet g h τ low all = record {
   clear = λ m p l. let e = all m p l in let f = on_below g h m p 3 l low in omega arith;
-  none_due = λ j l.
-      let e = all (tile_of g j) (place_of g j) (place_below g j) in
-      let f = on_below g h (tile_of g j) (place_of g j) 3 (place_below g j) low in
-      omega arith;
+  none_due = λ m p l. let e = all m p l in let f = on_below g h m p 3 l low in omega arith;
 }
 
 pub new_heights : (g : Grid) (h : ℕ → ℕ) (τ : ℕ → Tile) (j : ℕ)
@@ -68,30 +66,29 @@ new_heights g h τ j low all l =
 
 -- ---- the number of places around each site outside the grid
 
-pub few_outside : (g : Grid) (xs : List ℕ) (j : ℕ) → slice_index xs j ≡ missing g j → slice_index xs j ≤ 7
+inner_places : (g : Grid) (y x : ℕ) → 0 < y → y + 1 < g.height → 0 < x → x + 1 < g.width
+    → places g (y * g.width + x) ≡ Some (y * g.width + x - g.width) ∷ Some (y * g.width + x - 1)
+    ∷ Some (y * g.width + x + 1) ∷ Some (y * g.width + x + g.width) ∷ []
+unfolding north west east south
+inner_places g y x above below before after =
+    let w = g.width in
+    let r : (y * w + x) / w ≡ y = div-mul-add y w x (omega arith) in
+    let c : (y * w + x) % w ≡ x = mod-mul-add y w x (omega arith) in
+    rw (
+      lt-ltb 0 ((y * w + x) / w) (omega arith),
+      lt-ltb ((y * w + x) / w + 1) g.height (omega arith),
+      lt-ltb 0 ((y * w + x) % w) (omega arith),
+      lt-ltb ((y * w + x) % w + 1) w (omega arith),
+    ) refl
+
+pub none_missing : (g : Grid) (y x : ℕ) → 0 < y → y + 1 < g.height → 0 < x → x + 1 < g.width
+    → 0 ≡ missing g (y * g.width + x)
+none_missing g y x above below before after = sym (missing_is g (y * g.width + x)
+    ∙ ap (count_by is_none) (inner_places g y x above below before after))
+
+pub few_missing : (g : Grid) (j n : ℕ) → n ≡ missing g j → n ≤ 7
 unfolding missing
-few_outside g xs j is = omega arith
-
-pub outside_on_tiles : (g : Grid) (xs : List ℕ) (τ : ℕ → Tile)
-    → ((j : ℕ) → j < sites g → slice_index xs j ≡ missing g j)
-    → ((m : ℕ) → IsClear (τ m))
-    → ((m p : ℕ) → p < 64 → had (τ m) p ≡ on_tiles g (slice_index xs) m p) → AreOutside g τ
-outside_on_tiles g xs τ same clear all m p low =
-    let none = clear m p low in
-    let e = all m p low in
-    let a = on_tiles_le g (slice_index xs) (missing g) m p low (λ j l. let s = same j l in omega arith) in
-    let b = on_tiles_le g (missing g) (slice_index xs) m p low (λ j l. let s = same j l in omega arith) in
-    omega arith
-
-pub numbers_more : (f : ℕ → ℕ) (xs ys : List ℕ) (y n : ℕ) → ys ≡ xs ++ y ∷ []
-    → length xs ≡ n → y ≡ f n → ((j : ℕ) → j < n → slice_index xs j ≡ f j)
-    → (j : ℕ) → j < n + 1 → slice_index ys j ≡ f j
-numbers_more f xs ys y n pushed long is each j below =
-    ap (λ zs. slice_index zs j) pushed
-    ∙ ⊎_elim
-    (λ (before : j < n). get_or_append_left xs (y ∷ []) 0 j (omega arith) ∙ each j before)
-    (λ (last : n ≤ j). let e : n ≡ j = omega arith in get_or_push xs y 0 j (long ∙ e) ∙ is ∙ ap f e)
-    (cases_lt j n)
+few_missing g j n is = omega arith
 
 -- ---- counts of no topplings, and of one more drop
 

@@ -1,22 +1,23 @@
 -- How far a drop has reached.
-use Rattle.std.proofs.Common.{ℕ, Bool, true, false, cond, ltb, ◌≡◌, ◌≢◌, ◌+◌, ◌-◌, ◌*◌, ◌/◌, ◌%◌, ◌^◌, ◌<◌, ◌≤◌, min, max, sym, ◌∙◌, ap, arith, ⊎_elim}
+use Rattle.std.proofs.Common.{ℕ, Bool, true, false, cond, eqb, ltb, refl, inl, inr, ◌≡◌, ◌≢◌, ◌⊎◌, ◌+◌, ◌-◌, ◌*◌, ◌/◌, ◌%◌, ◌^◌, ◌<◌, ◌≤◌, min, max, sym, ◌∙◌, ap, arith, ⊎_elim}
 use Rattle.std.specs.Prelude.{bit_xor}
 use Rattle.std.specs.Int.{abs_diff, trailing_zeros}
 use Rattle.std.proofs.Common.{w64}
 use Rattle.std.proofs.lemmas.Nat.Bits.{bit_at-trailing_zeros}
 use Rattle.std.proofs.lemmas.Bool.{cases_Bool, cases_eq, cases_lt, and_parts, ltb-true, lt-ltb, le-ltb}
-use Rattle.std.proofs.lemmas.Nat.{div-mul-add, mod-mul-add}
-use Rattle.sand_model.specs.Grid.{Grid, joins, column, row, distance}
+use Rattle.std.proofs.lemmas.Nat.{div-mul-add, mod-mul-add, mod_below, div_below}
+use Rattle.sand_model.specs.Grid.{Grid, IsGrid, sites, joins, column, row, distance}
 use Rattle.sand_model.specs.Sand.{sum_below, one_at}
 use Rattle.sand_model.specs.Lists.{one_if}
 use Rattle.sand_model.proofs.SumsBelow.{sum_below_same, sum_below-add, sum_below-one_at, one_at_same, one_at_other}
 use Rattle.sand_tiles.specs.Places.{bit}
 use Rattle.sand_tiles.proofs.Bits.{bit_le, bit_none, half, both_le}
 use Rattle.sand_fronts.specs.declared.reach.Spot.{Spot}
-use Rattle.sand_fronts.specs.Reaching.{distance_within, spot_of, corner_of, IsReachedFrom, IsReachedIn, IsReach}
+use Rattle.sand_fronts.specs.Reaching.{distance_within, spot_of, corner_of, IsReachedFrom, IsReachedIn}
+use Rattle.sand_fronts.specs.Avalanches.{IsReached}
+use Rattle.sand_fronts.specs.Marking.{AreSites}
 use Rattle.sand_fronts.specs.Tiling.{tile_of, place_of, row_at, column_at, is_site, site_on, on_tiles}
-use Rattle.sand_tiles.specs.declared.counting.Count.{Count}
-use Rattle.sand_fronts.specs.Drops.{grown_on}
+use Rattle.sand_fronts.proofs.Marked.{set_left, set_taken}
 use Rattle.sand_fronts.proofs.OnTiles.{place_below, back_again, there_again, at_on, on_site, off_site}
 
 -- ---- bounds on the distance of a place of a tile
@@ -124,52 +125,76 @@ nothing_reached g s corner set reach none = record {
   reached = λ more. absurd (omega arith);
 }
 
--- the sets before the tile k have been read
-pub record SetsRead (g : Grid) (s : Spot) (words : ℕ → ℕ) (k reach : ℕ) : Type 0 where
-  pub within : (m p : ℕ) → m < k → p < 64 → bit (words m) p ≡ 1 → distance_within g s (corner_of g m) p ≤ reach
+-- the sets that are no longer in the rest have been read
+pub record SetsRead (g : Grid) (s : Spot) (words rest : ℕ → ℕ) (reach : ℕ) : Type 0 where
+  pub left : (m : ℕ) → (rest m ≡ 0) ⊎ (rest m ≡ words m)
+  pub within : (m p : ℕ) → rest m ≡ 0 → p < 64 → bit (words m) p ≡ 1 → distance_within g s (corner_of g m) p ≤ reach
   pub reached : 0 < reach
       → (m : ℕ) × (p : ℕ) × (p < 64) × (bit (words m) p ≡ 1) × (distance_within g s (corner_of g m) p ≡ reach)
 
-not_in_none : (words : ℕ → ℕ) (m p : ℕ) → words m ≡ 0 → bit (words m) p ≡ 1 → ⊥
-not_in_none words m p none is = let z = ap (λ w. bit w p) none ∙ bit_none p in omega arith
+not_in_none : (word p : ℕ) → word ≡ 0 → bit word p ≡ 1 → ⊥
+not_in_none word p none is = let z = ap (λ w. bit w p) none ∙ bit_none p in omega arith
 
-pub sets_begin : (g : Grid) (s : Spot) (words : ℕ → ℕ) (first : ℕ) → ((m : ℕ) → m < first → words m ≡ 0)
-    → SetsRead g s words first 0
-sets_begin g s words first none = record {
-  within = λ m p before low is. absurd (not_in_none words m p (none m before) is);
+pub sets_begin : (g : Grid) (s : Spot) (words : ℕ → ℕ) → SetsRead g s words words 0
+sets_begin g s words = record {
+  left = λ m. inr refl;
+  within = λ m p none low is. absurd (not_in_none (words m) p none is);
   reached = λ some. absurd (omega arith);
 }
 
-pub sets_more : (g : Grid) (s : Spot) (words : ℕ → ℕ) (k set reach far : ℕ)
-    → SetsRead g s words k reach → IsReachedFrom g s (corner_of g k) set reach far
-    → set ≡ words k → SetsRead g s words (k + 1) far
-sets_more g s words k set reach far before one is = record {
-  within = λ m p below low has. ⊎_elim
-      (λ (earlier : m < k). let a = before.within m p earlier low has in let b = one.grows in omega arith)
-      (λ (here : k ≤ m).
-      let e : m ≡ k = omega arith in
-      let w : bit set p ≡ 1 = ap (λ x. bit x p) is ∙ ap (λ i. bit (words i) p) (sym e) ∙ has in
-      let d = ap (λ i. distance_within g s (corner_of g i) p) e in
-      let a = one.within p low w in omega arith)
-      (cases_lt m k);
-  reached = λ some. ⊎_elim
-      (λ (farther : reach < far).
-      let now = one.reached farther in (k, now.0, now.1, ap (λ x. bit x now.0) (sym is) ∙ now.2, now.3))
-      (λ (not : far ≤ reach).
-      let g' = one.grows in
-      let old = before.reached (omega arith) in
-      (old.0, old.1, old.2, old.3, let e = old.4 in omega arith))
-      (cases_lt reach far);
-}
+pub sets_more : {g : Grid} {s : Spot} {words rest : ℕ → ℕ} (next : ℕ → ℕ) (k : ℕ) {set reach far : ℕ}
+    → SetsRead g s words rest reach → IsReachedFrom g s (corner_of g k) set reach far → set ≡ rest k
+    → ((m : ℕ) → next m ≡ cond (eqb m k) 0 (rest m)) → SetsRead g s words next far
+sets_more {g} {s} {words} {rest} next k {set} {reach} {far} before one is each =
+    let grows = one.grows in
+    let whole : (p : ℕ) → (bit set p ≡ 0) ⊎ (bit set p ≡ bit (words k) p) =
+    λ p. ⊎_elim
+    (λ (none : rest k ≡ 0). inl (ap (λ w. bit w p) (is ∙ none) ∙ bit_none p))
+    (λ (same : rest k ≡ words k). inr (ap (λ w. bit w p) (is ∙ same)))
+    (before.left k) in
+    record {
+      left = λ m. ⊎_elim
+          (λ (e : m ≡ k). inl (set_taken rest next k m each e))
+          (λ (ne : m ≡ k → ⊥). ⊎_elim
+          (λ (none : rest m ≡ 0). inl (set_left rest next k m each ne ∙ none))
+          (λ (same : rest m ≡ words m). inr (set_left rest next k m each ne ∙ same))
+          (before.left m))
+          (cases_eq m k);
+      within = λ m p none low has.
+          let earlier : rest m ≡ 0 → distance_within g s (corner_of g m) p ≤ far =
+          λ z. let a = before.within m p z low has in omega arith in
+          ⊎_elim
+          (λ (e : m ≡ k). ⊎_elim
+          (λ (z : rest k ≡ 0). earlier (ap rest e ∙ z))
+          (λ (same : rest k ≡ words k).
+          let w : bit set p ≡ 1 = ap (λ x. bit x p) (is ∙ same) ∙ ap (λ i. bit (words i) p) (sym e) ∙ has in
+          let d = ap (λ i. distance_within g s (corner_of g i) p) e in
+          let a = one.within p low w in omega arith)
+          (before.left k))
+          (λ (ne : m ≡ k → ⊥). earlier (sym (set_left rest next k m each ne) ∙ none))
+          (cases_eq m k);
+      reached = λ some. ⊎_elim
+          (λ (farther : reach < far).
+          let now = one.reached farther in (
+            k,
+            now.0,
+            now.1,
+            ⊎_elim
+                (λ (z : bit set now.0 ≡ 0). let o = now.2 in absurd (omega arith))
+                (λ (same : bit set now.0 ≡ bit (words k) now.0). sym same ∙ now.2)
+                (whole now.0),
+            now.3,
+          ))
+          (λ (not : far ≤ reach).
+          let old = before.reached (omega arith) in
+          (old.0, old.1, old.2, old.3, let e = old.4 in omega arith))
+          (cases_lt reach far);
+    }
 
-pub sets_all : (g : Grid) (s : Spot) (words : ℕ → ℕ) (k reach : ℕ)
-    → SetsRead g s words k reach → ((m : ℕ) → k ≤ m → words m ≡ 0)
-    → IsReachedIn g s words reach
-sets_all g s words k reach before none = record {
-  within = λ m p low is. ⊎_elim
-      (λ (earlier : m < k). before.within m p earlier low is)
-      (λ (later : k ≤ m). absurd (not_in_none words m p (none m later) is))
-      (cases_lt m k);
+pub sets_all : {g : Grid} {s : Spot} {words rest : ℕ → ℕ} {reach : ℕ} → SetsRead g s words rest reach
+    → ((m : ℕ) → rest m ≡ 0) → IsReachedIn g s words reach
+sets_all {g} {s} {words} {rest} {reach} before none = record {
+  within = λ m p low is. before.within m p (none m) low is;
   reached = before.reached;
 }
 
@@ -197,41 +222,72 @@ distance_on g site k p is =
     (abs_diff x (column_at g k p))
     + abs_diff (row g site) r) spot.0
 
-pub reach_is : (g : Grid) (site : ℕ) (v words : ℕ → ℕ) (reach : ℕ)
+-- a place is in the sets if and only if its site has toppled, so what is within reach of them is so for the sites
+pub all_within : (g : Grid) (site : ℕ) (v words : ℕ → ℕ) (reach : ℕ)
     → ((m p : ℕ) → p < 64 → bit (words m) p ≡ on_tiles g (λ j. one_if (ltb 0 (v j))) m p)
-    → IsReachedIn g (spot_of g site) words reach → IsReach g site v reach
-reach_is g site v words reach each in_sets = record {
-  within = λ j l some.
-      let back = back_again g j l in
-      let marked = each (tile_of g j) (place_of g j) (place_below g j) in
-      let at = at_on g (λ i. one_if (ltb 0 (v i))) j l in
-      let one = ap one_if (lt-ltb 0 (v j) some) in
-      let le = in_sets.within (tile_of g j) (place_of g j) (place_below g j) (omega arith) in
-      let there = distance_on g site (tile_of g j) (place_of g j) back.0 in
-      let same = ap (distance g site) back.1 in
-      omega arith;
-  reached = λ far.
-      let one = in_sets.reached far in
-      let m = one.0 in
-      let p = one.1 in
-      let marked = each m p one.2 in
-      let has = one.3 in
-      let d = one.4 in
-      ⊎_elim
-      (λ (yes : is_site g m p ≡ true).
-      let on = on_site g (λ i. one_if (ltb 0 (v i))) m p yes in
-      let there = there_again g m p one.2 yes in
-      let some : 0 < v (site_on g m p) = ⊎_elim
-      (λ (is : 0 < v (site_on g m p)). is)
-      (λ (none : v (site_on g m p) ≤ 0). absurd (let z = ap one_if (le-ltb 0 (v (site_on g m p)) none) in omega arith))
-      (cases_lt 0 (v (site_on g m p))) in
-      (site_on g m p, there.0, some, distance_on g site m p yes ∙ d))
-      (λ (no : is_site g m p ≡ false). absurd (let off = off_site g (λ i. one_if (ltb 0 (v i))) m p no in omega arith))
-      (cases_Bool (is_site g m p));
-}
+    → IsReachedIn g (spot_of g site) words reach → (j : ℕ) → j < sites g → 0 < v j → distance g site j ≤ reach
+all_within g site v words reach each in_sets j l some =
+    let back = back_again g j l in
+    let marked = each (tile_of g j) (place_of g j) (place_below g j) in
+    let at = at_on g (λ i. one_if (ltb 0 (v i))) j l in
+    let one = ap one_if (lt-ltb 0 (v j) some) in
+    let le = in_sets.within (tile_of g j) (place_of g j) (place_below g j) (omega arith) in
+    let there = distance_on g site (tile_of g j) (place_of g j) back.0 in
+    let same = ap (distance g site) back.1 in
+    omega arith
 
-pub none_reached : (g : Grid) (site : ℕ) (c : ℕ → Count) → IsReach g site (grown_on g c c) 0
-none_reached g site c = record {
-  within = λ j l some. absurd (omega arith);
-  reached = λ far. absurd (omega arith);
-}
+pub some_reached : (g : Grid) (site : ℕ) (v words : ℕ → ℕ) (reach : ℕ)
+    → ((m p : ℕ) → p < 64 → bit (words m) p ≡ on_tiles g (λ j. one_if (ltb 0 (v j))) m p)
+    → IsReachedIn g (spot_of g site) words reach → 0 < reach → IsReached g site v reach
+some_reached g site v words reach each in_sets far =
+    let one = in_sets.reached far in
+    let m = one.0 in
+    let p = one.1 in
+    let marked = each m p one.2 in
+    let has = one.3 in
+    let d = one.4 in
+    ⊎_elim
+    (λ (yes : is_site g m p ≡ true).
+    let on = on_site g (λ i. one_if (ltb 0 (v i))) m p yes in
+    let there = there_again g m p one.2 yes in
+    let some : 0 < v (site_on g m p) = ⊎_elim
+    (λ (is : 0 < v (site_on g m p)). is)
+    (λ (none : v (site_on g m p) ≤ 0). absurd (let z = ap one_if (le-ltb 0 (v (site_on g m p)) none) in omega arith))
+    (cases_lt 0 (v (site_on g m p))) in
+    (site_on g m p, there.0, some, distance_on g site m p yes ∙ d))
+    (λ (no : is_site g m p ≡ false). absurd (let off = off_site g (λ i. one_if (ltb 0 (v i))) m p no in omega arith))
+    (cases_Bool (is_site g m p))
+
+-- ---- the reach fits into 32 bits
+
+apart_below : (round : Bool) (across around limit : ℕ) → across < limit → cond round (min across around) across < limit
+apart_below true across around limit l = omega arith
+apart_below false across around limit l = l
+
+near : (g : Grid) (i j : ℕ) → IsGrid g → i < sites g → j < sites g → distance g i j < 512
+unfolding distance
+near g i j sides inside there =
+    let some = sides.some_width in
+    let wide = sides.width_limit in
+    let high = sides.height_limit in
+    let a = mod_below i g.width (omega arith) in
+    let b = mod_below j g.width (omega arith) in
+    let c = div_below i g.width g.height (omega arith) (omega arith) in
+    let d = div_below j g.width g.height (omega arith) (omega arith) in
+    let across = apart_below (joins g.edge) (abs_diff (column g i) (column g j))
+    (g.width - abs_diff (column g i) (column g j)) 256 (omega arith) in
+    omega arith
+
+pub small_reach : (g : Grid) (site : ℕ) (words : ℕ → ℕ) (reach : ℕ) → IsGrid g → site < sites g → AreSites g words
+    → IsReachedIn g (spot_of g site) words reach → reach < 2 ^ 32
+small_reach g site words reach sides inside at in_sets = ⊎_elim
+    (λ (far : 0 < reach).
+    let one = in_sets.reached far in
+    let is = at one.0 one.1 one.2 one.3 in
+    let there = there_again g one.0 one.1 one.2 is in
+    let n = near g site (site_on g one.0 one.1) sides inside there.0 in
+    let d = distance_on g site one.0 one.1 is in
+    let e = one.4 in
+    omega arith)
+    (λ (none : reach ≤ 0). omega arith)
+    (cases_lt 0 reach)

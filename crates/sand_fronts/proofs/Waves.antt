@@ -7,13 +7,13 @@ use Rattle.sand_model.proofs.Flow.{flow_le, flow_same, flow-add}
 use Rattle.sand_model.proofs.Sandpile.{flow_ones, least_action}
 use Rattle.sand_model.proofs.SumsBelow.{one_at_same, one_at_other}
 use Rattle.sand_tiles.specs.declared.tile.Tile.{Tile}
-use Rattle.sand_tiles.specs.Places.{bit, had, around, unused, IsReady, Calms, Visits}
+use Rattle.sand_tiles.specs.Places.{bit, had, around, unused, IsReady, Calms}
 use Rattle.sand_tiles.proofs.Bits.{bit_le}
 use Rattle.sand_tiles.proofs.Around.{around_le}
 use Rattle.sand_fronts.specs.Tiling.{tile_of, place_of, is_site, site_on, on_tiles}
-use Rattle.sand_fronts.specs.Waves.{at_site, toppled, only, AreOpen, IsWave, Spreads}
+use Rattle.sand_fronts.specs.Waves.{at_site, toppled, only, AreOpen, IsWave, Spreads, Visited}
 use Rattle.sand_fronts.proofs.NeighboursOnTiles.{flow_on_tiles}
-use Rattle.sand_fronts.proofs.OnTiles.{place_below, there_again, at_on, on_tiles_blank, on_tiles_le, on_tiles_is, on_site, off_site}
+use Rattle.sand_fronts.proofs.OnTiles.{place_below, there_again, at_on, on_tiles_blank, on_tiles_le, on_tiles_is, on_sum, on_site, off_site}
 
 pub only_same : (k m : ℕ) (f : ℕ → ℕ) (p : ℕ) → m ≡ k → only k f m p ≡ f p
 unfolding only
@@ -112,24 +112,29 @@ wave_ready {g} {site} {h} free {τ} k start s open' wave inside low begins first
           (cases_Bool (is_site g k p));
     }
 
+-- the sets `new` have only sites, and whatever stabilises the pile topples them next
+pub record IsNext (g : Grid) (h : ℕ → ℕ) (τ : ℕ → Tile) (new : ℕ → ℕ → ℕ) : Type 0 where
+  pub at_sites : (m p : ℕ) → p < 64 → new m p ≡ on_tiles g (at_site g new) m p
+  pub needed : (w : ℕ → ℕ) → Stabilises g h w → (j : ℕ) → j < sites g → toppled g τ j + at_site g new j ≤ w j
+
 -- only sites topple in a visit
-pub newly : (g : Grid) (site : ℕ) (free : ℕ → ℕ) (τ : ℕ → Tile) (v : Tile) (k start s new m p : ℕ) → AreOpen g site free
+newly : (g : Grid) (site : ℕ) (free : ℕ → ℕ) (τ : ℕ → Tile) (k start s : ℕ) → AreOpen g site free
     → ((q : ℕ) → q < 64 → bit start q ≡ on_tiles g (λ j. s * one_at site j) k q)
-    → Visits (τ k) v (free k) start new → p < 64
-    → only k (bit new) m p ≡ on_tiles g (at_site g (only k (bit new))) m p
-newly g site free τ v k start s new m p open' begins visits low =
-    on_tiles_is g (only k (bit new)) m p low (λ no.
+    → (v : Visited (τ k) (free k) start) → (m p : ℕ) → p < 64
+    → only k (bit v.new) m p ≡ on_tiles g (at_site g (only k (bit v.new))) m p
+newly g site free τ k start s open' begins v m p low =
+    on_tiles_is g (only k (bit v.new)) m p low (λ no.
     ⊎_elim
     (λ (here : m ≡ k).
-    let same = only_same k m (bit new) p here in
+    let same = only_same k m (bit v.new) p here in
     let no' : is_site g k p ≡ false = sym (ap (λ i. is_site g i p) here) ∙ no in
     let o = open' k p low in
     let o1 = off_site g (λ j. 1 - one_at site j) k p no' in
     let b = begins p low in
     let b1 = off_site g (λ j. s * one_at site j) k p no' in
-    let h = visits.at_held p low (omega arith) in
+    let h = v.visits.at_held p low (omega arith) in
     omega arith)
-    (λ (there : m ≡ k → ⊥). only_other k m (bit new) p there)
+    (λ (there : m ≡ k → ⊥). only_other k m (bit v.new) p there)
     (cases_eq m k))
 
 -- whatever stabilises the pile leaves no 4 in this tile
@@ -178,13 +183,53 @@ calm g site h free τ k start s w open' wave inside high begins first stable =
           omega arith;
     }
 
-pub wave_step : (g : Grid) (site : ℕ) (h : ℕ → ℕ) (free : ℕ → ℕ) (τ σ : ℕ → Tile) (v : Tile) (k start s new : ℕ)
-    → AreOpen g site free → IsWave g site h τ → site < sites g
-    → ((j : ℕ) → j < sites g → j ≢ site → h j ≤ 3) → 4 ≤ h site
+-- the sites that topple in a visit are next
+pub next_one : {g : Grid} {site : ℕ} {h : ℕ → ℕ} (free : ℕ → ℕ) {τ : ℕ → Tile} {k start : ℕ} (s : ℕ)
+    → AreOpen g site free → IsWave g site h τ → site < sites g → 4 ≤ h site
     → ((p : ℕ) → p < 64 → bit start p ≡ on_tiles g (λ j. s * one_at site j) k p) → toppled g τ site + s ≤ 1
-    → Visits (τ k) v (free k) start new → Spreads g site k new τ σ → IsWave g site h σ
-wave_step g site h free τ σ v k start s new open' wave inside low high begins first visits spreads =
-    let n : ℕ → ℕ = at_site g (only k (bit new)) in
+    → (v : Visited (τ k) (free k) start) → IsNext g h τ (only k (bit v.new))
+next_one {g} {site} {h} free {τ} {k} {start} s open' wave inside high begins first v = record {
+  at_sites = newly g site free τ k start s open' begins v;
+  needed = λ w stable j l.
+      let c = calm g site h free τ k start s w open' wave inside high begins first stable in
+      let m = tile_of g j in
+      let p = place_of g j in
+      let le = wave.needed w stable j l in
+      ⊎_elim
+      (λ (here : m ≡ k).
+      let same = only_same k m (bit v.new) p here in
+      let least = v.visits.least (on_tiles g (λ i. w i - toppled g τ i) k) c p (place_below g j) in
+      let value =
+      sym (ap (λ i. on_tiles g (λ x. w x - toppled g τ x) i p) here) ∙ at_on g (λ i. w i - toppled g τ i) j l in
+      omega arith)
+      (λ (there : m ≡ k → ⊥). let other = only_other k m (bit v.new) p there in omega arith)
+      (cases_eq m k);
+}
+
+-- the sites of two tiles
+pub next_two : {g : Grid} {h : ℕ → ℕ} {τ : ℕ → Tile} {j k : ℕ} (a b : ℕ → ℕ) → j ≢ k
+    → IsNext g h τ (only j a) → IsNext g h τ (only k b) → IsNext g h τ (λ m p. only j a m p + only k b m p)
+next_two {g} {h} {τ} {j} {k} a b ne one two = record {
+  at_sites = λ m p low.
+      let x = one.at_sites m p low in
+      let y = two.at_sites m p low in
+      let both = on_sum g (at_site g (only j a)) (at_site g (only k b))
+      (at_site g (λ m p. only j a m p + only k b m p)) m p low (λ i l. omega arith) in
+      omega arith;
+  needed = λ w stable i l.
+      let x = one.needed w stable i l in
+      let y = two.needed w stable i l in
+      let m = tile_of g i in
+      ⊎_elim
+      (λ (here : m ≡ k). let z = only_other j m a (place_of g i) (λ e. ne (sym e ∙ here)) in omega arith)
+      (λ (there : m ≡ k → ⊥). let z = only_other k m b (place_of g i) there in omega arith)
+      (cases_eq m k);
+}
+
+pub wave_step : {g : Grid} {site : ℕ} {h : ℕ → ℕ} {τ σ : ℕ → Tile} {new : ℕ → ℕ → ℕ} → IsWave g site h τ → site < sites g
+    → ((j : ℕ) → j < sites g → j ≢ site → h j ≤ 3) → IsNext g h τ new → Spreads g site new τ σ → IsWave g site h σ
+wave_step {g} {site} {h} {τ} {σ} {new} wave inside low next spreads =
+    let n : ℕ → ℕ = at_site g new in
     let sum : (j : ℕ) → toppled g σ j ≡ toppled g τ j + n j =
     λ j. spreads.once (tile_of g j) (place_of g j) (place_below g j) in
     let flows : (j : ℕ) → j < sites g → flow g (toppled g σ) j ≡ flow g (toppled g τ) j + flow g n j =
@@ -193,20 +238,9 @@ wave_step g site h free τ σ v k start s new open' wave inside low high begins 
       inside = λ m p l.
           let o = spreads.once m p l in
           let i = wave.inside m p l in
-          let a = newly g site free τ v k start s new m p open' begins visits l in
-          ⊎_elim
-          (λ (yes : is_site g m p ≡ true).
-          let x = on_site g (toppled g τ) m p yes in
-          let y = on_site g n m p yes in
-          let z = on_site g (toppled g σ) m p yes in
-          let e = sum (site_on g m p) in
-          omega arith)
-          (λ (no : is_site g m p ≡ false).
-          let x = off_site g (toppled g τ) m p no in
-          let y = off_site g n m p no in
-          let z = off_site g (toppled g σ) m p no in
-          omega arith)
-          (cases_Bool (is_site g m p));
+          let a = next.at_sites m p l in
+          let both = on_sum g (toppled g τ) n (toppled g σ) m p l (λ j less. sum j) in
+          omega arith;
       at_open = λ j l ne.
           let at = wave.at_open j l ne in
           let f = flows j l in
@@ -215,19 +249,5 @@ wave_step g site h free τ σ v k start s new open' wave inside low high begins 
           let to = spreads.at_open j l ne (omega arith) in
           omega arith;
       at_held = let at = wave.at_held in let f = flows site inside in let to = spreads.at_held in omega arith;
-      needed = λ w stable j l.
-          let c = calm g site h free τ k start s w open' wave inside high begins first stable in
-          let e = sum j in
-          let le = wave.needed w stable j l in
-          ⊎_elim
-          (λ (here : tile_of g j ≡ k).
-          let p = place_of g j in
-          let same = only_same k (tile_of g j) (bit new) p here in
-          let least = visits.least (on_tiles g (λ i. w i - toppled g τ i) k) c p (place_below g j) in
-          let value =
-          sym (ap (λ m. on_tiles g (λ i. w i - toppled g τ i) m p) here) ∙ at_on g (λ i. w i - toppled g τ i) j l in
-          omega arith)
-          (λ (there : tile_of g j ≡ k → ⊥).
-          let other = only_other k (tile_of g j) (bit new) (place_of g j) there in omega arith)
-          (cases_eq (tile_of g j) k);
+      needed = λ w stable j l. let e = sum j in let le = next.needed w stable j l in omega arith;
     }

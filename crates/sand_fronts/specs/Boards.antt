@@ -26,7 +26,7 @@ abbrev pub counts_of : Counts → ℕ → Count
 counts_of c = count_at c.each.items
 
 abbrev pub marks_of : Counts → ℕ → ℕ
-marks_of c = slice_index c.marks
+marks_of c = slice_index c.marks.sets
 
 abbrev pub grown : Grid → Counts → Counts → ℕ → ℕ
 grown g c d = grown_on g (counts_of c) (counts_of d)
@@ -41,24 +41,24 @@ pub record IsBoard (b : Board) : Type 0 where
 -- sand on the tiles of a grid, and a list with room for a wave
 pub record IsSand (g : Grid) (s : Sand) : Type 0 where
   pub one_each : length s.tiles.items ≡ tiles g
-  pub room : sites g + tiles g + 4 ≤ s.list.room
+  pub room : sites g + tiles g + 8 ≤ s.list.room
 
 pub record AreCounts (g : Grid) (c : Counts) : Type 0 where
   pub one_each : length c.each.items ≡ tiles g
-  pub marks_each : length c.marks ≡ tiles g
+  pub marks_each : length c.marks.sets ≡ tiles g
   pub sound : (m : ℕ) → IsCount (counts_of c m)
 
 -- the tiles get grains, and at most `most` tiles join the list
 pub record Gets (free : ℕ → ℕ) (most : ℕ) (gain : ℕ → ℕ → ℕ) (s t : Sand) : Type 0 where
   pub one_each : length t.tiles.items ≡ length s.tiles.items
-  pub gains : Gains (tiles_of s) (tiles_of t) gain
-  pub joins : Joins (length s.tiles.items) most (waits (tiles_of s) free) (waits (tiles_of t) free) s.list t.list
+  pub gains : Gains free (tiles_of s) (tiles_of t) gain
+  pub joins : Joins (length s.tiles.items) most (waits (tiles_of s)) (waits (tiles_of t)) s.list t.list
 
 -- the places that leave the wave are counted and marked, and nothing else changes
 pub record AreCounted (ts us : List Tile) (c d : Counts) : Type 0 where
   pub tiles_each : length us ≡ length ts
   pub counts_each : length d.each.items ≡ length c.each.items
-  pub marks_each : length d.marks ≡ length c.marks
+  pub marks_each : length d.marks.sets ≡ length c.marks.sets
   pub low : (m : ℕ) → (tile_at us m).low ≡ (tile_at ts m).low
   pub high : (m : ℕ) → (tile_at us m).high ≡ (tile_at ts m).high
   pub due : (m : ℕ) → (tile_at us m).due ≡ (tile_at ts m).due
@@ -76,7 +76,7 @@ CountsSites g c = (m p : ℕ) → p < 64 → counted (counts_of c m) p ≡ on_ti
 pub record HasSettled (g : Grid) (h : ℕ → ℕ) (s : Sand) (c d : Counts) : Type 0 where
   pub sand : IsSand g s
   pub counts : AreCounts g d
-  pub quiet : AreQuiet g (tiles_of s)
+  pub quiet : AreQuiet (tiles_of s)
   pub settled : IsSettled g h (grown g c d) (heights_on g (tiles_of s))
   pub counted : (m p : ℕ) → p < 64
       → counted (counts_of d m) p ≡ counted (counts_of c m) p + on_tiles g (grown g c d) m p

@@ -1,6 +1,6 @@
 -- What a drop topples, by tiles and counts.
 use Rattle.std.specs.Prelude.{ℕ, ◌≡◌, ◌-◌, ◌<◌}
-use Rattle.sand_model.specs.Grid.{Grid, sites, missing}
+use Rattle.sand_model.specs.Grid.{Grid, missing}
 use Rattle.sand_tiles.specs.declared.tile.Tile.{Tile}
 use Rattle.sand_tiles.specs.declared.counting.Count.{Count}
 use Rattle.sand_tiles.specs.Places.{bit, height, number}
@@ -19,10 +19,10 @@ counted_on g c j = counted (c (tile_of g j)) (place_of g j)
 abbrev pub grown_on : Grid → (ℕ → Count) → (ℕ → Count) → ℕ → ℕ
 grown_on g c d j = counted_on g d j - counted_on g c j
 
--- no place is in a wave, and no site is due
-pub record AreQuiet (g : Grid) (τ : ℕ → Tile) : Type 0 where
+-- no place is in a wave, and none is due
+pub record AreQuiet (τ : ℕ → Tile) : Type 0 where
   pub clear : (m : ℕ) → IsClear (τ m)
-  pub none_due : (j : ℕ) → j < sites g → bit (τ (tile_of g j)).due (place_of g j) ≡ 0
+  pub none_due : (m p : ℕ) → p < 64 → bit (τ m).due p ≡ 0
 
 -- the numbers on the tiles are the numbers of places around each site outside the grid
 abbrev pub AreOutside : Grid → (ℕ → Tile) → Type 0

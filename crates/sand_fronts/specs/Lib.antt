@@ -1,5 +1,6 @@
 pub mod Tiling
 pub mod Waves
+pub mod Filling
 pub mod IndexLists
 pub mod TileLists
 pub mod Marking
@@ -8,4 +9,5 @@ pub mod Drops
 pub mod Boards
 pub mod TiledPiles
 pub mod Reaching
-pub mod Falls
+pub mod Avalanches
+pub mod WrittenBack

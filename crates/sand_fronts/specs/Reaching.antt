@@ -1,7 +1,7 @@
 -- How far a drop has reached, in columns and rows.
 use Rattle.std.specs.Prelude.{ℕ, ◌≡◌, ◌+◌, ◌-◌, ◌*◌, ◌/◌, ◌%◌, ◌<◌, ◌≤◌, if◌then◌else◌, min}
 use Rattle.std.specs.Int.{abs_diff}
-use Rattle.sand_model.specs.Grid.{Grid, sites, joins, column, row, distance}
+use Rattle.sand_model.specs.Grid.{Grid, joins, column, row}
 use Rattle.sand_tiles.specs.Places.{bit}
 use Rattle.sand_fronts.specs.Tiling.{pitch}
 use Rattle.sand_fronts.specs.declared.reach.Spot.{Spot}
@@ -33,8 +33,3 @@ pub record IsReachedIn (g : Grid) (s : Spot) (words : ℕ → ℕ) (reach : ℕ)
   pub within : (m p : ℕ) → p < 64 → bit (words m) p ≡ 1 → distance_within g s (corner_of g m) p ≤ reach
   pub reached : 0 < reach
       → (m : ℕ) × (p : ℕ) × (p < 64) × (bit (words m) p ≡ 1) × (distance_within g s (corner_of g m) p ≡ reach)
-
--- each site j toppled v j times, and reach is the greatest distance from a site to one that toppled, or 0 if none did
-pub record IsReach (g : Grid) (site : ℕ) (v : ℕ → ℕ) (reach : ℕ) : Type 0 where
-  pub within : (j : ℕ) → j < sites g → 0 < v j → distance g site j ≤ reach
-  pub reached : 0 < reach → (j : ℕ) × (j < sites g) × (0 < v j) × (distance g site j ≡ reach)

@@ -1,17 +1,17 @@
 -- Lists of waiting tiles.
-use Rattle.std.specs.Prelude.{ℕ, Bool, List, ◌≡◌, ◌⊎◌, ◌+◌, ◌<◌, ◌≤◌, length, drop, slice_index, nat_lt, bit_and, ◌&&◌, not, ◌==◌}
+use Rattle.std.specs.Prelude.{ℕ, Bool, List, ◌≡◌, ◌⊎◌, ◌+◌, ◌%◌, ◌^◌, ◌<◌, ◌≤◌, length, drop, slice_index, nat_lt, ◌&&◌, not, ◌==◌}
 use Rattle.sand_model.specs.Lists.{Lists}
 use Rattle.sand_tiles.specs.declared.tile.Tile.{Tile}
 use Rattle.sand_tiles.specs.Places.{bit}
 use Rattle.sand_fronts.specs.IndexLists.{ListView}
 
--- whether a free place of a tile is due
-abbrev pub waits : (ℕ → Tile) → (ℕ → ℕ) → ℕ → Bool
-waits τ free k = nat_lt 0 (bit_and (τ k).due (free k))
+-- whether any of the 64 places of a tile is due
+abbrev pub waits : (ℕ → Tile) → ℕ → Bool
+waits τ k = nat_lt 0 ((τ k).due % 2 ^ 64)
 
--- the same, except for one tile
-abbrev pub waits_but : ℕ → (ℕ → Tile) → (ℕ → ℕ) → ℕ → Bool
-waits_but k τ free m = not (m == k) && waits τ free m
+-- a test, except that tile k does not pass
+abbrev pub but : ℕ → (ℕ → Bool) → ℕ → Bool
+but k p m = not (m == k) && p m
 
 -- at most `most` tiles join the end of a list; if from some turn on it had each tile that passes p once, it now has
 -- each that passes q

@@ -14,7 +14,7 @@ pub record IsTiledPile (b : Board) (s : Sand) (c : Counts) : Type 0 where
   pub board : IsBoard b
   pub all_open : AreAllOpen b.shape (free_of b)
   pub sand : IsSand b.shape s
-  pub quiet : AreQuiet b.shape (tiles_of s)
+  pub quiet : AreQuiet (tiles_of s)
   pub counts : AreCounts b.shape c
   pub at_sites : CountsSites b.shape c
   pub unmarked : (m : ℕ) → marks_of c m ≡ 0

@@ -35,24 +35,32 @@ pub record IsWave (g : Grid) (site : ℕ) (h : ℕ → ℕ) (τ : ℕ → Tile) 
   pub at_held : height (τ (tile_of g site)) (place_of g site) ≡ (h site + flow g (toppled g τ) site) % 4
   pub needed : (w : ℕ → ℕ) → Stabilises g h w → (j : ℕ) → j < sites g → toppled g τ j ≤ w j
 
--- the places of the set `new` of tile k topple, and their grains reach all neighbours
-pub record Spreads (g : Grid) (site k new : ℕ) (τ σ : ℕ → Tile) : Type 0 where
-  pub once : (m p : ℕ) → p < 64 → bit (σ m).wave p ≡ bit (τ m).wave p + only k (bit new) m p
+-- the places of the sets `new` topple, and their grains reach all neighbours
+pub record Spreads (g : Grid) (site : ℕ) (new : ℕ → ℕ → ℕ) (τ σ : ℕ → Tile) : Type 0 where
+  pub once : (m p : ℕ) → p < 64 → bit (σ m).wave p ≡ bit (τ m).wave p + new m p
   pub at_open : (j : ℕ) → j < sites g → j ≢ site
-      → had (τ (tile_of g j)) (place_of g j) + flow g (at_site g (only k (bit new))) j ≤ 7
-      → had (σ (tile_of g j)) (place_of g j)
-      ≡ had (τ (tile_of g j)) (place_of g j) + flow g (at_site g (only k (bit new))) j
+      → had (τ (tile_of g j)) (place_of g j) + flow g (at_site g new) j ≤ 7
+      → had (σ (tile_of g j)) (place_of g j) ≡ had (τ (tile_of g j)) (place_of g j) + flow g (at_site g new) j
   pub at_held : height (σ (tile_of g site)) (place_of g site)
-      ≡ (height (τ (tile_of g site)) (place_of g site) + flow g (at_site g (only k (bit new))) site) % 4
+      ≡ (height (τ (tile_of g site)) (place_of g site) + flow g (at_site g new) site) % 4
 
 -- a tile by its number, and an empty one past the end
 abbrev pub tile_at : List Tile → ℕ → Tile
 tile_at tiles k = slice_index_or tiles k (record { low = 0; high = 0; due = 0; wave = 0 })
 
--- each place gains `gain` grains: exactly if it has had at most 7 with them, and always modulo 4
-pub record Gains (τ σ : ℕ → Tile) (gain : ℕ → ℕ → ℕ) : Type 0 where
+-- only free places are due
+abbrev pub AreDueFree : (ℕ → ℕ) → (ℕ → Tile) → Type 0
+AreDueFree free τ = (m p : ℕ) → p < 64 → bit (τ m).due p ≤ bit (free m) p
+
+abbrev pub IsNoneDue : (ℕ → Tile) → Type 0
+IsNoneDue τ = (m p : ℕ) → p < 64 → bit (τ m).due p ≡ 0
+
+-- each place gains `gain` grains: exactly if it is free and has had at most 7 with them, and always modulo 4
+pub record Gains (free : ℕ → ℕ) (τ σ : ℕ → Tile) (gain : ℕ → ℕ → ℕ) : Type 0 where
   pub wave : (m p : ℕ) → p < 64 → bit (σ m).wave p ≡ bit (τ m).wave p
-  pub each : (m p : ℕ) → p < 64 → had (τ m) p + gain m p ≤ 7 → had (σ m) p ≡ had (τ m) p + gain m p
+  pub due_free : AreDueFree free τ → AreDueFree free σ
+  pub each : (m p : ℕ) → p < 64 → bit (free m) p ≡ 1 → had (τ m) p + gain m p ≤ 7
+      → had (σ m) p ≡ had (τ m) p + gain m p
   pub modulo : (m p : ℕ) → p < 64 → height (σ m) p ≡ (height (τ m) p + gain m p) % 4
 
 -- the grains of the set `new` that leave its tile, by the tile that they reach
@@ -69,13 +77,27 @@ pub record IsBeside (g : Grid) (k : ℕ) (b : Beside) : Type 0 where
   pub west_shift : b.west_shift ≡ shift_west g k
   pub east_shift : b.east_shift ≡ shift_east g k
 
--- tile k is visited and becomes `visited`, and the grains of the places `new` that leave it reach the tiles next to it
-pub record Steps (τ σ : ℕ → Tile) (free : ℕ) (b : Beside) (k start : ℕ) : Type 0 where
-  pub visited : Tile
+-- what a visit makes of a tile, and the places that topple in it
+pub record Visited (t : Tile) (free start : ℕ) : Type 0 where
+  pub tile : Tile
   pub new : ℕ
-  pub visits : Visits (τ k) visited free start new
+  pub visits : Visits t tile free start new
   pub fits : new < 2 ^ 64
-  pub gains : Gains (λ m. if m == k then visited else τ m) σ (over_rim b new)
+
+-- tile k becomes t
+abbrev pub put : ℕ → Tile → (ℕ → Tile) → ℕ → Tile
+put k t τ m = if m == k then t else τ m
+
+-- tile k is visited, and the grains that leave it reach the tiles next to it
+pub record Steps (τ σ : ℕ → Tile) (free : ℕ → ℕ) (b : Beside) (k start : ℕ) : Type 0 where
+  pub visited : Visited (τ k) (free k) start
+  pub gains : Gains free (put k visited.tile τ) σ (over_rim b visited.new)
+
+-- two tiles are visited, and only then do the grains that leave them reach the tiles next to them
+pub record PairSteps (τ σ : ℕ → Tile) (free : ℕ → ℕ) (b c : Beside) (j k : ℕ) : Type 0 where
+  pub one : Visited (τ j) (free j) 0
+  pub two : Visited (τ k) (free k) 0
+  pub gains : Gains free (put k two.tile (put j one.tile τ)) σ (λ m p. over_rim b one.new m p + over_rim c two.new m p)
 
 -- the heights after a wave: those in the planes, and what the held site has after its toppling
 pub record Leaves (g : Grid) (site : ℕ) (h : ℕ → ℕ) (τ : ℕ → Tile) (k : ℕ → ℕ) : Type 0 where
@@ -112,10 +134,10 @@ pub record AreBeside (g : Grid) (all : List Beside) : Type 0 where
 abbrev pub heights_before : Grid → ℕ → (ℕ → Tile) → ℕ → ℕ
 heights_before g site τ j = height (τ (tile_of g j)) (place_of g j) + 4 * one_at site j
 
--- between waves nothing has toppled, no free place is due, and the dropped site is 0 in the planes
+-- between waves nothing has toppled, nothing is due, and the dropped site is 0 in the planes
 pub record AreAtRest (g : Grid) (site : ℕ) (τ : ℕ → Tile) : Type 0 where
   pub clear : (m p : ℕ) → p < 64 → bit (τ m).wave p ≡ 0
-  pub none_due : (j : ℕ) → j < sites g → j ≢ site → bit (τ (tile_of g j)).due (place_of g j) ≡ 0
+  pub none_due : IsNoneDue τ
   pub empty : height (τ (tile_of g site)) (place_of g site) ≡ 0
 
 -- a site, and where it is on the tiles
@@ -124,8 +146,8 @@ pub record IsDropSite (g : Grid) (d : DropSite) : Type 0 where
   pub tile : d.tile ≡ tile_of g d.site
   pub place : d.place ≡ place_of g d.site
 
--- a wave from the tiles τ, which were at rest, to the tiles σ: the dropped site has toppled, and no other site is due
+-- a wave from the tiles τ, which were at rest, to the tiles σ: the dropped site has toppled, and no site is due
 pub record IsWholeWave (g : Grid) (site : ℕ) (τ σ : ℕ → Tile) : Type 0 where
   pub wave : IsWave g site (heights_before g site τ) σ
   pub started : toppled g σ site ≡ 1
-  pub none_due : (j : ℕ) → j < sites g → j ≢ site → bit (σ (tile_of g j)).due (place_of g j) ≡ 0
+  pub none_due : IsNoneDue σ

@@ -1,14 +1,16 @@
 //! The tiles of a grid without their sand: which of their places are free, and which tiles are next to each other.
 
-ghost use Rattle.std.specs.Prelude.{◌≡◌, ℕ, ◌<◌, length, slice_index, IfOk};
-ghost use Rattle.sand_model.specs.Grid.{missing, sites};
+ghost use Rattle.std.specs.Prelude.{◌≡◌, ◌+◌, ◌*◌, ◌<◌, length, IfOk};
+ghost use Rattle.sand_model.specs.Grid.{missing};
 ghost use Rattle.sand_fronts.specs.Tiling.{tiles};
 ghost use Rattle.sand_fronts.specs.Waves.{tile_at, AreAllOpen};
 ghost use Rattle.sand_fronts.specs.Drops.{AreOutside};
 ghost use Rattle.sand_fronts.specs.Boards.{free_of, IsBoard};
 
+use crate::filling::tiles_of;
+use crate::reach::Spot;
 use crate::sides::{Beside, all_sides};
-use crate::tiling::{all_open, tiles_with};
+use crate::tiling::all_open;
 use sand_model::Shape;
 use sand_tiles::Tile;
 use std::alloc::{AllocError, Global};
@@ -32,25 +34,26 @@ pub(crate) struct DropSite {
     pub(crate) place: usize,
 }
 
-// By site, the number of places around it that are outside the grid.
-fn outside_by_site(alloc: Global, shape: Shape) -> Result<Vec<u64>, AllocError>
-    ensures one_each { IfOk result (λ all. length all.items ≡ sites shape) }
-    ensures each { IfOk result (λ all. (j : ℕ) → j < sites shape → slice_index all.items j ≡ missing shape j) }
+// The number of places around a site that are outside the grid. Only a site at the border needs its neighbours.
+#[inline(always)]
+fn missing_at(shape: Shape, spot: Spot) -> u64
+    requires { (spot.row < shape.height) × (spot.column < shape.width) }
+    ensures { result ≡ missing shape (spot.row * shape.width + spot.column) }
 {
-    let mut all = Vec::with_capacity(alloc, shape.sites())?;
-    for site in 0..shape.sites() {
-        all.push_reserved(u64::from(shape.missing(site)));
+    let Spot { column, row } = spot;
+    let (width, height) = (shape.width(), shape.height());
+    if row > 0 && row + 1 < height && column > 0 && column + 1 < width {
+        return 0;
     }
-    Ok(all)
+    u64::from(shape.missing(row * width + column))
 }
 
-// The same on tiles.
+// The same for all sites, on tiles.
 fn all_outside(alloc: Global, shape: Shape) -> Result<Vec<Tile>, AllocError>
     ensures one_each { IfOk result (λ all. length all.items ≡ tiles shape) }
     ensures each { IfOk result (λ all. AreOutside shape (tile_at all.items)) }
 {
-    let by_site = outside_by_site(alloc, shape)?;
-    let all = tiles_with(alloc, shape, by_site.as_slice())?;
+    let all = tiles_of(alloc, shape, &|spot: Spot| missing_at(shape, spot))?;
     Ok(all)
 }
 

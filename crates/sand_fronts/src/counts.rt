@@ -1,9 +1,8 @@
 //! How often each place has toppled.
 //!
 //! After a wave its sites are counted and marked, and taken out of the tiles. Each tile in which a site has toppled is
-//! in the list of the wave. It may be listed several times, but from the second time on its set is empty. So the sites
-//! counted so far and those still in the tiles are together the sites of the wave (`AreCounted`: `each`; `size`,
-//! `lost`), and in the end the tiles have none.
+//! in the list of the wave. The sites counted so far and those still in the tiles are together the sites of the wave
+//! (`AreCounted`: `each`; `size`, `lost`), and in the end the tiles have none.
 //!
 //! How many grains a site loses when it topples, 0 to 4, is also kept on tiles: in `outside`, in place of heights.
 
@@ -51,7 +50,8 @@ fn no_counts(alloc: Global, n: usize) -> Result<Vec<Count>, AllocError>
 impl Counts {
     /// No topplings on n tiles. Fails only if an allocation fails.
     pub(crate) fn new(alloc: Global, n: usize) -> Result<Counts, AllocError>
-        ensures one_each { IfOk result (λ c. (length c.each.items ≡ n) × (length c.marks ≡ n)) }
+        requires { n ≤ 65536 }
+        ensures one_each { IfOk result (λ c. (length c.each.items ≡ n) × (length c.marks.sets ≡ n)) }
         ensures sound { IfOk result (λ c. (m : ℕ) → IsCount (counts_of c m)) }
         ensures none { IfOk result (λ c. (m p : ℕ) → p < 64 → counted (counts_of c m) p ≡ 0) }
         ensures unmarked { IfOk result (λ c. (m : ℕ) → marks_of c m ≡ 0) }
@@ -66,7 +66,8 @@ impl Counts {
     fn take(&mut self, tiles: &mut Vec<Tile>, k: usize) -> u64
         requires tile { k < length tiles.old.items }
         requires one_each { (length self.old.each.items ≡ length tiles.old.items)
-            × (length self.old.marks ≡ length tiles.old.items) }
+            × (length self.old.marks.sets ≡ length tiles.old.items) }
+        requires small { length tiles.old.items ≤ 65536 }
         requires sound { IsCount (counts_of self.old k) }
         requires few { (p : ℕ) → p < 64 → counted (counts_of self.old k) p < 2 ^ 62 }
         ensures counted { AreCounted tiles.old.items tiles.new.items self.old self.new }
@@ -75,9 +76,6 @@ impl Counts {
         ensures others { (m : ℕ) → m ≢ k → (tile_at tiles.new.items m).wave ≡ (tile_at tiles.old.items m).wave }
     {
         let set = tiles[k].wave;
-        if set == 0 {
-            return 0;
-        }
         tiles[k].wave = 0;
         count_set(&mut self.each[k], set);
         self.marks.mark(k, set);

@@ -9,9 +9,6 @@
 //! - **It ends**, since each toppling lowers the weight of the pile.
 //! - **It is right**: each wave is a legal sequence of topplings and the end is stable, so the growth of the counts is
 //!   the least odometer (`settled`).
-//!
-//! The dropped site is not free in its waves, and may have become due. After them nothing else is due in its tile, and
-//! `due` is set to 0: otherwise the next drop would topple the site for no reason.
 
 ghost use Rattle.std.specs.Prelude.{◌≡◌, ℕ, ◌^◌, ◌<◌};
 ghost use Rattle.sand_model.specs.Sand.{lost, topplings};
@@ -55,6 +52,5 @@ pub(crate) fn topple_all(
         total.lost += wave.lost;
         more = (wave.size > 1) & (height_at(&sand.tiles[drop.tile], drop.place) == 0);
     }
-    sand.tiles[drop.tile].due = 0;
     total
 }

@@ -20,9 +20,11 @@ pub(crate) struct Extent {
     pub(crate) reach: usize,
 }
 
-// The first place of a tile with sites.
+const NOWHERE: Extent = Extent { area: 0, reach: 0 };
+
+/// The first place of a tile with sites.
 #[inline(always)]
-fn corner(shape: Shape, k: usize) -> Spot
+pub(crate) fn corner(shape: Shape, k: usize) -> Spot
     requires { k < 2 ^ 20 }
     ensures value { result ≡ corner_of shape k }
     ensures small { (result.column < 2 ^ 31) × (result.row < 2 ^ 31) }
@@ -50,9 +52,6 @@ fn add_set(shape: Shape, from: Spot, k: usize, set: u64, extent: Extent) -> Exte
     ensures area { result.area ≡ extent.area + sum_below 64 (bit set) }
     ensures reach { IsReachedFrom shape from (corner_of shape k) set extent.reach result.reach }
 {
-    if set == 0 {
-        return extent;
-    }
     Extent {
         area: extent.area + size(set),
         reach: reach_of(shape, from, corner(shape, k), set, extent.reach),
@@ -62,19 +61,20 @@ fn add_set(shape: Shape, from: Spot, k: usize, set: u64, extent: Extent) -> Exte
 /// Clears all sets. Returns how far they reached from a site.
 pub(crate) fn take_all(shape: Shape, site: usize, marks: &mut Marks) -> Extent
     requires site { site < sites shape }
-    requires small { length marks.old ≤ 65536 }
-    ensures area { result.area ≡ in_sets (length marks.old) (slice_index marks.old) }
-    ensures reach { IsReachedIn shape (spot_of shape site) (slice_index marks.old) result.reach }
-    ensures one_each { length marks.new ≡ length marks.old }
-    ensures none { (m : ℕ) → slice_index marks.new m ≡ 0 }
+    requires small { length marks.old.sets ≤ 65536 }
+    ensures area { result.area ≡ in_sets (length marks.old.sets) (slice_index marks.old.sets) }
+    ensures reach { IsReachedIn shape (spot_of shape site) (slice_index marks.old.sets) result.reach }
+    ensures one_each { length marks.new.sets ≡ length marks.old.sets }
+    ensures none { (m : ℕ) → slice_index marks.new.sets m ≡ 0 }
 {
+    let mut extent = NOWHERE;
+    if marks.len() == 0 {
+        return extent;
+    }
     let from = spot(shape, site);
-    let (first, end) = marks.between();
-    let mut extent = Extent { area: 0, reach: 0 };
-    for k in first..end {
-        let set = marks.take(k);
+    'tiles: while marks.len() > 0 {
+        let (k, set) = marks.take_last();
         extent = add_set(shape, from, k, set, extent);
     }
-    marks.end();
     extent
 }

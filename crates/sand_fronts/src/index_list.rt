@@ -1,6 +1,6 @@
 //! A list of sites or of tiles that wait for their turn, in memory that is allocated beforehand.
 
-ghost use Rattle.std.specs.Prelude.{◌≡◌, ℕ, ◌+◌, ◌<◌, ◌≤◌, ◌^◌, [], ◌∷◌, ◌++◌, length, slice_index, IfOk, if◌then◌else◌};
+ghost use Rattle.std.specs.Prelude.{◌≡◌, ℕ, ◌+◌, ◌<◌, ◌≤◌, ◌^◌, [], ◌∷◌, ◌++◌, length, take, slice_index, slice_set, IfOk, if◌then◌else◌};
 
 use std::alloc::{AllocError, Global};
 use std::marker::Model;
@@ -65,5 +65,26 @@ impl IndexList {
     {
         self.slots[self.len] = index as u32;
         self.len += usize::from(test);
+    }
+
+    /// Writes an index in place of an earlier one. Returns the next place if `test` is true, and otherwise the same.
+    #[inline(always)]
+    pub fn keep_if(&mut self, turn: usize, index: usize, test: bool) -> usize
+        requires inside { turn < length self.old.items }
+        requires small { index < 2 ^ 32 }
+        ensures list { self.new ≡ record self.old { items = slice_set self.old.items turn index } }
+        ensures next { result ≡ (if test then turn + 1 else turn) }
+    {
+        self.slots[turn] = index as u32;
+        turn + usize::from(test)
+    }
+
+    /// Leaves the first `len` indices.
+    #[inline(always)]
+    pub fn truncate(&mut self, len: usize)
+        requires { len ≤ length self.old.items }
+        ensures { self.new ≡ record self.old { items = take len self.old.items } }
+    {
+        self.len = len;
     }
 }

@@ -1,10 +1,12 @@
 //! Avalanches by fronts: on tiles of 8 by 8 sites, all sites of a tile that may topple do so at once.
 #![tactic(auto)]
 
+mod avalanche;
 mod board;
 mod counts;
 mod dropping;
 mod extent;
+mod filling;
 mod index_list;
 mod marks;
 mod reach;
@@ -12,6 +14,8 @@ mod sand;
 mod sides;
 mod tiled_pile;
 mod tiling;
+mod written_back;
 
+pub use avalanche::Avalanche;
 pub use index_list::IndexList;
-pub use tiled_pile::{Fall, TiledPile};
+pub use tiled_pile::TiledPile;

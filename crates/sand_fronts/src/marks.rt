@@ -1,10 +1,13 @@
 //! The sites that a drop has toppled: a set of places for each tile.
 //!
-//! Most drops topple sites of a few tiles. All sets before a first tile and from an end on are known to be empty, so
-//! only those in between are read after a drop.
+//! Most drops topple sites of a few tiles. The tiles whose sets are not empty are also in a list, so that only those are
+//! read after a drop.
 
-ghost use Rattle.std.specs.Prelude.{◌≡◌, ℕ, ◌<◌, ◌≤◌, ◌⊎◌, ◌==◌, bit_or, length, slice_index, if◌then◌else◌, IfOk};
+ghost use Rattle.std.specs.Prelude.{◌≡◌, ℕ, ◌+◌, ◌<◌, ◌≤◌, ◌==◌, bit_or, length, slice_index, if◌then◌else◌, IfOk};
+ghost use Rattle.sand_model.specs.Lists.{Lists};
+ghost use Rattle.sand_fronts.specs.Marking.{has_mark};
 
+use crate::index_list::IndexList;
 use std::alloc::{AllocError, Global};
 use std::marker::Model;
 
@@ -12,76 +15,92 @@ use std::marker::Model;
 #[derive(Drop)]
 pub(crate) struct Marks {
     words: Vec<u64>,
-    // The sets before `first`, and from `end` on, are empty.
-    first: usize,
-    end: usize,
+    tiles: IndexList,
 }
 
 impl Model for Marks {
-    ghost use Rattle.std.specs.Prelude.{ℕ, List, ◌≤◌, length};
-    ghost use Rattle.sand_fronts.specs.Marking.{AreBetween};
+    ghost use Rattle.std.specs.Prelude.{◌<◌, length};
+    ghost use Rattle.sand_model.specs.Lists.{Lists};
+    ghost use Rattle.sand_fronts.specs.Marking.{MarksView, has_mark};
 
-    ghost Value = { List ℕ };
+    ghost Value = { MarksView };
 
-    ghost view = { λ m. m.words.items };
+    ghost view = { λ m. record { sets = m.words.items; tiles = m.tiles.items } };
 
-    ghost invariant = { λ m. (m.end ≤ length m.words.items) × AreBetween m.first m.end m.words.items };
+    ghost invariant = { λ m. (length m.words.items < m.tiles.room)
+        × Lists (length m.words.items) (has_mark m.words.items) m.tiles.items };
 }
 
 impl Marks {
     /// Empty sets for n tiles. Fails only if an allocation fails.
     pub(crate) fn new(alloc: Global, n: usize) -> Result<Marks, AllocError>
-        ensures one_each { IfOk result (λ m. length m ≡ n) }
-        ensures none { IfOk result (λ m. (k : ℕ) → slice_index m k ≡ 0) }
+        requires { n ≤ 65536 }
+        ensures one_each { IfOk result (λ m. length m.sets ≡ n) }
+        ensures none { IfOk result (λ m. (k : ℕ) → slice_index m.sets k ≡ 0) }
     {
         let words = vec![in alloc; 0u64; n]?;
-        Ok(Marks {
-            words,
-            first: n,
-            end: 0,
-        })
+        let tiles = IndexList::new(alloc, n + 1)?;
+        Ok(Marks { words, tiles })
     }
 
     /// Adds places to the set of a tile.
     #[inline(always)]
     pub(crate) fn mark(&mut self, k: usize, set: u64)
-        requires { k < length self.old }
-        ensures one_each { length self.new ≡ length self.old }
-        ensures each { (m : ℕ) → slice_index self.new m
-            ≡ (if m == k then bit_or (slice_index self.old m) set else slice_index self.old m) }
+        requires tile { k < length self.old.sets }
+        requires small { length self.old.sets ≤ 65536 }
+        ensures one_each { length self.new.sets ≡ length self.old.sets }
+        ensures each { (m : ℕ) → slice_index self.new.sets m
+            ≡ (if m == k then bit_or (slice_index self.old.sets m) set else slice_index self.old.sets m) }
     {
-        self.words[k] |= set;
-        self.first = self.first.min(k);
-        self.end = self.end.max(k + 1);
+        let before = self.words[k];
+        let after = before | set;
+        self.words[k] = after;
+        self.tiles.push_if(k, (before == 0) & (after != 0));
     }
 
-    /// The range of tiles that has all non-empty sets: from the first number, before the second.
-    pub(crate) fn between(&self) -> (usize, usize)
-        ensures empty { (m : ℕ) → (m < result.0) ⊎ (result.1 ≤ m) → slice_index self.now m ≡ 0 }
-        ensures within { result.1 ≤ length self.now }
-    {
-        (self.first, self.end)
-    }
-
-    /// Takes out the set of a tile.
+    /// The number of tiles whose sets are not empty.
     #[inline(always)]
-    pub(crate) fn take(&mut self, k: usize) -> u64
-        requires { k < length self.old }
-        ensures set { result ≡ slice_index self.old k }
-        ensures one_each { length self.new ≡ length self.old }
-        ensures each { (m : ℕ) → slice_index self.new m ≡ (if m == k then 0 else slice_index self.old m) }
+    pub(crate) fn len(&self) -> usize
+        ensures value { result ≡ length self.now.tiles }
+        ensures lists { Lists (length self.now.sets) (has_mark self.now.sets) self.now.tiles }
     {
+        self.tiles.len()
+    }
+
+    /// A tile whose set is not empty.
+    #[inline(always)]
+    pub(crate) fn tile(&self, turn: usize) -> usize
+        requires { turn < length self.now.tiles }
+        ensures value { result ≡ slice_index self.now.tiles turn }
+        ensures within { result < length self.now.sets }
+    {
+        self.tiles.item(turn)
+    }
+
+    /// The set of a tile.
+    #[inline(always)]
+    pub(crate) fn set(&self, k: usize) -> u64
+        requires { k < length self.now.sets }
+        ensures { result ≡ slice_index self.now.sets k }
+    {
+        self.words[k]
+    }
+
+    /// Takes the last tile out of the list, and its set.
+    #[inline(always)]
+    pub(crate) fn take_last(&mut self) -> (usize, u64)
+        requires { 0 < length self.old.tiles }
+        ensures tile { result.0 < length self.old.sets }
+        ensures set { result.1 ≡ slice_index self.old.sets result.0 }
+        ensures one_each { length self.new.sets ≡ length self.old.sets }
+        ensures fewer { length self.new.tiles + 1 ≡ length self.old.tiles }
+        ensures each { (m : ℕ) → slice_index self.new.sets m ≡ (if m == result.0 then 0 else slice_index self.old.sets m) }
+    {
+        let last = self.tiles.len() - 1;
+        let k = self.tiles.item(last);
+        self.tiles.truncate(last);
         let set = self.words[k];
         self.words[k] = 0;
-        set
-    }
-
-    /// Notes that all sets are empty.
-    pub(crate) fn end(&mut self)
-        requires { (m : ℕ) → slice_index self.old m ≡ 0 }
-        ensures { self.new ≡ self.old }
-    {
-        self.first = self.words.len();
-        self.end = 0;
+        (k, set)
     }
 }

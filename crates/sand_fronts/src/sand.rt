@@ -10,37 +10,36 @@
 //!   wave.
 //! - **Each toppling is legal, in any order.** Whatever stabilises the heights topples each site in T (`IsWave`:
 //!   `needed`). So the wave is a legal sequence of topplings (`advances`), though none is ever written down.
-//! - **The list.** It begins with the tile of the dropped site. A tile joins it when a free site in it becomes due and
-//!   none was before. Its turn topples all that is due there. So each turn topples a new site, and the list never has
-//!   more tiles than there are sites and tiles, plus the four that a turn may add. At its end no free site is due
-//!   (`none_due`).
+//! - **The list.** It begins with the tile of the dropped site. A tile joins it when a site in it becomes due and none
+//!   was before. Its turn topples all that is due there. So each turn topples a new site, and the list never has more
+//!   tiles than there are sites and tiles, plus the eight that two turns may add. At its end no site is due
+//!   (`none_due`). Only free sites become due: so one word of a tile tells whether it waits.
+//! - **Two turns at once.** Where two tiles wait, both are visited before either hands over its grains (`PairSteps`).
+//!   No tile waits twice, so these are two tiles. What topples in them is known from the same state, and no grain is
+//!   under way when their sites topple: the pair is one step of the wave, as a single tile is.
+//! - **The tiles to count.** When the turn of a tile has come and no site of it has toppled yet in this wave, it is
+//!   written to the front of the list, over turns that are past. These tiles are all that is left in the list in the
+//!   end, so that each is counted once.
 //!
 //! A border of tiles without free sites spares all tests for the edge of the grid: grains that fall into the sink are
 //! added to tiles that nobody reads. On a cylinder the tiles at the two ends of a row are neighbours, and the last
 //! column of the grid need not be the last of its tile: hence the shifts of `Beside`.
 
-ghost use Rattle.std.specs.Prelude.{◌≡◌, ℕ, ◌+◌, ◌^◌, ◌<◌, ◌≤◌, length, slice_index};
+ghost use Rattle.std.specs.Prelude.{◌≡◌, ◌≢◌, ℕ, ◌+◌, ◌<◌, ◌≤◌, length, slice_index};
 ghost use Rattle.sand_tiles.specs.Places.{bit, IsReady};
 ghost use Rattle.sand_fronts.specs.Tiling.{tiles};
-ghost use Rattle.sand_fronts.specs.TileLists.{waits_but, waits, Joins, AreListed};
-ghost use Rattle.sand_fronts.specs.Waves.{only, AreOpen, AreAtRest, AtTile, IsOnBoard, IsDropSite, IsWholeWave, beside_at, over_rim, Steps};
+ghost use Rattle.sand_fronts.specs.TileLists.{but, waits, Joins, AreListed};
+ghost use Rattle.sand_fronts.specs.Waves.{only, AreOpen, AreAtRest, AtTile, IsOnBoard, IsDropSite, IsWholeWave, beside_at, over_rim, Steps, PairSteps};
 ghost use Rattle.sand_fronts.specs.Boards.{tiles_of, free_of, IsBoard, IsSand, Gets};
 
 use crate::board::{Board, DropSite};
 use crate::index_list::IndexList;
 use crate::sides::Beside;
-use sand_tiles::{Tile, receive, set_of, visit};
+use core::mem::replace_with;
+use sand_tiles::{Tile, receive, set_of, visit, visit_pair};
 
 // The first column of a tile.
 const FIRST: u64 = 0x0101_0101_0101_0101;
-
-// Does nothing at run time. It tells the proof that each word is below 2^64.
-#[inline(always)]
-fn knows_words(words: &[u64])
-    ensures { (m : ℕ) → slice_index words.now m < 2 ^ 64 }
-{
-    let _ = words.len();
-}
 
 /// The sand on the tiles, and a list of tiles that have their turn in a wave.
 #[derive(Drop)]
@@ -50,7 +49,7 @@ pub(crate) struct Sand {
 }
 
 impl Sand {
-    // Adds a grain at each place of a set in a tile, and lists the tile if a free place becomes due and none was before.
+    // Adds a grain at each place of a set in a tile, and lists the tile if a place becomes due and none was before.
     #[inline(always)]
     fn gain(&mut self, board: &Board, k: usize, gain: u64)
         requires inside { k < length self.old.tiles.items }
@@ -59,11 +58,11 @@ impl Sand {
         requires room { length self.old.list.items < self.old.list.room }
         ensures { Gets (free_of board.now) 1 (only k (bit gain)) self.old self.new }
     {
-        let places = board.free[k];
+        let free = board.free[k];
         let tile = &mut self.tiles[k];
-        let before = tile.due & places;
-        receive(tile, gain);
-        let after = tile.due & places;
+        let before = tile.due;
+        receive(tile, gain, free);
+        let after = tile.due;
         self.list.push_if(k, (before == 0) & (after != 0));
     }
 
@@ -91,13 +90,38 @@ impl Sand {
         requires ready { IsReady (tiles_of self.old k) (free_of board.now k) start }
         requires room { length self.old.list.items + 4 ≤ self.old.list.room }
         ensures sand { IsSand board.now.shape self.new }
-        ensures steps { Steps (tiles_of self.old) (tiles_of self.new) (free_of board.now k)
+        ensures steps { Steps (tiles_of self.old) (tiles_of self.new) (free_of board.now)
             (beside_at board.now.beside.items k) k start }
-        ensures joins { Joins (tiles board.now.shape) 4 (waits_but k (tiles_of self.old) (free_of board.now))
-            (waits (tiles_of self.new) (free_of board.now)) self.old.list self.new.list }
+        ensures joins { Joins (tiles board.now.shape) 4 (but k (waits (tiles_of self.old)))
+            (waits (tiles_of self.new)) self.old.list self.new.list }
     {
         let new = visit(&mut self.tiles[k], board.free[k], start);
         self.hand_over(board, &board.beside[k], new);
+    }
+
+    // Visits two tiles side by side, and only then hands over the grains that leave them.
+    #[inline(always)]
+    fn topple_pair(&mut self, board: &Board, j: usize, k: usize)
+        requires board { IsBoard board.now }
+        requires sand { IsSand board.now.shape self.old }
+        requires different { j ≢ k }
+        requires tile { AtTile board.now.shape j (beside_at board.now.beside.items j) }
+        requires other_tile { AtTile board.now.shape k (beside_at board.now.beside.items k) }
+        requires ready { IsReady (tiles_of self.old j) (free_of board.now j) 0 }
+        requires other_ready { IsReady (tiles_of self.old k) (free_of board.now k) 0 }
+        requires room { length self.old.list.items + 8 ≤ self.old.list.room }
+        ensures sand { IsSand board.now.shape self.new }
+        ensures steps { PairSteps (tiles_of self.old) (tiles_of self.new) (free_of board.now)
+            (beside_at board.now.beside.items j) (beside_at board.now.beside.items k) j k }
+        ensures joins { Joins (tiles board.now.shape) 8 (but k (but j (waits (tiles_of self.old))))
+            (waits (tiles_of self.new)) self.old.list self.new.list }
+    {
+        let (mut one, mut two) = (self.tiles[j], self.tiles[k]);
+        let (new_one, new_two) = visit_pair(&mut one, &mut two, board.free[j], board.free[k]);
+        self.tiles[j] = one;
+        self.tiles[k] = two;
+        self.hand_over(board, &board.beside[j], new_one);
+        self.hand_over(board, &board.beside[k], new_two);
     }
 
     /// One wave: the dropped site topples, then each other site that this brings to 4, once each. Lists their tiles.
@@ -113,15 +137,47 @@ impl Sand {
         ensures on_board { (t : ℕ) → t < length self.new.list.items
             → slice_index self.new.list.items t < tiles board.now.shape }
     {
-        knows_words(board.free.as_slice());
-        self.list.clear();
-        self.list.push_if(drop.tile, true);
-        self.topple_tile(board, drop.tile, set_of(drop.place));
-        let mut turn = 1usize;
-        'turns: while turn < self.list.len() {
-            let k = self.list.item(turn);
+        replace_with(self, (board, drop), topple_turns)
+    }
+}
+
+// The same on sand that it owns, so that the compiler keeps the length of the list in a register: behind a reference it
+// would be read again after each grain.
+#[inline(always)]
+fn topple_turns(sand: Sand, given: (&Board, DropSite)) -> (Sand, ())
+    requires drop { IsDropSite given.0.now.shape given.1 }
+    requires board { IsBoard given.0.now }
+    requires sand { IsSand given.0.now.shape sand }
+    requires all_open { AreOpen given.0.now.shape given.1.site (free_of given.0.now) }
+    requires rest { AreAtRest given.0.now.shape given.1.site (tiles_of sand) }
+    ensures wave { IsWholeWave given.entry.0.now.shape given.entry.1.site (tiles_of sand) (tiles_of result.0) }
+    ensures sand { IsSand given.entry.0.now.shape result.0 }
+    ensures listed { AreListed result.0.list.items 0 (length result.0.list.items) (tiles_of result.0) }
+    ensures on_board { (t : ℕ) → t < length result.0.list.items
+        → slice_index result.0.list.items t < tiles given.entry.0.now.shape }
+{
+    let mut sand = sand;
+    let (board, drop) = given;
+    sand.list.clear();
+    sand.list.push_if(drop.tile, true);
+    sand.topple_tile(board, drop.tile, set_of(drop.place));
+    let (mut turn, mut kept) = (1usize, 1usize);
+    'turns: while turn < sand.list.len() {
+        let k = sand.list.item(turn);
+        let first = sand.tiles[k].wave == 0;
+        if turn + 1 < sand.list.len() {
+            let other = sand.list.item(turn + 1);
+            let other_first = sand.tiles[other].wave == 0;
+            kept = sand.list.keep_if(kept, k, first);
+            kept = sand.list.keep_if(kept, other, other_first);
+            sand.topple_pair(board, k, other);
+            turn += 2;
+        } else {
+            kept = sand.list.keep_if(kept, k, first);
+            sand.topple_tile(board, k, 0);
             turn += 1;
-            self.topple_tile(board, k, 0);
         }
     }
+    sand.list.truncate(kept);
+    (sand, ())
 }

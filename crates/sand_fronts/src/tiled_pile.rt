@@ -2,79 +2,84 @@
 //!
 //! It allocates all memory that its drops need, so that no drop can fail.
 //!
-//! A grain is added to the planes of its tile. If its site is then due, it topples, and all that follows (`dropping`).
-//! In its waves the site is not free: its bit is taken out of the word of its tile, and put back after them. Then area
-//! and reach are read from the marked sites (`extent`).
+//! A grain is added to the planes of its tile. If its site is 0 in them then, it had 3 and has 4: it topples, and all
+//! that follows (`dropping`). In its waves the site is not free, and never due: its bit is taken out of the word of its
+//! tile, and put back after them. Then area and reach are read from the marked sites (`extent`).
 
-ghost use Rattle.std.specs.Prelude.{◌≡◌, ℕ, ◌+◌, ◌^◌, ◌<◌, ◌≤◌, length, slice_index, IfOk};
-ghost use Rattle.sand_model.specs.Grid.{sites};
-ghost use Rattle.sand_model.specs.Sand.{IsSettled, one_at};
+ghost use Rattle.std.specs.Prelude.{◌≡◌, ℕ, ◌+◌, ◌*◌, ◌^◌, ◌<◌, ◌≤◌, length, slice_index, IfOk};
+ghost use Rattle.sand_model.specs.Grid.{IsGrid, sites};
+ghost use Rattle.sand_model.specs.Sand.{IsSettled, one_at, topplings, lost};
 ghost use Rattle.sand_tiles.specs.Counts.{counted};
+ghost use Rattle.sand_fronts.specs.Tiling.{tiles};
+ghost use Rattle.sand_fronts.specs.Waves.{AreAllOpen};
+ghost use Rattle.sand_fronts.specs.Marking.{AreToppled, AreSites};
 ghost use Rattle.sand_fronts.specs.Drops.{heights_on};
-ghost use Rattle.sand_fronts.specs.Falls.{IsFall};
-ghost use Rattle.sand_fronts.specs.Boards.{tiles_of, counts_of, grown, HasSettled};
+ghost use Rattle.sand_fronts.specs.WrittenBack.{AreLow, risen};
+ghost use Rattle.sand_fronts.specs.Avalanches.{IsAvalanche};
+ghost use Rattle.sand_fronts.specs.Boards.{tiles_of, free_of, counts_of, marks_of, grown, IsBoard, HasSettled};
 ghost use Rattle.sand_fronts.specs.TiledPiles.{IsTiledPile, IsTiledView, toppled_between};
 
+use crate::avalanche::Avalanche;
 use crate::board::{Board, DropSite};
-use crate::counts::{Counts, Total};
+use crate::counts::{Counts, NOTHING, Total};
 use crate::dropping::topple_all;
 use crate::extent::{Extent, take_all};
 use crate::index_list::IndexList;
+use crate::marks::Marks;
 use crate::sand::Sand;
-use crate::tiling::{find, tiles, tiles_with};
+use crate::tiling::{find, find_at, tiles, tiles_with};
+use crate::written_back::write_back;
 use sand_model::Shape;
-use sand_tiles::{height_at, is_due, receive, set_of, times_at};
+use sand_tiles::{height_at, receive, set_of, times_at};
 use std::alloc::{AllocError, Global};
 use std::marker::Model;
 
-/// The numbers of one avalanche.
-#[derive(Clone, Copy)]
-pub struct Fall {
-    /// The number of topplings.
-    pub size: u64,
-    /// The number of sites that toppled.
-    pub area: u64,
-    /// The greatest distance from the drop to a site that toppled, in columns and rows, or 0 if none did.
-    pub reach: usize,
-    /// The number of grains that fell into the sink.
-    pub lost: u64,
-}
-
-const CALM: Fall = Fall {
-    size: 0,
-    area: 0,
-    reach: 0,
-    lost: 0,
-};
-
-// Drops a grain at a site, and topples until the pile is stable. Counts the topplings of each site, and returns the
-// numbers of the avalanche.
-fn drop_grain(board: &mut Board, sand: &mut Sand, counts: &mut Counts, site: usize) -> Fall
+// Drops a grain at a site, and topples until the pile is stable. Counts the topplings of each site, and marks the sites.
+fn topple_grain(board: &mut Board, sand: &mut Sand, counts: &mut Counts, site: usize) -> Total
     requires site { site < sites board.old.shape }
     requires pile { IsTiledPile board.old sand.old counts.old }
     requires few { (m p : ℕ) → p < 64 → counted (counts_of counts.old m) p < 2 ^ 60 }
     ensures shape { board.new.shape ≡ board.old.shape }
-    ensures pile { IsTiledPile board.new sand.new counts.new }
+    ensures board { IsBoard board.new }
+    ensures all_open { AreAllOpen board.old.shape (free_of board.new) }
     ensures settled { HasSettled board.old.shape (λ j. heights_on board.old.shape (tiles_of sand.old) j + one_at site j)
         sand.new counts.old counts.new }
-    ensures fall { IsFall board.old.shape site (grown board.old.shape counts.old counts.new) result }
+    ensures marked { AreToppled board.old.shape (grown board.old.shape counts.old counts.new) (marks_of counts.new) }
+    ensures size { result.size ≡ topplings board.old.shape (grown board.old.shape counts.old counts.new) }
+    ensures lost { result.lost ≡ lost board.old.shape (grown board.old.shape counts.old counts.new) }
 {
     let (tile, place) = find(board.shape, site);
     let grain = set_of(place);
-    receive(&mut sand.tiles[tile], grain);
-    if !is_due(&sand.tiles[tile], place) {
-        return CALM;
-    }
     let whole = board.free[tile];
-    board.free[tile] = whole ^ grain;
-    let Total { size, lost } = topple_all(board, sand, counts, DropSite { site, tile, place });
+    let others = whole ^ grain;
+    receive(&mut sand.tiles[tile], grain, others);
+    if height_at(&sand.tiles[tile], place) != 0 {
+        return NOTHING;
+    }
+    board.free[tile] = others;
+    let total = topple_all(board, sand, counts, DropSite { site, tile, place });
     board.free[tile] = whole;
-    let Extent { area, reach } = take_all(board.shape, site, &mut counts.marks);
-    Fall {
-        size,
-        area,
-        reach,
-        lost,
+    total
+}
+
+// The avalanche of a drop, from its total and the sites that it marked. Clears the marks.
+fn avalanche_of(shape: Shape, site: usize, total: Total, marks: &mut Marks) -> Avalanche
+    requires site { site < sites shape }
+    requires one_each { length marks.old.sets ≡ tiles shape }
+    requires small { (tiles shape ≤ 65536) × IsGrid shape }
+    requires at_sites { AreSites shape (slice_index marks.old.sets) }
+    ensures avalanche { (v : ℕ → ℕ) → AreToppled shape v (slice_index marks.old.sets) → total.size ≡ topplings shape v
+        → total.lost ≡ lost shape v → IsAvalanche shape site v result }
+    ensures one_each { length marks.new.sets ≡ length marks.old.sets }
+    ensures none { (m : ℕ) → slice_index marks.new.sets m ≡ 0 }
+{
+    let Extent { area, reach } = take_all(shape, site, marks);
+    Avalanche {
+        site,
+        size: total.size,
+        area: area as u32,
+        reach: reach as u32,
+        lost: total.lost,
     }
 }
 
@@ -111,7 +116,7 @@ impl TiledPile {
         let n = tiles(shape);
         let board = Board::new(alloc, shape)?;
         let tiles = tiles_with(alloc, shape, heights)?;
-        let list = IndexList::new(alloc, shape.sites() + n + 4)?;
+        let list = IndexList::new(alloc, shape.sites() + n + 8)?;
         let counts = Counts::new(alloc, n)?;
         let sand = Sand { tiles, list };
         Ok(TiledPile {
@@ -121,8 +126,8 @@ impl TiledPile {
         })
     }
 
-    /// Drops a grain at a site, and topples until the pile is stable. Returns the numbers of the avalanche.
-    pub fn drop_at(&mut self, site: usize) -> Fall
+    /// Drops a grain at a site, and topples until the pile is stable. Returns the avalanche.
+    pub fn drop_at(&mut self, site: usize) -> Avalanche
         requires site { site < sites self.old.grid }
         requires few { (j : ℕ) → j < sites self.old.grid → slice_index self.old.times j < 2 ^ 60 }
         ensures grid { self.new.grid ≡ self.old.grid }
@@ -130,17 +135,66 @@ impl TiledPile {
         ensures never_falls { (j : ℕ) → slice_index self.old.times j ≤ slice_index self.new.times j }
         ensures settled { IsSettled self.old.grid (λ j. slice_index self.old.heights j + one_at site j)
             (toppled_between self.old self.new) (slice_index self.new.heights) }
-        ensures fall { IsFall self.old.grid site (toppled_between self.old self.new) result }
+        ensures avalanche { IsAvalanche self.old.grid site (toppled_between self.old self.new) result }
     {
-        drop_grain(&mut self.board, &mut self.sand, &mut self.counts, site)
+        let shape = self.board.shape;
+        let total = topple_grain(&mut self.board, &mut self.sand, &mut self.counts, site);
+        avalanche_of(shape, site, total, &mut self.counts.marks)
+    }
+
+    /// The same on a pile where no topplings are counted, with lists of its heights and topplings by site: brings both up
+    /// to date, and leaves no topplings counted.
+    pub fn drop_into(&mut self, site: usize, heights: &mut [u64], odometer: &mut [u64]) -> Avalanche
+        requires site { site < sites self.old.grid }
+        requires uncounted { (j : ℕ) → slice_index self.old.times j ≡ 0 }
+        requires heights { heights.old ≡ self.old.heights }
+        requires low { AreLow heights.old }
+        requires odometer_each { length odometer.old ≡ sites self.old.grid }
+        requires few { (j : ℕ) → j < sites self.old.grid → slice_index odometer.old j < 2 ^ 59 }
+        ensures grid { self.new.grid ≡ self.old.grid }
+        ensures uncounted { (j : ℕ) → slice_index self.new.times j ≡ 0 }
+        ensures heights { heights.new ≡ self.new.heights }
+        ensures never_falls { (j : ℕ) → slice_index odometer.old j ≤ slice_index odometer.new j }
+        ensures settled { IsSettled self.old.grid (λ j. slice_index heights.old j + one_at site j)
+            (risen odometer.old odometer.new) (slice_index heights.new) }
+        ensures avalanche { IsAvalanche self.old.grid site (risen odometer.old odometer.new) result }
+    {
+        let shape = self.board.shape;
+        let total = topple_grain(&mut self.board, &mut self.sand, &mut self.counts, site);
+        heights[site] = (heights[site] + 1) % 4;
+        write_back(shape, &mut self.counts, heights, odometer);
+        avalanche_of(shape, site, total, &mut self.counts.marks)
+    }
+
+    /// The height of the site in a column and a row. Unlike `height`, it needs no division.
+    #[inline(always)]
+    pub fn height_in(&self, column: usize, row: usize) -> u64
+        requires column { column < self.now.grid.width }
+        requires site { row * self.now.grid.width + column < sites self.now.grid }
+        ensures { result ≡ slice_index self.now.heights (row * self.now.grid.width + column) }
+    {
+        let (tile, place) = find_at(self.board.shape, column, row);
+        height_at(&self.sand.tiles[tile], place)
     }
 
     pub fn height(&self, site: usize) -> u64
         requires { site < sites self.now.grid }
         ensures { result ≡ slice_index self.now.heights site }
     {
-        let (tile, place) = find(self.board.shape, site);
-        height_at(&self.sand.tiles[tile], place)
+        let (column, row) = self.board.shape.place(site);
+        self.height_in(column, row)
+    }
+
+    /// How often the site in a column and a row has toppled. Unlike `times`, it needs no division.
+    #[inline(always)]
+    pub fn times_in(&self, column: usize, row: usize) -> u64
+        requires column { column < self.now.grid.width }
+        requires site { row * self.now.grid.width + column < sites self.now.grid }
+        requires few { slice_index self.now.times (row * self.now.grid.width + column) < 2 ^ 63 }
+        ensures { result ≡ slice_index self.now.times (row * self.now.grid.width + column) }
+    {
+        let (tile, place) = find_at(self.board.shape, column, row);
+        times_at(&self.counts.each[tile], place)
     }
 
     /// How often a site has toppled.
@@ -149,7 +203,23 @@ impl TiledPile {
         requires few { slice_index self.now.times site < 2 ^ 63 }
         ensures { result ≡ slice_index self.now.times site }
     {
-        let (tile, place) = find(self.board.shape, site);
-        times_at(&self.counts.each[tile], place)
+        let (column, row) = self.board.shape.place(site);
+        self.times_in(column, row)
+    }
+
+    /// The column and the row of the next site.
+    #[inline(always)]
+    pub fn next_place(&self, column: usize, row: usize) -> (usize, usize)
+        requires column { column < self.now.grid.width }
+        requires site { row * self.now.grid.width + column < sites self.now.grid }
+        ensures column { result.0 < self.now.grid.width }
+        ensures site { result.1 * self.now.grid.width + result.0 ≡ row * self.now.grid.width + column + 1 }
+    {
+        let width = self.board.shape.width();
+        if column + 1 < width {
+            (column + 1, row)
+        } else {
+            (0, row + 1)
+        }
     }
 }

@@ -4,18 +4,20 @@
 //! column may have places that are no sites. Around the tiles with sites is a border of tiles without: grains that fall
 //! into the sink are added there, or at places that are no sites, and are never read.
 
-ghost use Rattle.std.specs.Prelude.{◌≡◌, ℕ, ◌<◌, ◌≤◌, ◌^◌, length, slice_index, IfOk};
+ghost use Rattle.std.specs.Prelude.{◌≡◌, ℕ, ◌+◌, ◌*◌, ◌<◌, ◌≤◌, ◌^◌, length, slice_index, IfOk};
 ghost use Rattle.sand_model.specs.Grid.{IsGrid, sites};
 ghost use Rattle.sand_tiles.specs.Places.{bit, had};
 ghost use Rattle.sand_fronts.specs.Tiling.{across, pitch, tiles, tile_of, place_of, on_tiles};
 ghost use Rattle.sand_fronts.specs.TileLists.{IsClear};
 ghost use Rattle.sand_fronts.specs.Waves.{tile_at, AreAllOpen};
 
+use crate::filling::{tile_of, tiles_of};
+use crate::reach::Spot;
 use sand_model::Shape;
-use sand_tiles::{BARE, Tile, add_grains, set_of};
+use sand_tiles::Tile;
 use std::alloc::{AllocError, Global};
 
-const SIDE: usize = 8;
+pub(crate) const SIDE: usize = 8;
 
 /// The number of tiles in a row that have sites.
 #[inline(always)]
@@ -48,9 +50,20 @@ pub(crate) fn tiles(shape: Shape) -> usize
     (shape.height().div_ceil(SIDE) + 4) * pitch(shape)
 }
 
+/// The tile and the place of the site in a column and a row.
+#[inline(always)]
+pub(crate) fn find_at(shape: Shape, column: usize, row: usize) -> (usize, usize)
+    requires { (column < shape.width) × (row * shape.width + column < sites shape) }
+    ensures tile { result.0 ≡ tile_of shape (row * shape.width + column) }
+    ensures place { result.1 ≡ place_of shape (row * shape.width + column) }
+    ensures inside { (result.0 < tiles shape) × (result.1 < 64) }
+{
+    let tile = (row / SIDE + 2) * pitch(shape) + (column / SIDE + 1);
+    (tile, row % SIDE * SIDE + column % SIDE)
+}
+
 /// The tile and the place of a site.
 #[inline(always)]
-#[tactic(auto, unfolding(crate::specs::Tiling::tile_of, crate::specs::Tiling::place_of))]
 pub(crate) fn find(shape: Shape, site: usize) -> (usize, usize)
     requires { site < sites shape }
     ensures tile { result.0 ≡ tile_of shape site }
@@ -58,8 +71,7 @@ pub(crate) fn find(shape: Shape, site: usize) -> (usize, usize)
     ensures inside { (result.0 < tiles shape) × (result.1 < 64) }
 {
     let (column, row) = shape.place(site);
-    let tile = (row / SIDE + 2) * pitch(shape) + (column / SIDE + 1);
-    (tile, row % SIDE * SIDE + column % SIDE)
+    find_at(shape, column, row)
 }
 
 /// For each tile, the word of its places that are sites. Fails only if an allocation fails.
@@ -67,10 +79,11 @@ pub(crate) fn all_open(alloc: Global, shape: Shape) -> Result<Vec<u64>, AllocErr
     ensures one_each { IfOk result (λ free. length free.items ≡ tiles shape) }
     ensures all { IfOk result (λ free. AreAllOpen shape (slice_index free.items)) }
 {
-    let mut free = vec![in alloc; 0u64; tiles(shape)]?;
-    for site in 0..shape.sites() {
-        let (tile, place) = find(shape, site);
-        free[tile] |= set_of(place);
+    let one = |_: Spot| 1u64;
+    let n = tiles(shape);
+    let mut free = Vec::with_capacity(alloc, n)?;
+    for k in 0..n {
+        free.push_reserved(tile_of(shape, k, &one).low);
     }
     Ok(free)
 }
@@ -88,10 +101,11 @@ pub(crate) fn tiles_with(
     ensures heights { IfOk result
         (λ all. (k p : ℕ) → p < 64 → had (tile_at all.items k) p ≡ on_tiles shape (slice_index heights.now) k p) }
 {
-    let mut all = vec![in alloc; BARE; tiles(shape)]?;
-    for site in 0..heights.len() {
-        let (tile, place) = find(shape, site);
-        add_grains(&mut all[tile], set_of(place), heights[site]);
-    }
+    let width = shape.width();
+    let all = tiles_of(
+        alloc,
+        shape,
+        &|spot: Spot| heights[spot.row * width + spot.column],
+    )?;
     Ok(all)
 }

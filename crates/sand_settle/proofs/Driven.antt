@@ -1,24 +1,18 @@
 -- A pile driven by fronts, before and after a drop.
-use Rattle.std.proofs.Common.{ℕ, List, [], Bool, true, false, if◌then◌else◌, min, ltb, ◌≡◌, ◌+◌, ◌-◌, ◌*◌, ◌^◌, ◌<◌, ◌≤◌, refl, sym, ◌∙◌, ap, subst, arith, get_or, sum, ⊎_elim}
-use Rattle.std.specs.Int.{abs_diff}
+use Rattle.std.proofs.Common.{ℕ, List, [], ◌≡◌, ◌+◌, ◌*◌, ◌^◌, ◌<◌, ◌≤◌, refl, sym, ◌∙◌, ap, subst, arith, get_or, sum, ⊎_elim}
 use Rattle.std.specs.Prelude.{slice_index}
 use Rattle.std.proofs.lemmas.Bool.{cases_lt}
 use Rattle.std.proofs.lemmas.List.{ext_get_or}
-use Rattle.std.proofs.lemmas.Nat.{mod_below, div_below}
-use Rattle.sand_model.specs.Grid.{Grid, IsGrid, sites, joins, column, missing, distance}
+use Rattle.sand_model.specs.Grid.{Grid, sites, missing}
 use Rattle.sand_model.specs.Sand.{IsSettled, one_at}
-use Rattle.sand_model.specs.Lists.{one_if}
 use Rattle.sand_model.specs.Piles.{PileView, IsPile, height_of, most_grains}
 use Rattle.sand_model.proofs.Sandpile.{settled_same}
 use Rattle.sand_model.proofs.SumsBelow.{sum_below_same}
-use Rattle.sand_model.proofs.Lists.{at_most_one}
-use Rattle.sand_model.proofs.Bounds.{at_most_sum_below, at_most_all, sites_limit}
-use Rattle.sand_fronts.specs.declared.tiled_pile.Fall.{Fall}
-use Rattle.sand_fronts.specs.Falls.{IsFall}
+use Rattle.sand_model.proofs.Bounds.{at_most_sum_below}
 use Rattle.sand_fronts.specs.TiledPiles.{TiledView, IsTiledView, by_site, toppled_between}
+use Rattle.sand_fronts.proofs.OnPiles.{avalanche_same}
 use Rattle.sand_fronts.proofs.NewPiles.{by_site_at, by_site_past, by_site_long}
-use Rattle.sand_settle.specs.declared.avalanche.Avalanche.{Avalanche}
-use Rattle.sand_settle.specs.Avalanches.{IsAvalanche}
+use Rattle.sand_settle.specs.Avalanches.{Avalanche, IsAvalanche}
 use Rattle.sand_settle.specs.Settling.{SettledView, IsSettledRecord}
 use Rattle.sand_settle.specs.Drops.{IsAfter, TakesGrain, one_view, topplings_between}
 use Rattle.sand_settle.specs.Driven.{driven_record, IsDriven}
@@ -106,11 +100,11 @@ record_read r t all gone pile counts grid heights same = λ i.
     record { pile = record { grid = grid i; heights = heights i }; odometer = same i; topplings = all; lost = gone }
 
 -- a drop on the tiles is a drop on the record
-pub driven_takes : (r : SettledView) (t u : TiledView) (site : ℕ) (f : Fall) (number all gone grains : ℕ)
+pub driven_takes : (r : SettledView) (t u : TiledView) (site : ℕ) (f : Avalanche) (number all gone grains : ℕ)
     → IsDriven r t number all gone grains → u.grid ≡ t.grid → IsTiledView u
     → ((j : ℕ) → slice_index t.times j ≤ slice_index u.times j)
     → IsSettled t.grid (λ j. slice_index t.heights j + one_at site j) (toppled_between t u) (slice_index u.heights)
-    → IsFall t.grid site (toppled_between t u) f
+    → IsAvalanche t.grid site (toppled_between t u) f
     → TakesGrain (driven_record r t all gone) site (driven_record r u (all + f.size) (gone + f.lost))
 driven_takes r t u site f number all gone grains driven grid by_site rises settled fall =
     let g = r.pile.grid in
@@ -122,7 +116,7 @@ driven_takes r t u site f number all gone grains driven grid by_site rises settl
     λ j l. let a = by_site_at g before j l in let b = by_site_at g after j l in omega arith in
     let P : Grid → Type 0 =
     λ h. IsSettled h (λ j. slice_index t.heights j + one_at site j) (toppled_between t u) (slice_index u.heights) in
-    let Q : Grid → Type 0 = λ h. IsFall h site (toppled_between t u) f in
+    let Q : Grid → Type 0 = λ h. IsAvalanche h site (toppled_between t u) f in
     let fell = subst Q driven.one_grid fall in
     record {
       grid = refl;
@@ -145,37 +139,22 @@ driven_takes r t u site f number all gone grains driven grid by_site rises settl
     }
 
 pub driven_avalanche : (r : SettledView) (t u : TiledView) (site : ℕ)
-    (f : Fall) (number all gone grains : ℕ) (a : Avalanche)
+    (a : Avalanche) (number all gone grains : ℕ)
     → IsDriven r t number all gone grains
-    → IsFall t.grid site (toppled_between t u) f
-    → a ≡ record { site = site; size = f.size; area = f.area; reach = f.reach; lost = f.lost }
+    → IsAvalanche t.grid site (toppled_between t u) a
     → IsAvalanche r.pile.grid site
-    (topplings_between (driven_record r t all gone) (driven_record r u (all + f.size) (gone + f.lost))) a
-driven_avalanche r t u site f number all gone grains a driven fall made =
+    (topplings_between (driven_record r t all gone) (driven_record r u (all + a.size) (gone + a.lost))) a
+driven_avalanche r t u site a number all gone grains driven is =
     let g = r.pile.grid in
-    let v = toppled_between t u in
     let before : ℕ → ℕ = λ i. slice_index r.odometer i + slice_index t.times i in
     let after : ℕ → ℕ = λ i. slice_index r.odometer i + slice_index u.times i in
-    let w = topplings_between (driven_record r t all gone) (driven_record r u (all + f.size) (gone + f.lost)) in
-    let same : (j : ℕ) → j < sites g → v j ≡ w j =
-    λ j l. let a' = by_site_at g before j l in let b = by_site_at g after j l in omega arith in
-    let Q : Grid → Type 0 = λ h. IsFall h site v f in
-    let fell = subst Q driven.one_grid fall in
-    let reach = ap (λ (x : Avalanche). x.reach) made in
-    record {
-      origin = ap (λ (x : Avalanche). x.site) made;
-      size = ap (λ (x : Avalanche). x.size) made ∙ fell.size ∙ sum_below_same (sites g) v w same;
-      area = ap (λ (x : Avalanche). x.area) made ∙ fell.area ∙ sum_below_same (sites g)
-          (λ j. one_if (ltb 0 (v j))) (λ j. one_if (ltb 0 (w j))) (λ j l. ap (λ m. one_if (ltb 0 m)) (same j l));
-      within = λ j l some. let le = fell.reach.within j l (let e = same j l in omega arith) in omega arith;
-      reached = λ far.
-          let one = fell.reach.reached (omega arith) in
-          (one.0, one.1, let e = same one.0 one.1 in let some = one.2 in omega arith, one.3 ∙ sym reach);
-      all_lost = ap (λ (x : Avalanche). x.lost) made ∙ fell.all_lost ∙ sum_below_same (sites g)
-          (λ j. missing g j * v j) (λ j. missing g j * w j) (λ j l. ap (λ m. missing g j * m) (same j l));
-    }
+    let Q : Grid → Type 0 = λ h. IsAvalanche h site (toppled_between t u) a in
+    avalanche_same g site (toppled_between t u)
+    (topplings_between (driven_record r t all gone) (driven_record r u (all + a.size) (gone + a.lost))) a
+    (λ j l. let first = by_site_at g before j l in let last = by_site_at g after j l in omega arith)
+    (subst Q driven.one_grid is)
 
-pub driven_after : (r : SettledView) (t u : TiledView) (site : ℕ) (f : Fall) (number all gone grains : ℕ)
+pub driven_after : (r : SettledView) (t u : TiledView) (site : ℕ) (f : Avalanche) (number all gone grains : ℕ)
     → IsDriven r t number all gone grains → u.grid ≡ t.grid
     → site < sites r.pile.grid → grains < most_grains
     → TakesGrain (driven_record r t all gone) site (driven_record r u (all + f.size) (gone + f.lost))
@@ -191,40 +170,3 @@ driven_after r t u site f number all gone grains driven grid inside room taken =
       all_grains = let more = grains_after p q site driven.paid inside taken in omega arith;
       few = let few = driven.few in omega arith;
     }
-
-apart_below : (round : Bool) (across around limit : ℕ) → across < limit
-    → (if round then min across around else across) < limit
-apart_below true across around limit l = omega arith
-apart_below false across around limit l = l
-
-near : (g : Grid) (i j : ℕ) → IsGrid g → i < sites g → j < sites g → distance g i j < 512
-unfolding distance
-near g i j sides inside there =
-    let some = sides.some_width in
-    let wide = sides.width_limit in
-    let high = sides.height_limit in
-    let a = mod_below i g.width (omega arith) in
-    let b = mod_below j g.width (omega arith) in
-    let c = div_below i g.width g.height (omega arith) (omega arith) in
-    let d = div_below j g.width g.height (omega arith) (omega arith) in
-    let across = apart_below (joins g.edge) (abs_diff (column g i) (column g j))
-    (g.width - abs_diff (column g i) (column g j)) 256 (omega arith) in
-    omega arith
-
--- the numbers of an avalanche fit into 32 bits
-pub small_fall : (g : Grid) (site : ℕ) (v : ℕ → ℕ) (f : Fall) → IsGrid g → site < sites g → IsFall g site v f
-    → (f.area < 2 ^ 32) × (f.reach < 2 ^ 32)
-small_fall g site v f sides inside fall =
-    let most = at_most_all (sites g) (λ j. one_if (ltb 0 (v j))) (λ j l. at_most_one (ltb 0 (v j))) in
-    let all = sites_limit g sides in
-    let area = fall.area in (
-      omega arith,
-      ⊎_elim
-          (λ (far : 0 < f.reach).
-          let one = fall.reach.reached far in
-          let n = near g site one.0 sides inside one.1 in
-          let e = one.3 in
-          omega arith)
-          (λ (none : f.reach ≤ 0). omega arith)
-          (cases_lt 0 f.reach),
-    )

@@ -1,28 +1,27 @@
 -- One more drop on a settled pile, and the result of a list of drops.
-use Rattle.std.proofs.Common.{ℕ, ◌≡◌, ◌≢◌, ◌+◌, ◌-◌, ◌*◌, ◌<◌, ◌≤◌, ◌^◌, refl, sym, ◌∙◌, ap, subst, arith, List, [], ◌∷◌, ◌++◌, length, sum, get_or, append_assoc, Option, Some}
-use Rattle.std.proofs.Math.ListN.{set}
-use Rattle.std.proofs.lemmas.List.{length-append, append-nil, length-set, get_or_default}
+use Rattle.std.proofs.Common.{ℕ, ◌≡◌, ◌+◌, ◌-◌, ◌*◌, ◌<◌, ◌≤◌, ◌^◌, refl, sym, ◌∙◌, ap, subst, arith, List, [], ◌∷◌, ◌++◌, length, sum, get_or, append_assoc, Option, Some}
+use Rattle.std.proofs.lemmas.List.{length-append, append-nil}
 use Rattle.std.proofs.lemmas.List.Elements.{All-push}
-use Rattle.sand_model.specs.Grid.{Grid, IsGrid, sites}
+use Rattle.sand_model.specs.Grid.{Grid, IsGrid, sites, missing}
 use Rattle.sand_model.specs.Sand.{occurrences, one_at, IsSettled, grains, topplings, lost, weight, grain_weight}
 use Rattle.sand_model.specs.Piles.{PileView, IsPile, most_grains}
 use Rattle.sand_model.proofs.SumsBelow.{sum_below-add, sum_below_same}
 use Rattle.sand_model.proofs.Occurrences.{occurrences-push}
 use Rattle.sand_model.proofs.Sandpile.{laplacian_sum, weight_after, settled_in_parts, settled_same, settled_stable}
-use Rattle.sand_model.proofs.Heights.{sum_is_grains, counted}
-use Rattle.sand_model.proofs.Bounds.{weight_bound, topplings_bound}
-use Rattle.sand_model.proofs.Underway.{underway_start, underway_end}
+use Rattle.sand_model.proofs.Heights.{sum_is_grains}
+use Rattle.sand_model.proofs.Bounds.{weight_bound, topplings_bound, at_most_sum_below}
+use Rattle.sand_fronts.specs.TiledPiles.{TiledView}
 use Rattle.sand_settle.specs.Settling.{SettledView, IsSettledRecord, IsSomeSettledRecord}
-use Rattle.sand_settle.specs.Drops.{OneView, IsAfter, topplings_between, TakesGrain, Drops, DropsAll, IsPaid, one_view, IsOnePile}
-use Rattle.sand_settle.proofs.Underway.{topplings_at, all_stable}
-use Rattle.sand_settle.specs.declared.avalanche.Avalanche.{Avalanche}
-use Rattle.sand_settle.specs.Avalanches.{IsAvalanche}
-use Rattle.sand_settle.proofs.Collected.{lost_sum, avalanche_same}
+use Rattle.sand_settle.specs.Drops.{OneView, IsAfter, topplings_between, TakesGrain, Drops, DropsAll, IsPaid, one_view, IsOnTiles, IsOnePile}
+use Rattle.sand_settle.proofs.Underway.{topplings_at}
+use Rattle.sand_settle.specs.Avalanches.{Avalanche, IsAvalanche}
+pub use Rattle.sand_fronts.proofs.OnPiles.{avalanche_same}
 
--- a stable pile is its own settled pile
-pub settled_already : (g : Grid) (s u : ℕ → ℕ) → ((i : ℕ) → i < sites g → s i ≤ 3) → ((i : ℕ) → i < sites g → u i ≡ 0)
-    → IsSettled g s u s
-settled_already g s u low none = underway_end g s u s (underway_start g s u none) low
+pub lost_sum : (g : Grid) (u v w : ℕ → ℕ) → ((j : ℕ) → j < sites g → w j ≡ u j + v j) → lost g w ≡ lost g u + lost g v
+lost_sum g u v w e =
+    sum_below_same (sites g) (λ j. missing g j * w j) (λ j. missing g j * u j + missing g j * v j)
+    (λ j l. let k = ap (λ m. missing g j * m) (e j l) in omega arith)
+    ∙ sum_below-add (sites g) (λ j. missing g j * u j) (λ j. missing g j * v j)
 
 -- the grains on a settled pile and those lost are the grains of its start
 pub grains_kept : (g : Grid) (s : ℕ → ℕ) (r : SettledView) → IsSettledRecord g s r → sum r.pile.heights + r.lost ≡ grains g s
@@ -246,62 +245,7 @@ pub drops_add_up : (start : PileView) (history : List ℕ) (v w : OneView) → I
     → IsAfter start history w
 drops_add_up start history v w after drops = all_after start [] history v w after drops
 
--- ---- what a settling adds to an odometer
-
--- a settling has few topplings and loses few grains
-pub small_settling : (g : Grid) (h u : List ℕ) (t : ℕ → ℕ)
-    → IsGrid g → length h ≡ sites g → sum h ≤ most_grains
-    → IsSettled g (λ j. get_or h j 0) (λ j. get_or u j 0) t
-    → (topplings g (λ j. get_or u j 0) < 2 ^ 54) × (lost g (λ j. get_or u j 0) < 2 ^ 54)
-small_settling g h u t sides each limit done =
-    let e = sum_is_grains g h each in
-    let all = laplacian_sum g (λ j. get_or h j 0) (λ j. get_or u j 0) t done.toppled in
-    (topplings_bound g (λ j. get_or h j 0) (λ j. get_or u j 0) t sides (omega arith) done.toppled, omega arith)
-
--- how often a site toppled is the growth of its place in the odometer
-pub settled_between : (g k : Grid) (h u old new t : List ℕ) → g ≡ k
-    → ((j : ℕ) → get_or new j 0 ≡ get_or old j 0 + get_or u j 0)
-    → IsSettled g (λ j. get_or h j 0) (λ j. get_or u j 0) (λ j. get_or t j 0)
-    → IsSettled k (λ j. get_or h j 0) (λ j. get_or new j 0 - get_or old j 0) (λ j. get_or t j 0)
-settled_between g k h u old new t same counts done =
-    let P : Grid → Type 0 =
-    λ q. IsSettled q (λ j. get_or h j 0) (λ j. get_or new j 0 - get_or old j 0) (λ j. get_or t j 0) in
-    subst P same
-    (settled_same g (λ j. get_or h j 0) (λ j. get_or h j 0) (λ j. get_or u j 0)
-    (λ j. get_or new j 0 - get_or old j 0) (λ j. get_or t j 0) (λ j. get_or t j 0)
-    (λ i l. refl) (λ i l. let e = counts i in omega arith) (λ i l. refl) done)
-
-pub avalanche_between : (g k : Grid) (site : ℕ) (u old new : List ℕ) (a : Avalanche)
-    → g ≡ k → ((j : ℕ) → get_or new j 0 ≡ get_or old j 0 + get_or u j 0)
-    → IsAvalanche g site (λ j. get_or u j 0) a
-    → IsAvalanche k site (λ j. get_or new j 0 - get_or old j 0) a
-avalanche_between g k site u old new a same counts done =
-    let P : Grid → Type 0 = λ q. IsAvalanche q site (λ j. get_or new j 0 - get_or old j 0) a in
-    subst P same (avalanche_same g site (λ j. get_or u j 0)
-    (λ j. get_or new j 0 - get_or old j 0) a (λ j l. let e = counts j in omega arith) done)
-
-pub settled_calm : (g : Grid) (h u : List ℕ) (site : ℕ) → get_or h site 0 < 4
-    → ((j : ℕ) → j < sites g → j ≢ site → get_or h j 0 ≤ 3)
-    → IsSettled g (λ j. get_or h j 0) (λ j. get_or u j 0 - get_or u j 0) (λ j. get_or h j 0)
-settled_calm g h u site low others =
-    settled_already g (λ j. get_or h j 0) (λ j. get_or u j 0 - get_or u j 0)
-    (all_stable g (λ j. get_or h j 0) site (omega arith) others)
-    (λ j l. omega arith)
-
 -- ---- a drop in the code
-
-pub raised : (items heights h : List ℕ) (site now : ℕ)
-    → items ≡ heights → site < length heights
-    → now ≡ get_or items site now → h ≡ set items site (now + 1)
-    → h ≡ set heights site (get_or heights site 0 + 1)
-raised items heights h site now same inside is written =
-    let P : List ℕ → Type 0 =
-    λ xs. now ≡ get_or xs site now → h ≡ set xs site (now + 1) → h ≡ set heights site (get_or heights site 0 + 1) in
-    subst P (sym same)
-    (λ value list.
-    let first : now ≡ get_or heights site 0 = value ∙ get_or_default heights site now 0 inside in
-    list ∙ ap (λ m. set heights site (m + 1)) first)
-    is written
 
 -- a grain at the site turns the record r into the heights k and the odometer new, with the avalanche a
 pub record Pours (r : SettledView) (site : ℕ) (k new : List ℕ) (a : Avalanche) : Type 0 where
@@ -317,37 +261,43 @@ pub record Pours (r : SettledView) (site : ℕ) (k new : List ℕ) (a : Avalanch
 
 pub pours : (r : SettledView) (site : ℕ) (g : Grid) (h k old new : List ℕ) (a : Avalanche)
     → IsPaid r → site < sites r.pile.grid
-    → sum r.pile.heights + r.lost < most_grains → g ≡ r.pile.grid
-    → h ≡ set r.pile.heights site (get_or r.pile.heights site 0 + 1)
+    → sum r.pile.heights + r.lost < most_grains → g ≡ r.pile.grid → h ≡ r.pile.heights
     → old ≡ r.odometer → length k ≡ length h → length new ≡ length old
     → ((j : ℕ) → get_or old j 0 ≤ get_or new j 0)
-    → IsSettled g (λ j. get_or h j 0) (λ j. get_or new j 0 - get_or old j 0) (λ j. get_or k j 0)
+    → IsSettled g (λ j. get_or h j 0 + one_at site j) (λ j. get_or new j 0 - get_or old j 0) (λ j. get_or k j 0)
     → IsAvalanche g site (λ j. get_or new j 0 - get_or old j 0) a
     → Pours r site k new a
 pours r site g h k old new a paid inside room grids list same heights counts rises done set_off =
     let P : Grid → Type 0 =
-    λ q. IsSettled q (λ j. get_or h j 0) (λ j. get_or new j 0 - get_or old j 0) (λ j. get_or k j 0) in
-    let Q : List ℕ → Type 0 =
-    λ u. IsSettled r.pile.grid (λ j. get_or h j 0) (λ j. get_or new j 0 - get_or u j 0) (λ j. get_or k j 0) in
-    let R : Grid → Type 0 = λ q. IsAvalanche q site (λ j. get_or new j 0 - get_or old j 0) a in
-    let S : List ℕ → Type 0 = λ u. IsAvalanche r.pile.grid site (λ j. get_or new j 0 - get_or u j 0) a in
-    let T : List ℕ → Type 0 = λ u. (j : ℕ) → get_or u j 0 ≤ get_or new j 0 in
-    let site_there : site < length r.pile.heights = let e = paid.heights_each in omega arith in
+    λ q. IsSettled q (λ j. get_or h j 0 + one_at site j) (λ j. get_or new j 0 - get_or old j 0) (λ j. get_or k j 0) in
+    let Q : List ℕ → Type 0 = λ u. IsSettled r.pile.grid (λ j. get_or h j 0 + one_at site j)
+    (λ j. get_or new j 0 - get_or u j 0) (λ j. get_or k j 0) in
+    let R : List ℕ → Type 0 = λ s. IsSettled r.pile.grid (λ j. get_or s j 0 + one_at site j)
+    (λ j. get_or new j 0 - get_or r.odometer j 0) (λ j. get_or k j 0) in
+    let S : Grid → Type 0 = λ q. IsAvalanche q site (λ j. get_or new j 0 - get_or old j 0) a in
+    let T : List ℕ → Type 0 = λ u. IsAvalanche r.pile.grid site (λ j. get_or new j 0 - get_or u j 0) a in
+    let U : List ℕ → Type 0 = λ u. (j : ℕ) → get_or u j 0 ≤ get_or new j 0 in
     record {
       paid = paid;
       inside = inside;
       room = room;
-      heights_each = heights ∙ ap length list
-          ∙ length-set r.pile.heights site (get_or r.pile.heights site 0 + 1) ∙ paid.heights_each;
+      heights_each = heights ∙ ap length list ∙ paid.heights_each;
       odometer_each = counts ∙ ap length same ∙ paid.odometer_each;
-      never_falls = subst T same rises;
-      settled = settled_same r.pile.grid (λ j. get_or h j 0)
-          (λ j. get_or r.pile.heights j 0 + one_at site j) (λ j. get_or new j 0 - get_or r.odometer j 0)
-          (λ j. get_or new j 0 - get_or r.odometer j 0) (λ j. get_or k j 0) (λ j. get_or k j 0)
-          (λ j l. let e = counted site 1 r.pile.heights h site_there list j in omega arith) (λ j l. refl) (λ j l. refl)
-          (subst Q same (subst P grids done));
-      avalanche = subst S same (subst R grids set_off);
+      never_falls = subst U same rises;
+      settled = subst R list (subst Q same (subst P grids done));
+      avalanche = subst T same (subst S grids set_off);
     }
+
+-- no site has toppled often
+pub few_so_far : (r : SettledView) (u : List ℕ) → IsPaid r → u ≡ r.odometer → (j : ℕ) → j < sites r.pile.grid
+    → get_or u j 0 < 2 ^ 59
+few_so_far r u paid same j inside =
+    let part = at_most_sum_below (sites r.pile.grid) (λ i. get_or r.odometer i 0) j inside in
+    let all = paid.all_topplings in
+    let pays = paid.paid in
+    let limit = paid.limit in
+    let here = ap (λ xs. get_or xs j 0) same in
+    omega arith
 
 -- the grains on the pile after the drop and those lost are those before and the new one
 pub poured_sum : (r : SettledView) (site : ℕ) (k new : List ℕ) (a : Avalanche) → Pours r site k new a
@@ -406,14 +356,14 @@ poured_avalanche r site k new u a all counts =
 
 -- ---- the pile of one thread after a drop
 
-pub kept_after : (w : Option Grid) (number : ℕ) (site : ℕ) (r q : SettledView) (g : Grid)
+pub kept_after : (w : Option TiledView) (number : ℕ) (site : ℕ) (r q : SettledView) (t : TiledView)
     → IsOnePile r w number → site < sites r.pile.grid
     → sum r.pile.heights + r.lost < most_grains → TakesGrain r site q
-    → g ≡ r.pile.grid → IsOnePile q (Some g) (number + 1)
-kept_after w number site r q g before inside room taken same = record {
+    → IsOnTiles q.pile t → IsOnePile q (Some t) (number + 1)
+kept_after w number site r q t before inside room taken tiled = record {
   paid = paid_after r q site before.paid inside room taken;
   few = let few = before.few in let more = grains_after r q site before.paid inside taken in omega arith;
-  room = same ∙ sym taken.grid;
+  tiled = tiled;
   kept = λ _. refl;
 }
 

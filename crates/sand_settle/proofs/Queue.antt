@@ -1,11 +1,11 @@
 -- The list of the sites whose number passes a test, when one number is written.
-use Rattle.std.proofs.Common.{ℕ, Bool, true, false, ◌≡◌, ◌≢◌, ◌+◌, ◌-◌, ◌*◌, ◌/◌, ◌<◌, ◌≤◌, refl, sym, ◌∙◌, ap, subst, drop, arith, List, [], ◌∷◌, ◌++◌, length, get_or, append_assoc, length-append, cond, ltb, leb, eqb, ◌&&◌, ⊎_elim}
+use Rattle.std.proofs.Common.{ℕ, Bool, true, false, ◌≡◌, ◌≢◌, ◌+◌, ◌-◌, ◌*◌, ◌/◌, ◌<◌, ◌≤◌, refl, sym, ◌∙◌, ap, subst, drop, arith, List, [], ◌∷◌, ◌++◌, length, get_or, append_assoc, length-append, cond, ltb, leb, ◌&&◌, ⊎_elim}
 use Rattle.std.proofs.Math.ListN.{set}
-use Rattle.std.proofs.lemmas.Bool.{cases_eq, cases_lt, lt-leb, le-leb, lt-ltb, le-ltb, leb-true, leb-false, eq-eqb, ne_eqb}
+use Rattle.std.proofs.lemmas.Bool.{cases_eq, cases_lt, lt-leb, le-leb, lt-ltb, le-ltb, leb-true, leb-false}
 use Rattle.std.proofs.lemmas.List.{get_or-set_same, get_or-set_other, drop_more}
 use Rattle.sand_model.specs.Lists.{Lists}
 use Rattle.sand_model.proofs.Lists.{lists_length, lists_same, lists_push, lists_pop, lists_of, front_below, front_passes, none_passes}
-use Rattle.sand_settle.specs.SiteLists.{may_topple, has_toppled}
+use Rattle.sand_settle.specs.SiteLists.{may_topple}
 
 others_kept : (test : ℕ → Bool) (h : List ℕ) (i v j : ℕ) → j ≢ i → test (get_or h j 0) ≡ test (get_or (set h i v) j 0)
 others_kept test h i v j ne = ap test (sym (get_or-set_other h i j v 0 ne))
@@ -64,22 +64,6 @@ queued h rest next i v inside more all =
     (λ (high : 4 ≤ get_or h i 0). rw (le-ltb (get_or h i 0) 4 high)
     (stays (leb 4) h (rest ++ next) i v all inside (le-leb 4 (get_or h i 0) high ∙ sym (le-leb 4 v (omega arith)))))
     (cases_lt (get_or h i 0) 4)
-
--- the sites that have toppled, after one more toppling; a site joins them at its first
-pub noted : (u toppled : List ℕ) (i k : ℕ) → i < length u → 0 < k
-    → Lists (length u) (has_toppled (λ j. get_or u j 0)) toppled
-    → Lists (length u) (has_toppled (λ j. get_or (set u i (get_or u i 0 + k)) j 0))
-    (cond (eqb (get_or u i 0) 0) (toppled ++ i ∷ []) toppled)
-noted u toppled i k inside some all =
-    let now : ltb 0 (get_or u i 0 + k) ≡ true = lt-ltb 0 (get_or u i 0 + k) (omega arith) in
-    ⊎_elim
-    (λ (none : get_or u i 0 ≡ 0). rw (eq-eqb (get_or u i 0) 0 none)
-    (joins (ltb 0) u toppled i (get_or u i 0 + k) all inside (le-ltb 0 (get_or u i 0) (omega arith)) now))
-    (λ (before : get_or u i 0 ≡ 0 → ⊥).
-    let was : 0 < get_or u i 0 = grind arith in
-    rw (ne_eqb (get_or u i 0) 0 before)
-    (stays (ltb 0) u toppled i (get_or u i 0 + k) all inside (lt-ltb 0 (get_or u i 0) was ∙ sym now)))
-    (cases_eq (get_or u i 0) 0)
 
 pub queue_room : (n : ℕ) (test : ℕ → Bool) (rest next : List ℕ) → Lists n test (rest ++ next) → length next ≤ n
 queue_room n test rest next all =

@@ -1,9 +1,10 @@
 -- What contracts see of the pile of one thread, and what makes it the settled record of its start and its drops.
 -- Source: chip-firing; settling in two parts is settling at once, so drops may settle one after another (Dhar 1990).
-use Rattle.std.specs.Prelude.{ℕ, Option, IsSome, IfSome, ◌≡◌, ◌+◌, ◌-◌, ◌*◌, ◌<◌, ◌≤◌, List, [], ◌∷◌, All, length, sum}
+use Rattle.std.specs.Prelude.{ℕ, Option, IsSome, IfSome, ◌≡◌, ◌+◌, ◌-◌, ◌*◌, ◌<◌, ◌≤◌, List, [], ◌∷◌, All, length, sum, slice_index}
 use Rattle.sand_model.specs.Grid.{Grid, IsGrid, sites}
 use Rattle.sand_model.specs.Sand.{IsStable, IsSettled, one_at, occurrences, topplings, lost, weight}
 use Rattle.sand_model.specs.Piles.{PileView, IsPile, height_of, most_grains}
+use Rattle.sand_fronts.specs.TiledPiles.{TiledView}
 use Rattle.sand_settle.specs.Settling.{SettledView, IsSettledRecord, odometer_of}
 
 -- the settled record since the start, the number of drops, and the grains of the start and the drops
@@ -66,9 +67,15 @@ pub record IsPaid (r : SettledView) : Type 0 where
 abbrev pub one_view : SettledView → ℕ → OneView
 one_view r number = record { settled = r; number = number; grains = sum r.pile.heights + r.lost }
 
--- the record is right, each drop added a grain, any workspace is for the grid, and after a drop there is one
-pub record IsOnePile (r : SettledView) (workspace : Option Grid) (number : ℕ) : Type 0 where
+-- a settled pile is on tiles, where no topplings are counted
+pub record IsOnTiles (p : PileView) (t : TiledView) : Type 0 where
+  pub one_grid : t.grid ≡ p.grid
+  pub heights : t.heights ≡ p.heights
+  pub uncounted : (j : ℕ) → slice_index t.times j ≡ 0
+
+-- the record is right, each drop added a grain, any tiles have its heights, and after a drop there are some
+pub record IsOnePile (r : SettledView) (tiles : Option TiledView) (number : ℕ) : Type 0 where
   pub paid : IsPaid r
   pub few : number ≤ sum r.pile.heights + r.lost
-  pub room : IfSome workspace (λ g. g ≡ r.pile.grid)
-  pub kept : 0 < number → IsSome workspace
+  pub tiled : IfSome tiles (IsOnTiles r.pile)
+  pub kept : 0 < number → IsSome tiles

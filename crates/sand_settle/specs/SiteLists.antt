@@ -1,5 +1,5 @@
 -- Lists of sites, and the tests of their sites.
-use Rattle.std.specs.Prelude.{ℕ, Bool, List, ◌≡◌, ◌+◌, ◌-◌, ◌≤◌, ◌++◌, length, take, drop, slice_index, nat_le, nat_lt}
+use Rattle.std.specs.Prelude.{ℕ, Bool, List, ◌≡◌, ◌+◌, ◌≤◌, ◌++◌, length, take, drop, slice_index, nat_le}
 use Rattle.sand_model.specs.Lists.{Lists}
 use Rattle.sand_fronts.specs.IndexLists.{ListView}
 
@@ -7,15 +7,9 @@ use Rattle.sand_fronts.specs.IndexLists.{ListView}
 abbrev pub may_topple : (ℕ → ℕ) → ℕ → Bool
 may_topple s j = nat_le 4 (s j)
 
-abbrev pub has_toppled : (ℕ → ℕ) → ℕ → Bool
-has_toppled u j = nat_lt 0 (u j)
-
 -- xs has each of n sites that may topple at the heights h, once, and no other
 abbrev pub ListsUnstable : ℕ → List ℕ → List ℕ → Type 0
 ListsUnstable n h xs = Lists n (may_topple (slice_index h)) xs
-
-abbrev pub grown : List ℕ → List ℕ → ℕ → ℕ
-grown u v j = slice_index v j - slice_index u j
 
 -- as the heights h become k, at most `most` sites join the end of a list; if from some turn on, with any sites in
 -- front, it had the sites that may topple at h, it now has those that may topple at k

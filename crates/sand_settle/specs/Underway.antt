@@ -1,13 +1,7 @@
 -- A pile that is being settled, with its heights in one list and the sites that topple in another.
 use Rattle.std.specs.Prelude.{ℕ, ◌≡◌, ◌+◌, ◌*◌, ◌<◌, List, slice_index}
 use Rattle.sand_model.specs.Grid.{Grid, sites}
-use Rattle.sand_model.specs.Sand.{one_at, occurrences, flow}
-use Rattle.sand_model.specs.Underway.{Advances}
-
--- the heights h become k when each site topples as often as it is in the list, whatever toppled before
-abbrev pub TopplesListed : Grid → List ℕ → List ℕ → List ℕ → Type 0
-TopplesListed g list h k =
-    (u v : ℕ → ℕ) → ((j : ℕ) → j < sites g → v j ≡ u j + occurrences list j) → Advances g u (slice_index h) v (slice_index k)
+use Rattle.sand_model.specs.Sand.{one_at, flow}
 
 -- the heights h become k when each neighbour of the site gets `times` grains
 abbrev pub NeighboursGain : Grid → ℕ → ℕ → List ℕ → List ℕ → Type 0

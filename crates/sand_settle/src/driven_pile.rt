@@ -12,16 +12,16 @@ ghost use Rattle.sand_settle.specs.Avalanches.{IsAvalanche};
 ghost use Rattle.sand_settle.specs.Settling.{odometer_of};
 ghost use Rattle.sand_settle.specs.Drops.{grid_of_one_pile, topplings_between, IsAfter, Drops};
 
-use crate::avalanche::Avalanche;
 use crate::faults::OneFault;
 use crate::settled::Settled;
 use crate::settling::settle;
-use sand_fronts::{Fall, TiledPile};
+use sand_fronts::{Avalanche, TiledPile};
 use sand_model::{GRAIN_LIMIT, Pile, Shape};
 use std::alloc::{AllocError, Global};
 use std::marker::Model;
 
-/// A pile on which one thread drops grains one by one, with all topplings since its start.
+/// A pile on which one thread drops grains one by one, with all topplings since its start. It is for many drops, between
+/// which at most single sites are read; `OnePile` keeps whole lists up to date.
 #[derive(Drop)]
 pub struct DrivenPile {
     // The settled start, for its odometer.
@@ -46,27 +46,15 @@ impl Model for DrivenPile {
     ghost invariant = { λ p. IsDriven p.start p.fronts p.number p.topplings p.lost p.grains };
 }
 
-fn avalanche_of(site: usize, fall: Fall) -> Avalanche
-    requires small { (fall.area < 2 ^ 32) × (fall.reach < 2 ^ 32) }
-    ensures { result
-        ≡ record { site = site; size = fall.size; area = fall.area; reach = fall.reach; lost = fall.lost } }
-{
-    Avalanche {
-        site,
-        size: fall.size,
-        area: fall.area as u32,
-        reach: fall.reach as u32,
-        lost: fall.lost,
-    }
-}
-
 fn read_heights(fronts: &TiledPile, heights: &mut [u64])
     requires one_each { length heights.old ≡ sites fronts.now.grid }
     requires all { length fronts.now.heights ≡ sites fronts.now.grid }
     ensures { heights.new ≡ fronts.now.heights }
 {
-    for (site, height) in heights.iter_mut().enumerate() {
-        *height = fronts.height(site);
+    let (mut column, mut row) = (0, 0);
+    for height in heights.iter_mut() {
+        *height = fronts.height_in(column, row);
+        (column, row) = fronts.next_place(column, row);
     }
 }
 
@@ -78,8 +66,10 @@ fn add_times(fronts: &TiledPile, odometer: &mut [u64])
     ensures { odometer.new ≡ by_site fronts.now.grid
         (λ j. slice_index odometer.old j + slice_index fronts.now.times j) }
 {
-    for (site, count) in odometer.iter_mut().enumerate() {
-        *count += fronts.times(site);
+    let (mut column, mut row) = (0, 0);
+    for count in odometer.iter_mut() {
+        *count += fronts.times_in(column, row);
+        (column, row) = fronts.next_place(column, row);
     }
 }
 
@@ -129,13 +119,13 @@ impl DrivenPile {
         if self.grains == GRAIN_LIMIT {
             return Err(OneFault::Full);
         }
-        let fall = self.fronts.drop_at(site);
+        let avalanche = self.fronts.drop_at(site);
         let number = self.number;
         self.number = number + 1;
-        self.topplings += fall.size;
-        self.lost += fall.lost;
+        self.topplings += avalanche.size;
+        self.lost += avalanche.lost;
         self.grains += 1;
-        Ok((number, avalanche_of(site, fall)))
+        Ok((number, avalanche))
     }
 
     pub fn shape(&self) -> Shape

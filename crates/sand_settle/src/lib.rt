@@ -5,7 +5,6 @@
 //! `proofs/OneRecord`.
 #![tactic(auto)]
 
-mod avalanche;
 mod choice;
 mod driven_pile;
 mod faults;
@@ -15,13 +14,11 @@ mod one_pile;
 mod settled;
 mod settling;
 mod spreading;
-mod waves;
-mod workspace;
 
-pub use avalanche::Avalanche;
 pub use driven_pile::DrivenPile;
 pub use faults::{OneFault, SettleFault};
 pub use in_place::{Totals, settle_in_place};
 pub use one_pile::OnePile;
+pub use sand_fronts::Avalanche;
 pub use settled::Settled;
 pub use settling::settle;

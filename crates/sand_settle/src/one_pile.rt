@@ -1,34 +1,36 @@
-//! The pile of one thread: grains are dropped on it one by one, and each settles before the next.
+//! The pile of one thread, with lists of its heights and odometer that can be read at any time.
 //!
-//! A drop takes the record out and puts the new one in its place (`replace_with`). The list of heights topples in
-//! place, and the grains of the new pile are known without a sum. So the cost of a drop is proportional to the number
-//! of sites that topple. The memory of the first drop serves all later ones (`room_is_kept`). The record is the same as
-//! if all grains had been on the start together (`laws::drops_add_up`). No count overflows, because of the weight: a
-//! grain weighs at most 16,512, and a toppling takes 2 (`IsPaid`).
+//! Grains are dropped one by one, and each settles before the next. Sand topples on tiles (`sand_fronts`), and each drop
+//! writes the sites that it changes into the lists. So the cost of a drop is proportional to the number of sites that
+//! topple. A drop takes the record out and puts the new one in its place (`replace_with`); the grains of the new pile are
+//! known without a sum. The memory of the first drop serves all later ones (`room_is_kept`). The record is the same as if
+//! all grains had been on the start together (`laws::drops_add_up`). No count overflows, because of the weight: a grain
+//! weighs at most 16,512, and a toppling takes 2 (`IsPaid`).
 
 ghost use Rattle.std.specs.Prelude.{◌≡◌, ℕ, ◌+◌, ◌^◌, ◌<◌, ◌≤◌, ◌↔◌, List, [], ◌∷◌, ◌++◌, length, sum, IfOk, IfErr, IfSome, IsSome, IsOk, OnOk, OnErr, IsTrue, IsOkUnless, alloc_error};
 ghost use Rattle.sand_model.specs.Grid.{sites};
-ghost use Rattle.sand_model.specs.Piles.{PileView, IsPile, height_of, most_grains};
+ghost use Rattle.sand_model.specs.Sand.{IsStable};
+ghost use Rattle.sand_model.specs.Piles.{PileView, height_of, most_grains};
 ghost use Rattle.sand_settle.specs.Settling.{odometer_of};
 ghost use Rattle.sand_settle.specs.Avalanches.{IsAvalanche};
-ghost use Rattle.sand_settle.specs.Drops.{grid_of_one_pile, topplings_between, IsAfter, Drops, TakesGrain, IsPaid};
+ghost use Rattle.sand_settle.specs.Drops.{grid_of_one_pile, topplings_between, IsAfter, Drops, TakesGrain, IsPaid, IsOnTiles};
 
-use crate::avalanche::Avalanche;
 use crate::faults::OneFault;
 use crate::settled::Settled;
 use crate::settling::settle;
-use crate::workspace::Workspace;
 use core::mem::replace_with;
+use sand_fronts::{Avalanche, TiledPile};
 use sand_model::{GRAIN_LIMIT, Pile, Shape};
-use std::alloc::Global;
+use std::alloc::{AllocError, Global};
 use std::marker::Model;
 
-/// A pile on which one thread drops grains one by one, with all topplings since its start.
+/// A pile on which one thread drops grains one by one, with all topplings since its start. It is for programs that read
+/// whole lists between drops; `DrivenPile` is faster if they read single sites, or only the end.
 #[derive(Drop)]
 pub struct OnePile {
     settled: Settled,
-    // Allocated at the first drop.
-    workspace: Option<Workspace>,
+    // The same heights on tiles, where sand topples. Allocated at the first drop.
+    tiled: Option<TiledPile>,
     number: u64,
 }
 
@@ -39,20 +41,20 @@ impl Model for OnePile {
 
     ghost view = { λ p. one_view p.settled p.number };
 
-    ghost invariant = { λ p. IsOnePile p.settled p.workspace p.number };
+    ghost invariant = { λ p. IsOnePile p.settled p.tiled p.number };
 }
 
-// Drops a grain at a site of a settled pile, settles it in the workspace, and adds the topplings to the record.
-fn drop_grain(settled: Settled, drop: (Workspace, usize)) -> (Settled, (Workspace, Avalanche))
+// Drops a grain at a site of a settled pile and of its tiles, and adds the topplings to the record.
+fn drop_grain(settled: Settled, drop: (TiledPile, usize)) -> (Settled, (TiledPile, Avalanche))
     requires site { drop.1 < sites settled.pile.grid }
-    requires room { drop.0 ≡ settled.pile.grid }
+    requires tiled { IsOnTiles settled.pile drop.0 }
     requires paid { IsPaid settled }
     requires limit { sum settled.pile.heights + settled.lost < most_grains }
-    ensures room { result.1.0 ≡ settled.pile.grid }
+    ensures tiled { IsOnTiles result.0.pile result.1.0 }
     ensures taken { TakesGrain settled drop.1 result.0 }
     ensures avalanche { IsAvalanche settled.pile.grid drop.1 (topplings_between settled result.0) result.1.1 }
 {
-    let (mut workspace, site) = drop;
+    let (mut tiled, site) = drop;
     let Settled {
         pile,
         mut odometer,
@@ -61,32 +63,45 @@ fn drop_grain(settled: Settled, drop: (Workspace, usize)) -> (Settled, (Workspac
     } = settled;
     let grains = pile.grains() + 1;
     let (shape, mut heights) = pile.into_parts();
-    heights[site] += 1;
-    let avalanche = workspace.settle_at(&mut heights, &mut odometer, site);
+    let avalanche = tiled.drop_into(site, &mut heights, &mut odometer);
     let record = Settled {
         pile: Pile::from_counted(shape, heights, grains - avalanche.lost),
         odometer,
         topplings: topplings + avalanche.size,
         lost: lost + avalanche.lost,
     };
-    (record, (workspace, avalanche))
+    (record, (tiled, avalanche))
 }
 
-// The workspace of the last drop, or a new one.
-fn take_workspace(
+fn new_tiles(alloc: Global, pile: &Pile) -> Result<TiledPile, OneFault>
+    requires low { IsStable pile.now.grid (height_of pile.now) }
+    requires each { length pile.now.heights ≡ sites pile.now.grid }
+    ensures tiled { IfOk result (IsOnTiles pile.now) }
+    ensures memory { IsOkUnless result (OneFault.Memory alloc_error) }
+{
+    let Ok(tiled) = TiledPile::new(alloc, pile.shape(), pile.heights()) else {
+        return Err(OneFault::Memory(AllocError));
+    };
+    Ok(tiled)
+}
+
+// The tiles of the last drop, or new ones.
+fn take_tiles(
     alloc: Global,
-    shape: Shape,
-    kept: &mut Option<Workspace>,
-) -> Result<Workspace, OneFault>
-    requires { IfSome kept.old (λ w. w ≡ shape) }
-    ensures grid { IfOk result (λ w. w ≡ shape) }
+    pile: &Pile,
+    kept: &mut Option<TiledPile>,
+) -> Result<TiledPile, OneFault>
+    requires low { IsStable pile.now.grid (height_of pile.now) }
+    requires each { length pile.now.heights ≡ sites pile.now.grid }
+    requires tiled { IfSome kept.old (IsOnTiles pile.now) }
+    ensures tiled { IfOk result (IsOnTiles pile.now) }
     ensures kept { IsSome kept.old → IsOk result }
     ensures memory { IsOkUnless result (OneFault.Memory alloc_error) }
     ensures unchanged { OnErr result (kept.new ≡ kept.old) }
 {
     match kept.take() {
-        Some(workspace) => Ok(workspace),
-        None => Workspace::new(alloc, shape).map_err(OneFault::Memory),
+        Some(tiled) => Ok(tiled),
+        None => new_tiles(alloc, pile),
     }
 }
 
@@ -101,7 +116,7 @@ impl OnePile {
         let _ = start.grains();
         Ok(OnePile {
             settled,
-            workspace: None,
+            tiled: None,
             number: 0,
         })
     }
@@ -129,10 +144,9 @@ impl OnePile {
         if self.is_full() {
             return Err(OneFault::Full);
         }
-        let shape = self.pile().shape();
-        let workspace = take_workspace(alloc, shape, &mut self.workspace)?;
-        let (workspace, avalanche) = replace_with(&mut self.settled, (workspace, site), drop_grain);
-        self.workspace = Some(workspace);
+        let tiled = take_tiles(alloc, self.settled.pile(), &mut self.tiled)?;
+        let (tiled, avalanche) = replace_with(&mut self.settled, (tiled, site), drop_grain);
+        self.tiled = Some(tiled);
         let number = self.number;
         self.number = number + 1;
         Ok((number, avalanche))

@@ -1,7 +1,7 @@
 -- One step of writing the lines of a table.
 use Rattle.std.proofs.Common.{◌≡◌, ℕ, ◌+◌, ◌<◌, ◌≤◌, List, [], ◌++◌, length, drop, get_or, refl, ap, sym, ◌∙◌, add-one, append_assoc, drop-cons}
 use Rattle.std.proofs.lemmas.List.{drop_all}
-use Rattle.sand_settle.specs.declared.avalanche.Avalanche.{Avalanche}
+use Rattle.sand_settle.specs.Avalanches.{Avalanche}
 use Rattle.sand_text.specs.Tables.{entry_text, entries_text}
 
 entries_text-next : (es : List (ℕ × Avalanche)) (k : ℕ) (d : ℕ × Avalanche) → k < length es

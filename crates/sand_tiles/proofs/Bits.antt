@@ -1,10 +1,9 @@
 -- Words as sets of places: what the operators on words do to each place.
-use Rattle.std.proofs.Common.{ℕ, ◌≡◌, ◌+◌, ◌*◌, ◌/◌, ◌%◌, ◌^◌, ◌<◌, ◌≤◌, min, max, sym, ◌∙◌, ap, arith, ⊎_elim}
+use Rattle.std.proofs.Common.{ℕ, ◌≡◌, ◌+◌, ◌-◌, ◌*◌, ◌/◌, ◌%◌, ◌^◌, ◌<◌, ◌≤◌, min, max, sym, ◌∙◌, ap, arith}
 use Rattle.std.specs.Prelude.{bit_and, bit_or, bit_xor}
-use Rattle.std.specs.Int.{bit_at}
-use Rattle.std.proofs.lemmas.Bool.{cases_lt}
+use Rattle.std.specs.Int.{w64, bit_at, bit_not}
 use Rattle.std.proofs.lemmas.Nat.{and_le_l, or_disjoint}
-use Rattle.std.proofs.lemmas.Nat.Bits.{bit_at-zero, same_from_bits, same_from_bits_below, bit_at-lt, bit_at_and, bit_at_or, bit_at_xor, shr_and_one}
+use Rattle.std.proofs.lemmas.Nat.Bits.{bit_at-zero, same_from_bits_below, bit_at-lt, bit_at_and, bit_at_or, bit_at_xor, bit_at_not, shr_and_one}
 use Rattle.sand_tiles.specs.Places.{bit}
 
 pub bit_le : (a p : ℕ) → bit a p ≤ 1
@@ -109,45 +108,35 @@ pub bit_none : (p : ℕ) → bit 0 p ≡ 0
 unfolding bit
 bit_none p = bit_at-zero p
 
--- a set added to two planes, and the places that become due
-pub received : (low high due gain p : ℕ) →
+-- a set added to two planes, and the free places that become due
+pub received : (low high due gain free p : ℕ) →
     (bit (bit_xor low gain) p + 2 * bit (bit_xor high (bit_and low gain)) p
     ≡ (bit low p + 2 * bit high p + bit gain p) % 4)
-    × (bit low p + 2 * bit high p + bit gain p + 4 * bit due p ≤ 7
+    × (bit free p ≡ 1 → bit low p + 2 * bit high p + bit gain p + 4 * bit due p ≤ 7
     → bit (bit_xor low gain) p + 2 * bit (bit_xor high (bit_and low gain)) p
-    + 4 * bit (bit_or due (bit_and high (bit_and low gain))) p
+    + 4 * bit (bit_or due (bit_and (bit_and high (bit_and low gain)) free)) p
     ≡ bit low p + 2 * bit high p + bit gain p + 4 * bit due p)
-received low high due gain p =
+    × (bit due p ≤ bit free p → bit (bit_or due (bit_and (bit_and high (bit_and low gain)) free)) p ≤ bit free p)
+received low high due gain free p =
     let carry = bit_and low gain in
     let four = bit_and high carry in
     let a = half low gain p in
     let b = half high carry p in
-    let e = either due four p in
-    let f = half due four p in
+    let m = both_le four free p in
+    let m0 = m.0 in let m1 = m.1 in let m2 = m.2 in
+    let e = either due (bit_and four free) p in
+    let f = half due (bit_and four free) p in
     let l = bit_le (bit_xor low gain) p in
     let h = bit_le (bit_xor high carry) p in
-    let o = bit_le (bit_or due four) p in
+    let o = bit_le (bit_or due (bit_and four free)) p in
     let q = bit_le four p in
     let u = bit_le due p in
-    let x = bit_le (bit_xor due four) p in
-    (omega arith, λ few. omega arith)
+    let x = bit_le (bit_xor due (bit_and four free)) p in
+    (omega arith, λ is few. omega arith, λ before. omega arith)
 
--- a larger set still meets another set
-pub or_grows : (a b free : ℕ) → 0 < bit_and a free → 0 < bit_and (bit_or a b) free
+pub bit_not_is : (a p : ℕ) → a < 2 ^ 64 → p < 64 → bit (bit_not w64 a) p ≡ 1 - bit a p
 unfolding bit
-or_grows a b free some =
-    ⊎_elim
-    (λ (pos : 0 < bit_and (bit_or a b) free). pos)
-    (λ (none : bit_and (bit_or a b) free ≤ 0).
-    let e : bit_and a free ≡ 0 = same_from_bits (bit_and a free) 0 (λ p.
-    let z = ap (λ x. bit_at x p) (let n : bit_and (bit_or a b) free ≡ 0 = omega arith in n) in
-    let zz = bit_at-zero p in
-    let o = bit_at_or a b p in
-    let x = bit_at_and (bit_or a b) free p in
-    let y = bit_at_and a free p in
-    omega arith) in
-    absurd (omega arith))
-    (cases_lt 0 (bit_and (bit_or a b) free))
+bit_not_is a p fits low = bit_at_not w64 a p fits low
 
 pub read_bit : (a p : ℕ) → bit_and (a / 2 ^ p) 1 ≡ bit a p
 unfolding bit

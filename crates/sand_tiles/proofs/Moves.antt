@@ -18,7 +18,7 @@ pub bit_above : (a p : ℕ) → a < 2 ^ 64 → 64 ≤ p → bit a p ≡ 0
 unfolding bit
 bit_above a p fits high = bit_at_above a 64 p fits high
 
-cut : (a p : ℕ) → p < 64 → bit (a % 2 ^ 64) p ≡ bit a p
+pub cut : (a p : ℕ) → p < 64 → bit (a % 2 ^ 64) p ≡ bit a p
 unfolding bit
 cut a p low = sym (bit_at_cat_low (a / 2 ^ 64) 64 (a % 2 ^ 64) p low) ∙ ap (λ x. bit_at x p) (shr_split a 64)
 

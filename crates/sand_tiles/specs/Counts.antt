@@ -4,17 +4,18 @@ use Rattle.sand_tiles.specs.declared.counting.Planes.{Planes}
 use Rattle.sand_tiles.specs.declared.counting.Count.{Count}
 use Rattle.sand_tiles.specs.Places.{bit}
 
--- the number at a place of eight planes
+-- the number at a place of ten planes
 abbrev pub times : Planes → ℕ → ℕ
 times c p = bit c.ones p + 2 * bit c.twos p + 4 * bit c.fours p + 8 * bit c.eights p + 16 * bit c.sixteens p
-    + 32 * bit c.thirty_twos p + 64 * bit c.sixty_fours p + 128 * bit c.tops p
+    + 32 * bit c.thirty_twos p + 64 * bit c.sixty_fours p + 128 * bit c.next p
+    + 256 * bit c.upper p + 512 * bit c.tops p
 
 abbrev pub counted : Count → ℕ → ℕ
 counted c p = slice_index c.spilled p + times c.planes p
 
 -- the planes have room for one more set
 pub record IsCount (c : Count) : Type 0 where
-  pub few : c.sets ≤ 254
+  pub few : c.sets ≤ 1022
   pub each : (p : ℕ) → p < 64 → times c.planes p ≤ c.sets
 
 -- the count of a tile that is not in a list
@@ -28,6 +29,8 @@ no_tile = record {
     sixteens = 0;
     thirty_twos = 0;
     sixty_fours = 0;
+    next = 0;
+    upper = 0;
     tops = 0;
   };
   sets = 0;

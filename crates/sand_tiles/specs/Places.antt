@@ -1,7 +1,7 @@
 -- A tile of 8 by 8 places, numbered row by row from the north-west corner, one bit of a word for each place.
 -- Source: waves of topplings (Ivashkevich, Ktitarev and Priezzhev 1994), in which each site topples at most once. Tiles
 -- are this project's own.
-use Rattle.std.specs.Prelude.{ℕ, ◌≡◌, ◌+◌, ◌-◌, ◌*◌, ◌%◌, ◌<◌, ◌≤◌, max, if◌then◌else◌, nat_lt, ◌==◌, bit_and}
+use Rattle.std.specs.Prelude.{ℕ, ◌≡◌, ◌+◌, ◌-◌, ◌*◌, ◌%◌, ◌<◌, ◌≤◌, max, if◌then◌else◌, nat_lt, ◌==◌}
 use Rattle.std.specs.Int.{bit_at}
 use Rattle.sand_tiles.specs.declared.tile.Tile.{Tile}
 
@@ -38,17 +38,17 @@ around f p = north f p + south f p + west f p + east f p
 abbrev pub unused : ℕ → ℕ → ℕ → ℕ → ℕ
 unused free start set q = max (bit free q) (bit start q) - bit set q
 
--- a tile gets a grain at each place of the set `gain`; a place that reaches 4 has 0 and is due
-pub record Receives (t u : Tile) (gain : ℕ) : Type 0 where
-  pub wave : u.wave ≡ t.wave
-  pub due_grows : (free : ℕ) → 0 < bit_and t.due free → 0 < bit_and u.due free
-  pub each : (p : ℕ) → p < 64 → height t p + 4 * (bit t.wave p + bit t.due p) + bit gain p ≤ 7
-      → height u p + 4 * (bit u.wave p + bit u.due p) ≡ height t p + 4 * (bit t.wave p + bit t.due p) + bit gain p
-  pub modulo : (p : ℕ) → p < 64 → height u p ≡ (height t p + bit gain p) % 4
-
 -- the grains that a place has had since the wave began: its height, 4 if it has toppled, and 4 if it is due
 abbrev pub had : Tile → ℕ → ℕ
 had t p = height t p + 4 * (bit t.wave p + bit t.due p)
+
+-- a tile gets a grain at each place of the set `gain`; a place that reaches 4 has 0, and is due if it is free
+pub record Receives (t u : Tile) (gain free : ℕ) : Type 0 where
+  pub wave : u.wave ≡ t.wave
+  pub due_grows : 0 < t.due → 0 < u.due
+  pub due_free : (p : ℕ) → p < 64 → bit t.due p ≤ bit free p → bit u.due p ≤ bit free p
+  pub each : (p : ℕ) → p < 64 → bit free p ≡ 1 → had t p + bit gain p ≤ 7 → had u p ≡ had t p + bit gain p
+  pub modulo : (p : ℕ) → p < 64 → height u p ≡ (height t p + bit gain p) % 4
 
 -- even if each other place of the tile toppled, no free place would have had 8 grains; places that start have not
 -- toppled, and are not free
@@ -60,6 +60,19 @@ pub record IsReady (t : Tile) (free start : ℕ) : Type 0 where
 pub record Calms (t : Tile) (free start : ℕ) (w : ℕ → ℕ) : Type 0 where
   pub start_in : (p : ℕ) → p < 64 → bit start p ≤ w p
   pub at_most_three : (p : ℕ) → p < 64 → bit free p ≡ 1 → had t p + around w p ≤ 4 * (bit t.wave p + w p) + 3
+
+-- the places that have toppled since the tile was t
+abbrev pub since : Tile → Tile → ℕ → ℕ
+since t u p = bit u.wave p - bit t.wave p
+
+-- a visit that began with the tile t has come to the tile u, of which each place that is due topples next
+pub record IsVisit (t u : Tile) (free start : ℕ) : Type 0 where
+  pub kept : (p : ℕ) → p < 64 → bit t.wave p ≤ bit u.wave p
+  pub at_open : (p : ℕ) → p < 64 → bit free p ≡ 1 → had u p ≡ had t p + around (since t u) p
+  pub at_held : (p : ℕ) → p < 64 → bit free p ≡ 0 → bit u.wave p + bit u.due p ≡ bit t.wave p + bit start p
+  pub modulo : (p : ℕ) → p < 64 → height u p ≡ (height t p + around (since t u) p) % 4
+  pub least : (w : ℕ → ℕ) → Calms t free start w → (p : ℕ) → p < 64
+      → bit u.wave p + bit u.due p ≤ bit t.wave p + w p
 
 -- a visit topples the places that start, the free places that are due, and those that this brings to 4; none is due in
 -- the end

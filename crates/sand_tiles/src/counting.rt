@@ -1,8 +1,8 @@
 //! Counting sets of places.
 //!
 //! The size of a set is the number of ones in a word, and a sum of small numbers over a set is a sum of three sizes
-//! (`sum_over`). How often each of 64 places has toppled is kept in eight bit planes, one for each power of 2 below
-//! 256. To count one toppling at each place of a set, half adders add a one-bit number at each place. After 255 sets
+//! (`sum_over`). How often each of 64 places has toppled is kept in ten bit planes, one for each power of 2 below
+//! 1024. To count one toppling at each place of a set, half adders add a one-bit number at each place. After 1023 sets
 //! the planes are spilled, before a carry can leave the last one: their counts are added to a list of 64 numbers, and
 //! they are cleared.
 
@@ -31,7 +31,7 @@ pub fn sum_over(numbers: &Tile, set: u64) -> u64
     size(set & numbers.low) + 2 * size(set & numbers.high) + 4 * size(set & numbers.due)
 }
 
-/// A number from 0 to 255 at each place of a tile: one bit plane for each power of 2.
+/// A number from 0 to 1023 at each place of a tile: one bit plane for each power of 2.
 #[derive(Clone, Copy)]
 pub struct Planes {
     pub ones: u64,
@@ -42,11 +42,16 @@ pub struct Planes {
     pub thirty_twos: u64,
     pub sixty_fours: u64,
     /// The bits of 128.
+    pub next: u64,
+    /// The bits of 256.
+    pub upper: u64,
+    /// The bits of 512.
     pub tops: u64,
 }
 
-// The sets that the planes count before they are spilled.
-const SPILL: u64 = 255;
+// The sets that the planes count before they are spilled. Two planes more than a byte has cost each set less than a spill
+// four times as often.
+const SPILL: u64 = 1023;
 
 const EMPTY: Planes = Planes {
     ones: 0,
@@ -56,6 +61,8 @@ const EMPTY: Planes = Planes {
     sixteens: 0,
     thirty_twos: 0,
     sixty_fours: 0,
+    next: 0,
+    upper: 0,
     tops: 0,
 };
 
@@ -72,7 +79,7 @@ pub struct Count {
 
 #[inline(always)]
 fn add_to(planes: &mut Planes, set: u64)
-    requires { (p : ℕ) → p < 64 → times planes.old p ≤ 254 }
+    requires { (p : ℕ) → p < 64 → times planes.old p ≤ 1022 }
     ensures { (p : ℕ) → p < 64 → times planes.new p ≡ times planes.old p + bit set p }
 {
     let two = planes.ones & set;
@@ -87,8 +94,12 @@ fn add_to(planes: &mut Planes, set: u64)
     planes.sixteens ^= sixteen;
     let sixty_four = planes.thirty_twos & thirty_two;
     planes.thirty_twos ^= thirty_two;
-    let top = planes.sixty_fours & sixty_four;
+    let next = planes.sixty_fours & sixty_four;
     planes.sixty_fours ^= sixty_four;
+    let upper = planes.next & next;
+    planes.next ^= next;
+    let top = planes.upper & upper;
+    planes.upper ^= upper;
     planes.tops ^= top;
 }
 
@@ -104,10 +115,14 @@ fn number_at(planes: &Planes, place: usize) -> u64
         + 16 * (planes.sixteens >> place & 1)
         + 32 * (planes.thirty_twos >> place & 1)
         + 64 * (planes.sixty_fours >> place & 1)
-        + 128 * (planes.tops >> place & 1)
+        + 128 * (planes.next >> place & 1)
+        + 256 * (planes.upper >> place & 1)
+        + 512 * (planes.tops >> place & 1)
 }
 
-// Moves the counts of the planes to the list.
+// Moves the counts of the planes to the list. Apart from the hot path, whose registers it would take.
+#[cold]
+#[inline(never)]
 fn spill(count: &mut Count)
     requires few { (p : ℕ) → p < 64 → counted count.old p < 2 ^ 63 }
     ensures kept { (p : ℕ) → p < 64 → counted count.new p ≡ counted count.old p }

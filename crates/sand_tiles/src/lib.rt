@@ -10,5 +10,5 @@ mod tile;
 mod visiting;
 
 pub use counting::{Count, Planes, count_set, no_count, size, sum_over, times_at};
-pub use tile::{BARE, Tile, add_grains, height_at, is_due, receive, set_of};
-pub use visiting::visit;
+pub use tile::{BARE, Tile, height_at, receive, set_of};
+pub use visiting::{visit, visit_pair};

@@ -1,12 +1,12 @@
 //! One tile, and the grains that it gets.
 //!
-//! `low` and `high` hold each height modulo 4. A place that reaches 4 grains is 0 in them, and its bit in `due` says
-//! that it has 4 more and must topple. A place that has toppled in this wave is in `wave`. So since the wave began, a
-//! place has had `low + 2 high + 4 (due + wave)` grains.
+//! `low` and `high` hold each height modulo 4. A free place that reaches 4 grains is 0 in them, and its bit in `due`
+//! says that it has 4 more and must topple. A place that has toppled in this wave is in `wave`. So since the wave began,
+//! a free place has had `low + 2 high + 4 (due + wave)` grains.
 
-ghost use Rattle.std.specs.Prelude.{◌≡◌, ℕ, ◌+◌, ◌*◌, ◌<◌, ◌≤◌, ◌==◌};
+ghost use Rattle.std.specs.Prelude.{◌≡◌, ℕ, ◌<◌};
 ghost use Rattle.sand_model.specs.Sand.{one_at};
-ghost use Rattle.sand_tiles.specs.Places.{bit, height, had, Receives};
+ghost use Rattle.sand_tiles.specs.Places.{bit, height, Receives};
 
 /// The heights of 8 by 8 places modulo 4, the places that are due to topple, and those that have toppled.
 #[derive(Clone, Copy)]
@@ -21,13 +21,13 @@ pub struct Tile {
     pub wave: u64,
 }
 
-/// Adds a grain at each place of a set. The places that reach 4 become due.
+/// Adds a grain at each place of a set. The free places that reach 4 become due.
 #[inline(always)]
-pub fn receive(tile: &mut Tile, gain: u64)
-    ensures { Receives tile.old tile.new gain }
+pub fn receive(tile: &mut Tile, gain: u64, free: u64)
+    ensures { Receives tile.old tile.new gain free }
 {
     let carry = tile.low & gain;
-    tile.due |= tile.high & carry;
+    tile.due |= tile.high & carry & free;
     tile.low ^= gain;
     tile.high ^= carry;
 }
@@ -49,17 +49,6 @@ pub fn set_of(place: usize) -> u64
     1 << place
 }
 
-/// Adds `grains` grains at each place of a set, one after another.
-pub fn add_grains(tile: &mut Tile, set: u64, grains: u64)
-    requires few { (p : ℕ) → p < 64 → had tile.old p + grains * bit set p ≤ 7 }
-    ensures each { (p : ℕ) → p < 64 → had tile.new p ≡ had tile.old p + grains * bit set p }
-    ensures wave { tile.new.wave ≡ tile.old.wave }
-{
-    for _ in 0..grains {
-        receive(tile, set);
-    }
-}
-
 /// The height of a place modulo 4.
 #[inline(always)]
 pub fn height_at(tile: &Tile, place: usize) -> u64
@@ -67,13 +56,4 @@ pub fn height_at(tile: &Tile, place: usize) -> u64
     ensures { result ≡ height tile.now place }
 {
     (tile.low >> place & 1) + 2 * (tile.high >> place & 1)
-}
-
-/// Whether a place is due to topple.
-#[inline(always)]
-pub fn is_due(tile: &Tile, place: usize) -> bool
-    requires { place < 64 }
-    ensures { result ≡ (bit tile.now.due place == 1) }
-{
-    tile.due >> place & 1 == 1
 }

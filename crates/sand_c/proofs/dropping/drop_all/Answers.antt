@@ -2,11 +2,9 @@ use Rattle.std.proofs.Common.{◌∙◌, ℕ, List, [], ◌∷◌, ◌++◌, sub
 use Rattle.std.specs.Prelude.{Result, IfOk, OnOk}
 use Rattle.std.proofs.lemmas.List.{take_more}
 use Rattle.sand_model.specs.Piles.{PileView}
-use Rattle.sand_settle.specs.Avalanches.{IsAvalanche}
+use Rattle.sand_settle.specs.Avalanches.{Avalanche, IsAvalanche}
 use Rattle.sand_settle.specs.Drops.{OneView, grid_of_one_pile, topplings_between, IsAfter, Drops}
-use Rattle.sand_settle.specs.declared.avalanche.Avalanche.{Avalanche}
 use Rattle.sand_settle.specs.declared.faults.OneFault.{OneFault}
-use Rattle.sand_c.specs.Dropping.{IsLike}
 use Rattle.sand_c.proofs.Rows.{rows_push, and_then}
 use Rattle.sand_c.proofs.dropping.drop_all.Goals as goal
 
@@ -22,8 +20,7 @@ loop-site-preserved c =
     subst (λ (r : R). IfOk r (λ q. IsAvalanche (grid_of_one_pile v) site (topplings_between v.settled w.settled) q.1)) c.unwrap.ensures c.drop_at.ensures.avalanche in
     let after : (start : PileView) (history : List ℕ) → IsAfter start history v → IsAfter start (history ++ site ∷ []) w =
     subst (λ (r : R). OnOk r ((start : PileView) (history : List ℕ) → IsAfter start history v → IsAfter start (history ++ site ∷ []) w)) c.unwrap.ensures c.drop_at.ensures.after in
-    let is : IsLike c.like-row.result (grid_of_one_pile v) site (topplings_between v.settled w.settled) = rw c.like-row.ensures avalanche in
-    let noted = rows_push c.args.pile.now v w (take i c.args.drops.now) c.loop-site.rows.items site c.like-row.result c.loop-site.invariant.rows drops is in
+    let noted = rows_push c.args.pile.now v w (take i c.args.drops.now) c.loop-site.rows.items site c.unwrap.result.1 c.loop-site.invariant.rows drops avalanche in
     record {
       rows = rw (more, c.push_reserved.ensures.items) noted;
       after = λ start history first. rw more (subst (λ (l : List ℕ). IsAfter start l w) (and_then history (take i c.args.drops.now) site)

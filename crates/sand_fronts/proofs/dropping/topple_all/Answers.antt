@@ -1,5 +1,4 @@
-use Rattle.std.proofs.Common.{true, ltb, eqb, ◌&&◌, ◌≡◌, ◌+◌, ◌^◌, ◌<◌, ◌∙◌, refl, ap, subst, length, arith}
-use Rattle.std.proofs.lemmas.List.{length-set}
+use Rattle.std.proofs.Common.{true, ltb, eqb, ◌&&◌, ◌≡◌, ◌+◌, ◌^◌, ◌<◌, ◌∙◌, ap, subst, arith}
 use Rattle.sand_model.specs.Sand.{topplings, lost, weight}
 use Rattle.sand_tiles.specs.declared.tile.Tile.{Tile}
 use Rattle.sand_tiles.specs.Places.{height}
@@ -14,7 +13,7 @@ use Rattle.sand_fronts.proofs.OnTiles.{place_below}
 use Rattle.sand_fronts.proofs.Counted.{few_in_sets, few_over_wave, marked_none, marked_more}
 use Rattle.sand_fronts.proofs.Gained.{tile_read}
 use Rattle.sand_fronts.proofs.Marked.{area_is}
-use Rattle.sand_fronts.proofs.ManyWaves.{heights_now, AreWaves, waves_begin, waves_more, waves_end, wave_lost, wave_counts, lost_more, lost_few, none_lost, few_topplings_yet, few_counted, at_rest, none_grown, settled_kept, quiet_at_last}
+use Rattle.sand_fronts.proofs.ManyWaves.{heights_now, AreWaves, waves_begin, waves_more, waves_end, wave_lost, wave_counts, lost_more, lost_few, none_lost, few_topplings_yet, few_counted, at_rest, none_grown}
 use Rattle.sand_fronts.proofs.dropping.topple_all.Goals.{After-count_wave-wave, After-height_at}
 use Rattle.sand_fronts.proofs.dropping.topple_all.Goals as goal
 
@@ -156,25 +155,12 @@ waves-preserved c =
 pub returns-clause-settled : goal.returns-clause-settled
 returns-clause-settled c =
     let g = c.args.board.now.shape in
-    let site = c.args.drop.site in
-    let ts = c.waves.sand.tiles.items in
-    let k = c.args.drop.tile in
-    let t = record c.index_mut.result.now { due = 0 } in
-    let within : k < length ts =
-    let i = tile_inside g site c.requires.drop.inside in
-    omega (arith, c.requires.drop.tile, c.waves.invariant.sand.one_each) in
-    let read = tile_read ts k c.index_mut.result.now within c.index_mut.ensures.value in
-    let passed = subst (λ b. AreWaves g site b (tiles_of c.args.sand.now) (tile_at ts)
+    let passed = subst (λ b. AreWaves g c.args.drop.site b (tiles_of c.args.sand.now) (tiles_of c.waves.sand)
     (counts_of c.args.counts.now) (counts_of c.waves.counts)) c.waves-test.false c.waves.invariant.passed in
     record {
-      sand = record {
-        one_each = length-set {A = Tile} ts k t ∙ c.waves.invariant.sand.one_each;
-        room = c.waves.invariant.sand.room;
-      };
+      sand = c.waves.invariant.sand;
       counts = c.waves.invariant.counts;
-      quiet = quiet_at_last g site ts k t within c.requires.drop.tile (ap (λ (x : Tile). x.wave) read) refl
-          passed.clear passed.none_due;
-      settled = settled_kept g _ _ ts k t within (ap (λ (x : Tile). x.low) read) (ap (λ (x : Tile). x.high) read)
-          (waves_end passed);
+      quiet = record { clear = passed.clear; none_due = passed.none_due };
+      settled = waves_end passed;
       counted = passed.counts;
     }

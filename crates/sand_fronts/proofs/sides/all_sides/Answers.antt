@@ -1,12 +1,14 @@
 use Rattle.std.proofs.Common.{rules, ◌≡◌, length, arith}
-use Rattle.sand_fronts.proofs.Boards.{sides_more, board_of}
+use Rattle.sand_fronts.specs.Waves.{IsBeside}
+use Rattle.sand_fronts.proofs.Boards.{board_of}
+use Rattle.sand_fronts.proofs.Filled.{entry_more}
 use Rattle.sand_fronts.proofs.sides.all_sides.Goals as goal
 
 pub loop-k-preserved : goal.loop-k-preserved
 loop-k-preserved c = record {
   made = search rules;
   room = search rules;
-  each = sides_more c.args.shape c.loop-k.all.items _ c.sides_of.result c.loop-k.k
+  each = entry_more _ (IsBeside c.args.shape) c.loop-k.all.items _ c.sides_of.result c.loop-k.k
       c.push_reserved.ensures.items (search rules) c.sides_of.ensures c.loop-k.invariant.each;
 }
 

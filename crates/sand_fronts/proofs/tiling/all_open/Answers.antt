@@ -1,32 +1,24 @@
-use Rattle.std.proofs.Common.{rules, ◌<◌, ◌∙◌, refl, ap, length, arith}
-use Rattle.std.proofs.lemmas.List.{get_or_read_under}
-use Rattle.sand_model.specs.Sand.{one_at}
-use Rattle.sand_fronts.proofs.OneSite.{no_words, all_filled, word_more}
+use Rattle.std.proofs.Common.{ℕ, rules, ◌≡◌, ◌∙◌, ◌<◌, arith}
+use Rattle.sand_tiles.specs.Places.{bit}
+use Rattle.sand_tiles.proofs.Bits.{bit_none}
+use Rattle.sand_fronts.specs.Tiling.{on_tiles}
+use Rattle.sand_fronts.proofs.Filled.{entry_more, entry_each, no_tile_on, low_of}
 use Rattle.sand_fronts.proofs.tiling.all_open.Goals as goal
 
-pub loop-site-init : goal.loop-site-init
-loop-site-init c = record {
-  one_each = search rules;
-  so_far = λ k p low. no_words c.args.shape (λ j. 1) c.in_ok-free.free.items
-      c.tiles.result k p (c.in_ok-free.ensures.items_if_clones_equal (λ y e. e)) low;
+pub loop-k-preserved : goal.loop-k-preserved
+loop-k-preserved c = record {
+  made = search rules;
+  room = search rules;
+  each = entry_more 0 (λ k w. (p : ℕ) → p < 64 → bit w p ≡ on_tiles c.args.shape (λ j. 1) k p)
+      c.loop-k.free.items _ c.tile_of.result.low c.loop-k.k c.push_reserved.ensures.items (search rules)
+      (low_of c.args.shape c.loop-k.k c.tile_of.result
+      (c.tile_of.ensures.each (λ j. 1) (λ s n below left says. search rules)))
+      c.loop-k.invariant.each;
 }
 
-pub loop-site-preserved : goal.loop-site-preserved
-loop-site-preserved c =
-    let within : c.find-tile.result.0 < length c.loop-site.free.items =
-    omega (arith, c.find-tile.ensures.inside.0, c.loop-site.invariant.one_each) in
-    record {
-      one_each = search rules;
-      so_far = word_more c.args.shape c.loop-site.free.items c.loop-site.site
-          c.find-tile.result.0 c.set_of.result c.index_mut.result.now
-          (omega (arith, c.loop-site-test.true, c.sites-site-end.ensures.value)) c.find-tile.ensures.tile within
-          (get_or_read_under c.loop-site.free.items c.find-tile.result.0 (length c.loop-site.free.items)
-          c.index_mut.result.now 0 c.index_mut.ensures.value within refl)
-          (λ p low. c.set_of.ensures p low ∙ ap (λ q. one_at q p) c.find-tile.ensures.place)
-          c.loop-site.invariant.so_far;
-    }
-
 pub returns-clause-all : goal.returns-clause-all
-returns-clause-all c k p low =
-    c.loop-site.invariant.so_far k p low ∙ all_filled c.args.shape (λ j. 1) c.loop-site.site k p
-    (omega (arith, c.loop-site.auto.site-end, c.loop-site-test.false, c.sites-site-end.ensures.value)) low
+returns-clause-all c =
+    entry_each 0 (λ k w. (p : ℕ) → p < 64 → bit w p ≡ on_tiles c.args.shape (λ j. 1) k p)
+    c.loop-k.free.items c.loop-k.k (search rules) c.loop-k.invariant.each
+    (λ k past p low. bit_none p ∙ no_tile_on c.args.shape (λ j. 1) k p low
+    (omega (arith, past, c.tiles-n.ensures.value, c.loop-k-test.false)))

@@ -1,9 +1,20 @@
-use Rattle.std.proofs.Common.{ℕ, ap}
-use Rattle.sand_fronts.proofs.Boards.{found_inside}
+use Rattle.std.proofs.Common.{◌≡◌, ◌+◌, ◌*◌, ◌<◌, ◌∙◌, ap, arith}
+use Rattle.sand_fronts.specs.Tiling.{tile_of, place_of}
+use Rattle.sand_fronts.proofs.Boards.{site_parts}
+use Rattle.sand_fronts.proofs.tiling.find.Goals.{After-place-column}
 use Rattle.sand_fronts.proofs.tiling.find.Goals as goal
 
-pub returns-clause-inside : goal.returns-clause-inside
-returns-clause-inside c =
-    found_inside c.args.shape c.args.site c.place-column.result.0 c.place-column.result.1
-    c.pitch.result c.requires (ap (λ (q : ℕ × ℕ). q.0) c.place-column.ensures)
-    (ap (λ (q : ℕ × ℕ). q.1) c.place-column.ensures) c.pitch.ensures.value
+parts : (c : After-place-column) → (c.place-column.result.0 < c.args.shape.width)
+    × (c.place-column.result.1 * c.args.shape.width + c.place-column.result.0 ≡ c.args.site)
+parts c = site_parts c.args.shape c.args.site c.place-column.result c.requires c.place-column.ensures
+
+pub find_at-requires : goal.find_at-requires
+find_at-requires c = let p = parts (goal.at.find_at-requires c).After-place-column in (p.0, omega arith)
+
+pub returns-clause-tile : goal.returns-clause-tile
+returns-clause-tile c =
+    c.find_at.ensures.tile ∙ ap (tile_of c.args.shape) (parts (goal.at.returns-clause-tile c).After-place-column).1
+
+pub returns-clause-place : goal.returns-clause-place
+returns-clause-place c =
+    c.find_at.ensures.place ∙ ap (place_of c.args.shape) (parts (goal.at.returns-clause-place c).After-place-column).1

@@ -17,10 +17,14 @@ returns c p low =
     let f = half k.sixteens sixteen p in
     let thirty_two = bit_and k.sixteens sixteen in
     let sixty_four = bit_and k.thirty_twos thirty_two in
-    let top = bit_and k.sixty_fours sixty_four in
+    let next = bit_and k.sixty_fours sixty_four in
+    let upper = bit_and k.next next in
+    let top = bit_and k.upper upper in
     let h = half k.thirty_twos thirty_two p in
     let i = half k.sixty_fours sixty_four p in
-    let j = half k.tops top p in
+    let j = half k.next next p in
+    let l = half k.upper upper p in
+    let m = half k.tops top p in
     let g = bit_le c.args.set p in
     let few = c.requires p low in
     omega arith

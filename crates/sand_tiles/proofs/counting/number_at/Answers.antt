@@ -13,5 +13,7 @@ returns c =
     let f = read_bit k.sixteens p in
     let g = read_bit k.thirty_twos p in
     let h = read_bit k.sixty_fours p in
-    let i = read_bit k.tops p in
+    let i = read_bit k.next p in
+    let j = read_bit k.upper p in
+    let l = read_bit k.tops p in
     omega arith

@@ -3,7 +3,7 @@ use Rattle.sand_tiles.specs.declared.tile.Tile.{Tile}
 use Rattle.sand_tiles.specs.Counts.{IsCount}
 use Rattle.sand_fronts.specs.Waves.{tile_at}
 use Rattle.sand_fronts.specs.Boards.{counts_of}
-use Rattle.sand_fronts.proofs.Counted.{count_read, counted_none, counted_one}
+use Rattle.sand_fronts.proofs.Counted.{count_read, counted_one}
 use Rattle.sand_fronts.proofs.Gained.{tile_read}
 use Rattle.sand_fronts.proofs.counts.Counts.take.Goals.{After-index, After-index_mut-2}
 use Rattle.sand_fronts.proofs.counts.Counts.take.Goals as goal
@@ -15,13 +15,6 @@ count_is : (c : After-index_mut-2) → c.index_mut-2.result.now ≡ counts_of c.
 count_is c =
     count_read c.args.self.now.each.items c.args.k _ (omega (arith, c.requires.tile, c.requires.one_each.0))
     c.index_mut-2.ensures.value
-
--- ---- no place has toppled
-
-pub returns-then-set-eq0-clause-counted : goal.returns-then-set-eq0-clause-counted
-returns-then-set-eq0-clause-counted c = counted_none c.args.tiles.now.items c.args.self.now
-
--- ---- some have
 
 pub count_set-requires-clause-sound : goal.count_set-requires-clause-sound
 count_set-requires-clause-sound c =

@@ -55,10 +55,12 @@ returns-clause-steps c =
     let r = reads (goal.at.returns-clause-steps c).After-index in
     let s = reads_beside (goal.at.returns-clause-steps c).After-index-2 in
     record {
-      visited = c.visit-new.new.tile;
-      new = c.visit-new.result;
-      visits = rw (← r.0, ← r.1) c.visit-new.ensures;
-      fits = omega arith;
+      visited = record {
+        tile = c.visit-new.new.tile;
+        new = c.visit-new.result;
+        visits = rw (← r.0, ← r.1) c.visit-new.ensures;
+        fits = omega arith;
+      };
       gains = rw (← s) (gains_from (λ m. written c.args.self.now.tiles.items c.args.k m c.visit-new.new.tile
           (omega (arith, c.requires.tile.inside, c.requires.sand.one_each)))
           c.hand_over.ensures.gains);
@@ -67,6 +69,6 @@ returns-clause-steps c =
 pub returns-clause-joins : goal.returns-clause-joins
 returns-clause-joins c =
     joins_from
-    (λ j l. visited_waits c.args.self.now.tiles.items (free_of c.args.board.now) c.args.k j c.visit-new.new.tile
+    (λ j l. visited_waits c.args.self.now.tiles.items c.args.k j c.visit-new.new.tile
     (omega (arith, c.requires.tile.inside, c.requires.sand.one_each)) c.visit-new.ensures.none_due)
     (rw (← visited_each (goal.at.returns-clause-joins c).After-index-2) c.hand_over.ensures.joins)

@@ -23,7 +23,7 @@ invariant_of-result c =
             let s = ap sites e in
             omega (arith, c.tiles-n.ensures.value, c.sites.ensures.value);
       };
-      quiet = rw e (new_quiet c.args.shape (λ j. get_or c.args.heights.now j 0)
+      quiet = (new_quiet c.args.shape (λ j. get_or c.args.heights.now j 0)
           (tile_at c.in_ok-tiles.tiles.items) c.requires.low c.in_ok-tiles.ensures.heights);
       counts = record {
         one_each = c.in_ok-counts.ensures.one_each.0 ∙ c.tiles-n.ensures.value ∙ sym n;

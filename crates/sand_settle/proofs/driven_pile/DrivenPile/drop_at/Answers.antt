@@ -1,42 +1,40 @@
 use Rattle.std.proofs.Common.{◌<◌, ◌+◌, ap, arith, subst}
-use Rattle.sand_fronts.specs.Falls.{IsFall}
-use Rattle.sand_fronts.specs.TiledPiles.{toppled_between}
-use Rattle.sand_model.specs.Grid.{Grid, sites}
+use Rattle.sand_model.specs.Grid.{sites}
 use Rattle.sand_model.specs.Piles.{most_grains}
 use Rattle.sand_settle.specs.Avalanches.{IsAvalanche}
 use Rattle.sand_settle.specs.Drops.{OneView, grid_of_one_pile, TakesGrain, topplings_between}
 use Rattle.sand_settle.specs.Driven.{driven_record, IsDriven}
 use Rattle.sand_settle.proofs.Drops.{drops_from, after_drop}
-use Rattle.sand_settle.proofs.Driven.{driven_after, driven_avalanche, driven_takes, few_counts, small_fall}
-use Rattle.sand_settle.proofs.driven_pile.DrivenPile.drop_at.Goals.{After-drop_at-fall}
+use Rattle.sand_settle.proofs.Driven.{driven_after, driven_avalanche, driven_takes, few_counts}
+use Rattle.sand_settle.proofs.driven_pile.DrivenPile.drop_at.Goals.{After-drop_at-avalanche}
 use Rattle.sand_settle.proofs.driven_pile.DrivenPile.drop_at.Goals as goal
 
-inside : (c : After-drop_at-fall) → c.args.site < sites c.self.inside.start.pile.grid
+inside : (c : After-drop_at-avalanche) → c.args.site < sites c.self.inside.start.pile.grid
 inside c = let same = ap (λ (v : OneView). sites (grid_of_one_pile v)) c.self.view_is in omega (arith, c.requires)
 
-room : (c : After-drop_at-fall) → c.self.inside.grains < most_grains
+room : (c : After-drop_at-avalanche) → c.self.inside.grains < most_grains
 room c = omega (arith, c.if-self-eq-GRAIN_LIMIT.false, c.self.invariant.all_grains, c.self.invariant.paid.limit)
 
-taken : (c : After-drop_at-fall)
+taken : (c : After-drop_at-avalanche)
     → TakesGrain (driven_record c.self.inside.start c.self.inside.fronts
     c.self.inside.topplings c.self.inside.lost) c.args.site
-    (driven_record c.self.inside.start c.drop_at-fall.new.self
-    (c.self.inside.topplings + c.drop_at-fall.result.size) (c.self.inside.lost + c.drop_at-fall.result.lost))
-taken c = driven_takes c.self.inside.start c.self.inside.fronts c.drop_at-fall.new.self c.args.site
-    c.drop_at-fall.result c.self.inside.number c.self.inside.topplings c.self.inside.lost c.self.inside.grains
-    c.self.invariant c.drop_at-fall.ensures.grid c.drop_at-fall.ensures.by_site
-    c.drop_at-fall.ensures.never_falls c.drop_at-fall.ensures.settled c.drop_at-fall.ensures.fall
+    (driven_record c.self.inside.start c.drop_at-avalanche.new.self
+    (c.self.inside.topplings + c.drop_at-avalanche.result.size) (c.self.inside.lost + c.drop_at-avalanche.result.lost))
+taken c = driven_takes c.self.inside.start c.self.inside.fronts c.drop_at-avalanche.new.self c.args.site
+    c.drop_at-avalanche.result c.self.inside.number c.self.inside.topplings c.self.inside.lost c.self.inside.grains
+    c.self.invariant c.drop_at-avalanche.ensures.grid c.drop_at-avalanche.ensures.by_site
+    c.drop_at-avalanche.ensures.never_falls c.drop_at-avalanche.ensures.settled c.drop_at-avalanche.ensures.avalanche
 
-driven : (c : After-drop_at-fall)
-    → IsDriven c.self.inside.start c.drop_at-fall.new.self (c.self.inside.number + 1)
-    (c.self.inside.topplings + c.drop_at-fall.result.size)
-    (c.self.inside.lost + c.drop_at-fall.result.lost) (c.self.inside.grains + 1)
-driven c = driven_after c.self.inside.start c.self.inside.fronts c.drop_at-fall.new.self c.args.site
-    c.drop_at-fall.result c.self.inside.number c.self.inside.topplings c.self.inside.lost c.self.inside.grains
-    c.self.invariant c.drop_at-fall.ensures.grid (inside c) (room c) (taken c)
+driven : (c : After-drop_at-avalanche)
+    → IsDriven c.self.inside.start c.drop_at-avalanche.new.self (c.self.inside.number + 1)
+    (c.self.inside.topplings + c.drop_at-avalanche.result.size)
+    (c.self.inside.lost + c.drop_at-avalanche.result.lost) (c.self.inside.grains + 1)
+driven c = driven_after c.self.inside.start c.self.inside.fronts c.drop_at-avalanche.new.self c.args.site
+    c.drop_at-avalanche.result c.self.inside.number c.self.inside.topplings c.self.inside.lost c.self.inside.grains
+    c.self.invariant c.drop_at-avalanche.ensures.grid (inside c) (room c) (taken c)
 
-pub drop_at-fall-requires-clause-few : goal.drop_at-fall-requires-clause-few
-drop_at-fall-requires-clause-few c = λ j l.
+pub drop_at-avalanche-requires-clause-few : goal.drop_at-avalanche-requires-clause-few
+drop_at-avalanche-requires-clause-few c = λ j l.
     let few = few_counts c.self.inside.start c.self.inside.fronts c.self.inside.number
     c.self.inside.topplings c.self.inside.lost c.self.inside.grains c.self.invariant j l in
     omega arith
@@ -52,43 +50,34 @@ overflow_add-self c = omega (
 
 pub overflow_add-self-2 : goal.overflow_add-self-2
 overflow_add-self-2 c =
-    let after = driven (goal.at.overflow_add-self-2 c).After-drop_at-fall in
+    let after = driven (goal.at.overflow_add-self-2 c).After-drop_at-avalanche in
     omega (arith, after.paid.paid, after.paid.limit)
 
 pub overflow_add-self-3 : goal.overflow_add-self-3
 overflow_add-self-3 c =
-    let after = driven (goal.at.overflow_add-self-3 c).After-drop_at-fall in
+    let after = driven (goal.at.overflow_add-self-3 c).After-drop_at-avalanche in
     omega (arith, after.paid.limit)
 
 pub overflow_add-self-4 : goal.overflow_add-self-4
-overflow_add-self-4 c = omega (arith, room (goal.at.overflow_add-self-4 c).After-drop_at-fall)
-
-pub avalanche_of-requires : goal.avalanche_of-requires
-avalanche_of-requires c =
-    let small = small_fall c.self.inside.start.pile.grid c.args.site _ c.drop_at-fall.result
-    c.self.invariant.paid.sides (inside (goal.at.avalanche_of-requires c).After-drop_at-fall)
-    (subst (λ (g : Grid).
-    IsFall g c.args.site (toppled_between c.self.inside.fronts c.drop_at-fall.new.self) c.drop_at-fall.result)
-    c.self.invariant.one_grid c.drop_at-fall.ensures.fall) in
-    record { small = small }
+overflow_add-self-4 c = omega (arith, room (goal.at.overflow_add-self-4 c).After-drop_at-avalanche)
 
 pub invariant_of-self : goal.invariant_of-self
-invariant_of-self c = driven (goal.at.invariant_of-self c).After-drop_at-fall
+invariant_of-self c = driven (goal.at.invariant_of-self c).After-drop_at-avalanche
 
 pub returns-clause-avalanche : goal.returns-clause-avalanche
 returns-clause-avalanche c =
     subst (λ (v : OneView). IsAvalanche (grid_of_one_pile v) c.args.site
-    (topplings_between v.settled (driven_record c.self.inside.start c.drop_at-fall.new.self
-    (c.self.inside.topplings + c.drop_at-fall.result.size) (c.self.inside.lost + c.drop_at-fall.result.lost)))
-    c.avalanche_of.result)
+    (topplings_between v.settled (driven_record c.self.inside.start c.drop_at-avalanche.new.self
+    (c.self.inside.topplings + c.drop_at-avalanche.result.size) (c.self.inside.lost + c.drop_at-avalanche.result.lost)))
+    c.drop_at-avalanche.result)
     c.self.view_is
-    (driven_avalanche c.self.inside.start c.self.inside.fronts c.drop_at-fall.new.self c.args.site c.drop_at-fall.result
-    c.self.inside.number c.self.inside.topplings c.self.inside.lost c.self.inside.grains c.avalanche_of.result
-    c.self.invariant c.drop_at-fall.ensures.fall c.avalanche_of.ensures)
+    (driven_avalanche c.self.inside.start c.self.inside.fronts c.drop_at-avalanche.new.self c.args.site c.drop_at-avalanche.result
+    c.self.inside.number c.self.inside.topplings c.self.inside.lost c.self.inside.grains c.self.invariant
+    c.drop_at-avalanche.ensures.avalanche)
 
 pub returns-clause-drops : goal.returns-clause-drops
 returns-clause-drops c =
-    let at = (goal.at.returns-clause-drops c).After-drop_at-fall in
+    let at = (goal.at.returns-clause-drops c).After-drop_at-avalanche in
     let same = c.self.invariant.all_grains in
     let few = room at in
     drops_from c.self.inside.number c.args.site

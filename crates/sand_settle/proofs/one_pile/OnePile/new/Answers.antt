@@ -6,7 +6,7 @@ pub invariant_of-result : goal.invariant_of-result
 invariant_of-result c = record {
   paid = paid_start c.args.start.now c.in_ok-settled.settled c.grains.ensures.pile c.in_ok-settled.ensures.record;
   few = omega arith;
-  room = tt;
+  tiled = tt;
   kept = λ l. absurd (omega arith);
 }
 

@@ -1,0 +1,12 @@
+use Rattle.std.proofs.Common.{ℕ, ◌≡◌, ◌+◌, ◌<◌}
+use Rattle.sand_tiles.specs.Places.{number}
+use Rattle.sand_fronts.specs.Tiling.{on_tiles}
+use Rattle.sand_fronts.specs.Filling.{Tells}
+use Rattle.sand_fronts.proofs.filling.tile_of.Given as goal
+
+abbrev pub invariant-loop-place : goal.invariant-loop-place
+invariant-loop-place g l = record {
+  clear : l.tile.wave ≡ 0;
+  so_far : (h : ℕ → ℕ) → Tells l.shape (goal.F-post g l.numbers) h
+      → (q : ℕ) → q + l.place < 64 → number l.tile q ≡ on_tiles l.shape h l.k (q + l.place);
+}

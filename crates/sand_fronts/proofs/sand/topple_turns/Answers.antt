@@ -1,0 +1,379 @@
+use Rattle.std.proofs.Common.{ℕ, true, [], ◌∷◌, ◌++◌, ◌≡◌, ◌≢◌, ◌+◌, ◌*◌, ◌<◌, ◌≤◌, ◌∙◌, refl, sym, ap, subst, inl, inr, ⊎_elim, length, take, drop, get_or, arith}
+use Rattle.std.proofs.Math.ListN.{set}
+use Rattle.std.proofs.lemmas.List.{length-drop, length-set, length-take-le, drop_all, drop-set-lt, get_or-take}
+use Rattle.sand_model.specs.Lists.{Lists}
+use Rattle.sand_model.specs.Sand.{one_at}
+use Rattle.sand_model.proofs.Lists.{lists_length}
+use Rattle.sand_model.proofs.SumsBelow.{one_at_same}
+use Rattle.sand_tiles.specs.Places.{bit, IsReady}
+use Rattle.sand_fronts.specs.Tiling.{tiles, on_tiles}
+use Rattle.sand_fronts.specs.Waves.{put, beside_at, AtTile}
+use Rattle.sand_fronts.specs.IndexLists.{ListView}
+use Rattle.sand_fronts.specs.TileLists.{waits, but, Joins, IsClear}
+use Rattle.sand_fronts.specs.Boards.{tiles_of, free_of}
+use Rattle.sand_fronts.proofs.OnTiles.{place_below}
+use Rattle.sand_fronts.proofs.Gained.{tile_read}
+use Rattle.sand_fronts.proofs.OneSite.{start_of}
+use Rattle.sand_fronts.proofs.Waves.{wave_ready}
+use Rattle.sand_fronts.proofs.Turns.{IsDueSite, first_kept, turn_kept, pair_kept, keep_one, keep_two, first_low, first_wave, turn_first, turn_more, turn_pair, waiting_at, at_tile, front_of, front_two, others_wait, none_wait, rest_due_free, put_due_free, starts_none, few_topplings, clear_site, none_left}
+use Rattle.sand_fronts.proofs.sand.topple_turns.Goals.{After-set_of, After-push_if, After-item-k, After-item-other, After-keep_if-kept-then-turn-len, After-truncate}
+use Rattle.sand_fronts.proofs.sand.topple_turns.Goals as goal
+
+pub set_of-requires : goal.set_of-requires
+set_of-requires c = let low = place_below c.args.given.0.now.shape c.args.given.1.site in omega (arith, c.requires.drop.place)
+
+-- the first turn: that of the dropped site's tile
+starts : (c : After-set_of) → (p : ℕ) → p < 64 → bit c.set_of.result p
+    ≡ on_tiles c.args.given.0.now.shape (λ j. 1 * one_at c.args.given.1.site j) c.args.given.1.tile p
+starts c =
+    start_of c.args.given.0.now.shape c.args.given.1.site c.args.given.1.tile c.set_of.result c.requires.drop.inside
+    c.requires.drop.tile (λ p low. c.set_of.ensures p low ∙ ap (λ q. one_at q p) c.requires.drop.place)
+
+first_list : (c : After-push_if)
+    → c.push_if.new.self ≡ record { items = c.args.given.1.tile ∷ []; room = c.args.sand.list.room }
+first_list c = c.push_if.ensures
+    ∙ ap (λ (l : ListView). record { items = l.items ++ c.args.given.1.tile ∷ []; room = l.room }) c.clear.ensures
+
+pub topple_tile-requires-clause-tile : goal.topple_tile-requires-clause-tile
+topple_tile-requires-clause-tile c =
+    at_tile c.args.given.0.now.shape c.args.given.1.site c.args.given.1.tile c.args.given.0.now.beside.items
+    c.requires.board.beside c.requires.drop.inside (sym c.requires.drop.tile)
+
+pub topple_tile-requires-clause-ready : goal.topple_tile-requires-clause-ready
+topple_tile-requires-clause-ready c =
+    let g = c.args.given.0.now.shape in
+    let site = c.args.given.1.site in
+    let τ = tiles_of c.args.sand in
+    wave_ready (free_of c.args.given.0.now) c.args.given.1.tile c.set_of.result 1
+    c.requires.all_open (first_wave g site τ c.requires.rest c.requires.drop.inside) c.requires.drop.inside
+    (first_low g site τ) (starts c) (let z = clear_site g site τ c.requires.rest in omega arith)
+
+pub turns-init : goal.turns-init
+turns-init c =
+    let g = c.args.given.0.now.shape in
+    let site = c.args.given.1.site in
+    let k = c.args.given.1.tile in
+    let n = tiles g in
+    let τ = tiles_of c.args.sand in
+    let σ = tiles_of c.topple_tile.new.self in
+    let free = free_of c.args.given.0.now in
+    let list = c.topple_tile.new.self.list.items in
+    let b = at_tile g site k c.args.given.0.now.beside.items c.requires.board.beside c.requires.drop.inside
+    (sym c.requires.drop.tile) in
+    let steps = c.topple_tile.ensures.steps in
+    let first = turn_first free c.requires.all_open c.requires.rest c.requires.drop.inside c.requires.drop.tile
+    (starts (goal.at.turns-init c).After-set_of) b.each steps in
+    let begun : ListView = record { items = k ∷ []; room = c.args.sand.list.room } in
+    let joins = subst (λ (l : ListView). Joins n 4 (but k (waits τ)) (waits σ) l c.topple_tile.new.self.list)
+    (first_list (goal.at.turns-init c).After-push_if) c.topple_tile.ensures.joins in
+    let longer = joins.longer in
+    let kept : (t : ℕ) → t < 0 + 1 → get_or list t 0 ≡ get_or (k ∷ []) t 0 = λ t less. joins.kept t (omega arith) in
+    record {
+      sand = c.topple_tile.ensures.sand;
+      wave = first.0;
+      started = first.1;
+      due_free = steps.gains.due_free (put_due_free τ free k steps.visited.tile steps.visited.visits.none_due
+          (rest_due_free τ free c.requires.rest.none_due));
+      waiting = joins.waiting 1 (omega arith) (none_wait n k τ c.requires.rest.none_due);
+      kept = turn_kept (k ∷ []) list 1 (first_kept n k τ (λ m p low. c.requires.rest.clear m p low) b.inside)
+          (0, omega arith, omega arith, refl) steps kept;
+      spent = omega arith;
+      within = omega arith;
+      count = first.2;
+    }
+
+-- a tile that waits has a site that is due, its neighbours' places are on the board, and it is ready for a visit
+at_turn : (c : After-item-k) (k : ℕ) → waits (tiles_of c.turns.sand) k ≡ true → (j : ℕ)
+    × IsDueSite c.args.given.0.now.shape c.args.given.1.site (tiles_of c.turns.sand) k j
+    × AtTile c.args.given.0.now.shape k (beside_at c.args.given.0.now.beside.items k)
+at_turn c k wait =
+    waiting_at c.args.given.0.now.shape c.args.given.1.site k (tiles_of c.turns.sand)
+    (free_of c.args.given.0.now) c.args.given.0.now.beside.items c.requires.all_open
+    c.requires.board.beside c.turns.invariant.due_free wait
+
+ready : (c : After-item-k) (k : ℕ) → IsReady (tiles_of c.turns.sand k) (free_of c.args.given.0.now k) 0
+ready c k =
+    wave_ready (free_of c.args.given.0.now) k 0 0
+    c.requires.all_open c.turns.invariant.wave c.requires.drop.inside
+    (first_low c.args.given.0.now.shape c.args.given.1.site (tiles_of c.args.sand))
+    (starts_none c.args.given.0.now.shape c.args.given.1.site k) (omega (arith, c.turns.invariant.started))
+
+room : (c : After-item-k) → length c.turns.sand.list.items + 8 ≤ c.turns.sand.list.room
+room c =
+    let few = few_topplings c.args.given.0.now.shape (tiles_of c.turns.sand) in
+    let long = lists_length (tiles c.args.given.0.now.shape) (waits (tiles_of c.turns.sand))
+    (drop c.turns.turn c.turns.sand.list.items) c.turns.invariant.waiting in
+    omega (
+      arith,
+      length-drop c.turns.turn c.turns.sand.list.items,
+      c.turns.invariant.count,
+      c.turns.invariant.sand.room,
+      c.turns.invariant.within,
+    )
+
+one : (c : After-item-k) → (c.item-k.result < tiles c.args.given.0.now.shape)
+    × (waits (tiles_of c.turns.sand) c.item-k.result ≡ true)
+    × Lists (tiles c.args.given.0.now.shape) (waits (tiles_of c.turns.sand))
+    (c.item-k.result ∷ drop (c.turns.turn + 1) c.turns.sand.list.items)
+one c =
+    front_of (tiles c.args.given.0.now.shape) c.turns.turn c.item-k.result
+    (waits (tiles_of c.turns.sand)) c.turns.sand.list.items c.turns.invariant.waiting
+    (omega (arith, c.turns-test.true, c.len.ensures.value)) c.item-k.ensures
+
+pub index-requires : goal.index-requires
+index-requires c =
+    let at = one (goal.at.index-requires c).After-item-k in omega (arith, at.0, c.turns.invariant.sand.one_each)
+
+-- ---- two tiles
+
+two : (c : After-item-other) → (c.item-k.result ≢ c.item-other.result)
+    × (waits (tiles_of c.turns.sand) c.item-k.result ≡ true)
+    × (waits (tiles_of c.turns.sand) c.item-other.result ≡ true)
+    × Lists (tiles c.args.given.0.now.shape)
+    (but c.item-other.result (but c.item-k.result (waits (tiles_of c.turns.sand))))
+    (drop (c.turns.turn + 2) c.turns.sand.list.items)
+two c =
+    front_two (tiles c.args.given.0.now.shape) c.turns.turn c.item-k.result c.item-other.result
+    (waits (tiles_of c.turns.sand)) c.turns.sand.list.items c.turns.invariant.waiting
+    (omega (arith, c.if-turn-len.true, c.len-in-turns.ensures.value)) c.item-k.ensures c.item-other.ensures
+
+pub topple_pair-requires-clause-different : goal.topple_pair-requires-clause-different
+topple_pair-requires-clause-different c = (two (goal.at.topple_pair-requires-clause-different c).After-item-other).0
+
+pub topple_pair-requires-clause-tile : goal.topple_pair-requires-clause-tile
+topple_pair-requires-clause-tile c =
+    let d = goal.at.topple_pair-requires-clause-tile c in
+    (at_turn d.After-item-k c.item-k.result (two d.After-item-other).1).2
+
+pub topple_pair-requires-clause-other_tile : goal.topple_pair-requires-clause-other_tile
+topple_pair-requires-clause-other_tile c =
+    let d = goal.at.topple_pair-requires-clause-other_tile c in
+    (at_turn d.After-item-k c.item-other.result (two d.After-item-other).2).2
+
+pub topple_pair-requires-clause-ready : goal.topple_pair-requires-clause-ready
+topple_pair-requires-clause-ready c =
+    ready (goal.at.topple_pair-requires-clause-ready c).After-item-k c.item-k.result
+
+pub topple_pair-requires-clause-other_ready : goal.topple_pair-requires-clause-other_ready
+topple_pair-requires-clause-other_ready c =
+    ready (goal.at.topple_pair-requires-clause-other_ready c).After-item-k c.item-other.result
+
+pub index-requires-then-turn-len : goal.index-requires-then-turn-len
+index-requires-then-turn-len c =
+    let d = goal.at.index-requires-then-turn-len c in
+    let at = (at_turn d.After-item-k c.item-other.result (two d.After-item-other).2).2 in
+    omega (arith, at.inside, c.turns.invariant.sand.one_each)
+
+pub keep_if-kept-requires-clause-small : goal.keep_if-kept-requires-clause-small
+keep_if-kept-requires-clause-small c =
+    let at = one (goal.at.keep_if-kept-requires-clause-small c).After-item-k in
+    omega (arith, at.0, c.requires.board.beside.small)
+
+pub keep_if-kept-requires-then-turn-len-clause-small : goal.keep_if-kept-requires-then-turn-len-clause-small
+keep_if-kept-requires-then-turn-len-clause-small c =
+    let d = goal.at.keep_if-kept-requires-then-turn-len-clause-small c in
+    let at = (at_turn d.After-item-k c.item-other.result (two d.After-item-other).2).2 in
+    omega (arith, at.inside, c.requires.board.beside.small)
+
+-- the list with both tiles kept
+list_two : (c : After-keep_if-kept-then-turn-len) → c.keep_if-kept-then-turn-len.new.self ≡ record {
+  items = set (set c.turns.sand.list.items c.turns.kept c.item-k.result) c.keep_if-kept.result c.item-other.result;
+  room = c.turns.sand.list.room;
+}
+list_two c = c.keep_if-kept-then-turn-len.ensures.list
+    ∙ ap (λ (l : ListView). record { items = set l.items c.keep_if-kept.result c.item-other.result; room = l.room })
+    c.keep_if-kept.ensures.list
+
+length_two : (c : After-keep_if-kept-then-turn-len)
+    → length (set (set c.turns.sand.list.items c.turns.kept c.item-k.result) c.keep_if-kept.result c.item-other.result)
+    ≡ length c.turns.sand.list.items
+length_two c = length-set (set c.turns.sand.list.items c.turns.kept c.item-k.result) c.keep_if-kept.result c.item-other.result
+    ∙ length-set c.turns.sand.list.items c.turns.kept c.item-k.result
+
+pub topple_pair-requires-clause-room : goal.topple_pair-requires-clause-room
+topple_pair-requires-clause-room c =
+    let d = goal.at.topple_pair-requires-clause-room c in
+    let r = room d.After-item-k in
+    let l = list_two d.After-keep_if-kept-then-turn-len in
+    let long = ap (λ (v : ListView). length v.items) l ∙ length_two d.After-keep_if-kept-then-turn-len in
+    let room' = ap (λ (v : ListView). v.room) l in
+    omega arith
+
+pub turns-smaller-then-turn-len : goal.turns-smaller-then-turn-len
+turns-smaller-then-turn-len c =
+    let few = few_topplings c.args.given.0.now.shape (tiles_of c.turns.sand) in
+    let count = c.turns.invariant.count in
+    omega arith
+
+pub turns-preserved-then-turn-len : goal.turns-preserved-then-turn-len
+turns-preserved-then-turn-len c =
+    let d = goal.at.turns-preserved-then-turn-len c in
+    let g = c.args.given.0.now.shape in
+    let k = c.item-k.result in
+    let other = c.item-other.result in
+    let free = free_of c.args.given.0.now in
+    let before = c.turns.sand.list.items in
+    let after = c.topple_pair.new.self.list.items in
+    let turn = c.turns.turn in
+    let t = two d.After-item-other in
+    let at_k = at_turn d.After-item-k k t.1 in
+    let at_other = at_turn d.After-item-k other t.2 in
+    let steps = c.topple_pair.ensures.steps in
+    let more = turn_pair free c.requires.all_open c.turns.invariant.wave c.requires.drop.inside
+    (first_low g c.args.given.1.site (tiles_of c.args.sand)) (let o = one_at_same c.args.given.1.site in omega arith)
+    c.turns.invariant.started t.0 at_k.1 at_other.1 at_k.2.each at_other.2.each steps in
+    let least = more.2 in
+    let within : turn + 1 < length before = omega (arith, c.if-turn-len.true, c.len-in-turns.ensures.value) in
+    let next = c.keep_if-kept.result in
+    let last = c.keep_if-kept-then-turn-len.result in
+    let spent = c.turns.invariant.spent in
+    let all = keep_two before c.turns.kept k other next last c.index.result.now c.index-then-turn-len.result.now
+    c.turns.invariant.kept at_k.2.inside at_other.2.inside (omega arith)
+    (tile_read c.turns.sand.tiles.items k c.index.result.now (omega (arith, at_k.2.inside, c.turns.invariant.sand.one_each))
+    c.index.ensures)
+    (tile_read c.turns.sand.tiles.items other c.index-then-turn-len.result.now
+    (omega (arith, at_other.2.inside, c.turns.invariant.sand.one_each)) c.index-then-turn-len.ensures)
+    (omega arith) (omega arith) c.keep_if-kept.ensures.next c.keep_if-kept-then-turn-len.ensures.next in
+    let few = all.3 in
+    let few' = all.4 in
+    let now = set (set before c.turns.kept k) next other in
+    let long = length_two d.After-keep_if-kept-then-turn-len in
+    let joins = subst (λ (l : ListView). Joins (tiles g) 8 (but other (but k (waits (tiles_of c.turns.sand))))
+    (waits (tiles_of c.topple_pair.new.self)) l c.topple_pair.new.self.list)
+    (list_two d.After-keep_if-kept-then-turn-len) c.topple_pair.ensures.joins in
+    let longer = joins.longer in
+    let rest : drop (turn + 2) now ≡ drop (turn + 2) before =
+    drop-set-lt (turn + 2) (set before c.turns.kept k) next other (omega arith)
+    ∙ drop-set-lt (turn + 2) before c.turns.kept k (omega arith) in
+    record {
+      sand = c.topple_pair.ensures.sand;
+      wave = more.0;
+      started = more.1;
+      due_free = steps.gains.due_free (put_due_free (put k steps.one.tile (tiles_of c.turns.sand)) free other steps.two.tile
+          steps.two.visits.none_due (put_due_free (tiles_of c.turns.sand) free k steps.one.tile steps.one.visits.none_due c.turns.invariant.due_free));
+      waiting = joins.waiting (turn + 2) (omega arith) (rw rest t.3);
+      kept = pair_kept now after last all.0 all.1 all.2 steps (λ i less. joins.kept i (omega arith));
+      spent = omega arith;
+      within = omega arith;
+      count = omega (arith, c.turns.invariant.count);
+    }
+
+-- ---- one tile
+
+pub topple_tile-requires-else-turn-len-clause-tile : goal.topple_tile-requires-else-turn-len-clause-tile
+topple_tile-requires-else-turn-len-clause-tile c =
+    let d = (goal.at.topple_tile-requires-else-turn-len-clause-tile c).After-item-k in
+    (at_turn d c.item-k.result (one d).1).2
+
+pub topple_tile-requires-else-turn-len-clause-ready : goal.topple_tile-requires-else-turn-len-clause-ready
+topple_tile-requires-else-turn-len-clause-ready c =
+    ready (goal.at.topple_tile-requires-else-turn-len-clause-ready c).After-item-k c.item-k.result
+
+pub topple_tile-requires-else-turn-len-clause-room : goal.topple_tile-requires-else-turn-len-clause-room
+topple_tile-requires-else-turn-len-clause-room c =
+    let r = room (goal.at.topple_tile-requires-else-turn-len-clause-room c).After-item-k in
+    let l = c.keep_if-kept-else-turn-len.ensures.list in
+    let long = ap (λ (v : ListView). length v.items) l
+    ∙ length-set c.turns.sand.list.items c.turns.kept c.item-k.result in
+    let room' = ap (λ (v : ListView). v.room) l in
+    omega arith
+
+pub keep_if-kept-requires-else-turn-len-clause-small : goal.keep_if-kept-requires-else-turn-len-clause-small
+keep_if-kept-requires-else-turn-len-clause-small c =
+    let at = one (goal.at.keep_if-kept-requires-else-turn-len-clause-small c).After-item-k in
+    omega (arith, at.0, c.requires.board.beside.small)
+
+pub turns-smaller : goal.turns-smaller
+turns-smaller c =
+    let few = few_topplings c.args.given.0.now.shape (tiles_of c.turns.sand) in
+    let count = c.turns.invariant.count in
+    omega arith
+
+pub turns-preserved : goal.turns-preserved
+turns-preserved c =
+    let d = (goal.at.turns-preserved c).After-item-k in
+    let g = c.args.given.0.now.shape in
+    let k = c.item-k.result in
+    let τ = tiles_of c.turns.sand in
+    let free = free_of c.args.given.0.now in
+    let before = c.turns.sand.list.items in
+    let after = c.topple_tile-else-turn-len.new.self.list.items in
+    let turn : c.turns.turn < length before = omega (arith, c.turns-test.true, c.len.ensures.value) in
+    let f = one d in
+    let t = at_turn d k f.1 in
+    let steps = c.topple_tile-else-turn-len.ensures.steps in
+    let more = turn_more free c.requires.all_open c.turns.invariant.wave c.requires.drop.inside
+    (first_low g c.args.given.1.site (tiles_of c.args.sand)) (let o = one_at_same c.args.given.1.site in omega arith)
+    c.turns.invariant.started t.1 t.2.each steps in
+    let last = c.keep_if-kept-else-turn-len.result in
+    let spent = c.turns.invariant.spent in
+    let all = keep_one before c.turns.kept k last c.index.result.now c.turns.invariant.kept f.0 (omega arith)
+    (tile_read c.turns.sand.tiles.items k c.index.result.now (omega (arith, f.0, c.turns.invariant.sand.one_each))
+    c.index.ensures)
+    (omega arith) c.keep_if-kept-else-turn-len.ensures.next in
+    let few = all.2 in
+    let now = set before c.turns.kept k in
+    let long = length-set before c.turns.kept k in
+    let joins = subst (λ (l : ListView). Joins (tiles g) 4 (but k (waits τ))
+    (waits (tiles_of c.topple_tile-else-turn-len.new.self)) l c.topple_tile-else-turn-len.new.self.list)
+    c.keep_if-kept-else-turn-len.ensures.list c.topple_tile-else-turn-len.ensures.joins in
+    let longer = joins.longer in
+    let least = more.2 in
+    let rest : drop (c.turns.turn + 1) now ≡ drop (c.turns.turn + 1) before =
+    drop-set-lt (c.turns.turn + 1) before c.turns.kept k (omega arith) in
+    record {
+      sand = c.topple_tile-else-turn-len.ensures.sand;
+      wave = more.0;
+      started = more.1;
+      due_free = steps.gains.due_free (put_due_free τ free k steps.visited.tile steps.visited.visits.none_due
+          c.turns.invariant.due_free);
+      waiting = joins.waiting (c.turns.turn + 1) (omega arith)
+          (rw rest (others_wait (tiles g) k (waits τ) (drop (c.turns.turn + 1) before) f.2));
+      kept = turn_kept now after last all.0 all.1 steps (λ i less. joins.kept i (omega arith));
+      spent = omega arith;
+      within = omega arith;
+      count = omega (arith, c.turns.invariant.count);
+    }
+
+pub returns-clause-wave : goal.returns-clause-wave
+returns-clause-wave c =
+    let g = c.args.given.0.now.shape in
+    let list = c.turns.sand.list.items in
+    let none : drop c.turns.turn list ≡ [] =
+    drop_all c.turns.turn list (omega (arith, c.turns-test.false, c.len.ensures.value)) in
+    record {
+      wave = c.turns.invariant.wave;
+      started = c.turns.invariant.started;
+      none_due = none_left c.turns.sand.tiles.items (tiles g) c.turns.invariant.sand.one_each
+          (subst (λ xs. Lists (tiles g) (waits (tiles_of c.turns.sand)) xs) none c.turns.invariant.waiting);
+    }
+
+-- the kept tiles are all of the list
+last_list : (c : After-truncate) → (c.truncate.new.self.items ≡ take c.turns.kept c.turns.sand.list.items)
+    × (length c.truncate.new.self.items ≡ c.turns.kept)
+last_list c =
+    let items = ap (λ (l : ListView). l.items) c.truncate.ensures in
+    let spent = c.turns.invariant.spent in
+    let within = c.turns.invariant.within in
+    (items, ap length items ∙ length-take-le c.turns.kept c.turns.sand.list.items (omega arith))
+
+same_item : (c : After-truncate) (t : ℕ) → t < c.turns.kept
+    → get_or c.truncate.new.self.items t 0 ≡ get_or c.turns.sand.list.items t 0
+same_item c t less =
+    ap (λ xs. get_or xs t 0) (last_list c).0 ∙ get_or-take c.turns.kept c.turns.sand.list.items t 0 less
+
+pub returns-clause-listed : goal.returns-clause-listed
+returns-clause-listed c m =
+    let long = (last_list c).1 in
+    ⊎_elim
+    (λ (clear : IsClear (tiles_of c.turns.sand m)). inl clear)
+    (λ (at : (t : ℕ) × (0 ≤ t) × (t < c.turns.kept) × (get_or c.turns.sand.list.items t 0 ≡ m)).
+    inr (at.0, at.1, omega (arith, at.2), same_item c at.0 at.2 ∙ at.3))
+    (c.turns.invariant.kept.listed m)
+
+pub returns-clause-on_board : goal.returns-clause-on_board
+returns-clause-on_board c t less =
+    let long = (last_list c).1 in
+    let same = same_item c t (omega arith) in
+    let below = c.turns.invariant.kept.on_board t (omega arith) in
+    omega arith

@@ -1,0 +1,142 @@
+use Rattle.std.proofs.Common.{inl, inr, refl, ℕ, length, ◌≡◌, ◌<◌, ◌≤◌, ◌∙◌, sym, ap, arith, subst, ⊎_elim}
+use Rattle.std.specs.Prelude.{slice_index}
+use Rattle.std.proofs.Math.ListN.{set}
+use Rattle.std.proofs.lemmas.Bool.{cases_eq}
+use Rattle.std.proofs.lemmas.List.{length-set}
+use Rattle.sand_tiles.specs.declared.counting.Count.{Count}
+use Rattle.sand_tiles.specs.Places.{bit}
+use Rattle.sand_tiles.specs.Counts.{counted, IsCount}
+use Rattle.sand_tiles.proofs.Bits.{bit_none}
+use Rattle.sand_fronts.specs.Tiling.{tile_of, place_of}
+use Rattle.sand_fronts.specs.Counting.{count_at}
+use Rattle.sand_fronts.specs.Marking.{MarksView}
+use Rattle.sand_fronts.specs.Boards.{counts_of, marks_of}
+use Rattle.sand_fronts.proofs.OnTiles.{place_below}
+use Rattle.sand_fronts.proofs.Counted.{count_read, count_set_same, count_set_other}
+use Rattle.sand_fronts.proofs.MarkedTiles.{empty_or_listed}
+use Rattle.sand_fronts.proofs.WrittenBack.{follows_none, follows_more}
+use Rattle.sand_fronts.proofs.written_back.write_back.Goals.{After-index}
+use Rattle.sand_fronts.proofs.written_back.write_back.Goals as goal
+
+pub loop-turn-init : goal.loop-turn-init
+loop-turn-init c = record {
+  each = refl;
+  marks = refl;
+  sound = c.requires.counts.sound;
+  few = λ m p low. omega arith;
+  listed = λ m p low. ⊎_elim
+      (λ (none : marks_of c.args.counts.now m ≡ 0).
+      inl (c.requires.no_other m p low (ap (λ w. bit w p) none ∙ bit_none p)))
+      (λ (at : (t : ℕ) × (t < length c.args.counts.now.marks.tiles) × (slice_index c.args.counts.now.marks.tiles t ≡ m)).
+      inr (at.0, omega arith, at.1, at.2))
+      (empty_or_listed c.args.counts.now.marks.sets c.args.counts.now.marks.tiles m c.len-turn-end.ensures.lists);
+  added = λ j l. refl;
+  follows = follows_none c.args.shape c.args.heights.now c.args.odometer.now c.requires.low;
+}
+
+inside : (c : After-index) → c.tile-k.result < length c.loop-turn.counts.each.items
+inside c =
+    let each = ap (λ (x : MarksView). length x.sets) c.loop-turn.invariant.marks in
+    omega (
+      arith,
+      c.loop-turn.invariant.each,
+      c.requires.counts.one_each,
+      c.requires.counts.marks_each,
+      c.tile-k.ensures.within,
+    )
+
+read : (c : After-index) → c.index.result.now ≡ counts_of c.loop-turn.counts c.tile-k.result
+read c = count_read c.loop-turn.counts.each.items c.tile-k.result c.index.result.now (inside c) c.index.ensures
+
+pub write_tile-requires-clause-few : goal.write_tile-requires-clause-few
+write_tile-requires-clause-few c =
+    let d = (goal.at.write_tile-requires-clause-few c).After-index in (
+      λ p low.
+          let same = ap (λ (x : Count). counted x p) (read d) in
+          let less = c.loop-turn.invariant.few c.tile-k.result p low in
+          let few = c.requires.few.0 c.tile-k.result p low in omega arith,
+      λ j l tile.
+          let all = c.loop-turn.invariant.added j l in
+          let times = c.requires.few.0 (tile_of c.args.shape j) (place_of c.args.shape j) (place_below c.args.shape j) in
+          let few = c.requires.few.1 j l in omega arith,
+    )
+
+pub loop-turn-preserved : goal.loop-turn-preserved
+loop-turn-preserved c =
+    let d = (goal.at.loop-turn-preserved c).After-index in
+    let g = c.args.shape in
+    let k = c.tile-k.result in
+    let cs = c.loop-turn.counts.each.items in
+    let within = inside d in
+    let here : (m p : ℕ) → p < 64 → m ≡ k → counted (count_at (set cs k c.no_count.result) m) p ≡ 0 =
+    λ m p low e. ap (λ (x : Count). counted x p) (count_set_same cs k m c.no_count.result within e)
+    ∙ c.no_count.ensures.none p low in
+    let other : (m p : ℕ) → (m ≡ k → ⊥) → counted (count_at (set cs k c.no_count.result) m) p ≡ counted (count_at cs m) p =
+    λ m p ne. ap (λ (x : Count). counted x p) (count_set_other cs k m c.no_count.result ne) in
+    let turn_is : k ≡ slice_index c.args.counts.now.marks.tiles c.loop-turn.turn = c.tile-k.ensures.value
+    ∙ ap (λ (x : MarksView). slice_index x.tiles c.loop-turn.turn) c.loop-turn.invariant.marks in
+    record {
+      each = length-set {A = Count} cs k c.no_count.result ∙ c.loop-turn.invariant.each;
+      marks = c.loop-turn.invariant.marks;
+      sound = λ m. ⊎_elim
+          (λ (e : m ≡ k). subst IsCount (sym (count_set_same cs k m c.no_count.result within e)) c.no_count.ensures.sound)
+          (λ (ne : m ≡ k → ⊥). subst IsCount (sym (count_set_other cs k m c.no_count.result ne)) (c.loop-turn.invariant.sound m))
+          (cases_eq m k);
+      few = λ m p low. ⊎_elim
+          (λ (e : m ≡ k). let z = here m p low e in omega arith)
+          (λ (ne : m ≡ k → ⊥). let a = other m p ne in let b = c.loop-turn.invariant.few m p low in omega arith)
+          (cases_eq m k);
+      listed = λ m p low. ⊎_elim
+          (λ (e : m ≡ k). inl (here m p low e))
+          (λ (ne : m ≡ k → ⊥). ⊎_elim
+          (λ (z : counted (count_at cs m) p ≡ 0). inl (other m p ne ∙ z))
+          (λ (at : (t : ℕ) × (c.loop-turn.turn ≤ t) × (t < length c.args.counts.now.marks.tiles)
+          × (slice_index c.args.counts.now.marks.tiles t ≡ m)). ⊎_elim
+          (λ (now : at.0 ≡ c.loop-turn.turn).
+          absurd (ne (sym at.3 ∙ ap (slice_index c.args.counts.now.marks.tiles) now ∙ sym turn_is)))
+          (λ (later : at.0 ≡ c.loop-turn.turn → ⊥). inr (at.0, (let a = at.1 in omega arith), at.2, at.3))
+          (cases_eq at.0 c.loop-turn.turn))
+          (c.loop-turn.invariant.listed m p low))
+          (cases_eq m k);
+      added = λ j l.
+          let p = place_of g j in
+          let low = place_below g j in
+          let before = c.loop-turn.invariant.added j l in
+          ⊎_elim
+          (λ (e : tile_of g j ≡ k).
+          let z = here (tile_of g j) p low e in
+          let a = c.write_tile.ensures.counted.there j l e in
+          let b = ap (λ (x : Count). counted x p) (read d) in
+          let same = ap (λ m. counted (count_at cs m) p) e in
+          omega arith)
+          (λ (ne : tile_of g j ≡ k → ⊥).
+          let a = other (tile_of g j) p ne in
+          let b = c.write_tile.ensures.counted.others j l ne in
+          omega arith)
+          (cases_eq (tile_of g j) k);
+      follows = follows_more c.args.shape c.args.heights.now c.loop-turn.heights c.write_tile.new.heights
+          c.args.odometer.now c.loop-turn.odometer c.write_tile.new.odometer c.loop-turn.invariant.follows
+          c.write_tile.ensures.follows;
+    }
+
+pub returns-clause-written : goal.returns-clause-written
+returns-clause-written c =
+    let none : (m p : ℕ) → p < 64 → counted (counts_of c.loop-turn.counts m) p ≡ 0 =
+    λ m p low. ⊎_elim
+    (λ (z : counted (counts_of c.loop-turn.counts m) p ≡ 0). z)
+    (λ (at : (t : ℕ) × (c.loop-turn.turn ≤ t) × (t < length c.args.counts.now.marks.tiles)
+    × (slice_index c.args.counts.now.marks.tiles t ≡ m)).
+    let a = at.1 in
+    let b = at.2 in
+    absurd (omega (arith, c.len-turn-end.ensures.value, c.loop-turn-test.false)))
+    (c.loop-turn.invariant.listed m p low) in
+    record {
+      counts_each = c.loop-turn.invariant.each;
+      marks = c.loop-turn.invariant.marks;
+      sound = c.loop-turn.invariant.sound;
+      none = none;
+      added = λ j l.
+          let all = c.loop-turn.invariant.added j l in
+          let z = none (tile_of c.args.shape j) (place_of c.args.shape j) (place_below c.args.shape j) in
+          omega arith;
+    }
