@@ -8,11 +8,11 @@ use Rattle.sand_model.specs.Grid.{Grid, sites}
 use Rattle.sand_model.specs.Piles.{PileView}
 use Rattle.sand_model.specs.Sand.{one_at, occurrences, IsSettled, IsStable}
 use Rattle.sand_model.proofs.Sandpile.{settled_once, settled_stable}
+use Rattle.sand_model.proofs.Underway.{underway_start, underway_end}
 use Rattle.sand_settle.specs.Avalanches.{Avalanche, IsAvalanche}
 use Rattle.sand_settle.specs.Drops.{OneView, IsAfter, Drops, grid_of_one_pile, topplings_between}
 use Rattle.sand_settle.specs.Settling.{odometer_of}
 use Rattle.sand_settle.proofs.Drops.{avalanche_same}
-use Rattle.sand_settle.proofs.Drops.{settled_already}
 use Rattle.sand_lab.specs.Streams.{stream_sites}
 use Rattle.sand_text.specs.declared.fault.TextFault.{TextFault}
 use Rattle.sand_text.specs.Reading.{pile_of, ◌>>=◌}
@@ -22,6 +22,11 @@ use Rattle.sand_desk.specs.DropsCommand.{AreRows, drawn_sites, with_draw}
 use Rattle.sand_desk.proofs.DrawnSites.{drawn_split, length-drawn}
 
 -- ---- one drop
+
+-- a stable pile is its own settled pile
+settled_already : (g : Grid) (s u : ℕ → ℕ) → ((i : ℕ) → i < sites g → s i ≤ 3) → ((i : ℕ) → i < sites g → u i ≡ 0)
+    → IsSettled g s u s
+settled_already g s u low none = underway_end g s u s (underway_start g s u none) low
 
 -- two piles on one grid with the same heights are equal
 same_pile : (p q : PileView) → p.grid ≡ q.grid
