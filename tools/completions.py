@@ -5,8 +5,8 @@ from __future__ import annotations
 import re
 from collections.abc import Iterator
 
-import common
-from common import PROGRAM
+import program_help
+from paths import PROGRAM
 
 # What help says of a command or an option, by name.
 Table = dict[str, str]
@@ -14,7 +14,7 @@ Table = dict[str, str]
 
 def options(command: str) -> Iterator[tuple[str, bool, str]]:
     """The options of a command: name, whether a value follows, and what it does."""
-    for spelled, meaning in common.options_of(PROGRAM, command).items():
+    for spelled, meaning in program_help.options_of(PROGRAM, command).items():
         name, _, value = spelled.partition("--")[2].partition(" ")
         yield name, bool(value), meaning
 

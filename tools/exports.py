@@ -10,7 +10,7 @@ import re
 from collections.abc import Iterator
 from typing import Any
 
-from common import TOP
+from paths import TOP
 from sources import SourceFile
 
 # What each name has: a call its result and parameters, a struct its fields, a fault its number.

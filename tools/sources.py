@@ -8,7 +8,7 @@ from dataclasses import dataclass
 from pathlib import Path
 from textwrap import dedent
 
-from common import TOP
+from paths import TOP
 
 TERM = re.compile(
     r"""(?P<bound>(?<=let\ )[^=]+?(?=\ =\s)|(?<=λ\ )[^.:]+?(?=\.\s)|[\w']+(?=\s+←))

@@ -6,7 +6,7 @@ from pathlib import Path
 
 HERE = Path(__file__).resolve().parent
 sys.path[:0] = [str(HERE), str(HERE.parent), str(HERE.parent.parent / "tools")]
-import common
+import running
 
 
 class Counting(unittest.TextTestResult):
@@ -29,8 +29,8 @@ def main(names):
     tests = unittest.TestSuite(loader.discover(str(HERE), pattern) for pattern in patterns)
     result = unittest.TextTestRunner(sys.stdout, verbosity=0, resultclass=Counting).run(tests)
     failed = len(result.failures) + len(result.errors)
-    return common.closing("python", result.passed, failed, len(result.skipped))
+    return running.closing("python", result.passed, failed, len(result.skipped))
 
 
 if __name__ == "__main__":
-    common.start(main)
+    running.start(main)

@@ -6,7 +6,7 @@ import sys
 import unittest
 from pathlib import Path
 
-from common import refusing_library
+from compiling import refusing_library
 from tools import needs, new_folder
 
 HERE = Path(__file__).resolve().parent

@@ -13,6 +13,7 @@ PARTS = [
     "tools/wrong-bodies", "tools/statement", "build", "tools/cases", "tools/at-a-terminal", "python/tests/run", "tools/try-examples",
     "tools/refusals",
 ]
+SHARED = ["tools/paths.py", "tools/running.py", "tools/crate_list.py"]
 SYSTEM = "/usr/bin:/bin"
 lacks_rt = unittest.skipIf(shutil.which("rt", path=SYSTEM), "`rt` is one of the system's commands")
 
@@ -27,7 +28,7 @@ class OfScripts(unittest.TestCase):
         self.top, self.bin, self.log, self.room = folder / "a checkout", folder / "bin", folder / "log", folder / "room"
         self.room.mkdir()
         self.log.write_text("")
-        for name in ("tools/common.py", *self.scripts):
+        for name in (*SHARED, *self.scripts):
             (self.top / name).parent.mkdir(parents=True, exist_ok=True)
             shutil.copy2(TOP / name, self.top / name)
         self.env = {"PATH": f"{self.bin}:{SYSTEM}", "TMPDIR": str(self.room), "LOG": str(self.log), "PYTHONDONTWRITEBYTECODE": "1"}
@@ -65,7 +66,7 @@ class OfCheck(OfScripts):
     def test_the_checkout_stays_as_it_is(self):
         before = files_in(self.top)
         status, said, _ = self.run_in("./check")
-        self.assertEqual((status, said.splitlines()[-1]), (0, "21 passed, 0 failed"))
+        self.assertEqual((status, said.splitlines()[-1]), (0, "23 passed, 0 failed"))
         self.assertEqual(files_in(self.top), before)
         self.assertEqual(list(self.room.iterdir()), [])
 
@@ -88,13 +89,13 @@ class OfCheck(OfScripts):
     def test_anew(self):
         for words in ([], ["--anew"]):
             status, said, _ = self.run_in("./check", *words)
-            self.assertEqual((status, said.splitlines()[-1]), (0, "21 passed, 0 failed"))
+            self.assertEqual((status, said.splitlines()[-1]), (0, "23 passed, 0 failed"))
             self.assertEqual(self.noted(), [" ".join(["rt ci", *words])])
 
     def test_a_failed_part_is_the_last(self):
         stand_in(self.top / "tools/cases", "echo 'cases: 7 passed, 1 failed'; exit 1")
         status, said, _ = self.run_in("./check")
-        self.assertEqual((status, said.splitlines()[-1]), (1, "18 passed, 1 failed"))
+        self.assertEqual((status, said.splitlines()[-1]), (1, "20 passed, 1 failed"))
 
     def test_the_refusals_are_read_from_what_the_proof_wrote(self):
         stand_in(self.top / "tools/wrong-bodies", 'cat >> "$LOG"', "echo 'part: 2 passed, 0 failed'")
@@ -245,9 +246,9 @@ class OfBuild(OfScripts):
         ran("ar", "rc", kit / "c" / "liblibc_c.a")
         (self.top / "include/sandpile.map").write_text("{ global: sandpile_version; local: *; };\n")
         stand_in(self.top / "crates/sandpile/out/sandpile", "echo by ci")
-        status, _, reported = self.run_in("./build", "after-ci")
-        self.assertEqual(status, 0, reported)
         for words in ([], ["library"]):
+            status, _, reported = self.run_in("./build", "--after-ci", *words)
+            self.assertEqual(status, 0, reported)
             self.assertEqual(self.run_in("./build", "--if-changed", *words), (0, "", ""))
         self.assertEqual(self.run_in("./sandpile"), (0, "by ci\n", ""))
 
@@ -302,7 +303,7 @@ class OfStatement(OfScripts):
 
     def test_the_page_names_a_function_by_its_crate(self):
         (self.top / "docs").mkdir()
-        (self.top / "tools/theorem.md").write_text("@ Handle\n\nIt empties a handle.\n\n@ low::clear\n", encoding="utf-8")
+        (self.top / "tools/theorem-template.md").write_text("@ Handle\n\nIt empties a handle.\n\n@ low::clear\n", encoding="utf-8")
         self.assertEqual(self.run_in("tools/statement", "--page"), (0, "", ""))
         first, _, last = (self.top / "docs/THEOREM.md").read_text(encoding="utf-8").partition("It empties a handle.")
         self.assertIn("pub struct Handle", first)
@@ -311,7 +312,7 @@ class OfStatement(OfScripts):
 
 
 class OfTheGate(OfScripts):
-    scripts = (".ci/run", "tools/try-examples", "python/with-numpy")
+    scripts = (".ci/run", "tools/try-examples", "tools/program_help.py", "python/with-numpy")
 
     def test_the_shell_looks_for_no_other_folder(self):
         stand_in(self.bin / "dpkg-query")

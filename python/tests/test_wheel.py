@@ -17,7 +17,7 @@ import zipfile
 from pathlib import Path
 
 import sandpile
-from common import STATIC
+from paths import STATIC
 from sandpile import _library
 from tools import LIBRARY, PROGRAM, TOP, files_in, needs, needs_module, new_folder, ran
 

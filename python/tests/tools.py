@@ -8,10 +8,10 @@ import tempfile
 import unittest
 from pathlib import Path
 
-import common
 import numpy as np
+import paths
 
-TOP, PROGRAM, LIBRARY = common.TOP, common.PROGRAM, common.LIBRARY.parent
+TOP, PROGRAM, LIBRARY = paths.TOP, paths.PROGRAM, paths.LIBRARY.parent
 
 
 def needs(*tools):

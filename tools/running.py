@@ -1,4 +1,4 @@
-"""What several scripts share: where things are, the closing line, the help of the program, and how a script ends."""
+"""How a script of this repository runs commands, and how it ends."""
 
 from __future__ import annotations
 
@@ -13,18 +13,9 @@ import tempfile
 import time
 from collections.abc import Callable, Iterator
 from pathlib import Path
-from typing import Any, NamedTuple, NoReturn
+from typing import Any, NoReturn
 
-TOP = Path(__file__).resolve().parent.parent
-PROGRAM = TOP / "crates" / "sandpile" / "out" / "sandpile"
-STATIC = PROGRAM.with_name("sandpile-static")  # the same, and it needs no glibc
-# `rt ci` leaves two programs. The second one is made by Rattle's own compiler.
-PROGRAMS = (PROGRAM, PROGRAM.with_name("sandpile.by-rattle"))
-LIBRARY = TOP / "crates" / "sand_c" / "out" / "libsandpile.so.1"
-WITH_NUMPY = TOP / "python" / "with-numpy"
-
-
-# How a script runs and ends.
+from paths import TOP
 
 SIGNALS = (signal.SIGINT, signal.SIGTERM, signal.SIGHUP)
 
@@ -132,6 +123,17 @@ def run(words: list[Any], *, timeout: float | None = None, check: bool = False, 
     return ended
 
 
+def said(program: str | Path, *words: str) -> str:
+    """What a command writes."""
+    return subprocess.run([program, *words], check=True, stdout=subprocess.PIPE, text=True).stdout
+
+
+def need(tool: str, why: str) -> None:
+    """Ends the script if a command is not on the path."""
+    if not shutil.which(tool):
+        sys.exit(f"{Path(sys.argv[0]).name}: `{tool}` is not on the PATH, and it {why}")
+
+
 def usage(text: str | None, words: list[str]) -> int:
     """Prints how a script is called, and returns the exit status: 0 if its words asked for that, and 2 for misuse."""
     is_asked = words in (["-h"], ["--help"])
@@ -143,75 +145,3 @@ def closing(name: str, passed: int, failed: int, left_out: int | None = None) ->
     """Prints the closing line, and returns the exit status: 0 if something passed and nothing failed."""
     print(f"{name}: {passed} passed, {failed} failed" + ("" if left_out is None else f", {left_out} left out"))
     return 0 if passed and not failed else 1
-
-
-# Crates.
-
-class Crate(NamedTuple):
-    """A crate's line in crates.txt, and the crates and libraries that it uses."""
-
-    line: str
-    uses: list[str]
-
-
-def crates() -> dict[str, Crate]:
-    """The crates of crates.txt, by name."""
-    lines = [line for line in (TOP / "crates.txt").read_text().splitlines() if line and not line.startswith("#")]
-    return {line.partition(":")[0].split()[0]: Crate(line, line.partition(":")[2].split()) for line in lines}
-
-
-# C.
-
-def need(tool: str, why: str) -> None:
-    """Ends the script if a command is not on the path."""
-    if not shutil.which(tool):
-        sys.exit(f"{Path(sys.argv[0]).name}: `{tool}` is not on the PATH, and it {why}")
-
-
-def compiled(source: Path, made: Path, *options: str) -> Path:
-    """Compiles a source in C."""
-    need("cc", f"compiles {source.name} (on Debian: apt-get install gcc libc6-dev)")
-    run(["cc", "-O2", *options, "-o", made, source], check=True)
-    return made
-
-
-def queue(folder: Path) -> Path:
-    """Compiles the plain queue in C that drops and settles as the program does."""
-    return compiled(TOP / "tools" / "bench" / "queue.c", folder / "queue", "-std=c99")
-
-
-def refusing_library(folder: Path) -> dict[str, str]:
-    """Compiles the library that makes allocations fail. Returns what a program that is run in this folder needs in its environment
-    to load it. The loader splits this text at spaces and colons, which the path of the folder may have."""
-    made = compiled(TOP / "tools" / "refuse.c", folder / "refuse.so", "-Wall", "-Wextra", "-Werror", "-shared", "-fPIC")
-    return {"LD_PRELOAD": f"./{made.name}"}
-
-
-# The help of the program.
-
-def said(program: Path, *words: str) -> str:
-    """What the program writes."""
-    return subprocess.run([program, *words], check=True, stdout=subprocess.PIPE, text=True).stdout
-
-
-def version_of(program: Path) -> str:
-    """Name and version, such as `sandpile 1.0.0`."""
-    return said(program, "--version").partition(",")[0]
-
-
-def section_of(text: str, name: str) -> list[str]:
-    """The lines of a section of help, such as `Options:`. They are indented or empty."""
-    found = re.search(rf"^{name}:\n((?:(?:  .*)?\n)+)", text, re.M)
-    return found[1].splitlines() if found else []
-
-
-def commands_of(program: Path) -> dict[str, str]:
-    """The commands that help lists, and what each does."""
-    lines = (re.match(r"  (\w+) +(.*)", line) for line in section_of(said(program, "-h"), "Commands"))
-    return {line[1]: line[2] for line in lines if line}
-
-
-def options_of(program: Path, *words: str) -> dict[str, str]:
-    """The options in short help, such as `-h, --help` or `--seed <N>`, and what each does."""
-    lines = (re.match(r" +((?:-\w, )?--[\w-]+(?: <\w+>)?)  +(.*)", line) for line in section_of(said(program, *words, "-h"), "Options"))
-    return {line[1]: line[2].replace(" (see more with '--help')", "") for line in lines if line}

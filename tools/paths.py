@@ -1,0 +1,13 @@
+"""Where things are: the top of this repository, and what is built in it."""
+
+from __future__ import annotations
+
+from pathlib import Path
+
+TOP = Path(__file__).resolve().parent.parent
+PROGRAM = TOP / "crates" / "sandpile" / "out" / "sandpile"
+STATIC = PROGRAM.with_name("sandpile-static")  # the same, and it needs no glibc
+# `rt ci` leaves two programs. The second one is made by Rattle's own compiler.
+PROGRAMS = (PROGRAM, PROGRAM.with_name("sandpile.by-rattle"))
+LIBRARY = TOP / "crates" / "sand_c" / "out" / "libsandpile.so.1"
+WITH_NUMPY = TOP / "python" / "with-numpy"
