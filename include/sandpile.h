@@ -86,14 +86,15 @@ typedef struct sandpile_avalanche {
 } sandpile_avalanche;
 
 /* Settles a pile. Writes the settled heights, how often each site toppled, the grains lost and the number of topplings.
+   `heights_length` and `odometer_length` are width times height.
    SIDE, NARROW, LENGTH, TOO_MANY_GRAINS, MEMORY. */
 uint32_t sandpile_settle(size_t width, size_t height, bool cylinder, uint64_t *heights, size_t heights_length,
                          uint64_t *odometer, size_t odometer_length, uint64_t *lost, uint64_t *topplings);
 
-/* Settles several piles on grids of one shape: as many as `lost` has elements, or none. `heights` has all heights of the first
-   pile, then those of the second, and so on. `odometer` has as many elements as `heights`, and `topplings` as many as `lost`.
-   Writes for each pile what `sandpile_settle` writes. The limit is for each pile alone; if one exceeds it, none is settled.
-   During the call it takes 16 bytes for each site of each pile.
+/* Settles several piles on grids of one shape. `heights` has all heights of the first pile, then those of the second, and so
+   on. Writes for each pile what `sandpile_settle` writes. `lost_length` and `topplings_length` are the number of piles, which
+   may be 0; `heights_length` and `odometer_length` are width times height times the number of piles. The limit is for each
+   pile alone; if one exceeds it, none is settled. The call needs 16 bytes for each site of each pile.
    SIDE, NARROW, LENGTH, TOO_MANY_GRAINS, MEMORY. */
 uint32_t sandpile_settle_all(size_t width, size_t height, bool cylinder, uint64_t *heights, size_t heights_length,
                              uint64_t *odometer, size_t odometer_length, uint64_t *lost, size_t lost_length,
@@ -101,40 +102,43 @@ uint32_t sandpile_settle_all(size_t width, size_t height, bool cylinder, uint64_
 
 /* Settles a pile, then drops a grain at each site of `drops` in turn; each settles before the next. Writes the final
    heights, how often each site toppled in this call (the first settling included), and an avalanche for each drop.
+   `heights_length` and `odometer_length` are width times height; `avalanches_length` is `drops_length`.
    SIDE, NARROW, LENGTH, TOO_MANY_GRAINS, NO_SITE, FULL, MEMORY. */
 uint32_t sandpile_drop(size_t width, size_t height, bool cylinder, uint64_t *heights, size_t heights_length,
                        uint64_t *odometer, size_t odometer_length, const size_t *drops, size_t drops_length,
                        sandpile_avalanche *avalanches, size_t avalanches_length);
 
-/* Writes the sites of a stream of random drops, from its place `from` on. A stream consists of the 32-bit words of
-   ChaCha8 under the seed, each modulo the number of sites. SIDE, NARROW. */
+/* Writes `sites_length` sites of a stream of random drops, without the first `from` sites of the stream. A stream consists of
+   the 32-bit words of ChaCha8 under the seed, each modulo the number of sites. SIDE, NARROW. */
 uint32_t sandpile_sites(size_t width, size_t height, bool cylinder, uint64_t seed, uint64_t stream, uint64_t from, size_t *sites,
                         size_t sites_length);
 
 /* Burns a stable pile. If it is recurrent, `found` becomes a burning order of all sites; if not, its first `count`
-   elements become the greatest forbidden set, ascending, and the others stay as they were. `found` has one element per
-   site.
+   elements become the greatest forbidden set, ascending, and the others stay as they were. `heights_length` and
+   `found_length` are width times height.
    SIDE, NARROW, LENGTH, TOO_MANY_GRAINS; then UNSTABLE or MEMORY. */
 uint32_t sandpile_burn(size_t width, size_t height, bool cylinder, const uint64_t *heights, size_t heights_length,
                        size_t *found, size_t found_length, size_t *count, bool *recurrent);
 
-/* Writes the identity of the sandpile group. SIDE, NARROW, LENGTH, MEMORY. */
+/* Writes the identity of the sandpile group. `heights_length` is width times height. SIDE, NARROW, LENGTH, MEMORY. */
 uint32_t sandpile_identity(size_t width, size_t height, bool cylinder, uint64_t *heights, size_t heights_length);
 
-/* Replaces a pile with the recurrent pile equivalent to it. SIDE, NARROW, LENGTH, TOO_MANY_GRAINS, MEMORY. */
+/* Replaces a pile with the recurrent pile equivalent to it. `heights_length` is width times height. SIDE, NARROW, LENGTH,
+   TOO_MANY_GRAINS, MEMORY. */
 uint32_t sandpile_recurrent(size_t width, size_t height, bool cylinder, uint64_t *heights, size_t heights_length);
 
-/* Replaces the first of two recurrent piles with their sum. SIDE, NARROW, LENGTH, TOO_MANY_GRAINS; then UNSTABLE or
-   NOT_RECURRENT for the first pile, then for the second; or MEMORY. */
+/* Replaces the first of two recurrent piles with their sum. `heights_length` and `others_length` are width times height.
+   SIDE, NARROW, LENGTH, TOO_MANY_GRAINS; then UNSTABLE or NOT_RECURRENT for the first pile, then for the second; or
+   MEMORY. */
 uint32_t sandpile_add(size_t width, size_t height, bool cylinder, uint64_t *heights, size_t heights_length,
                       const uint64_t *others, size_t others_length);
 
-/* Replaces a recurrent pile with its inverse. SIDE, NARROW, LENGTH, TOO_MANY_GRAINS; then UNSTABLE, NOT_RECURRENT or
-   MEMORY. */
+/* Replaces a recurrent pile with its inverse. `heights_length` is width times height. SIDE, NARROW, LENGTH,
+   TOO_MANY_GRAINS; then UNSTABLE, NOT_RECURRENT or MEMORY. */
 uint32_t sandpile_inverse(size_t width, size_t height, bool cylinder, uint64_t *heights, size_t heights_length);
 
-/* Replaces a recurrent pile with the sum of n copies of it; for n = 0 that is the identity. SIDE, NARROW, LENGTH,
-   TOO_MANY_GRAINS; then UNSTABLE, NOT_RECURRENT or MEMORY. */
+/* Replaces a recurrent pile with the sum of n copies of it; for n = 0 that is the identity. `heights_length` is width times
+   height. SIDE, NARROW, LENGTH, TOO_MANY_GRAINS; then UNSTABLE, NOT_RECURRENT or MEMORY. */
 uint32_t sandpile_multiple(size_t width, size_t height, bool cylinder, uint64_t *heights, size_t heights_length, uint64_t n);
 
 /* Handles.
@@ -155,22 +159,25 @@ typedef struct sandpile_drive {
     void *at;
 } sandpile_drive;
 
-/* Fills an empty handle with a settled copy of a pile. TAKEN, SIDE, NARROW, LENGTH, TOO_MANY_GRAINS, MEMORY. */
+/* Fills an empty handle with a settled copy of a pile. `heights_length` is width times height. TAKEN, SIDE, NARROW, LENGTH,
+   TOO_MANY_GRAINS, MEMORY. */
 uint32_t sandpile_drive_new(size_t width, size_t height, bool cylinder, const uint64_t *heights, size_t heights_length,
                             sandpile_drive *drive);
 
-/* Drops a grain at each site of `drops` in turn; each settles before the next. Writes an avalanche for each drop. Several
-   calls do the same as one call with all their drops. The grains of the start and of all drops since may not exceed the
-   limit (FULL), even if some are lost. EMPTY, LENGTH, NO_SITE, FULL, MEMORY. */
+/* Drops a grain at each site of `drops` in turn; each settles before the next. Writes an avalanche for each drop;
+   `avalanches_length` is `drops_length`. Several calls do the same as one call with all their drops. The grains of the start
+   and of all drops since may not exceed the limit (FULL), even if some are lost. EMPTY, LENGTH, NO_SITE, FULL, MEMORY. */
 uint32_t sandpile_drive_drop(sandpile_drive *drive, const size_t *drops, size_t drops_length, sandpile_avalanche *avalanches,
                              size_t avalanches_length);
 
-/* Drops a grain at a site. Writes its avalanche, and how often each site topples in it. EMPTY, LENGTH, NO_SITE, FULL. */
+/* Drops a grain at a site. Writes its avalanche, and how often each site topples in it. `topplings_length` is width times
+   height. EMPTY, LENGTH, NO_SITE, FULL. */
 uint32_t sandpile_drive_avalanche(sandpile_drive *drive, size_t site, sandpile_avalanche *avalanche, uint64_t *topplings,
                                   size_t topplings_length);
 
 /* Writes the heights and, since `sandpile_drive_new` and with its settling, how often each site toppled, the number of
-   topplings and the grains lost. An array of length 0 is not written. EMPTY, LENGTH. */
+   topplings and the grains lost. `heights_length` and `odometer_length` are each width times height, or 0 if that array is
+   not to be written. EMPTY, LENGTH. */
 uint32_t sandpile_drive_read(sandpile_drive *drive, uint64_t *heights, size_t heights_length, uint64_t *odometer,
                              size_t odometer_length, uint64_t *topplings, uint64_t *lost);
 
@@ -197,8 +204,8 @@ typedef struct sandpile_holding {
 } sandpile_holding;
 
 /* Makes a shared pile; the heights may be unstable. Fills an empty handle with its first pass, which has all rows and the
-   whole quota: how many grains may be dropped in all. TAKEN, SIDE, NARROW, LENGTH, TOO_MANY_GRAINS (the quota included),
-   MEMORY. */
+   whole quota: how many grains may be dropped in all. `heights_length` is width times height. TAKEN, SIDE, NARROW, LENGTH,
+   TOO_MANY_GRAINS (the quota included), MEMORY. */
 uint32_t sandpile_shared_new(size_t width, size_t height, bool cylinder, const uint64_t *heights, size_t heights_length,
                              uint64_t quota, sandpile_pass *pass);
 
@@ -232,8 +239,8 @@ uint32_t sandpile_pass_join(sandpile_pass *pass, sandpile_pass *other);
 /* Settles what is left to topple, in memory of its own. Needs a pass with all rows and the whole quota, left or dropped,
    such as the first pass after all others have joined it. Writes the settled heights, how often each site toppled, the site
    of each drop by number, the number of topplings and the grains lost: what one thread gets that drops this history.
-   `history` has one element per drop of the pass. The pile and the pass do not change, and may go on. EMPTY, LENGTH,
-   MISSING, MEMORY. */
+   `heights_length` and `odometer_length` are width times height; `history_length` is the number of drops made with the pass
+   (`drops` of its holding). The pile and the pass do not change, and may go on. EMPTY, LENGTH, MISSING, MEMORY. */
 uint32_t sandpile_pass_settle(sandpile_pass *pass, uint64_t *heights, size_t heights_length, uint64_t *odometer,
                               size_t odometer_length, size_t *history, size_t history_length, uint64_t *topplings,
                               uint64_t *lost);
