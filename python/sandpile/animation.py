@@ -61,6 +61,11 @@ def animate(
     Fault
         Plan (15) if `drops` is negative, Memory (4), or, when it is drawn, Full (6), as from `Drive.drop`.
 
+    See Also
+    --------
+    show : a single picture
+    Drive.avalanche : one drop, and how often each site topples in it
+
     Examples
     --------
     >>> import sandpile

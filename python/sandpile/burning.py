@@ -1,4 +1,7 @@
-"""Dhar's burning test: whether a stable pile is recurrent."""
+"""Dhar's burning test (1990): whether a stable pile is recurrent.
+
+Each site burns at most once, so the test, and the times of burning, take time and space proportional to the sites.
+"""
 
 from __future__ import annotations
 

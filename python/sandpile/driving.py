@@ -1,4 +1,8 @@
-"""A pile driven by single grains, with the avalanche of each drop."""
+"""A pile driven by single grains (Bak, Tang and Wiesenfeld 1987), with the avalanche of each drop.
+
+A drop takes time at most proportional to the topplings of its avalanche, and 48 bytes in a table. The run itself takes space
+proportional to the sites.
+"""
 
 from __future__ import annotations
 

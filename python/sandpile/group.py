@@ -1,4 +1,8 @@
-"""The sandpile group: recurrent piles, added by settling their sum."""
+"""The sandpile group (Dhar 1990): recurrent piles, added by settling their sum.
+
+A sum settles one pile, of heights up to 6, and an inverse two. The n-th multiple takes at most two sums for each binary digit
+of n. The space is proportional to the sites.
+"""
 
 from __future__ import annotations
 

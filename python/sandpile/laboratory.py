@@ -25,8 +25,9 @@ _INSTALLED = [folder / "bin" for folder in _ABOVE[1:2] + _ABOVE[4:5]]
 _USAGE = 23
 # docs/FORMATS.md describes it.
 _OUTPUT = re.compile(
-    r"epoch drops topplings lost grains\n((?:\d+(?: \d+){4}\n)*)"
-    r"total \d+(?: \d+){3}\n\d+ \d+(?: c)?\n((?:\d+[ \n])*)odometer\n((?:\d+[ \n])*)"
+    r"epoch drops topplings lost grains\n(?P<epochs>(?:\d+(?: \d+){4}\n)*)total \d+(?: \d+){3}\n"
+    r"\d+ \d+(?: c)?\n(?P<pile>(?:\d+[ \n])*)"
+    r"odometer\n(?P<odometer>(?:\d+[ \n])*)"
 )
 
 #: The type of the rows of `Run.epochs`, one for each epoch.
@@ -102,11 +103,13 @@ def _end_of(status: int) -> str:
 
 
 def _run_of(text: str, shape: tuple[int, ...], cylinder: bool, seed: int) -> Run | None:
-    """Parses a table of epochs, its total, a pile, and its odometer. A text that is cut off is none."""
+    """Parses a table of epochs, its total, a pile, and its odometer. Returns None if the text is cut off."""
     found = _OUTPUT.fullmatch(text)
     if not found:
         return None
-    epochs, pile, odometer = (np.array(part.split(), np.int64) for part in found.groups())
+    epochs = np.array(found["epochs"].split(), np.int64)
+    pile = np.array(found["pile"].split(), np.int64)
+    odometer = np.array(found["odometer"].split(), np.int64)
     if not pile.size == odometer.size == shape[0] * shape[1]:
         return None
     return Run(epochs.view(EPOCH), pile.reshape(shape), odometer.reshape(shape), cylinder, seed)
@@ -163,6 +166,22 @@ def lab(
     RuntimeError
         If the program ends without a result or a fault, by a signal for example. The error says how, and what the
         program wrote to standard error.
+
+    See Also
+    --------
+    SharedPile : the same in this process, with threads of your own
+    Drive : one thread, with the avalanche of each drop
+    random_recurrent : a start from which no burn-in is needed
+
+    Notes
+    -----
+    The result is that of one thread that drops the same grains, since the order of topplings does not matter [1]_. A run
+    needs up to about 40 bytes of memory per drop, counting all epochs.
+
+    References
+    ----------
+    .. [1] D. Dhar, "Self-organized critical state of sandpile automaton models", Physical Review Letters 64 (1990)
+       1613-1616.
 
     Examples
     --------

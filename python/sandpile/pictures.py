@@ -49,6 +49,10 @@ def show(pile: ArrayLike | Pictured, ax: Axes | None = None) -> Axes:
     TypeError
         If its values are not numbers.
 
+    See Also
+    --------
+    animate : the next avalanches of a run
+
     Notes
     -----
     Pyplot keeps a new figure until it is closed. To save many pictures, draw them all in one `ax`, or close each figure.

@@ -1,4 +1,10 @@
-"""Settling: the stable pile that a pile becomes, and how often each site topples on the way."""
+"""Settling: the stable pile that a pile becomes, and how often each site topples on the way.
+
+The library topples the sites of a queue, each as often as its height allows, in time at most proportional to the sites and the
+topplings. For a high pile it guesses how often each site topples (Friedrich and Levine 2013) and certifies the guess, so the
+time hardly depends on the height: `docs/SETTLING.md`. A pile takes space proportional to its sites, and a stack 16 bytes more
+for each site of the piles that one call settles.
+"""
 
 from __future__ import annotations
 

@@ -1,4 +1,9 @@
-"""A pile on which many threads drop grains at once."""
+"""A pile on which many threads drop grains at once.
+
+The order of topplings does not matter (Dhar 1990), so the result is that of one thread: `docs/THEOREM.md`. A drop takes the
+same time whatever the pile, since it topples nothing; a sweep visits each of its rows' sites once; `settle` settles what is
+left. A pile takes 16 bytes for each grain of its quota, and at least 8 for each site.
+"""
 
 from __future__ import annotations
 
@@ -307,10 +312,23 @@ class SharedPile:
     TypeError
         If the heights or `quota` are not integers.
 
+    See Also
+    --------
+    Drive : one thread, with the avalanche of each drop
+    replicas : many piles in parallel, one for each stream
+    lab : a seeded run on many threads, by the program
+
     Notes
     -----
     Split off a `Part` for each thread. Calls on different parts run in parallel. A shared pile belongs to its process: it
     cannot be copied or pickled, and a forked child cannot use it.
+
+    The order of topplings does not matter [1]_, so threads may topple while others drop.
+
+    References
+    ----------
+    .. [1] D. Dhar, "Self-organized critical state of sandpile automaton models", Physical Review Letters 64 (1990)
+       1613-1616.
 
     Examples
     --------

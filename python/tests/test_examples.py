@@ -10,7 +10,8 @@ import unittest
 
 import sandpile
 
-CITING = ("settle", "burn", "recurrent", "identity", "Recurrent", "Drive")
+CITING = ("settle", "burn", "recurrent", "identity", "random_recurrent", "Recurrent", "Drive", "SharedPile", "lab")
+RELATED = (*CITING, "replicas", "show", "animate")
 
 
 class Examples(unittest.TestCase):
@@ -37,7 +38,7 @@ class Examples(unittest.TestCase):
                     self.assertIn("return", value.__annotations__)
 
     def test_see_also_names_what_there_is(self):
-        for name in CITING:
+        for name in RELATED:
             text = inspect.getdoc(getattr(sandpile, name))
             section = re.search(r"^See Also\n-+\n(.*?)\n\n", text, re.M | re.S)[1]
             with self.subTest(name=name):
