@@ -125,13 +125,13 @@ def laid_out(parts: dict[str, str]) -> type[ctypes.Structure]:
 
 # The comparison.
 
-def differences(where: str, found: Declarations, wanted: Declarations) -> Iterator[str]:
+def differences(where: str, found: Declarations, expected: Declarations) -> Iterator[str]:
     """What is wrong with each declaration, in words: the first part that differs."""
-    for name in sorted({*found, *wanted}):
-        if name not in found or name not in wanted:
-            yield f"{where}: {name} is {'missing' if name in wanted else 'not in the sources'}"
+    for name in sorted({*found, *expected}):
+        if name not in found or name not in expected:
+            yield f"{where}: {name} is {'missing' if name in expected else 'not in the sources'}"
             continue
-        here, there = found[name], wanted[name]
+        here, there = found[name], expected[name]
         for part in {**there, **here}:
             if here.get(part) != there.get(part):
                 yield f"{where}: {name}: {part} is {here.get(part, 'missing')}, but {there.get(part, 'missing')} in the sources"

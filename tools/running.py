@@ -20,12 +20,12 @@ from paths import TOP
 SIGNALS = (signal.SIGINT, signal.SIGTERM, signal.SIGHUP)
 
 
-class Told(KeyboardInterrupt):
+class Stopped(KeyboardInterrupt):
     """SIGTERM, or the end of the terminal, tells the script to end, as Ctrl-C does."""
 
 
 def end_by_signal(number: int, _: object) -> NoReturn:
-    raise Told(number)
+    raise Stopped(number)
 
 
 def start(main: Callable[[list[str]], int]) -> NoReturn:
@@ -38,8 +38,8 @@ def start(main: Callable[[list[str]], int]) -> NoReturn:
     sys.stdout.reconfigure(line_buffering=True)
     try:
         sys.exit(main(sys.argv[1:]))
-    except KeyboardInterrupt as told:
-        sys.exit(128 + (told.args[0] if told.args else signal.SIGINT))
+    except KeyboardInterrupt as stop:
+        sys.exit(128 + (stop.args[0] if stop.args else signal.SIGINT))
     except BrokenPipeError:
         os.dup2(os.open(os.devnull, os.O_WRONLY), sys.stdout.fileno())
         sys.exit(128 + signal.SIGPIPE)
@@ -99,8 +99,8 @@ def script(words: list[Any], folder: Path = TOP, **how: Any) -> Iterator[subproc
         try:
             yield process
             process.wait()
-        except BaseException as told:
-            if type(told) is KeyboardInterrupt:  # which a terminal sends to both
+        except BaseException as stop:
+            if type(stop) is KeyboardInterrupt:  # which a terminal sends to both
                 with contextlib.suppress(subprocess.TimeoutExpired):
                     process.wait(10)
             process.terminate()

@@ -133,9 +133,9 @@ class Avalanches(unittest.TestCase):
         one, other = two_runs()
         for words in [()] * 300 + [(None,)]:
             row, topplings = one.avalanche(*words)
-            table, wanted = other.drop(1, odometers=True)
+            table, expected = other.drop(1, odometers=True)
             self.assertEqual(row.tolist(), table[0].tolist())
-            self.assertTrue(same(topplings, wanted[0]))
+            self.assertTrue(same(topplings, expected[0]))
         one.avalanche(7), other.drop_at(7)
         self.assertTrue(same(one.drop(10), other.drop(10)))
 

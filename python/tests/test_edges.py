@@ -66,10 +66,10 @@ class Edges(unittest.TestCase):
             others = []
             for name, cylinder, carrier in self.carriers():
                 with self.subTest(call=call, carrier=name, cylinder=cylinder):
-                    wanted, other = (outcome(call, carrier.pile, cylinder=edge) for edge in (cylinder, not cylinder))
-                    self.assertEqual(outcome(call, carrier), wanted)
-                    self.assertEqual(outcome(call, carrier, cylinder=np.bool_(cylinder)), wanted)
-                    others.append(other != wanted)
+                    expected, other = (outcome(call, carrier.pile, cylinder=edge) for edge in (cylinder, not cylinder))
+                    self.assertEqual(outcome(call, carrier), expected)
+                    self.assertEqual(outcome(call, carrier, cylinder=np.bool_(cylinder)), expected)
+                    others.append(other != expected)
             self.assertEqual(any(others), call != "settle", call)  # which makes nothing of a settled pile
 
     def test_results_have_an_edge(self):

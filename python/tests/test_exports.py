@@ -33,8 +33,8 @@ def of_changed_header(*pairs):
 
 def of_calls(calls):
     found = {f"sandpile_{name}": exports.passed_by(call) for name, call in calls.items()}
-    wanted = {name: exports.in_ctypes(parts) for name, parts in EXPORTED.items() if name in found}
-    return [*exports.differences("_library.py", found, wanted)]
+    expected = {name: exports.in_ctypes(parts) for name, parts in EXPORTED.items() if name in found}
+    return [*exports.differences("_library.py", found, expected)]
 
 
 def fields(struct):
@@ -44,14 +44,14 @@ def fields(struct):
 
 
 def of_avalanche(struct):
-    wanted = fields(exports.laid_out(EXPORTED["sandpile_avalanche"]))
-    return [*exports.differences("driving.py", {"_AVALANCHE": fields(struct)}, {"_AVALANCHE": wanted})]
+    expected = fields(exports.laid_out(EXPORTED["sandpile_avalanche"]))
+    return [*exports.differences("driving.py", {"_AVALANCHE": fields(struct)}, {"_AVALANCHE": expected})]
 
 
 def of_holding(struct):
-    wanted = exports.laid_out(EXPORTED["sandpile_holding"])
+    expected = exports.laid_out(EXPORTED["sandpile_holding"])
     found = {"size": {"number": str(np.dtype(struct).itemsize)}, "_HOLDING": fields(struct)}
-    return [*exports.differences("sharing.py", found, {"size": {"number": str(ctypes.sizeof(wanted))}, "_HOLDING": fields(wanted)})]
+    return [*exports.differences("sharing.py", found, {"size": {"number": str(ctypes.sizeof(expected))}, "_HOLDING": fields(expected)})]
 
 
 class Header(unittest.TestCase):

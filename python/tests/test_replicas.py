@@ -127,8 +127,8 @@ from mpi4py.futures import MPIPoolExecutor
 if __name__ == "__main__":
     with MPIPoolExecutor() as pool:
         tables = list(sandpile.replicas((9, 8), 7, range(4), 3000, pool))
-    wanted = list(sandpile.replicas((9, 8), 7, range(4), 3000))
-    if all(map(lambda one, other: one.tobytes() == other.tobytes(), tables, wanted)):
+    expected = list(sandpile.replicas((9, 8), 7, range(4), 3000))
+    if all(map(lambda one, other: one.tobytes() == other.tobytes(), tables, expected)):
         print(len(tables), "tables, as in threads")
 """
 
@@ -138,12 +138,12 @@ class Tables(unittest.TestCase):
         fork, spawn = map(multiprocessing.get_context, ("fork", "spawn"))
         with ThreadPoolExecutor(2) as threads, ProcessPoolExecutor(2, fork) as forks, ProcessPoolExecutor(2, spawn) as spawns:
             for name, (start, hand) in STARTS.items():
-                wanted = [by_hand(hand, stream) for stream in STREAMS]
+                expected = [by_hand(hand, stream) for stream in STREAMS]
                 for executor in (None, Backwards(), threads, forks, spawns):
                     with self.subTest(start=name, executor=executor):
                         tables = list(sandpile.replicas(start, SEED, STREAMS, DROPS, executor))
                         self.assertEqual(len(tables), 3)
-                        self.assertTrue(all(map(same, tables, wanted)))
+                        self.assertTrue(all(map(same, tables, expected)))
 
     def test_on_a_cylinder(self):
         for start, hand in (((4, 5), functools.partial(own_start, (4, 5), cylinder=True)), (full, full)):

@@ -196,13 +196,13 @@ class Together(unittest.TestCase):
     def test_threads_that_save_to_one_name(self):
         path = new_folder(self) / "run"
         runs = [run_of(seed) for seed in range(4)]
-        wanted = [(run.seed, run.pile.tolist()) for run in runs]
+        expected = [(run.seed, run.pile.tolist()) for run in runs]
 
         def saved(run):
             for _ in range(40):
                 run.save(path)
                 again = sandpile.Drive.load(path)
-                self.assertIn((again.seed, again.pile.tolist()), wanted)
+                self.assertIn((again.seed, again.pile.tolist()), expected)
 
         with ThreadPoolExecutor(4) as pool:
             list(pool.map(saved, runs))

@@ -25,8 +25,8 @@ class Stacks(unittest.TestCase):
         before, found = np.array(stack), sandpile.settle(stack, **options)
         one_by_one = [sandpile.settle(pile, **options) for pile in stack]
         for name in ("pile", "odometer", "lost", "topplings"):
-            wanted = np.array([getattr(settled, name) for settled in one_by_one], np.int64)
-            self.assertTrue(same(getattr(found, name), wanted), name)
+            expected = np.array([getattr(settled, name) for settled in one_by_one], np.int64)
+            self.assertTrue(same(getattr(found, name), expected), name)
         np.testing.assert_array_equal(np.array(stack), before)
         return found
 
