@@ -2,9 +2,8 @@
 use Rattle.std.proofs.Common.{ℕ, Bool, true, false, cond, ◌≡◌, ◌+◌, ◌-◌, ◌*◌, ◌/◌, ◌%◌, ◌<◌, ◌≤◌, List, length, sym, ◌∙◌, ap, arith}
 use Rattle.std.specs.Vec.{with_item}
 use Rattle.std.proofs.lemmas.List.{length-set}
-use Rattle.std.proofs.lemmas.Nat.{mod_below, mul-add-lt, div_below, div-mul-add, mod-mul-add, div-add-mod'}
+use Rattle.std.proofs.lemmas.Nat.{mul-add-lt, div_below, div-mul-add, mod-mul-add}
 use Rattle.sand_model.specs.Grid.{Grid, IsGrid, sites}
-use Rattle.sand_model.proofs.Neighbours.{some_width}
 use Rattle.sand_tiles.specs.declared.tile.Tile.{Tile}
 use Rattle.sand_fronts.specs.declared.sides.Beside.{Beside}
 use Rattle.sand_fronts.specs.declared.board.Board.{Board}
@@ -12,15 +11,15 @@ use Rattle.sand_fronts.specs.declared.sand.Sand.{Sand}
 use Rattle.sand_fronts.specs.Tiling.{across, down, pitch, tiles, tile_of, place_of, to_west, to_east, shift_west, shift_east, seam_west, seam_east}
 use Rattle.sand_fronts.specs.Boards.{IsBoard, IsSand}
 use Rattle.sand_fronts.specs.Waves.{IsBeside, AreBeside, beside_at}
+use Rattle.sand_fronts.proofs.NeighboursOnTiles.{parts_of}
 
 -- the tile of a site is not in the last row of tiles
 pub row_after : (g : Grid) (j : ℕ) → j < sites g → tile_of g j + pitch g < tiles g
 unfolding tile_of
 row_after g j inside =
     let w = g.width in
-    let pos = some_width g.width g.height j inside in
-    let less = mod_below j w pos in
-    let row : j / w < g.height = div_below j w g.height pos (omega arith) in
+    let at = parts_of g j inside in
+    let row : j / w < g.height = div_below j w g.height at.some (omega arith) in
     let fits = mul-add-lt (j / w / 8 + 2) (pitch g) (j % w / 8 + 1) (down g + 2) (omega arith) (omega arith) in
     omega arith
 
@@ -92,10 +91,9 @@ found_at g y x row less er =
 pub site_parts : (g : Grid) (j : ℕ) (q : ℕ × ℕ) → j < sites g → q ≡ (j % g.width, j / g.width)
     → (q.0 < g.width) × (q.1 * g.width + q.0 ≡ j)
 site_parts g j q inside is =
-    let w = g.width in
-    let less = mod_below j w (some_width w g.height j inside) in
+    let at = parts_of g j inside in
     let x = ap (λ (q : ℕ × ℕ). q.0) is in
-    (omega arith, ap (λ (q : ℕ × ℕ). q.1 * w + q.0) is ∙ div-add-mod' j w)
+    (omega arith, ap (λ (q : ℕ × ℕ). q.1 * g.width + q.0) is ∙ sym at.is)
 
 -- ---- one entry of a list is written
 

@@ -1,14 +1,13 @@
 -- The places of tiles that leave a wave and are counted.
-use Rattle.std.proofs.Common.{ℕ, List, length, get_or, cond, eqb, refl, ◌≡◌, ◌≢◌, ◌+◌, ◌*◌, ◌<◌, ◌≤◌, sym, ◌∙◌, ap, arith, ⊎_elim, inl, inr}
-use Rattle.std.specs.Prelude.{bit_and, bit_or, slice_index}
+use Rattle.std.proofs.Common.{ℕ, List, length, get_or, cond, eqb, refl, ◌≡◌, ◌≢◌, ◌+◌, ◌*◌, ◌<◌, ◌≤◌, sym, ◌∙◌, ap, arith, ⊎_elim, inl, inr, ◌-◌}
+use Rattle.std.specs.Prelude.{bit_or, slice_index}
 use Rattle.std.specs.Vec.{with_item}
 use Rattle.std.proofs.Math.Nat.{mul-le-mul_right}
 use Rattle.std.proofs.Math.ListN.{set}
 use Rattle.std.proofs.lemmas.Bool.{cases_eq, cases_lt, eq-eqb, ne_eqb}
 use Rattle.std.proofs.lemmas.List.{get_or-set_same, get_or-set_other, length-set, get_or_read}
 use Rattle.sand_model.specs.Sand.{sum_below, one_at}
-use Rattle.sand_model.proofs.SumsBelow.{sum_below_same, sum_below_le, sum_below-add, sum_below-scale, sum_below-ones, sum_below-zero, sum_below-one_at, one_at_same, one_at_other}
-use Rattle.sand_model.proofs.Bounds.{at_most_all}
+use Rattle.sand_model.proofs.SumsBelow.{sum_below_same, sum_below-add, sum_below-one_at, one_at_same, one_at_other}
 use Rattle.sand_tiles.specs.declared.tile.Tile.{Tile}
 use Rattle.sand_tiles.specs.declared.counting.Count.{Count}
 use Rattle.sand_tiles.specs.Places.{bit, number}
@@ -21,6 +20,8 @@ use Rattle.sand_fronts.specs.Counting.{count_at, over_wave, with_wave}
 use Rattle.sand_fronts.specs.Boards.{counts_of, marks_of, AreCounted}
 use Rattle.sand_fronts.specs.Marking.{MarksView, in_sets, AreMarked}
 use Rattle.sand_fronts.proofs.Gained.{set_each, tile_set, tile_set_same, tile_set_other}
+use Rattle.sand_fronts.proofs.Sums.{sum_below_none, sum_below_most}
+use Rattle.sand_fronts.proofs.OnTiles.{height_low}
 
 pub count_set_same : (cs : List Count) (k m : ℕ) (d : Count) → k < length cs → m ≡ k → count_at (set cs k d) m ≡ d
 count_set_same cs k m d inside e = ap (count_at (set cs k d)) e ∙ get_or-set_same cs k d no_tile inside
@@ -59,47 +60,26 @@ pub marked_one : (cs : List Count) (k word : ℕ) (d : Count) (x y : ℕ → ℕ
     → ((m : ℕ) → y m ≡ cond (eqb m k) (bit_or (x m) word) (x m))
     → AreMarked (count_at cs) (count_at (set cs k d)) x y
 marked_one cs k word d x y inside counts marks =
-    let same : (m p : ℕ) → p < 64 → m ≡ k
-    → (counted (count_at (set cs k d) m) p ≡ counted (count_at cs m) p + bit word p)
-    × (bit (y m) p + bit (bit_and (x m) word) p ≡ bit (x m) p + bit word p) =
-    λ m p low e. (
-      let a = ap (λ (z : Count). counted z p) (count_set_same cs k m d inside e) in
-          let b = ap (λ i. counted (count_at cs i) p) e in
-          let f = counts p low in
-          omega arith,
-      let a = ap (λ i. bit i p) (marks m ∙ ap (λ b. cond b (bit_or (x m) word) (x m)) (eq-eqb m k e)) in
-          let f = either (x m) word p in
-          omega arith,
-    ) in
-    let other : (m p : ℕ) → (m ≡ k → ⊥)
-    → (counted (count_at (set cs k d) m) p ≡ counted (count_at cs m) p) × (bit (y m) p ≡ bit (x m) p) =
-    λ m p ne. (
-      ap (λ (z : Count). counted z p) (count_set_other cs k m d ne),
-      ap (λ i. bit i p) (marks m ∙ ap (λ b. cond b (bit_or (x m) word) (x m)) (ne_eqb m k ne)),
-    ) in
+    let all = set_each no_tile (λ m (z : Count). (p : ℕ) → p < 64 → (counted (count_at cs m) p ≤ counted z p)
+    × (bit (x m) p ≤ bit (y m) p) × (counted (count_at cs m) p < counted z p → bit (y m) p ≡ 1)
+    × (bit (y m) p ≤ bit (x m) p + (counted z p - counted (count_at cs m) p))) cs k d inside
+    (λ p low.
+    let a = counts p low in
+    let b = ap (λ w. bit w p) (marks k ∙ ap (λ b. cond b (bit_or (x k) word) (x k)) (eq-eqb k k refl)) in
+    let c = either (x k) word p in
+    let e = both_le (x k) word p in
+    let e0 = e.0 in let e1 = e.1 in
+    let f = bit_le word p in
+    let g = bit_le (y k) p in
+    (omega arith, omega arith, λ grown. omega arith, omega arith))
+    (λ m ne p low.
+    let b = ap (λ w. bit w p) (marks m ∙ ap (λ b. cond b (bit_or (x m) word) (x m)) (ne_eqb m k ne)) in
+    (omega arith, omega arith, λ grown. absurd (omega arith), omega arith)) in
     record {
-      never_falls = λ m p low. ⊎_elim
-          (λ (e : m ≡ k). let s = (same m p low e).0 in omega arith)
-          (λ (ne : m ≡ k → ⊥). let s = (other m p ne).0 in omega arith)
-          (cases_eq m k);
-      kept = λ m p low. ⊎_elim
-          (λ (e : m ≡ k). let s = (same m p low e).1 in let b = (both_le (x m) word p).1 in omega arith)
-          (λ (ne : m ≡ k → ⊥). let s = (other m p ne).1 in omega arith)
-          (cases_eq m k);
-      new = λ m p low grown. ⊎_elim
-          (λ (e : m ≡ k).
-          let s = (same m p low e).0 in
-          let t = (same m p low e).1 in
-          let b = (both_le (x m) word p).0 in
-          let f = bit_le word p in
-          let g = bit_le (y m) p in
-          omega arith)
-          (λ (ne : m ≡ k → ⊥). let s = (other m p ne).0 in absurd (omega arith))
-          (cases_eq m k);
-      no_other = λ m p low. ⊎_elim
-          (λ (e : m ≡ k). let s = (same m p low e).0 in let t = (same m p low e).1 in omega arith)
-          (λ (ne : m ≡ k → ⊥). let s = (other m p ne).0 in let t = (other m p ne).1 in omega arith)
-          (cases_eq m k);
+      never_falls = λ m p low. (all m p low).0;
+      kept = λ m p low. (all m p low).1;
+      new = λ m p low. (all m p low).2;
+      no_other = λ m p low. (all m p low).3;
     }
 
 -- ---- what is counted
@@ -191,25 +171,25 @@ wave_less F τ σ k n less none empty others =
     less (ap (F k) empty ∙ none) (λ m ne. ap (F m) (others m ne))
 
 pub none_of_none : sum_below 64 (bit 0) ≡ 0
-none_of_none = sum_below_same 64 (bit 0) (λ p. 0) (λ p l. bit_none p) ∙ sum_below-zero 64
+none_of_none = sum_below_none 64 (bit 0) (λ p l. bit_none p)
 
 pub none_over_none : (w : ℕ → ℕ) → sum_below 64 (λ p. w p * bit 0 p) ≡ 0
 none_over_none w =
-    sum_below_same 64 (λ p. w p * bit 0 p) (λ p. 0) (λ p l. let e = ap (λ x. w p * x) (bit_none p) in omega arith)
-    ∙ sum_below-zero 64
+    sum_below_none 64 (λ p. w p * bit 0 p) (λ p l. let e = ap (λ x. w p * x) (bit_none p) in omega arith)
+
+-- if no place has more than `most`, the places of n tiles have at most 64 times as much each
+few_on_places : (n most : ℕ) (f : ℕ → ℕ → ℕ) → ((k p : ℕ) → p < 64 → f k p ≤ most)
+    → sum_below n (λ k. sum_below 64 (f k)) ≤ 64 * most * n
+few_on_places n most f few =
+    sum_below_most n (64 * most) (λ k. sum_below 64 (f k))
+    (λ k l. let one = sum_below_most 64 most (f k) (few k) in omega arith)
 
 pub few_in_sets : (n : ℕ) (x : ℕ → ℕ) → in_sets n x ≤ 64 * n
-few_in_sets n x =
-    let le = sum_below_le n (λ k. sum_below 64 (bit (x k))) (λ k. 64 * 1)
-    (λ k l. at_most_all 64 (bit (x k)) (λ p m. bit_le (x k) p)) in
-    let scaled = sum_below-scale n 64 (λ k. 1) in
-    let ones = sum_below-ones n in
-    omega arith
+few_in_sets n x = few_on_places n 1 (λ k. bit (x k)) (λ k p l. bit_le (x k) p)
 
-number_le : (t : Tile) (x p : ℕ) → number t p * bit x p ≤ 7 * 1
+number_le : (t : Tile) (x p : ℕ) → number t p * bit x p ≤ 7
 number_le t x p =
-    let a = bit_le t.low p in
-    let b = bit_le t.high p in
+    let a = height_low t p in
     let c = bit_le t.due p in
     let d = bit_le x p in
     let few : number t p ≤ 7 = omega arith in
@@ -218,30 +198,15 @@ number_le t x p =
 
 pub few_over_wave : (n : ℕ) (ν τ : ℕ → Tile) → over_wave n ν τ ≤ 448 * n
 few_over_wave n ν τ =
-    let seven = sum_below-scale 64 7 (λ p. 1) in
-    let all = sum_below-ones 64 in
-    let le = sum_below_le n (λ k. sum_below 64 (λ p. number (ν k) p * bit (τ k).wave p)) (λ k. 448 * 1)
-    (λ k l.
-    let one =
-    sum_below_le 64 (λ p. number (ν k) p * bit (τ k).wave p) (λ p. 7 * 1) (λ p m. number_le (ν k) (τ k).wave p) in
-    omega arith) in
-    let scaled = sum_below-scale n 448 (λ k. 1) in
-    let ones = sum_below-ones n in
-    omega arith
+    few_on_places n 7 (λ k p. number (ν k) p * bit (τ k).wave p) (λ k p l. number_le (ν k) (τ k).wave p)
 
 pub none_in_sets : (n : ℕ) (x : ℕ → ℕ) → ((m p : ℕ) → p < 64 → bit (x m) p ≡ 0) → in_sets n x ≡ 0
-none_in_sets n x none =
-    sum_below_same n (λ k. sum_below 64 (bit (x k))) (λ k. 0)
-    (λ k l. sum_below_same 64 (bit (x k)) (λ p. 0) (λ p m. none k p m) ∙ sum_below-zero 64)
-    ∙ sum_below-zero n
+none_in_sets n x none = sum_below_none n (λ k. sum_below 64 (bit (x k))) (λ k l. sum_below_none 64 (bit (x k)) (none k))
 
 pub none_over_wave : (n : ℕ) (ν τ : ℕ → Tile) → ((m : ℕ) → IsClear (τ m)) → over_wave n ν τ ≡ 0
-none_over_wave n ν τ clear =
-    sum_below_same n (λ k. sum_below 64 (λ p. number (ν k) p * bit (τ k).wave p)) (λ k. 0)
-    (λ k l. sum_below_same 64 (λ p. number (ν k) p * bit (τ k).wave p) (λ p. 0)
-    (λ p m. let e = ap (λ x. number (ν k) p * x) (clear k p m) in omega arith)
-    ∙ sum_below-zero 64)
-    ∙ sum_below-zero n
+none_over_wave n ν τ clear = sum_below_none n (λ k. sum_below 64 (λ p. number (ν k) p * bit (τ k).wave p))
+    (λ k l. sum_below_none 64 (λ p. number (ν k) p * bit (τ k).wave p)
+    (λ p m. let e = ap (λ x. number (ν k) p * x) (clear k p m) in omega arith))
 
 -- ---- turn by turn
 

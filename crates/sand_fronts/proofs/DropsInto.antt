@@ -1,7 +1,7 @@
 -- A drop that is written into lists by site.
-use Rattle.std.proofs.Common.{ℕ, List, length, get_or, true, false, ltb, ◌≡◌, ◌+◌, ◌*◌, ◌%◌, ◌^◌, ◌<◌, ◌≤◌, sym, ◌∙◌, ap, arith, ⊎_elim}
+use Rattle.std.proofs.Common.{ℕ, List, length, get_or, ltb, ◌≡◌, ◌+◌, ◌%◌, ◌^◌, ◌<◌, ◌≤◌, sym, ◌∙◌, ap, arith, ⊎_elim, eqb}
 use Rattle.std.proofs.Math.ListN.{set}
-use Rattle.std.proofs.lemmas.Bool.{cases_Bool, cases_eq, cases_lt, lt-ltb}
+use Rattle.std.proofs.lemmas.Bool.{cases_eq, cases_lt, lt-ltb}
 use Rattle.std.proofs.lemmas.List.{get_or-set_same, get_or-set_other}
 use Rattle.sand_model.specs.Grid.{Grid, IsGrid, sites}
 use Rattle.sand_model.specs.Sand.{IsSettled, one_at, grains}
@@ -9,23 +9,20 @@ use Rattle.sand_model.specs.Lists.{one_if}
 use Rattle.sand_model.proofs.Bounds.{at_most_sum_below, topplings_bound, sites_limit}
 use Rattle.sand_model.proofs.Flow.{flow_same}
 use Rattle.sand_model.proofs.Sandpile.{settled_same}
-use Rattle.sand_model.proofs.SumsBelow.{sum_below_le, sum_below-scale, sum_below-ones, one_at_same, one_at_other}
-use Rattle.sand_tiles.specs.declared.tile.Tile.{Tile}
+use Rattle.sand_model.proofs.SumsBelow.{one_at_same, one_at_other}
 use Rattle.sand_tiles.specs.Places.{bit, height}
 use Rattle.sand_tiles.specs.Counts.{counted}
-use Rattle.sand_tiles.proofs.Bits.{bit_le}
 use Rattle.sand_fronts.specs.declared.sand.Sand.{Sand}
 use Rattle.sand_fronts.specs.declared.counts.Counts.{Counts}
-use Rattle.sand_fronts.specs.Tiling.{is_site, site_on, tile_of, place_of}
+use Rattle.sand_fronts.specs.Tiling.{tile_of, place_of}
 use Rattle.sand_fronts.specs.Drops.{heights_on, counted_on}
 use Rattle.sand_fronts.specs.Marking.{AreToppled}
 use Rattle.sand_fronts.specs.Boards.{tiles_of, counts_of, marks_of, grown, CountsSites, HasSettled}
 use Rattle.sand_fronts.specs.WrittenBack.{risen, Follows, IsWrittenBack}
-use Rattle.sand_fronts.proofs.OnTiles.{on_site, off_site, on_below}
+use Rattle.sand_fronts.proofs.OnTiles.{on_below, on_each, height_low}
 use Rattle.sand_fronts.proofs.NewPiles.{few_at_sites}
-
-height_low : (t : Tile) (p : ℕ) → height t p ≤ 3
-height_low t p = let a = bit_le t.low p in let b = bit_le t.high p in omega arith
+use Rattle.sand_model.proofs.Lists.{at_most_one}
+use Rattle.sand_fronts.proofs.Sums.{sum_below_most}
 
 -- nothing is counted on c, and a grain at a site leads to the counts d
 pub record CountsDrop (g : Grid) (site : ℕ) (s t : Sand) (c d : Counts) : Type 0 where
@@ -38,15 +35,8 @@ pub record CountsDrop (g : Grid) (site : ℕ) (s t : Sand) (c d : Counts) : Type
 grains_few : (g : Grid) (site : ℕ) (s : Sand) → IsGrid g
     → grains g (λ j. heights_on g (tiles_of s) j + one_at site j) ≤ 262144
 grains_few g site s sides =
-    let each = sum_below_le (sites g) (λ j. heights_on g (tiles_of s) j + one_at site j) (λ j. 4 * 1)
-    (λ j l.
-    let a = height_low (tiles_of s (tile_of g j)) (place_of g j) in
-    ⊎_elim
-    (λ (e : site ≡ j). let o = ap (one_at site) (sym e) ∙ one_at_same site in omega arith)
-    (λ (ne : site ≡ j → ⊥). let o = one_at_other site j ne in omega arith)
-    (cases_eq site j)) in
-    let scale = sum_below-scale (sites g) 4 (λ j. 1) in
-    let ones = sum_below-ones (sites g) in
+    let each = sum_below_most (sites g) 4 (λ j. heights_on g (tiles_of s) j + one_at site j)
+    (λ j l. let a = height_low (tiles_of s (tile_of g j)) (place_of g j) in let o = at_most_one (eqb site j) in omega arith) in
     let limit = sites_limit g sides in
     omega arith
 
@@ -68,19 +58,13 @@ pub only_marked : (g : Grid) (site : ℕ) (s t : Sand) (c d : Counts) → Counts
 only_marked g site s t c d drop marked m p low out =
     let v = grown g c d in
     let none = few_at_sites g (counts_of c) 0 drop.at_sites (λ j l. let z = drop.uncounted j l in omega arith) m p low in
-    let now = drop.has.counted m p low in
-    let is = marked m p low in
-    ⊎_elim
-    (λ (yes : is_site g m p ≡ true).
-    let a = on_site g v m p yes in
-    let b = on_site g (λ j. one_if (ltb 0 (v j))) m p yes in
-    ⊎_elim
-    (λ (some : 0 < v (site_on g m p)).
-    absurd (let one = ap one_if (lt-ltb 0 (v (site_on g m p)) some) in omega arith))
-    (λ (zero' : v (site_on g m p) ≤ 0). omega arith)
-    (cases_lt 0 (v (site_on g m p))))
-    (λ (no : is_site g m p ≡ false). let a = off_site g v m p no in omega arith)
-    (cases_Bool (is_site g m p))
+    on_each g m p (λ (r : (ℕ → ℕ) → ℕ). counted (counts_of d m) p ≡ counted (counts_of c m) p + r v
+    → bit (marks_of d m) p ≡ r (λ j. one_if (ltb 0 (v j))) → counted (counts_of d m) p ≡ 0) low
+    (λ j l now is. ⊎_elim
+    (λ (some : 0 < v j). absurd (let one = ap one_if (lt-ltb 0 (v j) some) in omega arith))
+    (λ (zero' : v j ≤ 0). omega arith)
+    (cases_lt 0 (v j)))
+    (λ now is. omega arith) (drop.has.counted m p low) (marked m p low)
 
 -- the drop is written into the heights h, which become k with the grain and then l, and into the odometer u, which becomes w
 pub record WritesDrop (g : Grid) (site : ℕ) (s t : Sand) (c d e : Counts) (h k l u w : List ℕ) : Type 0 where

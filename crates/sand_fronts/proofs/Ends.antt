@@ -5,45 +5,38 @@ use Rattle.sand_model.specs.Grid.{Grid, sites}
 use Rattle.sand_model.specs.Sand.{Stabilises, IsToppled, flow, one_at}
 use Rattle.sand_model.proofs.Flow.{flow_le, flow_same, flow-add, flow-one_at}
 use Rattle.sand_model.proofs.Sandpile.{flow_ones, weight_after, laplacian_sum}
-use Rattle.sand_model.proofs.SumsBelow.{sum_below_same, sum_below-add, one_at_same, one_at_other}
+use Rattle.sand_model.proofs.SumsBelow.{sum_below_same, sum_below-add, one_at_same, one_at_other, one_at_comm}
 use Rattle.sand_tiles.specs.declared.tile.Tile.{Tile}
 use Rattle.sand_tiles.specs.Places.{bit, height}
 use Rattle.sand_tiles.proofs.Bits.{bit_le}
 use Rattle.sand_fronts.specs.Tiling.{tile_of, place_of}
 use Rattle.sand_model.specs.Underway.{Advances}
-use Rattle.sand_fronts.specs.Waves.{toppled, IsWave, Leaves}
-use Rattle.sand_fronts.proofs.OnTiles.{place_below, on_tiles_le, on_nothing}
+use Rattle.sand_fronts.specs.Waves.{toppled, IsWave, Leaves, AreAtRest, heights_before}
+use Rattle.sand_fronts.proofs.OnTiles.{place_below, on_below, height_low}
+use Rattle.sand_fronts.proofs.Sums.{flow_none}
 
-pub wave_begins : (g : Grid) (site : ℕ) (h : ℕ → ℕ) (τ : ℕ → Tile) → site < sites g
-    → ((m p : ℕ) → p < 64 → bit (τ m).wave p ≡ 0)
-    → ((j : ℕ) → j < sites g → j ≢ site
-    → (h j ≡ height (τ (tile_of g j)) (place_of g j)) × (bit (τ (tile_of g j)).due (place_of g j) ≡ 0))
-    → h site ≡ height (τ (tile_of g site)) (place_of g site) + 4
-    → IsWave g site h τ
-wave_begins g site h τ inside clear heights held =
-    let none : (j : ℕ) → toppled g τ j ≡ 0 = λ j. clear (tile_of g j) (place_of g j) (place_below g j) in
-    let no_flow : (j : ℕ) → j < sites g → flow g (toppled g τ) j ≡ 0 = λ j l.
-    let a = flow-add g (toppled g τ) (toppled g τ) j in
-    let b = flow_same g (λ i. toppled g τ i + toppled g τ i) (toppled g τ) (λ i m. let z = none i in omega arith) j l in
-    omega arith in
+-- before the first toppling
+pub first_wave : (g : Grid) (site : ℕ) (τ : ℕ → Tile) → AreAtRest g site τ → site < sites g
+    → IsWave g site (heights_before g site τ) τ
+first_wave g site τ rest inside =
+    let none : (j : ℕ) → toppled g τ j ≡ 0 = λ j. rest.quiet.clear (tile_of g j) (place_of g j) (place_below g j) in
+    let no_flow : (j : ℕ) → j < sites g → flow g (toppled g τ) j ≡ 0 =
+    λ j l. flow_none g (toppled g τ) j (λ i m. none i) l in
     record {
       inside = λ m p low.
-          let z = clear m p low in
-          let le = on_tiles_le g (toppled g τ) (λ j. 0) m p low (λ j l. let n = none j in omega arith) in
-          let zero' = on_tiles_le g (λ j. 0) (λ j. 0) m p low (λ j l. omega arith) in
-          let twice = on_nothing g m p in
+          let z = rest.quiet.clear m p low in
+          let n = on_below g (toppled g τ) m p 0 low (λ j l. let n = none j in omega arith) in
           omega arith;
       at_open = λ j l ne.
-          let e = heights j l ne in
-          let e0 = e.0 in
-          let e1 = e.1 in
+          let o = one_at_other site j (λ e. ne (sym e)) in
+          let d = rest.quiet.none_due (tile_of g j) (place_of g j) (place_below g j) in
           let f = no_flow j l in
           let z = none j in
           omega arith;
       at_held =
+          let o = one_at_same site in
           let f = no_flow site inside in
-          let l = bit_le (τ (tile_of g site)).low (place_of g site) in
-          let u = bit_le (τ (tile_of g site)).high (place_of g site) in
+          let l = height_low (τ (tile_of g site)) (place_of g site) in
           omega arith;
       needed = λ w stable j l. let z = none j in omega arith;
     }
@@ -53,12 +46,6 @@ one_at_le v i j some = ⊎_elim
     (λ (e : i ≡ j). let o = sym (ap (one_at i) e) ∙ one_at_same i in let a = ap v e in omega arith)
     (λ (ne : i ≡ j → ⊥). let o = one_at_other i j ne in omega arith)
     (cases_eq i j)
-
-one_at_le' : (v : ℕ → ℕ) (i j : ℕ) → 1 ≤ v i → one_at j i ≤ v j
-one_at_le' v i j some = ⊎_elim
-    (λ (e : j ≡ i). let o = ap (one_at j) (sym e) ∙ one_at_same j in let a = ap v e in omega arith)
-    (λ (ne : j ≡ i → ⊥). let o = one_at_other j i ne in omega arith)
-    (cases_eq j i)
 
 -- the height of each site in the end
 pub wave_balance : (g : Grid) (site : ℕ) (h : ℕ → ℕ) (τ : ℕ → Tile) (k : ℕ → ℕ)
@@ -146,13 +133,12 @@ four_again g site h τ k i wave inside started four low done leaves empty li ni 
           let lj = low j l ne in
           let at = wave.at_open j l ne in
           let d = done j l ne in
-          let one = bit_le (τ (tile_of g j)).low (place_of g j) in
-          let two = bit_le (τ (tile_of g j)).high (place_of g j) in
+          let one = height_low (τ (tile_of g j)) (place_of g j) in
           ⊎_elim
           (λ (z : t j ≡ 0). omega arith)
           (λ (nz : t j ≡ 0 → ⊥).
           let turned = flow-one_at g site j inside l in
-          let few = flow_le g (λ m. one_at m j) t (λ m x. one_at_le' t j m (omega arith)) site inside in
+          let few = flow_le g (λ m. one_at m j) t (λ m x. let c = one_at_comm m j in let o = one_at_le t j m (omega arith) in omega arith) site inside in
           omega arith)
           (cases_eq (t j) 0))
           (cases_eq j site);

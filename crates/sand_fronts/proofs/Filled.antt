@@ -1,7 +1,7 @@
 -- Tiles filled with a number for each site.
 use Rattle.std.proofs.Common.{ℕ, zero, suc, Bool, true, false, cond, List, ◌∷◌, [], ◌++◌, length, get_or, Some, None, ◌≡◌, ◌+◌, ◌-◌, ◌*◌, ◌%◌, ◌^◌, ◌<◌, ◌≤◌, refl, sym, ◌∙◌, ap, subst, arith, ⊎_elim}
 use Rattle.std.specs.Prelude.{bit_or}
-use Rattle.std.proofs.lemmas.Bool.{cases_Bool, cases_lt, ltb-true, and_parts}
+use Rattle.std.proofs.lemmas.Bool.{cases_lt, ltb-true, and_parts}
 use Rattle.std.proofs.lemmas.List.{get_or_append_left, get_or_push}
 use Rattle.std.proofs.lemmas.Nat.Bits.{bit_at_lowest, bit_at_above}
 use Rattle.std.proofs.lemmas.Option.{same_Some, none-some}
@@ -14,7 +14,7 @@ use Rattle.sand_tiles.proofs.Moves.{bit_shl, bit_shl_low}
 use Rattle.sand_fronts.specs.declared.reach.Spot.{Spot}
 use Rattle.sand_fronts.specs.Tiling.{tiles, row_at, column_at, is_site, site_on, on_tiles}
 use Rattle.sand_fronts.specs.Filling.{Tells, IsFilled}
-use Rattle.sand_fronts.proofs.OnTiles.{there_again, on_site, off_site, on_below}
+use Rattle.sand_fronts.proofs.OnTiles.{on_site, off_site, on_below, on_place, on_place}
 use Rattle.sand_fronts.proofs.Boards.{tile_inside}
 
 -- ---- a bit before those of a word
@@ -114,13 +114,8 @@ entry_each d P xs n long each past k = ⊎_elim
 -- ---- after the last tile
 
 pub no_tile_on : (g : Grid) (h : ℕ → ℕ) (k p : ℕ) → p < 64 → tiles g ≤ k → 0 ≡ on_tiles g h k p
-no_tile_on g h k p low past = ⊎_elim
-    (λ (is : is_site g k p ≡ true).
-    let t = there_again g k p low is in
-    let l = tile_inside g (site_on g k p) t.0 in
-    absurd (omega arith))
-    (λ (not : is_site g k p ≡ false). sym (off_site g h k p not))
-    (cases_Bool (is_site g k p))
+no_tile_on g h k p low past = on_place g k p (λ (r : (ℕ → ℕ) → ℕ). 0 ≡ r h) low
+    (λ j l tile place. let i = tile_inside g j l in absurd (omega arith)) (λ no. refl)
 
 pub no_tile_filled : (g : Grid) (post : Spot → ℕ → Type 0) (k : ℕ) → tiles g ≤ k
     → IsFilled g post k (record { low = 0; high = 0; due = 0; wave = 0 })

@@ -6,11 +6,11 @@ use Rattle.std.proofs.lemmas.List.{get_or-set_same, get_or-set_other, get_or_rea
 use Rattle.std.proofs.lemmas.Nat.Bits.{same_from_bits_below, bit_at-zero}
 use Rattle.sand_tiles.specs.declared.tile.Tile.{Tile}
 use Rattle.sand_tiles.specs.Places.{bit, height, had, Receives}
-use Rattle.sand_tiles.proofs.Bits.{bit_le}
 use Rattle.sand_tiles.proofs.Moves.{cut}
 use Rattle.sand_fronts.specs.TileLists.{IsClear}
 use Rattle.sand_fronts.specs.Waves.{tile_at, only, Gains}
 use Rattle.sand_fronts.proofs.Waves.{only_same, only_other}
+use Rattle.sand_fronts.proofs.OnTiles.{height_low}
 
 abbrev pub blank : Tile
 blank = record { low = 0; high = 0; due = 0; wave = 0 }
@@ -66,8 +66,7 @@ gains_one free ts k t gain inside receives =
     (ap (λ w. bit w p) receives.wave, λ is few. (let e = receives.each p low is (omega arith) in omega arith), omega arith))
     (λ m ne p low.
     let c = only_other k m (bit gain) p ne in
-    let l = bit_le (tile_at ts m).low p in
-    let h = bit_le (tile_at ts m).high p in
+    let l = height_low (tile_at ts m) p in
     (refl, λ is few. omega arith, omega arith)) in
     record {
       wave = λ m p low. (all m p low).0;

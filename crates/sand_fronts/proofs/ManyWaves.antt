@@ -7,7 +7,7 @@ use Rattle.sand_model.specs.Sand.{IsToppled, IsSettled, IsUnderway, flow, one_at
 use Rattle.sand_model.specs.Underway.{Advances}
 use Rattle.sand_model.proofs.Flow.{flow_le, flow_same}
 use Rattle.sand_model.proofs.Sandpile.{flow_ones, weight_after}
-use Rattle.sand_model.proofs.SumsBelow.{sum_below_same, sum_below_le, sum_below-add, sum_below-scale, sum_below-ones, sum_below-zero, sum_below-one_at, one_at_same, one_at_other}
+use Rattle.sand_model.proofs.SumsBelow.{sum_below_same, sum_below_le, sum_below-add, sum_below-scale, sum_below-zero, sum_below-one_at, one_at_same, one_at_other}
 use Rattle.sand_model.proofs.Lists.{all_or_one, at_most_one}
 use Rattle.sand_model.proofs.Bounds.{at_most_sum_below, sites_limit, weight_bound}
 use Rattle.sand_model.proofs.Underway.{underway_start, underway_end}
@@ -16,17 +16,17 @@ use Rattle.sand_tiles.specs.declared.counting.Count.{Count}
 use Rattle.sand_tiles.specs.Places.{bit, number}
 use Rattle.sand_tiles.specs.Counts.{counted}
 use Rattle.sand_tiles.proofs.Bits.{bit_le}
-use Rattle.sand_fronts.specs.Tiling.{tiles, tile_of, place_of, is_site, site_on, on_tiles}
+use Rattle.sand_fronts.specs.Tiling.{tiles, tile_of, place_of, on_tiles}
 use Rattle.sand_fronts.specs.TileLists.{IsClear}
 use Rattle.sand_fronts.specs.declared.counts.Counts.{Counts}
-use Rattle.sand_fronts.specs.Waves.{tile_at, toppled, IsWave, IsWholeWave, Leaves, AreAtRest, IsNoneDue, heights_before}
+use Rattle.sand_fronts.specs.Waves.{tile_at, toppled, IsWave, IsWholeWave, Leaves, AreAtRest, heights_before}
 use Rattle.sand_fronts.specs.Counting.{over_wave}
 use Rattle.sand_fronts.specs.Boards.{counts_of, AreCounted}
-use Rattle.sand_fronts.specs.Drops.{heights_on, grown_on, AreOutside}
-use Rattle.sand_fronts.proofs.OnTiles.{place_below, on_site, off_site, on_sum, on_below}
+use Rattle.sand_fronts.specs.Drops.{heights_on, grown_on, AreOutside, AreQuiet}
+use Rattle.sand_fronts.proofs.OnTiles.{place_below, on_sum, on_below, on_each, height_low}
 use Rattle.sand_fronts.proofs.Ends.{wave_balance, wave_advances, four_again}
 use Rattle.sand_fronts.proofs.Turns.{first_low}
-use Rattle.sand_fronts.proofs.Sums.{sum_on_tiles}
+use Rattle.sand_fronts.proofs.Sums.{sum_on_tiles, sum_below_most, sum_below_none}
 use Rattle.sand_fronts.proofs.Counted.{sum_less_one}
 
 -- the heights between two waves: if the held site may topple again, it has 4 more than in the planes
@@ -124,22 +124,24 @@ held_has g site h τ more wave inside started four low none_due test =
     let held = left_held g site h τ wave four in
     ap (λ b. cond b (heights_before g site τ site) (heights_on g τ site)) yes ∙ omega arith)
     (λ (no : more ≡ false).
-    ap (λ b. cond b (heights_before g site τ site) (heights_on g τ site)) no
-    ∙ ⊎_elim
+    let not_four : flow g t site ≢ 4 = λ back. ⊎_elim
     (λ (few : ltb 1 (topplings g t) ≡ false).
-    let f = ltb-false 1 (topplings g t) few in
-    ⊎_elim
-    (λ (e : flow g t site ≡ 4). absurd (alone_rests g site h τ wave inside started four none_due f e))
-    (λ (ne : flow g t site ≡ 4 → ⊥). omega arith)
-    (cases_eq (flow g t site) 4))
-    (λ (some : eqb (heights_on g τ site) 0 ≡ false).
-    let s = eqb-false (heights_on g τ site) 0 some in
-    ⊎_elim
-    (λ (e : flow g t site ≡ 4). absurd (s (omega arith)))
-    (λ (ne : flow g t site ≡ 4 → ⊥). omega arith)
-    (cases_eq (flow g t site) 4))
-    (and_cases (ltb 1 (topplings g t)) (eqb (heights_on g τ site) 0) (sym test ∙ no)))
+    alone_rests g site h τ wave inside started four none_due (ltb-false 1 (topplings g t) few) back)
+    (λ (some : eqb (heights_on g τ site) 0 ≡ false). eqb-false (heights_on g τ site) 0 some (omega arith))
+    (and_cases (ltb 1 (topplings g t)) (eqb (heights_on g τ site) 0) (sym test ∙ no)) in
+    ap (λ b. cond b (heights_before g site τ site) (heights_on g τ site)) no ∙ omega arith)
     (cases_Bool more)
+
+-- other sites have what is in the planes, and equal planes leave equal heights
+now_other : (g : Grid) (site : ℕ) (more : Bool) (τ : ℕ → Tile) (j : ℕ) → j ≢ site
+    → heights_now g site more τ j ≡ heights_on g τ j
+now_other g site true τ j ne = let o = one_at_other site j (λ e. ne (sym e)) in omega arith
+now_other g site false τ j ne = refl
+
+now_same : (g : Grid) (site : ℕ) (more : Bool) (τ σ : ℕ → Tile) (j : ℕ) → heights_on g τ j ≡ heights_on g σ j
+    → heights_now g site more τ j ≡ heights_now g site more σ j
+now_same g site true τ σ j e = omega arith
+now_same g site false τ σ j e = e
 
 underway_as : (g : Grid) (s u v t : ℕ → ℕ) → ((j : ℕ) → j < sites g → u j ≡ v j) → IsUnderway g s u t
     → IsUnderway g s v t
@@ -155,8 +157,7 @@ underway_as g s u v t same before = record {
 
 -- after any number of waves of a drop that began with the tiles τ and the counts c
 pub record AreWaves (g : Grid) (site : ℕ) (more : Bool) (τ σ : ℕ → Tile) (c d : ℕ → Count) : Type 0 where
-  pub clear : (m : ℕ) → IsClear (σ m)
-  pub none_due : IsNoneDue σ
+  pub quiet : AreQuiet σ
   pub empty : more ≡ true → heights_on g σ site ≡ 0
   pub advances : Advances g (λ j. 0) (heights_before g site τ) (grown_on g c d) (heights_now g site more σ)
   pub counts : (m p : ℕ) → p < 64 → counted (d m) p ≡ counted (c m) p + on_tiles g (grown_on g c d) m p
@@ -166,8 +167,7 @@ pub waves_begin : (g : Grid) (site : ℕ) (τ : ℕ → Tile) (c : ℕ → Count
 waves_begin g site τ c rest =
     let none : (j : ℕ) → j < sites g → 0 ≡ grown_on g c c j = λ j l. omega arith in
     record {
-      clear = λ m p low. rest.clear m p low;
-      none_due = rest.none_due;
+      quiet = rest.quiet;
       empty = λ is. rest.empty;
       advances = record {
         underway = λ s before. underway_as g s (λ j. 0) (grown_on g c c) (heights_before g site τ) none before;
@@ -220,22 +220,9 @@ waves_more g site more τ σ us vs c d' e' inside waves whole counts clear test 
     let test' : more ≡ (ltb 1 (topplings g t) && eqb (heights_on g ω site) 0) =
     test ∙ ap (λ x. ltb 1 (topplings g t) && eqb x 0) (same site) in
     let has = held_has g site h ω more wave inside started four low none_due test' in
-    let now : (j : ℕ) → j ≢ site → k j ≡ heights_on g ω j = λ j ne. ⊎_elim
-    (λ (yes : more ≡ true). ap (λ b. cond b (heights_before g site ρ j) (heights_on g ρ j)) yes
-    ∙ (let o = one_at_other site j (λ x. ne (sym x)) in let s = same j in omega arith))
-    (λ (no : more ≡ false). ap (λ b. cond b (heights_before g site ρ j) (heights_on g ρ j)) no ∙ same j)
-    (cases_Bool more) in
-    let held : k site ≡ flow g t site = ⊎_elim
-    (λ (yes : more ≡ true).
-    let a = ap (λ b. cond b (heights_before g site ρ site) (heights_on g ρ site)) yes in
-    let b = ap (λ x. cond x (heights_before g site ω site) (heights_on g ω site)) yes in
-    let s = same site in omega arith)
-    (λ (no : more ≡ false).
-    let a = ap (λ b. cond b (heights_before g site ρ site) (heights_on g ρ site)) no in
-    let b = ap (λ x. cond x (heights_before g site ω site) (heights_on g ω site)) no in
-    let s = same site in omega arith)
-    (cases_Bool more) in
-    let leaves : Leaves g site h ω k = record { others = λ j l ne. now j ne; held = omega arith } in
+    let held = now_same g site more ρ ω site (same site) ∙ has in
+    let leaves : Leaves g site h ω k =
+    record { others = λ j l ne. now_other g site more ρ j ne ∙ same j; held = omega arith } in
     let sums : (j : ℕ) → j < sites g → grown_on g c e j ≡ grown_on g c d j + t j =
     λ j l. wave_counts g us vs c d' e' waves.counts counts clear j in
     let next = wave_advances g site h ω k (grown_on g c d) (grown_on g c e) wave started none_due leaves sums in
@@ -243,8 +230,10 @@ waves_more g site more τ σ us vs c d' e' inside waves whole counts clear test 
     let both = sum_below-add (sites g) (grown_on g c d) t in
     let part = at_most_sum_below (sites g) t site inside in (
       record {
-        clear = clear;
-        none_due = λ m p low. ap (λ x. bit x p) (counts.due m) ∙ whole.none_due m p low;
+        quiet = record {
+          clear = clear;
+          none_due = λ m p low. ap (λ x. bit x p) (counts.due m) ∙ whole.none_due m p low;
+        };
         empty = λ is.
             let parts = and_parts (ltb 1 (topplings g t)) (eqb (heights_on g ρ site) 0) (sym test ∙ is) in
             eqb-true (heights_on g ρ site) 0 parts.1;
@@ -265,15 +254,6 @@ waves_more g site more τ σ us vs c d' e' inside waves whole counts clear test 
       (let a = next.weight_pays in omega arith),
     )
 
-on_product : (g : Grid) (u v : ℕ → ℕ) (k p : ℕ) → on_tiles g u k p * on_tiles g v k p ≡ on_tiles g (λ j. u j * v j) k p
-on_product g u v k p = ⊎_elim
-    (λ (yes : is_site g k p ≡ true).
-    ap (λ x. x * on_tiles g v k p) (on_site g u k p yes)
-    ∙ ap (λ x. u (site_on g k p) * x) (on_site g v k p yes) ∙ sym (on_site g (λ j. u j * v j) k p yes))
-    (λ (no : is_site g k p ≡ false).
-    ap (λ x. x * on_tiles g v k p) (off_site g u k p no) ∙ sym (off_site g (λ j. u j * v j) k p no ∙ omega arith))
-    (cases_Bool (is_site g k p))
-
 pub wave_lost : (g : Grid) (site : ℕ) (h : ℕ → ℕ) (ν τ : ℕ → Tile) → AreOutside g ν → IsWave g site h τ
     → over_wave (tiles g) ν τ ≡ lost g (toppled g τ)
 wave_lost g site h ν τ outside wave =
@@ -283,7 +263,9 @@ wave_lost g site h ν τ outside wave =
     (λ k l.
     sum_below_same 64 (λ p. number (ν k) p * bit (τ k).wave p) (λ p. on_tiles g (λ j. missing g j * toppled g τ j) k p)
     (λ p m. ap (λ x. x * bit (τ k).wave p) (outside k p m)
-    ∙ ap (λ x. on_tiles g (missing g) k p * x) (wave.inside k p m) ∙ on_product g (missing g) (toppled g τ) k p))
+    ∙ ap (λ x. on_tiles g (missing g) k p * x) (wave.inside k p m)
+    ∙ on_each g k p (λ (r : (ℕ → ℕ) → ℕ). r (missing g) * r (toppled g τ) ≡ r (λ j. missing g j * toppled g τ j)) m
+    (λ j l. refl) refl))
     ∙ sum_on_tiles g (λ j. missing g j * toppled g τ j)
 
 pub lost_more : (g : Grid) (u v w : ℕ → ℕ) → ((j : ℕ) → j < sites g → w j ≡ u j + v j) → lost g w ≡ lost g u + lost g v
@@ -304,11 +286,8 @@ lost_few g u =
     omega arith
 
 pub none_lost : (g : Grid) (c : ℕ → Count) → 0 ≡ lost g (grown_on g c c)
-none_lost g c =
-    let same = sum_below_same (sites g) (λ j. missing g j * grown_on g c c j) (λ j. 0)
-    (λ j l. let e = ap (λ x. missing g j * x) (let z : grown_on g c c j ≡ 0 = omega arith in z) in omega arith) in
-    let none = sum_below-zero (sites g) in
-    omega arith
+none_lost g c = sym (sum_below_none (sites g) (λ j. missing g j * grown_on g c c j)
+    (λ j l. let e = ap (λ x. missing g j * x) (let z : grown_on g c c j ≡ 0 = omega arith in z) in omega arith))
 
 -- a drop on a stable pile topples fewer than 2 ^ 32 times
 pub few_topplings_yet : {g : Grid} {site : ℕ} {more : Bool} {τ σ : ℕ → Tile} {c d : ℕ → Count}
@@ -316,13 +295,10 @@ pub few_topplings_yet : {g : Grid} {site : ℕ} {more : Bool} {τ σ : ℕ → T
     → topplings g (grown_on g c d) < 2 ^ 32
 few_topplings_yet {g} {site} {more} {τ} {σ} {c} {d} sides waves =
     let h = heights_before g site τ in
-    let each = sum_below_le (sites g) h (λ j. 7 * 1) (λ j l.
-    let a = bit_le (τ (tile_of g j)).low (place_of g j) in
-    let b = bit_le (τ (tile_of g j)).high (place_of g j) in
+    let each = sum_below_most (sites g) 7 h (λ j l.
+    let a = height_low (τ (tile_of g j)) (place_of g j) in
     let o = at_most_one (eqb site j) in
     omega arith) in
-    let scaled = sum_below-scale (sites g) 7 (λ j. 1) in
-    let ones = sum_below-ones (sites g) in
     let limit = sites_limit g sides in
     let heavy = weight_bound g h sides in
     let none = sum_below-zero (sites g) in
@@ -346,21 +322,17 @@ waves_end {g} {site} {τ} {σ} {c} {d} waves =
     (waves.advances.underway (heights_before g site τ)
     (underway_start g (heights_before g site τ) (λ j. 0) (λ j l. refl)))
     (λ j l.
-    let a = bit_le (σ (tile_of g j)).low (place_of g j) in
-    let b = bit_le (σ (tile_of g j)).high (place_of g j) in
+    let a = height_low (σ (tile_of g j)) (place_of g j) in
     omega arith)
 
 -- between two waves the tiles are at rest
 pub at_rest : {g : Grid} {site : ℕ} {more : Bool} {τ σ : ℕ → Tile} {c d : ℕ → Count}
     → AreWaves g site more τ σ c d → more ≡ true → AreAtRest g site σ
 at_rest {g} {site} {more} {τ} {σ} {c} {d} waves is =
-    record { clear = λ m p l. waves.clear m p l; none_due = waves.none_due; empty = waves.empty is }
+    record { quiet = waves.quiet; empty = waves.empty is }
 
 pub none_grown : (g : Grid) (c : ℕ → Count) → 0 ≡ topplings g (grown_on g c c)
-none_grown g c =
-    let same = sum_below_same (sites g) (grown_on g c c) (λ j. 0) (λ j l. omega arith) in
-    let none = sum_below-zero (sites g) in
-    omega arith
+none_grown g c = sym (sum_below_none (sites g) (grown_on g c c) (λ j l. omega arith))
 
 pub none_counted : (g : Grid) (c : ℕ → Count) (m p : ℕ) → p < 64
     → counted (c m) p ≡ counted (c m) p + on_tiles g (grown_on g c c) m p

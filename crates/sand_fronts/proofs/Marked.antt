@@ -1,6 +1,6 @@
 -- The sets of the sites that a drop has toppled.
-use Rattle.std.proofs.Common.{ℕ, true, false, cond, eqb, ltb, ◌≡◌, ◌≢◌, ◌+◌, ◌<◌, ◌≤◌, ◌∙◌, refl, ap, arith, ⊎_elim}
-use Rattle.std.proofs.lemmas.Bool.{cases_Bool, cases_lt, eq-eqb, ne_eqb, lt-ltb, le-ltb}
+use Rattle.std.proofs.Common.{ℕ, cond, eqb, ltb, ◌≡◌, ◌≢◌, ◌+◌, ◌<◌, ◌≤◌, ◌∙◌, refl, ap, arith, ⊎_elim, sym}
+use Rattle.std.proofs.lemmas.Bool.{cases_lt, eq-eqb, ne_eqb, lt-ltb, le-ltb}
 use Rattle.sand_model.specs.Grid.{Grid, sites}
 use Rattle.sand_model.specs.Sand.{sum_below}
 use Rattle.sand_model.specs.Lists.{one_if}
@@ -9,12 +9,12 @@ use Rattle.sand_tiles.specs.declared.counting.Count.{Count}
 use Rattle.sand_tiles.specs.Places.{bit}
 use Rattle.sand_tiles.specs.Counts.{counted}
 use Rattle.sand_tiles.proofs.Bits.{bit_none}
-use Rattle.sand_fronts.specs.Tiling.{tiles, is_site, site_on, on_tiles}
+use Rattle.sand_fronts.specs.Tiling.{tiles, on_tiles}
 use Rattle.sand_fronts.specs.Drops.{grown_on}
 use Rattle.sand_fronts.specs.Marking.{in_sets, AreMarked}
-use Rattle.sand_fronts.proofs.OnTiles.{on_site, off_site}
 use Rattle.sand_fronts.proofs.Sums.{sum_on_tiles}
 use Rattle.sand_fronts.proofs.Counted.{sum_less_one, none_of_none}
+use Rattle.sand_fronts.proofs.OnTiles.{on_each}
 
 -- ---- the sets are taken one by one
 
@@ -41,25 +41,14 @@ pub marked_word : (g : Grid) (c d : ℕ → Count) (a b : ℕ → ℕ) (m p : �
 marked_word g c d a b m p low marked none counts =
     let none_before : bit (a m) p ≡ 0 = ap (λ w. bit w p) (none m) ∙ bit_none p in
     let most = marked.no_other m p low in
-    let grown = counts m p low in
-    ⊎_elim
-    (λ (yes : is_site g m p ≡ true).
-    let now = on_site g (grown_on g c d) m p yes in
-    let test = on_site g (λ j. one_if (ltb 0 (grown_on g c d j))) m p yes in
-    ⊎_elim
-    (λ (some : 0 < grown_on g c d (site_on g m p)).
-    let one = ap one_if (lt-ltb 0 (grown_on g c d (site_on g m p)) some) in
-    let is = marked.new m p low (omega arith) in
-    omega arith)
-    (λ (zero' : grown_on g c d (site_on g m p) ≤ 0).
-    let one = ap one_if (le-ltb 0 (grown_on g c d (site_on g m p)) zero') in
-    omega arith)
-    (cases_lt 0 (grown_on g c d (site_on g m p))))
-    (λ (no : is_site g m p ≡ false).
-    let now = off_site g (grown_on g c d) m p no in
-    let test = off_site g (λ j. one_if (ltb 0 (grown_on g c d j))) m p no in
-    omega arith)
-    (cases_Bool (is_site g m p))
+    let some : counted (c m) p < counted (d m) p → bit (b m) p ≡ 1 = marked.new m p low in
+    on_each g m p (λ (r : (ℕ → ℕ) → ℕ). counted (d m) p ≡ counted (c m) p + r (grown_on g c d)
+    → bit (b m) p ≡ r (λ j. one_if (ltb 0 (grown_on g c d j)))) low
+    (λ j l grown. ⊎_elim
+    (λ (more : 0 < grown_on g c d j). some (omega arith) ∙ sym (ap one_if (lt-ltb 0 (grown_on g c d j) more)))
+    (λ (none : grown_on g c d j ≤ 0). let z = ap one_if (le-ltb 0 (grown_on g c d j) none) in omega arith)
+    (cases_lt 0 (grown_on g c d j)))
+    (λ grown. omega arith) (counts m p low)
 
 -- so the sets have as many places as sites have toppled
 pub area_is : (g : Grid) (v b : ℕ → ℕ) → ((m p : ℕ) → p < 64 → bit (b m) p ≡ on_tiles g v m p)

@@ -1,7 +1,7 @@
 -- The neighbours of a site, on the tiles. Rows and columns are counted with the border here: 16 rows above those of the
 -- grid, and 8 columns before them. So a step to a neighbour changes a row or a column by 1, in a tile or over its rim.
-use Rattle.std.proofs.Common.{ℕ, Bool, true, false, cond, eqb, ltb, ◌&&◌, ◌⊎◌, inl, inr, ◌≡◌, ◌+◌, ◌-◌, ◌*◌, ◌/◌, ◌%◌, ◌<◌, ◌≤◌, refl, sym, ◌∙◌, ap, arith, ⊎_elim, Some, None}
-use Rattle.std.proofs.lemmas.Bool.{cases_lt, cases_eq, cases_Bool, eq-eqb, ne_eqb, eqb-true, eqb-false, lt-ltb, le-ltb, ltb-true, ltb-false, and_parts}
+use Rattle.std.proofs.Common.{ℕ, Bool, true, false, cond, eqb, ltb, ◌⊎◌, inl, inr, ◌≡◌, ◌+◌, ◌-◌, ◌*◌, ◌/◌, ◌%◌, ◌<◌, ◌≤◌, refl, sym, ◌∙◌, ap, arith, ⊎_elim, Some, None}
+use Rattle.std.proofs.lemmas.Bool.{cases_lt, cases_eq, cases_Bool, eq-eqb, ne_eqb, eqb-true, eqb-false, lt-ltb, le-ltb, ltb-true, ltb-false, and_parts, and_from, and_left, and_right}
 use Rattle.std.proofs.lemmas.Nat.{div-mul-add, mod-mul-add, div-add-mod', mod_below}
 use Rattle.sand_model.specs.Grid.{Grid, joins, sites, north, south, west, east}
 use Rattle.sand_model.specs.Sand.{value_at, flow}
@@ -109,9 +109,25 @@ east_step g u y x = leaves (eqb (place y x % 8) 7) _ _ _
 
 -- ---- one step on the grid
 
-value_of : (v : ℕ → ℕ) (b : Bool) (k : ℕ) → value_at v (cond b (Some k) None) ≡ cond b (v k) 0
-value_of v true k = refl
-value_of v false k = refl
+-- a site at its row and column
+pub record IsAt (g : Grid) (j y x : ℕ) : Type 0 where
+  pub some : 0 < g.width
+  pub wide : x < g.width
+  pub is : j ≡ y * g.width + x
+
+pub parts_of : (g : Grid) (j : ℕ) → j < sites g → IsAt g j (j / g.width) (j % g.width)
+parts_of g j inside =
+    let some = some_width g.width g.height j inside in
+    let parts = div-add-mod' j g.width in
+    record { some = some; wide = mod_below j g.width some; is = omega arith }
+
+-- the value of a site in the next row, if there is one
+value_in_row : (g : Grid) (u : ℕ → ℕ → ℕ) (b : Bool) (j y z x : ℕ) → x < g.width
+    → (b ≡ true → (j ≡ y * g.width + x) × (y + 16 ≡ z)) → (b ≡ false → cell g u z (x + 8) ≡ 0)
+    → value_at (at_site g u) (cond b (Some j) None) ≡ cell g u z (x + 8)
+value_in_row g u true j y z x less so none =
+    let e = so refl in at_cell g u j y x less e.0 ∙ ap (λ t. cell g u t (x + 8)) e.1
+value_in_row g u false j y z x less so none = sym (none refl)
 
 -- the value next to a site: near, or across the seam
 value_beside : (v : ℕ → ℕ) (near wraps : Bool) (a b : ℕ)
@@ -120,53 +136,40 @@ value_beside v true wraps a b = refl
 value_beside v false true a b = refl
 value_beside v false false a b = refl
 
-and_false : (a b : Bool) → b ≡ true → (a && b) ≡ false → a ≡ false
-and_false true b is none = sym is ∙ none
-and_false false b is none = refl
+cond_as : (b : Bool) (m n : ℕ) → (b ≡ true → m ≡ n) → cond b m 0 ≡ cond b n 0
+cond_as true m n same = same refl
+cond_as false m n same = refl
 
-pub north_side : (g : Grid) (u : ℕ → ℕ → ℕ) (j : ℕ) → IsBlank g u → j < sites g
+north_side : (g : Grid) (u : ℕ → ℕ → ℕ) (j : ℕ) → IsBlank g u → j < sites g
     → value_at (at_site g u) (north g j) ≡ cell g u (j / g.width + 16 - 1) (j % g.width + 8)
 unfolding north
 north_side g u j blank inside =
     let w = g.width in
     let y = j / w in
     let x = j % w in
-    let pos = some_width g.width g.height j inside in
-    let parts = div-add-mod' j w in
-    let less : x < w = mod_below j w pos in
-    value_of (at_site g u) (ltb 0 y) (j - w)
-    ∙ ⊎_elim
-    (λ (some : 0 < y).
-    let e : y ≡ (y - 1) + 1 = omega arith in
-    let m = ap (λ t. t * w) e in
-    ap (λ t. cond t (at_site g u (j - w)) 0) (lt-ltb 0 y some) ∙ at_cell g u (j - w) (y - 1) x less (omega arith)
-    ∙ ap (λ t. cell g u t (x + 8)) (let d : y - 1 + 16 ≡ y + 16 - 1 = omega arith in d))
-    (λ (none : y ≤ 0). ap (λ t. cond t (at_site g u (j - w)) 0) (le-ltb 0 y none)
-    ∙ sym (blank (y + 16 - 1) (x + 8) (omega arith) (inl (omega arith))))
-    (cases_lt 0 y)
+    let at = parts_of g j inside in
+    value_in_row g u (ltb 0 y) (j - w) (y - 1) (y + 16 - 1) x at.wide
+    (λ is.
+    let some = ltb-true 0 y is in
+    let m = ap (λ t. t * w) (let e : y ≡ (y - 1) + 1 = omega arith in e) in
+    (omega arith, omega arith))
+    (λ no. let none = ltb-false 0 y no in blank (y + 16 - 1) (x + 8) (omega arith) (inl (omega arith)))
 
-pub south_side : (g : Grid) (u : ℕ → ℕ → ℕ) (j : ℕ) → IsBlank g u → j < sites g
+south_side : (g : Grid) (u : ℕ → ℕ → ℕ) (j : ℕ) → IsBlank g u → j < sites g
     → value_at (at_site g u) (south g j) ≡ cell g u (j / g.width + 16 + 1) (j % g.width + 8)
 unfolding south
 south_side g u j blank inside =
     let w = g.width in
     let y = j / w in
     let x = j % w in
-    let pos = some_width g.width g.height j inside in
-    let parts = div-add-mod' j w in
-    let less : x < w = mod_below j w pos in
-    value_of (at_site g u) (ltb (y + 1) g.height) (j + w)
-    ∙ ⊎_elim
-    (λ (some : y + 1 < g.height).
-    let m : (y + 1) * w ≡ y * w + w = omega arith in
-    ap (λ t. cond t (at_site g u (j + w)) 0) (lt-ltb (y + 1) g.height some)
-    ∙ at_cell g u (j + w) (y + 1) x less (omega arith)
-    ∙ ap (λ t. cell g u t (x + 8)) (let d : y + 1 + 16 ≡ y + 16 + 1 = omega arith in d))
-    (λ (none : g.height ≤ y + 1). ap (λ t. cond t (at_site g u (j + w)) 0) (le-ltb (y + 1) g.height none)
-    ∙ sym (blank (y + 16 + 1) (x + 8) (omega arith) (inr (inl (omega arith)))))
-    (cases_lt (y + 1) g.height)
+    let at = parts_of g j inside in
+    value_in_row g u (ltb (y + 1) g.height) (j + w) (y + 1) (y + 16 + 1) x at.wide
+    (λ is. let m : (y + 1) * w ≡ y * w + w = omega arith in (omega arith, omega arith))
+    (λ no.
+    let none = ltb-false (y + 1) g.height no in
+    blank (y + 16 + 1) (x + 8) (omega arith) (inr (inl (omega arith))))
 
-pub west_side : (g : Grid) (u : ℕ → ℕ → ℕ) (j k p : ℕ) → IsBlank g u → j < sites g
+west_side : (g : Grid) (u : ℕ → ℕ → ℕ) (j k p : ℕ) → IsBlank g u → j < sites g
     → k ≡ tile g (j / g.width + 16) (j % g.width + 8) → p ≡ place (j / g.width + 16) (j % g.width + 8)
     → value_at (at_site g u) (west g j) ≡ inner_west (u k) p + over_west (shift_west g k) (u (to_west g k)) p
 unfolding west inner_west over_west shift_west to_west
@@ -174,56 +177,41 @@ west_side g u j k p blank inside tile_is place_is =
     let w = g.width in
     let y = j / w in
     let x = j % w in
-    let pos = some_width g.width g.height j inside in
-    let parts = div-add-mod' j w in
-    let less : x < w = mod_below j w pos in
+    let at = parts_of g j inside in
     let col : k % pitch g ≡ (x + 8) / 8 =
     ap (λ t. t % pitch g) tile_is ∙ mod-mul-add ((y + 16) / 8) (pitch g) ((x + 8) / 8) (omega arith) in
     let far = cond (joins g.edge) (at_site g u (j + (w - 1))) 0 in
+    let near : (p % 8 ≡ 0 → seam_west g k ≡ false)
+    → inner_west (u k) p + over_west (shift_west g k) (u (to_west g k)) p ≡ cell g u (y + 16) (x + 8 - 1) = λ away.
+    ap (λ n. inner_west (u k) p + n) (cond_as (eqb (p % 8) 0) _ _
+    (λ is. ap (λ b. u (cond b (k + (across g - 1)) (k - 1)) (p + cond b ((w - 1) % 8) 7)) (away (eqb-true (p % 8) 0 is))))
+    ∙ same2 (λ m q. inner_west (u m) q + over_west 7 (u (m - 1)) q) _ _ _ _ tile_is place_is
+    ∙ west_step g u (y + 16) (x + 8) (omega arith) in
     value_beside (at_site g u) (ltb 0 x) (joins g.edge) (j - 1) (j + (w - 1))
     ∙ ⊎_elim
-    (λ (seam : seam_west g k ≡ true).
-    let both = and_parts (joins g.edge) (eqb (k % pitch g) 1) seam in
-    let first = eqb-true (k % pitch g) 1 both.1 in
-    let to : to_west g k ≡ k + (across g - 1) = ap (λ s. cond s (k + (across g - 1)) (k - 1)) seam in
-    let sh : shift_west g k ≡ (w - 1) % 8 = ap (λ s. cond s ((w - 1) % 8) 7) seam in
-    ⊎_elim
     (λ (some : 0 < x). ap (λ t. cond t (at_site g u (j - 1)) far) (lt-ltb 0 x some)
     ∙ at_cell g u (j - 1) y (x - 1) (omega arith) (omega arith)
-    ∙ sym (leaves (eqb (p % 8) 0) _ _ _
-    (λ is. let e = eqb-true (p % 8) 0 is in absurd (omega arith))
-    (λ not. same2 u _ _ _ _ (let t : k ≡ tile g (y + 16) (x - 1 + 8) = omega arith in t)
-    (let q : p - 1 ≡ place (y + 16) (x - 1 + 8) = omega arith in q))))
+    ∙ ap (cell g u (y + 16)) (let d : x - 1 + 8 ≡ x + 8 - 1 = omega arith in d)
+    ∙ sym (near (λ e. and_right _ _ (ne_eqb (k % pitch g) 1 (λ first. omega arith)))))
     (λ (none : x ≤ 0). ap (λ t. cond t (at_site g u (j - 1)) far) (le-ltb 0 x none)
-    ∙ ap (λ t. cond t (at_site g u (j + (w - 1))) 0) both.0
+    ∙ ⊎_elim
+    (λ (round : joins g.edge ≡ true).
+    let seam : seam_west g k ≡ true = and_from _ _ round (eq-eqb (k % pitch g) 1 (omega arith)) in
+    let to : to_west g k ≡ k + (across g - 1) = ap (λ s. cond s (k + (across g - 1)) (k - 1)) seam in
+    let sh : shift_west g k ≡ (w - 1) % 8 = ap (λ s. cond s ((w - 1) % 8) 7) seam in
+    ap (λ t. cond t (at_site g u (j + (w - 1))) 0) round
     ∙ at_cell g u (j + (w - 1)) y (w - 1) (omega arith) (omega arith)
     ∙ sym (leaves (eqb (p % 8) 0) _ _ _
     (λ is. same2 u _ _ _ _ (let t : to_west g k ≡ tile g (y + 16) (w - 1 + 8) = omega arith in t)
     (let q : p + shift_west g k ≡ place (y + 16) (w - 1 + 8) = omega arith in q))
     (λ not. let e = eqb-false (p % 8) 0 not in absurd (e (omega arith)))))
-    (cases_lt 0 x))
-    (λ (away : seam_west g k ≡ false).
-    let to : to_west g k ≡ k - 1 = ap (λ s. cond s (k + (across g - 1)) (k - 1)) away in
-    let sh : shift_west g k ≡ 7 = ap (λ s. cond s ((w - 1) % 8) 7) away in
-    let step : inner_west (u k) p + over_west (shift_west g k) (u (to_west g k)) p ≡ cell g u (y + 16) (x + 8 - 1) =
-    ap (λ s. inner_west (u k) p + over_west s (u (to_west g k)) p) sh
-    ∙ ap (λ t. inner_west (u k) p + over_west 7 (u t) p) to
-    ∙ same2 (λ m q. inner_west (u m) q + over_west 7 (u (m - 1)) q) _ _ _ _ tile_is place_is
-    ∙ west_step g u (y + 16) (x + 8) (omega arith) in
-    ⊎_elim
-    (λ (some : 0 < x). ap (λ t. cond t (at_site g u (j - 1)) far) (lt-ltb 0 x some)
-    ∙ at_cell g u (j - 1) y (x - 1) (omega arith) (omega arith)
-    ∙ ap (cell g u (y + 16)) (let d : x - 1 + 8 ≡ x + 8 - 1 = omega arith in d) ∙ sym step)
-    (λ (none : x ≤ 0).
-    let flat : joins g.edge ≡ false = and_false (joins g.edge) (eqb (k % pitch g) 1)
-    (eq-eqb (k % pitch g) 1 (omega arith)) away in
-    ap (λ t. cond t (at_site g u (j - 1)) far) (le-ltb 0 x none)
-    ∙ ap (λ t. cond t (at_site g u (j + (w - 1))) 0) flat
-    ∙ sym (step ∙ blank (y + 16) (x + 8 - 1) (omega arith) (inr (inr (inl (omega arith))))))
-    (cases_lt 0 x))
-    (cases_Bool (seam_west g k))
+    (λ (flat : joins g.edge ≡ false).
+    ap (λ t. cond t (at_site g u (j + (w - 1))) 0) flat
+    ∙ sym (near (λ e. and_left _ _ flat) ∙ blank (y + 16) (x + 8 - 1) (omega arith) (inr (inr (inl (omega arith))))))
+    (cases_Bool (joins g.edge)))
+    (cases_lt 0 x)
 
-pub east_side : (g : Grid) (u : ℕ → ℕ → ℕ) (j k p : ℕ) → IsBlank g u → j < sites g
+east_side : (g : Grid) (u : ℕ → ℕ → ℕ) (j k p : ℕ) → IsBlank g u → j < sites g
     → k ≡ tile g (j / g.width + 16) (j % g.width + 8) → p ≡ place (j / g.width + 16) (j % g.width + 8)
     → value_at (at_site g u) (east g j) ≡ inner_east (u k) p + over_east (shift_east g k) (u (to_east g k)) p
 unfolding east inner_east over_east shift_east to_east
@@ -231,31 +219,38 @@ east_side g u j k p blank inside tile_is place_is =
     let w = g.width in
     let y = j / w in
     let x = j % w in
-    let pos = some_width g.width g.height j inside in
-    let parts = div-add-mod' j w in
-    let less : x < w = mod_below j w pos in
+    let at = parts_of g j inside in
     let col : k % pitch g ≡ (x + 8) / 8 =
     ap (λ t. t % pitch g) tile_is ∙ mod-mul-add ((y + 16) / 8) (pitch g) ((x + 8) / 8) (omega arith) in
     let far = cond (joins g.edge) (at_site g u (j - (w - 1))) 0 in
+    let step : inner_east (u k) p + over_east 7 (u (k + 1)) p ≡ cell g u (y + 16) (x + 8 + 1) =
+    same2 (λ m q. inner_east (u m) q + over_east 7 (u (m + 1)) q) _ _ _ _ tile_is place_is
+    ∙ east_step g u (y + 16) (x + 8) in
+    let near : seam_east g k ≡ false
+    → inner_east (u k) p + over_east (shift_east g k) (u (to_east g k)) p ≡ cell g u (y + 16) (x + 8 + 1) = λ away.
+    ap (λ b. inner_east (u k) p + over_east (cond b ((w - 1) % 8) 7) (u (cond b (k - (across g - 1)) (k + 1))) p) away
+    ∙ step in
     value_beside (at_site g u) (ltb (x + 1) w) (joins g.edge) (j + 1) (j - (w - 1))
     ∙ ⊎_elim
+    (λ (some : x + 1 < w). ap (λ t. cond t (at_site g u (j + 1)) far) (lt-ltb (x + 1) w some)
+    ∙ at_cell g u (j + 1) y (x + 1) some (omega arith)
+    ∙ ap (cell g u (y + 16)) (let d : x + 1 + 8 ≡ x + 8 + 1 = omega arith in d)
+    ∙ sym (⊎_elim
     (λ (seam : seam_east g k ≡ true).
-    let both = and_parts (joins g.edge) (eqb (k % pitch g) (across g)) seam in
-    let last = eqb-true (k % pitch g) (across g) both.1 in
+    let last = eqb-true (k % pitch g) (across g) (and_parts _ _ seam).1 in
+    let sh : shift_east g k ≡ (w - 1) % 8 = ap (λ s. cond s ((w - 1) % 8) 7) seam in
+    let none = ap (λ b. cond b (u (to_east g k) (p - shift_east g k)) 0)
+    (ne_eqb (p % 8) (shift_east g k) (λ e. omega arith)) in
+    let none' = ap (λ b. cond b (u (k + 1) (p - 7)) 0) (ne_eqb (p % 8) 7 (λ e. omega arith)) in
+    ap (λ n. inner_east (u k) p + n) (none ∙ sym none') ∙ step)
+    near
+    (cases_Bool (seam_east g k))))
+    (λ (none : w ≤ x + 1). ap (λ t. cond t (at_site g u (j + 1)) far) (le-ltb (x + 1) w none)
+    ∙ ⊎_elim
+    (λ (round : joins g.edge ≡ true).
+    let seam : seam_east g k ≡ true = and_from _ _ round (eq-eqb (k % pitch g) (across g) (omega arith)) in
     let to : to_east g k ≡ k - (across g - 1) = ap (λ s. cond s (k - (across g - 1)) (k + 1)) seam in
     let sh : shift_east g k ≡ (w - 1) % 8 = ap (λ s. cond s ((w - 1) % 8) 7) seam in
-    ⊎_elim
-    (λ (some : x + 1 < w).
-    let one : inner_east (u k) p ≡ u k (p + 1) =
-    ap (λ b. cond b 0 (u k (p + 1))) (ne_eqb (p % 8) 7 (λ e. omega arith)) in
-    let two : over_east (shift_east g k) (u (to_east g k)) p ≡ 0 =
-    ap (λ b. cond b (u (to_east g k) (p - shift_east g k)) 0) (ne_eqb (p % 8) (shift_east g k) (λ e. omega arith)) in
-    ap (λ t. cond t (at_site g u (j + 1)) far) (lt-ltb (x + 1) w some)
-    ∙ at_cell g u (j + 1) y (x + 1) some (omega arith)
-    ∙ same2 u _ _ _ _ (let t : tile g (y + 16) (x + 1 + 8) ≡ k = omega arith in t)
-    (let q : place (y + 16) (x + 1 + 8) ≡ p + 1 = omega arith in q)
-    ∙ omega arith)
-    (λ (none : w ≤ x + 1).
     let one : inner_east (u k) p ≡ 0 = ⊎_elim
     (λ (e : p % 8 ≡ 7). ap (λ b. cond b 0 (u k (p + 1))) (eq-eqb (p % 8) 7 e))
     (λ (ne : p % 8 ≡ 7 → ⊥). ap (λ b. cond b 0 (u k (p + 1))) (ne_eqb (p % 8) 7 ne)
@@ -265,42 +260,24 @@ east_side g u j k p blank inside tile_is place_is =
     (cases_eq (p % 8) 7) in
     let two : over_east (shift_east g k) (u (to_east g k)) p ≡ u (to_east g k) (p - shift_east g k) =
     ap (λ b. cond b (u (to_east g k) (p - shift_east g k)) 0) (eq-eqb (p % 8) (shift_east g k) (omega arith)) in
-    ap (λ t. cond t (at_site g u (j + 1)) far) (le-ltb (x + 1) w none)
-    ∙ ap (λ t. cond t (at_site g u (j - (w - 1))) 0) both.0
-    ∙ at_cell g u (j - (w - 1)) y 0 pos (omega arith)
+    ap (λ t. cond t (at_site g u (j - (w - 1))) 0) round
+    ∙ at_cell g u (j - (w - 1)) y 0 at.some (omega arith)
     ∙ same2 u _ _ _ _ (let t : tile g (y + 16) (0 + 8) ≡ to_east g k = omega arith in t)
     (let q : place (y + 16) (0 + 8) ≡ p - shift_east g k = omega arith in q)
     ∙ omega arith)
-    (cases_lt (x + 1) w))
-    (λ (away : seam_east g k ≡ false).
-    let to : to_east g k ≡ k + 1 = ap (λ s. cond s (k - (across g - 1)) (k + 1)) away in
-    let sh : shift_east g k ≡ 7 = ap (λ s. cond s ((w - 1) % 8) 7) away in
-    let step : inner_east (u k) p + over_east (shift_east g k) (u (to_east g k)) p ≡ cell g u (y + 16) (x + 8 + 1) =
-    ap (λ s. inner_east (u k) p + over_east s (u (to_east g k)) p) sh
-    ∙ ap (λ t. inner_east (u k) p + over_east 7 (u t) p) to
-    ∙ same2 (λ m q. inner_east (u m) q + over_east 7 (u (m + 1)) q) _ _ _ _ tile_is place_is
-    ∙ east_step g u (y + 16) (x + 8) in
-    ⊎_elim
-    (λ (some : x + 1 < w). ap (λ t. cond t (at_site g u (j + 1)) far) (lt-ltb (x + 1) w some)
-    ∙ at_cell g u (j + 1) y (x + 1) some (omega arith)
-    ∙ ap (cell g u (y + 16)) (let d : x + 1 + 8 ≡ x + 8 + 1 = omega arith in d) ∙ sym step)
-    (λ (none : w ≤ x + 1).
-    let flat : joins g.edge ≡ false = and_false (joins g.edge) (eqb (k % pitch g) (across g))
-    (eq-eqb (k % pitch g) (across g) (omega arith)) away in
-    ap (λ t. cond t (at_site g u (j + 1)) far) (le-ltb (x + 1) w none)
-    ∙ ap (λ t. cond t (at_site g u (j - (w - 1))) 0) flat
-    ∙ sym (step ∙ blank (y + 16) (x + 8 + 1) (omega arith) (inr (inr (inr (omega arith))))))
-    (cases_lt (x + 1) w))
-    (cases_Bool (seam_east g k))
+    (λ (flat : joins g.edge ≡ false).
+    ap (λ t. cond t (at_site g u (j - (w - 1))) 0) flat
+    ∙ sym (near (and_left _ _ flat) ∙ blank (y + 16) (x + 8 + 1) (omega arith) (inr (inr (inr (omega arith))))))
+    (cases_Bool (joins g.edge)))
+    (cases_lt (x + 1) w)
 
 -- a site gains from its neighbours what its place gains on the tiles
 pub flow_on_tiles : (g : Grid) (u : ℕ → ℕ → ℕ) (j : ℕ) → IsBlank g u → j < sites g
     → flow g (at_site g u) j ≡ tile_flow g u (tile_of g j) (place_of g j)
 flow_on_tiles g u j blank inside =
     let w = g.width in
-    let pos = some_width g.width g.height j inside in
-    let parts = div-add-mod' j w in
-    let s = site_cell g j (j / w) (j % w) (mod_below j w pos) (omega arith) in
+    let at = parts_of g j inside in
+    let s = site_cell g j (j / w) (j % w) at.wide at.is in
     let y = j / w + 16 in
     let x = j % w + 8 in
     let all = flow_four g (at_site g u) j in

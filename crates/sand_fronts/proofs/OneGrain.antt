@@ -14,29 +14,17 @@ use Rattle.sand_tiles.specs.declared.tile.Tile.{Tile}
 use Rattle.sand_tiles.specs.declared.counting.Count.{Count}
 use Rattle.sand_tiles.specs.Places.{bit, height, Receives}
 use Rattle.sand_tiles.proofs.Bits.{bit_le, half, both_le}
-use Rattle.sand_fronts.specs.Tiling.{tile_of, place_of, site_on, on_tiles}
+use Rattle.sand_fronts.specs.Tiling.{tile_of, place_of, on_tiles}
 use Rattle.sand_fronts.specs.TileLists.{IsClear}
 use Rattle.sand_fronts.specs.Waves.{tile_at, AreOpen, AreAllOpen, AreAtRest, heights_before}
 use Rattle.sand_fronts.specs.Drops.{heights_on, grown_on, AreQuiet}
-use Rattle.sand_fronts.proofs.OnTiles.{place_below, back_again, at_on}
+use Rattle.sand_fronts.proofs.OnTiles.{place_below, at_on, same_site, height_low}
 use Rattle.sand_fronts.proofs.OneSite.{put_site}
 use Rattle.sand_fronts.proofs.Waves.{only_same, only_other}
 use Rattle.sand_fronts.proofs.Gained.{set_each, tile_set, tile_clear, tile_set_same, tile_set_other}
 
 at_most_one_at : (k j : ℕ) → one_at k j ≤ 1
 at_most_one_at k j = at_most_one (eqb k j)
-
--- sites of one tile are equal if their places are
-same_site : (g : Grid) (i j : ℕ) → i < sites g → j < sites g → tile_of g j ≡ tile_of g i
-    → one_at (place_of g i) (place_of g j) ≡ one_at i j
-same_site g i j li lj tile = ⊎_elim
-    (λ (e : i ≡ j). ap (one_at (place_of g i)) (ap (place_of g) (sym e))
-    ∙ one_at_same (place_of g i) ∙ sym (ap (one_at i) (sym e) ∙ one_at_same i))
-    (λ (ne : i ≡ j → ⊥).
-    one_at_other (place_of g i) (place_of g j) (λ place. ne (sym (back_again g i li).1
-    ∙ ap (λ k. site_on g k (place_of g i)) (sym tile) ∙ ap (site_on g (tile_of g j)) place ∙ (back_again g j lj).1))
-    ∙ sym (one_at_other i j ne))
-    (cases_eq i j)
 
 -- t, the tile of the site with one grain more, replaces that tile in ts; the site is not free
 pub record GetsGrain (g : Grid) (site : ℕ) (ts : List Tile) (here grain free : ℕ) (t : Tile) : Type 0 where
@@ -65,8 +53,7 @@ grain_heights {g} {site} {ts} {here} {grain} {free} {t} j gets l =
     (λ (ne : tile_of g j ≡ here → ⊥).
     let now = ap (λ (x : Tile). height x p) (tile_set_other ts here (tile_of g j) t ne) in
     let none = one_at_other site j (λ e. ne (ap (tile_of g) (sym e) ∙ sym gets.is)) in
-    let a = bit_le (tile_at ts (tile_of g j)).low p in
-    let b = bit_le (tile_at ts (tile_of g j)).high p in
+    let a = height_low (tile_at ts (tile_of g j)) p in
     omega arith)
     (cases_eq (tile_of g j) here)
 
@@ -87,8 +74,7 @@ still_none_due {g} {site} {ts} {here} {grain} {free} {t} gets =
     let wave = ap (λ w. bit w p) gets.receives.wave in
     let held = gets.held p low in
     let few = bit_le free p in
-    let a = bit_le (tile_at ts here).low p in
-    let b = bit_le (tile_at ts here).high p in
+    let a = height_low (tile_at ts here) p in
     let all = gets.receives.modulo p low in
     let due = gets.receives.due_free p low (omega arith) in
     ⊎_elim
@@ -112,8 +98,7 @@ calm_settled {g} {site} {ts} {here} {grain} {free} {t} c gets calm =
     let same : (j : ℕ) → j < sites g → s j ≡ heights_on g (tile_at (set ts here t)) j =
     λ j l.
     let h = grain_heights j gets l in
-    let a = bit_le (tile_at ts (tile_of g j)).low (place_of g j) in
-    let b = bit_le (tile_at ts (tile_of g j)).high (place_of g j) in
+    let a = height_low (tile_at ts (tile_of g j)) (place_of g j) in
     ⊎_elim
     (λ (e : j ≡ site).
     let o = ap (one_at site) e ∙ one_at_same site in
@@ -127,8 +112,7 @@ calm_settled {g} {site} {ts} {here} {grain} {free} {t} c gets calm =
     (underway_end g s (grown_on g c c) s (underway_start g s (grown_on g c c) (λ i l. omega arith))
     (λ j l.
     let e = same j l in
-    let a = bit_le (tile_at (set ts here t) (tile_of g j)).low (place_of g j) in
-    let b = bit_le (tile_at (set ts here t) (tile_of g j)).high (place_of g j) in
+    let a = height_low (tile_at (set ts here t) (tile_of g j)) (place_of g j) in
     omega arith))
 
 -- ---- if the site is 0 in the planes, it has 4
@@ -136,19 +120,14 @@ calm_settled {g} {site} {ts} {here} {grain} {free} {t} c gets calm =
 pub due_rest : {g : Grid} {site : ℕ} {ts : List Tile} {here grain free : ℕ} {t : Tile}
     → GetsGrain g site ts here grain free t → heights_on g (tile_at (set ts here t)) site ≡ 0
     → AreAtRest g site (tile_at (set ts here t))
-due_rest {g} {site} {ts} {here} {grain} {free} {t} gets empty = record {
-  clear = λ m p low. still_clear gets m p low;
-  none_due = still_none_due gets;
-  empty = empty;
-}
+due_rest gets empty = record { quiet = calm_quiet gets; empty = empty }
 
 pub due_heights : {g : Grid} {site : ℕ} {ts : List Tile} {here grain free : ℕ} {t : Tile} (j : ℕ)
     → GetsGrain g site ts here grain free t → heights_on g (tile_at (set ts here t)) site ≡ 0 → j < sites g
     → heights_before g site (tile_at (set ts here t)) j ≡ heights_on g (tile_at ts) j + one_at site j
 due_heights {g} {site} {ts} {here} {grain} {free} {t} j gets empty l =
     let h = grain_heights j gets l in
-    let a = bit_le (tile_at ts (tile_of g j)).low (place_of g j) in
-    let b = bit_le (tile_at ts (tile_of g j)).high (place_of g j) in
+    let a = height_low (tile_at ts (tile_of g j)) (place_of g j) in
     ⊎_elim
     (λ (e : j ≡ site).
     let z = ap (heights_on g (tile_at (set ts here t))) e ∙ empty in

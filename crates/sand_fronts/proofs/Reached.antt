@@ -4,7 +4,7 @@ use Rattle.std.specs.Prelude.{bit_xor}
 use Rattle.std.specs.Int.{abs_diff, trailing_zeros}
 use Rattle.std.proofs.Common.{w64}
 use Rattle.std.proofs.lemmas.Nat.Bits.{bit_at-trailing_zeros}
-use Rattle.std.proofs.lemmas.Bool.{cases_Bool, cases_eq, cases_lt, and_parts, ltb-true, lt-ltb, le-ltb}
+use Rattle.std.proofs.lemmas.Bool.{cases_eq, cases_lt, and_parts, ltb-true, lt-ltb, le-ltb}
 use Rattle.std.proofs.lemmas.Nat.{div-mul-add, mod-mul-add, mod_below, div_below}
 use Rattle.sand_model.specs.Grid.{Grid, IsGrid, sites, joins, column, row, distance}
 use Rattle.sand_model.specs.Sand.{sum_below, one_at}
@@ -13,12 +13,12 @@ use Rattle.sand_model.proofs.SumsBelow.{sum_below_same, sum_below-add, sum_below
 use Rattle.sand_tiles.specs.Places.{bit}
 use Rattle.sand_tiles.proofs.Bits.{bit_le, bit_none, half, both_le}
 use Rattle.sand_fronts.specs.declared.reach.Spot.{Spot}
-use Rattle.sand_fronts.specs.Reaching.{distance_within, spot_of, corner_of, IsReachedFrom, IsReachedIn}
+use Rattle.sand_fronts.specs.Reaching.{distance_within, spot_of, corner_of, IsReachedFrom, IsReachedIn, distance_between}
 use Rattle.sand_fronts.specs.Avalanches.{IsReached}
 use Rattle.sand_fronts.specs.Marking.{AreSites}
 use Rattle.sand_fronts.specs.Tiling.{tile_of, place_of, row_at, column_at, is_site, site_on, on_tiles}
 use Rattle.sand_fronts.proofs.Marked.{set_left, set_taken}
-use Rattle.sand_fronts.proofs.OnTiles.{place_below, back_again, there_again, at_on, on_site, off_site}
+use Rattle.sand_fronts.proofs.OnTiles.{place_below, back_again, there_again, at_on, on_place}
 
 -- ---- bounds on the distance of a place of a tile
 
@@ -42,31 +42,47 @@ within_farthest g s corner p across near down low wide tall is =
 
 -- ---- place by place
 
-pub lowest : (n : ℕ) → n ≢ 0 → n < 2 ^ 64 → (trailing_zeros w64 n < 64) × (bit n (trailing_zeros w64 n) ≡ 1)
+lowest : (n : ℕ) → n ≢ 0 → n < 2 ^ 64 → (trailing_zeros w64 n < 64) × (bit n (trailing_zeros w64 n) ≡ 1)
 unfolding bit
 lowest n some fits = let l = bit_at-trailing_zeros w64 n (omega arith) fits in (l.0, l.1)
 
-pub place_less : (rest place one : ℕ) → place < 64 → bit rest place ≡ 1
-    → ((p : ℕ) → p < 64 → bit one p ≡ one_at place p)
-    → (p : ℕ) → p < 64 → bit (bit_xor rest one) p + one_at place p ≡ bit rest p
-place_less rest place one inside is each p low =
-    let h = half rest one p in
-    let b = both_le rest one p in
-    let b0 = b.0 in let b1 = b.1 in let b2 = b.2 in
-    let e = each p low in
-    ⊎_elim
-    (λ (same : place ≡ p).
-    let o = ap (one_at place) (sym same) ∙ one_at_same place in let r = ap (bit rest) same in omega arith)
-    (λ (ne : place ≡ p → ⊥). let o = one_at_other place p ne in omega arith)
-    (cases_eq place p)
+-- a place is taken out of a set
+pub record IsTaken (rest next place : ℕ) : Type 0 where
+  pub inside : place < 64
+  pub was : bit rest place ≡ 1
+  pub each : (p : ℕ) → p < 64 → bit next p + one_at place p ≡ bit rest p
 
-pub fewer_left : (rest next place : ℕ) → place < 64 → ((p : ℕ) → p < 64 → bit next p + one_at place p ≡ bit rest p)
-    → sum_below 64 (bit next) < sum_below 64 (bit rest)
-fewer_left rest next place inside each =
-    let same =
-    sum_below_same 64 (λ p. bit next p + 1 * one_at place p) (bit rest) (λ p low. let e = each p low in omega arith) in
+-- the first place of a set
+pub taken : (rest one : ℕ) → rest ≢ 0 → rest < 2 ^ 64
+    → ((p : ℕ) → p < 64 → bit one p ≡ one_at (trailing_zeros w64 rest) p)
+    → IsTaken rest (bit_xor rest one) (trailing_zeros w64 rest)
+taken rest one some fits is =
+    let place = trailing_zeros w64 rest in
+    let first = lowest rest some fits in
+    record {
+      inside = first.0;
+      was = first.1;
+      each = λ p low.
+          let h = half rest one p in
+          let b = both_le rest one p in
+          let b0 = b.0 in let b1 = b.1 in let b2 = b.2 in
+          let e = is p low in
+          ⊎_elim
+          (λ (same : place ≡ p).
+          let o = ap (one_at place) (sym same) ∙ one_at_same place in
+          let r = ap (bit rest) same in
+          let w = first.1 in
+          omega arith)
+          (λ (ne : place ≡ p → ⊥). let o = one_at_other place p ne in omega arith)
+          (cases_eq place p);
+    }
+
+pub fewer_left : {rest next place : ℕ} → IsTaken rest next place → sum_below 64 (bit next) < sum_below 64 (bit rest)
+fewer_left {rest} {next} {place} gone =
+    let same = sum_below_same 64 (λ p. bit next p + 1 * one_at place p) (bit rest)
+    (λ p low. let e = gone.each p low in omega arith) in
     let both = sum_below-add 64 (bit next) (λ p. 1 * one_at place p) in
-    let one = sum_below-one_at 64 place (λ p. 1) inside in
+    let one = sum_below-one_at 64 place (λ p. 1) gone.inside in
     omega arith
 
 -- the places of a set that are no longer in the rest have been read
@@ -84,24 +100,24 @@ reads_begin g s corner set reach = record {
   reached = λ more. absurd (omega arith);
 }
 
-pub reads_more : (g : Grid) (s corner : Spot) (set rest next reach far place d now : ℕ)
-    → Reads g s corner set rest reach far → place < 64 → bit rest place ≡ 1
-    → ((p : ℕ) → p < 64 → bit next p + one_at place p ≡ bit rest p)
-    → d ≡ distance_within g s corner place → now ≡ max far d
-    → Reads g s corner set next reach now
-reads_more g s corner set rest next reach far place d now before inside is each there most = record {
-  within_set = λ p low. let a = before.within_set p low in let e = each p low in omega arith;
+pub reads_more : {g : Grid} {s corner : Spot} {set rest next reach far place : ℕ} (d now : ℕ)
+    → Reads g s corner set rest reach far → IsTaken rest next place
+    → d ≡ distance_within g s corner place → now ≡ max far d → Reads g s corner set next reach now
+reads_more {g} {s} {corner} {set} {rest} {next} {reach} {far} {place} d now before gone there most = record {
+  within_set = λ p low. let a = before.within_set p low in let e = gone.each p low in omega arith;
   grows = let a = before.grows in omega arith;
   done = λ p low has none. ⊎_elim
       (λ (same : place ≡ p). let e = ap (distance_within g s corner) same in omega arith)
       (λ (ne : place ≡ p → ⊥).
-      let e = each p low in
+      let e = gone.each p low in
       let o = one_at_other place p ne in
       let a = before.done p low has (omega arith) in
       omega arith)
       (cases_eq place p);
   reached = λ more. ⊎_elim
       (λ (farther : far < d).
+      let inside = gone.inside in
+      let was = gone.was in
       (place, inside, let a = before.within_set place inside in let b = bit_le set place in omega arith, omega arith))
       (λ (not : d ≤ far). let old = before.reached (omega arith) in (old.0, old.1, old.2, let e = old.3 in omega arith))
       (cases_lt far d);
@@ -117,13 +133,6 @@ reads_all g s corner set rest reach far before none = record {
 }
 
 -- ---- tile by tile
-
-pub nothing_reached : (g : Grid) (s corner : Spot) (set reach : ℕ) → set ≡ 0 → IsReachedFrom g s corner set reach reach
-nothing_reached g s corner set reach none = record {
-  grows = omega arith;
-  within = λ p low is. absurd (let z = ap (λ w. bit w p) none ∙ bit_none p in omega arith);
-  reached = λ more. absurd (omega arith);
-}
 
 -- the sets that are no longer in the rest have been read
 pub record SetsRead (g : Grid) (s : Spot) (words rest : ℕ → ℕ) (reach : ℕ) : Type 0 where
@@ -200,40 +209,34 @@ sets_all {g} {s} {words} {rest} {reach} before none = record {
 
 -- ---- site by site
 
-spot_on : (g : Grid) (k p : ℕ) → is_site g k p ≡ true
-    → (row g (site_on g k p) ≡ row_at g k p) × (column g (site_on g k p) ≡ column_at g k p)
-unfolding is_site site_on
-spot_on g k p is =
-    let back = and_parts _ _ (and_parts _ _ is).1 in
-    let wide = ltb-true (column_at g k p) g.width back.1 in (
-      div-mul-add (row_at g k p) g.width (column_at g k p) wide,
-      mod-mul-add (row_at g k p) g.width (column_at g k p) wide,
-    )
-
 distance_on : (g : Grid) (site k p : ℕ) → is_site g k p ≡ true
     → distance g site (site_on g k p) ≡ distance_within g (spot_of g site) (corner_of g k) p
-unfolding distance
+unfolding distance is_site site_on
 distance_on g site k p is =
-    let spot = spot_on g k p is in
-    let x = column g site in
-    ap (λ c. cond (joins g.edge) (min (abs_diff x c) (g.width - abs_diff x c)) (abs_diff x c)
-    + abs_diff (row g site) (row g (site_on g k p))) spot.1
-    ∙ ap (λ r. cond (joins g.edge) (min (abs_diff x (column_at g k p)) (g.width - abs_diff x (column_at g k p)))
-    (abs_diff x (column_at g k p))
-    + abs_diff (row g site) r) spot.0
+    let wide = ltb-true (column_at g k p) g.width (and_parts _ _ (and_parts _ _ is).1).1 in
+    ap (λ x. distance_between g (spot_of g site) x (row g (site_on g k p)))
+    (mod-mul-add (row_at g k p) g.width (column_at g k p) wide)
+    ∙ ap (distance_between g (spot_of g site) (column_at g k p))
+    (div-mul-add (row_at g k p) g.width (column_at g k p) wide)
+
+distance_at : (g : Grid) (site j k p : ℕ) → j < sites g → tile_of g j ≡ k → place_of g j ≡ p
+    → distance g site j ≡ distance_within g (spot_of g site) (corner_of g k) p
+distance_at g site j k p l tile place =
+    let b = back_again g j l in
+    ap (distance g site) (sym b.1) ∙ distance_on g site (tile_of g j) (place_of g j) b.0
+    ∙ ap (λ i. distance_within g (spot_of g site) (corner_of g i) (place_of g j)) tile
+    ∙ ap (distance_within g (spot_of g site) (corner_of g k)) place
 
 -- a place is in the sets if and only if its site has toppled, so what is within reach of them is so for the sites
 pub all_within : (g : Grid) (site : ℕ) (v words : ℕ → ℕ) (reach : ℕ)
     → ((m p : ℕ) → p < 64 → bit (words m) p ≡ on_tiles g (λ j. one_if (ltb 0 (v j))) m p)
     → IsReachedIn g (spot_of g site) words reach → (j : ℕ) → j < sites g → 0 < v j → distance g site j ≤ reach
 all_within g site v words reach each in_sets j l some =
-    let back = back_again g j l in
     let marked = each (tile_of g j) (place_of g j) (place_below g j) in
     let at = at_on g (λ i. one_if (ltb 0 (v i))) j l in
     let one = ap one_if (lt-ltb 0 (v j) some) in
     let le = in_sets.within (tile_of g j) (place_of g j) (place_below g j) (omega arith) in
-    let there = distance_on g site (tile_of g j) (place_of g j) back.0 in
-    let same = ap (distance g site) back.1 in
+    let there = distance_at g site j _ _ l refl refl in
     omega arith
 
 pub some_reached : (g : Grid) (site : ℕ) (v words : ℕ → ℕ) (reach : ℕ)
@@ -243,20 +246,14 @@ some_reached g site v words reach each in_sets far =
     let one = in_sets.reached far in
     let m = one.0 in
     let p = one.1 in
-    let marked = each m p one.2 in
-    let has = one.3 in
-    let d = one.4 in
-    ⊎_elim
-    (λ (yes : is_site g m p ≡ true).
-    let on = on_site g (λ i. one_if (ltb 0 (v i))) m p yes in
-    let there = there_again g m p one.2 yes in
-    let some : 0 < v (site_on g m p) = ⊎_elim
-    (λ (is : 0 < v (site_on g m p)). is)
-    (λ (none : v (site_on g m p) ≤ 0). absurd (let z = ap one_if (le-ltb 0 (v (site_on g m p)) none) in omega arith))
-    (cases_lt 0 (v (site_on g m p))) in
-    (site_on g m p, there.0, some, distance_on g site m p yes ∙ d))
-    (λ (no : is_site g m p ≡ false). absurd (let off = off_site g (λ i. one_if (ltb 0 (v i))) m p no in omega arith))
-    (cases_Bool (is_site g m p))
+    on_place g m p (λ (r : (ℕ → ℕ) → ℕ). bit (words m) p ≡ r (λ i. one_if (ltb 0 (v i))) → IsReached g site v reach)
+    one.2
+    (λ j l tile place is. ⊎_elim
+    (λ (some : 0 < v j). (j, l, some, distance_at g site j m p l tile place ∙ one.4))
+    (λ (none : v j ≤ 0). absurd (let z = ap one_if (le-ltb 0 (v j) none) in let has = one.3 in omega arith))
+    (cases_lt 0 (v j)))
+    (λ no is. absurd (let has = one.3 in omega arith))
+    (each m p one.2)
 
 -- ---- the reach fits into 32 bits
 

@@ -2,7 +2,7 @@
 use Rattle.std.proofs.Common.{ℕ, Bool, true, false, cond, eqb, ltb, ◌&&◌, ◌≡◌, ◌+◌, ◌-◌, ◌*◌, ◌/◌, ◌%◌, ◌^◌, ◌<◌, ◌≤◌, refl, sym, ◌∙◌, ap, arith, ⊎_elim}
 use Rattle.std.specs.Prelude.{bit_and}
 use Rattle.std.specs.Int.{bit_at}
-use Rattle.std.proofs.lemmas.Bool.{cases_Bool, cases_eq, cases_lt, eq-eqb, ne_eqb, eqb-true, lt-ltb, le-ltb, and_parts, agree_below_at}
+use Rattle.std.proofs.lemmas.Bool.{cases_Bool, cases_eq, cases_lt, eq-eqb, ne_eqb, eqb-true, lt-ltb, le-ltb, and_parts, and_right, agree_below_at}
 use Rattle.std.proofs.lemmas.Nat.{mod-mul-add, div-add-mod', mod_below}
 use Rattle.sand_model.specs.Grid.{Grid, joins}
 use Rattle.sand_tiles.specs.Places.{bit}
@@ -11,10 +11,6 @@ use Rattle.sand_tiles.proofs.Moves.{bit_shr, bit_shl, bit_shl_low, bit_above, ma
 use Rattle.sand_fronts.specs.Tiling.{across, pitch, over_north, over_south, over_west, over_east, to_west, to_east, shift_west, shift_east, seam_west, seam_east}
 use Rattle.sand_fronts.specs.Waves.{only}
 use Rattle.sand_fronts.proofs.Waves.{only_same, only_other}
-
-and_no : (t b : Bool) → b ≡ false → (t && b) ≡ false
-and_no true b e = e
-and_no false b e = refl
 
 -- ---- the words that are handed over
 
@@ -166,7 +162,7 @@ west_then_east g m k im ik to =
     let is : k ≡ m - 1 = sym to ∙ ap (λ s. cond s (m + (across g - 1)) (m - 1)) away in
     let col : k % pitch g ≡ m % pitch g - 1 = ap (λ i. i % pitch g) is ∙ column_less g m 1 m1 (omega arith) in
     let away' : seam_east g k ≡ false =
-    and_no (joins g.edge) (eqb (k % pitch g) (across g)) (ne_eqb (k % pitch g) (across g) (λ e. omega arith)) in (
+    and_right _ _ (ne_eqb (k % pitch g) (across g) (λ e. omega arith)) in (
       sym (ap (λ s. cond s (k - (across g - 1)) (k + 1)) away' ∙ omega arith),
       ap (λ s. cond s ((g.width - 1) % 8) 7) away ∙ sym (ap (λ s. cond s ((g.width - 1) % 8) 7) away'),
     ))
@@ -193,7 +189,7 @@ east_then_west g m k im ik to =
     let is : k ≡ m + 1 = sym to ∙ ap (λ s. cond s (m - (across g - 1)) (m + 1)) away in
     let col : k % pitch g ≡ m % pitch g + 1 = ap (λ i. i % pitch g) is ∙ column_more g m 1 (omega arith) in
     let away' : seam_west g k ≡ false =
-    and_no (joins g.edge) (eqb (k % pitch g) 1) (ne_eqb (k % pitch g) 1 (λ e. omega arith)) in (
+    and_right _ _ (ne_eqb (k % pitch g) 1 (λ e. omega arith)) in (
       sym (ap (λ s. cond s (k + (across g - 1)) (k - 1)) away' ∙ omega arith),
       ap (λ s. cond s ((g.width - 1) % 8) 7) away ∙ sym (ap (λ s. cond s ((g.width - 1) % 8) 7) away'),
     ))

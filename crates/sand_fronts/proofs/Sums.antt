@@ -1,12 +1,28 @@
 -- A sum over all places of all tiles is the sum over all sites.
-use Rattle.std.proofs.Common.{ℕ, true, false, ◌≡◌, ◌*◌, ◌<◌, sym, ◌∙◌, ap, arith, ⊎_elim}
-use Rattle.std.proofs.lemmas.Bool.{cases_Bool}
+use Rattle.std.proofs.Common.{ℕ, ◌≡◌, ◌*◌, ◌<◌, ◌≤◌, sym, ◌∙◌, ap, arith}
 use Rattle.sand_model.specs.Grid.{Grid, sites}
-use Rattle.sand_model.specs.Sand.{sum_below, one_at}
-use Rattle.sand_model.proofs.SumsBelow.{sum_below_same, sum_below_swap, sum_below-one_at, sum_below-zero, one_at_comm}
-use Rattle.sand_fronts.specs.Tiling.{tiles, tile_of, place_of, is_site, site_on, on_tiles}
+use Rattle.sand_model.specs.Sand.{sum_below, flow, one_at}
+use Rattle.sand_model.proofs.SumsBelow.{sum_below_same, sum_below_le, sum_below_swap, sum_below-scale, sum_below-ones, sum_below-one_at, sum_below-zero, one_at_comm}
+use Rattle.sand_model.proofs.Flow.{flow_same, flow-scale}
+use Rattle.sand_fronts.specs.Tiling.{tiles, tile_of, place_of, on_tiles}
 use Rattle.sand_fronts.proofs.Boards.{tile_inside}
-use Rattle.sand_fronts.proofs.OnTiles.{place_below, there_again, on_site, off_site, own_place}
+use Rattle.sand_fronts.proofs.OnTiles.{place_below, on_each, own_place}
+
+pub sum_below_none : (n : ℕ) (f : ℕ → ℕ) → ((i : ℕ) → i < n → f i ≡ 0) → sum_below n f ≡ 0
+sum_below_none n f none = sum_below_same n f (λ i. 0) none ∙ sum_below-zero n
+
+pub sum_below_most : (n most : ℕ) (f : ℕ → ℕ) → ((i : ℕ) → i < n → f i ≤ most) → sum_below n f ≤ most * n
+sum_below_most n most f few =
+    let le = sum_below_le n f (λ i. most * 1) (λ i l. let a = few i l in omega arith) in
+    let scaled = sum_below-scale n most (λ i. 1) in
+    let ones = ap (λ x. most * x) (sum_below-ones n) in
+    omega arith
+
+pub flow_none : (g : Grid) (u : ℕ → ℕ) (j : ℕ) → ((i : ℕ) → i < sites g → u i ≡ 0) → j < sites g → flow g u j ≡ 0
+flow_none g u j none l =
+    let same = flow_same g u (λ i. 0 * u i) (λ i m. let z = none i m in omega arith) j l in
+    let scale = flow-scale g 0 u j in
+    omega arith
 
 -- v of the site j at its own place, and 0 at each other
 here : Grid → (ℕ → ℕ) → ℕ → ℕ → ℕ → ℕ
@@ -38,17 +54,11 @@ one_site g v k p low =
     let t : v j * one_at (place_of g j) p * one_at (tile_of g j) k
     ≡ v j * (one_at (tile_of g j) k * one_at (place_of g j) p) = grind arith in
     t ∙ sym e)
-    ∙ ⊎_elim
-    (λ (is : is_site g k p ≡ true).
-    let s = site_on g k p in
-    sum_below_same (sites g) (λ j. v j * on_tiles g (one_at j) k p) (λ j. v j * one_at s j)
-    (λ j l. ap (λ x. v j * x) (on_site g (one_at j) k p is ∙ one_at_comm j s))
-    ∙ sum_below-one_at (sites g) s v (there_again g k p low is).0 ∙ sym (on_site g v k p is))
-    (λ (not : is_site g k p ≡ false).
-    sum_below_same (sites g) (λ j. v j * on_tiles g (one_at j) k p) (λ j. 0)
-    (λ j l. ap (λ x. v j * x) (off_site g (one_at j) k p not) ∙ omega arith)
-    ∙ sum_below-zero (sites g) ∙ sym (off_site g v k p not))
-    (cases_Bool (is_site g k p))
+    ∙ on_each g k p (λ (r : (ℕ → ℕ) → ℕ). sum_below (sites g) (λ j. v j * r (one_at j)) ≡ r v) low
+    (λ s l. sum_below_same (sites g) (λ j. v j * one_at j s) (λ j. v j * one_at s j)
+    (λ j m. ap (λ x. v j * x) (one_at_comm j s))
+    ∙ sum_below-one_at (sites g) s v l)
+    (sum_below_none (sites g) (λ j. v j * 0) (λ j l. omega arith))
 
 pub sum_on_tiles : (g : Grid) (v : ℕ → ℕ)
     → sum_below (tiles g) (λ k. sum_below 64 (λ p. on_tiles g v k p)) ≡ sum_below (sites g) v

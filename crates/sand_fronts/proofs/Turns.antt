@@ -1,7 +1,7 @@
 -- The turns of a wave: each waiting tile is visited.
 use Rattle.std.proofs.Common.{ℕ, Bool, true, false, eqb, ltb, cond, not, ◌&&◌, inl, inr, ◌⊎◌, List, [], ◌∷◌, ◌≡◌, ◌≢◌, ◌+◌, ◌-◌, ◌*◌, ◌%◌, ◌^◌, ◌<◌, ◌≤◌, length, drop, get_or, add-one, drop-cons, true≢false, refl, sym, ◌∙◌, ap, subst, arith, ⊎_elim}
 use Rattle.std.specs.Int.{bit_at, w64, trailing_zeros}
-use Rattle.std.proofs.lemmas.Bool.{cases_eq, cases_lt, ltb-true, ltb-false, eqb-false, eq-eqb, ne_eqb, and_parts, not-true}
+use Rattle.std.proofs.lemmas.Bool.{cases_eq, cases_lt, ltb-true, ltb-false, eqb-false, eq-eqb, ne_eqb, and_parts, and_right, not-true}
 use Rattle.std.proofs.Math.ListN.{set, get_or-eq_default}
 use Rattle.std.proofs.lemmas.List.{length-set, get_or-set_same, get_or-set_other}
 use Rattle.std.proofs.lemmas.Nat.Bits.{bit_at-trailing_zeros}
@@ -12,18 +12,18 @@ use Rattle.sand_model.proofs.Lists.{lists_pop, lists_same, lists_from, none_pass
 use Rattle.sand_model.proofs.SumsBelow.{sum_below_same, sum_below-add, one_at_same, one_at_other}
 use Rattle.sand_model.proofs.Bounds.{at_most_sum_below, at_most_all}
 use Rattle.sand_tiles.specs.declared.tile.Tile.{Tile}
-use Rattle.sand_tiles.specs.Places.{bit}
+use Rattle.sand_tiles.specs.Places.{bit, Visits}
 use Rattle.sand_tiles.proofs.Bits.{bit_le, bit_none}
 use Rattle.sand_tiles.proofs.Moves.{cut}
 use Rattle.sand_fronts.specs.declared.sides.Beside.{Beside}
 use Rattle.sand_fronts.specs.Tiling.{tile_of, place_of, site_on, on_tiles}
-use Rattle.sand_fronts.specs.Waves.{at_site, toppled, only, put, tile_at, AreOpen, AreDueFree, IsNoneDue, IsWave, Spreads, Visited, Steps, PairSteps, IsBeside, AtTile, AreBeside, beside_at, AreAtRest, heights_before}
+use Rattle.sand_fronts.specs.Waves.{at_site, toppled, only, put, tile_at, AreOpen, AreDueFree, IsNoneDue, IsWave, Gains, over_rim, Steps, PairSteps, IsBeside, AtTile, AreBeside, beside_at, AreAtRest, heights_before}
 use Rattle.sand_fronts.specs.TileLists.{waits, but, IsClear, AreListed}
-use Rattle.sand_fronts.proofs.OnTiles.{place_below, there_again, on_tiles_le, on_nothing, at_on}
-use Rattle.sand_fronts.proofs.Waves.{only_same, open_site, next_one, next_two, wave_step}
+use Rattle.sand_fronts.proofs.OnTiles.{place_below, there_again, at_on, on_below, height_low}
+use Rattle.sand_fronts.proofs.Waves.{only_same, open_site, free_at, IsStart, IsUnderWay, none_away, handed_over}
 use Rattle.sand_fronts.proofs.Rims.{IsInner}
-use Rattle.sand_fronts.proofs.Steps.{inner, spreads_one, spreads_two}
-use Rattle.sand_fronts.proofs.Ends.{wave_begins}
+use Rattle.sand_fronts.proofs.Steps.{inner, visited_wave}
+use Rattle.sand_fronts.proofs.Ends.{first_wave}
 use Rattle.sand_fronts.proofs.Gained.{blank, no_place}
 
 bit_is : (a p : ℕ) → bit_at a p ≡ 1 → bit a p ≡ 1
@@ -54,127 +54,140 @@ due_site g site free τ k open' due_free wait =
 pub starts_none : (g : Grid) (site k p : ℕ) → p < 64 → bit 0 p ≡ on_tiles g (λ j. 0 * one_at site j) k p
 starts_none g site k p low =
     let z = bit_none p in
-    let le = on_tiles_le g (λ j. 0 * one_at site j) (λ j. 0) k p low (λ j l. omega arith) in
-    let n = on_nothing g k p in
+    let n = on_below g (λ j. 0 * one_at site j) k p 0 low (λ j l. omega arith) in
     omega arith
 
 inner_at : {g : Grid} {site : ℕ} {τ : ℕ → Tile} {k j : ℕ} → IsDueSite g site τ k j → IsInner g k
 inner_at {g} {site} {τ} {k} {j} due = let P : ℕ → Type 0 = λ m. IsInner g m in subst P due.here (inner g j due.inside)
 
 -- a site that is due topples when its tile is visited
-due_topples : {g : Grid} {site : ℕ} (free : ℕ → ℕ) {τ : ℕ → Tile} {k j : ℕ} → AreOpen g site free → IsDueSite g site τ k j
-    → (v : Visited (τ k) (free k) 0) → at_site g (only k (bit v.new)) j ≡ 1
-due_topples {g} {site} free {τ} {k} {j} open' due v =
+due_topples : {g : Grid} {site : ℕ} {h free : ℕ → ℕ} {τ : ℕ → Tile} {t : Tile} {k j new : ℕ} → IsStart g site h free
+    → IsDueSite g site τ k j → Visits (τ k) t (free k) 0 new → at_site g (only k (bit new)) j ≡ 1
+due_topples {g} {site} {h} {free} {τ} {t} {k} {j} {new} from due visits =
     let p = place_of g j in
     let low = place_below g j in
-    let o = open' k p low in
-    let a = at_on g (λ i. 1 - one_at site i) j due.inside in
-    let a' = ap (λ m. on_tiles g (λ i. 1 - one_at site i) m p) due.here in
-    let z = one_at_other site j (λ e. due.other (sym e)) in
-    let at = v.visits.at_open p low (omega arith) in
-    let once = v.visits.once p low in
-    let none = ap (λ x. bit x p) v.visits.none_due ∙ bit_none p in
-    let l = bit_le v.tile.low p in
-    let u = bit_le v.tile.high p in
+    let f = ap (λ m. bit (free m) p) (sym due.here) ∙ free_at from j due.inside due.other in
+    let at = visits.at_open p low f in
+    let once = visits.once p low in
+    let none = ap (λ x. bit x p) visits.none_due ∙ bit_none p in
+    let l = height_low t p in
     let d = due.due in
-    let few = bit_le v.new p in
-    only_same k (tile_of g j) (bit v.new) p due.here ∙ omega arith
+    let few = bit_le new p in
+    only_same k (tile_of g j) (bit new) p due.here ∙ omega arith
 
--- no site has toppled twice, and the sets are all that has toppled since
-still_started : {g : Grid} {site : ℕ} {τ σ : ℕ → Tile} {new : ℕ → ℕ → ℕ} → Spreads g site new τ σ → toppled g τ site ≡ 1
-    → toppled g σ site ≡ 1
-still_started {g} {site} {τ} {σ} {new} spreads started =
-    let sum = spreads.once (tile_of g site) (place_of g site) (place_below g site) in
-    let few = bit_le (σ (tile_of g site)).wave (place_of g site) in
-    omega arith
+-- the dropped site has toppled, and at least n sites have; grains are under way
+record IsTurn (g : Grid) (site : ℕ) (h : ℕ → ℕ) (τ : ℕ → Tile) (away : ℕ → ℕ → ℕ) (n : ℕ) : Type 0 where
+  pub wave : IsUnderWay g site h τ away
+  pub started : toppled g τ site ≡ 1
+  pub count : n ≤ topplings g (toppled g τ)
 
-all_toppled : {g : Grid} {site : ℕ} {τ σ : ℕ → Tile} {new : ℕ → ℕ → ℕ} → Spreads g site new τ σ
-    → topplings g (toppled g σ) ≡ topplings g (toppled g τ) + topplings g (at_site g new)
-all_toppled {g} {site} {τ} {σ} {new} spreads =
-    sum_below_same (sites g) (toppled g σ) (λ i. toppled g τ i + at_site g new i)
-    (λ i m. spreads.once (tile_of g i) (place_of g i) (place_below g i))
-    ∙ sum_below-add (sites g) (toppled g τ) (at_site g new)
+-- a waiting tile is visited: at least one more site has toppled
+turn_visit : {g : Grid} {site : ℕ} {h free : ℕ → ℕ} {τ : ℕ → Tile} {away : ℕ → ℕ → ℕ} {n j k new : ℕ} {t : Tile} {b : Beside}
+    (more : ℕ → ℕ → ℕ) → IsStart g site h free → IsTurn g site h τ away n → IsDueSite g site τ k j → IsBeside g k b
+    → Visits (τ k) t (free k) 0 new → new < 2 ^ 64 → ((m p : ℕ) → more m p ≡ away m p + over_rim b new m p)
+    → IsTurn g site h (put k t τ) more (n + 1)
+turn_visit {g} {site} {h} {free} {τ} {away} {n} {j} {k} {new} {t} {b} more from turn due beside visits fits sums =
+    let started = turn.started in
+    let next = visited_wave 0 more from turn.wave (starts_none g site k) (omega arith) (inner_at due) beside visits fits sums in
+    let all = sum_below_same (sites g) (toppled g (put k t τ)) (λ i. toppled g τ i + at_site g (only k (bit new)) i)
+    (λ i m. next.1 i) ∙ sum_below-add (sites g) (toppled g τ) (at_site g (only k (bit new))) in
+    let one = due_topples from due visits in
+    let part = at_most_sum_below (sites g) (at_site g (only k (bit new))) j due.inside in
+    let count = turn.count in
+    let once = next.1 site in
+    let few = bit_le (put k t τ (tile_of g site)).wave (place_of g site) in
+    record { wave = next.0; started = omega arith; count = omega arith }
+
+-- the grains under way arrive, and the wave goes on
+pub record IsOn (g : Grid) (site : ℕ) (h : ℕ → ℕ) (τ : ℕ → Tile) (n : ℕ) : Type 0 where
+  pub wave : IsWave g site h τ
+  pub started : toppled g τ site ≡ 1
+  pub count : n ≤ topplings g (toppled g τ)
+
+turn_begins : {g : Grid} {site : ℕ} {h : ℕ → ℕ} {τ : ℕ → Tile} {n : ℕ} → IsOn g site h τ n → IsTurn g site h τ (λ m p. 0) n
+turn_begins on = record { wave = none_away on.wave; started = on.started; count = on.count }
+
+turn_over : {g : Grid} {site : ℕ} {h free : ℕ → ℕ} {τ σ : ℕ → Tile} {away : ℕ → ℕ → ℕ} {n : ℕ}
+    → IsStart g site h free → IsTurn g site h τ away n → Gains free τ σ away → IsOn g site h σ n
+turn_over {g} {site} {h} {free} {τ} {σ} {away} {n} from turn gains =
+    let same : (j : ℕ) → toppled g σ j ≡ toppled g τ j =
+    λ j. gains.wave (tile_of g j) (place_of g j) (place_below g j) in
+    let all = sum_below_same (sites g) (toppled g σ) (toppled g τ) (λ j l. same j) in
+    let count = turn.count in
+    record { wave = handed_over from turn.wave gains; started = same site ∙ turn.started; count = omega arith }
 
 -- one more turn: the wave goes on, and at least one more site has toppled
-pub turn_more : {g : Grid} {site : ℕ} {h : ℕ → ℕ} (free : ℕ → ℕ) {τ σ : ℕ → Tile} {k j : ℕ} {b : Beside}
-    → AreOpen g site free → IsWave g site h τ → site < sites g
-    → ((i : ℕ) → i < sites g → i ≢ site → h i ≤ 3) → 4 ≤ h site
-    → toppled g τ site ≡ 1 → IsDueSite g site τ k j
-    → IsBeside g k b → Steps τ σ free b k 0
-    → (IsWave g site h σ) × (toppled g σ site ≡ 1) × (topplings g (toppled g τ) + 1 ≤ topplings g (toppled g σ))
-turn_more {g} {site} {h} free {τ} {σ} {k} {j} {b} open' wave inside low high started due beside steps =
+pub turn_more : {g : Grid} {site : ℕ} {h free : ℕ → ℕ} {τ σ : ℕ → Tile} {k j n : ℕ} {b : Beside}
+    → IsStart g site h free → IsOn g site h τ n → IsDueSite g site τ k j → IsBeside g k b → Steps τ σ free b k 0
+    → IsOn g site h σ (n + 1)
+turn_more {g} {site} {h} {free} {τ} {σ} {k} {j} {n} {b} from on due beside steps =
     let v = steps.visited in
-    let next = next_one free 0 open' wave inside high (starts_none g site k) (omega arith) v in
-    let spreads = spreads_one free open' inside (inner_at due) beside steps next in
-    let all = all_toppled spreads in
-    let one = due_topples free open' due v in
-    let part = at_most_sum_below (sites g) (at_site g (only k (bit v.new))) j due.inside in
-    (wave_step wave inside low next spreads, still_started spreads started, omega arith)
+    turn_over from (turn_visit (over_rim b v.new) from (turn_begins on) due beside v.visits v.fits (λ m p. omega arith))
+    steps.gains
 
--- two tiles at once: at least two more sites have toppled
-pub turn_pair : {g : Grid} {site : ℕ} {h : ℕ → ℕ} (free : ℕ → ℕ) {τ σ : ℕ → Tile} {j k i i' : ℕ} {b c : Beside}
-    → AreOpen g site free → IsWave g site h τ → site < sites g
-    → ((i : ℕ) → i < sites g → i ≢ site → h i ≤ 3) → 4 ≤ h site
-    → toppled g τ site ≡ 1 → j ≢ k → IsDueSite g site τ j i → IsDueSite g site τ k i'
-    → IsBeside g j b → IsBeside g k c → PairSteps τ σ free b c j k
-    → (IsWave g site h σ) × (toppled g σ site ≡ 1) × (topplings g (toppled g τ) + 2 ≤ topplings g (toppled g σ))
-turn_pair {g} {site} {h} free {τ} {σ} {j} {k} {i} {i'} {b} {c} open' wave inside low high started ne due due' beside beside' steps =
-    let x : ℕ → ℕ → ℕ = only j (bit steps.one.new) in
-    let y : ℕ → ℕ → ℕ = only k (bit steps.two.new) in
-    let next = next_one free 0 open' wave inside high (starts_none g site j) (omega arith) steps.one in
-    let next' = next_one free 0 open' wave inside high (starts_none g site k) (omega arith) steps.two in
-    let spreads =
-    spreads_two free open' inside ne (inner_at due) (inner_at due') beside beside' steps next next' in
-    let all = all_toppled spreads in
-    let both = sum_below-add (sites g) (at_site g x) (at_site g y) in
-    let one = due_topples free open' due steps.one in
-    let one' = due_topples free open' due' steps.two in
-    let part = at_most_sum_below (sites g) (at_site g x) i due.inside in
-    let part' = at_most_sum_below (sites g) (at_site g y) i' due'.inside in
-    (wave_step wave inside low (next_two (bit steps.one.new) (bit steps.two.new) ne next next') spreads, still_started spreads started, omega arith)
+-- two tiles at once: the second one is visited while the grains of the first are under way
+pub turn_pair : {g : Grid} {site : ℕ} {h free : ℕ → ℕ} {τ σ : ℕ → Tile} {j k i i' n : ℕ} {b c : Beside}
+    → IsStart g site h free → IsOn g site h τ n → j ≢ k → IsDueSite g site τ j i → IsDueSite g site τ k i'
+    → IsBeside g j b → IsBeside g k c → PairSteps τ σ free b c j k → IsOn g site h σ (n + 2)
+turn_pair {g} {site} {h} {free} {τ} {σ} {j} {k} {i} {i'} {n} {b} {c} from on ne due due' beside beside' steps =
+    let one = steps.one in
+    let two = steps.two in
+    let mid : ℕ → Tile = put j one.tile τ in
+    let same : ◌≡◌ {A = Tile} (τ k) (mid k) = sym (ap (λ d. cond d one.tile (τ k)) (ne_eqb k j (λ e. ne (sym e)))) in
+    let first = turn_visit (over_rim b one.new) from (turn_begins on) due beside one.visits one.fits (λ m p. omega arith) in
+    let still : IsDueSite g site mid k i' = record {
+      inside = due'.inside;
+      other = due'.other;
+      here = due'.here;
+      due = ap (λ (x : Tile). bit x.due (place_of g i')) (sym same) ∙ due'.due;
+    } in
+    let visits = subst (λ (x : Tile). Visits x two.tile (free k) 0 two.new) same two.visits in
+    let last = turn_over from (turn_visit (λ m p. over_rim b one.new m p + over_rim c two.new m p) from first still beside'
+    visits two.fits (λ m p. refl)) steps.gains in
+    let count = last.count in
+    record { wave = last.wave; started = last.started; count = omega arith }
 
 pub clear_site : (g : Grid) (site : ℕ) (τ : ℕ → Tile) → AreAtRest g site τ → toppled g τ site ≡ 0
-clear_site g site τ rest = rest.clear (tile_of g site) (place_of g site) (place_below g site)
+clear_site g site τ rest = rest.quiet.clear (tile_of g site) (place_of g site) (place_below g site)
 
 pub first_low : (g : Grid) (site : ℕ) (τ : ℕ → Tile) (j : ℕ) → j < sites g → j ≢ site → heights_before g site τ j ≤ 3
 first_low g site τ j l ne =
     let o = one_at_other site j (λ e. ne (sym e)) in
-    let a = bit_le (τ (tile_of g j)).low (place_of g j) in
-    let b = bit_le (τ (tile_of g j)).high (place_of g j) in
+    let a = height_low (τ (tile_of g j)) (place_of g j) in
     omega arith
 
-pub first_wave : (g : Grid) (site : ℕ) (τ : ℕ → Tile) → AreAtRest g site τ → site < sites g
-    → IsWave g site (heights_before g site τ) τ
-first_wave g site τ rest inside = wave_begins g site (heights_before g site τ) τ inside rest.clear
-    (λ j l ne. let o = one_at_other site j (λ e. ne (sym e)) in (omega arith, rest.none_due (tile_of g j) (place_of g j) (place_below g j)))
-    (let o = one_at_same site in omega arith)
+pub wave_start : {g : Grid} {site : ℕ} (free : ℕ → ℕ) (τ : ℕ → Tile) → AreOpen g site free → site < sites g
+    → IsStart g site (heights_before g site τ) free
+wave_start {g} {site} free τ open' inside = record {
+  inside = inside;
+  low = first_low g site τ;
+  high = let o = one_at_same site in omega arith;
+  all_open = open';
+}
 
-pub turn_first : {g : Grid} {site : ℕ} (free : ℕ → ℕ) {τ σ : ℕ → Tile} {k start : ℕ} {b : Beside}
-    → AreOpen g site free → AreAtRest g site τ → site < sites g
-    → k ≡ tile_of g site
+pub turn_first : {g : Grid} {site : ℕ} {free : ℕ → ℕ} {τ σ : ℕ → Tile} {k start : ℕ} {b : Beside}
+    → IsStart g site (heights_before g site τ) free → AreAtRest g site τ → k ≡ tile_of g site
     → ((p : ℕ) → p < 64 → bit start p ≡ on_tiles g (λ j. 1 * one_at site j) k p)
-    → IsBeside g k b → Steps τ σ free b k start
-    → (IsWave g site (heights_before g site τ) σ) × (toppled g σ site ≡ 1) × (1 ≤ topplings g (toppled g σ))
-turn_first {g} {site} free {τ} {σ} {k} {start} {b} open' rest inside here begins beside steps =
+    → IsBeside g k b → Steps τ σ free b k start → IsOn g site (heights_before g site τ) σ 1
+turn_first {g} {site} {free} {τ} {σ} {k} {start} {b} from rest here begins beside steps =
     let v = steps.visited in
-    let wave = first_wave g site τ rest inside in
-    let high : 4 ≤ heights_before g site τ site = let o = one_at_same site in omega arith in
+    let inside = from.inside in
     let clear = clear_site g site τ rest in
-    let ik : IsInner g k = let P : ℕ → Type 0 = λ m. IsInner g m in subst P (sym here) (inner g site inside) in
-    let next = next_one free 1 open' wave inside high begins (omega arith) v in
-    let spreads = spreads_one free open' inside ik beside steps next in
+    let ik : IsInner g k = subst (IsInner g) (sym here) (inner g site inside) in
+    let next = visited_wave 1 (over_rim b v.new) from (none_away (first_wave g site τ rest inside)) begins (omega arith) ik
+    beside v.visits v.fits (λ m p. omega arith) in
     let p = place_of g site in
     let lp = place_below g site in
-    let o = open' k p lp in
+    let o = from.all_open k p lp in
     let a = ap (λ m. on_tiles g (λ i. 1 - one_at site i) m p) here ∙ at_on g (λ i. 1 - one_at site i) site inside in
     let s = one_at_same site in
     let st = begins p lp in
     let st' = ap (λ m. on_tiles g (λ i. 1 * one_at site i) m p) here ∙ at_on g (λ i. 1 * one_at site i) site inside in
     let held = v.visits.at_held p lp (omega arith) in
     let n = only_same k (tile_of g site) (bit v.new) p (sym here) in
-    let sum = spreads.once (tile_of g site) p lp in
-    let part = at_most_sum_below (sites g) (toppled g σ) site inside in
-    (wave_step wave inside (first_low g site τ) next spreads, omega arith, omega arith)
+    let sum = next.1 site in
+    let part = at_most_sum_below (sites g) (toppled g (put k v.tile τ)) site inside in
+    turn_over from (record { wave = next.0; started = omega arith; count = omega arith }) steps.gains
 
 pub front_of : (n turn k : ℕ) (p : ℕ → Bool) (list : List ℕ)
     → Lists n p (drop turn list) → turn < length list → k ≡ get_or list turn 0
@@ -207,15 +220,11 @@ front_two n turn j k p list all less is is' =
       subst P (let e : turn + 1 + 1 ≡ turn + 2 = omega arith in e) last,
     )
 
-and_none : (a b : Bool) → b ≡ false → (a && b) ≡ false
-and_none true b e = e
-and_none false b e = refl
-
 -- before the first turn no tile waits
 pub none_wait : (n k : ℕ) (τ : ℕ → Tile) → IsNoneDue τ → Lists n (but k (waits τ)) []
 none_wait n k τ none =
     lists_same n (λ j. false) (but k (waits τ)) []
-    (λ j l. sym (and_none (not (eqb j k)) (waits τ j) (ap (ltb 0) (no_place (τ j).due (none j)))))
+    (λ j l. sym (and_right _ _ (ap (ltb 0) (no_place (τ j).due (none j)))))
     (lists_from n (λ j. false) [] (λ j l. refl) (λ j l. refl))
 
 pub rest_due_free : (τ : ℕ → Tile) (free : ℕ → ℕ) → IsNoneDue τ → AreDueFree free τ
@@ -337,31 +346,19 @@ kept_on {n} τ σ before after kept all same each =
       on_board = λ t below. let s = same t below in let b = all.on_board t below in omega arith;
     }
 
-pub turn_kept : {n : ℕ} {τ σ : ℕ → Tile} {free : ℕ → ℕ} {k start : ℕ} {b : Beside} (before after : List ℕ) (kept : ℕ)
-    → AreKept n before kept τ → Keeps before kept k → Steps τ σ free b k start
-    → ((t : ℕ) → t < kept → get_or after t 0 ≡ get_or before t 0) → AreKept n after kept σ
-turn_kept {n} {τ} {σ} {free} {k} {start} {b} before after kept all here steps same =
-    kept_on τ σ before after kept all same (λ m. ⊎_elim
+-- a tile of the list is visited
+pub visit_kept : {n : ℕ} {τ : ℕ → Tile} {list : List ℕ} {kept : ℕ} (k : ℕ) (t : Tile) → AreKept n list kept τ → Keeps list kept k
+    → AreKept n list kept (put k t τ)
+visit_kept {n} {τ} {list} {kept} k t all here = kept_on τ (put k t τ) list list kept all (λ i below. refl) (λ m. ⊎_elim
     (λ (e : m ≡ k). inr (here.0, here.1, here.2, here.3 ∙ sym e))
-    (λ (ne : m ≡ k → ⊥). inl (λ p low. steps.gains.wave m p low
-    ∙ ap (λ (t : Tile). bit t.wave p) (ap (λ c. cond c steps.visited.tile (τ m)) (ne_eqb m k ne))))
+    (λ (ne : m ≡ k → ⊥). inl (λ p low. ap (λ (t : Tile). bit t.wave p) (ap (λ c. cond c t (τ m)) (ne_eqb m k ne))))
     (cases_eq m k))
 
-pub pair_kept : {n : ℕ} {τ σ : ℕ → Tile} {free : ℕ → ℕ} {j k : ℕ} {b c : Beside} (before after : List ℕ) (kept : ℕ)
-    → AreKept n before kept τ → Keeps before kept j → Keeps before kept k → PairSteps τ σ free b c j k
+pub gains_kept : {n : ℕ} {τ σ : ℕ → Tile} {free : ℕ → ℕ} {gain : ℕ → ℕ → ℕ} (before after : List ℕ) (kept : ℕ)
+    → AreKept n before kept τ → Gains free τ σ gain
     → ((t : ℕ) → t < kept → get_or after t 0 ≡ get_or before t 0) → AreKept n after kept σ
-pair_kept {n} {τ} {σ} {free} {j} {k} {b} {c} before after kept all here there steps same =
-    let one : Tile = steps.one.tile in
-    let two : Tile = steps.two.tile in
-    kept_on τ σ before after kept all same (λ m. ⊎_elim
-    (λ (e : m ≡ j). inr (here.0, here.1, here.2, here.3 ∙ sym e))
-    (λ (ne : m ≡ j → ⊥). ⊎_elim
-    (λ (e : m ≡ k). inr (there.0, there.1, there.2, there.3 ∙ sym e))
-    (λ (ne' : m ≡ k → ⊥). inl (λ p low. steps.gains.wave m p low
-    ∙ ap (λ (t : Tile). bit t.wave p) (ap (λ d. cond d two (cond (eqb m j) one (τ m))) (ne_eqb m k ne'))
-    ∙ ap (λ (t : Tile). bit t.wave p) (ap (λ d. cond d one (τ m)) (ne_eqb m j ne))))
-    (cases_eq m k))
-    (cases_eq m j))
+gains_kept {n} {τ} {σ} {free} {gain} before after kept all gains same =
+    kept_on τ σ before after kept all same (λ m. inl (λ p low. gains.wave m p low))
 
 -- no site of the tile has toppled yet, so its word is 0
 pub is_first : (t : Tile) → t.wave < 2 ^ 64 → IsClear t → eqb t.wave 0 ≡ true

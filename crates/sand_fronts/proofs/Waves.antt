@@ -1,5 +1,5 @@
 -- One step of a wave: a tile is visited, and the grains of its topplings reach all neighbours.
-use Rattle.std.proofs.Common.{ℕ, true, false, cond, ◌≡◌, ◌≢◌, ◌+◌, ◌-◌, ◌*◌, ◌<◌, ◌≤◌, sym, ◌∙◌, ap, arith, ⊎_elim}
+use Rattle.std.proofs.Common.{ℕ, true, false, cond, ◌≡◌, ◌≢◌, ◌+◌, ◌-◌, ◌*◌, ◌%◌, ◌<◌, ◌≤◌, refl, sym, ◌∙◌, ap, arith, ⊎_elim}
 use Rattle.std.proofs.lemmas.Bool.{cases_Bool, cases_eq, eq-eqb, ne_eqb}
 use Rattle.sand_model.specs.Grid.{Grid, sites}
 use Rattle.sand_model.specs.Sand.{Stabilises, flow, one_at}
@@ -7,13 +7,13 @@ use Rattle.sand_model.proofs.Flow.{flow_le, flow_same, flow-add}
 use Rattle.sand_model.proofs.Sandpile.{flow_ones, least_action}
 use Rattle.sand_model.proofs.SumsBelow.{one_at_same, one_at_other}
 use Rattle.sand_tiles.specs.declared.tile.Tile.{Tile}
-use Rattle.sand_tiles.specs.Places.{bit, had, around, unused, IsReady, Calms}
+use Rattle.sand_tiles.specs.Places.{bit, height, had, around, unused, IsReady, Calms, Visits}
 use Rattle.sand_tiles.proofs.Bits.{bit_le}
 use Rattle.sand_tiles.proofs.Around.{around_le}
 use Rattle.sand_fronts.specs.Tiling.{tile_of, place_of, is_site, site_on, on_tiles}
-use Rattle.sand_fronts.specs.Waves.{at_site, toppled, only, AreOpen, IsWave, Spreads, Visited}
+use Rattle.sand_fronts.specs.Waves.{at_site, toppled, only, AreOpen, IsWave, Gains}
 use Rattle.sand_fronts.proofs.NeighboursOnTiles.{flow_on_tiles}
-use Rattle.sand_fronts.proofs.OnTiles.{place_below, there_again, at_on, on_tiles_blank, on_tiles_le, on_tiles_is, on_sum, on_site, off_site}
+use Rattle.sand_fronts.proofs.OnTiles.{place_below, there_again, at_on, on_tiles_blank, on_tiles_le, on_tiles_is, on_site, off_site, on_each}
 
 pub only_same : (k m : ℕ) (f : ℕ → ℕ) (p : ℕ) → m ≡ k → only k f m p ≡ f p
 unfolding only
@@ -33,6 +33,37 @@ around_some g v j l =
     let same = flow_same g (at_site g (on_tiles g v)) v (λ i m. at_on g v i m) j l in
     omega arith
 
+-- what each wave of a drop begins with: the heights h, of which the dropped site has 4, and all other sites free
+pub record IsStart (g : Grid) (site : ℕ) (h : ℕ → ℕ) (free : ℕ → ℕ) : Type 0 where
+  pub inside : site < sites g
+  pub low : (j : ℕ) → j < sites g → j ≢ site → h j ≤ 3
+  pub high : 4 ≤ h site
+  pub all_open : AreOpen g site free
+
+-- the state of a wave of which grains are under way, by the tile and the place that they reach
+pub record IsUnderWay (g : Grid) (site : ℕ) (h : ℕ → ℕ) (τ : ℕ → Tile) (away : ℕ → ℕ → ℕ) : Type 0 where
+  pub inside : (k p : ℕ) → p < 64 → bit (τ k).wave p ≡ on_tiles g (toppled g τ) k p
+  pub at_open : (j : ℕ) → j < sites g → j ≢ site
+      → had (τ (tile_of g j)) (place_of g j) + away (tile_of g j) (place_of g j) ≡ h j + flow g (toppled g τ) j
+  pub at_held : (height (τ (tile_of g site)) (place_of g site) + away (tile_of g site) (place_of g site)) % 4
+      ≡ (h site + flow g (toppled g τ) site) % 4
+  pub needed : (w : ℕ → ℕ) → Stabilises g h w → (j : ℕ) → j < sites g → toppled g τ j ≤ w j
+
+pub none_away : {g : Grid} {site : ℕ} {h : ℕ → ℕ} {τ : ℕ → Tile} → IsWave g site h τ
+    → IsUnderWay g site h τ (λ m p. 0)
+none_away {g} {site} {h} {τ} wave = record {
+  inside = wave.inside;
+  at_open = λ j l ne. let at = wave.at_open j l ne in omega arith;
+  at_held = let at = wave.at_held in omega arith;
+  needed = wave.needed;
+}
+
+pub free_at : {g : Grid} {site : ℕ} {h free : ℕ → ℕ} → IsStart g site h free → (j : ℕ) → j < sites g → j ≢ site
+    → bit (free (tile_of g j)) (place_of g j) ≡ 1
+free_at {g} {site} {h} {free} from j l ne =
+    let z = one_at_other site j (λ e. ne (sym e)) in
+    from.all_open (tile_of g j) (place_of g j) (place_below g j) ∙ at_on g (λ i. 1 - one_at site i) j l ∙ omega arith
+
 -- a free place is a site that is not held
 pub open_site : (g : Grid) (site : ℕ) (free : ℕ → ℕ) (k p : ℕ) → AreOpen g site free → p < 64 → bit (free k) p ≡ 1
     → (is_site g k p ≡ true) × (site_on g k p ≢ site)
@@ -49,30 +80,19 @@ set_is : (g : Grid) (τ : ℕ → Tile) (j : ℕ) → toppled g τ j ≤ 1
 set_is g τ j = bit_le _ _
 
 -- a tile is ready for a visit
-pub wave_ready : {g : Grid} {site : ℕ} {h : ℕ → ℕ} (free : ℕ → ℕ) {τ : ℕ → Tile} (k start s : ℕ)
-    → AreOpen g site free → IsWave g site h τ → site < sites g
-    → ((j : ℕ) → j < sites g → j ≢ site → h j ≤ 3)
+pub wave_ready : {g : Grid} {site : ℕ} {h free : ℕ → ℕ} {τ : ℕ → Tile} (k start s : ℕ)
+    → IsStart g site h free → IsWave g site h τ
     → ((p : ℕ) → p < 64 → bit start p ≡ on_tiles g (λ j. s * one_at site j) k p) → toppled g τ site + s ≤ 1
     → IsReady (τ k) (free k) start
-wave_ready {g} {site} {h} free {τ} k start s open' wave inside low begins first =
+wave_ready {g} {site} {h} {free} {τ} k start s from wave begins first =
+    let open' = from.all_open in
     let unused_le : (q : ℕ) → q < 64 → unused (free k) start (τ k).wave q ≤ on_tiles g (λ j. 1 - toppled g τ j) k q =
     λ q l.
-    let o = open' k q l in let b = begins q l in let i = wave.inside k q l in
-    ⊎_elim
-    (λ (yes : is_site g k q ≡ true).
-    let o1 = on_site g (λ j. 1 - one_at site j) k q yes in
-    let b1 = on_site g (λ j. s * one_at site j) k q yes in
-    let i1 = on_site g (toppled g τ) k q yes in
-    let r = on_site g (λ j. 1 - toppled g τ j) k q yes in
     let f = bit_le (free k) q in
     let st = bit_le start q in
-    let z = bit_le (τ k).wave q in
-    omega arith)
-    (λ (no : is_site g k q ≡ false).
-    let o1 = off_site g (λ j. 1 - one_at site j) k q no in
-    let b1 = off_site g (λ j. s * one_at site j) k q no in
-    omega arith)
-    (cases_Bool (is_site g k q)) in
+    on_each g k q (λ (r : (ℕ → ℕ) → ℕ). bit (free k) q ≡ r (λ j. 1 - one_at site j) → bit start q ≡ r (λ j. s * one_at site j)
+    → bit (τ k).wave q ≡ r (toppled g τ) → unused (free k) start (τ k).wave q ≤ r (λ j. 1 - toppled g τ j)) l
+    (λ j m o b i. omega arith) (λ o b i. omega arith) (open' k q l) (begins q l) (wave.inside k q l) in
     record {
       low = λ p l is.
           let yes = open_site g site free k p open' l is in
@@ -87,63 +107,52 @@ wave_ready {g} {site} {h} free {τ} k start s open' wave inside low begins first
           let both = flow-add g (toppled g τ) (λ i. 1 - toppled g τ i) j in
           let four = flow_four_at_most g (λ i. toppled g τ i + (1 - toppled g τ i))
           (λ i m. let z = set_is g τ i in omega arith) j t.0 in
-          let h3 = low j t.0 yes.1 in
+          let h3 = from.low j t.0 yes.1 in
           omega arith;
-      held = λ p l is.
-          let b = begins p l in
-          let o = open' k p l in
-          let i = wave.inside k p l in
-          ⊎_elim
-          (λ (yes : is_site g k p ≡ true).
-          let b1 = on_site g (λ j. s * one_at site j) k p yes in
-          let o1 = on_site g (λ j. 1 - one_at site j) k p yes in
-          let i1 = on_site g (toppled g τ) k p yes in
-          let j = site_on g k p in
-          ⊎_elim
-          (λ (e : j ≡ site).
-          let one = ap (one_at site) e ∙ one_at_same site in
+      held = λ p l is. on_each g k p (λ (r : (ℕ → ℕ) → ℕ). bit (free k) p ≡ r (λ j. 1 - one_at site j)
+          → bit start p ≡ r (λ j. s * one_at site j) → bit (τ k).wave p ≡ r (toppled g τ)
+          → (bit (free k) p ≡ 0) × (bit (τ k).wave p ≡ 0)) l
+          (λ j m o b i. ⊎_elim
+          (λ (e : site ≡ j).
+          let one = ap (one_at site) (sym e) ∙ one_at_same site in
           let two = ap (toppled g τ) e in
-          let s1 : s ≡ 1 = let m = ap (λ x. s * x) one in omega arith in
+          let s1 = ap (λ x. s * x) one in
           (omega arith, omega arith))
-          (λ (ne : j ≡ site → ⊥).
-          let z = ap (λ x. s * x) (one_at_other site j (λ e. ne (sym e))) in absurd (omega arith))
-          (cases_eq j site))
-          (λ (no : is_site g k p ≡ false). let b1 = off_site g (λ j. s * one_at site j) k p no in absurd (omega arith))
-          (cases_Bool (is_site g k p));
+          (λ (ne : site ≡ j → ⊥). let z = ap (λ x. s * x) (one_at_other site j ne) in absurd (omega arith))
+          (cases_eq site j))
+          (λ o b i. absurd (omega arith)) (open' k p l) (begins p l) (wave.inside k p l);
     }
 
--- the sets `new` have only sites, and whatever stabilises the pile topples them next
-pub record IsNext (g : Grid) (h : ℕ → ℕ) (τ : ℕ → Tile) (new : ℕ → ℕ → ℕ) : Type 0 where
-  pub at_sites : (m p : ℕ) → p < 64 → new m p ≡ on_tiles g (at_site g new) m p
-  pub needed : (w : ℕ → ℕ) → Stabilises g h w → (j : ℕ) → j < sites g → toppled g τ j + at_site g new j ≤ w j
-
 -- only sites topple in a visit
-newly : (g : Grid) (site : ℕ) (free : ℕ → ℕ) (τ : ℕ → Tile) (k start s : ℕ) → AreOpen g site free
+pub newly : {g : Grid} {site : ℕ} {h free : ℕ → ℕ} {t u : Tile} {start new : ℕ} (k s : ℕ) → IsStart g site h free
     → ((q : ℕ) → q < 64 → bit start q ≡ on_tiles g (λ j. s * one_at site j) k q)
-    → (v : Visited (τ k) (free k) start) → (m p : ℕ) → p < 64
-    → only k (bit v.new) m p ≡ on_tiles g (at_site g (only k (bit v.new))) m p
-newly g site free τ k start s open' begins v m p low =
-    on_tiles_is g (only k (bit v.new)) m p low (λ no.
+    → Visits t u (free k) start new → (m p : ℕ) → p < 64
+    → only k (bit new) m p ≡ on_tiles g (at_site g (only k (bit new))) m p
+newly {g} {site} {h} {free} {t} {u} {start} {new} k s from begins visits m p low =
+    on_tiles_is g (only k (bit new)) m p low (λ no.
     ⊎_elim
     (λ (here : m ≡ k).
-    let same = only_same k m (bit v.new) p here in
+    let same = only_same k m (bit new) p here in
     let no' : is_site g k p ≡ false = sym (ap (λ i. is_site g i p) here) ∙ no in
-    let o = open' k p low in
+    let o = from.all_open k p low in
     let o1 = off_site g (λ j. 1 - one_at site j) k p no' in
     let b = begins p low in
     let b1 = off_site g (λ j. s * one_at site j) k p no' in
-    let h = v.visits.at_held p low (omega arith) in
+    let h = visits.at_held p low (omega arith) in
     omega arith)
-    (λ (there : m ≡ k → ⊥). only_other k m (bit v.new) p there)
+    (λ (there : m ≡ k → ⊥). only_other k m (bit new) p there)
     (cases_eq m k))
 
 -- whatever stabilises the pile leaves no 4 in this tile
-calm : (g : Grid) (site : ℕ) (h : ℕ → ℕ) (free : ℕ → ℕ) (τ : ℕ → Tile) (k start s : ℕ) (w : ℕ → ℕ)
-    → AreOpen g site free → IsWave g site h τ → site < sites g → 4 ≤ h site
+calm : {g : Grid} {site : ℕ} {h free : ℕ → ℕ} {τ : ℕ → Tile} {away : ℕ → ℕ → ℕ} (k start s : ℕ) (w : ℕ → ℕ)
+    → IsStart g site h free → IsUnderWay g site h τ away
     → ((p : ℕ) → p < 64 → bit start p ≡ on_tiles g (λ j. s * one_at site j) k p)
     → toppled g τ site + s ≤ 1 → Stabilises g h w
     → Calms (τ k) (free k) start (on_tiles g (λ j. w j - toppled g τ j) k)
-calm g site h free τ k start s w open' wave inside high begins first stable =
+calm {g} {site} {h} {free} {τ} {away} k start s w from wave begins first stable =
+    let inside = from.inside in
+    let high = from.high in
+    let open' = from.all_open in
     let below = wave.needed w stable in
     record {
       start_in = λ p low.
@@ -183,71 +192,51 @@ calm g site h free τ k start s w open' wave inside high begins first stable =
           omega arith;
     }
 
--- the sites that topple in a visit are next
-pub next_one : {g : Grid} {site : ℕ} {h : ℕ → ℕ} (free : ℕ → ℕ) {τ : ℕ → Tile} {k start : ℕ} (s : ℕ)
-    → AreOpen g site free → IsWave g site h τ → site < sites g → 4 ≤ h site
+-- whatever stabilises the pile topples the sites that topple in a visit
+pub needed_next : {g : Grid} {site : ℕ} {h free : ℕ → ℕ} {τ : ℕ → Tile} {away : ℕ → ℕ → ℕ} {t : Tile} {k start new : ℕ} (s : ℕ)
+    → IsStart g site h free → IsUnderWay g site h τ away
     → ((p : ℕ) → p < 64 → bit start p ≡ on_tiles g (λ j. s * one_at site j) k p) → toppled g τ site + s ≤ 1
-    → (v : Visited (τ k) (free k) start) → IsNext g h τ (only k (bit v.new))
-next_one {g} {site} {h} free {τ} {k} {start} s open' wave inside high begins first v = record {
-  at_sites = newly g site free τ k start s open' begins v;
-  needed = λ w stable j l.
-      let c = calm g site h free τ k start s w open' wave inside high begins first stable in
-      let m = tile_of g j in
-      let p = place_of g j in
-      let le = wave.needed w stable j l in
-      ⊎_elim
-      (λ (here : m ≡ k).
-      let same = only_same k m (bit v.new) p here in
-      let least = v.visits.least (on_tiles g (λ i. w i - toppled g τ i) k) c p (place_below g j) in
-      let value =
-      sym (ap (λ i. on_tiles g (λ x. w x - toppled g τ x) i p) here) ∙ at_on g (λ i. w i - toppled g τ i) j l in
-      omega arith)
-      (λ (there : m ≡ k → ⊥). let other = only_other k m (bit v.new) p there in omega arith)
-      (cases_eq m k);
-}
+    → Visits (τ k) t (free k) start new → (w : ℕ → ℕ) → Stabilises g h w → (j : ℕ) → j < sites g
+    → toppled g τ j + at_site g (only k (bit new)) j ≤ w j
+needed_next {g} {site} {h} {free} {τ} {away} {t} {k} {start} {new} s from wave begins first visits w stable j l =
+    let c = calm k start s w from wave begins first stable in
+    let m = tile_of g j in
+    let p = place_of g j in
+    let le = wave.needed w stable j l in
+    ⊎_elim
+    (λ (here : m ≡ k).
+    let same = only_same k m (bit new) p here in
+    let least = visits.least (on_tiles g (λ i. w i - toppled g τ i) k) c p (place_below g j) in
+    let value =
+    sym (ap (λ i. on_tiles g (λ x. w x - toppled g τ x) i p) here) ∙ at_on g (λ i. w i - toppled g τ i) j l in
+    omega arith)
+    (λ (there : m ≡ k → ⊥). let other = only_other k m (bit new) p there in omega arith)
+    (cases_eq m k)
 
--- the sites of two tiles
-pub next_two : {g : Grid} {h : ℕ → ℕ} {τ : ℕ → Tile} {j k : ℕ} (a b : ℕ → ℕ) → j ≢ k
-    → IsNext g h τ (only j a) → IsNext g h τ (only k b) → IsNext g h τ (λ m p. only j a m p + only k b m p)
-next_two {g} {h} {τ} {j} {k} a b ne one two = record {
-  at_sites = λ m p low.
-      let x = one.at_sites m p low in
-      let y = two.at_sites m p low in
-      let both = on_sum g (at_site g (only j a)) (at_site g (only k b))
-      (at_site g (λ m p. only j a m p + only k b m p)) m p low (λ i l. omega arith) in
-      omega arith;
-  needed = λ w stable i l.
-      let x = one.needed w stable i l in
-      let y = two.needed w stable i l in
-      let m = tile_of g i in
-      ⊎_elim
-      (λ (here : m ≡ k). let z = only_other j m a (place_of g i) (λ e. ne (sym e ∙ here)) in omega arith)
-      (λ (there : m ≡ k → ⊥). let z = only_other k m b (place_of g i) there in omega arith)
-      (cases_eq m k);
-}
-
-pub wave_step : {g : Grid} {site : ℕ} {h : ℕ → ℕ} {τ σ : ℕ → Tile} {new : ℕ → ℕ → ℕ} → IsWave g site h τ → site < sites g
-    → ((j : ℕ) → j < sites g → j ≢ site → h j ≤ 3) → IsNext g h τ new → Spreads g site new τ σ → IsWave g site h σ
-wave_step {g} {site} {h} {τ} {σ} {new} wave inside low next spreads =
-    let n : ℕ → ℕ = at_site g new in
-    let sum : (j : ℕ) → toppled g σ j ≡ toppled g τ j + n j =
-    λ j. spreads.once (tile_of g j) (place_of g j) (place_below g j) in
-    let flows : (j : ℕ) → j < sites g → flow g (toppled g σ) j ≡ flow g (toppled g τ) j + flow g n j =
-    λ j l. flow_same g (toppled g σ) (λ i. toppled g τ i + n i) (λ i m. sum i) j l ∙ flow-add g (toppled g τ) n j in
+-- the grains under way arrive
+pub handed_over : {g : Grid} {site : ℕ} {h free : ℕ → ℕ} {τ σ : ℕ → Tile} {away : ℕ → ℕ → ℕ}
+    → IsStart g site h free → IsUnderWay g site h τ away → Gains free τ σ away → IsWave g site h σ
+handed_over {g} {site} {h} {free} {τ} {σ} {away} from wave gains =
+    let same : (j : ℕ) → toppled g σ j ≡ toppled g τ j =
+    λ j. gains.wave (tile_of g j) (place_of g j) (place_below g j) in
+    let flows = flow_same g (toppled g σ) (toppled g τ) (λ i l. same i) in
     record {
       inside = λ m p l.
-          let o = spreads.once m p l in
+          let e = gains.wave m p l in
           let i = wave.inside m p l in
-          let a = next.at_sites m p l in
-          let both = on_sum g (toppled g τ) n (toppled g σ) m p l (λ j less. sum j) in
+          let all = on_each g m p (λ (r : (ℕ → ℕ) → ℕ). r (toppled g σ) ≡ r (toppled g τ)) l (λ j less. same j) refl in
           omega arith;
       at_open = λ j l ne.
           let at = wave.at_open j l ne in
           let f = flows j l in
-          let four = flow_four_at_most g (toppled g σ) (λ i m. set_is g σ i) j l in
-          let h3 = low j l ne in
-          let to = spreads.at_open j l ne (omega arith) in
+          let four = flow_four_at_most g (toppled g τ) (λ i m. set_is g τ i) j l in
+          let h3 = from.low j l ne in
+          let to = gains.each (tile_of g j) (place_of g j) (place_below g j) (free_at from j l ne) (omega arith) in
           omega arith;
-      at_held = let at = wave.at_held in let f = flows site inside in let to = spreads.at_held in omega arith;
-      needed = λ w stable j l. let e = sum j in let le = next.needed w stable j l in omega arith;
+      at_held =
+          let at = wave.at_held in
+          let f = flows site from.inside in
+          let to = gains.modulo (tile_of g site) (place_of g site) (place_below g site) in
+          omega arith;
+      needed = λ w stable j l. let e = same j in let le = wave.needed w stable j l in omega arith;
     }

@@ -13,7 +13,9 @@ use Rattle.sand_fronts.specs.declared.reach.Spot.{Spot}
 use Rattle.sand_fronts.specs.Reaching.{corner_of}
 use Rattle.sand_fronts.specs.Tiling.{tile_of, place_of, is_site, site_on}
 use Rattle.sand_fronts.specs.WrittenBack.{risen, AreLow, Follows, CountsTile}
+use Rattle.sand_fronts.proofs.Reached.{IsTaken}
 use Rattle.sand_fronts.proofs.OnTiles.{place_below, back_again, there_again}
+use Rattle.sand_fronts.proofs.Sums.{flow_none}
 
 -- ---- heights that follow an odometer
 
@@ -22,11 +24,7 @@ follows_none g h u low = record {
   heights_each = refl;
   odometer_each = refl;
   never_falls = λ j. omega arith;
-  gains = λ j l.
-      let none = flow_same g (risen u u) (λ i. 0 * get_or u i 0) (λ i m. omega arith) j l in
-      let zero' = flow-scale g 0 (λ i. get_or u i 0) j in
-      let few = low j in
-      omega arith;
+  gains = λ j l. let none = flow_none g (risen u u) j (λ i m. omega arith) l in let few = low j in omega arith;
   low = low;
 }
 
@@ -84,22 +82,23 @@ tile_begins g k c set u none = record {
 }
 
 -- the site of the next place of the rest
-pub next_site : (g : Grid) (k place set rest : ℕ) (c : Count) (u v : List ℕ) → TileWritten g k c set rest u v
-    → ((p : ℕ) → p < 64 → bit set p ≡ 1 → is_site g k p ≡ true) → place < 64 → bit rest place ≡ 1
+pub next_site : {g : Grid} {k place set rest next : ℕ} {c : Count} {u v : List ℕ} → TileWritten g k c set rest u v
+    → ((p : ℕ) → p < 64 → bit set p ≡ 1 → is_site g k p ≡ true) → IsTaken rest next place
     → (site_on g k place < sites g) × (tile_of g (site_on g k place) ≡ k) × (place_of g (site_on g k place) ≡ place)
-next_site g k place set rest c u v before at inside is =
+next_site {g} {k} {place} {set} {rest} {next} {c} {u} {v} before at gone =
     let few = bit_le set place in
-    let more = before.within_set place inside in
-    there_again g k place inside (at place inside (omega arith))
+    let more = before.within_set place gone.inside in
+    let was = gone.was in
+    there_again g k place gone.inside (at place gone.inside (omega arith))
 
-pub tile_more : (g : Grid) (k place site set rest next : ℕ) (c : Count) (u v w : List ℕ)
+pub tile_more : {g : Grid} {k place set rest next : ℕ} {c : Count} {u v : List ℕ} (site : ℕ) (w : List ℕ)
     → TileWritten g k c set rest u v → ((p : ℕ) → p < 64 → bit set p ≡ 1 → is_site g k p ≡ true)
-    → place < 64 → bit rest place ≡ 1 → ((p : ℕ) → p < 64 → bit next p + one_at place p ≡ bit rest p)
-    → site ≡ site_on g k place
+    → IsTaken rest next place → site ≡ site_on g k place
     → ((j : ℕ) → get_or w j 0 ≡ get_or v j 0 + counted c place * one_at site j)
     → TileWritten g k c set next u w
-tile_more g k place site set rest next c u v w before at inside is each there counts =
-    let back = next_site g k place set rest c u v before at inside is in
+tile_more {g} {k} {place} {set} {rest} {next} {c} {u} {v} site w before at gone there counts =
+    let is = gone.was in
+    let back = next_site before at gone in
     let other : (j : ℕ) → site ≢ j → get_or w j 0 ≡ get_or v j 0 =
     λ j ne. let e = counts j in let z = ap (λ m. counted c place * m) (one_at_other site j ne) in omega arith in
     let again : (j : ℕ) → j < sites g → tile_of g j ≡ k → place_of g j ≡ place → site ≡ j =
@@ -108,7 +107,7 @@ tile_more g k place site set rest next c u v w before at inside is each there co
     let its_place : (j : ℕ) → site ≡ j → place_of g j ≡ place =
     λ j e. ap (place_of g) (sym e ∙ there) ∙ back.2 in
     record {
-      within_set = λ p low. let a = before.within_set p low in let e = each p low in omega arith;
+      within_set = λ p low. let a = before.within_set p low in let e = gone.each p low in omega arith;
       done = λ j l tile out. ⊎_elim
           (λ (e : site ≡ j).
           let p : place_of g j ≡ place = its_place j e in
@@ -119,13 +118,13 @@ tile_more g k place site set rest next c u v w before at inside is each there co
           let same = ap (counted c) p in
           omega arith)
           (λ (ne : site ≡ j → ⊥).
-          let e = each (place_of g j) (place_below g j) in
+          let e = gone.each (place_of g j) (place_below g j) in
           let z = one_at_other place (place_of g j) (λ q. ne (again j l tile (sym q))) in
           let old = before.done j l tile (omega arith) in
           other j ne ∙ old)
           (cases_eq site j);
       left = λ j l tile in'.
-          let e = each (place_of g j) (place_below g j) in
+          let e = gone.each (place_of g j) (place_below g j) in
           let few = bit_le rest (place_of g j) in
           let ne : site ≢ j = λ same.
           let o = ap (one_at place) (its_place j same) ∙ one_at_same place in omega arith in

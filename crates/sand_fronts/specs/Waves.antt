@@ -6,6 +6,7 @@ use Rattle.sand_model.specs.Sand.{Stabilises, flow, one_at}
 use Rattle.sand_tiles.specs.declared.tile.Tile.{Tile}
 use Rattle.sand_tiles.specs.Places.{bit, height, had, Visits}
 use Rattle.sand_fronts.specs.Tiling.{pitch, tiles, tile_of, place_of, on_tiles, over_north, over_south, over_west, over_east, to_west, to_east, shift_west, shift_east}
+use Rattle.sand_fronts.specs.Drops.{AreQuiet}
 use Rattle.sand_fronts.specs.declared.sides.Beside.{Beside}
 use Rattle.sand_fronts.specs.declared.board.DropSite.{DropSite}
 
@@ -34,15 +35,6 @@ pub record IsWave (g : Grid) (site : ℕ) (h : ℕ → ℕ) (τ : ℕ → Tile) 
   pub at_open : (j : ℕ) → j < sites g → j ≢ site → had (τ (tile_of g j)) (place_of g j) ≡ h j + flow g (toppled g τ) j
   pub at_held : height (τ (tile_of g site)) (place_of g site) ≡ (h site + flow g (toppled g τ) site) % 4
   pub needed : (w : ℕ → ℕ) → Stabilises g h w → (j : ℕ) → j < sites g → toppled g τ j ≤ w j
-
--- the places of the sets `new` topple, and their grains reach all neighbours
-pub record Spreads (g : Grid) (site : ℕ) (new : ℕ → ℕ → ℕ) (τ σ : ℕ → Tile) : Type 0 where
-  pub once : (m p : ℕ) → p < 64 → bit (σ m).wave p ≡ bit (τ m).wave p + new m p
-  pub at_open : (j : ℕ) → j < sites g → j ≢ site
-      → had (τ (tile_of g j)) (place_of g j) + flow g (at_site g new) j ≤ 7
-      → had (σ (tile_of g j)) (place_of g j) ≡ had (τ (tile_of g j)) (place_of g j) + flow g (at_site g new) j
-  pub at_held : height (σ (tile_of g site)) (place_of g site)
-      ≡ (height (τ (tile_of g site)) (place_of g site) + flow g (at_site g new) site) % 4
 
 -- a tile by its number, and an empty one past the end
 abbrev pub tile_at : List Tile → ℕ → Tile
@@ -136,8 +128,7 @@ heights_before g site τ j = height (τ (tile_of g j)) (place_of g j) + 4 * one_
 
 -- between waves nothing has toppled, nothing is due, and the dropped site is 0 in the planes
 pub record AreAtRest (g : Grid) (site : ℕ) (τ : ℕ → Tile) : Type 0 where
-  pub clear : (m p : ℕ) → p < 64 → bit (τ m).wave p ≡ 0
-  pub none_due : IsNoneDue τ
+  pub quiet : AreQuiet τ
   pub empty : height (τ (tile_of g site)) (place_of g site) ≡ 0
 
 -- a site, and where it is on the tiles

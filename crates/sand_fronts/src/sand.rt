@@ -15,8 +15,8 @@
 //!   tiles than there are sites and tiles, plus the eight that two turns may add. At its end no site is due
 //!   (`none_due`). Only free sites become due: so one word of a tile tells whether it waits.
 //! - **Two turns at once.** Where two tiles wait, both are visited before either hands over its grains (`PairSteps`).
-//!   No tile waits twice, so these are two tiles. What topples in them is known from the same state, and no grain is
-//!   under way when their sites topple: the pair is one step of the wave, as a single tile is.
+//!   No tile waits twice, so these are two tiles. The second is visited while the grains of the first are under way
+//!   (`IsUnderWay`): what topples in it without them topples legally.
 //! - **The tiles to count.** When the turn of a tile has come and no site of it has toppled yet in this wave, it is
 //!   written to the front of the list, over turns that are past. These tiles are all that is left in the list in the
 //!   end, so that each is counted once.

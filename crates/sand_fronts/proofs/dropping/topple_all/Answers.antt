@@ -160,7 +160,7 @@ returns-clause-settled c =
     record {
       sand = c.waves.invariant.sand;
       counts = c.waves.invariant.counts;
-      quiet = record { clear = passed.clear; none_due = passed.none_due };
+      quiet = passed.quiet;
       settled = waves_end passed;
       counted = passed.counts;
     }

@@ -1,35 +1,26 @@
-use Rattle.std.proofs.Common.{ℕ, ◌≡◌, ◌+◌, ◌<◌, w64, ◌∙◌, ap, arith}
+use Rattle.std.proofs.Common.{◌≡◌, w64, ◌∙◌, ap, arith}
 use Rattle.std.specs.Prelude.{bit_xor}
 use Rattle.std.specs.Int.{trailing_zeros}
-use Rattle.sand_model.specs.Sand.{one_at}
 use Rattle.sand_tiles.specs.Places.{bit}
 use Rattle.sand_tiles.proofs.Bits.{bit_none}
-use Rattle.sand_fronts.proofs.Reached.{lowest, place_less, fewer_left, reads_begin, reads_more, reads_all}
+use Rattle.sand_fronts.proofs.Reached.{IsTaken, taken, fewer_left, reads_begin, reads_more, reads_all}
 use Rattle.sand_fronts.proofs.reach.reach_in.Goals as goal
 
 pub places-init : goal.places-init
 places-init c = record { reads = reads_begin c.args.shape c.args.from c.args.corner c.args.set c.args.reach }
 
-low_of : (c : goal.After-max-far)
-    → (trailing_zeros w64 c.places.rest < 64) × (bit c.places.rest (trailing_zeros w64 c.places.rest) ≡ 1)
-low_of c = lowest c.places.rest (omega (arith, c.places-test.true)) (omega (arith, c.places.auto.rest-fits))
-
-each_of : (c : goal.After-max-far) → (p : ℕ) → p < 64
-    → bit (bit_xor c.places.rest c.set_of-rest.result) p + one_at (trailing_zeros w64 c.places.rest) p
-    ≡ bit c.places.rest p
-each_of c = place_less c.places.rest (trailing_zeros w64 c.places.rest)
-    c.set_of-rest.result (low_of c).0 (low_of c).1 c.set_of-rest.ensures
+taken_of : (c : goal.After-max-far)
+    → IsTaken c.places.rest (bit_xor c.places.rest c.set_of-rest.result) (trailing_zeros w64 c.places.rest)
+taken_of c = taken c.places.rest c.set_of-rest.result (omega (arith, c.places-test.true))
+    (omega (arith, c.places.auto.rest-fits)) c.set_of-rest.ensures
 
 pub places-smaller : goal.places-smaller
-places-smaller c = fewer_left c.places.rest (bit_xor c.places.rest c.set_of-rest.result)
-    (trailing_zeros w64 c.places.rest) (low_of c).0 (each_of c)
+places-smaller c = fewer_left (taken_of c)
 
 pub places-preserved : goal.places-preserved
 places-preserved c = record {
-  reads = reads_more c.args.shape c.args.from c.args.corner c.args.set c.places.rest
-      (bit_xor c.places.rest c.set_of-rest.result) c.args.reach c.places.far
-      (trailing_zeros w64 c.places.rest) c.distance_to.result c.max-far.result
-      c.places.invariant.reads (low_of c).0 (low_of c).1 (each_of c) c.distance_to.ensures c.max-far.ensures;
+  reads = reads_more c.distance_to.result c.max-far.result c.places.invariant.reads (taken_of c) c.distance_to.ensures
+      c.max-far.ensures;
 }
 
 pub returns : goal.returns

@@ -4,18 +4,18 @@ use Rattle.std.proofs.lemmas.List.{length-drop, length-set, length-take-le, drop
 use Rattle.sand_model.specs.Lists.{Lists}
 use Rattle.sand_model.specs.Sand.{one_at}
 use Rattle.sand_model.proofs.Lists.{lists_length}
-use Rattle.sand_model.proofs.SumsBelow.{one_at_same}
 use Rattle.sand_tiles.specs.Places.{bit, IsReady}
 use Rattle.sand_fronts.specs.Tiling.{tiles, on_tiles}
-use Rattle.sand_fronts.specs.Waves.{put, beside_at, AtTile}
+use Rattle.sand_fronts.specs.Waves.{put, beside_at, heights_before, AtTile}
 use Rattle.sand_fronts.specs.IndexLists.{ListView}
 use Rattle.sand_fronts.specs.TileLists.{waits, but, Joins, IsClear}
 use Rattle.sand_fronts.specs.Boards.{tiles_of, free_of}
 use Rattle.sand_fronts.proofs.OnTiles.{place_below}
 use Rattle.sand_fronts.proofs.Gained.{tile_read}
 use Rattle.sand_fronts.proofs.OneSite.{start_of}
-use Rattle.sand_fronts.proofs.Waves.{wave_ready}
-use Rattle.sand_fronts.proofs.Turns.{IsDueSite, first_kept, turn_kept, pair_kept, keep_one, keep_two, first_low, first_wave, turn_first, turn_more, turn_pair, waiting_at, at_tile, front_of, front_two, others_wait, none_wait, rest_due_free, put_due_free, starts_none, few_topplings, clear_site, none_left}
+use Rattle.sand_fronts.proofs.Waves.{IsStart, wave_ready}
+use Rattle.sand_fronts.proofs.Ends.{first_wave}
+use Rattle.sand_fronts.proofs.Turns.{IsDueSite, first_kept, visit_kept, gains_kept, keep_one, keep_two, wave_start, turn_first, turn_more, turn_pair, waiting_at, at_tile, front_of, front_two, others_wait, none_wait, rest_due_free, put_due_free, starts_none, few_topplings, clear_site, none_left}
 use Rattle.sand_fronts.proofs.sand.topple_turns.Goals.{After-set_of, After-push_if, After-item-k, After-item-other, After-keep_if-kept-then-turn-len, After-truncate}
 use Rattle.sand_fronts.proofs.sand.topple_turns.Goals as goal
 
@@ -44,9 +44,8 @@ topple_tile-requires-clause-ready c =
     let g = c.args.given.0.now.shape in
     let site = c.args.given.1.site in
     let τ = tiles_of c.args.sand in
-    wave_ready (free_of c.args.given.0.now) c.args.given.1.tile c.set_of.result 1
-    c.requires.all_open (first_wave g site τ c.requires.rest c.requires.drop.inside) c.requires.drop.inside
-    (first_low g site τ) (starts c) (let z = clear_site g site τ c.requires.rest in omega arith)
+    wave_ready c.args.given.1.tile c.set_of.result 1 (wave_start (free_of c.args.given.0.now) τ c.requires.all_open c.requires.drop.inside)
+    (first_wave g site τ c.requires.rest c.requires.drop.inside) (starts c) (let z = clear_site g site τ c.requires.rest in omega arith)
 
 pub turns-init : goal.turns-init
 turns-init c =
@@ -61,7 +60,7 @@ turns-init c =
     let b = at_tile g site k c.args.given.0.now.beside.items c.requires.board.beside c.requires.drop.inside
     (sym c.requires.drop.tile) in
     let steps = c.topple_tile.ensures.steps in
-    let first = turn_first free c.requires.all_open c.requires.rest c.requires.drop.inside c.requires.drop.tile
+    let first = turn_first (wave_start (free_of c.args.given.0.now) τ c.requires.all_open c.requires.drop.inside) c.requires.rest c.requires.drop.tile
     (starts (goal.at.turns-init c).After-set_of) b.each steps in
     let begun : ListView = record { items = k ∷ []; room = c.args.sand.list.room } in
     let joins = subst (λ (l : ListView). Joins n 4 (but k (waits τ)) (waits σ) l c.topple_tile.new.self.list)
@@ -70,16 +69,15 @@ turns-init c =
     let kept : (t : ℕ) → t < 0 + 1 → get_or list t 0 ≡ get_or (k ∷ []) t 0 = λ t less. joins.kept t (omega arith) in
     record {
       sand = c.topple_tile.ensures.sand;
-      wave = first.0;
-      started = first.1;
+      on = first;
       due_free = steps.gains.due_free (put_due_free τ free k steps.visited.tile steps.visited.visits.none_due
-          (rest_due_free τ free c.requires.rest.none_due));
-      waiting = joins.waiting 1 (omega arith) (none_wait n k τ c.requires.rest.none_due);
-      kept = turn_kept (k ∷ []) list 1 (first_kept n k τ (λ m p low. c.requires.rest.clear m p low) b.inside)
-          (0, omega arith, omega arith, refl) steps kept;
+          (rest_due_free τ free c.requires.rest.quiet.none_due));
+      waiting = joins.waiting 1 (omega arith) (none_wait n k τ c.requires.rest.quiet.none_due);
+      kept = gains_kept (k ∷ []) list 1 (visit_kept k steps.visited.tile
+          (first_kept n k τ (λ m p low. c.requires.rest.quiet.clear m p low) b.inside)
+          (0, omega arith, omega arith, refl)) steps.gains kept;
       spent = omega arith;
       within = omega arith;
-      count = first.2;
     }
 
 -- a tile that waits has a site that is due, its neighbours' places are on the board, and it is ready for a visit
@@ -91,12 +89,14 @@ at_turn c k wait =
     (free_of c.args.given.0.now) c.args.given.0.now.beside.items c.requires.all_open
     c.requires.board.beside c.turns.invariant.due_free wait
 
+from : (c : After-item-k) → IsStart c.args.given.0.now.shape c.args.given.1.site
+    (heights_before c.args.given.0.now.shape c.args.given.1.site (tiles_of c.args.sand)) (free_of c.args.given.0.now)
+from c = wave_start (free_of c.args.given.0.now) (tiles_of c.args.sand) c.requires.all_open c.requires.drop.inside
+
 ready : (c : After-item-k) (k : ℕ) → IsReady (tiles_of c.turns.sand k) (free_of c.args.given.0.now k) 0
 ready c k =
-    wave_ready (free_of c.args.given.0.now) k 0 0
-    c.requires.all_open c.turns.invariant.wave c.requires.drop.inside
-    (first_low c.args.given.0.now.shape c.args.given.1.site (tiles_of c.args.sand))
-    (starts_none c.args.given.0.now.shape c.args.given.1.site k) (omega (arith, c.turns.invariant.started))
+    wave_ready k 0 0 (from c) c.turns.invariant.on.wave (starts_none c.args.given.0.now.shape c.args.given.1.site k)
+    (omega (arith, c.turns.invariant.on.started))
 
 room : (c : After-item-k) → length c.turns.sand.list.items + 8 ≤ c.turns.sand.list.room
 room c =
@@ -106,7 +106,7 @@ room c =
     omega (
       arith,
       length-drop c.turns.turn c.turns.sand.list.items,
-      c.turns.invariant.count,
+      c.turns.invariant.on.count,
       c.turns.invariant.sand.room,
       c.turns.invariant.within,
     )
@@ -202,8 +202,7 @@ topple_pair-requires-clause-room c =
 pub turns-smaller-then-turn-len : goal.turns-smaller-then-turn-len
 turns-smaller-then-turn-len c =
     let few = few_topplings c.args.given.0.now.shape (tiles_of c.turns.sand) in
-    let count = c.turns.invariant.count in
-    omega arith
+    omega (arith, c.turns.invariant.on.count)
 
 pub turns-preserved-then-turn-len : goal.turns-preserved-then-turn-len
 turns-preserved-then-turn-len c =
@@ -219,10 +218,7 @@ turns-preserved-then-turn-len c =
     let at_k = at_turn d.After-item-k k t.1 in
     let at_other = at_turn d.After-item-k other t.2 in
     let steps = c.topple_pair.ensures.steps in
-    let more = turn_pair free c.requires.all_open c.turns.invariant.wave c.requires.drop.inside
-    (first_low g c.args.given.1.site (tiles_of c.args.sand)) (let o = one_at_same c.args.given.1.site in omega arith)
-    c.turns.invariant.started t.0 at_k.1 at_other.1 at_k.2.each at_other.2.each steps in
-    let least = more.2 in
+    let more = turn_pair (from d.After-item-k) c.turns.invariant.on t.0 at_k.1 at_other.1 at_k.2.each at_other.2.each steps in
     let within : turn + 1 < length before = omega (arith, c.if-turn-len.true, c.len-in-turns.ensures.value) in
     let next = c.keep_if-kept.result in
     let last = c.keep_if-kept-then-turn-len.result in
@@ -247,15 +243,14 @@ turns-preserved-then-turn-len c =
     ∙ drop-set-lt (turn + 2) before c.turns.kept k (omega arith) in
     record {
       sand = c.topple_pair.ensures.sand;
-      wave = more.0;
-      started = more.1;
+      on = more;
       due_free = steps.gains.due_free (put_due_free (put k steps.one.tile (tiles_of c.turns.sand)) free other steps.two.tile
           steps.two.visits.none_due (put_due_free (tiles_of c.turns.sand) free k steps.one.tile steps.one.visits.none_due c.turns.invariant.due_free));
       waiting = joins.waiting (turn + 2) (omega arith) (rw rest t.3);
-      kept = pair_kept now after last all.0 all.1 all.2 steps (λ i less. joins.kept i (omega arith));
+      kept = gains_kept now after last (visit_kept other steps.two.tile (visit_kept k steps.one.tile all.0 all.1) all.2) steps.gains
+          (λ i less. joins.kept i (omega arith));
       spent = omega arith;
       within = omega arith;
-      count = omega (arith, c.turns.invariant.count);
     }
 
 -- ---- one tile
@@ -286,8 +281,7 @@ keep_if-kept-requires-else-turn-len-clause-small c =
 pub turns-smaller : goal.turns-smaller
 turns-smaller c =
     let few = few_topplings c.args.given.0.now.shape (tiles_of c.turns.sand) in
-    let count = c.turns.invariant.count in
-    omega arith
+    omega (arith, c.turns.invariant.on.count)
 
 pub turns-preserved : goal.turns-preserved
 turns-preserved c =
@@ -302,9 +296,7 @@ turns-preserved c =
     let f = one d in
     let t = at_turn d k f.1 in
     let steps = c.topple_tile-else-turn-len.ensures.steps in
-    let more = turn_more free c.requires.all_open c.turns.invariant.wave c.requires.drop.inside
-    (first_low g c.args.given.1.site (tiles_of c.args.sand)) (let o = one_at_same c.args.given.1.site in omega arith)
-    c.turns.invariant.started t.1 t.2.each steps in
+    let more = turn_more (from d) c.turns.invariant.on t.1 t.2.each steps in
     let last = c.keep_if-kept-else-turn-len.result in
     let spent = c.turns.invariant.spent in
     let all = keep_one before c.turns.kept k last c.index.result.now c.turns.invariant.kept f.0 (omega arith)
@@ -318,21 +310,19 @@ turns-preserved c =
     (waits (tiles_of c.topple_tile-else-turn-len.new.self)) l c.topple_tile-else-turn-len.new.self.list)
     c.keep_if-kept-else-turn-len.ensures.list c.topple_tile-else-turn-len.ensures.joins in
     let longer = joins.longer in
-    let least = more.2 in
     let rest : drop (c.turns.turn + 1) now ≡ drop (c.turns.turn + 1) before =
     drop-set-lt (c.turns.turn + 1) before c.turns.kept k (omega arith) in
     record {
       sand = c.topple_tile-else-turn-len.ensures.sand;
-      wave = more.0;
-      started = more.1;
+      on = more;
       due_free = steps.gains.due_free (put_due_free τ free k steps.visited.tile steps.visited.visits.none_due
           c.turns.invariant.due_free);
       waiting = joins.waiting (c.turns.turn + 1) (omega arith)
           (rw rest (others_wait (tiles g) k (waits τ) (drop (c.turns.turn + 1) before) f.2));
-      kept = turn_kept now after last all.0 all.1 steps (λ i less. joins.kept i (omega arith));
+      kept = gains_kept now after last (visit_kept k steps.visited.tile all.0 all.1) steps.gains
+          (λ i less. joins.kept i (omega arith));
       spent = omega arith;
       within = omega arith;
-      count = omega (arith, c.turns.invariant.count);
     }
 
 pub returns-clause-wave : goal.returns-clause-wave
@@ -342,8 +332,8 @@ returns-clause-wave c =
     let none : drop c.turns.turn list ≡ [] =
     drop_all c.turns.turn list (omega (arith, c.turns-test.false, c.len.ensures.value)) in
     record {
-      wave = c.turns.invariant.wave;
-      started = c.turns.invariant.started;
+      wave = c.turns.invariant.on.wave;
+      started = c.turns.invariant.on.started;
       none_due = none_left c.turns.sand.tiles.items (tiles g) c.turns.invariant.sand.one_each
           (subst (λ xs. Lists (tiles g) (waits (tiles_of c.turns.sand)) xs) none c.turns.invariant.waiting);
     }

@@ -1,26 +1,23 @@
-use Rattle.std.proofs.Common.{◌≡◌, ◌+◌, ◌-◌, ◌≤◌, length, drop}
+use Rattle.std.proofs.Common.{◌+◌, ◌-◌, ◌≤◌, length, drop}
 use Rattle.sand_model.specs.Grid.{sites}
-use Rattle.sand_model.specs.Sand.{topplings}
 use Rattle.sand_model.specs.Lists.{Lists}
 use Rattle.sand_fronts.specs.Tiling.{tiles}
-use Rattle.sand_fronts.specs.Waves.{toppled, IsWave, AreDueFree, heights_before}
+use Rattle.sand_fronts.specs.Waves.{AreDueFree, heights_before}
 use Rattle.sand_fronts.specs.TileLists.{waits}
 use Rattle.sand_fronts.specs.Boards.{tiles_of, free_of, IsSand}
-use Rattle.sand_fronts.proofs.Turns.{AreKept}
+use Rattle.sand_fronts.proofs.Turns.{IsOn, AreKept}
 use Rattle.sand_fronts.proofs.sand.topple_turns.Given as goal
 
 abbrev pub invariant-turns : goal.invariant-turns
 invariant-turns l = record {
   sand : IsSand l.fn.given.0.now.shape l.sand;
-  wave : IsWave l.fn.given.0.now.shape l.fn.given.1.site
-      (heights_before l.fn.given.0.now.shape l.fn.given.1.site (tiles_of l.fn.sand)) (tiles_of l.sand);
-  started : toppled l.fn.given.0.now.shape (tiles_of l.sand) l.fn.given.1.site ≡ 1;
+  on : IsOn l.fn.given.0.now.shape l.fn.given.1.site
+      (heights_before l.fn.given.0.now.shape l.fn.given.1.site (tiles_of l.fn.sand)) (tiles_of l.sand) l.turn;
   due_free : AreDueFree (free_of l.fn.given.0.now) (tiles_of l.sand);
   waiting : Lists (tiles l.fn.given.0.now.shape) (waits (tiles_of l.sand)) (drop l.turn l.sand.list.items);
   kept : AreKept (tiles l.fn.given.0.now.shape) l.sand.list.items l.kept (tiles_of l.sand);
   spent : l.kept ≤ l.turn;
   within : l.turn ≤ length l.sand.list.items;
-  count : l.turn ≤ topplings l.fn.given.0.now.shape (toppled l.fn.given.0.now.shape (tiles_of l.sand));
 }
 
 abbrev pub decreases-turns : goal.decreases-turns

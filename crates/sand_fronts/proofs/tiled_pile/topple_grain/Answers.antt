@@ -117,11 +117,7 @@ returns-clause-settled c =
     let left = heights_on g (tiles_of c.topple_all-total.new.sand) in
     record {
       sand = has.sand;
-      counts = record {
-        one_each = has.counts.one_each;
-        marks_each = has.counts.marks_each;
-        sound = has.counts.sound;
-      };
+      counts = has.counts;
       quiet = has.quiet;
       settled = settled_same g
           (heights_before g site (tile_at (set ts c.find-tile.result.0 c.receive.new.tile)))

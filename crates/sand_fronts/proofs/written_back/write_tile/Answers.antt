@@ -1,4 +1,4 @@
-use Rattle.std.proofs.Common.{ℕ, ◌≡◌, ◌+◌, ◌*◌, ◌<◌, w64, ◌∙◌, ap, arith}
+use Rattle.std.proofs.Common.{◌≡◌, ◌+◌, ◌*◌, ◌<◌, w64, ◌∙◌, ap, arith}
 use Rattle.std.specs.Prelude.{bit_xor, slice_index}
 use Rattle.std.specs.Int.{trailing_zeros}
 use Rattle.sand_model.specs.Grid.{sites}
@@ -6,7 +6,7 @@ use Rattle.sand_model.specs.Sand.{one_at}
 use Rattle.sand_tiles.specs.Places.{bit}
 use Rattle.sand_tiles.proofs.Bits.{bit_none}
 use Rattle.sand_fronts.specs.Tiling.{tile_of, place_of, site_on}
-use Rattle.sand_fronts.proofs.Reached.{lowest, place_less, fewer_left}
+use Rattle.sand_fronts.proofs.Reached.{IsTaken, taken, fewer_left}
 use Rattle.sand_fronts.proofs.WrittenBack.{follows_none, follows_more, site_is, tile_begins, next_site, tile_more, tile_ends}
 use Rattle.sand_fronts.proofs.written_back.write_tile.Goals.{After-set_of-rest, After-site_in-site}
 use Rattle.sand_fronts.proofs.written_back.write_tile.Goals as goal
@@ -17,15 +17,10 @@ places-init c = record {
   follows = follows_none c.args.shape c.args.heights.now c.args.odometer.now c.requires.low;
 }
 
-low_of : (c : After-set_of-rest)
-    → (trailing_zeros w64 c.places.rest < 64) × (bit c.places.rest (trailing_zeros w64 c.places.rest) ≡ 1)
-low_of c = lowest c.places.rest (omega (arith, c.places-test.true)) (omega (arith, c.places.auto.rest-fits))
-
-each_of : (c : After-set_of-rest) → (p : ℕ) → p < 64
-    → bit (bit_xor c.places.rest c.set_of-rest.result) p + one_at (trailing_zeros w64 c.places.rest) p
-    ≡ bit c.places.rest p
-each_of c = place_less c.places.rest (trailing_zeros w64 c.places.rest)
-    c.set_of-rest.result (low_of c).0 (low_of c).1 c.set_of-rest.ensures
+taken_of : (c : After-set_of-rest)
+    → IsTaken c.places.rest (bit_xor c.places.rest c.set_of-rest.result) (trailing_zeros w64 c.places.rest)
+taken_of c = taken c.places.rest c.set_of-rest.result (omega (arith, c.places-test.true))
+    (omega (arith, c.places.auto.rest-fits)) c.set_of-rest.ensures
 
 site_of : (c : After-site_in-site)
     → c.site_in-site.result ≡ site_on c.args.shape c.args.k (trailing_zeros w64 c.places.rest)
@@ -37,8 +32,7 @@ there : (c : After-set_of-rest)
     × (tile_of c.args.shape (site_on c.args.shape c.args.k (trailing_zeros w64 c.places.rest)) ≡ c.args.k)
     × (place_of c.args.shape (site_on c.args.shape c.args.k (trailing_zeros w64 c.places.rest))
     ≡ trailing_zeros w64 c.places.rest)
-there c = next_site c.args.shape c.args.k (trailing_zeros w64 c.places.rest) c.args.set c.places.rest c.args.count.now
-    c.args.odometer.now c.places.odometer c.places.invariant.written c.requires.at_sites (low_of c).0 (low_of c).1
+there c = next_site c.places.invariant.written c.requires.at_sites (taken_of c)
 
 pub write_site-requires-clause-site : goal.write_site-requires-clause-site
 write_site-requires-clause-site c =
@@ -54,30 +48,25 @@ write_site-requires-clause-few c =
     let place = trailing_zeros w64 c.places.rest in
     let back = there b in
     let s = site_on c.args.shape c.args.k place in
-    let at = ap (bit c.places.rest) back.2 ∙ (low_of b).1 in
+    let at = ap (bit c.places.rest) back.2 ∙ (taken_of b).was in
     let same = c.places.invariant.written.left s back.0 back.1 at in
     let few = c.requires.few.1 s back.0 back.1 in
     let read = ap (slice_index c.places.odometer) (site_of d) in
-    let times = c.requires.few.0 place (low_of b).0 in (
+    let times = c.requires.few.0 place (taken_of b).inside in (
       omega (arith, c.times_at.ensures),
       omega arith,
     )
 
 pub places-smaller : goal.places-smaller
-places-smaller c =
-    let d = (goal.at.places-smaller c).After-set_of-rest in
-    fewer_left c.places.rest (bit_xor c.places.rest c.set_of-rest.result)
-    (trailing_zeros w64 c.places.rest) (low_of d).0 (each_of d)
+places-smaller c = fewer_left (taken_of (goal.at.places-smaller c).After-set_of-rest)
 
 pub places-preserved : goal.places-preserved
 places-preserved c =
     let d = (goal.at.places-preserved c).After-set_of-rest in
     let b = (goal.at.places-preserved c).After-site_in-site in
-    let place = trailing_zeros w64 c.places.rest in
     record {
-      written = tile_more c.args.shape c.args.k place c.site_in-site.result c.args.set c.places.rest
-          (bit_xor c.places.rest c.set_of-rest.result) c.args.count.now c.args.odometer.now c.places.odometer
-          c.write_site.new.odometer c.places.invariant.written c.requires.at_sites (low_of d).0 (low_of d).1 (each_of d)
+      written = tile_more c.site_in-site.result c.write_site.new.odometer c.places.invariant.written c.requires.at_sites
+          (taken_of d)
           (site_of b)
           (λ j. c.write_site.ensures.counted j
           ∙ ap (λ t. slice_index c.places.odometer j + t * one_at c.site_in-site.result j) c.times_at.ensures);
