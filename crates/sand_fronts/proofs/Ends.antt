@@ -11,7 +11,7 @@ use Rattle.sand_tiles.specs.Places.{bit, height}
 use Rattle.sand_tiles.proofs.Bits.{bit_le}
 use Rattle.sand_fronts.specs.Tiling.{tile_of, place_of}
 use Rattle.sand_model.specs.Underway.{Advances}
-use Rattle.sand_fronts.specs.Waves.{toppled, IsWave, Leaves, AreAtRest, heights_before}
+use Rattle.sand_fronts.specs.Waves.{toppled, IsWave, AreAtRest, heights_before}
 use Rattle.sand_fronts.proofs.OnTiles.{place_below, on_below, height_low}
 use Rattle.sand_fronts.proofs.Sums.{flow_none}
 
@@ -47,32 +47,44 @@ one_at_le v i j some = ⊎_elim
     (λ (ne : i ≡ j → ⊥). let o = one_at_other i j ne in omega arith)
     (cases_eq i j)
 
+-- a whole wave from the heights h: the dropped site had 4 and has toppled, the others had at most 3, and none is due
+pub record HasPassed (g : Grid) (site : ℕ) (h : ℕ → ℕ) (τ : ℕ → Tile) : Type 0 where
+  pub inside : site < sites g
+  pub four : h site ≡ 4
+  pub low : (j : ℕ) → j < sites g → j ≢ site → h j ≤ 3
+  pub wave : IsWave g site h τ
+  pub started : toppled g τ site ≡ 1
+  pub none_due : (j : ℕ) → bit (τ (tile_of g j)).due (place_of g j) ≡ 0
+
+-- the heights after a wave: those in the planes, and what the held site has after its toppling
+pub record Leaves (g : Grid) (site : ℕ) (h : ℕ → ℕ) (τ : ℕ → Tile) (k : ℕ → ℕ) : Type 0 where
+  pub others : (j : ℕ) → j < sites g → j ≢ site → k j ≡ height (τ (tile_of g j)) (place_of g j)
+  pub held : k site + 4 ≡ h site + flow g (toppled g τ) site
+
 -- the height of each site in the end
-pub wave_balance : (g : Grid) (site : ℕ) (h : ℕ → ℕ) (τ : ℕ → Tile) (k : ℕ → ℕ)
-    → IsWave g site h τ → toppled g τ site ≡ 1
-    → ((j : ℕ) → j < sites g → j ≢ site → bit (τ (tile_of g j)).due (place_of g j) ≡ 0)
-    → Leaves g site h τ k → (j : ℕ) → j < sites g
-    → k j + 4 * toppled g τ j ≡ h j + flow g (toppled g τ) j
-wave_balance g site h τ k wave started done leaves j l = ⊎_elim
+pub wave_balance : {g : Grid} {site : ℕ} {h : ℕ → ℕ} {τ : ℕ → Tile} {k : ℕ → ℕ} → HasPassed g site h τ → Leaves g site h τ k
+    → (j : ℕ) → j < sites g → k j + 4 * toppled g τ j ≡ h j + flow g (toppled g τ) j
+wave_balance {g} {site} {h} {τ} {k} past leaves j l =
+    let started = past.started in
+    ⊎_elim
     (λ (e : j ≡ site).
     let a = ap k e in let b = ap (toppled g τ) e in let c = ap h e in let d = ap (flow g (toppled g τ)) e in
     let held = leaves.held in
     omega arith)
     (λ (ne : j ≡ site → ⊥).
-    let at = wave.at_open j l ne in
-    let none = done j l ne in
+    let at = past.wave.at_open j l ne in
+    let none = past.none_due j in
     let o = leaves.others j l ne in
     omega arith)
     (cases_eq j site)
 
 -- the wave was a legal sequence of topplings
-pub wave_advances : (g : Grid) (site : ℕ) (h : ℕ → ℕ) (τ : ℕ → Tile) (k u v : ℕ → ℕ)
-    → IsWave g site h τ → toppled g τ site ≡ 1
-    → ((j : ℕ) → j < sites g → j ≢ site → bit (τ (tile_of g j)).due (place_of g j) ≡ 0) → Leaves g site h τ k
-    → ((j : ℕ) → j < sites g → v j ≡ u j + toppled g τ j) → Advances g u h v k
-wave_advances g site h τ k u v wave started done leaves sums =
+pub wave_advances : {g : Grid} {site : ℕ} {h : ℕ → ℕ} {τ : ℕ → Tile} {k : ℕ → ℕ} (u v : ℕ → ℕ)
+    → HasPassed g site h τ → Leaves g site h τ k → ((j : ℕ) → j < sites g → v j ≡ u j + toppled g τ j)
+    → Advances g u h v k
+wave_advances {g} {site} {h} {τ} {k} u v past leaves sums =
     let t = toppled g τ in
-    let balance = wave_balance g site h τ k wave started done leaves in
+    let balance = wave_balance past leaves in
     let toppled' : IsToppled g h t k = record { balance = balance } in
     let all = sum_below_same (sites g) v (λ j. u j + t j) sums in
     let both = sum_below-add (sites g) u t in
@@ -99,7 +111,7 @@ wave_advances g site h τ k u v wave started done leaves sums =
                   let e = flow-add g u (λ n. w n - u n) i in
                   omega arith;
             } in
-            let n = wave.needed (λ i. w i - u i) rest j l in
+            let n = past.wave.needed (λ i. w i - u i) rest j l in
             let c = below j l in
             let d = sums j l in
             omega arith;
@@ -109,17 +121,18 @@ wave_advances g site h τ k u v wave started done leaves sums =
     }
 
 -- if the held site is 0 in the planes and others have toppled, it has 4 again
-pub four_again : (g : Grid) (site : ℕ) (h : ℕ → ℕ) (τ : ℕ → Tile) (k : ℕ → ℕ) (i : ℕ)
-    → IsWave g site h τ → site < sites g → toppled g τ site ≡ 1 → h site ≡ 4
-    → ((j : ℕ) → j < sites g → j ≢ site → h j ≤ 3)
-    → ((j : ℕ) → j < sites g → j ≢ site → bit (τ (tile_of g j)).due (place_of g j) ≡ 0) → Leaves g site h τ k
-    → height (τ (tile_of g site)) (place_of g site) ≡ 0 → i < sites g → i ≢ site → 1 ≤ toppled g τ i → k site ≡ 4
-four_again g site h τ k i wave inside started four low done leaves empty li ni some =
+pub four_again : {g : Grid} {site : ℕ} {h : ℕ → ℕ} {τ : ℕ → Tile} {k : ℕ → ℕ} (i : ℕ)
+    → HasPassed g site h τ → Leaves g site h τ k → height (τ (tile_of g site)) (place_of g site) ≡ 0
+    → i < sites g → i ≢ site → 1 ≤ toppled g τ i → k site ≡ 4
+four_again {g} {site} {h} {τ} {k} i past leaves empty li ni some =
+    let inside = past.inside in
+    let started = past.started in
+    let four = past.four in
     let t = toppled g τ in
     let most = flow_le g t (λ j. 1) (λ j l. bit_le _ _) site inside in
     let ones = flow_ones g site in
     let held = leaves.held in
-    let at_held = wave.at_held in
+    let at_held = past.wave.at_held in
     ⊎_elim
     (λ (none : flow g t site ≡ 0).
     let alone : Stabilises g h (one_at site) = record {
@@ -130,9 +143,9 @@ four_again g site h τ k i wave inside started four low done leaves empty li ni 
           let a = ap h e in let b = ap (flow g t) e in let o = ap (one_at site) e ∙ one_at_same site in
           omega arith)
           (λ (ne : j ≡ site → ⊥).
-          let lj = low j l ne in
-          let at = wave.at_open j l ne in
-          let d = done j l ne in
+          let lj = past.low j l ne in
+          let at = past.wave.at_open j l ne in
+          let d = past.none_due j in
           let one = height_low (τ (tile_of g j)) (place_of g j) in
           ⊎_elim
           (λ (z : t j ≡ 0). omega arith)
@@ -143,7 +156,7 @@ four_again g site h τ k i wave inside started four low done leaves empty li ni 
           (cases_eq (t j) 0))
           (cases_eq j site);
     } in
-    let n = wave.needed (one_at site) alone i li in
+    let n = past.wave.needed (one_at site) alone i li in
     let o = one_at_other site i (λ e. ni (sym e)) in
     absurd (omega arith))
     (λ (nz : flow g t site ≡ 0 → ⊥). omega arith)

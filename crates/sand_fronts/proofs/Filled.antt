@@ -14,7 +14,7 @@ use Rattle.sand_tiles.proofs.Moves.{bit_shl, bit_shl_low}
 use Rattle.sand_fronts.specs.declared.reach.Spot.{Spot}
 use Rattle.sand_fronts.specs.Tiling.{tiles, row_at, column_at, is_site, site_on, on_tiles}
 use Rattle.sand_fronts.specs.Filling.{Tells, IsFilled}
-use Rattle.sand_fronts.proofs.OnTiles.{on_site, off_site, on_below, on_place, on_place}
+use Rattle.sand_fronts.proofs.OnTiles.{on_site, off_site, on_below, on_place}
 use Rattle.sand_fronts.proofs.Boards.{tile_inside}
 
 -- ---- a bit before those of a word

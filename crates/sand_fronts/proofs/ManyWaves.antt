@@ -19,12 +19,12 @@ use Rattle.sand_tiles.proofs.Bits.{bit_le}
 use Rattle.sand_fronts.specs.Tiling.{tiles, tile_of, place_of, on_tiles}
 use Rattle.sand_fronts.specs.TileLists.{IsClear}
 use Rattle.sand_fronts.specs.declared.counts.Counts.{Counts}
-use Rattle.sand_fronts.specs.Waves.{tile_at, toppled, IsWave, IsWholeWave, Leaves, AreAtRest, heights_before}
+use Rattle.sand_fronts.specs.Waves.{tile_at, toppled, IsWave, IsWholeWave, AreAtRest, heights_before}
 use Rattle.sand_fronts.specs.Counting.{over_wave}
 use Rattle.sand_fronts.specs.Boards.{counts_of, AreCounted}
 use Rattle.sand_fronts.specs.Drops.{heights_on, grown_on, AreOutside, AreQuiet}
 use Rattle.sand_fronts.proofs.OnTiles.{place_below, on_sum, on_below, on_each, height_low}
-use Rattle.sand_fronts.proofs.Ends.{wave_balance, wave_advances, four_again}
+use Rattle.sand_fronts.proofs.Ends.{wave_balance, wave_advances, four_again, HasPassed, Leaves}
 use Rattle.sand_fronts.proofs.Turns.{first_low}
 use Rattle.sand_fronts.proofs.Sums.{sum_on_tiles, sum_below_most, sum_below_none}
 use Rattle.sand_fronts.proofs.Counted.{sum_less_one}
@@ -38,19 +38,19 @@ heights_now g site more τ j = cond more (heights_before g site τ j) (heights_o
 left : Grid → ℕ → (ℕ → Tile) → ℕ → ℕ
 left g site τ j = heights_on g τ j + (flow g (toppled g τ) site - heights_on g τ site) * one_at site j
 
-left_leaves : (g : Grid) (site : ℕ) (h : ℕ → ℕ) (τ : ℕ → Tile) → IsWave g site h τ → h site ≡ 4
-    → Leaves g site h τ (left g site τ)
+left_leaves : {g : Grid} {site : ℕ} {h : ℕ → ℕ} {τ : ℕ → Tile} → HasPassed g site h τ → Leaves g site h τ (left g site τ)
 unfolding left
-left_leaves g site h τ wave four =
+left_leaves {g} {site} {h} {τ} past =
     let x = flow g (toppled g τ) site - heights_on g τ site in
+    let four = past.four in
     record {
       others = λ j l ne. let o = ap (λ y. x * y) (one_at_other site j (λ e. ne (sym e))) in omega arith;
-      held = let o = ap (λ y. x * y) (one_at_same site) in let at = wave.at_held in omega arith;
+      held = let o = ap (λ y. x * y) (one_at_same site) in let at = past.wave.at_held in omega arith;
     }
 
-left_held : (g : Grid) (site : ℕ) (h : ℕ → ℕ) (τ : ℕ → Tile) → IsWave g site h τ → h site ≡ 4
+left_held : {g : Grid} {site : ℕ} {h : ℕ → ℕ} {τ : ℕ → Tile} → HasPassed g site h τ
     → left g site τ site ≡ flow g (toppled g τ) site
-left_held g site h τ wave four = let l = (left_leaves g site h τ wave four).held in omega arith
+left_held past = let four = past.four in let l = (left_leaves past).held in omega arith
 
 mul_le : (x y z : ℕ) → x ≤ y → x * z ≤ y * z
 mul_le x y z le = mul-le-mul_right z le
@@ -66,17 +66,18 @@ others_none g site t inside one few j l ne =
     omega arith
 
 -- if no other site has toppled, the held one did not get 4 grains back, since the pile is lighter
-alone_rests : (g : Grid) (site : ℕ) (h : ℕ → ℕ) (τ : ℕ → Tile)
-    → IsWave g site h τ → site < sites g → toppled g τ site ≡ 1 → h site ≡ 4
-    → ((j : ℕ) → j < sites g → j ≢ site → bit (τ (tile_of g j)).due (place_of g j) ≡ 0)
+alone_rests : {g : Grid} {site : ℕ} {h : ℕ → ℕ} {τ : ℕ → Tile} → HasPassed g site h τ
     → topplings g (toppled g τ) ≤ 1 → flow g (toppled g τ) site ≡ 4 → ⊥
-alone_rests g site h τ wave inside started four none_due few back =
+alone_rests {g} {site} {h} {τ} past few back =
     let t = toppled g τ in
     let k = left g site τ in
-    let balance = wave_balance g site h τ k wave started none_due (left_leaves g site h τ wave four) in
+    let balance = wave_balance past (left_leaves past) in
     let done : IsToppled g h t k = record { balance = balance } in
     let light = weight_after g h t k done in
-    let at = left_held g site h τ wave four in
+    let at = left_held past in
+    let four = past.four in
+    let inside = past.inside in
+    let started = past.started in
     let part = at_most_sum_below (sites g) t site inside in
     let others = others_none g site t inside started few in
     let heavy = sum_below_le (sites g) (λ i. h i * grain_weight g i) (λ i. k i * grain_weight g i) (λ j l.
@@ -101,15 +102,14 @@ other_toppled g site t inside one many = ⊎_elim
     (all_or_one (sites g) (λ i. leb (t i) (1 * one_at site i)))
 
 -- whether the held site has 4 again
-pub held_has : (g : Grid) (site : ℕ) (h : ℕ → ℕ) (τ : ℕ → Tile) (more : Bool)
-    → IsWave g site h τ → site < sites g → toppled g τ site ≡ 1 → h site ≡ 4
-    → ((j : ℕ) → j < sites g → j ≢ site → h j ≤ 3)
-    → ((j : ℕ) → j < sites g → j ≢ site → bit (τ (tile_of g j)).due (place_of g j) ≡ 0)
+held_has : {g : Grid} {site : ℕ} {h : ℕ → ℕ} {τ : ℕ → Tile} (more : Bool) → HasPassed g site h τ
     → more ≡ (ltb 1 (topplings g (toppled g τ)) && eqb (heights_on g τ site) 0)
     → heights_now g site more τ site ≡ flow g (toppled g τ) site
-held_has g site h τ more wave inside started four low none_due test =
+held_has {g} {site} {h} {τ} more past test =
     let t = toppled g τ in
-    let at = wave.at_held in
+    let inside = past.inside in
+    let four = past.four in
+    let at = past.wave.at_held in
     let o = one_at_same site in
     let most = flow_le g t (λ j. 1) (λ j l. bit_le (τ (tile_of g j)).wave (place_of g j)) site inside in
     let ones = flow_ones g site in
@@ -118,15 +118,13 @@ held_has g site h τ more wave inside started four low none_due test =
     let parts = and_parts (ltb 1 (topplings g t)) (eqb (heights_on g τ site) 0) (sym test ∙ yes) in
     let many = ltb-true 1 (topplings g t) parts.0 in
     let empty = eqb-true (heights_on g τ site) 0 parts.1 in
-    let i = other_toppled g site t inside started many in
-    let again = four_again g site h τ (left g site τ) i.0 wave inside started
-    four low none_due (left_leaves g site h τ wave four) empty i.1 i.2 i.3 in
-    let held = left_held g site h τ wave four in
+    let i = other_toppled g site t inside past.started many in
+    let again = four_again i.0 past (left_leaves past) empty i.1 i.2 i.3 in
+    let held = left_held past in
     ap (λ b. cond b (heights_before g site τ site) (heights_on g τ site)) yes ∙ omega arith)
     (λ (no : more ≡ false).
     let not_four : flow g t site ≢ 4 = λ back. ⊎_elim
-    (λ (few : ltb 1 (topplings g t) ≡ false).
-    alone_rests g site h τ wave inside started four none_due (ltb-false 1 (topplings g t) few) back)
+    (λ (few : ltb 1 (topplings g t) ≡ false). alone_rests past (ltb-false 1 (topplings g t) few) back)
     (λ (some : eqb (heights_on g τ site) 0 ≡ false). eqb-false (heights_on g τ site) 0 some (omega arith))
     (and_cases (ltb 1 (topplings g t)) (eqb (heights_on g τ site) 0) (sym test ∙ no)) in
     ap (λ b. cond b (heights_before g site τ site) (heights_on g τ site)) no ∙ omega arith)
@@ -204,10 +202,7 @@ waves_more g site more τ σ us vs c d' e' inside waves whole counts clear test 
     let ρ = tile_at vs in
     let d = counts_of d' in
     let e = counts_of e' in
-    let wave = whole.wave in
     let started = whole.started in
-    let none_due : (j : ℕ) → j < sites g → j ≢ site → bit (ω (tile_of g j)).due (place_of g j) ≡ 0 =
-    λ j l ne. whole.none_due (tile_of g j) (place_of g j) (place_below g j) in
     let t = toppled g ω in
     let h = heights_before g site σ in
     let k = heights_now g site more ρ in
@@ -215,17 +210,24 @@ waves_more g site more τ σ us vs c d' e' inside waves whole counts clear test 
     let a = ap (λ x. bit x (place_of g j)) (counts.low (tile_of g j)) in
     let b = ap (λ x. bit x (place_of g j)) (counts.high (tile_of g j)) in
     omega arith in
-    let four : h site ≡ 4 = let o = one_at_same site in let z = waves.empty refl in omega arith in
-    let low : (j : ℕ) → j < sites g → j ≢ site → h j ≤ 3 = first_low g site σ in
+    let past : HasPassed g site h ω = record {
+      inside = inside;
+      four = let o = one_at_same site in let z = waves.empty refl in omega arith;
+      low = first_low g site σ;
+      wave = whole.wave;
+      started = started;
+      none_due = λ j. whole.none_due (tile_of g j) (place_of g j) (place_below g j);
+    } in
+    let four = past.four in
     let test' : more ≡ (ltb 1 (topplings g t) && eqb (heights_on g ω site) 0) =
     test ∙ ap (λ x. ltb 1 (topplings g t) && eqb x 0) (same site) in
-    let has = held_has g site h ω more wave inside started four low none_due test' in
+    let has = held_has more past test' in
     let held = now_same g site more ρ ω site (same site) ∙ has in
     let leaves : Leaves g site h ω k =
     record { others = λ j l ne. now_other g site more ρ j ne ∙ same j; held = omega arith } in
     let sums : (j : ℕ) → j < sites g → grown_on g c e j ≡ grown_on g c d j + t j =
     λ j l. wave_counts g us vs c d' e' waves.counts counts clear j in
-    let next = wave_advances g site h ω k (grown_on g c d) (grown_on g c e) wave started none_due leaves sums in
+    let next = wave_advances (grown_on g c d) (grown_on g c e) past leaves sums in
     let all = sum_below_same (sites g) (grown_on g c e) (λ j. grown_on g c d j + t j) sums in
     let both = sum_below-add (sites g) (grown_on g c d) t in
     let part = at_most_sum_below (sites g) t site inside in (
@@ -246,7 +248,7 @@ waves_more g site more τ σ us vs c d' e' inside waves whole counts clear test 
             let a = waves.counts m p l in
             let b = counts.each m p l in
             let z = clear m p l in
-            let i = wave.inside m p l in
+            let i = whole.wave.inside m p l in
             let s = on_sum g (grown_on g c d) t (grown_on g c e) m p l sums in
             omega arith;
       },

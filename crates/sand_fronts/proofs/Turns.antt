@@ -276,58 +276,6 @@ pub record AreKept (n : ℕ) (list : List ℕ) (kept : ℕ) (τ : ℕ → Tile) 
 abbrev pub Keeps : List ℕ → ℕ → ℕ → Type 0
 Keeps list kept k = (t : ℕ) × (0 ≤ t) × (t < kept) × (get_or list t 0 ≡ k)
 
--- a tile is written behind them, and is one of them from now on, if no site of it had toppled
-pub keep : {n : ℕ} {τ : ℕ → Tile} (list : List ℕ) (kept k : ℕ) (first : Bool) → AreKept n list kept τ
-    → k < n → kept < length list → (IsClear (τ k) → first ≡ true)
-    → AreKept n (set list kept k) (cond first (kept + 1) kept) τ × Keeps (set list kept k) (cond first (kept + 1) kept) k
-keep {n} {τ} list kept k true all inside less is =
-    let here = get_or-set_same list kept k 0 less in (
-      record {
-        listed = λ m. ⊎_elim (λ (clear : IsClear (τ m)). inl clear)
-            (λ (at : Keeps list kept m). inr (
-              at.0,
-              at.1,
-              omega (arith, at.2),
-              get_or-set_other list kept at.0 k 0 (λ e. omega (arith, at.2)) ∙ at.3,
-            ))
-            (all.listed m);
-        on_board = λ t below. ⊎_elim
-            (λ (e : t ≡ kept). let s = ap (λ i. get_or (set list kept k) i 0) e in omega arith)
-            (λ (ne : t ≡ kept → ⊥).
-            let s = get_or-set_other list kept t k 0 ne in let b = all.on_board t (omega arith) in omega arith)
-            (cases_eq t kept);
-      },
-      (kept, omega arith, omega arith, here),
-    )
-keep {n} {τ} list kept k false all inside less is =
-    let same : (t : ℕ) → t < kept → get_or (set list kept k) t 0 ≡ get_or list t 0 =
-    λ t below. get_or-set_other list kept t k 0 (λ e. omega arith) in (
-      record {
-        listed = λ m. ⊎_elim (λ (clear : IsClear (τ m)). inl clear)
-            (λ (at : Keeps list kept m). inr (at.0, at.1, at.2, same at.0 at.2 ∙ at.3)) (all.listed m);
-        on_board = λ t below. let s = same t below in let b = all.on_board t below in omega arith;
-      },
-      ⊎_elim
-          (λ (clear : IsClear (τ k)). absurd (true≢false (sym (is clear))))
-          (λ (at : Keeps list kept k). (at.0, at.1, at.2, same at.0 at.2 ∙ at.3))
-          (all.listed k),
-    )
-
--- a tile that is one of them stays when another is written behind them
-pub still_keeps : (list : List ℕ) (kept k other : ℕ) (first : Bool) → Keeps list kept k
-    → Keeps (set list kept other) (cond first (kept + 1) kept) k
-still_keeps list kept k other true at =
-    (at.0, at.1, omega (arith, at.2), get_or-set_other list kept at.0 other 0 (λ e. omega (arith, at.2)) ∙ at.3)
-still_keeps list kept k other false at =
-    (at.0, at.1, at.2, get_or-set_other list kept at.0 other 0 (λ e. omega (arith, at.2)) ∙ at.3)
-
--- the list begins with one tile
-pub first_kept : (n k : ℕ) (τ : ℕ → Tile) → ((m : ℕ) → IsClear (τ m)) → k < n → AreKept n (k ∷ []) 1 τ
-first_kept n k τ clear inside = record {
-  listed = λ m. inl (clear m);
-  on_board = λ t less. let e = ap (λ i. get_or (k ∷ []) i 0) (let z : t ≡ 0 = omega arith in z) in omega arith;
-}
-
 kept_on : {n : ℕ} (τ σ : ℕ → Tile) (before after : List ℕ) (kept : ℕ) → AreKept n before kept τ
     → ((t : ℕ) → t < kept → get_or after t 0 ≡ get_or before t 0)
     → ((m : ℕ) → ((p : ℕ) → p < 64 → bit (σ m).wave p ≡ bit (τ m).wave p) ⊎ Keeps before kept m)
@@ -345,6 +293,44 @@ kept_on {n} τ σ before after kept all same each =
           (each m);
       on_board = λ t below. let s = same t below in let b = all.on_board t below in omega arith;
     }
+
+-- the tile behind them is one of them from now on, if no site of it had toppled
+keep_if : {n : ℕ} {τ : ℕ → Tile} (list : List ℕ) (kept k : ℕ) (first : Bool) → AreKept n list kept τ
+    → get_or list kept 0 ≡ k → k < n → (IsClear (τ k) → first ≡ true)
+    → AreKept n list (cond first (kept + 1) kept) τ × Keeps list (cond first (kept + 1) kept) k
+keep_if {n} {τ} list kept k true all here inside is = (
+  record {
+    listed = λ m. ⊎_elim (λ (clear : IsClear (τ m)). inl clear)
+        (λ (at : Keeps list kept m). inr (at.0, at.1, omega (arith, at.2), at.3)) (all.listed m);
+    on_board = λ t below. ⊎_elim
+        (λ (e : t ≡ kept). let s = ap (λ i. get_or list i 0) e in omega arith)
+        (λ (ne : t ≡ kept → ⊥). all.on_board t (omega arith))
+        (cases_eq t kept);
+  },
+  (kept, omega arith, omega arith, here),
+)
+keep_if {n} {τ} list kept k false all here inside is = (
+  all,
+  ⊎_elim
+      (λ (clear : IsClear (τ k)). absurd (true≢false (sym (is clear))))
+      (λ (at : Keeps list kept k). at)
+      (all.listed k),
+)
+
+-- a tile that is one of them stays when another is written behind them
+pub still_keeps : (list : List ℕ) (kept k other : ℕ) (first : Bool) → Keeps list kept k
+    → Keeps (set list kept other) (cond first (kept + 1) kept) k
+still_keeps list kept k other true at =
+    (at.0, at.1, omega (arith, at.2), get_or-set_other list kept at.0 other 0 (λ e. omega (arith, at.2)) ∙ at.3)
+still_keeps list kept k other false at =
+    (at.0, at.1, at.2, get_or-set_other list kept at.0 other 0 (λ e. omega (arith, at.2)) ∙ at.3)
+
+-- the list begins with one tile
+pub first_kept : (n k : ℕ) (τ : ℕ → Tile) → ((m : ℕ) → IsClear (τ m)) → k < n → AreKept n (k ∷ []) 1 τ
+first_kept n k τ clear inside = record {
+  listed = λ m. inl (clear m);
+  on_board = λ t less. let e = ap (λ i. get_or (k ∷ []) i 0) (let z : t ≡ 0 = omega arith in z) in omega arith;
+}
 
 -- a tile of the list is visited
 pub visit_kept : {n : ℕ} {τ : ℕ → Tile} {list : List ℕ} {kept : ℕ} (k : ℕ) (t : Tile) → AreKept n list kept τ → Keeps list kept k
@@ -376,7 +362,9 @@ keep_one {n} {τ} list kept k next t all inside less read fits is =
     let first = eqb t.wave 0 in
     let P : ℕ → Type 0 = λ i. AreKept n (set list kept k) i τ in
     let Q : ℕ → Type 0 = λ i. Keeps (set list kept k) i k in
-    let both = keep list kept k first all inside less
+    let stays = kept_on τ τ list (set list kept k) kept all (λ t below. get_or-set_other list kept t k 0 (λ e. omega arith))
+    (λ m. inl (λ p low. refl)) in
+    let both = keep_if (set list kept k) kept k first stays (get_or-set_same list kept k 0 less) inside
     (λ clear. is_first t fits (λ p low. ap (λ (x : Tile). bit x.wave p) read ∙ clear p low)) in
     let few = one_or_none kept first in
     (subst P (sym is) both.0, subst Q (sym is) both.1, omega arith)

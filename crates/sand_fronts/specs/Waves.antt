@@ -91,11 +91,6 @@ pub record PairSteps (τ σ : ℕ → Tile) (free : ℕ → ℕ) (b c : Beside) 
   pub two : Visited (τ k) (free k) 0
   pub gains : Gains free (put k two.tile (put j one.tile τ)) σ (λ m p. over_rim b one.new m p + over_rim c two.new m p)
 
--- the heights after a wave: those in the planes, and what the held site has after its toppling
-pub record Leaves (g : Grid) (site : ℕ) (h : ℕ → ℕ) (τ : ℕ → Tile) (k : ℕ → ℕ) : Type 0 where
-  pub others : (j : ℕ) → j < sites g → j ≢ site → k j ≡ height (τ (tile_of g j)) (place_of g j)
-  pub held : k site + 4 ≡ h site + flow g (toppled g τ) site
-
 abbrev pub beside_at : List Beside → ℕ → Beside
 beside_at all k =
     slice_index_or all k (record { north = 0; south = 0; west = 0; east = 0; west_shift = 0; east_shift = 0 })

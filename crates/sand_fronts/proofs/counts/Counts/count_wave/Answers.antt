@@ -9,7 +9,7 @@ use Rattle.sand_fronts.specs.Waves.{tile_at}
 use Rattle.sand_fronts.specs.Boards.{tiles_of}
 use Rattle.sand_fronts.proofs.Counted.{counted_more, few_in_sets, few_over_wave, wave_less, none_of_none, none_over_none, none_in_sets, none_over_wave, rest_listed, none_listed}
 use Rattle.sand_fronts.proofs.Gained.{tile_read}
-use Rattle.sand_fronts.proofs.counts.Counts.count_wave.Goals.{After-item-k, After-take-set, After-sum_over}
+use Rattle.sand_fronts.proofs.counts.Counts.count_wave.Goals.{After-item-k, After-take-set}
 use Rattle.sand_fronts.proofs.counts.Counts.count_wave.Goals as goal
 
 pub overflow_add-total : goal.overflow_add-total
