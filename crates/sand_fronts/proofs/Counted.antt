@@ -1,5 +1,5 @@
 -- The places of tiles that leave a wave and are counted.
-use Rattle.std.proofs.Common.{ℕ, List, length, get_or, cond, eqb, refl, ◌≡◌, ◌≢◌, ◌+◌, ◌*◌, ◌<◌, ◌≤◌, sym, ◌∙◌, ap, arith, ⊎_elim, inl, inr, ◌-◌}
+use Rattle.std.proofs.Common.{ℕ, List, length, get_or, cond, eqb, refl, ◌≡◌, ◌≢◌, ◌+◌, ◌*◌, ◌<◌, ◌≤◌, sym, ◌∙◌, ap, arith, ⊎_elim, inl, inr, ◌-◌, subst, ◌⊎◌}
 use Rattle.std.specs.Prelude.{bit_or, slice_index}
 use Rattle.std.specs.Vec.{with_item}
 use Rattle.std.proofs.Math.Nat.{mul-le-mul_right}
@@ -13,7 +13,7 @@ use Rattle.sand_tiles.specs.declared.counting.Count.{Count}
 use Rattle.sand_tiles.specs.Places.{bit, number}
 use Rattle.sand_tiles.specs.Counts.{counted, IsCount, no_tile}
 use Rattle.sand_tiles.proofs.Bits.{bit_le, bit_none, either, both_le}
-use Rattle.sand_fronts.specs.TileLists.{IsClear, AreListed}
+use Rattle.sand_fronts.specs.TileLists.{IsClear}
 use Rattle.sand_fronts.specs.Waves.{tile_at}
 use Rattle.sand_fronts.specs.declared.counts.Counts.{Counts}
 use Rattle.sand_fronts.specs.Counting.{count_at, over_wave, with_wave}
@@ -210,24 +210,26 @@ none_over_wave n ν τ clear = sum_below_none n (λ k. sum_below 64 (λ p. numbe
 
 -- ---- turn by turn
 
--- the tiles still in the wave are in the rest of the list
-pub rest_listed : {ts us : List Tile} {c d : Counts} (k : ℕ) (list : List ℕ) (turn end : ℕ)
-    → AreListed list turn end (tile_at ts) → AreCounted ts us c d
-    → IsClear (tile_at us k) → k ≡ slice_index list turn → AreListed list (turn + 1) end (tile_at us)
-rest_listed {ts} {us} {c} {d} k list turn end listed counts clear is m = ⊎_elim
-    (λ (was : IsClear (tile_at ts m)). inl (counts.clear m was))
+abbrev pub AreNone : Count → Type 0
+AreNone c = (p : ℕ) → p < 64 → counted c p ≡ 0
+
+-- each number is in a list, from one turn to before another, or it has P
+abbrev pub AreIn : (ℕ → Type 0) → List ℕ → ℕ → ℕ → Type 0
+AreIn P list from end = (m : ℕ) → P m ⊎ ((t : ℕ) × (from ≤ t) × (t < end) × (slice_index list t ≡ m))
+
+pub rest_in : (P Q : ℕ → Type 0) (k : ℕ) (list : List ℕ) (turn end : ℕ) → AreIn P list turn end
+    → ((m : ℕ) → P m → Q m) → Q k → k ≡ slice_index list turn → AreIn Q list (turn + 1) end
+rest_in P Q k list turn end listed still here is m = ⊎_elim
+    (λ (was : P m). inl (still m was))
     (λ (at : (t : ℕ) × (turn ≤ t) × (t < end) × (slice_index list t ≡ m)). ⊎_elim
-    (λ (now : at.0 ≡ turn).
-    let e : m ≡ k = sym at.3 ∙ ap (slice_index list) now ∙ sym is in
-    inl (λ p l. ap (λ i. bit (tile_at us i).wave p) e ∙ clear p l))
+    (λ (now : at.0 ≡ turn). inl (subst Q (is ∙ ap (slice_index list) (sym now) ∙ at.3) here))
     (λ (later : at.0 ≡ turn → ⊥). inr (at.0, (let a = at.1 in omega arith), at.2, at.3))
     (cases_eq at.0 turn))
     (listed m)
 
-pub none_listed : (τ : ℕ → Tile) (list : List ℕ) (turn end : ℕ) → AreListed list turn end τ → end ≤ turn → (m : ℕ)
-    → IsClear (τ m)
-none_listed τ list turn end listed last m = ⊎_elim
-    (λ (was : IsClear (τ m)). was)
+pub none_in : (P : ℕ → Type 0) (list : List ℕ) (turn end : ℕ) → AreIn P list turn end → end ≤ turn → (m : ℕ) → P m
+none_in P list turn end listed last m = ⊎_elim
+    (λ (was : P m). was)
     (λ (at : (t : ℕ) × (turn ≤ t) × (t < end) × (slice_index list t ≡ m)).
     let a = at.1 in let b = at.2 in absurd (omega arith))
     (listed m)

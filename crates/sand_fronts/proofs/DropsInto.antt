@@ -10,7 +10,7 @@ use Rattle.sand_model.proofs.Bounds.{at_most_sum_below, topplings_bound, sites_l
 use Rattle.sand_model.proofs.Flow.{flow_same}
 use Rattle.sand_model.proofs.Sandpile.{settled_same}
 use Rattle.sand_model.proofs.SumsBelow.{one_at_same, one_at_other}
-use Rattle.sand_tiles.specs.Places.{bit, height}
+use Rattle.sand_tiles.specs.Places.{bit}
 use Rattle.sand_tiles.specs.Counts.{counted}
 use Rattle.sand_fronts.specs.declared.sand.Sand.{Sand}
 use Rattle.sand_fronts.specs.declared.counts.Counts.{Counts}

@@ -1,22 +1,23 @@
-use Rattle.std.proofs.Common.{inl, inr, refl, ℕ, length, ◌≡◌, ◌<◌, ◌≤◌, ◌∙◌, sym, ap, arith, subst, ⊎_elim}
+use Rattle.std.proofs.Common.{inl, inr, refl, ℕ, length, ◌≡◌, ◌<◌, ◌≤◌, ◌∙◌, ap, arith, ⊎_elim}
 use Rattle.std.specs.Prelude.{slice_index}
 use Rattle.std.proofs.Math.ListN.{set}
 use Rattle.std.proofs.lemmas.Bool.{cases_eq}
 use Rattle.std.proofs.lemmas.List.{length-set}
 use Rattle.sand_tiles.specs.declared.counting.Count.{Count}
 use Rattle.sand_tiles.specs.Places.{bit}
-use Rattle.sand_tiles.specs.Counts.{counted, IsCount}
+use Rattle.sand_tiles.specs.Counts.{counted, IsCount, no_tile}
 use Rattle.sand_tiles.proofs.Bits.{bit_none}
 use Rattle.sand_fronts.specs.Tiling.{tile_of, place_of}
 use Rattle.sand_fronts.specs.Counting.{count_at}
 use Rattle.sand_fronts.specs.Marking.{MarksView}
 use Rattle.sand_fronts.specs.Boards.{counts_of, marks_of}
 use Rattle.sand_fronts.proofs.OnTiles.{place_below}
-use Rattle.sand_fronts.proofs.Counted.{count_read, count_set_same, count_set_other}
+use Rattle.sand_fronts.proofs.Counted.{count_read, count_set_same, count_set_other, AreNone, none_in, rest_in}
 use Rattle.sand_fronts.proofs.MarkedTiles.{empty_or_listed}
 use Rattle.sand_fronts.proofs.WrittenBack.{follows_none, follows_more}
 use Rattle.sand_fronts.proofs.written_back.write_back.Goals.{After-index}
 use Rattle.sand_fronts.proofs.written_back.write_back.Goals as goal
+use Rattle.sand_fronts.proofs.Gained.{set_each}
 
 pub loop-turn-init : goal.loop-turn-init
 loop-turn-init c = record {
@@ -24,9 +25,9 @@ loop-turn-init c = record {
   marks = refl;
   sound = c.requires.counts.sound;
   few = λ m p low. omega arith;
-  listed = λ m p low. ⊎_elim
+  listed = λ m. ⊎_elim
       (λ (none : marks_of c.args.counts.now m ≡ 0).
-      inl (c.requires.no_other m p low (ap (λ w. bit w p) none ∙ bit_none p)))
+      inl (λ p low. c.requires.no_other m p low (ap (λ w. bit w p) none ∙ bit_none p)))
       (λ (at : (t : ℕ) × (t < length c.args.counts.now.marks.tiles) × (slice_index c.args.counts.now.marks.tiles t ≡ m)).
       inr (at.0, omega arith, at.1, at.2))
       (empty_or_listed c.args.counts.now.marks.sets c.args.counts.now.marks.tiles m c.len-turn-end.ensures.lists);
@@ -78,26 +79,16 @@ loop-turn-preserved c =
     record {
       each = length-set {A = Count} cs k c.no_count.result ∙ c.loop-turn.invariant.each;
       marks = c.loop-turn.invariant.marks;
-      sound = λ m. ⊎_elim
-          (λ (e : m ≡ k). subst IsCount (sym (count_set_same cs k m c.no_count.result within e)) c.no_count.ensures.sound)
-          (λ (ne : m ≡ k → ⊥). subst IsCount (sym (count_set_other cs k m c.no_count.result ne)) (c.loop-turn.invariant.sound m))
-          (cases_eq m k);
-      few = λ m p low. ⊎_elim
-          (λ (e : m ≡ k). let z = here m p low e in omega arith)
-          (λ (ne : m ≡ k → ⊥). let a = other m p ne in let b = c.loop-turn.invariant.few m p low in omega arith)
-          (cases_eq m k);
-      listed = λ m p low. ⊎_elim
-          (λ (e : m ≡ k). inl (here m p low e))
-          (λ (ne : m ≡ k → ⊥). ⊎_elim
-          (λ (z : counted (count_at cs m) p ≡ 0). inl (other m p ne ∙ z))
-          (λ (at : (t : ℕ) × (c.loop-turn.turn ≤ t) × (t < length c.args.counts.now.marks.tiles)
-          × (slice_index c.args.counts.now.marks.tiles t ≡ m)). ⊎_elim
-          (λ (now : at.0 ≡ c.loop-turn.turn).
-          absurd (ne (sym at.3 ∙ ap (slice_index c.args.counts.now.marks.tiles) now ∙ sym turn_is)))
-          (λ (later : at.0 ≡ c.loop-turn.turn → ⊥). inr (at.0, (let a = at.1 in omega arith), at.2, at.3))
-          (cases_eq at.0 c.loop-turn.turn))
-          (c.loop-turn.invariant.listed m p low))
-          (cases_eq m k);
+      sound = set_each no_tile (λ m x. IsCount x) cs k c.no_count.result within c.no_count.ensures.sound
+          (λ m ne. c.loop-turn.invariant.sound m);
+      few = set_each no_tile (λ m x. (p : ℕ) → p < 64 → counted x p ≤ counted (counts_of c.args.counts.now m) p) cs k
+          c.no_count.result within (λ p low. let z = c.no_count.ensures.none p low in omega arith)
+          (λ m ne. c.loop-turn.invariant.few m);
+      listed = rest_in (λ m. AreNone (count_at cs m)) (λ m. AreNone (count_at (set cs k c.no_count.result) m)) k
+          c.args.counts.now.marks.tiles c.loop-turn.turn (length c.args.counts.now.marks.tiles) c.loop-turn.invariant.listed
+          (set_each no_tile (λ m x. AreNone (count_at cs m) → AreNone x) cs k c.no_count.result within
+          (λ was. c.no_count.ensures.none) (λ m ne was. was))
+          (λ p low. here k p low refl) turn_is;
       added = λ j l.
           let p = place_of g j in
           let low = place_below g j in
@@ -121,15 +112,9 @@ loop-turn-preserved c =
 
 pub returns-clause-written : goal.returns-clause-written
 returns-clause-written c =
-    let none : (m p : ℕ) → p < 64 → counted (counts_of c.loop-turn.counts m) p ≡ 0 =
-    λ m p low. ⊎_elim
-    (λ (z : counted (counts_of c.loop-turn.counts m) p ≡ 0). z)
-    (λ (at : (t : ℕ) × (c.loop-turn.turn ≤ t) × (t < length c.args.counts.now.marks.tiles)
-    × (slice_index c.args.counts.now.marks.tiles t ≡ m)).
-    let a = at.1 in
-    let b = at.2 in
-    absurd (omega (arith, c.len-turn-end.ensures.value, c.loop-turn-test.false)))
-    (c.loop-turn.invariant.listed m p low) in
+    let none = none_in (λ m. AreNone (counts_of c.loop-turn.counts m)) c.args.counts.now.marks.tiles c.loop-turn.turn
+    (length c.args.counts.now.marks.tiles) c.loop-turn.invariant.listed
+    (omega (arith, c.len-turn-end.ensures.value, c.loop-turn-test.false)) in
     record {
       counts_each = c.loop-turn.invariant.each;
       marks = c.loop-turn.invariant.marks;

@@ -1,4 +1,4 @@
-use Rattle.std.proofs.Common.{ℕ, ◌≡◌, ◌⊎◌, ◌+◌, ◌<◌, ◌≤◌, length}
+use Rattle.std.proofs.Common.{ℕ, ◌≡◌, ◌+◌, ◌<◌, ◌≤◌, length}
 use Rattle.std.specs.Prelude.{slice_index}
 use Rattle.sand_model.specs.Grid.{sites}
 use Rattle.sand_tiles.specs.Counts.{counted, IsCount}
@@ -6,6 +6,7 @@ use Rattle.sand_fronts.specs.Boards.{counts_of}
 use Rattle.sand_fronts.specs.Drops.{counted_on}
 use Rattle.sand_fronts.specs.WrittenBack.{Follows}
 use Rattle.sand_fronts.proofs.written_back.write_back.Given as goal
+use Rattle.sand_fronts.proofs.Counted.{AreIn, AreNone}
 
 abbrev pub invariant-loop-turn : goal.invariant-loop-turn
 invariant-loop-turn l = record {
@@ -13,8 +14,8 @@ invariant-loop-turn l = record {
   marks : l.counts.marks ≡ l.initial.counts.marks;
   sound : (m : ℕ) → IsCount (counts_of l.counts m);
   few : (m p : ℕ) → p < 64 → counted (counts_of l.counts m) p ≤ counted (counts_of l.initial.counts m) p;
-  listed : (m p : ℕ) → p < 64 → (counted (counts_of l.counts m) p ≡ 0) ⊎ ((t : ℕ) × (l.turn ≤ t)
-      × (t < length l.initial.counts.marks.tiles) × (slice_index l.initial.counts.marks.tiles t ≡ m));
+  listed : AreIn (λ m. AreNone (counts_of l.counts m)) l.initial.counts.marks.tiles l.turn
+      (length l.initial.counts.marks.tiles);
   added : (j : ℕ) → j < sites l.shape → slice_index l.odometer j + counted_on l.shape (counts_of l.counts) j
       ≡ slice_index l.initial.odometer j + counted_on l.shape (counts_of l.initial.counts) j;
   follows : Follows l.shape l.initial.heights l.heights l.initial.odometer l.odometer;

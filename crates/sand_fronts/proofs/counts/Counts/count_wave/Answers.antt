@@ -7,8 +7,9 @@ use Rattle.sand_fronts.specs.Tiling.{tiles}
 use Rattle.sand_fronts.specs.IndexLists.{ListView}
 use Rattle.sand_fronts.specs.Waves.{tile_at}
 use Rattle.sand_fronts.specs.Boards.{tiles_of}
-use Rattle.sand_fronts.proofs.Counted.{counted_more, few_in_sets, few_over_wave, wave_less, none_of_none, none_over_none, none_in_sets, none_over_wave, rest_listed, none_listed}
+use Rattle.sand_fronts.proofs.Counted.{counted_more, few_in_sets, few_over_wave, wave_less, none_of_none, none_over_none, none_in_sets, none_over_wave, rest_in, none_in}
 use Rattle.sand_fronts.proofs.Gained.{tile_read}
+use Rattle.sand_fronts.specs.TileLists.{IsClear}
 use Rattle.sand_fronts.proofs.counts.Counts.count_wave.Goals.{After-item-k, After-take-set}
 use Rattle.sand_fronts.proofs.counts.Counts.count_wave.Goals as goal
 
@@ -60,16 +61,16 @@ loop-turn-preserved c =
     record {
       counted = counted_more c.loop-turn.invariant.counted c.take-set.ensures.counted;
       list = c.loop-turn.invariant.list;
-      listed = rest_listed k c.args.sand.now.list.items c.loop-turn.turn (length c.args.sand.now.list.items)
-          c.loop-turn.invariant.listed
-          c.take-set.ensures.counted (λ p l. ap (λ w. bit w p) c.take-set.ensures.empty ∙ bit_none p)
+      listed = rest_in (λ m. IsClear (tiles_of c.loop-turn.sand m)) (λ m. IsClear (tile_at c.take-set.new.tiles.items m)) k
+          c.args.sand.now.list.items c.loop-turn.turn (length c.args.sand.now.list.items) c.loop-turn.invariant.listed
+          c.take-set.ensures.counted.clear (λ p l. ap (λ w. bit w p) c.take-set.ensures.empty ∙ bit_none p)
           (item_is d.After-item-k);
       size = omega (arith, c.loop-turn.invariant.size, c.size.ensures.value);
       lost = omega (arith, c.loop-turn.invariant.lost, c.sum_over.ensures.value);
     }
 
 pub returns-clause-clear : goal.returns-clause-clear
-returns-clause-clear c = none_listed (tiles_of c.loop-turn.sand) c.args.sand.now.list.items c.loop-turn.turn
+returns-clause-clear c = none_in (λ m. IsClear (tiles_of c.loop-turn.sand m)) c.args.sand.now.list.items c.loop-turn.turn
     (length c.args.sand.now.list.items) c.loop-turn.invariant.listed
     (omega (arith, c.len-turn-end.ensures.value, c.loop-turn-test.false))
 
