@@ -1,8 +1,8 @@
 -- The neighbours of the tile of a site are on the board.
-use Rattle.std.proofs.Common.{ℕ, Bool, true, false, cond, ◌≡◌, ◌+◌, ◌-◌, ◌*◌, ◌/◌, ◌%◌, ◌<◌, ◌≤◌, List, length, sym, ◌∙◌, ap, arith}
+use Rattle.std.proofs.Common.{ℕ, Bool, true, false, cond, ◌≡◌, ◌+◌, ◌-◌, ◌*◌, ◌/◌, ◌%◌, ◌<◌, ◌≤◌, List, length, sym, ◌∙◌, ap, arith, refl}
 use Rattle.std.specs.Vec.{with_item}
 use Rattle.std.proofs.lemmas.List.{length-set}
-use Rattle.std.proofs.lemmas.Nat.{mul-add-lt, div_below, div-mul-add, mod-mul-add}
+use Rattle.std.proofs.lemmas.Nat.{mul-add-lt, div_below}
 use Rattle.sand_model.specs.Grid.{Grid, IsGrid, sites}
 use Rattle.sand_tiles.specs.declared.tile.Tile.{Tile}
 use Rattle.sand_fronts.specs.declared.sides.Beside.{Beside}
@@ -11,7 +11,7 @@ use Rattle.sand_fronts.specs.declared.sand.Sand.{Sand}
 use Rattle.sand_fronts.specs.Tiling.{across, down, pitch, tiles, tile_of, place_of, to_west, to_east, shift_west, shift_east, seam_west, seam_east}
 use Rattle.sand_fronts.specs.Boards.{IsBoard, IsSand}
 use Rattle.sand_fronts.specs.Waves.{IsBeside, AreBeside, beside_at}
-use Rattle.sand_fronts.proofs.NeighboursOnTiles.{parts_of}
+use Rattle.sand_fronts.proofs.NeighboursOnTiles.{parts_of, site_at}
 
 -- the tile of a site is not in the last row of tiles
 pub row_after : (g : Grid) (j : ℕ) → j < sites g → tile_of g j + pitch g < tiles g
@@ -76,16 +76,9 @@ board_of g all sides one_each small each =
 pub found_at : (g : Grid) (y x row : ℕ) → x < g.width → row ≡ pitch g
     → ((y / 8 + 2) * row + (x / 8 + 1) ≡ tile_of g (y * g.width + x))
     × (y % 8 * 8 + x % 8 ≡ place_of g (y * g.width + x))
-unfolding tile_of place_of
 found_at g y x row less er =
-    let j = y * g.width + x in
-    let r : j / g.width ≡ y = div-mul-add y g.width x less in
-    let c : j % g.width ≡ x = mod-mul-add y g.width x less in (
-      ap (λ t. (y / 8 + 2) * t + (x / 8 + 1)) er
-          ∙ sym (ap (λ t. (t / 8 + 2) * pitch g + (j % g.width / 8 + 1)) r
-          ∙ ap (λ t. (y / 8 + 2) * pitch g + (t / 8 + 1)) c),
-      sym (ap (λ t. t % 8 * 8 + j % g.width % 8) r ∙ ap (λ t. y % 8 * 8 + t % 8) c),
-    )
+    let s = site_at g (y * g.width + x) y x less refl in
+    (ap (λ t. (y / 8 + 2) * t + (x / 8 + 1)) er ∙ sym s.0, sym s.1)
 
 -- the column and the row of a site
 pub site_parts : (g : Grid) (j : ℕ) (q : ℕ × ℕ) → j < sites g → q ≡ (j % g.width, j / g.width)

@@ -160,6 +160,13 @@ pub record AreWaves (g : Grid) (site : ℕ) (more : Bool) (τ σ : ℕ → Tile)
   pub advances : Advances g (λ j. 0) (heights_before g site τ) (grown_on g c d) (heights_now g site more σ)
   pub counts : (m p : ℕ) → p < 64 → counted (d m) p ≡ counted (c m) p + on_tiles g (grown_on g c d) m p
 
+pub none_grown : (g : Grid) (c : ℕ → Count) → 0 ≡ topplings g (grown_on g c c)
+none_grown g c = sym (sum_below_none (sites g) (grown_on g c c) (λ j l. omega arith))
+
+pub none_counted : (g : Grid) (c : ℕ → Count) (m p : ℕ) → p < 64
+    → counted (c m) p ≡ counted (c m) p + on_tiles g (grown_on g c c) m p
+none_counted g c m p low = let b = on_below g (grown_on g c c) m p 0 low (λ j l. omega arith) in omega arith
+
 pub waves_begin : (g : Grid) (site : ℕ) (τ : ℕ → Tile) (c : ℕ → Count) → AreAtRest g site τ
     → AreWaves g site true τ τ c c
 waves_begin g site τ c rest =
@@ -172,15 +179,15 @@ waves_begin g site τ c rest =
         weight_pays = let z = sum_below_same (sites g) (λ j. 0) (grown_on g c c) none in omega arith;
         grains_fall = omega arith;
       };
-      counts = λ m p low. let b = on_below g (grown_on g c c) m p 0 low (λ j l. omega arith) in omega arith;
+      counts = none_counted g c;
     }
 
 -- the topplings of a wave, by the counts
-pub wave_counts : (g : Grid) (us vs : List Tile) (c : ℕ → Count) (d e : Counts)
+pub wave_counts : (g : Grid) {us vs : List Tile} (c : ℕ → Count) {d e : Counts}
     → ((m p : ℕ) → p < 64 → counted (counts_of d m) p ≡ counted (c m) p + on_tiles g (grown_on g c (counts_of d)) m p)
     → AreCounted us vs d e → ((m : ℕ) → IsClear (tile_at vs m))
     → (j : ℕ) → grown_on g c (counts_of e) j ≡ grown_on g c (counts_of d) j + toppled g (tile_at us) j
-wave_counts g us vs c d e counts moved clear j =
+wave_counts g {us} {vs} c {d} {e} counts moved clear j =
     let p = place_of g j in
     let low = place_below g j in
     let m = tile_of g j in
@@ -189,7 +196,7 @@ wave_counts g us vs c d e counts moved clear j =
     let z = clear m p low in
     omega arith
 
-pub waves_more : (g : Grid) (site : ℕ) (more : Bool) (τ σ : ℕ → Tile) (us vs : List Tile) (c : ℕ → Count) (d' e' : Counts)
+pub waves_more : {g : Grid} {site : ℕ} (more : Bool) {τ σ : ℕ → Tile} {us vs : List Tile} {c : ℕ → Count} (d' : Counts) {e' : Counts}
     → site < sites g → AreWaves g site true τ σ c (counts_of d') → IsWholeWave g site σ (tile_at us)
     → AreCounted us vs d' e' → ((m : ℕ) → IsClear (tile_at vs m))
     → more ≡ (ltb 1 (topplings g (toppled g (tile_at us))) && eqb (heights_on g (tile_at vs) site) 0)
@@ -197,7 +204,7 @@ pub waves_more : (g : Grid) (site : ℕ) (more : Bool) (τ σ : ℕ → Tile) (u
     × (topplings g (grown_on g c (counts_of e'))
     ≡ topplings g (grown_on g c (counts_of d')) + topplings g (toppled g (tile_at us)))
     × (weight g (heights_now g site more (tile_at vs)) < weight g (heights_now g site true σ))
-waves_more g site more τ σ us vs c d' e' inside waves whole counts clear test =
+waves_more {g} {site} more {τ} {σ} {us} {vs} {c} d' {e'} inside waves whole counts clear test =
     let ω = tile_at us in
     let ρ = tile_at vs in
     let d = counts_of d' in
@@ -226,7 +233,7 @@ waves_more g site more τ σ us vs c d' e' inside waves whole counts clear test 
     let leaves : Leaves g site h ω k =
     record { others = λ j l ne. now_other g site more ρ j ne ∙ same j; held = omega arith } in
     let sums : (j : ℕ) → j < sites g → grown_on g c e j ≡ grown_on g c d j + t j =
-    λ j l. wave_counts g us vs c d' e' waves.counts counts clear j in
+    λ j l. wave_counts g c waves.counts counts clear j in
     let next = wave_advances (grown_on g c d) (grown_on g c e) past leaves sums in
     let all = sum_below_same (sites g) (grown_on g c e) (λ j. grown_on g c d j + t j) sums in
     let both = sum_below-add (sites g) (grown_on g c d) t in
@@ -332,10 +339,3 @@ pub at_rest : {g : Grid} {site : ℕ} {more : Bool} {τ σ : ℕ → Tile} {c d 
     → AreWaves g site more τ σ c d → more ≡ true → AreAtRest g site σ
 at_rest {g} {site} {more} {τ} {σ} {c} {d} waves is =
     record { quiet = waves.quiet; empty = waves.empty is }
-
-pub none_grown : (g : Grid) (c : ℕ → Count) → 0 ≡ topplings g (grown_on g c c)
-none_grown g c = sym (sum_below_none (sites g) (grown_on g c c) (λ j l. omega arith))
-
-pub none_counted : (g : Grid) (c : ℕ → Count) (m p : ℕ) → p < 64
-    → counted (c m) p ≡ counted (c m) p + on_tiles g (grown_on g c c) m p
-none_counted g c m p low = let b = on_below g (grown_on g c c) m p 0 low (λ j l. omega arith) in omega arith

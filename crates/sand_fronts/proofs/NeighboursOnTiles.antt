@@ -28,19 +28,25 @@ same2 : (u : ℕ → ℕ → ℕ) (k l p q : ℕ) → k ≡ l → p ≡ q → u 
 same2 u k l p q a b = ap (λ i. u i p) a ∙ ap (u l) b
 
 -- a site's tile and place
-site_cell : (g : Grid) (j y x : ℕ) → x < g.width → j ≡ y * g.width + x
-    → (tile_of g j ≡ tile g (y + 16) (x + 8)) × (place_of g j ≡ place (y + 16) (x + 8))
+pub site_at : (g : Grid) (j y x : ℕ) → x < g.width → j ≡ y * g.width + x
+    → (tile_of g j ≡ (y / 8 + 2) * pitch g + (x / 8 + 1)) × (place_of g j ≡ place y x)
 unfolding tile_of place_of
-site_cell g j y x less e =
+site_at g j y x less e =
     let w = g.width in
     let r : j / w ≡ y = ap (λ i. i / w) e ∙ div-mul-add y w x less in
-    let c : j % w ≡ x = ap (λ i. i % w) e ∙ mod-mul-add y w x less in
-    let a : y / 8 + 2 ≡ (y + 16) / 8 = omega arith in
-    let b : x / 8 + 1 ≡ (x + 8) / 8 = omega arith in (
-      ap (λ t. (t / 8 + 2) * pitch g + (j % w / 8 + 1)) r ∙ ap (λ t. (y / 8 + 2) * pitch g + (t / 8 + 1)) c
-          ∙ ap (λ t. t * pitch g + (x / 8 + 1)) a ∙ ap (λ t. (y + 16) / 8 * pitch g + t) b,
-      ap (λ t. t % 8 * 8 + j % w % 8) r ∙ ap (λ t. y % 8 * 8 + t % 8) c ∙ omega arith,
+    let c : j % w ≡ x = ap (λ i. i % w) e ∙ mod-mul-add y w x less in (
+      ap (λ t. (t / 8 + 2) * pitch g + (j % w / 8 + 1)) r ∙ ap (λ t. (y / 8 + 2) * pitch g + (t / 8 + 1)) c,
+      ap (λ t. t % 8 * 8 + j % w % 8) r ∙ ap (λ t. y % 8 * 8 + t % 8) c,
     )
+
+-- the same, with the border
+site_cell : (g : Grid) (j y x : ℕ) → x < g.width → j ≡ y * g.width + x
+    → (tile_of g j ≡ tile g (y + 16) (x + 8)) × (place_of g j ≡ place (y + 16) (x + 8))
+site_cell g j y x less e =
+    let s = site_at g j y x less e in
+    let a : y / 8 + 2 ≡ (y + 16) / 8 = omega arith in
+    let b : x / 8 + 1 ≡ (x + 8) / 8 = omega arith in
+    (s.0 ∙ ap (λ t. t * pitch g + (x / 8 + 1)) a ∙ ap (λ t. (y + 16) / 8 * pitch g + t) b, s.1 ∙ omega arith)
 
 at_cell : (g : Grid) (u : ℕ → ℕ → ℕ) (j y x : ℕ) → x < g.width → j ≡ y * g.width + x
     → at_site g u j ≡ cell g u (y + 16) (x + 8)

@@ -15,7 +15,6 @@ use Rattle.sand_tiles.specs.declared.counting.Count.{Count}
 use Rattle.sand_tiles.specs.Places.{bit, height, Receives}
 use Rattle.sand_tiles.proofs.Bits.{bit_le, half, both_le}
 use Rattle.sand_fronts.specs.Tiling.{tile_of, place_of, on_tiles}
-use Rattle.sand_fronts.specs.TileLists.{IsClear}
 use Rattle.sand_fronts.specs.Waves.{tile_at, AreOpen, AreAllOpen, AreAtRest, heights_before}
 use Rattle.sand_fronts.specs.Drops.{heights_on, grown_on, AreQuiet}
 use Rattle.sand_fronts.proofs.OnTiles.{place_below, at_on, same_site, height_low}
@@ -57,37 +56,30 @@ grain_heights {g} {site} {ts} {here} {grain} {free} {t} j gets l =
     omega arith)
     (cases_eq (tile_of g j) here)
 
-still_clear : {g : Grid} {site : ℕ} {ts : List Tile} {here grain free : ℕ} {t : Tile}
-    → GetsGrain g site ts here grain free t → (m : ℕ)
-    → IsClear (tile_at (set ts here t) m)
-still_clear {g} {site} {ts} {here} {grain} {free} {t} gets =
-    tile_clear ts here t gets.inside gets.receives.wave gets.quiet.clear
-
--- a place that is free gets no grain, and a place that is not free is never due
-still_none_due : {g : Grid} {site : ℕ} {ts : List Tile} {here grain free : ℕ} {t : Tile}
-    → GetsGrain g site ts here grain free t → (m p : ℕ) → p < 64 → bit (tile_at (set ts here t) m).due p ≡ 0
-still_none_due {g} {site} {ts} {here} {grain} {free} {t} gets =
-    tile_set (λ m x. (p : ℕ) → p < 64 → bit x.due p ≡ 0) ts here t gets.inside
-    (λ p low.
-    let clear = gets.quiet.clear here p low in
-    let none = gets.quiet.none_due here p low in
-    let wave = ap (λ w. bit w p) gets.receives.wave in
-    let held = gets.held p low in
-    let few = bit_le free p in
-    let a = height_low (tile_at ts here) p in
-    let all = gets.receives.modulo p low in
-    let due = gets.receives.due_free p low (omega arith) in
-    ⊎_elim
-    (λ (is : bit free p ≡ 1). let each = gets.receives.each p low is (omega arith) in omega arith)
-    (λ (not : bit free p ≡ 1 → ⊥). omega arith)
-    (cases_eq (bit free p) 1))
-    (λ m ne. gets.quiet.none_due m)
-
 -- ---- if the site has no 4, the pile is settled
 
+-- a place that is free gets no grain, and a place that is not free is never due
 pub calm_quiet : {g : Grid} {site : ℕ} {ts : List Tile} {here grain free : ℕ} {t : Tile}
     → GetsGrain g site ts here grain free t → AreQuiet (tile_at (set ts here t))
-calm_quiet gets = record { clear = still_clear gets; none_due = still_none_due gets }
+calm_quiet {g} {site} {ts} {here} {grain} {free} {t} gets = record {
+  clear = tile_clear ts here t gets.inside gets.receives.wave gets.quiet.clear;
+  none_due =
+      tile_set (λ m x. (p : ℕ) → p < 64 → bit x.due p ≡ 0) ts here t gets.inside
+      (λ p low.
+      let clear = gets.quiet.clear here p low in
+      let none = gets.quiet.none_due here p low in
+      let wave = ap (λ w. bit w p) gets.receives.wave in
+      let held = gets.held p low in
+      let few = bit_le free p in
+      let a = height_low (tile_at ts here) p in
+      let all = gets.receives.modulo p low in
+      let due = gets.receives.due_free p low (omega arith) in
+      ⊎_elim
+      (λ (is : bit free p ≡ 1). let each = gets.receives.each p low is (omega arith) in omega arith)
+      (λ (not : bit free p ≡ 1 → ⊥). omega arith)
+      (cases_eq (bit free p) 1))
+      (λ m ne. gets.quiet.none_due m);
+}
 
 pub calm_settled : {g : Grid} {site : ℕ} {ts : List Tile} {here grain free : ℕ} {t : Tile} (c : ℕ → Count)
     → GetsGrain g site ts here grain free t → heights_on g (tile_at (set ts here t)) site ≢ 0

@@ -111,9 +111,7 @@ next c size =
     ∙ ap (height (after (tile_of g site))) c.requires.drop.place in
     let test = ap (λ n. ltb 1 n && eqb c.height_at.result 0) size
     ∙ ap (λ x. ltb 1 (topplings g (toppled g (tiles_of c.topple_wave.new.self))) && eqb x 0) read in
-    waves_more g site (ltb 1 c.count_wave-wave.result.size && eqb c.height_at.result 0) (tiles_of c.args.sand.now)
-    (tiles_of c.waves.sand) c.topple_wave.new.self.tiles.items c.count_wave-wave.new.sand.tiles.items
-    (counts_of c.args.counts.now) c.waves.counts c.count_wave-wave.new.self c.requires.drop.inside passed
+    waves_more (ltb 1 c.count_wave-wave.result.size && eqb c.height_at.result 0) c.waves.counts c.requires.drop.inside passed
     c.topple_wave.ensures.wave c.count_wave-wave.ensures.counted c.count_wave-wave.ensures.clear test
 
 pub waves-smaller : goal.waves-smaller
@@ -131,9 +129,8 @@ waves-preserved c =
     let n = next c (size_of d) in
     let lost = lost_more g (grown g c.args.counts.now c.waves.counts) (toppled g (tiles_of c.topple_wave.new.self))
     (grown g c.args.counts.now c.count_wave-wave.new.self)
-    (λ j l. wave_counts g c.topple_wave.new.self.tiles.items c.count_wave-wave.new.sand.tiles.items
-    (counts_of c.args.counts.now) c.waves.counts c.count_wave-wave.new.self c.waves.invariant.passed.counts
-    counted c.count_wave-wave.ensures.clear j) in
+    (λ j l. wave_counts g (counts_of c.args.counts.now) c.waves.invariant.passed.counts counted
+    c.count_wave-wave.ensures.clear j) in
     record {
       sand = record {
         one_each = counted.tiles_each ∙ c.topple_wave.ensures.sand.one_each;
