@@ -19,7 +19,7 @@ use Rattle.sand_fronts.specs.declared.counts.Counts.{Counts}
 use Rattle.sand_fronts.specs.Counting.{count_at, over_wave, with_wave}
 use Rattle.sand_fronts.specs.Boards.{counts_of, marks_of, AreCounted}
 use Rattle.sand_fronts.specs.Marking.{MarksView, in_sets, AreMarked}
-use Rattle.sand_fronts.proofs.Gained.{set_each, tile_set, tile_set_same, tile_set_other}
+use Rattle.sand_fronts.proofs.Gained.{set_each, tile_set}
 use Rattle.sand_fronts.proofs.Sums.{sum_below_none, sum_below_most}
 use Rattle.sand_fronts.proofs.OnTiles.{height_low}
 
@@ -127,19 +127,14 @@ counted_one ts c k word t was d marks inside each marks_each read is read_count 
       low = tile_set (λ m x. x.low ≡ (tile_at ts m).low) ts k t inside (ap (λ (x : Tile). x.low) is) (λ m ne. refl);
       high = tile_set (λ m x. x.high ≡ (tile_at ts m).high) ts k t inside (ap (λ (x : Tile). x.high) is) (λ m ne. refl);
       due = tile_set (λ m x. x.due ≡ (tile_at ts m).due) ts k t inside (ap (λ (x : Tile). x.due) is) (λ m ne. refl);
-      each = λ m p l. ⊎_elim
-          (λ (e : m ≡ k).
-          let a = ap (λ (y : Tile). bit y.wave p) (tile_set_same ts k m t inside e) in
-          let b = ap (λ (y : Count). counted y p) (count_set_same c.each.items k m d within e) in
-          let f = ap (λ i. with_wave (tile_at ts) (counts_of c) i p) e in
+      each = tile_set (λ m x. (p : ℕ) → p < 64 → counted (count_at (set c.each.items k d) m) p + bit x.wave p
+          ≡ with_wave (tile_at ts) (counts_of c) m p) ts k t inside
+          (λ p l.
+          let a = ap (λ (y : Count). counted y p) (count_set_same c.each.items k k d within refl) in
           let h = counts' p l in
           let z = clear p l in
           omega arith)
-          (λ (ne : m ≡ k → ⊥).
-          let a = ap (λ (y : Tile). bit y.wave p) (tile_set_other ts k m t ne) in
-          let b = ap (λ (y : Count). counted y p) (count_set_other c.each.items k m d ne) in
-          omega arith)
-          (cases_eq m k);
+          (λ m ne p l. let a = ap (λ (y : Count). counted y p) (count_set_other c.each.items k m d ne) in omega arith);
       sound = λ before.
           set_each no_tile (λ m x. IsCount x) c.each.items k d within sound (λ m ne. before m);
       clear = tile_set (λ m x. IsClear (tile_at ts m) → IsClear x) ts k t inside (λ was. clear) (λ m ne was. was);

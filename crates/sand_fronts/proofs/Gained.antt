@@ -8,9 +8,10 @@ use Rattle.sand_tiles.specs.declared.tile.Tile.{Tile}
 use Rattle.sand_tiles.specs.Places.{bit, height, had, Receives}
 use Rattle.sand_tiles.proofs.Moves.{cut}
 use Rattle.sand_fronts.specs.TileLists.{IsClear}
-use Rattle.sand_fronts.specs.Waves.{tile_at, only, Gains}
+use Rattle.sand_fronts.specs.Waves.{tile_at, only, Gains, beside_at}
 use Rattle.sand_fronts.proofs.Waves.{only_same, only_other}
 use Rattle.sand_fronts.proofs.OnTiles.{height_low}
+use Rattle.sand_fronts.specs.declared.sides.Beside.{Beside}
 
 abbrev pub blank : Tile
 blank = record { low = 0; high = 0; due = 0; wave = 0 }
@@ -31,6 +32,9 @@ tile_set_other ts k m t ne = get_or-set_other ts k m t blank ne
 -- a tile that is read
 pub tile_read : (ts : List Tile) (k : ℕ) (x : Tile) → k < length ts → x ≡ get_or ts k x → x ≡ tile_at ts k
 tile_read ts k x inside read = get_or_read ts k x inside read blank
+
+pub beside_read : (all : List Beside) (k : ℕ) (x : Beside) → k < length all → x ≡ get_or all k x → x ≡ beside_at all k
+beside_read all k x inside read = get_or_read all k x inside read _
 
 -- what holds of the entry that is written, and of each other one, holds of all
 pub set_each : {A : Type 0} (d : A) (P : ℕ → A → Type 0) (xs : List A) (k : ℕ) (x : A) → k < length xs → P k x

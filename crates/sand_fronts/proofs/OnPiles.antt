@@ -7,9 +7,6 @@ use Rattle.sand_model.specs.Sand.{IsSettled, one_at}
 use Rattle.sand_model.specs.Lists.{one_if}
 use Rattle.sand_model.proofs.Sandpile.{settled_same}
 use Rattle.sand_model.proofs.SumsBelow.{sum_below_same}
-use Rattle.sand_tiles.specs.declared.tile.Tile.{Tile}
-use Rattle.sand_tiles.specs.declared.counting.Count.{Count}
-use Rattle.sand_tiles.specs.Places.{height}
 use Rattle.sand_tiles.specs.Counts.{counted}
 use Rattle.sand_fronts.specs.declared.board.Board.{Board}
 use Rattle.sand_fronts.specs.declared.sand.Sand.{Sand}
@@ -21,7 +18,7 @@ use Rattle.sand_fronts.specs.Waves.{AreAllOpen}
 use Rattle.sand_fronts.specs.Drops.{heights_on, counted_on, AreQuiet}
 use Rattle.sand_fronts.specs.Avalanches.{IsAvalanche, has_toppled}
 use Rattle.sand_fronts.specs.Boards.{free_of, tiles_of, counts_of, marks_of, grown, IsBoard, IsSand, AreCounts, CountsSites, HasSettled}
-use Rattle.sand_fronts.specs.TiledPiles.{TiledView, IsTiledPile, IsTiledView, tiled_view, toppled_between}
+use Rattle.sand_fronts.specs.TiledPiles.{TiledView, IsTiledPile, IsTiledView, tiled_view, by_site, toppled_between}
 use Rattle.sand_fronts.proofs.OnTiles.{off_site}
 use Rattle.sand_fronts.proofs.NewPiles.{by_site_at, by_site_le, by_site_view, count_rises, few_at_sites}
 
@@ -101,16 +98,9 @@ few_now g s c counts few m p low =
 
 -- ---- reading a site
 
-pub height_read : (g : Grid) (s : Sand) (c : Counts) (site k place : ℕ) (t : Tile) → site < sites g
-    → k ≡ tile_of g site → place ≡ place_of g site → t ≡ tiles_of s k
-    → height t place ≡ slice_index (tiled_view g s c).heights site
-height_read g s c site k place t inside tile at read =
-    ap (λ (x : Tile). height x place) read ∙ ap (λ i. height (tiles_of s i) place) tile
-    ∙ ap (height (tiles_of s (tile_of g site))) at ∙ sym (by_site_at g (heights_on g (tiles_of s)) site inside)
-
-pub times_read : (g : Grid) (s : Sand) (c : Counts) (site k place : ℕ) (n : Count) → site < sites g
-    → k ≡ tile_of g site → place ≡ place_of g site → n ≡ counts_of c k
-    → counted n place ≡ slice_index (tiled_view g s c).times site
-times_read g s c site k place n inside tile at read =
-    ap (λ (x : Count). counted x place) read ∙ ap (λ i. counted (counts_of c i) place) tile
-    ∙ ap (counted (counts_of c (tile_of g site))) at ∙ sym (by_site_at g (counted_on g (counts_of c)) site inside)
+pub site_read : {A : Type 0} (f : A → ℕ → ℕ) (all : ℕ → A) (g : Grid) (site k place : ℕ) (x : A) → site < sites g
+    → k ≡ tile_of g site → place ≡ place_of g site → x ≡ all k
+    → f x place ≡ slice_index (by_site g (λ j. f (all (tile_of g j)) (place_of g j))) site
+site_read {A = A} f all g site k place x inside tile at read =
+    ap (λ (y : A). f y place) read ∙ ap (λ i. f (all i) place) tile ∙ ap (f (all (tile_of g site))) at
+    ∙ sym (by_site_at g (λ j. f (all (tile_of g j)) (place_of g j)) site inside)

@@ -5,7 +5,7 @@ use Rattle.sand_tiles.specs.declared.tile.Tile.{Tile}
 use Rattle.sand_fronts.specs.Waves.{beside_at}
 use Rattle.sand_fronts.specs.Tiling.{tiles}
 use Rattle.sand_fronts.specs.Boards.{tiles_of, free_of}
-use Rattle.sand_fronts.proofs.Gained.{tile_read, gains_from, written}
+use Rattle.sand_fronts.proofs.Gained.{tile_read, beside_read, gains_from, written}
 use Rattle.sand_fronts.proofs.TileLists.{joins_from, visited_waits}
 use Rattle.sand_fronts.proofs.sand.Sand.topple_tile.Goals.{After-index, After-index-2}
 use Rattle.sand_fronts.proofs.sand.Sand.topple_tile.Goals as goal
@@ -24,8 +24,7 @@ reads c =
 reads_beside : (c : After-index-2) → c.index-2.result.now ≡ beside_at c.args.board.now.beside.items c.args.k
 reads_beside c =
     let inside = c.requires.tile.inside in
-    get_or_read c.args.board.now.beside.items c.args.k _ (omega (arith, c.requires.board.beside.one_each))
-    c.index-2.ensures (record { north = 0; south = 0; west = 0; east = 0; west_shift = 0; east_shift = 0 })
+    beside_read c.args.board.now.beside.items c.args.k _ (omega (arith, c.requires.board.beside.one_each)) c.index-2.ensures
 
 -- the number of tiles, after the visit
 visited_each : (c : After-index-2)

@@ -1,12 +1,14 @@
-use Rattle.std.proofs.Common.{◌≡◌, ◌+◌, ◌*◌, ◌∙◌, ap, arith}
+use Rattle.std.proofs.Common.{ℕ, ◌≡◌, ◌+◌, ◌*◌, ◌∙◌, ap, arith}
 use Rattle.std.specs.Prelude.{slice_index}
 use Rattle.sand_model.specs.Grid.{sites}
 use Rattle.sand_tiles.specs.Counts.{counted}
 use Rattle.sand_fronts.specs.TiledPiles.{TiledView}
 use Rattle.sand_fronts.proofs.Counted.{count_read}
-use Rattle.sand_fronts.proofs.OnPiles.{times_read}
+use Rattle.sand_fronts.proofs.OnPiles.{site_read}
 use Rattle.sand_fronts.proofs.tiled_pile.TiledPile.times_in.Goals.{After-index}
 use Rattle.sand_fronts.proofs.tiled_pile.TiledPile.times_in.Goals as goal
+use Rattle.sand_fronts.specs.Boards.{counts_of}
+use Rattle.sand_tiles.specs.declared.counting.Count.{Count}
 
 read : (c : After-index) → counted c.index.result.now c.find_at-tile.result.1
     ≡ slice_index c.args.self.now.times (c.args.row * c.args.self.now.grid.width + c.args.column)
@@ -14,7 +16,7 @@ read c =
     let g = c.self.inside.board.shape in
     let grid = ap (λ (v : TiledView). sites v.grid) c.self.view_is in
     let site = ap (λ (v : TiledView). c.args.row * v.grid.width + c.args.column) c.self.view_is in
-    times_read g c.self.inside.sand c.self.inside.counts (c.args.row * g.width + c.args.column)
+    site_read (λ (n : Count) (p : ℕ). counted n p) (counts_of c.self.inside.counts) g (c.args.row * g.width + c.args.column)
     c.find_at-tile.result.0 c.find_at-tile.result.1 c.index.result.now (omega (arith, c.requires.site))
     c.find_at-tile.ensures.tile c.find_at-tile.ensures.place
     (count_read c.self.inside.counts.each.items c.find_at-tile.result.0 c.index.result.now
