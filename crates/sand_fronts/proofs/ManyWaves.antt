@@ -263,9 +263,9 @@ waves_more {g} {site} more {τ} {σ} {us} {vs} {c} d' {e'} inside waves whole co
       (let a = next.weight_pays in omega arith),
     )
 
-pub wave_lost : (g : Grid) (site : ℕ) (h : ℕ → ℕ) (ν τ : ℕ → Tile) → AreOutside g ν → IsWave g site h τ
+pub wave_lost : {g : Grid} {site : ℕ} {h : ℕ → ℕ} (ν : ℕ → Tile) {τ : ℕ → Tile} → AreOutside g ν → IsWave g site h τ
     → over_wave (tiles g) ν τ ≡ lost g (toppled g τ)
-wave_lost g site h ν τ outside wave =
+wave_lost {g} {site} {h} ν {τ} outside wave =
     sum_below_same (tiles g)
     (λ k. sum_below 64 (λ p. number (ν k) p * bit (τ k).wave p))
     (λ k. sum_below 64 (λ p. on_tiles g (λ j. missing g j * toppled g τ j) k p))

@@ -15,8 +15,8 @@ use Rattle.sand_tiles.proofs.Bits.{bit_le, bit_none, half, both_le}
 use Rattle.sand_fronts.specs.declared.reach.Spot.{Spot}
 use Rattle.sand_fronts.specs.Reaching.{distance_within, spot_of, corner_of, IsReachedFrom, IsReachedIn, distance_between}
 use Rattle.sand_fronts.specs.Avalanches.{IsReached}
-use Rattle.sand_fronts.specs.Marking.{AreSites}
-use Rattle.sand_fronts.specs.Tiling.{tile_of, place_of, row_at, column_at, is_site, site_on, on_tiles}
+use Rattle.sand_fronts.specs.Marking.{AreSites, AreToppled}
+use Rattle.sand_fronts.specs.Tiling.{tile_of, place_of, row_at, column_at, is_site, site_on}
 use Rattle.sand_fronts.proofs.Marked.{set_left, set_taken}
 use Rattle.sand_fronts.proofs.OnTiles.{place_below, back_again, there_again, at_on, on_place}
 
@@ -123,10 +123,10 @@ reads_more {g} {s} {corner} {set} {rest} {next} {reach} {far} {place} d now befo
       (cases_lt far d);
 }
 
-pub reads_all : (g : Grid) (s corner : Spot) (set rest reach far : ℕ)
+pub reads_all : {g : Grid} {s corner : Spot} {set rest reach far : ℕ}
     → Reads g s corner set rest reach far → ((p : ℕ) → bit rest p ≡ 0)
     → IsReachedFrom g s corner set reach far
-reads_all g s corner set rest reach far before none = record {
+reads_all {g} {s} {corner} {set} {rest} {reach} {far} before none = record {
   grows = before.grows;
   within = λ p low is. before.done p low is (none p);
   reached = before.reached;
@@ -228,10 +228,9 @@ distance_at g site j k p l tile place =
     ∙ ap (distance_within g (spot_of g site) (corner_of g k)) place
 
 -- a place is in the sets if and only if its site has toppled, so what is within reach of them is so for the sites
-pub all_within : (g : Grid) (site : ℕ) (v words : ℕ → ℕ) (reach : ℕ)
-    → ((m p : ℕ) → p < 64 → bit (words m) p ≡ on_tiles g (λ j. one_if (ltb 0 (v j))) m p)
+pub all_within : (g : Grid) (site : ℕ) (v : ℕ → ℕ) {words : ℕ → ℕ} {reach : ℕ} → AreToppled g v words
     → IsReachedIn g (spot_of g site) words reach → (j : ℕ) → j < sites g → 0 < v j → distance g site j ≤ reach
-all_within g site v words reach each in_sets j l some =
+all_within g site v {words} {reach} each in_sets j l some =
     let marked = each (tile_of g j) (place_of g j) (place_below g j) in
     let at = at_on g (λ i. one_if (ltb 0 (v i))) j l in
     let one = ap one_if (lt-ltb 0 (v j) some) in
@@ -239,10 +238,9 @@ all_within g site v words reach each in_sets j l some =
     let there = distance_at g site j _ _ l refl refl in
     omega arith
 
-pub some_reached : (g : Grid) (site : ℕ) (v words : ℕ → ℕ) (reach : ℕ)
-    → ((m p : ℕ) → p < 64 → bit (words m) p ≡ on_tiles g (λ j. one_if (ltb 0 (v j))) m p)
+pub some_reached : (g : Grid) (site : ℕ) (v : ℕ → ℕ) {words : ℕ → ℕ} {reach : ℕ} → AreToppled g v words
     → IsReachedIn g (spot_of g site) words reach → 0 < reach → IsReached g site v reach
-some_reached g site v words reach each in_sets far =
+some_reached g site v {words} {reach} each in_sets far =
     let one = in_sets.reached far in
     let m = one.0 in
     let p = one.1 in
@@ -275,9 +273,9 @@ near g i j sides inside there =
     (g.width - abs_diff (column g i) (column g j)) 256 (omega arith) in
     omega arith
 
-pub small_reach : (g : Grid) (site : ℕ) (words : ℕ → ℕ) (reach : ℕ) → IsGrid g → site < sites g → AreSites g words
+pub small_reach : (g : Grid) (site : ℕ) {words : ℕ → ℕ} {reach : ℕ} → IsGrid g → site < sites g → AreSites g words
     → IsReachedIn g (spot_of g site) words reach → reach < 2 ^ 32
-small_reach g site words reach sides inside at in_sets = ⊎_elim
+small_reach g site {words} {reach} sides inside at in_sets = ⊎_elim
     (λ (far : 0 < reach).
     let one = in_sets.reached far in
     let is = at one.0 one.1 one.2 one.3 in

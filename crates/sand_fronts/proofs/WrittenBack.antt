@@ -28,8 +28,8 @@ follows_none g h u low = record {
   low = low;
 }
 
-pub follows_more : (g : Grid) (h k l u v w : List ℕ) → Follows g h k u v → Follows g k l v w → Follows g h l u w
-follows_more g h k l u v w one two = record {
+pub follows_more : {g : Grid} {h k l u v w : List ℕ} → Follows g h k u v → Follows g k l v w → Follows g h l u w
+follows_more {g} {h} {k} {l} {u} {v} {w} one two = record {
   heights_each = two.heights_each ∙ one.heights_each;
   odometer_each = two.odometer_each ∙ one.odometer_each;
   never_falls = λ j. let a = one.never_falls j in let b = two.never_falls j in omega arith;
@@ -132,9 +132,9 @@ tile_more {g} {k} {place} {set} {rest} {next} {c} {u} {v} site w before at gone 
       others = λ j l ne. other j (λ e. ne (ap (tile_of g) (sym e ∙ there) ∙ back.1)) ∙ before.others j l ne;
     }
 
-pub tile_ends : (g : Grid) (k : ℕ) (c : Count) (set rest : ℕ) (u v : List ℕ) → TileWritten g k c set rest u v
+pub tile_ends : {g : Grid} {k : ℕ} {c : Count} {set rest : ℕ} {u v : List ℕ} → TileWritten g k c set rest u v
     → ((p : ℕ) → bit rest p ≡ 0) → CountsTile g k c u v
-tile_ends g k c set rest u v before none = record {
+tile_ends {g} {k} {c} {set} {rest} {u} {v} before none = record {
   there = λ j l tile. before.done j l tile (none (place_of g j));
   others = before.others;
 }

@@ -5,7 +5,7 @@ use Rattle.sand_tiles.specs.Places.{height}
 use Rattle.sand_tiles.proofs.Bits.{bit_le}
 use Rattle.sand_fronts.specs.Tiling.{tiles, tile_of}
 use Rattle.sand_fronts.specs.IndexLists.{ListView}
-use Rattle.sand_fronts.specs.Waves.{tile_at, toppled, heights_before}
+use Rattle.sand_fronts.specs.Waves.{tile_at, toppled}
 use Rattle.sand_fronts.specs.Drops.{heights_on}
 use Rattle.sand_fronts.specs.Boards.{tiles_of, counts_of, marks_of, grown}
 use Rattle.sand_fronts.proofs.Boards.{tile_inside}
@@ -77,10 +77,7 @@ lost_of : (c : After-count_wave-wave) → c.count_wave-wave.result.lost
     ≡ lost c.args.board.now.shape (toppled c.args.board.now.shape (tiles_of c.topple_wave.new.self))
 lost_of c =
     c.count_wave-wave.ensures.lost
-    ∙ wave_lost c.args.board.now.shape c.args.drop.site
-    (heights_before c.args.board.now.shape c.args.drop.site (tiles_of c.waves.sand))
-    (tile_at c.args.board.now.outside.items) (tiles_of c.topple_wave.new.self) c.requires.board.outside
-    c.topple_wave.ensures.wave.wave
+    ∙ wave_lost (tile_at c.args.board.now.outside.items) c.requires.board.outside c.topple_wave.ensures.wave.wave
 
 -- what is known after the wave
 next : (c : After-height_at) → (c.count_wave-wave.result.size

@@ -24,6 +24,5 @@ places-preserved c = record {
 }
 
 pub returns : goal.returns
-returns c = reads_all c.args.shape c.args.from c.args.corner c.args.set
-    c.places.rest c.args.reach c.places.far c.places.invariant.reads
+returns c = reads_all c.places.invariant.reads
     (λ p. ap (λ x. bit x p) (let e : c.places.rest ≡ 0 = omega (arith, c.places-test.false) in e) ∙ bit_none p)

@@ -14,8 +14,8 @@ overflow_cast-result c =
 
 pub overflow_cast-result-2 : goal.overflow_cast-result-2
 overflow_cast-result-2 c =
-    let small = small_reach c.args.shape c.args.site (slice_index c.args.marks.now.sets) c.take_all-area.result.reach
-    c.requires.small.1 c.requires.site c.requires.at_sites c.take_all-area.ensures.reach in
+    let small = small_reach c.args.shape c.args.site c.requires.small.1 c.requires.site c.requires.at_sites
+    c.take_all-area.ensures.reach in
     record { fits = omega arith }
 
 pub returns-clause-avalanche : goal.returns-clause-avalanche
@@ -24,9 +24,7 @@ returns-clause-avalanche c v toppled size lost = record {
   size = size;
   area = c.take_all-area.ensures.area ∙ ap (λ n. in_sets n (slice_index c.args.marks.now.sets)) c.requires.one_each
       ∙ area_is c.args.shape (λ j. one_if (ltb 0 (v j))) (slice_index c.args.marks.now.sets) toppled;
-  within = all_within c.args.shape c.args.site v (slice_index c.args.marks.now.sets) c.take_all-area.result.reach toppled
-      c.take_all-area.ensures.reach;
-  reached = some_reached c.args.shape c.args.site v (slice_index c.args.marks.now.sets) c.take_all-area.result.reach toppled
-      c.take_all-area.ensures.reach;
+  within = all_within c.args.shape c.args.site v toppled c.take_all-area.ensures.reach;
+  reached = some_reached c.args.shape c.args.site v toppled c.take_all-area.ensures.reach;
   all_lost = lost;
 }

@@ -105,9 +105,7 @@ loop-turn-preserved c =
           let b = c.write_tile.ensures.counted.others j l ne in
           omega arith)
           (cases_eq (tile_of g j) k);
-      follows = follows_more c.args.shape c.args.heights.now c.loop-turn.heights c.write_tile.new.heights
-          c.args.odometer.now c.loop-turn.odometer c.write_tile.new.odometer c.loop-turn.invariant.follows
-          c.write_tile.ensures.follows;
+      follows = follows_more c.loop-turn.invariant.follows c.write_tile.ensures.follows;
     }
 
 pub returns-clause-written : goal.returns-clause-written

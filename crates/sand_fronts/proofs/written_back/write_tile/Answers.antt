@@ -70,12 +70,9 @@ places-preserved c =
           (site_of b)
           (λ j. c.write_site.ensures.counted j
           ∙ ap (λ t. slice_index c.places.odometer j + t * one_at c.site_in-site.result j) c.times_at.ensures);
-      follows = follows_more c.args.shape c.args.heights.now c.places.heights c.write_site.new.heights
-          c.args.odometer.now c.places.odometer c.write_site.new.odometer c.places.invariant.follows
-          c.write_site.ensures.follows;
+      follows = follows_more c.places.invariant.follows c.write_site.ensures.follows;
     }
 
 pub returns-clause-counted : goal.returns-clause-counted
-returns-clause-counted c = tile_ends c.args.shape c.args.k c.args.count.now c.args.set c.places.rest
-    c.args.odometer.now c.places.odometer c.places.invariant.written
+returns-clause-counted c = tile_ends c.places.invariant.written
     (λ p. ap (λ x. bit x p) (let e : c.places.rest ≡ 0 = omega (arith, c.places-test.false) in e) ∙ bit_none p)
