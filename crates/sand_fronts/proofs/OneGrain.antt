@@ -17,7 +17,7 @@ use Rattle.sand_tiles.proofs.Bits.{bit_le, half, both_le}
 use Rattle.sand_fronts.specs.Tiling.{tile_of, place_of, on_tiles}
 use Rattle.sand_fronts.specs.Waves.{tile_at, AreOpen, AreAllOpen, AreAtRest, heights_before}
 use Rattle.sand_fronts.specs.Drops.{heights_on, grown_on, AreQuiet}
-use Rattle.sand_fronts.proofs.OnTiles.{place_below, at_on, same_site, height_low}
+use Rattle.sand_fronts.proofs.OnTiles.{place_below, same_site, height_low}
 use Rattle.sand_fronts.proofs.OneSite.{put_site}
 use Rattle.sand_fronts.proofs.Waves.{only_same, only_other}
 use Rattle.sand_fronts.proofs.Gained.{set_each, tile_set, tile_clear, tile_set_same, tile_set_other}
@@ -128,61 +128,51 @@ due_heights {g} {site} {ts} {here} {grain} {free} {t} j gets empty l =
     (λ (ne : j ≡ site → ⊥). let o = one_at_other site j (λ e. ne (sym e)) in omega arith)
     (cases_eq j site)
 
--- the word without the site, and the site, have no place in common
-pub held_apart : (g : Grid) (site here grain whole : ℕ) (free : List ℕ) → site < sites g → here ≡ tile_of g site
-    → whole ≡ get_or free here 0 → ((p : ℕ) → p < 64 → bit grain p ≡ one_at (place_of g site) p)
-    → AreAllOpen g (slice_index free) → (p : ℕ) → p < 64 → bit (bit_xor whole grain) p + bit grain p ≤ 1
-held_apart g site here grain whole free inside is read one all p low =
-    let h = half whole grain p in
-    let b = both_le whole grain p in
-    let b0 = b.0 in let b1 = b.1 in let b2 = b.2 in
-    let o = one p low in
-    let few = bit_le grain p in
-    let w = bit_le whole p in
-    let x = bit_le (bit_xor whole grain) p in
-    ⊎_elim
-    (λ (e : place_of g site ≡ p).
-    let s = sym (ap (one_at (place_of g site)) e) ∙ one_at_same (place_of g site) in
-    let r = ap (λ v. bit v p) read in
-    let a = all here p low in
-    let at = at_on g (λ j. 1) site inside in
-    let t = ap (λ k. on_tiles g (λ j. 1) k p) is ∙ sym (ap (on_tiles g (λ j. 1) (tile_of g site)) e) in
-    omega arith)
-    (λ (ne : place_of g site ≡ p → ⊥). let s = one_at_other (place_of g site) p ne in omega arith)
-    (cases_eq (place_of g site) p)
-
 -- ---- the word of the site's tile, without the site and with it
 
-pub taken_out : (g : Grid) (site here grain whole : ℕ) (free : List ℕ)
-    → site < sites g → here ≡ tile_of g site → here < length free → whole ≡ get_or free here 0
-    → ((p : ℕ) → p < 64 → bit grain p ≡ one_at (place_of g site) p)
-    → AreAllOpen g (slice_index free) → AreOpen g site (slice_index (set free here (bit_xor whole grain)))
-taken_out g site here grain whole free inside is within read one all =
-    set_each 0 (λ k w. (p : ℕ) → p < 64 → bit w p ≡ on_tiles g (λ j. 1 - one_at site j) k p)
-    free here (bit_xor whole grain) within
-    (λ p low.
-    let put = put_site g (λ j. 1 - one_at site j) (λ j. 1) site 1 here p
-    low inside (λ j l. let f = at_most_one_at site j in omega arith) in
-    let a = all here p low in
+-- the word of the tile of a site, and the set of the site's place
+pub record IsWordOf (g : Grid) (site here grain whole : ℕ) (free : List ℕ) : Type 0 where
+  pub inside : site < sites g
+  pub is : here ≡ tile_of g site
+  pub within : here < length free
+  pub read : whole ≡ get_or free here 0
+  pub one : (p : ℕ) → p < 64 → bit grain p ≡ one_at (place_of g site) p
+  pub all : AreAllOpen g (slice_index free)
+
+-- the word without the site
+pub without : {g : Grid} {site here grain whole : ℕ} {free : List ℕ} (p : ℕ) → IsWordOf g site here grain whole free → p < 64
+    → (bit (bit_xor whole grain) p ≡ on_tiles g (λ j. 1 - one_at site j) here p)
+    × (bit (bit_xor whole grain) p + bit grain p ≤ 1)
+without {g} {site} {here} {grain} {whole} {free} p word low =
+    let put = put_site g (λ j. 1 - one_at site j) (λ j. 1) site 1 here p low word.inside
+    (λ j l. let f = at_most_one_at site j in omega arith) in
+    let a = word.all here p low in
     let few = bit_le (get_or free here 0) p in
-    let r = ap (λ w. bit w p) read in
+    let r = ap (λ w. bit w p) word.read in
     let h = half whole grain p in
     let b = both_le whole grain p in
     let b0 = b.0 in let b1 = b.1 in let b2 = b.2 in
-    let o = one p low in
-    let there = only_same (tile_of g site) here (λ q. 1 * one_at (place_of g site) q) p is in
-    omega arith)
+    let o = word.one p low in
+    let there = only_same (tile_of g site) here (λ q. 1 * one_at (place_of g site) q) p word.is in
+    (omega arith, omega arith)
+
+pub taken_out : {g : Grid} {site here grain whole : ℕ} {free : List ℕ} → IsWordOf g site here grain whole free
+    → AreOpen g site (slice_index (set free here (bit_xor whole grain)))
+taken_out {g} {site} {here} {grain} {whole} {free} word =
+    set_each 0 (λ k w. (p : ℕ) → p < 64 → bit w p ≡ on_tiles g (λ j. 1 - one_at site j) k p)
+    free here (bit_xor whole grain) word.within
+    (λ p low. (without p word low).0)
     (λ k ne p low.
-    let put = put_site g (λ j. 1 - one_at site j) (λ j. 1) site 1 k p
-    low inside (λ j l. let f = at_most_one_at site j in omega arith) in
-    let a = all k p low in
-    let none = only_other (tile_of g site) k (λ q. 1 * one_at (place_of g site) q) p (λ e. ne (e ∙ sym is)) in
+    let put = put_site g (λ j. 1 - one_at site j) (λ j. 1) site 1 k p low word.inside
+    (λ j l. let f = at_most_one_at site j in omega arith) in
+    let a = word.all k p low in
+    let none = only_other (tile_of g site) k (λ q. 1 * one_at (place_of g site) q) p (λ e. ne (e ∙ sym word.is)) in
     omega arith)
 
-pub put_back : (g : Grid) (here x whole : ℕ) (free : List ℕ) → here < length free → whole ≡ get_or free here 0
-    → AreAllOpen g (slice_index free) → AreAllOpen g (slice_index (set (set free here x) here whole))
-put_back g here x whole free within read all =
+pub put_back : {g : Grid} {site here grain whole : ℕ} {free : List ℕ} (x : ℕ) → IsWordOf g site here grain whole free
+    → AreAllOpen g (slice_index (set (set free here x) here whole))
+put_back {g} {site} {here} {grain} {whole} {free} x word =
     set_each 0 (λ k w. (p : ℕ) → p < 64 → bit w p ≡ on_tiles g (λ j. 1) k p) (set free here x) here whole
-    (let long = length-set free here x in omega arith)
-    (λ p low. ap (λ w. bit w p) read ∙ all here p low)
-    (λ k ne p low. ap (λ w. bit w p) (get_or-set_other free here k x 0 ne) ∙ all k p low)
+    (let long = length-set free here x in let within = word.within in omega arith)
+    (λ p low. ap (λ w. bit w p) word.read ∙ word.all here p low)
+    (λ k ne p low. ap (λ w. bit w p) (get_or-set_other free here k x 0 ne) ∙ word.all k p low)

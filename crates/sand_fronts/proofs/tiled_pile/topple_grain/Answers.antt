@@ -1,4 +1,4 @@
-use Rattle.std.proofs.Common.{length, ℕ, sym, ltb, ◌≡◌, ◌+◌, ◌<◌, ◌∙◌, refl, ap, arith}
+use Rattle.std.proofs.Common.{length, sym, ltb, ◌≡◌, ◌+◌, ◌<◌, ◌∙◌, refl, ap, arith}
 use Rattle.std.specs.Prelude.{bit_xor}
 use Rattle.std.proofs.Math.ListN.{set}
 use Rattle.std.proofs.lemmas.Bool.{le-ltb}
@@ -9,23 +9,34 @@ use Rattle.sand_model.proofs.Sandpile.{settled_same}
 use Rattle.sand_tiles.specs.declared.tile.Tile.{Tile}
 use Rattle.sand_tiles.specs.Places.{bit, height}
 use Rattle.sand_tiles.proofs.Bits.{bit_none}
-use Rattle.sand_fronts.specs.Tiling.{tile_of, place_of}
+use Rattle.sand_fronts.specs.Tiling.{tile_of}
 use Rattle.sand_fronts.specs.Waves.{tile_at, heights_before}
 use Rattle.sand_fronts.specs.Drops.{heights_on}
-use Rattle.sand_fronts.specs.Boards.{free_of, tiles_of, counts_of, marks_of, grown}
+use Rattle.sand_fronts.specs.Boards.{tiles_of, counts_of, marks_of, grown}
 use Rattle.sand_fronts.proofs.OnTiles.{on_below}
 use Rattle.sand_fronts.proofs.Boards.{board_with, sand_with}
 use Rattle.sand_fronts.proofs.Gained.{tile_read}
 use Rattle.sand_fronts.proofs.ManyWaves.{none_grown, none_lost, none_counted}
 use Rattle.sand_fronts.proofs.Marked.{marked_word}
-use Rattle.sand_fronts.proofs.OneGrain.{GetsGrain, calm_quiet, calm_settled, due_rest, due_heights, held_apart, taken_out, put_back}
+use Rattle.sand_fronts.proofs.OneGrain.{IsWordOf, without, GetsGrain, calm_quiet, calm_settled, due_rest, due_heights, taken_out, put_back}
 use Rattle.sand_fronts.proofs.tiled_pile.topple_grain.Goals.{After-receive, After-height_at, After-index-whole}
 use Rattle.sand_fronts.proofs.tiled_pile.topple_grain.Goals as goal
 
-word_is : (c : After-index-whole) → c.index-whole.result.now ≡ free_of c.args.board.now c.find-tile.result.0
-word_is c =
-    get_or_read c.args.board.now.free.items c.find-tile.result.0 c.index-whole.result.now
-    (omega (arith, c.find-tile.ensures.inside.0, c.requires.pile.board.free_each)) c.index-whole.ensures 0
+-- the word of the site's tile
+word_of : (c : After-index-whole) → IsWordOf c.args.board.now.shape c.args.site c.find-tile.result.0 c.set_of-grain.result
+    c.index-whole.result.now c.args.board.now.free.items
+word_of c =
+    let within : c.find-tile.result.0 < length c.args.board.now.free.items =
+    omega (arith, c.find-tile.ensures.inside.0, c.requires.pile.board.free_each) in
+    record {
+      inside = c.requires.site;
+      is = c.find-tile.ensures.tile;
+      within = within;
+      read = get_or_read c.args.board.now.free.items c.find-tile.result.0 c.index-whole.result.now within
+          c.index-whole.ensures 0;
+      one = λ p low. c.set_of-grain.ensures p low ∙ ap (λ q. one_at q p) c.find-tile.ensures.place;
+      all = c.requires.pile.all_open;
+    }
 
 -- the tile of the site gets the grain
 gets : (c : After-receive) → GetsGrain c.args.board.now.shape c.args.site c.args.sand.now.tiles.items
@@ -34,16 +45,13 @@ gets : (c : After-receive) → GetsGrain c.args.board.now.shape c.args.site c.ar
 gets c =
     let inside : c.find-tile.result.0 < length c.args.sand.now.tiles.items =
     omega (arith, c.find-tile.ensures.inside.0, c.requires.pile.sand.one_each) in
-    let one : (p : ℕ) → p < 64 → bit c.set_of-grain.result p ≡ one_at (place_of c.args.board.now.shape c.args.site) p =
-    λ p low. c.set_of-grain.ensures p low ∙ ap (λ q. one_at q p) c.find-tile.ensures.place in
+    let word = word_of (goal.at.After-receive c).After-index-whole in
     record {
       site_inside = c.requires.site;
       is = c.find-tile.ensures.tile;
       inside = inside;
-      one = one;
-      held = held_apart c.args.board.now.shape c.args.site c.find-tile.result.0 c.set_of-grain.result
-          c.index-whole.result.now c.args.board.now.free.items c.requires.site c.find-tile.ensures.tile
-          (word_is (goal.at.After-receive c).After-index-whole) one c.requires.pile.all_open;
+      one = word.one;
+      held = λ p low. (without p word low).1;
       receives = rw (← tile_read c.args.sand.now.tiles.items c.find-tile.result.0 c.index_mut.result.now inside
           c.index_mut.ensures.value)
           c.receive.ensures;
@@ -95,11 +103,7 @@ returns-then-height_at-ne0-clause-lost c = none_lost c.args.board.now.shape (cou
 
 pub topple_all-total-requires-clause-all_open : goal.topple_all-total-requires-clause-all_open
 topple_all-total-requires-clause-all_open c =
-    let d = goal.at.topple_all-total-requires-clause-all_open c in
-    taken_out c.args.board.now.shape c.args.site c.find-tile.result.0 c.set_of-grain.result c.index-whole.result.now
-    c.args.board.now.free.items c.requires.site c.find-tile.ensures.tile
-    (omega (arith, c.find-tile.ensures.inside.0, c.requires.pile.board.free_each)) (word_is d.After-index-whole)
-    (λ p low. c.set_of-grain.ensures p low ∙ ap (λ q. one_at q p) c.find-tile.ensures.place) c.requires.pile.all_open
+    taken_out (word_of (goal.at.topple_all-total-requires-clause-all_open c).After-index-whole)
 
 pub topple_all-total-requires-clause-rest : goal.topple_all-total-requires-clause-rest
 topple_all-total-requires-clause-rest c =
@@ -135,11 +139,8 @@ returns-clause-board c =
 
 pub returns-clause-all_open : goal.returns-clause-all_open
 returns-clause-all_open c =
-    let d = goal.at.returns-clause-all_open c in
-    put_back c.args.board.now.shape c.find-tile.result.0 (bit_xor c.index-whole.result.now c.set_of-grain.result)
-    c.index-whole.result.now c.args.board.now.free.items
-    (omega (arith, c.find-tile.ensures.inside.0, c.requires.pile.board.free_each)) (word_is d.After-index-whole)
-    c.requires.pile.all_open
+    put_back (bit_xor c.index-whole.result.now c.set_of-grain.result)
+    (word_of (goal.at.returns-clause-all_open c).After-index-whole)
 
 pub returns-clause-marked : goal.returns-clause-marked
 returns-clause-marked c m p low = marked_word c.args.board.now.shape (counts_of c.args.counts.now)
