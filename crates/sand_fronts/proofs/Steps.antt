@@ -1,5 +1,5 @@
 -- A step, from the tiles to the grid.
-use Rattle.std.proofs.Common.{ℕ, cond, ◌≡◌, ◌+◌, ◌*◌, ◌/◌, ◌%◌, ◌^◌, ◌<◌, ◌≤◌, sym, ◌∙◌, ap, subst, arith, ⊎_elim}
+use Rattle.std.proofs.Common.{ℕ, cond, ◌≡◌, ◌+◌, ◌*◌, ◌/◌, ◌%◌, ◌^◌, ◌<◌, ◌≤◌, sym, ◌∙◌, ap, subst, arith, ⊎_elim, refl}
 use Rattle.std.proofs.lemmas.Bool.{cases_eq, eq-eqb, ne_eqb}
 use Rattle.std.proofs.lemmas.Nat.{mod-mul-add}
 use Rattle.sand_model.specs.Grid.{Grid, sites}
@@ -61,13 +61,6 @@ record Pays (t v : Tile) (free : ℕ) (new : ℕ → ℕ) : Type 0 where
   pub at_open : (p : ℕ) → p < 64 → bit free p ≡ 1 → had v p ≡ had t p + around new p
   pub modulo : (p : ℕ) → p < 64 → height v p ≡ (height t p + around new p) % 4
 
-pays_here : (t v : Tile) (free : ℕ) (k m new : ℕ) → m ≡ k → Pays t v free (bit new) → Pays t v free (only k (bit new) m)
-pays_here t v free k m new here pays = record {
-  once = λ p l. let o = pays.once p l in let n = only_same k m (bit new) p here in omega arith;
-  at_open = λ p l is. let o = pays.at_open p l is in let n = around_same k m new p l here in omega arith;
-  modulo = λ p l. let o = pays.modulo p l in let n = around_same k m new p l here in omega arith;
-}
-
 pays_none : (t : Tile) (free k m new : ℕ) → (m ≡ k → ⊥) → Pays t t free (only k (bit new) m)
 pays_none t free k m new there =
     let none : (p : ℕ) → p < 64 → around (only k (bit new) m) p ≡ 0 =
@@ -78,18 +71,25 @@ pays_none t free k m new there =
       modulo = λ p l. let n = none p l in let a = height_low t p in omega arith;
     }
 
+-- what holds of the tile that is put, and of each other one, holds of all
+pub put_each : (P : ℕ → Tile → Type 0) (τ : ℕ → Tile) (k : ℕ) (t : Tile) → P k t
+    → ((m : ℕ) → (m ≡ k → ⊥) → P m (τ m)) → (m : ℕ) → P m (put k t τ m)
+put_each P τ k t here others m = ⊎_elim
+    (λ (e : m ≡ k). subst (λ i. P i (put k t τ m)) (sym e)
+    (subst (P k) (sym (ap (λ c. cond c t (τ m)) (eq-eqb m k e))) here))
+    (λ (ne : m ≡ k → ⊥). subst (P m) (sym (ap (λ c. cond c t (τ m)) (ne_eqb m k ne))) (others m ne))
+    (cases_eq m k)
+
 -- a tile is visited, and the others stay
 pays_put : (free : ℕ → ℕ) (τ : ℕ → Tile) (k start new : ℕ) (t : Tile) → Visits (τ k) t (free k) start new → (m : ℕ)
     → Pays (τ m) (put k t τ m) (free m) (only k (bit new) m)
-pays_put free τ k start new t visits m = ⊎_elim
-    (λ (e : m ≡ k).
-    let Q : ℕ → Tile → Type 0 = λ i x. Pays (τ i) x (free i) (only k (bit new) m) in
-    subst (λ i. Q i (put k t τ m)) (sym e) (subst (Q k) (sym (ap (λ c. cond c t (τ m)) (eq-eqb m k e)))
-    (pays_here (τ k) t (free k) k m new e (record { once = visits.once; at_open = visits.at_open; modulo = visits.modulo }))))
-    (λ (ne : m ≡ k → ⊥).
-    let Q : Tile → Type 0 = λ x. Pays (τ m) x (free m) (only k (bit new) m) in
-    subst Q (sym (ap (λ c. cond c t (τ m)) (ne_eqb m k ne))) (pays_none (τ m) (free m) k m new ne))
-    (cases_eq m k)
+pays_put free τ k start new t visits = put_each (λ m x. Pays (τ m) x (free m) (only k (bit new) m)) τ k t
+    (record {
+      once = λ p l. let o = visits.once p l in let n = only_same k k (bit new) p refl in omega arith;
+      at_open = λ p l is. let o = visits.at_open p l is in let n = around_same k k new p l refl in omega arith;
+      modulo = λ p l. let o = visits.modulo p l in let n = around_same k k new p l refl in omega arith;
+    })
+    (λ m ne. pays_none (τ m) (free m) k m new ne)
 
 -- a tile is visited: its sites topple, and the grains that leave it are under way
 pub visited_wave : {g : Grid} {site : ℕ} {h free : ℕ → ℕ} {τ : ℕ → Tile} {away : ℕ → ℕ → ℕ} {t : Tile} {k start new : ℕ}

@@ -22,7 +22,7 @@ use Rattle.sand_fronts.specs.TileLists.{waits, but, IsClear, AreListed}
 use Rattle.sand_fronts.proofs.OnTiles.{place_below, there_again, at_on, on_below, height_low}
 use Rattle.sand_fronts.proofs.Waves.{only_same, open_site, free_at, IsStart, IsUnderWay, none_away, handed_over}
 use Rattle.sand_fronts.proofs.Rims.{IsInner}
-use Rattle.sand_fronts.proofs.Steps.{inner, visited_wave}
+use Rattle.sand_fronts.proofs.Steps.{inner, visited_wave, put_each}
 use Rattle.sand_fronts.proofs.Ends.{first_wave}
 use Rattle.sand_fronts.proofs.Gained.{blank, no_place}
 
@@ -233,24 +233,12 @@ rest_due_free τ free none m p low = let z = none m p low in omega arith
 -- a tile of which nothing is due takes a place
 pub put_due_free : (τ : ℕ → Tile) (free : ℕ → ℕ) (k : ℕ) (t : Tile) → t.due ≡ 0 → AreDueFree free τ
     → AreDueFree free (put k t τ)
-put_due_free τ free k t none before m p low = ⊎_elim
-    (λ (e : m ≡ k).
-    let z = ap (λ c. bit (cond c t (τ m)).due p) (eq-eqb m k e) ∙ ap (λ w. bit w p) none ∙ bit_none p in omega arith)
-    (λ (ne : m ≡ k → ⊥).
-    let z = ap (λ c. bit (cond c t (τ m)).due p) (ne_eqb m k ne) in let b = before m p low in omega arith)
-    (cases_eq m k)
+put_due_free τ free k t none before = put_each (λ m x. (p : ℕ) → p < 64 → bit x.due p ≤ bit (free m) p) τ k t
+    (λ p low. let z = ap (λ w. bit w p) none ∙ bit_none p in omega arith) (λ m ne. before m)
 
 pub at_tile : (g : Grid) (j k : ℕ) (all : List Beside) → AreBeside g all → j < sites g → tile_of g j ≡ k
     → AtTile g k (beside_at all k)
 at_tile g j k all board l here = subst (λ m. AtTile g m (beside_at all m)) here (board.each j l)
-
--- a waiting tile has a site that is due, and its neighbours' places are on the board
-pub waiting_at : (g : Grid) (site k : ℕ) (τ : ℕ → Tile) (free : ℕ → ℕ) (all : List Beside)
-    → AreOpen g site free → AreBeside g all → AreDueFree free τ → waits τ k ≡ true
-    → (j : ℕ) × IsDueSite g site τ k j × AtTile g k (beside_at all k)
-waiting_at g site k τ free all open' board due_free wait =
-    let d = due_site g site free τ k open' due_free wait in
-    (d.0, d.1, at_tile g d.0 k all board d.1.inside d.1.here)
 
 pub few_topplings : (g : Grid) (τ : ℕ → Tile) → topplings g (toppled g τ) ≤ sites g
 few_topplings g τ = at_most_all (sites g) (toppled g τ) (λ j l. bit_le _ _)
@@ -335,10 +323,9 @@ first_kept n k τ clear inside = record {
 -- a tile of the list is visited
 pub visit_kept : {n : ℕ} {τ : ℕ → Tile} {list : List ℕ} {kept : ℕ} (k : ℕ) (t : Tile) → AreKept n list kept τ → Keeps list kept k
     → AreKept n list kept (put k t τ)
-visit_kept {n} {τ} {list} {kept} k t all here = kept_on τ (put k t τ) list list kept all (λ i below. refl) (λ m. ⊎_elim
-    (λ (e : m ≡ k). inr (here.0, here.1, here.2, here.3 ∙ sym e))
-    (λ (ne : m ≡ k → ⊥). inl (λ p low. ap (λ (t : Tile). bit t.wave p) (ap (λ c. cond c t (τ m)) (ne_eqb m k ne))))
-    (cases_eq m k))
+visit_kept {n} {τ} {list} {kept} k t all here = kept_on τ (put k t τ) list list kept all (λ i below. refl)
+    (put_each (λ m x. ((p : ℕ) → p < 64 → bit x.wave p ≡ bit (τ m).wave p) ⊎ Keeps list kept m) τ k t (inr here)
+    (λ m ne. inl (λ p low. refl)))
 
 pub gains_kept : {n : ℕ} {τ σ : ℕ → Tile} {free : ℕ → ℕ} {gain : ℕ → ℕ → ℕ} (before after : List ℕ) (kept : ℕ)
     → AreKept n before kept τ → Gains free τ σ gain

@@ -15,7 +15,7 @@ use Rattle.sand_fronts.proofs.Gained.{tile_read}
 use Rattle.sand_fronts.proofs.OneSite.{start_of}
 use Rattle.sand_fronts.proofs.Waves.{IsStart, wave_ready}
 use Rattle.sand_fronts.proofs.Ends.{first_wave}
-use Rattle.sand_fronts.proofs.Turns.{IsDueSite, first_kept, visit_kept, gains_kept, keep_one, keep_two, wave_start, turn_first, turn_more, turn_pair, waiting_at, at_tile, front_of, front_two, others_wait, none_wait, rest_due_free, put_due_free, starts_none, few_topplings, clear_site, none_left}
+use Rattle.sand_fronts.proofs.Turns.{IsDueSite, first_kept, visit_kept, gains_kept, keep_one, keep_two, wave_start, turn_first, turn_more, turn_pair, due_site, at_tile, front_of, front_two, others_wait, none_wait, rest_due_free, put_due_free, starts_none, few_topplings, clear_site, none_left}
 use Rattle.sand_fronts.proofs.sand.topple_turns.Goals.{After-set_of, After-push_if, After-item-k, After-item-other, After-keep_if-kept-then-turn-len, After-truncate}
 use Rattle.sand_fronts.proofs.sand.topple_turns.Goals as goal
 
@@ -85,9 +85,10 @@ at_turn : (c : After-item-k) (k : ℕ) → waits (tiles_of c.turns.sand) k ≡ t
     × IsDueSite c.args.given.0.now.shape c.args.given.1.site (tiles_of c.turns.sand) k j
     × AtTile c.args.given.0.now.shape k (beside_at c.args.given.0.now.beside.items k)
 at_turn c k wait =
-    waiting_at c.args.given.0.now.shape c.args.given.1.site k (tiles_of c.turns.sand)
-    (free_of c.args.given.0.now) c.args.given.0.now.beside.items c.requires.all_open
-    c.requires.board.beside c.turns.invariant.due_free wait
+    let g = c.args.given.0.now.shape in
+    let d = due_site g c.args.given.1.site (free_of c.args.given.0.now) (tiles_of c.turns.sand) k c.requires.all_open
+    c.turns.invariant.due_free wait in
+    (d.0, d.1, at_tile g d.0 k c.args.given.0.now.beside.items c.requires.board.beside d.1.inside d.1.here)
 
 from : (c : After-item-k) → IsStart c.args.given.0.now.shape c.args.given.1.site
     (heights_before c.args.given.0.now.shape c.args.given.1.site (tiles_of c.args.sand)) (free_of c.args.given.0.now)
