@@ -45,6 +45,15 @@ set_each d P xs k x inside here others m = ⊎_elim
     (λ (ne : m ≡ k → ⊥). subst (P m) (sym (get_or-set_other xs k m x d ne)) (others m ne))
     (cases_eq m k)
 
+-- the same for a function that is changed at one number
+pub cond_each : {A : Type 0} (P : ℕ → A → Type 0) (f : ℕ → A) (k : ℕ) (x : A) → P k x
+    → ((m : ℕ) → (m ≡ k → ⊥) → P m (f m)) → (m : ℕ) → P m (cond (eqb m k) x (f m))
+cond_each P f k x here others m = ⊎_elim
+    (λ (e : m ≡ k). subst (λ i. P i (cond (eqb m k) x (f m))) (sym e)
+    (subst (P k) (sym (ap (λ c. cond c x (f m)) (eq-eqb m k e))) here))
+    (λ (ne : m ≡ k → ⊥). subst (P m) (sym (ap (λ c. cond c x (f m)) (ne_eqb m k ne))) (others m ne))
+    (cases_eq m k)
+
 -- the same for tiles
 pub tile_set : (P : ℕ → Tile → Type 0) (ts : List Tile) (k : ℕ) (t : Tile) → k < length ts → P k t
     → ((m : ℕ) → (m ≡ k → ⊥) → P m (tile_at ts m)) → (m : ℕ) → P m (tile_at (set ts k t) m)

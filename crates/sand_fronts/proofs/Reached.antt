@@ -1,5 +1,5 @@
 -- How far a drop has reached.
-use Rattle.std.proofs.Common.{ℕ, Bool, true, false, cond, eqb, ltb, refl, inl, inr, ◌≡◌, ◌≢◌, ◌⊎◌, ◌+◌, ◌-◌, ◌*◌, ◌/◌, ◌%◌, ◌^◌, ◌<◌, ◌≤◌, min, max, sym, ◌∙◌, ap, arith, ⊎_elim}
+use Rattle.std.proofs.Common.{ℕ, Bool, true, false, cond, eqb, ltb, refl, inl, inr, ◌≡◌, ◌≢◌, ◌⊎◌, ◌+◌, ◌-◌, ◌*◌, ◌/◌, ◌%◌, ◌^◌, ◌<◌, ◌≤◌, min, max, sym, ◌∙◌, ap, arith, ⊎_elim, subst}
 use Rattle.std.specs.Prelude.{bit_xor}
 use Rattle.std.specs.Int.{abs_diff, trailing_zeros}
 use Rattle.std.proofs.Common.{w64}
@@ -17,8 +17,8 @@ use Rattle.sand_fronts.specs.Reaching.{distance_within, spot_of, corner_of, IsRe
 use Rattle.sand_fronts.specs.Avalanches.{IsReached}
 use Rattle.sand_fronts.specs.Marking.{AreSites, AreToppled}
 use Rattle.sand_fronts.specs.Tiling.{tile_of, place_of, row_at, column_at, is_site, site_on}
-use Rattle.sand_fronts.proofs.Marked.{set_left, set_taken}
 use Rattle.sand_fronts.proofs.OnTiles.{place_below, back_again, there_again, at_on, on_place}
+use Rattle.sand_fronts.proofs.Gained.{cond_each}
 
 -- ---- bounds on the distance of a place of a tile
 
@@ -162,26 +162,15 @@ sets_more {g} {s} {words} {rest} next k {set} {reach} {far} before one is each =
     (λ (same : rest k ≡ words k). inr (ap (λ w. bit w p) (is ∙ same)))
     (before.left k) in
     record {
-      left = λ m. ⊎_elim
-          (λ (e : m ≡ k). inl (set_taken rest next k m each e))
-          (λ (ne : m ≡ k → ⊥). ⊎_elim
-          (λ (none : rest m ≡ 0). inl (set_left rest next k m each ne ∙ none))
-          (λ (same : rest m ≡ words m). inr (set_left rest next k m each ne ∙ same))
-          (before.left m))
-          (cases_eq m k);
+      left = λ m. subst (λ w. (w ≡ 0) ⊎ (w ≡ words m)) (sym (each m))
+          (cond_each (λ i w. (w ≡ 0) ⊎ (w ≡ words i)) rest k 0 (inl refl) (λ i ne. before.left i) m);
       within = λ m p none low has.
-          let earlier : rest m ≡ 0 → distance_within g s (corner_of g m) p ≤ far =
-          λ z. let a = before.within m p z low has in omega arith in
-          ⊎_elim
-          (λ (e : m ≡ k). ⊎_elim
-          (λ (z : rest k ≡ 0). earlier (ap rest e ∙ z))
-          (λ (same : rest k ≡ words k).
-          let w : bit set p ≡ 1 = ap (λ x. bit x p) (is ∙ same) ∙ ap (λ i. bit (words i) p) (sym e) ∙ has in
-          let d = ap (λ i. distance_within g s (corner_of g i) p) e in
-          let a = one.within p low w in omega arith)
+          cond_each (λ i w. w ≡ 0 → bit (words i) p ≡ 1 → distance_within g s (corner_of g i) p ≤ far) rest k 0
+          (λ taken' there. ⊎_elim
+          (λ (z : rest k ≡ 0). let a = before.within k p z low there in omega arith)
+          (λ (same : rest k ≡ words k). one.within p low (ap (λ x. bit x p) (is ∙ same) ∙ there))
           (before.left k))
-          (λ (ne : m ≡ k → ⊥). earlier (sym (set_left rest next k m each ne) ∙ none))
-          (cases_eq m k);
+          (λ i ne z there. let a = before.within i p z low there in omega arith) m (sym (each m) ∙ none) has;
       reached = λ some. ⊎_elim
           (λ (farther : reach < far).
           let now = one.reached farther in (

@@ -1,6 +1,5 @@
 -- A step, from the tiles to the grid.
-use Rattle.std.proofs.Common.{ℕ, cond, ◌≡◌, ◌+◌, ◌*◌, ◌/◌, ◌%◌, ◌^◌, ◌<◌, ◌≤◌, sym, ◌∙◌, ap, subst, arith, ⊎_elim, refl}
-use Rattle.std.proofs.lemmas.Bool.{cases_eq, eq-eqb, ne_eqb}
+use Rattle.std.proofs.Common.{ℕ, cond, ◌≡◌, ◌+◌, ◌*◌, ◌/◌, ◌%◌, ◌^◌, ◌<◌, ◌≤◌, ◌∙◌, ap, arith, ⊎_elim, refl}
 use Rattle.std.proofs.lemmas.Nat.{mod-mul-add}
 use Rattle.sand_model.specs.Grid.{Grid, sites}
 use Rattle.sand_model.specs.Sand.{flow, one_at}
@@ -15,6 +14,7 @@ use Rattle.sand_fronts.proofs.NeighboursOnTiles.{tile, place, IsBlank, parts_of,
 use Rattle.sand_fronts.proofs.OnTiles.{place_below, on_tiles_blank, on_sum, height_low}
 use Rattle.sand_fronts.proofs.Waves.{only_same, only_other, IsStart, IsUnderWay, free_at, newly, needed_next}
 use Rattle.sand_fronts.proofs.Rims.{IsInner, north_rim, south_rim, east_rim, west_rim}
+use Rattle.sand_fronts.proofs.Gained.{cond_each}
 
 pub inner : (g : Grid) (j : ℕ) → j < sites g → IsInner g (tile_of g j)
 unfolding tile_of
@@ -71,19 +71,10 @@ pays_none t free k m new there =
       modulo = λ p l. let n = none p l in let a = height_low t p in omega arith;
     }
 
--- what holds of the tile that is put, and of each other one, holds of all
-pub put_each : (P : ℕ → Tile → Type 0) (τ : ℕ → Tile) (k : ℕ) (t : Tile) → P k t
-    → ((m : ℕ) → (m ≡ k → ⊥) → P m (τ m)) → (m : ℕ) → P m (put k t τ m)
-put_each P τ k t here others m = ⊎_elim
-    (λ (e : m ≡ k). subst (λ i. P i (put k t τ m)) (sym e)
-    (subst (P k) (sym (ap (λ c. cond c t (τ m)) (eq-eqb m k e))) here))
-    (λ (ne : m ≡ k → ⊥). subst (P m) (sym (ap (λ c. cond c t (τ m)) (ne_eqb m k ne))) (others m ne))
-    (cases_eq m k)
-
 -- a tile is visited, and the others stay
 pays_put : (free : ℕ → ℕ) (τ : ℕ → Tile) (k start new : ℕ) (t : Tile) → Visits (τ k) t (free k) start new → (m : ℕ)
     → Pays (τ m) (put k t τ m) (free m) (only k (bit new) m)
-pays_put free τ k start new t visits = put_each (λ m x. Pays (τ m) x (free m) (only k (bit new) m)) τ k t
+pays_put free τ k start new t visits = cond_each (λ m x. Pays (τ m) x (free m) (only k (bit new) m)) τ k t
     (record {
       once = λ p l. let o = visits.once p l in let n = only_same k k (bit new) p refl in omega arith;
       at_open = λ p l is. let o = visits.at_open p l is in let n = around_same k k new p l refl in omega arith;

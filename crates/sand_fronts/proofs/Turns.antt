@@ -22,9 +22,9 @@ use Rattle.sand_fronts.specs.TileLists.{waits, but, IsClear, AreListed}
 use Rattle.sand_fronts.proofs.OnTiles.{place_below, there_again, at_on, on_below, height_low}
 use Rattle.sand_fronts.proofs.Waves.{only_same, open_site, free_at, IsStart, IsUnderWay, none_away, handed_over}
 use Rattle.sand_fronts.proofs.Rims.{IsInner}
-use Rattle.sand_fronts.proofs.Steps.{inner, visited_wave, put_each}
+use Rattle.sand_fronts.proofs.Steps.{inner, visited_wave}
 use Rattle.sand_fronts.proofs.Ends.{first_wave}
-use Rattle.sand_fronts.proofs.Gained.{blank, no_place}
+use Rattle.sand_fronts.proofs.Gained.{blank, no_place, cond_each}
 
 bit_is : (a p : ℕ) → bit_at a p ≡ 1 → bit a p ≡ 1
 unfolding bit
@@ -233,7 +233,7 @@ rest_due_free τ free none m p low = let z = none m p low in omega arith
 -- a tile of which nothing is due takes a place
 pub put_due_free : (τ : ℕ → Tile) (free : ℕ → ℕ) (k : ℕ) (t : Tile) → t.due ≡ 0 → AreDueFree free τ
     → AreDueFree free (put k t τ)
-put_due_free τ free k t none before = put_each (λ m x. (p : ℕ) → p < 64 → bit x.due p ≤ bit (free m) p) τ k t
+put_due_free τ free k t none before = cond_each (λ m x. (p : ℕ) → p < 64 → bit x.due p ≤ bit (free m) p) τ k t
     (λ p low. let z = ap (λ w. bit w p) none ∙ bit_none p in omega arith) (λ m ne. before m)
 
 pub at_tile : (g : Grid) (j k : ℕ) (all : List Beside) → AreBeside g all → j < sites g → tile_of g j ≡ k
@@ -324,7 +324,7 @@ first_kept n k τ clear inside = record {
 pub visit_kept : {n : ℕ} {τ : ℕ → Tile} {list : List ℕ} {kept : ℕ} (k : ℕ) (t : Tile) → AreKept n list kept τ → Keeps list kept k
     → AreKept n list kept (put k t τ)
 visit_kept {n} {τ} {list} {kept} k t all here = kept_on τ (put k t τ) list list kept all (λ i below. refl)
-    (put_each (λ m x. ((p : ℕ) → p < 64 → bit x.wave p ≡ bit (τ m).wave p) ⊎ Keeps list kept m) τ k t (inr here)
+    (cond_each (λ m x. ((p : ℕ) → p < 64 → bit x.wave p ≡ bit (τ m).wave p) ⊎ Keeps list kept m) τ k t (inr here)
     (λ m ne. inl (λ p low. refl)))
 
 pub gains_kept : {n : ℕ} {τ σ : ℕ → Tile} {free : ℕ → ℕ} {gain : ℕ → ℕ → ℕ} (before after : List ℕ) (kept : ℕ)
