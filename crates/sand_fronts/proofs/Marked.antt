@@ -1,5 +1,5 @@
 -- The sets of the sites that a drop has toppled.
-use Rattle.std.proofs.Common.{ℕ, cond, eqb, ltb, ◌≡◌, ◌≢◌, ◌+◌, ◌<◌, ◌≤◌, ◌∙◌, refl, ap, arith, ⊎_elim, sym}
+use Rattle.std.proofs.Common.{ℕ, cond, eqb, ltb, ◌≡◌, ◌+◌, ◌<◌, ◌≤◌, ◌∙◌, refl, ap, arith, ⊎_elim, sym}
 use Rattle.std.proofs.lemmas.Bool.{cases_lt, eq-eqb, ne_eqb, lt-ltb, le-ltb}
 use Rattle.sand_model.specs.Grid.{Grid, sites}
 use Rattle.sand_model.specs.Sand.{sum_below}
@@ -18,18 +18,12 @@ use Rattle.sand_fronts.proofs.OnTiles.{on_each}
 
 -- ---- the sets are taken one by one
 
-pub set_taken : (x y : ℕ → ℕ) (k m : ℕ) → ((i : ℕ) → y i ≡ cond (eqb i k) 0 (x i)) → m ≡ k → y m ≡ 0
-set_taken x y k m each e = each m ∙ ap (λ b. cond b 0 (x m)) (eq-eqb m k e)
-
-pub set_left : (x y : ℕ → ℕ) (k m : ℕ) → ((i : ℕ) → y i ≡ cond (eqb i k) 0 (x i)) → m ≢ k → y m ≡ x m
-set_left x y k m each ne = each m ∙ ap (λ b. cond b 0 (x m)) (ne_eqb m k ne)
-
 pub set_less : (n : ℕ) (x y : ℕ → ℕ) (k : ℕ) → ((i : ℕ) → y i ≡ cond (eqb i k) 0 (x i)) → k < n
     → sum_below 64 (bit (x k)) + in_sets n y ≡ in_sets n x
 set_less n x y k each less =
     sum_less_one n k (λ m. sum_below 64 (bit (x m))) (λ m. sum_below 64 (bit (y m))) less
-    (ap (λ w. sum_below 64 (bit w)) (set_taken x y k k each refl) ∙ none_of_none)
-    (λ m ne. ap (λ w. sum_below 64 (bit w)) (set_left x y k m each ne))
+    (ap (λ w. sum_below 64 (bit w)) (each k ∙ ap (λ b. cond b 0 (x k)) (eq-eqb k k refl)) ∙ none_of_none)
+    (λ m ne. ap (λ w. sum_below 64 (bit w)) (each m ∙ ap (λ b. cond b 0 (x m)) (ne_eqb m k ne)))
 
 -- ---- what the sets are
 

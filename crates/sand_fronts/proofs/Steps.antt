@@ -1,5 +1,5 @@
 -- A step, from the tiles to the grid.
-use Rattle.std.proofs.Common.{ℕ, cond, ◌≡◌, ◌+◌, ◌*◌, ◌/◌, ◌%◌, ◌^◌, ◌<◌, ◌≤◌, ◌∙◌, ap, arith, ⊎_elim, refl}
+use Rattle.std.proofs.Common.{ℕ, ◌≡◌, ◌+◌, ◌*◌, ◌/◌, ◌%◌, ◌^◌, ◌<◌, ◌≤◌, ◌∙◌, ap, arith, refl}
 use Rattle.std.proofs.lemmas.Nat.{mod-mul-add}
 use Rattle.sand_model.specs.Grid.{Grid, sites}
 use Rattle.sand_model.specs.Sand.{flow, one_at}
