@@ -5,7 +5,7 @@ use Rattle.std.proofs.lemmas.List.{drop-append-le, get_or_append_left}
 use Rattle.sand_model.specs.Lists.{Lists}
 use Rattle.sand_model.proofs.Lists.{lists_push, lists_same}
 use Rattle.sand_tiles.specs.declared.tile.Tile.{Tile}
-use Rattle.sand_fronts.specs.IndexLists.{ListView}
+use Rattle.sand_model.specs.IndexLists.{ListView}
 use Rattle.sand_fronts.specs.TileLists.{waits, but, Joins}
 use Rattle.sand_fronts.specs.Waves.{tile_at}
 use Rattle.sand_fronts.specs.declared.sand.Sand.{Sand}

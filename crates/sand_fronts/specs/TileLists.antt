@@ -3,7 +3,7 @@ use Rattle.std.specs.Prelude.{ℕ, Bool, List, ◌≡◌, ◌⊎◌, ◌+◌, �
 use Rattle.sand_model.specs.Lists.{Lists}
 use Rattle.sand_tiles.specs.declared.tile.Tile.{Tile}
 use Rattle.sand_tiles.specs.Places.{bit}
-use Rattle.sand_fronts.specs.IndexLists.{ListView}
+use Rattle.sand_model.specs.IndexLists.{ListView}
 
 -- whether any of the 64 places of a tile is due
 abbrev pub waits : (ℕ → Tile) → ℕ → Bool

@@ -33,9 +33,9 @@ ghost use Rattle.sand_fronts.specs.Waves.{only, AreOpen, AreAtRest, AtTile, IsOn
 ghost use Rattle.sand_fronts.specs.Boards.{tiles_of, free_of, IsBoard, IsSand, Gets};
 
 use crate::board::{Board, DropSite};
-use crate::index_list::IndexList;
 use crate::sides::Beside;
 use core::mem::replace_with;
+use sand_model::IndexList;
 use sand_tiles::{Tile, receive, set_of, visit, visit_pair};
 
 // The first column of a tile.

@@ -11,12 +11,14 @@
 #![tactic(auto)]
 
 mod faults;
+mod index_list;
 mod lattice;
 pub mod laws;
 mod pile;
 mod shape;
 
 pub use faults::{PileFault, ShapeFault, ToppleFault};
+pub use index_list::IndexList;
 pub use lattice::Lattice;
 pub use pile::{GRAIN_LIMIT, Pile, TOPPLING_HEIGHT, topple};
 pub use shape::{CYLINDER_WIDTH, Edge, SIDE_LIMIT, Shape};

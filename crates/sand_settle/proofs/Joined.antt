@@ -10,7 +10,7 @@ use Rattle.sand_model.proofs.Flow.{flow-scale, flow-one_at}
 use Rattle.sand_model.proofs.Neighbours.{flow_four}
 use Rattle.sand_model.proofs.Heights.{get_or-written}
 use Rattle.sand_model.proofs.Lists.{lists_of}
-use Rattle.sand_fronts.specs.IndexLists.{ListView}
+use Rattle.sand_model.specs.IndexLists.{ListView}
 use Rattle.sand_fronts.proofs.TileLists.{one_more}
 use Rattle.sand_settle.specs.SiteLists.{may_topple, Joins}
 use Rattle.sand_settle.proofs.Queue.{queued}

@@ -1,7 +1,7 @@
 -- Lists of sites, and the tests of their sites.
 use Rattle.std.specs.Prelude.{ℕ, Bool, List, ◌≡◌, ◌+◌, ◌≤◌, ◌++◌, length, take, drop, slice_index, nat_le}
 use Rattle.sand_model.specs.Lists.{Lists}
-use Rattle.sand_fronts.specs.IndexLists.{ListView}
+use Rattle.sand_model.specs.IndexLists.{ListView}
 
 -- whether a site may topple at the heights s
 abbrev pub may_topple : (ℕ → ℕ) → ℕ → Bool

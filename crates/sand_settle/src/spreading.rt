@@ -6,8 +6,7 @@ ghost use Rattle.sand_model.specs.Sand.{one_at, value_at};
 ghost use Rattle.sand_settle.specs.SiteLists.{Joins};
 ghost use Rattle.sand_settle.specs.Underway.{NeighboursGain};
 
-use sand_fronts::IndexList;
-use sand_model::{Lattice, TOPPLING_HEIGHT};
+use sand_model::{IndexList, Lattice, TOPPLING_HEIGHT};
 
 /// Does nothing at run time. It tells the proof that no side of the grid is above 256: there are at most 65,536 sites,
 /// so each fits into 32 bits.

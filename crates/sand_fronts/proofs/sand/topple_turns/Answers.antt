@@ -8,7 +8,7 @@ use Rattle.sand_model.proofs.SumsBelow.{one_at_same}
 use Rattle.sand_tiles.specs.Places.{bit, IsReady}
 use Rattle.sand_fronts.specs.Tiling.{tiles, on_tiles}
 use Rattle.sand_fronts.specs.Waves.{put, beside_at, AtTile}
-use Rattle.sand_fronts.specs.IndexLists.{ListView}
+use Rattle.sand_model.specs.IndexLists.{ListView}
 use Rattle.sand_fronts.specs.TileLists.{waits, but, Joins, IsClear}
 use Rattle.sand_fronts.specs.Boards.{tiles_of, free_of}
 use Rattle.sand_fronts.proofs.OnTiles.{place_below}

@@ -7,7 +7,7 @@ use Rattle.sand_model.specs.Sand.{one_at}
 use Rattle.sand_model.proofs.Bounds.{sites_limit}
 use Rattle.sand_model.proofs.Heights.{counted}
 use Rattle.sand_model.proofs.Lists.{lists_of}
-use Rattle.sand_fronts.specs.IndexLists.{ListView}
+use Rattle.sand_model.specs.IndexLists.{ListView}
 use Rattle.sand_settle.proofs.Joined.{toppled_times}
 use Rattle.sand_settle.proofs.Queue.{turn_inside, turn_high, others_wait, queue_room}
 use Rattle.sand_settle.proofs.Underway.{advance_more, advance_turn, turn_counts, counts_small, sum_falls}
