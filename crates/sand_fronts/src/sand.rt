@@ -26,9 +26,10 @@
 //! column of the grid need not be the last of its tile: hence the shifts of `Beside`.
 
 ghost use Rattle.std.specs.Prelude.{◌≡◌, ◌≢◌, ℕ, ◌+◌, ◌<◌, ◌≤◌, length, slice_index};
+ghost use Rattle.sand_model.specs.IndexLists.{Joins};
 ghost use Rattle.sand_tiles.specs.Places.{bit, IsReady};
 ghost use Rattle.sand_fronts.specs.Tiling.{tiles};
-ghost use Rattle.sand_fronts.specs.TileLists.{but, waits, Joins, AreListed};
+ghost use Rattle.sand_fronts.specs.TileLists.{but, waits, AreListed};
 ghost use Rattle.sand_fronts.specs.Waves.{only, AreOpen, AreAtRest, AtTile, IsOnBoard, IsDropSite, IsWholeWave, beside_at, over_rim, Steps, PairSteps};
 ghost use Rattle.sand_fronts.specs.Boards.{tiles_of, free_of, IsBoard, IsSand, Gets};
 
