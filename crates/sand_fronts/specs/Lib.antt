@@ -1,7 +1,6 @@
 pub mod Tiling
 pub mod Waves
 pub mod Filling
-pub mod IndexLists
 pub mod TileLists
 pub mod Marking
 pub mod Counting

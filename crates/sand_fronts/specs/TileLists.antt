@@ -1,9 +1,7 @@
 -- Lists of waiting tiles.
-use Rattle.std.specs.Prelude.{ℕ, Bool, List, ◌≡◌, ◌⊎◌, ◌+◌, ◌%◌, ◌^◌, ◌<◌, ◌≤◌, length, drop, slice_index, nat_lt, ◌&&◌, not, ◌==◌}
-use Rattle.sand_model.specs.Lists.{Lists}
+use Rattle.std.specs.Prelude.{ℕ, Bool, List, ◌≡◌, ◌⊎◌, ◌%◌, ◌^◌, ◌<◌, ◌≤◌, slice_index, nat_lt, ◌&&◌, not, ◌==◌}
 use Rattle.sand_tiles.specs.declared.tile.Tile.{Tile}
 use Rattle.sand_tiles.specs.Places.{bit}
-use Rattle.sand_fronts.specs.IndexLists.{ListView}
 
 -- whether any of the 64 places of a tile is due
 abbrev pub waits : (ℕ → Tile) → ℕ → Bool
@@ -12,15 +10,6 @@ waits τ k = nat_lt 0 ((τ k).due % 2 ^ 64)
 -- a test, except that tile k does not pass
 abbrev pub but : ℕ → (ℕ → Bool) → ℕ → Bool
 but k p m = not (m == k) && p m
-
--- at most `most` tiles join the end of a list; if from some turn on it had each tile that passes p once, it now has
--- each that passes q
-pub record Joins (n most : ℕ) (p q : ℕ → Bool) (l m : ListView) : Type 0 where
-  pub room : m.room ≡ l.room
-  pub longer : length l.items ≤ length m.items
-  pub few : length m.items ≤ length l.items + most
-  pub kept : (t : ℕ) → t < length l.items → slice_index m.items t ≡ slice_index l.items t
-  pub waiting : (turn : ℕ) → turn ≤ length l.items → Lists n p (drop turn l.items) → Lists n q (drop turn m.items)
 
 -- no site of a tile has toppled in this wave
 abbrev pub IsClear : Tile → Type 0

@@ -7,7 +7,6 @@ mod counts;
 mod dropping;
 mod extent;
 mod filling;
-mod index_list;
 mod marks;
 mod reach;
 mod sand;
@@ -17,5 +16,4 @@ mod tiling;
 mod written_back;
 
 pub use avalanche::Avalanche;
-pub use index_list::IndexList;
 pub use tiled_pile::TiledPile;

@@ -7,7 +7,7 @@ ghost use Rattle.std.specs.Prelude.{◌≡◌, ℕ, ◌+◌, ◌<◌, ◌≤◌,
 ghost use Rattle.sand_model.specs.Lists.{Lists};
 ghost use Rattle.sand_fronts.specs.Marking.{has_mark};
 
-use crate::index_list::IndexList;
+use sand_model::IndexList;
 use std::alloc::{AllocError, Global};
 use std::marker::Model;
 

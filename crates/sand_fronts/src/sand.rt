@@ -26,16 +26,17 @@
 //! column of the grid need not be the last of its tile: hence the shifts of `Beside`.
 
 ghost use Rattle.std.specs.Prelude.{◌≡◌, ◌≢◌, ℕ, ◌+◌, ◌<◌, ◌≤◌, length, slice_index};
+ghost use Rattle.sand_model.specs.IndexLists.{Joins};
 ghost use Rattle.sand_tiles.specs.Places.{bit, IsReady};
 ghost use Rattle.sand_fronts.specs.Tiling.{tiles};
-ghost use Rattle.sand_fronts.specs.TileLists.{but, waits, Joins, AreListed};
+ghost use Rattle.sand_fronts.specs.TileLists.{but, waits, AreListed};
 ghost use Rattle.sand_fronts.specs.Waves.{only, AreOpen, AreAtRest, AtTile, IsOnBoard, IsDropSite, IsWholeWave, beside_at, over_rim, Steps, PairSteps};
 ghost use Rattle.sand_fronts.specs.Boards.{tiles_of, free_of, IsBoard, IsSand, Gets};
 
 use crate::board::{Board, DropSite};
-use crate::index_list::IndexList;
 use crate::sides::Beside;
 use core::mem::replace_with;
+use sand_model::IndexList;
 use sand_tiles::{Tile, receive, set_of, visit, visit_pair};
 
 // The first column of a tile.

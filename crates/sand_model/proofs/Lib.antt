@@ -8,6 +8,7 @@ pub mod OverIntegers
 pub mod Occurrences
 pub mod Bounds
 pub mod Lists
+pub mod IndexLists
 pub mod Underway
 pub mod SettledIfTight
 pub mod EachSettles

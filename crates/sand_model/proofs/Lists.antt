@@ -214,6 +214,17 @@ lists_pop n p q xs i list fail others =
     (cases_eq j i))
     (λ j past. let first = occurrences-cons i xs j in let was = outside n p (i ∷ xs) j list past in omega arith)
 
+-- the same for the last number
+pub lists_shorter : (n : ℕ) (p q : ℕ → Bool) (xs : List ℕ) (i : ℕ) → Lists n p (xs ++ i ∷ [])
+    → q i ≡ false → ((j : ℕ) → j < n → j ≢ i → p j ≡ q j) → Lists n q xs
+lists_shorter n p q xs i list fail others =
+    lists_pop n p q xs i
+    (record {
+      each = λ j. let first = occurrences-cons i xs j in
+          let last = occurrences-push xs i j in let e = list.each j in omega arith;
+    })
+    fail others
+
 -- ---- a listing that grows with n
 
 pub lists_none : (p : ℕ → Bool) → Lists 0 p []

@@ -4,6 +4,7 @@ pub mod Columns
 pub mod Sand
 pub mod Underway
 pub mod Lists
+pub mod IndexLists
 pub mod Integers
 pub mod Piles
 pub mod Laws

@@ -1,5 +1,5 @@
 pub mod Queue
-pub mod Joined
+pub mod Spread
 pub mod Underway
 pub mod Records
 pub mod Drops

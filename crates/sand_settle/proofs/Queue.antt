@@ -1,25 +1,19 @@
--- The list of the sites whose number passes a test, when one number is written.
-use Rattle.std.proofs.Common.{ℕ, Bool, true, false, ◌≡◌, ◌≢◌, ◌+◌, ◌-◌, ◌*◌, ◌/◌, ◌<◌, ◌≤◌, refl, sym, ◌∙◌, ap, subst, drop, arith, List, [], ◌∷◌, ◌++◌, length, get_or, append_assoc, length-append, cond, ltb, leb, ◌&&◌, ⊎_elim}
+-- The queue of the sites that may topple, when one height is written.
+use Rattle.std.proofs.Common.{ℕ, Bool, false, ◌≡◌, ◌≢◌, ◌+◌, ◌-◌, ◌*◌, ◌/◌, ◌<◌, ◌≤◌, refl, sym, ◌∙◌, ap, subst, drop, arith, List, [], ◌∷◌, ◌++◌, length, get_or, length-append, cond, ltb, leb, not, ◌&&◌, ⊎_elim}
 use Rattle.std.proofs.Math.ListN.{set}
-use Rattle.std.proofs.lemmas.Bool.{cases_eq, cases_lt, lt-leb, le-leb, lt-ltb, le-ltb, leb-true, leb-false}
+use Rattle.std.proofs.lemmas.Bool.{cases_lt, lt-leb, le-leb, lt-ltb, le-ltb, leb-true, leb-false}
 use Rattle.std.proofs.lemmas.List.{get_or-set_same, get_or-set_other, drop_more}
 use Rattle.sand_model.specs.Lists.{Lists}
-use Rattle.sand_model.proofs.Lists.{lists_length, lists_same, lists_push, lists_pop, lists_of, front_below, front_passes, none_passes}
-use Rattle.sand_settle.specs.SiteLists.{may_topple}
+use Rattle.sand_model.specs.IndexLists.{ListView}
+use Rattle.sand_model.proofs.Lists.{lists_length, lists_pop, lists_of, front_below, front_passes, none_passes}
+use Rattle.sand_model.proofs.IndexLists.{joins_if}
+use Rattle.sand_settle.specs.SiteLists.{may_topple, UnstableJoin}
 
 others_kept : (test : ℕ → Bool) (h : List ℕ) (i v j : ℕ) → j ≢ i → test (get_or h j 0) ≡ test (get_or (set h i v) j 0)
 others_kept test h i v j ne = ap test (sym (get_or-set_other h i j v 0 ne))
 
 written : (test : ℕ → Bool) (h : List ℕ) (i v : ℕ) → i < length h → test (get_or (set h i v) i 0) ≡ test v
 written test h i v l = ap test (get_or-set_same h i v 0 l)
-
-pub joins : (test : ℕ → Bool) (h xs : List ℕ) (i v : ℕ)
-    → Lists (length h) (λ j. test (get_or h j 0)) xs
-    → i < length h → test (get_or h i 0) ≡ false → test v ≡ true
-    → Lists (length h) (λ j. test (get_or (set h i v) j 0)) (xs ++ i ∷ [])
-joins test h xs i v all l out in' =
-    lists_push (length h) (λ j. test (get_or h j 0)) (λ j. test (get_or (set h i v) j 0))
-    xs i all l out (written test h i v l ∙ in') (λ j m ne. others_kept test h i v j ne)
 
 pub leaves : (test : ℕ → Bool) (h xs : List ℕ) (i v : ℕ)
     → Lists (length h) (λ j. test (get_or h j 0)) (i ∷ xs) → i < length h
@@ -28,19 +22,6 @@ leaves test h xs i v all l out =
     lists_pop (length h) (λ j. test (get_or h j 0)) (λ j. test (get_or (set h i v) j 0))
     xs i all (written test h i v l ∙ out) (λ j m ne. others_kept test h i v j ne)
 
-pub stays : (test : ℕ → Bool) (h xs : List ℕ) (i v : ℕ)
-    → Lists (length h) (λ j. test (get_or h j 0)) xs
-    → i < length h → test (get_or h i 0) ≡ test v
-    → Lists (length h) (λ j. test (get_or (set h i v) j 0)) xs
-stays test h xs i v all l same =
-    lists_same (length h) (λ j. test (get_or h j 0)) (λ j. test (get_or (set h i v) j 0)) xs
-    (λ j m.
-    ⊎_elim (λ (e : j ≡ i). ap (λ k. test (get_or h k 0)) e ∙ same
-    ∙ sym (written test h i v l) ∙ ap (λ k. test (get_or (set h i v) k 0)) (sym e))
-    (λ (ne : j ≡ i → ⊥). others_kept test h i v j ne)
-    (cases_eq j i))
-    all
-
 -- the front may topple, and if the queue is empty no site may
 pub front_is_high : (n : ℕ) (s : ℕ → ℕ) (xs : List ℕ) (i : ℕ) → Lists n (may_topple s) (i ∷ xs) → 4 ≤ s i
 front_is_high n s xs i all = leb-true 4 (s i) (front_passes n (may_topple s) xs i all)
@@ -48,22 +29,23 @@ front_is_high n s xs i all = leb-true 4 (s i) (front_passes n (may_topple s) xs 
 pub all_low : (n : ℕ) (s : ℕ → ℕ) → Lists n (may_topple s) [] → (i : ℕ) → i < n → s i ≤ 3
 all_low n s all i l = let low = leb-false 4 (s i) (none_passes n (may_topple s) all i l) in omega arith
 
--- the queue after a site got grains, and joined it if it may topple from now on
-pub queued : (h rest next : List ℕ) (i v : ℕ) → i < length h → get_or h i 0 ≤ v
-    → Lists (length h) (may_topple (λ j. get_or h j 0)) (rest ++ next) → Lists (length h)
-    (may_topple (λ j. get_or (set h i v) j 0)) (rest ++ cond (ltb (get_or h i 0) 4 && leb 4 v) (next ++ i ∷ []) next)
-queued h rest next i v inside more all =
-    ⊎_elim
-    (λ (low : get_or h i 0 < 4).
-    ⊎_elim
-    (λ (still : v < 4). rw (lt-ltb (get_or h i 0) 4 low, lt-leb 4 v still)
-    (stays (leb 4) h (rest ++ next) i v all inside (lt-leb 4 (get_or h i 0) low ∙ sym (lt-leb 4 v still))))
-    (λ (now : 4 ≤ v). rw (lt-ltb (get_or h i 0) 4 low, le-leb 4 v now, ← append_assoc rest next (i ∷ []))
-    (joins (leb 4) h (rest ++ next) i v all inside (lt-leb 4 (get_or h i 0) low) (le-leb 4 v now)))
-    (cases_lt v 4))
-    (λ (high : 4 ≤ get_or h i 0). rw (le-ltb (get_or h i 0) 4 high)
-    (stays (leb 4) h (rest ++ next) i v all inside (le-leb 4 (get_or h i 0) high ∙ sym (le-leb 4 v (omega arith)))))
-    (cases_lt (get_or h i 0) 4)
+low_is_not_high : (a : ℕ) → ltb a 4 ≡ not (leb 4 a)
+low_is_not_high a = ⊎_elim
+    (λ (low : a < 4). rw (lt-ltb a 4 low, lt-leb 4 a low) refl)
+    (λ (high : 4 ≤ a). rw (le-ltb a 4 high, le-leb 4 a high) refl)
+    (cases_lt a 4)
+
+-- a site that got grains joins the queue if it may topple from now on
+pub joins_one : (h : List ℕ) (l m : ListView) (i v : ℕ) → i < length h → get_or h i 0 ≤ v
+    → m ≡ record l { items = cond (ltb (get_or h i 0) 4 && leb 4 v) (l.items ++ i ∷ []) l.items }
+    → UnstableJoin 1 h (set h i v) l m
+joins_one h l m i v inside more is =
+    joins_if {p = may_topple (λ j. get_or h j 0)} {q = may_topple (λ j. get_or (set h i v) j 0)} inside
+    (λ j l ne. others_kept (leb 4) h i v j ne)
+    (λ high. let was = leb-true 4 (get_or h i 0) high in written (leb 4) h i v inside ∙ le-leb 4 v (omega arith))
+    (ap (λ b. b && leb 4 v) (low_is_not_high (get_or h i 0))
+    ∙ ap (λ b. not (leb 4 (get_or h i 0)) && b) (sym (written (leb 4) h i v inside)))
+    is
 
 pub queue_room : (n : ℕ) (test : ℕ → Bool) (rest next : List ℕ) → Lists n test (rest ++ next) → length next ≤ n
 queue_room n test rest next all =

@@ -23,8 +23,7 @@ use crate::choice::{Rest, settle_by_any};
 use crate::faults::SettleFault;
 use crate::settled::Settled;
 use crate::spreading::{knows_sides, spread};
-use sand_fronts::IndexList;
-use sand_model::{Lattice, Pile, Shape, TOPPLING_HEIGHT};
+use sand_model::{IndexList, Lattice, Pile, Shape, TOPPLING_HEIGHT};
 use std::alloc::{AllocError, Global};
 use std::mem;
 

@@ -3,11 +3,10 @@
 ghost use Rattle.std.specs.Prelude.{◌≡◌, ℕ, ◌+◌, ◌*◌, ◌^◌, ◌<◌, ◌≤◌, length, sum, slice_index, slice_index_or, None, IfSome};
 ghost use Rattle.sand_model.specs.Grid.{Grid, IsGrid, sites, places};
 ghost use Rattle.sand_model.specs.Sand.{one_at, value_at};
-ghost use Rattle.sand_settle.specs.SiteLists.{Joins};
+ghost use Rattle.sand_settle.specs.SiteLists.{UnstableJoin};
 ghost use Rattle.sand_settle.specs.Underway.{NeighboursGain};
 
-use sand_fronts::IndexList;
-use sand_model::{Lattice, TOPPLING_HEIGHT};
+use sand_model::{IndexList, Lattice, TOPPLING_HEIGHT};
 
 /// Does nothing at run time. It tells the proof that no side of the grid is above 256: there are at most 65,536 sites,
 /// so each fits into 32 bits.
@@ -28,7 +27,7 @@ fn deliver(heights: &mut [u64], list: &mut IndexList, place: Option<usize>, time
     ensures each { (j : ℕ)
         → slice_index heights.new j ≡ slice_index heights.old j + times * value_at (λ k. one_at k j) place }
     ensures total { sum heights.new ≤ sum heights.old + times }
-    ensures joins { Joins 1 heights.old heights.new list.old list.new }
+    ensures joins { UnstableJoin 1 heights.old heights.new list.old list.new }
 {
     if let Some(site) = place {
         let before = heights[site];
@@ -48,7 +47,7 @@ fn deliver_four(heights: &mut [u64], list: &mut IndexList, around: [Option<usize
     requires room { length list.old.items + 4 ≤ list.old.room }
     ensures each { (g : Grid) (site : ℕ) → around ≡ places g site → site < sites g
         → NeighboursGain g site times heights.old heights.new }
-    ensures joins { Joins 4 heights.old heights.new list.old list.new }
+    ensures joins { UnstableJoin 4 heights.old heights.new list.old list.new }
 {
     let [north, west, east, south] = around;
     deliver(heights, list, north, times);
@@ -72,7 +71,7 @@ pub(crate) fn spread(
     requires limit { sum heights.old + 4 * times < 2 ^ 63 }
     requires room { length list.old.items + 4 ≤ list.old.room }
     ensures each { NeighboursGain lattice.now site times heights.old heights.new }
-    ensures joins { Joins 4 heights.old heights.new list.old list.new }
+    ensures joins { UnstableJoin 4 heights.old heights.new list.old list.new }
 {
     knows_sides(lattice);
     if lattice.is_inner(site) {

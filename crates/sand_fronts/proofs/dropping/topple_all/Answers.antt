@@ -4,7 +4,7 @@ use Rattle.sand_tiles.specs.declared.tile.Tile.{Tile}
 use Rattle.sand_tiles.specs.Places.{height}
 use Rattle.sand_tiles.proofs.Bits.{bit_le}
 use Rattle.sand_fronts.specs.Tiling.{tiles, tile_of}
-use Rattle.sand_fronts.specs.IndexLists.{ListView}
+use Rattle.sand_model.specs.IndexLists.{ListView}
 use Rattle.sand_fronts.specs.Waves.{tile_at, toppled}
 use Rattle.sand_fronts.specs.Drops.{heights_on}
 use Rattle.sand_fronts.specs.Boards.{tiles_of, counts_of, marks_of, grown}

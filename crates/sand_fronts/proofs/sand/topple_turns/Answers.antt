@@ -4,11 +4,12 @@ use Rattle.std.proofs.lemmas.List.{length-drop, length-set, length-take-le, drop
 use Rattle.sand_model.specs.Lists.{Lists}
 use Rattle.sand_model.specs.Sand.{one_at}
 use Rattle.sand_model.proofs.Lists.{lists_length}
+use Rattle.sand_model.specs.IndexLists.{ListView, Joins}
+use Rattle.sand_model.proofs.IndexLists.{longer, kept_before, waiting_from}
 use Rattle.sand_tiles.specs.Places.{bit, IsReady}
 use Rattle.sand_fronts.specs.Tiling.{tiles, on_tiles}
 use Rattle.sand_fronts.specs.Waves.{put, beside_at, heights_before, AtTile}
-use Rattle.sand_fronts.specs.IndexLists.{ListView}
-use Rattle.sand_fronts.specs.TileLists.{waits, but, Joins, IsClear}
+use Rattle.sand_fronts.specs.TileLists.{waits, but, IsClear}
 use Rattle.sand_fronts.specs.Boards.{tiles_of, free_of}
 use Rattle.sand_fronts.proofs.OnTiles.{place_below}
 use Rattle.sand_fronts.proofs.Gained.{tile_read}
@@ -65,14 +66,14 @@ turns-init c =
     let begun : ListView = record { items = k ∷ []; room = c.args.sand.list.room } in
     let joins = subst (λ (l : ListView). Joins n 4 (but k (waits τ)) (waits σ) l c.topple_tile.new.self.list)
     (first_list (goal.at.turns-init c).After-push_if) c.topple_tile.ensures.joins in
-    let longer = joins.longer in
-    let kept : (t : ℕ) → t < 0 + 1 → get_or list t 0 ≡ get_or (k ∷ []) t 0 = λ t less. joins.kept t (omega arith) in
+    let long_now = longer joins in
+    let kept : (t : ℕ) → t < 0 + 1 → get_or list t 0 ≡ get_or (k ∷ []) t 0 = λ t less. kept_before joins t (omega arith) in
     record {
       sand = c.topple_tile.ensures.sand;
       on = first;
       due_free = steps.gains.due_free (put_due_free τ free k steps.visited.tile steps.visited.visits.none_due
           (rest_due_free τ free c.requires.rest.quiet.none_due));
-      waiting = joins.waiting 1 (omega arith) (none_wait n k τ c.requires.rest.quiet.none_due);
+      waiting = waiting_from joins 1 (omega arith) (none_wait n k τ c.requires.rest.quiet.none_due);
       kept = gains_kept (k ∷ []) list 1 (visit_kept k steps.visited.tile
           (first_kept n k τ (λ m p low. c.requires.rest.quiet.clear m p low) b.inside)
           (0, omega arith, omega arith, refl)) steps.gains kept;
@@ -238,7 +239,7 @@ turns-preserved-then-turn-len c =
     let joins = subst (λ (l : ListView). Joins (tiles g) 8 (but other (but k (waits (tiles_of c.turns.sand))))
     (waits (tiles_of c.topple_pair.new.self)) l c.topple_pair.new.self.list)
     (list_two d.After-keep_if-kept-then-turn-len) c.topple_pair.ensures.joins in
-    let longer = joins.longer in
+    let long_now = longer joins in
     let rest : drop (turn + 2) now ≡ drop (turn + 2) before =
     drop-set-lt (turn + 2) (set before c.turns.kept k) next other (omega arith)
     ∙ drop-set-lt (turn + 2) before c.turns.kept k (omega arith) in
@@ -247,9 +248,9 @@ turns-preserved-then-turn-len c =
       on = more;
       due_free = steps.gains.due_free (put_due_free (put k steps.one.tile (tiles_of c.turns.sand)) free other steps.two.tile
           steps.two.visits.none_due (put_due_free (tiles_of c.turns.sand) free k steps.one.tile steps.one.visits.none_due c.turns.invariant.due_free));
-      waiting = joins.waiting (turn + 2) (omega arith) (rw rest t.3);
+      waiting = waiting_from joins (turn + 2) (omega arith) (rw rest t.3);
       kept = gains_kept now after last (visit_kept other steps.two.tile (visit_kept k steps.one.tile all.0 all.1) all.2) steps.gains
-          (λ i less. joins.kept i (omega arith));
+          (λ i less. kept_before joins i (omega arith));
       spent = omega arith;
       within = omega arith;
     }
@@ -310,7 +311,7 @@ turns-preserved c =
     let joins = subst (λ (l : ListView). Joins (tiles g) 4 (but k (waits τ))
     (waits (tiles_of c.topple_tile-else-turn-len.new.self)) l c.topple_tile-else-turn-len.new.self.list)
     c.keep_if-kept-else-turn-len.ensures.list c.topple_tile-else-turn-len.ensures.joins in
-    let longer = joins.longer in
+    let long_now = longer joins in
     let rest : drop (c.turns.turn + 1) now ≡ drop (c.turns.turn + 1) before =
     drop-set-lt (c.turns.turn + 1) before c.turns.kept k (omega arith) in
     record {
@@ -318,10 +319,10 @@ turns-preserved c =
       on = more;
       due_free = steps.gains.due_free (put_due_free τ free k steps.visited.tile steps.visited.visits.none_due
           c.turns.invariant.due_free);
-      waiting = joins.waiting (c.turns.turn + 1) (omega arith)
+      waiting = waiting_from joins (c.turns.turn + 1) (omega arith)
           (rw rest (others_wait (tiles g) k (waits τ) (drop (c.turns.turn + 1) before) f.2));
       kept = gains_kept now after last (visit_kept k steps.visited.tile all.0 all.1) steps.gains
-          (λ i less. joins.kept i (omega arith));
+          (λ i less. kept_before joins i (omega arith));
       spent = omega arith;
       within = omega arith;
     }

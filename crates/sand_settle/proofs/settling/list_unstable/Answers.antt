@@ -1,6 +1,6 @@
 use Rattle.std.proofs.Common.{◌∙◌, ap, arith, get_or}
 use Rattle.sand_model.proofs.Lists.{lists_length, lists_none, lists_more, lists_of}
-use Rattle.sand_fronts.specs.IndexLists.{ListView}
+use Rattle.sand_model.specs.IndexLists.{ListView}
 use Rattle.sand_settle.specs.SiteLists.{may_topple}
 use Rattle.sand_settle.proofs.settling.list_unstable.Goals as goal
 

@@ -3,7 +3,7 @@ use Rattle.std.proofs.lemmas.List.{nil_from_length}
 use Rattle.sand_model.specs.Grid.{sites}
 use Rattle.sand_model.specs.Sand.{topplings, weight}
 use Rattle.sand_model.proofs.Lists.{lists_of}
-use Rattle.sand_fronts.specs.IndexLists.{ListView}
+use Rattle.sand_model.specs.IndexLists.{ListView}
 use Rattle.sand_settle.proofs.Queue.{all_low}
 use Rattle.sand_settle.proofs.Underway.{advance_more, sum_falls, few_at_first, settled_at_last, zero_at}
 use Rattle.sand_settle.proofs.settling.topple_all.Goals.{After-fill}

@@ -7,8 +7,9 @@ use Rattle.sand_model.specs.Sand.{one_at}
 use Rattle.sand_model.proofs.Bounds.{sites_limit}
 use Rattle.sand_model.proofs.Heights.{counted}
 use Rattle.sand_model.proofs.Lists.{lists_of}
-use Rattle.sand_fronts.specs.IndexLists.{ListView}
-use Rattle.sand_settle.proofs.Joined.{toppled_times}
+use Rattle.sand_model.proofs.IndexLists.{waiting_behind}
+use Rattle.sand_model.specs.IndexLists.{ListView}
+use Rattle.sand_settle.proofs.Spread.{toppled_times}
 use Rattle.sand_settle.proofs.Queue.{turn_inside, turn_high, others_wait, queue_room}
 use Rattle.sand_settle.proofs.Underway.{advance_more, advance_turn, turn_counts, counts_small, sum_falls}
 use Rattle.sand_settle.proofs.settling.topple_wave.Goals as goal
@@ -107,8 +108,8 @@ loop-turn-preserved c =
           length-set c.loop-turn.counts i (get_or c.loop-turn.counts i 0 + k) ∙ c.loop-turn.invariant.counts_each;
       advances = advance_more c.args.lattice.now _ _ _ _ _ _ c.loop-turn.invariant.advances more;
       each_topples = omega (arith, c.loop-turn.invariant.each_topples);
-      waiting = c.spread.ensures.joins.waiting (sites c.args.lattice.now) 0
-          (drop (c.loop-turn.turn + 1) c.args.wave.now.items) (sym each) (omega arith)
-          (lists_of _ (sites c.args.lattice.now) _ _ c.loop-turn.invariant.heights_each others);
+      waiting = lists_of _ _ _ _ each (waiting_behind c.spread.ensures.joins
+          (drop (c.loop-turn.turn + 1) c.args.wave.now.items)
+          (lists_of _ _ _ _ (sym (length-set c.loop-turn.heights i (get_or c.loop-turn.heights i 0 - 4 * k))) others));
       room = c.spread.ensures.joins.room ∙ c.loop-turn.invariant.room;
     }

@@ -1,5 +1,6 @@
-use Rattle.std.proofs.Common.{◌*◌, ◌∙◌, ap, arith}
-use Rattle.sand_settle.proofs.Joined.{four_places, joins_more}
+use Rattle.std.proofs.Common.{◌*◌, ap, arith}
+use Rattle.sand_model.proofs.Flow.{four_places}
+use Rattle.sand_model.proofs.IndexLists.{joins_more}
 use Rattle.sand_settle.proofs.spreading.deliver_four.Goals as goal
 
 pub deliver-requires-clause-inside : goal.deliver-requires-clause-inside
@@ -28,9 +29,6 @@ returns-clause-each c g site e inside j l =
 
 pub returns-clause-joins : goal.returns-clause-joins
 returns-clause-joins c =
-    let two = joins_more 1 1 c.args.heights.now _ _ c.args.list.now _ _
-    c.deliver.auto.heights c.deliver.ensures.joins c.deliver-2.ensures.joins in
-    let three = joins_more 2 1 c.args.heights.now _ _ c.args.list.now _ _
-    (c.deliver-2.auto.heights ∙ c.deliver.auto.heights) two c.deliver-3.ensures.joins in
-    joins_more 3 1 c.args.heights.now _ _ c.args.list.now _ _
-    (c.deliver-3.auto.heights ∙ c.deliver-2.auto.heights ∙ c.deliver.auto.heights) three c.deliver-4.ensures.joins
+    let two = joins_more c.deliver.ensures.joins (rw c.deliver.auto.heights at c.deliver-2.ensures.joins) in
+    joins_more (joins_more two (rw (c.deliver-2.auto.heights, c.deliver.auto.heights) at c.deliver-3.ensures.joins))
+    (rw (c.deliver-3.auto.heights, c.deliver-2.auto.heights, c.deliver.auto.heights) at c.deliver-4.ensures.joins)

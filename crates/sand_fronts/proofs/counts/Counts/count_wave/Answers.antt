@@ -4,7 +4,7 @@ use Rattle.sand_tiles.specs.declared.tile.Tile.{Tile}
 use Rattle.sand_tiles.specs.Places.{bit, number}
 use Rattle.sand_tiles.proofs.Bits.{bit_none}
 use Rattle.sand_fronts.specs.Tiling.{tiles}
-use Rattle.sand_fronts.specs.IndexLists.{ListView}
+use Rattle.sand_model.specs.IndexLists.{ListView}
 use Rattle.sand_fronts.specs.Waves.{tile_at}
 use Rattle.sand_fronts.specs.Boards.{tiles_of}
 use Rattle.sand_fronts.proofs.Counted.{counted_more, few_in_sets, few_over_wave, wave_less, none_of_none, none_over_none, none_in_sets, none_over_wave, rest_in, none_in}

@@ -3,7 +3,7 @@ use Rattle.std.proofs.lemmas.List.{length-set, length-take-le}
 use Rattle.std.proofs.lemmas.Grind.{get_or_default_zero}
 use Rattle.sand_model.proofs.Lists.{read_below}
 use Rattle.sand_fronts.specs.Marking.{MarksView, has_mark}
-use Rattle.sand_fronts.specs.IndexLists.{ListView}
+use Rattle.sand_model.specs.IndexLists.{ListView}
 use Rattle.sand_fronts.proofs.MarkedTiles.{lists_taken}
 use Rattle.sand_fronts.proofs.marks.Marks.take_last.Goals.{After-item-k}
 use Rattle.sand_fronts.proofs.marks.Marks.take_last.Goals as goal

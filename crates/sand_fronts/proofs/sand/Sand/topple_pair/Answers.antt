@@ -2,12 +2,13 @@ use Rattle.std.proofs.Common.{cond, eqb, ap, ◌≡◌, ◌+◌, ◌<◌, ◌∙
 use Rattle.std.specs.Vec.{with_item}
 use Rattle.std.proofs.Math.ListN.{set}
 use Rattle.std.proofs.lemmas.List.{length-set, get_or_read}
+use Rattle.sand_model.proofs.IndexLists.{joins_from}
 use Rattle.sand_tiles.specs.declared.tile.Tile.{Tile}
 use Rattle.sand_fronts.specs.Waves.{over_rim}
 use Rattle.sand_fronts.specs.Tiling.{tiles}
 use Rattle.sand_fronts.specs.Boards.{free_of, Gets}
 use Rattle.sand_fronts.proofs.Gained.{tile_read, beside_read, gains_from, written}
-use Rattle.sand_fronts.proofs.TileLists.{gets_more, joins_from, pair_waits}
+use Rattle.sand_fronts.proofs.TileLists.{gets_more, pair_waits}
 use Rattle.sand_fronts.proofs.sand.Sand.topple_pair.Goals.{After-hand_over-2}
 use Rattle.sand_fronts.proofs.sand.Sand.topple_pair.Goals as goal
 

@@ -1,12 +1,13 @@
 use Rattle.std.proofs.Common.{sym, ◌≡◌, ◌∙◌, length, arith}
 use Rattle.std.proofs.Math.ListN.{set}
 use Rattle.std.proofs.lemmas.List.{length-set, get_or_read}
+use Rattle.sand_model.proofs.IndexLists.{joins_from}
 use Rattle.sand_tiles.specs.declared.tile.Tile.{Tile}
 use Rattle.sand_fronts.specs.Waves.{beside_at}
 use Rattle.sand_fronts.specs.Tiling.{tiles}
 use Rattle.sand_fronts.specs.Boards.{tiles_of, free_of}
 use Rattle.sand_fronts.proofs.Gained.{tile_read, beside_read, gains_from, written}
-use Rattle.sand_fronts.proofs.TileLists.{joins_from, visited_waits}
+use Rattle.sand_fronts.proofs.TileLists.{visited_waits}
 use Rattle.sand_fronts.proofs.sand.Sand.topple_tile.Goals.{After-index, After-index-2}
 use Rattle.sand_fronts.proofs.sand.Sand.topple_tile.Goals as goal
 

@@ -1,6 +1,6 @@
 use Rattle.std.proofs.Common.{get_or, ◌∙◌, sym, arith, ap}
 use Rattle.sand_model.specs.Grid.{Grid, sites}
-use Rattle.sand_fronts.specs.IndexLists.{ListView}
+use Rattle.sand_model.specs.IndexLists.{ListView}
 use Rattle.sand_fronts.specs.Tiling.{tiles, tile_of, place_of}
 use Rattle.sand_fronts.specs.Drops.{heights_on, counted_on}
 use Rattle.sand_fronts.specs.Waves.{tile_at}

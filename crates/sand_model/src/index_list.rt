@@ -14,7 +14,7 @@ pub struct IndexList {
 
 impl Model for IndexList {
     ghost use Rattle.std.specs.Prelude.{◌≤◌, length, take};
-    ghost use Rattle.sand_fronts.specs.IndexLists.{ListView};
+    ghost use Rattle.sand_model.specs.IndexLists.{ListView};
 
     ghost Value = { ListView };
 

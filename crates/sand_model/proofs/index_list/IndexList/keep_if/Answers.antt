@@ -2,8 +2,8 @@ use Rattle.std.proofs.Common.{ℕ, List, ◌≡◌, ◌<◌, length, take, ◌�
 use Rattle.std.proofs.Math.ListN.{set}
 use Rattle.std.proofs.Math.Seq.{take-set-lt}
 use Rattle.std.proofs.lemmas.List.{length-set, length-take}
-use Rattle.sand_fronts.specs.IndexLists.{ListView}
-use Rattle.sand_fronts.proofs.index_list.IndexList.keep_if.Goals as goal
+use Rattle.sand_model.specs.IndexLists.{ListView}
+use Rattle.sand_model.proofs.index_list.IndexList.keep_if.Goals as goal
 
 pub returns-clause-list : goal.returns-clause-list
 returns-clause-list c =
