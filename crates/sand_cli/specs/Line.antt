@@ -18,6 +18,7 @@ abbrev pub number : Text → ℕ → ℕ → Rule
 number name least most = record (new_rule name) {
   long = Some name;
   action = Some Set;
+  value_names = 1;
   parser = Some (parser.Unsigned least most);
 }
 

@@ -35,6 +35,7 @@ fn number<'a>(alloc: Global, name: &'a str, least: u64, most: u64, about: &'stat
     Arg::new(alloc, name)
         .long(name)
         .action(ArgAction::Set)
+        .value_name("N")
         .value_parser(ValueParser::unsigned(least, most))
         .help(about)
 }

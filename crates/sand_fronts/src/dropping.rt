@@ -1,4 +1,5 @@
-//! What one drop topples: wave after wave, until no site may topple.
+//! What one drop topples: wave after wave (Ivashkevich, Ktitarev and Priezzhev 1994), until no site may topple.
+//! The time is at most proportional to the topplings, and a drop allocates nothing.
 //!
 //! - **One wave** (`one_wave`) topples the dropped site, and each other site that this brings to 4, once each. So after
 //!   it only the dropped site may have 4.

@@ -1,4 +1,4 @@
-//! The burning test: whether a stable pile is recurrent.
+//! The burning test (Dhar 1990): whether a stable pile is recurrent.
 //!
 //! A site burns when its height is at least the number of its unburnt neighbours. No site of a forbidden set ever
 //! burns: when the first of them burnt, all of its neighbours in the set would still be unburnt, and its height is
@@ -7,7 +7,7 @@
 //!
 //! The list of burnt sites is also the queue. A site is appended when the number of its unburnt neighbours falls to its
 //! height, which happens once. A head moves along the list and subtracts one from the numbers of the neighbours of each
-//! site. Each site is visited once, so the test takes time proportional to the number of sites.
+//! site. Each site is visited once, so the test takes time and space proportional to the number of sites.
 
 ghost use Rattle.std.specs.Prelude.{◌≡◌, ℕ, ◌+◌, ◌<◌, ◌≤◌, ◌↔◌, [], length, slice_index, vec_len, vec_capacity, take, IfSome, IfOk, IsOkUnless, alloc_error};
 ghost use Rattle.std.specs.List.Sorted.{IsStrictlyIncreasing};

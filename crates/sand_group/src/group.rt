@@ -1,8 +1,11 @@
-//! The group of recurrent piles: to add two, put their grains together and settle.
+//! The group of recurrent piles (Dhar 1990): to add two, put their grains together and settle.
 //!
 //! Let m be the pile of all 3. Then d = 2m - settled(2m) is equivalent to all 0, and at least 3 at each site, since a
 //! settled pile is at most 3. A pile of at least 3 at each site settles to a recurrent pile. So settled(d) is the
-//! recurrent pile equivalent to all 0, and settled(2d - c) the one equivalent to -c.
+//! recurrent pile equivalent to all 0 (Holroyd et al. 2008), and settled(2d - c) the one equivalent to -c.
+//!
+//! A sum settles one pile, an inverse two, and the identity two unless a guess of it is right. The space is
+//! proportional to the number of sites.
 
 ghost use Rattle.std.specs.Prelude.{◌≡◌, ◌≢◌, ℕ, ◌+◌, ◌-◌, ◌*◌, ◌<◌, ◌≤◌, ◌↔◌, ◌⊎◌, All, length, slice_index, sum, IfOk, IfErr, IsOkUnless, OnOk, alloc_error};
 ghost use Rattle.sand_model.specs.Grid.{sites};

@@ -4,7 +4,7 @@
 //! time and never changes a result, since a guess is used only if it is certified (`sand_certify`). Otherwise sand
 //! topples.
 //!
-//! The method is that of Friedrich and Levine 2010, "Fast simulation of large-scale growth models". If the settled
+//! The method is that of Friedrich and Levine 2013, "Fast simulation of large-scale growth models". If the settled
 //! heights t were known, the counts u would solve Lu = s - t. Averaged over some sites, t has nearly the density of a
 //! pile of half the size with the same number of grains per site. So:
 //!

@@ -1,4 +1,6 @@
-//! Settling: toppling until no site may topple.
+//! Settling: toppling until no site may topple (Bak, Tang and Wiesenfeld 1987).
+//!
+//! The time is at most proportional to the sites and the topplings, the space to the sites.
 //!
 //! Sand topples in waves. A wave lists all sites that may topple, each once. In turn each topples as often as its
 //! height allows, and each neighbour that this raises to 4 or more joins the next wave, at the end of the queue that
@@ -7,7 +9,7 @@
 //!
 //! - It ends, since each toppling lowers the weight of the pile by at least 2.
 //! - No site topples more often than in any `w` that stabilises the start: each toppling is legal, so this is least
-//!   action (`sand_model::laws`), and it holds from turn to turn (`IsUnderway`).
+//!   action (Fey, Levine and Peres 2010; `sand_model::laws`), and it holds from turn to turn (`IsUnderway`).
 //! - At the end the queue is empty, so no site may topple: the topplings stabilise the start, and are the least.
 
 ghost use Rattle.std.specs.Prelude.{◌≡◌, ◌+◌, ◌*◌, ◌^◌, ◌<◌, ◌≤◌, length, sum, slice_index, IfOk, IsTrue, OnErr};

@@ -1,4 +1,4 @@
-//! The numbered streams of drop sites: ChaCha8 under a seed's key, read word by word.
+//! The numbered streams of drop sites: ChaCha8 (Bernstein 2008) under a seed's key, read word by word.
 
 ghost use Rattle.std.specs.Prelude.{◌≡◌, ◌+◌, ◌<◌, ◌^◌, IfOk, IsOkUnless, alloc_error};
 ghost use Rattle.sand_model.specs.Grid.{sites};
