@@ -56,8 +56,7 @@ module _ (t : Terms) (a : ℕ) (v : View) (s : Stands t a v) (all : HasAll t v) 
       let parts = sum_below-add (sites g) (height_of t.start) (occurrences p.drawn) in
       let start = sum_is_grains g t.start.heights s.terms.pile.one_each in
       let drops = sum_below-occurrences (sites g) p.drawn s.lawful.all_sites in
-      let quota = s.lawful.quota in
-      let limit = s.terms.limit in omega arith
+      omega arith
 
   pub left_few : (u : ℕ → ℕ) (heights : List ℕ)
       → length heights ≡ sites (grid_of_terms t)
@@ -131,8 +130,6 @@ module _ {t : Terms} {p : PassView} {r : SettledView} {a : ℕ} {v : View} (b : 
       let s = stands_resting in
       let drawn = drawn_is t a resting s all_resting history long told in
       let same = ap (λ (l : List ℕ). length l) drawn in
-      let quota = s.lawful.quota in
-      let limit = s.terms.limit in
       record {
         all_sites = subst (All (λ i. i < sites g)) (sym drawn) s.lawful.all_sites;
         limit = omega arith;

@@ -119,7 +119,6 @@ module _ (n : ℕ) where
         → Waits n (set counts x 0) (laid_on x (slice_index counts x) hand) coming
     waits_laid counts hand inside w =
         let c = slice_index counts x in
-        let long = w.long in
         let all = w.counted x inside in
         let same = count_is x hand w.single in
         let gone = λ (i : ℕ). held-laid x c hand i (omega arith) in
@@ -163,10 +162,9 @@ module _ (n : ℕ) where
       let all = held-cons g gs g.site in
       let none = none_counted counts (g ∷ gs) w g.site one.0 in
       let same = w.counted g.site one.0 in
-      let amount = one.1 in absurd (omega arith)
+      absurd (omega arith)
 
   pub counts_zero : (counts : List ℕ) (hand : List Grains) → Waits n counts hand [] → counts ≡ zeros n
   counts_zero counts hand w =
-      let long = w.long in
       ext_get_or 0 counts (zeros n) (w.long ∙ sym (length-replicate n 0))
       (λ i l. none_counted counts hand w i (omega arith) ∙ sym (get_or-replicate n i 0 0 (omega arith)))

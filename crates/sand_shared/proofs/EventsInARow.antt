@@ -79,7 +79,6 @@ shows_row : (t : Terms) (word a : ℕ) (e : Event) (es : List Event) (p : OpenPi
 shows_row t word a e [] p s fits one ones terms r may h = (one p s terms r may.0 h).1
 shows_row t word a e (f ∷ es) p s fits one ones terms r may h =
     let n = slice_index s.words word in
-    let wide = h.wide in
     let x = (n + 1) % 2 ^ 64 in
     let q = after t p e in
     let v = pass_at q a in

@@ -128,8 +128,6 @@ module _ (t : Terms) (a : ℕ) (v : View) (heights : List ℕ) (last : IsLast t 
           let s = last.stands in
           let drawn = drawn_is t a v last.stands all history long told in
           let same = ap (λ (l : List ℕ). length l) drawn in
-          let quota = s.lawful.quota in
-          let limit = s.terms.limit in
           record {
             pile = s.terms.pile;
             all_sites = subst (All (λ i. i < sites (grid_of_terms t))) (sym drawn) s.lawful.all_sites;

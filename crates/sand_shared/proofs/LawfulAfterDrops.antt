@@ -42,7 +42,6 @@ module _ (t : Terms) (p : OpenPile) (a i : ℕ) (r : IsLawful t p) (may : May t 
       let v = pass_at p a in
       let f = r.passes a nobody may.there in
       let n = length p.drawn in
-      let seen = f.seen in
       let Q : Receipt → Type 0 = λ q. slice_get (p.drawn ++ i ∷ []) q.number ≡ Some q.site in
       record {
         seen = omega (arith, length-append p.drawn (i ∷ []));
@@ -57,7 +56,6 @@ module _ (t : Terms) (p : OpenPile) (a i : ℕ) (r : IsLawful t p) (may : May t 
 
   other_pass : (u : View) → IsLawfulPass t p u → IsLawfulPass t (after t p (draw a i)) u
   other_pass u f =
-      let seen = f.seen in
       record {
         seen = omega (arith, length-append p.drawn (i ∷ []));
         receipts = λ k d l. get_longer p.drawn i _ _ (f.receipts k d l);
@@ -76,7 +74,6 @@ module _ (t : Terms) (p : OpenPile) (a i : ℕ) (r : IsLawful t p) (may : May t 
       let changed = λ (f : View → ℕ). sum_by-set f p.passes a w nobody there in
       let still = λ (j : ℕ). kept (λ u. toppled_by u j) refl in
       let longer = length-append p.drawn (i ∷ []) in
-      let some_left = may.some_left in
       record {
         balance = balance_kept (grid_of_terms t) (start_and_drawn t p) (toppled p)
             (present p) (start_and_drawn t q) (toppled q) (present q) still
@@ -96,7 +93,6 @@ module _ (t : Terms) (p : OpenPile) (a i : ℕ) (r : IsLawful t p) (may : May t 
             let m = once_more x n in
             let e = ap (λ k. one_if (ltb x k)) longer in omega arith);
         receipts = (let c = changed (λ u. length u.receipts) in
-            let o = r.receipts in
             let b = length-append v.receipts (receipt n i ∷ []) in
             omega arith);
         receipts_by_site = λ j. (let c = changed (λ u. receipts_for u.receipts j) in
@@ -106,7 +102,7 @@ module _ (t : Terms) (p : OpenPile) (a i : ℕ) (r : IsLawful t p) (may : May t 
             omega arith);
         all_sites = All-append (λ j. j < sites (grid_of_terms t)) p.drawn (i ∷ []) r.all_sites
             (All-cons (λ j. j < sites (grid_of_terms t)) i [] may.inside (All-nil (λ j. j < sites (grid_of_terms t))));
-        quota = (let c = changed (λ u. u.left) in let o = r.quota in omega arith);
+        quota = (let c = changed (λ u. u.left) in omega arith);
         holders = λ j l. kept (λ u. one_if (holds_site u j)) refl ∙ r.holders j l;
         passes = all_after (IsLawfulPass t p) (IsLawfulPass t q) p.passes a w drawn_pass other_pass r.passes;
       }

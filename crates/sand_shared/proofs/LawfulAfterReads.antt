@@ -38,7 +38,7 @@ still_lawful t p a seen spot least hand height r there same mine others =
       receipts = kept (λ u. length u.receipts) refl ∙ r.receipts;
       receipts_by_site = λ i. kept (λ u. receipts_for u.receipts i) refl ∙ r.receipts_by_site i;
       all_sites = r.all_sites;
-      quota = (let e = kept (λ u. u.left) refl in let b = r.quota in omega arith);
+      quota = (let e = kept (λ u. u.left) refl in omega arith);
       holders = λ i l. kept (λ u. one_if (holds_site u i)) refl ∙ r.holders i l;
       passes = all_after (IsLawfulPass t p) (IsLawfulPass t q) p.passes a w mine others r.passes;
     }

@@ -45,7 +45,7 @@ regrouped t p views v w x y r a stays each =
       receipts = stays (λ u. length u.receipts) a.receipts refl ∙ r.receipts;
       receipts_by_site = λ i. stays (λ u. receipts_for u.receipts i) (a.drops i) refl ∙ r.receipts_by_site i;
       all_sites = r.all_sites;
-      quota = (let e = stays (λ u. u.left) a.left refl in let b = r.quota in omega arith);
+      quota = (let e = stays (λ u. u.left) a.left refl in omega arith);
       holders = λ i l. stays (λ u. one_if (holds_site u i)) (a.sites_held i) (none_held i) ∙ r.holders i l;
       passes = each;
     }
@@ -71,7 +71,6 @@ module _ (t : Terms) (p : OpenPile) (a q n : ℕ) (r : IsLawful t p) (may : May 
   split_shares =
       let v = pass_at p a in
       let parts = cut_parts v q n may.counts in
-      let fits = may.quota in
       record {
         left = omega arith;
         receipts = omega arith;
@@ -132,8 +131,6 @@ module _ (t : Terms) (p : OpenPile) (a b : ℕ) (r : IsLawful t p) (may : May t 
       let w = pass_at p b in
       let f = r.passes a nobody may.there in
       let g = r.passes b nobody may.other_there in
-      let seen = f.seen in
-      let seen' = g.seen in
       record {
         seen = omega arith;
         receipts = All-append (λ (z : Receipt). slice_get p.drawn z.number ≡ Some z.site)

@@ -25,7 +25,6 @@ module _ (t : Terms) (p : OpenPile) (a i k : ℕ) (r : IsLawful t p) (may : May 
       let b = amount_here i k j e in
       let c = amount_here i (4 * k) j e in
       let h = ap p.height e in
-      let high = may.high in
       omega arith)
       (λ (ne : i ≡ j → ⊥). let b = amount_else i k j ne in let c = amount_else i (4 * k) j ne in omega arith)
       (cases_eq i j)
@@ -68,7 +67,6 @@ module _ (t : Terms) (p : OpenPile) (a i k : ℕ) (r : IsLawful t p) (may : May 
       (λ (e : i ≡ j).
       let c = amount_here i k j e in
       let b = r.balance.balance i may.inside in
-      let high = may.high in
       let step =
       least_action (grid_of_terms t) (start_and_drawn t p) (toppled p)
       w i k may.inside stab (r.needed w stab) (omega arith) in
@@ -136,7 +134,7 @@ module _ (t : Terms) (p : OpenPile) (a i k : ℕ) (r : IsLawful t p) (may : May 
         receipts = kept (λ u. length u.receipts) refl ∙ r.receipts;
         receipts_by_site = λ j. kept (λ u. receipts_for u.receipts j) refl ∙ r.receipts_by_site j;
         all_sites = r.all_sites;
-        quota = (let e = kept (λ u. u.left) refl in let o = r.quota in omega arith);
+        quota = (let e = kept (λ u. u.left) refl in omega arith);
         holders = λ j l. kept (λ u. one_if (holds_site u j)) (ap one_if (holds-unloaded t v i k j)) ∙ r.holders j l;
         passes = all_at (IsLawfulPass t q) q.passes nobody
             (λ b lb. unloaded_passes b (let e = length-set p.passes a w in omega arith));

@@ -24,7 +24,6 @@ length-zeros (suc n) = let e = length-zeros n in omega arith
 
 pub some_sites : (g : Grid) → IsGrid g → 0 < sites g
 some_sites g sides =
-    let h = sides.some_height in
     let m : 1 * g.height ≤ g.width * g.height = mul-le-mul_right g.height sides.some_width in omega arith
 
 module _ (t : Terms) where

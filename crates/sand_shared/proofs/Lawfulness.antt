@@ -69,4 +69,4 @@ few_present t p terms r i inside =
     let quota = r.quota in omega arith
 
 pub few_drawn : (t : Terms) (p : OpenPile) → IsLawful t p → length p.drawn ≤ t.quota
-few_drawn t p r = let quota = r.quota in omega arith
+few_drawn t p r = omega arith

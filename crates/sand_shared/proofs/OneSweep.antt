@@ -32,8 +32,6 @@ module _ (t : Terms) (v : View) (cs ds : List ℕ) (m n : ℕ)
   same_so_far (suc k) l =
       let before = same_so_far k (omega arith) in
       let here = same_count k (omega arith) before in
-      let long = s.same_rows in
-      let long' = r.same_rows in
       let on : suc k ≡ k + 1 = omega arith in
       ap (λ z. take z cs) on ∙ (take_more cs k 0 (omega arith)
       ∙ ((λ q. before q ++ here q ∷ []) ∙ sym (ap (λ z. take z ds) on ∙ take_more ds k 0 (omega arith))))
@@ -41,13 +39,10 @@ module _ (t : Terms) (v : View) (cs ds : List ℕ) (m n : ℕ)
   same_sweep : (cs ≡ ds) × (m ≡ n)
   same_sweep =
       let k = length v.counts in
-      let long = s.same_rows in
-      let long' = r.same_rows in
       let same : cs ≡ ds =
       sym (take_all k cs (omega arith)) ∙ (same_so_far k (omega arith) ∙ take_all k ds (omega arith)) in
       let sums = ap sum same in
-      let a = s.risen in
-      let b = r.risen in (same, omega arith)
+      (same, omega arith)
 
 pub one_sweep : OneSweep
 one_sweep t p cs ds m n whole s r = same_sweep t (at_rest p) cs ds m n s.rows r.rows (s.whole whole) (r.whole whole)

@@ -58,9 +58,7 @@ module _ (t : Terms) (p : OpenPile) (r : IsLawful t p) (a : ℕ) (there : a < le
     no_receipts b lb ne =
         let two = sum_by_two (λ (u : View). u.left + length u.receipts) p.passes a b nobody there lb ne in
         let both = sum_by_plus (λ (u : View). u.left) (λ (u : View). length u.receipts) p.passes in
-        let quota = r.quota in
-        let receipts = r.receipts in
-        let enough = all.quota in empty (pass_at p b).receipts (omega arith)
+        empty (pass_at p b).receipts (omega arith)
 
     no_topplings : (b : ℕ) → b < length p.passes → b ≢ a → (j : ℕ) → j < sites (grid_of_terms t)
         → toppled_by (pass_at p b) j ≡ 0
@@ -122,8 +120,6 @@ module _ (t : Terms) (p : OpenPile) (r : IsLawful t p) (a : ℕ) (there : a < le
       let parts = sum_below-add (sites g) (height_of t.start) (occurrences p.drawn) in
       let start = sum_is_grains g t.start.heights terms.pile.one_each in
       let drops = sum_below-occurrences (sites g) p.drawn r.all_sites in
-      let quota = r.quota in
-      let limit = terms.limit in
       let bound =
       topplings_bound g (start_and_drawn t p) (toppled p) (present p) terms.pile.grid (omega arith) r.balance in
       let mine = sum_below_le (sites g) (toppled_by v) (toppled p)
@@ -168,6 +164,6 @@ stands_unloaded t a i k v w n h =
       terms = s.terms;
       pile = after t s.pile (unload a i k);
       lawful = event_keeps t s.pile (unload a i k) s.terms s.lawful h.may.0;
-      there = let e = length-set s.pile.passes a (unloaded t (pass_at s.pile a) i k) in let l = s.there in omega arith;
+      there = let e = length-set s.pile.passes a (unloaded t (pass_at s.pile a) i k) in omega arith;
       pass = h.pass_after;
     }

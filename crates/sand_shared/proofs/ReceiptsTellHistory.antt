@@ -60,7 +60,7 @@ found (r ∷ rs) n d some =
     (λ (ne : r.number ≡ n → ⊥).
     let z = one_if_other r.number n ne in
     let f = found rs n d (omega arith) in
-    (suc f.0, (let l = f.1 in omega arith), f.2))
+    (suc f.0, (omega arith), f.2))
     (cases_eq r.number n)
 
 pub one_below : (n m : ℕ) → n < m → one_if (nat_lt n m) ≡ 1
@@ -92,5 +92,5 @@ module _ (rs : List Receipt) (drawn : List ℕ) (each : (n : ℕ) → n < length
       let n = length drawn - 1 in
       let f = found rs n (receipt 0 0) (each n (omega arith)) in
       let b = below f.0 (receipt 0 0) f.1 in
-      let e = f.2 in omega arith)
+      omega arith)
       (cases_eq (length drawn) 0)

@@ -38,7 +38,6 @@ module _ (start : PileView) (history heights odometer : List ℕ) (l : LeadsTo s
   few_topplings =
       let g = start.grid in
       let all = grains_in in
-      let limit = l.limit in
       let bound = topplings_bound g (λ i. height_of start i + occurrences history i)
       (slice_index odometer) (slice_index heights) l.pile.grid (omega arith) l.settled.toppled in
       let counts = sum_is_grains g odometer l.odometer_each in omega arith
@@ -124,13 +123,11 @@ small_entries r one i =
 pub small_topplings : (r : RecordView) → IsOneThreads r → r.settled.topplings < 2 ^ 54
 small_topplings r one =
     let few = few_topplings r.start r.history r.settled.pile.heights r.settled.odometer (leads_of r one) in
-    let all = one.settled.all_topplings in
     let sums = sum_is_grains r.start.grid r.settled.odometer one.settled.odometer_each in omega arith
 
 pub small_lost : (r : RecordView) → IsOneThreads r → r.settled.lost ≤ most_grains
 small_lost r one =
-    let kept = one.kept in
-    let limit = one.limit in omega arith
+    omega arith
 
 times_plus : (a b c : ℕ) → a * (b + c) ≡ a * b + a * c
 times_plus a b c = grind arith
@@ -200,7 +197,6 @@ module _ (r q : RecordView) (sums : List ℕ) (joined : AreJoined r q sums) wher
           let mine = first.settled.odometer_each in
           let theirs = second.settled.odometer_each in
           let grids = ap sites same_grid in
-          let long = joined.long in
           let a = get_or-eq_default sums 0 {n = i} (omega arith) in
           let b = get_or-eq_default r.settled.odometer 0 {n = i} le in
           let c = get_or-eq_default q.settled.odometer 0 {n = i} (omega arith) in omega arith
@@ -227,7 +223,6 @@ module _ (r q : RecordView) (sums : List ℕ) (joined : AreJoined r q sums) wher
   followed =
       let g = r.start.grid in
       let grids = same_grid in
-      let limit = joined.limit in
       let tops = sum_below-add (sites g) (odometer_of r.settled) (odometer_of q.settled) in
       let sums_are = sum_below_same (sites g) (slice_index sums)
       (λ i. odometer_of r.settled i + odometer_of q.settled i) (λ i _. all_each i) in

@@ -22,7 +22,6 @@ site_inside g r site sides held =
     let parts = div-add-mod' site g.width in
     let small = mod_below site g.width sides.some_width in
     let from = held.from in
-    let below = held.below in
     let a : r.first * g.width ≤ site / g.width * g.width = mul-le-mul_right g.width from in
     let b : (site / g.width + 1) * g.width ≤ r.end * g.width = mul-le-mul_right g.width (omega arith) in
     let c = times_plus (site / g.width) 1 g.width in
@@ -43,4 +42,4 @@ rows_inside g r rows =
 pub sites_few : (g : Grid) → IsGrid g → sites g ≤ 65536
 sites_few g sides =
     let a : g.width * g.height ≤ 256 * g.height = mul-le-mul_right g.height sides.width_limit in
-    let b = sides.height_limit in omega arith
+    omega arith

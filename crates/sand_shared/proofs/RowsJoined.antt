@@ -37,10 +37,6 @@ times_one a b w some e = ⊎_elim
 rows_after : (g : Grid) (r s : Rows) → AreRowsOf g r → AreRowsOf g s → (s.first ≡ s.end) ⊎ (s.first ≡ r.end)
     → AreRowsOf g record { first = r.first; end = r.end + count_of s }
 rows_after g r s rows more near =
-    let ordered = rows.ordered in
-    let ordered' = more.ordered in
-    let inside = rows.inside in
-    let inside' = more.inside in
     record {
       ordered = omega arith;
       inside = ⊎_elim (λ (none : s.first ≡ s.end). omega arith) (λ (next : s.first ≡ r.end). omega arith) near;
@@ -65,8 +61,6 @@ module _ (p q : PassView) (one : IsPass p) (other : IsPass q) (same : q.grid ≡
       let w = p.grid.width in
       let some = one.grid.some_width in
       let end = rows_end p.rows w one.rows.ordered in
-      let ordered = other.rows.ordered in
-      let long = one.one_each in
       let few : length q.counts ≡ count_of q.rows * w = other.one_each ∙ ap (λ n. count_of q.rows * n) widths in
       let base : q.rows.first * q.grid.width ≡ q.rows.first * w = ap (λ n. q.rows.first * n) widths in
       let none = tests_agree (length q.counts) 0 q.rows.first q.rows.end
@@ -124,9 +118,6 @@ module _ (p q : PassView) (one : IsPass p) (other : IsPass q) (same : q.grid ≡
         ≡ count_of (either_rows p.rows q.rows b) * p.grid.width
     both_each b =
         let w = p.grid.width in
-        let ordered = one.rows.ordered in
-        let ordered' = other.rows.ordered in
-        let long = one.one_each in
         let few : length q.counts ≡ count_of q.rows * w = other.one_each ∙ ap (λ n. count_of q.rows * n) widths in
         let sum = times_plus (count_of p.rows) (count_of q.rows) w in
         elim b as (λ b. length (if b then (p.counts ++ q.counts) else (q.counts ++ p.counts))

@@ -40,7 +40,6 @@ sites_between g a b base cs sides ordered inside e long =
     ⊎_elim
     (λ (some : a < b).
     let wide : 1 * w ≤ (b - a) * w = mul-le-mul_right w (omega arith) in
-    let broad = sides.some_width in
     subst P (sym (between_some a b some))
     record {
       base_is = base_some base cs (omega arith) ∙ e;
@@ -63,11 +62,10 @@ pub whole_sites : (g : Grid) (r : Rows) (cs : List ℕ) → IsGrid g → AreRows
 whole_sites g r cs sides rows long =
     let w = g.width in
     let base = r.first * w in
-    let broad = sides.some_width in
     let same_ends = λ (none : count_of r * w ≡ 0). ⊎_elim
     (λ (some : r.first < r.end).
     let wide : 1 * w ≤ count_of r * w = mul-le-mul_right w (omega arith) in absurd (omega arith))
-    (λ (le : r.end ≤ r.first). let ordered = rows.ordered in rows.none (omega arith))
+    (λ (le : r.end ≤ r.first). rows.none (omega arith))
     (cases_lt r.first r.end) in
     record {
       base_is = ⊎_elim
@@ -84,7 +82,6 @@ module _ (g : Grid) (r : Rows) (cs : List ℕ) (k : ℕ) (sides : IsGrid g) (row
   kept_sites : (length cs - k * g.width ≡ ((r.end - k) - r.first) * g.width) × (k * g.width ≤ length cs)
   kept_sites =
       let w = g.width in
-      let ordered = rows.ordered in
       let split = ap (λ n. n * w) {x = count_of r} {y = ((r.end - k) - r.first) + k} (omega arith)
       ∙ times_plus ((r.end - k) - r.first) k w in
       (omega arith, omega arith)
@@ -92,8 +89,6 @@ module _ (g : Grid) (r : Rows) (cs : List ℕ) (k : ℕ) (sides : IsGrid g) (row
   pub upper_sites : AreSitesOf g (upper_rows r k) (r.first * g.width) (take (length cs - k * g.width) cs)
   upper_sites =
       let kept = kept_sites in
-      let ordered = rows.ordered in
-      let inside = rows.inside in
       sites_between g r.first (r.end - k) (r.first * g.width) (take (length cs - k * g.width) cs) sides
       (omega arith) (omega arith) refl (length-take-le (length cs - k * g.width) cs (omega arith) ∙ kept.0)
 
@@ -102,7 +97,6 @@ module _ (g : Grid) (r : Rows) (cs : List ℕ) (k : ℕ) (sides : IsGrid g) (row
   lower_sites =
       let w = g.width in
       let kept = kept_sites in
-      let ordered = rows.ordered in
       let inside = rows.inside in
       let base = times_plus r.first ((r.end - k) - r.first) w in
       let base' = ap (λ n. n * w) {x = r.first + ((r.end - k) - r.first)} {y = r.end - k} (omega arith) in

@@ -217,7 +217,7 @@ opens t terms = record {
   events = [];
   happened = (refl, tt);
   shown = record {
-    wide = let e = terms.pile.one_each in omega arith;
+    wide = omega arith;
     number = refl;
     heights = λ i l. third t.start.heights i;
     passes = refl;

@@ -75,8 +75,6 @@ pub sweeps_more : (t : Terms) (v : View) (cs : List ℕ) (k topplings times spot
 sweeps_more t v cs k topplings times spot least rows inside s left few no_more spares =
     let n = get_or cs k 0 in
     let ds = set cs k (n + times) in
-    let long = s.same_rows in
-    let sums = s.risen in
     let new : get_or ds k 0 ≡ n + times = get_or-set_same cs k (n + times) 0 (omega arith) in
     let old : (j : ℕ) → j ≢ k → get_or ds j 0 ≡ get_or cs j 0 = λ j ne. get_or-set_other cs k j (n + times) 0 ne in
     let was = s.rest k (omega arith) in
@@ -187,7 +185,6 @@ calm_back : (t : Terms) (v : View) (cs : List ℕ) (topplings : ℕ) → HasAll 
 calm_back t v cs topplings all s none i inside =
     let own = all.all_sites i inside in
     let at = place_inside v i own in
-    let from = at.0 in
     let low = s.enough (i - v.base) at.1 in
     let same = ap (λ (l : List ℕ). get_or l (i - v.base) 0) (s.idle none) in
     subst (λ z. LeavesAtMost t v z 3) {x = v.base + (i - v.base)} {y = i} (omega arith)
@@ -207,7 +204,6 @@ sweeps_end t v cs topplings s = record {
 pub sweeps_all : (t : Terms) (v : View) (cs : List ℕ) (topplings : ℕ) → Sweeps t v cs (length v.counts) topplings
     → HasAll t v → SweptAll t v cs topplings
 sweeps_all t v cs topplings s all =
-    let long = s.same_rows in
     record {
       calm = (calm_back t v cs topplings all s, s.calm all);
       sparing = ⊎_elim
@@ -222,7 +218,7 @@ sweeps_all t v cs topplings s all =
 
 pub sweeps_few : (t : Terms) (v : View) (cs : List ℕ) (topplings : ℕ) → Sweeps t v cs (length v.counts) topplings
     → sum cs < 2 ^ 54
-sweeps_few t v cs topplings s = let long = s.same_rows in ⊎_elim
+sweeps_few t v cs topplings s = ⊎_elim
     (λ (none : length v.counts ≡ 0). let z = no_sum cs (omega arith) in omega arith)
     (λ (some : length v.counts ≡ 0 → ⊥). s.few (omega arith))
     (cases_eq (length v.counts) 0)

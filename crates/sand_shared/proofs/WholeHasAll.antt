@@ -28,7 +28,6 @@ module _ (t : Terms) (p : PassView) (same : p.grid ≡ grid_of_terms t)
   whole_has_all =
       let base = whole_base in
       let all = whole_counts in
-      let quota = whole.quota in
       record { quota = omega arith; all_sites = λ i l. held base all i l }
     where
       held : (at_rest p).base ≡ 0 → length p.counts ≡ sites (grid_of_terms t) → (i : ℕ) → i < sites (grid_of_terms t)

@@ -49,12 +49,8 @@ pub shows_draw : (t : Terms) (p : OpenPile) (s : State ℕ View) (a i : ℕ)
     (stepped_to s 1 ((slice_index s.words 1 + 1) % 2 ^ 64) a (pass_at (after t p (draw a i)) a))
 shows_draw t p s a i terms r may h =
     let n = slice_index s.words 1 in
-    let quota = r.quota in
-    let limit = terms.limit in
     let mine = get_or-le-sum_by (λ (u : View). u.left) p.passes a nobody may.there in
-    let some_left = may.some_left in
     let number = h.number in
-    let wide = h.wide in
     let next : (n + 1) % 2 ^ 64 ≡ n + 1 = mod-eq_of_lt {n = n + 1} {m = 2 ^ 64} (omega arith) in
     record {
       wide = length-set s.words 1 ((n + 1) % 2 ^ 64) ∙ h.wide;
@@ -70,7 +66,7 @@ height_shown : (t : Terms) (p q : OpenPile) (s : State ℕ View) (i x : ℕ)
     → i < sites (grid_of_terms t) → Shows t p s → q.height i ≡ x
     → ((j : ℕ) → i ≢ j → q.height j ≡ p.height j)
     → (j : ℕ) → j < sites (grid_of_terms t) → slice_index (set s.words (i + 2) x) (j + 2) ≡ q.height j
-height_shown t p q s i x inside h here others j l = let wide = h.wide in ⊎_elim
+height_shown t p q s i x inside h here others j l = ⊎_elim
     (λ (e : i ≡ j). ap (λ z. get_or (set s.words (i + 2) x) (z + 2) 0) (sym e)
     ∙ (get_or-set_same s.words (i + 2) x 0 (omega arith) ∙ (sym here ∙ ap q.height e)))
     (λ (ne : i ≡ j → ⊥).
@@ -89,8 +85,6 @@ shows_arrived t p s a i k terms r there in_hand inside h =
     let is = h.heights i inside in
     let q = arrived p a i k in
     let v = pass_at p a in
-    let wide = h.wide in
-    let limit = terms.limit in
     let few = few_present t p terms r i inside in
     let mine = get_or-le-sum_by (λ (u : View). held u.hand i) p.passes a nobody there in
     let hand = held-without i k v.hand i in_hand in
@@ -112,11 +106,8 @@ pub shows_unload : (t : Terms) (p : OpenPile) (s : State ℕ View) (a i k : ℕ)
 shows_unload t p s a i k terms r may h =
     let n = slice_index s.words (i + 2) in
     let inside = may.inside in
-    let high = may.high in
     let is = h.heights i inside in
     let q = after t p (unload a i k) in
-    let wide = h.wide in
-    let limit = terms.limit in
     let few = few_present t p terms r i inside in
     let here = amount_here i (4 * k) i refl in
     let round : n + (2 ^ 64 - 4 * k) ≡ (n - 4 * k) + 2 ^ 64 = omega arith in

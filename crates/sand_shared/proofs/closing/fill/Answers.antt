@@ -11,7 +11,6 @@ loop-receipt-preserved c =
     let j = c.loop-receipt.receipt-index in
     let below = c.loop-receipt-test.true in
     let inv = c.loop-receipt.invariant in
-    let long = inv.long in
     let inside = c.requires.inside j (receipt 0 0) below in
     record {
       long = length-set _ _ _ ∙ inv.long;
@@ -21,7 +20,6 @@ loop-receipt-preserved c =
 
 pub returns-clause-tells : goal.returns-clause-tells
 returns-clause-tells c =
-    let done = c.loop-receipt-test.false in
     all_at
     (λ (r : Receipt). slice_get c.loop-receipt.history.items r.number ≡ Some r.site) c.args.receipts.now
     (receipt 0 0)

@@ -10,7 +10,6 @@ pub add-requires-clause-small : goal.add-requires-clause-small
 add-requires-clause-small c i l =
     let same = ap (λ (l : List ℕ). length l) c.odometers.ensures.value in
     let here = ap (λ (l : List ℕ). slice_index l i) c.odometers.ensures.value in
-    let each = c.requires.odometer_each in
     let small = c.requires.small i (omega arith) in omega arith
 
 pub of_lists-requires : goal.of_lists-requires

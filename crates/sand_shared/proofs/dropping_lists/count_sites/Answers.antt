@@ -28,7 +28,6 @@ drops-preserved c =
     let inv = c.drops.invariant in
     let cs = c.drops.counts.items in
     let n = length c.args.counts.now.items in
-    let long = inv.long in
     let inside = c.requires.inside k 0 below in
     record {
       long = length-set cs (get_or ds k 0) (c.index_mut.result.now + 1) ∙ inv.long;

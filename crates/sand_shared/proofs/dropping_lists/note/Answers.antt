@@ -12,10 +12,8 @@ pub drops-preserved : goal.drops-preserved
 drops-preserved c =
     let ds = c.args.drops.now in
     let k = c.drops.site-index in
-    let below = c.drops-test.true in
     let here = from_here ds k (omega arith) in
     let inv = c.drops.invariant in
-    let next = inv.next in
     let long = inv.long in
     let n = c.drops.next in
     let rs = c.drops.receipts.items in
@@ -33,7 +31,6 @@ drops-preserved c =
 pub returns-clause-items : goal.returns-clause-items
 returns-clause-items c =
     let ds = c.args.drops.now in
-    let done = c.drops-test.false in
     let none : drop c.drops.site-index ds ≡ [] = drop_all c.drops.site-index ds (omega arith) in
     sym (append-nil c.drops.receipts.items)
     ∙ (ap (λ l. c.drops.receipts.items ++ receipts_from c.drops.next l) (sym none) ∙ c.drops.invariant.rest)

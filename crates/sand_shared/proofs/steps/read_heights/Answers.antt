@@ -9,7 +9,6 @@ use Rattle.sand_shared.proofs.steps.read_heights.Goals as goal
 pub loop-site-preserved : goal.loop-site-preserved
 loop-site-preserved c =
     let inv = c.loop-site.invariant in
-    let long = inv.long in
     let items = c.push_reserved.ensures.items in
     let ws = slots_items c.args.closed.now.words in
     let xs = c.loop-site.heights.items in

@@ -16,25 +16,19 @@ holds c = site_inside c.bare.inside.shape c.bare.inside.rows c.args.site c.bare.
 pub index-requires : goal.index-requires
 index-requires c =
     let p = c.bare.inside in
-    let inv = c.bare.invariant.pass in
     let inside = holds (goal.at.index-requires c).After-width in
-    let from = inside.from in
-    let below = inside.below in
     let base : c.from.result * c.width.result ≡ p.rows.first * p.shape.width =
     λ i. c.from.ensures i * c.width.ensures.value i in
-    let long = inv.one_each in omega arith
+    omega arith
 
 pub returns : goal.returns
 returns c =
     let p = c.bare.inside in
-    let inv = c.bare.invariant.pass in
     let is = c.bare.view_is ∙ c.self.view_is in
     let inside = holds (goal.at.returns c).After-width in
     let from = inside.from in
-    let below = inside.below in
     let base : c.from.result * c.width.result ≡ p.rows.first * p.shape.width =
     λ i. c.from.ensures i * c.width.ensures.value i in
-    let long = inv.one_each in
     get_or_read p.counts.items _ _ (omega arith) c.index.ensures 0
     ∙ ap (λ b. get_or p.counts.items (c.args.site - b) 0) base
     ∙ sym (toppled_from (at_rest (shown p)) c.args.site from)

@@ -17,8 +17,7 @@ pub overflow_add-lost : goal.overflow_add-lost
 overflow_add-lost c =
     let a = small_lost _ c.self.invariant in
     let b = small_lost _ c.next.invariant in
-    let mine = c.lost.ensures in
-    let theirs = c.lost-2.ensures in omega arith
+    omega arith
 
 joined : (c : After-lost-2) → AreJoined c.args.self.now c.args.next.now c.add.new.numbers.items
 joined c = are_joined c.args.self.now c.args.next.now

@@ -20,16 +20,14 @@ pub from_vec-pile-requires-clause-limit : goal.from_vec-pile-requires-clause-lim
 from_vec-pile-requires-clause-limit c =
     let left = grains_left c.args.start c.args.history.items c.args.heights.items c.args.odometer.items
     (leads (goal.at.from_vec-pile-requires-clause-limit c).After-shape) in
-    let limit = c.requires.limit in omega arith
+    omega arith
 
 pub overflow_sub-lost : goal.overflow_sub-lost
 overflow_sub-lost c =
     let left = grains_left c.args.start c.args.history.items c.args.heights.items c.args.odometer.items
     (leads (goal.at.overflow_sub-lost c).After-shape) in
-    let start = c.grains.ensures.value in
     let rest = c.grains-2.ensures.value ∙ ap (λ (p : PileView). sum p.heights) c.from_vec-pile.ensures in
-    let drops = c.len.ensures in
-    let long = c.args.history.ok.0 in omega arith
+    omega arith
 
 made : (c : After-grains-2)
     → LeadsTo c.args.start c.args.history.items c.args.heights.items c.args.odometer.items
@@ -44,10 +42,7 @@ made : (c : After-grains-2)
       };
     })
 made c leads_to =
-    let start = c.grains.ensures.value in
     let rest = c.grains-2.ensures.value ∙ ap (λ (p : PileView). sum p.heights) c.from_vec-pile.ensures in
-    let drops = c.len.ensures in
-    let long = c.args.history.ok.0 in
     one_threads c.args.start c.args.history.items c.args.heights.items c.args.odometer.items leads_to
     (record {
       pile = c.from_vec-pile.result;

@@ -5,4 +5,4 @@ use Rattle.sand_shared.proofs.record.Record.topplings.Goals as goal
 pub returns-clause-few : goal.returns-clause-few
 returns-clause-few c =
     let few = small_topplings _ c.self.invariant in
-    let same = c.topplings.ensures in omega arith
+    omega arith

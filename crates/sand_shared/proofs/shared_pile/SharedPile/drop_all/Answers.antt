@@ -13,7 +13,7 @@ use Rattle.sand_shared.proofs.shared_pile.SharedPile.drop_all.Goals as goal
 use Rattle.sand_shared.proofs.shared_pile.SharedPile.drop_all.Goals.{After-draw-number, After-place_all}
 
 many : (c : After-draw-number) → 0 < length c.args.drops.now
-many c = let some_drops = c.if-count-eq0.false in omega arith
+many c = omega arith
 
 fresh : (c : After-draw-number) → c.bare.inside.seen ≤ c.draw-number.result
 fresh c =
@@ -23,7 +23,7 @@ fresh c =
 small : (c : After-draw-number) → c.draw-number.result + length c.args.drops.now < 18446744073709551616
 small c =
     let few = row_small _ _ c.args.drops.now _ _ _ (many c) c.draw-number.ensures.happened in
-    let limit = c.draw-number.ensures.happened.before.terms.limit in omega arith
+    omega arith
 
 -- what the seat has once all grains are laid
 has : (c : After-place_all) → let p = c.bare.inside in let ds = c.args.drops.now in let n = c.draw-number.result in
@@ -36,13 +36,12 @@ has c =
     let ds = c.args.drops.now in
     let n = c.draw-number.result in
     c.place_all.ensures.view ∙ ap (λ (u : View). record u { hand = [] })
-    (drew_row_is _ _ ds _ _ n (let some_drops = c.if-count-eq0.false in omega arith) c.draw-number.ensures.happened)
+    (drew_row_is _ _ ds _ _ n (omega arith) c.draw-number.ensures.happened)
     ∙ ap (λ (m : Me ℕ View). record (drew_all m.0 n ds) { hand = [] }) c.bare.invariant.me
 
 pub place_all-requires-clause-hand : goal.place_all-requires-clause-hand
 place_all-requires-clause-hand c =
     let ds = c.args.drops.now in
-    let some_drops = c.if-count-eq0.false in
     ap (λ (v : View). v.hand) (drew_row_is _ _ ds _ _ c.draw-number.result (omega arith) c.draw-number.ensures.happened)
     ∙ ap (λ (m : Me ℕ View). m.0.hand ++ one_for_each ds) c.bare.invariant.me
 
@@ -55,7 +54,6 @@ invariant_of-bare c =
     let n = c.draw-number.result in
     let more = length-append v.receipts (receipts_from n ds) in
     let same = receipts_from-length n ds in
-    let made = inv.each_made in
     let new = fresh (goal.at.invariant_of-bare c).After-draw-number in
     seated
     (record (shown p) { left = p.left - length ds; seen = n + length ds; receipts = v.receipts ++ receipts_from n ds })
@@ -85,8 +83,7 @@ invariant_of-pass-2 c =
     let before = inv.listed ∙ sym (ap (λ (p : PassView). p.receipts) c.bare.view_is) in
     record {
       listed = items ∙ ap (λ (l : List Receipt). l ++ receipts_from n ds) before ∙ sym drawn;
-      fit = (let fit = inv.fit in
-          let long = ap (λ (l : List Receipt). length l) items in
+      fit = (let long = ap (λ (l : List Receipt). length l) items in
           let more = length-append c.pass.inside.receipts.items (receipts_from n ds) in
           let same = receipts_from-length n ds in
           let left = ap (λ (p : PassView). p.left) c.bare.view_is in omega (arith, c.note.ensures.room));

@@ -39,7 +39,6 @@ invariant_of-bare c =
     ∙ ap (λ (m : Me ℕ View). lay (drew m.0 n i)) inv.me
     ∙ (λ k. record (at_rest q) { hand = last_laid i k; spot = v.spot; least = v.least }) in
     let more = length-append v.receipts (receipt n i ∷ []) in
-    let made = inv.each_made in
     seated q v.spot v.least
     record {
       once = once_more p.seen n i v.receipts (omega arith) inv.pass.below inv.pass.once;

@@ -34,8 +34,6 @@ invariant_of-pass-2 c =
     laid ∙ ap (λ (b : Bool). if b then p.counts.items ++ o.counts.items else o.counts.items ++ p.counts.items)
     c.are_followed_by-in_order.ensures in
     let made = c.learn.ensures.view ∙ c.join.ensures.joined in
-    let mine = inv.each_made in
-    let its = inv'.each_made in
     let long = length-append (shown p).receipts (shown o).receipts in
     seated both 0 0 (joined_pass p o inv inv' same touch _ _ c.learn.new.seat.me.0 made c.learn.ensures.stands)
     (omega arith) (made ∙ joined_view p o inv inv' same) c.learn.ensures.seat.bare

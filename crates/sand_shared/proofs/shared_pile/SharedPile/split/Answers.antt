@@ -11,7 +11,7 @@ invariant_of-bare c =
     let x = c.bare.inside in
     let quota = c.args.quota in
     let kept : c.len-kept.result ≡ length x.counts.items =
-    let count = c.len-kept.ensures in let long = x.counts.ok.0 in omega arith in
+    omega arith in
     seated (record (shown x) { left = x.left - quota }) x.seat.me.0.spot 0 record {
       once = inv.pass.once;
       below = inv.pass.below;

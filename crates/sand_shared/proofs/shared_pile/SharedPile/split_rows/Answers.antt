@@ -12,13 +12,12 @@ use Rattle.sand_shared.proofs.shared_pile.SharedPile.split_rows.Goals.{After-spl
 kept_is : (c : After-split-seat)
     → c.len.result - c.from.result * c.width.result ≡ sites_kept (shown c.bare.inside) c.args.k
 kept_is c =
-    let long = c.bare.inside.counts.ok.0 in
     let given : c.from.result * c.width.result ≡ c.args.k * c.bare.inside.shape.width =
     λ i. c.from.ensures i * c.width.ensures.value i in
-    let count = c.len.ensures in omega arith
+    omega arith
 
 few_rows : (c : After-split-seat) → c.args.k ≤ count_of c.bare.inside.rows
-few_rows c = let count = c.count.ensures in let enough = c.if-count-k.false in omega arith
+few_rows c = omega arith
 
 pub invariant_of-bare : goal.invariant_of-bare
 invariant_of-bare c =

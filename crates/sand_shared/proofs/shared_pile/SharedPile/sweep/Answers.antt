@@ -27,7 +27,7 @@ sweep_rows-requires-clause-rows c =
     λ i. c.from.ensures i * c.width.ensures.value i in
     let inside = rows_inside p.shape p.rows pass.rows in
     let all = ap sites (same_grid c.self.view_is (c.bare.view_is ∙ c.pass.view_is) c.requires.grid) in
-    let each = pass.one_each in omega arith
+    omega arith
 
 pub returns-clause-swept : goal.returns-clause-swept
 returns-clause-swept c =
@@ -50,8 +50,6 @@ invariant_of-bare c =
     let cs = c.sweep_rows.new.counts.items in
     let v = c.sweep_rows.new.seat.me.0 in
     let before = ap (λ (m : Me ℕ View). length m.0.counts) inv.me in
-    let after = c.sweep_rows.ensures.swept.same_rows in
-    let each = inv.pass.one_each in
     seated (record (shown c.bare.inside) { counts = cs }) v.spot v.least
     record {
       once = inv.pass.once;

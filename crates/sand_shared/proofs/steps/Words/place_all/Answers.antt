@@ -59,8 +59,7 @@ drops-preserved c =
                 (λ q. (sym counts_is q, sym hand_is q)) (waits_laid n x (drop (k + 1) ds) cs hand inside coming);
           })
       | else-amount-ne0 w ↦
-          (let none = w.if-amount-ne0.false in
-          let same = ap (λ (s : Seat ℕ View). s.me.0) w.seat-is in
+          (let same = ap (λ (s : Seat ℕ View). s.me.0) w.seat-is in
           let counts_is = ap (λ (v : Vec ℕ Global). v.items) w.counts-is in
           record {
             seat = subst (StaysSeated c.args.seat.now) (sym w.seat-is) inv.seat;
@@ -74,7 +73,6 @@ drops-preserved c =
 none_waits : (c : After-drops)
     → Waits (sites (grid_of_terms c.args.self.now.terms)) c.drops.counts.items c.drops.seat.me.0.hand []
 none_waits c =
-    let done = c.drops-test.false in
     let none = drop_all c.drops.site-index c.args.drops.now (omega arith) in
     subst (Waits (sites (grid_of_terms c.args.self.now.terms)) c.drops.counts.items c.drops.seat.me.0.hand)
     none c.drops.invariant.waits

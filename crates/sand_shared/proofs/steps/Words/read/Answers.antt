@@ -27,7 +27,6 @@ sites-preserved c =
     let n = c.look-height.result in
     let xs = c.sites.heights.items in
     let items = c.push_reserved.ensures.items in
-    let long = inv.long in
     let is : new ≡ looked v i n =
     looked_is t _ i 0 _ _ _ c.look-height.ensures.happened ∙ (λ q. looked (inv.view q) i n) in
     let spot = ap (λ (u : View). u.spot) is in
@@ -67,8 +66,6 @@ left_there : (c : goal.After-learn)
     (toppled_by c.args.seat.now.me.0) (slice_index c.sites.heights.items)
 left_there c =
     let all = counted c in
-    let upto = c.sites.auto.site-end in
-    let done = c.sites-test.false in
     record { balance = λ i l. c.sites.invariant.left i (omega arith) }
 
 pub returns-clause-limit : goal.returns-clause-limit
@@ -77,8 +74,6 @@ returns-clause-limit c =
     let inv = c.sites.invariant in
     let v = c.args.seat.now.me.0 in
     let all = counted c in
-    let upto = c.sites.auto.site-end in
-    let done = c.sites-test.false in
     let w = looked v c.sites.seat.me.0.spot c.sites.seat.me.0.least in
     let stands = subst (Stands t _) (c.learn.ensures.view ∙ inv.view) c.learn.ensures.stands in
     left_few t _ w stands record { quota = c.requires.all.quota; all_sites = c.requires.all.all_sites }

@@ -27,7 +27,6 @@ unloaded_rows : (c : goal.After-deliver_around)
 unloaded_rows c =
     let v = c.args.seat.now.me.0 in
     let i = c.args.site in
-    let rows = c.requires.rows in
     let long = length-set v.counts (i - v.base) (get_or v.counts (i - v.base) 0 + c.look-times.result / 4) in
     subst (λ (u : View). u.base + length u.counts ≤ sites (grid_of_terms c.args.self.now.terms))
     (sym (unloaded_view c)) (omega arith)

@@ -12,10 +12,7 @@ use Rattle.sand_shared.proofs.steps.Words.sweep_rows.Goals.{After-relieve-times,
 pub overflow_add-base : goal.overflow_add-base
 overflow_add-base c =
     let few = sites_few (grid_of_terms c.args.self.now.terms) c.tell_limits.ensures.pile.grid in
-    let rows = c.requires.rows in
-    let below = c.sites-test.true in
-    let end = c.len-i-end.ensures in
-    let long = c.args.counts.now.ok.0 in omega arith
+    omega arith
 
 -- the sweep is at a site of the pass and of the grid
 inside : (c : After-relieve-times)
@@ -23,11 +20,7 @@ inside : (c : After-relieve-times)
     (v.base + length v.counts ≤ sites (grid_of_terms c.args.self.now.terms)) × (c.sites.i < length v.counts)
 inside c =
     let first = ap (λ (l : List ℕ). length l) c.requires.counts.1 in
-    let base = c.requires.counts.0 in
-    let rows = c.requires.rows in
-    let below = c.sites-test.true in
-    let end = c.len-i-end.ensures in
-    let known = c.args.counts.now.ok.0 in (omega arith, omega arith)
+    (omega arith, omega arith)
 
 pub sites-preserved-then-times-eq0 : goal.sites-preserved-then-times-eq0
 sites-preserved-then-times-eq0 c =
@@ -62,7 +55,6 @@ sites-preserved c =
     let did = c.relieve-times.ensures in
     let at = inside (goal.at.sites-preserved c).After-relieve-times in
     let place = at.1 in
-    let long = inv.swept.same_rows in
     let value : c.index_mut.result.now ≡ get_or cs i 0 = get_or_read cs _ _ (omega arith) c.index_mut.ensures.value 0 in
     record {
       seat = stays_on inv.seat did.seat;
@@ -79,10 +71,6 @@ swept_all : (c : After-sites)
 swept_all c =
     let v = c.args.seat.now.me.0 in
     let first = ap (λ (l : List ℕ). length l) c.requires.counts.1 in
-    let done = c.sites-test.false in
-    let end = c.len-i-end.ensures in
-    let upto = c.sites.auto.i-end in
-    let known = c.args.counts.now.ok.0 in
     subst (λ k. Sweeps c.args.self.now.terms v c.sites.counts.items k c.sites.topplings)
     (omega arith) c.sites.invariant.swept
 
