@@ -10,53 +10,21 @@ use Rattle.sand_shared.specs.declared.view.Terms.{Terms}
 use Rattle.sand_shared.specs.OpenPile.{OpenPile, nobody, grid_of_terms, pass_at, AreTerms, IsLawful}
 use Rattle.sand_shared.specs.Events.{Event, begin, draw, place, receipt, grains_for, are_for, drew, drew_all, after_laying, receipts_from, one_for_each, all_draws, all_places, unopened, May, after, AllHappen, after_all}
 use Rattle.sand_shared.specs.Plays.{Takes}
-use Rattle.sand_shared.specs.Running.{Shows, IsRunning, found, Finds, Happened}
+use Rattle.sand_shared.specs.Running.{Shows, IsRunning, Stands, found, Finds, Happened}
 use Rattle.sand_shared.specs.Passes.{EachOnce, AllBelow}
 use Rattle.sand_shared.proofs.NumbersOnce.{once_more, below_push}
 use Rattle.std.proofs.Math.Nat.{mod-add-div', add-mul-mod_self_right}
-use Rattle.std.proofs.Math.Seq.{drop-cons}
+use Rattle.std.proofs.Math.Seq.{lt-length-set}
+use Rattle.std.proofs.lemmas.List.Elements.{All-map, All-replicate, All-tail}
 use Rattle.sand_shared.proofs.HandAfterPlacing.{laid_on, count-without}
 use Rattle.sand_shared.proofs.Lawfulness.{event_keeps, all_keep, few_drawn}
 use Rattle.sand_shared.proofs.WordsShowPile.{stepped_to, pass_at-with, shows_draw, shows_arrived}
-use Rattle.sand_shared.proofs.StepsAreEvents.{pile_of, lawful_now, pass_there, pass_is}
-
--- Lists of events
-
-pub after_all-append : (t : Terms) (p : OpenPile) (es fs : List Event)
-    → after_all t p (es ++ fs) ≡ after_all t (after_all t p es) fs
-after_all-append t p [] fs = refl
-after_all-append t p (x ∷ xs) fs = after_all-append t (after t p x) xs fs
-
-pub happen_append : (t : Terms) (p : OpenPile) (es fs : List Event)
-    → AllHappen t p es → AllHappen t (after_all t p es) fs
-    → AllHappen t p (es ++ fs)
-happen_append t p [] fs happen more = more
-happen_append t p (x ∷ xs) fs happen more = (happen.0, happen_append t (after t p x) xs fs happen.1 more)
-
--- the rule holds after further events
-many_more : (t : Terms) (s s' : State ℕ View) (h : IsRunning t s) (es : List Event)
-    → AllHappen t (pile_of t s h) es → Shows t (after_all t (pile_of t s h) es) s'
-    → IsRunning t s'
-many_more t s s' h es may shown =
-    let p = after t (unopened t) begin in
-    record {
-      terms = h.terms;
-      events = h.events ++ es;
-      happened = (h.happened.0, happen_append t p h.events es h.happened.1 may);
-      shown = subst (λ q. Shows t q s') (sym (after_all-append t p h.events es)) shown;
-    }
-
--- A step that is several events
+use Rattle.sand_shared.proofs.StepsAreEvents.{takes}
 
 -- an event of the pass a that adds 1 to a word, whatever else has happened
 abbrev AddsOne : Terms → ℕ → ℕ → Event → Type 0
 AddsOne t word a e = (p : OpenPile) (s : State ℕ View) → AreTerms t → IsLawful t p → May t p e → Shows t p s
-    → (slice_index s.words word ≡ found p e)
-    × Shows t (after t p e) (stepped_to s word ((slice_index s.words word + 1) % 2 ^ 64) a (pass_at (after t p e) a))
-
-abbrev AllAddOne : Terms → ℕ → ℕ → List Event → Type 0
-AllAddOne t word a [] = Unit {0}
-AllAddOne t word a (e ∷ es) = AddsOne t word a e × AllAddOne t word a es
+    → Shows t (after t p e) (stepped_to s word ((slice_index s.words word + 1) % 2 ^ 64) a (pass_at (after t p e) a))
 
 mod_plus : (n k m : ℕ) → (n % m + k) % m ≡ (n + k) % m
 mod_plus n k m =
@@ -72,19 +40,19 @@ stepped_twice s word x y a v w = λ q.
 -- n such events add n
 shows_row : (t : Terms) (word a : ℕ) (e : Event) (es : List Event) (p : OpenPile) (s : State ℕ View)
     → word < sites (grid_of_terms t) + 2
-    → AddsOne t word a e → AllAddOne t word a es
+    → All (AddsOne t word a) (e ∷ es)
     → AreTerms t → IsLawful t p → AllHappen t p (e ∷ es) → Shows t p s
     → Shows t (after_all t p (e ∷ es))
     (stepped_to s word ((slice_index s.words word + suc (length es)) % 2 ^ 64) a (pass_at (after_all t p (e ∷ es)) a))
-shows_row t word a e [] p s fits one ones terms r may h = (one p s terms r may.0 h).1
-shows_row t word a e (f ∷ es) p s fits one ones terms r may h =
+shows_row t word a e [] p s fits ones terms r may h = ones 0 e (omega arith) p s terms r may.0 h
+shows_row t word a e (f ∷ es) p s fits ones terms r may h =
     let n = slice_index s.words word in
     let x = (n + 1) % 2 ^ 64 in
     let q = after t p e in
     let v = pass_at q a in
     let s' = stepped_to s word x a v in
-    let rest = shows_row t word a f es q s' fits ones.0 ones.1 terms
-    (event_keeps t p e terms r may.0) may.1 (one p s terms r may.0 h).1 in
+    let rest = shows_row t word a f es q s' fits (All-tail (AddsOne t word a) e (f ∷ es) ones) terms
+    (event_keeps t p e terms r may.0) may.1 (ones 0 e (omega arith) p s terms r may.0 h) in
     let now : slice_index s'.words word ≡ x = get_or-set_same s.words word x 0 (omega arith) in
     let sum : (slice_index s'.words word + suc (length es)) % 2 ^ 64 ≡ (n + suc (suc (length es))) % 2 ^ 64 =
     ap (λ z. (z + suc (length es)) % 2 ^ 64) now ∙ (mod_plus (n + 1) (suc (length es)) (2 ^ 64)
@@ -95,34 +63,18 @@ shows_row t word a e (f ∷ es) p s fits one ones terms r may h =
 
 -- a step is allowed if its events can happen whatever else has happened
 takes_row : (t : Terms) (a word k : ℕ) (e : Event) (es : List Event) (slots : ℕ) (m : Me ℕ View)
-    → word < sites (grid_of_terms t) + 2 → AddsOne t word a e
-    → AllAddOne t word a es → suc (length es) ≡ k
-    → ((p : OpenPile) → a < length p.passes → pass_at p a ≡ m.0 → AllHappen t p (e ∷ es))
+    → word < sites (grid_of_terms t) + 2 → All (AddsOne t word a) (e ∷ es) → suc (length es) ≡ k
+    → ((x : Stands t a m.0) → AllHappen t x.pile (e ∷ es))
+    → ((p : OpenPile) (s : State ℕ View) → Shows t p s → slice_index s.words word ≡ found p e)
     → Allows (IsRunning t) slots a m word (λ n. (n + k) % 2 ^ 64) (Takes t a (e ∷ es) m)
-takes_row t a word k e es slots m fits one ones long can s h _ at inside =
-    let p = pile_of t s h in
-    let r = lawful_now t s h in
-    let there = pass_there t s h a m.0 at in
-    let is = pass_is t s h a m.0 at in
-    let may = can p there is in
-    let w = pass_at (after_all t p (e ∷ es)) a in
-    let n = slice_index s.words word in (
-      w,
-      keeps,
-      tt,
-      many_more t s (stepped_to s word ((n + k) % 2 ^ 64) a w) h (e ∷ es) may
-          (subst (λ z. Shows t (after_all t p (e ∷ es)) (stepped_to s word ((n + z) % 2 ^ 64) a w))
-          long (shows_row t word a e es p s fits one ones h.terms r may h.shown)),
-      (
-        record {
-          before = record { terms = h.terms; pile = p; lawful = r; there = there; pass = is };
-          may = may;
-          number = (one p s h.terms r may.0 h.shown).0;
-          pass_after = refl;
-        },
-        refl,
-      ),
-    )
+takes_row t a word k e es slots m fits ones long can finds =
+    takes t a (e ∷ es) slots m word (λ n. (n + k) % 2 ^ 64) can
+    (λ x s may h.
+    let q = after_all t x.pile (e ∷ es) in (
+      finds x.pile s h,
+      subst (λ z. Shows t q (stepped_to s word ((slice_index s.words word + z) % 2 ^ 64) a (pass_at q a))) long
+          (shows_row t word a e es x.pile s fits ones x.terms x.lawful may h),
+    ))
 
 -- Draws in a row
 
@@ -152,32 +104,17 @@ module _ (t : Terms) (a : ℕ) where
       → pass_at (after t p (draw a i)) a ≡ drew (pass_at p a) (length p.drawn) i
   pass_after_draw p i there = pass_at-with p a (drew (pass_at p a) (length p.drawn) i) there
 
-  still_there : (p : OpenPile) (i : ℕ) → a < length p.passes → a < length (after t p (draw a i)).passes
-  still_there p i there = let e = length-set p.passes a (drew (pass_at p a) (length p.drawn) i) in omega arith
-
-  -- after its first draw a pass has seen all draws, as the induction requires
-  pass_after_first : (p : OpenPile) (i : ℕ) (is : List ℕ) → a < length p.passes
-      → ((q : OpenPile) → a < length q.passes → (pass_at q a).seen ≡ length q.drawn
-      → pass_at (after_all t q (all_draws a is)) a ≡ drew_all (pass_at q a) (length q.drawn) is)
-      → pass_at (after_all t p (all_draws a (i ∷ is))) a ≡ drew_all (pass_at p a) (length p.drawn) (i ∷ is)
-  pass_after_first p i is there rest =
-      let q = after t p (draw a i) in
+  -- the first draw tells the pass of all draws before it, whatever it had seen
+  pass_after_all : (p : OpenPile) (is : List ℕ) → a < length p.passes
+      → (length is ≡ 0 → (pass_at p a).seen ≡ length p.drawn)
+      → pass_at (after_all t p (all_draws a is)) a ≡ drew_all (pass_at p a) (length p.drawn) is
+  pass_after_all p [] there seen = sym (drew_none (pass_at p a) (length p.drawn) (seen refl))
+  pass_after_all p (i ∷ is) there seen =
       let here = pass_after_draw p i there in
       let long = length-append p.drawn (i ∷ []) in
       let known = ap (λ (v : View). v.seen) here in
-      rest q (still_there p i there) (omega arith)
+      pass_after_all (after t p (draw a i)) is (lt-length-set p.passes a _ there) (λ _. omega arith)
       ∙ ((λ k. drew_all (here k) (long k) is) ∙ drew_more (pass_at p a) (length p.drawn) i is)
-
-  pass_after_all : (p : OpenPile) (is : List ℕ) → a < length p.passes → (pass_at p a).seen ≡ length p.drawn
-      → pass_at (after_all t p (all_draws a is)) a ≡ drew_all (pass_at p a) (length p.drawn) is
-  pass_after_all p [] there seen = sym (drew_none (pass_at p a) (length p.drawn) seen)
-  pass_after_all p (i ∷ is) there seen = pass_after_first p i is there (λ q. pass_after_all q is)
-
-  -- whatever the pass had seen
-  pass_after_some : (p : OpenPile) (is : List ℕ) → a < length p.passes → 0 < length is
-      → pass_at (after_all t p (all_draws a is)) a ≡ drew_all (pass_at p a) (length p.drawn) is
-  pass_after_some p [] there many = absurd (omega arith)
-  pass_after_some p (i ∷ is) there many = pass_after_first p i is there (λ q. pass_after_all q is)
 
   -- they can happen if the pass has enough quota left
   all_may : (p : OpenPile) (is : List ℕ) → a < length p.passes
@@ -187,13 +124,9 @@ module _ (t : Terms) (a : ℕ) where
   all_may p (i ∷ is) there left inside =
       let here = ap (λ (v : View). v.left) (pass_after_draw p i there) in (
         record { there = there; some_left = omega arith; inside = inside 0 0 (omega arith) },
-        all_may (after t p (draw a i)) is (still_there p i there)
+        all_may (after t p (draw a i)) is (lt-length-set p.passes a _ there)
             (omega arith) (λ k d l. inside (suc k) d (omega arith)),
       )
-
-  draws_add_one : (is : List ℕ) → AllAddOne t 1 a (all_draws a is)
-  draws_add_one [] = tt
-  draws_add_one (i ∷ is) = (λ p s terms r may h. (h.number, shows_draw t p s a i terms r may h), draws_add_one is)
 
   -- the step is allowed at any moment
   pub draws_row : (is : List ℕ) (slots : ℕ) (m : Me ℕ View) → 0 < length is
@@ -201,10 +134,11 @@ module _ (t : Terms) (a : ℕ) where
       → Allows (IsRunning t) slots a m 1 (λ n. (n + length is) % 2 ^ 64) (Takes t a (all_draws a is) m)
   draws_row [] slots m some_drops left inside = absurd (omega arith)
   draws_row (i ∷ is) slots m some_drops left inside =
-      let ones = draws_add_one (i ∷ is) in
-      takes_row t a 1 (suc (length is)) (draw a i) (all_draws a is) slots m
-      (omega arith) ones.0 ones.1 (ap suc (length-map is (λ j. draw a j)))
-      (λ p there same. all_may p (i ∷ is) there (let enough = ap (λ (v : View). v.left) same in omega arith) inside)
+      takes_row t a 1 (suc (length is)) (draw a i) (all_draws a is) slots m (omega arith)
+      (All-map (AddsOne t 1 a) (λ j. draw a j) (i ∷ is) (λ k d l p s terms r may h. shows_draw t p s a _ terms r may h))
+      (ap suc (length-map is (λ j. draw a j)))
+      (λ x. all_may x.pile (i ∷ is) x.there (let enough = ap (λ (v : View). v.left) x.pass in omega arith) inside)
+      (λ p s h. h.number)
 
 -- Places in a row
 
@@ -213,14 +147,11 @@ module _ (t : Terms) (a i : ℕ) where
       → pass_at (after t p (place a i)) a ≡ after_laying (pass_at p a) i 1
   pass_after_place p there = pass_at-with p a (after_laying (pass_at p a) i 1) there
 
-  there_still : (p : OpenPile) → a < length p.passes → a < length (after t p (place a i)).passes
-  there_still p there = let e = length-set p.passes a (after_laying (pass_at p a) i 1) in omega arith
-
   pass_after_places : (p : OpenPile) (k : ℕ) → a < length p.passes
       → pass_at (after_all t p (all_places a i k)) a ≡ record (pass_at p a) { hand = laid_on i k (pass_at p a).hand }
   pass_after_places p zero there = refl
   pass_after_places p (suc k) there =
-      pass_after_places (after t p (place a i)) k (there_still p there)
+      pass_after_places (after t p (place a i)) k (lt-length-set p.passes a _ there)
       ∙ ap (λ (v : View). record v { hand = laid_on i k v.hand }) (pass_after_place p there)
 
   -- they can happen if the hand has k single grains for the site
@@ -232,15 +163,8 @@ module _ (t : Terms) (a i : ℕ) where
       let less = count-without i 1 (pass_at p a).hand (omega arith) in
       let left = ap (λ (v : View). count_by (are_for i 1) v.hand) (pass_after_place p there) in (
         record { there = there; in_hand = omega arith; inside = inside },
-        all_laid_may (after t p (place a i)) k (there_still p there) (omega arith) inside,
+        all_laid_may (after t p (place a i)) k (lt-length-set p.passes a _ there) (omega arith) inside,
       )
-
-  places_add_one : i < sites (grid_of_terms t) → (k : ℕ) → AllAddOne t (i + 2) a (all_places a i k)
-  places_add_one inside zero = tt
-  places_add_one inside (suc k) = (
-    λ p s terms r may h. (h.heights i inside, shows_arrived t p s a i 1 terms r may.there may.in_hand inside h),
-    places_add_one inside k,
-  )
 
   -- the step is allowed at any moment
   pub places_row : (k slots : ℕ) (m : Me ℕ View) → 0 < k
@@ -248,11 +172,13 @@ module _ (t : Terms) (a i : ℕ) where
       → Allows (IsRunning t) slots a m (i + 2) (λ n. (n + k) % 2 ^ 64) (Takes t a (all_places a i k) m)
   places_row zero slots m some_grains in_hand inside = absurd (omega arith)
   places_row (suc k) slots m some_grains in_hand inside =
-      let ones = places_add_one inside (suc k) in
-      takes_row t a (i + 2) (suc k) (place a i) (all_places a i k) slots m
-      (omega arith) ones.0 ones.1 (ap suc (length-replicate k (place a i)))
-      (λ p there same. all_laid_may p (suc k) there
-      (let enough = ap (λ (v : View). count_by (are_for i 1) v.hand) same in omega arith) inside)
+      takes_row t a (i + 2) (suc k) (place a i) (all_places a i k) slots m (omega arith)
+      (All-replicate (AddsOne t (i + 2) a) (suc k) (place a i)
+      (λ p s terms r may h. shows_arrived t p s a i 1 terms r may.there may.in_hand inside h))
+      (ap suc (length-replicate k (place a i)))
+      (λ x. all_laid_may x.pile (suc k) x.there
+      (let enough = ap (λ (v : View). count_by (are_for i 1) v.hand) x.pass in omega arith) inside)
+      (λ p s h. h.heights i inside)
 
   -- the pass is then without these grains
   pub laid_is : (k : ℕ) (v w : View) (n : ℕ) → Happened t a (all_places a i k) v n w
@@ -272,7 +198,7 @@ module _ (t : Terms) (a : ℕ) (is : List ℕ) (v w : View) (n : ℕ)
   pub drew_row_is : w ≡ drew_all v n is
   drew_row_is =
       let p = h.before.pile in
-      sym h.pass_after ∙ (pass_after_some t a p is h.before.there some_drops
+      sym h.pass_after ∙ (pass_after_all t a p is h.before.there (λ none. absurd (omega arith))
       ∙ (λ q. drew_all (h.before.pass q) (sym number_is q) is))
 
   pub row_fresh : v.seen ≤ n
@@ -308,11 +234,3 @@ once_row m n (i ∷ is) rs le below once =
     subst EachOnce (append_assoc rs (receipt n i ∷ []) (receipts_from (n + 1) is))
     (once_row (n + 1) (n + 1) is (rs ++ receipt n i ∷ []) (omega arith)
     (below_push m n i rs le below) (once_more m n i rs le below once))
-
-pub note_more : (rs : List Receipt) (n i : ℕ) (is : List ℕ)
-    → (rs ++ receipt n i ∷ []) ++ receipts_from (n + 1) is ≡ rs ++ receipts_from n (i ∷ is)
-note_more rs n i is = append_assoc rs (receipt n i ∷ []) (receipts_from (n + 1) is)
-
-pub from_here : (is : List ℕ) (k : ℕ) → k < length is → drop k is ≡ get_or is k 0 ∷ drop (k + 1) is
-from_here is k inside =
-    drop-cons is k 0 inside ∙ ap (λ n. get_or is k 0 ∷ drop n is) {x = suc k} {y = k + 1} (omega arith)

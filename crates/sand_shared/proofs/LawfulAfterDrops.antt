@@ -3,7 +3,7 @@ use Rattle.std.proofs.Common.{◌≡◌, ℕ, zero, suc, ◌+◌, ◌<◌, List,
 use Rattle.std.specs.Prelude.{slice_get, count_by}
 use Rattle.std.proofs.lemmas.Bool.Decides.{nat_tests}
 use Rattle.std.proofs.lemmas.List.Sums.{sum_by-set, sum_by_push}
-use Rattle.std.proofs.lemmas.List.Elements.{All-append, All-cons, All-nil}
+use Rattle.std.proofs.lemmas.List.Elements.{All-push, All-set, All-weaker}
 use Rattle.sand_model.specs.Grid.{sites}
 use Rattle.sand_model.specs.Lists.{one_if}
 use Rattle.sand_model.proofs.Occurrences.{occurrences-push}
@@ -12,7 +12,7 @@ use Rattle.sand_shared.specs.declared.view.Receipt.{Receipt}
 use Rattle.sand_shared.specs.declared.view.Terms.{Terms}
 use Rattle.sand_shared.specs.OpenPile.{OpenPile, nobody, grid_of_terms, amount_at, numbered, receipts_for, held, holds_site, toppled_by, toppled, start_and_drawn, present, pass_at, IsLawfulPass, IsLawful}
 use Rattle.sand_shared.specs.Events.{draw, place, deliver, drew, receipt, grains_for, are_for, without, arrived, May, after}
-use Rattle.sand_shared.proofs.SumsOverPasses.{sum_by_kept, all_after}
+use Rattle.sand_shared.proofs.SumsOverPasses.{sum_by_kept}
 use Rattle.sand_shared.proofs.GrainsAtSite.{held-append}
 use Rattle.sand_shared.proofs.HandAfterPlacing.{held-without}
 use Rattle.sand_shared.proofs.Balance.{balance_kept, stabilises_fewer}
@@ -42,11 +42,10 @@ module _ (t : Terms) (p : OpenPile) (a i : ℕ) (r : IsLawful t p) (may : May t 
       let v = pass_at p a in
       let f = r.passes a nobody may.there in
       let n = length p.drawn in
-      let Q : Receipt → Type 0 = λ q. slice_get (p.drawn ++ i ∷ []) q.number ≡ Some q.site in
       record {
         seen = omega (arith, length-append p.drawn (i ∷ []));
-        receipts = All-append Q v.receipts (receipt n i ∷ []) (λ k d l. get_longer p.drawn i _ _ (f.receipts k d l))
-            (All-cons Q (receipt n i) [] (get_last p.drawn i) (All-nil Q));
+        receipts = All-push (λ q. slice_get (p.drawn ++ i ∷ []) q.number ≡ Some q.site) v.receipts (receipt n i)
+            (λ k d l. get_longer p.drawn i _ _ (f.receipts k d l)) (get_last p.drawn i);
         hand = λ j l. (let h = f.hand j l in
             let b = held-append v.hand (grains_for i 1 ∷ []) j in
             let c = dropped-push v.receipts n i j in
@@ -100,28 +99,26 @@ module _ (t : Terms) (p : OpenPile) (a i : ℕ) (r : IsLawful t p) (may : May t 
             let o = r.receipts_by_site j in
             let d = occurrences-push p.drawn i j in
             omega arith);
-        all_sites = All-append (λ j. j < sites (grid_of_terms t)) p.drawn (i ∷ []) r.all_sites
-            (All-cons (λ j. j < sites (grid_of_terms t)) i [] may.inside (All-nil (λ j. j < sites (grid_of_terms t))));
+        all_sites = All-push (λ j. j < sites (grid_of_terms t)) p.drawn i r.all_sites may.inside;
         quota = (let c = changed (λ u. u.left) in omega arith);
         holders = λ j l. kept (λ u. one_if (holds_site u j)) refl ∙ r.holders j l;
-        passes = all_after (IsLawfulPass t p) (IsLawfulPass t q) p.passes a w drawn_pass other_pass r.passes;
+        passes = All-set (IsLawfulPass t q) p.passes a w drawn_pass
+            (All-weaker (IsLawfulPass t p) (IsLawfulPass t q) other_pass p.passes r.passes);
       }
 
 module _ (t : Terms) (p : OpenPile) (a i k : ℕ) (r : IsLawful t p) (there : a < length p.passes)
     (in_hand : 0 < count_by (are_for i k) (pass_at p a).hand) where
-  taken : (j : ℕ) → held (pass_at p a).hand j ≡ amount_at i k j + held (without i k (pass_at p a).hand) j
-  taken j = held-without i k (pass_at p a).hand j in_hand
-
   pub arrived_keeps : IsLawful t (arrived p a i k)
   arrived_keeps =
       let v = pass_at p a in
       let mine = r.passes a nobody there in
       still_lawful t p a v.seen v.spot v.least (without i k v.hand)
-      (λ j. p.height j + amount_at i k j) r there (λ j. let h = taken j in omega arith)
+      (λ j. p.height j + amount_at i k j) r there
+      (λ j. let h = held-without i k v.hand j in_hand in omega arith)
       record {
         seen = mine.seen;
         receipts = mine.receipts;
-        hand = λ j l. (let h = taken j in let o = mine.hand j l in omega arith);
+        hand = λ j l. (let h = held-without i k v.hand j in_hand in let o = mine.hand j l in omega arith);
         least = λ own l. (let o = mine.least own l in omega arith);
       }
       (λ u f. record {
@@ -130,11 +127,3 @@ module _ (t : Terms) (p : OpenPile) (a i k : ℕ) (r : IsLawful t p) (there : a 
         hand = f.hand;
         least = λ own l. (let o = f.least own l in omega arith);
       })
-
-pub place_keeps : (t : Terms) (p : OpenPile) (a i : ℕ) → IsLawful t p → May t p (place a i)
-    → IsLawful t (after t p (place a i))
-place_keeps t p a i r may = arrived_keeps t p a i 1 r may.there may.in_hand
-
-pub deliver_keeps : (t : Terms) (p : OpenPile) (a i k : ℕ) → IsLawful t p → May t p (deliver a i k)
-    → IsLawful t (after t p (deliver a i k))
-deliver_keeps t p a i k r may = arrived_keeps t p a i k r may.there may.in_hand

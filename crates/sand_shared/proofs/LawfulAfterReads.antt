@@ -1,5 +1,6 @@
 -- The pile stays lawful if a pass neither drops nor topples, but reads the number of drops or the height of a site.
 use Rattle.std.proofs.Common.{◌≡◌, ℕ, ◌+◌, ◌<◌, ◌≤◌, List, true, length, refl, ◌∙◌, arith}
+use Rattle.std.proofs.lemmas.List.Elements.{All-set, All-weaker}
 use Rattle.std.proofs.lemmas.List.Sums.{sum_by-set}
 use Rattle.sand_model.specs.Grid.{sites}
 use Rattle.sand_model.specs.Lists.{one_if}
@@ -8,7 +9,7 @@ use Rattle.sand_shared.specs.declared.view.Grains.{Grains}
 use Rattle.sand_shared.specs.declared.view.Terms.{Terms}
 use Rattle.sand_shared.specs.OpenPile.{OpenPile, nobody, grid_of_terms, numbered, receipts_for, held, holds_site, toppled_by, toppled, start_and_drawn, present, pass_at, IsLawfulPass, IsLawful}
 use Rattle.sand_shared.specs.Events.{count, look, with_pass, May, after}
-use Rattle.sand_shared.proofs.SumsOverPasses.{sum_by_kept, all_after}
+use Rattle.sand_shared.proofs.SumsOverPasses.{sum_by_kept}
 use Rattle.sand_shared.proofs.Balance.{balance_kept}
 
 -- a pass that neither drops nor topples: each site has as many grains, on it and in hand, as before
@@ -40,7 +41,8 @@ still_lawful t p a seen spot least hand height r there same mine others =
       all_sites = r.all_sites;
       quota = (let e = kept (λ u. u.left) refl in omega arith);
       holders = λ i l. kept (λ u. one_if (holds_site u i)) refl ∙ r.holders i l;
-      passes = all_after (IsLawfulPass t p) (IsLawfulPass t q) p.passes a w mine others r.passes;
+      passes = All-set (IsLawfulPass t q) p.passes a w mine
+          (All-weaker (IsLawfulPass t p) (IsLawfulPass t q) others p.passes r.passes);
     }
 
 learns : (t : Terms) (p : OpenPile) (a seen spot least : ℕ) → IsLawful t p → a < length p.passes → seen ≤ length p.drawn

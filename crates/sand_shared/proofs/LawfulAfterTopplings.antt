@@ -2,6 +2,7 @@
 -- No site topples more often than needed (least action): the grains are on it, so w topples it too.
 use Rattle.std.proofs.Common.{◌≡◌, ℕ, ◌+◌, ◌-◌, ◌*◌, ◌<◌, ◌≤◌, ◌≢◌, Bool, true, false, length, set, get_or, sym, refl, ap, ◌∙◌, subst, ⊎_elim, arith}
 use Rattle.std.proofs.lemmas.Bool.{cases_eq}
+use Rattle.std.proofs.lemmas.Bool.Decides.{nat_tests}
 use Rattle.std.proofs.lemmas.List.{get_or-set_same, get_or-set_other, length-set}
 use Rattle.std.proofs.lemmas.List.Sums.{sum_by-set}
 use Rattle.sand_model.specs.Grid.{sites}
@@ -13,21 +14,14 @@ use Rattle.sand_shared.specs.declared.view.View.{View}
 use Rattle.sand_shared.specs.declared.view.Terms.{Terms}
 use Rattle.sand_shared.specs.OpenPile.{OpenPile, nobody, grid_of_terms, amount_at, numbered, receipts_for, held, holds_site, toppled_by, toppled, start_and_drawn, present, pass_at, IsLawfulPass, IsLawful}
 use Rattle.sand_shared.specs.Events.{unload, unloaded, sent, May, after}
-use Rattle.sand_shared.proofs.SumsOverPasses.{sum_by_kept, all_at}
+use Rattle.sand_shared.proofs.SumsOverPasses.{sum_by_kept, all_put}
 use Rattle.sand_shared.proofs.GrainsAtSite.{amount_here, amount_else, flow-amount, held-append, held-sent, toppled-unloaded, holds-unloaded}
 use Rattle.sand_shared.proofs.OneHolder.{others_without}
 
 module _ (t : Terms) (p : OpenPile) (a i k : ℕ) (r : IsLawful t p) (may : May t p (unload a i k)) where
   -- what the site loses
   height_given : (j : ℕ) → (p.height j - amount_at i (4 * k) j) + 4 * amount_at i k j ≡ p.height j
-  height_given j = ⊎_elim
-      (λ (e : i ≡ j).
-      let b = amount_here i k j e in
-      let c = amount_here i (4 * k) j e in
-      let h = ap p.height e in
-      omega arith)
-      (λ (ne : i ≡ j → ⊥). let b = amount_else i k j ne in let c = amount_else i (4 * k) j ne in omega arith)
-      (cases_eq i j)
+  height_given j = grind (arith, nat_tests)
 
   more_toppled : (j : ℕ) → toppled (after t p (unload a i k)) j ≡ toppled p j + amount_at i k j
   more_toppled j =
@@ -109,18 +103,6 @@ module _ (t : Terms) (p : OpenPile) (a i k : ℕ) (r : IsLawful t p) (may : May 
       clash : {b : Bool} → b ≡ true → b ≡ false → ⊥
       clash x y = cc
 
-  unloaded_passes : (b : ℕ) → b < length p.passes
-      → IsLawfulPass t (after t p (unload a i k)) (get_or (set p.passes a (unloaded t (pass_at p a) i k)) b nobody)
-  unloaded_passes b lb =
-      let q = after t p (unload a i k) in
-      let w = unloaded t (pass_at p a) i k in
-      ⊎_elim
-      (λ (e : b ≡ a). subst (λ z. IsLawfulPass t q (get_or (set p.passes a w) z nobody)) (sym e)
-      (subst (IsLawfulPass t q) (sym (get_or-set_same p.passes a w nobody may.there)) unloaded_pass))
-      (λ (ne : b ≡ a → ⊥).
-      subst (IsLawfulPass t q) (sym (get_or-set_other p.passes a b w nobody ne)) (other_pass b lb ne))
-      (cases_eq b a)
-
   pub unload_keeps : IsLawful t (after t p (unload a i k))
   unload_keeps =
       let v = pass_at p a in
@@ -136,6 +118,5 @@ module _ (t : Terms) (p : OpenPile) (a i k : ℕ) (r : IsLawful t p) (may : May 
         all_sites = r.all_sites;
         quota = (let e = kept (λ u. u.left) refl in omega arith);
         holders = λ j l. kept (λ u. one_if (holds_site u j)) (ap one_if (holds-unloaded t v i k j)) ∙ r.holders j l;
-        passes = all_at (IsLawfulPass t q) q.passes nobody
-            (λ b lb. unloaded_passes b (let e = length-set p.passes a w in omega arith));
+        passes = all_put (IsLawfulPass t q) p.passes a w nobody may.there unloaded_pass other_pass;
       }

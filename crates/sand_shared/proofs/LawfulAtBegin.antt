@@ -2,6 +2,7 @@
 use Rattle.std.proofs.Common.{◌≡◌, ℕ, zero, suc, ◌-◌, ◌*◌, ◌<◌, ◌≤◌, [], Some, length, get_or, refl, arith}
 use Rattle.std.specs.Prelude.{slice_get}
 use Rattle.std.proofs.lemmas.Bool.Decides.{nat_tests}
+use Rattle.std.proofs.lemmas.List.{length-replicate}
 use Rattle.std.proofs.lemmas.List.Elements.{All-cons, All-nil}
 use Rattle.std.proofs.Math.Nat.{mul-le-mul_right}
 use Rattle.sand_model.specs.Grid.{Grid, IsGrid, sites}
@@ -18,10 +19,6 @@ get-zeros zero k = refl
 get-zeros (suc n) zero = refl
 get-zeros (suc n) (suc k) = get-zeros n k
 
-pub length-zeros : (n : ℕ) → length (zeros n) ≡ n
-length-zeros zero = refl
-length-zeros (suc n) = let e = length-zeros n in omega arith
-
 pub some_sites : (g : Grid) → IsGrid g → 0 < sites g
 some_sites g sides =
     let m : 1 * g.height ≤ g.width * g.height = mul-le-mul_right g.height sides.some_width in omega arith
@@ -34,7 +31,7 @@ module _ (t : Terms) where
       omega arith
 
   all_held : (i : ℕ) → i < sites (grid_of_terms t) → one_if (holds_site (first_pass t) i) ≡ 1
-  all_held i l = let long = length-zeros (sites (grid_of_terms t)) in held long
+  all_held i l = let long = length-replicate (sites (grid_of_terms t)) 0 in held long
     where
       held : length (zeros (sites (grid_of_terms t))) ≡ sites (grid_of_terms t)
           → one_if (holds_site (first_pass t) i) ≡ 1

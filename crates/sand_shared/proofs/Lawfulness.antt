@@ -15,27 +15,24 @@ use Rattle.sand_shared.specs.OpenPile.{OpenPile, grid_of_terms, holds_site, pres
 use Rattle.sand_shared.specs.Events.{Event, begin, draw, place, count, split, join, look, unload, deliver, unopened, May, after, AllHappen, after_all}
 use Rattle.sand_shared.proofs.LawfulAtBegin.{some_sites, begun}
 use Rattle.sand_shared.proofs.LawfulAfterReads.{count_keeps, look_keeps}
-use Rattle.sand_shared.proofs.LawfulAfterDrops.{draw_keeps, place_keeps, deliver_keeps}
+use Rattle.sand_shared.proofs.LawfulAfterDrops.{draw_keeps, arrived_keeps}
 use Rattle.sand_shared.proofs.LawfulAfterTopplings.{unload_keeps}
 use Rattle.sand_shared.proofs.LawfulAfterRegrouping.{split_keeps, join_keeps}
 
--- a pile begins only once: after its begin it has a pass
-no_second_begin : (t : Terms) (p : OpenPile) → AreTerms t → IsLawful t p → May t p begin → IsLawful t (after t p begin)
-no_second_begin t p terms r none =
-    let one = r.holders 0 (some_sites (grid_of_terms t) terms.pile.grid) in
-    let zero_passes = ap (λ (l : List View). sum_by (λ v. one_if (holds_site v 0)) l) none in absurd (omega arith)
-
 pub event_keeps : (t : Terms) (p : OpenPile) (e : Event) → AreTerms t → IsLawful t p → May t p e
     → IsLawful t (after t p e)
-event_keeps t p begin terms r may = no_second_begin t p terms r may
+-- a pile begins only once: after its begin it has a pass
+event_keeps t p begin terms r none =
+    let one = r.holders 0 (some_sites (grid_of_terms t) terms.pile.grid) in
+    let zero_passes = ap (λ (l : List View). sum_by (λ v. one_if (holds_site v 0)) l) none in absurd (omega arith)
 event_keeps t p (draw a i) terms r may = draw_keeps t p a i r may
-event_keeps t p (place a i) terms r may = place_keeps t p a i r may
+event_keeps t p (place a i) terms r may = arrived_keeps t p a i 1 r may.there may.in_hand
 event_keeps t p (count a) terms r may = count_keeps t p a r may
 event_keeps t p (split a q n) terms r may = split_keeps t p a q n r may
 event_keeps t p (join a b) terms r may = join_keeps t p a b r may
 event_keeps t p (look a i) terms r may = look_keeps t p a i r may
 event_keeps t p (unload a i k) terms r may = unload_keeps t p a i k r may
-event_keeps t p (deliver a i k) terms r may = deliver_keeps t p a i k r may
+event_keeps t p (deliver a i k) terms r may = arrived_keeps t p a i k r may.there may.in_hand
 
 pub all_keep : (t : Terms) (p : OpenPile) (events : List Event) → AreTerms t → IsLawful t p → AllHappen t p events
     → IsLawful t (after_all t p events)
@@ -46,15 +43,16 @@ pub always_lawful : (t : Terms) (events : List Event) → AreTerms t → AllHapp
     → IsLawful t (after_all t (unopened t) (begin ∷ events))
 always_lawful t events terms happen = all_keep t (after t (unopened t) begin) events terms (begun t) happen.1
 
-pub after_all-push : (t : Terms) (p : OpenPile) (es : List Event) (e : Event)
-    → after_all t p (es ++ e ∷ []) ≡ after t (after_all t p es) e
-after_all-push t p [] e = refl
-after_all-push t p (x ∷ xs) e = after_all-push t (after t p x) xs e
+pub after_all-append : (t : Terms) (p : OpenPile) (es fs : List Event)
+    → after_all t p (es ++ fs) ≡ after_all t (after_all t p es) fs
+after_all-append t p [] fs = refl
+after_all-append t p (e ∷ es) fs = after_all-append t (after t p e) es fs
 
-pub happen_push : (t : Terms) (p : OpenPile) (es : List Event) (e : Event)
-    → AllHappen t p es → May t (after_all t p es) e → AllHappen t p (es ++ e ∷ [])
-happen_push t p [] e happen may = (may, tt)
-happen_push t p (x ∷ xs) e happen may = (happen.0, happen_push t (after t p x) xs e happen.1 may)
+pub happen_append : (t : Terms) (p : OpenPile) (es fs : List Event)
+    → AllHappen t p es → AllHappen t (after_all t p es) fs
+    → AllHappen t p (es ++ fs)
+happen_append t p [] fs happen more = more
+happen_append t p (e ∷ es) fs happen more = (happen.0, happen_append t (after t p e) es fs happen.1 more)
 
 -- the grains on a site and in hand for it are at most the start and the quota together
 pub few_present : (t : Terms) (p : OpenPile) → AreTerms t → IsLawful t p → (i : ℕ) → i < sites (grid_of_terms t)

@@ -1,4 +1,4 @@
--- Each step of a call is allowed at any moment: it is an event that can happen then.
+-- Each step of a call is allowed at any moment: it is an event, or a few, that can happen then.
 use Rattle.std.proofs.Common.{◌≡◌, ℕ, zero, suc, ◌+◌, ◌-◌, ◌*◌, ◌%◌, ◌^◌, ◌<◌, ◌≤◌, List, [], ◌∷◌, ◌++◌, true, length, set, get_or, sym, refl, ap, ◌∙◌, subst, arith}
 use Rattle.std.specs.Prelude.{slice_index, count_by, ◌||◌}
 use mathlib.Core.Option.{some, some-injective, some-ne-none}
@@ -6,16 +6,16 @@ use lib.ListN.{get_elem?}
 use lib.Seq.{set-get_or}
 use Rattle.std.proofs.lemmas.List.{get_or-set_other, length-set}
 use Rattle.atomic_table.specs.Table.{State, Me, keeps, Allows, Splits, Joins, opening}
-use Rattle.atomic_table.proofs.Lists.{set_again}
+use Rattle.atomic_table.proofs.Lists.{set_else}
 use Rattle.sand_model.specs.Grid.{sites}
 use Rattle.sand_shared.specs.declared.view.View.{View}
 use Rattle.sand_shared.specs.declared.view.Terms.{Terms}
 use Rattle.sand_shared.specs.OpenPile.{OpenPile, nobody, grid_of_terms, holds_site, pass_at, AreTerms, IsLawful}
-use Rattle.sand_shared.specs.Events.{Event, begin, count, split, join, look, unload, deliver, are_for, counted, looked, parent, child, joined, follows, first_pass, unopened, May, after, after_all}
+use Rattle.sand_shared.specs.Events.{Event, begin, count, split, join, look, unload, deliver, are_for, counted, looked, parent, child, joined, follows, first_pass, unopened, May, after, AllHappen, after_all}
 use Rattle.sand_shared.specs.Record.{IsLast}
 use Rattle.sand_shared.specs.Plays.{Takes}
-use Rattle.sand_shared.specs.Running.{Shows, IsRunning, Happened, found}
-use Rattle.sand_shared.proofs.Lawfulness.{always_lawful, after_all-push, happen_push}
+use Rattle.sand_shared.specs.Running.{Shows, IsRunning, Stands, Finds, Happened}
+use Rattle.sand_shared.proofs.Lawfulness.{always_lawful, after_all-append, happen_append}
 use Rattle.sand_shared.proofs.WordsShowPile.{stepped_to, shows_load, shows_arrived, shows_unload}
 
 module _ {A : Type 0} where
@@ -36,83 +36,90 @@ pile_of t s h = after_all t (unopened t) (begin ∷ h.events)
 pub lawful_now : (t : Terms) (s : State ℕ View) (h : IsRunning t s) → IsLawful t (pile_of t s h)
 lawful_now t s h = always_lawful t h.events h.terms h.happened
 
--- the rule holds after one more event
-one_more : (t : Terms) (s s' : State ℕ View) (h : IsRunning t s) (e : Event)
-    → May t (pile_of t s h) e → Shows t (after t (pile_of t s h) e) s'
+-- the pass a of the table, on the open pile that the table shows
+abbrev pub stands_now : {t : Terms} {s : State ℕ View} (h : IsRunning t s) {a : ℕ} {v : View}
+    → get_elem? s.views a ≡ some v → Stands t a v
+stands_now {t = t} {s = s} h {a = a} {v = v} at =
+    let here = subst (λ (l : List View). get_elem? l a ≡ some v) h.shown.passes at in
+    record {
+      terms = h.terms;
+      pile = pile_of t s h;
+      lawful = lawful_now t s h;
+      there = some_inside (pile_of t s h).passes a v here;
+      pass = some_there (pile_of t s h).passes a v nobody here;
+    }
+
+-- the rule holds after further events
+more : (t : Terms) (s s' : State ℕ View) (h : IsRunning t s) (es : List Event)
+    → AllHappen t (pile_of t s h) es → Shows t (after_all t (pile_of t s h) es) s'
     → IsRunning t s'
-one_more t s s' h e may shown =
+more t s s' h es may shown =
     let p = after t (unopened t) begin in
     record {
       terms = h.terms;
-      events = h.events ++ e ∷ [];
-      happened = (h.happened.0, happen_push t p h.events e h.happened.1 may);
-      shown = subst (λ q. Shows t q s') (sym (after_all-push t p h.events e)) shown;
+      events = h.events ++ es;
+      happened = (h.happened.0, happen_append t p h.events es h.happened.1 may);
+      shown = subst (λ q. Shows t q s') (sym (after_all-append t p h.events es)) shown;
     }
 
-module _ (t : Terms) (s : State ℕ View) (h : IsRunning t s) (a : ℕ) (v : View) (at : get_elem? s.views a ≡ some v) where
-  pub pass_there : a < length (pile_of t s h).passes
-  pass_there =
-      let b = some_inside s.views a v at in
-      let e = ap (λ (l : List View). length l) h.shown.passes in
-      omega arith
-
-  pub pass_is : pass_at (pile_of t s h) a ≡ v
-  pass_is = ap (λ (l : List View). get_or l a nobody) (sym h.shown.passes) ∙ some_there s.views a v nobody at
-
--- a step is allowed if its event can happen whatever else has happened, and the words show the result
-takes : (t : Terms) (a : ℕ) (e : Event) (slots : ℕ) (m : Me ℕ View) (word : ℕ) (f : ℕ → ℕ)
-    → ((p : OpenPile) → IsLawful t p → a < length p.passes → pass_at p a ≡ m.0 → May t p e)
-    → ((p : OpenPile) (s : State ℕ View) → AreTerms t → IsLawful t p → May t p e → Shows t p s
-    → (slice_index s.words word ≡ found p e)
-    × Shows t (after t p e) (stepped_to s word (f (slice_index s.words word)) a (pass_at (after t p e) a)))
-    → Allows (IsRunning t) slots a m word f (Takes t a (e ∷ []) m)
-takes t a e slots m word f can shows s h _ at fits =
-    let p = pile_of t s h in
-    let r = lawful_now t s h in
-    let there = pass_there t s h a m.0 at in
-    let is = pass_is t s h a m.0 at in
-    let may = can p r there is in
-    let shown = shows p s h.terms r may h.shown in
-    let w = pass_at (after t p e) a in (
+-- a step is allowed if its events can happen whatever else has happened, and the words show the result
+pub takes : (t : Terms) (a : ℕ) (es : List Event) (slots : ℕ) (m : Me ℕ View) (word : ℕ) (f : ℕ → ℕ)
+    → ((x : Stands t a m.0) → AllHappen t x.pile es)
+    → ((x : Stands t a m.0) (s : State ℕ View) → AllHappen t x.pile es → Shows t x.pile s
+    → Finds x.pile es (slice_index s.words word)
+    × Shows t (after_all t x.pile es)
+    (stepped_to s word (f (slice_index s.words word)) a (pass_at (after_all t x.pile es) a)))
+    → Allows (IsRunning t) slots a m word f (Takes t a es m)
+takes t a es slots m word f can shows s h _ at fits =
+    let x = stands_now h at in
+    let may = can x in
+    let shown = shows x s may h.shown in
+    let w = pass_at (after_all t x.pile es) a in (
       w,
       keeps,
       tt,
-      one_more t s (stepped_to s word (f (slice_index s.words word)) a w) h e may shown.1,
-      (
-        record {
-          before = record { terms = h.terms; pile = p; lawful = r; there = there; pass = is };
-          may = (may, tt);
-          number = shown.0;
-          pass_after = refl;
-        },
-        refl,
-      ),
+      more t s (stepped_to s word (f (slice_index s.words word)) a w) h es may shown.1,
+      (record { before = x; may = may; number = shown.0; pass_after = refl }, refl),
     )
 
 pub counts : (t : Terms) (a slots : ℕ) (m : Me ℕ View)
     → Allows (IsRunning t) slots a m 1 (λ n. n) (Takes t a (count a ∷ []) m)
-counts t a slots m = takes t a (count a) slots m 1 (λ n. n)
-    (λ p r there is. there)
-    (λ p s terms r may h. (h.number, shows_load t p s 1 a (counted (pass_at p a) (length p.drawn)) h may))
+counts t a slots m = takes t a (count a ∷ []) slots m 1 (λ n. n)
+    (λ x. (x.there, tt))
+    (λ x s may h. (h.number, shows_load t x.pile s 1 a (counted (pass_at x.pile a) (length x.pile.drawn)) h x.there))
 
 pub delivers : (t : Terms) (a i k slots : ℕ) (m : Me ℕ View)
     → i < sites (grid_of_terms t) → 0 < count_by (are_for i k) m.0.hand
     → Allows (IsRunning t) slots a m (i + 2) (λ n. (n + k) % 2 ^ 64) (Takes t a (deliver a i k ∷ []) m)
-delivers t a i k slots m inside in_hand = takes t a (deliver a i k) slots m (i + 2) (λ n. (n + k) % 2 ^ 64)
-    (λ p r there is. record {
-      there = there;
-      in_hand = subst (λ (v : View). 0 < count_by (are_for i k) v.hand) (sym is) in_hand;
-      inside = inside;
-    })
-    (λ p s terms r may h. (h.heights i inside, shows_arrived t p s a i k terms r may.there may.in_hand may.inside h))
+delivers t a i k slots m inside in_hand = takes t a (deliver a i k ∷ []) slots m (i + 2) (λ n. (n + k) % 2 ^ 64)
+    (λ x. (
+      record {
+        there = x.there;
+        in_hand = subst (λ (v : View). 0 < count_by (are_for i k) v.hand) (sym x.pass) in_hand;
+        inside = inside;
+      },
+      tt,
+    ))
+    (λ x s may h. (
+      h.heights i inside,
+      shows_arrived t x.pile s a i k x.terms x.lawful x.there may.0.in_hand inside h,
+    ))
 
 pub looks : (t : Terms) (a i slots : ℕ) (m : Me ℕ View) → i < sites (grid_of_terms t) → holds_site m.0 i ≡ true
     → Allows (IsRunning t) slots a m (i + 2) (λ n. n) (Takes t a (look a i ∷ []) m)
-looks t a i slots m inside own = takes t a (look a i) slots m (i + 2) (λ n. n)
-    (λ p r there is.
-    record { there = there; inside = inside; own = subst (λ (v : View). holds_site v i ≡ true) (sym is) own })
-    (λ p s terms r may h.
-    (h.heights i inside, shows_load t p s (i + 2) a (looked (pass_at p a) i (p.height i)) h may.there))
+looks t a i slots m inside own = takes t a (look a i ∷ []) slots m (i + 2) (λ n. n)
+    (λ x. (
+      record {
+        there = x.there;
+        inside = inside;
+        own = subst (λ (v : View). holds_site v i ≡ true) (sym x.pass) own;
+      },
+      tt,
+    ))
+    (λ x s may h. (
+      h.heights i inside,
+      shows_load t x.pile s (i + 2) a (looked (pass_at x.pile a) i (x.pile.height i)) h x.there,
+    ))
 
 -- what a pass found at a site is still there, because nobody else takes grains from it
 pub unloads : (t : Terms) (a i k slots : ℕ) (m : Me ℕ View)
@@ -120,96 +127,70 @@ pub unloads : (t : Terms) (a i k slots : ℕ) (m : Me ℕ View)
     → m.0.spot ≡ i → 4 * k ≤ m.0.least
     → Allows (IsRunning t) slots a m (i + 2) (λ n. (n + (2 ^ 64 - 4 * k)) % 2 ^ 64) (Takes t a (unload a i k ∷ []) m)
 unloads t a i k slots m inside own spot enough =
-    takes t a (unload a i k) slots m (i + 2) (λ n. (n + (2 ^ 64 - 4 * k)) % 2 ^ 64)
-    (λ p r there is.
-    let mine : holds_site (pass_at p a) i ≡ true = subst (λ (v : View). holds_site v i ≡ true) (sym is) own in
-    let at : (pass_at p a).spot ≡ i = ap (λ (v : View). v.spot) is ∙ spot in
-    let least = (r.passes a nobody there).least (subst (λ z. holds_site (pass_at p a) z ≡ true) (sym at) mine)
+    takes t a (unload a i k ∷ []) slots m (i + 2) (λ n. (n + (2 ^ 64 - 4 * k)) % 2 ^ 64)
+    (λ x.
+    let p = x.pile in
+    let mine : holds_site (pass_at p a) i ≡ true = subst (λ (v : View). holds_site v i ≡ true) (sym x.pass) own in
+    let at : (pass_at p a).spot ≡ i = ap (λ (v : View). v.spot) x.pass ∙ spot in
+    let least = (x.lawful.passes a nobody x.there).least (subst (λ z. holds_site (pass_at p a) z ≡ true) (sym at) mine)
     (subst (λ z. z < sites (grid_of_terms t)) (sym at) inside) in
     let height = ap p.height at in
-    let same = ap (λ (v : View). v.least) is in
-    record { there = there; inside = inside; own = mine; high = omega arith })
-    (λ p s terms r may h. (h.heights i inside, shows_unload t p s a i k terms r may h))
+    let same = ap (λ (v : View). v.least) x.pass in
+    (record { there = x.there; inside = inside; own = mine; high = omega arith }, tt))
+    (λ x s may h. (h.heights i inside, shows_unload t x.pile s a i k x.terms x.lawful may.0 h))
 
 -- a load of the table's own word, which is no event
 pub learns : (t : Terms) (a slots : ℕ) (m : Me ℕ View) → Allows (IsRunning t) slots a m 0 (λ n. n) (Takes t a [] m)
-learns t a slots m s h _ at fits =
-    let there = pass_there t s h a m.0 at in
-    let is = pass_is t s h a m.0 at in (
-      m.0,
-      keeps,
+learns t a slots m = takes t a [] slots m 0 (λ n. n)
+    (λ x. tt)
+    (λ x s may h.
+    let mine = (λ q. set (h.passes q) a (pass_at x.pile a)) ∙ set-get_or x.pile.passes a nobody ∙ sym h.passes in (
       tt,
-      subst
-          (λ (z : List ℕ × List View). IsRunning t record { words = z.0; homes = s.homes; views = z.1 })
-          (λ q. (sym (set-get_or s.words 0 0) q, sym (set_again s.views a m.0 at) q)) h,
-      (
-        record {
-          before =
-              record { terms = h.terms; pile = pile_of t s h; lawful = lawful_now t s h; there = there; pass = is };
-          may = tt;
-          number = tt;
-          pass_after = is;
-        },
-        refl,
-      ),
-    )
+      subst (λ (z : List ℕ × List View). Shows t x.pile record { words = z.0; homes = s.homes; views = z.1 })
+          (λ q. (sym (set-get_or s.words 0 0) q, sym mine q)) h,
+    ))
 
 pub splits : (t : Terms) (a q n : ℕ) (v : View) → q ≤ v.left → n ≤ length v.counts → v.hand ≡ []
     → Splits (IsRunning t) a v (parent v q n) (child v q n)
 splits t a q n v some_left fits free s h at =
-    let p = pile_of t s h in
-    let there = pass_there t s h a v at in
-    let is = pass_is t s h a v at in
-    let may : May t p (split a q n) = record {
-      there = there;
-      quota = subst (λ (u : View). q ≤ u.left) (sym is) some_left;
-      counts = subst (λ (u : View). n ≤ length u.counts) (sym is) fits;
-      free = ap (λ (u : View). u.hand) is ∙ free;
+    let x = stands_now h at in
+    let may : May t x.pile (split a q n) = record {
+      there = x.there;
+      quota = subst (λ (u : View). q ≤ u.left) (sym x.pass) some_left;
+      counts = subst (λ (u : View). n ≤ length u.counts) (sym x.pass) fits;
+      free = ap (λ (u : View). u.hand) x.pass ∙ free;
     } in
-    one_more t s record { words = s.words; homes = s.homes; views = set s.views a (parent v q n) ++ child v q n ∷ [] }
-    h (split a q n) may
+    more t s record { words = s.words; homes = s.homes; views = set s.views a (parent v q n) ++ child v q n ∷ [] }
+    h (split a q n ∷ []) (may, tt)
     record {
       wide = h.shown.wide;
       number = h.shown.number;
       heights = h.shown.heights;
-      passes = λ i. set (h.shown.passes i) a (parent (sym is i) q n) ++ child (sym is i) q n ∷ [];
+      passes = λ i. set (h.shown.passes i) a (parent (sym x.pass i) q n) ++ child (sym x.pass i) q n ∷ [];
     }
 
 pub joins : (t : Terms) (a : ℕ) (v : View) (b : ℕ) (w : View)
     → v.hand ≡ [] → w.hand ≡ [] → (follows v w || follows w v) ≡ true
     → Joins (IsRunning t) a v b w (joined v w) nobody
 joins t a v b w free free' touch s h at apart at' =
-    let p = pile_of t s h in
-    let there = pass_there t s h a v at in
-    let is = pass_is t s h a v at in
-    let long = ap (λ (l : List View). length l) h.shown.passes in
-    let set_long = length-set s.views a (joined v w) in
-    let there' : b < length p.passes = let l = some_inside (set s.views a (joined v w)) b w at' in omega arith in
-    let is' : pass_at p b ≡ w = ap (λ (l : List View). get_or l b nobody) (sym h.shown.passes)
-    ∙ (sym (get_or-set_other s.views a b (joined v w) nobody apart)
-    ∙ some_there (set s.views a (joined v w)) b w nobody at') in
-    let may : May t p (join a b) = record {
-      there = there;
-      other_there = there';
+    let x = stands_now h at in
+    let y = stands_now h (sym (set_else s.views a b (joined v w) apart) ∙ at') in
+    let may : May t x.pile (join a b) = record {
+      there = x.there;
+      other_there = y.there;
       apart = apart;
-      free = ap (λ (u : View). u.hand) is ∙ free;
-      other_free = ap (λ (u : View). u.hand) is' ∙ free';
-      touch = (λ i. follows (is i) (is' i) || follows (is' i) (is i)) ∙ touch;
+      free = ap (λ (u : View). u.hand) x.pass ∙ free;
+      other_free = ap (λ (u : View). u.hand) y.pass ∙ free';
+      touch = (λ i. follows (x.pass i) (y.pass i) || follows (y.pass i) (x.pass i)) ∙ touch;
     } in
-    one_more t s record { words = s.words; homes = s.homes; views = set (set s.views a (joined v w)) b nobody }
-    h (join a b) may
+    more t s record { words = s.words; homes = s.homes; views = set (set s.views a (joined v w)) b nobody }
+    h (join a b ∷ []) (may, tt)
     record {
       wide = h.shown.wide;
       number = h.shown.number;
       heights = h.shown.heights;
-      passes = λ i. set (set (h.shown.passes i) a (joined (sym is i) (sym is' i))) b nobody;
+      passes = λ i. set (set (h.shown.passes i) a (joined (sym x.pass i) (sym y.pass i))) b nobody;
     }
-
-third : (xs : List ℕ) (i : ℕ) → get_or (0 ∷ 0 ∷ xs) (i + 2) 0 ≡ get_or xs i 0
-third xs i = ap (λ k. get_or (0 ∷ 0 ∷ xs) k 0) two
-  where
-    two : i + 2 ≡ suc (suc i)
-    two = omega arith
 
 pub opens : (t : Terms) → AreTerms t → IsRunning t (opening (0 ∷ 0 ∷ t.start.heights) [] (first_pass t))
 opens t terms = record {
@@ -219,7 +200,7 @@ opens t terms = record {
   shown = record {
     wide = omega arith;
     number = refl;
-    heights = λ i l. third t.start.heights i;
+    heights = λ i l. ap (λ k. get_or (0 ∷ 0 ∷ t.start.heights) k 0) {x = i + 2} {y = suc (suc i)} (omega arith);
     passes = refl;
   };
 }
@@ -238,13 +219,7 @@ pub last_is : (t : Terms) (a : ℕ) (v : View) (s : State ℕ View) (h : IsRunni
     → ((i : ℕ) → i < sites (grid_of_terms t) → slice_index heights i ≡ slice_index s.words (i + 2))
     → IsLast t a v heights
 last_is t a v s h at heights long read = record {
-  stands = record {
-    terms = h.terms;
-    pile = pile_of t s h;
-    lawful = lawful_now t s h;
-    there = pass_there t s h a v at;
-    pass = pass_is t s h a v at;
-  };
+  stands = stands_now h at;
   one_each = long;
   each_height = λ i l. read i l ∙ h.shown.heights i l;
 }

@@ -62,16 +62,22 @@ shows_draw t p s a i terms r may h =
     }
 
 -- the word of a site becomes x, and the others stay
-height_shown : (t : Terms) (p q : OpenPile) (s : State ℕ View) (i x : ℕ)
-    → i < sites (grid_of_terms t) → Shows t p s → q.height i ≡ x
-    → ((j : ℕ) → i ≢ j → q.height j ≡ p.height j)
-    → (j : ℕ) → j < sites (grid_of_terms t) → slice_index (set s.words (i + 2) x) (j + 2) ≡ q.height j
-height_shown t p q s i x inside h here others j l = ⊎_elim
-    (λ (e : i ≡ j). ap (λ z. get_or (set s.words (i + 2) x) (z + 2) 0) (sym e)
-    ∙ (get_or-set_same s.words (i + 2) x 0 (omega arith) ∙ (sym here ∙ ap q.height e)))
-    (λ (ne : i ≡ j → ⊥).
-    get_or-set_other s.words (i + 2) (j + 2) x 0 (λ e. ne (omega arith)) ∙ (h.heights j l ∙ sym (others j ne)))
-    (cases_eq i j)
+shows_height : (t : Terms) (p q : OpenPile) (s : State ℕ View) (a i x : ℕ)
+    → i < sites (grid_of_terms t) → Shows t p s → length p.drawn ≡ length q.drawn
+    → set s.views a (pass_at q a) ≡ q.passes
+    → q.height i ≡ x → ((j : ℕ) → i ≢ j → q.height j ≡ p.height j)
+    → Shows t q (stepped_to s (i + 2) x a (pass_at q a))
+shows_height t p q s a i x inside h draws passes here others = record {
+  wide = length-set s.words (i + 2) x ∙ h.wide;
+  number = get_or-set_other s.words (i + 2) 1 x 0 (λ e. absurd (omega arith)) ∙ h.number ∙ draws;
+  heights = λ j l. ⊎_elim
+      (λ (e : i ≡ j). ap (λ z. get_or (set s.words (i + 2) x) (z + 2) 0) (sym e)
+      ∙ (get_or-set_same s.words (i + 2) x 0 (omega arith) ∙ (sym here ∙ ap q.height e)))
+      (λ (ne : i ≡ j → ⊥).
+      get_or-set_other s.words (i + 2) (j + 2) x 0 (λ e. ne (omega arith)) ∙ (h.heights j l ∙ sym (others j ne)))
+      (cases_eq i j);
+  passes = passes;
+}
 
 -- grains laid on a site are added to its word
 pub shows_arrived : (t : Terms) (p : OpenPile) (s : State ℕ View) (a i k : ℕ)
@@ -83,20 +89,15 @@ pub shows_arrived : (t : Terms) (p : OpenPile) (s : State ℕ View) (a i k : ℕ
 shows_arrived t p s a i k terms r there in_hand inside h =
     let n = slice_index s.words (i + 2) in
     let is = h.heights i inside in
-    let q = arrived p a i k in
     let v = pass_at p a in
     let few = few_present t p terms r i inside in
     let mine = get_or-le-sum_by (λ (u : View). held u.hand i) p.passes a nobody there in
     let hand = held-without i k v.hand i in_hand in
     let here = amount_here i k i refl in
     let next : (n + k) % 2 ^ 64 ≡ n + k = mod-eq_of_lt {n = n + k} {m = 2 ^ 64} (omega arith) in
-    record {
-      wide = length-set s.words (i + 2) ((n + k) % 2 ^ 64) ∙ h.wide;
-      number = get_or-set_other s.words (i + 2) 1 ((n + k) % 2 ^ 64) 0 (λ e. absurd (omega arith)) ∙ h.number;
-      heights = height_shown t p q s i ((n + k) % 2 ^ 64) inside h
-          (omega arith) (λ j ne. let e = amount_else i k j ne in omega arith);
-      passes = passes_step p s.views a (after_laying v i k) h.passes there;
-    }
+    shows_height t p (arrived p a i k) s a i ((n + k) % 2 ^ 64) inside h refl
+    (passes_step p s.views a (after_laying v i k) h.passes there)
+    (omega arith) (λ j ne. let e = amount_else i k j ne in omega arith)
 
 -- grains taken from a site are subtracted from its word
 pub shows_unload : (t : Terms) (p : OpenPile) (s : State ℕ View) (a i k : ℕ)
@@ -105,19 +106,12 @@ pub shows_unload : (t : Terms) (p : OpenPile) (s : State ℕ View) (a i k : ℕ)
     ((slice_index s.words (i + 2) + (2 ^ 64 - 4 * k)) % 2 ^ 64) a (pass_at (after t p (unload a i k)) a))
 shows_unload t p s a i k terms r may h =
     let n = slice_index s.words (i + 2) in
-    let inside = may.inside in
-    let is = h.heights i inside in
-    let q = after t p (unload a i k) in
-    let few = few_present t p terms r i inside in
+    let is = h.heights i may.inside in
+    let few = few_present t p terms r i may.inside in
     let here = amount_here i (4 * k) i refl in
-    let round : n + (2 ^ 64 - 4 * k) ≡ (n - 4 * k) + 2 ^ 64 = omega arith in
-    let next : (n + (2 ^ 64 - 4 * k)) % 2 ^ 64 ≡ n - 4 * k = ap (λ z. z % 2 ^ 64) round
-    ∙ (add-mod_right (n - 4 * k) (2 ^ 64) ∙ mod-eq_of_lt {n = n - 4 * k} {m = 2 ^ 64} (omega arith)) in
     let x = (n + (2 ^ 64 - 4 * k)) % 2 ^ 64 in
-    record {
-      wide = length-set s.words (i + 2) x ∙ h.wide;
-      number = get_or-set_other s.words (i + 2) 1 x 0 (λ e. absurd (omega arith)) ∙ h.number;
-      heights =
-          height_shown t p q s i x inside h (omega arith) (λ j ne. let e = amount_else i (4 * k) j ne in omega arith);
-      passes = passes_step p s.views a (unloaded t (pass_at p a) i k) h.passes may.there;
-    }
+    let next : x ≡ n - 4 * k = ap (λ z. z % 2 ^ 64) {x = n + (2 ^ 64 - 4 * k)} {y = (n - 4 * k) + 2 ^ 64} (omega arith)
+    ∙ (add-mod_right (n - 4 * k) (2 ^ 64) ∙ mod-eq_of_lt {n = n - 4 * k} {m = 2 ^ 64} (omega arith)) in
+    shows_height t p (after t p (unload a i k)) s a i x may.inside h refl
+    (passes_step p s.views a (unloaded t (pass_at p a) i k) h.passes may.there)
+    (omega arith) (λ j ne. let e = amount_else i (4 * k) j ne in omega arith)

@@ -2,7 +2,7 @@ use Rattle.std.proofs.Common.{◌≡◌, Some, ◌∙◌, arith, length-set}
 use Rattle.std.specs.Prelude.{slice_get}
 use Rattle.sand_shared.specs.declared.view.Receipt.{Receipt}
 use Rattle.sand_shared.specs.Events.{receipt}
-use Rattle.sand_shared.proofs.SumsOverPasses.{all_at}
+use Rattle.std.proofs.lemmas.List.Elements.{All-from_get_or}
 use Rattle.sand_shared.proofs.ReceiptsTellHistory.{told_more}
 use Rattle.sand_shared.proofs.closing.fill.Goals as goal
 
@@ -20,7 +20,7 @@ loop-receipt-preserved c =
 
 pub returns-clause-tells : goal.returns-clause-tells
 returns-clause-tells c =
-    all_at
+    All-from_get_or
     (λ (r : Receipt). slice_get c.loop-receipt.history.items r.number ≡ Some r.site) c.args.receipts.now
     (receipt 0 0)
     (λ k l. c.loop-receipt.invariant.told k (omega arith))

@@ -1,8 +1,7 @@
 use Rattle.std.proofs.Common.{◌≡◌, ◌+◌, List, [], ◌∷◌, ◌++◌, drop, length, get_or, sym, refl, ap, ◌∙◌, arith, length-append}
-use Rattle.std.proofs.lemmas.List.{drop_all, append-nil}
+use Rattle.std.proofs.lemmas.List.{drop_all, drop_more, append-nil, append_assoc}
 use Rattle.sand_shared.specs.declared.view.Receipt.{Receipt}
 use Rattle.sand_shared.specs.Events.{receipt, receipts_from}
-use Rattle.sand_shared.proofs.EventsInARow.{from_here, note_more}
 use Rattle.sand_shared.proofs.dropping_lists.note.Goals as goal
 
 pub drops-init : goal.drops-init
@@ -12,7 +11,7 @@ pub drops-preserved : goal.drops-preserved
 drops-preserved c =
     let ds = c.args.drops.now in
     let k = c.drops.site-index in
-    let here = from_here ds k (omega arith) in
+    let here = drop_more ds k 0 (omega arith) in
     let inv = c.drops.invariant in
     let long = inv.long in
     let n = c.drops.next in
@@ -24,7 +23,7 @@ drops-preserved c =
       long =
           ap (λ (l : List Receipt). length l) items ∙ omega (arith, length-append rs (receipt n (get_or ds k 0) ∷ []));
       rest = ap (λ (l : List Receipt). l ++ receipts_from (n + 1) (drop (k + 1) ds)) items
-          ∙ (note_more rs n (get_or ds k 0) (drop (k + 1) ds)
+          ∙ (append_assoc rs (receipt n (get_or ds k 0) ∷ []) (receipts_from (n + 1) (drop (k + 1) ds))
           ∙ (ap (λ l. rs ++ receipts_from n l) (sym here) ∙ inv.rest));
     }
 

@@ -2,7 +2,7 @@ use Rattle.std.proofs.Common.{[], ◌∷◌, ◌+◌, ◌%◌, ◌^◌, ◌∙�
 use Rattle.sand_shared.specs.Events.{deliver}
 use Rattle.sand_shared.proofs.HandAfterPlacing.{first_counts}
 use Rattle.sand_shared.proofs.StepsAreEvents.{delivers, happened_picked}
-use Rattle.sand_shared.proofs.StepsOnWords.{asks}
+use Rattle.sand_shared.proofs.StepsOnWords.{asks, stays_after}
 use Rattle.sand_shared.proofs.steps.Words.deliver.Goals as goal
 
 pub fetch_add-requires : goal.fetch_add-requires
@@ -15,11 +15,8 @@ fetch_add-requires g c =
     (delivers _ _ i k _ _ inside (first_counts i k _ c.requires.hand))
 
 pub returns-clause-seat : goal.returns-clause-seat
-returns-clause-seat g c = record {
-  table = c.fetch_add.ensures.0;
-  id = c.fetch_add.ensures.1;
-  bare = c.fetch_add.ensures.2.1 ∙ c.requires.seat.bare;
-}
+returns-clause-seat g c =
+    stays_after c.fetch_add.ensures.0 c.fetch_add.ensures.1 c.fetch_add.ensures.2.1 c.requires.seat.bare
 
 pub returns-clause-happened : goal.returns-clause-happened
 returns-clause-happened g c = (c.fetch_add.result, happened_picked c.requires.picked c.fetch_add.ensures.2.0)

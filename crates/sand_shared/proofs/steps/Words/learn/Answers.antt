@@ -1,7 +1,7 @@
 use Rattle.std.proofs.Common.{[], sym, ◌∙◌, subst, arith}
 use Rattle.sand_shared.specs.Running.{Stands}
 use Rattle.sand_shared.proofs.StepsAreEvents.{learns, happened_picked}
-use Rattle.sand_shared.proofs.StepsOnWords.{asks}
+use Rattle.sand_shared.proofs.StepsOnWords.{asks, stays_after}
 use Rattle.sand_shared.proofs.steps.Words.learn.Goals as goal
 
 pub load-requires : goal.load-requires
@@ -10,7 +10,7 @@ load-requires g c =
 
 pub returns-clause-seat : goal.returns-clause-seat
 returns-clause-seat g c =
-    record { table = c.load.ensures.0; id = c.load.ensures.1; bare = c.load.ensures.2.1 ∙ c.requires.seat.bare }
+    stays_after c.load.ensures.0 c.load.ensures.1 c.load.ensures.2.1 c.requires.seat.bare
 
 pub returns-clause-view : goal.returns-clause-view
 returns-clause-view g c =

@@ -1,6 +1,6 @@
 use Rattle.std.proofs.Common.{ℕ, ◌+◌, List, [], drop, get_or, sym, refl, ap, ◌∙◌, subst, arith, Vec, Global}
 use Rattle.atomic_table.specs.declared.shared.Seat.{Seat}
-use Rattle.std.proofs.lemmas.List.{drop_all}
+use Rattle.std.proofs.lemmas.List.{drop_all, drop_more}
 use Rattle.sand_model.specs.Grid.{sites}
 use Rattle.sand_shared.specs.declared.view.View.{View}
 use Rattle.sand_shared.specs.declared.view.Grains.{Grains}
@@ -8,7 +8,7 @@ use Rattle.sand_shared.specs.OpenPile.{grid_of_terms}
 use Rattle.sand_shared.specs.Seats.{StaysSeated}
 use Rattle.sand_shared.proofs.DropsBySite.{Waits, read_count, waits_all, waits_past, waits_laid, count_is, hand_empty, counts_zero}
 use Rattle.sand_shared.proofs.HandAfterPlacing.{laid_on}
-use Rattle.sand_shared.proofs.EventsInARow.{from_here, laid_is}
+use Rattle.sand_shared.proofs.EventsInARow.{laid_is}
 use Rattle.sand_shared.proofs.StepsOnWords.{stays_on}
 use Rattle.sand_shared.proofs.steps.Words.place_all.Goals as goal
 use Rattle.sand_shared.proofs.steps.Words.place_all.Goals.{After-drops, then-amount-ne0, else-amount-ne0}
@@ -45,7 +45,7 @@ drops-preserved c =
     let cs = c.drops.counts.items in
     let hand = c.drops.seat.me.0.hand in
     let read = read_count n k _ cs ds inv.waits.long c.requires.inside below c.index-amount.ensures in
-    let coming = subst (Waits n cs hand) (from_here ds k below) inv.waits in
+    let coming = subst (Waits n cs hand) (drop_more ds k 0 below) inv.waits in
     let inside = c.requires.inside k 0 below in
     elim c.if-amount-ne0.branch [
       | then-amount-ne0 w ↦
