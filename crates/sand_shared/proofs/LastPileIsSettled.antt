@@ -1,175 +1,109 @@
--- The last open pile of a pass that has everything, with nothing in hand and nothing left to topple: the heights are
--- the settled pile of the start and all drops, and the counts are the least odometer.
-use Rattle.std.proofs.Common.{◌≡◌, ℕ, ◌+◌, ◌-◌, ◌*◌, ◌<◌, List, [], All, length, sym, refl, ap, ◌∙◌, subst, arith}
+-- A pass that has gathered everything: its history and its record. If it has swept until nothing toppled, the heights of
+-- the last open pile are the settled pile of the start and all drops, and its counts are the least odometer.
+use Rattle.std.proofs.Common.{◌≡◌, ℕ, ◌+◌, ◌-◌, ◌*◌, ◌<◌, ◌≤◌, List, [], All, length, sum, sym, refl, ap, ◌∙◌, subst, arith}
 use Rattle.std.specs.Prelude.{slice_index}
 use Rattle.atomic_table.specs.Table.{Me}
 use Rattle.sand_model.specs.Grid.{sites}
-use Rattle.sand_model.specs.Sand.{IsSettled, occurrences}
-use Rattle.sand_model.specs.Piles.{height_of}
-use Rattle.sand_model.proofs.Flow.{flow_same}
+use Rattle.sand_model.specs.Sand.{IsToppled, occurrences}
+use Rattle.sand_model.specs.Piles.{height_of, most_grains}
+use Rattle.sand_model.proofs.Sandpile.{settled_same}
+use Rattle.sand_model.proofs.Underway.{underway_end}
+use Rattle.sand_settle.specs.Settling.{odometer_of}
 use Rattle.sand_shared.specs.declared.bare_pass.BarePass.TheInside.{Inside}
 use Rattle.sand_shared.specs.declared.view.View.{View}
 use Rattle.sand_shared.specs.declared.view.Receipt.{Receipt}
 use Rattle.sand_shared.specs.declared.view.Terms.{Terms}
-use Rattle.sand_shared.specs.OpenPile.{nobody, grid_of_terms, numbered, receipts_for, toppled_by, toppled, start_and_drawn, pass_at}
+use Rattle.sand_shared.specs.OpenPile.{nobody, grid_of_terms, receipts_for, toppled_by}
 use Rattle.sand_shared.specs.Bare.{shown, IsBare}
 use Rattle.sand_shared.specs.Passes.{PassView, SharedView, AllBelow, IsPass, IsPassOf, IsWhole, at_rest}
 use Rattle.sand_shared.specs.Events.{looked}
-use Rattle.sand_shared.specs.Rows.{count_of}
-use Rattle.sand_shared.specs.Record.{Tells, IsLast}
+use Rattle.sand_shared.specs.Record.{RecordView, Tells, IsLast, IsOneThreads, IsRecordOf}
 use Rattle.sand_shared.specs.Running.{Stands}
 use Rattle.sand_shared.specs.Seats.{HasAll}
-use Rattle.sand_shared.specs.Sweeps.{IsCalm, with_counts}
-use Rattle.sand_shared.proofs.SumsOverPasses.{sum_by_only}
+use Rattle.sand_shared.specs.Sweeps.{IsCalm, start_and_receipts, with_counts}
 use Rattle.sand_shared.proofs.GrainsAtSite.{toppled_from}
-use Rattle.sand_shared.proofs.PassKnowsPile.{no_receipts, its_drops, its_topplings, nothing_held}
-use Rattle.sand_shared.proofs.ReceiptsTellHistory.{one_below, history_is, all_seen}
+use Rattle.sand_shared.proofs.PassKnowsPile.{knows_all, left_exactly, stands_sparing}
+use Rattle.sand_shared.proofs.ReceiptsTellHistory.{history_is, all_seen}
 use Rattle.sand_shared.proofs.RecordSums.{LeadsTo}
 use Rattle.sand_shared.proofs.WholeHasAll.{whole_base, whole_counts, swept_has_all}
 
-module _ (t : Terms) (a : ℕ) (v : View) (s : Stands t a v) (all : HasAll t v) where
-  pub has_all : HasAll t (pass_at s.pile a)
-  has_all = subst (HasAll t) (sym s.pass) all
+-- a history is that of some receipts on a pile with these terms
+pub record HasHistory (t : Terms) (receipts : List Receipt) (history : List ℕ) : Type 0 where
+  pub all_sites : All (λ i. i < sites (grid_of_terms t)) history
+  pub limit : sum t.start.heights + length history ≤ most_grains
+  pub by_site : (i : ℕ) → occurrences history i ≡ receipts_for receipts i
 
-  has_number : (n : ℕ) → n < length s.pile.drawn → 0 < numbered v.receipts n
-  has_number n inside =
-      let p = s.pile in
-      let its = ap (λ (u : View). numbered u.receipts n) s.pass in
-      let only = sum_by_only (λ (u : View). numbered u.receipts n) p.passes a nobody s.there
-      (λ b lb ne. ap (λ rs. numbered rs n) (no_receipts t p s.lawful a s.there has_all b lb ne)) in
-      let all = s.lawful.numbers n in
-      let one = one_below n (length p.drawn) inside in omega arith
+module _ {t : Terms} {a : ℕ} {v : View} (s : Stands t a v) (all : HasAll t v) where
+  has_history : (history : List ℕ) → length history ≡ length v.receipts → Tells v.receipts history
+      → HasHistory t v.receipts history
+  has_history history long told =
+      let k = knows_all s all in
+      let is = history_is v.receipts s.pile.drawn k.numbers history (long ∙ k.receipts) told
+      (subst (λ (u : View). Tells u.receipts s.pile.drawn) s.pass (s.lawful.passes a nobody s.there).receipts) in
+      subst (HasHistory t v.receipts) (sym is)
+      record { all_sites = s.lawful.all_sites; limit = omega arith; by_site = k.drops }
 
-  every : length v.receipts ≡ length s.pile.drawn
-  every =
-      let p = s.pile in
-      ap (λ (u : View). length u.receipts) (sym s.pass)
-      ∙ sym (sum_by_only (λ (u : View). length u.receipts) p.passes a nobody s.there
-      (λ b lb ne. ap (λ rs. length rs) (no_receipts t p s.lawful a s.there has_all b lb ne)))
-      ∙ s.lawful.receipts
-
-  pub drawn_is : (history : List ℕ) → length history ≡ length v.receipts → Tells v.receipts history
-      → history ≡ s.pile.drawn
-  drawn_is history long told =
-      history_is v.receipts s.pile.drawn has_number history (long ∙ every) told
-      (subst (λ (u : View). Tells u.receipts s.pile.drawn) s.pass (s.lawful.passes a nobody s.there).receipts)
-
-  pub its_all : (i : ℕ) → occurrences s.pile.drawn i ≡ receipts_for v.receipts i
-  its_all i =
-      its_drops t s.pile s.lawful a s.there has_all i ∙ ap (λ (u : View). receipts_for u.receipts i) s.pass
-
-  -- a history that tells the receipts has each site as often as they do
-  pub told_by_site : {receipts : List Receipt} (history : List ℕ) → v.receipts ≡ receipts
-      → length history ≡ length receipts → Tells receipts history
-      → (i : ℕ) → occurrences history i ≡ receipts_for receipts i
-  told_by_site history same long told i =
-      ap (λ (h : List ℕ). occurrences h i)
-      (drawn_is history (long ∙ ap (λ (l : List Receipt). length l) (sym same))
-      (subst (λ (l : List Receipt). Tells l history) (sym same) told))
-      ∙ its_all i ∙ ap (λ (l : List Receipt). receipts_for l i) same
-
-  pub seen_is : AllBelow v.seen v.receipts → v.seen ≡ length v.receipts
+  seen_is : AllBelow v.seen v.receipts → v.seen ≡ length v.receipts
   seen_is below =
+      let k = knows_all s all in
       let most = (s.lawful.passes a nobody s.there).seen in
       let same = ap (λ (u : View). u.seen) s.pass in
-      let least = all_seen v.receipts s.pile.drawn has_number v.seen below in
-      let each = every in omega arith
+      let least = all_seen v.receipts s.pile.drawn k.numbers v.seen below in omega arith
 
-  module _ (base : v.base ≡ 0) where
-    pub toppled_is : (i : ℕ) → i < sites (grid_of_terms t) → toppled s.pile i ≡ slice_index v.counts i
-    toppled_is i l =
-        its_topplings t s.pile s.lawful a s.there has_all i l ∙ ap (λ (u : View). toppled_by u i) s.pass
-        ∙ toppled_from v i (omega arith) ∙ ap (slice_index v.counts) {x = i - v.base} {y = i} (omega arith)
-
-module _ (t : Terms) (a : ℕ) (v : View) (heights : List ℕ) (last : IsLast t a v heights) (all : HasAll t v) where
-  module _ (base : v.base ≡ 0) where
-    module _ (free : v.hand ≡ []) (calm : IsCalm t v) where
-      settles : IsSettled (grid_of_terms t) (start_and_drawn t last.stands.pile)
-          (slice_index v.counts) (slice_index heights)
-      settles =
-          let g = grid_of_terms t in
-          let s = last.stands in
-          let p = s.pile in
-          let own =
-          λ (i : ℕ) (l : i < sites g). its_topplings t p s.lawful a s.there (has_all t a v last.stands all) i l
-          ∙ ap (λ (u : View). toppled_by u i) s.pass in
-          record {
-            toppled = record {
-              balance = λ i l.
-                  let b = s.lawful.balance.balance i l in
-                  let none = nothing_held t p s.lawful a s.there (has_all t a v last.stands all)
-                  (ap (λ (u : View). u.hand) s.pass ∙ free) i l in
-                  let here = toppled_is t a v last.stands all base i l in
-                  let around =
-                  flow_same g (toppled p) (slice_index v.counts) (toppled_is t a v last.stands all base) i l in
-                  let height = last.each_height i l in omega arith;
-            };
-            odometer = record {
-              stabilises = record {
-                at_most_three = λ i l.
-                    let low = calm i l in
-                    let drops = its_all t a v last.stands all i in
-                    let here = toppled_is t a v last.stands all base i l in
-                    let mine = own i l in
-                    let around =
-                    flow_same g (toppled p) (slice_index v.counts) (toppled_is t a v last.stands all base) i l in
-                    let around' = flow_same g (toppled p) (toppled_by v) own i l in omega arith;
-              };
-              least = λ w stab i l. (let n = s.lawful.needed w stab i l in
-                  let here = toppled_is t a v last.stands all base i l in
-                  omega arith);
-            };
-          }
-
-      pub leads : (history : List ℕ) → length v.counts ≡ sites (grid_of_terms t)
-          → length history ≡ length v.receipts → Tells v.receipts history
-          → LeadsTo t.start history heights v.counts
-      leads history each long told =
-          let s = last.stands in
-          let drawn = drawn_is t a v last.stands all history long told in
-          let same = ap (λ (l : List ℕ). length l) drawn in
-          record {
-            pile = s.terms.pile;
-            all_sites = subst (All (λ i. i < sites (grid_of_terms t))) (sym drawn) s.lawful.all_sites;
-            limit = omega arith;
-            heights_each = last.one_each;
-            odometer_each = each;
-            settled = subst (λ (l : List ℕ). IsSettled (grid_of_terms t)
-                (λ i. height_of t.start i + occurrences l i) (slice_index v.counts) (slice_index heights))
-                (sym drawn) settles;
-          }
-
--- a pass that has gathered everything, by its own fields
+-- a pass that has gathered everything
 pub record HasGathered (t : Terms) (p : PassView) : Type 0 where
   pub grid : p.grid ≡ grid_of_terms t
-  pub one_each : length p.counts ≡ count_of p.rows * p.grid.width
   pub whole : IsWhole t p
-  pub below : AllBelow p.seen p.receipts
+  pub pass : IsPass p
 
-pub gathered : {w w' : SharedView} {p p' : PassView} → w ≡ w' → p ≡ p' → IsPass p → IsPassOf w' p' → IsWhole w'.terms p'
+pub gathered : {w : SharedView} {x : Inside} {p : PassView} → shown x ≡ p → IsBare x → IsPassOf w p → IsWhole w.terms p
     → HasGathered w.terms p
-gathered pile_is pass_is inv of_pile whole = record {
-  grid = ap (λ (q : PassView). q.grid) pass_is ∙ of_pile.grid
-      ∙ sym (ap (λ (z : SharedView). grid_of_terms z.terms) pile_is);
-  one_each = inv.one_each;
-  whole = subst (λ (z : SharedView × PassView). IsWhole z.0.terms z.1) (λ i. (sym pile_is i, sym pass_is i)) whole;
-  below = inv.below;
-}
+gathered is inv of_pile whole = record { grid = of_pile.grid; whole = whole; pass = subst IsPass is inv.pass }
 
--- the history has an entry for each receipt
-pub numbers_inside : {receipts listed : List Receipt} {seen : ℕ} (history : List ℕ)
-    → listed ≡ receipts → AllBelow seen receipts → seen ≡ length receipts
-    → length history ≡ length receipts → All (λ r. r.number < length history) listed
-numbers_inside history same below seen long =
-    subst (All (λ (r : Receipt). r.number < length history)) (sym same) (λ k d l. let b = below k d l in omega arith)
+-- its seat has some counts of its rows, and nothing in hand
+module _ {t : Terms} {p : PassView} {counts : List ℕ} {a spot least : ℕ} (b : HasGathered t p)
+    (s : Stands t a (record (at_rest p) { counts = counts; spot = spot; least = least }))
+    (long : length counts ≡ length p.counts) where
+  pub gathers_all : HasAll t (record (at_rest p) { counts = counts; spot = spot; least = least })
+  gathers_all = swept_has_all t p b.grid b.pass.one_each b.whole counts spot least long
 
--- it has swept until nothing toppled, and the table is closed with its seat
-pub record IsClosedBy (t : Terms) (p : PassView) (counts heights : List ℕ) (a : ℕ) (v : View) : Type 0 where
-  pub last : IsLast t a v heights
-  pub me : v ≡ record (at_rest p) { counts = counts; spot = v.spot; least = v.least }
+  pub gathered_history : (history : List ℕ) → length history ≡ length p.receipts → Tells p.receipts history
+      → HasHistory t p.receipts history
+  gathered_history = has_history s gathers_all
+
+  pub gathered_seen : p.seen ≡ length p.receipts
+  gathered_seen = seen_is s gathers_all b.pass.below
+
+  -- a record of such a history
+  pub gathered_record : (r : RecordView) → IsOneThreads r → r.start ≡ t.start
+      → length r.history ≡ length p.receipts → Tells p.receipts r.history
+      → ((i : ℕ) → slice_index p.counts i ≤ odometer_of r.settled i)
+      → IsRecordOf t p r
+  gathered_record r one start each told never = record {
+    one_threads = one;
+    start = start;
+    history = told;
+    each_drop_once = each;
+    each_number_once = b.pass.once;
+    all_seen = gathered_seen ∙ sym each;
+    by_site = (gathered_history r.history each told).by_site;
+    never_fall = never;
+  }
+
+-- the counts of a whole pass, by site
+pub toppled_is : (t : Terms) (p : PassView) (counts : List ℕ) → HasGathered t p → (i : ℕ)
+    → toppled_by (with_counts (at_rest p) counts) i ≡ slice_index counts i
+toppled_is t p counts b i =
+    let base = whole_base t p b.grid b.pass.one_each b.whole in
+    toppled_from (with_counts (at_rest p) counts) i (omega arith)
+    ∙ ap (slice_index counts) {x = i - (at_rest p).base} {y = i} (omega arith)
+
+-- a pass that has gathered everything has swept until nothing toppled, and the table is closed with its seat
+pub record IsClosedBy (t : Terms) (p : PassView) (counts heights : List ℕ) (a spot least : ℕ) : Type 0 where
+  pub last : IsLast t a (record (at_rest p) { counts = counts; spot = spot; least = least }) heights
   pub all : HasGathered t p
   pub same_rows : length counts ≡ length p.counts
-  pub calm : IsCalm t (record (at_rest p) { counts = counts })
+  pub calm : IsCalm t (with_counts (at_rest p) counts)
 
 pub closed_by : {w w' : SharedView} {p' : PassView} {x : Inside} {a : ℕ} {v : View} {counts heights : List ℕ}
     → w ≡ w' → shown x ≡ p' → IsBare x → IsPassOf w' p' → IsWhole w'.terms p'
@@ -177,41 +111,43 @@ pub closed_by : {w w' : SharedView} {p' : PassView} {x : Inside} {a : ℕ} {v : 
     → v ≡ record (looked x.seat.me.0 v.spot v.least) { counts = counts }
     → length counts ≡ length x.counts.items
     → IsCalm w.terms (with_counts x.seat.me.0 counts)
-    → IsClosedBy w.terms (shown x) counts heights a v
-closed_by {w = w} {v = v} {counts = counts} pile_is pass_is inv of_pile whole last swept long calm = record {
-  last = last;
-  me = swept ∙ (λ i. record (looked (inv.me i).0 v.spot v.least) { counts = counts });
-  all = gathered pile_is pass_is inv.pass of_pile whole;
-  same_rows = long;
-  calm = subst (λ (m : Me ℕ View). IsCalm w.terms (with_counts m.0 counts)) inv.me calm;
-}
+    → IsClosedBy w'.terms p' counts heights a v.spot v.least
+closed_by {w = w} {a = a} {v = v} {counts = counts} {heights = heights} pile_is pass_is inv of_pile whole last swept long calm =
+    let me = swept ∙ (λ i. record (looked (inv.me i).0 v.spot v.least) { counts = counts })
+    ∙ (λ i. record (at_rest (pass_is i)) { counts = counts; spot = v.spot; least = v.least }) in
+    record {
+      last = subst (λ (z : Terms × View). IsLast z.0 a z.1 heights) (λ i. ((pile_is i).terms, me i)) last;
+      all = gathered pass_is inv of_pile whole;
+      same_rows = long ∙ ap (λ (q : PassView). length q.counts) pass_is;
+      calm = subst (λ (z : SharedView × PassView). IsCalm z.0.terms (with_counts (at_rest z.1) counts))
+          (λ i. (pile_is i, pass_is i)) (subst (λ (m : Me ℕ View). IsCalm w.terms (with_counts m.0 counts)) inv.me calm);
+    }
 
-module _ {t : Terms} {p : PassView} {counts heights : List ℕ}
-    {a : ℕ} {v : View} (b : IsClosedBy t p counts heights a v) where
-  swept : View
-  swept = record (at_rest p) { counts = counts; spot = v.spot; least = v.least }
-
-  last_swept : IsLast t a swept heights
-  unfolding swept
-  last_swept = subst (λ (u : View). IsLast t a u heights) b.me b.last
-
-  all_swept : HasAll t swept
-  unfolding swept
-  all_swept = swept_has_all t p b.all.grid b.all.one_each b.all.whole counts v.spot v.least b.same_rows
-
-  pub closed_seen : p.seen ≡ length p.receipts
-  unfolding swept
-  closed_seen = seen_is t a swept last_swept.stands all_swept b.all.below
-
-  pub closed_by_site : {receipts : List Receipt} (history : List ℕ) → p.receipts ≡ receipts
-      → length history ≡ length receipts → Tells receipts history
-      → (i : ℕ) → occurrences history i ≡ receipts_for receipts i
-  unfolding swept
-  closed_by_site = told_by_site t a swept last_swept.stands all_swept
-
+module _ {t : Terms} {p : PassView} {counts heights : List ℕ} {a spot least : ℕ}
+    (b : IsClosedBy t p counts heights a spot least) where
   pub closed_leads : (history : List ℕ) → length history ≡ length p.receipts → Tells p.receipts history
       → LeadsTo t.start history heights counts
-  unfolding swept
-  closed_leads history long told =
-      leads t a swept heights last_swept all_swept (whole_base t p b.all.grid b.all.one_each b.all.whole)
-      refl b.calm history (b.same_rows ∙ whole_counts t p b.all.grid b.all.one_each b.all.whole) long told
+  closed_leads history each told =
+      let g = grid_of_terms t in
+      let v = record (at_rest p) { counts = counts; spot = spot; least = least } in
+      let s = b.last.stands in
+      let all = gathers_all b.all s b.same_rows in
+      let h = gathered_history b.all s b.same_rows history each told in
+      let base = whole_base t p b.all.grid b.all.pass.one_each b.all.whole in
+      let long = b.same_rows ∙ whole_counts t p b.all.grid b.all.pass.one_each b.all.whole in
+      let left = left_exactly s all refl in
+      let toppled : IsToppled g (start_and_receipts t v) (toppled_by v) (slice_index heights) =
+      record { balance = λ i l. let e = left.balance i l in let same = b.last.each_height i l in omega arith } in
+      let settled = underway_end g (start_and_receipts t v) (toppled_by v) (slice_index heights)
+      (record { toppled = toppled; bounded = (stands_sparing s all (omega arith)).needed })
+      (λ i l. let e = toppled.balance i l in let low = b.calm i l in omega arith) in
+      record {
+        pile = s.terms.pile;
+        all_sites = h.all_sites;
+        limit = h.limit;
+        heights_each = b.last.one_each;
+        odometer_each = long;
+        settled = settled_same g (start_and_receipts t v) (λ i. height_of t.start i + occurrences history i)
+            (toppled_by v) (slice_index counts) (slice_index heights) (slice_index heights)
+            (λ i l. let e = h.by_site i in omega arith) (λ i l. toppled_is t p counts b.all i) (λ i l. refl) settled;
+      }

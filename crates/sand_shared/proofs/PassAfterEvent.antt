@@ -7,21 +7,21 @@ use Rattle.sand_shared.specs.Events.{count, look, unload, counted, looked, unloa
 use Rattle.sand_shared.specs.Running.{Happened}
 use Rattle.sand_shared.proofs.WordsShowPile.{pass_at-with}
 
-module _ (t : Terms) (a i k : ℕ) (v w : View) (n : ℕ) where
+module _ {t : Terms} {a : ℕ} {v w : View} {n : ℕ} where
   pub counted_is : Happened t a (count a ∷ []) v n w → w ≡ counted v n
   counted_is h =
       let p = h.before.pile in
       sym h.pass_after ∙ pass_at-with p a (counted (pass_at p a) (length p.drawn)) h.before.there
       ∙ (λ q. counted (h.before.pass q) (sym h.number q))
 
-  pub looked_is : Happened t a (look a i ∷ []) v n w → w ≡ looked v i n
-  looked_is h =
+  pub looked_is : {i : ℕ} → Happened t a (look a i ∷ []) v n w → w ≡ looked v i n
+  looked_is {i = i} h =
       let p = h.before.pile in
       sym h.pass_after ∙ pass_at-with p a (looked (pass_at p a) i (p.height i)) h.before.there
       ∙ (λ q. looked (h.before.pass q) i (sym h.number q))
 
-  pub unloaded_is : Happened t a (unload a i k ∷ []) v n w → w ≡ unloaded t v i k
-  unloaded_is h =
+  pub unloaded_is : {i k : ℕ} → Happened t a (unload a i k ∷ []) v n w → w ≡ unloaded t v i k
+  unloaded_is {i = i} {k = k} h =
       let p = h.before.pile in
       sym h.pass_after ∙ pass_at-with p a (unloaded t (pass_at p a) i k) h.before.there
       ∙ (λ q. unloaded t (h.before.pass q) i k)

@@ -1,6 +1,7 @@
 -- A whole pass holds all sites.
 use Rattle.std.proofs.Common.{◌≡◌, ℕ, ◌+◌, ◌-◌, ◌*◌, ◌<◌, List, true, leb, ltb, length, ap, ◌∙◌, arith}
 use Rattle.std.specs.Prelude.{◌&&◌}
+use Rattle.std.proofs.Math.Nat.{mul_comm}
 use Rattle.std.proofs.lemmas.Bool.Decides.{nat_tests}
 use Rattle.sand_model.specs.Grid.{sites}
 use Rattle.sand_shared.specs.declared.rows.Rows.{Rows}
@@ -9,9 +10,6 @@ use Rattle.sand_shared.specs.OpenPile.{grid_of_terms, holds_site}
 use Rattle.sand_shared.specs.Passes.{PassView, at_rest, IsWhole}
 use Rattle.sand_shared.specs.Rows.{count_of}
 use Rattle.sand_shared.specs.Seats.{HasAll}
-
-swap : (a b : ℕ) → a * b ≡ b * a
-swap a b = grind arith
 
 module _ (t : Terms) (p : PassView) (same : p.grid ≡ grid_of_terms t)
     (each : length p.counts ≡ count_of p.rows * p.grid.width) (whole : IsWhole t p) where
@@ -22,7 +20,7 @@ module _ (t : Terms) (p : PassView) (same : p.grid ≡ grid_of_terms t)
   whole_counts =
       let g = grid_of_terms t in
       each ∙ (λ i. count_of (whole.rows i) * (same i).width)
-      ∙ (ap (λ n. n * g.width) {x = g.height - 0} {y = g.height} (omega arith) ∙ swap g.height g.width)
+      ∙ (ap (λ n. n * g.width) {x = g.height - 0} {y = g.height} (omega arith) ∙ mul_comm g.height g.width)
 
   pub whole_has_all : HasAll t (at_rest p)
   whole_has_all =

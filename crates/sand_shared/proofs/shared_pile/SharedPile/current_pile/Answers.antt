@@ -6,9 +6,10 @@ use Rattle.sand_model.specs.Piles.{PileView, height_of}
 use Rattle.sand_shared.specs.declared.view.View.{View}
 use Rattle.sand_shared.specs.declared.view.Terms.{Terms}
 use Rattle.sand_shared.specs.OpenPile.{grid_of_terms, toppled_by}
-use Rattle.sand_shared.specs.Passes.{PassView, at_rest, IsPass}
+use Rattle.sand_shared.specs.Passes.{PassView, at_rest}
 use Rattle.sand_shared.specs.Sweeps.{start_and_receipts}
 use Rattle.sand_shared.proofs.CompletedOdometer.{left_underway}
+use Rattle.sand_shared.proofs.LastPileIsSettled.{gathered}
 use Rattle.sand_shared.proofs.SeatOfPass.{still_bare}
 use Rattle.sand_shared.proofs.shared_pile.SharedPile.current_pile.Goals as goal
 
@@ -20,7 +21,6 @@ pub returns-clause-underway : goal.returns-clause-underway
 returns-clause-underway c =
     let inv = c.pass.invariant in
     let h = slice_index c.read.new.heights.items in
-    let each = subst IsPass c.pass.view_is c.pass.invariant.pass in
     let here = subst (λ (m : Me ℕ View).
     IsUnderway (grid_of_terms c.self.inside.words.terms)
     (start_and_receipts c.self.inside.words.terms m.0) (toppled_by m.0) h)
@@ -33,4 +33,5 @@ returns-clause-underway c =
     (start_and_receipts c.args.self.now.terms (at_rest c.args.pass.now))
     (slice_index c.args.pass.now.counts) (height_of q))
     (sym c.from_vec.ensures)
-    (left_underway c.args.self.now.terms c.args.pass.now c.requires.pass.grid each.one_each c.requires.whole h there)
+    (left_underway c.args.self.now.terms c.args.pass.now
+    (gathered c.pass.view_is c.pass.invariant c.requires.pass c.requires.whole) h there)

@@ -1,12 +1,11 @@
-use Rattle.std.proofs.Common.{ℕ, List, length, sym, ap, ◌∙◌, subst, arith, rules}
+use Rattle.std.proofs.Common.{ℕ, List, length, sym, refl, ap, ◌∙◌, subst, arith, rules}
 use Rattle.std.specs.Prelude.{slice_index}
 use Rattle.sand_model.specs.Piles.{PileView}
-use Rattle.sand_shared.specs.declared.view.Receipt.{Receipt}
-use Rattle.sand_shared.specs.Passes.{SharedView, PassView, EachOnce}
 use Rattle.sand_shared.specs.Record.{Tells, IsCompleted}
 use Rattle.sand_shared.proofs.PassAfterEvent.{known_is}
 use Rattle.sand_shared.proofs.SeatOfPass.{still_bare}
-use Rattle.sand_shared.proofs.CompletedOdometer.{completed_by, completed_seen, completed_by_site, completed_leads}
+use Rattle.sand_shared.proofs.LastPileIsSettled.{gathered, gathered_record}
+use Rattle.sand_shared.proofs.CompletedOdometer.{stands_bare, completed_leads}
 use Rattle.sand_shared.proofs.shared_pile.SharedPile.record_with.Goals as goal
 
 pub invariant_of-pass : goal.invariant_of-pass
@@ -15,33 +14,20 @@ invariant_of-pass c = still_bare c.pass.inside c.learn.new.seat c.pass.invariant
 
 pub record_of-requires : goal.record_of-requires
 record_of-requires c =
-    let b = completed_by c.self.view_is c.pass.view_is c.pass.invariant c.requires.pass
-    c.requires.whole c.requires.rest c.learn.ensures.view c.learn.ensures.stands in
-    let told = subst (λ (q : PassView). Tells q.receipts c.args.history.items) (sym c.pass.view_is) c.requires.tells in
-    let long = c.requires.one_each ∙ ap (λ (q : PassView). length q.receipts) (sym c.pass.view_is) in
-    let start = c.requires.start ∙ ap (λ (v : SharedView). v.terms.start) (sym c.self.view_is) in
-    let counts = c.requires.counts ∙ ap (λ (q : PassView). q.counts) (sym c.pass.view_is) in
+    let b = gathered c.pass.view_is c.pass.invariant c.requires.pass c.requires.whole in
+    let s = stands_bare c.self.view_is c.pass.view_is c.pass.invariant c.learn.ensures.view c.learn.ensures.stands in
     subst (λ (q : PileView × List ℕ). IsCompleted q.0 c.args.history.items q.1 c.args.rest)
-    (λ i. (sym start i, sym counts i)) (completed_leads b c.args.history.items long told)
+    (λ i. (sym c.requires.start i, sym c.requires.counts i))
+    (completed_leads b s c.requires.rest c.args.history.items c.requires.one_each c.requires.tells)
 
 pub returns-clause-closed : goal.returns-clause-closed
 returns-clause-closed c =
-    let b = completed_by c.self.view_is c.pass.view_is c.pass.invariant c.requires.pass
-    c.requires.whole c.requires.rest c.learn.ensures.view c.learn.ensures.stands in
+    let b = gathered c.pass.view_is c.pass.invariant c.requires.pass c.requires.whole in
+    let s = stands_bare c.self.view_is c.pass.view_is c.pass.invariant c.learn.ensures.view c.learn.ensures.stands in
     let history = c.record_of.ensures.history in
-    let long = ap (λ (l : List ℕ). length l) history ∙ c.requires.one_each in
-    let receipts = ap (λ (q : PassView). q.receipts) c.pass.view_is in
-    let told = subst (Tells c.args.pass.now.receipts) (sym history) c.requires.tells in
-    record {
-      one_threads = search rules;
-      start = c.record_of.ensures.start ∙ c.requires.start;
-      history = told;
-      each_drop_once = long;
-      each_number_once = subst EachOnce receipts c.pass.invariant.pass.once;
-      by_site = completed_by_site b _ receipts long told;
-      all_seen = ap (λ (q : PassView). q.seen) (sym c.pass.view_is) ∙ completed_seen b
-          ∙ ap (λ (l : List Receipt). length l) receipts ∙ sym long;
-      never_fall = λ i.
-          let counts = ap (λ (l : List ℕ). slice_index l i) c.requires.counts in
-          let never = c.record_of.ensures.never_fall i in omega arith;
-    }
+    gathered_record b s refl _ (search rules) (c.record_of.ensures.start ∙ c.requires.start)
+    (ap (λ (l : List ℕ). length l) history ∙ c.requires.one_each)
+    (subst (Tells c.args.pass.now.receipts) (sym history) c.requires.tells)
+    (λ i.
+    let counts = ap (λ (l : List ℕ). slice_index l i) c.requires.counts in
+    let never = c.record_of.ensures.never_fall i in omega arith)

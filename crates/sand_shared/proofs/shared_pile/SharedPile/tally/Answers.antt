@@ -4,7 +4,7 @@ use Rattle.sand_shared.specs.declared.view.View.{View}
 use Rattle.sand_shared.specs.Bare.{shown}
 use Rattle.sand_shared.specs.Events.{counted}
 use Rattle.sand_shared.proofs.PassAfterEvent.{counted_is, counted_fresh}
-use Rattle.sand_shared.proofs.SeatOfPass.{seated}
+use Rattle.sand_shared.proofs.SeatOfPass.{with_receipts, seated}
 use Rattle.sand_shared.proofs.shared_pile.SharedPile.tally.Goals as goal
 
 pub invariant_of-bare : goal.invariant_of-bare
@@ -13,15 +13,9 @@ invariant_of-bare c =
     let p = c.bare.inside in
     let n = c.count-drops.result in
     let happened = c.count-drops.ensures.happened in
-    let fresh = counted_fresh _ _ 0 0 _ _ n happened in
+    let fresh = counted_fresh happened in
     let seen = ap (λ (m : Me ℕ View). m.0.seen) inv.me in
     seated (record (shown p) { seen = n }) p.seat.me.0.spot p.seat.me.0.least
-    record {
-      once = inv.pass.once;
-      below = λ k d l. (let b = inv.pass.below k d l in omega arith);
-      grid = inv.pass.grid;
-      rows = inv.pass.rows;
-      one_each = inv.pass.one_each;
-    }
-    inv.each_made (counted_is _ _ 0 0 _ _ n happened ∙ ap (λ (m : Me ℕ View). counted m.0 n) inv.me)
+    (with_receipts inv.pass inv.pass.once (λ k d l. let b = inv.pass.below k d l in omega arith))
+    inv.each_made (counted_is happened ∙ ap (λ (m : Me ℕ View). counted m.0 n) inv.me)
     c.count-drops.ensures.seat.bare refl

@@ -13,7 +13,8 @@ use Rattle.sand_shared.specs.Running.{Stands}
 use Rattle.sand_shared.specs.Seats.{HasAll}
 use Rattle.sand_shared.specs.Sweeps.{start_and_receipts}
 use Rattle.sand_shared.proofs.PassAfterEvent.{looked_is}
-use Rattle.sand_shared.proofs.CompletedOdometer.{looked_exactly, left_few, is_underway}
+use Rattle.sand_shared.proofs.CompletedOdometer.{left_few, is_underway}
+use Rattle.sand_shared.proofs.PassKnowsPile.{looked_exactly}
 use Rattle.sand_shared.proofs.steps.Words.read.Goals as goal
 
 pub sites-preserved : goal.sites-preserved
@@ -28,11 +29,11 @@ sites-preserved c =
     let xs = c.sites.heights.items in
     let items = c.push_reserved.ensures.items in
     let is : new ≡ looked v i n =
-    looked_is t _ i 0 _ _ _ c.look-height.ensures.happened ∙ (λ q. looked (inv.view q) i n) in
+    looked_is c.look-height.ensures.happened ∙ (λ q. looked (inv.view q) i n) in
     let spot = ap (λ (u : View). u.spot) is in
     let least = ap (λ (u : View). u.least) is in
     let exactly =
-    looked_exactly t _ i _ _ n c.look-height.ensures.happened (ap (λ (u : View). u.hand) inv.view ∙ c.requires.hand)
+    looked_exactly c.look-height.ensures.happened (ap (λ (u : View). u.hand) inv.view ∙ c.requires.hand)
     (subst (HasAll t) (sym inv.view) record { quota = c.requires.all.quota; all_sites = c.requires.all.all_sites }) in
     let here = subst (λ (u : View). n + 4 * toppled_by u i ≡ start_and_receipts t u i + flow g (toppled_by u) i)
     inv.view exactly in
@@ -74,17 +75,14 @@ returns-clause-limit c =
     let inv = c.sites.invariant in
     let v = c.args.seat.now.me.0 in
     let all = counted c in
-    let w = looked v c.sites.seat.me.0.spot c.sites.seat.me.0.least in
     let stands = subst (Stands t _) (c.learn.ensures.view ∙ inv.view) c.learn.ensures.stands in
-    left_few t _ w stands record { quota = c.requires.all.quota; all_sites = c.requires.all.all_sites }
+    left_few stands record { quota = c.requires.all.quota; all_sites = c.requires.all.all_sites }
     (toppled_by v) c.sites.heights.items (inv.long ∙ omega arith) (left_there c)
 
 pub returns-clause-underway : goal.returns-clause-underway
 returns-clause-underway c =
     let t = c.args.self.now.terms in
     let inv = c.sites.invariant in
-    let v = c.args.seat.now.me.0 in
-    let w = looked v c.sites.seat.me.0.spot c.sites.seat.me.0.least in
     let stands = subst (Stands t _) (c.learn.ensures.view ∙ inv.view) c.learn.ensures.stands in
-    is_underway t _ w stands record { quota = c.requires.all.quota; all_sites = c.requires.all.all_sites }
+    is_underway stands record { quota = c.requires.all.quota; all_sites = c.requires.all.all_sites }
     c.requires.rows (slice_index c.sites.heights.items) (left_there c)

@@ -9,7 +9,7 @@ use Rattle.sand_shared.specs.Seats.{HasAll}
 use Rattle.sand_shared.specs.Sweeps.{IsSparing}
 use Rattle.sand_shared.proofs.GrainsAtSite.{holds-unloaded}
 use Rattle.sand_shared.proofs.PassAfterEvent.{looked_is, unloaded_is}
-use Rattle.sand_shared.proofs.PassKnowsPile.{stands_few, stands_sparing, looked_at_most, looked_at_least, stands_unloaded}
+use Rattle.sand_shared.proofs.PassKnowsPile.{stands_few, stands_sparing, looked_at_most, looked_exactly, stands_unloaded}
 use Rattle.sand_shared.proofs.steps.Words.relieve.Goals as goal
 
 unloaded_view : (c : goal.After-deliver_around)
@@ -19,8 +19,8 @@ unloaded_view c =
     let t = c.args.self.now.terms in
     let i = c.args.site in
     let k = c.look-times.result / 4 in
-    unloaded_is t _ i k _ _ _ c.unload.ensures.happened.1
-    ∙ ap (λ v. unloaded t v i k) (looked_is t _ i 0 _ _ _ c.look-times.ensures.happened)
+    unloaded_is c.unload.ensures.happened.1
+    ∙ ap (λ v. unloaded t v i k) (looked_is c.look-times.ensures.happened)
 
 unloaded_rows : (c : goal.After-deliver_around)
     → c.unload.new.seat.me.0.base + length c.unload.new.seat.me.0.counts ≤ sites (grid_of_terms c.args.self.now.terms)
@@ -37,31 +37,25 @@ still_all t v i k n all =
 
 pub returns-then-times-ne0-clause-few : goal.returns-then-times-ne0-clause-few
 returns-then-times-ne0-clause-few c =
-    let t = c.args.self.now.terms in
-    let stands = stands_unloaded t _ c.args.site (c.look-times.result / 4) _ _ _ c.unload.ensures.happened.1 in
     subst (λ (v : View). sum v.counts < 2 ^ 54) (sym c.deliver_around.ensures.view)
-    (stands_few t _ c.unload.new.seat.me.0 stands (unloaded_rows c))
+    (stands_few (stands_unloaded c.unload.ensures.happened.1) (unloaded_rows c))
 
 pub returns-then-times-ne0-clause-enough : goal.returns-then-times-ne0-clause-enough
 returns-then-times-ne0-clause-enough c =
-    let most = looked_at_most c.args.self.now.terms _ c.args.site _ _ _ c.look-times.ensures.happened c.requires.hand in
-    omega arith
+    let most = looked_at_most c.look-times.ensures.happened c.requires.hand in omega arith
 
 pub returns-then-times-ne0-clause-no_more : goal.returns-then-times-ne0-clause-no_more
 returns-then-times-ne0-clause-no_more c all =
-    let least =
-    looked_at_least c.args.self.now.terms _ c.args.site _ _ _ c.look-times.ensures.happened c.requires.hand all in
-    omega arith
+    let left = looked_exactly c.look-times.ensures.happened c.requires.hand all in omega arith
 
 pub returns-then-times-ne0-clause-sparing : goal.returns-then-times-ne0-clause-sparing
 returns-then-times-ne0-clause-sparing c all =
     let t = c.args.self.now.terms in
-    let u = c.unload.new.seat.me.0 in
     let k = c.look-times.result / 4 in
-    let stands = stands_unloaded t _ c.args.site k _ _ _ c.unload.ensures.happened.1 in
+    let stands = stands_unloaded c.unload.ensures.happened.1 in
     let has =
     subst (HasAll t) (sym (unloaded_view c)) (still_all t c.args.seat.now.me.0 c.args.site k c.look-times.result all) in
-    let s = stands_sparing t _ u stands has (unloaded_rows c) in
+    let s = stands_sparing stands has (unloaded_rows c) in
     subst (IsSparing t) (sym c.deliver_around.ensures.view) record { needed = s.needed; weighed = s.weighed }
 
 pub returns-else-times-ne0-clause-view : goal.returns-else-times-ne0-clause-view
@@ -72,30 +66,23 @@ returns-else-times-ne0-clause-view c =
     let none : k ≡ 0 = search rules in
     let at = i - v.base in
     let same : v.counts ≡ raised v i k = sym (ap (λ z. set v.counts at z) (omega arith) ∙ set-get_or v.counts at 0) in
-    let is = looked_is c.args.self.now.terms _ i 0 _ _ _ c.look-times.ensures.happened in
+    let is = looked_is c.look-times.ensures.happened in
     is ∙ (λ q. record (looked v i ((sym is q).least)) { counts = same q })
 
 pub returns-else-times-ne0-clause-enough : goal.returns-else-times-ne0-clause-enough
 returns-else-times-ne0-clause-enough c =
-    let most = looked_at_most c.args.self.now.terms _ c.args.site _ _ _ c.look-times.ensures.happened c.requires.hand in
-    omega arith
+    let most = looked_at_most c.look-times.ensures.happened c.requires.hand in omega arith
 
 pub returns-else-times-ne0-clause-no_more : goal.returns-else-times-ne0-clause-no_more
 returns-else-times-ne0-clause-no_more c all =
-    let least =
-    looked_at_least c.args.self.now.terms _ c.args.site _ _ _ c.look-times.ensures.happened c.requires.hand all in
-    omega arith
+    let left = looked_exactly c.look-times.ensures.happened c.requires.hand all in omega arith
 
 pub returns-else-times-ne0-clause-few : goal.returns-else-times-ne0-clause-few
 returns-else-times-ne0-clause-few c =
-    let t = c.args.self.now.terms in
-    let is = looked_is t _ c.args.site 0 _ _ _ c.look-times.ensures.happened in
-    subst (λ (v : View). sum v.counts < 2 ^ 54) (sym is)
-    (stands_few t _ c.args.seat.now.me.0 c.look-times.ensures.happened.before c.requires.rows)
+    subst (λ (v : View). sum v.counts < 2 ^ 54) (sym (looked_is c.look-times.ensures.happened))
+    (stands_few c.look-times.ensures.happened.before c.requires.rows)
 
 pub returns-else-times-ne0-clause-sparing : goal.returns-else-times-ne0-clause-sparing
 returns-else-times-ne0-clause-sparing c all =
-    let t = c.args.self.now.terms in
-    let is = looked_is t _ c.args.site 0 _ _ _ c.look-times.ensures.happened in
-    let s = stands_sparing t _ c.args.seat.now.me.0 c.look-times.ensures.happened.before all c.requires.rows in
-    subst (IsSparing t) (sym is) record { needed = s.needed; weighed = s.weighed }
+    let s = stands_sparing c.look-times.ensures.happened.before all c.requires.rows in
+    subst (IsSparing c.args.self.now.terms) (sym (looked_is c.look-times.ensures.happened)) record { needed = s.needed; weighed = s.weighed }
