@@ -1,17 +1,18 @@
 use Rattle.std.proofs.Common.{◌≡◌, ℕ, ◌+◌, ◌<◌, ◌≤◌, List, length, set, get_or, sym, ap, ◌∙◌, subst, arith}
-use Rattle.std.proofs.lemmas.List.{get_or_read}
+use Rattle.std.proofs.lemmas.List.{get_or_read, set-get_or}
 use Rattle.sand_model.specs.Grid.{sites}
+use Rattle.sand_shared.specs.declared.view.View.{View}
 use Rattle.sand_shared.specs.OpenPile.{grid_of_terms}
 use Rattle.sand_shared.specs.Events.{looked}
-use Rattle.sand_shared.proofs.RowSites.{sites_few}
+use Rattle.sand_model.proofs.Bounds.{sites_limit}
 use Rattle.sand_shared.proofs.StepsOnWords.{stays_on}
-use Rattle.sand_shared.proofs.SweptSiteBySite.{Sweeps, next_view, next_swept, kept_view, kept_swept, sweeps_end, sweeps_all, sweeps_few}
+use Rattle.sand_shared.proofs.SweptSiteBySite.{Sweeps, Relieved, next_view, next_swept, sweeps_end, sweeps_all, sweeps_few}
 use Rattle.sand_shared.proofs.steps.Words.sweep_rows.Goals as goal
 use Rattle.sand_shared.proofs.steps.Words.sweep_rows.Goals.{After-relieve-times, After-sites}
 
 pub overflow_add-base : goal.overflow_add-base
 overflow_add-base c =
-    let few = sites_few (grid_of_terms c.args.self.now.terms) c.tell_limits.ensures.pile.grid in
+    let few = sites_limit (grid_of_terms c.args.self.now.terms) c.tell_limits.ensures.pile.grid in
     omega arith
 
 -- the sweep is at a site of the pass and of the grid
@@ -22,47 +23,54 @@ inside c =
     let first = ap (λ (l : List ℕ). length l) c.requires.counts.1 in
     (omega arith, omega arith)
 
+did : (c : After-relieve-times)
+    → let v = c.args.seat.now.me.0 in
+    let me = c.sites.seat.me.0 in
+    Relieved c.args.self.now.terms (record (looked v me.spot me.least) { counts = c.sites.counts.items })
+    c.relieve-times.new.seat.me.0 (v.base + c.sites.i) c.relieve-times.result
+did c =
+    let d = c.relieve-times.ensures in
+    subst (λ (z : View × ℕ).
+    Relieved c.args.self.now.terms z.0 c.relieve-times.new.seat.me.0 z.1 c.relieve-times.result)
+    (λ q. (c.sites.invariant.view q, sym c.requires.counts.0 q + c.sites.i))
+    record { view = d.view; few = d.few; enough = d.enough; no_more = d.no_more; sparing = d.sparing }
+
 pub sites-preserved-then-times-eq0 : goal.sites-preserved-then-times-eq0
 sites-preserved-then-times-eq0 c =
-    let t = c.args.self.now.terms in
     let inv = c.sites.invariant in
     let v = c.args.seat.now.me.0 in
-    let me = c.sites.seat.me.0 in
     let new = c.relieve-times.new.seat.me.0 in
     let cs = c.sites.counts.items in
-    let base = c.requires.counts.0 in
-    let did = c.relieve-times.ensures in
-    let none = c.if-times-eq0.true in
-    let at = inside (goal.at.sites-preserved-then-times-eq0 c).After-relieve-times in
+    let i = c.sites.i in
+    let n = c.sites.topplings in
+    let here = (goal.at.sites-preserved-then-times-eq0 c).After-relieve-times in
+    let at = inside here in
+    let same : set cs i (get_or cs i 0 + c.relieve-times.result) ≡ cs =
+    ap (set cs i) {x = get_or cs i 0 + c.relieve-times.result} {y = get_or cs i 0} (omega arith) ∙ set-get_or cs i 0 in
+    let still : n + c.relieve-times.result ≡ n = omega arith in
     record {
-      seat = stays_on inv.seat did.seat;
-      view = kept_view t v me new cs c.args.base c.sites.i c.relieve-times.result base inv.view did.view none;
-      swept = kept_swept t v me new cs c.args.base c.sites.i c.relieve-times.result base inv.view
-          did.view none c.sites.topplings at.0 at.1 inv.swept did.enough did.few did.no_more did.sparing;
+      seat = stays_on inv.seat c.relieve-times.ensures.seat;
+      view = next_view v cs i (did here) ∙ (λ q. record (looked v new.spot new.least) { counts = same q });
+      swept = subst (λ (z : List ℕ × ℕ). Sweeps c.args.self.now.terms v z.0 (i + 1) z.1) (λ q. (same q, still q))
+          (next_swept v cs i (did here) at.0 at.1 inv.swept);
     }
 
 pub sites-preserved : goal.sites-preserved
 sites-preserved c =
-    let t = c.args.self.now.terms in
     let inv = c.sites.invariant in
     let v = c.args.seat.now.me.0 in
-    let me = c.sites.seat.me.0 in
     let new = c.relieve-times.new.seat.me.0 in
     let cs = c.sites.counts.items in
     let i = c.sites.i in
     let times = c.relieve-times.result in
-    let base = c.requires.counts.0 in
-    let did = c.relieve-times.ensures in
-    let at = inside (goal.at.sites-preserved c).After-relieve-times in
-    let place = at.1 in
+    let here = (goal.at.sites-preserved c).After-relieve-times in
+    let at = inside here in
     let value : c.index_mut.result.now ≡ get_or cs i 0 = get_or_read cs _ _ (omega arith) c.index_mut.ensures.value 0 in
     record {
-      seat = stays_on inv.seat did.seat;
-      view = next_view t v me new cs c.args.base i times base inv.view did.view
-          ∙ (λ q. record (looked v new.spot new.least) { counts = set cs i (sym value q + times) });
-      swept = subst (λ z. Sweeps t v (set cs i (z + times)) (i + 1) (c.sites.topplings + times)) (sym value)
-          (next_swept t v me new cs c.args.base i times base inv.view did.view
-          c.sites.topplings at.0 place inv.swept did.enough did.few did.no_more did.sparing);
+      seat = stays_on inv.seat c.relieve-times.ensures.seat;
+      view = next_view v cs i (did here) ∙ (λ q. record (looked v new.spot new.least) { counts = set cs i (sym value q + times) });
+      swept = subst (λ z. Sweeps c.args.self.now.terms v (set cs i (z + times)) (i + 1) (c.sites.topplings + times))
+          (sym value) (next_swept v cs i (did here) at.0 at.1 inv.swept);
     }
 
 swept_all : (c : After-sites)
@@ -75,13 +83,10 @@ swept_all c =
     (omega arith) c.sites.invariant.swept
 
 pub returns-clause-swept : goal.returns-clause-swept
-returns-clause-swept c =
-    sweeps_end c.args.self.now.terms c.args.seat.now.me.0 c.sites.counts.items c.sites.topplings (swept_all c)
+returns-clause-swept c = sweeps_end (swept_all c)
 
 pub returns-clause-all : goal.returns-clause-all
-returns-clause-all c =
-    sweeps_all c.args.self.now.terms c.args.seat.now.me.0 c.sites.counts.items c.sites.topplings (swept_all c)
+returns-clause-all c = sweeps_all (swept_all c)
 
 pub returns-clause-few : goal.returns-clause-few
-returns-clause-few c =
-    sweeps_few c.args.self.now.terms c.args.seat.now.me.0 c.sites.counts.items c.sites.topplings (swept_all c)
+returns-clause-few c = sweeps_few (swept_all c)
