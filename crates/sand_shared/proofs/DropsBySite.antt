@@ -3,19 +3,19 @@ use Rattle.std.proofs.Common.{◌≡◌, ℕ, suc, ◌+◌, ◌<◌, ◌≤◌, 
 use Rattle.std.specs.Prelude.{count_by, slice_index}
 use Rattle.std.proofs.lemmas.Bool.{cases_eq}
 use Rattle.std.proofs.lemmas.Bool.Decides.{nat_tests}
-use Rattle.std.proofs.lemmas.List.{ext_get_or, get_or-replicate, get_or_read, get_or-set_same, get_or-set_other, length-replicate, length-set, length-take}
+use Rattle.std.proofs.lemmas.List.{ext_get_or, get_or-replicate, get_or_read, get_or-set_same, length-replicate, length-set, length-take}
 use Rattle.std.proofs.lemmas.List.Elements.{All-cons, All-nil}
-use Rattle.std.proofs.lemmas.List.Sums.{sum_by-cons, count_by-le-length}
-use Rattle.std.proofs.Math.Seq.{take-suc}
+use Rattle.std.proofs.lemmas.List.Sums.{sum_by-cons, sum_by_more, count_by-le-length}
 use Rattle.sand_model.specs.Sand.{occurrences, one_at}
 use Rattle.sand_model.specs.Lists.{one_if}
-use Rattle.sand_model.proofs.Occurrences.{occurrences-cons, occurrences-push}
+use Rattle.sand_model.proofs.Heights.{counted, get_or-written}
+use Rattle.sand_model.proofs.Occurrences.{occurrences-cons}
 use Rattle.sand_shared.specs.declared.view.Grains.{Grains}
 use Rattle.sand_shared.specs.OpenPile.{amount_at, held}
 use Rattle.sand_shared.specs.Events.{grains_for, zeros, are_for, one_for_each}
 use Rattle.sand_shared.proofs.SumsOverPasses.{sum_by-map}
-use Rattle.sand_shared.proofs.NumbersOnce.{one_if_same, one_if_other}
-use Rattle.sand_shared.proofs.GrainsAtSite.{amount_here, amount_else, held-cons}
+use Rattle.sand_shared.proofs.NumbersOnce.{one_if_other}
+use Rattle.sand_shared.proofs.GrainsAtSite.{amount_here, amount_is, held-cons}
 use Rattle.sand_shared.proofs.HandAfterPlacing.{laid_on, held-laid, all_laid}
 
 -- an entry of the list finds the count of its site
@@ -34,22 +34,11 @@ pub counted_more : (n k : ℕ) (counts drops : List ℕ)
     → (i : ℕ) → i < n
     → slice_index (set counts (get_or drops k 0) (slice_index counts (get_or drops k 0) + 1)) i
     ≡ occurrences (take (k + 1) drops) i
-counted_more n k counts drops inside there counted i l =
+counted_more n k counts drops inside there so_far i l =
     let x = get_or drops k 0 in
-    let c = slice_index counts x in
-    let here = counted i l in
-    let next : occurrences (take (k + 1) drops) i ≡ occurrences (take k drops) i + one_at x i =
-    ap (λ m. occurrences (take m drops) i) {x = k + 1} {y = suc k} (omega arith)
-    ∙ (ap (λ xs. occurrences xs i) (take-suc drops k 0 inside) ∙ occurrences-push (take k drops) x i) in
-    ⊎_elim
-    (λ (e : x ≡ i).
-    let one = one_if_same x i e in
-    let same = ap (slice_index counts) e in
-    let new = ap (slice_index (set counts x (c + 1))) (sym e) ∙ get_or-set_same counts x (c + 1) 0 there in omega arith)
-    (λ (ne : x ≡ i → ⊥).
-    let none = one_if_other x i ne in
-    let old = get_or-set_other counts x i (c + 1) 0 (λ e. ne (sym e)) in omega arith)
-    (cases_eq x i)
+    let before = so_far i l in
+    let new = counted x 1 counts (set counts x (slice_index counts x + 1)) there refl i in
+    let next = sum_by_more (λ y. one_at y i) drops k 0 inside in omega arith
 
 pub occurrences_small : (k : ℕ) (drops : List ℕ) (i : ℕ) → k < length drops → occurrences (take k drops) i ≤ k
 occurrences_small k drops i inside =
@@ -122,29 +111,21 @@ module _ (n : ℕ) where
         let all = w.counted x inside in
         let same = count_is x hand w.single in
         let gone = λ (i : ℕ). held-laid x c hand i (omega arith) in
-        let new = get_or-set_same counts x 0 0 (omega arith) in
-        let old = λ (i : ℕ) (ne : x ≢ i). get_or-set_other counts x i 0 0 (λ e. ne (sym e)) in
+        let new = λ (i : ℕ). get_or-written counts x 0 i (omega arith) in
         record {
           long = length-set counts x 0 ∙ w.long;
           single = all_laid x (λ g. (g.site < n) × (g.amount ≡ 1)) c hand w.single;
-          counted = λ i l. ⊎_elim
-              (λ (e : x ≡ i).
-              let a = amount_here x c i e in
-              let b = ap (slice_index (set counts x 0)) e in
-              let d = ap (held hand) e in
-              let g = gone i in
-              omega arith)
-              (λ (ne : x ≡ i → ⊥).
-              let a = amount_else x c i ne in
-              let b = old i ne in
+          counted = λ i l. (let a = new i in
+              let b = amount_is x c i in
               let d = w.counted i l in
               let g = gone i in
-              omega arith)
-              (cases_eq x i);
-          come = λ i l some_there. ⊎_elim
-              (λ (e : x ≡ i). let b = ap (slice_index (set counts x 0)) e in absurd (omega arith))
-              (λ (ne : x ≡ i → ⊥). let b = old i ne in come_else i ne (w.come i l (omega arith)))
-              (cases_eq x i);
+              omega arith);
+          come = λ i l some_there.
+              let a = new i in
+              come_else i (λ e.
+              let b = ap (slice_index (set counts x 0)) e in
+              let z = get_or-set_same counts x 0 0 (omega arith) in absurd (omega arith))
+              (w.come i l (omega arith));
         }
 
   none_counted : (counts : List ℕ) (hand : List Grains) → Waits n counts hand [] → (i : ℕ) → i < n

@@ -21,19 +21,8 @@ amount_here i k j e = rw (eq-eqb i j e)
 pub amount_else : (i k j : ℕ) → i ≢ j → amount_at i k j ≡ 0
 amount_else i k j ne = rw (ne_eqb i j ne)
 
-amount_is : (i k j : ℕ) → amount_at i k j ≡ k * one_at i j
-amount_is i k j = ⊎_elim
-    (λ (e : i ≡ j).
-    let a = amount_here i k j e in
-    let b : one_at i j ≡ 1 = rw (eq-eqb i j e) in
-    let c = ap (λ z. k * z) b in
-    omega arith)
-    (λ (ne : i ≡ j → ⊥).
-    let a = amount_else i k j ne in
-    let b : one_at i j ≡ 0 = rw (ne_eqb i j ne) in
-    let c = ap (λ z. k * z) b in
-    omega arith)
-    (cases_eq i j)
+pub amount_is : (i k j : ℕ) → amount_at i k j ≡ k * one_at i j
+amount_is i k j = grind (arith, nat_tests)
 
 -- k topplings at i bring to j what they send to the neighbours of i for j
 pub flow-amount : (g : Grid) (i k j : ℕ) → i < sites g → j < sites g

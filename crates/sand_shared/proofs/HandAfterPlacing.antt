@@ -9,7 +9,7 @@ use Rattle.sand_model.specs.Lists.{one_if}
 use Rattle.sand_shared.specs.declared.view.Grains.{Grains}
 use Rattle.sand_shared.specs.OpenPile.{amount_at, held}
 use Rattle.sand_shared.specs.Events.{grains_for, behind_first, are_for, without}
-use Rattle.sand_shared.proofs.GrainsAtSite.{amount_here, amount_else, held-cons}
+use Rattle.sand_shared.proofs.GrainsAtSite.{held-cons}
 
 module _ (i k : ℕ) where
   count-cons : (g : Grains) (gs : List Grains)
@@ -22,11 +22,8 @@ module _ (i k : ℕ) where
   without-else : (g : Grains) (gs : List Grains) → are_for i k g ≡ false → without i k (g ∷ gs) ≡ g ∷ without i k gs
   without-else g gs e = rw e
 
-  same_site : (g : Grains) → are_for i k g ≡ true → g.site ≡ i
-  same_site g e = grind (arith, nat_tests)
-
-  same_amount : (g : Grains) → are_for i k g ≡ true → g.amount ≡ k
-  same_amount g e = grind (arith, nat_tests)
+  same_grains : (g : Grains) (j : ℕ) → are_for i k g ≡ true → amount_at g.site g.amount j ≡ amount_at i k j
+  same_grains g j e = grind (arith, nat_tests)
 
   -- the laid grains were in hand for their site
   pub held-without : (hand : List Grains) (j : ℕ) → 0 < count_by (are_for i k) hand
@@ -37,9 +34,7 @@ module _ (i k : ℕ) where
       ⊎_elim
       (λ (e : are_for i k g ≡ true).
       let left = ap (λ l. held l j) (without-here g gs e) in
-      let same : amount_at g.site g.amount j ≡ amount_at i k j =
-      λ q. amount_at (same_site g e q) (same_amount g e q) j in
-      omega arith)
+      let same = same_grains g j e in omega arith)
       (λ (e : are_for i k g ≡ false).
       let count = count-cons g gs in
       let none = ap one_if e in
@@ -88,15 +83,10 @@ laid_on i (suc c) hand = laid_on i c (without i 1 hand)
 
 module _ (i : ℕ) where
   more_at : (c j : ℕ) → amount_at i (suc c) j ≡ amount_at i 1 j + amount_at i c j
-  more_at c j = ⊎_elim
-      (λ (e : i ≡ j).
-      let a = amount_here i (suc c) j e in let b = amount_here i 1 j e in let d = amount_here i c j e in omega arith)
-      (λ (ne : i ≡ j → ⊥).
-      let a = amount_else i (suc c) j ne in let b = amount_else i 1 j ne in let d = amount_else i c j ne in omega arith)
-      (cases_eq i j)
+  more_at c j = grind (arith, nat_tests)
 
   none_at : (j : ℕ) → amount_at i 0 j ≡ 0
-  none_at j = ⊎_elim (λ (e : i ≡ j). amount_here i 0 j e) (λ (ne : i ≡ j → ⊥). amount_else i 0 j ne) (cases_eq i j)
+  none_at j = grind (arith, nat_tests)
 
   pub held-laid : (c : ℕ) (hand : List Grains) (j : ℕ) → c ≤ count_by (are_for i 1) hand
       → held hand j ≡ amount_at i c j + held (laid_on i c hand) j

@@ -5,6 +5,7 @@ use Rattle.std.proofs.lemmas.Bool.{cases_eq, eq-eqb, ne_eqb}
 use Rattle.std.proofs.lemmas.List.Sums.{sum_by_push, get_or-le-sum_by}
 use Rattle.std.proofs.lemmas.List.Elements.{All-append, All-cons, All-nil}
 use Rattle.sand_model.specs.Lists.{one_if}
+use Rattle.sand_model.proofs.Lists.{at_most_one}
 use Rattle.sand_shared.specs.declared.view.Receipt.{Receipt}
 use Rattle.sand_shared.specs.declared.view.View.{View}
 use Rattle.sand_shared.specs.declared.view.Terms.{Terms}
@@ -13,10 +14,6 @@ use Rattle.sand_shared.specs.Events.{receipt}
 use Rattle.sand_shared.specs.Passes.{EachOnce, AllBelow}
 use Rattle.sand_shared.specs.Running.{Stands}
 use Rattle.sand_shared.proofs.SumsOverPasses.{sum_by_none}
-
-pub one_if_most : (b : Bool) → one_if b ≤ 1
-one_if_most true = omega arith
-one_if_most false = omega arith
 
 pub one_if_same : (a b : ℕ) → a ≡ b → one_if (eqb a b) ≡ 1
 one_if_same a b e = rw (eq-eqb a b e)
@@ -58,5 +55,5 @@ pub stands_once : (t : Terms) (a : ℕ) (v : View) → Stands t a v → EachOnce
 stands_once t a v s n =
     let mine = get_or-le-sum_by (λ (u : View). numbered u.receipts n) s.pile.passes a nobody s.there in
     let all = s.lawful.numbers n in
-    let most = one_if_most (nat_lt n (length s.pile.drawn)) in
+    let most = at_most_one (nat_lt n (length s.pile.drawn)) in
     let same = ap (λ (u : View). numbered u.receipts n) s.pass in omega arith

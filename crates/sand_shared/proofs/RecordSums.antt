@@ -2,6 +2,7 @@
 use Rattle.std.proofs.Common.{◌≡◌, ℕ, ◌+◌, ◌-◌, ◌*◌, ◌^◌, ◌<◌, ◌≤◌, List, ◌++◌, All, length, sum, sym, ap, ◌∙◌, subst, ⊎_elim, arith, length-append}
 use Rattle.std.specs.Prelude.{slice_index}
 use Rattle.std.proofs.Math.ListN.{get_or-eq_default}
+use Rattle.std.proofs.Math.Nat.{mul-add}
 use Rattle.std.proofs.lemmas.Bool.{cases_lt}
 use Rattle.std.proofs.lemmas.List.Sums.{get_or-le-sum_by}
 use Rattle.std.proofs.lemmas.List.Elements.{All-append}
@@ -26,7 +27,7 @@ pub record LeadsTo (start : PileView) (history heights odometer : List ℕ) : Ty
   pub settled : IsSettled start.grid (λ i. height_of start i + occurrences history i)
       (slice_index odometer) (slice_index heights)
 
-module _ (start : PileView) (history heights odometer : List ℕ) (l : LeadsTo start history heights odometer) where
+module _ {start : PileView} {history heights odometer : List ℕ} (l : LeadsTo start history heights odometer) where
   grains_in : grains start.grid (λ i. height_of start i + occurrences history i) ≡ sum start.heights + length history
   grains_in =
       let g = start.grid in
@@ -77,34 +78,31 @@ module _ (start : PileView) (history heights odometer : List ℕ) (l : LeadsTo s
         kept = (let same = ap (λ (xs : List ℕ). sum xs) heights_are in omega arith);
       }
 
+leads_of : (r : RecordView) → IsPile r.start → All (λ i. i < sites r.start.grid) r.history
+    → sum r.start.heights + length r.history ≤ most_grains
+    → IsSettledRecord r.start.grid (λ i. height_of r.start i + occurrences r.history i) r.settled
+    → LeadsTo r.start r.history r.settled.pile.heights r.settled.odometer
+leads_of r pile inside limit settled = record {
+  pile = pile;
+  all_sites = inside;
+  limit = limit;
+  heights_each = settled.heights_each;
+  odometer_each = settled.odometer_each;
+  settled = settled.settled;
+}
+
 -- the settled record of a start and a history keeps all grains
 pub is_one_threads : (r : RecordView) → IsPile r.start → All (λ i. i < sites r.start.grid) r.history
     → sum r.start.heights + length r.history ≤ most_grains
     → IsSettledRecord r.start.grid (λ i. height_of r.start i + occurrences r.history i) r.settled
     → IsOneThreads r
 is_one_threads r pile inside limit settled =
-    let leads : LeadsTo r.start r.history r.settled.pile.heights r.settled.odometer = record {
-      pile = pile;
-      all_sites = inside;
-      limit = limit;
-      heights_each = settled.heights_each;
-      odometer_each = settled.odometer_each;
-      settled = settled.settled;
-    } in
-    let left = grains_left r.start r.history r.settled.pile.heights r.settled.odometer leads in
-    let all = settled.all_lost in
+    let left = grains_left (leads_of r pile inside limit settled) in
     record { start_pile = pile; all_sites = inside; limit = limit; settled = settled; kept = omega arith }
 
 -- how small the numbers of a record are
-pub leads_of : (r : RecordView) → IsOneThreads r → LeadsTo r.start r.history r.settled.pile.heights r.settled.odometer
-leads_of r one = record {
-  pile = one.start_pile;
-  all_sites = one.all_sites;
-  limit = one.limit;
-  heights_each = one.settled.heights_each;
-  odometer_each = one.settled.odometer_each;
-  settled = one.settled.settled;
-}
+few_in_all : (r : RecordView) → IsOneThreads r → sum r.settled.odometer < 2 ^ 54
+few_in_all r one = few_topplings (leads_of r one.start_pile one.all_sites one.limit one.settled)
 
 pub settled_record : (r : RecordView) → IsOneThreads r → IsSomeSettledRecord r.settled
 settled_record r one =
@@ -113,7 +111,7 @@ settled_record r one =
 
 pub small_entries : (r : RecordView) → IsOneThreads r → (i : ℕ) → odometer_of r.settled i < 2 ^ 54
 small_entries r one i =
-    let few = few_topplings r.start r.history r.settled.pile.heights r.settled.odometer (leads_of r one) in ⊎_elim
+    let few = few_in_all r one in ⊎_elim
     (λ (inside : i < length r.settled.odometer).
     let le = get_or-le-sum_by (λ (x : ℕ). x) r.settled.odometer i 0 inside in omega arith)
     (λ (past : length r.settled.odometer ≤ i).
@@ -122,15 +120,11 @@ small_entries r one i =
 
 pub small_topplings : (r : RecordView) → IsOneThreads r → r.settled.topplings < 2 ^ 54
 small_topplings r one =
-    let few = few_topplings r.start r.history r.settled.pile.heights r.settled.odometer (leads_of r one) in
+    let few = few_in_all r one in
     let sums = sum_is_grains r.start.grid r.settled.odometer one.settled.odometer_each in omega arith
 
 pub small_lost : (r : RecordView) → IsOneThreads r → r.settled.lost ≤ most_grains
-small_lost r one =
-    omega arith
-
-times_plus : (a b c : ℕ) → a * (b + c) ≡ a * b + a * c
-times_plus a b c = grind arith
+small_lost r one = omega arith
 
 -- the second record starts from the pile of the first, and sums are their odometers, added site by site
 pub record AreJoined (r q : RecordView) (sums : List ℕ) : Type 0 where
@@ -139,31 +133,8 @@ pub record AreJoined (r q : RecordView) (sums : List ℕ) : Type 0 where
   pub joint : q.start ≡ r.settled.pile
   pub limit : sum r.start.heights + (length r.history + length q.history) ≤ most_grains
   pub long : length sums ≡ length r.settled.odometer
-  pub each : (i : ℕ) → i < length r.settled.odometer
+  pub each : (i : ℕ) → i < length q.settled.odometer
       → slice_index sums i ≡ odometer_of r.settled i + odometer_of q.settled i
-
-pub are_joined : (r q : RecordView) → IsOneThreads r → IsOneThreads q
-    → q.start ≡ r.settled.pile
-    → sum r.start.heights + (length r.history + length q.history) ≤ most_grains
-    → (mine theirs sums : List ℕ)
-    → mine ≡ r.settled.odometer → theirs ≡ q.settled.odometer
-    → length sums ≡ length mine
-    → ((i : ℕ) → i < length theirs → slice_index sums i ≡ slice_index mine i + slice_index theirs i)
-    → AreJoined r q sums
-are_joined r q first second joint limit mine theirs sums mine_is theirs_is long each = record {
-  first = first;
-  second = second;
-  joint = joint;
-  limit = limit;
-  long = long ∙ ap (λ (l : List ℕ). length l) mine_is;
-  each = λ i l. (let here = first.settled.odometer_each in
-      let there = second.settled.odometer_each ∙ ap (λ (p : PileView). sites p.grid) joint
-      ∙ ap sites first.settled.grid in
-      let as_long = ap (λ (l : List ℕ). length l) theirs_is in
-      let e = each i (omega arith) in
-      let a = ap (λ (l : List ℕ). slice_index l i) mine_is in
-      let b = ap (λ (l : List ℕ). slice_index l i) theirs_is in omega arith);
-}
 
 -- the record of both histories, one after the other
 abbrev pub both : RecordView → RecordView → List ℕ → RecordView
@@ -180,26 +151,18 @@ both r q sums = record {
 
 -- settling in two parts is settling at once
 module _ (r q : RecordView) (sums : List ℕ) (joined : AreJoined r q sums) where
-  first : IsOneThreads r
-  first = joined.first
-
-  second : IsOneThreads q
-  second = joined.second
-
   same_grid : q.start.grid ≡ r.start.grid
-  same_grid = ap (λ (p : PileView). p.grid) joined.joint ∙ first.settled.grid
+  same_grid = ap (λ (p : PileView). p.grid) joined.joint ∙ joined.first.settled.grid
 
   all_each : (i : ℕ) → slice_index sums i ≡ odometer_of r.settled i + odometer_of q.settled i
-  all_each i = ⊎_elim (joined.each i) past (cases_lt i (length r.settled.odometer))
+  all_each i = ⊎_elim (joined.each i) past (cases_lt i (length q.settled.odometer))
     where
-      past : length r.settled.odometer ≤ i → slice_index sums i ≡ odometer_of r.settled i + odometer_of q.settled i
+      past : length q.settled.odometer ≤ i → slice_index sums i ≡ odometer_of r.settled i + odometer_of q.settled i
       past le =
-          let mine = first.settled.odometer_each in
-          let theirs = second.settled.odometer_each in
           let grids = ap sites same_grid in
           let a = get_or-eq_default sums 0 {n = i} (omega arith) in
-          let b = get_or-eq_default r.settled.odometer 0 {n = i} le in
-          let c = get_or-eq_default q.settled.odometer 0 {n = i} (omega arith) in omega arith
+          let b = get_or-eq_default r.settled.odometer 0 {n = i} (omega arith) in
+          let c = get_or-eq_default q.settled.odometer 0 {n = i} le in omega arith
 
   both_settled : IsSettled r.start.grid (λ i. height_of r.start i + occurrences (r.history ++ q.history) i)
       (slice_index sums) (height_of q.settled.pile)
@@ -207,10 +170,10 @@ module _ (r q : RecordView) (sums : List ℕ) (joined : AreJoined r q sums) wher
       let g = r.start.grid in
       let later = subst (λ (z : Grid × PileView).
       IsSettled z.0 (λ i. height_of z.1 i + occurrences q.history i) (odometer_of q.settled) (height_of q.settled.pile))
-      (λ i. (same_grid i, joined.joint i)) second.settled.settled in
+      (λ i. (same_grid i, joined.joint i)) joined.second.settled.settled in
       let all =
       settled_in_parts g (λ i. height_of r.start i + occurrences r.history i) (occurrences q.history) (odometer_of r.settled)
-      (height_of r.settled.pile) (odometer_of q.settled) (height_of q.settled.pile) first.settled.settled later in
+      (height_of r.settled.pile) (odometer_of q.settled) (height_of q.settled.pile) joined.first.settled.settled later in
       let drops : (i : ℕ)
       → (height_of r.start i + occurrences r.history i) + occurrences q.history i
       ≡ height_of r.start i + occurrences (r.history ++ q.history) i =
@@ -232,32 +195,24 @@ module _ (r q : RecordView) (sums : List ℕ) (joined : AreJoined r q sums) wher
       (λ i. missing g i * slice_index sums i)
       (λ i. missing g i * odometer_of r.settled i + missing g i * odometer_of q.settled i)
       (λ i _. ap (λ n. missing g i * n) (all_each i)
-      ∙ times_plus (missing g i) (odometer_of r.settled i) (odometer_of q.settled i)) in
+      ∙ mul-add (missing g i) (odometer_of r.settled i) (odometer_of q.settled i)) in
       let tops_later =
-      subst (λ z. q.settled.topplings ≡ topplings z (odometer_of q.settled)) grids second.settled.all_topplings in
-      let lost_later = subst (λ z. q.settled.lost ≡ lost z (odometer_of q.settled)) grids second.settled.all_lost in
-      let tops_before = first.settled.all_topplings in
-      let lost_before = first.settled.all_lost in
+      subst (λ z. q.settled.topplings ≡ topplings z (odometer_of q.settled)) grids joined.second.settled.all_topplings in
+      let lost_later = subst (λ z. q.settled.lost ≡ lost z (odometer_of q.settled)) grids joined.second.settled.all_lost in
+      is_one_threads (both r q sums) joined.first.start_pile
+      (All-append (λ i. i < sites g) r.history q.history joined.first.all_sites
+      (subst (λ z. All (λ i. i < sites z) q.history) grids joined.second.all_sites))
+      (let e = length-append r.history q.history in omega arith)
       record {
-        start_pile = first.start_pile;
-        all_sites = All-append (λ i. i < sites g) r.history q.history first.all_sites
-            (subst (λ z. All (λ i. i < sites z) q.history) grids second.all_sites);
-        limit = (let e = length-append r.history q.history in omega arith);
-        settled = record {
-          grid = second.settled.grid ∙ grids;
-          heights_each = second.settled.heights_each ∙ ap sites grids;
-          odometer_each = joined.long ∙ first.settled.odometer_each;
-          settled = both_settled;
-          all_topplings = omega arith;
-          all_lost = omega arith;
-        };
-        kept = (let e = length-append r.history q.history in
-            let before = first.kept in
-            let later = second.kept in
-            let same = ap (λ (p : PileView). sum p.heights) joined.joint in omega arith);
+        grid = joined.second.settled.grid ∙ grids;
+        heights_each = joined.second.settled.heights_each ∙ ap sites grids;
+        odometer_each = joined.long ∙ joined.first.settled.odometer_each;
+        settled = both_settled;
+        all_topplings = omega arith;
+        all_lost = omega arith;
       }
 
   pub joined_topplings : sum sums ≡ r.settled.topplings + q.settled.topplings
   joined_topplings =
       let all = followed.settled.all_topplings in
-      let counts = sum_is_grains r.start.grid sums (joined.long ∙ first.settled.odometer_each) in omega arith
+      let counts = sum_is_grains r.start.grid sums (joined.long ∙ joined.first.settled.odometer_each) in omega arith

@@ -35,13 +35,7 @@ toppled_not_yet v b i begins lt = ⊎_elim
     (λ (e : v.base ≡ b). toppled_before v i (omega arith)) begins
 
 held_in : (v : View) (b i : ℕ) → BeginsAt v b → holds_site v i ≡ (leb b i && ltb i (b + length v.counts))
-held_in v b i begins = ⊎_elim
-    (λ (none : length v.counts ≡ 0). none_held v i none ∙ sym (empty none))
-    (λ (e : v.base ≡ b). ap (λ z. leb z i && ltb i (z + length v.counts)) e)
-    begins
-  where
-    empty : length v.counts ≡ 0 → (leb b i && ltb i (b + length v.counts)) ≡ false
-    empty e = grind (arith, nat_tests)
+held_in v b i begins = grind (arith, nat_tests)
 
 held_together : (b m n i : ℕ)
     → one_if (leb b i && ltb i (b + m)) + one_if (leb (b + m) i && ltb i ((b + m) + n))
@@ -88,10 +82,7 @@ module _ (x y z : View) (parts : AreParts x y z) (i : ℕ) where
       (cases_lt i z.base)
 
 begins_based : (v : View) (b : ℕ) → v.base ≡ base_of b v.counts → BeginsAt v b
-begins_based v b e = ⊎_elim
-    (λ (none : length v.counts ≡ 0). inl none)
-    (λ (some : length v.counts ≡ 0 → ⊥).
-    inr (e ∙ (let f : eqb (length v.counts) 0 ≡ false = ne_eqb (length v.counts) 0 some in rw f)))
+begins_based v b e = ⊎_elim inl (λ (some : length v.counts ≡ 0 → ⊥). inr (grind (arith, nat_tests)))
     (cases_eq (length v.counts) 0)
 
 -- what a pass keeps and what it gives away are the parts of what it had

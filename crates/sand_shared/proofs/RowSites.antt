@@ -1,6 +1,6 @@
 -- The sites of rows: the site i is in row i / width, and a row begins at a multiple of the width.
 use Rattle.std.proofs.Common.{◌≡◌, ℕ, ◌+◌, ◌*◌, ◌/◌, ◌<◌, ◌≤◌, sym, ap, ◌∙◌, arith}
-use Rattle.std.proofs.Math.Nat.{mul-le-mul_right}
+use Rattle.std.proofs.Math.Nat.{mul_comm, mul-le-mul_right}
 use Rattle.std.proofs.lemmas.Nat.{div-add-mod', mod_below}
 use Rattle.sand_model.specs.Grid.{Grid, IsGrid, sites}
 use Rattle.sand_shared.specs.declared.rows.Rows.{Rows}
@@ -33,13 +33,4 @@ pub rows_inside : (g : Grid) (r : Rows) → AreRowsOf g r → r.first * g.width 
 rows_inside g r rows =
     let a = rows_end r g.width rows.ordered in
     let b : r.end * g.width ≤ g.height * g.width = mul-le-mul_right g.width rows.inside in
-    let c = swap g.height g.width in omega arith
-  where
-    swap : (a b : ℕ) → a * b ≡ b * a
-    swap a b = grind arith
-
--- a grid has at most 256 * 256 sites
-pub sites_few : (g : Grid) → IsGrid g → sites g ≤ 65536
-sites_few g sides =
-    let a : g.width * g.height ≤ 256 * g.height = mul-le-mul_right g.height sides.width_limit in
-    omega arith
+    let c = mul_comm g.height g.width in omega arith

@@ -1,11 +1,12 @@
 -- Two passes whose rows touch, and the joined pass.
 use Rattle.std.proofs.Common.{◌≡◌, ℕ, ◌+◌, ◌-◌, ◌*◌, ◌<◌, ◌≤◌, ◌⊎◌, max, [], ◌++◌, Bool, true, false, eqb, length, sym, refl, ap, ◌∙◌, inl, inr, ⊎_elim, subst, arith, length-append}
 use Rattle.std.specs.Prelude.{◌||◌, if◌then◌else◌}
-use Rattle.std.proofs.Math.Nat.{mul-le-mul_right}
-use Rattle.std.proofs.lemmas.Bool.{cases_eq, cases_lt, eq-eqb, ne_eqb}
+use Rattle.std.proofs.Math.Nat.{eq_of_mul-eq-mul_right}
+use Rattle.std.proofs.lemmas.Bool.{cases_eq, eq-eqb, ne_eqb}
 use Rattle.std.proofs.lemmas.Bool.Decides.{nat_tests}
 use Rattle.sand_model.specs.Grid.{Grid}
 use Rattle.sand_shared.specs.declared.rows.Rows.{Rows}
+use Rattle.sand_shared.specs.declared.view.View.{View}
 use Rattle.sand_shared.specs.Events.{follows, joined}
 use Rattle.sand_shared.specs.Passes.{PassView, at_rest, together, IsPass}
 use Rattle.sand_shared.specs.Rows.{count_of, rows_follow, rows_together, AreRowsOf}
@@ -22,16 +23,6 @@ tests_agree a b c d there back = ⊎_elim
     (λ (e : a ≡ b). eq-eqb a b e ∙ sym (eq-eqb c d (there e)))
     (λ (ne : a ≡ b → ⊥). ne_eqb a b ne ∙ sym (ne_eqb c d (λ e. ne (back e))))
     (cases_eq a b)
-
-times_one : (a b w : ℕ) → 1 ≤ w → a * w ≡ b * w → a ≡ b
-times_one a b w some e = ⊎_elim
-    (λ (less : a < b).
-    let m : (a + 1) * w ≤ b * w = mul-le-mul_right w (omega arith) in let s = times_plus a 1 w in absurd (omega arith))
-    (λ (more : b ≤ a). ⊎_elim
-    (λ (less : b < a).
-    let m : (b + 1) * w ≤ a * w = mul-le-mul_right w (omega arith) in let s = times_plus b 1 w in absurd (omega arith))
-    (λ (le : a ≤ b). omega arith) (cases_lt b a))
-    (cases_lt a b)
 
 -- adjacent rows together are rows of the grid
 rows_after : (g : Grid) (r s : Rows) → AreRowsOf g r → AreRowsOf g s → (s.first ≡ s.end) ⊎ (s.first ≡ r.end)
@@ -64,10 +55,10 @@ module _ (p q : PassView) (one : IsPass p) (other : IsPass q) (same : q.grid ≡
       let few : length q.counts ≡ count_of q.rows * w = other.one_each ∙ ap (λ n. count_of q.rows * n) widths in
       let base : q.rows.first * q.grid.width ≡ q.rows.first * w = ap (λ n. q.rows.first * n) widths in
       let none = tests_agree (length q.counts) 0 q.rows.first q.rows.end
-      (λ e. let z : count_of q.rows ≡ 0 = times_one (count_of q.rows) 0 w some (omega arith) in omega arith)
+      (λ e. let z : count_of q.rows ≡ 0 = eq_of_mul-eq-mul_right w some (count_of q.rows) 0 (omega arith) in omega arith)
       (λ e. let z = ap (λ n. n * w) {x = count_of q.rows} {y = 0} (omega arith) in omega arith) in
       let next = tests_agree (q.rows.first * q.grid.width) (p.rows.first * w + length p.counts) q.rows.first p.rows.end
-      (λ e. times_one q.rows.first p.rows.end w some (omega arith))
+      (λ e. eq_of_mul-eq-mul_right w some q.rows.first p.rows.end (omega arith))
       (λ e. let z = ap (λ n. n * w) e in omega arith) in
       λ i. none i || next i
 
@@ -76,28 +67,12 @@ module _ (p q : PassView) (one : IsPass p) (other : IsPass q) (same : q.grid ≡
       → joined (record (at_rest p) { spot = s; least = l }) (record (at_rest q) { spot = s'; least = l' })
       ≡ at_rest (together p q)
   joined_rest s l s' l' =
-      let x = at_rest p in
-      let y = at_rest q in
-      (λ i. record {
-        left = p.left + q.left;
-        seen = max p.seen q.seen;
-        receipts = p.receipts ++ q.receipts;
-        hand = [];
-        base = if follows_is i then x.base else (q.rows.first * widths i);
+      let z : View = at_rest (together p q) in
+      (λ i. record z {
+        base = if follows_is i then (p.rows.first * p.grid.width) else (q.rows.first * widths i);
         counts = if follows_is i then p.counts ++ q.counts else q.counts ++ p.counts;
-        spot = 0;
-        least = 0;
       })
-      ∙ (λ i. record {
-        left = p.left + q.left;
-        seen = max p.seen q.seen;
-        receipts = p.receipts ++ q.receipts;
-        hand = [];
-        base = first_is (rows_follow p.rows q.rows) i;
-        counts = if rows_follow p.rows q.rows then p.counts ++ q.counts else q.counts ++ p.counts;
-        spot = 0;
-        least = 0;
-      })
+      ∙ (λ i. record z { base = first_is (rows_follow p.rows q.rows) i })
     where
       first_is : (b : Bool)
           → (if b then (p.rows.first * p.grid.width) else (q.rows.first * p.grid.width))

@@ -1,6 +1,6 @@
 -- The rows that a pass keeps and gives away: at which site they begin, and how many sites they have.
 use Rattle.std.proofs.Common.{◌≡◌, ℕ, ◌+◌, ◌-◌, ◌*◌, ◌<◌, ◌≤◌, List, [], true, false, eqb, ltb, take, drop, length, sym, refl, ap, ◌∙◌, subst, ⊎_elim, arith}
-use Rattle.std.proofs.Math.Nat.{mul-le-mul_right}
+use Rattle.std.proofs.Math.Nat.{mul-le-mul_right, eq_of_mul-eq-mul_right}
 use Rattle.std.proofs.lemmas.Bool.{cases_eq, cases_lt, eq-eqb, ne_eqb, lt-ltb, le-ltb}
 use Rattle.std.proofs.lemmas.List.{length-drop, length-take-le}
 use Rattle.sand_model.specs.Grid.{Grid, IsGrid}
@@ -62,11 +62,9 @@ pub whole_sites : (g : Grid) (r : Rows) (cs : List ℕ) → IsGrid g → AreRows
 whole_sites g r cs sides rows long =
     let w = g.width in
     let base = r.first * w in
-    let same_ends = λ (none : count_of r * w ≡ 0). ⊎_elim
-    (λ (some : r.first < r.end).
-    let wide : 1 * w ≤ count_of r * w = mul-le-mul_right w (omega arith) in absurd (omega arith))
-    (λ (le : r.end ≤ r.first). rows.none (omega arith))
-    (cases_lt r.first r.end) in
+    let same_ends = λ (none : count_of r * w ≡ 0).
+    let z = eq_of_mul-eq-mul_right w sides.some_width (count_of r) 0 (omega arith) in
+    rows.none (omega arith) in
     record {
       base_is = ⊎_elim
           (λ (none : length cs ≡ 0).

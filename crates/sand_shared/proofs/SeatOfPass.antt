@@ -1,5 +1,6 @@
 -- A seat that has what a pass has is the seat of that pass.
 use Rattle.std.proofs.Common.{◌≡◌, ℕ, List, [], length, sym, refl, ap, ◌∙◌, subst}
+use Rattle.atomic_table.specs.Seated.{TableId}
 use Rattle.atomic_table.specs.declared.shared.Seat.{Seat}
 use Rattle.sand_shared.specs.declared.bare_pass.BarePass.TheInside.{Inside}
 use Rattle.sand_shared.specs.declared.view.View.{View}
@@ -8,6 +9,13 @@ use Rattle.sand_shared.specs.Bare.{shown, IsBare}
 use Rattle.sand_shared.specs.Events.{looked}
 use Rattle.sand_shared.specs.Passes.{PassView, at_rest, EachOnce, AllBelow, IsPass}
 use Rattle.sand_shared.proofs.PassAfterEvent.{known_is}
+
+-- a pass with other receipts, each number once and seen
+pub with_receipts : {p : PassView} {table : TableId} {left seen : ℕ} {receipts : List Receipt}
+    → IsPass p → EachOnce receipts → AllBelow seen receipts
+    → IsPass (record p { table = table; left = left; seen = seen; receipts = receipts })
+with_receipts pass once below =
+    record { once = once; below = below; grid = pass.grid; rows = pass.rows; one_each = pass.one_each }
 
 pub seated : {x : Inside} (q : PassView) (spot least : ℕ)
     → IsPass q → x.made ≡ length q.receipts
@@ -22,13 +30,7 @@ seated {x = x} q spot least pass made has free is =
     record {
       me = λ i. (known_is v (record (at_rest (shown x)) { spot = spot; least = least }) here i, free i);
       each_made = made ∙ ap (λ (rs : List Receipt). length rs) same;
-      pass = subst IsPass (sym is) record {
-        once = subst EachOnce same pass.once;
-        below = subst (AllBelow q.seen) same pass.below;
-        grid = pass.grid;
-        rows = pass.rows;
-        one_each = pass.one_each;
-      };
+      pass = subst IsPass (sym is) (with_receipts pass (subst EachOnce same pass.once) (subst (AllBelow q.seen) same pass.below));
     }
 
 -- a look or a load tells at most a height

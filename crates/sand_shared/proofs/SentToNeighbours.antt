@@ -1,76 +1,58 @@
 -- The grains of a toppling go to the places around the site, one after another.
-use Rattle.std.proofs.Common.{◌≡◌, ℕ, List, [], ◌∷◌, Option, Some, None, IfSome, map, get_or, refl, sym, ap, ◌∙◌}
+use Rattle.std.proofs.Common.{◌≡◌, ℕ, ◌+◌, ◌<◌, List, ◌∷◌, [], Option, Some, None, IfSome, drop, length, map, get_or, sym, ap, ◌∙◌, arith}
+use Rattle.std.proofs.lemmas.List.{drop_all, drop_more}
 use Rattle.std.specs.List.{filter_map}
+use Rattle.sand_model.specs.Grid.{neighbours, places}
 use Rattle.sand_shared.specs.declared.view.View.{View}
 use Rattle.sand_shared.specs.declared.view.Grains.{Grains}
-use Rattle.sand_model.specs.Grid.{neighbours, places}
 use Rattle.sand_shared.specs.declared.view.Terms.{Terms}
 use Rattle.sand_shared.specs.OpenPile.{grid_of_terms}
 use Rattle.sand_shared.specs.Events.{grains_for, sent, behind_first, delivered_to}
 
 -- k grains for each of these places that has a neighbour
-abbrev pub sends : ℕ → List (Option ℕ) → List Grains
+abbrev sends : ℕ → List (Option ℕ) → List Grains
 sends k ps = map (λ j. grains_for j k) (filter_map (λ p. p) ps)
 
-pub first_sent : (k : ℕ) (p : Option ℕ) (ps : List (Option ℕ)) (hand : List Grains) → hand ≡ sends k (p ∷ ps)
+first_sent : (k : ℕ) (p : Option ℕ) (ps : List (Option ℕ)) (hand : List Grains) → hand ≡ sends k (p ∷ ps)
     → IfSome p (λ j. hand ≡ grains_for j k ∷ behind_first hand)
 first_sent k None ps hand e = tt
 first_sent k (Some j) ps hand e = e ∙ (λ i. grains_for j k ∷ behind_first (sym e i))
 
-pub rest_sent : (k : ℕ) (p : Option ℕ) (ps : List (Option ℕ)) (v w : View) → v ≡ record w { hand = sends k (p ∷ ps) }
+rest_sent : (k : ℕ) (p : Option ℕ) (ps : List (Option ℕ)) (v w : View) → v ≡ record w { hand = sends k (p ∷ ps) }
     → delivered_to p v ≡ record w { hand = sends k ps }
 rest_sent k None ps v w e = e
 rest_sent k (Some j) ps v w e = λ q. record (e q) { hand = behind_first (e q).hand }
 
-pub sent_is : (t : Terms) (i k : ℕ) → sent t i k ≡ sends k (places (grid_of_terms t) i)
+-- the first n of the places around a site have their k grains, and v has become w
+pub record HaveTheirs (ps : List (Option ℕ)) (k n : ℕ) (v w : View) : Type 0 where
+  pub four : length ps ≡ 4
+  pub view : w ≡ record v { hand = sends k (drop n ps) }
+
+pub none_yet : (t : Terms) (i k : ℕ) (v : View) {ps : List (Option ℕ)}
+    → ps ≡ places (grid_of_terms t) i → v.hand ≡ sent t i k → HaveTheirs ps k 0 v v
 unfolding neighbours
-sent_is t i k = refl
+none_yet t i k v around hand = record {
+  four = ap (λ (l : List (Option ℕ)). length l) around;
+  view = λ q. record v { hand = (hand ∙ ap (sends k) (sym around)) q };
+}
+
+module _ {ps : List (Option ℕ)} {k n : ℕ} {v w : View} (before : HaveTheirs ps k n v w) where
+  pub first_hand : n < 4 → IfSome (get_or ps n None) (λ j. w.hand ≡ grains_for j k ∷ behind_first w.hand)
+  first_hand inside = first_sent k (get_or ps n None) (drop (n + 1) ps) w.hand
+      (ap (λ (u : View). u.hand) before.view
+      ∙ ap (sends k) (drop_more ps n None (omega arith)))
+
+  pub one_more : {w' : View} → n < 4 → w' ≡ delivered_to (get_or ps n None) w → HaveTheirs ps k (n + 1) v w'
+  one_more inside step =
+      let next = drop_more ps n None (omega arith) in
+      record {
+        four = before.four;
+        view = step ∙ rest_sent k (get_or ps n None) (drop (n + 1) ps) w v
+            (before.view ∙ (λ q. record v { hand = sends k (next q) }));
+      }
 
 -- four deliveries, one for each place around the site, empty the hand
-module _ (t : Terms) (i k : ℕ) (ps : List (Option ℕ))
-    (around : ps ≡ places (grid_of_terms t) i) (v : View) (hand : v.hand ≡ sent t i k) where
-  place : ℕ → Option ℕ
-  place n = get_or ps n None
-
-  begun : v ≡ record v { hand = sends k (place 0 ∷ place 1 ∷ place 2 ∷ place 3 ∷ []) }
-  unfolding place
-  begun =
-      let read = sent_is t i k ∙ ap
-      (λ (l : List (Option ℕ)). sends k (get_or l 0 None ∷ get_or l 1 None ∷ get_or l 2 None ∷ get_or l 3 None ∷ []))
-      (sym around) in
-      λ q. record v { hand = (hand ∙ read) q }
-
-  pub north_first : IfSome (get_or ps 0 None) (λ j. v.hand ≡ grains_for j k ∷ behind_first v.hand)
-  unfolding place
-  north_first = first_sent k (place 0) (place 1 ∷ place 2 ∷ place 3 ∷ []) v.hand (ap (λ (u : View). u.hand) begun)
-
-  module _ (v1 : View) (one : v1 ≡ delivered_to (get_or ps 0 None) v) where
-    after_north : v1 ≡ record v { hand = sends k (place 1 ∷ place 2 ∷ place 3 ∷ []) }
-    unfolding place
-    after_north = one ∙ rest_sent k (place 0) (place 1 ∷ place 2 ∷ place 3 ∷ []) v v begun
-
-    pub west_first : IfSome (get_or ps 1 None) (λ j. v1.hand ≡ grains_for j k ∷ behind_first v1.hand)
-    unfolding place
-    west_first = first_sent k (place 1) (place 2 ∷ place 3 ∷ []) v1.hand (ap (λ (u : View). u.hand) after_north)
-
-    module _ (v2 : View) (two : v2 ≡ delivered_to (get_or ps 1 None) v1) where
-      after_west : v2 ≡ record v { hand = sends k (place 2 ∷ place 3 ∷ []) }
-      unfolding place
-      after_west = two ∙ rest_sent k (place 1) (place 2 ∷ place 3 ∷ []) v1 v after_north
-
-      pub east_first : IfSome (get_or ps 2 None) (λ j. v2.hand ≡ grains_for j k ∷ behind_first v2.hand)
-      unfolding place
-      east_first = first_sent k (place 2) (place 3 ∷ []) v2.hand (ap (λ (u : View). u.hand) after_west)
-
-      module _ (v3 : View) (three : v3 ≡ delivered_to (get_or ps 2 None) v2) where
-        after_east : v3 ≡ record v { hand = sends k (place 3 ∷ []) }
-        unfolding place
-        after_east = three ∙ rest_sent k (place 2) (place 3 ∷ []) v2 v after_west
-
-        pub south_first : IfSome (get_or ps 3 None) (λ j. v3.hand ≡ grains_for j k ∷ behind_first v3.hand)
-        unfolding place
-        south_first = first_sent k (place 3) [] v3.hand (ap (λ (u : View). u.hand) after_east)
-
-        pub all_sent : (v4 : View) → v4 ≡ delivered_to (get_or ps 3 None) v3 → v4 ≡ record v { hand = [] }
-        unfolding place
-        all_sent v4 four = four ∙ rest_sent k (place 3) [] v3 v after_east
+pub all_sent : {ps : List (Option ℕ)} {k : ℕ} {v w : View} → HaveTheirs ps k 4 v w → w ≡ record v { hand = [] }
+all_sent {ps = ps} {k = k} {v = v} all =
+    let none = drop_all 4 ps (let four = all.four in omega arith) in
+    all.view ∙ (λ q. record v { hand = sends k (none q) })

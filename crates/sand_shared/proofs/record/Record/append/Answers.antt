@@ -1,8 +1,8 @@
-use Rattle.std.proofs.Common.{◌≡◌, ℕ, ◌+◌, ◌++◌, List, sum, sym, ap, ◌∙◌, subst, arith, rules}
+use Rattle.std.proofs.Common.{◌≡◌, ℕ, ◌+◌, ◌<◌, ◌++◌, List, length, sum, sym, ap, ◌∙◌, subst, arith, rules}
 use Rattle.std.specs.Prelude.{slice_index}
 use Rattle.sand_settle.specs.Settling.{SettledView, IsSomeSettledRecord}
 use Rattle.sand_shared.specs.Record.{RecordView, IsOneThreads}
-use Rattle.sand_shared.proofs.RecordSums.{AreJoined, are_joined, small_entries, small_topplings, small_lost, joined_topplings, both, followed, settled_record}
+use Rattle.sand_shared.proofs.RecordSums.{AreJoined, small_entries, small_topplings, small_lost, joined_topplings, both, followed, settled_record}
 use Rattle.sand_shared.proofs.record.Record.append.Goals.{After-lost-2}
 use Rattle.sand_shared.proofs.record.Record.append.Goals as goal
 
@@ -20,14 +20,20 @@ overflow_add-lost c =
     omega arith
 
 joined : (c : After-lost-2) → AreJoined c.args.self.now c.args.next.now c.add.new.numbers.items
-joined c = are_joined c.args.self.now c.args.next.now
-    (subst IsOneThreads c.self.view_is c.self.invariant)
-    (subst IsOneThreads c.next.view_is c.next.invariant)
-    c.requires.start c.requires.limit _ _ _
-    (c.in_ok-odometer.ensures.items ∙ c.odometers.ensures.value
-    ∙ ap (λ (v : RecordView). v.settled.odometer) c.self.view_is)
-    (c.odometers-2.ensures.value ∙ ap (λ (v : RecordView). v.settled.odometer) c.next.view_is)
-    c.add.ensures.long c.add.ensures.sums
+joined c =
+    let mine = c.in_ok-odometer.ensures.items ∙ c.odometers.ensures.value
+    ∙ ap (λ (v : RecordView). v.settled.odometer) c.self.view_is in
+    let theirs = c.odometers-2.ensures.value ∙ ap (λ (v : RecordView). v.settled.odometer) c.next.view_is in
+    record {
+      first = subst IsOneThreads c.self.view_is c.self.invariant;
+      second = subst IsOneThreads c.next.view_is c.next.invariant;
+      joint = c.requires.start;
+      limit = c.requires.limit;
+      long = c.add.ensures.long ∙ ap (λ (l : List ℕ). length l) mine;
+      each = subst (λ (z : List ℕ × List ℕ). (i : ℕ) → i < length z.1
+          → slice_index c.add.new.numbers.items i ≡ slice_index z.0 i + slice_index z.1 i)
+          (λ i. (mine i, theirs i)) c.add.ensures.sums;
+    }
 
 parts : (c : After-lost-2)
     → (both c.args.self.now c.args.next.now c.add.new.numbers.items).settled

@@ -18,14 +18,12 @@ leads c = record {
 
 pub from_vec-pile-requires-clause-limit : goal.from_vec-pile-requires-clause-limit
 from_vec-pile-requires-clause-limit c =
-    let left = grains_left c.args.start c.args.history.items c.args.heights.items c.args.odometer.items
-    (leads (goal.at.from_vec-pile-requires-clause-limit c).After-shape) in
+    let left = grains_left (leads (goal.at.from_vec-pile-requires-clause-limit c).After-shape) in
     omega arith
 
 pub overflow_sub-lost : goal.overflow_sub-lost
 overflow_sub-lost c =
-    let left = grains_left c.args.start c.args.history.items c.args.heights.items c.args.odometer.items
-    (leads (goal.at.overflow_sub-lost c).After-shape) in
+    let left = grains_left (leads (goal.at.overflow_sub-lost c).After-shape) in
     let rest = c.grains-2.ensures.value ∙ ap (λ (p : PileView). sum p.heights) c.from_vec-pile.ensures in
     omega arith
 
@@ -43,18 +41,10 @@ made : (c : After-grains-2)
     })
 made c leads_to =
     let rest = c.grains-2.ensures.value ∙ ap (λ (p : PileView). sum p.heights) c.from_vec-pile.ensures in
-    one_threads c.args.start c.args.history.items c.args.heights.items c.args.odometer.items leads_to
-    (record {
-      pile = c.from_vec-pile.result;
-      odometer = c.args.odometer.items;
-      topplings = sum c.args.odometer.items;
-      lost = c.grains.result + c.len.result - c.grains-2.result;
-    })
+    one_threads leads_to _
     (ap (λ (p : PileView). p.grid) c.from_vec-pile.ensures ∙ c.shape.ensures.value)
     (ap (λ (p : PileView). p.heights) c.from_vec-pile.ensures)
-    refl
-    refl
-    (omega arith)
+    refl refl (omega arith)
 
 pub of_parts-settled-requires-clause-settled : goal.of_parts-settled-requires-clause-settled
 of_parts-settled-requires-clause-settled c =
@@ -63,8 +53,7 @@ of_parts-settled-requires-clause-settled c =
 
 pub of_parts-settled-requires-clause-small : goal.of_parts-settled-requires-clause-small
 of_parts-settled-requires-clause-small c =
-    let few = few_topplings c.args.start c.args.history.items c.args.heights.items c.args.odometer.items
-    (leads (goal.at.of_parts-settled-requires-clause-small c).After-shape)
+    let few = few_topplings (leads (goal.at.of_parts-settled-requires-clause-small c).After-shape)
     in omega arith
 
 pub invariant_of-result : goal.invariant_of-result

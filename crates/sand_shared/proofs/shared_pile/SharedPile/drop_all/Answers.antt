@@ -8,7 +8,7 @@ use Rattle.sand_shared.specs.Events.{receipts_from, one_for_each, drew_all}
 use Rattle.sand_shared.specs.Passes.{PassView, at_rest}
 use Rattle.sand_shared.proofs.EventsInARow.{drew_row_is, row_fresh, row_small, below_row, once_row}
 use Rattle.sand_shared.proofs.Receipts.{receipts_for-append, receipts_from-length, receipts_by_site}
-use Rattle.sand_shared.proofs.SeatOfPass.{seated}
+use Rattle.sand_shared.proofs.SeatOfPass.{with_receipts, seated}
 use Rattle.sand_shared.proofs.shared_pile.SharedPile.drop_all.Goals as goal
 use Rattle.sand_shared.proofs.shared_pile.SharedPile.drop_all.Goals.{After-draw-number, After-place_all}
 
@@ -58,13 +58,9 @@ invariant_of-bare c =
     seated
     (record (shown p) { left = p.left - length ds; seen = n + length ds; receipts = v.receipts ++ receipts_from n ds })
     v.spot v.least
-    record {
-      once = once_row p.seen n ds v.receipts new inv.pass.below inv.pass.once;
-      below = below_row p.seen n ds v.receipts new inv.pass.below;
-      grid = inv.pass.grid;
-      rows = inv.pass.rows;
-      one_each = inv.pass.one_each;
-    }
+    (with_receipts inv.pass
+    (once_row p.seen n ds v.receipts new inv.pass.below inv.pass.once)
+    (below_row p.seen n ds v.receipts new inv.pass.below))
     (omega arith) (has (goal.at.invariant_of-bare c).After-place_all) c.place_all.ensures.seat.bare refl
 
 pub overflow_add-bare : goal.overflow_add-bare

@@ -9,7 +9,7 @@ use Rattle.sand_shared.specs.Passes.{PassView, at_rest}
 use Rattle.sand_shared.proofs.HandAfterPlacing.{laid_on, last_laid, first_counts}
 use Rattle.sand_shared.proofs.EventsInARow.{drew_row_is, row_fresh, laid_is}
 use Rattle.sand_shared.proofs.NumbersOnce.{once_more, below_push}
-use Rattle.sand_shared.proofs.SeatOfPass.{seated}
+use Rattle.sand_shared.proofs.SeatOfPass.{with_receipts, seated}
 use Rattle.sand_shared.proofs.shared_pile.SharedPile.drop_at.Goals as goal
 
 pub place-requires-clause-hand : goal.place-requires-clause-hand
@@ -40,13 +40,9 @@ invariant_of-bare c =
     ∙ (λ k. record (at_rest q) { hand = last_laid i k; spot = v.spot; least = v.least }) in
     let more = length-append v.receipts (receipt n i ∷ []) in
     seated q v.spot v.least
-    record {
-      once = once_more p.seen n i v.receipts (omega arith) inv.pass.below inv.pass.once;
-      below = below_push p.seen n i v.receipts (omega arith) inv.pass.below;
-      grid = inv.pass.grid;
-      rows = inv.pass.rows;
-      one_each = inv.pass.one_each;
-    }
+    (with_receipts inv.pass
+    (once_more p.seen n i v.receipts (omega arith) inv.pass.below inv.pass.once)
+    (below_push p.seen n i v.receipts (omega arith) inv.pass.below))
     (omega arith) laid c.place.ensures.seat.bare refl
 
 pub invariant_of-pass-2 : goal.invariant_of-pass-2

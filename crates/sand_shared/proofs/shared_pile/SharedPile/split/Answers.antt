@@ -2,7 +2,7 @@ use Rattle.std.proofs.Common.{◌≡◌, ◌-◌, length, refl, ap, ◌∙◌, a
 use Rattle.sand_shared.specs.Bare.{shown}
 use Rattle.sand_shared.specs.Events.{parent}
 use Rattle.sand_shared.proofs.PassesSplit.{rows_kept}
-use Rattle.sand_shared.proofs.SeatOfPass.{seated}
+use Rattle.sand_shared.proofs.SeatOfPass.{with_receipts, seated}
 use Rattle.sand_shared.proofs.shared_pile.SharedPile.split.Goals as goal
 
 pub invariant_of-bare : goal.invariant_of-bare
@@ -10,15 +10,9 @@ invariant_of-bare c =
     let inv = c.bare.invariant in
     let x = c.bare.inside in
     let quota = c.args.quota in
-    let kept : c.len-kept.result ≡ length x.counts.items =
-    omega arith in
-    seated (record (shown x) { left = x.left - quota }) x.seat.me.0.spot 0 record {
-      once = inv.pass.once;
-      below = inv.pass.below;
-      grid = inv.pass.grid;
-      rows = inv.pass.rows;
-      one_each = inv.pass.one_each;
-    } inv.each_made
+    let kept : c.len-kept.result ≡ length x.counts.items = omega arith in
+    seated (record (shown x) { left = x.left - quota }) x.seat.me.0.spot 0
+    (with_receipts inv.pass inv.pass.once inv.pass.below) inv.each_made
     (c.split-seat.ensures.parent
     ∙ ap (λ n. parent x.seat.me.0 quota (length x.seat.me.0.counts - n)) kept ∙ rows_kept x inv quota)
     c.split-seat.ensures.seat.bare refl
