@@ -1,6 +1,7 @@
 pub mod Again
 pub mod Chunks
 pub mod Cuts
+pub mod Decimals
 pub mod DigitRuns
 pub mod Growing
 pub mod Large

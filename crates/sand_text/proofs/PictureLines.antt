@@ -1,19 +1,19 @@
 -- The lines of the picture of a stable pile.
-use Rattle.std.proofs.Common.{◌≡◌, ℕ, zero, suc, ◌+◌, ◌*◌, ◌^◌, ◌<◌, ◌≤◌, List, [], ◌∷◌, ◌++◌, false, length, take, drop, get_or, decimal, refl, sym, ◌∙◌, ap, subst, arith, inl, inr, append_assoc, append-nil, length-drop, length-append, eqb}
+use Rattle.std.proofs.Common.{◌≡◌, ℕ, zero, suc, ◌+◌, ◌*◌, ◌^◌, ◌<◌, ◌≤◌, List, [], ◌∷◌, ◌++◌, true, false, length, take, drop, get_or, decimal, refl, sym, ◌∙◌, ap, subst, arith, inl, inr, append_assoc, append-nil, length-drop, length-append, eqb}
 use Rattle.std.specs.Bool.{◌==◌}
 use Rattle.std.specs.List.{All, flat_map, slice_split}
-use Rattle.std.specs.Int.{IsInRange}
 use Rattle.std.proofs.lemmas.Bool.{cases_lt}
 use Rattle.std.proofs.lemmas.Bool.Decides.{nat_tests}
-use Rattle.std.proofs.lemmas.Fmt.{decimal_digit, decimal_is_IsNumeral, length-decimal-le}
+use Rattle.std.proofs.lemmas.Fmt.{decimal_digit, length-decimal-le}
 use Rattle.std.proofs.lemmas.List.{get_or_default, length-take}
-use Rattle.std.proofs.lemmas.List.Elements.{All-nil, All-cons, All-tail, All-append, All-take, All-drop}
+use Rattle.std.proofs.lemmas.List.Elements.{All-nil, All-cons, All-tail, All-append, All-take, All-drop, All-weaker}
 use Rattle.std.proofs.lemmas.List.Splits.{slice_split_at}
-use Rattle.std.proofs.lemmas.Str.Parse.{digit_at}
 use Rattle.sand_model.specs.Sand.{IsStable}
 use Rattle.sand_model.specs.Piles.{PileView, IsPile, height_of}
 use Rattle.sand_text.specs.Texts.{row_text}
 use Rattle.sand_text.specs.Pictures.{chunks, lines_text, values_text, pgm_text_of, IsShort, NoLongLine}
+use Rattle.sand_text.specs.Bytes.{is_digit}
+use Rattle.sand_text.proofs.Decimals.{only_digits}
 use Rattle.sand_text.proofs.Chunks.{chunks-next, chunks-end}
 
 abbrev cut_lines : List ℕ → List (List ℕ)
@@ -62,8 +62,8 @@ record IsRow (ns line : List ℕ) : Type 0 where
   len : length line + 1 ≡ 2 * length ns
   plain : All IsPlain line
 
-digit_plain : (n : ℕ) → n ≤ 3 → IsPlain (48 + n)
-digit_plain n low = grind (arith, nat_tests)
+low_plain : (n : ℕ) → n ≤ 3 → IsPlain (48 + n)
+low_plain n low = grind (arith, nat_tests)
 
 row_line : (n : ℕ) (ns : List ℕ) → AreLow (n ∷ ns) → (line : List ℕ) × IsRow (n ∷ ns) line
 unfolding row_text
@@ -74,7 +74,7 @@ row_line n [] low =
       record {
         text = ap (λ ds. ds ++ 10 ∷ []) digit;
         len = omega arith;
-        plain = All-cons IsPlain (48 + n) [] (digit_plain n here) (All-nil IsPlain);
+        plain = All-cons IsPlain (48 + n) [] (low_plain n here) (All-nil IsPlain);
       },
     )
 row_line n (m ∷ ns) low =
@@ -89,7 +89,7 @@ row_line n (m ∷ ns) low =
         text = rw (digit, spaced) (ap (λ t. (48 + n) ∷ 32 ∷ t) behind);
         len = omega arith;
         plain =
-            All-cons IsPlain (48 + n) (32 ∷ more.0) (digit_plain n here) (All-cons IsPlain 32 more.0 refl more.1.plain);
+            All-cons IsPlain (48 + n) (32 ∷ more.0) (low_plain n here) (All-cons IsPlain 32 more.0 refl more.1.plain);
       },
     )
 
@@ -126,12 +126,11 @@ grid_row_lines row low = all_lines row_text 35 (length row) row (omega arith) ro
 
 -- ---- the head
 
-in_digits : (b : ℕ) → IsInRange 48 57 b → IsPlain b
-in_digits b h = grind (arith, nat_tests, h.0, h.1)
+digit_plain : (b : ℕ) → is_digit b ≡ true → IsPlain b
+digit_plain b e = grind (arith, nat_tests)
 
 number_plain : (n : ℕ) → n < 2 ^ 64 → All IsPlain (decimal n)
-number_plain n small = λ k d lt. in_digits (get_or (decimal n) k d)
-    (rw (get_or_default (decimal n) k 0 d lt) at (digit_at (decimal n) k (decimal_is_IsNumeral n small).0.1 lt))
+number_plain n small = All-weaker (λ b. is_digit b ≡ true) IsPlain digit_plain (decimal n) (only_digits n small)
 
 sides_line : (w h : ℕ) → w ≤ 256 → h ≤ 256 → IsLines ((decimal w ++ 32 ∷ decimal h) ++ 10 ∷ [])
 sides_line w h wide high =
