@@ -60,7 +60,8 @@ number_first at n y rest le e =
     let fits : n < 2 ^ 64 = omega arith in
     after_token at (decimal n) (y ∷ rest) (record {
       some = decimal_nonempty n fits;
-      plain = All-weaker (λ b. is_digit b ≡ true) (λ b. is_space b ≡ false) digit_no_space (decimal n) (only_digits n fits);
+      plain = All-weaker (λ b. is_digit b ≡ true) (λ b. is_space b ≡ false)
+          digit_no_space (decimal n) (only_digits n fits);
       ends = λ _. e;
     }) ∙ rw (number_token at n le, after_space (at + length (decimal n)) y rest e) refl
 
@@ -92,7 +93,7 @@ module _ (spared : List ℕ) where
       rw (append_assoc (decimal n) ((if length ns == 0 then 10 else 32) ∷ row_text ns) rest)
       (Say-number spared k Open at n (if length ns == 0 then 10 else 32) (row_text ns ++ rest) (ns ++ more)
       (small 0 0 (omega arith)) (separators (length ns))
-      (row_again ns rest more (All-tail (λ n. n ≤ most_grains) n ns small) behind (at + length (decimal n) + 1) (k + 1)))
+      (row_again ns rest more (All-tail (λ n. n ≤ most_grains) n ns small) behind _ (k + 1)))
 
   rows_again : (n w : ℕ) (ns : List ℕ) → AreSmall ns → length ns ≡ n * w → SayOnly (rows_text n w ns) ns
   unfolding rows_text tokens_from first_strange first_large edge_behind

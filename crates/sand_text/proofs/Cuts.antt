@@ -47,7 +47,8 @@ first_token (x ∷ xs) some e =
     let one : 0 < token_len t = rw e (omega arith) in
     record {
       some = omega arith;
-      plain = λ k d lt. rw (get_or-take (token_len t) t k d (omega arith)) (fails_before_first is_space t k d (omega arith));
+      plain = λ k d lt. rw (get_or-take (token_len t) t k d (omega arith))
+          (fails_before_first is_space t k d (omega arith));
       ends = λ more. rw (get_or-drop (token_len t) t 0 0, add-zero (token_len t))
           (passes_at_first is_space t 0 (omega (arith, length-drop (token_len t) t)));
     }
@@ -115,5 +116,6 @@ token_left at k len bs t w r ke te le some we re =
     (rw (← ke) at (passes_at_first {X = ℕ} (λ b. not (is_space b)) bs 0 (rw (← ke) lt))) in
     let is = first_token t some (ap is_space first ∙ no_space) in
     let width : length (take len t) ≡ len = rw le (length-prefix_len (λ b. not (is_space b)) t) in
-    let cut = ap (tokens_at (at + k)) (sym (take-append-drop len t)) ∙ after_token (at + k) (take len t) (drop len t) (rw le is) in
+    let cut = ap (tokens_at (at + k)) (sym (take-append-drop len t))
+    ∙ after_token (at + k) (take len t) (drop len t) (rw le is) in
     gap at bs ∙ rw (← ke, ← te) (rw (we, re) (rw width at cut))

@@ -1,11 +1,11 @@
 -- One more byte of the runs of digits.
-use Rattle.std.proofs.Common.{◌≡◌, ℕ, ◌+◌, ◌*◌, ◌<◌, ◌≤◌, List, [], ◌∷◌, Bool, true, false, length, drop, get_or, ltb, refl, sym, ◌∙◌, ap, arith, drop-cons, suc, ◌||◌, nat_lt, not}
+use Rattle.std.proofs.Common.{◌≡◌, ℕ, ◌+◌, ◌*◌, ◌<◌, ◌≤◌, List, [], ◌∷◌, Bool, true, false, length, drop, get_or, ltb, refl, sym, ◌∙◌, ap, arith, ◌||◌, nat_lt, not}
 use Rattle.std.specs.Bool.{if◌then◌else◌}
 use Rattle.std.specs.Char.{digit_value}
 use Rattle.std.specs.List.{list_any, onto_first, slice_split}
 use Rattle.std.specs.Str.Parse.{digits_value, digits_value_after}
 use Rattle.std.proofs.lemmas.Bool.Decides.{nat_tests}
-use Rattle.std.proofs.lemmas.List.{drop_all}
+use Rattle.std.proofs.lemmas.List.{drop_all, drop_more}
 use Rattle.std.proofs.lemmas.List.Splits.{slice_split-cons_yes, slice_split-cons_no}
 use Rattle.sand_text.specs.Bytes.{is_digit, is_other, capped, has_large}
 use Rattle.sand_model.specs.Piles.{most_grains}
@@ -74,21 +74,16 @@ over_byte true v w b rest is value lt =
     rw cut (digit_over v b (slice_split is_other rest) (omega arith))
 over_byte false v w b rest is value lt = absurd (omega arith)
 
-first_byte : (text : List ℕ) (k : ℕ) → k < length text → drop k text ≡ get_or text k 0 ∷ drop (k + 1) text
-first_byte text k lt =
-    let one : k + 1 ≡ suc k = omega arith in
-    drop-cons text k 0 lt ∙ ap (λ n. get_or text k 0 ∷ drop n text) (sym one)
-
 pub one_byte : (text : List ℕ) (k v w : ℕ) → k < length text → v ≤ most_grains
     → w ≡ (if is_digit (get_or text k 0) then capped (v * 10 + digit_value (get_or text k 0)) else 0)
     → w ≤ most_grains → large_from w (k + 1) text ≡ large_from v k text
-one_byte text k v w lt le value small = rw (first_byte text k lt)
+one_byte text k v w lt le value small = rw (drop_more text k 0 lt)
     (by_byte (is_digit (get_or text k 0)) v w (get_or text k 0) (drop (k + 1) text) refl le value small)
 
 pub found_large : (text : List ℕ) (k v w : ℕ) → k < length text
     → w ≡ (if is_digit (get_or text k 0) then capped (v * 10 + digit_value (get_or text k 0)) else 0)
     → most_grains < w → large_from v k text ≡ true
-found_large text k v w lt value more = rw (first_byte text k lt)
+found_large text k v w lt value more = rw (drop_more text k 0 lt)
     (over_byte (is_digit (get_or text k 0)) v w (get_or text k 0) (drop (k + 1) text) refl value more)
 
 pub none_large : (text : List ℕ) (k v : ℕ) → length text ≤ k → v ≤ most_grains → large_from v k text ≡ false

@@ -1,5 +1,5 @@
 -- One more number after the sides of a text: a height, or the site of a drop.
-use Rattle.std.proofs.Common.{◌≡◌, ℕ, ◌+◌, ◌-◌, ◌<◌, ◌≤◌, append_assoc, not, List, [], ◌∷◌, ◌++◌, Bool, true, false, length, take, drop, get_or, eqb, ltb, cond, refl, sym, ◌∙◌, ap, arith, inl, inr, length-drop, Option, Some, None, nat_lt, nat_le, sum}
+use Rattle.std.proofs.Common.{◌≡◌, ℕ, ◌+◌, ◌-◌, ◌<◌, ◌≤◌, not, List, [], ◌∷◌, ◌++◌, Bool, true, false, length, take, drop, get_or, eqb, ltb, cond, refl, sym, ◌∙◌, ap, arith, inl, inr, length-drop, Option, Some, None, nat_lt, nat_le, sum}
 use Rattle.std.specs.Bool.{if◌then◌else◌}
 use Rattle.std.specs.List.{position, position_or_len}
 use Rattle.std.proofs.lemmas.Bool.{cases_lt}
@@ -97,9 +97,3 @@ length-noted ws k le = length-take-le (k - 2) (drop 2 (numbers ws)) (omega (arit
 
 pub noted-none : (ws : List Token) (k : ℕ) → k ≤ 2 → noted k ws ≡ []
 noted-none ws k le = let e : k - 2 ≡ 0 = omega arith in rw e refl
-
--- one more drop, taken from those left
-pub one_drop : (heights drops more left all : List ℕ) (site : ℕ)
-    → (heights ++ drops) ++ (site ∷ left) ≡ all → more ≡ drops ++ site ∷ []
-    → (heights ++ more) ++ left ≡ all
-one_drop heights drops more left all site so_far is = rw is (simp append_assoc (simp append_assoc at so_far))

@@ -3,6 +3,7 @@ use Rattle.std.proofs.Common.{◌≡◌, ℕ, ◌+◌, ◌-◌, ◌*◌, ◌<◌
 use Rattle.std.specs.Prelude.{◌⊎◌, Result, Ok, Err, IsTrue}
 use Rattle.std.specs.Bool.{if◌then◌else◌}
 use Rattle.std.proofs.Math.Nat.{mul-le-mul}
+use Rattle.std.proofs.lemmas.Bool.{and_parts}
 use Rattle.std.proofs.lemmas.Bool.Decides.{nat_tests}
 use Rattle.std.proofs.lemmas.List.{take-take}
 use Rattle.sand_model.specs.declared.shape.Edge.{Edge}
@@ -55,27 +56,11 @@ all_taken ws rest s h none = omega (
 pub count_at_end : (ws : List Token) (s : Survey) → IsSurvey ws [] s → length (numbers ws) ≡ s.count
 count_at_end ws s h = all_taken ws [] s h refl
 
-edge_at_end : (ws rest : List Token) (s : Survey) → IsSurvey ws rest s → rest ≡ [] → s.edge ≡ edge_behind 2 0 ws
-unfolding edge_behind
-edge_at_end ws rest s h none = sym (or_open s.edge) ∙ (rw none at h.letters.edge)
-
-edge_when_full : (ws rest : List Token) (s : Survey) → IsSurvey ws rest s → IsFull s → s.edge ≡ edge_behind 2 0 ws
-edge_when_full ws rest s h full =
-    let none = no_later_letter 2 s.count rest (omega (arith, full_count s full)) in
-    sym (or_open s.edge) ∙ (rw none at h.letters.edge)
-
 -- a survey ends with the text, or with a full pile that is not the last
 by_end : (last : Bool) (rest : List Token) (s : Survey) → IsEnd last rest s → (rest ≡ []) ⊎ ((last ≡ false) × IsFull s)
 by_end true rest s none = inl none
 by_end false rest s (inl none) = inl none
 by_end false rest s (inr full) = inr (refl, full)
-
-edge_found : (last : Bool) (ws rest : List Token) (s : Survey) → IsSurvey ws rest s → IsEnd last rest s
-    → s.edge ≡ edge_behind 2 0 ws
-edge_found last ws rest s h end = elim (by_end last rest s end) [
-  | inl none ↦ edge_at_end ws rest s h none
-  | inr full ↦ edge_when_full ws rest s h full.1
-]
 
 -- ---- the pile at the front of the numbers
 
@@ -84,38 +69,43 @@ few e last end [] lt = refl
 few e last end (w ∷ []) lt = refl
 few e last end (w ∷ h ∷ ns) lt = absurd (omega arith)
 
-pub too_few : (last : Bool) (end : ℕ) (ws rest : List Token) (s : Survey)
-    → IsSurvey ws rest s → IsEnd last rest s → s.count < 2
-    → pile_at (edge_behind 2 0 ws) last end (numbers ws) ≡ Err (Text end)
-too_few last end ws rest s h ends lt = elim (by_end last rest s ends) [
-  | inl none ↦ few (edge_behind 2 0 ws) last end (numbers ws) (omega (arith, all_taken ws rest s h none))
-  | inr full ↦ absurd (omega (arith, full_count s full.1))
-]
-
 many : (e : Edge) (last : Bool) (end : ℕ) (ns : List ℕ) → 2 ≤ length ns
     → pile_at e last end ns ≡ filled last (grid_with_edge (get_or ns 0 0) (get_or ns 1 0) e) (drop 2 ns)
 many e last end [] lt = absurd (omega arith)
 many e last end (w ∷ []) lt = absurd (omega arith)
 many e last end (w ∷ h ∷ ns) lt = refl
 
--- the sides, and the numbers after them
-sized : (last : Bool) (end : ℕ) (ws rest : List Token) (s : Survey) (grid : Result Grid ShapeFault)
-    → IsSurvey ws rest s → IsEnd last rest s → 2 ≤ s.count
-    → grid ≡ grid_with_edge s.width s.height s.edge
-    → pile_at (edge_behind 2 0 ws) last end (numbers ws) ≡ filled last grid (drop 2 (numbers ws))
-sized last end ws rest s grid h ends le is =
-    let ns = numbers ws in
-    let sides : grid ≡ grid_with_edge (get_or ns 0 0) (get_or ns 1 0) s.edge =
-    is ∙ (ap (λ w. grid_with_edge w s.height s.edge) (h.counted.width (omega arith))
-    ∙ ap (λ x. grid_with_edge (get_or ns 0 0) x s.edge) (h.counted.height (omega arith))) in
-    rw (sym (edge_found last ws rest s h ends))
-    (many s.edge last end ns (omega (arith, h.counted.within)) ∙ ap (λ g. filled last g (drop 2 ns)) (sym sides))
+module _ (last : Bool) (end : ℕ) (ws rest : List Token) (s : Survey)
+    (h : IsSurvey ws rest s) (ends : IsEnd last rest s) where
+  edge_found : s.edge ≡ edge_behind 2 0 ws
+  unfolding edge_behind
+  edge_found =
+      let none : edge_behind 2 s.count rest ≡ Open = elim (by_end last rest s ends) [
+        | inl none ↦ rw none refl
+        | inr full ↦ no_later_letter 2 s.count rest (omega (arith, full_count s full.1))
+      ] in
+      sym (or_open s.edge) ∙ (rw none at h.letters.edge)
 
-pub no_shape : (last : Bool) (end : ℕ) (ws rest : List Token) (s : Survey) (fault : ShapeFault)
-    → IsSurvey ws rest s → IsEnd last rest s → 2 ≤ s.count
-    → Err fault ≡ grid_with_edge s.width s.height s.edge
-    → pile_at (edge_behind 2 0 ws) last end (numbers ws) ≡ Err (of_shape fault)
-no_shape last end ws rest s fault h ends le is = sized last end ws rest s (Err fault) h ends le is
+  pub too_few : s.count < 2 → pile_at (edge_behind 2 0 ws) last end (numbers ws) ≡ Err (Text end)
+  too_few lt = elim (by_end last rest s ends) [
+    | inl none ↦ few (edge_behind 2 0 ws) last end (numbers ws) (omega (arith, all_taken ws rest s h none))
+    | inr full ↦ absurd (omega (arith, full_count s full.1))
+  ]
+
+  -- the sides, and the numbers after them
+  sized : (grid : Result Grid ShapeFault) → 2 ≤ s.count → grid ≡ grid_with_edge s.width s.height s.edge
+      → pile_at (edge_behind 2 0 ws) last end (numbers ws) ≡ filled last grid (drop 2 (numbers ws))
+  sized grid le is =
+      let width = h.counted.width (omega arith) in
+      let height = h.counted.height (omega arith) in
+      many (edge_behind 2 0 ws) last end (numbers ws) (omega (arith, h.counted.within))
+      ∙ ap (λ g. filled last g (drop 2 (numbers ws))) (sym (rw (edge_found, width, height) at is))
+
+  pub no_shape : (fault : ShapeFault) → 2 ≤ s.count → Err fault ≡ grid_with_edge s.width s.height s.edge
+      → pile_at (edge_behind 2 0 ws) last end (numbers ws) ≡ Err (of_shape fault)
+  no_shape fault le is = sized (Err fault) le is
+
+-- ---- the grid
 
 -- a grid has the sides that it was made of
 made_of : (some narrow : Bool) (w h : ℕ) (e : Edge) (g : Grid) → Ok g
@@ -127,98 +117,77 @@ made_of true false w h e g is =
     (refl, ap (λ (x : Grid). x.width) same, ap (λ (x : Grid). x.height) same)
 made_of false narrow w h e g is = absurd (cc)
 
-pub both : (a b : Bool) → (a && b) ≡ true → (a ≡ true) × (b ≡ true)
-both true true is = (refl, refl)
-both true false is = absurd (cc)
-both false b is = absurd (cc)
+-- the sides are in range, so the number of sites fits
+record Fits (s : Survey) (g : Grid) : Type 0 where
+  width : IsTrue (is_side s.width)
+  height : IsTrue (is_side s.height)
+  area : s.width * s.height ≡ sites g
+  room : sites_of s ≡ sites g
 
-in_range : (s : Survey) (g : Grid) → Ok g ≡ grid_with_edge s.width s.height s.edge
-    → IsTrue (is_side s.width) × IsTrue (is_side s.height)
-in_range s g is = both (is_side s.width) (is_side s.height)
-    (made_of (is_side s.width && is_side s.height) (joins s.edge && ltb s.width 3) s.width s.height s.edge g is).0
-
--- the sides are small enough for the number of sites to fit
-fitting : (s : Survey) (g : Grid) → Ok g ≡ grid_with_edge s.width s.height s.edge
-    → (s.width * s.height ≡ sites g) × (sites_of s ≡ sites g)
-fitting s g is =
+fits : (s : Survey) (g : Grid) → Ok g ≡ grid_with_edge s.width s.height s.edge → Fits s g
+fits s g is =
     let made =
     made_of (is_side s.width && is_side s.height) (joins s.edge && ltb s.width 3) s.width s.height s.edge g is in
-    let some = made.0 in
-    let width : s.width ≤ 256 = grind (arith, nat_tests) in
-    let height : s.height ≤ 256 = grind (arith, nat_tests) in
+    let sides = and_parts (is_side s.width) (is_side s.height) made.0 in
+    let width : s.width ≤ 256 = grind (arith, nat_tests, sides.0) in
+    let height : s.height ≤ 256 = grind (arith, nat_tests, sides.1) in
     let few : s.width * s.height ≤ 256 * 256 = mul-le-mul width height in
-    let same : sites g ≡ s.width * s.height = rw (made.1, made.2) refl in
-    (sym same, omega arith)
+    let area : s.width * s.height ≡ sites g = rw (made.1, made.2) refl in
+    record { width = sides.0; height = sides.1; area = area; room = omega arith }
 
--- ---- the number of heights
-
--- the surveyed count is right if and only if the count of all numbers is
-same_count : (last : Bool) (ws rest : List Token) (s : Survey) (g : Grid)
-    → IsSurvey ws rest s → IsEnd last rest s
-    → Ok g ≡ grid_with_edge s.width s.height s.edge
-    → is_count last (length (drop 2 (numbers ws))) (sites g) ≡ is_count last (s.count - 2) (sites g)
-same_count last ws rest s g h ends is = elim (by_end last rest s ends) [
-  | inl none ↦
-      let all : length (drop 2 (numbers ws)) ≡ s.count - 2 =
-      omega (arith, all_taken ws rest s h none, length-drop 2 (numbers ws)) in
-      ap (λ n. is_count last n (sites g)) all
-  | inr full ↦
-      let same = (fitting s g is).0 in
-      let here : leb (sites g) (s.count - 2) ≡ true = grind (arith, nat_tests, full.1.count) in
-      let there : leb (sites g) (length (drop 2 (numbers ws))) ≡ true =
-      grind (arith, nat_tests, full.1.count, h.counted.within, length-drop 2 (numbers ws)) in
-      rw (full.0, here, there) refl
-]
+-- ---- the heights
 
 some_heights : (last : Bool) (count wanted : ℕ) → is_count last count wanted ≡ true → wanted ≤ count
 some_heights true count wanted e = grind (arith, nat_tests)
 some_heights false count wanted e = grind (arith, nat_tests)
 
-pub wrong_count : (last : Bool) (end : ℕ) (ws rest : List Token) (s : Survey) (g : Grid)
-    → IsSurvey ws rest s → IsEnd last rest s → 2 ≤ s.count
-    → Ok g ≡ grid_with_edge s.width s.height s.edge
-    → is_count last (s.count - 2) (sites g) ≡ false
-    → pile_at (edge_behind 2 0 ws) last end (numbers ws) ≡ Err Length
-wrong_count last end ws rest s g h ends le is wrong =
-    sized last end ws rest s (Ok g) h ends le is ∙ rw (same_count last ws rest s g h ends is, wrong) refl
+module _ (last : Bool) (end : ℕ) (ws rest : List Token) (s : Survey) (h : IsSurvey ws rest s) (ends : IsEnd last rest s)
+    (g : Grid) (le : 2 ≤ s.count) (is : Ok g ≡ grid_with_edge s.width s.height s.edge) where
+  -- the surveyed count is right if and only if the count of all numbers is
+  same_count : is_count last (length (drop 2 (numbers ws))) (sites g) ≡ is_count last (s.count - 2) (sites g)
+  same_count = elim (by_end last rest s ends) [
+    | inl none ↦ ap (λ n. is_count last n (sites g))
+        (omega (arith, all_taken ws rest s h none, length-drop 2 (numbers ws)))
+    | inr full ↦
+        let area = (fits s g is).area in
+        let here : leb (sites g) (s.count - 2) ≡ true = grind (arith, nat_tests, full.1.count) in
+        let there : leb (sites g) (length (drop 2 (numbers ws))) ≡ true =
+        grind (arith, nat_tests, full.1.count, h.counted.within, length-drop 2 (numbers ws)) in
+        rw (full.0, here, there) refl
+  ]
 
--- ---- the number of grains
+  pub wrong_count : is_count last (s.count - 2) (sites g) ≡ false
+      → pile_at (edge_behind 2 0 ws) last end (numbers ws) ≡ Err Length
+  wrong_count wrong = sized last end ws rest s h ends (Ok g) le is ∙ rw (same_count, wrong) refl
 
-counted : (ws rest : List Token) (s : Survey) (g : Grid)
-    → IsSurvey ws rest s → sites_of s ≡ sites g → sites g ≤ s.count - 2
-    → s.grains ≡ min (sum (take (sites g) (drop 2 (numbers ws)))) (most_grains + 1)
-counted ws rest s g h room some =
-    let front : take (sites g) (noted s.count ws) ≡ take (sites g) (drop 2 (numbers ws)) =
-    take-take (sites g) (s.count - 2) (drop 2 (numbers ws)) some in
-    rw (room, front) at h.grains
+  module _ (right : is_count last (s.count - 2) (sites g) ≡ true) where
+    counted : s.grains ≡ min (sum (take (sites g) (drop 2 (numbers ws)))) (most_grains + 1)
+    counted =
+        let some = some_heights last (s.count - 2) (sites g) right in
+        let front : take (sites g) (noted s.count ws) ≡ take (sites g) (drop 2 (numbers ws)) =
+        take-take (sites g) (s.count - 2) (drop 2 (numbers ws)) some in
+        let room = (fits s g is).room in
+        rw (room, front) at h.grains
 
-pub too_many : (last : Bool) (end : ℕ) (ws rest : List Token) (s : Survey) (g : Grid)
-    → IsSurvey ws rest s → IsEnd last rest s → 2 ≤ s.count
-    → Ok g ≡ grid_with_edge s.width s.height s.edge
-    → is_count last (s.count - 2) (sites g) ≡ true → most_grains < s.grains
-    → pile_at (edge_behind 2 0 ws) last end (numbers ws) ≡ Err TooManyGrains
-too_many last end ws rest s g h ends le is right more =
-    let grains = counted ws rest s g h (fitting s g is).1 (some_heights last (s.count - 2) (sites g) right) in
-    let over : ltb most_grains (sum (take (sites g) (drop 2 (numbers ws)))) ≡ true = grind (arith, nat_tests) in
-    sized last end ws rest s (Ok g) h ends le is ∙ rw (same_count last ws rest s g h ends is, right, over) refl
+    pub too_many : most_grains < s.grains → pile_at (edge_behind 2 0 ws) last end (numbers ws) ≡ Err TooManyGrains
+    too_many more =
+        let over : ltb most_grains (sum (take (sites g) (drop 2 (numbers ws)))) ≡ true =
+        grind (arith, nat_tests, counted) in
+        sized last end ws rest s h ends (Ok g) le is ∙ rw (same_count, right, over) refl
 
-pub shaped : (last : Bool) (end : ℕ) (ws rest : List Token) (s : Survey) (g : Grid)
-    → IsSurvey ws rest s → IsEnd last rest s → 2 ≤ s.count
-    → Ok g ≡ grid_with_edge s.width s.height s.edge
-    → is_count last (s.count - 2) (sites g) ≡ true → s.grains ≤ most_grains
-    → IsShaped last end ws s g
-shaped last end ws rest s g h ends le is right within =
-    let some = some_heights last (s.count - 2) (sites g) right in
-    let grains = counted ws rest s g h (fitting s g is).1 some in
-    let not_over : ltb most_grains (sum (take (sites g) (drop 2 (numbers ws)))) ≡ false = grind (arith, nat_tests) in
-    record {
-      read = sized last end ws rest s (Ok g) h ends le is
-          ∙ rw (same_count last ws rest s g h ends is, right, not_over) refl;
-      width = (in_range s g is).0;
-      height = (in_range s g is).1;
-      area = (fitting s g is).0;
-      room = (fitting s g is).1;
-      enough = omega (arith, h.counted.within);
-      grains = omega arith;
-      limit = within;
-    }
+    pub shaped : s.grains ≤ most_grains → IsShaped last end ws s g
+    shaped within =
+        let some = some_heights last (s.count - 2) (sites g) right in
+        let fit = fits s g is in
+        let not_over : ltb most_grains (sum (take (sites g) (drop 2 (numbers ws)))) ≡ false =
+        grind (arith, nat_tests, counted) in
+        record {
+          read = sized last end ws rest s h ends (Ok g) le is ∙ rw (same_count, right, not_over) refl;
+          width = fit.width;
+          height = fit.height;
+          area = fit.area;
+          room = fit.room;
+          enough = omega (arith, h.counted.within);
+          grains = omega (arith, counted);
+          limit = within;
+        }

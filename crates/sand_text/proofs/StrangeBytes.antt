@@ -88,7 +88,8 @@ at_letter at r ws rest spared n = cond_both (list_any (λ k. k == n) spared) _ _
     (λ _. passing at (99 ∷ []) r _ (λ k lt s. let first : k ≡ 0 = omega arith in rw first refl) (rest _ n))
     (λ _. (0, omega arith, omega arith, refl, λ k lt. absurd (omega arith)))
 
-at_strange : (at : ℕ) (w r : List ℕ) → IsToken w r → digits_len w < length w → Claim at (w ++ r) (Some (at + digits_len w))
+at_strange : (at : ℕ) (w r : List ℕ) → IsToken w r → digits_len w < length w
+    → Claim at (w ++ r) (Some (at + digits_len w))
 at_strange at w r is lt =
     let here = get_or_append_left w r 0 (digits_len w) lt in
     let other = passes_at_first {X = ℕ} is_other w 0 lt in
@@ -117,8 +118,9 @@ claims : (at : ℕ) (bs : List ℕ) → Claims at bs (tokens_at at bs)
 unfolding first_strange
 claims = by_tokens Claims
     (λ at spared n k lt. absurd (omega arith))
-    (λ at x xs ws e rest spared n. passing at (x ∷ []) xs _
-    (λ k lt s. let first : k ≡ 0 = omega arith in absurd (both_ways (is_strange x) (space_passes x e) (rw first at s))) (rest spared n))
+    (λ at x xs ws e rest spared n. passing at (x ∷ []) xs _ (λ k lt s.
+    let first : k ≡ 0 = omega arith in
+    absurd (both_ways (is_strange x) (space_passes x e) (rw first at s))) (rest spared n))
     at_token
 
 found_at : (text : List ℕ) (found : Option ℕ) → Claim 0 text found

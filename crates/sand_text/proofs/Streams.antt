@@ -1,14 +1,11 @@
 -- What a reader gave in several steps.
 use Rattle.std.proofs.Common.{◌≡◌, ℕ, ◌+◌, List, [], ◌++◌, length, drop, length-append, append-nil, refl, sym, ◌∙◌, ap, arith, subst, ◌∷◌}
 use Rattle.std.proofs.Math.Seq.{drop-append_seam}
+use Rattle.std.proofs.lemmas.List.{nil_from_length}
 use Rattle.std.specs.Prelude.{Option, Some, None, Result, Ok, Err, IfErr}
 use Rattle.std.specs.Io.KnownBytes.{Consumes, IsAtEnd, Keeps}
 use Rattle.std.proofs.KnownBytes.{Consumes-trans, Consumes-kept}
 use Rattle.sand_text.specs.Flow.{GivesAll, IsFurther}
-
-empty : (xs : List ℕ) → length xs ≡ 0 → xs ≡ []
-empty [] e = refl
-empty (x ∷ xs) e = absurd (omega arith)
 
 gave : (a c : Option (List ℕ)) (bytes : List ℕ) → Consumes a c bytes → IsFurther a c (length bytes)
 gave None c bytes h = tt
@@ -35,7 +32,7 @@ all_given None b c xs ys p q none end = tt
 all_given (Some all) None c xs ys p q none end = absurd p
 all_given (Some all) (Some rest) None xs ys p q none end = absurd q
 all_given (Some all) (Some rest) (Some left) xs ys p q none end =
-    let nothing : ys ≡ [] = empty ys none in
+    let nothing : ys ≡ [] = nil_from_length ys none in
     let same : rest ≡ [] = q ∙ (ap (λ l. l ++ left) nothing ∙ end) in
     (sym (p ∙ (ap (λ l. xs ++ l) same ∙ append-nil xs)), ap Some end)
 

@@ -27,10 +27,6 @@ large_next None false start later = refl
 large_next (Some at) true start later = refl
 large_next (Some at) false start later = refl
 
--- equal sides make as many sites
-same_sites : (s t : Survey) → t.width ≡ s.width → t.height ≡ s.height → sites_of t ≡ sites_of s
-same_sites s t width height = rw (width, height) refl
-
 take-nil : (n : ℕ) → take {A = ℕ} n [] ≡ []
 take-nil n = take_all n [] (omega arith)
 
@@ -67,47 +63,46 @@ behind_next ws s t value high lt here count same so_far grains no_site =
     let sites = rw len at (no_site_push (sites_of s) value s.no_site (noted s.count ws) so_far.1) in
     (rw (next, same) (grains ∙ sums), rw (next, same) (no_site ∙ sites))
 
+-- the survey after one more number
+pub record IsNoted (s t : Survey) (start value : ℕ) : Type 0 where
+  pub count : t.count ≡ s.count + 1
+  pub width : t.width ≡ (if s.count == 0 then value else s.width)
+  pub height : t.height ≡ (if s.count == 1 then value else s.height)
+  pub edge : t.edge ≡ s.edge
+  pub grains : t.grains ≡ (if nat_lt s.count 2 then s.grains else grains_with s (s.count - 2) value)
+  pub no_site : t.no_site
+      ≡ (if nat_lt s.count 2 then s.no_site else option_or s.no_site (if_no_site s (s.count - 2) value))
+  pub large : t.large ≡ option_or s.large (if nat_lt most_grains value then Some start else None)
+
 -- a number, either a side or after the sides
 noted_step : (ws rest : List Token) (s t : Survey) (start value : ℕ) → IsSurvey ws (Number start value ∷ rest) s
-    → t.count ≡ s.count + 1
-    → t.width ≡ (if s.count == 0 then value else s.width)
-    → t.height ≡ (if s.count == 1 then value else s.height)
-    → t.grains ≡ (if nat_lt s.count 2 then s.grains else grains_with s (s.count - 2) value)
-    → t.no_site ≡ (if nat_lt s.count 2 then s.no_site else option_or s.no_site (if_no_site s (s.count - 2) value))
-    → IsBehind ws t
-noted_step ws rest s t start value h count width height grains no_site = elim (cases_lt s.count 2) [
+    → IsNoted s t start value → IsBehind ws t
+noted_step ws rest s t start value h is = elim (cases_lt s.count 2) [
   | inl low ↦
       let test : ltb s.count 2 ≡ true = grind (arith, nat_tests) in
-      side_next ws s t low count (h.grains, h.no_site) (rw test at grains) (rw test at no_site)
+      side_next ws s t low is.count (h.grains, h.no_site) (rw test at is.grains) (rw test at is.no_site)
   | inr high ↦
       let test : ltb s.count 2 ≡ false = grind (arith, nat_tests) in
       let not_first : eqb s.count 0 ≡ false = grind (arith, nat_tests) in
       let not_second : eqb s.count 1 ≡ false = grind (arith, nat_tests) in
+      let width = rw not_first at is.width in
+      let height = rw not_second at is.height in
       let next = next_of (numbers ws) (numbers rest) s.count value h.counted.left in
-      behind_next ws s t value high next.0 next.1 count
-      (same_sites s t (rw not_first at width) (rw not_second at height))
-      (h.grains, h.no_site) (rw test at grains) (rw test at no_site)
+      behind_next ws s t value high next.0 next.1 is.count (rw (width, height) refl)
+      (h.grains, h.no_site) (rw test at is.grains) (rw test at is.no_site)
 ]
 
--- counts greater than m are greater than n
-sooner : (n m : ℕ) (more : List ℕ) → n ≤ m → All (λ k. m < k) more → All (λ k. n < k) more
-sooner n m more le later = λ k d lt. omega (arith, later k d lt)
-
 pub note_step : (ws rest : List Token) (s t : Survey) (start value : ℕ) → IsSurvey ws (Number start value ∷ rest) s
-    → t.count ≡ s.count + 1
-    → t.width ≡ (if s.count == 0 then value else s.width)
-    → t.height ≡ (if s.count == 1 then value else s.height)
-    → t.edge ≡ s.edge
-    → t.grains ≡ (if nat_lt s.count 2 then s.grains else grains_with s (s.count - 2) value)
-    → t.no_site ≡ (if nat_lt s.count 2 then s.no_site else option_or s.no_site (if_no_site s (s.count - 2) value))
-    → t.large ≡ option_or s.large (if nat_lt most_grains value then Some start else None)
-    → IsSurvey ws rest t
+    → IsNoted s t start value → IsSurvey ws rest t
 unfolding first_strange first_large edge_behind
-note_step ws rest s t start value h count width height edge grains no_site large =
+note_step ws rest s t start value h is =
     let next = next_of (numbers ws) (numbers rest) s.count value h.counted.left in
-    let behind = noted_step ws rest s t start value h count width height grains no_site in
+    let behind = noted_step ws rest s t start value h is in
+    let count = is.count in
+    let edge = is.edge in
     let letters : AgreeOnLetters ws rest t = record {
-      plain = λ more later. rw (edge, count) (h.letters.plain more (sooner s.count t.count more (omega arith) later));
+      plain = λ more later. rw (edge, count)
+          (h.letters.plain more (λ k d lt. let behind = later k d lt in omega arith));
       bare = λ is_open. rw count (h.letters.bare (sym edge ∙ is_open));
       edge = rw (edge, count) h.letters.edge;
       later_edge = λ k lt. rw count (h.letters.later_edge k (omega arith));
@@ -117,22 +112,22 @@ note_step ws rest s t start value h count width height edge grains no_site large
       left = rw count next.2;
       width = λ _. elim (cases_eq s.count 0) [
         | inl e ↦ let test : eqb s.count 0 ≡ true = grind (arith, nat_tests) in
-            rw test at width ∙ (sym next.1 ∙ ap (λ n. get_or (numbers ws) n 0) e)
+            rw test at is.width ∙ (sym next.1 ∙ ap (λ n. get_or (numbers ws) n 0) e)
         | inr ne ↦
             let test : eqb s.count 0 ≡ false = grind (arith, nat_tests) in
-            rw test at width ∙ h.counted.width (omega arith)
+            rw test at is.width ∙ h.counted.width (omega arith)
       ];
       height = λ some. elim (cases_eq s.count 1) [
         | inl e ↦ let test : eqb s.count 1 ≡ true = grind (arith, nat_tests) in
-            rw test at height ∙ (sym next.1 ∙ ap (λ n. get_or (numbers ws) n 0) e)
+            rw test at is.height ∙ (sym next.1 ∙ ap (λ n. get_or (numbers ws) n 0) e)
         | inr ne ↦ let test : eqb s.count 1 ≡ false = grind (arith, nat_tests) in
-            rw test at height ∙ h.counted.height (omega arith)
+            rw test at is.height ∙ h.counted.height (omega arith)
       ];
     } in
     record {
       letters = letters;
       counted = counted;
-      large = rw large (large_next s.large (nat_lt most_grains value) start (first_large rest) ∙ h.large);
+      large = rw (is.large) (large_next s.large (nat_lt most_grains value) start (first_large rest) ∙ h.large);
       grains = behind.0;
       no_site = behind.1;
     }

@@ -17,7 +17,7 @@ use Rattle.sand_text.specs.declared.tokens.Token.{Token}
 use Rattle.sand_text.specs.declared.tokens.Token.TheVariants.{Number, Letter, Strange}
 use Rattle.sand_text.specs.Bytes.{has_large}
 use Rattle.sand_text.specs.Tokens.{tokens, first_strange, first_large, edge_behind, numbers}
-use Rattle.sand_text.specs.Reading.{plain_tokens, pile_at, second_letter, second_spared, two_letters, two_of, heights_on, behind_heights, heights_behind}
+use Rattle.sand_text.specs.Reading.{plain_tokens, pile_at, unless_at, second_letter, second_spared, two_letters, two_of, heights_on, behind_heights, heights_behind}
 use Rattle.sand_text.specs.Surveys.{IsSurvey, IsFull, IsFront, IsFirstStrange, IsShaped, still_spared, pile_among}
 use Rattle.sand_text.proofs.Shapes.{full_count, all_taken}
 use Rattle.sand_text.proofs.Readings.{large_is, one_each}
@@ -33,49 +33,30 @@ none_spared n m (Number at value ∷ ws) = none_spared (n + 1) (m + 1) ws
 none_spared n m (Letter at ∷ ws) = refl
 none_spared n m (Strange at ∷ ws) = refl
 
-one_letter : (b c : Bool) (k i j d at : ℕ) (ws : List Token) → b ≡ c
+one_letter : (b : Bool) (k l i j at : ℕ) (ws : List Token)
     → (if b || false then first_strange (if not b then k ∷ [] else []) i ws else Some at)
-    ≡ (if c || false then first_strange (if not c then (k + d) ∷ [] else []) j ws else Some at)
-one_letter true true k i j d at ws same = none_spared i j ws
-one_letter true false k i j d at ws same = absurd (cc)
-one_letter false true k i j d at ws same = absurd (cc)
-one_letter false false k i j d at ws same = refl
+    ≡ (if b || false then first_strange (if not b then l ∷ [] else []) j ws else Some at)
+one_letter true k l i j at ws = none_spared i j ws
+one_letter false k l i j at ws = refl
 
--- a letter allowed after k numbers, with d more numbers before all of them
-shifted : (k i d : ℕ) (ws : List Token) → first_strange (k ∷ []) i ws ≡ first_strange ((k + d) ∷ []) (i + d) ws
+-- a letter is as far behind if it is counted from another number on
+shifted : (k i l j : ℕ) (ws : List Token) → l + i ≡ k + j → first_strange (k ∷ []) i ws ≡ first_strange (l ∷ []) j ws
 unfolding first_strange
-shifted k i d [] = refl
-shifted k i d (Number at value ∷ ws) =
-    let next : i + 1 + d ≡ i + d + 1 = omega arith in
-    shifted k (i + 1) d ws ∙ ap (λ n. first_strange ((k + d) ∷ []) n ws) next
-shifted k i d (Letter at ∷ ws) =
-    one_letter (eqb k i) (eqb (k + d) (i + d)) k i (i + d) d at ws (grind (arith, nat_tests))
-shifted k i d (Strange at ∷ ws) = refl
+shifted k i l j [] e = refl
+shifted k i l j (Number at value ∷ ws) e = shifted k (i + 1) l (j + 1) ws (omega arith)
+shifted k i l j (Letter at ∷ ws) e =
+    let same : eqb k i ≡ eqb l j = grind (arith, nat_tests) in
+    rw same (one_letter (eqb l j) k l i j at ws)
+shifted k i l j (Strange at ∷ ws) e = refl
 
-edge_shifted : (k i d : ℕ) (ws : List Token) → edge_behind k i ws ≡ edge_behind (k + d) (i + d) ws
+edge_shifted : (k i l j : ℕ) (ws : List Token) → l + i ≡ k + j → edge_behind k i ws ≡ edge_behind l j ws
 unfolding edge_behind
-edge_shifted k i d [] = refl
-edge_shifted k i d (Number at value ∷ ws) =
-    let next : i + 1 + d ≡ i + d + 1 = omega arith in
-    edge_shifted k (i + 1) d ws ∙ ap (λ n. edge_behind (k + d) n ws) next
-edge_shifted k i d (Letter at ∷ ws) =
-    let same : eqb (k + d) (i + d) ≡ eqb k i = grind (arith, nat_tests) in
-    rw (same, edge_shifted k i d ws) refl
-edge_shifted k i d (Strange at ∷ ws) = edge_shifted k i d ws
-
-from_zero : (k n : ℕ) (ws : List Token) → first_strange (k ∷ []) 0 ws ≡ first_strange ((k + n) ∷ []) n ws
-from_zero k n ws =
-    let same : 0 + n ≡ n = omega arith in
-    shifted k 0 n ws ∙ ap (λ m. first_strange ((k + n) ∷ []) m ws) same
-
-edge_from_zero : (k n : ℕ) (ws : List Token) → edge_behind k 0 ws ≡ edge_behind (k + n) n ws
-edge_from_zero k n ws =
-    let same : 0 + n ≡ n = omega arith in
-    edge_shifted k 0 n ws ∙ ap (λ m. edge_behind (k + n) m ws) same
-
-by_letter : (b : Bool) (x y z : Option ℕ) → x ≡ y → (if b then x else z) ≡ (if b then y else z)
-by_letter true x y z same = same
-by_letter false x y z same = refl
+edge_shifted k i l j [] e = refl
+edge_shifted k i l j (Number at value ∷ ws) e = edge_shifted k (i + 1) l (j + 1) ws (omega arith)
+edge_shifted k i l j (Letter at ∷ ws) e =
+    let same : eqb k i ≡ eqb l j = grind (arith, nat_tests) in
+    rw (same, edge_shifted k i l j ws e) refl
+edge_shifted k i l j (Strange at ∷ ws) e = edge_shifted k i l j ws e
 
 -- after more than two numbers the first letter is no longer allowed
 spared_later : (more : List ℕ) (n : ℕ) (ws : List Token) → 2 < n
@@ -85,8 +66,7 @@ spared_later more n [] lt = refl
 spared_later more n (Number at value ∷ ws) lt = spared_later more (n + 1) ws (omega arith)
 spared_later more n (Letter at ∷ ws) lt =
     let test : eqb 2 n ≡ false = grind (arith, nat_tests) in
-    rw test (by_letter (list_any (λ k. k == n) more) _ _ (Some at)
-    (spared_later (filter (λ k. not (k == n)) more) n ws lt))
+    rw (test, spared_later (filter (λ k. not (k == n)) more) n ws lt) refl
 spared_later more n (Strange at ∷ ws) lt = refl
 
 still_later : (e : Edge) (more : List ℕ) (n : ℕ) (ws : List Token) → 2 < n
@@ -109,34 +89,25 @@ letter_of_full (w ∷ h ∷ ns) s le width height full =
     let place : w * h + 4 ≡ 2 + s.count = omega (arith, full.count) in
     rw (is_width, is_height, place) refl
 
-full_handed : (over : Bool) (ws rest : List Token) (s : Survey) → IsFront ws rest s → IsFull s
-    → first_strange (2 ∷ second_letter over (numbers ws)) 0 ws ≡ first_strange (if over then [] else 2 ∷ []) 0 rest
-full_handed true ws rest s h full =
-    let many = full_count s full in
-    sym (h.underway.letters.plain [] (later_letter true ws rest s h.underway h.within))
-    ∙ (still_later s.edge [] s.count rest (omega arith) ∙ none_spared s.count 0 rest)
-full_handed false ws rest s h full =
+behind_full : (over : Bool) (ws rest : List Token) (s : Survey) → IsFront ws rest s → IsFull s
+    → first_strange (second_letter over (numbers ws)) s.count rest ≡ first_strange (if over then [] else 2 ∷ []) 0 rest
+behind_full true ws rest s h full = none_spared s.count 0 rest
+behind_full false ws rest s h full =
     let many = full_count s full in
     let letter = letter_of_full (numbers ws) s (omega (arith, h.underway.counted.within))
     (h.underway.counted.width (omega arith)) (h.underway.counted.height (omega arith)) full in
-    let later = rw letter at (later_letter false ws rest s h.underway h.within) in
-    rw letter (sym (h.underway.letters.plain ((2 + s.count) ∷ []) later)
-    ∙ (still_later s.edge ((2 + s.count) ∷ []) s.count rest (omega arith) ∙ sym (from_zero 2 s.count rest)))
-
-at_once : (over : Bool) (ws rest : List Token) (s : Survey) → IsFront ws rest s → rest ≡ []
-    → first_strange (2 ∷ second_letter over (numbers ws)) 0 ws ≡ first_strange (if over then [] else 2 ∷ []) 0 rest
-unfolding first_strange
-at_once over ws rest s h none =
-    let plain =
-    h.underway.letters.plain (second_letter over (numbers ws)) (later_letter over ws rest s h.underway h.within) in
-    rw none (sym (rw none at plain))
+    rw letter (shifted (2 + s.count) s.count 2 0 rest (omega arith))
 
 handed : (over : Bool) (ws rest : List Token) (s : Survey) → IsFront ws rest s
     → first_strange (2 ∷ second_letter over (numbers ws)) 0 ws ≡ first_strange (if over then [] else 2 ∷ []) 0 rest
-handed over ws rest s h = elim h.end [
-  | inl none ↦ at_once over ws rest s h none
-  | inr full ↦ full_handed over ws rest s h full
-]
+unfolding first_strange
+handed over ws rest s h =
+    let letter = second_letter over (numbers ws) in
+    sym (h.underway.letters.plain letter (later_letter over ws rest s h.underway h.within)) ∙ elim h.end [
+      | inl none ↦ rw none refl
+      | inr full ↦ still_later s.edge (second_letter over (numbers ws)) s.count rest (omega (arith, full_count s full))
+          ∙ behind_full over ws rest s h full
+    ]
 
 pub strange_first : (text : List ℕ) (e : TextFault) → IsFirstStrange (two_letters text) (tokens text) e
     → plain_tokens (two_letters text) text ≡ Err e
@@ -147,30 +118,16 @@ pub strange_second : (text : List ℕ) (rest : List Token) (s : Survey) (e : Tex
     → plain_tokens (two_letters text) text ≡ Err e
 strange_second text rest s e h (at, is, first) = rw (handed (has_large text) (tokens text) rest s h ∙ first, is) refl
 
--- the first number over the limit in either pile
-large_of_two : (ws rest : List Token) (first second : Survey) → IsFront ws rest first → IsSurvey rest [] second
-    → first_large ws ≡ option_or first.large second.large
-large_of_two ws rest first second h g = sym h.underway.large ∙ ap (option_or first.large) (large_is rest second g)
-
-pub large_in_two : (text : List ℕ) (rest : List Token) (first second : Survey) (at : ℕ)
-    → IsFront (tokens text) rest first → IsSurvey rest [] second
-    → first_strange (second_spared text) 0 rest ≡ None
-    → option_or first.large second.large ≡ Some at
-    → plain_tokens (two_letters text) text ≡ Err (TooLarge at)
-large_in_two text rest first second at h g plain is = rw (
-  handed (has_large text) (tokens text) rest first h ∙ plain,
-  large_of_two (tokens text) rest first second h g ∙ is,
-) refl
-
+-- without a strange byte, the tokens are plain if no number of either pile is over the limit
 pub plain_two : (text : List ℕ) (rest : List Token) (first second : Survey)
     → IsFront (tokens text) rest first → IsSurvey rest [] second
     → first_strange (second_spared text) 0 rest ≡ None
-    → option_or first.large second.large ≡ None
-    → plain_tokens (two_letters text) text ≡ Ok (tokens text)
-plain_two text rest first second h g plain is = rw (
-  handed (has_large text) (tokens text) rest first h ∙ plain,
-  large_of_two (tokens text) rest first second h g ∙ is,
-) refl
+    → plain_tokens (two_letters text) text
+    ≡ unless_at (option_or first.large second.large) TooLarge (Ok (tokens text))
+plain_two text rest first second h g plain =
+    let large : first_large (tokens text) ≡ option_or first.large second.large =
+    sym h.underway.large ∙ ap (option_or first.large) (large_is rest second g) in
+    rw (handed (has_large text) (tokens text) rest first h ∙ plain, large) refl
 
 pub front_tokens : (ws vs rest : List Token) (s : Survey) → ws ≡ vs → IsFront ws rest s → IsFront vs rest s
 front_tokens ws vs rest s e h = let P : List Token → Type 0 = λ l. IsFront l rest s in subst P e h
@@ -198,32 +155,20 @@ second_edge : (end : ℕ) (ws rest : List Token) (s : Survey) (g : Grid) → IsF
     → edge_behind (sites g + 4) 0 ws ≡ edge_behind 2 0 rest
 second_edge end ws rest s g h shaped =
     let place = counted end ws rest s g h shaped in
-    let there : sites g + 4 ≡ 2 + s.count = omega arith in
-    ap (λ k. edge_behind k 0 ws) there
-    ∙ (sym (h.underway.letters.later_edge (2 + s.count) (omega arith)) ∙ sym (edge_from_zero 2 s.count rest))
+    sym (h.underway.letters.later_edge (sites g + 4) (omega arith))
+    ∙ edge_shifted (sites g + 4) s.count 2 0 rest (omega arith)
 
 -- ---- both piles
 
-pub faulty_two : (text : List ℕ) (e : TextFault) → plain_tokens (two_letters text) text ≡ Err e → two_of text ≡ Err e
-unfolding two_of
-faulty_two text e is = rw is refl
-
-pub misshapen_first : (text : List ℕ) (e : TextFault)
-    → plain_tokens (two_letters text) text ≡ Ok (tokens text)
-    → pile_at (edge_behind 2 0 (tokens text)) false (length text) (numbers (tokens text)) ≡ Err e
-    → two_of text ≡ Err e
-unfolding two_of
-misshapen_first text e plain is = rw (plain, is) refl
-
 -- the second pile, if the first has no fault
-second_of : (text : List ℕ) (rest : List Token) (s : Survey) (g : Grid) (second : Result (PileView × List ℕ) TextFault)
+second_of : (text : List ℕ) (rest : List Token) (s : Survey) (g : Grid)
     → IsFront (tokens text) rest s → IsShaped false (length text) (tokens text) s g
-    → pile_at (edge_behind 2 0 rest) true (length text) (numbers rest) ≡ second
-    → pile_at (edge_behind (sites g + 4) 0 (tokens text)) true (length text) (behind_heights g text) ≡ second
-second_of text rest s g second h shaped is = rw (
+    → pile_at (edge_behind (sites g + 4) 0 (tokens text)) true (length text) (behind_heights g text)
+    ≡ pile_at (edge_behind 2 0 rest) true (length text) (numbers rest)
+second_of text rest s g h shaped = rw (
   second_edge (length text) (tokens text) rest s g h shaped,
   behind_first (length text) (tokens text) rest s g h shaped,
-) is
+) refl
 
 pub misshapen_second : (text : List ℕ) (rest : List Token) (s : Survey) (g : Grid) (e : TextFault)
     → plain_tokens (two_letters text) text ≡ Ok (tokens text)
@@ -232,7 +177,7 @@ pub misshapen_second : (text : List ℕ) (rest : List Token) (s : Survey) (g : G
     → two_of text ≡ Err e
 unfolding two_of
 misshapen_second text rest s g e plain h shaped is =
-    rw (plain, shaped.read, second_of text rest s g (Err e) h shaped is) refl
+    rw (plain, shaped.read, second_of text rest s g h shaped ∙ is) refl
 
 pub good_two : (text : List ℕ) (rest : List Token) (first second : Survey) (g k : Grid)
     → plain_tokens (two_letters text) text ≡ Ok (tokens text)
@@ -242,9 +187,12 @@ pub good_two : (text : List ℕ) (rest : List Token) (first second : Survey) (g 
     → two_of text
     ≡ Ok (record { grid = g; heights = heights_on g text }, record { grid = k; heights = heights_behind g k text })
 unfolding two_of
-good_two text rest first second g k plain h shaped next =
-    let there = second_of text rest first g (Ok (pile_among k (numbers rest))) h shaped next.read in
-    rw (plain, shaped.read, there, sym (behind_first (length text) (tokens text) rest first g h shaped)) refl
+good_two text rest first second g k plain h shaped next = rw (
+  plain,
+  shaped.read,
+  second_of text rest first g h shaped ∙ next.read,
+  sym (behind_first (length text) (tokens text) rest first g h shaped),
+) refl
 
 -- what is known of the second pile, in terms of the text
 pub second_facts : (text : List ℕ) (rest : List Token) (first second : Survey) (g k : Grid)

@@ -2,7 +2,7 @@
 use Rattle.std.proofs.Common.{◌≡◌, ◌≢◌, ℕ, ◌+◌, ◌*◌, ◌<◌, ◌≤◌, List, [], ◌∷◌, All, Bool, true, false, refl, sym, ◌∙◌, arith, inl, inr, Some, None, slice_index, ◌&&◌}
 use Rattle.std.specs.Prelude.{IsTrue}
 use Rattle.std.specs.Bool.{if◌then◌else◌}
-use Rattle.std.proofs.lemmas.Bool.{cases_lt}
+use Rattle.std.proofs.lemmas.Bool.{and_parts, cases_lt}
 use Rattle.sand_model.specs.declared.shape.Edge.{Edge}
 use Rattle.sand_model.specs.declared.shape.Edge.TheVariants.{Open}
 use Rattle.sand_model.specs.Grid.{is_side}
@@ -12,9 +12,7 @@ use Rattle.sand_text.specs.declared.survey.Survey.{Survey}
 use Rattle.sand_text.specs.declared.tokens.Token.{Token}
 use Rattle.sand_text.specs.declared.tokens.Token.TheVariants.{Number, Letter, Strange}
 use Rattle.sand_text.specs.Tokens.{first_strange, numbers}
-use Rattle.sand_text.specs.Reading.{second_letter, second_spared}
-use Rattle.sand_text.specs.Bytes.{has_large}
-use Rattle.sand_text.proofs.Shapes.{both}
+use Rattle.sand_text.specs.Reading.{second_letter}
 use Rattle.sand_text.specs.Surveys.{IsSurvey, IsStrangeAt, IsFull, IsWithinPile, IsFirstStrange, barred_at, edge_with}
 
 -- ---- the first pile
@@ -56,7 +54,7 @@ letter_later false (w ∷ h ∷ ns) s width height within =
       | inr high ↦
           let same_width : s.width ≡ w = width (omega arith) in
           let same_height : s.height ≡ h = height (omega arith) in
-          let in_range = both (is_side w) (is_side h) sides in
+          let in_range = and_parts (is_side w) (is_side h) sides in
           let is_width : IsTrue (is_side s.width) = rw same_width in_range.0 in
           let is_height : IsTrue (is_side s.height) = rw same_height in_range.1 in
           let few = within (omega arith) is_width is_height in
@@ -74,45 +72,29 @@ pub strange_in_first : (over : Bool) (ws rest : List Token) (s : Survey) (e : Te
 strange_in_first over ws rest s e h within strange =
     (strange.at, strange.is, strange.strange (second_letter over (numbers ws)) (later_letter over ws rest s h within))
 
--- ---- the second pile
+-- ---- the second pile, in a text that has a number over the limit or not
 
-barred_letter : (over : Bool) (ws rest : List Token) (s : Survey) (token : Token) (at : ℕ)
-    → IsSurvey ws (token ∷ rest) s → (over ≡ true → s.edge ≡ Open)
-    → barred_at over token ≡ Some at
-    → first_strange (if over then [] else 2 ∷ []) 0 ws ≡ Some at
+pub barred : (over : Bool) (ws rest : List Token) (s : Survey) (token : Token) (at : ℕ)
+    → IsSurvey ws (token ∷ rest) s → (over ≡ true → s.edge ≡ Open) → barred_at over token ≡ Some at
+    → IsFirstStrange (if over then [] else 2 ∷ []) ws (Text at)
 unfolding first_strange
-barred_letter true ws rest s (Letter place) at h is_open is = sym (h.letters.bare (is_open refl)) ∙ is
-barred_letter true ws rest s (Number place value) at h is_open is = absurd (cc)
-barred_letter true ws rest s (Strange place) at h is_open is = absurd (cc)
-barred_letter false ws rest s token at h is_open is = absurd (cc)
+barred true ws rest s (Letter place) at h is_open is = (at, refl, sym (h.letters.bare (is_open refl)) ∙ is)
+barred true ws rest s (Number place value) at h is_open is = absurd (cc)
+barred true ws rest s (Strange place) at h is_open is = absurd (cc)
+barred false ws rest s token at h is_open is = absurd (cc)
 
-pub barred : (text : List ℕ) (ws rest : List Token) (s : Survey) (token : Token) (at : ℕ)
-    → IsSurvey ws (token ∷ rest) s → (has_large text ≡ true → s.edge ≡ Open)
-    → barred_at (has_large text) token ≡ Some at
-    → IsFirstStrange (second_spared text) ws (Text at)
-barred text ws rest s token at h is_open is = (at, refl, barred_letter (has_large text) ws rest s token at h is_open is)
-
-by_bar : (over : Bool) (ws : List Token) (s : Survey) (e : TextFault)
+pub strange_in_second : (over : Bool) (ws : List Token) (s : Survey) (e : TextFault)
     → (over ≡ true → s.edge ≡ Open) → IsStrangeAt ws s e
     → IsFirstStrange (if over then [] else 2 ∷ []) ws e
-by_bar true ws s e is_open strange = (strange.at, strange.is, strange.bare (is_open refl))
-by_bar false ws s e is_open strange = (strange.at, strange.is, strange.strange [] (λ i d lt. absurd (omega arith)))
+strange_in_second true ws s e is_open strange = (strange.at, strange.is, strange.bare (is_open refl))
+strange_in_second false ws s e is_open strange =
+    (strange.at, strange.is, strange.strange [] (λ i d lt. absurd (omega arith)))
 
-pub strange_in_second : (text : List ℕ) (ws : List Token) (s : Survey) (e : TextFault)
-    → (has_large text ≡ true → s.edge ≡ Open) → IsStrangeAt ws s e
-    → IsFirstStrange (second_spared text) ws e
-strange_in_second text ws s e is_open strange = by_bar (has_large text) ws s e is_open strange
-
-none_at_end : (over : Bool) (ws : List Token) (s : Survey) → IsSurvey ws [] s → (over ≡ true → s.edge ≡ Open)
+pub plain_second : (over : Bool) (ws : List Token) (s : Survey) → IsSurvey ws [] s → (over ≡ true → s.edge ≡ Open)
     → first_strange (if over then [] else 2 ∷ []) 0 ws ≡ None
 unfolding first_strange
-none_at_end true ws s h is_open = sym (h.letters.bare (is_open refl))
-none_at_end false ws s h is_open = sym (h.letters.plain [] (λ i d lt. absurd (omega arith)))
-
-pub plain_second : (text : List ℕ) (ws : List Token) (s : Survey)
-    → IsSurvey ws [] s → (has_large text ≡ true → s.edge ≡ Open)
-    → first_strange (second_spared text) 0 ws ≡ None
-plain_second text ws s h is_open = none_at_end (has_large text) ws s h is_open
+plain_second true ws s h is_open = sym (h.letters.bare (is_open refl))
+plain_second false ws s h is_open = sym (h.letters.plain [] (λ i d lt. absurd (omega arith)))
 
 -- with a number over the limit, a token that is not barred leaves the edge open
 pub still_open : (over : Bool) (token : Token) (e f : Edge)

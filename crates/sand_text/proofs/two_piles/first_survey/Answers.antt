@@ -1,14 +1,11 @@
-use Rattle.std.proofs.Common.{◌≡◌, Bool, false, arith}
-use Rattle.std.specs.Prelude.{IsTrue}
+use Rattle.std.proofs.Common.{arith}
+use Rattle.std.proofs.lemmas.Bool.{both_ways}
 use Rattle.std.proofs.lemmas.Result.{err_from_is_err_and}
 use Rattle.sand_text.specs.Left.{tokens_left}
 use Rattle.sand_text.proofs.Lengths.{few_numbers}
 use Rattle.sand_text.proofs.Surveying.{at_tokens}
 use Rattle.sand_text.proofs.TwoWalks.{one_further, strange_in_first}
 use Rattle.sand_text.proofs.two_piles.first_survey.Goals as goal
-
-not_both : (b : Bool) → b ≡ false → IsTrue b → ⊥
-not_both b e h = cc
 
 pub pile-init : goal.pile-init
 pile-init c = record {
@@ -33,7 +30,7 @@ pile-preserved c =
       underway = next;
       within =
           one_further ws _ (tokens_left c.next.new.self) c.pile.survey c.take.new.self here next c.pile.invariant.within
-          (λ full. not_both c.is_full.result c.pile-test.true (c.is_full.ensures.1 full)) c.in_ok-take.ensures.count;
+          (λ full. both_ways c.is_full.result c.pile-test.true (c.is_full.ensures.1 full)) c.in_ok-take.ensures.count;
     }
 
 pub returns-in_err-take-clause-err : goal.returns-in_err-take-clause-err

@@ -18,7 +18,7 @@ pub returns-in-Some-barred_at-clause-err : goal.returns-in-Some-barred_at-clause
 returns-in-Some-barred_at-clause-err c =
     let ws = tokens_left c.args.tokens in
     let here = at_tokens ws _ _ c.loop-token.survey c.in-Some.ensures.steps c.loop-token.invariant.underway in
-    barred c.args.text.now ws _ c.loop-token.survey c.in-Some.token c.in-Some-barred_at.at
+    barred (has_large c.args.text.now) ws _ c.loop-token.survey c.in-Some.token c.in-Some-barred_at.at
     here c.loop-token.invariant.barred (sym c.barred_at.ensures ∙ c.in-Some-barred_at.is)
 
 pub take-requires : goal.take-requires
@@ -46,9 +46,9 @@ returns-in_err-take-clause-err c =
     let ws = tokens_left c.args.tokens in
     let here = at_tokens ws _ _ c.loop-token.survey c.in-Some.ensures.steps c.loop-token.invariant.underway in
     let strange = c.in_err-take.ensures.strange ws (tokens_left c.next.new.self) here in
-    rw (p.1, p.2) (strange_in_second c.args.text.now ws c.loop-token.survey
+    rw (p.1, p.2) (strange_in_second (has_large c.args.text.now) ws c.loop-token.survey
     c.in_err-take.field-0.0 c.loop-token.invariant.barred strange)
 
 pub returns-clause-plain : goal.returns-clause-plain
-returns-clause-plain c = plain_second c.args.text.now (tokens_left c.args.tokens) c.loop-token.survey
+returns-clause-plain c = plain_second (has_large c.args.text.now) (tokens_left c.args.tokens) c.loop-token.survey
     (at_tokens _ _ _ _ c.in-None.ensures.steps.0 c.loop-token.invariant.underway) c.loop-token.invariant.barred

@@ -2,25 +2,27 @@ use Rattle.std.proofs.Common.{◌≡◌, ◌+◌, ◌≤◌, false, length, refl
 use Rattle.std.proofs.lemmas.Result.{err_from_is_err_and}
 use Rattle.sand_model.specs.Grid.{sites}
 use Rattle.sand_text.specs.Tokens.{tokens}
-use Rattle.sand_text.specs.Reading.{behind_heights, heights_behind}
+use Rattle.sand_text.specs.Reading.{two_of, behind_heights, heights_behind}
 use Rattle.sand_text.specs.Surveys.{IsShaped}
 use Rattle.sand_text.proofs.Readings.{one_each}
-use Rattle.sand_text.proofs.TwoPiles.{faulty_two, misshapen_first, misshapen_second, good_two, second_facts}
+use Rattle.sand_text.proofs.TwoPiles.{misshapen_second, good_two, second_facts}
 use Rattle.sand_text.proofs.two_piles.shapes_of.Goals.{In_ok-first_shape, In_ok-second_shape}
 use Rattle.sand_text.proofs.two_piles.shapes_of.Goals as goal
 
 pub returns-in_err-first-clause-err : goal.returns-in_err-first-clause-err
+unfolding two_of
 returns-in_err-first-clause-err c =
     let p = err_from_is_err_and c.from_residual.result c.from_residual.ensures.1 in
-    rw (p.1, p.2) (faulty_two c.args.text.now c.in_err-first.field-0.0 c.in_err-first.ensures.err)
+    rw (p.1, p.2) (rw (c.in_err-first.ensures.err) refl)
 
 pub returns-in_err-first_shape-clause-err : goal.returns-in_err-first_shape-clause-err
+unfolding two_of
 returns-in_err-first_shape-clause-err c =
     let p =
     err_from_is_err_and c.from_residual-in_err-first_shape.result c.from_residual-in_err-first_shape.ensures.1 in
     let (rest, front, second) = c.in_ok-first.ensures.piles in
     let err = c.in_err-first_shape.ensures.err (tokens c.args.text.now) rest front.underway front.end in
-    rw (p.1, p.2) (misshapen_first c.args.text.now c.in_err-first_shape.field-0.0 c.in_ok-first.ensures.plain err)
+    rw (p.1, p.2) (rw (c.in_ok-first.ensures.plain, err) refl)
 
 first_is : (c : In_ok-first_shape) → IsShaped false (length c.args.text.now) (tokens c.args.text.now)
     c.in_ok-first.first c.in_ok-first_shape.first_shape

@@ -1,8 +1,8 @@
-use Rattle.std.proofs.Common.{sym, ◌∙◌}
+use Rattle.std.proofs.Common.{refl, sym, ◌∙◌}
 use Rattle.std.proofs.lemmas.Result.{err_from_is_err_and}
 use Rattle.sand_text.specs.Left.{tokens_left}
 use Rattle.sand_text.specs.Bytes.{has_large}
-use Rattle.sand_text.proofs.TwoPiles.{front_tokens, strange_first, strange_second, large_in_two, plain_two}
+use Rattle.sand_text.proofs.TwoPiles.{front_tokens, strange_first, strange_second, plain_two}
 use Rattle.sand_text.proofs.two_piles.two_surveys.Goals as goal
 
 pub returns-in_err-first-clause-err : goal.returns-in_err-first-clause-err
@@ -21,11 +21,11 @@ returns-in_err-second-clause-err c =
 pub returns-in-Some-clause-err : goal.returns-in-Some-clause-err
 returns-in-Some-clause-err c =
     let front = front_tokens _ _ _ c.in_ok-first.first c.new-tokens.ensures c.in_ok-first.ensures.ok in
-    large_in_two c.args.text.now (tokens_left c.first_survey.new.tokens) c.in_ok-first.first c.in_ok-second.second
-    c.in-Some.at front c.in_ok-second.ensures.ok c.in_ok-second.ensures.plain (sym c.or.ensures ∙ c.in-Some.is)
+    plain_two c.args.text.now (tokens_left c.first_survey.new.tokens) c.in_ok-first.first c.in_ok-second.second
+    front c.in_ok-second.ensures.ok c.in_ok-second.ensures.plain ∙ rw (sym c.or.ensures ∙ c.in-Some.is) refl
 
 pub returns-in-None-clause-plain : goal.returns-in-None-clause-plain
 returns-in-None-clause-plain c =
     let front = front_tokens _ _ _ c.in_ok-first.first c.new-tokens.ensures c.in_ok-first.ensures.ok in
     plain_two c.args.text.now (tokens_left c.first_survey.new.tokens) c.in_ok-first.first c.in_ok-second.second
-    front c.in_ok-second.ensures.ok c.in_ok-second.ensures.plain (sym c.or.ensures ∙ c.in-None.is)
+    front c.in_ok-second.ensures.ok c.in_ok-second.ensures.plain ∙ rw (sym c.or.ensures ∙ c.in-None.is) refl
