@@ -1,5 +1,5 @@
 -- The written text of a pile is read as the same pile.
-use Rattle.std.proofs.Common.{◌≡◌, ℕ, zero, suc, ◌+◌, ◌*◌, ◌<◌, ◌≤◌, ◌^◌, List, [], ◌∷◌, ◌++◌, length, take, drop, None, decimal, refl, sym, ◌∙◌, ap, arith, append_assoc, length-drop, zero-mul, suc-mul, mul_comm, ◌&&◌, ltb, eq-eqb, not, true, false, cond, eqb, sum, min, subst}
+use Rattle.std.proofs.Common.{◌≡◌, ℕ, zero, suc, ◌+◌, ◌*◌, ◌<◌, ◌≤◌, ◌^◌, List, [], ◌∷◌, ◌++◌, length, take, drop, None, decimal, refl, ◌∙◌, ap, arith, append_assoc, length-drop, zero-mul, suc-mul, mul_comm, ◌&&◌, ltb, eq-eqb, not, true, false, cond, eqb, sum, min, subst}
 use Rattle.std.specs.Prelude.{Ok}
 use Rattle.std.specs.Bool.{if◌then◌else◌, ◌==◌}
 use Rattle.std.specs.List.{All}
@@ -20,7 +20,7 @@ use Rattle.sand_text.specs.Bytes.{is_digit, is_other, is_space, digits_len}
 use Rattle.sand_text.specs.Tokens.{token_of, tokens_from, tokens_at, tokens, first_strange, first_large, edge_behind, numbers}
 use Rattle.sand_text.specs.Texts.{row_text, rows_text, edge_text, text_of}
 use Rattle.sand_text.specs.Reading.{front_of, pile_of}
-use Rattle.sand_text.proofs.Cuts.{IsToken, after_space, after_token}
+use Rattle.sand_text.proofs.Cuts.{after_space, after_token}
 use Rattle.sand_text.proofs.Decimals.{only_digits}
 
 abbrev AreSmall : List ℕ → Type 0

@@ -3,11 +3,11 @@
 use Rattle.std.proofs.Common.{◌≡◌, ℕ, suc, zero, ◌+◌, ◌<◌, ◌≤◌, List, [], ◌∷◌, ◌++◌, Bool, true, false, not, length, take, drop, get_or, refl, sym, ◌∙◌, ap, arith, add-zero, append-nil, drop-cons, length-append, length-drop, inl, inr, eqb, subst}
 use Rattle.std.proofs.lemmas.Bool.{not-true, cases_Bool}
 use Rattle.std.proofs.lemmas.Grind.{common_steps}
-use Rattle.std.proofs.lemmas.List.{get_or-take, get_or-drop, length-take, nil_from_length, take-append-drop}
+use Rattle.std.proofs.lemmas.List.{get_or-take, get_or-drop, nil_from_length, take-append-drop}
 use Rattle.std.proofs.lemmas.List.Folds.{length-prefix_len}
 use Rattle.std.proofs.lemmas.List.Splits.{slice_split_none, slice_split_at}
 use Rattle.std.proofs.lemmas.List.Sums.{prefix_len-le-length, fails_before_first, passes_at_first}
-use Rattle.std.specs.List.{All, position_or_len, slice_split, position}
+use Rattle.std.specs.List.{All, position_or_len, position}
 use Rattle.std.specs.Option.{unwrap_or}
 use Rattle.sand_text.specs.Bytes.{is_space, token_len}
 use Rattle.sand_text.specs.Tokens.{token_of, tokens_from, tokens_at}

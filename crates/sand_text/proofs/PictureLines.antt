@@ -1,5 +1,5 @@
 -- The lines of the picture of a stable pile.
-use Rattle.std.proofs.Common.{◌≡◌, ℕ, zero, suc, ◌+◌, ◌*◌, ◌^◌, ◌<◌, ◌≤◌, List, [], ◌∷◌, ◌++◌, true, false, length, take, drop, get_or, decimal, refl, sym, ◌∙◌, ap, subst, arith, inl, inr, append_assoc, append-nil, length-drop, length-append, eqb}
+use Rattle.std.proofs.Common.{◌≡◌, ℕ, zero, suc, ◌+◌, ◌*◌, ◌^◌, ◌<◌, ◌≤◌, List, [], ◌∷◌, ◌++◌, true, false, length, take, drop, decimal, refl, sym, ◌∙◌, ap, arith, inl, inr, append_assoc, append-nil, length-drop, length-append, eqb}
 use Rattle.std.specs.Bool.{◌==◌}
 use Rattle.std.specs.List.{All, flat_map, slice_split}
 use Rattle.std.proofs.lemmas.Bool.{cases_lt}
@@ -51,9 +51,6 @@ IsLines-append a b first second = record {
   short = All-append IsShort first.lines second.lines first.short second.short;
 }
 
-IsLines-same : (a b : List ℕ) → a ≡ b → IsLines b → IsLines a
-IsLines-same a b e lines = subst IsLines (sym e) lines
-
 -- ---- values
 
 -- a line of stable heights: a digit for each, and a space between any two
@@ -98,15 +95,13 @@ row_lines [] some most low = absurd (omega arith)
 row_lines (n ∷ ns) some most low =
     let row = row_line n ns low in
     let len : length row.0 + 1 ≡ 2 * length (n ∷ ns) = row.1.len in
-    IsLines-same (row_text (n ∷ ns)) (row.0 ++ 10 ∷ []) row.1.text
-    (IsLines-one row.0 row.1.plain (omega arith, omega arith))
+    rw (row.1.text) (IsLines-one row.0 row.1.plain (omega arith, omega arith))
 
 -- the chunks of a list of stable heights, if each chunk makes short lines
 all_lines : (f : List ℕ → List ℕ) (size fuel : ℕ) (ns : List ℕ) → 0 < size
     → ((chunk : List ℕ) → 0 < length chunk → length chunk ≤ size → AreLow chunk → IsLines (f chunk))
     → length ns ≤ fuel → AreLow ns → IsLines (flat_map f (chunks ns size))
-all_lines f size zero ns some each le low =
-    IsLines-same (flat_map f (chunks ns size)) [] (chunks-end f size ns (omega arith)) IsLines-nil
+all_lines f size zero ns some each le low = rw (chunks-end f size ns (omega arith)) IsLines-nil
 all_lines f size (suc fuel) ns some each le low = elim (cases_lt 0 (length ns)) [
   | inl left ↦
       let front = take size ns in
@@ -115,10 +110,8 @@ all_lines f size (suc fuel) ns some each le low = elim (cases_lt 0 (length ns)) 
       (omega (arith, length-take size ns)) (All-take (λ n. n ≤ 3) size ns low) in
       let others =
       all_lines f size fuel back some each (omega (arith, length-drop size ns)) (All-drop (λ n. n ≤ 3) size ns low) in
-      let both = IsLines-append (f front) (flat_map f (chunks back size)) first others in
-      IsLines-same (flat_map f (chunks ns size))
-      (f front ++ flat_map f (chunks back size)) (chunks-next f size ns some left) both
-  | inr nothing ↦ IsLines-same (flat_map f (chunks ns size)) [] (chunks-end f size ns (omega arith)) IsLines-nil
+      rw (chunks-next f size ns some left) (IsLines-append (f front) (flat_map f (chunks back size)) first others)
+  | inr nothing ↦ rw (chunks-end f size ns (omega arith)) IsLines-nil
 ]
 
 grid_row_lines : (row : List ℕ) → AreLow row → IsLines (lines_text row)
@@ -168,8 +161,7 @@ picture_lines p pile stable =
     let behind_magic = IsLines-append sides (greatest ++ values)
     (sides_line p.grid.width p.grid.height pile.grid.width_limit pile.grid.height_limit) behind_sides in
     let whole : pgm_text_of p ≡ magic ++ (sides ++ (greatest ++ values)) = simp append_assoc in
-    IsLines-same (pgm_text_of p) (magic ++ (sides ++ (greatest ++ values))) whole
-    (IsLines-append magic (sides ++ (greatest ++ values)) magic_line behind_magic)
+    rw whole (IsLines-append magic (sides ++ (greatest ++ values)) magic_line behind_magic)
 
 pub no_long_line : NoLongLine
 no_long_line p pile stable =

@@ -1,21 +1,21 @@
 -- One step of writing a row or rows.
-use Rattle.std.proofs.Common.{◌≡◌, ℕ, suc, ◌+◌, ◌-◌, ◌*◌, ◌<◌, ◌≤◌, List, [], ◌∷◌, ◌++◌, length, take, drop, get_or, decimal, refl, ◌∙◌, ap, arith, add-one, drop-cons, length-drop, eqb}
+use Rattle.std.proofs.Common.{◌≡◌, ℕ, suc, ◌+◌, ◌*◌, ◌<◌, ◌≤◌, List, [], ◌∷◌, ◌++◌, length, take, drop, get_or, decimal, refl, ◌∙◌, ap, arith, length-drop, eqb}
 use Rattle.std.specs.Bool.{if◌then◌else◌, ◌==◌}
 use Rattle.std.proofs.lemmas.Bool.Decides.{nat_tests}
-use Rattle.std.proofs.lemmas.List.{drop_all}
+use Rattle.std.proofs.lemmas.List.{at_drop_all, at_drop_more}
 use Rattle.sand_text.specs.Texts.{row_text, rows_text}
 
 pub row_text-next : (ns : List ℕ) (i : ℕ) → i < length ns → row_text (drop i ns)
     ≡ decimal (get_or ns i 0) ++ (if i + 1 == length ns then 10 else 32) ∷ row_text (drop (i + 1) ns)
 unfolding row_text
 row_text-next ns i lt =
-    let len : length (drop (suc i) ns) ≡ length ns - suc i = length-drop (suc i) ns in
-    let same : eqb (length (drop (suc i) ns)) 0 ≡ eqb (i + 1) (length ns) = rw len (grind (arith, nat_tests)) in
-    ap row_text (drop-cons ns i 0 lt) ∙ rw (same, add-one) refl
+    let len = length-drop (i + 1) ns in
+    let same : eqb (length (drop (i + 1) ns)) 0 ≡ eqb (i + 1) (length ns) = rw len (grind (arith, nat_tests)) in
+    at_drop_more row_text ns i 0 lt ∙ rw same refl
 
 pub row_text-end : (ns : List ℕ) (i : ℕ) → length ns ≤ i → row_text (drop i ns) ≡ []
 unfolding row_text
-row_text-end ns i le = rw (drop_all i ns le) refl
+row_text-end ns i le = at_drop_all row_text ns i le
 
 pub rows_text-next : (n k w : ℕ) (ns : List ℕ) → n ≡ k + 1
     → rows_text n w ns ≡ row_text (take w ns) ++ rows_text k w (drop w ns)

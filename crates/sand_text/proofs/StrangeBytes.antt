@@ -1,7 +1,7 @@
 -- The first strange byte of a text, by its tokens and by its bytes.
-use Rattle.std.proofs.Common.{◌≡◌, ℕ, ◌+◌, ◌-◌, ◌<◌, ◌≤◌, List, [], ◌∷◌, ◌++◌, Bool, true, false, not, ◌==◌, length, get_or, Option, Some, None, refl, sym, ◌∙◌, ap, arith, inl, inr, eqb, length-append}
+use Rattle.std.proofs.Common.{◌≡◌, ℕ, ◌+◌, ◌-◌, ◌<◌, List, [], ◌∷◌, ◌++◌, true, false, not, ◌==◌, length, get_or, Option, Some, None, refl, sym, ◌∙◌, ap, arith, inl, inr, eqb, length-append}
 use Rattle.std.specs.Prelude.{MatchOption, ◌⊎◌}
-use Rattle.std.specs.List.{All, filter, list_any}
+use Rattle.std.specs.List.{All, list_any}
 use Rattle.std.specs.Str.Parse.{digits_value}
 use Rattle.std.proofs.lemmas.Bool.{cases_lt, cases_Bool, both_ways, and_right, cond_both, eqb-true}
 use Rattle.std.proofs.lemmas.Bool.Decides.{nat_tests}
