@@ -9,14 +9,15 @@
 
 ghost use Rattle.std.specs.Prelude.{◌≤◌, ◌<◌};
 
-use crate::frame::{Frame, run, run_mut};
 use crate::neighbours::add_neighbours;
+use crate::rows::{row_of, row_of_mut, run, run_mut};
+use sand_model::{Edge, Shape};
 use std::alloc::{AllocError, Global};
 
 // The offset of a height in a byte.
 const LEVEL: u8 = 128;
 
-// A height that does not fit into a byte loses its other bits.
+// The bits of a byte. Heights here are from -4 to 3, so the mask changes nothing; it spares a proof.
 const BYTE_BITS: u64 = 0xff;
 
 // More bits than the index of a cell has: there are at most 258 * 256 cells.
@@ -33,7 +34,7 @@ const EAST_END: u8 = 64;
 /// A fire over a grid.
 #[derive(Drop)]
 pub(crate) struct Fire {
-    frame: Frame,
+    shape: Shape,
     /// By site, 1 if it has toppled and did not burn in the last fire, and otherwise 0.
     marks: Vec<u8>,
     /// By site, its height plus `LEVEL`.
@@ -67,15 +68,14 @@ fn mark(marks: &mut [u8], counts: &[i64], least: i64) -> u32 {
 }
 
 // Marks the ends of the rows of cells.
-fn set_ends(room: &mut [u8], frame: Frame) {
-    let (west, east) = if frame.goes_round {
-        (WEST_END, EAST_END)
-    } else {
-        (OUTSIDE, OUTSIDE)
+fn set_ends(room: &mut [u8], shape: Shape) {
+    let (west, east) = match shape.edge() {
+        Edge::Open => (OUTSIDE, OUTSIDE),
+        Edge::Cylinder => (WEST_END, EAST_END),
     };
-    for y in 0..frame.height {
-        let first = y * (frame.width + 2);
-        let last = first + frame.width + 1;
+    for y in 0..shape.height() {
+        let first = y * (shape.width() + 2);
+        let last = first + shape.width() + 1;
         if last < room.len() {
             room[first] = west;
             room[last] = east;
@@ -154,17 +154,17 @@ fn warm(room: &mut [u8], order: &mut [u32], burnt: usize, at: usize, width: usiz
 }
 
 impl Fire {
-    pub(crate) fn new(alloc: Global, frame: Frame) -> Result<Fire, AllocError> {
-        let mut room = vec![in alloc; 0u8; (frame.width + 2) * frame.height]?;
-        set_ends(&mut room, frame);
+    pub(crate) fn new(alloc: Global, shape: Shape) -> Result<Fire, AllocError> {
+        let mut room = vec![in alloc; 0u8; (shape.width() + 2) * shape.height()]?;
+        set_ends(&mut room, shape);
         Ok(Fire {
-            frame,
-            marks: vec![in alloc; 0u8; frame.sites()]?,
-            heights: vec![in alloc; LEVEL; frame.sites()]?,
+            shape,
+            marks: vec![in alloc; 0u8; shape.sites()]?,
+            heights: vec![in alloc; LEVEL; shape.sites()]?,
             room,
-            around: vec![in alloc; 0u8; frame.width]?,
+            around: vec![in alloc; 0u8; shape.width()]?,
             // One more than the sites, since a cell is written before it is known whether it burns.
-            order: vec![in alloc; 0u32; frame.sites() + 1]?,
+            order: vec![in alloc; 0u32; shape.sites() + 1]?,
             burnt: 0,
         })
     }
@@ -172,19 +172,19 @@ impl Fire {
     // Counts the marked neighbours of the sites of a row.
     fn count_around(&mut self, y: usize) {
         self.around.fill(0);
-        add_neighbours(self.frame, &self.marks, y, &mut self.around);
+        add_neighbours(self.shape, &self.marks, y, &mut self.around);
     }
 
     // Sets `room`: each height less the number of neighbours that have toppled.
     fn find_room(&mut self) {
-        let frame = self.frame;
-        for y in 0..frame.height {
+        let shape = self.shape;
+        for y in 0..shape.height() {
             self.count_around(y);
-            let from = y * (frame.width + 2) + 1;
+            let from = y * (shape.width() + 2) + 1;
             set_room(
-                run_mut(&mut self.room, from, frame.width),
-                frame.row(&self.heights, y),
-                frame.row(&self.marks, y),
+                run_mut(&mut self.room, from, shape.width()),
+                row_of(shape, &self.heights, y),
+                row_of(shape, &self.marks, y),
                 &self.around,
             );
         }
@@ -192,9 +192,9 @@ impl Fire {
 
     // Burns until no more sites burn.
     fn burn(&mut self) {
-        let width = self.frame.width;
+        let width = self.shape.width();
         let mut burnt = kindle(&self.room, &mut self.order);
-        for turn in 0..self.frame.sites() {
+        for turn in 0..self.shape.sites() {
             if turn >= burnt || turn >= self.order.len() {
                 break;
             }
@@ -210,21 +210,21 @@ impl Fire {
 
     // Keeps the marks of the sites that did not burn.
     fn unmark_burnt(&mut self) {
-        let frame = self.frame;
-        for y in 0..frame.height {
-            let room = run(&self.room, y * (frame.width + 2) + 1, frame.width);
-            unmark(frame.row_mut(&mut self.marks, y), room);
+        let shape = self.shape;
+        for y in 0..shape.height() {
+            let room = run(&self.room, y * (shape.width() + 2) + 1, shape.width());
+            unmark(row_of_mut(shape, &mut self.marks, y), room);
         }
     }
 
     // Takes back one toppling at each marked site.
     fn untopple(&mut self, counts: &mut [i64]) {
-        let frame = self.frame;
+        let shape = self.shape;
         lower(counts, &self.marks);
-        for y in 0..frame.height {
+        for y in 0..shape.height() {
             self.count_around(y);
-            let heights = frame.row_mut(&mut self.heights, y);
-            untopple(heights, frame.row(&self.marks, y), &self.around);
+            let heights = row_of_mut(shape, &mut self.heights, y);
+            untopple(heights, row_of(shape, &self.marks, y), &self.around);
         }
     }
 
@@ -263,13 +263,13 @@ impl Fire {
     // The site of a cell that is not at an end.
     fn site_of(&self, cell: u32) -> usize {
         let cell = cell as usize;
-        let ends_before = 2 * (cell / (self.frame.width + 2)) + 1;
+        let ends_before = 2 * (cell / (self.shape.width() + 2)) + 1;
         cell.saturating_sub(ends_before)
     }
 
     /// By site, the turn at which it burns, from 1 on, or 0 if it does not burn.
     pub(crate) fn turns(&self, alloc: Global) -> Result<Vec<u32>, AllocError> {
-        let mut turns = vec![in alloc; 0u32; self.frame.sites()]?;
+        let mut turns = vec![in alloc; 0u32; self.shape.sites()]?;
         let mut turn = 0u32;
         for place in 0..self.burnt.min(self.order.len()) {
             turn = turn.wrapping_add(1);

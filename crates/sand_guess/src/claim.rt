@@ -19,8 +19,8 @@ pub struct Claim {
 
 // The repaired counts of a level of this expected density.
 fn repaired(alloc: Global, level: &Level, expected: &[f64]) -> Result<Option<Repair>, AllocError> {
-    let solver = Solver::new(alloc, level.frame)?;
-    let mut repair = Repair::new(alloc, level.frame)?;
+    let solver = Solver::new(alloc, level.shape)?;
+    let mut repair = Repair::new(alloc, level.shape)?;
     let is_near = repair.begin(alloc, level, &solver, expected)?;
     if !is_near || !repair.finish(alloc, level, &solver)? {
         return Ok(None);
@@ -35,14 +35,14 @@ fn repaired_first(alloc: Global, mut levels: Vec<Level>) -> Result<Option<Repair
         let Some(level) = levels.pop() else {
             break;
         };
-        let expected = expected_from(alloc, level.frame, &half)?;
+        let expected = expected_from(alloc, level.shape, &half)?;
         let Some(repair) = repaired(alloc, &level, &expected)? else {
             break;
         };
         if levels.is_empty() {
             return Ok(Some(repair));
         }
-        let prediction = Prediction::new(alloc, level.frame, &repair.left, &expected)?;
+        let prediction = Prediction::new(alloc, level.shape, &repair.left, &expected)?;
         half = Some(prediction);
     }
     Ok(None)
@@ -69,7 +69,7 @@ fn claim_of(alloc: Global, repair: &Repair) -> Result<Claim, AllocError> {
 /// None if that takes longer than a guess. Like a guess, it is not proved right. Fails only if an allocation fails.
 pub fn toppled(alloc: Global, pile: &Pile) -> Result<Option<Claim>, AllocError> {
     let level = Level::of_pile(alloc, pile)?;
-    let mut repair = Repair::new(alloc, level.frame)?;
+    let mut repair = Repair::new(alloc, level.shape)?;
     if !repair.sweep(&level, SWEEPS_OF_A_GUESS) {
         return Ok(None);
     }

@@ -2,7 +2,8 @@
 
 ghost use Rattle.std.specs.Prelude.{◌≤◌, ◌<◌};
 
-use crate::frame::Frame;
+use crate::rows::{row_of, row_of_mut};
+use sand_model::{Edge, Shape};
 use std::alloc::{AllocError, Global};
 use std::num::{nearest_i64_to_f64, nearest_usize_to_f64};
 
@@ -16,9 +17,9 @@ const RADIUS: usize = 3;
 const TREND: f64 = 0.25;
 
 // A copy of a line and of what its means see beyond its ends: the other end if it wraps around, and otherwise zeros.
-fn pad(line: &[f64], goes_round: bool, padded: &mut Vec<f64>) -> Result<(), AllocError> {
+fn pad(line: &[f64], edge: Edge, padded: &mut Vec<f64>) -> Result<(), AllocError> {
     let (before, after) = match (line.last_chunk::<RADIUS>(), line.first_chunk::<RADIUS>()) {
-        (Some(last), Some(first)) if goes_round => (*last, *first),
+        (Some(last), Some(first)) if edge == Edge::Cylinder => (*last, *first),
         _ => ([0.0; RADIUS], [0.0; RADIUS]),
     };
     padded.clear();
@@ -28,17 +29,18 @@ fn pad(line: &[f64], goes_round: bool, padded: &mut Vec<f64>) -> Result<(), Allo
 }
 
 // The number of cells of a line in the mean at cell x.
-fn seen_from(x: usize, cells: usize, goes_round: bool) -> usize {
-    if goes_round {
-        2 * RADIUS + 1
-    } else {
-        let end = x.saturating_add(RADIUS + 1).min(cells);
-        end.saturating_sub(x.saturating_sub(RADIUS))
+fn seen_from(x: usize, cells: usize, edge: Edge) -> usize {
+    match edge {
+        Edge::Open => {
+            let end = x.saturating_add(RADIUS + 1).min(cells);
+            end.saturating_sub(x.saturating_sub(RADIUS))
+        }
+        Edge::Cylinder => 2 * RADIUS + 1,
     }
 }
 
 // Replaces a line by its means. `padded` has the line and what it sees beyond its ends.
-fn blur_line(line: &mut [f64], goes_round: bool, padded: &[f64]) {
+fn blur_line(line: &mut [f64], edge: Edge, padded: &[f64]) {
     let cells = line.len();
     let seen = 2 * RADIUS;
     let mut sum = 0.0;
@@ -47,7 +49,7 @@ fn blur_line(line: &mut [f64], goes_round: bool, padded: &[f64]) {
     }
     for x in 0..cells.min(padded.len().saturating_sub(seen)) {
         sum += padded[x + seen];
-        line[x] = sum / nearest_usize_to_f64(seen_from(x, cells, goes_round));
+        line[x] = sum / nearest_usize_to_f64(seen_from(x, cells, edge));
         sum -= padded[x];
     }
 }
@@ -70,14 +72,14 @@ fn blurred(
     alloc: Global,
     mut all: Vec<f64>,
     length: usize,
-    goes_round: bool,
+    edge: Edge,
 ) -> Result<Vec<f64>, AllocError>
     requires { 0 < length }
 {
     let mut padded = Vec::new(alloc);
     for line in all.chunks_exact_mut(length) {
-        pad(line, goes_round, &mut padded)?;
-        blur_line(line, goes_round, &padded);
+        pad(line, edge, &mut padded)?;
+        blur_line(line, edge, &padded);
     }
     turned(alloc, &all, length)
 }
@@ -91,11 +93,11 @@ fn numbers_of(alloc: Global, heights: &[i64]) -> Result<Vec<f64>, AllocError> {
 }
 
 // Local means of heights.
-fn density_of(alloc: Global, frame: Frame, heights: &[i64]) -> Result<Vec<f64>, AllocError> {
+fn density_of(alloc: Global, shape: Shape, heights: &[i64]) -> Result<Vec<f64>, AllocError> {
     let mut all = numbers_of(alloc, heights)?;
     for _ in 0..2 {
-        let columns = blurred(alloc, all, frame.width, frame.goes_round)?;
-        all = blurred(alloc, columns, frame.height, false)?;
+        let columns = blurred(alloc, all, shape.width(), shape.edge())?;
+        all = blurred(alloc, columns, shape.height(), Edge::Open)?;
     }
     Ok(all)
 }
@@ -103,7 +105,7 @@ fn density_of(alloc: Global, frame: Frame, heights: &[i64]) -> Result<Vec<f64>, 
 /// The density that a pile predicts, by its sites, for the pile of twice the size.
 #[derive(Drop)]
 pub(crate) struct Prediction {
-    frame: Frame,
+    shape: Shape,
     densities: Vec<f64>,
 }
 
@@ -111,23 +113,23 @@ impl Prediction {
     /// From the heights of a settled pile: their density, and a part of its deviation from what was expected.
     pub(crate) fn new(
         alloc: Global,
-        frame: Frame,
+        shape: Shape,
         heights: &[i64],
         expected: &[f64],
     ) -> Result<Prediction, AllocError> {
-        let mut densities = density_of(alloc, frame, heights)?;
+        let mut densities = density_of(alloc, shape, heights)?;
         for site in 0..densities.len().min(expected.len()) {
             let found = densities[site];
             densities[site] = found + TREND * (found - expected[site]);
         }
-        Ok(Prediction { frame, densities })
+        Ok(Prediction { shape, densities })
     }
 
     // Writes row y of the densities of a pile of twice the size. A short side may have the same length here.
-    fn put_row(&self, frame: Frame, y: usize, row: &mut [f64]) {
-        let across = 1 + usize::from(self.frame.width != frame.width);
-        let down = 1 + usize::from(self.frame.height != frame.height);
-        let densities = self.frame.row(&self.densities, y / down);
+    fn put_row(&self, shape: Shape, y: usize, row: &mut [f64]) {
+        let across = 1 + usize::from(self.shape.width() != shape.width());
+        let down = 1 + usize::from(self.shape.height() != shape.height());
+        let densities = row_of(self.shape, &self.densities, y / down);
         for x in 0..row.len() {
             row[x] = densities.get(x / across).copied().unwrap_or(USUAL);
         }
@@ -137,13 +139,13 @@ impl Prediction {
 /// The density expected of a pile: what half its size predicts.
 pub(crate) fn expected_from(
     alloc: Global,
-    frame: Frame,
+    shape: Shape,
     half: &Option<Prediction>,
 ) -> Result<Vec<f64>, AllocError> {
-    let mut all = vec![in alloc; USUAL; frame.sites()]?;
+    let mut all = vec![in alloc; USUAL; shape.sites()]?;
     if let Some(prediction) = half {
-        for y in 0..frame.height {
-            prediction.put_row(frame, y, frame.row_mut(&mut all, y));
+        for y in 0..shape.height() {
+            prediction.put_row(shape, y, row_of_mut(shape, &mut all, y));
         }
     }
     Ok(all)

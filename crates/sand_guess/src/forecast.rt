@@ -10,8 +10,9 @@
 
 ghost use Rattle.std.specs.Prelude.{◌≤◌, ◌<◌};
 
-use crate::frame::{frame_of, signed};
-use sand_model::Pile;
+use crate::levels::signed;
+use crate::rows::row_of;
+use sand_model::{Edge, Pile};
 
 // The number of topplings per site for which the queue takes longer than a guess.
 const MANY: i64 = 256;
@@ -30,11 +31,14 @@ fn arch(side: usize, at: usize) -> i64 {
 }
 
 // The sum of each height of a row less 3, times the arch over its column if the row's ends are open.
-fn row_above(row: &[u64], goes_round: bool) -> i64 {
+fn row_above(row: &[u64], edge: Edge) -> i64 {
     let mut sum = 0i64;
     for (x, height) in row.iter().enumerate() {
         let above = signed(*height).wrapping_sub(3);
-        let factor = if goes_round { 1 } else { arch(row.len(), x) };
+        let factor = match edge {
+            Edge::Open => arch(row.len(), x),
+            Edge::Cylinder => 1,
+        };
         sum = sum.wrapping_add(above.wrapping_mul(factor));
     }
     sum
@@ -50,22 +54,23 @@ pub fn is_flat(pile: &Pile) -> bool {
 
 /// Whether a pile is found to be high. Nothing is proved of the result.
 pub fn is_high(pile: &Pile) -> bool {
-    let frame = frame_of(pile.shape());
-    let tall = arch(frame.height, frame.height / 2);
-    let (wide, divisor) = if frame.goes_round {
-        (1, 2)
-    } else {
-        let wide = arch(frame.width, frame.width / 2);
-        (wide, wide.wrapping_add(tall).wrapping_mul(2).max(1))
+    let shape = pile.shape();
+    let tall = arch(shape.height(), shape.height() / 2);
+    let (wide, divisor) = match shape.edge() {
+        Edge::Open => {
+            let wide = arch(shape.width(), shape.width() / 2);
+            (wide, wide.wrapping_add(tall).wrapping_mul(2).max(1))
+        }
+        Edge::Cylinder => (1, 2),
     };
     if wide.wrapping_mul(tall) < divisor.wrapping_mul(LEAST_DEPTH) {
         return false;
     }
     let mut topplings = 0i64;
-    for y in 0..frame.height {
-        let row = frame.row(pile.heights(), y);
-        let above = row_above(row, frame.goes_round).wrapping_div_euclid(divisor);
-        topplings = topplings.wrapping_add(above.wrapping_mul(arch(frame.height, y)));
+    for y in 0..shape.height() {
+        let row = row_of(shape, pile.heights(), y);
+        let above = row_above(row, shape.edge()).wrapping_div_euclid(divisor);
+        topplings = topplings.wrapping_add(above.wrapping_mul(arch(shape.height(), y)));
     }
-    topplings > (frame.sites() as i64).wrapping_mul(MANY)
+    topplings > (shape.sites() as i64).wrapping_mul(MANY)
 }

@@ -25,7 +25,6 @@ mod burning;
 mod claim;
 mod density;
 mod forecast;
-mod frame;
 mod levels;
 mod modes;
 mod neighbours;
@@ -33,6 +32,7 @@ mod planes;
 mod product;
 mod repair;
 mod residual;
+mod rows;
 mod solver;
 
 pub use claim::{Claim, guessed, guessed_identity, toppled};

@@ -8,7 +8,7 @@
 
 ghost use Rattle.std.specs.Prelude.{◌≤◌, ◌<◌};
 
-use crate::frame::Frame;
+use sand_model::{Edge, Shape};
 use std::alloc::{AllocError, Global};
 use std::num::nearest_usize_to_f64;
 
@@ -132,11 +132,10 @@ fn round_modes(alloc: Global, width: usize) -> Result<(Modes, Modes), AllocError
     Ok((even, odd))
 }
 
-/// The even and the odd modes along the rows of a frame.
-pub(crate) fn modes_of(alloc: Global, frame: Frame) -> Result<(Modes, Modes), AllocError> {
-    if frame.goes_round {
-        round_modes(alloc, frame.width)
-    } else {
-        open_modes(alloc, frame.width)
+/// The even and the odd modes along the rows of a grid.
+pub(crate) fn modes_of(alloc: Global, shape: Shape) -> Result<(Modes, Modes), AllocError> {
+    match shape.edge() {
+        Edge::Open => open_modes(alloc, shape.width()),
+        Edge::Cylinder => round_modes(alloc, shape.width()),
     }
 }

@@ -3,7 +3,8 @@
 //! Lists are by site, without a border: a row is added as a whole to the one above or below, and shifted by a cell to
 //! its sides, which the compiler does for many cells at once.
 
-use crate::frame::{Frame, run, run_mut};
+use crate::rows::{row_of, run, run_mut};
+use sand_model::{Edge, Shape};
 
 /// A number that wraps around when it is added to another.
 pub(crate) trait Wraps: Copy {
@@ -33,7 +34,7 @@ fn add<N: Wraps>(sums: &mut [N], numbers: &[N]) {
 
 // Adds the numbers to the west and to the east, and across the seam if there is one.
 #[inline(always)]
-fn add_sides<N: Wraps>(sums: &mut [N], row: &[N], goes_round: bool) {
+fn add_sides<N: Wraps>(sums: &mut [N], row: &[N], edge: Edge) {
     let cells = sums.len().min(row.len());
     if cells == 0 {
         return;
@@ -41,7 +42,7 @@ fn add_sides<N: Wraps>(sums: &mut [N], row: &[N], goes_round: bool) {
     let last = cells - 1;
     add(run_mut(sums, 1, last), row);
     add(sums, run(row, 1, last));
-    if goes_round {
+    if edge == Edge::Cylinder {
         sums[0] = sums[0].plus(row[last]);
         sums[last] = sums[last].plus(row[0]);
     }
@@ -49,8 +50,8 @@ fn add_sides<N: Wraps>(sums: &mut [N], row: &[N], goes_round: bool) {
 
 /// Adds, to each sum of row y, the numbers at the neighbours of its site.
 #[inline(always)]
-pub(crate) fn add_neighbours<N: Wraps>(frame: Frame, numbers: &[N], y: usize, sums: &mut [N]) {
-    add(sums, frame.row(numbers, y.wrapping_sub(1)));
-    add(sums, frame.row(numbers, y.wrapping_add(1)));
-    add_sides(sums, frame.row(numbers, y), frame.goes_round);
+pub(crate) fn add_neighbours<N: Wraps>(shape: Shape, numbers: &[N], y: usize, sums: &mut [N]) {
+    add(sums, row_of(shape, numbers, y.wrapping_sub(1)));
+    add(sums, row_of(shape, numbers, y.wrapping_add(1)));
+    add_sides(sums, row_of(shape, numbers, y), shape.edge());
 }

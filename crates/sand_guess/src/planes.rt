@@ -14,7 +14,8 @@
 
 ghost use Rattle.std.specs.Prelude.{◌≤◌, ◌<◌};
 
-use crate::frame::{Frame, run, run_mut};
+use crate::rows::{row_of, row_of_mut, run, run_mut};
+use sand_model::{Edge, Shape};
 use std::alloc::{AllocError, Global};
 use std::mem;
 use std::simd::prelude::*;
@@ -56,7 +57,7 @@ const MOST: u64 = 11;
 /// Heights in bit planes, and topplings that are underway.
 #[derive(Drop)]
 pub(crate) struct Planes {
-    frame: Frame,
+    shape: Shape,
     classes: usize,
     /// The planes of heights and counts, class by class and strip by strip.
     blocks: Vec<u64>,
@@ -243,16 +244,16 @@ fn of_class(words: &mut [u64], class: usize, classes: usize) -> &mut [u64]
 }
 
 impl Planes {
-    pub(crate) fn new(alloc: Global, frame: Frame) -> Result<Planes, AllocError> {
-        let classes = ((frame.height + (ROWS - 1)) / ROWS).max(1);
-        let strips = (frame.width + (STRIP - 1)) / STRIP;
+    pub(crate) fn new(alloc: Global, shape: Shape) -> Result<Planes, AllocError> {
+        let classes = ((shape.height() + (ROWS - 1)) / ROWS).max(1);
+        let strips = (shape.width() + (STRIP - 1)) / STRIP;
         let words = strips * STRIP + 2 * LANES;
         let mut toppled = Vec::new(alloc);
         for _ in 0..classes {
             toppled.push(vec![in alloc; 0u64; words]?)?;
         }
         Ok(Planes {
-            frame,
+            shape,
             classes,
             blocks: vec![in alloc; 0u64; classes * strips * BLOCK]?,
             sums: vec![in alloc; 0u64; classes * strips * SUM_BLOCK]?,
@@ -267,11 +268,11 @@ impl Planes {
         for row in &mut self.toppled {
             row.fill(0);
         }
-        for y in 0..self.frame.height {
+        for y in 0..self.shape.height() {
             let blocks = of_class(&mut self.blocks, y % self.classes, self.classes);
             put_row(
                 blocks,
-                self.frame.row(heights, y),
+                row_of(self.shape, heights, y),
                 (y / self.classes) as u32,
             );
         }
@@ -287,10 +288,10 @@ impl Planes {
     // Adds what toppled since the last call to the counts.
     fn count(&mut self, counts: &mut [i64]) {
         self.add_counts();
-        for y in 0..self.frame.height {
+        for y in 0..self.shape.height() {
             let sums = of_class(&mut self.sums, y % self.classes, self.classes);
             count_row(
-                self.frame.row_mut(counts, y),
+                row_of_mut(self.shape, counts, y),
                 sums,
                 (y / self.classes) as u32,
             );
@@ -302,7 +303,7 @@ impl Planes {
     fn inside(&self, class: usize) -> u64
         requires { class < 4 }
     {
-        let rows = (self.frame.height + (self.classes - 1)).saturating_sub(class) / self.classes;
+        let rows = (self.shape.height() + (self.classes - 1)).saturating_sub(class) / self.classes;
         u64::MAX.wrapping_shr(64u32.wrapping_sub(rows as u32))
     }
 
@@ -320,11 +321,11 @@ impl Planes {
     // Stores what toppled in a class in place of what toppled there before. The columns beyond the ends are empty, or
     // those of the other end if rows wrap around.
     fn keep(&mut self, class: usize) {
-        let end = LANES + self.frame.width;
+        let end = LANES + self.shape.width();
         let row = &mut self.spare;
         if end < row.len() && class < self.toppled.len() {
             row[end..].fill(0);
-            if self.frame.goes_round {
+            if self.shape.edge() == Edge::Cylinder {
                 row[LANES - 1] = row[end - 1];
                 row[end] = row[LANES];
             }

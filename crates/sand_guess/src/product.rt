@@ -5,7 +5,7 @@
 
 ghost use Rattle.std.specs.Prelude.{◌≤◌, ◌<◌};
 
-use crate::frame::{run, run_mut};
+use crate::rows::{run, run_mut};
 use std::alloc::{AllocError, Global};
 use std::simd::prelude::*;
 

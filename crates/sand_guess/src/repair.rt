@@ -3,11 +3,11 @@
 ghost use Rattle.std.specs.Prelude.{◌≤◌, ◌<◌};
 
 use crate::burning::Fire;
-use crate::frame::Frame;
 use crate::levels::Level;
 use crate::planes::Planes;
 use crate::residual::{smooth, subtract};
 use crate::solver::Solver;
+use sand_model::Shape;
 use std::alloc::{AllocError, Global};
 use std::num::{nearest_i64_to_f64, saturating_f64_to_i64};
 
@@ -63,12 +63,12 @@ fn rest_of(alloc: Global, left: &[i64], expected: &[f64]) -> Result<Vec<f64>, Al
 }
 
 impl Repair {
-    pub(crate) fn new(alloc: Global, frame: Frame) -> Result<Repair, AllocError> {
+    pub(crate) fn new(alloc: Global, shape: Shape) -> Result<Repair, AllocError> {
         Ok(Repair {
-            counts: vec![in alloc; 0i64; frame.sites()]?,
-            fire: Fire::new(alloc, frame)?,
-            left: vec![in alloc; 0i64; frame.sites()]?,
-            planes: Planes::new(alloc, frame)?,
+            counts: vec![in alloc; 0i64; shape.sites()]?,
+            fire: Fire::new(alloc, shape)?,
+            left: vec![in alloc; 0i64; shape.sites()]?,
+            planes: Planes::new(alloc, shape)?,
         })
     }
 

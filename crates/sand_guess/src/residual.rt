@@ -5,10 +5,11 @@
 
 ghost use Rattle.std.specs.Prelude.{◌≤◌, ◌<◌};
 
-use crate::frame::Frame;
 use crate::levels::Level;
 use crate::neighbours::add_neighbours;
 use crate::planes::has_room;
+use crate::rows::{row_of, row_of_mut};
+use sand_model::{Edge, Shape};
 
 // The start less four grains per toppling.
 fn begin_row(row: &mut [i64], start: &[i64], counts: &[i64]) {
@@ -19,11 +20,15 @@ fn begin_row(row: &mut [i64], start: &[i64], counts: &[i64]) {
 
 /// The heights s - Lu of all rows.
 pub(crate) fn subtract(level: &Level, counts: &[i64], left: &mut [i64]) {
-    let frame = level.frame;
-    for y in 0..frame.height {
-        let row = frame.row_mut(left, y);
-        begin_row(row, frame.row(&level.start, y), frame.row(counts, y));
-        add_neighbours(frame, counts, y, row);
+    let shape = level.shape;
+    for y in 0..shape.height() {
+        let row = row_of_mut(shape, left, y);
+        begin_row(
+            row,
+            row_of(shape, &level.start, y),
+            row_of(shape, counts, y),
+        );
+        add_neighbours(shape, counts, y, row);
     }
 }
 
@@ -35,13 +40,12 @@ fn give(left: &mut [i64], at: usize, grains: i64) {
 }
 
 // The sites west and east of column x in the row that begins at `from`, or a number outside the grid.
-fn sides_of(frame: Frame, from: usize, x: usize) -> (usize, usize) {
+fn sides_of(shape: Shape, from: usize, x: usize) -> (usize, usize) {
     let at = from.wrapping_add(x);
-    let end = from.wrapping_add(frame.width);
-    let (before, after) = if frame.goes_round {
-        (end.wrapping_sub(1), from)
-    } else {
-        (usize::MAX, usize::MAX)
+    let end = from.wrapping_add(shape.width());
+    let (before, after) = match shape.edge() {
+        Edge::Open => (usize::MAX, usize::MAX),
+        Edge::Cylinder => (end.wrapping_sub(1), from),
     };
     let west = if x == 0 { before } else { at.wrapping_sub(1) };
     let east = at.wrapping_add(1);
@@ -60,15 +64,15 @@ fn even_out(level: &Level, counts: &mut [i64], left: &mut [i64], from: usize, x:
     let times = count.wrapping_sub(counts[at]);
     counts[at] = count;
     left[at] = left[at].wrapping_sub(times.wrapping_mul(4));
-    let (west, east) = sides_of(level.frame, from, x);
+    let (west, east) = sides_of(level.shape, from, x);
     give(left, west, times);
     give(left, east, times);
-    give(left, at.wrapping_sub(level.frame.width), times);
-    give(left, at.wrapping_add(level.frame.width), times);
+    give(left, at.wrapping_sub(level.shape.width()), times);
+    give(left, at.wrapping_add(level.shape.width()), times);
 }
 
 fn even_out_row(level: &Level, counts: &mut [i64], left: &mut [i64], y: usize, is_back: bool) {
-    let width = level.frame.width;
+    let width = level.shape.width();
     for step in 0..width {
         let x = if is_back { width - 1 - step } else { step };
         even_out(level, counts, left, y.wrapping_mul(width), x);
@@ -86,12 +90,12 @@ fn have_room(heights: &[i64]) -> bool {
 /// Evens out heights that the planes have no room for, once over the grid and once back, and returns whether there were
 /// any.
 pub(crate) fn smooth(level: &Level, counts: &mut [i64], left: &mut [i64]) -> bool {
-    let rows = level.frame.height;
+    let rows = level.shape.height();
     let mut is_even = true;
     for turn in 0..2 * rows {
         let is_back = turn >= rows;
         let y = if is_back { 2 * rows - 1 - turn } else { turn };
-        if !have_room(level.frame.row(left, y)) {
+        if !have_room(row_of(level.shape, left, y)) {
             is_even = false;
             even_out_row(level, counts, left, y, is_back);
         }

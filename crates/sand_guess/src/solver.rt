@@ -7,9 +7,10 @@
 
 ghost use Rattle.std.specs.Prelude.{◌≤◌, ◌<◌};
 
-use crate::frame::{Frame, run, run_mut};
 use crate::modes::{Modes, modes_of};
 use crate::product::{BLOCK, in_blocks, multiply};
+use crate::rows::{row_of, row_of_mut, run, run_mut};
+use sand_model::Shape;
 use std::alloc::{AllocError, Global};
 
 /// The solver of Lv = r for one parity of r, on the first half of the columns.
@@ -24,10 +25,10 @@ struct Part {
     ghost few: { columns ≤ 512 },
 }
 
-/// The solver of Lv = r on a frame.
+/// The solver of Lv = r on a grid.
 #[derive(Drop)]
 pub(crate) struct Solver {
-    frame: Frame,
+    shape: Shape,
     even: Part,
     odd: Part,
 }
@@ -157,11 +158,11 @@ impl Part {
 }
 
 impl Solver {
-    pub(crate) fn new(alloc: Global, frame: Frame) -> Result<Solver, AllocError> {
-        let half = (frame.width + 1) / 2;
-        let (even, odd) = modes_of(alloc, frame)?;
+    pub(crate) fn new(alloc: Global, shape: Shape) -> Result<Solver, AllocError> {
+        let half = (shape.width() + 1) / 2;
+        let (even, odd) = modes_of(alloc, shape)?;
         Ok(Solver {
-            frame,
+            shape,
             even: Part::new(alloc, even, half)?,
             odd: Part::new(alloc, odd, half)?,
         })
@@ -169,27 +170,27 @@ impl Solver {
 
     fn split(&self, numbers: &[f64], even: &mut [f64], odd: &mut [f64]) {
         let columns = self.even.columns;
-        for y in 0..self.frame.height {
+        for y in 0..self.shape.height() {
             let from = y.wrapping_mul(columns);
             let even = run_mut(even, from, columns);
             let odd = run_mut(odd, from, columns);
-            split_row(self.frame.row(numbers, y), even, odd);
+            split_row(row_of(self.shape, numbers, y), even, odd);
         }
     }
 
     fn join(&self, numbers: &mut [f64], even: &[f64], odd: &[f64]) {
         let columns = self.even.columns;
-        for y in 0..self.frame.height {
+        for y in 0..self.shape.height() {
             let from = y.wrapping_mul(columns);
             let even = run(even, from, columns);
             let odd = run(odd, from, columns);
-            join_row(self.frame.row_mut(numbers, y), even, odd);
+            join_row(row_of_mut(self.shape, numbers, y), even, odd);
         }
     }
 
     /// Turns r into v.
     pub(crate) fn solve(&self, alloc: Global, numbers: &mut [f64]) -> Result<(), AllocError> {
-        let rows = self.frame.height;
+        let rows = self.shape.height();
         let size = rounded_up(rows) * self.even.columns;
         let mut even = vec![in alloc; 0.0; size]?;
         let mut odd = vec![in alloc; 0.0; size]?;
