@@ -41,11 +41,10 @@ impl Words {
         ensures seat { StaysSeated seat.old seat.new }
         ensures view { seat.new.me.0 ≡ record seat.old.me.0 { hand = [] } }
     {
-        let [north, west, east, south] = self.neighbours(site);
-        self.deliver_to(seat, north, times);
-        self.deliver_to(seat, west, times);
-        self.deliver_to(seat, east, times);
-        self.deliver_to(seat, south, times);
+        let around = self.neighbours(site);
+        for place in around {
+            self.deliver_to(seat, place, times);
+        }
     }
 
     // Looks at a site of the pass's rows, and topples it as often as the grains found allow. Returns how often.
