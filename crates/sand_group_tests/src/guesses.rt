@@ -61,16 +61,16 @@ fn is_high_at(alloc: Global, side: usize, each: u64) -> Option<bool> {
 #[test]
 fn sees_what_is_high(rt: HostRuntime) {
     // On a small grid the queue takes few turns, however high the pile.
-    for (side, each, want) in [(64, 6, true), (64, 3, false), (16, 1_000_000, false)] {
+    for (side, each, expected) in [(64, 6, true), (64, 3, false), (16, 1_000_000, false)] {
         let seen = is_high_at(rt.alloc(), side, each);
-        assert!(rt; seen == Some(want), "{each} on {side}");
+        assert!(rt; seen == Some(expected), "{each} on {side}");
     }
 }
 
 #[test]
 fn sees_what_is_flat(rt: HostRuntime) {
-    for (most, want) in [(100, true), (101, false)] {
+    for (most, expected) in [(100, true), (101, false)] {
         let seen = row(rt.alloc(), &[0, most]).map(|pile| is_flat(&pile));
-        assert!(rt; seen == Some(want), "{most}");
+        assert!(rt; seen == Some(expected), "{most}");
     }
 }

@@ -9,42 +9,34 @@ use sand_model::{Edge, Pile, Shape};
 use std::alloc::{AllocError, Global};
 use std::test::Fail;
 
-// The forbidden set that burning finds in a pile, or an empty list if there is none.
-fn left(alloc: Global, pile: &Pile) -> Option<Vec<usize>> {
-    match burn(alloc, pile) {
-        Ok(Burned::Recurrent(_)) => Some(Vec::new(alloc)),
-        Ok(Burned::Forbidden(set)) => Some(set),
-        Err(_) => None,
-    }
-}
-
-// Whether burning finds this set.
-fn leaves(alloc: Global, pile: Option<Pile>, set: &[usize]) -> bool {
-    let left = match &pile {
-        Some(pile) => left(alloc, pile),
-        None => None,
+// Whether burning finds this forbidden set; if the set is empty, that the pile is recurrent.
+fn leaves(alloc: Global, pile: &Pile, set: &[usize]) -> bool {
+    let Ok(burned) = burn(alloc, pile) else {
+        return false;
     };
-    drop(pile);
-    match left {
-        Some(left) => left.as_slice() == set,
-        None => false,
-    }
+    let is_found = match &burned {
+        Burned::Recurrent(_) => set.is_empty(),
+        Burned::Forbidden(left) => left.as_slice() == set,
+    };
+    is_found && burned.is_recurrent() == set.is_empty()
 }
 
 #[test]
-fn burns_rows(rt: HostRuntime) {
-    let alloc = rt.alloc();
-    assert!(rt; leaves(alloc, row(alloc, &[0]), &[]));
-    assert!(rt; leaves(alloc, row(alloc, &[1, 0, 1]), &[]));
-    assert!(rt; leaves(alloc, row(alloc, &[0, 0]), &[0, 1]));
-    assert!(rt; leaves(alloc, row(alloc, &[0, 0, 3]), &[0, 1]));
-}
-
-#[test]
-fn burns_nothing_of_a_square(rt: HostRuntime) {
-    let square = pile_on(rt.alloc(), 4, 4, Edge::Open, &[1; 16]);
+fn burns_what_is_not_forbidden(rt: HostRuntime) -> Result<(), Fail> {
     let all = [0, 1, 2, 3, 4, 5, 6, 7, 8, 9, 10, 11, 12, 13, 14, 15];
-    assert!(rt; leaves(rt.alloc(), square, &all));
+    for (width, height, heights, set) in [
+        (1, 1, [0].as_slice(), [].as_slice()),
+        (3, 1, &[1, 0, 1], &[]),
+        (2, 1, &[0, 0], &[0, 1]),
+        (3, 1, &[0, 0, 3], &[0, 1]),
+        (4, 4, &[1; 16], &all),
+    ] {
+        let pile = pile_on(rt.alloc(), width, height, Edge::Open, heights).ok_or("no pile")?;
+        let leaves = leaves(rt.alloc(), &pile, set);
+        drop(pile);
+        assert!(rt; leaves, "{width} by {height}");
+    }
+    Ok(())
 }
 
 // Whether an operation returned the pile with these heights.

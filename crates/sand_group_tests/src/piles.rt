@@ -70,14 +70,14 @@ fn with_a_grain(alloc: Global, height: u64) -> Option<(u32, Vec<u64>)> {
 
 #[test]
 fn a_grain_is_added_up_to_the_limit(rt: HostRuntime) -> Result<(), Fail> {
-    for (height, want, after) in [
+    for (height, expected, after) in [
         (0, 0, 1),
         (1_099_511_627_774, 0, 1_099_511_627_775),
         (1_099_511_627_775, 3, 1_099_511_627_775),
     ] {
         let (number, heights) = with_a_grain(rt.alloc(), height).ok_or("no pile")?;
         assert!(rt;
-            number == want && heights.as_slice() == [after].as_slice(),
+            number == expected && heights.as_slice() == [after].as_slice(),
             "at {height}"
         );
     }
@@ -96,14 +96,14 @@ fn toppled(pile: &mut Pile, site: usize) -> Option<Result<u8, ToppleFault>> {
 fn topples(
     pile: Option<Pile>,
     site: usize,
-    want: Result<u8, ToppleFault>,
+    expected: Result<u8, ToppleFault>,
     heights: &[u64],
 ) -> bool {
     match pile {
         Some(mut pile) => {
-            let told = toppled(&mut pile, site);
+            let actual = toppled(&mut pile, site);
             let (_, left) = pile.into_parts();
-            told == Some(want) && left.as_slice() == heights
+            actual == Some(expected) && left.as_slice() == heights
         }
         None => false,
     }

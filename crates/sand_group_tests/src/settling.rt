@@ -130,14 +130,14 @@ fn has(one: &OnePile, heights: &[u64], odometer: &[u64]) -> bool {
 fn drops_on_a_full_square(rt: HostRuntime) -> Result<(), Fail> {
     let start = pile_on(rt.alloc(), 3, 3, Edge::Open, &[3; 9]);
     let (number, avalanche, one) = dropped(rt.alloc(), start, &[4]).ok_or("not dropped")?;
-    let want = Avalanche {
+    let expected = Avalanche {
         site: 4,
         size: 10,
         area: 9,
         reach: 2,
         lost: 12,
     };
-    assert!(rt; number == 0 && avalanche == want);
+    assert!(rt; number == 0 && avalanche == expected);
     assert!(rt;
         has(
             &one,
@@ -177,14 +177,14 @@ fn a_second_drop_on_a_full_square(rt: HostRuntime) -> Result<(), Fail> {
 fn drops_round_a_cylinder(rt: HostRuntime) -> Result<(), Fail> {
     let start = ring(rt.alloc(), &[3; 4]);
     let (_, avalanche, one) = dropped(rt.alloc(), start, &[0]).ok_or("not dropped")?;
-    let want = Avalanche {
+    let expected = Avalanche {
         site: 0,
         size: 4,
         area: 4,
         reach: 2,
         lost: 8,
     };
-    assert!(rt; avalanche == want);
+    assert!(rt; avalanche == expected);
     assert!(rt; has(&one, &[2, 1, 1, 1], &[1; 4]));
     drop(one);
     Ok(())

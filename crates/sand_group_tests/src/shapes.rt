@@ -20,7 +20,7 @@ pub fn around(shape: Shape, site: usize) -> Option<([Option<usize>; 4], u8)> {
 fn neighbours_on_a_grid_and_on_a_cylinder(rt: HostRuntime) -> Result<(), Fail> {
     let open = Shape::with_edge(4, 3, Edge::Open)?;
     let cylinder = Shape::with_edge(4, 3, Edge::Cylinder)?;
-    for (shape, site, want) in [
+    for (shape, site, expected) in [
         (open, 0, ([None, None, Some(1), Some(4)], 2)),
         (open, 5, ([Some(1), Some(4), Some(6), Some(9)], 0)),
         (open, 7, ([Some(3), Some(6), None, Some(11)], 1)),
@@ -30,7 +30,7 @@ fn neighbours_on_a_grid_and_on_a_cylinder(rt: HostRuntime) -> Result<(), Fail> {
         (cylinder, 7, ([Some(3), Some(6), Some(4), Some(11)], 0)),
         (cylinder, 11, ([Some(7), Some(10), Some(8), None], 1)),
     ] {
-        assert!(rt; around(shape, site) == Some(want), "at {site}");
+        assert!(rt; around(shape, site) == Some(expected), "at {site}");
     }
     Ok(())
 }
