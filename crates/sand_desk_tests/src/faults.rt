@@ -4,7 +4,6 @@ use crate::runs::{fault_of, sent};
 use crate::stopping::{Failing, Sluggish};
 use sand_desk::{DeskFault, status, write_fault};
 use std::alloc::Global;
-use std::process::Abort;
 use std::test::Fail;
 
 // Whether the line of a fault is this one.
@@ -37,107 +36,54 @@ fn a_line_that_does_not_fit(rt: HostRuntime) {
     assert!(rt; writer.taken.as_slice() == b"fault 2".as_slice());
 }
 
-// Compares the number of a fault and its sentence.
-fn assert_says<R: Abort>(
-    rt: &R,
-    alloc: Global,
-    fault: DeskFault,
-    number: u32,
-    want: &str,
-) -> Result<(), Fail> {
-    assert_eq!(rt; fault.number(), number);
-    let sentence = format!(in alloc; "{fault}")?;
-    assert_eq!(rt; sentence.as_str(), want);
-    drop(fault);
-    Ok(())
-}
-
 // `sandpile explain` says more about each fault (cases/explain.txt).
 #[test]
 fn what_a_fault_says(rt: HostRuntime) -> Result<(), Fail> {
-    let alloc = rt.alloc();
-    assert_says(
-        &rt,
-        alloc,
-        DeskFault::Side,
-        1,
-        "width or height is outside 1 to 256",
-    )?;
-    assert_says(&rt, alloc, DeskFault::Length, 2, "wrong number of heights")?;
-    assert_says(&rt, alloc, DeskFault::TooManyGrains, 3, "too many grains")?;
-    assert_says(&rt, alloc, DeskFault::Memory, 4, "out of memory")?;
-    assert_says(
-        &rt,
-        alloc,
-        DeskFault::Full,
-        6,
-        "one more drop would exceed the grain limit",
-    )?;
-    assert_says(&rt, alloc, DeskFault::Unstable, 7, "a height is over 3")?;
-    assert_says(
-        &rt,
-        alloc,
-        DeskFault::NotRecurrent,
-        8,
-        "there is a forbidden set",
-    )?;
-    assert_says(
-        &rt,
-        alloc,
-        DeskFault::Shapes,
-        9,
-        "the two piles have different shapes",
-    )?;
-    assert_says(
-        &rt,
-        alloc,
-        DeskFault::Taken,
-        17,
-        "an epoch's place in the album is already set",
-    )?;
-    assert_says(
-        &rt,
-        alloc,
-        DeskFault::Text(7),
-        18,
-        "unexpected byte or end of input, at byte 7",
-    )?;
-    assert_says(
-        &rt,
-        alloc,
-        DeskFault::TooLarge(7),
-        19,
-        "the number at byte 7 is over the grain limit",
-    )?;
-    assert_says(&rt, alloc, DeskFault::Read, 20, "the reader failed")?;
-    assert_says(
-        &rt,
-        alloc,
-        DeskFault::Write(7),
-        21,
-        "the writer failed after 7 bytes",
-    )?;
-    assert_says(&rt, alloc, DeskFault::TooLong, 22, "too much input")?;
-    assert_says(
-        &rt,
-        alloc,
-        DeskFault::Narrow,
-        24,
-        "a cylinder is less than 3 wide",
-    )?;
-    assert_says(
-        &rt,
-        alloc,
-        DeskFault::NoSite(7),
-        25,
-        "drop 7 is outside the grid",
-    )?;
+    for (fault, number, expected) in [
+        (DeskFault::Side, 1, "width or height is outside 1 to 256"),
+        (DeskFault::Length, 2, "wrong number of heights"),
+        (DeskFault::TooManyGrains, 3, "too many grains"),
+        (DeskFault::Memory, 4, "out of memory"),
+        (
+            DeskFault::Full,
+            6,
+            "one more drop would exceed the grain limit",
+        ),
+        (DeskFault::Unstable, 7, "a height is over 3"),
+        (DeskFault::NotRecurrent, 8, "there is a forbidden set"),
+        (DeskFault::Shapes, 9, "the two piles have different shapes"),
+        (
+            DeskFault::Taken,
+            17,
+            "an epoch's place in the album is already set",
+        ),
+        (
+            DeskFault::Text(7),
+            18,
+            "unexpected byte or end of input, at byte 7",
+        ),
+        (
+            DeskFault::TooLarge(7),
+            19,
+            "the number at byte 7 is over the grain limit",
+        ),
+        (DeskFault::Read, 20, "the reader failed"),
+        (DeskFault::Write(7), 21, "the writer failed after 7 bytes"),
+        (DeskFault::TooLong, 22, "too much input"),
+        (DeskFault::Narrow, 24, "a cylinder is less than 3 wide"),
+        (DeskFault::NoSite(7), 25, "drop 7 is outside the grid"),
+    ] {
+        assert_eq!(rt; fault.number(), number);
+        let sentence = format!(in rt.alloc(); "{fault}")?;
+        assert_eq!(rt; sentence.as_str(), expected);
+        drop(fault);
+    }
     Ok(())
 }
 
 #[test]
 fn numbers_and_statuses_of_misuse_and_of_help(rt: HostRuntime) -> Result<(), Fail> {
-    for (line, want) in [
+    for (line, expected) in [
         ("sandpile", 2),
         ("sandpile settle --pile --pgm", 2),
         ("sandpile --help", 0),
@@ -148,7 +94,7 @@ fn numbers_and_statuses_of_misuse_and_of_help(rt: HostRuntime) -> Result<(), Fai
         };
         let mut writer = Sluggish::new(rt.alloc(), 0);
         let fault = fault_of(&rt, rt.alloc(), line, &mut reader, &mut writer)?;
-        assert_eq!(rt; (fault.number(), status(&fault)), (23, want));
+        assert_eq!(rt; (fault.number(), status(&fault)), (23, expected));
         drop(fault);
     }
     Ok(())

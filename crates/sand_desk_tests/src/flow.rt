@@ -79,7 +79,7 @@ fn tried(
 #[test]
 fn a_reader_is_read_to_its_end(rt: HostRuntime) -> Result<(), Fail> {
     let too_long = Err(StreamFault::TooLong);
-    for (left, step, fails_at, want) in [
+    for (left, step, fails_at, expected) in [
         (0, 1, 0, (Ok(0), 1, 0)),
         (5, 1, 0, (Ok(5), 6, 0)),
         (5, 2, 2, (Err(StreamFault::Read), 2, 3)),
@@ -88,7 +88,11 @@ fn a_reader_is_read_to_its_end(rt: HostRuntime) -> Result<(), Fail> {
         (INPUT_LIMIT + 1, 1_000, 0, (too_long, 1_049, 0)),
         (INPUT_LIMIT + 9, 1_000, 0, (too_long, 1_049, 8)),
     ] {
-        assert_eq!(rt; tried(rt.alloc(), left, step, fails_at), want, "at {left}");
+        assert_eq!(rt;
+            tried(rt.alloc(), left, step, fails_at),
+            expected,
+            "at {left}"
+        );
     }
     Ok(())
 }
@@ -116,7 +120,7 @@ fn taken(
 #[test]
 fn a_text_is_written_up_to_where_the_writer_stops(rt: HostRuntime) -> Result<(), Fail> {
     let text = b"3 1\n0 4 0\n";
-    for (step, room, fails, flushes, want) in [
+    for (step, room, fails, flushes, expected) in [
         (1, 10, true, true, Ok(())),
         (3, 99, true, true, Ok(())),
         (1, 0, true, true, Err(StreamFault::Write(0))),
@@ -128,7 +132,7 @@ fn a_text_is_written_up_to_where_the_writer_stops(rt: HostRuntime) -> Result<(),
         let (written, taken) = taken(rt.alloc(), text, step, room, fails, flushes);
         let (front, _) = text.split_at(room.min(text.len()));
         assert!(rt;
-            written == want && taken.as_slice() == front,
+            written == expected && taken.as_slice() == front,
             "at {step} {room}"
         );
     }

@@ -19,9 +19,9 @@ fn is_refused<T: Drop>(alloc: Global, read: Result<T, DeskFault>, line: &str) ->
     match read {
         Ok(_) => false,
         Err(fault) => {
-            let told = line_of(alloc, &fault);
+            let actual = line_of(alloc, &fault);
             drop(fault);
-            told.is_some_and(|told| told.as_slice() == line.as_bytes())
+            actual.is_some_and(|actual| actual.as_slice() == line.as_bytes())
         }
     }
 }

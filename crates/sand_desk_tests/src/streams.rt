@@ -47,34 +47,23 @@ fn stops<T: Threads + Sync + Abort>(
 
 #[test]
 fn a_writer_that_stops(rt: HostRuntime) -> Result<(), Fail> {
-    for room in 0..SETTLED.len() {
-        for is_full in [false, true] {
-            let taken = &SETTLED[..room];
-            stops(&rt, rt.alloc(), "sandpile settle", PILE, taken, is_full)?;
-        }
-    }
-    Ok(())
-}
-
-#[test]
-fn a_writer_that_stops_in_a_run(rt: HostRuntime) -> Result<(), Fail> {
-    let line = "sandpile lab --droppers 1 --drops 2 --journal";
-    for room in 0..JOURNAL.len() {
-        for is_full in [false, true] {
-            let taken = &JOURNAL[..room];
-            stops(&rt, rt.alloc(), line, b"1 1\n0\n", taken, is_full)?;
-        }
-    }
-    Ok(())
-}
-
-#[test]
-fn a_writer_that_stops_in_drops_at_random(rt: HostRuntime) -> Result<(), Fail> {
-    let line = "sandpile drops --count 3 --stream 1 --from 3";
-    for room in 0..DROPS.len() {
-        for is_full in [false, true] {
-            let taken = &DROPS[..room];
-            stops(&rt, rt.alloc(), line, b"2 1\n0 3\n", taken, is_full)?;
+    for (line, stdin, stdout) in [
+        ("sandpile settle", PILE, SETTLED),
+        (
+            "sandpile lab --droppers 1 --drops 2 --journal",
+            b"1 1\n0\n",
+            JOURNAL,
+        ),
+        (
+            "sandpile drops --count 3 --stream 1 --from 3",
+            b"2 1\n0 3\n",
+            DROPS,
+        ),
+    ] {
+        for room in 0..stdout.len() {
+            for is_full in [false, true] {
+                stops(&rt, rt.alloc(), line, stdin, &stdout[..room], is_full)?;
+            }
         }
     }
     Ok(())
@@ -144,25 +133,25 @@ fn a_writer_that_cannot_flush(rt: HostRuntime) -> Result<(), Fail> {
 
 #[test]
 fn a_reader_that_fails_after_some_bytes(rt: HostRuntime) -> Result<(), Fail> {
-    for len in 0..PILE.len() + 1 {
+    for count in 0..PILE.len() + 1 {
         let mut reader = Failing {
-            bytes: &PILE[..len],
+            bytes: &PILE[..count],
             fails: true,
         };
         let number = unwritten(&rt, rt.alloc(), &mut reader)?;
-        assert_eq!(rt; number, READ, "after {len}");
+        assert_eq!(rt; number, READ, "after {count}");
     }
     Ok(())
 }
 
 #[test]
 fn a_reader_that_fails_at_its_first_or_second_call(rt: HostRuntime) -> Result<(), Fail> {
-    for len in 0..PILE.len() + 1 {
+    for count in 0..PILE.len() + 1 {
         let mut reader = Cut {
-            bytes: &PILE[..len],
+            bytes: &PILE[..count],
         };
         let number = unwritten(&rt, rt.alloc(), &mut reader)?;
-        assert_eq!(rt; number, READ, "after {len}");
+        assert_eq!(rt; number, READ, "after {count}");
     }
     Ok(())
 }
