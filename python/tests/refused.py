@@ -34,9 +34,9 @@ class Refusing:
         return call
 
 
-def try_call(name, call, kept):
+def try_call(name, call, kept=lambda: [pile, high, a.pile, *piles]):
     """Refuses each allocation of a call in turn. `kept` returns what must not change."""
-    library, before, number = _library.library, kept(), 0
+    library, before, number = _library.library, [np.copy(it) for it in kept()], 0
     while True:
         number += 1
         _library.library = Refusing(library, number)
@@ -59,28 +59,34 @@ high = np.full((32, 32), 10**6)
 assert malloc(IS_HERE) is not None, "refuse.c is not loaded"
 run = sandpile.Drive(pile)
 a = sandpile.recurrent(pile)
-try_call("settle", lambda: sandpile.settle(pile), lambda: [pile])
-try_call("high", lambda: sandpile.settle(high), lambda: [high])
 # Two piles, their odometers, the grains lost and the topplings.
 piles = [np.array([pile, pile[::-1]], "u8"), np.zeros((2, 7, 9), "u8"), np.zeros(2, "u8"), np.zeros(2, "u8")]
-try_call("settle all", lambda: _library.call("settle_all", (7, 9), False, *piles), lambda: [array.copy() for array in piles])
-# The first drop that succeeds ends the test, so the run does not change before.
-try_call("drop", lambda: run.drop_at([0, 1, 2]), lambda: [run.pile, run.odometer, run.lost, run.drops])
-run.save("run")
-try_call("load", lambda: sandpile.Drive.load("run"), lambda: [])
-try_call("copy", lambda: copy.copy(run), lambda: [run.pile, run.odometer, run.lost, run.drops])
-try_call("burn", lambda: sandpile.burn(a), lambda: [a.pile])
-try_call("identity", lambda: sandpile.identity((9, 7)), lambda: [])
-try_call("recurrent", lambda: sandpile.recurrent(pile), lambda: [pile])
-try_call("add", lambda: a + a, lambda: [a.pile])
-try_call("inverse", lambda: -a, lambda: [a.pile])
-try_call("multiple", lambda: 5 * a, lambda: [a.pile])
+try_call("settle", lambda: sandpile.settle(pile))
+try_call("high", lambda: sandpile.settle(high))
+try_call("settle all", lambda: _library.call("settle_all", (7, 9), False, *piles))
+try_call("burn", lambda: sandpile.burn(a))
+try_call("identity", lambda: sandpile.identity((9, 7)))
+try_call("recurrent", lambda: sandpile.recurrent(pile))
+try_call("add", lambda: a + a)
+try_call("inverse", lambda: -a)
+try_call("multiple", lambda: 5 * a)
 # A site that topples: a stable pile settles without memory.
 full = int(np.argmax(a.pile))
-try_call("act", lambda: a.act(full), lambda: [a.pile])
+try_call("act", lambda: a.act(full))
+
+
+def state():
+    return [run.pile, run.odometer, run.lost, run.drops]
+
+
+# The first drop that succeeds ends the test, so the run does not change before.
+try_call("drop", lambda: run.drop_at([0, 1, 2]), state)
+run.save("run")
+try_call("load", lambda: sandpile.Drive.load("run"))
+try_call("copy", lambda: copy.copy(run), state)
 
 shared, parts = sandpile.SharedPile(pile, 9), []
-try_call("share", lambda: sandpile.SharedPile(pile, 9), lambda: [pile])
+try_call("share", lambda: sandpile.SharedPile(pile, 9))
 try_call("split", lambda: parts.append(shared.split(4, rows=3)), lambda: [shared.tally()])
 parts[0].drop([5, 5, 62])
 shared.join(parts[0])
