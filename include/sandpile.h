@@ -52,13 +52,13 @@ enum {
 static inline const char *sandpile_explain(uint32_t fault) {
     switch (fault) {
     case 0: return "no fault";
-    case SANDPILE_SIDE: return "a side is outside 1 to 256";
+    case SANDPILE_SIDE: return "the width or the height of a grid is outside 1 to 256";
     case SANDPILE_LENGTH: return "an array has the wrong length";
     case SANDPILE_TOO_MANY_GRAINS: return "the pile has more than 1,099,511,627,775 grains";
     case SANDPILE_MEMORY: return "an allocation failed";
-    case SANDPILE_FULL: return "the pile and the drops exceed 1,099,511,627,775 grains together";
-    case SANDPILE_UNSTABLE: return "a height is over 3";
-    case SANDPILE_NOT_RECURRENT: return "there is a forbidden set";
+    case SANDPILE_FULL: return "the pile and its drops exceed 1,099,511,627,775 grains together";
+    case SANDPILE_UNSTABLE: return "a site has more than 3 grains";
+    case SANDPILE_NOT_RECURRENT: return "a pile is not recurrent: some of its sites form a forbidden set";
     case SANDPILE_TOO_MUCH: return "the quota exceeds what the pass has left";
     case SANDPILE_ROWS: return "more rows than the pass has";
     case SANDPILE_APART: return "the rows of the two passes are not adjacent";

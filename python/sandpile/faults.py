@@ -4,14 +4,14 @@ from __future__ import annotations
 
 # Number: name and meaning, as in docs/FORMATS.md. The missing numbers cannot reach Python.
 _FAULTS = {
-    1: ("Side", "a side is outside 1 to 256"),
+    1: ("Side", "the width or the height of a grid is outside 1 to 256"),
     2: ("Length", "an array has the wrong length"),
     3: ("TooManyGrains", "the pile has more than 1,099,511,627,775 grains"),
     4: ("Memory", "an allocation failed"),
-    6: ("Full", "the pile and the drops exceed 1,099,511,627,775 grains together"),
-    7: ("Unstable", "a height is over 3"),
-    8: ("NotRecurrent", "there is a forbidden set"),
-    9: ("Shapes", "the two piles have different shapes or edges"),
+    6: ("Full", "the pile and its drops exceed 1,099,511,627,775 grains together"),
+    7: ("Unstable", "a site has more than 3 grains"),
+    8: ("NotRecurrent", "a pile is not recurrent: some of its sites form a forbidden set"),
+    9: ("Shapes", "the two piles differ in width or height, or only one is a cylinder"),
     10: ("TooMuch", "the quota exceeds what the pass has left"),
     11: ("Rows", "more rows than the pass has"),
     12: ("Apart", "the rows of the two passes are not adjacent"),
@@ -51,7 +51,7 @@ class Fault(ValueError):
     ...     sandpile.identity((4, 257))
     ... except sandpile.Fault as fault:
     ...     print(fault.number, fault.name, fault.sentence, sep=", ")
-    1, Side, a side is outside 1 to 256
+    1, Side, the width or the height of a grid is outside 1 to 256
     """
 
     def __new__(cls, number: int, sentence: str | None = None, name: str | None = None) -> Fault:
