@@ -6,6 +6,7 @@ pub mod Free
 pub mod HelpAlone
 pub mod Levels
 pub mod Lines
+pub mod Listed
 pub mod Passing
 pub mod Reading
 pub mod NumberTexts

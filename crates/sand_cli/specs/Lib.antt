@@ -3,3 +3,4 @@ pub mod Options
 pub mod Asked
 pub mod Fault
 pub mod Spelling
+pub mod Names
