@@ -25,7 +25,7 @@ use std::sync::Arc;
 use std::sync::atomic::AtomicU64;
 use std::sync::atomic::Ordering::SeqCst;
 
-// How often `is_of_pile` looks. Joins of passes of the other pile can deceive it only if one falls into each look.
+// How often `is_of_pile` looks. Joins of passes of the other pile can deceive it only if one happens during each look.
 const LOOKS: u32 = 64;
 
 /// A pass, a share of its pile, counters for its lists of drops, and a number that all passes of its pile share.
@@ -230,7 +230,7 @@ impl OwnedPass {
     }
 
     // Whether both passes are of one pile, by a number that all passes of a pile share: it rises at each look. No proof
-    // stands on this test.
+    // relies on this test.
     fn is_of_pile(&self, other: &OwnedPass) -> bool {
         for _ in 0..LOOKS {
             let before = other.mark.load(SeqCst);

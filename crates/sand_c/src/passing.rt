@@ -142,8 +142,8 @@ fn join_to(alloc: Global, pass: &mut SandpilePass, other: &mut SandpilePass) -> 
 }
 
 /// Joins another pass of the same pile to a pass, and empties the other handle. Returns 0, or the first of 26 (Empty),
-/// 27 (OtherPile) and 12 (Apart), or 4 (Memory). The caller owes that both passes are of one pile; a test refuses others
-/// (OtherPile), and no proof rests on it.
+/// 27 (OtherPile) and 12 (Apart), or 4 (Memory). The caller ensures that both passes are of one pile; a test refuses
+/// others (OtherPile), and no proof relies on it.
 #[unsafe(no_mangle)]
 pub extern "C" fn sandpile_pass_join(
     alloc: Global,

@@ -77,7 +77,7 @@ fn perform<T: Threads + Sync, G: Gate>(
 }
 
 // Does a task and writes its text: drops at random are written as they are made, any other text once it is complete.
-// It is not inlined, so that its stack frame is not there while the words are read.
+// It is not inlined, so that its stack frame does not exist while the words are read.
 #[inline(never)]
 fn carry_out<T: Threads + Sync, G: Gate, W: Write>(
     rt: &T,

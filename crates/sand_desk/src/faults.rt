@@ -299,7 +299,7 @@ fn write_line<W: Write>(fault: &DeskFault, writer: &mut W)
 }
 
 /// Reports a fault on standard error, to which `errors` writes, and returns the exit status of a program that ends with
-/// it. For misuse, a message about the words replaces the line. A call for help is no fault: `show_help` answers it.
+/// it. For misuse, a message about the words replaces the line. A call for help is no fault: `show_help` handles it.
 pub fn report_fault<R: Eprint, W: Write>(rt: &R, errors: &mut W, fault: &DeskFault) -> ExitCode
     requires { status_of fault.now ≢ 0 }
     ensures status { exit_status result ≡ status_of fault.now }

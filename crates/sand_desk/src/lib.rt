@@ -5,7 +5,7 @@
 //! `version` writes the version.
 //!
 //! The two commands that drop grains drop large values early, by `drop`. If one goes out of scope instead, the
-//! function's proof takes it apart field by field, on each way out.
+//! function's proof takes it apart field by field, on each exit path.
 #![tactic(auto)]
 
 mod commands;

@@ -73,7 +73,7 @@ pub record AreCounted (ts us : List Tile) (c d : Counts) : Type 0 where
 abbrev pub CountsSites : Grid → Counts → Type 0
 CountsSites g c = (m p : ℕ) → p < 64 → counted (counts_of c m) p ≡ on_tiles g (counted_on g (counts_of c)) m p
 
--- from the heights h the pile has settled, as the counts tell, which were c and are d
+-- the pile has settled from the heights h, by as many topplings as the counts have grown from c to d
 pub record HasSettled (g : Grid) (h : ℕ → ℕ) (s : Sand) (c d : Counts) : Type 0 where
   pub sand : IsSand g s
   pub counts : AreCounts g d

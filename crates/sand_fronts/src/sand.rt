@@ -14,12 +14,12 @@
 //!   was before. Its turn topples all that is due there. So each turn topples a new site, and the list never has more
 //!   tiles than there are sites and tiles, plus the eight that two turns may add. At its end no site is due
 //!   (`none_due`). Only free sites become due: so one word of a tile tells whether it waits.
-//! - **Two turns at once.** Where two tiles wait, both are visited before either hands over its grains (`PairSteps`).
+//! - **Two turns at once.** When two tiles wait, both are visited before either hands over its grains (`PairSteps`).
 //!   No tile waits twice, so these are two tiles. The second is visited while the grains of the first are under way
 //!   (`IsUnderWay`): what topples in it without them topples legally.
 //! - **The tiles to count.** When the turn of a tile has come and no site of it has toppled yet in this wave, it is
-//!   written to the front of the list, over turns that are past. These tiles are all that is left in the list in the
-//!   end, so that each is counted once.
+//!   written to the front of the list, over tiles that have had their turn. In the end the list has only these tiles, so
+//!   that each is counted once.
 //!
 //! A border of tiles without free sites spares all tests for the edge of the grid: grains that fall into the sink are
 //! added to tiles that nobody reads. On a cylinder the tiles at the two ends of a row are neighbours, and the last

@@ -23,7 +23,7 @@ const BYTE_BITS: u64 = 0xff;
 // More bits than the index of a cell has: there are at most 258 * 256 cells.
 const CELL_BITS: usize = 0xff_ffff;
 
-// The room of the cell at an open end of a row. Nothing that happens to a cell leads to the room of an end.
+// The room of the cell at an open end of a row. No arithmetic on the cells of sites ever produces the room of an end.
 const OUTSIDE: u8 = 16;
 
 // The room of the cells at the ends of a row that wraps around. Each stands for the site at the other end.

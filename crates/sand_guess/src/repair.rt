@@ -92,7 +92,7 @@ impl Repair {
         is_stable
     }
 
-    // Takes back topplings until no more can be taken back, and returns whether it got there. The heights are stable.
+    // Takes back topplings, and returns whether no more can be taken back. The heights are stable.
     fn take_back(&mut self, level: &Level) -> bool {
         self.fire
             .take_back(&self.left, &mut self.counts, level.least, MOST_TAKEN_BACK)
@@ -123,7 +123,7 @@ impl Repair {
         Ok(false)
     }
 
-    /// Makes the counts right, and returns whether it got there. If topplings must be taken back over and over, the
+    /// Corrects the counts, and returns whether they are right. If topplings must be taken back over and over, the
     /// counts are lowered, as by a higher density where the last fire left sites unburnt.
     pub(crate) fn finish(
         &mut self,

@@ -19,7 +19,7 @@ pub record AreTallies (w : Wish) (tallies : List (List ℕ)) : Type 0 where
   pub as_many : All (λ ts. length ts ≡ tallies_each) tallies
   pub climb : All (λ ts. Climbs 0 ts (quota_of w)) tallies
 
--- the workers swept no more than toppled in all; with at least one sweep, each swept at least what was due in its band
+-- the workers caused at most all of the topplings; with at least one sweep, each caused at least those due in its band
 pub record AreSwept (w : Wish) (start : PileView) (r : RecordView) (swept : List ℕ) : Type 0 where
   pub all : length swept ≡ w.workers
   pub few : sum swept ≤ r.settled.topplings

@@ -7,8 +7,8 @@ pub record ListView : Type 0 where
   pub items : List ℕ
   pub room : ℕ
 
--- at most `most` new numbers join the end of the list l, which becomes m: behind any list of the numbers below n that
--- pass p, they make a list of those that pass q
+-- at most `most` new numbers join the end of the list l, which becomes m: appended to any list of the numbers below n
+-- that pass p, they give a list of those that pass q
 pub record Joins (n most : ℕ) (p q : ℕ → Bool) (l m : ListView) : Type 0 where
   pub new : List ℕ
   pub items : m.items ≡ l.items ++ new

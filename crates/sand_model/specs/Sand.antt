@@ -17,7 +17,7 @@ occurrences history i = count_by (λ j. j == i) history
 abbrev pub one_at : ℕ → ℕ → ℕ
 one_at k j = if k == j then 1 else 0
 
--- u at a place, and 0 in the sink
+-- u at a site, and 0 in the sink
 abbrev pub value_at : (ℕ → ℕ) → Option ℕ → ℕ
 value_at u None = 0
 value_at u (Some i) = u i

@@ -228,7 +228,7 @@ fn give(heights: &mut [u64], place: Option<usize>)
     }
 }
 
-// Takes 4 grains from a site, and gives one to each of its places.
+// Takes 4 grains from a site, and gives one to each neighbour.
 fn spread(shape: Shape, heights: &mut [u64], site: usize)
     requires one_each { length heights.old ≡ sites shape }
     requires site { site < sites shape }

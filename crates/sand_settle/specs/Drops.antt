@@ -73,7 +73,7 @@ pub record IsOnTiles (p : PileView) (t : TiledView) : Type 0 where
   pub heights : t.heights ≡ p.heights
   pub uncounted : (j : ℕ) → slice_index t.times j ≡ 0
 
--- the record is right, each drop added a grain, any tiles have its heights, and after a drop there are some
+-- the record is right, and each drop added a grain; the tiles, which exist from the first drop on, have its heights
 pub record IsOnePile (r : SettledView) (tiles : Option TiledView) (number : ℕ) : Type 0 where
   pub paid : IsPaid r
   pub few : number ≤ sum r.pile.heights + r.lost

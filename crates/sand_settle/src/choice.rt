@@ -18,7 +18,8 @@ use sand_guess::{Claim, guessed, is_flat, is_high, toppled};
 use sand_model::{Edge, Pile, Shape};
 use std::alloc::{AllocError, Global};
 
-// The turns that the queue has before a guess is tried, per site and besides: a quarter of the time that a guess takes.
+// The turns that the queue has before a guess is tried: a number per site, and more in addition. They take a quarter of
+// the time of a guess.
 const TURNS_BEFORE_A_GUESS: u64 = 16;
 
 const MORE_TURNS_BEFORE_A_GUESS: u64 = 512;
@@ -29,7 +30,7 @@ const TURNS_BEFORE_SWEEPS: u64 = 1;
 // The same if a pile is no denser than settled piles are: about as many sites topple as there are.
 const TURNS_IF_SPARSE: u64 = 3;
 
-// The bound on the topplings of a light pile, per site and besides.
+// The bound on the topplings of a light pile: a part per site, and a constant.
 const FEW_PER_SITE: u64 = 64;
 
 const FEW: u64 = 8192;
@@ -41,8 +42,8 @@ pub(crate) struct Rest {
     pub(crate) odometer: Vec<u64>,
 }
 
-/// Whether a bound shows that few topplings settle a pile of so many grains. They number at most half the weight
-/// (`sand_model::laws`), and no grain weighs more than the square of half of a side and one, for a side with open ends.
+/// Whether a bound shows that few topplings settle a pile of `grains` grains. They number at most half the weight
+/// (`sand_model::laws`), and no grain weighs more than the square of (side + 1) / 2, for a side with open ends.
 pub(crate) fn is_light(shape: Shape, grains: u64) -> bool
     ensures { IsGrid shape }
 {

@@ -1,7 +1,7 @@
 //! Settling heights where they are.
 //!
-//! `settle` returns new lists, and keeps the pile. Whoever has lists for the result, and settles many small piles, saves
-//! the copies: a stable pile takes no memory, and a light one only that of the queue.
+//! `settle` returns new lists, and keeps the pile. A caller that has lists for the result, and settles many small piles,
+//! saves the copies: a stable pile takes no memory, and a light one only that of the queue.
 
 ghost use Rattle.std.specs.Prelude.{◌≡◌, ℕ, ◌<◌, ◌≤◌, length, sum, slice_index, IfOk, IsTrue, OnErr};
 ghost use Rattle.sand_model.specs.Grid.{IsGrid, sites};

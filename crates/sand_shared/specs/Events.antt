@@ -1,4 +1,4 @@
--- The events of an open pile, each with its condition and its effect. A pass is named by its place in the list.
+-- The events of an open pile, each with its condition and its effect. A pass is named by its index in the list.
 use Rattle.std.specs.Prelude.{ℕ, Bool, true, ◌≡◌, ◌≢◌, ◌+◌, ◌-◌, ◌*◌, ◌<◌, ◌≤◌, ◌==◌, ◌&&◌, ◌||◌, if◌then◌else◌, max, List, [], ◌∷◌, ◌++◌, map, take, drop, length, slice_index, slice_set, replicate, count_by, Option, Some, None}
 use Rattle.sand_model.specs.Grid.{sites, neighbours}
 use Rattle.sand_model.specs.Piles.{height_of}
@@ -86,7 +86,7 @@ without i k (g ∷ gs) = if are_for i k g then gs else g ∷ without i k gs
 abbrev pub after_laying : View → ℕ → ℕ → View
 after_laying v i k = record v { hand = without i k v.hand }
 
--- the first grains in hand go to the neighbour at a place, if there is one
+-- the first grains in hand go to a neighbour, if there is one
 abbrev pub delivered_to : Option ℕ → View → View
 delivered_to None v = v
 delivered_to (Some j) v = record v { hand = behind_first v.hand }

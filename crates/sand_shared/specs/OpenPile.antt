@@ -56,7 +56,7 @@ toppled_by v i = if nat_le v.base i then slice_index v.counts (i - v.base) else 
 
 -- What all passes have
 
--- the pass at place a, or one with nothing
+-- the pass with index a, or one with nothing
 abbrev pub pass_at : OpenPile → ℕ → View
 pass_at p a = slice_index_or p.passes a nobody
 

@@ -49,8 +49,8 @@ pub struct Planes {
     pub tops: u64,
 }
 
-// The sets that the planes count before they are spilled. Two planes more than a byte has cost each set less than a spill
-// four times as often.
+// The sets that the planes count before they are spilled. Two planes more than the bits of a byte cost less than four
+// times as many spills.
 const SPILL: u64 = 1023;
 
 const EMPTY: Planes = Planes {
@@ -120,7 +120,7 @@ fn number_at(planes: &Planes, place: usize) -> u64
         + 512 * (planes.tops >> place & 1)
 }
 
-// Moves the counts of the planes to the list. Apart from the hot path, whose registers it would take.
+// Moves the counts of the planes to the list. It is not inlined, since it would take registers from the hot path.
 #[cold]
 #[inline(never)]
 fn spill(count: &mut Count)

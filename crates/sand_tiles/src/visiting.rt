@@ -18,7 +18,7 @@
 //!   this clause, places could support each other in a ring, and the grains would still balance.
 //! - **A round of two tiles costs about as much as a round of one**, since the same words of both fit one vector register.
 //!   The rounds of a pair go on until nothing is due in either tile: a round without a front changes nothing. The compiler
-//!   puts the words together if the rounds work on copies of the tiles, and nothing else is around them.
+//!   vectorizes a pair if the rounds work on copies of the tiles, in a function that does nothing else.
 
 ghost use Rattle.std.specs.Prelude.{◌≡◌, ℕ, ◌+◌, ◌*◌, ◌^◌, ◌<◌, ◌≤◌};
 ghost use Rattle.sand_tiles.specs.declared.tile.Tile.{Tile};

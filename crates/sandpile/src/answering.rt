@@ -1,4 +1,4 @@
-//! Answers what the words ask for: runs a command or shows its help, or writes a text of the program itself.
+//! Does what the words ask for: runs a command or shows its help, or writes a text of the program itself.
 
 ghost use Rattle.std.specs.Prelude.{◌≡◌, ◌≢◌, ◌<◌, IfErr, OnOk, length, map, string_bytes};
 ghost use Rattle.sand_desk.specs.Commands.{TellsWords, call_of};
@@ -41,7 +41,7 @@ fn perform<T: Threads + Sync, G: Gate, R: Read, W: Write>(
     show_help(alloc, fault, output)
 }
 
-// Answers a request, with a gate for its command.
+// Carries out a request, with a gate for its command.
 fn answer<T: Threads + Sync, G: Gate, R: Read, W: Write>(
     rt: &T,
     alloc: Global,
@@ -67,7 +67,7 @@ fn answer<T: Threads + Sync, G: Gate, R: Read, W: Write>(
     }
 }
 
-/// Answers a request, and lets a long command show its progress, if given.
+/// Carries out a request, and shows the progress of a long command, if given.
 pub(crate) fn answer_and_show<T: Threads + Sync + Eprint + Clock, R: Read, W: Write>(
     rt: &T,
     alloc: Global,

@@ -55,7 +55,7 @@ fn wants_explanation(words: &[String]) -> bool
     }
 }
 
-// What `explain` is asked for by one word.
+// What `explain WORD` asks for.
 fn explanation_of(word: &str) -> Result<Request, Misuse<'_>>
     ensures { IfOk result IsOfExplain }
 {
