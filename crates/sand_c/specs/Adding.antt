@@ -26,6 +26,6 @@ pub record IsAdding (meaning : Result (PileView × PileView) Fault) (after : Lis
   pub meant : meaning ≡ Ok (first, second)
   pub first_recurrent : IsRecurrent first.grid (height_of first)
   pub second_recurrent : IsRecurrent second.grid (height_of second)
-  pub one_each : length after ≡ sites first.grid
+  pub len : length after ≡ sites first.grid
   pub sum : IsSum first.grid (height_of first) (height_of second)
       (height_of (record { grid = first.grid; heights = after }))

@@ -26,9 +26,9 @@ shaped (Err fault) = Err (of_shape fault)
 abbrev pub grid_of : ℕ → ℕ → Bool → Result Grid Fault
 grid_of width height cylinder = shaped (grid_with_edge width height (edge_of cylinder))
 
--- the length of a slice, if it is the wanted one
+-- the length of a slice, if it is the expected one
 abbrev pub has_length : ℕ → ℕ → Result ℕ Fault
-has_length wanted n = if n == wanted then Ok n else Err Length
+has_length expected n = if n == expected then Ok n else Err Length
 
 -- the pile with these heights on a grid
 abbrev pub pile_on : Grid → List ℕ → Result PileView Fault

@@ -32,7 +32,7 @@ pub record IsBurning (meaning : Result PileView Fault) (after : List ℕ) (count
   pub pile : PileView
   pub meant : meaning ≡ Ok pile
   pub stable : IsStable pile.grid (height_of pile)
-  pub few : count ≤ sites pile.grid
+  pub bound : count ≤ sites pile.grid
   pub found : IsFound pile.grid (height_of pile) recurrent (take count after)
 
 -- burning fails: its arguments have a fault, or memory runs out, or the pile is not stable

@@ -81,7 +81,7 @@ pub record HasDriven (v : OneView) (site : ℕ) (a : Avalanche) (counts : List �
   pub drops : Drops v site w
   pub avalanche : IsAvalanche (grid_of_one_pile v) site (topplings_between v.settled w.settled) a
   pub after : (start : PileView) (history : List ℕ) → IsAfter start history v → IsAfter start (history ++ site ∷ []) w
-  pub one_each : length counts ≡ sites (grid_of_one_pile v)
+  pub len : length counts ≡ sites (grid_of_one_pile v)
   pub counts_are : (i : ℕ) → i < sites (grid_of_one_pile v)
       → slice_index counts i ≡ topplings_between v.settled w.settled i
 

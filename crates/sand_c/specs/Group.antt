@@ -15,7 +15,7 @@ identity_of width height cylinder heights =
 pub record IsIdentityOf (meaning : Result Grid Fault) (after : List ℕ) : Type 0 where
   pub grid : Grid
   pub meant : meaning ≡ Ok grid
-  pub one_each : length after ≡ sites grid
+  pub len : length after ≡ sites grid
   pub identity : IsIdentity grid (height_of (record { grid = grid; heights = after }))
 
 abbrev pub recurrent_of : ℕ → ℕ → Bool → List ℕ → Result PileView Fault
@@ -25,6 +25,6 @@ recurrent_of width height cylinder heights = grid_of width height cylinder >>= �
 pub record IsRecurrentOf (meaning : Result PileView Fault) (after : List ℕ) : Type 0 where
   pub start : PileView
   pub meant : meaning ≡ Ok start
-  pub one_each : length after ≡ sites start.grid
+  pub len : length after ≡ sites start.grid
   pub represents : Represents start.grid (whole (height_of start))
       (height_of (record { grid = start.grid; heights = after }))

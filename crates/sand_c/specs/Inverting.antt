@@ -11,5 +11,5 @@ pub record IsInverting (meaning : Result PileView Fault) (after : List ℕ) : Ty
   pub pile : PileView
   pub meant : meaning ≡ Ok pile
   pub recurrent : IsRecurrent pile.grid (height_of pile)
-  pub one_each : length after ≡ sites pile.grid
+  pub len : length after ≡ sites pile.grid
   pub inverse : IsInverse pile.grid (height_of pile) (height_of (record { grid = pile.grid; heights = after }))

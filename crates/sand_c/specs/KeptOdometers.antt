@@ -7,13 +7,13 @@ use Rattle.sand_settle.specs.Drops.{OneView, grid_of_one_pile}
 
 -- these are how often each site of a driven pile has toppled
 pub record IsOdometer (counts : List ℕ) (v : OneView) : Type 0 where
-  pub one_each : length counts ≡ sites (grid_of_one_pile v)
+  pub len : length counts ≡ sites (grid_of_one_pile v)
   pub counts_are : (i : ℕ) → i < sites (grid_of_one_pile v) → slice_index counts i ≡ odometer_of v.settled i
 
 -- the pile takes `room` more grains, and a count is kept for each site; if they are current, they are the odometer now
 pub record IsDrive (v : OneView) (room : ℕ) (kept : List ℕ) (is_current : Bool) : Type 0 where
   pub room_left : v.grains + room ≡ most_grains
-  pub one_each : length kept ≡ sites (grid_of_one_pile v)
+  pub len : length kept ≡ sites (grid_of_one_pile v)
   pub current : is_current ≡ true → IsOdometer kept v
 
 -- from site `first` up to `end`, the counts that are kept become the odometer, and the topplings are what they grew by; of the

@@ -11,5 +11,5 @@ pub record IsMultiplying (meaning : Result PileView Fault) (n : ℕ) (after : Li
   pub pile : PileView
   pub meant : meaning ≡ Ok pile
   pub recurrent : IsRecurrent pile.grid (height_of pile)
-  pub one_each : length after ≡ sites pile.grid
+  pub len : length after ≡ sites pile.grid
   pub multiple : IsMultiple pile.grid n (height_of pile) (height_of (record { grid = pile.grid; heights = after }))

@@ -23,7 +23,7 @@ fn sum_on(alloc: Global, shape: Shape, heights: &[u64], others: &[u64]) -> Resul
       record { grid = shape; heights = heights.now },
       record { grid = shape; heights = others.now },
     )) c.heights) }
-    ensures one_each { IfOk result (λ c. length c.heights ≡ sites shape) }
+    ensures len { IfOk result (λ c. length c.heights ≡ sites shape) }
     ensures fault { IfErr result (λ e. AddFails e (Ok (
       record { grid = shape; heights = heights.now },
       record { grid = shape; heights = others.now },
@@ -48,7 +48,7 @@ fn sum_of(
     others: &[u64],
 ) -> Result<Recurrent, Fault>
     ensures added { IfOk result (λ c. IsAdding (adding_of width height cylinder heights.now others.now) c.heights) }
-    ensures one_each { IfOk result (λ c. length c.heights ≡ length heights.now) }
+    ensures len { IfOk result (λ c. length c.heights ≡ length heights.now) }
     ensures fault { IfErr result (λ e. AddFails e (adding_of width height cylinder heights.now others.now)) }
 {
     let shape = grid_for(width, height, cylinder, heights, others.len())?;

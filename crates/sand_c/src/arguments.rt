@@ -63,7 +63,7 @@ pub(crate) fn grid_for(
 ) -> Result<Shape, Fault>
     ensures meant { IfOk result (λ g. pile_with width height cylinder heights.now places
         ≡ Ok (record { grid = g; heights = heights.now })) }
-    ensures one_each { IfOk result (λ g. length heights.now ≡ sites g) }
+    ensures len { IfOk result (λ g. length heights.now ≡ sites g) }
     ensures places { IfOk result (λ g. places ≡ sites g) }
     ensures limit { OnOk result (sum heights.now ≤ most_grains) }
     ensures fault { IfErr result (λ e. pile_with width height cylinder heights.now places ≡ Err e) }

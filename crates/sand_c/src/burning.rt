@@ -46,7 +46,7 @@ fn write_burned(places: &mut [usize], burned: &Burned) -> (usize, bool)
 // What burning the pile with these heights finds.
 #[tactic(auto, using(crate::proofs::Found::fits, crate::proofs::Found::found, crate::proofs::Unfit::burnt))]
 fn burned_on(alloc: Global, shape: Shape, heights: &[u64]) -> Result<Burned, Fault>
-    requires one_each { length heights.now ≡ sites shape }
+    requires len { length heights.now ≡ sites shape }
     requires limit { sum heights.now ≤ most_grains }
     ensures burned { IfOk result (λ b. IsBurning (Ok (record { grid = shape; heights = heights.now }))
         (sites_in b) (length (sites_in b)) (burns_out b)) }

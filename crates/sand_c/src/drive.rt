@@ -104,7 +104,7 @@ impl Drive {
     /// Writes the heights.
     pub(crate) fn read_heights(&self, heights: &mut [u64])
         requires { length heights.old ≡ sites (grid_of_one_pile self.now) }
-        ensures one_each { length heights.new ≡ length heights.old }
+        ensures len { length heights.new ≡ length heights.old }
         ensures heights { (i : ℕ) → i < sites (grid_of_one_pile self.now)
             → slice_index heights.new i ≡ height_of self.now.settled.pile i }
     {

@@ -20,7 +20,7 @@ fn identity_for(
 ) -> Result<Recurrent, Fault>
     ensures meant { OnOk result (IsOk (identity_of width height cylinder heights.now)) }
     ensures identity { IfOk result (λ c. IsIdentityOf (identity_of width height cylinder heights.now) c.heights) }
-    ensures one_each { IfOk result (λ c. length c.heights ≡ length heights.now) }
+    ensures len { IfOk result (λ c. length c.heights ≡ length heights.now) }
     ensures fault { IfErr result (λ e. Fails e (identity_of width height cylinder heights.now)) }
 {
     let shape = grid_of(width, height, cylinder)?;
@@ -59,7 +59,7 @@ fn recurrent_for(
 ) -> Result<Recurrent, Fault>
     ensures meant { OnOk result (IsOk (recurrent_of width height cylinder heights.now)) }
     ensures recurrent { IfOk result (λ c. IsRecurrentOf (recurrent_of width height cylinder heights.now) c.heights) }
-    ensures one_each { IfOk result (λ c. length c.heights ≡ length heights.now) }
+    ensures len { IfOk result (λ c. length c.heights ≡ length heights.now) }
     ensures fault { IfErr result (λ e. Fails e (recurrent_of width height cylinder heights.now)) }
 {
     let shape = grid_of(width, height, cylinder)?;

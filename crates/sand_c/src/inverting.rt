@@ -19,7 +19,7 @@ fn inverse_of(
     heights: &[u64],
 ) -> Result<Recurrent, Fault>
     ensures inverted { IfOk result (λ c. IsInverting (element_of width height cylinder heights.now) c.heights) }
-    ensures one_each { IfOk result (λ c. length c.heights ≡ length heights.now) }
+    ensures len { IfOk result (λ c. length c.heights ≡ length heights.now) }
     ensures fault { IfErr result (λ e. ElementFails e (element_of width height cylinder heights.now)) }
 {
     let pile = element_of(alloc, width, height, cylinder, heights)?;

@@ -25,7 +25,7 @@ pub(crate) fn read_odometer(pile: &DrivenPile, odometer: &mut [u64])
 
 /// Reads the kept odometer again, unless it is current.
 pub(crate) fn bring_up_to_date(pile: &DrivenPile, kept: &mut [u64], is_current: bool)
-    requires one_each { length kept.old ≡ sites (grid_of_one_pile pile.now) }
+    requires len { length kept.old ≡ sites (grid_of_one_pile pile.now) }
     requires current { IsTrue is_current → IsOdometer kept.old pile.now }
     ensures { IsOdometer kept.new pile.now }
 {
@@ -38,7 +38,7 @@ pub(crate) fn bring_up_to_date(pile: &DrivenPile, kept: &mut [u64], is_current: 
 // these are all columns.
 fn columns_near(shape: Shape, x: usize, reach: usize) -> (usize, usize)
     requires column { x < shape.width }
-    requires small { reach < 2 ^ 32 }
+    requires fits { reach < 2 ^ 32 }
     ensures inside { (result.0 ≤ result.1) × (result.1 ≤ shape.width) }
     ensures near { (i j : ℕ) → column shape i ≡ x → columns_apart shape i j ≤ reach
         → (result.0 ≤ column shape j) × (column shape j < result.1) }
@@ -58,7 +58,7 @@ fn columns_near(shape: Shape, x: usize, reach: usize) -> (usize, usize)
 // crosses the seam is whole.
 fn sites_near(shape: Shape, site: usize, reach: usize, y: usize) -> (usize, usize)
     requires site { site < sites shape }
-    requires small { reach < 2 ^ 32 }
+    requires fits { reach < 2 ^ 32 }
     requires row { y < shape.height }
     ensures inside { (y * shape.width ≤ result.0) × (result.0 ≤ result.1) × (result.1 ≤ (y + 1) * shape.width) }
     ensures near { (i : ℕ) → row shape i ≡ y → distance shape site i ≤ reach
@@ -110,7 +110,7 @@ pub(crate) fn take_topplings(
     topplings: &mut [u64],
 )
     requires site { site < sites (grid_of_one_pile pile.now) }
-    requires small { reach < 2 ^ 32 }
+    requires fits { reach < 2 ^ 32 }
     requires kept_each { length kept.old ≡ sites (grid_of_one_pile pile.now) }
     requires topplings_each { length topplings.old ≡ sites (grid_of_one_pile pile.now) }
     requires fewer { (i : ℕ) → i < sites (grid_of_one_pile pile.now)

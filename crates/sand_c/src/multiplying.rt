@@ -20,7 +20,7 @@ fn multiple_of(
     n: u64,
 ) -> Result<Recurrent, Fault>
     ensures multiplied { IfOk result (λ c. IsMultiplying (element_of width height cylinder heights.now) n c.heights) }
-    ensures one_each { IfOk result (λ c. length c.heights ≡ length heights.now) }
+    ensures len { IfOk result (λ c. length c.heights ≡ length heights.now) }
     ensures fault { IfErr result (λ e. ElementFails e (element_of width height cylinder heights.now)) }
 {
     let pile = element_of(alloc, width, height, cylinder, heights)?;

@@ -16,7 +16,7 @@ use std::alloc::Global;
 /// The recurrent pile with these heights.
 #[tactic(auto, using(crate::proofs::Unfit::unfit))]
 pub(crate) fn recurrent_on(alloc: Global, shape: Shape, heights: &[u64]) -> Result<Recurrent, Fault>
-    requires one_each { length heights.now ≡ sites shape }
+    requires len { length heights.now ≡ sites shape }
     requires limit { sum heights.now ≤ most_grains }
     ensures made { IfOk result (λ c. c ≡ record { grid = shape; heights = heights.now }) }
     ensures unfit { IfErr result
@@ -41,7 +41,7 @@ pub(crate) fn element_of(
 ) -> Result<Recurrent, Fault>
     ensures meant { IfOk result (λ c. element_of width height cylinder heights.now ≡ Ok c) }
     ensures recurrent { IfOk result (λ c. IsRecurrent c.grid (height_of c)) }
-    ensures one_each { IfOk result (λ c. length heights.now ≡ sites c.grid) }
+    ensures len { IfOk result (λ c. length heights.now ≡ sites c.grid) }
     ensures fault { IfErr result (λ e. ElementFails e (element_of width height cylinder heights.now)) }
 {
     let shape = grid_of(width, height, cylinder)?;

@@ -73,7 +73,7 @@ impl SettledPiles {
 fn heights_at(heights: &[u64], sites: usize, pile: usize) -> &[u64]
     requires { (pile + 1) * sites ≤ length heights.now }
     ensures value { result.now ≡ slice_chunk heights.now sites pile }
-    ensures one_each { length result.now ≡ sites }
+    ensures len { length result.now ≡ sites }
 {
     heights.split_at(pile * sites).1.split_at(sites).0
 }
@@ -133,7 +133,7 @@ fn settle_each(
     heights: &[u64],
     count: usize,
 ) -> Result<SettledPiles, Fault>
-    requires one_each { length heights.now ≡ count * sites shape }
+    requires len { length heights.now ≡ count * sites shape }
     requires within { are_within (sites shape) heights.now count ≡ true }
     ensures records { IfOk result (AreRecords shape heights.now count) }
     ensures memory { IsOkUnless result Fault.Memory }

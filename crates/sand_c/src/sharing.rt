@@ -30,7 +30,7 @@ fn suit(shape: Shape, heights: &[u64], quota: u64) -> Result<(), Fault>
         ≡ Ok (record { grid = shape; heights = heights.now })) }
     ensures err { IfErr result (λ e. with_quota_of (pile_on shape heights.now) quota ≡ Err e) }
     ensures known { IfErr result (λ e. e ≢ Fault.Memory) }
-    ensures one_each { OnOk result (length heights.now ≡ sites shape) }
+    ensures len { OnOk result (length heights.now ≡ sites shape) }
     ensures room { OnOk result (sum heights.now + quota ≤ most_grains) }
 {
     if heights.len() != shape.sites() {

@@ -26,7 +26,7 @@ pub record IsShownEverywhere (g : Grid) (s u turn : ℕ → ℕ) : Type 0 where
 pub record IsCertificate (g : Grid) (s : ℕ → ℕ) (counts turns : List ℕ) : Type 0 where
   pub counts_each : length counts ≡ sites g
   pub turns_each : length turns ≡ sites g
-  pub few : All (λ n. n < 2 ^ 54) counts
+  pub bound : All (λ n. n < 2 ^ 54) counts
   pub shown : IsShownEverywhere g s (slice_index counts) (slice_index turns)
 
 -- the counts and the turns are right at site i, and s - Lu is h there

@@ -14,7 +14,7 @@ pub record IsLow (g : Grid) (u : ℕ → ℕ) : Type 0 where
 -- counts u for which Lu is a stable pile
 pub record IsEmptying (g : Grid) (counts : List ℕ) : Type 0 where
   pub counts_each : length counts ≡ sites g
-  pub few : All (λ n. n < 2 ^ 54) counts
+  pub bound : All (λ n. n < 2 ^ 54) counts
   pub low : IsLow g (slice_index counts)
 
 -- Lu is from 0 to 3 at site i, and it is h

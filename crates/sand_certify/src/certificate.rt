@@ -18,11 +18,11 @@ use std::alloc::{AllocError, Global};
 pub const COUNT_LIMIT: u64 = 18_014_398_509_481_984;
 
 #[inline(always)]
-fn value(values: &[u64], place: Option<usize>) -> u64
-    requires { IfSome place (λ j. j < length values.now) }
-    ensures { result ≡ value_at (slice_index values.now) place }
+fn value(values: &[u64], neighbour: Option<usize>) -> u64
+    requires { IfSome neighbour (λ j. j < length values.now) }
+    ensures { result ≡ value_at (slice_index values.now) neighbour }
 {
-    match place {
+    match neighbour {
         Some(site) => values[site],
         None => 0,
     }
@@ -30,9 +30,9 @@ fn value(values: &[u64], place: Option<usize>) -> u64
 
 #[inline(always)]
 pub(crate) fn inflow(lattice: &Lattice, counts: &[u64], site: usize) -> u64
-    requires one_each { length counts.now ≡ sites lattice.now }
+    requires len { length counts.now ≡ sites lattice.now }
     requires site { site < sites lattice.now }
-    requires few { (j : ℕ) → slice_index counts.now j < 2 ^ 54 }
+    requires bound { (j : ℕ) → slice_index counts.now j < 2 ^ 54 }
     ensures value { result ≡ flow lattice.now (slice_index counts.now) site }
     ensures below { result < 4 * 2 ^ 54 }
 {
@@ -46,11 +46,11 @@ pub(crate) fn inflow(lattice: &Lattice, counts: &[u64], site: usize) -> u64
 }
 
 #[inline(always)]
-fn is_no_earlier(turns: &[u32], turn: u32, place: Option<usize>) -> u64
-    requires { IfSome place (λ j. j < length turns.now) }
-    ensures { result ≡ value_at (λ j. if nat_le turn (slice_index turns.now j) then 1 else 0) place }
+fn is_no_earlier(turns: &[u32], turn: u32, neighbour: Option<usize>) -> u64
+    requires { IfSome neighbour (λ j. j < length turns.now) }
+    ensures { result ≡ value_at (λ j. if nat_le turn (slice_index turns.now j) then 1 else 0) neighbour }
 {
-    match place {
+    match neighbour {
         Some(site) => u64::from(turns[site] >= turn),
         None => 0,
     }
@@ -58,7 +58,7 @@ fn is_no_earlier(turns: &[u32], turn: u32, place: Option<usize>) -> u64
 
 #[inline(always)]
 fn unburnt(lattice: &Lattice, turns: &[u32], site: usize) -> u64
-    requires one_each { length turns.now ≡ sites lattice.now }
+    requires len { length turns.now ≡ sites lattice.now }
     requires site { site < sites lattice.now }
     ensures { result ≡ no_earlier lattice.now (slice_index turns.now) site }
 {
@@ -84,7 +84,7 @@ fn height_left(
     requires counts_each { length counts.now ≡ sites lattice.now }
     requires turns_each { length turns.now ≡ sites lattice.now }
     requires site { site < sites lattice.now }
-    requires few { (j : ℕ) → slice_index counts.now j < 2 ^ 54 }
+    requires bound { (j : ℕ) → slice_index counts.now j < 2 ^ 54 }
     requires low { slice_index start.now site ≤ most_grains }
     ensures { MatchOption result
         (¬ IsShownAt lattice.now (slice_index start.now) (slice_index counts.now) (slice_index turns.now) site)
@@ -119,11 +119,11 @@ fn heights_left(
     requires starts_each { length start.now ≡ sites lattice.now }
     requires counts_each { length counts.now ≡ sites lattice.now }
     requires turns_each { length turns.now ≡ sites lattice.now }
-    requires few { (j : ℕ) → slice_index counts.now j < 2 ^ 54 }
+    requires bound { (j : ℕ) → slice_index counts.now j < 2 ^ 54 }
     requires low { (j : ℕ) → slice_index start.now j ≤ most_grains }
     ensures exactly { IfOk result (λ o. IsSome o
         ↔ IsShownEverywhere lattice.now (slice_index start.now) (slice_index counts.now) (slice_index turns.now)) }
-    ensures one_each { IfOk result (λ o. IfSome o (λ heights. length heights.items ≡ sites lattice.now)) }
+    ensures len { IfOk result (λ o. IfSome o (λ heights. length heights.items ≡ sites lattice.now)) }
     ensures settled { IfOk result (λ o. IfSome o (λ heights.
         IsSettled lattice.now (slice_index start.now) (slice_index counts.now) (slice_index heights.items))) }
 {
@@ -149,7 +149,7 @@ pub fn certified(
 ) -> Result<Option<Vec<u64>>, AllocError>
     ensures exactly { IfOk result
         (λ o. IsSome o ↔ IsCertificate pile.now.grid (height_of pile.now) counts.now turns.now) }
-    ensures one_each { IfOk result (λ o. IfSome o (λ heights. length heights.items ≡ sites pile.now.grid)) }
+    ensures len { IfOk result (λ o. IfSome o (λ heights. length heights.items ≡ sites pile.now.grid)) }
     ensures settled { IfOk result (λ o. IfSome o (λ heights.
         IsSettled pile.now.grid (height_of pile.now) (slice_index counts.now) (slice_index heights.items))) }
 {

@@ -15,9 +15,9 @@ use std::alloc::{AllocError, Global};
 // The height that the counts take to 0 at a site, if it is from 0 to 3.
 #[inline(always)]
 fn height_emptied(lattice: &Lattice, counts: &[u64], site: usize) -> Option<u64>
-    requires one_each { length counts.now ≡ sites lattice.now }
+    requires len { length counts.now ≡ sites lattice.now }
     requires site { site < sites lattice.now }
-    requires few { (j : ℕ) → slice_index counts.now j < 2 ^ 54 }
+    requires bound { (j : ℕ) → slice_index counts.now j < 2 ^ 54 }
     ensures { MatchOption result
         (¬ IsLowAt lattice.now (slice_index counts.now) site)
         (λ height. IsEmptiedAt lattice.now (slice_index counts.now) site height) }
@@ -35,10 +35,10 @@ fn heights_emptied(
     lattice: &Lattice,
     counts: &[u64],
 ) -> Result<Option<Vec<u64>>, AllocError>
-    requires one_each { length counts.now ≡ sites lattice.now }
-    requires few { (j : ℕ) → slice_index counts.now j < 2 ^ 54 }
+    requires len { length counts.now ≡ sites lattice.now }
+    requires bound { (j : ℕ) → slice_index counts.now j < 2 ^ 54 }
     ensures exactly { IfOk result (λ o. IsSome o ↔ IsLow lattice.now (slice_index counts.now)) }
-    ensures one_each { IfOk result (λ o. IfSome o (λ heights. length heights.items ≡ sites lattice.now)) }
+    ensures len { IfOk result (λ o. IfSome o (λ heights. length heights.items ≡ sites lattice.now)) }
     ensures low { IfOk result (λ o. IfSome o (λ heights. All (λ h. h ≤ 3) heights.items)) }
     ensures emptied { IfOk result (λ o. IfSome o (λ heights.
         IsToppled lattice.now (slice_index heights.items) (slice_index counts.now) (λ _. 0))) }
@@ -58,7 +58,7 @@ fn heights_emptied(
 /// there is no such pile, and an error if an allocation fails.
 pub fn emptied(alloc: Global, shape: Shape, counts: &[u64]) -> Result<Option<Vec<u64>>, AllocError>
     ensures exactly { IfOk result (λ o. IsSome o ↔ IsEmptying shape counts.now) }
-    ensures one_each { IfOk result (λ o. IfSome o (λ heights. length heights.items ≡ sites shape)) }
+    ensures len { IfOk result (λ o. IfSome o (λ heights. length heights.items ≡ sites shape)) }
     ensures low { IfOk result (λ o. IfSome o (λ heights. All (λ h. h ≤ 3) heights.items)) }
     ensures emptied { IfOk result (λ o. IfSome o (λ heights.
         IsToppled shape (slice_index heights.items) (slice_index counts.now) (λ _. 0))) }

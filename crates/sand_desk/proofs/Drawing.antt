@@ -18,10 +18,10 @@ use Rattle.sand_desk.proofs.DrawnSites.{length-drawn}
 -- a text without a pile has none to drop on
 read_fault : (draw : Draw) (input : List ℕ) (why : TextFault) → pile_of input ≡ Err why
     → Finds (IsDropsFault (Some draw) input) (of_text why)
-read_fault draw input (text.Text place) e =
-    record { why = text.Text place; read = ap (λ r. r >>= with_draw draw) e; told = refl }
-read_fault draw input (text.TooLarge place) e =
-    record { why = text.TooLarge place; read = ap (λ r. r >>= with_draw draw) e; told = refl }
+read_fault draw input (text.Text offset) e =
+    record { why = text.Text offset; read = ap (λ r. r >>= with_draw draw) e; told = refl }
+read_fault draw input (text.TooLarge offset) e =
+    record { why = text.TooLarge offset; read = ap (λ r. r >>= with_draw draw) e; told = refl }
 read_fault draw input text.Side e = record { why = text.Side; read = ap (λ r. r >>= with_draw draw) e; told = refl }
 read_fault draw input text.Narrow e = record { why = text.Narrow; read = ap (λ r. r >>= with_draw draw) e; told = refl }
 read_fault draw input text.Length e = record { why = text.Length; read = ap (λ r. r >>= with_draw draw) e; told = refl }
@@ -46,8 +46,8 @@ unread draw input desk.Unstable (why, e, is) = by_why draw input desk.Unstable w
 unread draw input desk.NotRecurrent (why, e, is) = by_why draw input desk.NotRecurrent why e is
 unread draw input desk.Shapes (why, e, is) = by_why draw input desk.Shapes why e is
 unread draw input desk.Taken (why, e, is) = by_why draw input desk.Taken why e is
-unread draw input (desk.Text place) (why, e, is) = by_why draw input (desk.Text place) why e is
-unread draw input (desk.TooLarge place) (why, e, is) = by_why draw input (desk.TooLarge place) why e is
+unread draw input (desk.Text offset) (why, e, is) = by_why draw input (desk.Text offset) why e is
+unread draw input (desk.TooLarge offset) (why, e, is) = by_why draw input (desk.TooLarge offset) why e is
 unread draw input desk.Read (why, e, is) = by_why draw input desk.Read why e is
 unread draw input (desk.Write sent) (why, e, is) = by_why draw input (desk.Write sent) why e is
 unread draw input desk.TooLong (why, e, is) = by_why draw input desk.TooLong why e is

@@ -113,9 +113,9 @@ refused call task input (desk.Write sent) read found kept = absurd found
 refused call task input desk.Side read found kept = faulty call task input desk.Side read found kept
 refused call task input desk.Length read found kept = faulty call task input desk.Length read found kept
 refused call task input desk.TooManyGrains read found kept = faulty call task input desk.TooManyGrains read found kept
-refused call task input (desk.Text place) read found kept = faulty call task input (desk.Text place) read found kept
-refused call task input (desk.TooLarge place) read found kept =
-    faulty call task input (desk.TooLarge place) read found kept
+refused call task input (desk.Text offset) read found kept = faulty call task input (desk.Text offset) read found kept
+refused call task input (desk.TooLarge offset) read found kept =
+    faulty call task input (desk.TooLarge offset) read found kept
 refused call task input desk.Narrow read found kept = faulty call task input desk.Narrow read found kept
 refused call task input desk.Full read found kept = faulty call task input desk.Full read found kept
 refused call task input desk.Unstable read found kept = faulty call task input desk.Unstable read found kept
@@ -183,8 +183,8 @@ found_no_help words IsFault (desk.Write sent) found = (tt, tt)
 found_no_help words IsFault desk.Side found = (tt, tt)
 found_no_help words IsFault desk.Length found = (tt, tt)
 found_no_help words IsFault desk.TooManyGrains found = (tt, tt)
-found_no_help words IsFault (desk.Text place) found = (tt, tt)
-found_no_help words IsFault (desk.TooLarge place) found = (tt, tt)
+found_no_help words IsFault (desk.Text offset) found = (tt, tt)
+found_no_help words IsFault (desk.TooLarge offset) found = (tt, tt)
 found_no_help words IsFault desk.Narrow found = (tt, tt)
 found_no_help words IsFault desk.Full found = (tt, tt)
 found_no_help words IsFault desk.Unstable found = (tt, tt)

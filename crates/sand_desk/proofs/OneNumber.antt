@@ -36,8 +36,8 @@ of_the_group group.Shapes = refl
 of_the_group (group.Memory refused) = refl
 
 of_a_text : (fault : TextFault) → number_of (of_text fault) ≡ text_fault_number fault
-of_a_text (text.Text place) = refl
-of_a_text (text.TooLarge place) = refl
+of_a_text (text.Text offset) = refl
+of_a_text (text.TooLarge offset) = refl
 of_a_text text.Side = refl
 of_a_text text.Narrow = refl
 of_a_text text.Length = refl

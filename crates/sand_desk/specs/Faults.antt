@@ -35,8 +35,8 @@ number_of Unstable = 7
 number_of NotRecurrent = 8
 number_of Shapes = 9
 number_of Taken = 17
-number_of (Text place) = 18
-number_of (TooLarge place) = 19
+number_of (Text offset) = 18
+number_of (TooLarge offset) = 19
 number_of Read = 20
 number_of (Write sent) = 21
 number_of TooLong = 22
@@ -55,8 +55,8 @@ name_of Unstable = codes "Unstable"
 name_of NotRecurrent = codes "NotRecurrent"
 name_of Shapes = codes "Shapes"
 name_of Taken = codes "Taken"
-name_of (Text place) = codes "Text"
-name_of (TooLarge place) = codes "TooLarge"
+name_of (Text offset) = codes "Text"
+name_of (TooLarge offset) = codes "TooLarge"
 name_of Read = codes "Read"
 name_of (Write sent) = codes "Write"
 name_of TooLong = codes "TooLong"
@@ -67,8 +67,8 @@ name_of (NoSite index) = codes "NoSite"
 
 -- the place in the input, or the number of bytes written
 abbrev pub place_of : DeskFault → List ℕ
-place_of (Text place) = codes " at " ++ decimal place
-place_of (TooLarge place) = codes " at " ++ decimal place
+place_of (Text offset) = codes " at " ++ decimal offset
+place_of (TooLarge offset) = codes " at " ++ decimal offset
 place_of (NoSite index) = codes " at " ++ decimal index
 place_of (Write sent) = codes " after " ++ decimal sent
 place_of fault = []
@@ -89,8 +89,8 @@ status_of (Clash conflict) = 2
 status_of fault = 1
 
 abbrev pub of_text : TextFault → DeskFault
-of_text (text.Text place) = Text place
-of_text (text.TooLarge place) = TooLarge place
+of_text (text.Text offset) = Text offset
+of_text (text.TooLarge offset) = TooLarge offset
 of_text text.Side = Side
 of_text text.Narrow = Narrow
 of_text text.Length = Length

@@ -35,7 +35,7 @@ edge_of true = Cylinder
 pub record IsPileText (g : Grid) (IsWanted : (ℕ → ℕ) → Type 0) (pgm : Bool) (text : List ℕ) : Type 0 where
   pub pile : PileView
   pub grid : pile.grid ≡ g
-  pub one_each : length pile.heights ≡ sites g
+  pub len : length pile.heights ≡ sites g
   pub wanted : IsWanted (height_of pile)
   pub written : text ≡ pile_or_graymap pgm pile
 

@@ -98,8 +98,8 @@ impl From<TextFault> for DeskFault {
 
     fn from(fault: TextFault) -> DeskFault {
         match fault {
-            TextFault::Text(place) => DeskFault::Text(place),
-            TextFault::TooLarge(place) => DeskFault::TooLarge(place),
+            TextFault::Text(offset) => DeskFault::Text(offset),
+            TextFault::TooLarge(offset) => DeskFault::TooLarge(offset),
             TextFault::Side => DeskFault::Side,
             TextFault::Narrow => DeskFault::Narrow,
             TextFault::Length => DeskFault::Length,

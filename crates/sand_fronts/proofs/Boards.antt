@@ -52,8 +52,8 @@ pub board_of : (g : Grid) (all : List Beside) → IsGrid g → length all ≡ ti
 board_of g all sides one_each small each =
     record {
       sides = sides;
-      small = small;
-      one_each = one_each;
+      fits = small;
+      len = one_each;
       each = λ j l.
           let k = tile_of g j in
           let r = row_after g j l in
@@ -101,6 +101,6 @@ board_with b k word was = record {
 pub sand_with : (g : Grid) (s : Sand) (k : ℕ) (t : Tile) → IsSand g s
     → IsSand g (record s { tiles = with_item s.tiles k t })
 sand_with g s k t was = record {
-  one_each = length-set {A = Tile} s.tiles.items k t ∙ was.one_each;
+  len = length-set {A = Tile} s.tiles.items k t ∙ was.len;
   room = was.room;
 }

@@ -208,23 +208,23 @@ none_over_wave n ν τ clear = sum_below_none n (λ k. sum_below 64 (λ p. numbe
 abbrev pub AreNone : Count → Type 0
 AreNone c = (p : ℕ) → p < 64 → counted c p ≡ 0
 
--- each number is in a list, from one turn to before another, or it has P
+-- each number is in a list, from one position to before another, or it has P
 abbrev pub AreIn : (ℕ → Type 0) → List ℕ → ℕ → ℕ → Type 0
 AreIn P list from end = (m : ℕ) → P m ⊎ ((t : ℕ) × (from ≤ t) × (t < end) × (slice_index list t ≡ m))
 
-pub rest_in : (P Q : ℕ → Type 0) (k : ℕ) (list : List ℕ) (turn end : ℕ) → AreIn P list turn end
-    → ((m : ℕ) → P m → Q m) → Q k → k ≡ slice_index list turn → AreIn Q list (turn + 1) end
-rest_in P Q k list turn end listed still here is m = ⊎_elim
+pub rest_in : (P Q : ℕ → Type 0) (k : ℕ) (list : List ℕ) (position end : ℕ) → AreIn P list position end
+    → ((m : ℕ) → P m → Q m) → Q k → k ≡ slice_index list position → AreIn Q list (position + 1) end
+rest_in P Q k list position end listed still here is m = ⊎_elim
     (λ (was : P m). inl (still m was))
-    (λ (at : (t : ℕ) × (turn ≤ t) × (t < end) × (slice_index list t ≡ m)). ⊎_elim
-    (λ (now : at.0 ≡ turn). inl (subst Q (is ∙ ap (slice_index list) (sym now) ∙ at.3) here))
-    (λ (later : at.0 ≡ turn → ⊥). inr (at.0, (let a = at.1 in omega arith), at.2, at.3))
-    (cases_eq at.0 turn))
+    (λ (at : (t : ℕ) × (position ≤ t) × (t < end) × (slice_index list t ≡ m)). ⊎_elim
+    (λ (now : at.0 ≡ position). inl (subst Q (is ∙ ap (slice_index list) (sym now) ∙ at.3) here))
+    (λ (later : at.0 ≡ position → ⊥). inr (at.0, (let a = at.1 in omega arith), at.2, at.3))
+    (cases_eq at.0 position))
     (listed m)
 
-pub none_in : (P : ℕ → Type 0) (list : List ℕ) (turn end : ℕ) → AreIn P list turn end → end ≤ turn → (m : ℕ) → P m
-none_in P list turn end listed last m = ⊎_elim
+pub none_in : (P : ℕ → Type 0) (list : List ℕ) (position end : ℕ) → AreIn P list position end → end ≤ position → (m : ℕ) → P m
+none_in P list position end listed last m = ⊎_elim
     (λ (was : P m). was)
-    (λ (at : (t : ℕ) × (turn ≤ t) × (t < end) × (slice_index list t ≡ m)).
+    (λ (at : (t : ℕ) × (position ≤ t) × (t < end) × (slice_index list t ≡ m)).
     let a = at.1 in let b = at.2 in absurd (omega arith))
     (listed m)

@@ -24,7 +24,7 @@ use Rattle.sand_fronts.proofs.Filled.{entry_each}
 use Rattle.sand_fronts.proofs.OnTiles.{place_below, at_on, on_below, on_sum}
 
 nothing_sound : IsCount no_tile
-nothing_sound = record { few = omega arith; each = λ p low. let z = bit_none p in omega arith }
+nothing_sound = record { bound = omega arith; each = λ p low. let z = bit_none p in omega arith }
 
 nothing_counted : (p : ℕ) → counted no_tile p ≡ 0
 nothing_counted p = let z = bit_none p in let e = get_or-eq_default {A = ℕ} [] 0 {n = p} (omega arith) in omega arith

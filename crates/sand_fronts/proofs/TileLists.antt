@@ -49,7 +49,7 @@ pub gets_more : {free : ℕ → ℕ} {a b : ℕ} {x y : ℕ → ℕ → ℕ} (z 
     → ((m p : ℕ) → p < 64 → x m p + y m p ≡ z m p) → Gets free (a + b) z s u
 gets_more {free} {a} {b} {x} {y} z {s} {t} {u} first second sums =
     record {
-      one_each = second.one_each ∙ first.one_each;
+      len = second.len ∙ first.len;
       gains = record {
         wave = λ m p low. second.gains.wave m p low ∙ first.gains.wave m p low;
         due_free = λ before. second.gains.due_free (first.gains.due_free before);
@@ -65,7 +65,7 @@ gets_more {free} {a} {b} {x} {y} z {s} {t} {u} first second sums =
             omega arith;
       };
       joins = joins_more first.joins
-          (subst (λ n. Joins n b (waits (tiles_of t)) (waits (tiles_of u)) t.list u.list) first.one_each second.joins);
+          (subst (λ n. Joins n b (waits (tiles_of t)) (waits (tiles_of u)) t.list u.list) first.len second.joins);
     }
 
 -- a visited tile without due places waits no more

@@ -189,14 +189,14 @@ turn_first {g} {site} {free} {τ} {σ} {k} {start} {b} from rest here begins bes
     let part = at_most_sum_below (sites g) (toppled g (put k v.tile τ)) site inside in
     turn_over from (record { wave = next.0; started = omega arith; count = omega arith }) steps.gains
 
-pub front_of : (n turn k : ℕ) (p : ℕ → Bool) (list : List ℕ)
-    → Lists n p (drop turn list) → turn < length list → k ≡ get_or list turn 0
-    → (k < n) × (p k ≡ true) × Lists n p (k ∷ drop (turn + 1) list)
-front_of n turn k p list all less is =
+pub front_of : (n position k : ℕ) (p : ℕ → Bool) (list : List ℕ)
+    → Lists n p (drop position list) → position < length list → k ≡ get_or list position 0
+    → (k < n) × (p k ≡ true) × Lists n p (k ∷ drop (position + 1) list)
+front_of n position k p list all less is =
     let P : List ℕ → Type 0 = λ xs. Lists n p xs in
-    let whole : drop turn list ≡ k ∷ drop (turn + 1) list = rw (add-one, is) (drop-cons list turn 0 less) in
+    let whole : drop position list ≡ k ∷ drop (position + 1) list = rw (add-one, is) (drop-cons list position 0 less) in
     let at = subst P whole all in
-    (front_below n p (drop (turn + 1) list) k at, front_passes n p (drop (turn + 1) list) k at, at)
+    (front_below n p (drop (position + 1) list) k at, front_passes n p (drop (position + 1) list) k at, at)
 
 pub others_wait : (n k : ℕ) (p : ℕ → Bool) (list : List ℕ) → Lists n p (k ∷ list) → Lists n (but k p) list
 others_wait n k p list all =
@@ -204,20 +204,20 @@ others_wait n k p list all =
     (λ j l ne. sym (ap (λ b. not b && p j) (ne_eqb j k ne)))
 
 -- the next two in a list are not the same, and both pass
-pub front_two : (n turn j k : ℕ) (p : ℕ → Bool) (list : List ℕ)
-    → Lists n p (drop turn list) → turn + 1 < length list → j ≡ get_or list turn 0 → k ≡ get_or list (turn + 1) 0
-    → (j ≢ k) × (p j ≡ true) × (p k ≡ true) × Lists n (but k (but j p)) (drop (turn + 2) list)
-front_two n turn j k p list all less is is' =
-    let one = front_of n turn j p list all (omega arith) is in
-    let rest = others_wait n j p (drop (turn + 1) list) one.2 in
-    let two = front_of n (turn + 1) k (but j p) list rest less is' in
-    let last = others_wait n k (but j p) (drop (turn + 1 + 1) list) two.2 in
+pub front_two : (n position j k : ℕ) (p : ℕ → Bool) (list : List ℕ)
+    → Lists n p (drop position list) → position + 1 < length list → j ≡ get_or list position 0 → k ≡ get_or list (position + 1) 0
+    → (j ≢ k) × (p j ≡ true) × (p k ≡ true) × Lists n (but k (but j p)) (drop (position + 2) list)
+front_two n position j k p list all less is is' =
+    let one = front_of n position j p list all (omega arith) is in
+    let rest = others_wait n j p (drop (position + 1) list) one.2 in
+    let two = front_of n (position + 1) k (but j p) list rest less is' in
+    let last = others_wait n k (but j p) (drop (position + 1 + 1) list) two.2 in
     let parts = and_parts (not (eqb k j)) (p k) two.1 in
     let P : ℕ → Type 0 = λ t. Lists n (but k (but j p)) (drop t list) in (
       λ e. eqb-false k j (not-true (eqb k j) parts.0) (sym e),
       one.1,
       parts.1,
-      subst P (let e : turn + 1 + 1 ≡ turn + 2 = omega arith in e) last,
+      subst P (let e : position + 1 + 1 ≡ position + 2 = omega arith in e) last,
     )
 
 -- before the first turn no tile waits

@@ -41,17 +41,17 @@ pub record IsBoard (b : Board) : Type 0 where
 
 -- sand on the tiles of a grid, and a list with room for a wave
 pub record IsSand (g : Grid) (s : Sand) : Type 0 where
-  pub one_each : length s.tiles.items ≡ tiles g
+  pub len : length s.tiles.items ≡ tiles g
   pub room : sites g + tiles g + 8 ≤ s.list.room
 
 pub record AreCounts (g : Grid) (c : Counts) : Type 0 where
-  pub one_each : length c.each.items ≡ tiles g
+  pub len : length c.each.items ≡ tiles g
   pub marks_each : length c.marks.sets ≡ tiles g
   pub sound : (m : ℕ) → IsCount (counts_of c m)
 
 -- the tiles get grains, and at most `most` tiles join the list
 pub record Gets (free : ℕ → ℕ) (most : ℕ) (gain : ℕ → ℕ → ℕ) (s t : Sand) : Type 0 where
-  pub one_each : length t.tiles.items ≡ length s.tiles.items
+  pub len : length t.tiles.items ≡ length s.tiles.items
   pub gains : Gains free (tiles_of s) (tiles_of t) gain
   pub joins : Joins (length s.tiles.items) most (waits (tiles_of s)) (waits (tiles_of t)) s.list t.list
 

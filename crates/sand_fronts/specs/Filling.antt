@@ -9,7 +9,7 @@ use Rattle.sand_fronts.specs.Tiling.{on_tiles}
 -- the function may be called at each site, and returns at most 7 there
 pub record AtSites (g : Grid) (pre : Spot → Type 0) (post : Spot → ℕ → Type 0) : Type 0 where
   pub may : (s : Spot) → s.row < g.height → s.column < g.width → pre s
-  pub few : (s : Spot) (n : ℕ) → s.row < g.height → s.column < g.width → post s n → n ≤ 7
+  pub bound : (s : Spot) (n : ℕ) → s.row < g.height → s.column < g.width → post s n → n ≤ 7
 
 -- it returns the numbers h
 abbrev pub Tells : Grid → (Spot → ℕ → Type 0) → (ℕ → ℕ) → Type 0

@@ -15,7 +15,7 @@ but k p m = not (m == k) && p m
 abbrev pub IsClear : Tile → Type 0
 IsClear t = (p : ℕ) → p < 64 → bit t.wave p ≡ 0
 
--- each tile with a site that has toppled in this wave is in a list, from one turn to before another
+-- each tile with a site that has toppled in this wave is in a list, from one position to before another
 abbrev pub AreListed : List ℕ → ℕ → ℕ → (ℕ → Tile) → Type 0
 AreListed list from end τ =
     (m : ℕ) → IsClear (τ m) ⊎ ((t : ℕ) × (from ≤ t) × (t < end) × (slice_index list t ≡ m))

@@ -50,7 +50,7 @@ fn missing_at(shape: Shape, spot: Spot) -> u64
 
 // The same for all sites, on tiles.
 fn all_outside(alloc: Global, shape: Shape) -> Result<Vec<Tile>, AllocError>
-    ensures one_each { IfOk result (λ all. length all.items ≡ tiles shape) }
+    ensures len { IfOk result (λ all. length all.items ≡ tiles shape) }
     ensures each { IfOk result (λ all. AreOutside shape (tile_at all.items)) }
 {
     let all = tiles_of(alloc, shape, &|spot: Spot| missing_at(shape, spot))?;

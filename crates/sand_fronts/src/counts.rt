@@ -38,7 +38,7 @@ pub(crate) struct Counts {
 }
 
 fn no_counts(alloc: Global, n: usize) -> Result<Vec<Count>, AllocError>
-    ensures one_each { IfOk result (λ counts. length counts.items ≡ n) }
+    ensures len { IfOk result (λ counts. length counts.items ≡ n) }
     ensures sound { IfOk result (λ counts. (m : ℕ) → IsCount (count_at counts.items m)) }
     ensures none { IfOk result (λ counts. (m p : ℕ) → p < 64 → counted (count_at counts.items m) p ≡ 0) }
 {
@@ -51,7 +51,7 @@ impl Counts {
     /// No topplings on n tiles. Fails only if an allocation fails.
     pub(crate) fn new(alloc: Global, n: usize) -> Result<Counts, AllocError>
         requires { n ≤ 65536 }
-        ensures one_each { IfOk result (λ c. (length c.each.items ≡ n) × (length c.marks.sets ≡ n)) }
+        ensures len { IfOk result (λ c. (length c.each.items ≡ n) × (length c.marks.sets ≡ n)) }
         ensures sound { IfOk result (λ c. (m : ℕ) → IsCount (counts_of c m)) }
         ensures none { IfOk result (λ c. (m p : ℕ) → p < 64 → counted (counts_of c m) p ≡ 0) }
         ensures unmarked { IfOk result (λ c. (m : ℕ) → marks_of c m ≡ 0) }
@@ -65,11 +65,11 @@ impl Counts {
     #[inline(always)]
     fn take(&mut self, tiles: &mut Vec<Tile>, k: usize) -> u64
         requires tile { k < length tiles.old.items }
-        requires one_each { (length self.old.each.items ≡ length tiles.old.items)
+        requires len { (length self.old.each.items ≡ length tiles.old.items)
             × (length self.old.marks.sets ≡ length tiles.old.items) }
-        requires small { length tiles.old.items ≤ 65536 }
+        requires fits { length tiles.old.items ≤ 65536 }
         requires sound { IsCount (counts_of self.old k) }
-        requires few { (p : ℕ) → p < 64 → counted (counts_of self.old k) p < 2 ^ 62 }
+        requires bound { (p : ℕ) → p < 64 → counted (counts_of self.old k) p < 2 ^ 62 }
         ensures counted { AreCounted tiles.old.items tiles.new.items self.old self.new }
         ensures set { result ≡ (tile_at tiles.old.items k).wave }
         ensures empty { (tile_at tiles.new.items k).wave ≡ 0 }
@@ -87,7 +87,7 @@ impl Counts {
         requires board { IsBoard board.now }
         requires sand { IsSand board.now.shape sand.old }
         requires counts { AreCounts board.now.shape self.old }
-        requires few { (m p : ℕ) → p < 64 → with_wave (tiles_of sand.old) (counts_of self.old) m p < 2 ^ 62 }
+        requires bound { (m p : ℕ) → p < 64 → with_wave (tiles_of sand.old) (counts_of self.old) m p < 2 ^ 62 }
         requires listed { AreListed sand.old.list.items 0 (length sand.old.list.items) (tiles_of sand.old) }
         requires on_board { (t : ℕ) → t < length sand.old.list.items
             → slice_index sand.old.list.items t < tiles board.now.shape }
@@ -99,8 +99,8 @@ impl Counts {
             ≡ over_wave (tiles board.now.shape) (tile_at board.now.outside.items) (tiles_of sand.old) }
     {
         let mut total = NOTHING;
-        for turn in 0..sand.list.len() {
-            let k = sand.list.item(turn);
+        for position in 0..sand.list.len() {
+            let k = sand.list.item(position);
             let set = self.take(&mut sand.tiles, k);
             total.size += size(set);
             total.lost += sum_over(&board.outside[k], set);

@@ -37,7 +37,7 @@ pub(crate) fn topple_all(
     requires counts { AreCounts board.now.shape counts.old }
     requires all_open { AreOpen board.now.shape drop.site (free_of board.now) }
     requires rest { AreAtRest board.now.shape drop.site (tiles_of sand.old) }
-    requires few { (m p : ℕ) → p < 64 → counted (counts_of counts.old m) p < 2 ^ 60 }
+    requires bound { (m p : ℕ) → p < 64 → counted (counts_of counts.old m) p < 2 ^ 60 }
     ensures settled { HasSettled board.now.shape (heights_before board.now.shape drop.site (tiles_of sand.old))
         sand.new counts.old counts.new }
     ensures size { result.size ≡ topplings board.now.shape (grown board.now.shape counts.old counts.new) }

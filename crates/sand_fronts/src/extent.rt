@@ -27,7 +27,7 @@ const NOWHERE: Extent = Extent { area: 0, reach: 0 };
 pub(crate) fn corner(shape: Shape, k: usize) -> Spot
     requires { k < 2 ^ 20 }
     ensures value { result ≡ corner_of shape k }
-    ensures small { (result.column < 2 ^ 31) × (result.row < 2 ^ 31) }
+    ensures fits { (result.column < 2 ^ 31) × (result.row < 2 ^ 31) }
 {
     let row = pitch(shape);
     Spot {
@@ -39,7 +39,7 @@ pub(crate) fn corner(shape: Shape, k: usize) -> Spot
 fn spot(shape: Shape, site: usize) -> Spot
     requires { site < sites shape }
     ensures value { result ≡ spot_of shape site }
-    ensures small { (result.column < 2 ^ 32) × (result.row < 2 ^ 32) }
+    ensures fits { (result.column < 2 ^ 32) × (result.row < 2 ^ 32) }
 {
     let (column, row) = shape.place(site);
     Spot { column, row }
@@ -48,7 +48,7 @@ fn spot(shape: Shape, site: usize) -> Spot
 #[inline(always)]
 fn add_set(shape: Shape, from: Spot, k: usize, set: u64, extent: Extent) -> Extent
     requires tile { k < 2 ^ 20 }
-    requires small { (from.column < 2 ^ 32) × (from.row < 2 ^ 32) × (extent.area < 2 ^ 40) }
+    requires fits { (from.column < 2 ^ 32) × (from.row < 2 ^ 32) × (extent.area < 2 ^ 40) }
     ensures area { result.area ≡ extent.area + sum_below 64 (bit set) }
     ensures reach { IsReachedFrom shape from (corner_of shape k) set extent.reach result.reach }
 {
@@ -61,10 +61,10 @@ fn add_set(shape: Shape, from: Spot, k: usize, set: u64, extent: Extent) -> Exte
 /// Clears all sets. Returns how far they reached from a site.
 pub(crate) fn take_all(shape: Shape, site: usize, marks: &mut Marks) -> Extent
     requires site { site < sites shape }
-    requires small { length marks.old.sets ≤ 65536 }
+    requires fits { length marks.old.sets ≤ 65536 }
     ensures area { result.area ≡ in_sets (length marks.old.sets) (slice_index marks.old.sets) }
     ensures reach { IsReachedIn shape (spot_of shape site) (slice_index marks.old.sets) result.reach }
-    ensures one_each { length marks.new.sets ≡ length marks.old.sets }
+    ensures len { length marks.new.sets ≡ length marks.old.sets }
     ensures none { (m : ℕ) → slice_index marks.new.sets m ≡ 0 }
 {
     let mut extent = NOWHERE;

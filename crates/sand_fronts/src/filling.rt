@@ -64,7 +64,7 @@ fn site_at(shape: Shape, k: usize, place: usize) -> Option<Spot>
 fn number_at<F: Fn(Spot) -> u64>(shape: Shape, k: usize, place: usize, numbers: &F) -> u64
     requires place { (k < 2 ^ 20) × (place < 64) }
     requires sites { AtSites shape (F.pre numbers.now) (F.post numbers.now) }
-    ensures few { result ≤ 7 }
+    ensures bound { result ≤ 7 }
     ensures each { (h : ℕ → ℕ) → Tells shape (F.post numbers.now) h → result ≡ on_tiles shape h k place }
 {
     match site_at(shape, k, place) {
@@ -93,7 +93,7 @@ pub(crate) fn tiles_of<F: Fn(Spot) -> u64>(
     numbers: &F,
 ) -> Result<Vec<Tile>, AllocError>
     requires sites { AtSites shape (F.pre numbers.now) (F.post numbers.now) }
-    ensures one_each { IfOk result (λ all. length all.items ≡ tiles shape) }
+    ensures len { IfOk result (λ all. length all.items ≡ tiles shape) }
     ensures each { IfOk result
         (λ all. (k : ℕ) → IsFilled shape (F.post numbers.now) k (tile_at all.items k)) }
 {

@@ -35,7 +35,7 @@ impl Marks {
     /// Empty sets for n tiles. Fails only if an allocation fails.
     pub(crate) fn new(alloc: Global, n: usize) -> Result<Marks, AllocError>
         requires { n ≤ 65536 }
-        ensures one_each { IfOk result (λ m. length m.sets ≡ n) }
+        ensures len { IfOk result (λ m. length m.sets ≡ n) }
         ensures none { IfOk result (λ m. (k : ℕ) → slice_index m.sets k ≡ 0) }
     {
         let words = vec![in alloc; 0u64; n]?;
@@ -47,8 +47,8 @@ impl Marks {
     #[inline(always)]
     pub(crate) fn mark(&mut self, k: usize, set: u64)
         requires tile { k < length self.old.sets }
-        requires small { length self.old.sets ≤ 65536 }
-        ensures one_each { length self.new.sets ≡ length self.old.sets }
+        requires fits { length self.old.sets ≤ 65536 }
+        ensures len { length self.new.sets ≡ length self.old.sets }
         ensures each { (m : ℕ) → slice_index self.new.sets m
             ≡ (if m == k then bit_or (slice_index self.old.sets m) set else slice_index self.old.sets m) }
     {
@@ -69,12 +69,12 @@ impl Marks {
 
     /// A tile whose set is not empty.
     #[inline(always)]
-    pub(crate) fn tile(&self, turn: usize) -> usize
-        requires { turn < length self.now.tiles }
-        ensures value { result ≡ slice_index self.now.tiles turn }
+    pub(crate) fn tile(&self, position: usize) -> usize
+        requires { position < length self.now.tiles }
+        ensures value { result ≡ slice_index self.now.tiles position }
         ensures within { result < length self.now.sets }
     {
-        self.tiles.item(turn)
+        self.tiles.item(position)
     }
 
     /// The set of a tile.
@@ -92,7 +92,7 @@ impl Marks {
         requires { 0 < length self.old.tiles }
         ensures tile { result.0 < length self.old.sets }
         ensures set { result.1 ≡ slice_index self.old.sets result.0 }
-        ensures one_each { length self.new.sets ≡ length self.old.sets }
+        ensures len { length self.new.sets ≡ length self.old.sets }
         ensures fewer { length self.new.tiles + 1 ≡ length self.old.tiles }
         ensures each { (m : ℕ) → slice_index self.new.sets m ≡ (if m == result.0 then 0 else slice_index self.old.sets m) }
     {

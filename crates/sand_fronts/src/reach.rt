@@ -31,7 +31,7 @@ fn shorter(shape: Shape, across: usize, back: usize) -> usize
 
 #[inline(always)]
 fn distance_to(shape: Shape, from: Spot, column: usize, row: usize) -> usize
-    requires small { (from.column < 2 ^ 32) × (from.row < 2 ^ 32) × (column < 2 ^ 32) × (row < 2 ^ 32) }
+    requires fits { (from.column < 2 ^ 32) × (from.row < 2 ^ 32) × (column < 2 ^ 32) × (row < 2 ^ 32) }
     ensures { result ≡ distance_between shape from column row }
 {
     let across = from.column.abs_diff(column);
@@ -41,7 +41,7 @@ fn distance_to(shape: Shape, from: Spot, column: usize, row: usize) -> usize
 // A bound on the distance of each place of a tile.
 #[inline(always)]
 fn farthest(shape: Shape, from: Spot, corner: Spot) -> usize
-    requires small { (from.column < 2 ^ 32) × (from.row < 2 ^ 32) × (corner.column < 2 ^ 32) × (corner.row < 2 ^ 32) }
+    requires fits { (from.column < 2 ^ 32) × (from.row < 2 ^ 32) × (corner.column < 2 ^ 32) × (corner.row < 2 ^ 32) }
     ensures { (p : ℕ) → p < 64 → distance_within shape from corner p ≤ result }
 {
     let (left, right) = (corner.column, corner.column + 7);
@@ -53,7 +53,7 @@ fn farthest(shape: Shape, from: Spot, corner: Spot) -> usize
 
 // The same as `reach_of`, place by place.
 fn reach_in(shape: Shape, from: Spot, corner: Spot, set: u64, reach: usize) -> usize
-    requires small { (from.column < 2 ^ 32) × (from.row < 2 ^ 32) × (corner.column < 2 ^ 31) × (corner.row < 2 ^ 31) }
+    requires fits { (from.column < 2 ^ 32) × (from.row < 2 ^ 32) × (corner.column < 2 ^ 31) × (corner.row < 2 ^ 31) }
     ensures { IsReachedFrom shape from corner set reach result }
 {
     let mut far = reach;
@@ -69,7 +69,7 @@ fn reach_in(shape: Shape, from: Spot, corner: Spot, set: u64, reach: usize) -> u
 
 /// The greatest of a reach and the distances of the places of a set in a tile.
 pub(crate) fn reach_of(shape: Shape, from: Spot, corner: Spot, set: u64, reach: usize) -> usize
-    requires small { (from.column < 2 ^ 32) × (from.row < 2 ^ 32) × (corner.column < 2 ^ 31) × (corner.row < 2 ^ 31) }
+    requires fits { (from.column < 2 ^ 32) × (from.row < 2 ^ 32) × (corner.column < 2 ^ 31) × (corner.row < 2 ^ 31) }
     ensures { IsReachedFrom shape from corner set reach result }
 {
     if farthest(shape, from, corner) <= reach {

@@ -54,8 +54,8 @@ impl Sand {
     #[inline(always)]
     fn gain(&mut self, board: &Board, k: usize, gain: u64)
         requires inside { k < length self.old.tiles.items }
-        requires small { length self.old.tiles.items ≤ 65536 }
-        requires one_each { length board.now.free.items ≡ length self.old.tiles.items }
+        requires fits { length self.old.tiles.items ≤ 65536 }
+        requires len { length board.now.free.items ≡ length self.old.tiles.items }
         requires room { length self.old.list.items < self.old.list.room }
         ensures { Gets (free_of board.now) 1 (only k (bit gain)) self.old self.new }
     {
@@ -71,8 +71,8 @@ impl Sand {
     #[inline(always)]
     fn hand_over(&mut self, board: &Board, beside: &Beside, new: u64)
         requires beside { IsOnBoard (length self.old.tiles.items) beside.now }
-        requires small { length self.old.tiles.items ≤ 65536 }
-        requires one_each { length board.now.free.items ≡ length self.old.tiles.items }
+        requires fits { length self.old.tiles.items ≤ 65536 }
+        requires len { length board.now.free.items ≡ length self.old.tiles.items }
         requires room { length self.old.list.items + 4 ≤ self.old.list.room }
         ensures { Gets (free_of board.now) 4 (over_rim beside.now new) self.old self.new }
     {
@@ -162,21 +162,21 @@ fn topple_turns(sand: Sand, given: (&Board, DropSite)) -> (Sand, ())
     sand.list.clear();
     sand.list.push_if(drop.tile, true);
     sand.topple_tile(board, drop.tile, set_of(drop.place));
-    let (mut turn, mut kept) = (1usize, 1usize);
-    'turns: while turn < sand.list.len() {
-        let k = sand.list.item(turn);
+    let (mut position, mut kept) = (1usize, 1usize);
+    'turns: while position < sand.list.len() {
+        let k = sand.list.item(position);
         let first = sand.tiles[k].wave == 0;
-        if turn + 1 < sand.list.len() {
-            let other = sand.list.item(turn + 1);
+        if position + 1 < sand.list.len() {
+            let other = sand.list.item(position + 1);
             let other_first = sand.tiles[other].wave == 0;
             kept = sand.list.keep_if(kept, k, first);
             kept = sand.list.keep_if(kept, other, other_first);
             sand.topple_pair(board, k, other);
-            turn += 2;
+            position += 2;
         } else {
             kept = sand.list.keep_if(kept, k, first);
             sand.topple_tile(board, k, 0);
-            turn += 1;
+            position += 1;
         }
     }
     sand.list.truncate(kept);

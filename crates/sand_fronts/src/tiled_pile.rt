@@ -37,7 +37,7 @@ use std::marker::Model;
 fn topple_grain(board: &mut Board, sand: &mut Sand, counts: &mut Counts, site: usize) -> Total
     requires site { site < sites board.old.shape }
     requires pile { IsTiledPile board.old sand.old counts.old }
-    requires few { (m p : ℕ) → p < 64 → counted (counts_of counts.old m) p < 2 ^ 60 }
+    requires bound { (m p : ℕ) → p < 64 → counted (counts_of counts.old m) p < 2 ^ 60 }
     ensures shape { board.new.shape ≡ board.old.shape }
     ensures board { IsBoard board.new }
     ensures all_open { AreAllOpen board.old.shape (free_of board.new) }
@@ -64,12 +64,12 @@ fn topple_grain(board: &mut Board, sand: &mut Sand, counts: &mut Counts, site: u
 // The avalanche of a drop, from its total and the sites that it marked. Clears the marks.
 fn avalanche_of(shape: Shape, site: usize, total: Total, marks: &mut Marks) -> Avalanche
     requires site { site < sites shape }
-    requires one_each { length marks.old.sets ≡ tiles shape }
-    requires small { (tiles shape ≤ 65536) × IsGrid shape }
+    requires len { length marks.old.sets ≡ tiles shape }
+    requires fits { (tiles shape ≤ 65536) × IsGrid shape }
     requires at_sites { AreSites shape (slice_index marks.old.sets) }
     ensures avalanche { (v : ℕ → ℕ) → AreToppled shape v (slice_index marks.old.sets) → total.size ≡ topplings shape v
         → total.lost ≡ lost shape v → IsAvalanche shape site v result }
-    ensures one_each { length marks.new.sets ≡ length marks.old.sets }
+    ensures len { length marks.new.sets ≡ length marks.old.sets }
     ensures none { (m : ℕ) → slice_index marks.new.sets m ≡ 0 }
 {
     let Extent { area, reach } = take_all(shape, site, marks);
@@ -104,7 +104,7 @@ impl Model for TiledPile {
 impl TiledPile {
     /// A stable pile on tiles where no site has toppled yet. Fails only if an allocation fails.
     pub fn new(alloc: Global, shape: Shape, heights: &[u64]) -> Result<TiledPile, AllocError>
-        requires one_each { length heights.now ≡ sites shape }
+        requires len { length heights.now ≡ sites shape }
         requires low { (j : ℕ) → j < sites shape → slice_index heights.now j ≤ 3 }
         ensures grid { IfOk result (λ p. p.grid ≡ shape) }
         ensures by_site { IfOk result (λ p. IsTiledView p) }
@@ -128,7 +128,7 @@ impl TiledPile {
     /// Drops a grain at a site, and topples until the pile is stable. Returns the avalanche.
     pub fn drop_at(&mut self, site: usize) -> Avalanche
         requires site { site < sites self.old.grid }
-        requires few { (j : ℕ) → j < sites self.old.grid → slice_index self.old.times j < 2 ^ 60 }
+        requires bound { (j : ℕ) → j < sites self.old.grid → slice_index self.old.times j < 2 ^ 60 }
         ensures grid { self.new.grid ≡ self.old.grid }
         ensures by_site { IsTiledView self.new }
         ensures never_falls { (j : ℕ) → slice_index self.old.times j ≤ slice_index self.new.times j }
@@ -149,7 +149,7 @@ impl TiledPile {
         requires heights { heights.old ≡ self.old.heights }
         requires low { AreLow heights.old }
         requires odometer_each { length odometer.old ≡ sites self.old.grid }
-        requires few { (j : ℕ) → j < sites self.old.grid → slice_index odometer.old j < 2 ^ 59 }
+        requires bound { (j : ℕ) → j < sites self.old.grid → slice_index odometer.old j < 2 ^ 59 }
         ensures grid { self.new.grid ≡ self.old.grid }
         ensures uncounted { (j : ℕ) → slice_index self.new.times j ≡ 0 }
         ensures heights { heights.new ≡ self.new.heights }
@@ -189,7 +189,7 @@ impl TiledPile {
     pub fn times_in(&self, column: usize, row: usize) -> u64
         requires column { column < self.now.grid.width }
         requires site { row * self.now.grid.width + column < sites self.now.grid }
-        requires few { slice_index self.now.times (row * self.now.grid.width + column) < 2 ^ 63 }
+        requires bound { slice_index self.now.times (row * self.now.grid.width + column) < 2 ^ 63 }
         ensures { result ≡ slice_index self.now.times (row * self.now.grid.width + column) }
     {
         let (tile, place) = find_at(self.board.shape, column, row);
@@ -199,7 +199,7 @@ impl TiledPile {
     /// How often a site has toppled.
     pub fn times(&self, site: usize) -> u64
         requires site { site < sites self.now.grid }
-        requires few { slice_index self.now.times site < 2 ^ 63 }
+        requires bound { slice_index self.now.times site < 2 ^ 63 }
         ensures { result ≡ slice_index self.now.times site }
     {
         let (column, row) = self.board.shape.place(site);

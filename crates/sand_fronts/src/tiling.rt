@@ -76,7 +76,7 @@ pub(crate) fn find(shape: Shape, site: usize) -> (usize, usize)
 
 /// For each tile, the word of its places that are sites. Fails only if an allocation fails.
 pub(crate) fn all_open(alloc: Global, shape: Shape) -> Result<Vec<u64>, AllocError>
-    ensures one_each { IfOk result (λ free. length free.items ≡ tiles shape) }
+    ensures len { IfOk result (λ free. length free.items ≡ tiles shape) }
     ensures all { IfOk result (λ free. AreAllOpen shape (slice_index free.items)) }
 {
     let one = |_: Spot| 1u64;
@@ -94,9 +94,9 @@ pub(crate) fn tiles_with(
     shape: Shape,
     heights: &[u64],
 ) -> Result<Vec<Tile>, AllocError>
-    requires one_each { length heights.now ≡ sites shape }
+    requires len { length heights.now ≡ sites shape }
     requires low { (j : ℕ) → j < sites shape → slice_index heights.now j ≤ 7 }
-    ensures one_each { IfOk result (λ all. length all.items ≡ tiles shape) }
+    ensures len { IfOk result (λ all. length all.items ≡ tiles shape) }
     ensures clear { IfOk result (λ all. (m : ℕ) → IsClear (tile_at all.items m)) }
     ensures heights { IfOk result
         (λ all. (k p : ℕ) → p < 64 → had (tile_at all.items k) p ≡ on_tiles shape (slice_index heights.now) k p) }

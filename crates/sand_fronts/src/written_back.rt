@@ -20,16 +20,16 @@ use crate::reach::Spot;
 use sand_model::Shape;
 use sand_tiles::{Count, no_count, set_of, times_at};
 
-// Gives grains to a place if it is in the grid, modulo 4.
+// Gives grains to a neighbour if there is one, modulo 4.
 #[inline(always)]
-fn give(heights: &mut [u64], place: Option<usize>, times: u64)
-    requires inside { IfSome place (λ j. j < length heights.old) }
-    requires few { times < 2 ^ 60 }
+fn give(heights: &mut [u64], neighbour: Option<usize>, times: u64)
+    requires inside { IfSome neighbour (λ j. j < length heights.old) }
+    requires bound { times < 2 ^ 60 }
     requires low { AreLow heights.old }
     ensures each { (j : ℕ) → slice_index heights.new j
-        ≡ (slice_index heights.old j + times * value_at (λ k. one_at k j) place) % 4 }
+        ≡ (slice_index heights.old j + times * value_at (λ k. one_at k j) neighbour) % 4 }
 {
-    if let Some(site) = place {
+    if let Some(site) = neighbour {
         heights[site] = (heights[site] + times) % 4;
     }
 }
@@ -37,7 +37,7 @@ fn give(heights: &mut [u64], place: Option<usize>, times: u64)
 // The site of a place of a tile.
 #[inline(always)]
 fn site_in(shape: Shape, corner: Spot, place: usize) -> usize
-    requires small { (corner.column < 2 ^ 31) × (corner.row < 2 ^ 31) × (place < 64) }
+    requires fits { (corner.column < 2 ^ 31) × (corner.row < 2 ^ 31) × (place < 64) }
     ensures { result ≡ (corner.row + place / 8) * shape.width + (corner.column + place % 8) }
 {
     (corner.row + place / 8) * shape.width() + (corner.column + place % 8)
@@ -47,8 +47,8 @@ fn site_in(shape: Shape, corner: Spot, place: usize) -> usize
 #[inline(always)]
 fn write_site(shape: Shape, heights: &mut [u64], odometer: &mut [u64], site: usize, times: u64)
     requires site { site < sites shape }
-    requires one_each { (length heights.old ≡ sites shape) × (length odometer.old ≡ sites shape) }
-    requires few { (times < 2 ^ 60) × (slice_index odometer.old site < 2 ^ 60) }
+    requires len { (length heights.old ≡ sites shape) × (length odometer.old ≡ sites shape) }
+    requires bound { (times < 2 ^ 60) × (slice_index odometer.old site < 2 ^ 60) }
     requires low { AreLow heights.old }
     ensures counted { (j : ℕ) → slice_index odometer.new j ≡ slice_index odometer.old j + times * one_at site j }
     ensures follows { Follows shape heights.old heights.new odometer.old odometer.new }
@@ -71,8 +71,8 @@ fn write_tile(
     odometer: &mut [u64],
 )
     requires tile { k < 2 ^ 20 }
-    requires one_each { (length heights.old ≡ sites shape) × (length odometer.old ≡ sites shape) }
-    requires few { ((p : ℕ) → p < 64 → counted count.now p < 2 ^ 59)
+    requires len { (length heights.old ≡ sites shape) × (length odometer.old ≡ sites shape) }
+    requires bound { ((p : ℕ) → p < 64 → counted count.now p < 2 ^ 59)
         × ((j : ℕ) → j < sites shape → tile_of shape j ≡ k → slice_index odometer.old j < 2 ^ 60) }
     requires at_sites { (p : ℕ) → p < 64 → bit set p ≡ 1 → is_site shape k p ≡ true }
     requires no_other { (p : ℕ) → p < 64 → bit set p ≡ 0 → counted count.now p ≡ 0 }
@@ -99,9 +99,9 @@ pub(crate) fn write_back(
     odometer: &mut [u64],
 )
     requires counts { AreCounts shape counts.old }
-    requires small { tiles shape ≤ 65536 }
-    requires one_each { (length heights.old ≡ sites shape) × (length odometer.old ≡ sites shape) }
-    requires few { ((m p : ℕ) → p < 64 → counted (counts_of counts.old m) p < 2 ^ 59)
+    requires fits { tiles shape ≤ 65536 }
+    requires len { (length heights.old ≡ sites shape) × (length odometer.old ≡ sites shape) }
+    requires bound { ((m p : ℕ) → p < 64 → counted (counts_of counts.old m) p < 2 ^ 59)
         × ((j : ℕ) → j < sites shape → slice_index odometer.old j < 2 ^ 59) }
     requires at_sites { AreSites shape (marks_of counts.old) }
     requires no_other { (m p : ℕ) → p < 64 → bit (marks_of counts.old m) p ≡ 0 → counted (counts_of counts.old m) p ≡ 0 }
@@ -109,8 +109,8 @@ pub(crate) fn write_back(
     ensures written { IsWrittenBack shape counts.old counts.new odometer.old odometer.new }
     ensures follows { Follows shape heights.old heights.new odometer.old odometer.new }
 {
-    for turn in 0..counts.marks.len() {
-        let k = counts.marks.tile(turn);
+    for position in 0..counts.marks.len() {
+        let k = counts.marks.tile(position);
         let set = counts.marks.set(k);
         write_tile(shape, k, set, &counts.each[k], heights, odometer);
         counts.each[k] = no_count();

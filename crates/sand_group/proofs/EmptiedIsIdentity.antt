@@ -39,7 +39,7 @@ identity_settles g p grid each identity =
       d.1,
       record {
         grid = grid;
-        one_each = each;
+        len = each;
         odometer = done.0;
         settled = settled_same g d.0 d.0 done.0 done.0 done.1 (height_of p) (λ i l. refl) (λ i l. refl) same done.2;
       },

@@ -26,7 +26,7 @@ within_limit g heights grid len low =
 pub low_heights : (p : PileView) (heights : List ℕ) → IsPile p → heights ≡ p.heights → IsStable p.grid (height_of p)
     → All (λ h. h ≤ 3) heights
 low_heights p heights is same stable =
-    rw same (All-from_get_or (λ h. h ≤ 3) p.heights 0 (λ i l. let each = is.one_each in stable.low i (omega arith)))
+    rw same (All-from_get_or (λ h. h ≤ 3) p.heights 0 (λ i l. let each = is.len in stable.low i (omega arith)))
 
 -- ---- settled piles
 
@@ -34,7 +34,7 @@ pile_settles : (g h : Grid) (s r : ℕ → ℕ) (p : PileView) → SettlesTo g s
     → h ≡ g → ((i : ℕ) → i < sites g → r i ≡ s i) → SettlesTo h r p
 pile_settles g h s r p done same equal = rw same (record {
   grid = done.grid;
-  one_each = done.one_each;
+  len = done.len;
   odometer = done.odometer;
   settled = settled_same g s r done.odometer done.odometer (height_of p) (height_of p)
       (λ i l. sym (equal i l)) (λ i l. refl) (λ i l. refl) done.settled;
@@ -50,7 +50,7 @@ low_sum : (p : PileView) → IsPile p → IsStable p.grid (height_of p) → sum 
 low_sum p is stable =
     let all = sum_by-le (λ h. h) 3 p.heights (low_heights p p.heights is refl stable) in
     let area = sites_limit p.grid is.grid in
-    let each = is.one_each in
+    let each = is.len in
     omega arith
 
 -- two stable piles together are far below the limit
@@ -64,7 +64,7 @@ pub together_settles : (a b both : PileView) (r : SettledView) → both.grid ≡
     → SettlesTo a.grid (λ i. height_of a i + height_of b i) r.pile
 together_settles a b both r grid sums is =
     pile_settles both.grid a.grid (height_of both) (λ i. height_of a i + height_of b i) r.pile
-    (record { grid = is.grid; one_each = is.heights_each; odometer = odometer_of r; settled = is.settled })
+    (record { grid = is.grid; len = is.heights_each; odometer = odometer_of r; settled = is.settled })
     (sym grid) (λ i l. sym (sums i))
 
 -- ---- the recurrent pile of a class
@@ -77,7 +77,7 @@ equivalent_settles p e t c u start there identity done =
     (λ i. height_of e i + height_of t i) c done (sym there) (λ i l. refl) in
     record {
       grid = here.grid;
-      one_each = here.one_each;
+      len = here.len;
       represents = equivalent_is_settled p.grid (height_of p) u (height_of t) (height_of e)
           here.odometer (height_of c) start identity here.settled;
     }
@@ -91,9 +91,9 @@ pub equivalent_itself : (p c : PileView)
     → IsEquivalentRecurrent p.grid (height_of p) c → c ≡ p
 equivalent_itself p c is recurrent done =
     let heights : c.heights ≡ p.heights =
-    ext_get_or 0 c.heights p.heights (done.one_each ∙ sym is.one_each)
+    ext_get_or 0 c.heights p.heights (done.len ∙ sym is.len)
     (λ i l.
-    let each = done.one_each in
+    let each = done.len in
     represented_once p.grid (whole (height_of p)) (height_of c) (height_of p)
     done.represents (represents_itself p.grid (height_of p) recurrent) i (omega arith)) in
     ap (λ (h : List ℕ). record { grid = c.grid; heights = h }) heights
@@ -111,7 +111,7 @@ surplus_is g twice v h p full done same rests = record {
   settled = settled_same g (λ i. get_or twice i 0) (λ i. 6) done.odometer done.odometer (height_of p) (height_of p)
       (λ i l. rw full (get_or-replicate (sites g) i 6 0 l)) (λ i l. refl) (λ i l. refl) done.settled;
   difference = λ i l.
-      let each : length h ≡ sites g = ap length same ∙ done.one_each in
+      let each : length h ≡ sites g = ap length same ∙ done.len in
       let e = rests i (omega arith) in
       let here = ap (λ (xs : List ℕ). get_or xs i 0) same in
       omega arith;
@@ -126,7 +126,7 @@ pub difference_settles : (g : Grid) (c p : PileView) (hc hd d v : List ℕ)
     → SettlesTo g (λ i. get_or v i 0) p
     → SettlesTo c.grid (λ i. 2 * get_or d i 0 - height_of c i) p
 difference_settles g c p hc hd d v grid is same same_d differences done =
-    let each : length hc ≡ sites g = ap length same ∙ is.one_each ∙ sym (ap sites grid) in
+    let each : length hc ≡ sites g = ap length same ∙ is.len ∙ sym (ap sites grid) in
     pile_settles g c.grid (λ i. get_or v i 0) (λ i. 2 * get_or d i 0 - height_of c i) p done (sym grid)
     (λ i l.
     let e = differences i (omega arith) in
@@ -141,7 +141,7 @@ pub grain_settles : (g : Grid) (c p : PileView) (h : List ℕ) (site x : ℕ)
     → x ≡ get_or h site x → SettlesTo g (λ i. get_or (set h site (x + 1)) i 0) p
     → SettlesTo c.grid (λ i. height_of c i + one_at site i) p
 grain_settles g c p h site x grid is same inside read done =
-    let each : length h ≡ sites c.grid = ap length same ∙ is.one_each in
+    let each : length h ≡ sites c.grid = ap length same ∙ is.len in
     let start = get_or_read h site x (omega arith) read 0 in
     pile_settles g c.grid (λ i. get_or (set h site (x + 1)) i 0) (λ i. height_of c i + one_at site i) p done (sym grid)
     (λ i l.

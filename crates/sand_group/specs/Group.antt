@@ -11,7 +11,7 @@ use Rattle.sand_group.specs.Recurrence.{IsRecurrent}
 -- the heights s settle to the pile
 pub record SettlesTo (g : Grid) (s : ℕ → ℕ) (pile : PileView) : Type 0 where
   pub grid : pile.grid ≡ g
-  pub one_each : length pile.heights ≡ sites g
+  pub len : length pile.heights ≡ sites g
   pub odometer : ℕ → ℕ
   pub settled : IsSettled g s odometer (height_of pile)
 
@@ -53,5 +53,5 @@ IsInverse g c = Represents g (λ i. pos 0 -ℤ pos (c i))
 -- the pile is the recurrent pile equivalent to the heights s
 pub record IsEquivalentRecurrent (g : Grid) (s : ℕ → ℕ) (pile : PileView) : Type 0 where
   pub grid : pile.grid ≡ g
-  pub one_each : length pile.heights ≡ sites g
+  pub len : length pile.heights ≡ sites g
   pub represents : Represents g (whole s) (height_of pile)

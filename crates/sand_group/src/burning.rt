@@ -49,7 +49,7 @@ impl Burned {
 
 // For each site, the number of its neighbours: none has burnt yet.
 fn neighbour_counts(alloc: Global, lattice: &Lattice) -> Result<Vec<u8>, AllocError>
-    ensures one_each { IfOk result (λ v. length v.items ≡ sites lattice.now) }
+    ensures len { IfOk result (λ v. length v.items ≡ sites lattice.now) }
     ensures counts { IfOk result (λ v. CountsUnburnt lattice.now [] (slice_index v.items)) }
 {
     let shape = lattice.shape();
@@ -62,7 +62,7 @@ fn neighbour_counts(alloc: Global, lattice: &Lattice) -> Result<Vec<u8>, AllocEr
 
 // The sites that may burn from the start, ascending, with capacity for all sites.
 fn first_to_burn(alloc: Global, heights: &[u64], unburnt: &[u8]) -> Result<Vec<usize>, AllocError>
-    requires one_each { length unburnt.now ≡ length heights.now }
+    requires len { length unburnt.now ≡ length heights.now }
     ensures all { IfOk result (λ v. ListsBurning (length heights.now) heights.now unburnt.now v.items) }
     ensures room { IfOk result (λ v. length heights.now ≤ vec_capacity v) }
 {
@@ -75,27 +75,27 @@ fn first_to_burn(alloc: Global, heights: &[u64], unburnt: &[u8]) -> Result<Vec<u
     Ok(burnt)
 }
 
-// Subtracts one from the number of unburnt neighbours of the site at a place, and lets the site burn if that number is
-// now its height.
+// One neighbour of a burnt site, if there is one, has one unburnt neighbour less, and burns if that number is now its
+// height.
 fn note_burnt_neighbour(
     heights: &[u64],
     unburnt: &mut Vec<u8>,
     burnt: &mut Vec<usize>,
-    place: Option<usize>,
+    neighbour: Option<usize>,
 )
-    requires one_each { length unburnt.old.items ≡ length heights.now }
-    requires inside { IfSome place (λ j. j < length heights.now) }
-    requires unburnt { IfSome place (λ j. 0 < slice_index unburnt.old.items j) }
+    requires len { length unburnt.old.items ≡ length heights.now }
+    requires inside { IfSome neighbour (λ j. j < length heights.now) }
+    requires unburnt { IfSome neighbour (λ j. 0 < slice_index unburnt.old.items j) }
     requires all { ListsBurning (length heights.now) heights.now unburnt.old.items burnt.old.items }
     requires room { length heights.now ≤ vec_capacity burnt.old }
-    ensures one_each { length unburnt.new.items ≡ length heights.now }
-    ensures one_less { (j : ℕ) → slice_index unburnt.new.items j + value_at (λ k. one_at k j) place
+    ensures len { length unburnt.new.items ≡ length heights.now }
+    ensures one_less { (j : ℕ) → slice_index unburnt.new.items j + value_at (λ k. one_at k j) neighbour
         ≡ slice_index unburnt.old.items j }
     ensures all { ListsBurning (length heights.now) heights.now unburnt.new.items burnt.new.items }
     ensures room { length heights.now ≤ vec_capacity burnt.new }
     ensures kept { take (vec_len burnt.old) burnt.new.items ≡ burnt.old.items }
 {
-    if let Some(site) = place {
+    if let Some(site) = neighbour {
         unburnt[site] -= 1;
         if heights[site] == u64::from(unburnt[site]) {
             burnt.push(site).unwrap();
@@ -113,12 +113,12 @@ fn spread_fire(
 )
     requires site { site < sites lattice.now }
     requires heights_each { length heights.now ≡ sites lattice.now }
-    requires one_each { length unburnt.old.items ≡ sites lattice.now }
+    requires len { length unburnt.old.items ≡ sites lattice.now }
     requires unburnt { (j : ℕ) → j < sites lattice.now
         → occurrences (neighbours lattice.now site) j ≤ slice_index unburnt.old.items j }
     requires all { ListsBurning (sites lattice.now) heights.now unburnt.old.items burnt.old.items }
     requires room { sites lattice.now ≤ vec_capacity burnt.old }
-    ensures one_each { length unburnt.new.items ≡ sites lattice.now }
+    ensures len { length unburnt.new.items ≡ sites lattice.now }
     ensures fewer { (j : ℕ) → slice_index unburnt.new.items j + occurrences (neighbours lattice.now site) j
         ≡ slice_index unburnt.old.items j }
     ensures all { ListsBurning (sites lattice.now) heights.now unburnt.new.items burnt.new.items }
@@ -135,11 +135,11 @@ fn spread_fire(
 // Spreads the fire from the sites that may burn from the start, until no other may.
 fn burn_out(lattice: &Lattice, heights: &[u64], unburnt: &mut Vec<u8>, burnt: &mut Vec<usize>)
     requires heights_each { length heights.now ≡ sites lattice.now }
-    requires one_each { length unburnt.old.items ≡ sites lattice.now }
+    requires len { length unburnt.old.items ≡ sites lattice.now }
     requires counts { CountsUnburnt lattice.now [] (slice_index unburnt.old.items) }
     requires all { ListsBurning (sites lattice.now) heights.now unburnt.old.items burnt.old.items }
     requires room { sites lattice.now ≤ vec_capacity burnt.old }
-    ensures one_each { length unburnt.new.items ≡ sites lattice.now }
+    ensures len { length unburnt.new.items ≡ sites lattice.now }
     ensures counts { CountsUnburnt lattice.now burnt.new.items (slice_index unburnt.new.items) }
     ensures all { ListsBurning (sites lattice.now) heights.now unburnt.new.items burnt.new.items }
     ensures in_turn { FireSpreadsFrom lattice.now (slice_index heights.now) [] burnt.new.items }
@@ -154,7 +154,7 @@ fn burn_out(lattice: &Lattice, heights: &[u64], unburnt: &mut Vec<u8>, burnt: &m
 
 // The sites that may not burn, ascending.
 fn left_over(alloc: Global, heights: &[u64], unburnt: &[u8]) -> Result<Vec<usize>, AllocError>
-    requires one_each { length unburnt.now ≡ length heights.now }
+    requires len { length unburnt.now ≡ length heights.now }
     ensures all { IfOk result (λ v. ListsUnburnt (length heights.now) heights.now unburnt.now v.items) }
     ensures ascending { IfOk result (λ v. IsStrictlyIncreasing v.items) }
 {

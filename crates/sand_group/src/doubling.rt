@@ -21,7 +21,7 @@ fn doubled(alloc: Global, half: &Recurrent, c: &Recurrent, m: u64) -> Result<Rec
     requires half { IsMultiple c.now.grid (m / 2) (height_of c.now) (height_of half.now) }
     ensures memory { IsOkUnless result (GroupFault.Memory alloc_error) }
     ensures grid { IfOk result (λ r. r.grid ≡ c.now.grid) }
-    ensures one_each { IfOk result (λ r. length r.heights ≡ sites c.now.grid) }
+    ensures len { IfOk result (λ r. length r.heights ≡ sites c.now.grid) }
     ensures multiple { IfOk result (λ r. IsMultiple c.now.grid m (height_of c.now) (height_of r)) }
 {
     let twice = add(alloc, half, half)?;
@@ -37,7 +37,7 @@ fn doubled(alloc: Global, half: &Recurrent, c: &Recurrent, m: u64) -> Result<Rec
 pub fn multiple(alloc: Global, c: &Recurrent, n: u64) -> Result<Recurrent, GroupFault>
     ensures memory { IsOkUnless result (GroupFault.Memory alloc_error) }
     ensures grid { IfOk result (λ m. m.grid ≡ c.now.grid) }
-    ensures one_each { IfOk result (λ m. length m.heights ≡ sites c.now.grid) }
+    ensures len { IfOk result (λ m. length m.heights ≡ sites c.now.grid) }
     ensures multiple { IfOk result (λ m. IsMultiple c.now.grid n (height_of c.now) (height_of m)) }
 {
     let shape = c.pile().shape();

@@ -81,7 +81,7 @@ impl Recurrent {
 }
 
 pub(crate) fn settled(alloc: Global, shape: Shape, heights: Vec<u64>) -> Result<Pile, GroupFault>
-    requires one_each { length heights.items ≡ sites shape }
+    requires len { length heights.items ≡ sites shape }
     requires low { All (λ h. h ≤ 12) heights.items }
     ensures settled { IfOk result (SettlesTo shape (slice_index heights.items)) }
     ensures memory { IsOkUnless result (GroupFault.Memory alloc_error) }
@@ -111,7 +111,7 @@ pub(crate) fn settled_together(alloc: Global, a: &Pile, b: &Pile) -> Result<Pile
 
 fn six_less(alloc: Global, heights: &[u64]) -> Result<Vec<u64>, AllocError>
     requires { All (λ h. h ≤ 3) heights.now }
-    ensures one_each { IfOk result (λ v. length v.items ≡ length heights.now) }
+    ensures len { IfOk result (λ v. length v.items ≡ length heights.now) }
     ensures rests { IfOk result (λ v. (i : ℕ) → i < length heights.now
         → slice_index v.items i + slice_index heights.now i ≡ 6) }
 {
@@ -127,7 +127,7 @@ fn twice_less(alloc: Global, twice: &[u64], less: &[u64]) -> Result<Vec<u64>, Al
     requires high { All (λ h. 3 ≤ h) twice.now }
     requires most { All (λ h. h ≤ 6) twice.now }
     requires low { All (λ h. h ≤ 3) less.now }
-    ensures one_each { IfOk result (λ v. length v.items ≡ length less.now) }
+    ensures len { IfOk result (λ v. length v.items ≡ length less.now) }
     ensures differences { IfOk result (λ v. (i : ℕ) → i < length less.now
         → slice_index v.items i ≡ 2 * slice_index twice.now i - slice_index less.now i) }
 {
@@ -141,7 +141,7 @@ fn twice_less(alloc: Global, twice: &[u64], less: &[u64]) -> Result<Vec<u64>, Al
 
 // d = 2m - settled(2m), m the pile of all 3.
 fn surplus(alloc: Global, shape: Shape) -> Result<Vec<u64>, GroupFault>
-    ensures one_each { IfOk result (λ v. length v.items ≡ sites shape) }
+    ensures len { IfOk result (λ v. length v.items ≡ sites shape) }
     ensures surplus { IfOk result (λ v. IsSurplus shape (slice_index v.items)) }
     ensures memory { IsOkUnless result (GroupFault.Memory alloc_error) }
 {

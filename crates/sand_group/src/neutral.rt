@@ -21,7 +21,7 @@ use std::alloc::{AllocError, Global};
 pub(crate) fn shown_identity(alloc: Global, shape: Shape) -> Result<Option<Pile>, GroupFault>
     ensures memory { IsOkUnless result (GroupFault.Memory alloc_error) }
     ensures shape { IfOk result (λ o. IfSome o (λ e. e.grid ≡ shape)) }
-    ensures one_each { IfOk result (λ o. IfSome o (λ e. length e.heights ≡ sites shape)) }
+    ensures len { IfOk result (λ o. IfSome o (λ e. length e.heights ≡ sites shape)) }
     ensures identity { IfOk result (λ o. IfSome o (λ e. IsIdentity shape (height_of e))) }
 {
     let Some(counts) = guessed_identity(alloc, shape)? else {

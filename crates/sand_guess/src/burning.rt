@@ -194,11 +194,11 @@ impl Fire {
     fn burn(&mut self) {
         let width = self.shape.width();
         let mut burnt = kindle(&self.room, &mut self.order);
-        for turn in 0..self.shape.sites() {
-            if turn >= burnt || turn >= self.order.len() {
+        for position in 0..self.shape.sites() {
+            if position >= burnt || position >= self.order.len() {
                 break;
             }
-            let at = self.order[turn] as usize;
+            let at = self.order[position] as usize;
             let Fire { room, order, .. } = self;
             burnt = warm(room, order, burnt, at.wrapping_sub(width + 2), width);
             burnt = warm(room, order, burnt, at.wrapping_sub(1), width);
@@ -271,9 +271,9 @@ impl Fire {
     pub(crate) fn turns(&self, alloc: Global) -> Result<Vec<u32>, AllocError> {
         let mut turns = vec![in alloc; 0u32; self.shape.sites()]?;
         let mut turn = 0u32;
-        for place in 0..self.burnt.min(self.order.len()) {
+        for position in 0..self.burnt.min(self.order.len()) {
             turn = turn.wrapping_add(1);
-            let site = self.site_of(self.order[place]);
+            let site = self.site_of(self.order[position]);
             if site < turns.len() {
                 turns[site] = turn;
             }

@@ -92,9 +92,9 @@ fn have_room(heights: &[i64]) -> bool {
 pub(crate) fn smooth(level: &Level, counts: &mut [i64], left: &mut [i64]) -> bool {
     let rows = level.shape.height();
     let mut is_even = true;
-    for turn in 0..2 * rows {
-        let is_back = turn >= rows;
-        let y = if is_back { 2 * rows - 1 - turn } else { turn };
+    for step in 0..2 * rows {
+        let is_back = step >= rows;
+        let y = if is_back { 2 * rows - 1 - step } else { step };
         if !have_room(row_of(level.shape, left, y)) {
             is_even = false;
             even_out_row(level, counts, left, y, is_back);

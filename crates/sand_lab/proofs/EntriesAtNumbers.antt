@@ -100,7 +100,7 @@ module _ (drops : ℕ) (parts : List (List Receipt)) (rs : List Receipt) (are : 
   pub all_noted : (js : List Entry) → length js ≡ length rs → NotedBelow drops (length parts * drops) rs js
       → IsJournal drops rs js
   all_noted js long noted = record {
-    one_each = long;
+    len = long;
     noted = λ j r there.
         let inside = slice_get_within rs j r there in
         let all = length-parts drops parts rs are in

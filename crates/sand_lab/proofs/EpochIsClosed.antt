@@ -75,7 +75,7 @@ module _ (s : SharedView) (w : Wish) (t : ℕ) (c : Crew) (p : PassView)
   parts = record {
     whole = flat_map-map (λ (part : List Receipt). part) (λ (d : Dropper). d.pass.receipts) c.droppers.items
         ∙ sym gathered.receipts;
-    long = all_map (HasDroppedItsStream s w t) (λ (part : List Receipt). length part ≡ w.drops)
+    len = all_map (HasDroppedItsStream s w t) (λ (part : List Receipt). length part ≡ w.drops)
         (λ (d : Dropper). d.pass.receipts) c.droppers.items has.droppers
         (λ k d h. sym (length-map d.pass.receipts (λ (r : Receipt). r.site)) ∙ ap length h.sites
         ∙ length-stream_sites (sites (grid_of_terms s.terms)) w.seed (stream_of t k) w.drops);
@@ -116,10 +116,10 @@ module _ (s : SharedView) (w : Wish) (t : ℕ) (c : Crew) (p : PassView)
       record {
         are_parts = record {
           whole = refl;
-          long = subst (All (λ part. length part ≡ w.drops)) (sym same) parts.long;
+          len = subst (All (λ part. length part ≡ w.drops)) (sym same) parts.len;
           ascend = subst (All Ascends) (sym same) parts.ascend;
         };
-        one_each = all ∙ sym all_dropped ∙ ap (λ (rs : List Receipt). length rs) mine;
+        len = all ∙ sym all_dropped ∙ ap (λ (rs : List Receipt). length rs) mine;
         once = subst EachOnce mine once;
         below = subst (λ (rs : List Receipt). AllBelow (length rs) rs) mine within;
         few_droppers = (let few = plan.droppers in
@@ -154,7 +154,7 @@ module _ (s : SharedView) (w : Wish) (t : ℕ) (c : Crew) (p : PassView)
       (λ (x : Worker). x.swept) c.workers.items has.workers (λ j x h. h.enough) in
       record {
         all = long;
-        few = omega (arith, ap (λ (ns : List ℕ). sum ns) e, same, ap (λ (ns : List ℕ). sum ns) gathered.counts, few);
+        bound = omega (arith, ap (λ (ns : List ℕ). sum ns) e, same, ap (λ (ns : List ℕ). sum ns) gathered.counts, few);
         enough = λ some j lt. subst (λ (ns : List ℕ).
             due s.terms.start (band (grid_of_terms s.terms).height w.workers j) ≤ slice_index ns j) (sym e)
             (each j (slice_index (all_swept c.workers.items) j)

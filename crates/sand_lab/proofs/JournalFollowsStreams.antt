@@ -35,7 +35,7 @@ module _ (drops : ℕ) (parts : List (List Receipt)) (rs : List Receipt) (are : 
   pub length-parts : length rs ≡ length parts * drops
   length-parts =
       let every = take_all (length parts) parts (omega arith) in
-      let all = length-first drops (length parts) parts are.long (omega arith) in
+      let all = length-first drops (length parts) parts are.len (omega arith) in
       ap (λ (xs : List Receipt). length xs) (sym are.whole)
       ∙ (ap (λ (ps : List (List Receipt)). length (flattened ps)) (sym every) ∙ all)
 
@@ -44,7 +44,7 @@ module _ (drops : ℕ) (parts : List (List Receipt)) (rs : List Receipt) (are : 
     read = get_or_from_slice_get parts k part [] there
 
     pub length-part : length part ≡ drops
-    length-part = ap (λ (p : List Receipt). length p) (sym read) ∙ are.long k [] (slice_get_within parts k part there)
+    length-part = ap (λ (p : List Receipt). length p) (sym read) ∙ are.len k [] (slice_get_within parts k part there)
 
     pub ascends : Ascends part
     ascends = subst Ascends read (are.ascend k [] (slice_get_within parts k part there))
@@ -54,7 +54,7 @@ module _ (drops : ℕ) (parts : List (List Receipt)) (rs : List Receipt) (are : 
     same_receipt i d inside =
         let within = slice_get_within parts k part there in
         let long = length-part in
-        let before = length-first drops k parts are.long (omega arith) in
+        let before = length-first drops k parts are.len (omega arith) in
         let fits : i < length (get_or parts k []) = rw read (omega arith) in
         ap (λ (xs : List Receipt). get_or xs (k * drops + i) d) (sym are.whole)
         ∙ (ap (λ n. get_or (flattened parts) (n + i) d) (sym before)
@@ -98,7 +98,7 @@ module _ (drops : ℕ) (parts : List (List Receipt)) (rs : List Receipt) (are : 
       -- each entry of the k-th dropper has its receipt in the part
       receipts : (n : ℕ) (e : Entry) → slice_get js n ≡ Some e → e.dropper ≡ k → HasNumber part (0 + n)
       receipts n e at_journal is =
-          let as_many = journal.one_each in
+          let as_many = journal.len in
           let all = length-parts in
           let within = slice_get_within js n e at_journal in
           let some = some_each n (length parts) drops (omega arith) in
@@ -127,7 +127,7 @@ pub follows_streams : (sites seed droppers drops epoch : ℕ)
     → receipt_sites part ≡ stream_sites sites seed (stream_of epoch k) drops)
     → FollowsStreams sites seed droppers drops epoch js
 follows_streams sites seed droppers drops epoch parts rs js are many once below journal streams = record {
-  all = journal.one_each ∙ (length-parts drops parts rs are ∙ ap (λ n. n * drops) many);
+  all = journal.len ∙ (length-parts drops parts rs are ∙ ap (λ n. n * drops) many);
   each = λ k less.
       let part = get_or parts k [] in
       let there : slice_get parts k ≡ Some part = slice_get-get_or parts k [] (omega arith) in

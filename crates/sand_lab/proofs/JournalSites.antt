@@ -34,5 +34,5 @@ pub journal_sites : (drops : ℕ) (rs : List Receipt) (js : List Entry) (history
     → sites_in js ≡ history
 journal_sites drops rs js history journal told once below long =
     history_is rs history (λ n inside. let one = each_number rs once below n (omega arith) in omega arith)
-    (sites_in js) (length-map js (λ (e : Entry). e.site) ∙ journal.one_each ∙ sym long)
+    (sites_in js) (length-map js (λ (e : Entry). e.site) ∙ journal.len ∙ sym long)
     (journal_tells drops rs js journal) told

@@ -22,7 +22,7 @@ pub record AreTallies (w : Wish) (tallies : List (List ℕ)) : Type 0 where
 -- the workers caused at most all of the topplings; with at least one sweep, each caused at least those due in its band
 pub record AreSwept (w : Wish) (start : PileView) (r : RecordView) (swept : List ℕ) : Type 0 where
   pub all : length swept ≡ w.workers
-  pub few : sum swept ≤ r.settled.topplings
+  pub bound : sum swept ≤ r.settled.topplings
   pub enough : 0 < w.sweeps → (j : ℕ) → j < w.workers
       → due start (band start.grid.height w.workers j) ≤ slice_index swept j
 

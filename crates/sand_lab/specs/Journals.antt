@@ -36,14 +36,14 @@ flattened parts = flat_map (λ (part : List Receipt). part) parts
 -- the receipts are the parts one after another; each part has `drops` receipts, with ascending numbers
 pub record AreParts (drops : ℕ) (parts : List (List Receipt)) (receipts : List Receipt) : Type 0 where
   pub whole : flattened parts ≡ receipts
-  pub long : All (λ part. length part ≡ drops) parts
+  pub len : All (λ part. length part ≡ drops) parts
   pub ascend : All Ascends parts
 
 -- such parts of at most 2^32 droppers, in which each number below their length occurs once, so that a journal of length
 -- `long` has an entry for each receipt
 pub record HavePlaces (drops : ℕ) (parts : List (List Receipt)) (long : ℕ) : Type 0 where
   pub are_parts : AreParts drops parts (flattened parts)
-  pub one_each : long ≡ length (flattened parts)
+  pub len : long ≡ length (flattened parts)
   pub once : EachOnce (flattened parts)
   pub below : AllBelow (length (flattened parts)) (flattened parts)
   pub few_droppers : length parts ≤ 2 ^ 32
@@ -60,7 +60,7 @@ AgreeBeside receipts before after =
 
 -- the receipts of the droppers come one dropper after another, `drops` each, and the entry of each is at its number
 pub record IsJournal (drops : ℕ) (receipts : List Receipt) (journal : List Entry) : Type 0 where
-  pub one_each : length journal ≡ length receipts
+  pub len : length journal ≡ length receipts
   pub noted : (i : ℕ) (r : Receipt) → slice_get receipts i ≡ Some r
       → slice_get journal r.number ≡ Some (entry (i / drops) r.site)
 

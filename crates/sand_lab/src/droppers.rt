@@ -69,10 +69,10 @@ impl Dropper {
     fn read_next(&mut self, pile: &SharedPile, turns: u32)
         requires dropping { (read : ℕ) × (first : Dropper) × (read < turns)
             × IsDropping pile.now turns read first self.old }
-        requires few { length self.old.batch.items < div_ceil turns 16 }
+        requires bound { length self.old.batch.items < div_ceil turns 16 }
         ensures read { (read : ℕ) (first : Dropper) → read < turns
             → IsDropping pile.now turns read first self.old → IsDropping pile.now turns (read + 1) first self.new }
-        ensures few { length self.new.batch.items < div_ceil turns 16 }
+        ensures bound { length self.new.batch.items < div_ceil turns 16 }
     {
         let most = batch_size(turns) as usize;
         self.batch.push_reserved(self.sites.next_site());

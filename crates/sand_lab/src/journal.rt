@@ -18,7 +18,7 @@ pub struct Entry {
 
 /// A blank journal with `drops` entries. The only error is Memory.
 pub(crate) fn blank_journal(alloc: Global, drops: u64) -> Result<Vec<Entry>, LabFault>
-    ensures long { IfOk result (λ v. vec_len v ≡ drops) }
+    ensures len { IfOk result (λ v. vec_len v ≡ drops) }
     ensures memory { IfErr result IsMemory }
 {
     let blank = Entry {
@@ -32,7 +32,7 @@ pub(crate) fn blank_journal(alloc: Global, drops: u64) -> Result<Vec<Entry>, Lab
 fn write_part(journal: &mut Vec<Entry>, dropper: u32, receipts: &[Receipt])
     requires ascends { Ascends receipts.now }
     requires below { AllBelow (vec_len journal.old) receipts.now }
-    ensures long { vec_len journal.new ≡ vec_len journal.old }
+    ensures len { vec_len journal.new ≡ vec_len journal.old }
     ensures entries { HasEntries dropper receipts.now journal.new.items }
     ensures others { AgreeBeside receipts.now journal.old.items journal.new.items }
 {

@@ -39,7 +39,7 @@ fn make_blank<R: Threads + Sync>(rt: &R, alloc: Global, drops: u64) -> Result<Bl
     let (journal, history) = join(
         rt,
         || -> Result<Vec<Entry>, LabFault>
-            ensures long { IfOk result (λ v. vec_len v ≡ drops) }
+            ensures len { IfOk result (λ v. vec_len v ≡ drops) }
             ensures memory { IfErr result IsMemory }
         { blank_journal(alloc, drops) },
         || -> Result<Vec<usize>, LabFault>

@@ -76,7 +76,7 @@ impl Report {
     pub fn records(&self) -> &[Record]
         ensures value { result.now ≡ self.now.records }
         ensures sheets { length self.now.sheets ≡ length self.now.records }
-        ensures few { length self.now.records ≤ 100 }
+        ensures bound { length self.now.records ≤ 100 }
     {
         self.records.as_slice()
     }
@@ -196,7 +196,7 @@ impl Report {
         closed: Record,
         sheet: Sheet,
     ) -> Result<(), LabFault>
-        requires few { length self.old.records < 100 }
+        requires bound { length self.old.records < 100 }
         requires start { closed.start ≡ self.old.total.settled.pile }
         requires limit { sum self.old.total.start.heights + (length self.old.total.history + length closed.history)
             ≤ most_grains }

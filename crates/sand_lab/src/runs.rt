@@ -51,7 +51,7 @@ fn add_epoch<R: Threads + Sync, G: Gate>(
 ) -> Result<(), LabFault>
     requires plan { IsPlan wish }
     requires place { epoch < length album.now }
-    requires few { length report.old.records < 100 }
+    requires bound { length report.old.records < 100 }
     requires room { (sum report.old.total.start.heights + (length report.old.total.history + quota_of wish)
         ≤ most_grains) × (sum report.old.total.settled.pile.heights + quota_of wish ≤ most_grains) }
     ensures report { OnOk result ((start : PileView)

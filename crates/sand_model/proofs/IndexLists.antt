@@ -41,7 +41,7 @@ pub joins_if : {n : ℕ} {p q : ℕ → Bool} {k : ℕ} {joins : Bool} {l m : Li
 joins_if {n} {p} {q} {k} {joins} {l} {m} inside others keeps is now = record {
   new = cond joins (k ∷ []) [];
   items = ap (λ (v : ListView). v.items) now ∙ at_end joins l.items k;
-  few = let e = ap (λ (v : ListView). length v.items) now in let more = one_more joins l.items k in omega arith;
+  bound = let e = ap (λ (v : ListView). length v.items) now in let more = one_more joins l.items k in omega arith;
   room = ap (λ (v : ListView). v.room) now;
   waiting = λ list all. subst (Lists n q) (at_end joins list k) (queued {p = p} {q = q} list inside others keeps is all);
 }
@@ -53,7 +53,7 @@ pub joins_more : {n a b : ℕ} {p q r : ℕ → Bool} {k l m : ListView} → Joi
 joins_more {n} {a} {b} {p} {q} {r} {k} {l} {m} first second = record {
   new = first.new ++ second.new;
   items = second.items ∙ ap (λ xs. xs ++ second.new) first.items ∙ append_assoc k.items first.new second.new;
-  few = let one = first.few in let two = second.few in omega arith;
+  bound = let one = first.bound in let two = second.bound in omega arith;
   room = second.room ∙ first.room;
   waiting = λ list all. subst (Lists n r) (append_assoc list first.new second.new)
       (second.waiting (list ++ first.new) (first.waiting list all));
@@ -64,7 +64,7 @@ pub joins_from : {n a : ℕ} {p p' q : ℕ → Bool} {l m : ListView} → ((j : 
 joins_from {n} {a} {p} {p'} {q} {l} {m} same joins = record {
   new = joins.new;
   items = joins.items;
-  few = joins.few;
+  bound = joins.bound;
   room = joins.room;
   waiting = λ list all. joins.waiting list (lists_same n p p' list same all);
 }
@@ -78,12 +78,12 @@ pub kept_before : {n a : ℕ} {p q : ℕ → Bool} {l m : ListView} → Joins n 
     → get_or m.items t 0 ≡ get_or l.items t 0
 kept_before {l = l} joins t less = ap (λ xs. get_or xs t 0) joins.items ∙ get_or_append_left l.items joins.new 0 t less
 
--- from one turn on
-pub waiting_from : {n a : ℕ} {p q : ℕ → Bool} {l m : ListView} → Joins n a p q l m → (turn : ℕ)
-    → turn ≤ length l.items → Lists n p (drop turn l.items) → Lists n q (drop turn m.items)
-waiting_from {n} {q = q} {l = l} joins turn within all =
-    subst (Lists n q) (sym (ap (drop turn) joins.items ∙ drop-append-le turn l.items joins.new within))
-    (joins.waiting (drop turn l.items) all)
+-- from one position on
+pub waiting_from : {n a : ℕ} {p q : ℕ → Bool} {l m : ListView} → Joins n a p q l m → (position : ℕ)
+    → position ≤ length l.items → Lists n p (drop position l.items) → Lists n q (drop position m.items)
+waiting_from {n} {q = q} {l = l} joins position within all =
+    subst (Lists n q) (sym (ap (drop position) joins.items ∙ drop-append-le position l.items joins.new within))
+    (joins.waiting (drop position l.items) all)
 
 -- behind those of another list
 pub waiting_behind : {n a : ℕ} {p q : ℕ → Bool} {l m : ListView} → Joins n a p q l m → (front : List ℕ)

@@ -12,6 +12,6 @@ pub record ListView : Type 0 where
 pub record Joins (n most : ℕ) (p q : ℕ → Bool) (l m : ListView) : Type 0 where
   pub new : List ℕ
   pub items : m.items ≡ l.items ++ new
-  pub few : length m.items ≤ length l.items + most
+  pub bound : length m.items ≤ length l.items + most
   pub room : m.room ≡ l.room
   pub waiting : (list : List ℕ) → Lists n p list → Lists n q (list ++ new)

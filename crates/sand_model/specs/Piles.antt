@@ -16,5 +16,5 @@ height_of p = slice_index p.heights
 -- one height for each site, and no more grains than the limit
 pub record IsPile (p : PileView) : Type 0 where
   pub grid : IsGrid p.grid
-  pub one_each : length p.heights ≡ sites p.grid
+  pub len : length p.heights ≡ sites p.grid
   pub limit : sum p.heights ≤ most_grains

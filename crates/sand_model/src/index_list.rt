@@ -41,11 +41,11 @@ impl IndexList {
     }
 
     #[inline(always)]
-    pub fn item(&self, turn: usize) -> usize
-        requires { turn < length self.now.items }
-        ensures { result ≡ slice_index self.now.items turn }
+    pub fn item(&self, position: usize) -> usize
+        requires { position < length self.now.items }
+        ensures { result ≡ slice_index self.now.items position }
     {
-        self.slots[turn] as usize
+        self.slots[position] as usize
     }
 
     #[inline(always)]
@@ -59,7 +59,7 @@ impl IndexList {
     #[inline(always)]
     pub fn push_if(&mut self, index: usize, test: bool)
         requires room { length self.old.items < self.old.room }
-        requires small { index < 2 ^ 32 }
+        requires fits { index < 2 ^ 32 }
         ensures { self.new
             ≡ record self.old { items = (if test then self.old.items ++ index ∷ [] else self.old.items) } }
     {
@@ -67,16 +67,16 @@ impl IndexList {
         self.len += usize::from(test);
     }
 
-    /// Writes an index in place of an earlier one. Returns the next place if `test` is true, and otherwise the same.
+    /// Overwrites the index at a position. Returns the next position if `test` is true, and otherwise the same.
     #[inline(always)]
-    pub fn keep_if(&mut self, turn: usize, index: usize, test: bool) -> usize
-        requires inside { turn < length self.old.items }
-        requires small { index < 2 ^ 32 }
-        ensures list { self.new ≡ record self.old { items = slice_set self.old.items turn index } }
-        ensures next { result ≡ (if test then turn + 1 else turn) }
+    pub fn keep_if(&mut self, position: usize, index: usize, test: bool) -> usize
+        requires inside { position < length self.old.items }
+        requires fits { index < 2 ^ 32 }
+        ensures list { self.new ≡ record self.old { items = slice_set self.old.items position index } }
+        ensures next { result ≡ (if test then position + 1 else position) }
     {
-        self.slots[turn] = index as u32;
-        turn + usize::from(test)
+        self.slots[position] = index as u32;
+        position + usize::from(test)
     }
 
     /// Leaves the first `len` indices.

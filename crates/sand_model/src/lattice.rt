@@ -78,7 +78,7 @@ impl Lattice {
         self.shape
     }
 
-    /// The places north, west, east and south of a site, in that order. A place outside the grid is None.
+    /// The sites north, west, east and south of a site, in that order, with None for one outside the grid.
     #[inline(always)]
     pub fn neighbours(&self, site: usize) -> [Option<usize>; 4]
         requires { site < sites self.now }

@@ -67,7 +67,7 @@ impl Pile {
 
     /// Makes a pile that takes over a list of heights.
     pub fn from_vec(shape: Shape, heights: Vec<u64>) -> Pile
-        requires one_each { length heights.items ≡ sites shape }
+        requires len { length heights.items ≡ sites shape }
         requires limit { sum heights.items ≤ most_grains }
         ensures { result ≡ record { grid = shape; heights = heights.items } }
     {
@@ -80,7 +80,7 @@ impl Pile {
 
     /// The same for a list with a known sum: no height is read.
     pub fn from_counted(shape: Shape, heights: Vec<u64>, grains: u64) -> Pile
-        requires one_each { length heights.items ≡ sites shape }
+        requires len { length heights.items ≡ sites shape }
         requires limit { sum heights.items ≤ most_grains }
         requires counted { grains ≡ sum heights.items }
         ensures { result ≡ record { grid = shape; heights = heights.items } }
@@ -199,8 +199,8 @@ impl Pile {
 // The sums of two lists, entry by entry.
 fn sums(alloc: Global, a: &[u64], b: &[u64]) -> Result<Vec<u64>, AllocError>
     requires same_length { length a.now ≡ length b.now }
-    requires few { sum a.now + sum b.now ≤ most_grains }
-    ensures one_each { IfOk result (λ v. length v.items ≡ length a.now) }
+    requires bound { sum a.now + sum b.now ≤ most_grains }
+    ensures len { IfOk result (λ v. length v.items ≡ length a.now) }
     ensures sums { IfOk result (λ v. (i : ℕ) → slice_index v.items i ≡ slice_index a.now i + slice_index b.now i) }
     ensures total { IfOk result (λ v. sum v.items ≡ sum a.now + sum b.now) }
 {
@@ -217,20 +217,20 @@ fn are_low(heights: &[u64]) -> bool
     heights.iter().all(|height| *height < TOPPLING_HEIGHT)
 }
 
-fn give(heights: &mut [u64], place: Option<usize>)
-    requires inside { IfSome place (λ j. j < length heights.old) }
+fn give(heights: &mut [u64], neighbour: Option<usize>)
+    requires inside { IfSome neighbour (λ j. j < length heights.old) }
     requires room { sum heights.old + 1 ≤ most_grains }
-    ensures each { (j : ℕ) → slice_index heights.new j ≡ slice_index heights.old j + value_at (λ k. one_at k j) place }
+    ensures each { (j : ℕ) → slice_index heights.new j ≡ slice_index heights.old j + value_at (λ k. one_at k j) neighbour }
     ensures total { sum heights.new ≤ sum heights.old + 1 }
 {
-    if let Some(j) = place {
+    if let Some(j) = neighbour {
         heights[j] += 1;
     }
 }
 
 // Takes 4 grains from a site, and gives one to each neighbour.
 fn spread(shape: Shape, heights: &mut [u64], site: usize)
-    requires one_each { length heights.old ≡ sites shape }
+    requires len { length heights.old ≡ sites shape }
     requires site { site < sites shape }
     requires high { 4 ≤ slice_index heights.old site }
     requires limit { sum heights.old ≤ most_grains }

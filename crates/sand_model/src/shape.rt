@@ -215,7 +215,7 @@ impl Shape {
         ]
     }
 
-    /// The places north, west, east and south of a site, in that order. A place outside the grid is None.
+    /// The sites north, west, east and south of a site, in that order, with None for one outside the grid.
     pub fn neighbours(self, site: usize) -> [Option<usize>; 4]
         requires { site < sites self }
         ensures { result ≡ places self site }

@@ -69,7 +69,7 @@ driven_start start r t all gone grains at whole =
       paid = paid_start start q at.pile done;
       settled = (height_of start, subst P (sym done.grid) done);
       all_grains = let sums = ap sum same in omega arith;
-      few = omega arith;
+      bound = omega arith;
     }
 
 pub driven_view : (start : PileView) (r : SettledView) (t : TiledView) (all gone : ℕ) → IsAtStart start r t all gone
@@ -168,5 +168,5 @@ driven_after r t u site f number all gone grains driven grid inside room taken =
       paid = paid_after p q site driven.paid inside (omega arith) taken;
       settled = some_record_after p q site driven.settled taken;
       all_grains = let more = grains_after p q site driven.paid inside taken in omega arith;
-      few = let few = driven.few in omega arith;
+      bound = let few = driven.bound in omega arith;
     }

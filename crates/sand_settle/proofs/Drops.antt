@@ -61,7 +61,7 @@ pub paid_start : (start : PileView) (r : SettledView) → IsPile start
     → IsSettledRecord start.grid (λ j. get_or start.heights j 0) r → IsPaid r
 paid_start start r pile done =
     paid_record start.grid (λ j. get_or start.heights j 0) r pile.grid
-    (let e = sum_is_grains start.grid start.heights pile.one_each in let limit = pile.limit in omega arith) done
+    (let e = sum_is_grains start.grid start.heights pile.len in let limit = pile.limit in omega arith) done
 
 pub after_start : (start : PileView) (r : SettledView) → IsPile start
     → IsSettledRecord start.grid (λ j. get_or start.heights j 0) r
@@ -84,7 +84,7 @@ after_start start r pile done = record {
   number = refl;
   grains =
       let kept = grains_kept start.grid (λ j. get_or start.heights j 0) r done in
-      let e = sum_is_grains start.grid start.heights pile.one_each in
+      let e = sum_is_grains start.grid start.heights pile.len in
       omega arith;
 }
 
@@ -362,7 +362,7 @@ pub kept_after : (w : Option TiledView) (number : ℕ) (site : ℕ) (r q : Settl
     → IsOnTiles q.pile t → IsOnePile q (Some t) (number + 1)
 kept_after w number site r q t before inside room taken tiled = record {
   paid = paid_after r q site before.paid inside room taken;
-  few = let few = before.few in let more = grains_after r q site before.paid inside taken in omega arith;
+  bound = let few = before.bound in let more = grains_after r q site before.paid inside taken in omega arith;
   tiled = tiled;
   kept = λ _. refl;
 }

@@ -52,36 +52,36 @@ queue_room n test rest next all =
     let whole = lists_length n test (rest ++ next) all in
     omega (arith, length-append rest next)
 
-pub turn_of : (n : ℕ) (test : ℕ → Bool) (wave next : List ℕ) (turn i : ℕ)
-    → i ≡ get_or wave turn 0 → turn < length wave
-    → Lists n test (drop turn wave ++ next)
-    → Lists n test (i ∷ (drop (turn + 1) wave ++ next))
-turn_of n test wave next turn i e l all =
-    let first : drop turn wave ≡ i ∷ drop (turn + 1) wave = rw (e, drop_more wave turn 0) refl in
+pub turn_of : (n : ℕ) (test : ℕ → Bool) (generation next : List ℕ) (position i : ℕ)
+    → i ≡ get_or generation position 0 → position < length generation
+    → Lists n test (drop position generation ++ next)
+    → Lists n test (i ∷ (drop (position + 1) generation ++ next))
+turn_of n test generation next position i e l all =
+    let first : drop position generation ≡ i ∷ drop (position + 1) generation = rw (e, drop_more generation position 0) refl in
     let P : List ℕ → Type 0 = λ xs. Lists n test (xs ++ next) in
     subst P first all
 
-pub turn_inside : (n : ℕ) (test : ℕ → Bool) (wave next : List ℕ) (turn i : ℕ)
-    → i ≡ get_or wave turn 0 → turn < length wave
-    → Lists n test (drop turn wave ++ next) → i < n
-turn_inside n test wave next turn i e l all =
-    front_below n test (drop (turn + 1) wave ++ next) i (turn_of n test wave next turn i e l all)
+pub turn_inside : (n : ℕ) (test : ℕ → Bool) (generation next : List ℕ) (position i : ℕ)
+    → i ≡ get_or generation position 0 → position < length generation
+    → Lists n test (drop position generation ++ next) → i < n
+turn_inside n test generation next position i e l all =
+    front_below n test (drop (position + 1) generation ++ next) i (turn_of n test generation next position i e l all)
 
-pub turn_high : (n : ℕ) (s : ℕ → ℕ) (wave next : List ℕ) (turn i : ℕ)
-    → i ≡ get_or wave turn 0 → turn < length wave
-    → Lists n (may_topple s) (drop turn wave ++ next) → 4 ≤ s i
-turn_high n s wave next turn i e l all =
-    front_is_high n s (drop (turn + 1) wave ++ next) i (turn_of n (may_topple s) wave next turn i e l all)
+pub turn_high : (n : ℕ) (s : ℕ → ℕ) (generation next : List ℕ) (position i : ℕ)
+    → i ≡ get_or generation position 0 → position < length generation
+    → Lists n (may_topple s) (drop position generation ++ next) → 4 ≤ s i
+turn_high n s generation next position i e l all =
+    front_is_high n s (drop (position + 1) generation ++ next) i (turn_of n (may_topple s) generation next position i e l all)
 
--- once the site whose turn it is has toppled, those behind it and the next wave wait
-pub others_wait : (n : ℕ) (h wave next : List ℕ) (turn i : ℕ)
-    → n ≡ length h → i ≡ get_or wave turn 0 → turn < length wave
-    → Lists n (may_topple (λ j. get_or h j 0)) (drop turn wave ++ next) → Lists (length h)
-    (may_topple (λ j. get_or (set h i (get_or h i 0 - 4 * (get_or h i 0 / 4))) j 0)) (drop (turn + 1) wave ++ next)
-others_wait n h wave next turn i all_sites e l all =
-    let now = lists_of n (length h) (may_topple (λ j. get_or h j 0)) (i ∷ (drop (turn + 1) wave ++ next))
-    all_sites (turn_of n (may_topple (λ j. get_or h j 0)) wave next turn i e l all) in
+-- once the site whose turn it is has toppled, those behind it and the next generation wait
+pub others_wait : (n : ℕ) (h generation next : List ℕ) (position i : ℕ)
+    → n ≡ length h → i ≡ get_or generation position 0 → position < length generation
+    → Lists n (may_topple (λ j. get_or h j 0)) (drop position generation ++ next) → Lists (length h)
+    (may_topple (λ j. get_or (set h i (get_or h i 0 - 4 * (get_or h i 0 / 4))) j 0)) (drop (position + 1) generation ++ next)
+others_wait n h generation next position i all_sites e l all =
+    let now = lists_of n (length h) (may_topple (λ j. get_or h j 0)) (i ∷ (drop (position + 1) generation ++ next))
+    all_sites (turn_of n (may_topple (λ j. get_or h j 0)) generation next position i e l all) in
     let rest = get_or h i 0 - 4 * (get_or h i 0 / 4) in
-    leaves (leb 4) h (drop (turn + 1) wave ++ next) i rest now
-    (front_below (length h) (may_topple (λ j. get_or h j 0)) (drop (turn + 1) wave ++ next) i now)
+    leaves (leb 4) h (drop (position + 1) generation ++ next) i rest now
+    (front_below (length h) (may_topple (λ j. get_or h j 0)) (drop (position + 1) generation ++ next) i now)
     (lt-leb 4 rest (omega arith))

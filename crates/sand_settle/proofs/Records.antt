@@ -18,7 +18,7 @@ pub sum_bound : (start : PileView) (u h : List ℕ)
     → sum u < 2 ^ 54
 sum_bound start u h pile counts done =
     let all = topplings_bound start.grid (λ j. get_or start.heights j 0) (λ j. get_or u j 0) (λ j. get_or h j 0)
-    pile.grid (let e = sum_is_grains start.grid start.heights pile.one_each in let limit = pile.limit in omega arith)
+    pile.grid (let e = sum_is_grains start.grid start.heights pile.len in let limit = pile.limit in omega arith)
     done.toppled in
     let sum_is = sum_is_grains start.grid u counts in
     omega arith
@@ -45,7 +45,7 @@ record_is start r pile same heights counts done all gone = record {
   settled = done;
   all_topplings = all ∙ sum_is_grains start.grid r.odometer counts;
   all_lost = let left = sum_left start.grid start.heights r.pile.heights
-      (λ j. get_or r.odometer j 0) pile.one_each heights done.toppled in
+      (λ j. get_or r.odometer j 0) pile.len heights done.toppled in
       omega arith;
 }
 
@@ -76,7 +76,7 @@ pub few_and_left : (start : PileView) (u h : List ℕ)
     → IsSettled start.grid (λ j. get_or start.heights j 0) (λ j. get_or u j 0) (λ j. get_or h j 0)
     → (sum u < 2 ^ 54) × (sum h ≤ sum start.heights)
 few_and_left start u h pile counts heights done =
-    let left = sum_left start.grid start.heights h (λ j. get_or u j 0) pile.one_each heights done.toppled in
+    let left = sum_left start.grid start.heights h (λ j. get_or u j 0) pile.len heights done.toppled in
     (sum_bound start u h pile counts done, omega arith)
 
 -- a record that is written down in its parts

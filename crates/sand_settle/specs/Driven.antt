@@ -20,4 +20,4 @@ pub record IsDriven (r : SettledView) (t : TiledView) (number topplings lost gra
   pub paid : IsPaid (driven_record r t topplings lost)
   pub settled : IsSomeSettledRecord (driven_record r t topplings lost)
   pub all_grains : grains ≡ sum t.heights + lost
-  pub few : number ≤ grains
+  pub bound : number ≤ grains

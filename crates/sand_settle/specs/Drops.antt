@@ -76,6 +76,6 @@ pub record IsOnTiles (p : PileView) (t : TiledView) : Type 0 where
 -- the record is right, and each drop added a grain; the tiles, which exist from the first drop on, have its heights
 pub record IsOnePile (r : SettledView) (tiles : Option TiledView) (number : ℕ) : Type 0 where
   pub paid : IsPaid r
-  pub few : number ≤ sum r.pile.heights + r.lost
+  pub bound : number ≤ sum r.pile.heights + r.lost
   pub tiled : IfSome tiles (IsOnTiles r.pile)
   pub kept : 0 < number → IsSome tiles

@@ -56,18 +56,18 @@ pub(crate) fn is_light(shape: Shape, grains: u64) -> bool
     grains.saturating_mul(square) / 8 <= few
 }
 
-/// Settles a pile by the queue. Returns None if `turns` sites or more have had their turn and others wait.
+/// Settles a pile by the queue. Returns None if `budget` sites or more have had their turn and others wait.
 pub(crate) fn settle_by_queue(
     alloc: Global,
     pile: &Pile,
-    turns: u64,
+    budget: u64,
 ) -> Result<Option<Rest>, AllocError>
     ensures settled { IfOk result (λ o. IfSome o (ComesToRest pile.now)) }
-    ensures ends { 2 ^ 54 ≤ turns → IfOk result (λ o. IsSome o) }
+    ensures ends { 2 ^ 54 ≤ budget → IfOk result (λ o. IsSome o) }
 {
     let mut heights = Vec::from_slice(alloc, pile.heights())?;
     let mut odometer = vec![in alloc; 0u64; pile.shape().sites()]?;
-    if !topple_to_rest(alloc, pile.shape(), &mut heights, &mut odometer, turns)? {
+    if !topple_to_rest(alloc, pile.shape(), &mut heights, &mut odometer, budget)? {
         return Ok(None);
     }
     Ok(Some(Rest { heights, odometer }))
@@ -100,14 +100,14 @@ fn settle_if_low(alloc: Global, pile: &Pile) -> Result<Option<Rest>, AllocError>
 {
     let sites = pile.shape().sites() as u64;
     let is_flat = is_flat(pile);
-    let turns = if is_flat && pile.grains() * 8 <= sites * 17 {
+    let budget = if is_flat && pile.grains() * 8 <= sites * 17 {
         sites * TURNS_IF_SPARSE
     } else if is_flat {
         sites * TURNS_BEFORE_SWEEPS
     } else {
         sites * TURNS_BEFORE_A_GUESS + MORE_TURNS_BEFORE_A_GUESS
     };
-    let rest = settle_by_queue(alloc, pile, turns)?;
+    let rest = settle_by_queue(alloc, pile, budget)?;
     if rest.is_some() || !is_flat {
         return Ok(rest);
     }

@@ -47,7 +47,7 @@ impl Model for DrivenPile {
 }
 
 fn read_heights(fronts: &TiledPile, heights: &mut [u64])
-    requires one_each { length heights.old ≡ sites fronts.now.grid }
+    requires len { length heights.old ≡ sites fronts.now.grid }
     requires all { length fronts.now.heights ≡ sites fronts.now.grid }
     ensures { heights.new ≡ fronts.now.heights }
 {
@@ -60,8 +60,8 @@ fn read_heights(fronts: &TiledPile, heights: &mut [u64])
 
 // Adds the topplings on the tiles to an odometer.
 fn add_times(fronts: &TiledPile, odometer: &mut [u64])
-    requires one_each { length odometer.old ≡ sites fronts.now.grid }
-    requires few { (j : ℕ) → j < sites fronts.now.grid
+    requires len { length odometer.old ≡ sites fronts.now.grid }
+    requires bound { (j : ℕ) → j < sites fronts.now.grid
         → slice_index odometer.old j + slice_index fronts.now.times j < 2 ^ 63 }
     ensures { odometer.new ≡ by_site fronts.now.grid
         (λ j. slice_index odometer.old j + slice_index fronts.now.times j) }

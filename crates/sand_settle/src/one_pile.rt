@@ -199,7 +199,7 @@ impl OnePile {
     /// The same for all sites, by site.
     pub fn odometers(&self) -> &[u64]
         ensures value { result.now ≡ self.now.settled.odometer }
-        ensures one_each { length self.now.settled.odometer ≡ sites (grid_of_one_pile self.now) }
+        ensures len { length self.now.settled.odometer ≡ sites (grid_of_one_pile self.now) }
     {
         self.settled().odometers()
     }

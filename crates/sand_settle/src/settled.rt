@@ -46,7 +46,7 @@ impl Settled {
     pub fn of_parts(pile: Pile, odometer: Vec<u64>, lost: u64) -> Settled
         requires settled { IsSomeSettledRecord
             (record { pile = pile; odometer = odometer.items; topplings = sum odometer.items; lost = lost }) }
-        requires small { sum odometer.items < 2 ^ 64 }
+        requires fits { sum odometer.items < 2 ^ 64 }
         ensures { result
             ≡ record { pile = pile; odometer = odometer.items; topplings = sum odometer.items; lost = lost } }
     {

@@ -2,10 +2,10 @@
 //!
 //! The time is at most proportional to the sites and the topplings, the space to the sites.
 //!
-//! Sand topples in waves. A wave lists all sites that may topple, each once. In turn each topples as often as its
-//! height allows, and each neighbour that this raises to 4 or more joins the next wave, at the end of the queue that
-//! the two waves form. A site leaves the queue when it topples and joins it when it reaches 4, so the queue never holds
-//! more than all sites, and nothing grows while sand topples.
+//! Sites topple in generations. A generation lists all sites that may topple, each once. In turn each topples as often
+//! as its height allows, and each neighbour that this raises to 4 or more joins the next generation, at the end of the
+//! queue that the two form. A site leaves the queue when it topples and joins it when it reaches 4, so the queue never
+//! holds more than all sites, and nothing grows while sand topples.
 //!
 //! - It ends, since each toppling lowers the weight of the pile by at least 2.
 //! - No site topples more often than in any `w` that stabilises the start: each toppling is legal, so this is least
@@ -29,31 +29,31 @@ use sand_model::{IndexList, Lattice, Pile, Shape, TOPPLING_HEIGHT};
 use std::alloc::{AllocError, Global};
 use std::mem;
 
-// Topples each site of a wave in turn, as often as its height allows, and lists the next wave.
-fn topple_wave(
+// Topples each site of a generation in turn, as often as its height allows, and lists the next generation.
+fn topple_generation(
     lattice: &Lattice,
     heights: &mut [u64],
     counts: &mut [u64],
-    wave: &IndexList,
+    generation: &IndexList,
     next: &mut IndexList,
 )
-    requires one_each { (length heights.old ≡ sites lattice.now) × (length counts.old ≡ sites lattice.now) }
+    requires len { (length heights.old ≡ sites lattice.now) × (length counts.old ≡ sites lattice.now) }
     requires limit { sum heights.old ≤ most_grains }
-    requires few { 2 * topplings lattice.now (slice_index counts.old) + weight lattice.now (slice_index heights.old)
+    requires bound { 2 * topplings lattice.now (slice_index counts.old) + weight lattice.now (slice_index heights.old)
         < 2 ^ 55 }
-    requires waiting { ListsUnstable (sites lattice.now) heights.old wave.now.items }
+    requires waiting { ListsUnstable (sites lattice.now) heights.old generation.now.items }
     requires room { sites lattice.now + 4 ≤ next.old.room }
     ensures advances { Advances lattice.now (slice_index counts.old)
         (slice_index heights.old) (slice_index counts.new) (slice_index heights.new) }
-    ensures each_topples { topplings lattice.now (slice_index counts.old) + length wave.now.items
+    ensures each_topples { topplings lattice.now (slice_index counts.old) + length generation.now.items
         ≤ topplings lattice.now (slice_index counts.new) }
     ensures waiting { ListsUnstable (sites lattice.now) heights.new next.new.items }
     ensures room { next.new.room ≡ next.old.room }
 {
     knows_sides(lattice);
     next.clear();
-    for turn in 0..wave.len() {
-        let site = wave.item(turn);
+    for position in 0..generation.len() {
+        let site = generation.item(position);
         let times = heights[site] / TOPPLING_HEIGHT;
         heights[site] -= TOPPLING_HEIGHT * times;
         spread(lattice, heights, next, site, times);
@@ -61,76 +61,76 @@ fn topple_wave(
     }
 }
 
-fn list_unstable(heights: &[u64], wave: &mut IndexList)
-    requires small { length heights.now ≤ 65536 }
-    requires room { length heights.now < wave.old.room }
-    ensures waiting { ListsUnstable (length heights.now) heights.now wave.new.items }
-    ensures room { wave.new.room ≡ wave.old.room }
+fn list_unstable(heights: &[u64], generation: &mut IndexList)
+    requires fits { length heights.now ≤ 65536 }
+    requires room { length heights.now < generation.old.room }
+    ensures waiting { ListsUnstable (length heights.now) heights.now generation.new.items }
+    ensures room { generation.new.room ≡ generation.old.room }
 {
-    wave.clear();
+    generation.clear();
     for (site, height) in heights.iter().enumerate() {
-        wave.push_if(site, *height >= TOPPLING_HEIGHT);
+        generation.push_if(site, *height >= TOPPLING_HEIGHT);
     }
 }
 
-// Topples until no site may topple, and counts how often each site topples. Returns false before a wave if `turns` sites
-// or more have had their turn. What the two lists hold is dropped.
+// Topples until no site may topple, and counts how often each site topples. Returns false before a generation if `budget`
+// sites or more have had their turn. What the two lists hold is dropped.
 fn topple_all(
     lattice: &Lattice,
     heights: &mut [u64],
     counts: &mut [u64],
-    mut wave: IndexList,
+    mut generation: IndexList,
     mut next: IndexList,
-    turns: u64,
+    budget: u64,
 ) -> bool
     requires heights_each { length heights.old ≡ sites lattice.now }
     requires counts_each { length counts.old ≡ sites lattice.now }
     requires limit { sum heights.old ≤ most_grains }
-    requires wave_room { sites lattice.now + 4 ≤ wave.room }
+    requires generation_room { sites lattice.now + 4 ≤ generation.room }
     requires next_room { sites lattice.now + 4 ≤ next.room }
     ensures settled { IsTrue result
         → IsSettled lattice.now (slice_index heights.old) (slice_index counts.new) (slice_index heights.new) }
-    ensures ends { 2 ^ 54 ≤ turns → IsTrue result }
+    ensures ends { 2 ^ 54 ≤ budget → IsTrue result }
 {
     knows_sides(lattice);
     counts.fill(0);
-    list_unstable(heights, &mut wave);
-    let mut left = turns;
-    'waves: while wave.len() > 0 {
+    list_unstable(heights, &mut generation);
+    let mut left = budget;
+    'generations: while generation.len() > 0 {
         if left == 0 {
             return false;
         }
-        left = left.saturating_sub(wave.len() as u64);
-        topple_wave(lattice, heights, counts, &wave, &mut next);
-        mem::swap(&mut wave, &mut next);
+        left = left.saturating_sub(generation.len() as u64);
+        topple_generation(lattice, heights, counts, &generation, &mut next);
+        mem::swap(&mut generation, &mut next);
     }
     true
 }
 
-/// Topples until no site may topple, and counts how often each site topples. Returns false before a wave if `turns` sites
-/// or more have had their turn. If an allocation fails, nothing has toppled.
+/// Topples until no site may topple, and counts how often each site topples. Returns false before a generation if `budget`
+/// sites or more have had their turn. If an allocation fails, nothing has toppled.
 pub(crate) fn topple_to_rest(
     alloc: Global,
     shape: Shape,
     heights: &mut [u64],
     counts: &mut [u64],
-    turns: u64,
+    budget: u64,
 ) -> Result<bool, AllocError>
     requires heights_each { length heights.old ≡ sites shape }
     requires counts_each { length counts.old ≡ sites shape }
     requires limit { sum heights.old ≤ most_grains }
     ensures settled { IfOk result (λ b. IsTrue b
         → IsSettled shape (slice_index heights.old) (slice_index counts.new) (slice_index heights.new)) }
-    ensures ends { 2 ^ 54 ≤ turns → IfOk result (λ b. IsTrue b) }
+    ensures ends { 2 ^ 54 ≤ budget → IfOk result (λ b. IsTrue b) }
     ensures heights { OnErr result (heights.new ≡ heights.old) }
     ensures counts { OnErr result (counts.new ≡ counts.old) }
 {
     // A toppling site may list 4 more.
     let room = shape.sites() + 4;
     let lattice = Lattice::new(alloc, shape)?;
-    let wave = IndexList::new(alloc, room)?;
+    let generation = IndexList::new(alloc, room)?;
     let next = IndexList::new(alloc, room)?;
-    Ok(topple_all(&lattice, heights, counts, wave, next, turns))
+    Ok(topple_all(&lattice, heights, counts, generation, next, budget))
 }
 
 fn record_of(pile: &Pile, rest: Rest) -> Settled

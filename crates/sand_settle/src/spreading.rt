@@ -17,19 +17,19 @@ pub(crate) fn knows_sides(lattice: &Lattice)
     let _ = lattice.shape();
 }
 
-// Gives grains to a place if it is in the grid, and lists its site if it may topple from now on.
+// Gives grains to a neighbour if there is one, and lists it if it may topple from now on.
 #[inline(always)]
-fn deliver(heights: &mut [u64], list: &mut IndexList, place: Option<usize>, times: u64)
-    requires inside { IfSome place (λ j. j < length heights.old) }
+fn deliver(heights: &mut [u64], list: &mut IndexList, neighbour: Option<usize>, times: u64)
+    requires inside { IfSome neighbour (λ j. j < length heights.old) }
     requires limit { sum heights.old + times < 2 ^ 63 }
-    requires small { length heights.old ≤ 65536 }
+    requires fits { length heights.old ≤ 65536 }
     requires room { length list.old.items < list.old.room }
     ensures each { (j : ℕ)
-        → slice_index heights.new j ≡ slice_index heights.old j + times * value_at (λ k. one_at k j) place }
+        → slice_index heights.new j ≡ slice_index heights.old j + times * value_at (λ k. one_at k j) neighbour }
     ensures total { sum heights.new ≤ sum heights.old + times }
     ensures joins { UnstableJoin 1 heights.old heights.new list.old list.new }
 {
-    if let Some(site) = place {
+    if let Some(site) = neighbour {
         let before = heights[site];
         let after = before + times;
         heights[site] = after;
@@ -38,12 +38,12 @@ fn deliver(heights: &mut [u64], list: &mut IndexList, place: Option<usize>, time
     }
 }
 
-// Gives grains to each place around a site that is in the grid.
+// Gives grains to each neighbour of a site.
 #[inline(always)]
 fn deliver_four(heights: &mut [u64], list: &mut IndexList, around: [Option<usize>; 4], times: u64)
     requires inside { (k : ℕ) → IfSome (slice_index_or around k None) (λ j. j < length heights.old) }
     requires limit { sum heights.old + 4 * times < 2 ^ 63 }
-    requires small { length heights.old ≤ 65536 }
+    requires fits { length heights.old ≤ 65536 }
     requires room { length list.old.items + 4 ≤ list.old.room }
     ensures each { (g : Grid) (site : ℕ) → around ≡ places g site → site < sites g
         → NeighboursGain g site times heights.old heights.new }
@@ -57,7 +57,7 @@ fn deliver_four(heights: &mut [u64], list: &mut IndexList, around: [Option<usize
 }
 
 /// Gives grains to each neighbour of a site, and lists those that may topple from now on. Most sites are inner: one
-/// test for this saves a test for each place.
+/// test for this saves a test for each neighbour.
 #[inline(always)]
 pub(crate) fn spread(
     lattice: &Lattice,
@@ -67,7 +67,7 @@ pub(crate) fn spread(
     times: u64,
 )
     requires site { site < sites lattice.now }
-    requires one_each { length heights.old ≡ sites lattice.now }
+    requires len { length heights.old ≡ sites lattice.now }
     requires limit { sum heights.old + 4 * times < 2 ^ 63 }
     requires room { length list.old.items + 4 ≤ list.old.room }
     ensures each { NeighboursGain lattice.now site times heights.old heights.new }

@@ -32,7 +32,7 @@ module _ {t : Terms} {a : ℕ} {v : View} (s : Stands t a v) (all : HasAll t v) 
       let same = sum_below_same (sites g) (start_and_receipts t v)
       (start_and_drawn t p) (λ i _. let d = (knows_all s all).drops i in omega arith) in
       let parts = sum_below-add (sites g) (height_of t.start) (occurrences p.drawn) in
-      let start = sum_is_grains g t.start.heights s.terms.pile.one_each in
+      let start = sum_is_grains g t.start.heights s.terms.pile.len in
       let drops = sum_below-occurrences (sites g) p.drawn s.lawful.all_sites in
       omega arith
 
@@ -74,9 +74,9 @@ completed_leads {t = t} {p = p} {r = r} b s rest history each told =
       all_sites = h.all_sites;
       limit = h.limit;
       heights_each = rest.heights_each;
-      counts_each = whole_counts t p b.grid b.pass.one_each b.whole;
+      counts_each = whole_counts t p b.grid b.pass.len b.whole;
       odometer_each = rest.odometer_each;
-      small = λ i l. (let le = at_most_sum_below (sites g) u i l in omega arith);
+      fits = λ i l. (let le = at_most_sum_below (sites g) u i l in omega arith);
       settled = settled_same g (start_and_receipts t (at_rest p)) (λ i. height_of t.start i + occurrences history i)
           u u (height_of r.pile) (height_of r.pile)
           (λ i l. let e = h.by_site i in omega arith) (λ i l. refl) (λ i l. refl) rest.settled;

@@ -47,7 +47,7 @@ occurrences_small k drops i inside =
 
 -- The grains in hand are single, and the counts say how many of them are for each site that is still to come.
 pub record Waits (n : ℕ) (counts : List ℕ) (hand : List Grains) (coming : List ℕ) : Type 0 where
-  pub long : length counts ≡ n
+  pub len : length counts ≡ n
   pub single : All (λ g. (g.site < n) × (g.amount ≡ 1)) hand
   pub counted : (i : ℕ) → i < n → slice_index counts i ≡ held hand i
   pub come : (i : ℕ) → i < n → 0 < slice_index counts i → 0 < occurrences coming i
@@ -81,7 +81,7 @@ module _ (n : ℕ) where
       → ((i : ℕ) → i < n → slice_index counts i ≡ occurrences drops i)
       → Waits n counts (one_for_each drops) drops
   waits_all counts drops long inside counted = record {
-    long = long;
+    len = long;
     single = all_single drops inside;
     counted = λ i l. counted i l ∙ sym (held-one_for_each drops i);
     come = λ i l some_there. (let e = counted i l in omega arith);
@@ -96,7 +96,7 @@ module _ (n : ℕ) where
         → slice_index counts x ≡ 0 → Waits n counts hand (x ∷ coming)
         → Waits n counts hand coming
     waits_past counts hand none w = record {
-      long = w.long;
+      len = w.len;
       single = w.single;
       counted = w.counted;
       come = λ i l some_there.
@@ -113,7 +113,7 @@ module _ (n : ℕ) where
         let gone = λ (i : ℕ). held-laid x c hand i (omega arith) in
         let new = λ (i : ℕ). get_or-written counts x 0 i (omega arith) in
         record {
-          long = length-set counts x 0 ∙ w.long;
+          len = length-set counts x 0 ∙ w.len;
           single = all_laid x (λ g. (g.site < n) × (g.amount ≡ 1)) c hand w.single;
           counted = λ i l. (let a = new i in
               let b = amount_is x c i in
@@ -147,5 +147,5 @@ module _ (n : ℕ) where
 
   pub counts_zero : (counts : List ℕ) (hand : List Grains) → Waits n counts hand [] → counts ≡ zeros n
   counts_zero counts hand w =
-      ext_get_or 0 counts (zeros n) (w.long ∙ sym (length-replicate n 0))
+      ext_get_or 0 counts (zeros n) (w.len ∙ sym (length-replicate n 0))
       (λ i l. none_counted counts hand w i (omega arith) ∙ sym (get_or-replicate n i 0 0 (omega arith)))

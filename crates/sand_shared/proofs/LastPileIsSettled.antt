@@ -65,7 +65,7 @@ module _ {t : Terms} {p : PassView} {counts : List ℕ} {a spot least : ℕ} (b 
     (s : Stands t a (record (at_rest p) { counts = counts; spot = spot; least = least }))
     (long : length counts ≡ length p.counts) where
   pub gathers_all : HasAll t (record (at_rest p) { counts = counts; spot = spot; least = least })
-  gathers_all = swept_has_all t p b.grid b.pass.one_each b.whole counts spot least long
+  gathers_all = swept_has_all t p b.grid b.pass.len b.whole counts spot least long
 
   pub gathered_history : (history : List ℕ) → length history ≡ length p.receipts → Tells p.receipts history
       → HasHistory t p.receipts history
@@ -94,7 +94,7 @@ module _ {t : Terms} {p : PassView} {counts : List ℕ} {a spot least : ℕ} (b 
 pub toppled_is : (t : Terms) (p : PassView) (counts : List ℕ) → HasGathered t p → (i : ℕ)
     → toppled_by (with_counts (at_rest p) counts) i ≡ slice_index counts i
 toppled_is t p counts b i =
-    let base = whole_base t p b.grid b.pass.one_each b.whole in
+    let base = whole_base t p b.grid b.pass.len b.whole in
     toppled_from (with_counts (at_rest p) counts) i (omega arith)
     ∙ ap (slice_index counts) {x = i - (at_rest p).base} {y = i} (omega arith)
 
@@ -133,8 +133,8 @@ module _ {t : Terms} {p : PassView} {counts heights : List ℕ} {a spot least : 
       let s = b.last.stands in
       let all = gathers_all b.all s b.same_rows in
       let h = gathered_history b.all s b.same_rows history each told in
-      let base = whole_base t p b.all.grid b.all.pass.one_each b.all.whole in
-      let long = b.same_rows ∙ whole_counts t p b.all.grid b.all.pass.one_each b.all.whole in
+      let base = whole_base t p b.all.grid b.all.pass.len b.all.whole in
+      let long = b.same_rows ∙ whole_counts t p b.all.grid b.all.pass.len b.all.whole in
       let left = left_exactly s all refl in
       let toppled : IsToppled g (start_and_receipts t v) (toppled_by v) (slice_index heights) =
       record { balance = λ i l. let e = left.balance i l in let same = b.last.each_height i l in omega arith } in
@@ -145,7 +145,7 @@ module _ {t : Terms} {p : PassView} {counts heights : List ℕ} {a spot least : 
         pile = s.terms.pile;
         all_sites = h.all_sites;
         limit = h.limit;
-        heights_each = b.last.one_each;
+        heights_each = b.last.len;
         odometer_each = long;
         settled = settled_same g (start_and_receipts t v) (λ i. height_of t.start i + occurrences history i)
             (toppled_by v) (slice_index counts) (slice_index heights) (slice_index heights)

@@ -62,7 +62,7 @@ few_present t p terms r i inside =
     let one = at_most_sum_below (sites g) (present p) i inside in
     let all = laplacian_sum g (start_and_drawn t p) (toppled p) (present p) r.balance in
     let parts = sum_below-add (sites g) (height_of t.start) (occurrences p.drawn) in
-    let start = sum_is_grains g t.start.heights terms.pile.one_each in
+    let start = sum_is_grains g t.start.heights terms.pile.len in
     let drops = sum_below-occurrences (sites g) p.drawn r.all_sites in
     let quota = r.quota in omega arith
 

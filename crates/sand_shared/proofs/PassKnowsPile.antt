@@ -65,7 +65,7 @@ module _ (t : Terms) (p : OpenPile) (r : IsLawful t p) (a : ℕ) (there : a < le
       let g = grid_of_terms t in
       let v = pass_at p a in
       let parts = sum_below-add (sites g) (height_of t.start) (occurrences p.drawn) in
-      let start = sum_is_grains g t.start.heights terms.pile.one_each in
+      let start = sum_is_grains g t.start.heights terms.pile.len in
       let drops = sum_below-occurrences (sites g) p.drawn r.all_sites in
       let bound =
       topplings_bound g (start_and_drawn t p) (toppled p) (present p) terms.pile.grid (omega arith) r.balance in

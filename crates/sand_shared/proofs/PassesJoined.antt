@@ -37,5 +37,5 @@ module _ (x y : Inside) (inv : IsBare x) (inv' : IsBare y) (same : y.shape ≡ x
           below = below_join p.seen q.seen p.receipts q.receipts inv.pass.below inv'.pass.below;
           grid = inv.pass.grid;
           rows = together_rows p q inv.pass inv'.pass same touch;
-          one_each = together_each p q inv.pass inv'.pass same touch;
+          len = together_each p q inv.pass inv'.pass same touch;
         }

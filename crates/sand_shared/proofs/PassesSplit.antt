@@ -20,7 +20,7 @@ rows_kept x inv q =
     let cs = x.counts.items in
     let base = x.rows.first * x.shape.width in
     let all = take-length cs in
-    let here = whole_sites x.shape x.rows cs inv.pass.grid inv.pass.rows inv.pass.one_each in
+    let here = whole_sites x.shape x.rows cs inv.pass.grid inv.pass.rows inv.pass.len in
     ap (λ (m : Me ℕ View). parent m.0 q (length m.0.counts - length cs)) inv.me
     ∙ parent_rest (shown x) q x.seat.me.0.spot x.seat.me.0.least (length cs) x.rows cs
     (omega arith) (x.left - q) refl all (subst (AreSitesOf x.shape x.rows base) (sym all) here)
@@ -35,11 +35,11 @@ module _ (x : Inside) (k : ℕ) where
 
   module _ (inv : IsBare x) (few : k ≤ count_of x.rows) where
     sites_above : AreSitesOf x.shape (upper_rows x.rows k) (x.rows.first * x.shape.width) upper.counts
-    sites_above = upper_sites x.shape x.rows x.counts.items k inv.pass.grid inv.pass.rows inv.pass.one_each few
+    sites_above = upper_sites x.shape x.rows x.counts.items k inv.pass.grid inv.pass.rows inv.pass.len few
 
     sites_below : AreSitesOf x.shape (lower_rows x.rows k)
         (x.rows.first * x.shape.width + sites_kept (shown x) k) lower.counts
-    sites_below = lower_sites x.shape x.rows x.counts.items k inv.pass.grid inv.pass.rows inv.pass.one_each few
+    sites_below = lower_sites x.shape x.rows x.counts.items k inv.pass.grid inv.pass.rows inv.pass.len few
 
     pub upper_pass : IsPass upper
     upper_pass = record {
@@ -47,7 +47,7 @@ module _ (x : Inside) (k : ℕ) where
       below = inv.pass.below;
       grid = inv.pass.grid;
       rows = sites_above.rows;
-      one_each = sites_above.one_each;
+      len = sites_above.len;
     }
 
     pub lower_pass : IsPass lower
@@ -56,7 +56,7 @@ module _ (x : Inside) (k : ℕ) where
       below = All-nil (λ (r : Receipt). r.number < x.seen);
       grid = inv.pass.grid;
       rows = sites_below.rows;
-      one_each = sites_below.one_each;
+      len = sites_below.len;
     }
 
     pub upper_has : parent x.seat.me.0 0 (length x.seat.me.0.counts - sites_kept (shown x) k)

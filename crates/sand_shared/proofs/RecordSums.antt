@@ -32,7 +32,7 @@ module _ {start : PileView} {history heights odometer : List ℕ} (l : LeadsTo s
   grains_in =
       let g = start.grid in
       let parts = sum_below-add (sites g) (height_of start) (occurrences history) in
-      let a = sum_is_grains g start.heights l.pile.one_each in
+      let a = sum_is_grains g start.heights l.pile.len in
       let b = sum_below-occurrences (sites g) history l.all_sites in omega arith
 
   pub few_topplings : sum odometer < 2 ^ 54
@@ -132,7 +132,7 @@ pub record AreJoined (r q : RecordView) (sums : List ℕ) : Type 0 where
   pub second : IsOneThreads q
   pub joint : q.start ≡ r.settled.pile
   pub limit : sum r.start.heights + (length r.history + length q.history) ≤ most_grains
-  pub long : length sums ≡ length r.settled.odometer
+  pub len : length sums ≡ length r.settled.odometer
   pub each : (i : ℕ) → i < length q.settled.odometer
       → slice_index sums i ≡ odometer_of r.settled i + odometer_of q.settled i
 
@@ -206,7 +206,7 @@ module _ (r q : RecordView) (sums : List ℕ) (joined : AreJoined r q sums) wher
       record {
         grid = joined.second.settled.grid ∙ grids;
         heights_each = joined.second.settled.heights_each ∙ ap sites grids;
-        odometer_each = joined.long ∙ joined.first.settled.odometer_each;
+        odometer_each = joined.len ∙ joined.first.settled.odometer_each;
         settled = both_settled;
         all_topplings = omega arith;
         all_lost = omega arith;
@@ -215,4 +215,4 @@ module _ (r q : RecordView) (sums : List ℕ) (joined : AreJoined r q sums) wher
   pub joined_topplings : sum sums ≡ r.settled.topplings + q.settled.topplings
   joined_topplings =
       let all = followed.settled.all_topplings in
-      let counts = sum_is_grains r.start.grid sums (joined.long ∙ joined.first.settled.odometer_each) in omega arith
+      let counts = sum_is_grains r.start.grid sums (joined.len ∙ joined.first.settled.odometer_each) in omega arith

@@ -46,7 +46,7 @@ held_together b m n i = grind (arith, nat_tests)
 pub record AreParts (x y z : View) : Type 0 where
   pub first : BeginsAt x z.base
   pub second : BeginsAt y (z.base + length x.counts)
-  pub long : length x.counts + length y.counts ≡ length z.counts
+  pub len : length x.counts + length y.counts ≡ length z.counts
   pub low : (k : ℕ) → k < length x.counts → slice_index x.counts k ≡ slice_index z.counts k
   pub high : (k : ℕ) → slice_index y.counts k ≡ slice_index z.counts (length x.counts + k)
 
@@ -56,7 +56,7 @@ module _ (x y z : View) (parts : AreParts x y z) (i : ℕ) where
       let a = ap one_if (held_in x z.base i parts.first) in
       let b = ap one_if (held_in y (z.base + length x.counts) i parts.second) in
       let c = held_together z.base (length x.counts) (length y.counts) i in
-      let d = ap (λ n. one_if (leb z.base i && ltb i (z.base + n))) parts.long in omega arith
+      let d = ap (λ n. one_if (leb z.base i && ltb i (z.base + n))) parts.len in omega arith
 
   pub parts_toppled : toppled_by x i + toppled_by y i ≡ toppled_by z i
   parts_toppled =
@@ -95,7 +95,7 @@ cut_parts v q n fits =
       first = begins_based (parent v q n) v.base refl;
       second = subst (BeginsAt (child v q n)) (ap (λ k. v.base + k) (sym long))
           (begins_based (child v q n) (v.base + kept) refl);
-      long = omega arith;
+      len = omega arith;
       low = λ k l. get_or-take kept v.counts k 0 (omega arith);
       high = λ k. get_or-drop kept v.counts k 0 ∙ ap (λ m. get_or v.counts (m + k) 0) (sym long);
     }
@@ -109,7 +109,7 @@ append_parts v w z next base counts =
           (λ (none : length w.counts ≡ 0). inl none)
           (λ (some : length w.counts ≡ 0 → ⊥). inr (behind some ∙ ap (λ b. b + length v.counts) (sym base)))
           (cases_eq (length w.counts) 0);
-      long = sym (ap length counts ∙ length-append v.counts w.counts);
+      len = sym (ap length counts ∙ length-append v.counts w.counts);
       low = λ k l. sym (get_or_append_left v.counts w.counts 0 k l) ∙ ap (λ (l : List ℕ). get_or l k 0) (sym counts);
       high = λ k. sym (get_or-append-add v.counts w.counts k 0)
           ∙ ap (λ (l : List ℕ). get_or l (length v.counts + k) 0) (sym counts);

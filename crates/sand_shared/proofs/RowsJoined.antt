@@ -52,7 +52,7 @@ module _ (p q : PassView) (one : IsPass p) (other : IsPass q) (same : q.grid ≡
       let w = p.grid.width in
       let some = one.grid.some_width in
       let end = rows_end p.rows w one.rows.ordered in
-      let few : length q.counts ≡ count_of q.rows * w = other.one_each ∙ ap (λ n. count_of q.rows * n) widths in
+      let few : length q.counts ≡ count_of q.rows * w = other.len ∙ ap (λ n. count_of q.rows * n) widths in
       let base : q.rows.first * q.grid.width ≡ q.rows.first * w = ap (λ n. q.rows.first * n) widths in
       let none = tests_agree (length q.counts) 0 q.rows.first q.rows.end
       (λ e. let z : count_of q.rows ≡ 0 = eq_of_mul-eq-mul_right w some (count_of q.rows) 0 (omega arith) in omega arith)
@@ -93,7 +93,7 @@ module _ (p q : PassView) (one : IsPass p) (other : IsPass q) (same : q.grid ≡
         ≡ count_of (either_rows p.rows q.rows b) * p.grid.width
     both_each b =
         let w = p.grid.width in
-        let few : length q.counts ≡ count_of q.rows * w = other.one_each ∙ ap (λ n. count_of q.rows * n) widths in
+        let few : length q.counts ≡ count_of q.rows * w = other.len ∙ ap (λ n. count_of q.rows * n) widths in
         let sum = times_plus (count_of p.rows) (count_of q.rows) w in
         elim b as (λ b. length (if b then (p.counts ++ q.counts) else (q.counts ++ p.counts))
         ≡ count_of (either_rows p.rows q.rows b) * p.grid.width) [

@@ -27,7 +27,7 @@ base_some i l some = let t : eqb (length l) 0 ≡ false = ne_eqb (length l) 0 (�
 -- the sites of the rows r
 pub record AreSitesOf (g : Grid) (r : Rows) (base : ℕ) (cs : List ℕ) : Type 0 where
   pub base_is : base_of base cs ≡ r.first * g.width
-  pub one_each : length cs ≡ count_of r * g.width
+  pub len : length cs ≡ count_of r * g.width
   pub rows : AreRowsOf g r
 
 -- the rows from a up to b have the sites from a * width on
@@ -43,7 +43,7 @@ sites_between g a b base cs sides ordered inside e long =
     subst P (sym (between_some a b some))
     record {
       base_is = base_some base cs (omega arith) ∙ e;
-      one_each = long;
+      len = long;
       rows = record { ordered = ordered; inside = inside; none = λ same. absurd (omega arith) };
     })
     (λ (none : b ≤ a).
@@ -51,7 +51,7 @@ sites_between g a b base cs sides ordered inside e long =
     subst P (sym (between_none a b none))
     record {
       base_is = base_none base cs (omega arith) ∙ omega arith;
-      one_each = omega arith;
+      len = omega arith;
       rows = record { ordered = omega arith; inside = omega arith; none = λ _. refl };
     })
     (cases_lt a b)
@@ -71,7 +71,7 @@ whole_sites g r cs sides rows long =
           let first = ap (λ n. n * w) (same_ends (omega arith)) in base_none base cs none ∙ omega arith)
           (λ (some : length cs ≡ 0 → ⊥). base_some base cs (omega arith))
           (cases_eq (length cs) 0);
-      one_each = long;
+      len = long;
       rows = rows;
     }
 

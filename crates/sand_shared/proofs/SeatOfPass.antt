@@ -15,7 +15,7 @@ pub with_receipts : {p : PassView} {table : TableId} {left seen : ℕ} {receipts
     → IsPass p → EachOnce receipts → AllBelow seen receipts
     → IsPass (record p { table = table; left = left; seen = seen; receipts = receipts })
 with_receipts pass once below =
-    record { once = once; below = below; grid = pass.grid; rows = pass.rows; one_each = pass.one_each }
+    record { once = once; below = below; grid = pass.grid; rows = pass.rows; len = pass.len }
 
 pub seated : {x : Inside} (q : PassView) (spot least : ℕ)
     → IsPass q → x.made ≡ length q.receipts

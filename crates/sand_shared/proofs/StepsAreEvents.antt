@@ -220,6 +220,6 @@ pub last_is : (t : Terms) (a : ℕ) (v : View) (s : State ℕ View) (h : IsRunni
     → IsLast t a v heights
 last_is t a v s h at heights long read = record {
   stands = stands_now h at;
-  one_each = long;
+  len = long;
   each_height = λ i l. read i l ∙ h.shown.heights i l;
 }

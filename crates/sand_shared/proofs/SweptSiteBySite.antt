@@ -32,7 +32,7 @@ pub record Sweeps (t : Terms) (v : View) (cs : List ℕ) (k topplings : ℕ) : T
   pub idle : topplings ≡ 0 → cs ≡ v.counts
   pub calm : HasAll t v → IsCalm t v → topplings ≡ 0
   pub in_turn : HasAll t v → AllInTurn t v cs k
-  pub few : 0 < k → sum cs < 2 ^ 54
+  pub bound : 0 < k → sum cs < 2 ^ 54
   pub sparing : 0 < k → HasAll t v → IsSparing t (with_counts v cs)
 
 -- the count of the k-th site of its rows
@@ -67,7 +67,7 @@ at_most_before t v cs i n inside more same left =
 -- what a pass knows after its turn at the site i, which toppled it so often
 pub record Relieved (t : Terms) (me new : View) (i times : ℕ) : Type 0 where
   pub view : new ≡ record (looked me i new.least) { counts = raised me i times }
-  pub few : sum new.counts < 2 ^ 54
+  pub bound : sum new.counts < 2 ^ 54
   pub enough : LeavesAtMost t me i (4 * times + 3)
   pub no_more : HasAll t me → LeavesAtLeast t me i (4 * times)
   pub sparing : HasAll t me → IsSparing t new
@@ -117,7 +117,7 @@ module _ {t : Terms} {new : View} {spot least times : ℕ} (v : View) (cs : List
             let l = low (v.base + k) (omega arith) in omega arith);
         in_turn = λ all.
             one_in_turn t v cs k times (omega arith) s.same_rows s.rest (s.in_turn all) (did.no_more (still s all)) did.enough;
-        few = λ _. (let e = ap (λ (u : View). sum u.counts) next_view in omega arith);
+        bound = λ _. (let e = ap (λ (u : View). sum u.counts) next_view in omega arith);
         sparing = λ _ all. (let q = subst (IsSparing t) next_view (did.sparing (still s all)) in
             record { needed = q.needed; weighed = q.weighed });
       }
@@ -169,7 +169,7 @@ module _ {t : Terms} {v : View} {cs : List ℕ} {topplings : ℕ} (s : Sweeps t 
   pub sweeps_few : sum cs < 2 ^ 54
   sweeps_few = ⊎_elim
       (λ (e : length v.counts ≡ 0). let z = none e in omega arith)
-      (λ (some : length v.counts ≡ 0 → ⊥). s.few (omega arith))
+      (λ (some : length v.counts ≡ 0 → ⊥). s.bound (omega arith))
       (cases_eq (length v.counts) 0)
 
 -- what a seat has swept, its pass has swept: a sweep does not depend on what the seat knows of heights

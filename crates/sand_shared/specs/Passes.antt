@@ -55,7 +55,7 @@ pub record IsPass (p : PassView) : Type 0 where
   pub below : AllBelow p.seen p.receipts
   pub grid : IsGrid p.grid
   pub rows : AreRowsOf p.grid p.rows
-  pub one_each : length p.counts ≡ count_of p.rows * p.grid.width
+  pub len : length p.counts ≡ count_of p.rows * p.grid.width
 
 -- the list has the receipts of the pass, and has room for those of the drops that it has left
 pub record IsListed (p : PassView) (receipts : List Receipt) (room : ℕ) : Type 0 where

@@ -55,12 +55,12 @@ pub record IsCompleted (start : PileView) (history counts : List ℕ) (rest : Se
   pub heights_each : length rest.pile.heights ≡ sites start.grid
   pub counts_each : length counts ≡ sites start.grid
   pub odometer_each : length rest.odometer ≡ sites start.grid
-  pub small : (i : ℕ) → i < sites start.grid → slice_index counts i + odometer_of rest i < 2 ^ 54
+  pub fits : (i : ℕ) → i < sites start.grid → slice_index counts i + odometer_of rest i < 2 ^ 54
   pub settled : IsSettled start.grid (λ i. height_of start i + occurrences history i)
       (λ i. slice_index counts i + odometer_of rest i) (height_of rest.pile)
 
 -- the last moment: the pass a has v on a lawful open pile with these heights
 pub record IsLast (t : Terms) (a : ℕ) (v : View) (heights : List ℕ) : Type 0 where
   pub stands : Stands t a v
-  pub one_each : length heights ≡ sites (grid_of_terms t)
+  pub len : length heights ≡ sites (grid_of_terms t)
   pub each_height : (i : ℕ) → i < sites (grid_of_terms t) → slice_index heights i ≡ stands.pile.height i

@@ -31,7 +31,7 @@ impl Words {
         ensures seat { StaysSeated seat.old seat.new }
         ensures view { seat.new.me.0
             ≡ record (looked seat.old.me.0 seat.new.me.0.spot seat.new.me.0.least) { counts = counts.new.items } }
-        ensures long { length counts.new.items ≡ length counts.old.items }
+        ensures len { length counts.new.items ≡ length counts.old.items }
         ensures never_fall { (j : ℕ) → slice_index counts.old.items j ≤ slice_index counts.new.items j }
         ensures calm { IsCalm self.now.terms (with_counts seat.old.me.0 counts.new.items) }
     {
@@ -44,7 +44,7 @@ pub(crate) fn fill(history: &mut Vec<usize>, receipts: &[Receipt])
     requires inside { All (λ r. r.number < length history.old.items) receipts.now }
     requires once { EachOnce receipts.now }
     ensures tells { Tells receipts.now history.new.items }
-    ensures length { length history.new.items ≡ length history.old.items }
+    ensures len { length history.new.items ≡ length history.old.items }
 {
     for receipt in receipts {
         history[receipt.number as usize] = receipt.site;

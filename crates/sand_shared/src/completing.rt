@@ -46,7 +46,7 @@ impl Words {
         requires room { (heights.old.items ≡ []) × (sites (grid_of_terms self.now.terms) ≤ vec_capacity heights.old) }
         ensures seat { StaysSeated seat.old seat.new }
         ensures view { seat.new.me.0 ≡ looked seat.old.me.0 seat.new.me.0.spot seat.new.me.0.least }
-        ensures long { length heights.new.items ≡ sites (grid_of_terms self.now.terms) }
+        ensures len { length heights.new.items ≡ sites (grid_of_terms self.now.terms) }
         ensures limit { sum heights.new.items ≤ most_grains }
         ensures underway { IsUnderway (grid_of_terms self.now.terms) (start_and_receipts self.now.terms seat.old.me.0)
             (toppled_by seat.old.me.0) (slice_index heights.new.items) }
@@ -62,9 +62,9 @@ impl Words {
 
 // Adds the second list to the first, entry by entry.
 pub(crate) fn add(numbers: &mut Vec<u64>, more: &[u64])
-    requires lengths { length numbers.old.items ≡ length more.now }
-    requires small { (i : ℕ) → i < length more.now → slice_index numbers.old.items i + slice_index more.now i < 2 ^ 64 }
-    ensures long { length numbers.new.items ≡ length numbers.old.items }
+    requires len { length numbers.old.items ≡ length more.now }
+    requires fits { (i : ℕ) → i < length more.now → slice_index numbers.old.items i + slice_index more.now i < 2 ^ 64 }
+    ensures len { length numbers.new.items ≡ length numbers.old.items }
     ensures sums { (i : ℕ) → i < length more.now
         → slice_index numbers.new.items i ≡ slice_index numbers.old.items i + slice_index more.now i }
     ensures never_fall { (i : ℕ) → slice_index numbers.old.items i ≤ slice_index numbers.new.items i }
@@ -143,7 +143,7 @@ impl SharedPile {
         requires whole { IsWhole self.now.terms pass.old }
         requires start { start ≡ self.now.terms.start }
         requires tells { Tells pass.old.receipts history.items }
-        requires one_each { length history.items ≡ length pass.old.receipts }
+        requires len { length history.items ≡ length pass.old.receipts }
         requires counts { counts.items ≡ pass.old.counts }
         requires rest { IsRestOf self.now.terms pass.old rest }
         ensures pass { pass.new ≡ pass.old }
@@ -193,10 +193,10 @@ impl SharedPile {
         requires pass { IsPassOf self.now pass.old }
         requires whole { IsWhole self.now.terms pass.old }
         requires receipts { receipts.now ≡ pass.old.receipts }
-        requires one_each { length history.old.items ≡ length pass.old.receipts }
+        requires len { length history.old.items ≡ length pass.old.receipts }
         ensures pass { pass.new ≡ pass.old }
         ensures tells { Tells pass.old.receipts history.new.items }
-        ensures one_each { length history.new.items ≡ length pass.old.receipts }
+        ensures len { length history.new.items ≡ length pass.old.receipts }
     {
         self.words.learn::<Brand>(&mut pass.seat);
         fill(history, receipts);
@@ -209,7 +209,7 @@ impl SharedPile {
         requires whole { IsWhole self.terms pass }
         requires rest { IsRestOf self.terms pass rest }
         requires tells { Tells pass.receipts history.items }
-        requires one_each { length history.items ≡ length pass.receipts }
+        requires len { length history.items ≡ length pass.receipts }
         ensures history { result.history ≡ history.items }
         ensures closed { IsRecordOf self.terms pass result }
     {

@@ -25,7 +25,7 @@ use std::marker::Brand;
 fn count_sites(counts: &mut Vec<u64>, drops: &[usize])
     requires none { (i : ℕ) → i < length counts.old.items → slice_index counts.old.items i ≡ 0 }
     requires inside { All (λ i. i < length counts.old.items) drops.now }
-    ensures long { length counts.new.items ≡ length counts.old.items }
+    ensures len { length counts.new.items ≡ length counts.old.items }
     ensures counted { (i : ℕ) → i < length counts.old.items → slice_index counts.new.items i ≡ occurrences drops.now i }
 {
     'drops: for site in drops.iter() {
@@ -39,7 +39,7 @@ impl Words {
         requires seat { IsSeatAt self.now seat.old }
         requires hand { seat.old.me.0.hand ≡ one_for_each drops.now }
         requires inside { All (λ i. i < sites (grid_of_terms self.now.terms)) drops.now }
-        requires long { length counts.old.items ≡ sites (grid_of_terms self.now.terms) }
+        requires len { length counts.old.items ≡ sites (grid_of_terms self.now.terms) }
         requires counted { (i : ℕ) → i < sites (grid_of_terms self.now.terms)
             → slice_index counts.old.items i ≡ occurrences drops.now i }
         ensures seat { StaysSeated seat.old seat.new }
@@ -59,7 +59,7 @@ impl Words {
 // Appends the receipts of consecutive drops, numbered from `number` on.
 fn note(receipts: &mut Vec<Receipt>, number: u64, drops: &[usize])
     requires room { length receipts.old.items + length drops.now ≤ vec_capacity receipts.old }
-    requires small { number + length drops.now < 2 ^ 64 }
+    requires fits { number + length drops.now < 2 ^ 64 }
     ensures items { receipts.new.items ≡ receipts.old.items ++ receipts_from number drops.now }
     ensures room { vec_capacity receipts.new ≡ vec_capacity receipts.old }
 {

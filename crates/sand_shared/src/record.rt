@@ -53,7 +53,7 @@ impl Record {
     ) -> Record
         requires all_sites { All (λ i. i < sites start.grid) history.items }
         requires limit { sum start.heights + length history.items ≤ most_grains }
-        requires one_each { (length heights.items ≡ sites start.grid) × (length odometer.items ≡ sites start.grid) }
+        requires len { (length heights.items ≡ sites start.grid) × (length odometer.items ≡ sites start.grid) }
         requires settled { IsSettled start.grid (λ i. height_of start i + occurrences history.items i)
             (slice_index odometer.items) (slice_index heights.items) }
         ensures start { result.start ≡ start }
@@ -121,7 +121,7 @@ impl Record {
     /// The total number of topplings.
     pub fn topplings(&self) -> u64
         ensures value { result ≡ self.now.settled.topplings }
-        ensures few { result < 2 ^ 54 }
+        ensures bound { result < 2 ^ 54 }
     {
         self.settled.topplings()
     }

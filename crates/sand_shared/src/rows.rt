@@ -59,7 +59,7 @@ impl Rows {
     /// The rows of both, if they touch.
     pub(crate) fn together(self, other: Rows) -> Rows
         requires ordered { (self.first ≤ self.end) × (other.first ≤ other.end) }
-        requires small { self.end + other.end < 2 ^ 16 }
+        requires fits { self.end + other.end < 2 ^ 16 }
         ensures { result ≡ rows_together self other }
     {
         if self.are_followed_by(other) {

@@ -155,7 +155,7 @@ impl Words {
         requires own { (holds_site seat.old.me.0 site ≡ true) × (seat.old.me.0.spot ≡ site) }
         requires there { 4 * times ≤ seat.old.me.0.least }
         requires site { site < sites (grid_of_terms self.now.terms) }
-        requires small { 4 * times < 2 ^ 64 }
+        requires fits { 4 * times < 2 ^ 64 }
         requires picked { (J.terms ≡ self.now.terms) × (J.pass ≡ seat.old.id)
             × (J.events ≡ unload seat.old.id site times ∷ []) }
         ensures seat { StaysSeated seat.old seat.new }
@@ -265,7 +265,7 @@ fn read_heights(closed: &Closed<u8, Global>, sites: usize, heights: &mut Vec<u64
     requires room { (heights.old.items ≡ []) × (sites ≤ vec_capacity heights.old) }
     ensures heights { (i : ℕ) → i < sites
         → slice_index heights.new.items i ≡ slice_index (slots_items closed.now.words) (i + 2) }
-    ensures length { length heights.new.items ≡ sites }
+    ensures len { length heights.new.items ≡ sites }
 {
     for site in 0..sites {
         heights.push_reserved(closed.word(site + 2));

@@ -19,16 +19,16 @@ use sand_model::TOPPLING_HEIGHT;
 use std::marker::Brand;
 
 impl Words {
-    // Delivers the first grains in hand, if there is a neighbour at this place.
+    // Delivers the first grains in hand to a neighbour, if there is one.
     #[inline(always)]
-    fn deliver_to(&self, seat: &mut PassSeat, place: Option<usize>, times: u64)
+    fn deliver_to(&self, seat: &mut PassSeat, neighbour: Option<usize>, times: u64)
         requires seat { IsSeatAt self.now seat.old }
-        requires hand { IfSome place (λ j. seat.old.me.0.hand ≡ grains_for j times ∷ behind_first seat.old.me.0.hand) }
-        requires site { IfSome place (λ j. j < sites (grid_of_terms self.now.terms)) }
+        requires hand { IfSome neighbour (λ j. seat.old.me.0.hand ≡ grains_for j times ∷ behind_first seat.old.me.0.hand) }
+        requires site { IfSome neighbour (λ j. j < sites (grid_of_terms self.now.terms)) }
         ensures seat { StaysSeated seat.old seat.new }
-        ensures view { seat.new.me.0 ≡ delivered_to place seat.old.me.0 }
+        ensures view { seat.new.me.0 ≡ delivered_to neighbour seat.old.me.0 }
     {
-        if let Some(site) = place {
+        if let Some(site) = neighbour {
             self.deliver::<Brand>(seat, site, times);
         }
     }
@@ -57,7 +57,7 @@ impl Words {
         ensures seat { StaysSeated seat.old seat.new }
         ensures view { seat.new.me.0
             ≡ record (looked seat.old.me.0 site seat.new.me.0.least) { counts = raised seat.old.me.0 site result } }
-        ensures few { sum seat.new.me.0.counts < 2 ^ 54 }
+        ensures bound { sum seat.new.me.0.counts < 2 ^ 54 }
         ensures enough { LeavesAtMost self.now.terms seat.old.me.0 site (4 * result + 3) }
         ensures no_more { HasAll self.now.terms seat.old.me.0
             → LeavesAtLeast self.now.terms seat.old.me.0 site (4 * result) }
@@ -83,7 +83,7 @@ impl Words {
         ensures swept { SweptRows self.now.terms seat.old.me.0 counts.new.items result }
         ensures all { HasAll self.now.terms seat.old.me.0
             → SweptAll self.now.terms seat.old.me.0 counts.new.items result }
-        ensures few { sum counts.new.items < 2 ^ 54 }
+        ensures bound { sum counts.new.items < 2 ^ 54 }
     {
         self.tell_limits();
         let mut topplings = 0;
@@ -109,7 +109,7 @@ impl SharedPile {
         ensures of_pile { IsPassOf self.now pass.new }
         ensures pass { pass.new ≡ record pass.old { counts = pass.new.counts } }
         ensures swept { Swept self.now.terms pass.old pass.new.counts result }
-        ensures few { sum pass.new.counts < 2 ^ 54 }
+        ensures bound { sum pass.new.counts < 2 ^ 54 }
     {
         let bare = &mut pass.bare;
         let base = usize::from(bare.rows.first) * bare.shape.width();

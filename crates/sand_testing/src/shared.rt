@@ -20,7 +20,7 @@ pub fn shared_pile(
     quota: u64,
 ) -> Result<(SharedPile, Pass), Fail>
     ensures of_pile { IfOk result (λ r. IsPassOf r.0 r.1) }
-    ensures one_each { IfOk result (λ r. sites (grid_of_terms r.0.terms) ≡ length heights.now) }
+    ensures len { IfOk result (λ r. sites (grid_of_terms r.0.terms) ≡ length heights.now) }
 {
     let shape = Shape::new(width, height)?;
     let start = Pile::new(alloc, shape, heights)?;

@@ -82,7 +82,7 @@ separators : (n : ℕ) → is_space (if n == 0 then 10 else 32) ≡ true
 separators n = elim (n == 0) as (λ v. is_space (cond v 10 32) ≡ true) [ true ↦ refl | false ↦ refl ]
 
 module _ (spared : List ℕ) where
-  -- at any place and after any count of numbers, a text has only these numbers
+  -- at any offset and after any count of numbers, a text has only these numbers
   abbrev SayOnly : List ℕ → List ℕ → Type 0
   SayOnly bs ns = (at n : ℕ) → Say spared n Open (tokens_at at bs) ns
 
@@ -132,7 +132,7 @@ text_again p h =
     rw cut (Say-number (2 ∷ []) 0 p.grid.edge 0 w 32 rest (p.grid.height ∷ p.heights)
     (omega (arith, h.grid.width_limit)) refl
     (tail_again p.grid.edge (0 + length (decimal w) + 1) p.grid.height w p.heights
-    (omega (arith, h.grid.height_limit)) (heights_small p h) (h.one_each ∙ mul_comm w p.grid.height)))
+    (omega (arith, h.grid.height_limit)) (heights_small p h) (h.len ∙ mul_comm w p.grid.height)))
 
 wide_enough : (e : Edge) (w : ℕ) → (joins e ≡ true → 3 ≤ w) → (joins e && ltb w 3) ≡ false
 wide_enough Open w h = refl
@@ -150,8 +150,8 @@ pub again : (p : PileView) → IsPile p → pile_of (text_of p) ≡ Ok p
 unfolding pile_of front_of
 again p h =
     let say = text_again p h in
-    let test : eqb (length p.heights) (sites p.grid) ≡ true = eq-eqb _ _ h.one_each in
+    let test : eqb (length p.heights) (sites p.grid) ≡ true = eq-eqb _ _ h.len in
     let all : take (sites p.grid) p.heights ≡ p.heights =
-    take_all (sites p.grid) p.heights (omega (arith, h.one_each)) in
+    take_all (sites p.grid) p.heights (omega (arith, h.len)) in
     let few : ltb most_grains (sum p.heights) ≡ false = not_large (sum p.heights) h.limit in
     rw (say.strange, say.large, say.edge, say.values, grid_again p.grid h.grid, test, all, few) refl

@@ -18,7 +18,7 @@ abbrev large_on : ℕ → List (List ℕ) → Bool
 large_on v [] = false
 large_on v (run ∷ more) = nat_lt most_grains (digits_value_after 10 v run) || list_any over more
 
--- the same from a place on
+-- the same from an offset on
 abbrev pub large_from : ℕ → ℕ → List ℕ → Bool
 large_from v k text = large_on v (slice_split is_other (drop k text))
 

@@ -147,7 +147,7 @@ greatest_line = IsLines-one (51 ∷ []) (All-cons IsPlain 51 [] refl (All-nil Is
 
 heights_low : (p : PileView) → IsPile p → IsStable p.grid (height_of p) → AreLow p.heights
 heights_low p pile stable = λ k d lt.
-    rw (get_or_default p.heights k d 0 lt) (stable.low k (omega (arith, pile.one_each)))
+    rw (get_or_default p.heights k d 0 lt) (stable.low k (omega (arith, pile.len)))
 
 picture_lines : (p : PileView) → IsPile p → IsStable p.grid (height_of p) → IsLines (pgm_text_of p)
 picture_lines p pile stable =

@@ -137,9 +137,9 @@ fits s g is =
 
 -- ---- the heights
 
-some_heights : (last : Bool) (count wanted : ℕ) → is_count last count wanted ≡ true → wanted ≤ count
-some_heights true count wanted e = grind (arith, nat_tests)
-some_heights false count wanted e = grind (arith, nat_tests)
+some_heights : (last : Bool) (count expected : ℕ) → is_count last count expected ≡ true → expected ≤ count
+some_heights true count expected e = grind (arith, nat_tests)
+some_heights false count expected e = grind (arith, nat_tests)
 
 module _ (last : Bool) (end : ℕ) (ws rest : List Token) (s : Survey) (h : IsSurvey ws rest s) (ends : IsEnd last rest s)
     (g : Grid) (le : 2 ≤ s.count) (is : Ok g ≡ grid_with_edge s.width s.height s.edge) where

@@ -44,7 +44,7 @@ kind at w = elim (cases_Bool (eqb (digits_len w) (length w))) [
 
 -- ---- the first strange byte
 
--- the claim for a text that starts at a place
+-- the claim for a text that starts at an offset
 abbrev Claim : ℕ → List ℕ → Option ℕ → Type 0
 Claim at bs found = MatchOption found (OnlyLetters bs (length bs))
     (λ p. (j : ℕ) × (p ≡ at + j) × (j < length bs) × (is_strange (get_or bs j 0) ≡ true) × OnlyLetters bs j)

@@ -78,9 +78,9 @@ pub barred : (over : Bool) (ws rest : List Token) (s : Survey) (token : Token) (
     → IsSurvey ws (token ∷ rest) s → (over ≡ true → s.edge ≡ Open) → barred_at over token ≡ Some at
     → IsFirstStrange (if over then [] else 2 ∷ []) ws (Text at)
 unfolding first_strange
-barred true ws rest s (Letter place) at h is_open is = (at, refl, sym (h.letters.bare (is_open refl)) ∙ is)
-barred true ws rest s (Number place value) at h is_open is = absurd (cc)
-barred true ws rest s (Strange place) at h is_open is = absurd (cc)
+barred true ws rest s (Letter offset) at h is_open is = (at, refl, sym (h.letters.bare (is_open refl)) ∙ is)
+barred true ws rest s (Number offset value) at h is_open is = absurd (cc)
+barred true ws rest s (Strange offset) at h is_open is = absurd (cc)
 barred false ws rest s token at h is_open is = absurd (cc)
 
 pub strange_in_second : (over : Bool) (ws : List Token) (s : Survey) (e : TextFault)

@@ -8,8 +8,8 @@ use Rattle.sand_text.specs.declared.fault.StreamFault.{StreamFault}
 use Rattle.sand_text.specs.declared.fault.StreamFault.TheVariants as stream
 
 abbrev pub text_fault_number : TextFault → ℕ
-text_fault_number (text.Text place) = 18
-text_fault_number (text.TooLarge place) = 19
+text_fault_number (text.Text offset) = 18
+text_fault_number (text.TooLarge offset) = 19
 text_fault_number text.Side = 1
 text_fault_number text.Narrow = 24
 text_fault_number text.Length = 2

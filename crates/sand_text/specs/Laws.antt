@@ -12,7 +12,7 @@ use Rattle.sand_text.specs.Reading.{pile_of}
 abbrev pub is_strange : ℕ → Bool
 is_strange b = is_other b && not (is_space b)
 
--- before this place, all strange bytes are letters `c`
+-- before this offset, all strange bytes are letters `c`
 abbrev pub OnlyLetters : List ℕ → ℕ → Type 0
 OnlyLetters text end = (k : ℕ) → k < end → is_strange (slice_index text k) ≡ true → slice_index text k ≡ 99
 

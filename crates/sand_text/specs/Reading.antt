@@ -18,7 +18,7 @@ abbrev pub ◌>>=◌ : {A B : Type 0} → Result A TextFault → (A → Result B
 (Ok x) >>= f = f x
 (Err e) >>= f = Err e
 
--- the fault at this place, if there is one, before any other
+-- the fault at this offset, if there is one, before any other
 abbrev pub unless_at : {A : Type 0} → Option ℕ → (ℕ → TextFault) → Result A TextFault → Result A TextFault
 unless_at None fault read = read
 unless_at (Some at) fault read = Err (fault at)
@@ -33,9 +33,9 @@ abbrev pub of_shape : ShapeFault → TextFault
 of_shape shape_faults.Side = Side
 of_shape shape_faults.Narrow = Narrow
 
--- the number of heights is right: `wanted`, or more if the pile is not the last in its text
+-- the number of heights is right: `expected`, or more if the pile is not the last in its text
 abbrev pub is_count : Bool → ℕ → ℕ → Bool
-is_count last count wanted = if last then count == wanted else nat_le wanted count
+is_count last count expected = if last then count == expected else nat_le expected count
 
 -- the pile on this grid whose heights are the first numbers, and the numbers after them
 abbrev pub filled : Bool → Result Grid ShapeFault → List ℕ → Result (PileView × List ℕ) TextFault

@@ -30,12 +30,12 @@ sites_of s = min (s.width * s.height) (2 ^ 64 - 1)
 
 -- the sum of the heights, including the number at this index after the sides
 abbrev pub grains_with : Survey → ℕ → ℕ → ℕ
-grains_with s place value = if nat_lt place (sites_of s) then capped (s.grains + value) else s.grains
+grains_with s index value = if nat_lt index (sites_of s) then capped (s.grains + value) else s.grains
 
 -- the index of this number among the drops, if it is a drop outside the grid
 abbrev pub if_no_site : Survey → ℕ → ℕ → Option ℕ
-if_no_site s place value =
-    if nat_lt place (sites_of s) then None else (if nat_le (sites_of s) value then Some (place - sites_of s) else None)
+if_no_site s index value =
+    if nat_lt index (sites_of s) then None else (if nat_le (sites_of s) value then Some (index - sites_of s) else None)
 
 -- the numbers after the sides, among the first `count`
 abbrev pub noted : ℕ → List Token → List ℕ
@@ -115,7 +115,7 @@ pub record IsFront (ws rest : List Token) (s : Survey) : Type 0 where
   pub end : IsEnd false rest s
   pub within : IsWithinPile s
 
--- the place of a letter that only the first pile may have
+-- the offset of a letter that only the first pile may have
 abbrev pub barred_at : Bool → Token → Option ℕ
 barred_at true (Letter at) = Some at
 barred_at over _ = None

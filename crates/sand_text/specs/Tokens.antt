@@ -11,19 +11,19 @@ use Rattle.sand_text.specs.declared.tokens.Token.TheVariants.{Number, Letter, St
 use Rattle.sand_text.specs.Bytes.{is_space, digits_len, is_letter, capped}
 use Rattle.sand_model.specs.Piles.{most_grains}
 
--- the token at this place: a number, the letter `c`, or neither, with the place of its first byte that is not a digit
+-- the token at this offset: a number, the letter `c`, or neither, with the offset of its first byte that is not a digit
 unfoldable pub token_of : ℕ → List ℕ → Token
 token_of at token = if digits_len token == length token
     then Number at (capped (digits_value 10 token))
     else (if is_letter token then Letter at else Strange (at + digits_len token))
 
--- the tokens among parts separated by white space, the first part starting at this place
+-- the tokens among parts separated by white space, the first part starting at this offset
 unfoldable pub tokens_from : ℕ → List (List ℕ) → List Token
 tokens_from at [] = []
 tokens_from at (part ∷ more) =
     if length part == 0 then tokens_from (at + 1) more else (token_of at part ∷ tokens_from (at + length part + 1) more)
 
--- the tokens of a text that starts at this place
+-- the tokens of a text that starts at this offset
 abbrev pub tokens_at : ℕ → List ℕ → List Token
 tokens_at at text = tokens_from at (slice_split is_space text)
 
@@ -38,7 +38,7 @@ first_strange spared n (Letter at ∷ more) =
     if list_any (λ k. k == n) spared then first_strange (filter (λ k. not (k == n)) spared) n more else Some at
 first_strange spared n (Strange at ∷ more) = Some at
 
--- the place of the first number over the limit
+-- the offset of the first number over the limit
 unfoldable pub first_large : List Token → Option ℕ
 first_large [] = None
 first_large (Number at value ∷ more) = if nat_lt most_grains value then Some at else first_large more

@@ -89,7 +89,7 @@ impl Blocks {
     pub fn push<W: Write>(&mut self, writer: &mut W, part: &[u8]) -> Result<(), StreamFault>
         requires { length part.now ≤ 5376 }
         ensures ok { OnOk result (GrowsBy (W.contents writer.old) (W.contents writer.new) self.old self.new part.now) }
-        ensures few { OnOk result (length self.new.bytes < 70912) }
+        ensures bound { OnOk result (length self.new.bytes < 70912) }
         ensures err { IfErr result (BreaksIn (W.contents writer.old) (W.contents writer.new) self.old part.now) }
     {
         self.make_room(writer)?;
@@ -104,7 +104,7 @@ impl Blocks {
         requires { length numbers.now ≤ 256 }
         ensures ok { OnOk result (GrowsBy (W.contents writer.old)
             (W.contents writer.new) self.old self.new (row_text numbers.now)) }
-        ensures few { OnOk result (length self.new.bytes < 70912) }
+        ensures bound { OnOk result (length self.new.bytes < 70912) }
         ensures err { IfErr result
             (BreaksIn (W.contents writer.old) (W.contents writer.new) self.old (row_text numbers.now)) }
     {
@@ -124,7 +124,7 @@ impl Blocks {
     ) -> Result<(), StreamFault>
         ensures ok { OnOk result (GrowsBy (W.contents writer.old) (W.contents writer.new)
             self.old self.new (entry_text (number, avalanche))) }
-        ensures few { OnOk result (length self.new.bytes < 70912) }
+        ensures bound { OnOk result (length self.new.bytes < 70912) }
         ensures err { IfErr result
             (BreaksIn (W.contents writer.old) (W.contents writer.new) self.old (entry_text (number, avalanche))) }
     {

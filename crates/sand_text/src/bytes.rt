@@ -37,7 +37,7 @@ fn is_space(byte: u8) -> bool
 
 // The value after one more digit.
 fn grown(value: u64, digit: u8) -> u64
-    requires small { value ≤ most_grains + 1 }
+    requires bound { value ≤ most_grains + 1 }
     requires digit { is_digit digit ≡ true }
     ensures { result ≡ capped (value * 10 + digit_value digit) }
 {

@@ -17,7 +17,7 @@ fn shape_of(text: &[u8]) -> Result<(Shape, u64, usize), TextFault>
     ensures drops { IfOk result (λ (g, _, _).
         drops_of text.now ≡ Ok (record { grid = g; heights = heights_on g text.now }, behind_heights g text.now)) }
     ensures enough { IfOk result (λ (g, _, _). 2 + sites g ≤ length (numbers (tokens text.now))) }
-    ensures one_each { IfOk result (λ (g, _, _). length (heights_on g text.now) ≡ sites g) }
+    ensures len { IfOk result (λ (g, _, _). length (heights_on g text.now) ≡ sites g) }
     ensures grains { IfOk result (λ (g, grains, _). (grains ≡ sum (heights_on g text.now)) × (grains ≤ most_grains)) }
     ensures count { IfOk result (λ (g, _, count). length (behind_heights g text.now) ≡ count) }
     ensures err { IfErr result (λ e. drops_of text.now ≡ Err e) }

@@ -20,7 +20,7 @@ fn shape_of(text: &[u8]) -> Result<(Shape, u64), TextFault>
     ensures pile { IfOk result
         (λ (g, _). pile_of text.now ≡ Ok (record { grid = g; heights = heights_on g text.now })) }
     ensures enough { IfOk result (λ (g, _). 2 + sites g ≤ length (numbers (tokens text.now))) }
-    ensures one_each { IfOk result (λ (g, _). length (heights_on g text.now) ≡ sites g) }
+    ensures len { IfOk result (λ (g, _). length (heights_on g text.now) ≡ sites g) }
     ensures grains { IfOk result (λ (g, grains). (grains ≡ sum (heights_on g text.now)) × (grains ≤ most_grains)) }
     ensures err { IfErr result (λ e. pile_of text.now ≡ Err e) }
 {

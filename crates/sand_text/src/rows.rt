@@ -14,19 +14,19 @@ pub(crate) fn push_number(text: &mut Vec<u8>, number: u64) -> Result<(), AllocEr
 
     // It succeeds if there is room for a number.
     ensures room { vec_len text.old + 20 ≤ vec_capacity text.old → IsOk result }
-    ensures few { vec_len text.new ≤ vec_len text.old + 20 }
+    ensures bound { vec_len text.new ≤ vec_len text.old + 20 }
     ensures capacity { vec_capacity text.old ≤ vec_capacity text.new }
 {
     let mut buffer = Buffer::new();
     text.extend_from_slice(buffer.format(number).as_bytes())
 }
 
-// The byte after number `place` of a row of `count` numbers.
-fn separator(place: usize, count: usize) -> u8
-    requires { place < count }
-    ensures { result ≡ (if place + 1 == count then 10 else 32) }
+// The byte after number `index` of a row of `count` numbers.
+fn separator(index: usize, count: usize) -> u8
+    requires { index < count }
+    ensures { result ≡ (if index + 1 == count then 10 else 32) }
 {
-    if place + 1 == count { b'\n' } else { b' ' }
+    if index + 1 == count { b'\n' } else { b' ' }
 }
 
 /// Writes a line of numbers, separated by spaces.
@@ -35,12 +35,12 @@ pub(crate) fn push_row(text: &mut Vec<u8>, numbers: &[u64]) -> Result<(), AllocE
 
     // It succeeds if there is room for all numbers and a byte after each.
     ensures room { vec_len text.old + 21 * length numbers.now ≤ vec_capacity text.old → IsOk result }
-    ensures few { vec_len text.new ≤ vec_len text.old + 21 * length numbers.now }
+    ensures bound { vec_len text.new ≤ vec_len text.old + 21 * length numbers.now }
     ensures capacity { vec_capacity text.old ≤ vec_capacity text.new }
 {
-    for (place, number) in numbers.iter().enumerate() {
+    for (index, number) in numbers.iter().enumerate() {
         push_number(text, *number)?;
-        text.push(separator(place, numbers.len()))?;
+        text.push(separator(index, numbers.len()))?;
     }
     Ok(())
 }

@@ -26,20 +26,20 @@ pub(crate) struct Survey {
     pub edge: Edge,
     /// The sum of the heights, or one over the grain limit if it is larger.
     pub grains: u64,
-    /// The place of the first number over the limit.
+    /// The offset of the first number over the limit.
     pub large: Option<usize>,
     /// The index of the first drop outside the grid, among the drops.
     pub no_site: Option<usize>,
 }
 
-// Whether the number of heights is right: `wanted`, or more if the pile is not the last in its text.
-fn is_count(last: bool, count: usize, wanted: usize) -> bool
-    ensures { result ≡ is_count last count wanted }
+// Whether the number of heights is right: `expected`, or more if the pile is not the last in its text.
+fn is_count(last: bool, count: usize, expected: usize) -> bool
+    ensures { result ≡ is_count last count expected }
 {
     if last {
-        count == wanted
+        count == expected
     } else {
-        wanted <= count
+        expected <= count
     }
 }
 
@@ -65,18 +65,18 @@ impl Survey {
         self.width.saturating_mul(self.height) as usize
     }
 
-    // Takes the number at index `place` after the sides: a height, or the site of a drop.
-    fn note_behind(&mut self, place: usize, value: u64)
+    // Takes number `index` after the sides: a height, or the site of a drop.
+    fn note_behind(&mut self, index: usize, value: u64)
         ensures { self.new ≡ record self.old {
-          grains = grains_with self.old place value;
-          no_site = option_or self.old.no_site (if_no_site self.old place value);
+          grains = grains_with self.old index value;
+          no_site = option_or self.old.no_site (if_no_site self.old index value);
         } }
     {
         let sites = self.sites();
-        if place < sites {
+        if index < sites {
             self.grains = self.grains.saturating_add(value).min(GRAIN_LIMIT + 1);
         } else if value as usize >= sites && self.no_site.is_none() {
-            self.no_site = Some(place - sites);
+            self.no_site = Some(index - sites);
         }
     }
 

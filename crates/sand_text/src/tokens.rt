@@ -8,18 +8,18 @@ ghost use Rattle.sand_text.specs.Tokens.{token_of};
 
 use crate::bytes::{Span, space_len, span_of};
 
-/// A token of a text, with its place.
+/// A token of a text, with its offset.
 #[derive(Clone, Copy)]
 pub(crate) enum Token {
     /// Digits only. A value over the grain limit counts as one over it.
     Number { start: usize, value: u64 },
     /// A single letter `c`.
     Letter(usize),
-    /// Anything else, with the place of its first byte that is not a digit.
+    /// Anything else, with the offset of its first byte that is not a digit.
     Strange(usize),
 }
 
-/// The tokens of a text from a place on that is not inside a token.
+/// The tokens of a text from an offset on that is not inside a token.
 #[derive(Clone, Copy)]
 pub(crate) struct Tokens<'a> {
     at: usize,
@@ -27,7 +27,7 @@ pub(crate) struct Tokens<'a> {
     ghost room: { at + length rest.now < 2 ^ 63 },
 }
 
-// The token at a place, by its span.
+// The token at an offset, by its span.
 #[tactic(auto, unfolding(crate::specs::Tokens::token_of))]
 fn token_at(start: usize, token: &[u8], span: Span) -> Token
     requires len { span.len ≡ length token.now }

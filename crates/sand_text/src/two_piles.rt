@@ -38,7 +38,7 @@ fn first_survey(tokens: &mut Tokens<'_>) -> Result<Survey, TextFault>
     Ok(survey)
 }
 
-// The place of a letter that the second pile may not have, because the text has a number over the limit.
+// The offset of a letter that the second pile may not have, because the text has a number over the limit.
 fn barred_at(token: Token, text: &[u8]) -> Option<usize>
     ensures { result ≡ barred_at (has_large text.now) token }
 {
@@ -89,7 +89,7 @@ fn shapes_of(text: &[u8]) -> Result<((Shape, u64), (Shape, u64)), TextFault>
     )) }
     ensures enough { IfOk result (λ ((g, _), (h, _)).
         (2 + sites g ≤ length (numbers (tokens text.now))) × (2 + sites h ≤ length (behind_heights g text.now))) }
-    ensures one_each { IfOk result (λ ((g, _), (h, _)).
+    ensures len { IfOk result (λ ((g, _), (h, _)).
         (length (heights_on g text.now) ≡ sites g) × (length (heights_behind g h text.now) ≡ sites h)) }
     ensures grains { IfOk result
         (λ ((g, n), (h, m)). (n ≡ sum (heights_on g text.now)) × (m ≡ sum (heights_behind g h text.now))) }

@@ -15,7 +15,7 @@ counted c p = slice_index c.spilled p + times c.planes p
 
 -- the planes have room for one more set
 pub record IsCount (c : Count) : Type 0 where
-  pub few : c.sets ≤ 1022
+  pub bound : c.sets ≤ 1022
   pub each : (p : ℕ) → p < 64 → times c.planes p ≤ c.sets
 
 -- the count of a tile that is not in a list

@@ -124,7 +124,7 @@ fn number_at(planes: &Planes, place: usize) -> u64
 #[cold]
 #[inline(never)]
 fn spill(count: &mut Count)
-    requires few { (p : ℕ) → p < 64 → counted count.old p < 2 ^ 63 }
+    requires bound { (p : ℕ) → p < 64 → counted count.old p < 2 ^ 63 }
     ensures kept { (p : ℕ) → p < 64 → counted count.new p ≡ counted count.old p }
     ensures empty { (count.new.sets ≡ 0) × ((p : ℕ) → times count.new.planes p ≡ 0) }
 {
@@ -151,7 +151,7 @@ pub fn no_count() -> Count
 #[inline(always)]
 pub fn count_set(count: &mut Count, set: u64)
     requires sound { IsCount count.old }
-    requires few { (p : ℕ) → p < 64 → counted count.old p < 2 ^ 62 }
+    requires bound { (p : ℕ) → p < 64 → counted count.old p < 2 ^ 62 }
     ensures sound { IsCount count.new }
     ensures each { (p : ℕ) → p < 64 → counted count.new p ≡ counted count.old p + bit set p }
 {
@@ -165,7 +165,7 @@ pub fn count_set(count: &mut Count, set: u64)
 /// How often a place has toppled.
 pub fn times_at(count: &Count, place: usize) -> u64
     requires place { place < 64 }
-    requires few { counted count.now place < 2 ^ 63 }
+    requires bound { counted count.now place < 2 ^ 63 }
     ensures { result ≡ counted count.now place }
 {
     count.spilled[place] + number_at(&count.planes, place)

@@ -8,6 +8,6 @@ returns-clause-added c = record {
   meant = search rules;
   first_recurrent = search rules;
   second_recurrent = search rules;
-  one_each = search rules;
+  len = search rules;
   sum = c.in_ok-sum.ensures.sum;
 }

@@ -16,7 +16,7 @@ returns-clause-burned c =
       meant = search rules;
       stable = burnt pile.grid (height_of pile) c.burn-burned.result burned c.in_ok-burned.was
           c.burn-burned.ensures.unstable;
-      few = fits pile.grid (height_of pile) burned c.in_ok-burned.ensures.burned;
+      bound = fits pile.grid (height_of pile) burned c.in_ok-burned.ensures.burned;
       found = subst (IsFound pile.grid (height_of pile) (burns_out burned))
           (sym (take_all (length xs) xs (omega arith)))
           (found pile.grid (height_of pile) burned c.in_ok-burned.ensures.burned);

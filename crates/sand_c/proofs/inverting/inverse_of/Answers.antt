@@ -6,6 +6,6 @@ returns-clause-inverted c = record {
   pile = c.in_ok-pile.pile;
   meant = c.in_ok-pile.ensures.meant;
   recurrent = c.in_ok-pile.ensures.recurrent;
-  one_each = search rules;
+  len = search rules;
   inverse = c.in_ok-negative.ensures.inverse;
 }

@@ -4,19 +4,19 @@ use Rattle.sand_certify.proofs.certificate.inflow.Goals as goal
 
 pub value-up-requires : goal.value-up-requires
 value-up-requires c =
-    place_inside c.args.lattice.now c.args.site _ 0 _ c.neighbours.ensures.places c.requires.site c.requires.one_each
+    place_inside c.args.lattice.now c.args.site _ 0 _ c.neighbours.ensures.places c.requires.site c.requires.len
 
 pub value-left-requires : goal.value-left-requires
 value-left-requires c =
-    place_inside c.args.lattice.now c.args.site _ 1 _ c.neighbours.ensures.places c.requires.site c.requires.one_each
+    place_inside c.args.lattice.now c.args.site _ 1 _ c.neighbours.ensures.places c.requires.site c.requires.len
 
 pub value-right-requires : goal.value-right-requires
 value-right-requires c =
-    place_inside c.args.lattice.now c.args.site _ 2 _ c.neighbours.ensures.places c.requires.site c.requires.one_each
+    place_inside c.args.lattice.now c.args.site _ 2 _ c.neighbours.ensures.places c.requires.site c.requires.len
 
 pub value-down-requires : goal.value-down-requires
 value-down-requires c =
-    place_inside c.args.lattice.now c.args.site _ 3 _ c.neighbours.ensures.places c.requires.site c.requires.one_each
+    place_inside c.args.lattice.now c.args.site _ 3 _ c.neighbours.ensures.places c.requires.site c.requires.len
 
 pub returns-clause-value : goal.returns-clause-value
 returns-clause-value c =

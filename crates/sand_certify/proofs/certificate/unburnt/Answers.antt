@@ -5,19 +5,19 @@ use Rattle.sand_certify.proofs.certificate.unburnt.Goals as goal
 
 pub is_no_earlier-up-requires : goal.is_no_earlier-up-requires
 is_no_earlier-up-requires c =
-    place_inside c.args.lattice.now c.args.site _ 0 _ c.neighbours.ensures.places c.requires.site c.requires.one_each
+    place_inside c.args.lattice.now c.args.site _ 0 _ c.neighbours.ensures.places c.requires.site c.requires.len
 
 pub is_no_earlier-left-requires : goal.is_no_earlier-left-requires
 is_no_earlier-left-requires c =
-    place_inside c.args.lattice.now c.args.site _ 1 _ c.neighbours.ensures.places c.requires.site c.requires.one_each
+    place_inside c.args.lattice.now c.args.site _ 1 _ c.neighbours.ensures.places c.requires.site c.requires.len
 
 pub is_no_earlier-right-requires : goal.is_no_earlier-right-requires
 is_no_earlier-right-requires c =
-    place_inside c.args.lattice.now c.args.site _ 2 _ c.neighbours.ensures.places c.requires.site c.requires.one_each
+    place_inside c.args.lattice.now c.args.site _ 2 _ c.neighbours.ensures.places c.requires.site c.requires.len
 
 pub is_no_earlier-down-requires : goal.is_no_earlier-down-requires
 is_no_earlier-down-requires c =
-    place_inside c.args.lattice.now c.args.site _ 3 _ c.neighbours.ensures.places c.requires.site c.requires.one_each
+    place_inside c.args.lattice.now c.args.site _ 3 _ c.neighbours.ensures.places c.requires.site c.requires.len
 
 pub returns : goal.returns
 returns c =

@@ -6,8 +6,8 @@ use Rattle.sand_model.specs.Sand.{IsToppled}
 use Rattle.sand_certify.specs.Emptying.{IsLow}
 use Rattle.sand_certify.proofs.emptying.emptied.Goals as goal
 
-pub heights_emptied-requires-clause-one_each : goal.heights_emptied-requires-clause-one_each
-heights_emptied-requires-clause-one_each c =
+pub heights_emptied-requires-clause-len : goal.heights_emptied-requires-clause-len
+heights_emptied-requires-clause-len c =
     c.if-counts-sites.false ∙ c.sites.ensures.value ∙ ap sites (sym c.in_ok-lattice.ensures)
 
 pub returns-clause-exactly : goal.returns-clause-exactly
@@ -17,16 +17,16 @@ returns-clause-exactly c =
     IfOk-weaker c.heights_emptied.result _ _ (λ o both. (
       (λ some. record {
         counts_each = c.if-counts-sites.false ∙ c.sites.ensures.value;
-        few = c.if-not-are_few.ensures.0 refl;
+        bound = c.if-not-are_few.ensures.0 refl;
         low = subst low is (both.0 some);
       }),
       (λ emptying. both.1 (subst low (sym is) emptying.low)),
     )) c.heights_emptied.ensures.exactly
 
-pub returns-clause-one_each : goal.returns-clause-one_each
-returns-clause-one_each c =
+pub returns-clause-len : goal.returns-clause-len
+returns-clause-len c =
     subst (λ (g : Grid). IfOk c.heights_emptied.result (λ o. IfSome o (λ heights. length heights.items ≡ sites g)))
-    c.in_ok-lattice.ensures c.heights_emptied.ensures.one_each
+    c.in_ok-lattice.ensures c.heights_emptied.ensures.len
 
 pub returns-clause-low : goal.returns-clause-low
 returns-clause-low c = c.heights_emptied.ensures.low

@@ -12,7 +12,7 @@ returns-clause-text c =
       answer = record {
         pile = c.in_ok-neutral.neutral;
         grid = settled.grid;
-        one_each = settled.one_each;
+        len = settled.len;
         wanted = c.in_ok-neutral.ensures.identity;
         written = rw c.pile.ensures.value at written;
       };

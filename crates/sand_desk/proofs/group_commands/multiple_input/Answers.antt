@@ -15,7 +15,7 @@ returns-clause-text c =
       answer = record {
         pile = c.in_ok-sum.sum;
         grid = c.in_ok-sum.ensures.grid ∙ ap (λ (p : PileView). p.grid) made;
-        one_each = c.in_ok-sum.ensures.one_each ∙ ap (λ (p : PileView). sites p.grid) made;
+        len = c.in_ok-sum.ensures.len ∙ ap (λ (p : PileView). sites p.grid) made;
         wanted = rw made at c.in_ok-sum.ensures.multiple;
         written = rw c.pile-2.ensures.value at written;
       };

@@ -44,8 +44,8 @@ returns-clause-text c =
       answer = record {
         pile = c.in_ok-sum.sum;
         grid = c.in_ok-sum.ensures.settled.grid ∙ ap grid c.in_ok-first-2.ensures.made;
-        one_each =
-            c.in_ok-sum.ensures.settled.one_each ∙ ap (λ (p : PileView). sites p.grid) c.in_ok-first-2.ensures.made;
+        len =
+            c.in_ok-sum.ensures.settled.len ∙ ap (λ (p : PileView). sites p.grid) c.in_ok-first-2.ensures.made;
         wanted = rw (c.in_ok-first-2.ensures.made, c.in_ok-second.ensures.made) at c.in_ok-sum.ensures.sum;
         written = rw c.pile.ensures.value at written;
       };

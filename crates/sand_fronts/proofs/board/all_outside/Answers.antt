@@ -7,7 +7,7 @@ pub tiles_of-requires : goal.tiles_of-requires
 tiles_of-requires c = record {
   sites = record {
     may = λ s below left. search rules;
-    few = λ s n below left says. few_missing c.args.shape (s.row * c.args.shape.width + s.column) n (search rules);
+    bound = λ s n below left says. few_missing c.args.shape (s.row * c.args.shape.width + s.column) n (search rules);
   };
 }
 

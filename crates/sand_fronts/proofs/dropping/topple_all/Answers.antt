@@ -21,9 +21,9 @@ pub topple_wave-requires-clause-rest : goal.topple_wave-requires-clause-rest
 topple_wave-requires-clause-rest c =
     at_rest c.waves.invariant.passed c.waves-test.true
 
-pub count_wave-wave-requires-clause-few : goal.count_wave-wave-requires-clause-few
-count_wave-wave-requires-clause-few c m p low =
-    let few = few_counted m p c.requires.board.beside.sides c.waves.invariant.passed low (c.requires.few m p low) in
+pub count_wave-wave-requires-clause-bound : goal.count_wave-wave-requires-clause-bound
+count_wave-wave-requires-clause-bound c m p low =
+    let few = few_counted m p c.requires.board.beside.sides c.waves.invariant.passed low (c.requires.bound m p low) in
     let one = bit_le (tiles_of c.topple_wave.new.self m).wave p in
     omega arith
 
@@ -41,7 +41,7 @@ pub overflow_add-total : goal.overflow_add-total
 overflow_add-total c =
     let few = few_before (goal.at.overflow_add-total c).After-count_wave-wave in
     let wave = few_in_sets (tiles c.args.board.now.shape) (λ k. (tiles_of c.topple_wave.new.self k).wave) in
-    omega (arith, c.waves.invariant.size, c.count_wave-wave.ensures.size, c.requires.board.beside.small)
+    omega (arith, c.waves.invariant.size, c.count_wave-wave.ensures.size, c.requires.board.beside.fits)
 
 pub overflow_add-total-in-waves : goal.overflow_add-total-in-waves
 overflow_add-total-in-waves c =
@@ -50,7 +50,7 @@ overflow_add-total-in-waves c =
     (grown c.args.board.now.shape c.args.counts.now c.waves.counts) in
     let wave = few_over_wave (tiles c.args.board.now.shape) (tile_at c.args.board.now.outside.items)
     (tiles_of c.topple_wave.new.self) in
-    omega (arith, c.waves.invariant.lost, c.count_wave-wave.ensures.lost, c.requires.board.beside.small)
+    omega (arith, c.waves.invariant.lost, c.count_wave-wave.ensures.lost, c.requires.board.beside.fits)
 
 pub waves-init : goal.waves-init
 waves-init c =
@@ -100,7 +100,7 @@ next c size =
     (counts_of c.args.counts.now) (counts_of c.waves.counts)) c.waves-test.true c.waves.invariant.passed in
     let tile = tile_read c.count_wave-wave.new.sand.tiles.items c.args.drop.tile c.index.result.now
     (let i = tile_inside g site c.requires.drop.inside in
-    omega (arith, c.requires.drop.tile, c.count_wave-wave.ensures.counted.tiles_each, c.topple_wave.ensures.sand.one_each))
+    omega (arith, c.requires.drop.tile, c.count_wave-wave.ensures.counted.tiles_each, c.topple_wave.ensures.sand.len))
     c.index.ensures in
     let read : c.height_at.result ≡ heights_on g after site =
     c.height_at.ensures ∙ ap (λ (t : Tile). height t c.args.drop.place) tile
@@ -130,13 +130,13 @@ waves-preserved c =
     c.count_wave-wave.ensures.clear j) in
     record {
       sand = record {
-        one_each = counted.tiles_each ∙ c.topple_wave.ensures.sand.one_each;
+        len = counted.tiles_each ∙ c.topple_wave.ensures.sand.len;
         room =
             let r = ap (λ (l : ListView). l.room) c.count_wave-wave.ensures.list in
             omega (arith, c.topple_wave.ensures.sand.room);
       };
       counts = record {
-        one_each = counted.counts_each ∙ c.waves.invariant.counts.one_each;
+        len = counted.counts_each ∙ c.waves.invariant.counts.len;
         marks_each = counted.marks_each ∙ c.waves.invariant.counts.marks_each;
         sound = counted.sound c.waves.invariant.counts.sound;
       };

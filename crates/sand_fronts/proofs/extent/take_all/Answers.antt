@@ -18,12 +18,12 @@ tiles-init c = record {
   so_far = omega arith;
 }
 
-pub add_set-extent-requires-clause-small : goal.add_set-extent-requires-clause-small
-add_set-extent-requires-clause-small c =
+pub add_set-extent-requires-clause-fits : goal.add_set-extent-requires-clause-fits
+add_set-extent-requires-clause-fits c =
     let few = few_in_sets (length c.args.marks.now.sets) (slice_index c.args.marks.now.sets) in (
-      c.spot-from.ensures.small.0,
-      c.spot-from.ensures.small.1,
-      omega (arith, c.tiles.invariant.so_far, c.requires.small),
+      c.spot-from.ensures.fits.0,
+      c.spot-from.ensures.fits.1,
+      omega (arith, c.tiles.invariant.so_far, c.requires.fits),
     )
 
 pub tiles-preserved : goal.tiles-preserved
@@ -34,7 +34,7 @@ tiles-preserved c =
     (slice_index c.take_last-k.new.self.sets) k step.each (omega (arith, step.tile, c.tiles.invariant.marks_each)) in
     let set = ap (λ w. sum_below 64 (bit w)) step.set in
     record {
-      marks_each = step.one_each ∙ c.tiles.invariant.marks_each;
+      marks_each = step.len ∙ c.tiles.invariant.marks_each;
       read = sets_more (slice_index c.take_last-k.new.self.sets) k c.tiles.invariant.read
           (subst (λ (s : Spot). IsReachedFrom c.args.shape s (corner_of c.args.shape k)
           c.take_last-k.result.1 c.tiles.extent.reach c.add_set-extent.result.reach)

@@ -7,10 +7,10 @@ numbers-requires g c =
     let inside = spot_in c.args.shape c.args.k c.args.place c.in-Some.spot (sym c.site_at.ensures ∙ c.in-Some.is) in
     c.requires.sites.may c.in-Some.spot inside.0 inside.1
 
-pub returns-in-Some-clause-few : goal.returns-in-Some-clause-few
-returns-in-Some-clause-few g c =
+pub returns-in-Some-clause-bound : goal.returns-in-Some-clause-bound
+returns-in-Some-clause-bound g c =
     let inside = spot_in c.args.shape c.args.k c.args.place c.in-Some.spot (sym c.site_at.ensures ∙ c.in-Some.is) in
-    c.requires.sites.few c.in-Some.spot c.numbers.result inside.0 inside.1 c.numbers.ensures
+    c.requires.sites.bound c.in-Some.spot c.numbers.result inside.0 inside.1 c.numbers.ensures
 
 pub returns-in-Some-clause-each : goal.returns-in-Some-clause-each
 returns-in-Some-clause-each g c = site_number c.args.shape c.args.k c.args.place c.in-Some.spot c.numbers.result _

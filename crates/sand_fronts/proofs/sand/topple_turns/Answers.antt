@@ -17,7 +17,7 @@ use Rattle.sand_fronts.proofs.OneSite.{start_of}
 use Rattle.sand_fronts.proofs.Waves.{IsStart, wave_ready}
 use Rattle.sand_fronts.proofs.Ends.{first_wave}
 use Rattle.sand_fronts.proofs.Turns.{IsDueSite, first_kept, visit_kept, gains_kept, keep_one, keep_two, wave_start, turn_first, turn_more, turn_pair, due_site, at_tile, front_of, front_two, others_wait, none_wait, rest_due_free, put_due_free, starts_none, few_topplings, clear_site, none_left}
-use Rattle.sand_fronts.proofs.sand.topple_turns.Goals.{After-set_of, After-push_if, After-item-k, After-item-other, After-keep_if-kept-then-turn-len, After-truncate}
+use Rattle.sand_fronts.proofs.sand.topple_turns.Goals.{After-set_of, After-push_if, After-item-k, After-item-other, After-keep_if-kept-then-position-len, After-truncate}
 use Rattle.sand_fronts.proofs.sand.topple_turns.Goals as goal
 
 pub set_of-requires : goal.set_of-requires
@@ -104,10 +104,10 @@ room : (c : After-item-k) → length c.turns.sand.list.items + 8 ≤ c.turns.san
 room c =
     let few = few_topplings c.args.given.0.now.shape (tiles_of c.turns.sand) in
     let long = lists_length (tiles c.args.given.0.now.shape) (waits (tiles_of c.turns.sand))
-    (drop c.turns.turn c.turns.sand.list.items) c.turns.invariant.waiting in
+    (drop c.turns.position c.turns.sand.list.items) c.turns.invariant.waiting in
     omega (
       arith,
-      length-drop c.turns.turn c.turns.sand.list.items,
+      length-drop c.turns.position c.turns.sand.list.items,
       c.turns.invariant.on.count,
       c.turns.invariant.sand.room,
       c.turns.invariant.within,
@@ -116,15 +116,15 @@ room c =
 one : (c : After-item-k) → (c.item-k.result < tiles c.args.given.0.now.shape)
     × (waits (tiles_of c.turns.sand) c.item-k.result ≡ true)
     × Lists (tiles c.args.given.0.now.shape) (waits (tiles_of c.turns.sand))
-    (c.item-k.result ∷ drop (c.turns.turn + 1) c.turns.sand.list.items)
+    (c.item-k.result ∷ drop (c.turns.position + 1) c.turns.sand.list.items)
 one c =
-    front_of (tiles c.args.given.0.now.shape) c.turns.turn c.item-k.result
+    front_of (tiles c.args.given.0.now.shape) c.turns.position c.item-k.result
     (waits (tiles_of c.turns.sand)) c.turns.sand.list.items c.turns.invariant.waiting
     (omega (arith, c.turns-test.true, c.len.ensures.value)) c.item-k.ensures
 
 pub index-requires : goal.index-requires
 index-requires c =
-    let at = one (goal.at.index-requires c).After-item-k in omega (arith, at.0, c.turns.invariant.sand.one_each)
+    let at = one (goal.at.index-requires c).After-item-k in omega (arith, at.0, c.turns.invariant.sand.len)
 
 -- ---- two tiles
 
@@ -133,11 +133,11 @@ two : (c : After-item-other) → (c.item-k.result ≢ c.item-other.result)
     × (waits (tiles_of c.turns.sand) c.item-other.result ≡ true)
     × Lists (tiles c.args.given.0.now.shape)
     (but c.item-other.result (but c.item-k.result (waits (tiles_of c.turns.sand))))
-    (drop (c.turns.turn + 2) c.turns.sand.list.items)
+    (drop (c.turns.position + 2) c.turns.sand.list.items)
 two c =
-    front_two (tiles c.args.given.0.now.shape) c.turns.turn c.item-k.result c.item-other.result
+    front_two (tiles c.args.given.0.now.shape) c.turns.position c.item-k.result c.item-other.result
     (waits (tiles_of c.turns.sand)) c.turns.sand.list.items c.turns.invariant.waiting
-    (omega (arith, c.if-turn-len.true, c.len-in-turns.ensures.value)) c.item-k.ensures c.item-other.ensures
+    (omega (arith, c.if-position-len.true, c.len-in-turns.ensures.value)) c.item-k.ensures c.item-other.ensures
 
 pub topple_pair-requires-clause-different : goal.topple_pair-requires-clause-different
 topple_pair-requires-clause-different c = (two (goal.at.topple_pair-requires-clause-different c).After-item-other).0
@@ -160,33 +160,33 @@ pub topple_pair-requires-clause-other_ready : goal.topple_pair-requires-clause-o
 topple_pair-requires-clause-other_ready c =
     ready (goal.at.topple_pair-requires-clause-other_ready c).After-item-k c.item-other.result
 
-pub index-requires-then-turn-len : goal.index-requires-then-turn-len
-index-requires-then-turn-len c =
-    let d = goal.at.index-requires-then-turn-len c in
+pub index-requires-then-position-len : goal.index-requires-then-position-len
+index-requires-then-position-len c =
+    let d = goal.at.index-requires-then-position-len c in
     let at = (at_turn d.After-item-k c.item-other.result (two d.After-item-other).2).2 in
-    omega (arith, at.inside, c.turns.invariant.sand.one_each)
+    omega (arith, at.inside, c.turns.invariant.sand.len)
 
-pub keep_if-kept-requires-clause-small : goal.keep_if-kept-requires-clause-small
-keep_if-kept-requires-clause-small c =
-    let at = one (goal.at.keep_if-kept-requires-clause-small c).After-item-k in
-    omega (arith, at.0, c.requires.board.beside.small)
+pub keep_if-kept-requires-clause-fits : goal.keep_if-kept-requires-clause-fits
+keep_if-kept-requires-clause-fits c =
+    let at = one (goal.at.keep_if-kept-requires-clause-fits c).After-item-k in
+    omega (arith, at.0, c.requires.board.beside.fits)
 
-pub keep_if-kept-requires-then-turn-len-clause-small : goal.keep_if-kept-requires-then-turn-len-clause-small
-keep_if-kept-requires-then-turn-len-clause-small c =
-    let d = goal.at.keep_if-kept-requires-then-turn-len-clause-small c in
+pub keep_if-kept-requires-then-position-len-clause-fits : goal.keep_if-kept-requires-then-position-len-clause-fits
+keep_if-kept-requires-then-position-len-clause-fits c =
+    let d = goal.at.keep_if-kept-requires-then-position-len-clause-fits c in
     let at = (at_turn d.After-item-k c.item-other.result (two d.After-item-other).2).2 in
-    omega (arith, at.inside, c.requires.board.beside.small)
+    omega (arith, at.inside, c.requires.board.beside.fits)
 
 -- the list with both tiles kept
-list_two : (c : After-keep_if-kept-then-turn-len) → c.keep_if-kept-then-turn-len.new.self ≡ record {
+list_two : (c : After-keep_if-kept-then-position-len) → c.keep_if-kept-then-position-len.new.self ≡ record {
   items = set (set c.turns.sand.list.items c.turns.kept c.item-k.result) c.keep_if-kept.result c.item-other.result;
   room = c.turns.sand.list.room;
 }
-list_two c = c.keep_if-kept-then-turn-len.ensures.list
+list_two c = c.keep_if-kept-then-position-len.ensures.list
     ∙ ap (λ (l : ListView). record { items = set l.items c.keep_if-kept.result c.item-other.result; room = l.room })
     c.keep_if-kept.ensures.list
 
-length_two : (c : After-keep_if-kept-then-turn-len)
+length_two : (c : After-keep_if-kept-then-position-len)
     → length (set (set c.turns.sand.list.items c.turns.kept c.item-k.result) c.keep_if-kept.result c.item-other.result)
     ≡ length c.turns.sand.list.items
 length_two c = length-set (set c.turns.sand.list.items c.turns.kept c.item-k.result) c.keep_if-kept.result c.item-other.result
@@ -196,59 +196,59 @@ pub topple_pair-requires-clause-room : goal.topple_pair-requires-clause-room
 topple_pair-requires-clause-room c =
     let d = goal.at.topple_pair-requires-clause-room c in
     let r = room d.After-item-k in
-    let l = list_two d.After-keep_if-kept-then-turn-len in
-    let long = ap (λ (v : ListView). length v.items) l ∙ length_two d.After-keep_if-kept-then-turn-len in
+    let l = list_two d.After-keep_if-kept-then-position-len in
+    let long = ap (λ (v : ListView). length v.items) l ∙ length_two d.After-keep_if-kept-then-position-len in
     let room' = ap (λ (v : ListView). v.room) l in
     omega arith
 
-pub turns-smaller-then-turn-len : goal.turns-smaller-then-turn-len
-turns-smaller-then-turn-len c =
+pub turns-smaller-then-position-len : goal.turns-smaller-then-position-len
+turns-smaller-then-position-len c =
     let few = few_topplings c.args.given.0.now.shape (tiles_of c.turns.sand) in
     omega (arith, c.turns.invariant.on.count)
 
-pub turns-preserved-then-turn-len : goal.turns-preserved-then-turn-len
-turns-preserved-then-turn-len c =
-    let d = goal.at.turns-preserved-then-turn-len c in
+pub turns-preserved-then-position-len : goal.turns-preserved-then-position-len
+turns-preserved-then-position-len c =
+    let d = goal.at.turns-preserved-then-position-len c in
     let g = c.args.given.0.now.shape in
     let k = c.item-k.result in
     let other = c.item-other.result in
     let free = free_of c.args.given.0.now in
     let before = c.turns.sand.list.items in
     let after = c.topple_pair.new.self.list.items in
-    let turn = c.turns.turn in
+    let position = c.turns.position in
     let t = two d.After-item-other in
     let at_k = at_turn d.After-item-k k t.1 in
     let at_other = at_turn d.After-item-k other t.2 in
     let steps = c.topple_pair.ensures.steps in
     let more = turn_pair (from d.After-item-k) c.turns.invariant.on t.0 at_k.1 at_other.1 at_k.2.each at_other.2.each steps in
-    let within : turn + 1 < length before = omega (arith, c.if-turn-len.true, c.len-in-turns.ensures.value) in
+    let within : position + 1 < length before = omega (arith, c.if-position-len.true, c.len-in-turns.ensures.value) in
     let next = c.keep_if-kept.result in
-    let last = c.keep_if-kept-then-turn-len.result in
+    let last = c.keep_if-kept-then-position-len.result in
     let spent = c.turns.invariant.spent in
-    let all = keep_two before c.turns.kept k other next last c.index.result.now c.index-then-turn-len.result.now
+    let all = keep_two before c.turns.kept k other next last c.index.result.now c.index-then-position-len.result.now
     c.turns.invariant.kept at_k.2.inside at_other.2.inside (omega arith)
-    (tile_read c.turns.sand.tiles.items k c.index.result.now (omega (arith, at_k.2.inside, c.turns.invariant.sand.one_each))
+    (tile_read c.turns.sand.tiles.items k c.index.result.now (omega (arith, at_k.2.inside, c.turns.invariant.sand.len))
     c.index.ensures)
-    (tile_read c.turns.sand.tiles.items other c.index-then-turn-len.result.now
-    (omega (arith, at_other.2.inside, c.turns.invariant.sand.one_each)) c.index-then-turn-len.ensures)
-    (omega arith) (omega arith) c.keep_if-kept.ensures.next c.keep_if-kept-then-turn-len.ensures.next in
+    (tile_read c.turns.sand.tiles.items other c.index-then-position-len.result.now
+    (omega (arith, at_other.2.inside, c.turns.invariant.sand.len)) c.index-then-position-len.ensures)
+    (omega arith) (omega arith) c.keep_if-kept.ensures.next c.keep_if-kept-then-position-len.ensures.next in
     let few = all.3 in
     let few' = all.4 in
     let now = set (set before c.turns.kept k) next other in
-    let long = length_two d.After-keep_if-kept-then-turn-len in
+    let long = length_two d.After-keep_if-kept-then-position-len in
     let joins = subst (λ (l : ListView). Joins (tiles g) 8 (but other (but k (waits (tiles_of c.turns.sand))))
     (waits (tiles_of c.topple_pair.new.self)) l c.topple_pair.new.self.list)
-    (list_two d.After-keep_if-kept-then-turn-len) c.topple_pair.ensures.joins in
+    (list_two d.After-keep_if-kept-then-position-len) c.topple_pair.ensures.joins in
     let long_now = longer joins in
-    let rest : drop (turn + 2) now ≡ drop (turn + 2) before =
-    drop-set-lt (turn + 2) (set before c.turns.kept k) next other (omega arith)
-    ∙ drop-set-lt (turn + 2) before c.turns.kept k (omega arith) in
+    let rest : drop (position + 2) now ≡ drop (position + 2) before =
+    drop-set-lt (position + 2) (set before c.turns.kept k) next other (omega arith)
+    ∙ drop-set-lt (position + 2) before c.turns.kept k (omega arith) in
     record {
       sand = c.topple_pair.ensures.sand;
       on = more;
       due_free = steps.gains.due_free (put_due_free (put k steps.one.tile (tiles_of c.turns.sand)) free other steps.two.tile
           steps.two.visits.none_due (put_due_free (tiles_of c.turns.sand) free k steps.one.tile steps.one.visits.none_due c.turns.invariant.due_free));
-      waiting = waiting_from joins (turn + 2) (omega arith) (rw rest t.3);
+      waiting = waiting_from joins (position + 2) (omega arith) (rw rest t.3);
       kept = gains_kept now after last (visit_kept other steps.two.tile (visit_kept k steps.one.tile all.0 all.1) all.2) steps.gains
           (λ i less. kept_before joins i (omega arith));
       spent = omega arith;
@@ -257,28 +257,28 @@ turns-preserved-then-turn-len c =
 
 -- ---- one tile
 
-pub topple_tile-requires-else-turn-len-clause-tile : goal.topple_tile-requires-else-turn-len-clause-tile
-topple_tile-requires-else-turn-len-clause-tile c =
-    let d = (goal.at.topple_tile-requires-else-turn-len-clause-tile c).After-item-k in
+pub topple_tile-requires-else-position-len-clause-tile : goal.topple_tile-requires-else-position-len-clause-tile
+topple_tile-requires-else-position-len-clause-tile c =
+    let d = (goal.at.topple_tile-requires-else-position-len-clause-tile c).After-item-k in
     (at_turn d c.item-k.result (one d).1).2
 
-pub topple_tile-requires-else-turn-len-clause-ready : goal.topple_tile-requires-else-turn-len-clause-ready
-topple_tile-requires-else-turn-len-clause-ready c =
-    ready (goal.at.topple_tile-requires-else-turn-len-clause-ready c).After-item-k c.item-k.result
+pub topple_tile-requires-else-position-len-clause-ready : goal.topple_tile-requires-else-position-len-clause-ready
+topple_tile-requires-else-position-len-clause-ready c =
+    ready (goal.at.topple_tile-requires-else-position-len-clause-ready c).After-item-k c.item-k.result
 
-pub topple_tile-requires-else-turn-len-clause-room : goal.topple_tile-requires-else-turn-len-clause-room
-topple_tile-requires-else-turn-len-clause-room c =
-    let r = room (goal.at.topple_tile-requires-else-turn-len-clause-room c).After-item-k in
-    let l = c.keep_if-kept-else-turn-len.ensures.list in
+pub topple_tile-requires-else-position-len-clause-room : goal.topple_tile-requires-else-position-len-clause-room
+topple_tile-requires-else-position-len-clause-room c =
+    let r = room (goal.at.topple_tile-requires-else-position-len-clause-room c).After-item-k in
+    let l = c.keep_if-kept-else-position-len.ensures.list in
     let long = ap (λ (v : ListView). length v.items) l
     ∙ length-set c.turns.sand.list.items c.turns.kept c.item-k.result in
     let room' = ap (λ (v : ListView). v.room) l in
     omega arith
 
-pub keep_if-kept-requires-else-turn-len-clause-small : goal.keep_if-kept-requires-else-turn-len-clause-small
-keep_if-kept-requires-else-turn-len-clause-small c =
-    let at = one (goal.at.keep_if-kept-requires-else-turn-len-clause-small c).After-item-k in
-    omega (arith, at.0, c.requires.board.beside.small)
+pub keep_if-kept-requires-else-position-len-clause-fits : goal.keep_if-kept-requires-else-position-len-clause-fits
+keep_if-kept-requires-else-position-len-clause-fits c =
+    let at = one (goal.at.keep_if-kept-requires-else-position-len-clause-fits c).After-item-k in
+    omega (arith, at.0, c.requires.board.beside.fits)
 
 pub turns-smaller : goal.turns-smaller
 turns-smaller c =
@@ -293,34 +293,34 @@ turns-preserved c =
     let τ = tiles_of c.turns.sand in
     let free = free_of c.args.given.0.now in
     let before = c.turns.sand.list.items in
-    let after = c.topple_tile-else-turn-len.new.self.list.items in
-    let turn : c.turns.turn < length before = omega (arith, c.turns-test.true, c.len.ensures.value) in
+    let after = c.topple_tile-else-position-len.new.self.list.items in
+    let position : c.turns.position < length before = omega (arith, c.turns-test.true, c.len.ensures.value) in
     let f = one d in
     let t = at_turn d k f.1 in
-    let steps = c.topple_tile-else-turn-len.ensures.steps in
+    let steps = c.topple_tile-else-position-len.ensures.steps in
     let more = turn_more (from d) c.turns.invariant.on t.1 t.2.each steps in
-    let last = c.keep_if-kept-else-turn-len.result in
+    let last = c.keep_if-kept-else-position-len.result in
     let spent = c.turns.invariant.spent in
     let all = keep_one before c.turns.kept k last c.index.result.now c.turns.invariant.kept f.0 (omega arith)
-    (tile_read c.turns.sand.tiles.items k c.index.result.now (omega (arith, f.0, c.turns.invariant.sand.one_each))
+    (tile_read c.turns.sand.tiles.items k c.index.result.now (omega (arith, f.0, c.turns.invariant.sand.len))
     c.index.ensures)
-    (omega arith) c.keep_if-kept-else-turn-len.ensures.next in
+    (omega arith) c.keep_if-kept-else-position-len.ensures.next in
     let few = all.2 in
     let now = set before c.turns.kept k in
     let long = length-set before c.turns.kept k in
     let joins = subst (λ (l : ListView). Joins (tiles g) 4 (but k (waits τ))
-    (waits (tiles_of c.topple_tile-else-turn-len.new.self)) l c.topple_tile-else-turn-len.new.self.list)
-    c.keep_if-kept-else-turn-len.ensures.list c.topple_tile-else-turn-len.ensures.joins in
+    (waits (tiles_of c.topple_tile-else-position-len.new.self)) l c.topple_tile-else-position-len.new.self.list)
+    c.keep_if-kept-else-position-len.ensures.list c.topple_tile-else-position-len.ensures.joins in
     let long_now = longer joins in
-    let rest : drop (c.turns.turn + 1) now ≡ drop (c.turns.turn + 1) before =
-    drop-set-lt (c.turns.turn + 1) before c.turns.kept k (omega arith) in
+    let rest : drop (c.turns.position + 1) now ≡ drop (c.turns.position + 1) before =
+    drop-set-lt (c.turns.position + 1) before c.turns.kept k (omega arith) in
     record {
-      sand = c.topple_tile-else-turn-len.ensures.sand;
+      sand = c.topple_tile-else-position-len.ensures.sand;
       on = more;
       due_free = steps.gains.due_free (put_due_free τ free k steps.visited.tile steps.visited.visits.none_due
           c.turns.invariant.due_free);
-      waiting = waiting_from joins (c.turns.turn + 1) (omega arith)
-          (rw rest (others_wait (tiles g) k (waits τ) (drop (c.turns.turn + 1) before) f.2));
+      waiting = waiting_from joins (c.turns.position + 1) (omega arith)
+          (rw rest (others_wait (tiles g) k (waits τ) (drop (c.turns.position + 1) before) f.2));
       kept = gains_kept now after last (visit_kept k steps.visited.tile all.0 all.1) steps.gains
           (λ i less. kept_before joins i (omega arith));
       spent = omega arith;
@@ -331,12 +331,12 @@ pub returns-clause-wave : goal.returns-clause-wave
 returns-clause-wave c =
     let g = c.args.given.0.now.shape in
     let list = c.turns.sand.list.items in
-    let none : drop c.turns.turn list ≡ [] =
-    drop_all c.turns.turn list (omega (arith, c.turns-test.false, c.len.ensures.value)) in
+    let none : drop c.turns.position list ≡ [] =
+    drop_all c.turns.position list (omega (arith, c.turns-test.false, c.len.ensures.value)) in
     record {
       wave = c.turns.invariant.on.wave;
       started = c.turns.invariant.on.started;
-      none_due = none_left c.turns.sand.tiles.items (tiles g) c.turns.invariant.sand.one_each
+      none_due = none_left c.turns.sand.tiles.items (tiles g) c.turns.invariant.sand.len
           (subst (λ xs. Lists (tiles g) (waits (tiles_of c.turns.sand)) xs) none c.turns.invariant.waiting);
     }
 

@@ -10,11 +10,11 @@ use Rattle.sand_fronts.proofs.tiled_pile.avalanche_of.Goals as goal
 pub overflow_cast-result : goal.overflow_cast-result
 overflow_cast-result c =
     let few = few_in_sets (length c.args.marks.now.sets) (slice_index c.args.marks.now.sets) in
-    record { fits = omega (arith, c.take_all-area.ensures.area, c.requires.small.0, c.requires.one_each) }
+    record { fits = omega (arith, c.take_all-area.ensures.area, c.requires.fits.0, c.requires.len) }
 
 pub overflow_cast-result-2 : goal.overflow_cast-result-2
 overflow_cast-result-2 c =
-    let small = small_reach c.args.shape c.args.site c.requires.small.1 c.requires.site c.requires.at_sites
+    let small = small_reach c.args.shape c.args.site c.requires.fits.1 c.requires.site c.requires.at_sites
     c.take_all-area.ensures.reach in
     record { fits = omega arith }
 
@@ -22,7 +22,7 @@ pub returns-clause-avalanche : goal.returns-clause-avalanche
 returns-clause-avalanche c v toppled size lost = record {
   origin = refl;
   size = size;
-  area = c.take_all-area.ensures.area ∙ ap (λ n. in_sets n (slice_index c.args.marks.now.sets)) c.requires.one_each
+  area = c.take_all-area.ensures.area ∙ ap (λ n. in_sets n (slice_index c.args.marks.now.sets)) c.requires.len
       ∙ area_is c.args.shape (λ j. one_if (ltb 0 (v j))) (slice_index c.args.marks.now.sets) toppled;
   within = all_within c.args.shape c.args.site v toppled c.take_all-area.ensures.reach;
   reached = some_reached c.args.shape c.args.site v toppled c.take_all-area.ensures.reach;

@@ -44,7 +44,7 @@ gets : (c : After-receive) → GetsGrain c.args.board.now.shape c.args.site c.ar
     c.receive.new.tile
 gets c =
     let inside : c.find-tile.result.0 < length c.args.sand.now.tiles.items =
-    omega (arith, c.find-tile.ensures.inside.0, c.requires.pile.sand.one_each) in
+    omega (arith, c.find-tile.ensures.inside.0, c.requires.pile.sand.len) in
     let word = word_of (goal.at.After-receive c).After-index-whole in
     record {
       site_inside = c.requires.site;
@@ -66,7 +66,7 @@ height_is c =
     let long = length-set {A = Tile} c.args.sand.now.tiles.items c.find-tile.result.0 c.receive.new.tile in
     c.height_at.ensures ∙ ap (λ (x : Tile). height x c.find-tile.result.1)
     (tile_read new c.find-tile.result.0 c.index.result.now
-    (omega (arith, c.find-tile.ensures.inside.0, c.requires.pile.sand.one_each)) c.index.ensures)
+    (omega (arith, c.find-tile.ensures.inside.0, c.requires.pile.sand.len)) c.index.ensures)
     ∙ ap (λ k. height (tile_at new k) c.find-tile.result.1) c.find-tile.ensures.tile
     ∙ ap (λ p. height (tile_at new (tile_of c.args.board.now.shape c.args.site)) p) c.find-tile.ensures.place
 

@@ -19,80 +19,80 @@ use Rattle.sand_fronts.proofs.written_back.write_back.Goals.{After-index}
 use Rattle.sand_fronts.proofs.written_back.write_back.Goals as goal
 use Rattle.sand_fronts.proofs.Gained.{set_each}
 
-pub loop-turn-init : goal.loop-turn-init
-loop-turn-init c = record {
+pub loop-position-init : goal.loop-position-init
+loop-position-init c = record {
   each = refl;
   marks = refl;
   sound = c.requires.counts.sound;
-  few = λ m p low. omega arith;
+  bound = λ m p low. omega arith;
   listed = λ m. ⊎_elim
       (λ (none : marks_of c.args.counts.now m ≡ 0).
       inl (λ p low. c.requires.no_other m p low (ap (λ w. bit w p) none ∙ bit_none p)))
       (λ (at : (t : ℕ) × (t < length c.args.counts.now.marks.tiles) × (slice_index c.args.counts.now.marks.tiles t ≡ m)).
       inr (at.0, omega arith, at.1, at.2))
-      (empty_or_listed c.args.counts.now.marks.sets c.args.counts.now.marks.tiles m c.len-turn-end.ensures.lists);
+      (empty_or_listed c.args.counts.now.marks.sets c.args.counts.now.marks.tiles m c.len-position-end.ensures.lists);
   added = λ j l. refl;
   follows = follows_none c.args.shape c.args.heights.now c.args.odometer.now c.requires.low;
 }
 
-inside : (c : After-index) → c.tile-k.result < length c.loop-turn.counts.each.items
+inside : (c : After-index) → c.tile-k.result < length c.loop-position.counts.each.items
 inside c =
-    let each = ap (λ (x : MarksView). length x.sets) c.loop-turn.invariant.marks in
+    let each = ap (λ (x : MarksView). length x.sets) c.loop-position.invariant.marks in
     omega (
       arith,
-      c.loop-turn.invariant.each,
-      c.requires.counts.one_each,
+      c.loop-position.invariant.each,
+      c.requires.counts.len,
       c.requires.counts.marks_each,
       c.tile-k.ensures.within,
     )
 
-read : (c : After-index) → c.index.result.now ≡ counts_of c.loop-turn.counts c.tile-k.result
-read c = count_read c.loop-turn.counts.each.items c.tile-k.result c.index.result.now (inside c) c.index.ensures
+read : (c : After-index) → c.index.result.now ≡ counts_of c.loop-position.counts c.tile-k.result
+read c = count_read c.loop-position.counts.each.items c.tile-k.result c.index.result.now (inside c) c.index.ensures
 
-pub write_tile-requires-clause-few : goal.write_tile-requires-clause-few
-write_tile-requires-clause-few c =
-    let d = (goal.at.write_tile-requires-clause-few c).After-index in (
+pub write_tile-requires-clause-bound : goal.write_tile-requires-clause-bound
+write_tile-requires-clause-bound c =
+    let d = (goal.at.write_tile-requires-clause-bound c).After-index in (
       λ p low.
           let same = ap (λ (x : Count). counted x p) (read d) in
-          let less = c.loop-turn.invariant.few c.tile-k.result p low in
-          let few = c.requires.few.0 c.tile-k.result p low in omega arith,
+          let less = c.loop-position.invariant.bound c.tile-k.result p low in
+          let few = c.requires.bound.0 c.tile-k.result p low in omega arith,
       λ j l tile.
-          let all = c.loop-turn.invariant.added j l in
-          let times = c.requires.few.0 (tile_of c.args.shape j) (place_of c.args.shape j) (place_below c.args.shape j) in
-          let few = c.requires.few.1 j l in omega arith,
+          let all = c.loop-position.invariant.added j l in
+          let times = c.requires.bound.0 (tile_of c.args.shape j) (place_of c.args.shape j) (place_below c.args.shape j) in
+          let few = c.requires.bound.1 j l in omega arith,
     )
 
-pub loop-turn-preserved : goal.loop-turn-preserved
-loop-turn-preserved c =
-    let d = (goal.at.loop-turn-preserved c).After-index in
+pub loop-position-preserved : goal.loop-position-preserved
+loop-position-preserved c =
+    let d = (goal.at.loop-position-preserved c).After-index in
     let g = c.args.shape in
     let k = c.tile-k.result in
-    let cs = c.loop-turn.counts.each.items in
+    let cs = c.loop-position.counts.each.items in
     let within = inside d in
     let here : (m p : ℕ) → p < 64 → m ≡ k → counted (count_at (set cs k c.no_count.result) m) p ≡ 0 =
     λ m p low e. ap (λ (x : Count). counted x p) (count_set_same cs k m c.no_count.result within e)
     ∙ c.no_count.ensures.none p low in
     let other : (m p : ℕ) → (m ≡ k → ⊥) → counted (count_at (set cs k c.no_count.result) m) p ≡ counted (count_at cs m) p =
     λ m p ne. ap (λ (x : Count). counted x p) (count_set_other cs k m c.no_count.result ne) in
-    let turn_is : k ≡ slice_index c.args.counts.now.marks.tiles c.loop-turn.turn = c.tile-k.ensures.value
-    ∙ ap (λ (x : MarksView). slice_index x.tiles c.loop-turn.turn) c.loop-turn.invariant.marks in
+    let turn_is : k ≡ slice_index c.args.counts.now.marks.tiles c.loop-position.position = c.tile-k.ensures.value
+    ∙ ap (λ (x : MarksView). slice_index x.tiles c.loop-position.position) c.loop-position.invariant.marks in
     record {
-      each = length-set {A = Count} cs k c.no_count.result ∙ c.loop-turn.invariant.each;
-      marks = c.loop-turn.invariant.marks;
+      each = length-set {A = Count} cs k c.no_count.result ∙ c.loop-position.invariant.each;
+      marks = c.loop-position.invariant.marks;
       sound = set_each no_tile (λ m x. IsCount x) cs k c.no_count.result within c.no_count.ensures.sound
-          (λ m ne. c.loop-turn.invariant.sound m);
-      few = set_each no_tile (λ m x. (p : ℕ) → p < 64 → counted x p ≤ counted (counts_of c.args.counts.now m) p) cs k
+          (λ m ne. c.loop-position.invariant.sound m);
+      bound = set_each no_tile (λ m x. (p : ℕ) → p < 64 → counted x p ≤ counted (counts_of c.args.counts.now m) p) cs k
           c.no_count.result within (λ p low. let z = c.no_count.ensures.none p low in omega arith)
-          (λ m ne. c.loop-turn.invariant.few m);
+          (λ m ne. c.loop-position.invariant.bound m);
       listed = rest_in (λ m. AreNone (count_at cs m)) (λ m. AreNone (count_at (set cs k c.no_count.result) m)) k
-          c.args.counts.now.marks.tiles c.loop-turn.turn (length c.args.counts.now.marks.tiles) c.loop-turn.invariant.listed
+          c.args.counts.now.marks.tiles c.loop-position.position (length c.args.counts.now.marks.tiles) c.loop-position.invariant.listed
           (set_each no_tile (λ m x. AreNone (count_at cs m) → AreNone x) cs k c.no_count.result within
           (λ was. c.no_count.ensures.none) (λ m ne was. was))
           (λ p low. here k p low refl) turn_is;
       added = λ j l.
           let p = place_of g j in
           let low = place_below g j in
-          let before = c.loop-turn.invariant.added j l in
+          let before = c.loop-position.invariant.added j l in
           ⊎_elim
           (λ (e : tile_of g j ≡ k).
           let z = here (tile_of g j) p low e in
@@ -105,21 +105,21 @@ loop-turn-preserved c =
           let b = c.write_tile.ensures.counted.others j l ne in
           omega arith)
           (cases_eq (tile_of g j) k);
-      follows = follows_more c.loop-turn.invariant.follows c.write_tile.ensures.follows;
+      follows = follows_more c.loop-position.invariant.follows c.write_tile.ensures.follows;
     }
 
 pub returns-clause-written : goal.returns-clause-written
 returns-clause-written c =
-    let none = none_in (λ m. AreNone (counts_of c.loop-turn.counts m)) c.args.counts.now.marks.tiles c.loop-turn.turn
-    (length c.args.counts.now.marks.tiles) c.loop-turn.invariant.listed
-    (omega (arith, c.len-turn-end.ensures.value, c.loop-turn-test.false)) in
+    let none = none_in (λ m. AreNone (counts_of c.loop-position.counts m)) c.args.counts.now.marks.tiles c.loop-position.position
+    (length c.args.counts.now.marks.tiles) c.loop-position.invariant.listed
+    (omega (arith, c.len-position-end.ensures.value, c.loop-position-test.false)) in
     record {
-      counts_each = c.loop-turn.invariant.each;
-      marks = c.loop-turn.invariant.marks;
-      sound = c.loop-turn.invariant.sound;
+      counts_each = c.loop-position.invariant.each;
+      marks = c.loop-position.invariant.marks;
+      sound = c.loop-position.invariant.sound;
       none = none;
       added = λ j l.
-          let all = c.loop-turn.invariant.added j l in
+          let all = c.loop-position.invariant.added j l in
           let z = none (tile_of c.args.shape j) (place_of c.args.shape j) (place_below c.args.shape j) in
           omega arith;
     }

@@ -8,13 +8,13 @@ use Rattle.sand_fronts.specs.WrittenBack.{Follows}
 use Rattle.sand_fronts.proofs.written_back.write_back.Given as goal
 use Rattle.sand_fronts.proofs.Counted.{AreIn, AreNone}
 
-abbrev pub invariant-loop-turn : goal.invariant-loop-turn
-invariant-loop-turn l = record {
+abbrev pub invariant-loop-position : goal.invariant-loop-position
+invariant-loop-position l = record {
   each : length l.counts.each.items ≡ length l.initial.counts.each.items;
   marks : l.counts.marks ≡ l.initial.counts.marks;
   sound : (m : ℕ) → IsCount (counts_of l.counts m);
-  few : (m p : ℕ) → p < 64 → counted (counts_of l.counts m) p ≤ counted (counts_of l.initial.counts m) p;
-  listed : AreIn (λ m. AreNone (counts_of l.counts m)) l.initial.counts.marks.tiles l.turn
+  bound : (m p : ℕ) → p < 64 → counted (counts_of l.counts m) p ≤ counted (counts_of l.initial.counts m) p;
+  listed : AreIn (λ m. AreNone (counts_of l.counts m)) l.initial.counts.marks.tiles l.position
       (length l.initial.counts.marks.tiles);
   added : (j : ℕ) → j < sites l.shape → slice_index l.odometer j + counted_on l.shape (counts_of l.counts) j
       ≡ slice_index l.initial.odometer j + counted_on l.shape (counts_of l.initial.counts) j;

@@ -41,18 +41,18 @@ write_site-requires-clause-site c =
     let e = site_of d.After-site_in-site in
     omega arith
 
-pub write_site-requires-clause-few : goal.write_site-requires-clause-few
-write_site-requires-clause-few c =
-    let d = (goal.at.write_site-requires-clause-few c).After-site_in-site in
-    let b = (goal.at.write_site-requires-clause-few c).After-set_of-rest in
+pub write_site-requires-clause-bound : goal.write_site-requires-clause-bound
+write_site-requires-clause-bound c =
+    let d = (goal.at.write_site-requires-clause-bound c).After-site_in-site in
+    let b = (goal.at.write_site-requires-clause-bound c).After-set_of-rest in
     let place = trailing_zeros w64 c.places.rest in
     let back = there b in
     let s = site_on c.args.shape c.args.k place in
     let at = ap (bit c.places.rest) back.2 ∙ (taken_of b).was in
     let same = c.places.invariant.written.left s back.0 back.1 at in
-    let few = c.requires.few.1 s back.0 back.1 in
+    let few = c.requires.bound.1 s back.0 back.1 in
     let read = ap (slice_index c.places.odometer) (site_of d) in
-    let times = c.requires.few.0 place (taken_of b).inside in (
+    let times = c.requires.bound.0 place (taken_of b).inside in (
       omega (arith, c.times_at.ensures),
       omega arith,
     )

@@ -19,7 +19,7 @@ returns-clause-burned c =
     let grid = c.in_ok-lattice.ensures ∙ c.shape-shape.ensures.value in
     let heights = c.heights-heights.ensures.value in
     let one_each : length c.heights-heights.result.now ≡ sites c.in_ok-lattice.lattice =
-    rw (grid, heights) c.heights-heights.ensures.pile.one_each in
+    rw (grid, heights) c.heights-heights.ensures.pile.len in
     let rest = rw (c.deref-2.ensures.value, one_each) at c.in_ok-left.ensures.all in
     let short : length c.burn_out.new.burnt.items ≡ sites c.in_ok-lattice.lattice → ⊥ =
     λ e. c.if-len-sites.false (omega (arith, c.burn_out.new.burnt.ok, ap sites c.in_ok-lattice.ensures)) in

@@ -42,7 +42,7 @@ loop-head-preserved c =
     (read_passes (sites c.args.lattice.now) _ c.loop-head.burnt.items c.loop-head.head
     c.index-site.result.now c.loop-head.invariant.all l c.index-site.ensures) in
     record {
-      one_each = c.spread_fire.ensures.one_each;
+      len = c.spread_fire.ensures.len;
       head = omega (arith, longer, c.spread_fire.new.burnt.ok);
       counts = rw taken (counts_more c.args.lattice.now _ _ _ c.index-site.result.now
           c.loop-head.invariant.counts inside fresh c.spread_fire.ensures.fewer);

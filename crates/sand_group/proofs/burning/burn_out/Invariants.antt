@@ -5,7 +5,7 @@ use Rattle.sand_group.proofs.burning.burn_out.Given as goal
 
 abbrev pub invariant-loop-head : goal.invariant-loop-head
 invariant-loop-head l = record {
-  one_each : length l.unburnt.items ≡ sites l.lattice;
+  len : length l.unburnt.items ≡ sites l.lattice;
   head : l.head ≤ vec_len l.burnt;
   counts : CountsUnburnt l.lattice (take l.head l.burnt.items) (slice_index l.unburnt.items);
   all : ListsBurning (sites l.lattice) l.heights l.unburnt.items l.burnt.items;

@@ -11,10 +11,10 @@ pub loop-site-preserved : goal.loop-site-preserved
 loop-site-preserved c =
     let few = missing_at_most_four c.args.lattice.now c.loop-site.site in
     record {
-      one_each =
-          omega (arith, ap length c.in_ok-push.ensures.items, length_push {X = ℕ}, c.loop-site.invariant.one_each);
+      len =
+          omega (arith, ap length c.in_ok-push.ensures.items, length_push {X = ℕ}, c.loop-site.invariant.len);
       counts = rw c.in_ok-push.ensures.items (counts_push c.args.lattice.now c.loop-site.counts.items c.loop-site.site
-          _ c.loop-site.invariant.one_each c.loop-site.invariant.counts (omega (arith, c.missing.ensures)));
+          _ c.loop-site.invariant.len c.loop-site.invariant.counts (omega (arith, c.missing.ensures)));
     }
 
 pub returns-clause-counts : goal.returns-clause-counts

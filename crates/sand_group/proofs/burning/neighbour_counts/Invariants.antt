@@ -4,6 +4,6 @@ use Rattle.sand_group.proofs.burning.neighbour_counts.Given as goal
 
 abbrev pub invariant-loop-site : goal.invariant-loop-site
 invariant-loop-site l = record {
-  one_each : length l.counts.items ≡ l.site;
+  len : length l.counts.items ≡ l.site;
   counts : (k : ℕ) → k < l.site → slice_index l.counts.items k + missing l.lattice k ≡ 4;
 }

@@ -11,9 +11,9 @@ unwrap-requires c =
     let some = rw c.in-Some.is at c.requires.unburnt in
     let before : c.index_mut.result.now ≡ get_or c.args.unburnt.now.items c.in-Some.site 0 =
     get_or_read c.args.unburnt.now.items c.in-Some.site c.index_mut.result.now
-    (omega (arith, inside, c.requires.one_each)) c.index_mut.ensures.value 0 in
+    (omega (arith, inside, c.requires.len)) c.index_mut.ensures.value 0 in
     let now = get_or-set_same c.args.unburnt.now.items c.in-Some.site (c.index_mut.result.now - 1)
-    c.index.result.now (omega (arith, inside, c.requires.one_each)) in
+    c.index.result.now (omega (arith, inside, c.requires.len)) in
     let room = lists_room (length c.args.heights.now)
     (may_burn (slice_index c.args.heights.now) (slice_index c.args.unburnt.now.items))
     c.args.burnt.now.items c.in-Some.site c.requires.all inside

@@ -8,15 +8,15 @@ digits-init c =
     let same = c.in_ok-sum.ensures.same in
     let is_pile = subst IsPile c.pile.ensures.value c.shape-shape.ensures.pile in
     record {
-      few = c.ilog2-digits.ensures.bound;
+      bound = c.ilog2-digits.ensures.bound;
       grid = ap (λ (p : PileView). p.grid) same;
-      one_each = ap (λ (p : PileView). length p.heights) same ∙ is_pile.one_each;
+      len = ap (λ (p : PileView). length p.heights) same ∙ is_pile.len;
       multiple = first_digit c.args.c.now.grid c.args.n c.ilog2-digits.result c.args.c.now c.in_ok-sum.sum
           c.ilog2-digits.ensures.power_le c.ilog2-digits.ensures.next_power_gt same c.pile.ensures.recurrent;
     }
 
 pub overflow_shr-n : goal.overflow_shr-n
-overflow_shr-n c = let few = c.digits.invariant.few in omega arith
+overflow_shr-n c = let few = c.digits.invariant.bound in omega arith
 
 pub doubled-requires-clause-half : goal.doubled-requires-clause-half
 doubled-requires-clause-half c =
@@ -25,11 +25,11 @@ doubled-requires-clause-half c =
 
 pub digits-preserved : goal.digits-preserved
 digits-preserved c =
-    let few = c.digits.invariant.few in
+    let few = c.digits.invariant.bound in
     record {
-      few = omega arith;
+      bound = omega arith;
       grid = c.in_ok-sum-2.ensures.grid;
-      one_each = c.in_ok-sum-2.ensures.one_each;
+      len = c.in_ok-sum-2.ensures.len;
       multiple = c.in_ok-sum-2.ensures.multiple;
     }
 

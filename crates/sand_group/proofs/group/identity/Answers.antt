@@ -10,6 +10,6 @@ invariant_of-result c =
 pub returns-in-Some-clause-settled : goal.returns-in-Some-clause-settled
 returns-in-Some-clause-settled c =
     let grid = rw c.in-Some.is at c.in_ok-pile.ensures.shape in
-    let each = rw c.in-Some.is at c.in_ok-pile.ensures.one_each in
+    let each = rw c.in-Some.is at c.in_ok-pile.ensures.len in
     let identity = rw c.in-Some.is at c.in_ok-pile.ensures.identity in
     identity_settles c.args.shape c.in-Some.pile grid each identity

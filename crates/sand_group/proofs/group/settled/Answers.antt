@@ -3,4 +3,4 @@ use Rattle.sand_group.proofs.group.settled.Goals as goal
 
 pub from_vec-requires-clause-limit : goal.from_vec-requires-clause-limit
 from_vec-requires-clause-limit c =
-    within_limit c.args.shape c.args.heights.items c.sites.ensures.sides c.requires.one_each c.requires.low
+    within_limit c.args.shape c.args.heights.items c.sites.ensures.sides c.requires.len c.requires.low

@@ -3,6 +3,6 @@ use Rattle.sand_group.proofs.group.six_less.Given as goal
 
 abbrev pub invariant-loop-height : goal.invariant-loop-height
 invariant-loop-height l = record {
-  one_each : length l.rests.items ≡ l.height-index;
+  len : length l.rests.items ≡ l.height-index;
   rests : (k : ℕ) → k < l.height-index → slice_index l.rests.items k + slice_index l.heights k ≡ 6;
 }

@@ -6,7 +6,7 @@ use Rattle.sand_group.proofs.neutral.shown_identity.Goals as goal
 pub from_vec-pile-requires-clause-limit : goal.from_vec-pile-requires-clause-limit
 from_vec-pile-requires-clause-limit c =
     let low = rw c.in-Some-2.is at c.in_ok-heights.ensures.low in
-    let each = rw c.in-Some-2.is at c.in_ok-heights.ensures.one_each in
+    let each = rw c.in-Some-2.is at c.in_ok-heights.ensures.len in
     low_within_limit c.args.shape c.in-Some-2.heights.items c.sites.ensures.sides each low
 
 pub returns-in-Ok-Recurrent-clause-identity : goal.returns-in-Ok-Recurrent-clause-identity

@@ -80,7 +80,7 @@ loop-worker-preserved c =
           record all { seen = c.take_in.new.first.seen; rows = top (m * height / n); counts = cs })
           long counts;
       items = append_assoc xs (x ∷ []) left ∙ in_order at;
-      long = (let was = i.long in let gone = c.in-Some.ensures.steps.1 in let short = ap length steps in omega arith);
+      len = (let was = i.len in let gone = c.in-Some.ensures.steps.1 in let short = ap length steps in omega arith);
       room = search rules;
       swept = rw (c.push_reserved.ensures.items, i.swept) (sym (map-append (λ (w : Worker). w.swept) xs (x ∷ [])));
     }
@@ -93,7 +93,7 @@ returns-clause-first c =
     let height = (grid_of_terms s.terms).height in
     let n = length c.args.workers.items in
     let none : into_iter_items c.loop-worker.worker-iterator ≡ [] =
-    nothing_left (into_iter_items c.loop-worker.worker-iterator) (i.long ∙ c.in-None.ensures.steps.0) in
+    nothing_left (into_iter_items c.loop-worker.worker-iterator) (i.len ∙ c.in-None.ensures.steps.0) in
     let all : xs ≡ c.args.workers.items = sym (append-nil xs) ∙ rw none at i.items in
     let whole : length xs * height / n ≡ height =
     ap (λ (ws : List Worker). length ws * height / n) all ∙ mul-div_cancel_left height c.requires.some in

@@ -15,7 +15,7 @@ invariant-loop-worker l = record {
     counts = all_counts l.yielded;
   };
   items : l.yielded ++ into_iter_items l.worker-iterator ≡ l.fn.workers.items;
-  long : length (into_iter_items l.worker-iterator) ≡ into_iter_len l.worker-iterator;
+  len : length (into_iter_items l.worker-iterator) ≡ into_iter_len l.worker-iterator;
   room : vec_len l.all + length (into_iter_items l.worker-iterator) ≤ vec_capacity l.all;
   swept : l.all.items ≡ all_swept l.yielded;
 }

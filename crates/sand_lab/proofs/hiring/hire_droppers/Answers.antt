@@ -36,7 +36,7 @@ loop-who-preserved c =
     record {
       droppers = subst (EachAt P) (sym c.push_reserved.ensures.items)
           (each_push P c.loop-who.droppers.items dropper i.droppers (subst (λ (n : ℕ). P n dropper) place one));
-      long = search rules;
+      len = search rules;
       room = search rules;
       first = search rules;
       left = grind arith;

@@ -24,7 +24,7 @@ loop-who-preserved c =
     record {
       hired = subst (EachAt P) (sym c.push_reserved.ensures.items)
           (each_push P c.loop-who.hired.items observer i.hired (subst (λ (n : ℕ). P n observer) place one));
-      long = search rules;
+      len = search rules;
       room = search rules;
       first = search rules;
     }

@@ -20,7 +20,7 @@ loop-done-init c =
     record {
       hired = subst (EachAt (λ i. IsWorker s c.args.workers (c.args.workers - 0 + i)))
           (sym c.in_ok-hired.ensures.items) (each_none (λ i. IsWorker s c.args.workers (c.args.workers - 0 + i)));
-      long = search rules;
+      len = search rules;
       first = c.requires.first ∙ ap (λ (n : ℕ). upper_part s 0 n) whole;
     }
 
@@ -66,7 +66,7 @@ loop-done-preserved c =
       hired = subst (EachAt (λ j. IsWorker s c.args.workers (next + j))) (sym c.in-Ok.ensures.items)
           (each_first (λ n. IsWorker s c.args.workers n) next c.loop-done.hired.items
           worker before (subst (λ (n : ℕ). IsWorker s c.args.workers n worker) here one));
-      long = search rules;
+      len = search rules;
       first = c.in_ok-pass.ensures.first ∙ ap kept was ∙ band_left s begin end ordered
           ∙ ap (λ (n : ℕ). upper_part s 0 n) (begins ∙ ap (λ (n : ℕ). n * height / c.args.workers) here);
     }

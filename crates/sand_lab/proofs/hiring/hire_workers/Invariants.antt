@@ -6,6 +6,6 @@ use Rattle.sand_lab.proofs.hiring.hire_workers.Given as goal
 abbrev pub invariant-loop-done : goal.invariant-loop-done
 invariant-loop-done l = record {
   hired : EachAt (λ i. IsWorker l.pile l.fn.workers (l.workers - l.done + i)) l.hired.items;
-  long : vec_len l.hired ≡ l.done;
+  len : vec_len l.hired ≡ l.done;
   first : l.first ≡ upper_part l.pile 0 ((l.workers - l.done) * (grid_of_terms l.pile.terms).height / l.workers);
 }

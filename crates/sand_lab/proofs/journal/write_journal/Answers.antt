@@ -23,7 +23,7 @@ write_part-requires-clause-ascends c =
 pub write_part-requires-clause-below : goal.write_part-requires-clause-below
 write_part-requires-clause-below c =
     let long : length (flattened (lists c.args.parts.now)) ≡ vec_len c.loop-dropper.journal =
-    sym (c.loop-dropper.invariant.long ∙ c.requires.one_each) in
+    sym (c.loop-dropper.invariant.len ∙ c.requires.len) in
     part_below c.args._drops (lists c.args.parts.now) (flattened (lists c.args.parts.now))
     c.requires.are_parts c.loop-dropper.dropper c.as_slice.result.now (vec_len c.loop-dropper.journal)
     (here (goal.at.write_part-requires-clause-below c).After-as_slice)
@@ -33,7 +33,7 @@ pub loop-dropper-preserved : goal.loop-dropper-preserved
 loop-dropper-preserved c =
     let done = c.write_part.ensures in
     record {
-      long = done.long ∙ c.loop-dropper.invariant.long;
+      len = done.len ∙ c.loop-dropper.invariant.len;
       noted = noted_more c.args._drops (lists c.args.parts.now) (flattened (lists c.args.parts.now))
           c.requires.are_parts c.loop-dropper.dropper c.as_slice.result.now
           c.loop-dropper.journal.items c.write_part.new.journal.items
@@ -48,7 +48,7 @@ returns c =
     let all = flattened parts in
     let js = c.loop-dropper.journal.items in
     let long : length js ≡ length all =
-    (let kept = c.loop-dropper.invariant.long in let one_each = c.requires.one_each in omega (arith, kept, one_each)) in
+    (let kept = c.loop-dropper.invariant.len in let one_each = c.requires.len in omega (arith, kept, one_each)) in
     let end : c.loop-dropper.dropper ≡ length parts = (let last = c.loop-dropper-test.false in
     let fits = c.loop-dropper.auto.dropper-end in
     let same = length-map c.args.parts.now (λ part. part.items) in

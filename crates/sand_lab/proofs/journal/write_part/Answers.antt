@@ -16,9 +16,9 @@ loop-receipt-preserved c =
     let here : slice_get rs i ≡ Some r = slice_get-get_or rs i (receipt 0 0) below in
     let inside = c.requires.below i (receipt 0 0) below in
     let invariant = c.loop-receipt.invariant in
-    let long = invariant.long in
+    let long = invariant.len in
     record {
-      long = long;
+      len = long;
       noted = part_more c.args.dropper i rs js r here c.requires.ascends (omega (arith, inside, long)) invariant.noted;
       others = else_more c.args.dropper i rs js r here c.args.journal.now.items invariant.others;
     }
@@ -29,7 +29,7 @@ returns c =
     let invariant = c.loop-receipt.invariant in
     let end = c.loop-receipt-test.false in
     record {
-      long = invariant.long;
+      len = invariant.len;
       entries = λ i r there.
           let inside = slice_get_within rs i r there in invariant.noted i r (omega (arith, inside, end)) there;
       others = λ n none. invariant.others n (λ j r before there e.

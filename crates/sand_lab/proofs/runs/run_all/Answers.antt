@@ -3,8 +3,8 @@ use Rattle.sand_lab.specs.Reports.{IsReportOf}
 use Rattle.sand_lab.proofs.OneEpochMore.{room_for_epoch}
 use Rattle.sand_lab.proofs.runs.run_all.Goals as goal
 
-pub add_epoch-requires-clause-few : goal.add_epoch-requires-clause-few
-add_epoch-requires-clause-few g c =
+pub add_epoch-requires-clause-bound : goal.add_epoch-requires-clause-bound
+add_epoch-requires-clause-bound g c =
     omega (arith, c.loop-epoch-test.true, c.requires.plan.epochs, c.loop-epoch.invariant.all)
 
 pub add_epoch-requires-clause-room : goal.add_epoch-requires-clause-room

@@ -6,7 +6,7 @@ use Rattle.sand_model.proofs.pile.spread.Goals as goal
 
 pub give-requires-clause-inside : goal.give-requires-clause-inside
 give-requires-clause-inside c = place_inside c.args.shape c.args.site _ 0 _
-    c.neighbours.ensures c.requires.site (length-set _ _ _ ∙ c.requires.one_each)
+    c.neighbours.ensures c.requires.site (length-set _ _ _ ∙ c.requires.len)
 
 pub give-requires-2-clause-inside : goal.give-requires-2-clause-inside
 give-requires-2-clause-inside c =
@@ -24,11 +24,11 @@ pub returns-clause-toppled : goal.returns-clause-toppled
 returns-clause-toppled c =
     toppled_once c.args.shape c.args.site _ _
     (spread_toppled c.args.shape c.args.site 1 c.args.heights.now c.give-4.new.heights c.neighbours.result
-    c.neighbours.ensures c.requires.site c.requires.one_each (omega (arith, c.requires.high))
+    c.neighbours.ensures c.requires.site c.requires.len (omega (arith, c.requires.high))
     (λ j.
     omega (arith, c.give.ensures.each j, c.give-2.ensures.each j, c.give-3.ensures.each j, c.give-4.ensures.each j)))
 
 pub returns-clause-total : goal.returns-clause-total
 returns-clause-total c =
     spread_sum c.args.shape c.args.site c.args.heights.now c.give-4.new.heights c.requires.site
-    c.requires.one_each (omega (arith, length-set {A = ℕ})) (returns-clause-toppled c)
+    c.requires.len (omega (arith, length-set {A = ℕ})) (returns-clause-toppled c)

@@ -12,7 +12,7 @@ invariant_of-pile c =
     rw back (
       record {
         grid = c.pile.invariant.0.grid;
-        one_each = omega (arith, ap length c.deref_mut.ensures.value, c.pile.invariant.0.one_each);
+        len = omega (arith, ap length c.deref_mut.ensures.value, c.pile.invariant.0.len);
         limit = omega (arith, c.spread.ensures.total, c.pile.invariant.0.limit, ap sum c.deref_mut.ensures.value);
       },
       omega (arith, c.pile.invariant.1, c.spread.ensures.total, ap sum c.deref_mut.ensures.value),

@@ -16,7 +16,7 @@ few : (c : In_ok-is_settled)
     → (sum c.topple_to_rest.new.counts < 2 ^ 54) × (sum c.topple_to_rest.new.heights ≤ sum c.args.heights.now)
 few c = few_and_left (record { grid = c.args.shape; heights = c.args.heights.now })
     c.topple_to_rest.new.counts c.topple_to_rest.new.heights
-    (record { grid = c.requires.sides; one_each = c.requires.heights_each; limit = c.requires.limit })
+    (record { grid = c.requires.sides; len = c.requires.heights_each; limit = c.requires.limit })
     (c.topple_to_rest.auto.counts ∙ c.requires.odometer_each)
     (c.topple_to_rest.auto.heights ∙ c.requires.heights_each) (done c)
 
@@ -40,7 +40,7 @@ returns-clause-record c =
       topplings = c.sum_of-topplings.result;
       lost = c.args.grains - c.sum_of-left.result;
     })
-    (record { grid = c.requires.sides; one_each = c.requires.heights_each; limit = c.requires.limit })
+    (record { grid = c.requires.sides; len = c.requires.heights_each; limit = c.requires.limit })
     refl (c.topple_to_rest.auto.heights ∙ c.requires.heights_each)
     (c.topple_to_rest.auto.counts ∙ c.requires.odometer_each)
     (done (goal.at.returns-clause-record c).In_ok-is_settled) c.sum_of-topplings.ensures

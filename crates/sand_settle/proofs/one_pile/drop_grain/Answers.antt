@@ -20,8 +20,8 @@ poured c =
     c.drop_into-avalanche.auto.heights c.drop_into-avalanche.auto.odometer c.drop_into-avalanche.ensures.never_falls
     c.drop_into-avalanche.ensures.settled c.drop_into-avalanche.ensures.avalanche
 
-pub drop_into-avalanche-requires-clause-few : goal.drop_into-avalanche-requires-clause-few
-drop_into-avalanche-requires-clause-few c j inside =
+pub drop_into-avalanche-requires-clause-bound : goal.drop_into-avalanche-requires-clause-bound
+drop_into-avalanche-requires-clause-bound c j inside =
     few_so_far c.args.settled c.deref_mut-2.result.now c.requires.paid
     (c.deref_mut-2.ensures.value ∙ ap (λ (r : SettledView). r.odometer) c.settled.view_is) j
     (let same = ap sites c.requires.tiled.one_grid in omega arith)

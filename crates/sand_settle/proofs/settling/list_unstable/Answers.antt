@@ -19,7 +19,7 @@ loop-site-init c = record {
 pub loop-site-preserved : goal.loop-site-preserved
 loop-site-preserved c = record {
   listed = rw (ap (λ (l : ListView). l.items) c.push_if.ensures) (lists_more c.loop-site.site
-      (may_topple (λ j. get_or c.args.heights.now j 0)) c.loop-site.wave.items c.loop-site.invariant.listed);
+      (may_topple (λ j. get_or c.args.heights.now j 0)) c.loop-site.generation.items c.loop-site.invariant.listed);
   room = ap (λ (l : ListView). l.room) c.push_if.ensures ∙ c.loop-site.invariant.room;
 }
 

@@ -5,6 +5,6 @@ use Rattle.sand_settle.proofs.settling.list_unstable.Given as goal
 
 abbrev pub invariant-loop-site : goal.invariant-loop-site
 invariant-loop-site l = record {
-  listed : Lists l.site (may_topple (λ j. get_or l.heights j 0)) l.wave.items;
-  room : l.wave.room ≡ l.fn.wave.room;
+  listed : Lists l.site (may_topple (λ j. get_or l.heights j 0)) l.generation.items;
+  room : l.generation.room ≡ l.fn.generation.room;
 }

@@ -12,14 +12,14 @@ pub from_vec-settled-requires-clause-limit : goal.from_vec-settled-requires-clau
 from_vec-settled-requires-clause-limit c =
     let all = sum_left c.args.pile.now.grid c.args.pile.now.heights
     c.args.rest.heights.items (λ j. get_or c.args.rest.odometer.items j 0)
-    c.grains-before.ensures.pile.one_each c.requires.heights_each c.requires.settled.toppled in
+    c.grains-before.ensures.pile.len c.requires.heights_each c.requires.settled.toppled in
     omega (arith, c.grains-before.ensures.pile.limit)
 
 pub overflow_sub-lost : goal.overflow_sub-lost
 overflow_sub-lost c =
     let all = sum_left c.args.pile.now.grid c.args.pile.now.heights
     c.args.rest.heights.items (λ j. get_or c.args.rest.odometer.items j 0)
-    c.grains-before.ensures.pile.one_each c.requires.heights_each c.requires.settled.toppled in
+    c.grains-before.ensures.pile.len c.requires.heights_each c.requires.settled.toppled in
     omega (
       arith,
       c.grains-before.ensures.value,
@@ -57,8 +57,8 @@ of_parts-requires-clause-settled c =
     let here = made (goal.at.of_parts-requires-clause-settled c).After-grains in
     (height_of c.args.pile.now, subst P (sym here.grid) here)
 
-pub of_parts-requires-clause-small : goal.of_parts-requires-clause-small
-of_parts-requires-clause-small c =
+pub of_parts-requires-clause-fits : goal.of_parts-requires-clause-fits
+of_parts-requires-clause-fits c =
     let bound = sum_bound c.args.pile.now c.args.rest.odometer.items c.args.rest.heights.items
     c.grains-before.ensures.pile c.requires.odometer_each c.requires.settled in
     omega arith
@@ -74,7 +74,7 @@ returns-clause-kept c =
     let record_of = subst (λ (r : SettledView). IsSettledRecord start.grid (height_of start) r)
     (sym c.of_parts.ensures) (made (goal.at.returns-clause-kept c).After-grains) in
     let kept = grains_kept start.grid (height_of start) c.of_parts.result record_of in
-    let before = sum_is_grains start.grid start.heights c.grains-before.ensures.pile.one_each in
+    let before = sum_is_grains start.grid start.heights c.grains-before.ensures.pile.len in
     omega arith
 
 pub returns-clause-half : goal.returns-clause-half

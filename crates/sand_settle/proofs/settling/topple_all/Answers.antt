@@ -17,54 +17,54 @@ pays : (c : After-fill) → 2 * topplings c.args.lattice.now (λ j. get_or c.fil
 pays c = few_at_first c.args.lattice.now (λ j. get_or c.fill.new.self j 0) c.args.heights.now
     c.knows_sides.ensures c.requires.heights_each c.requires.limit (uncounted c)
 
-pub waves-init : goal.waves-init
-waves-init c = record {
+pub generations-init : goal.generations-init
+generations-init c = record {
   heights_each = c.requires.heights_each;
   counts_each = c.fill.ensures.len ∙ c.requires.counts_each;
-  turns_each = omega arith;
+  spent = omega arith;
   advances = record { underway = λ s before. before; weight_pays = omega arith; grains_fall = omega arith };
   waiting = lists_of _ _ _ _ c.requires.heights_each c.list_unstable.ensures.waiting;
-  wave_room = omega (arith, c.list_unstable.ensures.room, c.requires.wave_room);
+  generation_room = omega (arith, c.list_unstable.ensures.room, c.requires.generation_room);
   next_room = c.requires.next_room;
 }
 
-pub topple_wave-requires-clause-limit : goal.topple_wave-requires-clause-limit
-topple_wave-requires-clause-limit c =
-    let falls = sum_falls c.args.lattice.now _ _ c.args.heights.now c.waves.heights
-    c.requires.heights_each c.waves.invariant.heights_each c.waves.invariant.advances in
+pub topple_generation-requires-clause-limit : goal.topple_generation-requires-clause-limit
+topple_generation-requires-clause-limit c =
+    let falls = sum_falls c.args.lattice.now _ _ c.args.heights.now c.generations.heights
+    c.requires.heights_each c.generations.invariant.heights_each c.generations.invariant.advances in
     omega (arith, c.requires.limit)
 
-pub topple_wave-requires-clause-few : goal.topple_wave-requires-clause-few
-topple_wave-requires-clause-few c =
-    let first = pays (goal.at.topple_wave-requires-clause-few c).After-fill in
-    let later = c.waves.invariant.advances.weight_pays in
+pub topple_generation-requires-clause-bound : goal.topple_generation-requires-clause-bound
+topple_generation-requires-clause-bound c =
+    let first = pays (goal.at.topple_generation-requires-clause-bound c).After-fill in
+    let later = c.generations.invariant.advances.weight_pays in
     omega arith
 
-pub waves-preserved : goal.waves-preserved
-waves-preserved c = record {
-  heights_each = omega (arith, c.waves.invariant.heights_each, c.topple_wave.auto.heights);
-  counts_each = omega (arith, c.waves.invariant.counts_each, c.topple_wave.auto.counts);
-  turns_each = omega (arith, c.waves.invariant.turns_each, c.topple_wave.ensures.each_topples);
-  advances = advance_more c.args.lattice.now _ _ _ _ _ _ c.waves.invariant.advances c.topple_wave.ensures.advances;
-  waiting = rw (ap (λ (l : ListView). l.items) c.swap.ensures.x_after) c.topple_wave.ensures.waiting;
-  wave_room = omega (
+pub generations-preserved : goal.generations-preserved
+generations-preserved c = record {
+  heights_each = omega (arith, c.generations.invariant.heights_each, c.topple_generation.auto.heights);
+  counts_each = omega (arith, c.generations.invariant.counts_each, c.topple_generation.auto.counts);
+  spent = omega (arith, c.generations.invariant.spent, c.topple_generation.ensures.each_topples);
+  advances = advance_more c.args.lattice.now _ _ _ _ _ _ c.generations.invariant.advances c.topple_generation.ensures.advances;
+  waiting = rw (ap (λ (l : ListView). l.items) c.swap.ensures.x_after) c.topple_generation.ensures.waiting;
+  generation_room = omega (
     arith,
     ap (λ (l : ListView). l.room) c.swap.ensures.x_after,
-    c.topple_wave.ensures.room,
-    c.waves.invariant.next_room,
+    c.topple_generation.ensures.room,
+    c.generations.invariant.next_room,
   );
-  next_room = omega (arith, ap (λ (l : ListView). l.room) c.swap.ensures.y_after, c.waves.invariant.wave_room);
+  next_room = omega (arith, ap (λ (l : ListView). l.room) c.swap.ensures.y_after, c.generations.invariant.generation_room);
 }
 
 pub returns-clause-settled : goal.returns-clause-settled
 returns-clause-settled c _ =
-    let none : c.waves.wave.items ≡ [] = nil_from_length c.waves.wave.items (omega (arith, c.len.ensures.value)) in
-    let waiting = rw none at c.waves.invariant.waiting in
+    let none : c.generations.generation.items ≡ [] = nil_from_length c.generations.generation.items (omega (arith, c.len.ensures.value)) in
+    let waiting = rw none at c.generations.invariant.waiting in
     settled_at_last c.args.lattice.now _ _ _ _ (uncounted (goal.at.returns-clause-settled c).After-fill)
-    c.waves.invariant.advances (all_low (sites c.args.lattice.now) (λ j. get_or c.waves.heights j 0) waiting)
+    c.generations.invariant.advances (all_low (sites c.args.lattice.now) (λ j. get_or c.generations.heights j 0) waiting)
 
 pub returns-then-left-eq0-clause-ends : goal.returns-then-left-eq0-clause-ends
 returns-then-left-eq0-clause-ends c many =
     let first = pays (goal.at.returns-then-left-eq0-clause-ends c).After-fill in
-    let later = c.waves.invariant.advances.weight_pays in
-    absurd (omega (arith, many, c.waves.invariant.turns_each, c.if-left-eq0.true))
+    let later = c.generations.invariant.advances.weight_pays in
+    absurd (omega (arith, many, c.generations.invariant.spent, c.if-left-eq0.true))

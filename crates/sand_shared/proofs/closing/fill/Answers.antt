@@ -13,7 +13,7 @@ loop-receipt-preserved c =
     let inv = c.loop-receipt.invariant in
     let inside = c.requires.inside j (receipt 0 0) below in
     record {
-      long = length-set _ _ _ ∙ inv.long;
+      len = length-set _ _ _ ∙ inv.len;
       told = told_more c.args.receipts.now j (receipt 0 0)
           c.loop-receipt.history.items below c.requires.once (omega arith) inv.told;
     }

@@ -6,11 +6,11 @@ use Rattle.sand_model.proofs.Sandpile.{settled_same}
 use Rattle.sand_settle.specs.Settling.{odometer_of}
 use Rattle.sand_shared.proofs.completing.record_of.Goals as goal
 
-pub add-requires-clause-small : goal.add-requires-clause-small
-add-requires-clause-small c i l =
+pub add-requires-clause-fits : goal.add-requires-clause-fits
+add-requires-clause-fits c i l =
     let same = ap (λ (l : List ℕ). length l) c.odometers.ensures.value in
     let here = ap (λ (l : List ℕ). slice_index l i) c.odometers.ensures.value in
-    let small = c.requires.small i (omega arith) in omega arith
+    let small = c.requires.fits i (omega arith) in omega arith
 
 pub of_lists-requires : goal.of_lists-requires
 of_lists-requires c =
@@ -22,7 +22,7 @@ of_lists-requires c =
     record {
       all_sites = c.requires.all_sites;
       limit = c.requires.limit;
-      one_each = (ap (λ (l : List ℕ). length l) heights ∙ c.requires.heights_each, c.add.ensures.long ∙ c.requires.counts_each);
+      len = (ap (λ (l : List ℕ). length l) heights ∙ c.requires.heights_each, c.add.ensures.len ∙ c.requires.counts_each);
       settled = settled_same start.grid
           (λ i. height_of start i + occurrences c.args.history.items i) (λ i. height_of start i + occurrences c.args.history.items i)
           (λ i. slice_index counts i + odometer_of c.args.rest i) (slice_index c.add.new.numbers.items)

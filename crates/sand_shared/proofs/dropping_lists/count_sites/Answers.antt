@@ -9,7 +9,7 @@ use Rattle.sand_shared.proofs.dropping_lists.count_sites.Goals.{After-index_mut}
 read : (c : After-index_mut)
     → c.index_mut.result.now ≡ slice_index c.drops.counts.items (get_or c.args.drops.now c.drops.site-index 0)
 read c = read_count (length c.args.counts.now.items) c.drops.site-index _ c.drops.counts.items
-    c.args.drops.now c.drops.invariant.long c.requires.inside c.drops-test.true c.index_mut.ensures.value
+    c.args.drops.now c.drops.invariant.len c.requires.inside c.drops-test.true c.index_mut.ensures.value
 
 pub overflow_add-index_mut : goal.overflow_add-index_mut
 overflow_add-index_mut c =
@@ -30,7 +30,7 @@ drops-preserved c =
     let n = length c.args.counts.now.items in
     let inside = c.requires.inside k 0 below in
     record {
-      long = length-set cs (get_or ds k 0) (c.index_mut.result.now + 1) ∙ inv.long;
+      len = length-set cs (get_or ds k 0) (c.index_mut.result.now + 1) ∙ inv.len;
       counted = subst (λ z. (i : ℕ) → i < n → get_or (set cs (get_or ds k 0) (z + 1)) i 0 ≡ occurrences (take (k + 1) ds) i)
           (sym (read (goal.at.drops-preserved c).After-index_mut))
           (counted_more n k cs ds below (omega arith) inv.counted);

@@ -5,7 +5,7 @@ use Rattle.sand_shared.specs.Events.{receipt, receipts_from}
 use Rattle.sand_shared.proofs.dropping_lists.note.Goals as goal
 
 pub drops-init : goal.drops-init
-drops-init c = record { next = omega arith; capacity = refl; long = omega arith; rest = refl }
+drops-init c = record { next = omega arith; capacity = refl; len = omega arith; rest = refl }
 
 pub drops-preserved : goal.drops-preserved
 drops-preserved c =
@@ -13,14 +13,14 @@ drops-preserved c =
     let k = c.drops.site-index in
     let here = drop_more ds k 0 (omega arith) in
     let inv = c.drops.invariant in
-    let long = inv.long in
+    let long = inv.len in
     let n = c.drops.next in
     let rs = c.drops.receipts.items in
     let items = c.push_reserved.ensures.items in
     record {
       next = omega arith;
       capacity = c.push_reserved.ensures.capacity ∙ inv.capacity;
-      long =
+      len =
           ap (λ (l : List Receipt). length l) items ∙ omega (arith, length-append rs (receipt n (get_or ds k 0) ∷ []));
       rest = ap (λ (l : List Receipt). l ++ receipts_from (n + 1) (drop (k + 1) ds)) items
           ∙ (append_assoc rs (receipt n (get_or ds k 0) ∷ []) (receipts_from (n + 1) (drop (k + 1) ds))

@@ -6,7 +6,7 @@ abbrev pub invariant-drops : goal.invariant-drops
 invariant-drops l = record {
   next : l.next ≡ l.number + l.site-index;
   capacity : vec_capacity l.receipts ≡ vec_capacity l.initial.receipts;
-  long : length l.receipts.items ≡ length l.initial.receipts.items + l.site-index;
+  len : length l.receipts.items ≡ length l.initial.receipts.items + l.site-index;
   rest : l.receipts.items ++ receipts_from l.next (drop l.site-index l.drops)
       ≡ l.initial.receipts.items ++ receipts_from l.number l.drops;
 }

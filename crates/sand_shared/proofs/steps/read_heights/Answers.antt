@@ -15,7 +15,7 @@ loop-site-preserved c =
     let a = c.word.result in
     let i = c.loop-site.site in
     record {
-      long = ap (λ l. length l) items ∙ omega (arith, length-append xs (a ∷ []));
+      len = ap (λ l. length l) items ∙ omega (arith, length-append xs (a ∷ []));
       room = omega (arith, c.push_reserved.ensures.capacity, inv.room);
       read = λ k l. ap (λ ys. get_or ys k 0) items ∙ ⊎_elim
           (λ (e : k ≡ i). ap (λ z. get_or (xs ++ a ∷ []) z 0) {x = k} {y = length xs} (omega arith)

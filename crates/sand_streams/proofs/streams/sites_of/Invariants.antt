@@ -7,6 +7,6 @@ abbrev pub invariant-loop : goal.invariant-loop
 invariant-loop l = record {
   reader : l.reader ≡ record { sites = sites l.fn.shape; seed = l.seed; stream = l.stream; read = l.counter };
   room : l.count ≤ vec_capacity l.read;
-  long : vec_len l.read ≡ l.counter;
+  len : vec_len l.read ≡ l.counter;
   items : l.read.items ≡ stream_sites (sites l.fn.shape) l.seed l.stream l.counter;
 }

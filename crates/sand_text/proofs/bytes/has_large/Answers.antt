@@ -5,15 +5,15 @@ use Rattle.sand_text.proofs.bytes.has_large.Goals as goal
 pub loop-byte-init : goal.loop-byte-init
 loop-byte-init c = record {
   so_far = large_start c.args.text.now;
-  small = omega arith;
+  bound = omega arith;
 }
 
 pub loop-byte-preserved : goal.loop-byte-preserved
 loop-byte-preserved c = record {
   so_far = one_byte c.args.text.now c.loop-byte.byte-index c.loop-byte.value c.run_value-value.result
-      c.loop-byte-test.true c.loop-byte.invariant.small c.run_value-value.ensures c.if-value-gt-GRAIN_LIMIT.false
+      c.loop-byte-test.true c.loop-byte.invariant.bound c.run_value-value.ensures c.if-value-gt-GRAIN_LIMIT.false
       ∙ c.loop-byte.invariant.so_far;
-  small = c.if-value-gt-GRAIN_LIMIT.false;
+  bound = c.if-value-gt-GRAIN_LIMIT.false;
 }
 
 pub returns-then-value-gt-GRAIN_LIMIT : goal.returns-then-value-gt-GRAIN_LIMIT
@@ -23,5 +23,5 @@ returns-then-value-gt-GRAIN_LIMIT c = sym (found_large c.args.text.now c.loop-by
 
 pub returns : goal.returns
 returns c =
-    sym (none_large c.args.text.now c.loop-byte.byte-index c.loop-byte.value (omega arith) c.loop-byte.invariant.small)
+    sym (none_large c.args.text.now c.loop-byte.byte-index c.loop-byte.value (omega arith) c.loop-byte.invariant.bound)
     ∙ c.loop-byte.invariant.so_far

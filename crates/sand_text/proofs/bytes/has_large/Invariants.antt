@@ -7,5 +7,5 @@ use Rattle.sand_model.specs.Piles.{most_grains}
 abbrev pub invariant-loop-byte : goal.invariant-loop-byte
 invariant-loop-byte l = record {
   so_far : large_from l.value l.byte-index l.text ≡ has_large l.text;
-  small : l.value ≤ most_grains;
+  bound : l.value ≤ most_grains;
 }

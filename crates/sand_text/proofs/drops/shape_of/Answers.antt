@@ -54,8 +54,8 @@ pub returns-in-None-clause-enough : goal.returns-in-None-clause-enough
 returns-in-None-clause-enough c =
     (c.in_ok-shape.ensures.ok (tokens c.args.text.now) _ c.in_ok-survey.ensures.ok (inl refl)).enough
 
-pub returns-in-None-clause-one_each : goal.returns-in-None-clause-one_each
-returns-in-None-clause-one_each c =
+pub returns-in-None-clause-len : goal.returns-in-None-clause-len
+returns-in-None-clause-len c =
     let shaped = c.in_ok-shape.ensures.ok (tokens c.args.text.now) _ c.in_ok-survey.ensures.ok (inl refl) in
     one_each _ _ (tokens c.args.text.now) c.in_ok-survey.survey c.in_ok-shape.shape shaped
 

@@ -27,8 +27,8 @@ returns-clause-pile c =
 pub returns-clause-enough : goal.returns-clause-enough
 returns-clause-enough c = (c.in_ok-shape.ensures.ok (tokens c.args.text.now) _ c.in_ok-survey.ensures.ok refl).enough
 
-pub returns-clause-one_each : goal.returns-clause-one_each
-returns-clause-one_each c =
+pub returns-clause-len : goal.returns-clause-len
+returns-clause-len c =
     let shaped = c.in_ok-shape.ensures.ok (tokens c.args.text.now) _ c.in_ok-survey.ensures.ok refl in
     one_each _ _ (tokens c.args.text.now) c.in_ok-survey.survey c.in_ok-shape.shape shaped
 

@@ -2,10 +2,10 @@ use Rattle.std.proofs.Common.{arith, append_assoc, append-nil, ◌∙◌, sym}
 use Rattle.sand_text.proofs.RowSteps.{row_text-next, row_text-end}
 use Rattle.sand_text.proofs.rows.push_row.Goals as goal
 
-pub loop-place-preserved : goal.loop-place-preserved
-loop-place-preserved c =
-    let next = row_text-next c.args.numbers.now c.loop-place.place (omega arith) in
-    let grown = rw next at c.loop-place.invariant.written in
+pub loop-index-preserved : goal.loop-index-preserved
+loop-index-preserved c =
+    let next = row_text-next c.args.numbers.now c.loop-index.index (omega arith) in
+    let grown = rw next at c.loop-index.invariant.written in
     record {
       written = rw (
         c.in_ok-push.ensures.items,
@@ -14,11 +14,11 @@ loop-place-preserved c =
         append_assoc,
         append_assoc,
       ) grown;
-      few =
-          omega (arith, c.loop-place.invariant.few, c.in_ok-push_number.ensures.few, c.in_ok-push.ensures.upper_bound);
+      bound =
+          omega (arith, c.loop-index.invariant.bound, c.in_ok-push_number.ensures.bound, c.in_ok-push.ensures.upper_bound);
       capacity = omega (
         arith,
-        c.loop-place.invariant.capacity,
+        c.loop-index.invariant.capacity,
         c.in_ok-push_number.ensures.capacity,
         c.in_ok-push.ensures.capacity,
       );
@@ -26,5 +26,5 @@ loop-place-preserved c =
 
 pub returns-clause-written : goal.returns-clause-written
 returns-clause-written c =
-    let none = row_text-end c.args.numbers.now c.loop-place.place (omega arith) in
-    sym (append-nil _) ∙ rw none at c.loop-place.invariant.written
+    let none = row_text-end c.args.numbers.now c.loop-index.index (omega arith) in
+    sym (append-nil _) ∙ rw none at c.loop-index.invariant.written

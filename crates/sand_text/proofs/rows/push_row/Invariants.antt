@@ -2,9 +2,9 @@ use Rattle.std.proofs.Common.{◌≡◌, ◌++◌, ◌+◌, ◌*◌, ◌≤◌, 
 use Rattle.sand_text.specs.Texts.{row_text}
 use Rattle.sand_text.proofs.rows.push_row.Given as goal
 
-abbrev pub invariant-loop-place : goal.invariant-loop-place
-invariant-loop-place l = record {
-  written : l.text.items ++ row_text (drop l.place l.numbers) ≡ l.fn.text.items ++ row_text l.numbers;
-  few : vec_len l.text ≤ vec_len l.fn.text + 21 * l.place;
+abbrev pub invariant-loop-index : goal.invariant-loop-index
+invariant-loop-index l = record {
+  written : l.text.items ++ row_text (drop l.index l.numbers) ≡ l.fn.text.items ++ row_text l.numbers;
+  bound : vec_len l.text ≤ vec_len l.fn.text + 21 * l.index;
   capacity : vec_capacity l.fn.text ≤ vec_capacity l.text;
 }

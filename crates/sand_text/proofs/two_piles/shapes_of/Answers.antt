@@ -71,9 +71,9 @@ returns-clause-enough c =
     let at = goal.at.returns-clause-enough c in
     ((first_is at.In_ok-first_shape).enough, (second_in_text at.In_ok-second_shape (first_is at.In_ok-first_shape)).0)
 
-pub returns-clause-one_each : goal.returns-clause-one_each
-returns-clause-one_each c =
-    let at = goal.at.returns-clause-one_each c in (
+pub returns-clause-len : goal.returns-clause-len
+returns-clause-len c =
+    let at = goal.at.returns-clause-len c in (
       one_each _ _ (tokens c.args.text.now) c.in_ok-first.first c.in_ok-first_shape.first_shape
           (first_is at.In_ok-first_shape),
       (second_in_text at.In_ok-second_shape (first_is at.In_ok-first_shape)).1,

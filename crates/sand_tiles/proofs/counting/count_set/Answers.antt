@@ -4,8 +4,8 @@ use Rattle.sand_tiles.proofs.counting.count_set.Goals as goal
 
 pub spill-requires : goal.spill-requires
 spill-requires c = record {
-  few = λ p low.
-      let few = c.requires.few p low in
+  bound = λ p low.
+      let few = c.requires.bound p low in
       let more = c.add_to.ensures p low in
       let one = bit_le c.args.set p in
       omega arith;
@@ -13,7 +13,7 @@ spill-requires c = record {
 
 pub returns-else-count-eq-SPILL-clause-sound : goal.returns-else-count-eq-SPILL-clause-sound
 returns-else-count-eq-SPILL-clause-sound c = record {
-  few = omega (arith, c.requires.sound.few, c.if-count-eq-SPILL.false);
+  bound = omega (arith, c.requires.sound.bound, c.if-count-eq-SPILL.false);
   each = λ p low.
       let few = c.requires.sound.each p low in
       let more = c.add_to.ensures p low in

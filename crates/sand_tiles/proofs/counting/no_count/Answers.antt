@@ -5,7 +5,7 @@ use Rattle.sand_tiles.proofs.counting.no_count.Goals as goal
 
 pub returns-clause-sound : goal.returns-clause-sound
 returns-clause-sound c = record {
-  few = omega arith;
+  bound = omega arith;
   each = λ p low. let z = bit_none p in omega arith;
 }
 

@@ -9,7 +9,7 @@ use Rattle.sand_tiles.proofs.counting.spill.Goals as goal
 pub overflow_add-count : goal.overflow_add-count
 overflow_add-count c =
     let i : ℕ = c.loop-place.place in
-    let few = c.requires.few i (omega (arith, c.loop-place-test.true)) in
+    let few = c.requires.bound i (omega (arith, c.loop-place-test.true)) in
     let waiting = c.loop-place.invariant.waiting i (omega arith) in
     let kept = ap (λ k. times k i) c.loop-place.invariant.planes_kept in
     omega (arith, c.number_at.ensures)

@@ -13,16 +13,16 @@ tile_is c = tile_read c.args.tiles.now.items c.args.k _ c.requires.tile c.index.
 
 count_is : (c : After-index_mut-2) → c.index_mut-2.result.now ≡ counts_of c.args.self.now c.args.k
 count_is c =
-    count_read c.args.self.now.each.items c.args.k _ (omega (arith, c.requires.tile, c.requires.one_each.0))
+    count_read c.args.self.now.each.items c.args.k _ (omega (arith, c.requires.tile, c.requires.len.0))
     c.index_mut-2.ensures.value
 
 pub count_set-requires-clause-sound : goal.count_set-requires-clause-sound
 count_set-requires-clause-sound c =
     subst IsCount (sym (count_is (goal.at.count_set-requires-clause-sound c).After-index_mut-2)) c.requires.sound
 
-pub count_set-requires-clause-few : goal.count_set-requires-clause-few
-count_set-requires-clause-few c =
-    rw (count_is (goal.at.count_set-requires-clause-few c).After-index_mut-2) c.requires.few
+pub count_set-requires-clause-bound : goal.count_set-requires-clause-bound
+count_set-requires-clause-bound c =
+    rw (count_is (goal.at.count_set-requires-clause-bound c).After-index_mut-2) c.requires.bound
 
 pub returns-clause-counted : goal.returns-clause-counted
 returns-clause-counted c =
@@ -30,7 +30,7 @@ returns-clause-counted c =
     let read = tile_is (goal.at.returns-clause-counted c).After-index in
     let read' = tile_read ts c.args.k _ c.requires.tile c.index_mut.ensures.value in
     counted_one ts c.args.self.now c.args.k c.index.result.now.wave (record c.index_mut.result.now { wave = 0 })
-    c.index_mut-2.result.now c.count_set.new.count c.mark.new.self c.requires.tile c.requires.one_each.0
-    c.mark.ensures.one_each (ap (λ (x : Tile). x.wave) read) (ap (λ (x : Tile). record x { wave = 0 }) read')
+    c.index_mut-2.result.now c.count_set.new.count c.mark.new.self c.requires.tile c.requires.len.0
+    c.mark.ensures.len (ap (λ (x : Tile). x.wave) read) (ap (λ (x : Tile). record x { wave = 0 }) read')
     (count_is (goal.at.returns-clause-counted c).After-index_mut-2) c.count_set.ensures.sound c.count_set.ensures.each
     c.mark.ensures.each

@@ -11,11 +11,11 @@ use Rattle.sand_fronts.proofs.marks.Marks.take_last.Goals as goal
 inside : (c : After-item-k) → c.item-k.result < length c.self.inside.words.items
 inside c =
     let view = ap (λ (x : MarksView). length x.tiles) c.self.view_is in
-    let turn = c.len-last.result - 1 in
+    let position = c.len-last.result - 1 in
     let list = c.self.inside.tiles.items in
-    let less : turn < length list = omega arith in
-    read_below (length c.self.inside.words.items) (has_mark c.self.inside.words.items) list turn c.item-k.result
-    c.self.invariant.1 less (c.item-k.ensures ∙ sym (get_or_default_zero list turn c.item-k.result less))
+    let less : position < length list = omega arith in
+    read_below (length c.self.inside.words.items) (has_mark c.self.inside.words.items) list position c.item-k.result
+    c.self.invariant.1 less (c.item-k.ensures ∙ sym (get_or_default_zero list position c.item-k.result less))
 
 pub index-set-requires : goal.index-set-requires
 index-set-requires c = let less = inside (goal.at.index-set-requires c).After-item-k in omega arith
@@ -33,12 +33,12 @@ pub invariant_of-self : goal.invariant_of-self
 invariant_of-self c =
     let ws = c.self.inside.words.items in
     let k = c.item-k.result in
-    let turn = c.len-last.result - 1 in
+    let position = c.len-last.result - 1 in
     let view = ap (λ (x : MarksView). length x.tiles) c.self.view_is in
     let each = length-set ws k 0 in
     let room = ap (λ (l : ListView). l.room) c.truncate.ensures in (
       omega (arith, c.self.invariant.0),
-      rw (c.truncate.ensures) (lists_taken ws c.self.inside.tiles.items k turn
+      rw (c.truncate.ensures) (lists_taken ws c.self.inside.tiles.items k position
           (inside (goal.at.invariant_of-self c).After-item-k) c.item-k.ensures (omega arith) c.self.invariant.1),
     )
 

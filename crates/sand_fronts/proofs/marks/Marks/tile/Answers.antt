@@ -9,7 +9,7 @@ returns-clause-within c =
     let ws = c.self.inside.words.items in
     let turns = ap (λ (x : MarksView). length x.tiles) c.self.view_is in
     let sets = ap (λ (x : MarksView). length x.sets) c.self.view_is in
-    let less : c.args.turn < length c.self.inside.tiles.items = omega arith in
-    let few = read_below (length ws) (has_mark ws) c.self.inside.tiles.items c.args.turn c.item.result c.self.invariant.1
-    less (c.item.ensures ∙ sym (get_or_default_zero c.self.inside.tiles.items c.args.turn c.item.result less)) in
+    let less : c.args.position < length c.self.inside.tiles.items = omega arith in
+    let few = read_below (length ws) (has_mark ws) c.self.inside.tiles.items c.args.position c.item.result c.self.invariant.1
+    less (c.item.ensures ∙ sym (get_or_default_zero c.self.inside.tiles.items c.args.position c.item.result less)) in
     omega arith

@@ -13,9 +13,9 @@ returns c =
     let new = c.receive.new.tile in
     let read = tile_read ts k c.index_mut-tile.result.now c.requires.inside c.index_mut-tile.ensures.value in
     let word = get_or_read c.args.board.now.free.items k c.index-free.result.now
-    (omega (arith, c.requires.inside, c.requires.one_each)) c.index-free.ensures 0 in
+    (omega (arith, c.requires.inside, c.requires.len)) c.index-free.ensures 0 in
     record {
-      one_each = length-set {A = Tile} ts k new;
+      len = length-set {A = Tile} ts k new;
       gains = gains_one (free_of c.args.board.now) ts k new c.args.gain c.requires.inside
           (rw (← read, ← word) c.receive.ensures);
       joins = joins_one ts k c.index_mut-tile.result.now new

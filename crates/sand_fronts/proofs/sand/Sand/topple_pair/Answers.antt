@@ -20,7 +20,7 @@ inside c =
     let e = length-set {A = Tile} c.args.self.now.tiles.items c.args.j c.visit_pair-new_one.new.one in
     let j = c.requires.tile.inside in
     let k = c.requires.other_tile.inside in
-    let each = c.requires.sand.one_each in
+    let each = c.requires.sand.len in
     (omega (arith, j, each), omega (arith, k, each), omega (arith, e, k, each))
 
 -- what both have handed over
@@ -50,8 +50,8 @@ returns-clause-steps c =
     let t = tile_read ts k _ within.1 c.index-2.ensures in
     let f = get_or_read free j _ (omega (arith, j_in, board.free_each)) c.index-3.ensures 0 in
     let h = get_or_read free k _ (omega (arith, k_in, board.free_each)) c.index-4.ensures 0 in
-    let b = beside_read all j _ (omega (arith, j_in, board.beside.one_each)) c.index-5.ensures in
-    let d = beside_read all k _ (omega (arith, k_in, board.beside.one_each)) c.index-6.ensures in
+    let b = beside_read all j _ (omega (arith, j_in, board.beside.len)) c.index-5.ensures in
+    let d = beside_read all k _ (omega (arith, k_in, board.beside.len)) c.index-6.ensures in
     record {
       one = record {
         tile = one;
@@ -78,7 +78,7 @@ returns-clause-joins c =
     let within = inside c in
     let n : length (set (set ts c.args.j one) c.args.k two) ≡ tiles c.args.board.now.shape =
     length-set {A = Tile} (set ts c.args.j one) c.args.k two ∙ length-set {A = Tile} ts c.args.j one
-    ∙ c.requires.sand.one_each in
+    ∙ c.requires.sand.len in
     joins_from
     (λ m l. pair_waits ts c.args.j c.args.k m one two within.0 within.2
     c.visit_pair-new_one.ensures.one.none_due c.visit_pair-new_one.ensures.two.none_due)

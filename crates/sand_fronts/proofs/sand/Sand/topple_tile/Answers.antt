@@ -16,7 +16,7 @@ reads : (c : After-index) → (c.index_mut.result.now ≡ tiles_of c.args.self.n
     × (c.index.result.now ≡ free_of c.args.board.now c.args.k)
 reads c =
     let inside = c.requires.tile.inside in (
-      tile_read c.args.self.now.tiles.items c.args.k _ (omega (arith, c.requires.sand.one_each))
+      tile_read c.args.self.now.tiles.items c.args.k _ (omega (arith, c.requires.sand.len))
           c.index_mut.ensures.value,
       get_or_read c.args.board.now.free.items c.args.k _ (omega (arith, c.requires.board.free_each))
           c.index.ensures 0,
@@ -25,12 +25,12 @@ reads c =
 reads_beside : (c : After-index-2) → c.index-2.result.now ≡ beside_at c.args.board.now.beside.items c.args.k
 reads_beside c =
     let inside = c.requires.tile.inside in
-    beside_read c.args.board.now.beside.items c.args.k _ (omega (arith, c.requires.board.beside.one_each)) c.index-2.ensures
+    beside_read c.args.board.now.beside.items c.args.k _ (omega (arith, c.requires.board.beside.len)) c.index-2.ensures
 
 -- the number of tiles, after the visit
 visited_each : (c : After-index-2)
     → length (set c.args.self.now.tiles.items c.args.k c.visit-new.new.tile) ≡ tiles c.args.board.now.shape
-visited_each c = length-set {A = Tile} c.args.self.now.tiles.items c.args.k c.visit-new.new.tile ∙ c.requires.sand.one_each
+visited_each c = length-set {A = Tile} c.args.self.now.tiles.items c.args.k c.visit-new.new.tile ∙ c.requires.sand.len
 
 pub visit-new-requires : goal.visit-new-requires
 visit-new-requires c = let r = reads (goal.at.visit-new-requires c).After-index in rw (r.0, r.1) c.requires.ready
@@ -38,15 +38,15 @@ visit-new-requires c = let r = reads (goal.at.visit-new-requires c).After-index 
 pub hand_over-requires-clause-beside : goal.hand_over-requires-clause-beside
 hand_over-requires-clause-beside c = rw (reads_beside c, visited_each c) c.requires.tile.on_board
 
-pub hand_over-requires-clause-small : goal.hand_over-requires-clause-small
-hand_over-requires-clause-small c = let e = visited_each c in omega (arith, c.requires.board.beside.small)
+pub hand_over-requires-clause-fits : goal.hand_over-requires-clause-fits
+hand_over-requires-clause-fits c = let e = visited_each c in omega (arith, c.requires.board.beside.fits)
 
-pub hand_over-requires-clause-one_each : goal.hand_over-requires-clause-one_each
-hand_over-requires-clause-one_each c = c.requires.board.free_each ∙ sym (visited_each c)
+pub hand_over-requires-clause-len : goal.hand_over-requires-clause-len
+hand_over-requires-clause-len c = c.requires.board.free_each ∙ sym (visited_each c)
 
 pub returns-clause-sand : goal.returns-clause-sand
 returns-clause-sand c = record {
-  one_each = c.hand_over.ensures.one_each ∙ visited_each (goal.at.returns-clause-sand c).After-index-2;
+  len = c.hand_over.ensures.len ∙ visited_each (goal.at.returns-clause-sand c).After-index-2;
   room = omega (arith, c.hand_over.ensures.joins.room, c.requires.sand.room);
 }
 
@@ -62,7 +62,7 @@ returns-clause-steps c =
         fits = omega arith;
       };
       gains = rw (← s) (gains_from (λ m. written c.args.self.now.tiles.items c.args.k m c.visit-new.new.tile
-          (omega (arith, c.requires.tile.inside, c.requires.sand.one_each)))
+          (omega (arith, c.requires.tile.inside, c.requires.sand.len)))
           c.hand_over.ensures.gains);
     }
 
@@ -70,5 +70,5 @@ pub returns-clause-joins : goal.returns-clause-joins
 returns-clause-joins c =
     joins_from
     (λ j l. visited_waits c.args.self.now.tiles.items c.args.k j c.visit-new.new.tile
-    (omega (arith, c.requires.tile.inside, c.requires.sand.one_each)) c.visit-new.ensures.none_due)
+    (omega (arith, c.requires.tile.inside, c.requires.sand.len)) c.visit-new.ensures.none_due)
     (rw (← visited_each (goal.at.returns-clause-joins c).After-index-2) c.hand_over.ensures.joins)

@@ -13,11 +13,11 @@ pub topple_grain-total-requires-clause-site : goal.topple_grain-total-requires-c
 topple_grain-total-requires-clause-site c =
     let grid = ap (λ (v : TiledView). sites v.grid) c.self.view_is in omega (arith, c.requires.site)
 
-pub topple_grain-total-requires-clause-few : goal.topple_grain-total-requires-clause-few
-topple_grain-total-requires-clause-few c =
+pub topple_grain-total-requires-clause-bound : goal.topple_grain-total-requires-clause-bound
+topple_grain-total-requires-clause-bound c =
     few_now c.self.inside.board.shape c.self.inside.sand c.self.inside.counts c.self.invariant.at_sites
     (subst (λ (v : TiledView). (j : ℕ) → j < sites v.grid → slice_index v.times j < 2 ^ 60) (sym c.self.view_is)
-    c.requires.few)
+    c.requires.bound)
 
 avalanche : (c : After-avalanche_of) → IsAvalanche c.self.inside.board.shape c.args.site
     (grown c.self.inside.board.shape c.self.inside.counts c.topple_grain-total.new.counts) c.avalanche_of.result
@@ -51,7 +51,7 @@ invariant_of-self c =
     let each = is.settled.counts in
     pile_after c.topple_grain-total.new.board c.topple_grain-total.new.sand _ c.self.inside.board.shape is.shape is.board
     is.all_open is.settled.sand is.settled.quiet
-    (record { one_each = each.one_each; marks_each = c.avalanche_of.ensures.one_each ∙ each.marks_each; sound = each.sound })
+    (record { len = each.len; marks_each = c.avalanche_of.ensures.len ∙ each.marks_each; sound = each.sound })
     (counts_sites c.self.inside.board.shape (counts_of c.self.inside.counts) (counts_of c.topple_grain-total.new.counts)
     c.self.invariant.at_sites is.settled.counted)
     c.avalanche_of.ensures.none

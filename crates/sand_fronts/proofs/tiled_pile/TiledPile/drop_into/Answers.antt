@@ -21,8 +21,8 @@ pub topple_grain-total-requires-clause-site : goal.topple_grain-total-requires-c
 topple_grain-total-requires-clause-site c =
     let grid = ap (λ (v : TiledView). sites v.grid) c.self.view_is in omega (arith, c.requires.site)
 
-pub topple_grain-total-requires-clause-few : goal.topple_grain-total-requires-clause-few
-topple_grain-total-requires-clause-few c =
+pub topple_grain-total-requires-clause-bound : goal.topple_grain-total-requires-clause-bound
+topple_grain-total-requires-clause-bound c =
     few_now c.self.inside.board.shape c.self.inside.sand c.self.inside.counts c.self.invariant.at_sites
     (λ j l. let e = ap (λ (v : TiledView). slice_index v.times j) c.self.view_is in
     let none = c.requires.uncounted j in omega arith)
@@ -56,19 +56,19 @@ bounds-heights-site-2 c =
     let d = (goal.at.bounds-heights-site-2 c).After-topple_grain-total in
     let each = long d in let here = (counts d).inside in omega arith
 
-pub write_back-requires-clause-one_each : goal.write_back-requires-clause-one_each
-write_back-requires-clause-one_each c =
-    let d = (goal.at.write_back-requires-clause-one_each c).After-topple_grain-total in (
+pub write_back-requires-clause-len : goal.write_back-requires-clause-len
+write_back-requires-clause-len c =
+    let d = (goal.at.write_back-requires-clause-len c).After-topple_grain-total in (
       length-set c.args.heights.now _ _ ∙ long d,
       c.requires.odometer_each ∙ ap (λ (v : TiledView). sites v.grid) (sym c.self.view_is),
     )
 
-pub write_back-requires-clause-few : goal.write_back-requires-clause-few
-write_back-requires-clause-few c =
-    let d = (goal.at.write_back-requires-clause-few c).After-topple_grain-total in (
+pub write_back-requires-clause-bound : goal.write_back-requires-clause-bound
+write_back-requires-clause-bound c =
+    let d = (goal.at.write_back-requires-clause-bound c).After-topple_grain-total in (
       few_toppled c.self.inside.board.shape c.args.site c.self.inside.sand c.topple_grain-total.new.sand
           c.self.inside.counts c.topple_grain-total.new.counts (counts d),
-      λ j l. c.requires.few j (let grid = ap (λ (v : TiledView). sites v.grid) c.self.view_is in omega arith),
+      λ j l. c.requires.bound j (let grid = ap (λ (v : TiledView). sites v.grid) c.self.view_is in omega arith),
     )
 
 pub write_back-requires-clause-at_sites : goal.write_back-requires-clause-at_sites
@@ -83,8 +83,8 @@ write_back-requires-clause-no_other c =
     (counts (goal.at.write_back-requires-clause-no_other c).After-topple_grain-total)
     c.topple_grain-total.ensures.marked
 
-pub avalanche_of-requires-clause-one_each : goal.avalanche_of-requires-clause-one_each
-avalanche_of-requires-clause-one_each c =
+pub avalanche_of-requires-clause-len : goal.avalanche_of-requires-clause-len
+avalanche_of-requires-clause-len c =
     ap (λ (x : MarksView). length x.sets) c.write_back.ensures.written.marks ∙ c.topple_grain-total.ensures.settled.counts.marks_each
 
 pub avalanche_of-requires-clause-at_sites : goal.avalanche_of-requires-clause-at_sites
@@ -119,8 +119,8 @@ invariant_of-self c =
     pile_after c.topple_grain-total.new.board c.topple_grain-total.new.sand _ c.self.inside.board.shape is.shape is.board
     is.all_open is.settled.sand is.settled.quiet
     (record {
-      one_each = written.counts_each ∙ each.one_each;
-      marks_each = c.avalanche_of.ensures.one_each ∙ ap (λ (x : MarksView). length x.sets) written.marks ∙ each.marks_each;
+      len = written.counts_each ∙ each.len;
+      marks_each = c.avalanche_of.ensures.len ∙ ap (λ (x : MarksView). length x.sets) written.marks ∙ each.marks_each;
       sound = written.sound;
     })
     (counts_no_site c.self.inside.board.shape (counts_of c.write_back.new.counts) written.none)

@@ -19,5 +19,5 @@ returns c =
     c.find_at-tile.result.0 c.find_at-tile.result.1 c.index.result.now (omega (arith, c.requires.site))
     c.find_at-tile.ensures.tile c.find_at-tile.ensures.place
     (tile_read c.self.inside.sand.tiles.items c.find_at-tile.result.0 c.index.result.now
-    (omega (arith, c.find_at-tile.ensures.inside.0, c.self.invariant.sand.one_each)) c.index.ensures)
+    (omega (arith, c.find_at-tile.ensures.inside.0, c.self.invariant.sand.len)) c.index.ensures)
     ∙ ap (λ (v : TiledView). slice_index v.heights (c.args.row * v.grid.width + c.args.column)) c.self.view_is

@@ -17,7 +17,7 @@ invariant_of-result c =
       board = c.in_ok-board.ensures.board;
       all_open = c.in_ok-board.ensures.all_open;
       sand = record {
-        one_each = c.in_ok-tiles.ensures.one_each ∙ sym n;
+        len = c.in_ok-tiles.ensures.len ∙ sym n;
         room =
             let r = ap (λ (l : ListView). l.room) c.in_ok-list.ensures in
             let s = ap sites e in
@@ -26,8 +26,8 @@ invariant_of-result c =
       quiet = (new_quiet c.args.shape (λ j. get_or c.args.heights.now j 0)
           (tile_at c.in_ok-tiles.tiles.items) c.requires.low c.in_ok-tiles.ensures.heights);
       counts = record {
-        one_each = c.in_ok-counts.ensures.one_each.0 ∙ c.tiles-n.ensures.value ∙ sym n;
-        marks_each = c.in_ok-counts.ensures.one_each.1 ∙ c.tiles-n.ensures.value ∙ sym n;
+        len = c.in_ok-counts.ensures.len.0 ∙ c.tiles-n.ensures.value ∙ sym n;
+        marks_each = c.in_ok-counts.ensures.len.1 ∙ c.tiles-n.ensures.value ∙ sym n;
         sound = c.in_ok-counts.ensures.sound;
       };
       at_sites = counts_no_site c.in_ok-board.board.shape (counts_of c.in_ok-counts.counts) c.in_ok-counts.ensures.none;

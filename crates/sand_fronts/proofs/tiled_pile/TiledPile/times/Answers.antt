@@ -14,7 +14,7 @@ pub times_in-requires-clause-site : goal.times_in-requires-clause-site
 times_in-requires-clause-site c =
     let e = same (goal.at.times_in-requires-clause-site c).After-place-column in omega (arith, c.requires.site)
 
-pub times_in-requires-clause-few : goal.times_in-requires-clause-few
-times_in-requires-clause-few c =
-    let e = ap (slice_index c.args.self.now.times) (same (goal.at.times_in-requires-clause-few c).After-place-column) in
-    omega (arith, c.requires.few)
+pub times_in-requires-clause-bound : goal.times_in-requires-clause-bound
+times_in-requires-clause-bound c =
+    let e = ap (slice_index c.args.self.now.times) (same (goal.at.times_in-requires-clause-bound c).After-place-column) in
+    omega (arith, c.requires.bound)

@@ -20,13 +20,13 @@ read c =
     c.find_at-tile.result.0 c.find_at-tile.result.1 c.index.result.now (omega (arith, c.requires.site))
     c.find_at-tile.ensures.tile c.find_at-tile.ensures.place
     (count_read c.self.inside.counts.each.items c.find_at-tile.result.0 c.index.result.now
-    (omega (arith, c.find_at-tile.ensures.inside.0, c.self.invariant.counts.one_each)) c.index.ensures)
+    (omega (arith, c.find_at-tile.ensures.inside.0, c.self.invariant.counts.len)) c.index.ensures)
     ∙ ap (λ (v : TiledView). slice_index v.times (c.args.row * v.grid.width + c.args.column)) c.self.view_is
 
-pub times_at-requires-clause-few : goal.times_at-requires-clause-few
-times_at-requires-clause-few c =
-    let r = read (goal.at.times_at-requires-clause-few c).After-index in
-    omega (arith, c.requires.few)
+pub times_at-requires-clause-bound : goal.times_at-requires-clause-bound
+times_at-requires-clause-bound c =
+    let r = read (goal.at.times_at-requires-clause-bound c).After-index in
+    omega (arith, c.requires.bound)
 
 pub returns : goal.returns
 returns c = c.times_at.ensures ∙ read (goal.at.returns c).After-index

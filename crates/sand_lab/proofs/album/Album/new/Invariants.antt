@@ -3,6 +3,6 @@ use Rattle.sand_lab.proofs.album.Album.new.Given as goal
 
 abbrev pub invariant-loop : goal.invariant-loop
 invariant-loop l = record {
-  long : vec_len l.places ≡ l.counter;
+  len : vec_len l.places ≡ l.counter;
   room : l.epochs ≤ vec_capacity l.places;
 }

@@ -20,9 +20,9 @@ returns-then-len-most-clause-read c read first more h =
     h more refl refl refl c.next_site.ensures.read c.push_reserved.ensures.items
     c.push_reserved.ensures.capacity c.next_site.ensures.site c.next_site.ensures.inside)
 
-pub returns-then-len-most-clause-few : goal.returns-then-len-most-clause-few
-returns-then-len-most-clause-few c =
-    let was = c.requires.few in
+pub returns-then-len-most-clause-bound : goal.returns-then-len-most-clause-bound
+returns-then-len-most-clause-bound c =
+    let was = c.requires.bound in
     let none = ap (λ (xs : List ℕ). length xs) c.drop_batch.ensures.all in
     omega (arith, was, none)
 
@@ -32,9 +32,9 @@ returns-else-len-most-clause-read c read first more h =
     h more refl refl refl c.next_site.ensures.read c.push_reserved.ensures.items
     c.push_reserved.ensures.capacity c.next_site.ensures.site c.next_site.ensures.inside
 
-pub returns-else-len-most-clause-few : goal.returns-else-len-most-clause-few
-returns-else-len-most-clause-few c =
-    let was = c.requires.few in
+pub returns-else-len-most-clause-bound : goal.returns-else-len-most-clause-bound
+returns-else-len-most-clause-bound c =
+    let was = c.requires.bound in
     let other = c.if-len-most.false in
     let long = c.len.ensures in
     let most = c.batch_size-most.ensures in

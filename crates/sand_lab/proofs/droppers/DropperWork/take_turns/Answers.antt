@@ -10,7 +10,7 @@ use Rattle.sand_lab.proofs.droppers.DropperWork.take_turns.Goals.{then-holds, el
 pub loop-turn-init : goal.loop-turn-init
 loop-turn-init g c = record {
   dropping = begins c.args.pile.now c.args.turns c.args.self.now c.requires;
-  few = λ some.
+  bound = λ some.
       let one = some_in_a_batch c.args.turns some in
       let none = ap (λ (xs : List ℕ). length xs) c.requires.none_read in
       omega (arith, one, none);
@@ -25,8 +25,8 @@ pub read_next-requires-clause-dropping : goal.read_next-requires-clause-dropping
 read_next-requires-clause-dropping g c =
     (c.loop-turn.turn, c.args.self.now, c.loop-turn-test.true, c.loop-turn.invariant.dropping)
 
-pub read_next-requires-clause-few : goal.read_next-requires-clause-few
-read_next-requires-clause-few g c = c.loop-turn.invariant.few (let more = c.loop-turn-test.true in omega (arith, more))
+pub read_next-requires-clause-bound : goal.read_next-requires-clause-bound
+read_next-requires-clause-bound g c = c.loop-turn.invariant.bound (let more = c.loop-turn-test.true in omega (arith, more))
 
 pub loop-turn-preserved : goal.loop-turn-preserved
 loop-turn-preserved g c =
@@ -38,18 +38,18 @@ loop-turn-preserved g c =
       | then-holds w ↦ record {
         dropping = subst (IsDropping s turns next c.args.self.now) (sym w.self-is)
             (w.drop_next.ensures.dropped c.loop-turn.turn c.args.self.now c.loop-turn-test.true was.dropping);
-        few = λ some. subst (λ (xs : List ℕ). length xs < div_ceil turns 16)
+        bound = λ some. subst (λ (xs : List ℕ). length xs < div_ceil turns 16)
             (sym (ap (λ (x : Dropper). x.batch.items) w.self-is
             ∙ ap (λ (b : Vec ℕ Global). b.items) w.drop_next.ensures.batch))
-            (was.few some);
+            (was.bound some);
         one_by_one = λ holds. ap (λ (x : Dropper). x.batch.items) w.self-is
             ∙ ap (λ (b : Vec ℕ Global). b.items) w.drop_next.ensures.batch ∙ was.one_by_one holds;
       }
       | else-holds w ↦ record {
         dropping = subst (IsDropping s turns next c.args.self.now) (sym w.self-is)
             (w.read_next.ensures.read c.loop-turn.turn c.args.self.now c.loop-turn-test.true was.dropping);
-        few = λ some.
-            subst (λ (x : Dropper). length x.batch.items < div_ceil turns 16) (sym w.self-is) w.read_next.ensures.few;
+        bound = λ some.
+            subst (λ (x : Dropper). length x.batch.items < div_ceil turns 16) (sym w.self-is) w.read_next.ensures.bound;
         one_by_one = λ holds. absurd (true≢false (sym holds ∙ w.if-holds.false));
       }
     ]

@@ -14,7 +14,7 @@ returns c =
     let x : c.from-column.result ≡ column c.args.self.now c.args.site =
     c.from-column.ensures ∙ c.index.ensures
     ∙ get_or_default c.self.inside.columns.items c.args.site
-    c.index.result.now 0 (omega (arith, columns.one_each, c.requires))
+    c.index.result.now 0 (omega (arith, columns.len, c.requires))
     ∙ columns.each c.args.site c.requires in
     inner_told c.args.self.now c.args.site c.self.inside.width c.self.inside.end c.from-column.result
     c.requires (omega (arith, width, c.self.invariant.1)) (omega (arith, end, c.self.invariant.2)) x

@@ -33,8 +33,8 @@ driven c = driven_after c.self.inside.start c.self.inside.fronts c.drop_at-avala
     c.drop_at-avalanche.result c.self.inside.number c.self.inside.topplings c.self.inside.lost c.self.inside.grains
     c.self.invariant c.drop_at-avalanche.ensures.grid (inside c) (room c) (taken c)
 
-pub drop_at-avalanche-requires-clause-few : goal.drop_at-avalanche-requires-clause-few
-drop_at-avalanche-requires-clause-few c = λ j l.
+pub drop_at-avalanche-requires-clause-bound : goal.drop_at-avalanche-requires-clause-bound
+drop_at-avalanche-requires-clause-bound c = λ j l.
     let few = few_counts c.self.inside.start c.self.inside.fronts c.self.inside.number
     c.self.inside.topplings c.self.inside.lost c.self.inside.grains c.self.invariant j l in
     omega arith
@@ -45,7 +45,7 @@ overflow_add-self c = omega (
   c.if-self-eq-GRAIN_LIMIT.false,
   c.self.invariant.all_grains,
   c.self.invariant.paid.limit,
-  c.self.invariant.few,
+  c.self.invariant.bound,
 )
 
 pub overflow_add-self-2 : goal.overflow_add-self-2

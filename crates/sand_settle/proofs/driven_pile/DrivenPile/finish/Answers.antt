@@ -7,8 +7,8 @@ use Rattle.sand_settle.specs.Settling.{SettledView, IsSomeSettledRecord}
 use Rattle.sand_settle.proofs.Driven.{few_counts, record_read}
 use Rattle.sand_settle.proofs.driven_pile.DrivenPile.finish.Goals as goal
 
-pub add_times-requires-clause-few : goal.add_times-requires-clause-few
-add_times-requires-clause-few c = λ j l.
+pub add_times-requires-clause-bound : goal.add_times-requires-clause-bound
+add_times-requires-clause-bound c = λ j l.
     let few = few_counts c.self.inside.start c.self.inside.fronts c.self.inside.number
     c.self.inside.topplings c.self.inside.lost c.self.inside.grains c.self.invariant j l in
     let same = ap (λ (xs : List ℕ). slice_index xs j)

@@ -10,8 +10,8 @@ use Rattle.sand_settle.proofs.driven_pile.DrivenPile.odometer.Goals as goal
 inside : {v w : OneView} → v ≡ w → (site : ℕ) → site < sites (grid_of_one_pile w) → site < sites (grid_of_one_pile v)
 inside same site lt = subst (λ (u : OneView). site < sites (grid_of_one_pile u)) (sym same) lt
 
-pub times-requires-clause-few : goal.times-requires-clause-few
-times-requires-clause-few c =
+pub times-requires-clause-bound : goal.times-requires-clause-bound
+times-requires-clause-bound c =
     let lt = inside c.self.view_is c.args.site c.requires in
     let one = ap sites c.self.invariant.one_grid in
     let few = few_counts c.self.inside.start c.self.inside.fronts c.self.inside.number

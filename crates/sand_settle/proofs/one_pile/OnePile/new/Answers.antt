@@ -5,7 +5,7 @@ use Rattle.sand_settle.proofs.one_pile.OnePile.new.Goals as goal
 pub invariant_of-result : goal.invariant_of-result
 invariant_of-result c = record {
   paid = paid_start c.args.start.now c.in_ok-settled.settled c.grains.ensures.pile c.in_ok-settled.ensures.record;
-  few = omega arith;
+  bound = omega arith;
   tiled = tt;
   kept = λ l. absurd (omega arith);
 }

@@ -16,7 +16,7 @@ unchanged c =
     let zeros = c.in_ok-odometer.ensures.items_if_clones_equal (λ y e. e)
     ∙ ap (λ n. replicate n 0) (c.sites.ensures.value ∙ ap sites c.shape.ensures.value) in
     rw c.in-Ok.ensures.made (stable_record c.args.pile.now.grid c.args.pile.now.heights _
-    c.shape.ensures.pile.one_each zeros c.requires)
+    c.shape.ensures.pile.len zeros c.requires)
 
 pub invariant_of-result : goal.invariant_of-result
 invariant_of-result c =

@@ -6,8 +6,8 @@ use Rattle.sand_shared.proofs.RecordSums.{AreJoined, small_entries, small_toppli
 use Rattle.sand_shared.proofs.record.Record.append.Goals.{After-lost-2}
 use Rattle.sand_shared.proofs.record.Record.append.Goals as goal
 
-pub add-requires-clause-small : goal.add-requires-clause-small
-add-requires-clause-small c i inside =
+pub add-requires-clause-fits : goal.add-requires-clause-fits
+add-requires-clause-fits c i inside =
     let a = small_entries _ c.self.invariant i in
     let b = small_entries _ c.next.invariant i in
     let mine = ap (λ (l : List ℕ). slice_index l i) (c.in_ok-odometer.ensures.items ∙ c.odometers.ensures.value) in
@@ -29,7 +29,7 @@ joined c =
       second = subst IsOneThreads c.next.view_is c.next.invariant;
       joint = c.requires.start;
       limit = c.requires.limit;
-      long = c.add.ensures.long ∙ ap (λ (l : List ℕ). length l) mine;
+      len = c.add.ensures.len ∙ ap (λ (l : List ℕ). length l) mine;
       each = subst (λ (z : List ℕ × List ℕ). (i : ℕ) → i < length z.1
           → slice_index c.add.new.numbers.items i ≡ slice_index z.0 i + slice_index z.1 i)
           (λ i. (mine i, theirs i)) c.add.ensures.sums;
@@ -61,9 +61,9 @@ of_parts-requires-clause-settled c =
     let at = (goal.at.of_parts-requires-clause-settled c).After-lost-2 in
     subst IsSomeSettledRecord (parts at) (settled_record _ (followed _ _ _ (joined at)))
 
-pub of_parts-requires-clause-small : goal.of_parts-requires-clause-small
-of_parts-requires-clause-small c =
-    let at = (goal.at.of_parts-requires-clause-small c).After-lost-2 in
+pub of_parts-requires-clause-fits : goal.of_parts-requires-clause-fits
+of_parts-requires-clause-fits c =
+    let at = (goal.at.of_parts-requires-clause-fits c).After-lost-2 in
     let few = small_topplings _ (followed _ _ _ (joined at)) in
     let sums = joined_topplings _ _ _ (joined at) in omega arith
 

@@ -11,8 +11,8 @@ leads c = record {
   pile = c.shape.ensures.pile;
   all_sites = c.requires.all_sites;
   limit = c.requires.limit;
-  heights_each = c.requires.one_each.0;
-  odometer_each = c.requires.one_each.1;
+  heights_each = c.requires.len.0;
+  odometer_each = c.requires.len.1;
   settled = c.requires.settled;
 }
 
@@ -51,9 +51,9 @@ of_parts-settled-requires-clause-settled c =
     let at = goal.at.of_parts-settled-requires-clause-settled c in
     settled_record _ (made at.After-grains-2 (leads at.After-shape))
 
-pub of_parts-settled-requires-clause-small : goal.of_parts-settled-requires-clause-small
-of_parts-settled-requires-clause-small c =
-    let few = few_topplings (leads (goal.at.of_parts-settled-requires-clause-small c).After-shape)
+pub of_parts-settled-requires-clause-fits : goal.of_parts-settled-requires-clause-fits
+of_parts-settled-requires-clause-fits c =
+    let few = few_topplings (leads (goal.at.of_parts-settled-requires-clause-fits c).After-shape)
     in omega arith
 
 pub invariant_of-result : goal.invariant_of-result

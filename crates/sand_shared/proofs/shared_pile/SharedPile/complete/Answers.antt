@@ -15,7 +15,7 @@ record_of-requires c =
     let start = ap (λ (t : Terms). t.start) c.end-start.ensures.terms ∙ ap (λ (w : SharedView). w.terms.start) c.self.view_is in
     subst (λ (z : PileView × PassView). IsCompleted z.0 c.args.history.items z.1.counts c.args.rest)
     (λ i. (sym start i, sym c.pass.view_is i))
-    (completed_leads b s c.requires.rest c.args.history.items c.requires.one_each c.requires.tells)
+    (completed_leads b s c.requires.rest c.args.history.items c.requires.len c.requires.tells)
 
 pub returns-clause-closed : goal.returns-clause-closed
 returns-clause-closed c =
@@ -23,7 +23,7 @@ returns-clause-closed c =
     let s = stands_bare c.self.view_is c.pass.view_is c.pass.invariant c.learn.ensures.view c.learn.ensures.stands in
     let history = c.record_of.ensures.history in
     gathered_record b s refl _ (search rules) (search rules)
-    (ap (λ (l : List ℕ). length l) history ∙ c.requires.one_each)
+    (ap (λ (l : List ℕ). length l) history ∙ c.requires.len)
     (subst (Tells c.args.pass.receipts) (sym history) c.requires.tells)
     (λ i.
     let counts = ap (λ (q : PassView). slice_index q.counts i) c.pass.view_is in

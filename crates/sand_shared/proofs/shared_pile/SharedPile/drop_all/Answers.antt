@@ -66,8 +66,8 @@ invariant_of-bare c =
 pub overflow_add-bare : goal.overflow_add-bare
 overflow_add-bare c = let fits = small (goal.at.overflow_add-bare c).After-draw-number in omega arith
 
-pub note-requires-clause-small : goal.note-requires-clause-small
-note-requires-clause-small c = let fits = small (goal.at.note-requires-clause-small c).After-draw-number in omega arith
+pub note-requires-clause-fits : goal.note-requires-clause-fits
+note-requires-clause-fits c = let fits = small (goal.at.note-requires-clause-fits c).After-draw-number in omega arith
 
 pub invariant_of-pass-2 : goal.invariant_of-pass-2
 invariant_of-pass-2 c =

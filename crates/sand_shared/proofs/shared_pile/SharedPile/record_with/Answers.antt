@@ -18,7 +18,7 @@ record_of-requires c =
     let s = stands_bare c.self.view_is c.pass.view_is c.pass.invariant c.learn.ensures.view c.learn.ensures.stands in
     subst (λ (q : PileView × List ℕ). IsCompleted q.0 c.args.history.items q.1 c.args.rest)
     (λ i. (sym c.requires.start i, sym c.requires.counts i))
-    (completed_leads b s c.requires.rest c.args.history.items c.requires.one_each c.requires.tells)
+    (completed_leads b s c.requires.rest c.args.history.items c.requires.len c.requires.tells)
 
 pub returns-clause-closed : goal.returns-clause-closed
 returns-clause-closed c =
@@ -26,7 +26,7 @@ returns-clause-closed c =
     let s = stands_bare c.self.view_is c.pass.view_is c.pass.invariant c.learn.ensures.view c.learn.ensures.stands in
     let history = c.record_of.ensures.history in
     gathered_record b s refl _ (search rules) (c.record_of.ensures.start ∙ c.requires.start)
-    (ap (λ (l : List ℕ). length l) history ∙ c.requires.one_each)
+    (ap (λ (l : List ℕ). length l) history ∙ c.requires.len)
     (subst (Tells c.args.pass.now.receipts) (sym history) c.requires.tells)
     (λ i.
     let counts = ap (λ (l : List ℕ). slice_index l i) c.requires.counts in

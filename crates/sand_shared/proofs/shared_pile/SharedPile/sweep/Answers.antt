@@ -41,7 +41,7 @@ returns-clause-swept c =
     subst (λ (m : Me ℕ View). HasAll t m.0 → SweptAll t m.0 cs n) c.bare.invariant.me c.sweep_rows.ensures.all in
     let here =
     pass_swept t (shown p) cs n p.seat.me.0.spot p.seat.me.0.least (same_grid c.self.view_is is c.requires.grid)
-    c.bare.invariant.pass.one_each rows all in
+    c.bare.invariant.pass.len rows all in
     subst (λ (z : Terms × PassView). Swept z.0 z.1 cs n) (λ i. ((c.self.view_is i).terms, is i)) here
 
 pub invariant_of-bare : goal.invariant_of-bare
@@ -56,7 +56,7 @@ invariant_of-bare c =
       below = inv.pass.below;
       grid = inv.pass.grid;
       rows = inv.pass.rows;
-      one_each = omega arith;
+      len = omega arith;
     }
     inv.each_made
     (c.sweep_rows.ensures.view ∙ ap (λ (m : Me ℕ View). record (looked m.0 v.spot v.least) { counts = cs }) inv.me)

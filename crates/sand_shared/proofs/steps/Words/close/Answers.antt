@@ -20,5 +20,5 @@ returns-clause-last c =
     let counted : c.sites.result ≡ sites (grid_of_terms t) =
     c.sites.ensures.value ∙ ap sites (c.shape.ensures.value ∙ ap (λ (w : SharedView). grid_of_terms w.terms) is) in
     last_is t c.args.seat.id c.args.seat.me.0 s running final.1.1
-    c.read_heights.new.heights.items (c.read_heights.ensures.length ∙ counted)
+    c.read_heights.new.heights.items (c.read_heights.ensures.len ∙ counted)
     (λ i l. c.read_heights.ensures.heights i (omega arith) ∙ ap (λ (ws : List ℕ). slice_index ws (i + 2)) (sym final.2))

@@ -20,7 +20,7 @@ drops-init c =
       seat = record { table = refl; id = refl; bare = c.requires.seat.bare };
       view = refl;
       waits = subst (λ (l : List Grains). Waits n c.args.counts.now.items l c.args.drops.now) (sym c.requires.hand)
-          (waits_all n c.args.counts.now.items c.args.drops.now c.requires.long c.requires.inside c.requires.counted);
+          (waits_all n c.args.counts.now.items c.args.drops.now c.requires.len c.requires.inside c.requires.counted);
     }
 
 pub place-requires-clause-hand : goal.place-requires-clause-hand
@@ -30,7 +30,7 @@ place-requires-clause-hand c =
     let k = c.drops.site-index in
     let below = c.drops-test.true in
     let w = c.drops.invariant.waits in
-    let read = read_count n k _ c.drops.counts.items ds w.long c.requires.inside below c.index-amount.ensures in
+    let read = read_count n k _ c.drops.counts.items ds w.len c.requires.inside below c.index-amount.ensures in
     let counted = w.counted (get_or ds k 0) (c.requires.inside k 0 below) in
     let same = count_is n (get_or ds k 0) c.drops.seat.me.0.hand w.single in omega arith
 
@@ -44,7 +44,7 @@ drops-preserved c =
     let inv = c.drops.invariant in
     let cs = c.drops.counts.items in
     let hand = c.drops.seat.me.0.hand in
-    let read = read_count n k _ cs ds inv.waits.long c.requires.inside below c.index-amount.ensures in
+    let read = read_count n k _ cs ds inv.waits.len c.requires.inside below c.index-amount.ensures in
     let coming = subst (Waits n cs hand) (drop_more ds k 0 below) inv.waits in
     let inside = c.requires.inside k 0 below in
     elim c.if-amount-ne0.branch [

@@ -42,7 +42,7 @@ sites-preserved c =
       id = c.look-height.ensures.seat.id ∙ inv.id;
       bare = c.look-height.ensures.seat.bare;
       view = is ∙ (λ q. looked v (sym spot q) (sym least q));
-      long = ap (λ l. length l) items ∙ omega (arith, length-append xs (n ∷ []));
+      len = ap (λ l. length l) items ∙ omega (arith, length-append xs (n ∷ []));
       room = omega (arith, c.push_reserved.ensures.capacity, inv.room);
       left = λ k l. ⊎_elim
           (λ (e : k ≡ i).
@@ -77,7 +77,7 @@ returns-clause-limit c =
     let all = counted c in
     let stands = subst (Stands t _) (c.learn.ensures.view ∙ inv.view) c.learn.ensures.stands in
     left_few stands record { quota = c.requires.all.quota; all_sites = c.requires.all.all_sites }
-    (toppled_by v) c.sites.heights.items (inv.long ∙ omega arith) (left_there c)
+    (toppled_by v) c.sites.heights.items (inv.len ∙ omega arith) (left_there c)
 
 pub returns-clause-underway : goal.returns-clause-underway
 returns-clause-underway c =

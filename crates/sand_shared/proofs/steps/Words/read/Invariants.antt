@@ -11,7 +11,7 @@ invariant-sites l = record {
   id : l.seat.id ≡ l.initial.seat.id;
   bare : l.seat.me.1 ≡ [];
   view : l.seat.me.0 ≡ looked l.initial.seat.me.0 l.seat.me.0.spot l.seat.me.0.least;
-  long : length l.heights.items ≡ l.site;
+  len : length l.heights.items ≡ l.site;
   room : l.sites ≤ vec_capacity l.heights;
   left : (i : ℕ) → i < l.site
       → get_or l.heights.items i 0 + 4 * toppled_by l.initial.seat.me.0 i

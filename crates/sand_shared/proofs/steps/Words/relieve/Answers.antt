@@ -35,8 +35,8 @@ still_all : (t : Terms) (v : View) (i k n : ℕ) → HasAll t v → HasAll t (un
 still_all t v i k n all =
     record { quota = all.quota; all_sites = λ j l. holds-unloaded t (looked v i n) i k j ∙ all.all_sites j l }
 
-pub returns-then-times-ne0-clause-few : goal.returns-then-times-ne0-clause-few
-returns-then-times-ne0-clause-few c =
+pub returns-then-times-ne0-clause-bound : goal.returns-then-times-ne0-clause-bound
+returns-then-times-ne0-clause-bound c =
     subst (λ (v : View). sum v.counts < 2 ^ 54) (sym c.deliver_around.ensures.view)
     (stands_few (stands_unloaded c.unload.ensures.happened.1) (unloaded_rows c))
 
@@ -77,8 +77,8 @@ pub returns-else-times-ne0-clause-no_more : goal.returns-else-times-ne0-clause-n
 returns-else-times-ne0-clause-no_more c all =
     let left = looked_exactly c.look-times.ensures.happened c.requires.hand all in omega arith
 
-pub returns-else-times-ne0-clause-few : goal.returns-else-times-ne0-clause-few
-returns-else-times-ne0-clause-few c =
+pub returns-else-times-ne0-clause-bound : goal.returns-else-times-ne0-clause-bound
+returns-else-times-ne0-clause-bound c =
     subst (λ (v : View). sum v.counts < 2 ^ 54) (sym (looked_is c.look-times.ensures.happened))
     (stands_few c.look-times.ensures.happened.before c.requires.rows)
 

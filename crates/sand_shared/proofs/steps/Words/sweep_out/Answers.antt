@@ -7,4 +7,4 @@ returns-clause-calm c =
     let inv = c.sweeps.invariant in
     calm_at_rest c.args.self.now.terms c.args.seat.now.me.0 c.sweeps.seat.me.0
     c.sweeps.counts.items c.sweep_rows.new.counts.items c.sweep_rows.result
-    c.requires.counts.0 (inv.long ∙ c.requires.all) inv.view c.sweep_rows.ensures.swept c.sweeps-test.false
+    c.requires.counts.0 (inv.len ∙ c.requires.all) inv.view c.sweep_rows.ensures.swept c.sweeps-test.false

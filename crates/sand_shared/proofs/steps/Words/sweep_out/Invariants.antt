@@ -10,7 +10,7 @@ invariant-sweeps l = record {
   bare : l.seat.me.1 ≡ [];
   view : l.seat.me.0 ≡ record (looked l.initial.seat.me.0
       l.seat.me.0.spot l.seat.me.0.least) { counts = l.counts.items };
-  long : length l.counts.items ≡ length l.initial.counts.items;
+  len : length l.counts.items ≡ length l.initial.counts.items;
   never_fall : (j : ℕ) → slice_index l.initial.counts.items j ≤ slice_index l.counts.items j;
 }
 

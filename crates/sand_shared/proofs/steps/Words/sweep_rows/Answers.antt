@@ -33,7 +33,7 @@ did c =
     subst (λ (z : View × ℕ).
     Relieved c.args.self.now.terms z.0 c.relieve-times.new.seat.me.0 z.1 c.relieve-times.result)
     (λ q. (c.sites.invariant.view q, sym c.requires.counts.0 q + c.sites.i))
-    record { view = d.view; few = d.few; enough = d.enough; no_more = d.no_more; sparing = d.sparing }
+    record { view = d.view; bound = d.bound; enough = d.enough; no_more = d.no_more; sparing = d.sparing }
 
 pub sites-preserved-then-times-eq0 : goal.sites-preserved-then-times-eq0
 sites-preserved-then-times-eq0 c =
@@ -88,5 +88,5 @@ returns-clause-swept c = sweeps_end (swept_all c)
 pub returns-clause-all : goal.returns-clause-all
 returns-clause-all c = sweeps_all (swept_all c)
 
-pub returns-clause-few : goal.returns-clause-few
-returns-clause-few c = sweeps_few (swept_all c)
+pub returns-clause-bound : goal.returns-clause-bound
+returns-clause-bound c = sweeps_few (swept_all c)

@@ -1,5 +1,5 @@
 use Rattle.std.proofs.Common.{rules}
 use Rattle.sand_text.proofs.survey.Survey.note_behind.Goals as goal
 
-pub returns-then-place-sites : goal.returns-then-place-sites
-returns-then-place-sites c = search rules
+pub returns-then-index-sites : goal.returns-then-index-sites
+returns-then-index-sites c = search rules
